@@ -1,0 +1,33 @@
+-- The lines of a family, child by child, and the groups of a scrape, family by family.
+use Rattle.std.proofs.Common.{◌≡◌, ℕ, ◌+◌, ◌<◌, List, [], ◌∷◌, ◌++◌, length, take, get_or, refl, sym, ap, ◌∙◌, arith}
+use Rattle.std.specs.List.{flat_map}
+use Rattle.std.proofs.lemmas.List.{take_more, flat_map_more}
+use Rattle.std.proofs.lemmas.Grind.{flat_map-append}
+use Rattle.metric_desc.specs.Desc.{Descriptor}
+use Rattle.expo_text.specs.Scraped.{Child, Family}
+use Rattle.expo_text.specs.Samples.{Sample, samples_of_child}
+use Rattle.expo_text.specs.Text.{sample_line, type_line, group_of, group_text}
+
+-- the pieces of one more element
+pub flat_map-next : {X A : Type 0} (f : X → List A) (xs : List X) (n : ℕ) (x : X) → n < length xs → x ≡ get_or xs n x → flat_map f (take (n + 1) xs) ≡ flat_map f (take n xs) ++ f x
+flat_map-next f xs n x within is =
+    ap (flat_map f) (take_more xs n x within ∙ ap (λ y. take n xs ++ y ∷ []) (sym is)) ∙ sym (flat_map_more f [] (take n xs) x)
+
+-- the lines of some children of a family
+abbrev pub lines : Descriptor → List Child → List ℕ
+lines desc children = flat_map sample_line (flat_map (samples_of_child desc) children)
+
+-- the lines of one more child
+pub lines-next : (desc : Descriptor) (children : List Child) (n : ℕ) (child : Child) → n < length children → child ≡ get_or children n child → lines desc (take (n + 1) children) ≡ lines desc (take n children) ++ flat_map sample_line (samples_of_child desc child)
+lines-next desc children n child within is =
+    ap (flat_map sample_line) (flat_map-next (samples_of_child desc) children n child within is) ∙ flat_map-append sample_line (flat_map (samples_of_child desc) (take n children)) (samples_of_child desc child)
+
+-- a family with children has a group
+pub group_of-some : (desc : Descriptor) (children : List Child) (all : List Sample) → 0 < length children → group_of desc children all ≡ type_line desc ++ flat_map sample_line all
+group_of-some desc [] all some = absurd (omega arith)
+group_of-some desc (_ ∷ _) all some = refl
+
+-- a family without children has none
+pub group_of-none : (desc : Descriptor) (children : List Child) (all : List Sample) → length children ≡ 0 → group_of desc children all ≡ []
+group_of-none desc [] all none = refl
+group_of-none desc (x ∷ xs) all none = absurd (omega (arith, none))

@@ -1,0 +1,4 @@
+pub mod Scraped
+pub mod Samples
+pub mod Text
+pub mod Order

@@ -1,0 +1,96 @@
+ghost use Rattle.std.specs.Prelude.{◌≡◌};
+
+use crate::number::Number;
+use metric_desc::Desc;
+use metric_names::LabelValue;
+use std::alloc::Global;
+use std::marker::Model;
+
+/// A child of a family: the values of its labels, in the order of the family's labels, and its number.
+///
+/// Contracts see it as a `Child`, the record of the two.
+#[derive(Debug, Drop)]
+pub struct ChildScrape {
+    pub values: Vec<LabelValue>,
+    pub number: Number,
+}
+
+impl Model for ChildScrape {
+    ghost use Rattle.expo_text.specs.Scraped.{Child};
+
+    ghost Value = { Child };
+
+    ghost view = { λ c. record { values = c.values.items; number = c.number } };
+}
+
+/// A family: its descriptor and its children.
+///
+/// Contracts see it as a `Family`, the record of the two.
+#[derive(Debug, Drop)]
+pub struct FamilyScrape {
+    pub desc: Desc,
+    pub children: Vec<ChildScrape>,
+}
+
+impl Model for FamilyScrape {
+    ghost use Rattle.expo_text.specs.Scraped.{Family};
+
+    ghost Value = { Family };
+
+    ghost view = { λ f. record { desc = f.desc; children = f.children.items } };
+}
+
+/// All families at one moment, in the order of the text.
+///
+/// Families stand in strict byte order of their names, at most 128 of them. Children stand in strict order of
+/// their label values, compared one by one in byte order, at most 256 of a family, and each has as many values as
+/// its family has labels. Contracts see it as a `Scraped`, the record of its vector and its families.
+#[derive(Debug, Drop)]
+pub struct Scrape {
+    vector: Vec<u64>,
+    families: Vec<FamilyScrape>,
+}
+
+impl Model for Scrape {
+    ghost use Rattle.expo_text.specs.Scraped.{Scraped};
+    ghost use Rattle.expo_text.specs.Order.{IsScrape};
+
+    ghost Value = { Scraped };
+
+    ghost view = { λ s. record { vector = s.vector.items; families = s.families.items } };
+
+    ghost invariant = { λ s. IsScrape (record { vector = s.vector.items; families = s.families.items }) };
+}
+
+impl Scrape {
+    ghost use Rattle.expo_text.specs.Order.{IsScrape};
+
+    /// A scrape of these families, at this vector: how many lists of operations each worker had published.
+    /// Takes no memory.
+    pub fn new(vector: Vec<u64>, families: Vec<FamilyScrape>) -> Scrape
+        requires { IsScrape (record { vector = vector.items; families = families.items }) }
+        ensures { result ≡ record { vector = vector.items; families = families.items } }
+    {
+        Scrape { vector, families }
+    }
+
+    /// How many lists of operations each worker had published.
+    pub fn vector(&self) -> &[u64]
+        ensures { result.now ≡ self.now.vector }
+    {
+        &self.vector
+    }
+
+    /// The allocator that the families were made with.
+    pub(crate) fn allocator(&self) -> Global {
+        *self.families.allocator()
+    }
+
+    /// The families, in the order of the text.
+    pub fn families(&self) -> &[FamilyScrape]
+        ensures families { result.now ≡ self.now.families }
+        ensures ordered { IsScrape self.now }
+    {
+        &self.families
+    }
+}

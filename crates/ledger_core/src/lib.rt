@@ -1,0 +1,19 @@
+//! What a worker counts: operations on counters, histograms and gauges, and the row of words that they add up to.
+//!
+//! A row of `C` counters, `H` histograms and `G` gauges has `C + 27 * H + 2 * G` words. Counter `k` is
+//! word `k`. Histogram `h` has its 25 buckets from word `C + 27 * h` on, its sum at `C + 27 * h + 25` and its
+//! count at `C + 27 * h + 26`. Gauge `g` has its ups at `C + 27 * H + 2 * g` and its downs at the word after.
+//! No word ever falls, and none passes [`MAX_WORD`].
+#![tactic(auto)]
+
+mod op;
+mod op_fault;
+mod row;
+mod word;
+
+pub use op::Op;
+pub use op_fault::OpFault;
+pub use row::{MAX_WORD, Row};
+
+#[cfg(test)]
+mod tests;

@@ -1,0 +1,2 @@
+pub mod Desc
+pub mod Labels

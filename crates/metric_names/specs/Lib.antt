@@ -1,0 +1,5 @@
+pub mod Spelling
+pub mod MetricName
+pub mod LabelName
+pub mod HelpText
+pub mod LabelValue

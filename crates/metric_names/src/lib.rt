@@ -1,0 +1,21 @@
+//! The names and texts of a metric: [`MetricName`], [`LabelName`], [`HelpText`] and [`LabelValue`].
+//!
+//! A value of one of these types is in its grammar, which the `read` call tested once.
+//! The grammars are those of the Prometheus documentation, "Data model" and "Exposition formats".
+#![tactic(auto)]
+
+mod help_text;
+mod label_name;
+mod label_value;
+mod metric_name;
+mod no_memory;
+mod spelling;
+
+pub use help_text::{HelpText, HelpTextFault};
+pub use label_name::{LabelName, LabelNameFault};
+pub use label_value::{LabelValue, LabelValueFault};
+pub use metric_name::{MetricName, MetricNameFault};
+pub use no_memory::NoMemory;
+
+#[cfg(test)]
+mod tests;

@@ -1,0 +1,130 @@
+use crate::{
+    HelpText, HelpTextFault, LabelName, LabelNameFault, LabelValue, LabelValueFault, MetricName,
+    MetricNameFault, NoMemory,
+};
+use std::test::Fail;
+
+#[test]
+fn metric_names(rt: HostRuntime) -> Result<(), Fail> {
+    let alloc = rt.alloc();
+    for text in ["a", "_", ":", "Z9", "http_requests_total", "a:b_0"] {
+        assert_eq!(rt; MetricName::read(alloc, text)?.as_str(), text);
+    }
+    let refused = [
+        ("", MetricNameFault::Empty, 1),
+        ("1a", MetricNameFault::BadByte { at: 0 }, 2),
+        ("a-b-c", MetricNameFault::BadByte { at: 1 }, 2),
+        ("ab é", MetricNameFault::BadByte { at: 2 }, 2),
+        ("é", MetricNameFault::BadByte { at: 0 }, 2),
+        ("a\n", MetricNameFault::BadByte { at: 1 }, 2),
+    ];
+    for (text, fault, number) in refused {
+        assert_eq!(rt; MetricName::read(alloc, text).err(), Some(fault), "{text}");
+        assert_eq!(rt; fault.number(), number);
+    }
+    assert_eq!(rt; MetricNameFault::NoMemory.number(), 6);
+    assert_eq!(rt; NoMemory.number(), 6);
+    Ok(())
+}
+
+#[test]
+fn long_names(rt: HostRuntime) -> Result<(), Fail> {
+    let alloc = rt.alloc();
+    let longest = String::from_utf8(vec![in alloc; b'a'; 128]?)?;
+    let longer = String::from_utf8(vec![in alloc; b'-'; 129]?)?;
+    assert_eq!(rt;
+        MetricName::read(alloc, longest.as_str())?.as_str(),
+        longest.as_str()
+    );
+    assert_eq!(rt;
+        LabelName::read(alloc, longest.as_str())?.as_str(),
+        longest.as_str()
+    );
+    let metric = MetricNameFault::TooLong { limit: 128 };
+    assert_eq!(rt;
+        MetricName::read(alloc, longer.as_str()).err(),
+        Some(metric)
+    );
+    assert_eq!(rt; metric.number(), 3);
+    let label = LabelNameFault::TooLong { limit: 128 };
+    assert_eq!(rt; LabelName::read(alloc, longer.as_str()).err(), Some(label));
+    assert_eq!(rt; label.number(), 3);
+    Ok(())
+}
+
+#[test]
+fn label_names(rt: HostRuntime) -> Result<(), Fail> {
+    let alloc = rt.alloc();
+    for text in ["a", "_", "_a", "le", "method", "a__b"] {
+        assert_eq!(rt; LabelName::read(alloc, text)?.as_str(), text);
+    }
+    let refused = [
+        ("", LabelNameFault::Empty, 1),
+        ("a:b", LabelNameFault::BadByte { at: 1 }, 2),
+        ("__-", LabelNameFault::BadByte { at: 2 }, 2),
+        ("__a", LabelNameFault::Reserved, 4),
+        ("__", LabelNameFault::Reserved, 4),
+    ];
+    for (text, fault, number) in refused {
+        assert_eq!(rt; LabelName::read(alloc, text).err(), Some(fault), "{text}");
+        assert_eq!(rt; fault.number(), number);
+    }
+    assert_eq!(rt; LabelNameFault::NoMemory.number(), 6);
+    Ok(())
+}
+
+#[test]
+fn help_texts(rt: HostRuntime) -> Result<(), Fail> {
+    let alloc = rt.alloc();
+    for text in ["", "x", "a\\b\nc", "Größe in \"Byte\".", "\nx\n"] {
+        assert_eq!(rt; HelpText::read(alloc, text)?.as_str(), text);
+    }
+    for text in [" x", "x ", "\tx", "x\t", " ", "\t"] {
+        assert_eq!(rt;
+            HelpText::read(alloc, text).err(),
+            Some(HelpTextFault::EdgeBlank),
+            "{text}"
+        );
+    }
+    let longest = String::from_utf8(vec![in alloc; b'a'; 1024]?)?;
+    let longer = String::from_utf8(vec![in alloc; b' '; 1025]?)?;
+    assert_eq!(rt;
+        HelpText::read(alloc, longest.as_str())?.as_str(),
+        longest.as_str()
+    );
+    let fault = HelpTextFault::TooLong { limit: 1024 };
+    assert_eq!(rt; HelpText::read(alloc, longer.as_str()).err(), Some(fault));
+    assert_eq!(rt; fault.number(), 3);
+    assert_eq!(rt; HelpTextFault::EdgeBlank.number(), 5);
+    assert_eq!(rt; HelpTextFault::NoMemory.number(), 6);
+    Ok(())
+}
+
+#[test]
+fn label_values(rt: HostRuntime) -> Result<(), Fail> {
+    let alloc = rt.alloc();
+    for text in ["", " ", "a b", "\"\n\\"] {
+        assert_eq!(rt; LabelValue::read(alloc, text)?.as_str(), text);
+    }
+    let longest = String::from_utf8(vec![in alloc; b'\n'; 256]?)?;
+    let longer = String::from_utf8(vec![in alloc; b'a'; 257]?)?;
+    assert_eq!(rt;
+        LabelValue::read(alloc, longest.as_str())?.as_str(),
+        longest.as_str()
+    );
+    let fault = LabelValueFault::TooLong { limit: 256 };
+    assert_eq!(rt; LabelValue::read(alloc, longer.as_str()).err(), Some(fault));
+    assert_eq!(rt; fault.number(), 3);
+    assert_eq!(rt; LabelValueFault::NoMemory.number(), 6);
+    Ok(())
+}
+
+#[test]
+fn copies(rt: HostRuntime) -> Result<(), Fail> {
+    let alloc = rt.alloc();
+    assert_eq!(rt; MetricName::read(alloc, "a:b")?.copy()?.as_str(), "a:b");
+    assert_eq!(rt; LabelName::read(alloc, "a_b")?.copy()?.as_str(), "a_b");
+    assert_eq!(rt; HelpText::read(alloc, "a b")?.copy()?.as_str(), "a b");
+    assert_eq!(rt; LabelValue::read(alloc, "a b ")?.copy()?.as_str(), "a b ");
+    Ok(())
+}

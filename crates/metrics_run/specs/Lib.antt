@@ -1,0 +1,4 @@
+pub mod CounterText
+pub mod OneFault
+pub mod LineFault
+pub mod Number

@@ -1,0 +1,48 @@
+//! The program: `metrics_run script` reads script lines from standard input, counts, and prints scrapes.
+//!
+//! Exit status 0 at the script's end; 1 after a refused line; 2 for other arguments; 3 where standard input or
+//! standard output failed.
+#![tactic(auto)]
+
+mod counter_text;
+mod line;
+mod line_fault;
+mod lines;
+mod one;
+mod script;
+mod send;
+
+use script::{ScriptEnd, run_script};
+use std::process::ExitCode;
+use std::rt::Env;
+use std::{env, io};
+
+#[cfg(test)]
+mod tests;
+
+const USAGE: &str = "usage: metrics_run script | metrics_run serve PORT COUNT";
+
+/// Whether the arguments are the one word `script`.
+fn asks_script(rt: &(impl Env + AllocGlobal)) -> bool {
+    let Ok(mut words) = env::args(rt) else {
+        return false;
+    };
+    let _program = words.next();
+    let is_script = words.next().is_some_and(|word| word.as_str() == "script");
+    is_script && words.next().is_none()
+}
+
+fn main(rt: HostRuntime) -> ExitCode {
+    if !asks_script(&rt) {
+        let _ = eprintln!(rt; "{USAGE}");
+        return ExitCode::from(2);
+    }
+    match run_script(rt.alloc(), rt.reader(), io::writer(&rt)) {
+        ScriptEnd::Done => ExitCode::SUCCESS,
+        ScriptEnd::Refused { .. } => ExitCode::from(1),
+        ScriptEnd::Broken => {
+            let _ = eprintln!(rt; "fault");
+            ExitCode::from(3)
+        }
+    }
+}

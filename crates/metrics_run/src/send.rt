@@ -1,0 +1,17 @@
+use std::io::Write;
+
+/// A reader or a writer failed.
+#[derive(Clone, Copy, Debug, PartialEq, Eq)]
+pub struct Broken;
+
+/// Writes all the bytes, or says that a write failed or took none.
+pub fn send<W: Write>(writer: &mut W, bytes: &[u8]) -> Result<(), Broken> {
+    let mut sent = 0;
+    while sent < bytes.len() {
+        match writer.write(&bytes[sent..]) {
+            Ok(0) | Err(_) => return Err(Broken),
+            Ok(taken) => sent += taken,
+        }
+    }
+    Ok(())
+}

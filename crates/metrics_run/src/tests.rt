@@ -1,0 +1,3 @@
+mod one;
+mod scripts;
+mod streams;
