@@ -1,7 +1,7 @@
 #!/bin/sh
-# Runs the program with each allocation refused in turn, and then the whole gate, whose last line is
-# 'N passed, 0 failed'.
+# All tests: the example script with each allocation refused in turn, and then everything from nothing, where the last
+# line is 'N passed, 0 failed'.
 set -eu
 cd "$(dirname "$0")"
-(cd crates/metrics_run && rt try --fail-alloc 1.. -- script <stdin)
+./refused-growth.sh
 exec rt ci
