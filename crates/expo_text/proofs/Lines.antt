@@ -4,9 +4,9 @@ use Rattle.std.specs.List.{flat_map}
 use Rattle.std.proofs.lemmas.List.{take_more, flat_map_more}
 use Rattle.std.proofs.lemmas.Grind.{flat_map-append}
 use Rattle.metric_desc.specs.Desc.{Descriptor}
-use Rattle.expo_text.specs.Scraped.{Child, Family}
+use Rattle.expo_text.specs.Scraped.{Child}
 use Rattle.expo_text.specs.Samples.{Sample, samples_of_child}
-use Rattle.expo_text.specs.Text.{sample_line, type_line, group_of, group_text}
+use Rattle.expo_text.specs.Text.{sample_line, type_line, group_of}
 
 -- the pieces of one more element
 pub flat_map-next : {X A : Type 0} (f : X → List A) (xs : List X) (n : ℕ) (x : X) → n < length xs → x ≡ get_or xs n x → flat_map f (take (n + 1) xs) ≡ flat_map f (take n xs) ++ f x

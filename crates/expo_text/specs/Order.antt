@@ -1,10 +1,8 @@
 -- The order and the limits that each scrape keeps.
-use Rattle.std.specs.Prelude.{◌≡◌, ℕ, ◌≤◌, List, [], length, map, All, AllPairs}
+use Rattle.std.specs.Prelude.{◌≡◌, ℕ, ◌≤◌, List, [], length, All, AllPairs}
 use Rattle.std.specs.Ordering.{nat_cmp}
 use Rattle.std.specs.Cmp.Lexicographic.{slice_cmp}
-use Rattle.std.specs.declared.cmp.Ordering.{Ordering}
 use Rattle.std.specs.declared.cmp.Ordering.TheVariants.{Less}
-use Rattle.metric_desc.specs.Desc.{Descriptor}
 use Rattle.expo_text.specs.Scraped.{Child, Family, Scraped}
 
 -- one text stands before another: byte by byte, a beginning before what it begins

@@ -1,5 +1,5 @@
 -- Help texts (Prometheus documentation, "Exposition formats", "Comments, help text, and type information").
-use Rattle.std.specs.Prelude.{◌≡◌, ℕ, ◌-◌, ◌<◌, ◌≤◌, ◌⊎◌, Bool, false, ◌||◌, ◌==◌, List, length, slice_index, IsTrue}
+use Rattle.std.specs.Prelude.{◌≡◌, ℕ, ◌-◌, ◌<◌, ◌≤◌, Bool, false, ◌||◌, ◌==◌, List, length, slice_index, IsTrue}
 use Rattle.metric_names.specs.declared.help_text.HelpTextFault.{HelpTextFault}
 use Rattle.metric_names.specs.declared.help_text.HelpTextFault.TheVariants.{TooLong, EdgeBlank, NoMemory}
 

@@ -1,5 +1,5 @@
 -- Label names (Prometheus documentation, "Data model").
-use Rattle.std.specs.Prelude.{◌≡◌, ℕ, ◌<◌, ◌≤◌, Bool, true, false, ◌&&◌, ◌==◌, List, [], length, slice_index, IsTrue, EachIndex}
+use Rattle.std.specs.Prelude.{◌≡◌, ℕ, ◌<◌, ◌≤◌, Bool, false, ◌&&◌, ◌==◌, List, [], length, slice_index, IsTrue, EachIndex}
 use Rattle.metric_names.specs.Spelling.{name_takes, FirstWrong}
 use Rattle.metric_names.specs.declared.label_name.LabelNameFault.{LabelNameFault}
 use Rattle.metric_names.specs.declared.label_name.LabelNameFault.TheVariants.{Empty, TooLong, BadByte, Reserved, NoMemory}

@@ -1,5 +1,5 @@
 -- How metric names and label names are spelled (Prometheus documentation, "Data model").
-use Rattle.std.specs.Prelude.{◌≡◌, ℕ, ◌<◌, ◌≤◌, Bool, false, ◌&&◌, ◌||◌, ◌==◌, nat_lt, nat_le, List, length, slice_index, IsTrue}
+use Rattle.std.specs.Prelude.{◌≡◌, ℕ, ◌<◌, Bool, false, ◌&&◌, ◌||◌, ◌==◌, nat_lt, nat_le, List, length, slice_index, IsTrue}
 
 -- `[a-zA-Z_]`
 abbrev pub is_letter : ℕ → Bool

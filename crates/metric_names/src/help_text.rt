@@ -70,7 +70,9 @@ impl HelpText {
     pub fn empty(alloc: Global) -> HelpText
         ensures { result ≡ [] }
     {
-        HelpText { text: String::new(alloc) }
+        HelpText {
+            text: String::new(alloc),
+        }
     }
 
     /// Reads a help text. Takes memory for its bytes, and none where it is empty.

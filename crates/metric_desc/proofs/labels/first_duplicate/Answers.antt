@@ -1,4 +1,4 @@
-use Rattle.std.proofs.Common.{arith, rules, subst, Contains, take, ◌≡◌, true}
+use Rattle.std.proofs.Common.{arith, rules, subst, Contains, take}
 use Rattle.std.proofs.lemmas.List.{take_all}
 use Rattle.metric_desc.specs.Labels.{AreDistinct}
 use Rattle.metric_desc.proofs.Distinct.{AreDistinct-next}
