@@ -1,4 +1,6 @@
+ghost use Rattle.std.specs.Prelude.{◌↔◌, ◌++◌, codes, IsTrue, IfSome};
 ghost use Rattle.metrics_run.specs.Number.{IsNumberOf};
+ghost use Rattle.metrics_run.specs.Line.{IsToken, IsLine};
 
 use itoa::Buffer;
 
@@ -36,46 +38,52 @@ pub fn read_number(text: &str) -> Option<u64>
     }
 }
 
-fn read_inc<'a>(worker: &str, by: &str) -> Option<Line<'a>> {
+/// Whether the text is one token: at least one byte, and no blank.
+fn is_token(text: &str) -> bool
+    ensures { IsTrue result ↔ IsToken text.now }
+{
+    !text.is_empty() && text.bytes().all(|byte| byte != b' ')
+}
+
+fn read_counter(rest: &str) -> Option<Line<'_>>
+    ensures { IfSome result (IsLine (codes "counter " ++ rest.now)) }
+{
+    let name = rest.strip_suffix(" -")?;
+    is_token(name).then_some(Line::Counter { name })
+}
+
+fn read_child(name: &str) -> Option<Line<'_>>
+    ensures { IfSome result (IsLine (codes "child " ++ name.now)) }
+{
+    is_token(name).then_some(Line::Child { name })
+}
+
+fn read_inc<'a>(rest: &'a str) -> Option<Line<'a>>
+    ensures { IfSome result (IsLine (codes "inc " ++ rest.now)) }
+{
+    let (worker, by) = rest.split_once(" 0 ")?;
     let worker = read_number(worker)?;
     let by = read_number(by)?;
     (worker < WORKERS).then_some(Line::Inc { worker, by })
 }
 
 /// Reads a line, or says that the script's language has no such line. Tokens are parted by one blank each.
-pub fn read_line(text: &str) -> Option<Line<'_>> {
+pub fn read_line(text: &str) -> Option<Line<'_>>
+    ensures { IfSome result (IsLine text.now) }
+{
     if text.is_empty() || text.starts_with('#') {
-        return Some(Line::Nothing);
-    }
-    let mut words = text.split(' ');
-    let command = words.next()?;
-    let line = match command {
-        "go" => Line::Go,
-        "scrape" => Line::Scrape,
-        "child" => Line::Child {
-            name: words.next()?,
-        },
-        "counter" => {
-            let name = words.next()?;
-            if words.next()? != "-" {
-                return None;
-            }
-            Line::Counter { name }
-        }
-        "inc" => {
-            let worker = words.next()?;
-            if words.next()? != "0" {
-                return None;
-            }
-            read_inc(worker, words.next()?)?
-        }
-        _ => return None,
-    };
-    if words.next().is_some() {
-        return None;
-    }
-    match line {
-        Line::Counter { name: "" } | Line::Child { name: "" } => None,
-        line => Some(line),
+        Some(Line::Nothing)
+    } else if text == "go" {
+        Some(Line::Go)
+    } else if text == "scrape" {
+        Some(Line::Scrape)
+    } else if let Some(rest) = text.strip_prefix("counter ") {
+        read_counter(rest)
+    } else if let Some(name) = text.strip_prefix("child ") {
+        read_child(name)
+    } else if let Some(rest) = text.strip_prefix("inc ") {
+        read_inc(rest)
+    } else {
+        None
     }
 }

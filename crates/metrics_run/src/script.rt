@@ -1,3 +1,9 @@
+ghost use Rattle.std.specs.Prelude.{◌≡◌, ◌↔◌, ◌++◌, ◌∷◌, [], codes, decimal, true, false, IsSome, IsOk, IfOk, OnOk, OnErr, IfErr, IsErrOf};
+ghost use Rattle.std.specs.Io.KnownBytes.{Appends};
+ghost use Rattle.ledger_core.specs.Row.{Accepts, Adds};
+ghost use Rattle.metrics_run.specs.LineFault.{number_of};
+ghost use Rattle.metrics_run.specs.Script.{waiting_for, scrape_text, refused_line};
+
 use crate::counter_text::counter_text;
 use crate::line::{Line, WORKERS, read_line};
 use crate::line_fault::LineFault;
@@ -62,7 +68,11 @@ struct State {
 }
 
 impl State {
-    fn new(alloc: Global) -> State {
+    ghost use Rattle.metrics_run.specs.State.{IsFresh, Registers, Queues};
+
+    fn new(alloc: Global) -> State
+        ensures { IsFresh result }
+    {
         State {
             alloc,
             counter: None,
@@ -72,7 +82,11 @@ impl State {
         }
     }
 
-    fn register(&mut self, name: &str) -> Result<(), LineFault> {
+    fn register(&mut self, name: &str) -> Result<(), LineFault>
+        ensures ok { OnOk result (Registers self.old name.now self.new) }
+        ensures again { IsSome self.old.counter → IsErrOf result LineFault.BadLine }
+        ensures err { OnErr result (self.new ≡ self.old) }
+    {
         if self.counter.is_some() {
             return Err(LineFault::BadLine);
         }
@@ -81,7 +95,11 @@ impl State {
         Ok(())
     }
 
-    fn make_child(&mut self, name: &str) -> Result<(), LineFault> {
+    fn make_child(&mut self, name: &str) -> Result<(), LineFault>
+        ensures known { IsOk result ↔ (self.old.counter ≡ Some name.now) }
+        ensures ok { OnOk result (self.new ≡ record self.old { has_child = true }) }
+        ensures err { IfErr result (λ fault. (fault ≡ LineFault.NoSuchFamily) × (self.new ≡ self.old)) }
+    {
         match &self.counter {
             Some(counter) if counter.as_str() == name => {
                 self.has_child = true;
@@ -91,7 +109,10 @@ impl State {
         }
     }
 
-    fn enqueue(&mut self, line: u64, worker: u64, by: u64) -> Result<(), LineFault> {
+    fn enqueue(&mut self, line: u64, worker: u64, by: u64) -> Result<(), LineFault>
+        ensures ok { OnOk result (Queues self.old (record { line = line; worker = worker; op = Op.Inc 0 by }) self.new) }
+        ensures no_child { IsErrOf result LineFault.NoSuchChild ↔ (self.old.has_child ≡ false) }
+    {
         if !self.has_child {
             return Err(LineFault::NoSuchChild);
         }
@@ -101,34 +122,21 @@ impl State {
             .map_err(|_| LineFault::NoMemory)
     }
 
-    /// Applies a worker's increments in order, up to the first that is refused.
-    fn go_worker(&mut self, worker: u64) -> Result<(), Refused> {
-        for queued in &self.queue {
-            if queued.worker == worker {
-                if let Err(fault) = self.row.try_apply(&[queued.op]) {
-                    let fault = LineFault::Op(fault);
-                    return Err(Refused {
-                        line: queued.line,
-                        fault,
-                    });
-                }
-            }
-        }
-        Ok(())
-    }
-
     /// Applies all queued increments, worker by worker. Of several refusals the one of the least line is told.
     fn go(&mut self) -> Result<(), Refused> {
         let mut least = Ok(());
         for worker in 0..WORKERS {
-            least = first_refused(least, self.go_worker(worker));
+            least = first_refused(least, apply_waiting(&mut self.row, &self.queue, worker));
         }
         self.queue.clear();
         least
     }
 
     /// The text of the counter, which is empty before its child is made.
-    fn text(&self) -> Result<Vec<u8>, LineFault> {
+    fn text(&self) -> Result<Vec<u8>, LineFault>
+        ensures text { IfOk result (λ bytes. bytes.items ≡ scrape_text self.now.counter self.now.has_child self.now.row) }
+        ensures fault { IfErr result (λ fault. fault ≡ LineFault.NoMemory) }
+    {
         match &self.counter {
             Some(name) if self.has_child => {
                 let name = name.copy().map_err(|_| LineFault::NoMemory)?;
@@ -156,6 +164,24 @@ impl State {
         };
         done.map_err(|fault| stop_at(number, fault))
     }
+}
+
+/// Applies a worker's increments in order, up to the first that is refused.
+fn apply_waiting(row: &mut Row<1, 0, 0>, queue: &[Queued], worker: u64) -> Result<(), Refused>
+    ensures { OnOk result (Adds 1 0 row.old (waiting_for worker queue.now) row.new) }
+{
+    for queued in queue {
+        if queued.worker == worker {
+            if let Err(fault) = row.try_apply(&[queued.op]) {
+                let fault = LineFault::Op(fault);
+                return Err(Refused {
+                    line: queued.line,
+                    fault,
+                });
+            }
+        }
+    }
+    Ok(())
 }
 
 fn stop_at(line: u64, fault: LineFault) -> Stop {
@@ -192,7 +218,10 @@ fn run_lines<R: Read + Drop, W: Write>(
     }
 }
 
-fn tell_refused<W: Write>(writer: &mut W, refused: Refused) -> Result<ScriptEnd, Broken> {
+fn tell_refused<W: Write>(writer: &mut W, refused: Refused) -> Result<ScriptEnd, Broken>
+    ensures end { IfOk result (λ end. end ≡ ScriptEnd.Refused refused.line (number_of refused.fault)) }
+    ensures told { OnOk result (Appends (W.contents writer.old) (W.contents writer.new) (refused_line refused.line (number_of refused.fault))) }
+{
     let line = refused.line;
     let number = refused.fault.number();
     let mut digits = itoa::Buffer::new();

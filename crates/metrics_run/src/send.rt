@@ -1,3 +1,6 @@
+ghost use Rattle.std.specs.Prelude.{OnOk};
+ghost use Rattle.std.specs.Io.KnownBytes.{Appends};
+
 use std::io::Write;
 
 /// A reader or a writer failed.
@@ -5,7 +8,9 @@ use std::io::Write;
 pub struct Broken;
 
 /// Writes all the bytes, or says that a write failed or took none.
-pub fn send<W: Write>(writer: &mut W, bytes: &[u8]) -> Result<(), Broken> {
+pub fn send<W: Write>(writer: &mut W, bytes: &[u8]) -> Result<(), Broken>
+    ensures { OnOk result (Appends (W.contents writer.old) (W.contents writer.new) bytes.now) }
+{
     let mut sent = 0;
     while sent < bytes.len() {
         match writer.write(&bytes[sent..]) {
