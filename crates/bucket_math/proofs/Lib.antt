@@ -1,0 +1,4 @@
+pub mod Places
+pub mod Cumulation
+pub mod Made
+pub mod Rising
