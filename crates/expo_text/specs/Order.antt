@@ -3,6 +3,7 @@ use Rattle.std.specs.Prelude.{◌≡◌, ℕ, ◌≤◌, List, [], length, All, 
 use Rattle.std.specs.Ordering.{nat_cmp}
 use Rattle.std.specs.Cmp.Lexicographic.{slice_cmp}
 use Rattle.std.specs.declared.cmp.Ordering.TheVariants.{Less}
+use Rattle.metric_desc.specs.declared.kind.Kind.TheVariants.{Counter}
 use Rattle.expo_text.specs.Scraped.{Child, Family, Scraped}
 
 -- one text stands before another: byte by byte, a beginning before what it begins
@@ -13,8 +14,9 @@ IsBefore a b = slice_cmp nat_cmp a b ≡ Less
 abbrev pub IsChildBefore : Child → Child → Type 0
 IsChildBefore a b = slice_cmp (slice_cmp nat_cmp) a.values b.values ≡ Less
 
--- a family has neither help nor labels yet; its children fit its labels, stand in strict order, and are at most 256
+-- a family is one of counters and has neither help nor labels yet; its children fit its labels, stand in strict order, and are at most 256
 pub record IsFamily (family : Family) : Type 0 where
+  pub counters : family.desc.kind ≡ Counter
   pub no_help : family.desc.help ≡ []
   pub no_labels : family.desc.labels ≡ []
   pub few : length family.children ≤ 256

@@ -1,13 +1,15 @@
 ghost use Rattle.std.specs.Prelude.{◌≡◌, ◌≤◌, [], ◌∷◌, length, IfOk};
 
+mod watched;
+
 use crate::{ChildScrape, FamilyScrape, Number, Scrape, render};
-use metric_desc::Desc;
+use metric_desc::{Desc, Kind};
 use metric_names::{HelpText, MetricName};
 use std::alloc::Global;
 use std::test::Fail;
 
 fn counter(alloc: Global, name: &str) -> Result<Desc, Fail>
-    ensures { IfOk result (λ desc. desc ≡ record { name = name.now; help = []; labels = [] }) }
+    ensures { IfOk result (λ desc. desc ≡ record { name = name.now; help = []; labels = []; kind = Kind.Counter; bounds = [] }) }
 {
     let name = MetricName::read(alloc, name)?;
     Ok(Desc::counter(name, HelpText::empty(alloc), Vec::new(alloc))?)

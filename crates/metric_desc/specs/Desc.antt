@@ -1,12 +1,26 @@
 -- What a descriptor says of a family.
-use Rattle.std.specs.Prelude.{ℕ, List, [], ◌∷◌}
+use Rattle.std.specs.Prelude.{ℕ, List, [], ◌∷◌, ◌++◌, codes, map, Contains}
+use Rattle.metric_desc.specs.declared.kind.Kind.{Kind}
+use Rattle.metric_desc.specs.declared.kind.Kind.TheVariants.{Counter, Histogram, Gauge}
 
--- the name, the help and the names of the labels, as bytes
+-- the name, the help and the names of the labels, as bytes; the kind; and the bounds, which only a histogram has
 pub record Descriptor : Type 0 where
   pub name : List ℕ
   pub help : List ℕ
   pub labels : List (List ℕ)
+  pub kind : Kind
+  pub bounds : List ℕ
 
--- the names under which a family's samples stand
+-- what the names of a family's samples have after the family's name
+abbrev pub suffixes_of : Kind → List (List ℕ)
+suffixes_of Counter = [] ∷ []
+suffixes_of Histogram = [] ∷ codes "_bucket" ∷ codes "_sum" ∷ codes "_count" ∷ []
+suffixes_of Gauge = [] ∷ []
+
+-- the names under which a family's samples stand, the family's own first
 abbrev pub names_of : Descriptor → List (List ℕ)
-names_of d = d.name ∷ []
+names_of desc = map (λ suffix. desc.name ++ suffix) (suffixes_of desc.kind)
+
+-- some name stands in both lists
+abbrev pub Clash : Descriptor → Descriptor → Type 0
+Clash a b = (name : List ℕ) × Contains (names_of a) name × Contains (names_of b) name

@@ -1,2 +1,4 @@
 pub mod Desc
 pub mod Labels
+pub mod Histogram
+pub mod Shape

@@ -1,29 +1,45 @@
-ghost use Rattle.std.specs.Prelude.{◌≡◌, IfOk, IfErr, map};
+ghost use Rattle.std.specs.Prelude.{◌≡◌, ◌↔◌, [], ◌∷◌, ◌++◌, map, IfOk, IfErr, IsSome, IfSome};
 ghost use Rattle.std.specs.String.{string_bytes};
+ghost use Rattle.bucket_math.specs.Bounds.{AreBounds};
 ghost use Rattle.metric_desc.specs.Labels.{AreLabels, IsLabelsFault};
+ghost use Rattle.metric_desc.specs.Histogram.{IsHistogram, IsHistogramFault};
 ghost use Rattle.metric_desc.specs.Desc.{names_of};
 
-use crate::labels::{LabelsFault, check_labels};
+use crate::histogram::HistogramFault;
+use crate::kind::{Kind, Shape};
+use crate::labels::{LabelsFault, check_labels, has_le};
+use crate::names::suffixes;
+use bucket_math::Bounds;
 use metric_names::{HelpText, LabelName, MetricName, NoMemory};
+use std::alloc::Global;
 use std::marker::Model;
 
-/// The descriptor of a family: its name, its help and the names of its labels, at most 8 and no two the same.
+/// The descriptor of a family: its kind, its name, its help, the names of its labels, at most 8 and no two the same, and
+/// of a histogram its bounds.
 ///
-/// Contracts see it as a `Descriptor`, the record of the three.
+/// Contracts see it as a `Descriptor`, the record of these.
 #[derive(Debug, Drop)]
 pub struct Desc {
     name: MetricName,
     help: HelpText,
     labels: Vec<LabelName>,
+    shape: Shape,
 }
 
 impl Model for Desc {
     ghost use Rattle.metric_desc.specs.Desc.{Descriptor};
     ghost use Rattle.metric_desc.specs.Labels.{AreLabels};
+    ghost use Rattle.metric_desc.specs.Shape.{kind_of, bounds_of};
 
     ghost Value = { Descriptor };
 
-    ghost view = { λ d. record { name = d.name; help = d.help; labels = d.labels.items } };
+    ghost view = { λ d. record {
+      name = d.name;
+      help = d.help;
+      labels = d.labels.items;
+      kind = kind_of d.shape;
+      bounds = bounds_of d.shape;
+    } };
 
     ghost invariant = { λ d. AreLabels d.labels.items };
 }
@@ -37,12 +53,65 @@ impl Desc {
         help: HelpText,
         labels: Vec<LabelName>,
     ) -> Result<Desc, LabelsFault>
-        ensures made { IfOk result (λ desc. desc ≡ record { name = name; help = help; labels = labels.items }) }
+        ensures made { IfOk result (λ desc. desc ≡ record { name = name; help = help; labels = labels.items; kind = Kind.Counter; bounds = [] }) }
         ensures labels { IfOk result (λ desc. AreLabels desc.labels) }
         ensures fault { IfErr result (IsLabelsFault labels.items) }
     {
         check_labels(&labels)?;
-        Ok(Desc { name, help, labels })
+        Ok(Desc {
+            name,
+            help,
+            labels,
+            shape: Shape::Counter,
+        })
+    }
+
+    /// The descriptor of a family of gauges. Takes no memory.
+    ///
+    /// Refusals, in the order in which they are tried: 9 `TooManyLabels`, 7 `DuplicateLabel`.
+    pub fn gauge(
+        name: MetricName,
+        help: HelpText,
+        labels: Vec<LabelName>,
+    ) -> Result<Desc, LabelsFault>
+        ensures made { IfOk result (λ desc. desc ≡ record { name = name; help = help; labels = labels.items; kind = Kind.Gauge; bounds = [] }) }
+        ensures labels { IfOk result (λ desc. AreLabels desc.labels) }
+        ensures fault { IfErr result (IsLabelsFault labels.items) }
+    {
+        check_labels(&labels)?;
+        Ok(Desc {
+            name,
+            help,
+            labels,
+            shape: Shape::Gauge,
+        })
+    }
+
+    /// The descriptor of a family of histograms with these bounds. Takes no memory.
+    ///
+    /// Refusals, in the order in which they are tried: 9 `TooManyLabels`, 7 `DuplicateLabel`, 8 `LeOnHistogram`,
+    /// 10 `BadBounds`.
+    pub fn histogram(
+        name: MetricName,
+        help: HelpText,
+        labels: Vec<LabelName>,
+        bounds: &[u64],
+    ) -> Result<Desc, HistogramFault>
+        ensures made { IfOk result (λ desc. desc ≡ record { name = name; help = help; labels = labels.items; kind = Kind.Histogram; bounds = bounds.now }) }
+        ensures labels { IfOk result (λ desc. IsHistogram desc.labels desc.bounds) }
+        ensures fault { IfErr result (IsHistogramFault labels.items bounds.now) }
+    {
+        check_labels(&labels).map_err(HistogramFault::Labels)?;
+        if has_le(&labels) {
+            return Err(HistogramFault::LeOnHistogram);
+        }
+        let bounds = Bounds::from_slice(bounds).map_err(HistogramFault::Bounds)?;
+        Ok(Desc {
+            name,
+            help,
+            labels,
+            shape: Shape::Histogram(bounds),
+        })
     }
 
     /// The name of the family.
@@ -67,15 +136,79 @@ impl Desc {
         &self.labels
     }
 
-    /// The names under which the family's samples stand: of a counter its own name alone.
+    /// The kind of the family.
+    pub fn kind(&self) -> Kind
+        ensures { result ≡ self.now.kind }
+    {
+        match self.shape {
+            Shape::Counter => Kind::Counter,
+            Shape::Histogram(_) => Kind::Histogram,
+            Shape::Gauge => Kind::Gauge,
+        }
+    }
+
+    /// The bounds of a histogram, and of another family none.
+    pub fn bounds(&self) -> Option<&Bounds>
+        ensures histogram { IsSome result ↔ (self.now.kind ≡ Kind.Histogram) }
+        ensures bounds { IfSome result (λ bounds. bounds.now ≡ self.now.bounds) }
+    {
+        match &self.shape {
+            Shape::Histogram(bounds) => Some(bounds),
+            Shape::Counter | Shape::Gauge => None,
+        }
+    }
+
+    /// The names under which the family's samples stand: its own, and of a histogram also its own with `_bucket`, `_sum`
+    /// and `_count`, in this order.
     ///
     /// Refusal 6 [`NoMemory`], and no other.
     pub fn names(&self) -> Result<Vec<String>, NoMemory>
         ensures { IfOk result (λ names. map string_bytes names.items ≡ names_of self.now) }
     {
-        let alloc = *self.labels.allocator();
-        let mut names = Vec::with_capacity(alloc, 1)?;
-        names.push(String::from_str(alloc, self.name.as_str())?)?;
+        let all = suffixes(self.kind());
+        let mut names = Vec::with_capacity(self.allocator(), all.len())?;
+        for suffix in all {
+            names.push(self.name_with(suffix)?)?;
+        }
         Ok(names)
     }
+
+    /// An equal descriptor, in memory of its own.
+    ///
+    /// Refusal 6 [`NoMemory`], and no other.
+    pub fn copy(&self) -> Result<Desc, NoMemory>
+        ensures { IfOk result (λ desc. desc ≡ self.now) }
+    {
+        let name = self.name.copy()?;
+        let help = self.help.copy()?;
+        let labels = copied(self.allocator(), self.labels())?;
+        Ok(Desc {
+            name,
+            help,
+            labels,
+            shape: self.shape,
+        })
+    }
+
+    fn allocator(&self) -> Global {
+        *self.labels.allocator()
+    }
+
+    fn name_with(&self, suffix: &str) -> Result<String, NoMemory>
+        ensures { IfOk result (λ name. string_bytes name ≡ self.now.name ++ suffix.now) }
+    {
+        let mut name = String::from_str(self.allocator(), self.name.as_str())?;
+        name.push_str(suffix)?;
+        Ok(name)
+    }
+}
+
+fn copied(alloc: Global, labels: &[LabelName]) -> Result<Vec<LabelName>, NoMemory>
+    ensures { IfOk result (λ copies. copies.items ≡ labels.now) }
+{
+    let mut copies = Vec::with_capacity(alloc, labels.len())?;
+    for label in labels {
+        copies.push(label.copy()?)?;
+    }
+    Ok(copies)
 }

@@ -1,4 +1,5 @@
 ghost use Rattle.std.specs.Prelude.{◌≡◌, ◌↔◌, ◌<◌, IsTrue, Contains, MatchOption, MatchResult, IfErr, OnOk};
+ghost use Rattle.metric_desc.specs.Histogram.{le};
 ghost use Rattle.metric_desc.specs.Labels.{AreDistinct, AreLabels, FirstDuplicate, IsLabelsFault, number_of};
 
 use metric_names::LabelName;
@@ -64,4 +65,16 @@ pub fn check_labels(labels: &[LabelName]) -> Result<(), LabelsFault>
         Some(at) => Err(LabelsFault::DuplicateLabel { at }),
         None => Ok(()),
     }
+}
+
+/// Whether a label is `le`, which the buckets' samples of a histogram have of their own.
+pub fn has_le(labels: &[LabelName]) -> bool
+    ensures { IsTrue result ↔ Contains labels.now le }
+{
+    for label in labels {
+        if label.as_str() == "le" {
+            return true;
+        }
+    }
+    false
 }

@@ -1,5 +1,6 @@
 -- The scrape of one counter.
 use Rattle.std.specs.Prelude.{ℕ, List, [], ◌∷◌}
+use Rattle.metric_desc.specs.declared.kind.Kind.TheVariants.{Counter as CounterKind}
 use Rattle.expo_text.specs.declared.number.Number.TheVariants.{Counter}
 use Rattle.expo_text.specs.Scraped.{Scraped}
 
@@ -9,7 +10,7 @@ one_counter_scrape name total =
     record {
       vector = [];
       families = record {
-        desc = record { name = name; help = []; labels = [] };
+        desc = record { name = name; help = []; labels = []; kind = CounterKind; bounds = [] };
         children = record { values = []; number = Counter total } ∷ [];
       } ∷ [];
     }
