@@ -1,8 +1,9 @@
 -- The words of a row by their places: reading one, writing one, and the row of zeros.
-use Rattle.std.proofs.Common.{◌≡◌, ℕ, zero, suc, ◌+◌, ◌*◌, ◌-◌, ◌<◌, ◌≤◌, List, [], ◌∷◌, ◌++◌, length, get_or, set, replicate, sym, refl, ap, ap₂, ◌∙◌, arith, length-append, length-set}
+use Rattle.std.proofs.Common.{◌≡◌, ℕ, zero, suc, ◌+◌, ◌*◌, ◌-◌, ◌<◌, ◌≤◌, List, [], ◌∷◌, ◌++◌, length, get_or, set, take, drop, replicate, sym, refl, ap, ap₂, ◌∙◌, arith, length-append, length-set, length-drop, All}
 use Rattle.std.specs.List.{concat}
-use Rattle.std.proofs.lemmas.List.{get_or_append_left, get_or-append_right, set-append_left, set-append_right, replicate-append-replicate, length-replicate}
-use Rattle.std.proofs.lemmas.List.Elements.{All-set, All-get_or, All-replicate}
+use Rattle.std.proofs.lemmas.List.{get_or_append_left, get_or-append_right, get_or-take, get_or-drop, set-append_left, set-append_right, replicate-append-replicate, length-replicate, length-take-le}
+use Rattle.std.proofs.lemmas.Grind.{same_number_lists}
+use Rattle.std.proofs.lemmas.List.Elements.{All-set, All-get_or, All-from_get_or, All-take, All-drop, All-replicate}
 use Rattle.ledger_core.specs.Ops.{width}
 use Rattle.ledger_core.specs.Shape.{HasShape}
 use Rattle.ledger_core.proofs.Rows.{HasLength, length-concat, place-lt, get_or-concat, concat-set, concat-replicate}
@@ -46,6 +47,22 @@ module _ (c h g : ℕ) (counters : List ℕ) (hists gauges : List (List ℕ)) (s
       ∙ ap (λ k. get_or (concat hists) k 0) e
       ∙ get_or-concat 27 hists i j shape.hist_words (rw shape.all_hists hi) hj
 
+  -- the first n words of a histogram, next to each other in the row
+  pub read_first : (i n : ℕ) → i < h → n ≤ 27 → take n (drop (c + 27 * i) (words counters hists gauges)) ≡ take n (get_or hists i [])
+  read_first i n hi le =
+      let rest : List ℕ = drop (c + 27 * i) (words counters hists gauges) in
+      let xs : List ℕ = get_or hists i [] in
+      let same : length xs ≡ 27 = All-get_or (HasLength 27) hists i [] (rw shape.all_hists hi) shape.hist_words in
+      let last = hist-lt i 26 hi (omega arith) in
+      let after = length-drop (c + 27 * i) (words counters hists gauges) in
+      let there : length (take n rest) ≡ n = length-take-le n rest (omega arith) in
+      let here : length (take n xs) ≡ n = length-take-le n xs (omega arith) in
+      same_number_lists (take n rest) (take n xs) (there ∙ sym here) (λ k lt.
+      get_or-take n rest k 0 (omega arith)
+      ∙ get_or-drop (c + 27 * i) (words counters hists gauges) k 0
+      ∙ read_hist i k hi (omega arith)
+      ∙ sym (get_or-take n xs k 0 (omega arith)))
+
   pub read_gauge : (i j : ℕ) → i < g → j < 2 → get_or (words counters hists gauges) (c + 27 * h + 2 * i + j) 0 ≡ get_or (get_or gauges i []) j 0
   read_gauge i j hi hj =
       let e : c + 27 * h + 2 * i + j - (c + 27 * h) ≡ 2 * i + j = omega arith in
@@ -73,6 +90,11 @@ module _ (c h g : ℕ) (counters : List ℕ) (hists gauges : List (List ℕ)) (s
       let e : c + 27 * h + 2 * i + j - (c + 27 * h) ≡ 2 * i + j = omega arith in
       ap (λ rest. counters ++ concat hists ++ rest) (concat-set 2 gauges i j v shape.gauge_words (rw shape.all_gauges hi) hj ∙ ap (λ k. set (concat gauges) k v) (sym e))
       ∙ sym (set-append_right (counters ++ concat hists) (concat gauges) (c + 27 * h) (c + 27 * h + 2 * i + j) v length-front (omega arith))
+
+-- where no word of a row is over m, none of the n words from i on is
+pub bounded_part : (xs : List ℕ) (m i n : ℕ) → ((k : ℕ) → get_or xs k 0 ≤ m) → All (λ x. x ≤ m) (take n (drop i xs))
+bounded_part xs m i n h =
+    All-take (λ x. x ≤ m) n (drop i xs) (All-drop (λ x. x ≤ m) i xs (All-from_get_or (λ x. x ≤ m) xs 0 (λ k _. h k)))
 
 -- a written word under the limit leaves every word under it
 below-set : (xs : List ℕ) (i v : ℕ) → v ≤ 281474976710655 → ((k : ℕ) → get_or xs k 0 ≤ 281474976710655) → (k : ℕ) → get_or (set xs i v) k 0 ≤ 281474976710655

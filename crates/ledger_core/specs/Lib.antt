@@ -4,3 +4,4 @@ pub mod OpFault
 pub mod Shape
 pub mod Word
 pub mod Rise
+pub mod Legal

@@ -3,17 +3,21 @@
 //! A row of `C` counters, `H` histograms and `G` gauges has `C + 27 * H + 2 * G` words. Counter `k` is
 //! word `k`. Histogram `h` has its 25 buckets from word `C + 27 * h` on, its sum at `C + 27 * h + 25` and its
 //! count at `C + 27 * h + 26`. Gauge `g` has its ups at `C + 27 * H + 2 * g` and its downs at the word after.
-//! No word ever falls, and none passes [`MAX_WORD`].
+//! No word ever falls, and none passes [`MAX_WORD`]. The buckets of a histogram always add up to its count.
 #![tactic(auto)]
 
+mod handles;
 mod op;
 mod op_fault;
 mod row;
+mod totals;
 mod word;
 
+pub use handles::{Counter, Gauge, Histogram};
 pub use op::Op;
 pub use op_fault::OpFault;
 pub use row::{MAX_WORD, Row};
+pub use totals::{GaugeTotals, HistTotals};
 
 #[cfg(test)]
 mod tests;

@@ -1,13 +1,15 @@
-ghost use Rattle.std.specs.Prelude.{◌≡◌, ℕ, ◌+◌, ◌*◌, ◌<◌, ◌≤◌, ◌↔◌, length, slice_index, slice_set, replicate, IsTrue, OnOk, OnErr, IfErr, All};
+ghost use Rattle.std.specs.Prelude.{◌≡◌, ℕ, ◌+◌, ◌*◌, ◌<◌, ◌≤◌, ◌↔◌, length, take, drop, slice_index, slice_set, replicate, IsTrue, OnOk, OnErr, IfErr, All};
 ghost use Rattle.std.specs.Bool.{MatchBool};
 ghost use Rattle.ledger_core.specs.Ops.{width, only, part, sum_ops, IsWithin};
 ghost use Rattle.ledger_core.specs.Row.{Accepts, Adds};
 ghost use Rattle.ledger_core.specs.OpFault.{IsOpFault};
+ghost use Rattle.ledger_core.specs.Legal.{IsLegal, SumsAreLegal, LegalSumsAreLegal};
 ghost use Rattle.ledger_core.specs.Word.{place_of, IsWord};
 ghost use Rattle.ledger_core.specs.Rise.{Rises, HasRoom, LacksRoom, Refuses};
 
 use crate::op::Op;
 use crate::op_fault::OpFault;
+use crate::totals::{GaugeTotals, HistTotals};
 use crate::word::Word;
 use std::marker::Model;
 
@@ -54,7 +56,8 @@ impl<const C: usize, const H: usize, const G: usize> Model for Row<C, H, G> {
 impl<const C: usize, const H: usize, const G: usize> Row<C, H, G> {
     /// A row of zeros.
     pub fn new() -> Row<C, H, G>
-        ensures { result ≡ replicate (width C H G) 0 }
+        ensures zeros { result ≡ replicate (width C H G) 0 }
+        ensures legal { IsLegal C H (slice_index result) }
     {
         Row {
             counters: [0; C],
@@ -72,6 +75,7 @@ impl<const C: usize, const H: usize, const G: usize> Row<C, H, G> {
         ensures accepted { OnOk result (Accepts C H G (slice_index self.old) ops.now) }
         ensures fault { IfErr result (IsOpFault C H G (slice_index self.old) ops.now) }
         ensures unchanged { OnErr result (self.new ≡ self.old) }
+        ensures legal { IsLegal C H (slice_index self.old) → OnOk result (IsLegal C H (slice_index self.new)) }
     {
         // A look into the row tells the proof that no word of it is over the limit.
         let _ = &self.counters;
@@ -91,6 +95,50 @@ impl<const C: usize, const H: usize, const G: usize> Row<C, H, G> {
         ensures bounded { result ≤ MAX_WORD }
     {
         self.counters[slot]
+    }
+
+    /// The totals of a histogram.
+    pub fn hist(&self, slot: usize) -> HistTotals
+        requires { slot < H }
+        ensures buckets { result.buckets ≡ take 25 (drop (C + 27 * slot) self.now) }
+        ensures sum { result.sum ≡ slice_index self.now (C + 27 * slot + 25) }
+        ensures count { result.count ≡ slice_index self.now (C + 27 * slot + 26) }
+        ensures bounded { All (λ bucket. bucket ≤ MAX_WORD) result.buckets × (result.sum ≤ MAX_WORD) × (result.count ≤ MAX_WORD) }
+        ensures laws { SumsAreLegal C H G × LegalSumsAreLegal C H }
+    {
+        let words = &self.hists[slot];
+        let mut buckets = [0; BUCKETS];
+        buckets.copy_from_slice(&words[..BUCKETS]);
+        HistTotals {
+            buckets,
+            sum: self.word(Word::Hist {
+                hist: slot,
+                item: SUM,
+            }),
+            count: self.word(Word::Hist {
+                hist: slot,
+                item: COUNT,
+            }),
+        }
+    }
+
+    /// The totals of a gauge.
+    pub fn gauge(&self, slot: usize) -> GaugeTotals
+        requires { slot < G }
+        ensures up { result.up ≡ slice_index self.now (C + 27 * H + 2 * slot) }
+        ensures down { result.down ≡ slice_index self.now (C + 27 * H + 2 * slot + 1) }
+        ensures bounded { (result.up ≤ MAX_WORD) × (result.down ≤ MAX_WORD) }
+    {
+        GaugeTotals {
+            up: self.word(Word::Gauge {
+                gauge: slot,
+                item: UPS,
+            }),
+            down: self.word(Word::Gauge {
+                gauge: slot,
+                item: DOWNS,
+            }),
+        }
     }
 
     // Adds one operation, the one at the place `at`, or nothing.

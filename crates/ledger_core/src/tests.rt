@@ -1,4 +1,4 @@
-use crate::{MAX_WORD, Op, OpFault, Row};
+use crate::{GaugeTotals, HistTotals, MAX_WORD, Op, OpFault, Row};
 use std::process::Abort;
 use std::test::Fail;
 
@@ -178,6 +178,49 @@ fn adds_a_mixed_list(rt: HostRuntime) {
     ];
     assert_eq!(rt; row.try_apply(&ops), Ok(()));
     assert_eq!(rt; (row.counter(0), row.counter(1)), (3, 42));
+}
+
+#[test]
+fn reads_totals(rt: HostRuntime) {
+    let mut row = Row::<1, 2, 1>::new();
+    let ops = [
+        Op::Observe {
+            hist: 1,
+            place: 0,
+            value: 10,
+        },
+        Op::Observe {
+            hist: 1,
+            place: 1,
+            value: 11,
+        },
+        Op::Observe {
+            hist: 1,
+            place: 2,
+            value: 99,
+        },
+        Op::Up { gauge: 0, by: 5 },
+        Op::Down { gauge: 0, by: 7 },
+    ];
+    assert_eq!(rt; row.try_apply(&ops), Ok(()));
+    let mut buckets = [0; 25];
+    buckets[0] = 1;
+    buckets[1] = 1;
+    buckets[2] = 1;
+    let seen = HistTotals {
+        buckets,
+        sum: 120,
+        count: 3,
+    };
+    let unseen = HistTotals {
+        buckets: [0; 25],
+        sum: 0,
+        count: 0,
+    };
+    assert_eq!(rt; row.hist(1), seen);
+    assert_eq!(rt; row.hist(0), unseen);
+    assert_eq!(rt; row.gauge(0), GaugeTotals { up: 5, down: 7 });
+    assert_eq!(rt; row.counter(0), 0);
 }
 
 #[test]

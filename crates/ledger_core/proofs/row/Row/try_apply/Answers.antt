@@ -1,4 +1,5 @@
 use Rattle.ledger_core.proofs.Steps.{adds_none, adds_more, accepts_none, accepts_more, fault_of_list, same_before}
+use Rattle.ledger_core.proofs.Legal.{legal_adds}
 use Rattle.ledger_core.proofs.row.Row.try_apply.Goals as goal
 
 pub loop-at-init : goal.loop-at-init
@@ -20,3 +21,7 @@ loop-at-preserved g c = record {
   adds = adds_more g.row.C g.row.H c.args.self.now c.loop-at.self c.try_add.new.self c.args.ops.now c.loop-at.at _ c.loop-at-test.true c.loop-at.invariant.adds c.in_default.ensures.ok;
   accepts = accepts_more g.row.C g.row.H g.row.G c.args.self.now c.loop-at.self c.args.ops.now c.loop-at.at _ c.loop-at-test.true c.loop-at.invariant.accepts c.loop-at.invariant.adds c.in_default.ensures.within c.in_default.ensures.room;
 }
+
+pub returns-clause-legal : goal.returns-clause-legal
+returns-clause-legal g c =
+    legal_adds g.row.C g.row.H g.row.G c.args.self.now c.loop-at.self _ c.loop-at.invariant.accepts.within c.loop-at.invariant.adds
