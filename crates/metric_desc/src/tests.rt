@@ -57,6 +57,7 @@ fn gauges(rt: HostRuntime) -> Result<(), Fail> {
     let name = MetricName::read(alloc, "g")?;
     let gauge = Desc::gauge(name, HelpText::empty(alloc), Vec::new(alloc))?;
     assert_eq!(rt; gauge.kind(), Kind::Gauge);
+    assert_eq!(rt; gauge.copy()?.name().as_str(), "g");
     assert!(rt; gauge.bounds().is_none());
     expect_names(&rt, &gauge, &["g"])
 }
