@@ -2,7 +2,7 @@ ghost use Rattle.std.specs.Prelude.{◌≡◌, ◌↔◌, [], ◌∷◌, ◌++�
 ghost use Rattle.std.specs.String.{string_bytes};
 ghost use Rattle.bucket_math.specs.Bounds.{AreBounds};
 ghost use Rattle.metric_desc.specs.Labels.{AreLabels, IsLabelsFault};
-ghost use Rattle.metric_desc.specs.Histogram.{IsHistogram, IsHistogramFault};
+ghost use Rattle.metric_desc.specs.Histogram.{IsDescOf, IsHistogram, IsHistogramFault};
 ghost use Rattle.metric_desc.specs.Desc.{names_of};
 
 use crate::histogram::HistogramFault;
@@ -28,7 +28,7 @@ pub struct Desc {
 
 impl Model for Desc {
     ghost use Rattle.metric_desc.specs.Desc.{Descriptor};
-    ghost use Rattle.metric_desc.specs.Labels.{AreLabels};
+    ghost use Rattle.metric_desc.specs.Histogram.{IsDescOf};
     ghost use Rattle.metric_desc.specs.Shape.{kind_of, bounds_of};
 
     ghost Value = { Descriptor };
@@ -41,7 +41,7 @@ impl Model for Desc {
       bounds = bounds_of d.shape;
     } };
 
-    ghost invariant = { λ d. AreLabels d.labels.items };
+    ghost invariant = { λ d. IsDescOf (kind_of d.shape) d.labels.items (bounds_of d.shape) };
 }
 
 impl Desc {
@@ -132,6 +132,7 @@ impl Desc {
     pub fn labels(&self) -> &[LabelName]
         ensures labels { result.now ≡ self.now.labels }
         ensures distinct { AreLabels self.now.labels }
+        ensures kept { IsDescOf self.now.kind self.now.labels self.now.bounds }
     {
         &self.labels
     }

@@ -1,3 +1,6 @@
+mod clashes;
+mod histograms;
+
 use crate::{Desc, HistogramFault, Kind, LabelsFault};
 use bucket_math::BadBounds;
 use metric_names::{HelpText, LabelName, MetricName};

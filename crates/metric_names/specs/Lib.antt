@@ -3,3 +3,4 @@ pub mod MetricName
 pub mod LabelName
 pub mod HelpText
 pub mod LabelValue
+pub mod Escapes

@@ -65,6 +65,7 @@ fn is_blank_at(bytes: &[u8], place: usize) -> bool
 
 impl HelpText {
     ghost use Rattle.metric_names.specs.HelpText.{IsHelpText};
+    ghost use Rattle.metric_names.specs.Escapes.{EscHelp, IsWrittenAlone};
 
     /// The empty help. Takes no memory.
     pub fn empty(alloc: Global) -> HelpText
@@ -94,10 +95,13 @@ impl HelpText {
         Ok(HelpText { text })
     }
 
-    /// The help as text.
+    /// The help as text. In the text format no other help is written as this one is.
+    ///
+    /// Source: Prometheus documentation, "Exposition formats", "Text format details".
     pub fn as_str(&self) -> &str
         ensures text { result.now ≡ self.now }
         ensures grammar { IsHelpText self.now }
+        ensures written { IsWrittenAlone EscHelp self.now }
     {
         self.text.as_str()
     }

@@ -54,6 +54,7 @@ impl Model for LabelValue {
 
 impl LabelValue {
     ghost use Rattle.metric_names.specs.LabelValue.{IsLabelValue};
+    ghost use Rattle.metric_names.specs.Escapes.{EscLabel, IsWrittenAlone};
 
     /// Reads a label value. Takes memory for its bytes, and none where it is empty.
     ///
@@ -74,6 +75,7 @@ impl LabelValue {
     pub fn as_str(&self) -> &str
         ensures text { result.now ≡ self.now }
         ensures grammar { IsLabelValue self.now }
+        ensures written { IsWrittenAlone EscLabel self.now }
     {
         self.text.as_str()
     }

@@ -2,7 +2,7 @@ use Rattle.std.proofs.Common.{◌≡◌, ◌++◌, ℕ, ◌<◌, List, [], get_o
 use Rattle.std.proofs.Math.ListN.{length-map}
 use Rattle.std.proofs.lemmas.List.{get_or-map}
 use Rattle.std.specs.Borrow.{Bor}
-use Rattle.metric_desc.specs.Desc.{names_of, suffixes_of, Clash}
+use Rattle.metric_desc.specs.Desc.{names_of, suffixes_of}
 use Rattle.metric_desc.proofs.Joined.{none_more, none_contained, one_contained}
 use Rattle.metric_desc.proofs.names.clashes.Goals as goal
 

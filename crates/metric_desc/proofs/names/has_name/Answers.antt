@@ -1,4 +1,4 @@
-use Rattle.std.proofs.Common.{◌≡◌, ◌++◌, ℕ, List, [], get_or, length, map, Contains, IsTrue, refl, sym, ap, subst, ◌∙◌, arith, rules}
+use Rattle.std.proofs.Common.{◌≡◌, ◌++◌, ℕ, List, [], get_or, map, Contains, IsTrue, refl, sym, ap, subst, ◌∙◌, arith, rules}
 use Rattle.std.proofs.Math.ListN.{length-map}
 use Rattle.std.specs.Borrow.{Bor}
 use Rattle.metric_desc.specs.Desc.{suffixes_of}

@@ -1,4 +1,4 @@
-use Rattle.std.proofs.Common.{◌≡◌, ◌↔◌, ◌++◌, inl, inr, sym, ap, ◌∙◌, rules}
+use Rattle.std.proofs.Common.{◌≡◌, ◌++◌, inl, inr, sym, ap, ◌∙◌, rules}
 use Rattle.metric_desc.proofs.Joined.{moved, one_begins}
 use Rattle.metric_desc.proofs.names.same_name.Goals as goal
 

@@ -1,0 +1,79 @@
+use crate::{Desc, HistogramFault, Kind, LabelsFault};
+use bucket_math::BadBounds;
+use metric_names::{HelpText, LabelName, MetricName};
+use std::alloc::Global;
+use std::test::Fail;
+
+/// The descriptor of a histogram of this name, without labels.
+pub fn histogram(alloc: Global, name: &str, bounds: &[u64]) -> Result<Desc, Fail> {
+    let name = MetricName::read(alloc, name)?;
+    let made = Desc::histogram(name, HelpText::empty(alloc), Vec::new(alloc), bounds);
+    Ok(made?)
+}
+
+#[test]
+fn kept(rt: HostRuntime) -> Result<(), Fail> {
+    let desc = histogram(rt.alloc(), "h", &[10, 20])?;
+    assert_eq!(rt; desc.kind(), Kind::Histogram);
+    let Some(bounds) = desc.bounds() else {
+        panic!(rt; "a histogram has bounds");
+    };
+    assert_eq!(rt; bounds.as_slice(), [10, 20].as_slice());
+    Ok(())
+}
+
+#[test]
+fn names(rt: HostRuntime) -> Result<(), Fail> {
+    let names = histogram(rt.alloc(), "h", &[])?.names()?;
+    assert_eq!(rt; names.len(), 4);
+    assert_eq!(rt; names[0].as_str(), "h");
+    assert_eq!(rt; names[1].as_str(), "h_bucket");
+    assert_eq!(rt; names[2].as_str(), "h_sum");
+    assert_eq!(rt; names[3].as_str(), "h_count");
+    Ok(())
+}
+
+#[test]
+fn copied(rt: HostRuntime) -> Result<(), Fail> {
+    let copy = histogram(rt.alloc(), "h", &[7])?.copy()?;
+    assert_eq!(rt; copy.name().as_str(), "h");
+    assert_eq!(rt; copy.kind(), Kind::Histogram);
+    assert!(rt; copy.bounds().is_some());
+    Ok(())
+}
+
+/// What a histogram of these labels and bounds is refused for.
+fn refused(alloc: Global, labels: &[&str], bounds: &[u64]) -> Result<Option<HistogramFault>, Fail> {
+    let mut names = Vec::new(alloc);
+    for label in labels {
+        names.push(LabelName::read(alloc, label)?)?;
+    }
+    let name = MetricName::read(alloc, "h")?;
+    Ok(Desc::histogram(name, HelpText::empty(alloc), names, bounds).err())
+}
+
+#[test]
+fn refused_in_order(rt: HostRuntime) -> Result<(), Fail> {
+    let alloc = rt.alloc();
+    let many = ["le", "le", "c", "d", "e", "f", "g", "h", "i"];
+    let fault = refused(alloc, &many, &[5, 5])?;
+    assert_eq!(rt;
+        fault,
+        Some(HistogramFault::Labels(LabelsFault::TooManyLabels))
+    );
+    let fault = refused(alloc, &["le", "a", "le"], &[5, 5])?;
+    let twice = LabelsFault::DuplicateLabel { at: 2 };
+    assert_eq!(rt; fault, Some(HistogramFault::Labels(twice)));
+    Ok(())
+}
+
+#[test]
+fn refused_last(rt: HostRuntime) -> Result<(), Fail> {
+    let alloc = rt.alloc();
+    let fault = refused(alloc, &["a", "le"], &[5, 5])?;
+    assert_eq!(rt; fault, Some(HistogramFault::LeOnHistogram));
+    let fault = refused(alloc, &["a"], &[5, 5])?;
+    assert_eq!(rt; fault, Some(HistogramFault::Bounds(BadBounds { at: 1 })));
+    assert!(rt; refused(alloc, &["a"], &[5, 6])?.is_none());
+    Ok(())
+}
