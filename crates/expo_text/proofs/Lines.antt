@@ -1,12 +1,14 @@
 -- The lines of a family, child by child, and the groups of a scrape, family by family.
-use Rattle.std.proofs.Common.{◌≡◌, ℕ, ◌+◌, ◌<◌, List, [], ◌∷◌, ◌++◌, length, take, get_or, refl, sym, ap, ◌∙◌, arith}
+use Rattle.std.proofs.Common.{◌≡◌, ℕ, ◌+◌, ◌<◌, List, [], ◌∷◌, ◌++◌, length, take, get_or, All, codes, refl, sym, ap, subst, ◌∙◌, arith}
 use Rattle.std.specs.List.{flat_map}
 use Rattle.std.proofs.lemmas.List.{take_more, flat_map_more}
+use Rattle.std.proofs.lemmas.List.Elements.{All-more}
 use Rattle.std.proofs.lemmas.Grind.{flat_map-append}
+use Rattle.metric_names.specs.Escapes.{help_byte}
 use Rattle.metric_desc.specs.Desc.{Descriptor}
 use Rattle.expo_text.specs.Scraped.{Child}
 use Rattle.expo_text.specs.Samples.{Sample, samples_of_child}
-use Rattle.expo_text.specs.Text.{sample_line, type_line, group_of}
+use Rattle.expo_text.specs.Text.{help_line, type_line, sample_line, group_of}
 
 -- the pieces of one more element
 pub flat_map-next : {X A : Type 0} (f : X → List A) (xs : List X) (n : ℕ) (x : X) → n < length xs → x ≡ get_or xs n x → flat_map f (take (n + 1) xs) ≡ flat_map f (take n xs) ++ f x
@@ -22,12 +24,16 @@ pub lines-next : (desc : Descriptor) (children : List Child) (n : ℕ) (child : 
 lines-next desc children n child within is =
     ap (flat_map sample_line) (flat_map-next (samples_of_child desc) children n child within is) ∙ flat_map-append sample_line (flat_map (samples_of_child desc) (take n children)) (samples_of_child desc child)
 
+-- one more element of which it holds
+pub All-next : {X : Type 0} (P : X → Type 0) (xs : List X) (n : ℕ) (x : X) → n < length xs → x ≡ get_or xs n x → All P (take n xs) → P x → All P (take (n + 1) xs)
+All-next P xs n x within is before here = All-more P xs n x within before (subst P is here)
+
 -- a family with children has a group
-pub group_of-some : (desc : Descriptor) (children : List Child) (all : List Sample) → 0 < length children → group_of desc children all ≡ type_line desc ++ flat_map sample_line all
-group_of-some desc [] all some = absurd (omega arith)
+pub group_of-some : (desc : Descriptor) (children : List Child) (all : List Sample) → 0 < length children → help_line desc.name desc.help ++ type_line desc ++ flat_map sample_line all ≡ group_of desc children all
+group_of-some desc [] all some = absurd (omega (arith, some))
 group_of-some desc (_ ∷ _) all some = refl
 
--- a family without children has none
-pub group_of-none : (desc : Descriptor) (children : List Child) (all : List Sample) → length children ≡ 0 → group_of desc children all ≡ []
-group_of-none desc [] all none = refl
-group_of-none desc (x ∷ xs) all none = absurd (omega (arith, none))
+-- a help that is not empty has a line
+pub help_line-some : (name help : List ℕ) → 0 < length help → codes "# HELP " ++ name ++ codes " " ++ flat_map help_byte help ++ codes "\n" ≡ help_line name help
+help_line-some name [] some = absurd (omega (arith, some))
+help_line-some name (_ ∷ _) some = refl

@@ -2,4 +2,14 @@ pub mod Scraped
 pub mod Samples
 pub mod Text
 pub mod Order
+pub mod Spelled
+pub mod Counts
+pub mod Sends
+pub mod Walk
+pub mod Groups
+pub mod Lines
+pub mod Parts
+pub mod Reads
+pub mod Reader
+pub mod Checks
 pub mod Watched

@@ -1,86 +1,62 @@
-ghost use Rattle.std.specs.Prelude.{◌≡◌, ◌≤◌, [], ◌∷◌, length, IfOk};
+ghost use Rattle.std.specs.Prelude.{◌≡◌, [], length, IfOk};
+ghost use Rattle.expo_text.specs.Order.{IsNumberOf};
 
+mod children;
+mod counters;
+mod gauges;
+mod histograms;
+mod reading;
+mod sending;
 mod watched;
 
-use crate::{ChildScrape, FamilyScrape, Number, Scrape, render};
-use metric_desc::{Desc, Kind};
-use metric_names::{HelpText, MetricName};
+use crate::{ChildScrape, FamilyScrape, Number, Scrape, read_text, render, text_len};
+use metric_desc::Desc;
+use metric_names::{HelpText, LabelName, LabelValue, MetricName};
 use std::alloc::Global;
+use std::process::Abort;
 use std::test::Fail;
 
 fn counter(alloc: Global, name: &str) -> Result<Desc, Fail>
-    ensures { IfOk result (λ desc. desc ≡ record { name = name.now; help = []; labels = []; kind = Kind.Counter; bounds = [] }) }
+    ensures { IfOk result (λ desc. (desc.labels ≡ []) × IsNumberOf desc.kind (Number.Counter 0)) }
 {
     let name = MetricName::read(alloc, name)?;
     Ok(Desc::counter(name, HelpText::empty(alloc), Vec::new(alloc))?)
 }
 
-fn child(alloc: Global, total: u64) -> ChildScrape
-    ensures { result ≡ record { values = []; number = Number.Counter total } }
+fn label(alloc: Global, name: &str) -> Result<Vec<LabelName>, Fail>
+    ensures { IfOk result (λ labels. length labels.items ≡ 1) }
 {
-    ChildScrape {
-        values: Vec::new(alloc),
-        number: Number::Counter(total),
-    }
+    let mut labels = Vec::new(alloc);
+    labels.push(LabelName::read(alloc, name)?)?;
+    Ok(labels)
 }
 
-#[test]
-fn nothing(rt: HostRuntime) -> Result<(), Fail> {
-    let scrape = Scrape::new(Vec::new(rt.alloc()), Vec::new(rt.alloc()));
-    assert_eq!(rt; render(&scrape)?.as_slice(), b"".as_slice());
-    assert_eq!(rt; scrape.families().len(), 0);
-    Ok(())
+fn value(alloc: Global, value: &str) -> Result<Vec<LabelValue>, Fail>
+    ensures { IfOk result (λ values. length values.items ≡ 1) }
+{
+    let mut values = Vec::new(alloc);
+    values.push(LabelValue::read(alloc, value)?)?;
+    Ok(values)
 }
 
-#[test]
-fn family_without_children(rt: HostRuntime) -> Result<(), Fail> {
-    let alloc = rt.alloc();
-    let desc = counter(alloc, "a")?;
-    let mut families = Vec::new(alloc);
-    families.push(FamilyScrape {
-        desc,
-        children: Vec::new(alloc),
-    })?;
-    let scrape = Scrape::new(vec![in alloc; 3, 0]?, families);
-    assert_eq!(rt; render(&scrape)?.as_slice(), b"".as_slice());
-    assert_eq!(rt; scrape.vector(), [3, 0].as_slice());
-    assert_eq!(rt; scrape.families().len(), 1);
-    Ok(())
-}
-
-#[test]
-fn one_counter(rt: HostRuntime) -> Result<(), Fail> {
-    let alloc = rt.alloc();
-    let desc = counter(alloc, "a")?;
+// A scrape of one family with one child.
+fn one(alloc: Global, desc: Desc, values: Vec<LabelValue>, number: Number) -> Result<Scrape, Fail>
+    requires fit { length values.items ≡ length desc.labels }
+    requires kind { IsNumberOf desc.kind number }
+{
     let mut children = Vec::new(alloc);
-    children.push(child(alloc, 0))?;
+    children.push(ChildScrape { values, number })?;
     let mut families = Vec::new(alloc);
     families.push(FamilyScrape { desc, children })?;
-    let text = render(&Scrape::new(Vec::new(alloc), families))?;
-    assert_eq!(rt; text.as_slice(), b"# TYPE a counter\na 0\n".as_slice());
-    assert_eq!(rt; text.len(), 21);
-    assert_eq!(rt; text.capacity(), 21);
-    Ok(())
+    Ok(Scrape::new(Vec::new(alloc), families))
 }
 
-#[test]
-fn two_counters(rt: HostRuntime) -> Result<(), Fail> {
-    let alloc = rt.alloc();
-    let mut families = Vec::new(alloc);
-    let mut first = Vec::new(alloc);
-    first.push(child(alloc, u64::MAX))?;
-    families.push(FamilyScrape {
-        desc: counter(alloc, "a")?,
-        children: first,
-    })?;
-    let mut second = Vec::new(alloc);
-    second.push(child(alloc, 10))?;
-    families.push(FamilyScrape {
-        desc: counter(alloc, "a:b_")?,
-        children: second,
-    })?;
-    let text = render(&Scrape::new(Vec::new(alloc), families))?;
-    let expected = b"# TYPE a counter\na 18446744073709551615\n# TYPE a:b_ counter\na:b_ 10\n";
-    assert_eq!(rt; text.as_slice(), expected.as_slice());
+// The text is this one, in memory of its length, and is read back.
+fn prints(rt: &impl Abort, scrape: &Scrape, expected: &[u8]) -> Result<(), Fail> {
+    let text = render(scrape)?;
+    assert_eq!(rt; text.as_slice(), expected);
+    assert_eq!(rt; text.capacity(), expected.len());
+    assert_eq!(rt; text_len(scrape), expected.len());
+    assert!(rt; read_text(*text.allocator(), &text)?.is_some());
     Ok(())
 }

@@ -1,116 +1,123 @@
-ghost use Rattle.std.specs.Prelude.{◌≡◌, ◌*◌, ◌≤◌, ◌++◌, length, IfOk, OnOk};
+ghost use Rattle.std.specs.Prelude.{◌≡◌, ◌<◌, ◌++◌, length, codes, All};
 ghost use Rattle.std.specs.List.{flat_map};
+ghost use Rattle.metric_names.specs.Escapes.{help_byte};
+ghost use Rattle.metric_names.specs.HelpText.{IsHelpText};
+ghost use Rattle.metric_names.specs.LabelName.{IsLabelName};
+ghost use Rattle.metric_names.specs.MetricName.{IsMetricName};
+ghost use Rattle.expo_text.specs.Scraped.{Child};
+ghost use Rattle.expo_text.specs.Order.{IsFamily, IsNumberOf, IsScrape};
+ghost use Rattle.expo_text.specs.Spelled.{IsSpelledChild, IsSpelledDesc, IsSpelledIfPrinted};
 ghost use Rattle.expo_text.specs.Samples.{samples_of_child};
-ghost use Rattle.expo_text.specs.Text.{sample_line, type_line, group_text, text};
+ghost use Rattle.expo_text.specs.Text.{help_line, kind_text, sample_line, type_line, group_of, group_text, text};
 
-use crate::number::Number;
+use crate::labels::put_escaped;
+use crate::samples::put_number;
 use crate::scrape::{ChildScrape, FamilyScrape, Scrape};
-use itoa::Buffer;
-use metric_desc::Desc;
-use metric_names::NoMemory;
+use crate::sink::Sink;
+use metric_desc::{Desc, Kind};
 
-fn sample_len(name: &str, value: u64) -> usize
-    requires { length name.now ≤ 128 }
-    ensures exact { result ≡ length (sample_line (record { name = name.now; value = value })) }
-    ensures bounded { result ≤ 170 }
+/// Writes the line of a help that is not empty.
+fn put_help_line<S: Sink>(sink: &mut S, name: &str, help: &str)
+    ensures { S.took sink.old sink.new (codes "# HELP " ++ name.now ++ codes " " ++ flat_map help_byte help.now ++ codes "\n") }
 {
-    let mut buffer = Buffer::new();
-    name.len() + 1 + buffer.format(value).len() + 1
+    sink.put(b"# HELP ");
+    sink.put(name.as_bytes());
+    sink.put(b" ");
+    put_escaped(sink, help.as_bytes(), false);
+    sink.put(b"\n");
 }
 
-fn child_len(desc: &Desc, child: &ChildScrape) -> usize
-    ensures exact { result ≡ length (flat_map sample_line (samples_of_child desc.now child.now)) }
-    ensures bounded { result ≤ 170 }
+/// Writes the line of a family's help, and nothing where the help is empty.
+fn put_help<S: Sink>(sink: &mut S, desc: &Desc)
+    ensures text { S.took sink.old sink.new (help_line desc.now.name desc.now.help) }
+    ensures help { IsHelpText desc.now.help }
 {
-    match child.number {
-        Number::Counter(total) => sample_len(desc.name().as_str(), total),
+    let help = desc.help().as_str();
+    if !help.is_empty() {
+        put_help_line(sink, desc.name().as_str(), help);
     }
 }
 
-fn type_len(desc: &Desc) -> usize
-    ensures exact { result ≡ length (type_line desc.now) }
-    ensures bounded { result ≤ 150 }
+/// The word for a kind.
+fn word(kind: Kind) -> &'static [u8]
+    ensures { result.now ≡ kind_text kind }
 {
-    7 + desc.name().as_str().len() + 9
+    match kind {
+        Kind::Counter => b"counter",
+        Kind::Histogram => b"histogram",
+        Kind::Gauge => b"gauge",
+    }
 }
 
-fn group_len(family: &FamilyScrape) -> usize
-    requires { length family.now.children ≤ 256 }
-    ensures exact { result ≡ length (group_text family.now) }
-    ensures bounded { result ≤ 50000 }
+/// Writes the line of a family's type.
+fn put_type<S: Sink>(sink: &mut S, desc: &Desc)
+    ensures text { S.took sink.old sink.new (type_line desc.now) }
+    ensures name { IsMetricName desc.now.name }
 {
-    if family.children.is_empty() {
-        return 0;
-    }
-    let mut len = type_len(&family.desc);
-    for child in &family.children {
-        len += child_len(&family.desc, child);
-    }
-    len
+    sink.put(b"# TYPE ");
+    sink.put(desc.name().as_str().as_bytes());
+    sink.put(b" ");
+    sink.put(word(desc.kind()));
+    sink.put(b"\n");
 }
 
-/// How many bytes the text of a scrape has.
-fn text_len(scrape: &Scrape) -> usize
-    ensures { result ≡ length (text scrape.now) }
+/// Writes the lines of a child.
+fn put_child<S: Sink>(sink: &mut S, desc: &Desc, child: &ChildScrape)
+    requires fit { length child.now.values ≡ length desc.now.labels }
+    requires kind { IsNumberOf desc.now.kind child.now.number }
+    ensures text { S.took sink.old sink.new (flat_map sample_line (samples_of_child desc.now child.now)) }
+    ensures names { All IsLabelName desc.now.labels }
+    ensures spelled { IsSpelledChild child.now }
 {
-    let mut len = 0;
+    put_number(sink, desc, &child.values, &child.number);
+}
+
+/// Writes the lines of a family's children.
+fn put_children<S: Sink>(sink: &mut S, desc: &Desc, children: &[ChildScrape])
+    requires fit { All (λ (child : Child). length child.values ≡ length desc.now.labels) children.now }
+    requires numbers { All (λ (child : Child). IsNumberOf desc.now.kind child.number) children.now }
+    ensures text { S.took sink.old sink.new (flat_map sample_line (flat_map (samples_of_child desc.now) children.now)) }
+    ensures names { 0 < length children.now → All IsLabelName desc.now.labels }
+    ensures spelled { All IsSpelledChild children.now }
+{
+    for child in children {
+        put_child(sink, desc, child);
+    }
+}
+
+/// Writes the help, the type and the samples of a family with children.
+fn put_lines<S: Sink>(sink: &mut S, desc: &Desc, children: &[ChildScrape])
+    requires fit { All (λ (child : Child). length child.values ≡ length desc.now.labels) children.now }
+    requires numbers { All (λ (child : Child). IsNumberOf desc.now.kind child.number) children.now }
+    requires some { 0 < length children.now }
+    ensures text { S.took sink.old sink.new (group_of desc.now children.now (flat_map (samples_of_child desc.now) children.now)) }
+    ensures spelled { IsSpelledDesc desc.now }
+    ensures children { All IsSpelledChild children.now }
+{
+    let _ = desc.labels();
+    put_help(sink, desc);
+    put_type(sink, desc);
+    put_children(sink, desc, children);
+}
+
+/// Writes the group of a family; nothing where it has no children.
+fn put_group<S: Sink>(sink: &mut S, family: &FamilyScrape)
+    requires { IsFamily family.now }
+    ensures text { S.took sink.old sink.new (group_text family.now) }
+    ensures spelled { IsSpelledIfPrinted family.now }
+{
+    if !family.children.is_empty() {
+        put_lines(sink, &family.desc, &family.children);
+    }
+}
+
+/// Writes the groups of a scrape.
+pub(crate) fn put_groups<S: Sink>(sink: &mut S, scrape: &Scrape)
+    ensures text { S.took sink.old sink.new (text scrape.now) }
+    ensures spelled { All IsSpelledIfPrinted scrape.now.families }
+    ensures ordered { IsScrape scrape.now }
+{
     for family in scrape.families() {
-        len += group_len(family);
+        put_group(sink, family);
     }
-    len
-}
-
-fn write_sample(out: &mut Vec<u8>, name: &str, value: u64) -> Result<(), NoMemory>
-    ensures { OnOk result (out.new.items ≡ out.old.items ++ sample_line (record { name = name.now; value = value })) }
-{
-    let mut buffer = Buffer::new();
-    out.extend_from_slice(name.as_bytes())?;
-    out.extend_from_slice(b" ")?;
-    out.extend_from_slice(buffer.format(value).as_bytes())?;
-    out.extend_from_slice(b"\n")?;
-    Ok(())
-}
-
-fn write_child(out: &mut Vec<u8>, desc: &Desc, child: &ChildScrape) -> Result<(), NoMemory>
-    ensures { OnOk result (out.new.items ≡ out.old.items ++ flat_map sample_line (samples_of_child desc.now child.now)) }
-{
-    match child.number {
-        Number::Counter(total) => write_sample(out, desc.name().as_str(), total),
-    }
-}
-
-fn write_type(out: &mut Vec<u8>, desc: &Desc) -> Result<(), NoMemory>
-    ensures { OnOk result (out.new.items ≡ out.old.items ++ type_line desc.now) }
-{
-    out.extend_from_slice(b"# TYPE ")?;
-    out.extend_from_slice(desc.name().as_str().as_bytes())?;
-    out.extend_from_slice(b" counter\n")?;
-    Ok(())
-}
-
-fn write_group(out: &mut Vec<u8>, family: &FamilyScrape) -> Result<(), NoMemory>
-    ensures { OnOk result (out.new.items ≡ out.old.items ++ group_text family.now) }
-{
-    if family.children.is_empty() {
-        return Ok(());
-    }
-    write_type(out, &family.desc)?;
-    for child in &family.children {
-        write_child(out, &family.desc, child)?;
-    }
-    Ok(())
-}
-
-/// The text of a scrape, in memory that is taken once.
-///
-/// Refusal 6 [`NoMemory`], and no other. Source: Prometheus documentation, "Exposition formats",
-/// "Text format details".
-pub fn render(scrape: &Scrape) -> Result<Vec<u8>, NoMemory>
-    ensures { IfOk result (λ bytes. bytes.items ≡ text scrape.now) }
-{
-    let mut out = Vec::with_capacity(scrape.allocator(), text_len(scrape))?;
-    for family in scrape.families() {
-        write_group(&mut out, family)?;
-    }
-    Ok(out)
 }

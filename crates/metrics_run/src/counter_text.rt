@@ -14,9 +14,7 @@ pub fn counter_text(alloc: Global, name: MetricName, total: u64) -> Result<Vec<u
     ensures { IfOk result (λ bytes. bytes.items ≡ text (one_counter_scrape name total)) }
 {
     let help = HelpText::empty(alloc);
-    let Ok(desc) = Desc::counter(name, help, Vec::new(alloc)) else {
-        return Err(NoMemory);
-    };
+    let desc = Desc::counter(name, help, Vec::new(alloc)).unwrap();
     let mut children = Vec::with_capacity(alloc, 1)?;
     children.push(ChildScrape {
         values: Vec::new(alloc),

@@ -1,3 +1,6 @@
+ghost use Rattle.std.specs.Prelude.{◌≤◌, vec_capacity};
+ghost use Rattle.metrics_run.specs.declared.lines.TheConstants.{MAX_LINE_BYTES};
+
 use crate::send::Broken;
 use std::alloc::Global;
 use std::io;
@@ -30,6 +33,7 @@ enum Piece {
 pub struct Lines<R> {
     reader: BufReader<R>,
     line: Vec<u8>,
+    ghost reserved: { MAX_LINE_BYTES ≤ vec_capacity line },
 }
 
 impl<R: Read + Drop> Lines<R> {
@@ -73,9 +77,7 @@ impl<R: Read + Drop> Lines<R> {
         if len > MAX_LINE_BYTES - self.line.len().min(MAX_LINE_BYTES) {
             return Ok(Piece::TooLong);
         }
-        if self.line.extend_from_slice(&available[..len]).is_err() {
-            return Ok(Piece::TooLong);
-        }
+        self.line.extend_from_slice(&available[..len]).unwrap();
         match line_feed {
             Some(at) => {
                 self.reader.consume(at + 1);

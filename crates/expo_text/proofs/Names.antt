@@ -1,0 +1,110 @@
+-- Names, helps and values by their bytes.
+use Rattle.std.proofs.Common.{◌≡◌, ℕ, ◌<◌, ◌^◌, Bool, true, false, ◌-◌, suc, slice_index, ◌&&◌, ◌||◌, ◌==◌, nat_lt, IsTrue, List, [], ◌∷◌, ◌++◌, length, get_or, All, pos, nat_abs, decimal, refl, inl, inr, arith, le-leb}
+use Rattle.std.specs.Prelude.{ℤ, negsuc, flat_map}
+use Rattle.std.specs.Fmt.{signed_decimal}
+use Rattle.std.specs.Str.Parse.{AllDigits}
+use Rattle.std.proofs.lemmas.Fmt.{decimal_is_IsNumeral}
+use Rattle.std.proofs.lemmas.Str.Parse.{digit_at}
+use Rattle.std.proofs.lemmas.Bool.{cases_Bool, or_parts, or_left, and_from}
+use Rattle.std.proofs.lemmas.List.Elements.{All-from_get_or, All-head, All-tail}
+use Rattle.metric_names.specs.Spelling.{name_takes, is_letter, is_digit}
+use Rattle.metric_names.specs.MetricName.{IsMetricName}
+use Rattle.metric_names.specs.LabelName.{IsLabelName}
+use Rattle.metric_names.specs.HelpText.{is_blank, IsHelpText}
+use Rattle.metric_names.specs.Escapes.{help_byte}
+use Rattle.expo_text.proofs.Tokens.{Each, Stops, each_from_All}
+use Rattle.expo_text.proofs.LabelsRead.{is_name_byte, IsNamed, AreNamed}
+
+-- a byte that one place of one kind of name takes, the second place of a metric name takes
+wider : (letter digit colon later has_colon : Bool)
+    → (letter || (later && digit) || (has_colon && colon)) ≡ true → (letter || (true && digit) || (true && colon)) ≡ true
+wider true digit colon later has_colon h = refl
+wider false true colon later has_colon h = refl
+wider false false true later has_colon h = refl
+wider false false false true true h = h
+wider false false false true false h = h
+wider false false false false true h = h
+wider false false false false false h = h
+
+-- the same of `name_takes`
+takes_wider : (colon : Bool) (k b : ℕ) → IsTrue (name_takes colon k b) → is_name_byte b ≡ true
+takes_wider colon k b h = wider (is_letter b) (is_digit b) (b == 58) (nat_lt 0 k) colon h
+
+-- a text that is not empty, by its bytes
+pub named_from : (text : List ℕ) → 0 < length text → Each is_name_byte text → IsNamed text
+named_from [] some h = absurd (omega arith)
+named_from (c ∷ cs) some h = h
+
+-- a text that is spelled as a name, by its bytes
+spelled : (colon : Bool) (text : List ℕ) → ((k : ℕ) → k < length text → IsTrue (name_takes colon k (get_or text k 0))) → Each is_name_byte text
+spelled colon text h =
+    each_from_All is_name_byte text
+    (All-from_get_or (λ b. IsTrue (is_name_byte b)) text 0 (λ k lt. takes_wider colon k (get_or text k 0) (h k lt)))
+
+-- a metric name is a name of one or more such bytes
+pub metric_named : (text : List ℕ) → IsMetricName text → IsNamed text
+metric_named text is = named_from text is.nonempty (spelled true text is.spelled)
+
+-- a label name is too
+pub label_named : (text : List ℕ) → IsLabelName text → IsNamed text
+label_named text is = named_from text is.nonempty (spelled false text is.spelled)
+
+-- the names of labels
+pub labels_named : (labels : List (List ℕ × List ℕ)) → All (λ (label : List ℕ × List ℕ). IsLabelName label.0) labels → AreNamed labels
+labels_named [] h = tt
+labels_named (label ∷ labels) h = (
+  label_named label.0 (All-head (λ (label : List ℕ × List ℕ). IsLabelName label.0) label labels h),
+  labels_named labels (All-tail (λ (label : List ℕ × List ℕ). IsLabelName label.0) label labels h),
+)
+
+-- a help does not begin with a blank as it is written
+help_piece : (b : ℕ) (rest : List ℕ) → is_blank b ≡ false → Stops is_blank (help_byte b ++ rest)
+help_piece b rest h =
+    elim (cases_Bool (b == 92)) [
+      | inl slash ↦ rw slash refl
+      | inr other ↦ elim (cases_Bool (b == 10)) [ inl feed ↦ rw (other, feed) refl | inr plain ↦ rw (other, plain) h ]
+    ]
+
+-- so a written help has no blank in front
+pub help_stops : (b : ℕ) (bs : List ℕ) → IsHelpText (b ∷ bs) → Stops is_blank (flat_map help_byte (b ∷ bs))
+help_stops b bs is =
+    help_piece b (flat_map help_byte bs)
+    (or_parts (is_blank b) (is_blank (slice_index (b ∷ bs) (length (b ∷ bs) - 1))) is.edges).0
+
+-- a byte of a value
+abbrev pub is_value_byte : ℕ → Bool
+is_value_byte b = is_digit b || b == 45
+
+-- a value as it is written: a byte or more, digits or a minus
+abbrev pub IsToken : List ℕ → Type 0
+IsToken [] = ⊥
+IsToken (c ∷ cs) = (is_value_byte c ≡ true) × Each is_value_byte cs
+
+-- digits are bytes of a value
+digits_each : (digits : List ℕ) → AllDigits 10 digits → Each is_value_byte digits
+digits_each [] h = tt
+digits_each (c ∷ cs) h =
+    let range = digit_at (c ∷ []) 0 (h.0, tt) (omega arith) in
+    let digit : is_digit c ≡ true = and_from _ _ (le-leb 48 c range.0) (le-leb c 57 range.1) in
+    (or_left (is_digit c) (c == 45) digit, digits_each cs h.1)
+
+-- a text that is not empty, by its bytes
+token_from : (text : List ℕ) → 0 < length text → Each is_value_byte text → IsToken text
+token_from [] some h = absurd (omega arith)
+token_from (c ∷ cs) some h = h
+
+-- decimal digits are a token
+pub decimal_token : (n : ℕ) → n < 2 ^ 64 → IsToken (decimal n)
+decimal_token n small =
+    let numeral = (decimal_is_IsNumeral n small).0 in
+    token_from (decimal n) numeral.0 (digits_each (decimal n) numeral.1)
+
+-- the bytes of a token
+token_each : (text : List ℕ) → IsToken text → Each is_value_byte text
+token_each [] h = absurd h
+token_each (c ∷ cs) h = h
+
+-- a value is a token
+pub value_token : (value : ℤ) → nat_abs value < 2 ^ 64 → IsToken (signed_decimal value)
+value_token (pos n) small = decimal_token n small
+value_token (negsuc n) small = (refl, token_each (decimal (suc n)) (decimal_token (suc n) small))

@@ -1,0 +1,80 @@
+-- Bytes are read in one way: as the groups of one list at most.
+use Rattle.std.proofs.Common.{◌≡◌, ℕ, ◌<◌, List, [], ◌∷◌, ◌++◌, drop, length, get_or, map, refl, sym, ap, ap₂, ◌∙◌, subst, inl, inr, arith}
+use Rattle.std.specs.Prelude.{ℤ, pos, neg_ℤ, codes}
+use Rattle.std.specs.Str.Parse.{IsNumeral, digits_value}
+use Rattle.std.proofs.lemmas.List.{append_cancel_right}
+use Rattle.metric_names.specs.Escapes.{EscHelp, EscLabel}
+use Rattle.metric_names.proofs.Escapes.{help_alone, label_alone}
+use Rattle.metric_desc.specs.declared.kind.Kind.{Kind}
+use Rattle.metric_desc.specs.declared.kind.Kind.TheVariants.{Counter, Histogram, Gauge}
+use Rattle.expo_text.specs.Samples.{Sample}
+use Rattle.expo_text.specs.Groups.{Group}
+use Rattle.expo_text.specs.Lines.{Written, AreLines, entry_of}
+use Rattle.expo_text.specs.Parts.{Part, parts_of}
+use Rattle.expo_text.specs.Reads.{Match, IsHelpOf, word_of, WritesValue, IsLabel, IsSample, IsGroup, Reads}
+
+-- where each element has one partner, each list has one
+match_one : {A B : Type 0} (R : A → B → Type 0) → ((x : A) (y z : B) → R x y → R x z → y ≡ z)
+    → (xs : List A) (ys zs : List B) → Match R xs ys → Match R xs zs → ys ≡ zs
+match_one R one [] [] [] m n = refl
+match_one R one [] [] (z ∷ zs) m n = absurd n
+match_one R one [] (y ∷ ys) zs m n = absurd m
+match_one R one (x ∷ xs) [] zs m n = absurd m
+match_one R one (x ∷ xs) (y ∷ ys) [] m n = absurd n
+match_one R one (x ∷ xs) (y ∷ ys) (z ∷ zs) m n = ap₂ (λ v vs. v ∷ vs) (one x y z m.0 n.0) (match_one R one xs ys zs m.1 n.1)
+
+label_one : (written a b : List ℕ × List ℕ) → IsLabel written a → IsLabel written b → a ≡ b
+label_one written a b is_a is_b =
+    ap₂ (λ x y. (x, y)) (is_a.name ∙ sym is_b.name) (label_alone b.1 a.1 written.1 is_b.value is_a.value)
+
+-- a number's digits do not begin with a minus
+no_minus : (digits token : List ℕ) → token ≡ 45 ∷ digits → IsNumeral 10 token → ⊥
+no_minus digits token is numeral = let h : IsNumeral 10 (45 ∷ digits) = subst (IsNumeral 10) is numeral in let low = h.1.0 in absurd (omega (arith, low))
+
+value_one : (kind : Kind) (token : List ℕ) (y z : ℤ) → WritesValue kind token y → WritesValue kind token z → y ≡ z
+value_one kind token y z (inl m) (inl n) = m.1 ∙ sym n.1
+value_one kind token y z (inl m) (inr n) = absurd (no_minus n.0 token n.2 m.0)
+value_one kind token y z (inr m) (inl n) = absurd (no_minus m.0 token m.2 n.0)
+value_one kind token y z (inr m) (inr n) =
+    let same_digits : m.0 ≡ n.0 = ap (λ bytes. drop 1 bytes) (sym m.2 ∙ n.2) in
+    m.4 ∙ ap (λ digits. neg_ℤ (pos (digits_value 10 digits))) same_digits ∙ sym n.4
+
+kind_one : (k l : Kind) → word_of k ≡ word_of l → k ≡ l
+kind_one Counter Counter e = refl
+kind_one Counter Histogram e = let h = ap length e in absurd (omega (arith, h))
+kind_one Counter Gauge e = let h = ap length e in absurd (omega (arith, h))
+kind_one Histogram Counter e = let h = ap length e in absurd (omega (arith, h))
+kind_one Histogram Histogram e = refl
+kind_one Histogram Gauge e = let h = ap length e in absurd (omega (arith, h))
+kind_one Gauge Counter e = let h = ap length e in absurd (omega (arith, h))
+kind_one Gauge Histogram e = let h = ap length e in absurd (omega (arith, h))
+kind_one Gauge Gauge e = refl
+
+sample_one : (kind : Kind) (written : Written) (a b : Sample) → IsSample kind written a → IsSample kind written b → a ≡ b
+sample_one kind written a b is_a is_b =
+    let make : List ℕ → List (List ℕ × List ℕ) → ℤ → Sample = λ n l v. record { name = n; labels = l; value = v } in
+    ap (λ n. make n a.labels a.value) (is_a.name ∙ sym is_b.name)
+    ∙ ap (λ l. make b.name l a.value) (match_one IsLabel label_one written.labels a.labels b.labels is_a.labels is_b.labels)
+    ∙ ap (λ v. make b.name b.labels v) (value_one kind written.value a.value b.value is_a.value is_b.value)
+
+help_one : (helps : List (List ℕ)) (a b : List ℕ) → IsHelpOf helps a → IsHelpOf helps b → a ≡ b
+help_one [] a b is_a is_b = is_a ∙ sym is_b
+help_one (written ∷ []) a b is_a is_b = help_alone b a written is_b is_a
+help_one (_ ∷ _ ∷ _) a b is_a is_b = absurd is_a
+
+group_one : (part : Part) (a b : Group) → IsGroup part a → IsGroup part b → a ≡ b
+group_one part a b is_a is_b =
+    let make : List ℕ → List ℕ → Kind → List Sample → Group = λ n h k s. record { name = n; help = h; kind = k; samples = s } in
+    let same_kind : a.kind ≡ b.kind = kind_one a.kind b.kind (ap (λ words. get_or words 0 []) (sym is_a.kind ∙ is_b.kind)) in
+    let in_kind : Match (IsSample b.kind) part.samples a.samples = subst (λ k. Match (IsSample k) part.samples a.samples) same_kind is_a.samples in
+    ap (λ n. make n a.help a.kind a.samples) (is_a.name ∙ sym is_b.name)
+    ∙ ap (λ h. make b.name h a.kind a.samples) (help_one part.helps a.help b.help is_a.help is_b.help)
+    ∙ ap (λ k. make b.name b.help k a.samples) same_kind
+    ∙ ap (λ s. make b.name b.help b.kind s) (match_one (IsSample b.kind) (sample_one b.kind) part.samples a.samples b.samples in_kind is_b.samples)
+
+-- bytes are an exposition of one list of groups at most
+pub one_reading : (bytes : List ℕ) (a b : List Group) → Reads bytes a → Reads bytes b → a ≡ b
+one_reading bytes a b reads_a reads_b =
+    let same_lines : reads_a.lines ≡ reads_b.lines = append_cancel_right reads_a.lines reads_b.lines ([] ∷ []) (sym reads_a.cut ∙ reads_b.cut) in
+    match_one IsGroup group_one (parts_of (map entry_of reads_b.lines)) a b
+    (subst (λ lines. Match IsGroup (parts_of (map entry_of lines)) a) same_lines reads_a.parts) reads_b.parts

@@ -1,0 +1,106 @@
+-- How long the parts of a text are at most.
+use Rattle.std.proofs.Common.{◌≡◌, ℕ, zero, suc, ◌+◌, ◌-◌, ◌*◌, ◌<◌, ◌≤◌, ◌^◌, Bool, true, false, List, [], ◌∷◌, ◌++◌, length, get_or, codes, decimal, All, arith, length-append}
+use Rattle.std.specs.Prelude.{ℤ, pos, negsuc, ◌-ℤ◌, ◌==◌, if◌then◌else◌, nat_lt}
+use Rattle.std.specs.Fmt.{signed_decimal}
+use Rattle.std.specs.List.{flat_map, zip}
+use Rattle.std.proofs.lemmas.List.Elements.{All-head, All-tail, All-weaker, All-cons, All-nil}
+use Rattle.std.proofs.lemmas.Grind.{flat_map-append}
+use Rattle.std.proofs.lemmas.Fmt.{length-decimal-le}
+use Rattle.metric_names.specs.Escapes.{help_byte, label_byte}
+use Rattle.metric_names.specs.LabelName.{IsLabelName}
+use Rattle.metric_names.specs.LabelValue.{IsLabelValue}
+use Rattle.expo_text.specs.Samples.{Sample}
+use Rattle.expo_text.specs.Text.{label_text, labels_text, sample_line}
+
+-- pieces of at most `most` bytes
+pub flat_map-short : {X : Type 0} (f : X → List ℕ) (most : ℕ) (xs : List X) → All (λ x. length (f x) ≤ most) xs → length (flat_map f xs) ≤ most * length xs
+flat_map-short f most [] each = omega arith
+flat_map-short f most (x ∷ xs) each =
+    let first : length (f x) ≤ most = All-head (λ y. length (f y) ≤ most) x xs each in
+    let rest : length (flat_map f xs) ≤ most * length xs = flat_map-short f most xs (All-tail (λ y. length (f y) ≤ most) x xs each) in
+    let next : most * suc (length xs) ≡ most * length xs + most = grind arith in
+    rw length-append (omega (arith, first, rest, next))
+
+-- pieces of pieces
+pub nested-short : {X Y : Type 0} (f : Y → List ℕ) (g : X → List Y) (most : ℕ) (xs : List X) → All (λ x. length (flat_map f (g x)) ≤ most) xs → length (flat_map f (flat_map g xs)) ≤ most * length xs
+nested-short f g most [] each = omega arith
+nested-short f g most (x ∷ xs) each =
+    let first : length (flat_map f (g x)) ≤ most = All-head (λ y. length (flat_map f (g y)) ≤ most) x xs each in
+    let rest : length (flat_map f (flat_map g xs)) ≤ most * length xs = nested-short f g most xs (All-tail (λ y. length (flat_map f (g y)) ≤ most) x xs each) in
+    let next : most * suc (length xs) ≡ most * length xs + most = grind arith in
+    rw (flat_map-append, length-append) (omega (arith, first, rest, next))
+
+either-short : (c : Bool) (a b : List ℕ) (most : ℕ) → length a ≤ most → length b ≤ most → length (if c then a else b) ≤ most
+either-short true a b most first second = first
+either-short false a b most first second = second
+
+pub help_byte-short : (b : ℕ) → length (help_byte b) ≤ 2
+help_byte-short b =
+    let slash : length (codes "\\\\") ≤ 2 = omega arith in
+    let feed : length (codes "\\n") ≤ 2 = omega arith in
+    let raw : length (b ∷ []) ≤ 2 = omega arith in
+    either-short (b == 92) (codes "\\\\") (if b == 10 then codes "\\n" else b ∷ []) 2 slash (either-short (b == 10) (codes "\\n") (b ∷ []) 2 feed raw)
+
+label_byte-short : (b : ℕ) → length (label_byte b) ≤ 2
+label_byte-short b =
+    let quote : length (codes "\\\"") ≤ 2 = omega arith in
+    either-short (b == 34) (codes "\\\"") (help_byte b) 2 quote (help_byte-short b)
+
+-- a label of at most 643 bytes
+abbrev pub IsShortLabel : List ℕ × List ℕ → Type 0
+IsShortLabel label = length (label_text label) ≤ 643
+
+pub label_text-short : (name value : List ℕ) → length name ≤ 128 → length value ≤ 256 → IsShortLabel (name, value)
+label_text-short name value short_name short_value =
+    let escaped = flat_map-short label_byte 2 value (λ k d within. label_byte-short (get_or value k d)) in
+    simp length-append (omega (arith, short_name, short_value, escaped))
+
+pub zip-short : (names values : List (List ℕ)) → All IsLabelName names → All IsLabelValue values → All IsShortLabel (zip names values)
+zip-short [] values spelled short = All-nil IsShortLabel
+zip-short (name ∷ names) [] spelled short = All-nil IsShortLabel
+zip-short (name ∷ names) (value ∷ values) spelled short =
+    All-cons IsShortLabel (name, value) (zip names values)
+    (label_text-short name value (All-head IsLabelName name names spelled).short (All-head IsLabelValue value values short))
+    (zip-short names values (All-tail IsLabelName name names spelled) (All-tail IsLabelValue value values short))
+
+braces-short : (first rest : List ℕ) (n : ℕ) → length first ≤ 643 → length rest ≤ 644 * n → length (codes "{" ++ (first ++ rest) ++ codes "}") ≤ 2 + 644 * suc n
+braces-short first rest n short_first short_rest = simp length-append (omega (arith, short_first, short_rest))
+
+labels_text-short : (labels : List (List ℕ × List ℕ)) → All IsShortLabel labels → length (labels_text labels) ≤ 2 + 644 * length labels
+labels_text-short [] each = omega arith
+labels_text-short (label ∷ labels) each =
+    let part : List ℕ × List ℕ → List ℕ = λ y. codes "," ++ label_text y in
+    let first : length (label_text label) ≤ 643 = All-head IsShortLabel label labels each in
+    let others = All-weaker IsShortLabel (λ y. length (part y) ≤ 644) (λ y short. omega (arith, short)) labels (All-tail IsShortLabel label labels each) in
+    braces-short (label_text label) (flat_map part labels) (length labels) first (flat_map-short part 644 labels others)
+
+-- a sample whose line has at most 6,000 bytes
+pub record IsShortSample (sample : Sample) : Type 0 where
+  pub name : length sample.name ≤ 135
+  pub labels : All IsShortLabel sample.labels
+  pub few : length sample.labels ≤ 9
+  pub value : length (signed_decimal sample.value) ≤ 21
+
+pub sample_line-short : (sample : Sample) → IsShortSample sample → length (sample_line sample) ≤ 6000
+sample_line-short sample short =
+    let labels = labels_text-short sample.labels short.labels in
+    simp length-append (omega (arith, short.name, short.few, short.value, labels))
+
+-- the values of samples
+pub decimal-short : (n : ℕ) → n < 2 ^ 64 → length (decimal n) ≤ 20
+decimal-short n small = length-decimal-le 20 n (omega arith) (omega (arith, small)) small
+
+either-value : (c : Bool) (a b : ℤ) → length (signed_decimal a) ≤ 21 → length (signed_decimal b) ≤ 21 → length (signed_decimal (if c then a else b)) ≤ 21
+either-value true a b first second = first
+either-value false a b first second = second
+
+pub pos-short : (n : ℕ) → n < 2 ^ 64 → length (signed_decimal (pos n)) ≤ 21
+pos-short n small = let short = decimal-short n small in omega (arith, short)
+
+neg-short : (n : ℕ) → n + 1 < 2 ^ 64 → length (signed_decimal (negsuc n)) ≤ 21
+neg-short n small = let short = decimal-short (suc n) (omega (arith, small)) in omega (arith, short)
+
+pub difference-short : (up down : ℕ) → up < 2 ^ 64 → down < 2 ^ 64 → length (signed_decimal (pos up -ℤ pos down)) ≤ 21
+difference-short up zero small_up small_down = pos-short (up + 0) (omega (arith, small_up))
+difference-short up (suc n) small_up small_down =
+    either-value (nat_lt up (suc n)) (negsuc (suc n - suc up)) (pos (up - suc n)) (neg-short (suc n - suc up) (omega (arith, small_down))) (pos-short (up - suc n) (omega (arith, small_up)))

@@ -1,0 +1,136 @@
+-- How a scraper reads a line: by its tokens (Prometheus documentation, "Exposition formats", "Text format details").
+-- Nothing here knows how a scrape is written.
+use Rattle.std.specs.Prelude.{◌≡◌, ℕ, Bool, true, false, not, ◌&&◌, ◌==◌, if◌then◌else◌, nat_eq, List, [], ◌∷◌, ◌++◌, drop, take_while, codes}
+use Rattle.std.specs.List.{prefix_len, slice_split}
+use Rattle.std.specs.Cmp.Lexicographic.{pointwise}
+use Rattle.metric_names.specs.HelpText.{is_blank}
+
+-- the lines of a text: the parts between line feeds, the last of which has to be empty
+abbrev pub AreLines : List ℕ → List (List ℕ) → Type 0
+AreLines bytes lines = slice_split (λ b. b == 10) bytes ≡ lines ++ ([] ∷ [])
+
+-- two texts are the same
+abbrev pub same : List ℕ → List ℕ → Bool
+same a b = pointwise nat_eq a b
+
+-- what stands from the first byte on that fails the test
+abbrev pub drop_while : (ℕ → Bool) → List ℕ → List ℕ
+drop_while test bytes = drop (prefix_len test bytes) bytes
+
+-- without the blanks and tabs in front
+abbrev pub skip : List ℕ → List ℕ
+skip bytes = drop_while is_blank bytes
+
+-- the token in front, which ends at a blank or a tab
+abbrev pub in_token : ℕ → Bool
+in_token b = not (is_blank b)
+
+abbrev pub first : List ℕ → List ℕ
+first bytes = take_while in_token bytes
+
+-- what follows the token in front and the blanks after it
+abbrev pub after : List ℕ → List ℕ
+after bytes = skip (drop_while in_token bytes)
+
+-- a sample as it is written: its name, its labels with their values still escaped, and the token of its value
+pub record Written : Type 0 where
+  pub name : List ℕ
+  pub labels : List (List ℕ × List ℕ)
+  pub value : List ℕ
+
+-- what a line is: nothing, as a comment or an empty line; a help, still escaped; a type; a sample; or no line of the format
+pub data Entry : Type 0 where
+  Nothing : Entry
+  Help : (name help : List ℕ) → Entry
+  Typed : (name word : List ℕ) → Entry
+  Sampled : Written → Entry
+  Malformed : Entry
+
+-- where in a list of labels the reading is
+pub data Place : Type 0 where
+  BeforeName : Place
+  InName : (name : List ℕ) → Place
+  AfterName : (name : List ℕ) → Place
+  BeforeValue : (name : List ℕ) → Place
+  InValue : (name value : List ℕ) → Place
+  InEscape : (name value : List ℕ) → Place
+  AfterValue : Place
+  Ended : Place
+  Failed : Place
+
+-- where one byte of a list of labels leads: `=` is 61, a quote 34, a backslash 92, a comma 44, a closing brace 125
+abbrev pub move : Place → ℕ → Place
+move BeforeName b = if b == 125 then Ended else (if is_blank b then BeforeName else InName (b ∷ []))
+move (InName name) b = if b == 61 then BeforeValue name else (if is_blank b then AfterName name else InName (name ++ (b ∷ [])))
+move (AfterName name) b = if b == 61 then BeforeValue name else (if is_blank b then AfterName name else Failed)
+move (BeforeValue name) b = if b == 34 then InValue name [] else (if is_blank b then BeforeValue name else Failed)
+move (InValue name value) b =
+    if b == 34 then AfterValue else (if b == 92 then InEscape name (value ++ (b ∷ [])) else InValue name (value ++ (b ∷ [])))
+move (InEscape name value) b = InValue name (value ++ (b ∷ []))
+move AfterValue b = if b == 44 then BeforeName else (if b == 125 then Ended else (if is_blank b then AfterValue else Failed))
+move Ended b = Ended
+move Failed b = Failed
+
+-- the label that a byte completes: the quote after its value
+abbrev pub completed : Place → ℕ → List (List ℕ × List ℕ)
+completed BeforeName b = []
+completed (InName name) b = []
+completed (AfterName name) b = []
+completed (BeforeValue name) b = []
+completed (InValue name value) b = if b == 34 then (name, value) ∷ [] else []
+completed (InEscape name value) b = []
+completed AfterValue b = []
+completed Ended b = []
+completed Failed b = []
+
+abbrev pub has_ended : Place → Bool
+has_ended BeforeName = false
+has_ended (InName name) = false
+has_ended (AfterName name) = false
+has_ended (BeforeValue name) = false
+has_ended (InValue name value) = false
+has_ended (InEscape name value) = false
+has_ended AfterValue = false
+has_ended Ended = true
+has_ended Failed = false
+
+-- the value of a sample: one token, and nothing after it
+abbrev pub value_entry : (name : List ℕ) → List (List ℕ × List ℕ) → List ℕ → Entry
+value_entry name labels rest =
+    if same (after rest) [] then Sampled (record { name = name; labels = labels; value = first rest }) else Malformed
+
+-- the labels of a sample from a place on, after those that are read, then its value
+abbrev pub labels_entry : (name : List ℕ) → Place → List (List ℕ × List ℕ) → List ℕ → Entry
+labels_entry name place labels [] = Malformed
+labels_entry name place labels (b ∷ bytes) =
+    if has_ended (move place b) then value_entry name labels (skip bytes)
+    else labels_entry name (move place b) (labels ++ completed place b) bytes
+
+-- the name of a sample ends at a blank, a tab or an opening brace, which is 123
+abbrev pub in_name : ℕ → Bool
+in_name b = in_token b && not (b == 123)
+
+abbrev pub after_name : (name : List ℕ) → List ℕ → Entry
+after_name name [] = Malformed
+after_name name (b ∷ bytes) = if b == 123 then labels_entry name BeforeName [] bytes else value_entry name [] (b ∷ bytes)
+
+abbrev pub sample_entry : List ℕ → Entry
+sample_entry line = after_name (take_while in_name line) (skip (drop_while in_name line))
+
+-- a type has two tokens, its family's name and its kind
+abbrev pub type_entry : List ℕ → Entry
+type_entry rest = if same (after (after rest)) [] then Typed (first rest) (first (after rest)) else Malformed
+
+-- after a hash: the token HELP with a family's name and all the rest, or the token TYPE, or a comment
+abbrev pub hash_entry : List ℕ → Entry
+hash_entry rest =
+    if same (first rest) (codes "HELP") then Help (first (after rest)) (after (after rest))
+    else (if same (first rest) (codes "TYPE") then type_entry (after rest) else Nothing)
+
+-- a line without its blanks in front: empty, or with a hash in front, which is 35, or a sample
+abbrev pub entry_from : List ℕ → Entry
+entry_from [] = Nothing
+entry_from (b ∷ bytes) = if b == 35 then hash_entry (skip bytes) else sample_entry (b ∷ bytes)
+
+abbrev pub entry_of : List ℕ → Entry
+entry_of line = entry_from (skip line)

@@ -1,0 +1,99 @@
+ghost use Rattle.std.specs.Prelude.{◌≡◌, ◌++◌, [], ◌∷◌, length, zip, codes, All, MatchOption};
+ghost use Rattle.std.specs.List.{flat_map};
+ghost use Rattle.metric_names.specs.LabelName.{IsLabelName};
+ghost use Rattle.metric_names.specs.LabelValue.{IsLabelValue};
+ghost use Rattle.expo_text.specs.Text.{label_text, labels_text};
+ghost use Rattle.expo_text.specs.Walk.{byte_text, mark, opened, closing, with_bound};
+
+use crate::sink::Sink;
+use metric_names::{LabelName, LabelValue};
+
+/// What stands for a byte that cannot stand as it is: a backslash or a line feed, and in a label's value a double quote.
+fn escape(byte: u8, quoted: bool) -> Option<&'static [u8]>
+    ensures { MatchOption result (byte_text quoted byte ≡ byte ∷ []) (λ escaped. byte_text quoted byte ≡ escaped.now) }
+{
+    match byte {
+        b'\\' => Some(b"\\\\"),
+        b'\n' => Some(b"\\n"),
+        b'"' if quoted => Some(b"\\\""),
+        _ => None,
+    }
+}
+
+/// Writes a text escaped, in runs of bytes that stand as they are.
+pub(crate) fn put_escaped<S: Sink>(sink: &mut S, bytes: &[u8], quoted: bool)
+    ensures { S.took sink.old sink.new (flat_map (byte_text quoted) bytes.now) }
+{
+    let mut start = 0;
+    for at in 0..bytes.len() {
+        if let Some(escaped) = escape(bytes[at], quoted) {
+            sink.put(&bytes[start..at]);
+            sink.put(escaped);
+            start = at + 1;
+        }
+    }
+    sink.put(&bytes[start..]);
+}
+
+/// Writes a label after its brace or its comma.
+fn put_label<S: Sink>(sink: &mut S, before: &str, name: &str, value: &str)
+    ensures { S.took sink.old sink.new (before.now ++ label_text (name.now, value.now)) }
+{
+    sink.put(before.as_bytes());
+    sink.put(name.as_bytes());
+    sink.put(b"=\"");
+    put_escaped(sink, value.as_bytes(), true);
+    sink.put(b"\"");
+}
+
+/// The brace or the comma before the label at a place.
+fn before(place: usize) -> &'static str
+    ensures { result.now ≡ mark place }
+{
+    if place == 0 { "{" } else { "," }
+}
+
+/// Writes the brace and the labels of a child, without the brace that ends them.
+fn put_opened<S: Sink>(sink: &mut S, names: &[LabelName], values: &[LabelValue])
+    requires { length values.now ≡ length names.now }
+    ensures text { S.took sink.old sink.new (opened (zip names.now values.now)) }
+    ensures names { All IsLabelName names.now }
+    ensures values { All IsLabelValue values.now }
+{
+    for place in 0..names.len() {
+        put_label(
+            sink,
+            before(place),
+            names[place].as_str(),
+            values[place].as_str(),
+        );
+    }
+}
+
+/// Writes the bound of a bucket as the last label, unless it is empty, and the brace that ends the labels.
+fn put_closing<S: Sink>(sink: &mut S, count: usize, bound: &str)
+    ensures { S.took sink.old sink.new (closing count bound.now) }
+{
+    if !bound.is_empty() {
+        put_label(sink, before(count), "le", bound);
+        sink.put(b"}");
+    } else if count > 0 {
+        sink.put(b"}");
+    }
+}
+
+/// Writes the labels of a sample: those of its child, and then the bound of a bucket as `le`, unless it is empty.
+pub(crate) fn put_labels<S: Sink>(
+    sink: &mut S,
+    names: &[LabelName],
+    values: &[LabelValue],
+    bound: &str,
+)
+    requires { length values.now ≡ length names.now }
+    ensures text { S.took sink.old sink.new (labels_text (with_bound (zip names.now values.now) bound.now)) }
+    ensures names { All IsLabelName names.now }
+    ensures values { All IsLabelValue values.now }
+{
+    put_opened(sink, names, values);
+    put_closing(sink, names.len(), bound);
+}

@@ -1,0 +1,73 @@
+ghost use Rattle.std.specs.Prelude.{◌≡◌, ◌<◌, ◌≤◌, ◌++◌, [], false, length, take};
+
+use std::marker::Model;
+
+/// How many bytes go out together at most.
+pub(crate) const PIECE: usize = 4096;
+
+/// Bytes that wait to go out together, at most 4,096. Plain data.
+///
+/// Contracts see it as the list of these bytes.
+#[derive(Drop)]
+pub(crate) struct Piece {
+    places: [u8; 4096],
+    filled: usize,
+}
+
+impl Model for Piece {
+    ghost use Rattle.std.specs.Prelude.{ℕ, ◌≤◌, List, take};
+
+    ghost Value = { List ℕ };
+
+    ghost view = { λ p. take p.filled p.places };
+
+    ghost invariant = { λ p. p.filled ≤ 4096 };
+}
+
+impl Piece {
+    /// No bytes.
+    pub(crate) fn new() -> Piece
+        ensures { result ≡ [] }
+    {
+        Piece {
+            places: [0; PIECE],
+            filled: 0,
+        }
+    }
+
+    /// The bytes that wait.
+    pub(crate) fn bytes(&self) -> &[u8]
+        ensures { result.now ≡ self.now }
+    {
+        &self.places[..self.filled]
+    }
+
+    /// Whether there is no room left.
+    pub(crate) fn is_full(&self) -> bool
+        ensures { result ≡ false → length self.now < 4096 }
+    {
+        self.filled == PIECE
+    }
+
+    /// Forgets the bytes.
+    pub(crate) fn clear(&mut self)
+        ensures { self.new ≡ [] }
+    {
+        self.filled = 0;
+    }
+
+    /// Takes the first of these bytes, as many as there is room for, and answers how many.
+    pub(crate) fn take(&mut self, bytes: &[u8]) -> usize
+        requires room { length self.old < 4096 }
+        requires some { 0 < length bytes.now }
+        ensures some { 0 < result }
+        ensures within { result ≤ length bytes.now }
+        ensures taken { self.new ≡ self.old ++ take result bytes.now }
+    {
+        let count = bytes.len().min(PIECE - self.filled);
+        let end = self.filled + count;
+        self.places[self.filled..end].copy_from_slice(&bytes[..count]);
+        self.filled = end;
+        count
+    }
+}

@@ -1,0 +1,324 @@
+//! Checks of the groups that were read.
+
+ghost use Rattle.std.specs.Prelude.{◌≡◌, ◌≢◌, ◌↔◌, ◌<◌, ◌≤ℤ◌, ◌++◌, false, length, slice_index_or, List, ℕ, IsTrue, All, AllPairs, Contains, flat_map, codes};
+ghost use Rattle.expo_text.specs.Lines.{same};
+ghost use Rattle.expo_text.specs.Samples.{Sample};
+ghost use Rattle.expo_text.specs.Groups.{Group};
+ghost use Rattle.expo_text.specs.Reads.{IsSameSeries, IsBucketPair, IsHistogramGroup, others};
+ghost use Rattle.expo_text.specs.Checks.{IsTotalOf, IsCountOf, HasCount, HasTotal};
+
+use crate::reader::found::{Found, FoundLabel, FoundSample, Word};
+use crate::reader::line::is_same;
+use metric_desc::Kind;
+
+/// Whether two texts are the same.
+fn is_text(a: &[u8], b: &[u8]) -> bool
+    ensures { IsTrue result ↔ (a.now ≡ b.now) }
+{
+    is_same(a, b)
+}
+
+/// Whether two words are the same.
+fn is_same_word(a: &Word, b: &Word) -> bool
+    ensures { IsTrue result ↔ (a.now ≡ b.now) }
+{
+    is_text(a.as_bytes(), b.as_bytes())
+}
+
+/// Whether two labels are the same.
+fn is_same_label(a: &FoundLabel, b: &FoundLabel) -> bool
+    ensures { IsTrue result ↔ (a.now ≡ b.now) }
+{
+    is_same_word(&a.name, &b.name) && is_same_word(&a.value, &b.value)
+}
+
+/// Whether two lists of labels are the same.
+fn is_same_labels(a: &[FoundLabel], b: &[FoundLabel]) -> bool
+    ensures { IsTrue result ↔ (a.now ≡ b.now) }
+{
+    if a.len() != b.len() {
+        return false;
+    }
+    for at in 0..a.len() {
+        if !is_same_label(&a[at], &b[at]) {
+            return false;
+        }
+    }
+    true
+}
+
+/// Whether two samples are of one series.
+fn is_same_series(a: &FoundSample, b: &FoundSample) -> bool
+    ensures { IsTrue result ↔ IsSameSeries a.now b.now }
+{
+    is_same_word(&a.name, &b.name) && is_same_labels(&a.labels, &b.labels)
+}
+
+/// Whether none of the groups has this name.
+fn is_new_name(groups: &[Found], name: &Word) -> bool
+    ensures { IsTrue result → All (λ (group : Group). group.name ≢ name.now) groups.now }
+{
+    for group in groups {
+        if is_same_word(&group.name, name) {
+            return false;
+        }
+    }
+    true
+}
+
+/// Whether no two groups are of one name.
+pub(crate) fn is_unbroken(groups: &[Found]) -> bool
+    ensures { IsTrue result → AllPairs (λ (a b : Group). a.name ≢ b.name) groups.now }
+{
+    for at in 0..groups.len() {
+        let group = &groups[at];
+        if !is_new_name(&groups[..at], &group.name) {
+            return false;
+        }
+    }
+    true
+}
+
+/// Whether none of the samples is of this sample's series.
+fn is_new_series(samples: &[FoundSample], sample: &FoundSample) -> bool
+    ensures { IsTrue result → All (λ (a : Sample). ¬ (IsSameSeries a sample.now)) samples.now }
+{
+    for a in samples {
+        if is_same_series(a, sample) {
+            return false;
+        }
+    }
+    true
+}
+
+/// Whether no two samples are of one series.
+fn are_distinct(samples: &[FoundSample]) -> bool
+    ensures { IsTrue result → AllPairs (λ (a b : Sample). ¬ (IsSameSeries a b)) samples.now }
+{
+    for at in 0..samples.len() {
+        if !is_new_series(&samples[..at], &samples[at]) {
+            return false;
+        }
+    }
+    true
+}
+
+/// Whether none of the groups has a sample of this sample's series.
+fn is_new_in_groups(groups: &[Found], sample: &FoundSample) -> bool
+    ensures { IsTrue result → All (λ (a : Sample). ¬ (IsSameSeries a sample.now)) (flat_map (λ (group : Group). group.samples) groups.now) }
+{
+    for group in groups {
+        if !is_new_series(&group.samples, sample) {
+            return false;
+        }
+    }
+    true
+}
+
+/// Whether none of the groups has a sample of the series of any of these.
+fn are_new_in_groups(groups: &[Found], samples: &[FoundSample]) -> bool
+    ensures { IsTrue result → All (λ (b : Sample). All (λ (a : Sample). ¬ (IsSameSeries a b)) (flat_map (λ (group : Group). group.samples) groups.now)) samples.now }
+{
+    for sample in samples {
+        if !is_new_in_groups(groups, sample) {
+            return false;
+        }
+    }
+    true
+}
+
+/// Whether no two samples of the groups are of one series.
+pub(crate) fn is_once(groups: &[Found]) -> bool
+    ensures { IsTrue result → AllPairs (λ (a b : Sample). ¬ (IsSameSeries a b)) (flat_map (λ (group : Group). group.samples) groups.now) }
+{
+    for at in 0..groups.len() {
+        let group = &groups[at];
+        if !are_distinct(&group.samples) || !are_new_in_groups(&groups[..at], &group.samples) {
+            return false;
+        }
+    }
+    true
+}
+
+/// Whether a name is the one text and then the other.
+fn is_joined(name: &Word, front: &Word, back: &[u8]) -> bool
+    ensures { IsTrue result ↔ (name.now ≡ front.now ++ back.now) }
+{
+    let bytes = name.as_bytes();
+    let len = front.as_bytes().len();
+    if bytes.len() < len {
+        return false;
+    }
+    let (start, rest) = bytes.split_at(len);
+    is_text(start, front.as_bytes()) && is_text(rest, back)
+}
+
+/// Whether a label is named `le`.
+fn is_le(label: &FoundLabel) -> bool
+    ensures { result ≡ same label.now.0 (codes "le") }
+{
+    is_same(label.name.as_bytes(), b"le")
+}
+
+/// Without the labels `le` in front.
+fn after_le(labels: &[FoundLabel]) -> &[FoundLabel]
+    ensures others { others result.now ≡ others labels.now }
+    ensures front { (d : List ℕ × List ℕ) → 0 < length result.now → same (slice_index_or result.now 0 d).0 (codes "le") ≡ false }
+{
+    for at in 0..labels.len() {
+        if !is_le(&labels[at]) {
+            return &labels[at..];
+        }
+    }
+    &labels[labels.len()..]
+}
+
+/// Whether two lists of labels are the same without the labels `le`.
+fn is_same_others(a: &[FoundLabel], b: &[FoundLabel]) -> bool
+    ensures { IsTrue result ↔ (others a.now ≡ others b.now) }
+{
+    let mut rest = after_le(b);
+    for label in a {
+        if !is_le(label) {
+            if rest.is_empty() || !is_same_label(label, &rest[0]) {
+                return false;
+            }
+            rest = after_le(&rest[1..]);
+        }
+    }
+    rest.is_empty()
+}
+
+/// Whether, where two samples are buckets of one child, the second is no lower than the first.
+fn is_no_lower(name: &Word, a: &FoundSample, b: &FoundSample) -> bool
+    ensures { IsTrue result → IsBucketPair name.now a.now b.now → a.now.value ≤ℤ b.now.value }
+{
+    a.value <= b.value
+        || !is_joined(&a.name, name, b"_bucket")
+        || !is_joined(&b.name, name, b"_bucket")
+        || !is_same_others(&a.labels, &b.labels)
+}
+
+/// Whether a bucket is no lower than any of these of its child.
+fn is_no_lower_than(name: &Word, samples: &[FoundSample], b: &FoundSample) -> bool
+    ensures { IsTrue result → All (λ (a : Sample). IsBucketPair name.now a b.now → a.value ≤ℤ b.now.value) samples.now }
+{
+    for a in samples {
+        if !is_no_lower(name, a, b) {
+            return false;
+        }
+    }
+    true
+}
+
+/// Whether the buckets of a child do not fall.
+fn are_rising(name: &Word, samples: &[FoundSample]) -> bool
+    ensures { IsTrue result → AllPairs (λ (a b : Sample). IsBucketPair name.now a b → a.value ≤ℤ b.value) samples.now }
+{
+    for at in 0..samples.len() {
+        if !is_no_lower_than(name, &samples[..at], &samples[at]) {
+            return false;
+        }
+    }
+    true
+}
+
+/// Whether a label is the bound `+Inf`.
+fn is_last_bound(label: &FoundLabel) -> bool
+    ensures { IsTrue result → label.now ≡ (codes "le", codes "+Inf") }
+{
+    is_text(label.name.as_bytes(), b"le") && is_text(label.value.as_bytes(), b"+Inf")
+}
+
+/// Whether one of the labels is the bound `+Inf`.
+fn has_last_bound(labels: &[FoundLabel]) -> bool
+    ensures { IsTrue result → Contains labels.now (codes "le", codes "+Inf") }
+{
+    for label in labels {
+        if is_last_bound(label) {
+            return true;
+        }
+    }
+    false
+}
+
+/// Whether a sample is the bucket `+Inf` of the other's child.
+fn is_total_of(name: &Word, all: &FoundSample, sample: &FoundSample) -> bool
+    ensures { IsTrue result → IsTotalOf name.now all.now sample.now }
+{
+    is_joined(&all.name, name, b"_bucket")
+        && has_last_bound(&all.labels)
+        && is_same_others(&all.labels, &sample.labels)
+}
+
+/// Whether a sample is the count of the other's child.
+fn is_count_of(name: &Word, count: &FoundSample, sample: &FoundSample) -> bool
+    ensures { IsTrue result → IsCountOf name.now count.now sample.now }
+{
+    is_joined(&count.name, name, b"_count") && is_same_others(&count.labels, &sample.labels)
+}
+
+/// Whether the samples have a count of this value for the child of a sample.
+fn has_count(name: &Word, samples: &[FoundSample], sample: &FoundSample, value: i128) -> bool
+    ensures { IsTrue result → HasCount name.now samples.now sample.now value }
+{
+    for count in samples {
+        if count.value == value && is_count_of(name, count, sample) {
+            return true;
+        }
+    }
+    false
+}
+
+/// Whether the samples have a bucket `+Inf` for the child of a sample, and a count of its value.
+fn has_total(name: &Word, samples: &[FoundSample], sample: &FoundSample) -> bool
+    ensures { IsTrue result → HasTotal name.now samples.now sample.now }
+{
+    for all in samples {
+        if is_total_of(name, all, sample) && has_count(name, samples, sample, all.value) {
+            return true;
+        }
+    }
+    false
+}
+
+/// Whether each sample's child has its bucket `+Inf` and its count.
+fn are_whole(name: &Word, samples: &[FoundSample]) -> bool
+    ensures { IsTrue result → All (HasTotal name.now samples.now) samples.now }
+{
+    for sample in samples {
+        if !has_total(name, samples, sample) {
+            return false;
+        }
+    }
+    true
+}
+
+/// Whether a group is one of a histogram.
+fn is_histogram(group: &Found) -> bool
+    ensures { IsTrue result → IsHistogramGroup group.now }
+{
+    are_rising(&group.name, &group.samples) && are_whole(&group.name, &group.samples)
+}
+
+/// Whether a group, where it is of the kind of histograms, is one of a histogram.
+fn is_of_its_kind(group: &Found) -> bool
+    ensures { IsTrue result → group.now.kind ≡ Kind.Histogram → IsHistogramGroup group.now }
+{
+    match group.kind {
+        Kind::Histogram => is_histogram(group),
+        Kind::Counter | Kind::Gauge => true,
+    }
+}
+
+/// Whether the groups of the kind of histograms are ones of histograms.
+pub(crate) fn are_histograms(groups: &[Found]) -> bool
+    ensures { IsTrue result → All (λ (group : Group). group.kind ≡ Kind.Histogram → IsHistogramGroup group) groups.now }
+{
+    for group in groups {
+        if !is_of_its_kind(group) {
+            return false;
+        }
+    }
+    true
+}
