@@ -20,7 +20,7 @@ pub cut_first : (bytes : List ℕ) (n : ℕ) → n ≡ prefix_len (λ b. not (b 
     → slice_split (λ b. b == 10) bytes ≡ take n bytes ∷ slice_split (λ b. b == 10) (take (length bytes - (n + 1)) (drop (n + 1) bytes))
 cut_first bytes n is within =
     let all : take (length bytes - (n + 1)) (drop (n + 1) bytes) ≡ drop (n + 1) bytes =
-        take_all (length bytes - (n + 1)) (drop (n + 1) bytes) (let long = length-drop (n + 1) bytes in omega arith) in
+    take_all (length bytes - (n + 1)) (drop (n + 1) bytes) (let long = length-drop (n + 1) bytes in omega arith) in
     rw all (rw is (slice_split_first (λ b. b == 10) bytes 0 (subst (λ m. m < length bytes) is within)))
 
 -- before the first line
@@ -87,7 +87,7 @@ pub written_more : (written : ℕ → List ℕ) (raw bytes : List ℕ) (at : ℕ
     → flat_map written (raw ++ (byte ∷ [])) ≡ take (at + length (written byte)) bytes
 written_more written raw bytes at byte within so_far front =
     let all : take (length bytes - at) (drop at bytes) ≡ drop at bytes =
-        take_all (length bytes - at) (drop at bytes) (let long = length-drop at bytes in omega arith) in
+    take_all (length bytes - at) (drop at bytes) (let long = length-drop at bytes in omega arith) in
     flat_map-append written raw (byte ∷ [])
     ∙ ap (λ ws. flat_map written raw ++ ws) (append-nil (written byte))
     ∙ ap (λ ws. ws ++ written byte) so_far

@@ -24,8 +24,8 @@ use Rattle.expo_text.proofs.OneReading.{one_reading}
 groups_read : (groups : List Group) → All IsPrintedGroup groups → Match IsGroup (map part_of groups) groups
 groups_read [] all = tt
 groups_read (group ∷ groups) all = (
-    group_reads group (All-head IsPrintedGroup group groups all),
-    groups_read groups (All-tail IsPrintedGroup group groups all),
+  group_reads group (All-head IsPrintedGroup group groups all),
+  groups_read groups (All-tail IsPrintedGroup group groups all),
 )
 
 reads : (scrape : Scraped) → IsScrape scrape → All IsSpelledIfPrinted scrape.families → Reads (text scrape) (groups_of scrape)
@@ -46,6 +46,6 @@ reads scrape is spelled =
 pub reading_law : (scrape : Scraped) → IsScrape scrape → All IsSpelledIfPrinted scrape.families
     → (groups : List Group) → Reads (text scrape) groups ↔ (groups ≡ groups_of scrape)
 reading_law scrape is spelled groups = (
-    λ found. one_reading (text scrape) groups (groups_of scrape) found (reads scrape is spelled),
-    λ same. subst (Reads (text scrape)) (sym same) (reads scrape is spelled),
+  λ found. one_reading (text scrape) groups (groups_of scrape) found (reads scrape is spelled),
+  λ same. subst (Reads (text scrape)) (sym same) (reads scrape is spelled),
 )

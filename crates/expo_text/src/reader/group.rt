@@ -10,7 +10,7 @@ use crate::reader::line::is_same;
 use crate::reader::part::OpenPart;
 use crate::reader::unescape::{unescape_help, unescape_label};
 use metric_desc::Kind;
-use metric_names::{LabelName, MetricName, NoMemory};
+use metric_names::{LabelName, LabelNameFault, MetricName, MetricNameFault, NoMemory};
 use std::alloc::Global;
 
 fn read_digits(token: &[u8]) -> Option<u64>
@@ -36,28 +36,36 @@ fn read_value(kind: Kind, token: &[u8]) -> Option<i128>
     Some(-i128::from(number))
 }
 
-fn is_label_name(alloc: Global, name: &[u8]) -> bool
-    ensures { IsTrue result → IsLabelName name.now }
+fn is_label_name(alloc: Global, name: &[u8]) -> Result<bool, NoMemory>
+    ensures { IfOk result (λ is. IsTrue is → IsLabelName name.now) }
 {
     let Ok(text) = str::from_utf8(name) else {
-        return false;
+        return Ok(false);
     };
-    LabelName::read(alloc, text).is_ok()
+    match LabelName::read(alloc, text) {
+        Ok(_) => Ok(true),
+        Err(LabelNameFault::NoMemory) => Err(NoMemory),
+        Err(_) => Ok(false),
+    }
 }
 
-fn is_metric_name(alloc: Global, name: &[u8]) -> bool
-    ensures { IsTrue result → IsMetricName name.now }
+fn is_metric_name(alloc: Global, name: &[u8]) -> Result<bool, NoMemory>
+    ensures { IfOk result (λ is. IsTrue is → IsMetricName name.now) }
 {
     let Ok(text) = str::from_utf8(name) else {
-        return false;
+        return Ok(false);
     };
-    MetricName::read(alloc, text).is_ok()
+    match MetricName::read(alloc, text) {
+        Ok(_) => Ok(true),
+        Err(MetricNameFault::NoMemory) => Err(NoMemory),
+        Err(_) => Ok(false),
+    }
 }
 
 fn found_label(alloc: Global, written: &FoundLabel) -> Result<Option<FoundLabel>, NoMemory>
     ensures { IfOk result (λ found. IfSome found (IsLabel written.now)) }
 {
-    if !is_label_name(alloc, written.name.as_bytes()) {
+    if !is_label_name(alloc, written.name.as_bytes())? {
         return Ok(None);
     }
     let name = Word::of(alloc, written.name.as_bytes())?;
@@ -150,7 +158,7 @@ fn found_kind(types: &[Word]) -> Option<Kind>
 fn found_group(alloc: Global, part: &OpenPart) -> Result<Option<Found>, NoMemory>
     ensures { IfOk result (λ found. IfSome found (IsGroup part.now)) }
 {
-    if !is_metric_name(alloc, part.name.as_bytes()) {
+    if !is_metric_name(alloc, part.name.as_bytes())? {
         return Ok(None);
     }
     let Some(kind) = found_kind(&part.types) else {

@@ -83,9 +83,11 @@ impl OpenPart {
     {
         let group = self.name.as_bytes();
         if self.is_histogram() {
-            Ok(is_joined(alloc, name, group, b"_bucket")?
-                || is_joined(alloc, name, group, b"_sum")?
-                || is_joined(alloc, name, group, b"_count")?)
+            Ok(
+                is_joined(alloc, name, group, b"_bucket")?
+                    || is_joined(alloc, name, group, b"_sum")?
+                    || is_joined(alloc, name, group, b"_count")?,
+            )
         } else {
             is_joined(alloc, name, group, b"")
         }

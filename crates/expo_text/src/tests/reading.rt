@@ -13,7 +13,12 @@ fn read(rt: HostRuntime) -> Result<(), Fail> {
     assert!(rt; is_read(alloc, b"")?);
     assert!(rt; is_read(alloc, b"\n# a comment\n")?);
     assert!(rt; is_read(alloc, b"# TYPE a counter\na 0\n")?);
-    assert!(rt; is_read(alloc, b"#\tTYPE  a counter\n a\t{ l = \"x\" , } 007 \n# HELP b \n#TYPE b gauge\n")?);
+    assert!(rt;
+        is_read(
+            alloc,
+            b"#\tTYPE  a counter\n a\t{ l = \"x\" , } 007 \n# HELP b \n#TYPE b gauge\n"
+        )?
+    );
     assert!(rt; is_read(alloc, b"# TYPE g gauge\n# HELP g of g\ng -2\n")?);
     Ok(())
 }
@@ -31,8 +36,14 @@ fn found(rt: HostRuntime) -> Result<(), Fail> {
     assert_eq!(rt; groups[0].samples.len(), 1);
     assert_eq!(rt; groups[0].samples[0].value, 5);
     assert_eq!(rt; groups[0].samples[0].labels.len(), 1);
-    assert_eq!(rt; groups[0].samples[0].labels[0].name.as_bytes(), b"l".as_slice());
-    assert_eq!(rt; groups[0].samples[0].labels[0].value.as_bytes(), b"\"\n\\".as_slice());
+    assert_eq!(rt;
+        groups[0].samples[0].labels[0].name.as_bytes(),
+        b"l".as_slice()
+    );
+    assert_eq!(rt;
+        groups[0].samples[0].labels[0].value.as_bytes(),
+        b"\"\n\\".as_slice()
+    );
     Ok(())
 }
 
@@ -63,7 +74,12 @@ fn values_refused(rt: HostRuntime) -> Result<(), Fail> {
 fn groups_refused(rt: HostRuntime) -> Result<(), Fail> {
     let alloc = rt.alloc();
     assert!(rt; !is_read(alloc, b"a 0\n")?);
-    assert!(rt; !is_read(alloc, b"# TYPE a counter\na 1\n# TYPE b counter\nb 1\na{l=\"x\"} 2\n")?);
+    assert!(rt;
+        !is_read(
+            alloc,
+            b"# TYPE a counter\na 1\n# TYPE b counter\nb 1\na{l=\"x\"} 2\n"
+        )?
+    );
     assert!(rt; !is_read(alloc, b"# TYPE a counter\na 1\na 1\n")?);
     assert!(rt; !is_read(alloc, b"# TYPE a counter\n# TYPE a counter\na 1\n")?);
     assert!(rt; !is_read(alloc, b"# HELP a x\n# HELP a x\n# TYPE a counter\na 1\n")?);
@@ -75,9 +91,36 @@ fn groups_refused(rt: HostRuntime) -> Result<(), Fail> {
 fn histograms(rt: HostRuntime) -> Result<(), Fail> {
     let alloc = rt.alloc();
     let front = b"# TYPE h histogram\nh_bucket{le=\"1\"} 2\n";
-    assert!(rt; is_read(alloc, &joined(alloc, front, b"h_bucket{le=\"+Inf\"} 2\nh_sum 1\nh_count 2\n")?)?);
-    assert!(rt; !is_read(alloc, &joined(alloc, front, b"h_bucket{le=\"+Inf\"} 1\nh_sum 1\nh_count 1\n")?)?);
-    assert!(rt; !is_read(alloc, &joined(alloc, front, b"h_bucket{le=\"+Inf\"} 3\nh_sum 1\nh_count 2\n")?)?);
+    assert!(rt;
+        is_read(
+            alloc,
+            &joined(
+                alloc,
+                front,
+                b"h_bucket{le=\"+Inf\"} 2\nh_sum 1\nh_count 2\n"
+            )?
+        )?
+    );
+    assert!(rt;
+        !is_read(
+            alloc,
+            &joined(
+                alloc,
+                front,
+                b"h_bucket{le=\"+Inf\"} 1\nh_sum 1\nh_count 1\n"
+            )?
+        )?
+    );
+    assert!(rt;
+        !is_read(
+            alloc,
+            &joined(
+                alloc,
+                front,
+                b"h_bucket{le=\"+Inf\"} 3\nh_sum 1\nh_count 2\n"
+            )?
+        )?
+    );
     assert!(rt; !is_read(alloc, &joined(alloc, front, b"h_sum 1\nh_count 2\n")?)?);
     assert!(rt; !is_read(alloc, &joined(alloc, front, b"h 2\n")?)?);
     Ok(())

@@ -10,6 +10,6 @@ pub returns-clause-reading : goal.returns-clause-reading
 returns-clause-reading c = λ groups.
     let told = c.put_groups.ensures in
     let same : c.put_groups.new.sink.bytes.items ≡ text c.args.scrape.now =
-        (told.text c.if-page.false).1 ∙ ap (λ front. front ++ text c.args.scrape.now) c.in_ok-bytes.ensures.items in
+    (told.text c.if-page.false).1 ∙ ap (λ front. front ++ text c.args.scrape.now) c.in_ok-bytes.ensures.items in
     subst (λ bytes. Reads bytes groups ↔ (groups ≡ groups_of c.args.scrape.now)) (sym same)
     (reading_law c.args.scrape.now told.ordered told.spelled groups)
