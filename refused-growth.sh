@@ -32,12 +32,12 @@ done
 echo "each of 12 allocations refused in turn: as expected"
 
 cd ../expo_text
-seq 1 16 | xargs -P "$(nproc)" -I{} sh -c 'rt try --test --fail-alloc {} >"$0/text{}" 2>&1 || true' "$logs"
-for n in $(seq 1 16); do
+seq 1 12 | xargs -P "$(nproc)" -I{} sh -c 'rt try --test --fail-alloc {} >"$0/text{}" 2>&1 || true' "$logs"
+for n in $(seq 1 12); do
     if ! grep -q '^test result:' "$logs/text$n" || grep -q 'assertion failed' "$logs/text$n"; then
         echo "allocation $n of a test refused: another answer came in place of want of memory"
         cat "$logs/text$n"
         exit 1
     fi
 done
-echo "each of the first 16 allocations of every test of expo_text refused in turn: no other answer came in its place"
+echo "each of the first 12 allocations of every test of expo_text refused in turn: no other answer came in its place"

@@ -134,7 +134,7 @@ fn full_writer(rt: HostRuntime) -> Result<(), Fail> {
 
 #[test]
 fn bytes_pass_unchanged(rt: HostRuntime) -> Result<(), Fail> {
-    let mut to = Watched::new(Vec::new(rt.alloc()));
+    let mut to = Watched::new(Vec::with_capacity(rt.alloc(), 4)?);
     assert!(rt; send_once(&mut to, b"ab"));
     send_all(&mut to, b"cd")?;
     to.flush()?;
@@ -151,7 +151,7 @@ fn bytes_pass_unchanged(rt: HostRuntime) -> Result<(), Fail> {
 
 #[test]
 fn lent_writer(rt: HostRuntime) -> Result<(), Fail> {
-    let mut all = Vec::new(rt.alloc());
+    let mut all = Vec::with_capacity(rt.alloc(), 4)?;
     let mut to = Watched::new(&mut all);
     assert!(rt; send_once(&mut to, b"ab"));
     to.write_all(b"cd")?;
