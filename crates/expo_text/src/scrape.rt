@@ -42,9 +42,10 @@ impl Model for FamilyScrape {
 
 /// All families at one moment, in the order of the text.
 ///
-/// Families stand in strict byte order of their names, at most 128 of them. Children stand in strict order of
-/// their label values, compared one by one in byte order, at most 256 of a family, and each has as many values as
-/// its family has labels. Contracts see it as a `Scraped`, the record of its vector and its families.
+/// Families stand in strict byte order of their names, at most 128 of them, and no two have a sample's name in common.
+/// Children stand in strict order of their label values, compared one by one in byte order, at most 256 of a family.
+/// Each has as many values as its family has labels and a number of its family's kind, and the count of a histogram is
+/// the sum of its buckets. Contracts see it as a `Scraped`, the record of its vector and its families.
 #[derive(Debug, Drop)]
 pub struct Scrape {
     vector: Vec<u64>,
