@@ -1,0 +1,14 @@
+/// What one word of a segment is. Buffers are 0 and 1, and version `s` uses buffer `s` mod 2.
+#[derive(Clone, Copy, Debug, PartialEq, Eq)]
+pub enum Part {
+    /// The segment's number, its first word.
+    Number,
+    /// A word of a buffer's row, below `w`.
+    Row { buffer: usize, word: usize },
+    /// A buffer's flag.
+    Flag { buffer: usize },
+    /// The number of the view's vector, in a buffer, of a worker below `n`.
+    Vector { buffer: usize, worker: usize },
+    /// A buffer's lent total of a word of the row, below `w`.
+    Lent { buffer: usize, word: usize },
+}

@@ -1,0 +1,78 @@
+use crate::{Part, buffer_words, place_of, segment_words, words_needed};
+
+#[test]
+fn words_of_two_workers(rt: HostRuntime) {
+    assert_eq!(rt; buffer_words(2, 3, 1, 0), 63);
+    assert_eq!(rt; segment_words(2, 3, 1, 0), 127);
+    assert_eq!(rt; words_needed(2, 3, 1, 0), 254);
+    assert_eq!(rt; buffer_words(2, 3, 1, 1), 67);
+    assert_eq!(rt; segment_words(2, 3, 1, 1), 135);
+    assert_eq!(rt; words_needed(2, 3, 1, 1), 270);
+}
+
+#[test]
+fn words_of_the_most_counters_and_histograms(rt: HostRuntime) {
+    assert_eq!(rt; buffer_words(16, 256, 32, 0), 2257);
+    assert_eq!(rt; segment_words(16, 256, 32, 0), 4515);
+    assert_eq!(rt; words_needed(16, 256, 32, 0), 72_240);
+    assert_eq!(rt; buffer_words(32, 256, 32, 0), 2273);
+    assert_eq!(rt; segment_words(32, 256, 32, 0), 4547);
+    assert_eq!(rt; words_needed(32, 256, 32, 0), 145_504);
+}
+
+#[test]
+fn words_of_the_largest_board(rt: HostRuntime) {
+    assert_eq!(rt; buffer_words(32, 256, 32, 64), 2529);
+    assert_eq!(rt; segment_words(32, 256, 32, 64), 5059);
+    assert_eq!(rt; words_needed(32, 256, 32, 64), 161_888);
+}
+
+#[test]
+fn the_smallest_board(rt: HostRuntime) {
+    assert_eq!(rt; buffer_words(1, 0, 0, 0), 2);
+    assert_eq!(rt; segment_words(1, 0, 0, 0), 5);
+    assert_eq!(rt; words_needed(1, 0, 0, 0), 5);
+    let flag = Part::Flag { buffer: 1 };
+    let vector = Part::Vector {
+        buffer: 1,
+        worker: 0,
+    };
+    assert_eq!(rt; place_of(1, 0, 0, 0, 0, flag), 3);
+    assert_eq!(rt; place_of(1, 0, 0, 0, 0, vector), 4);
+}
+
+#[test]
+fn places_of_the_second_segment(rt: HostRuntime) {
+    let row = Part::Row { buffer: 1, word: 0 };
+    let flag = Part::Flag { buffer: 1 };
+    let vector = Part::Vector {
+        buffer: 1,
+        worker: 1,
+    };
+    let lent = Part::Lent {
+        buffer: 1,
+        word: 29,
+    };
+    assert_eq!(rt; place_of(2, 3, 1, 0, 1, Part::Number), 127);
+    assert_eq!(rt; place_of(2, 3, 1, 0, 1, row), 191);
+    assert_eq!(rt; place_of(2, 3, 1, 0, 1, flag), 221);
+    assert_eq!(rt; place_of(2, 3, 1, 0, 1, vector), 223);
+    assert_eq!(rt; place_of(2, 3, 1, 0, 1, lent), 253);
+}
+
+/// The ups of the gauge are word 30 of the row, and its downs word 31.
+#[test]
+fn places_of_a_gauge(rt: HostRuntime) {
+    let ups = Part::Row {
+        buffer: 0,
+        word: 30,
+    };
+    let downs = Part::Row {
+        buffer: 0,
+        word: 31,
+    };
+    assert_eq!(rt; place_of(2, 3, 1, 1, 0, ups), 31);
+    assert_eq!(rt; place_of(2, 3, 1, 1, 0, downs), 32);
+    assert_eq!(rt; place_of(2, 3, 1, 1, 1, ups), 166);
+    assert_eq!(rt; place_of(2, 3, 1, 1, 1, downs), 167);
+}
