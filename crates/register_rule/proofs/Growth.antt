@@ -1,0 +1,155 @@
+-- What publishes of others, and members that meet, leave true of a scan.
+use Rattle.std.proofs.Common.{◌≡◌, ℕ, zero, suc, ◌+◌, ◌<◌, ◌≤◌, inl, inr, ⊎_elim, List, [], ◌∷◌, ◌++◌, length, map, take, max, slice_set, sym, refl, ap, ◌∙◌, subst, arith, length-set}
+use mathlib.Core.Option.{some, some-injective, some-ne-none}
+use lib.ListN.{get_elem?}
+use lib.Seq.{take-length}
+use Rattle.atomic_table.proofs.Lists.{at_set}
+use Rattle.ledger_core.specs.declared.op.Op.{Op}
+use Rattle.register_rule.specs.declared.view.Made.{Made}
+use Rattle.register_rule.specs.declared.view.Look.{Look}
+use Rattle.register_rule.specs.declared.view.Version.{Version}
+use Rattle.register_rule.specs.declared.view.Answer.{Answer}
+use Rattle.register_rule.specs.declared.view.Asked.{Asked}
+use Rattle.register_rule.specs.declared.view.Scan.{Scan}
+use Rattle.register_rule.specs.History.{IsMoment, Below}
+use Rattle.register_rule.specs.Sums.{total, row_sum}
+use Rattle.register_rule.specs.Shown.{Shows}
+use Rattle.register_rule.specs.Scans.{number_of, AtMost, AreLoads, HasMoved, IsLook, Doomed, IsVersion, IsAnswer, IsAsked, IsScan}
+use Rattle.register_rule.specs.Steps.{upper}
+use Rattle.register_rule.proofs.Moments.{past_grows}
+use Rattle.register_rule.proofs.Upper.{length_upper, upper_from, upper_left}
+
+-- each worker has published more, or nothing
+abbrev pub Grows : (made made' : ℕ → List Made) → Type 0
+Grows made made' = (j : ℕ) → (length (made j) ≤ length (made' j)) × ((q : ℕ) → q ≤ length (made j) → take q (made' j) ≡ take q (made j))
+
+pub take-all : {A : Type 0} (l : List A) (n : ℕ) → n ≡ length l → take n l ≡ l
+take-all l n e = ap (λ (z : ℕ). take z l) e ∙ take-length l
+
+-- an entry of the first vector has a greater one at its place
+pub upper_at : (u v : List ℕ) (i x : ℕ) → get_elem? u i ≡ some x → (z : ℕ) × (get_elem? (upper u v) i ≡ some z) × (x ≤ z)
+upper_at [] v i x e = absurd (some-ne-none x (sym e))
+upper_at (y ∷ u) [] i x e = (x, e, omega arith)
+upper_at (y ∷ u) (z ∷ v) zero x e = let h : y ≡ x = some-injective y x e in (max y z, refl, omega (arith, h))
+upper_at (y ∷ u) (z ∷ v) (suc i) x e = upper_at u v i x e
+
+pub below_upper : (v s u : List ℕ) → length s ≡ length u → Below v s → Below v (upper s u)
+below_upper v s u len low i x z ex ez = let t = upper_left s u i z len ez in let p = low i x t.0 ex t.1 in let q = t.2 in omega arith
+
+module _ (n w : ℕ) (adds : List Op → ℕ → ℕ) where
+  module _ (made made' : ℕ → List Made) (more : Grows made made') where
+    low_grows : (v : List ℕ) → AtMost n w adds made v → AtMost n w adds made' v
+    low_grows v low i s e = let up = (more i).0 in let le = low i s e in omega arith
+
+    loads_grow : (xs : List (ℕ × ℕ)) → AreLoads n w adds made xs → AreLoads n w adds made' xs
+    loads_grow xs ok q x e = let up = (more x.0).0 in let h = (ok q x e).1 in ((ok q x e).0, omega arith)
+
+    moved_grows : (l : Look) → HasMoved n w adds made l → HasMoved n w adds made' l
+    moved_grows l t = let up = (more l.place).0 in let h = t.1 in (t.0, omega arith)
+
+    look_grows : (from : ℕ) (l : Look) → IsLook n w adds made from l → IsLook n w adds made' from l
+    look_grows from l ok = let up = (more l.place).0 in record {
+      inside = ok.inside;
+      old = let h = ok.old in omega arith;
+      risen = ⊎_elim (λ none. inl none) (λ t. let h = t.1 in inr (t.0, omega arith)) ok.risen;
+      right = λ k x e. ⊎_elim
+          (λ (t : Shows n w adds (take l.number (made l.place)) (from + k) x). inl (subst (λ (z : List Made). Shows n w adds z (from + k) x) (sym ((more l.place).1 l.number ok.old)) t))
+          (λ (t : HasMoved n w adds made l). inr (moved_grows l t))
+          (ok.right k x e);
+    }
+
+    doomed_grows : (ls : List Look) → Doomed n w adds made ls → Doomed n w adds made' ls
+    doomed_grows ls d = (d.0, d.1, d.2, moved_grows d.1 d.3)
+
+    version_grows : (i : ℕ) (v : Version) → IsVersion n w adds made i v → IsVersion n w adds made' i v
+    version_grows i v ok = record {
+      old = let up = (more i).0 in let h = ok.old in omega arith;
+      wide = ok.wide;
+      row = λ k x e. ok.row k x e ∙ ap (λ (z : List Made). total adds z k) (sym ((more i).1 v.number ok.old));
+    }
+
+    asked_grows : (e : Asked) → IsAsked n w adds made e → IsAsked n w adds made' e
+    asked_grows e ok = record { inside = ok.inside; risen = ok.risen; old = let up = (more e.worker).0 in let h = ok.old in omega arith; flag = ok.flag }
+
+    sums_grow : (i : ℕ) (v : List ℕ) (k : ℕ) → ((q s : ℕ) → get_elem? v q ≡ some s → s ≤ length (made (i + q))) → row_sum adds made' i v k ≡ row_sum adds made i v k
+    sums_grow i [] k low = refl
+    sums_grow i (s ∷ v) k low =
+        let e : i + 0 ≡ i = omega arith in
+        let le : s ≤ length (made i) = subst (λ (z : ℕ). s ≤ length (made z)) e (low 0 s refl) in
+        let here : take s (made' i) ≡ take s (made i) = (more i).1 s le in
+        let rest = sums_grow (suc i) v k (λ q x at. let e' : i + suc q ≡ suc i + q = omega arith in subst (λ (z : ℕ). x ≤ length (made z)) e' (low (suc q) x at)) in
+        λ c. total adds (here c) k + rest c
+
+  pub answer_grows : (made made' : ℕ → List Made) (h more : List ℕ) (a : Answer) → Grows made made' → IsAnswer n w adds made h a → IsAnswer n w adds made' (h ++ more) a
+  answer_grows made made' h more a grows ok = record {
+    low = low_grows made made' grows a.vector ok.low;
+    moment = past_grows n h more a.vector ok.moment;
+    sums = λ k lt. ok.sums k lt ∙ ap some (sym (sums_grow made made' grows 0 a.vector k (λ q s at. let e : q ≡ 0 + q = omega arith in subst (λ (z : ℕ). s ≤ length (made z)) e (ok.low q s at))));
+  }
+
+  pub scan_grows : (made made' : ℕ → List Made) (h more : List ℕ) (c : Scan) → Grows made made' → IsScan n w adds made h c → IsScan n w adds made' (h ++ more) c
+  scan_grows made made' h more c grows ok = record {
+    opened = loads_grow made made' grows c.opened ok.opened;
+    confirmed = loads_grow made made' grows c.confirmed ok.confirmed;
+    asked = λ q e at. asked_grows made made' grows e (ok.asked q e at);
+    recorded = λ q a e. (answer_grows made made' h more a grows (ok.recorded q a e).0, (ok.recorded q a e).1);
+    seen = low_grows made made' grows c.seen ok.seen;
+    seen_wide = ok.seen_wide;
+    kept = λ i v e. version_grows made made' grows i v (ok.kept i v e);
+    kept_wide = ok.kept_wide;
+    looks = λ q l e. (look_grows made made' grows 0 l (ok.looks q l e).0, (ok.looks q l e).1);
+    asks = λ q l e. look_grows made made' grows w l (ok.asks q l e);
+    whole = λ all. ⊎_elim (λ (d : Doomed n w adds made c.now.looks). inl (doomed_grows made made' grows c.now.looks d)) (λ (p : IsMoment n h (map number_of c.now.looks)). inr (past_grows n h more _ p)) (ok.whole all);
+  }
+
+  module _ (made : ℕ → List Made) (h : List ℕ) where
+    -- worker i at its publish has seen its own number and knows its new row
+    pub scan_published : (i : ℕ) (v : Version) (c : Scan) → i < n → IsVersion n w adds made i v → v.number ≡ length (made i) → (len : ℕ) → len ≡ length (made i)
+        → ((y : ℕ) → get_elem? c.seen i ≡ some y → y ≤ len) → IsScan n w adds made h c → IsScan n w adds made h (record c { seen = slice_set c.seen i len; kept = slice_set c.kept i v })
+    scan_published i v c inside version new len is most ok = record {
+      opened = ok.opened;
+      confirmed = ok.confirmed;
+      asked = ok.asked;
+      recorded = λ q a e. (
+        (ok.recorded q a e).0,
+        λ p x z ex ez. ⊎_elim
+            (λ t. let le : x ≤ length (made i) = subst (λ (y : ℕ). x ≤ length (made y)) t.0 ((ok.recorded q a e).0.low p x ex) in omega (arith, t.1, is, le))
+            (λ t. (ok.recorded q a e).1 p x z ex t.1)
+            (at_set c.seen i p len z ez),
+      );
+      seen = λ p s e. ⊎_elim
+          (λ t. subst (λ (y : ℕ). s ≤ length (made y)) (sym t.0) (omega (arith, t.1, is)))
+          (λ t. ok.seen p s t.1)
+          (at_set c.seen i p len s e);
+      seen_wide = length-set c.seen i len ∙ ok.seen_wide;
+      kept = λ p u e. ⊎_elim
+          (λ t. subst (λ (z : ℕ × Version). IsVersion n w adds made z.0 z.1) (λ k. (sym t.0 k, t.1 k)) version)
+          (λ t. ok.kept p u t.1)
+          (at_set c.kept i p v u e);
+      kept_wide = length-set c.kept i v ∙ ok.kept_wide;
+      looks = ok.looks;
+      asks = ok.asks;
+      whole = ok.whole;
+    }
+
+    -- members that meet
+    pub scan_raised : (c : Scan) (v : List ℕ) → AtMost n w adds made v → length v ≡ n → IsScan n w adds made h c → IsScan n w adds made h (record c { seen = upper c.seen v })
+    scan_raised c v low wide ok = let same : length c.seen ≡ length v = ok.seen_wide ∙ sym wide in record {
+      opened = ok.opened;
+      confirmed = ok.confirmed;
+      asked = ok.asked;
+      recorded = λ q a e. ((ok.recorded q a e).0, below_upper a.vector c.seen v same (ok.recorded q a e).1);
+      seen = λ i s e. ⊎_elim (ok.seen i s) (low i s) (upper_from c.seen v i s e);
+      seen_wide = length_upper c.seen v same ∙ ok.seen_wide;
+      kept = ok.kept;
+      kept_wide = ok.kept_wide;
+      looks = ok.looks;
+      asks = ok.asks;
+      whole = ok.whole;
+    }
+
+  -- what is seen at the own place is the own number, and no vector is above that
+  pub own_raised : (made : ℕ → List Made) (u v : List ℕ) (i : ℕ) → length u ≡ length v → AtMost n w adds made u → AtMost n w adds made v → get_elem? u i ≡ some (length (made i)) → get_elem? (upper u v) i ≡ some (length (made i))
+  own_raised made u v i len lu lv e = let t = upper_at u v i (length (made i)) e in let up = t.2 in
+      let le : t.0 ≤ length (made i) = ⊎_elim (lu i t.0) (lv i t.0) (upper_from u v i t.0 t.1) in
+      let same : t.0 ≡ length (made i) = omega arith in t.1 ∙ ap some same

@@ -1,0 +1,12 @@
+pub mod Words
+pub mod Moments
+pub mod Upper
+pub mod Growth
+pub mod Finds
+pub mod Asks
+pub mod Looks
+pub mod Pairs
+pub mod Keeping
+pub mod Publish
+pub mod Seating
+pub mod Start

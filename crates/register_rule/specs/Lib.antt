@@ -1,0 +1,11 @@
+pub mod Words
+pub mod History
+pub mod Sums
+pub mod Shown
+pub mod Scans
+pub mod Rule
+pub mod Steps
+pub mod Members
+pub mod Told
+pub mod Seats
+pub mod Faults

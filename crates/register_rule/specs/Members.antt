@@ -1,0 +1,105 @@
+-- What steps do to members and to views.
+use Rattle.std.specs.Prelude.{ℕ, zero, suc, ◌+◌, ◌==◌, max, Bool, false, cond, Option, Some, None, List, [], ◌∷◌, ◌++◌, map, length, take, replicate, slice_index, slice_set}
+use Rattle.ledger_core.specs.declared.op.Op.{Op}
+use Rattle.register_rule.specs.declared.view.Who.{Who}
+use Rattle.register_rule.specs.declared.view.Who.TheVariants.{Worker, Reader}
+use Rattle.register_rule.specs.declared.view.Answer.{Answer}
+use Rattle.register_rule.specs.declared.view.Made.{Made}
+use Rattle.register_rule.specs.declared.view.Scan.{Scan}
+use Rattle.register_rule.specs.declared.view.Member.{Member}
+use Rattle.register_rule.specs.declared.view.View.{View}
+use Rattle.register_rule.specs.Steps.{at_rest, upper}
+
+abbrev pub group : List Member → View
+group ms = record { members = ms }
+
+-- a member that has made no step: n workers, rows of w words, buffers of b words
+abbrev pub new_scan : (n w : ℕ) → Scan
+new_scan n w = record { opened = []; confirmed = []; asked = []; recorded = []; quit = 0; seen = replicate n 0; kept = replicate n (record { number = 0; row = replicate w 0 }); now = at_rest }
+
+abbrev pub new_worker : (n w b i : ℕ) → Member
+new_worker n w b i = record { who = Worker i; work = record { made = []; hidden = replicate b 0; shown = replicate b 0 }; scan = new_scan n w }
+
+abbrev pub new_reader : (n w i : ℕ) → Member
+new_reader n w i = record { who = Reader i; work = record { made = []; hidden = []; shown = [] }; scan = new_scan n w }
+
+-- the workers from i on, k of them; the readers likewise
+abbrev pub workers_from : (n w b i k : ℕ) → List Member
+workers_from n w b i zero = []
+workers_from n w b i (suc k) = new_worker n w b i ∷ workers_from n w b (i + 1) k
+
+abbrev pub readers_from : (n w i k : ℕ) → List Member
+readers_from n w i zero = []
+readers_from n w i (suc k) = new_reader n w i ∷ readers_from n w (i + 1) k
+
+abbrev pub everyone : (n w b readers : ℕ) → View
+everyone n w b readers = group (workers_from n w b 0 n ++ readers_from n w 0 readers)
+
+-- the first member of a view makes the seat's steps
+abbrev pub first_of : List Member → Member
+first_of [] = new_reader 0 0 0
+first_of (m ∷ ms) = m
+
+abbrev pub led : (Member → Member) → List Member → List Member
+led f [] = []
+led f (m ∷ ms) = f m ∷ ms
+
+abbrev pub scanned : (Scan → Scan) → Member → Member
+scanned f m = record m { scan = f m.scan }
+
+-- a store of x into the item k of the hidden buffer
+abbrev pub filled : (k x : ℕ) → Member → Member
+filled k x m = record m { work = record m.work { hidden = slice_set m.work.hidden k x } }
+
+abbrev pub last_entry : List Answer → Option Answer
+last_entry [] = None
+last_entry (a ∷ []) = Some a
+last_entry (a ∷ x ∷ xs) = last_entry (x ∷ xs)
+
+-- a publish of these operations, which lends the last answer that the member recorded, or nothing
+abbrev pub made_of : List Op → (lends : Bool) → Member → Made
+made_of ops lends m = record { ops = ops; lends = cond lends (last_entry m.scan.recorded) None }
+
+-- the store of worker i's own number: the buffers change their roles, and the worker knows its new row
+abbrev pub published : (w i : ℕ) → List Op → (lends : Bool) → Member → Member
+published w i ops lends m = record m {
+  work = record { made = m.work.made ++ made_of ops lends m ∷ []; hidden = m.work.shown; shown = m.work.hidden };
+  scan = record m.scan {
+    seen = slice_set m.scan.seen i (suc (length m.work.made));
+    kept = slice_set m.scan.kept i (record { number = suc (length m.work.made); row = take w m.work.hidden });
+  };
+}
+
+abbrev pub same_who : Who → Who → Bool
+same_who (Worker i) (Worker j) = i == j
+same_who (Reader i) (Reader j) = i == j
+same_who _ _ = false
+
+-- the members of this name, and the others
+abbrev pub picked : Who → List Member → List Member
+picked who [] = []
+picked who (m ∷ ms) = cond (same_who who m.who) (m ∷ picked who ms) (picked who ms)
+
+abbrev pub without : Who → List Member → List Member
+without who [] = []
+without who (m ∷ ms) = cond (same_who who m.who) (without who ms) (m ∷ without who ms)
+
+-- what a member has seen, and of its own segment all that it made
+abbrev pub raised_by : Who → (made : ℕ) → List ℕ → List ℕ
+raised_by (Worker i) made seen = slice_set seen i (max (slice_index seen i) made)
+raised_by (Reader r) made seen = seen
+
+abbrev pub reach : Member → List ℕ
+reach m = raised_by m.who (length m.work.made) m.scan.seen
+
+-- the greatest that any of them has seen or made
+abbrev pub greatest : List Member → List ℕ
+greatest [] = []
+greatest (m ∷ ms) = upper (reach m) (greatest ms)
+
+abbrev pub raised : List ℕ → Member → Member
+raised seen m = record m { scan = record m.scan { seen = upper m.scan.seen seen } }
+
+-- members that meet have all seen what one of them has seen or made
+abbrev pub met : List Member → List Member
+met ms = map (raised (greatest ms)) ms

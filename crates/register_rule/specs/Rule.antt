@@ -1,0 +1,66 @@
+-- The rule over all words of the board and the views of all seats.
+use Rattle.std.specs.Prelude.{◌≡◌, ℕ, suc, ◌*◌, ◌<◌, ◌≤◌, Some, List, [], length}
+use mathlib.Core.Option.{some}
+use lib.ListN.{get_elem?}
+use Rattle.atomic_table.specs.Table.{State}
+use Rattle.segment_layout.specs.Layout.{span}
+use Rattle.ledger_core.specs.declared.op.Op.{Op}
+use Rattle.register_rule.specs.declared.view.Made.{Made}
+use Rattle.register_rule.specs.declared.view.Who.{Who}
+use Rattle.register_rule.specs.declared.view.Who.TheVariants.{Worker, Reader}
+use Rattle.register_rule.specs.declared.view.Answer.{Answer}
+use Rattle.register_rule.specs.declared.view.Work.{Work}
+use Rattle.register_rule.specs.declared.view.Member.{Member}
+use Rattle.register_rule.specs.declared.view.View.{View}
+use Rattle.register_rule.specs.Words.{item_of, seg}
+use Rattle.register_rule.specs.History.{count}
+use Rattle.register_rule.specs.Sums.{Legal, last_lent}
+use Rattle.register_rule.specs.Shown.{Shows}
+use Rattle.register_rule.specs.Scans.{IsAnswer, IsScan}
+
+-- n workers, rows of w words, buffers of b words
+module _ (n w b : ℕ) (adds : List Op → ℕ → ℕ) (made : ℕ → List Made) where
+  -- what worker i knows of its own segment: all its publishes, and the exact words of both buffers
+  pub record IsWork (words : List ℕ) (i : ℕ) (m : Work) : Type 0 where
+    pub inside : i < n
+    pub all : m.made ≡ made i
+    pub hidden_deep : length m.hidden ≡ b
+    pub shown_deep : length m.shown ≡ b
+    pub hidden : (k x : ℕ) → get_elem? m.hidden k ≡ some x → seg b words i (item_of b (suc (length (made i))) k) ≡ x
+    pub shown : (k x : ℕ) → get_elem? m.shown k ≡ some x → seg b words i (item_of b (length (made i)) k) ≡ x
+
+  -- a worker writes its own segment, has seen its own number, and what it lends are answers of its own scans
+  pub record IsWorker (words : List ℕ) (i : ℕ) (m : Member) : Type 0 where
+    pub work : IsWork words i m.work
+    pub own : get_elem? m.scan.seen i ≡ some (length (made i))
+    pub lends : (q : ℕ) (x : Made) (a : Answer) → get_elem? m.work.made q ≡ some x → x.lends ≡ Some a
+        → (p : ℕ) × (get_elem? m.scan.recorded p ≡ some a)
+
+  abbrev pub IsRole : (words : List ℕ) → Member → Who → Type 0
+  IsRole words m (Worker i) = IsWorker words i m
+  IsRole words m (Reader r) = Unit {0}
+
+  -- m is a member of the view of the seat j, and of no other: `owner` has one seat for each
+  pub record IsMember (owner : Who → ℕ) (history words : List ℕ) (j : ℕ) (m : Member) : Type 0 where
+    pub here : owner m.who ≡ j
+    pub role : IsRole words m m.who
+    pub scan : IsScan n w adds made history m.scan
+
+-- `accepts` tells which lists a row of these words accepts
+pub record Rule (n w b : ℕ) (adds : List Op → ℕ → ℕ) (accepts : (ℕ → ℕ) → List Op → Type 0) (s : State (Unit {0}) View) : Type 0 where
+  -- what each worker has published, the seat of each member, and the workers that published, in order
+  pub made : ℕ → List Made
+  pub owner : Who → ℕ
+  pub history : List ℕ
+  pub counted : (i : ℕ) → i < n → count i history ≡ length (made i)
+  pub legal : (i : ℕ) → i < n → Legal adds accepts [] (made i)
+  pub wide : length s.words ≡ n * span b
+  pub number : (i : ℕ) → i < n → seg b s.words i 0 ≡ length (made i)
+  -- the buffer that the number shows is the version after all publishes
+  pub shown : (i k : ℕ) → i < n → k < b → Shows n w adds (made i) k (seg b s.words i (item_of b (length (made i)) k))
+  -- what a version lends is right
+  pub lent : (i : ℕ) (a : Answer) → i < n → last_lent (made i) ≡ Some a → IsAnswer n w adds made history a
+  -- every word of a row, shown or hidden, is at most 2^48 - 1
+  pub bounded : (i v k : ℕ) → i < n → k < w → seg b s.words i (item_of b v k) ≤ 281474976710655
+  pub each : (j : ℕ) (v : View) → get_elem? s.views j ≡ some v → (p : ℕ) (m : Member) → get_elem? v.members p ≡ some m
+      → IsMember n w b adds made owner history s.words j m

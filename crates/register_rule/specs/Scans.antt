@@ -1,0 +1,75 @@
+-- What the rule says of a member's scans. n workers, rows of w words; made i is what worker i has published, so that
+-- its number is the length of it, and `history` is the workers that published, in order.
+use Rattle.std.specs.Prelude.{◌≡◌, ◌⊎◌, ℕ, ◌+◌, ◌<◌, ◌≤◌, false, List, length, map, take}
+use mathlib.Core.Option.{some}
+use lib.ListN.{get_elem?}
+use Rattle.ledger_core.specs.declared.op.Op.{Op}
+use Rattle.register_rule.specs.declared.view.Made.{Made}
+use Rattle.register_rule.specs.declared.view.Look.{Look}
+use Rattle.register_rule.specs.declared.view.Version.{Version}
+use Rattle.register_rule.specs.declared.view.Answer.{Answer}
+use Rattle.register_rule.specs.declared.view.Asked.{Asked}
+use Rattle.register_rule.specs.declared.view.Scan.{Scan}
+use Rattle.register_rule.specs.History.{IsMoment, Below}
+use Rattle.register_rule.specs.Sums.{total, row_sum}
+use Rattle.register_rule.specs.Shown.{Shows}
+
+abbrev pub number_of : Look → ℕ
+number_of l = l.number
+
+module _ (n w : ℕ) (adds : List Op → ℕ → ℕ) (made : ℕ → List Made) where
+  -- each number is at most the number of the segment at its place
+  abbrev pub AtMost : List ℕ → Type 0
+  AtMost vector = (i s : ℕ) → get_elem? vector i ≡ some s → s ≤ length (made i)
+
+  abbrev pub AreLoads : List (ℕ × ℕ) → Type 0
+  AreLoads xs = (q : ℕ) (x : ℕ × ℕ) → get_elem? xs q ≡ some x → (x.0 < n) × (x.1 ≤ length (made x.0))
+
+  -- the number opened here was not found again, and is no longer the number of the segment
+  abbrev pub HasMoved : Look → Type 0
+  HasMoved l = (l.sure ≡ false) × (l.number < length (made l.place))
+
+  -- words that were read under a number are those of its version, or the number has moved; they are the items of the
+  -- buffer from `from` on
+  pub record IsLook (from : ℕ) (l : Look) : Type 0 where
+    pub inside : l.place < n
+    pub old : l.number ≤ length (made l.place)
+    pub risen : (l.found ≡ 0) ⊎ ((l.number ≤ l.found) × (l.found ≤ length (made l.place)))
+    pub right : (k x : ℕ) → get_elem? l.words k ≡ some x → Shows n w adds (take l.number (made l.place)) (from + k) x ⊎ HasMoved l
+
+  -- at a place that is not confirmed the number is no longer the one opened
+  abbrev pub Doomed : List Look → Type 0
+  Doomed looks = (q : ℕ) × (l : Look) × (get_elem? looks q ≡ some l) × HasMoved l
+
+  -- the row of a version of worker i, which never changes
+  pub record IsVersion (i : ℕ) (v : Version) : Type 0 where
+    pub old : v.number ≤ length (made i)
+    pub wide : length v.row ≡ w
+    pub row : (k x : ℕ) → get_elem? v.row k ≡ some x → x ≡ total adds (take v.number (made i)) k
+
+  -- all segments at one moment: the numbers, and the sums of the rows of these versions
+  pub record IsAnswer (history : List ℕ) (a : Answer) : Type 0 where
+    pub low : AtMost a.vector
+    pub moment : IsMoment n history a.vector
+    pub sums : (k : ℕ) → k < w → get_elem? a.totals k ≡ some (row_sum adds made 0 a.vector k)
+
+  pub record IsAsked (e : Asked) : Type 0 where
+    pub inside : e.worker < n
+    pub risen : e.number ≤ e.again
+    pub old : e.again ≤ length (made e.worker)
+    pub flag : e.number ≡ e.again → e.flag ≤ 1
+
+  pub record IsScan (history : List ℕ) (c : Scan) : Type 0 where
+    pub opened : AreLoads c.opened
+    pub confirmed : AreLoads c.confirmed
+    pub asked : (q : ℕ) (e : Asked) → get_elem? c.asked q ≡ some e → IsAsked e
+    pub recorded : (q : ℕ) (a : Answer) → get_elem? c.recorded q ≡ some a → IsAnswer history a × Below a.vector c.seen
+    pub seen : AtMost c.seen
+    pub seen_wide : length c.seen ≡ n
+    pub kept : (i : ℕ) (v : Version) → get_elem? c.kept i ≡ some v → IsVersion i v
+    pub kept_wide : length c.kept ≡ n
+    -- the look q of a try is of the place q
+    pub looks : (q : ℕ) (l : Look) → get_elem? c.now.looks q ≡ some l → IsLook 0 l × (l.place ≡ q)
+    pub asks : (q : ℕ) (l : Look) → get_elem? c.now.asks q ≡ some l → IsLook w l
+    -- a try that has opened all places is doomed, or its numbers are those of one moment
+    pub whole : length c.now.looks ≡ n → Doomed c.now.looks ⊎ IsMoment n history (map number_of c.now.looks)

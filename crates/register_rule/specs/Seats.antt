@@ -1,0 +1,38 @@
+-- What a clause reads of a board and of seats.
+use Rattle.std.specs.Prelude.{◌≡◌, ℕ, ◌<◌, List}
+use Rattle.atomic_table.specs.Seated.{TableId}
+use Rattle.register_rule.specs.declared.view.Member.{Member}
+use Rattle.register_rule.specs.declared.seats.Bundle.{Bundle}
+use Rattle.register_rule.specs.declared.seats.WorkSeat.{WorkSeat}
+use Rattle.register_rule.specs.declared.seats.ReadSeat.{ReadSeat}
+use Rattle.register_rule.specs.declared.board.Board.{Board}
+use Rattle.register_rule.specs.Members.{first_of}
+
+-- which board's words a seat is made for
+abbrev pub table_of : Bundle → TableId
+table_of s = s.seat.table_id
+
+-- what the seat knows
+abbrev pub members_of : Bundle → List Member
+members_of s = s.seat.me.0.members
+
+abbrev pub worker_of : WorkSeat → Member
+worker_of s = first_of (members_of s.bundle)
+
+abbrev pub reader_of : ReadSeat → Member
+reader_of s = first_of (members_of s.bundle)
+
+module _ {N C H G : ℕ} where
+  abbrev pub board_id : Board N C H G → ℕ
+  board_id b = b.table.shared.key.id
+
+  -- the seat is of this board's parts
+  abbrev pub Has : Board N C H G → Bundle → Type 0
+  Has b s = table_of s ≡ b.table.shared.table_id
+
+  -- the seat is that of one of its workers
+  abbrev pub HasWorker : Board N C H G → WorkSeat → Type 0
+  HasWorker b s = Has b s.bundle × (s.worker < N)
+
+  abbrev pub HasReader : Board N C H G → ReadSeat → Type 0
+  HasReader b s = Has b s.bundle

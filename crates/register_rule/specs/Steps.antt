@@ -1,0 +1,167 @@
+-- What each load of a scan does to what its member knows. n workers, rows of w words. Each is a function of every
+-- scan, with its tests inside, so that a load out of its turn does no harm to the rule.
+use Rattle.std.specs.Prelude.{ℕ, zero, suc, ◌+◌, ◌==◌, ◌&&◌, ◌||◌, not, max, nat_le, Bool, true, false, cond, List, [], ◌∷◌, ◌++◌, map, length, take, drop, slice_index, slice_set}
+use Rattle.register_rule.specs.declared.view.Look.{Look}
+use Rattle.register_rule.specs.declared.view.Version.{Version}
+use Rattle.register_rule.specs.declared.view.Answer.{Answer}
+use Rattle.register_rule.specs.declared.view.Asked.{Asked}
+use Rattle.register_rule.specs.declared.view.Try.{Try}
+use Rattle.register_rule.specs.declared.view.Scan.{Scan}
+use Rattle.register_rule.specs.declared.load.Load.{Load}
+use Rattle.register_rule.specs.declared.load.Load.TheVariants.{Open, Read, Confirm, Ask, EndAsk}
+use Rattle.register_rule.specs.History.{tab}
+use Rattle.register_rule.specs.Scans.{number_of}
+
+abbrev pub every : {A : Type 0} → (A → Bool) → List A → Bool
+every p [] = true
+every p (x ∷ xs) = p x && every p xs
+
+-- the greater number at each place
+abbrev pub upper : (u v : List ℕ) → List ℕ
+upper [] v = v
+upper (x ∷ u) [] = x ∷ u
+upper (x ∷ u) (y ∷ v) = max x y ∷ upper u v
+
+-- no scan is in progress
+abbrev pub at_rest : Try
+at_rest = record { failed = 0; floor = []; base = []; looks = []; due = []; asks = [] }
+
+-- a scan ends with an answer
+abbrev pub answered : Answer → Scan → Scan
+answered a c = record c { recorded = c.recorded ++ a ∷ []; seen = upper c.seen a.vector; now = at_rest }
+
+-- a scan whose try n + 2 has failed, and that has nobody to ask, is given up
+abbrev pub given_up : (n : ℕ) → Scan → Scan
+given_up n c = cond (length c.now.due == 0 && c.now.failed == n + 2) (record c { quit = c.quit + 1; now = at_rest }) c
+
+-- **The opening load** of the place i found the number s. It opens the next place of a try in which nothing is
+-- confirmed yet, where nobody is still to be asked. The words of a row that is remembered need not be read again.
+abbrev pub words_kept : (i s : ℕ) → List Version → List ℕ
+words_kept i s [] = []
+words_kept zero s (v ∷ vs) = cond (v.number == s) v.row []
+words_kept (suc i) s (v ∷ vs) = words_kept i s vs
+
+abbrev pub begun : (i s : ℕ) → List ℕ → Look
+begun i s words = record { place = i; number = s; words = words; sure = false; found = 0 }
+
+abbrev pub unsure : Look → Bool
+unsure l = not l.sure
+
+abbrev pub opens_next : ℕ → Try → Bool
+opens_next i t = i == length t.looks && (length t.due == 0 && every unsure t.looks)
+
+abbrev pub after_open : (i s : ℕ) → Scan → Scan
+after_open i s c = record c {
+  opened = c.opened ++ (i, s) ∷ [];
+  now = cond (opens_next i c.now) (record c.now { looks = c.now.looks ++ begun i s (words_kept i s c.kept) ∷ [] }) c.now;
+}
+
+-- **The load of a word** of the version s of the place i found x at the item k. A look takes its words one by one;
+-- those of a worker that is asked begin at the flag.
+abbrev pub noted : (from i s k x : ℕ) → Look → Look
+noted from i s k x l = cond (l.place == i && l.number == s && not l.sure && k == from + length l.words) (record l { words = l.words ++ x ∷ [] }) l
+
+abbrev pub after_read : (w i s k x : ℕ) → Scan → Scan
+after_read w i s k x c = record c { now = record c.now { looks = map (noted 0 i s k x) c.now.looks; asks = map (noted w i s k x) c.now.asks } }
+
+-- **The confirming load** of the place i found the number s. A place whose number is found again is sure, and its row
+-- is remembered. That of the last place ends the try.
+abbrev pub settled : (i s : ℕ) → Look → Look
+settled i s l = cond (l.place == i) (record l { sure = l.sure || l.number == s; found = s }) l
+
+abbrev pub remembered : (w i : ℕ) → List Look → List Version → List Version
+remembered w i [] kept = kept
+remembered w i (l ∷ ls) kept = cond (l.place == i && l.sure && length l.words == w) (slice_set kept i (record { number = l.number; row = l.words })) (remembered w i ls kept)
+
+abbrev pub confirmed_at : (w i s : ℕ) → Scan → Scan
+confirmed_at w i s c = record c {
+  confirmed = c.confirmed ++ (i, s) ∷ [];
+  kept = remembered w i (map (settled i s) c.now.looks) c.kept;
+  now = record c.now { looks = map (settled i s) c.now.looks };
+}
+
+-- a try is clean where all n rows are read and each number was found again
+abbrev pub clean : (w : ℕ) → Look → Bool
+clean w l = l.sure && length l.words == w
+
+abbrev pub is_clean : (n w : ℕ) → List Look → Bool
+is_clean n w looks = length looks == n && every (clean w) looks
+
+abbrev pub sum_words : ℕ → List Look → ℕ
+sum_words k [] = 0
+sum_words k (l ∷ ls) = slice_index l.words k + sum_words k ls
+
+-- its answer: the numbers, and the sums of the rows
+abbrev pub answer_of : (w : ℕ) → List Look → Answer
+answer_of w looks = record { vector = map number_of looks; totals = tab 0 w (λ k. sum_words k looks) }
+
+abbrev pub found_of : Look → ℕ
+found_of l = l.found
+
+-- the places whose number is 2 or more above the base
+abbrev pub due_of : (base : List ℕ) → List Look → List ℕ
+due_of [] looks = []
+due_of (x ∷ base) [] = []
+due_of (x ∷ base) (l ∷ looks) = cond (nat_le (x + 2) l.found) (l.place ∷ due_of base looks) (due_of base looks)
+
+-- the first try that fails gives the floor and the base of the scan
+abbrev pub based : Try → Try
+based t = cond (t.failed == 0) (record t { floor = map number_of t.looks; base = map found_of t.looks }) t
+
+abbrev pub failed_once_more : Try → Try
+failed_once_more t = record t { failed = t.failed + 1; looks = []; due = due_of t.base t.looks }
+
+abbrev pub ended : (n w : ℕ) → Scan → Scan
+ended n w c = cond (is_clean n w c.now.looks) (answered (answer_of w c.now.looks) c) (given_up n (record c { now = failed_once_more (based c.now) }))
+
+abbrev pub after_confirm : (n w i s : ℕ) → Scan → Scan
+after_confirm n w i s c = cond (i + 1 == n) (ended n w (confirmed_at w i s c)) (confirmed_at w i s c)
+
+-- **The opening load of a worker that is asked**, the first of those to be asked, found the number s
+abbrev pub is_next : ℕ → List ℕ → Bool
+is_next i [] = false
+is_next i (x ∷ xs) = i == x
+
+abbrev pub after_ask : (i s : ℕ) → Scan → Scan
+after_ask i s c = record c { now = cond (is_next i c.now.due) (record c.now { asks = begun i s [] ∷ [] }) c.now }
+
+-- **The confirming load of the worker that is asked** found the number s. It lends where its number is found again,
+-- its flag is 1, all its words are read, and its vector is below the floor nowhere. If it does not, the next one is
+-- asked, and after the last one the next try begins.
+abbrev pub is_above : (floor vector : List ℕ) → Bool
+is_above [] vector = true
+is_above (x ∷ floor) [] = false
+is_above (x ∷ floor) (y ∷ vector) = nat_le x y && is_above floor vector
+
+abbrev pub lent_answer : (n w : ℕ) → Look → Answer
+lent_answer n w l = record { vector = take n (drop 1 l.words); totals = take w (drop (1 + n) l.words) }
+
+abbrev pub lends : (n w s : ℕ) → (floor : List ℕ) → Look → Bool
+lends n w s floor l = l.number == s && length l.words == 1 + n + w && slice_index l.words 0 == 1 && is_above floor (take n (drop 1 l.words))
+
+abbrev pub asked_of : (n s : ℕ) → Look → Asked
+asked_of n s l = record { worker = l.place; number = l.number; flag = slice_index l.words 0; vector = take n (drop 1 l.words); again = s }
+
+abbrev pub rest : List ℕ → List ℕ
+rest [] = []
+rest (x ∷ xs) = xs
+
+abbrev pub answers : (n w s : ℕ) → Look → Scan → Scan
+answers n w s l c = cond (lends n w s c.now.floor l)
+    (answered (lent_answer n w l) (record c { asked = c.asked ++ asked_of n s l ∷ [] }))
+    (given_up n (record c { asked = c.asked ++ asked_of n s l ∷ []; now = record c.now { due = rest c.now.due; asks = [] } }))
+
+abbrev pub ask_ends : (n w i s : ℕ) → List Look → Scan → Scan
+ask_ends n w i s [] c = c
+ask_ends n w i s (l ∷ ls) c = cond (l.place == i) (answers n w s l c) c
+
+abbrev pub after_end_ask : (n w i s : ℕ) → Scan → Scan
+after_end_ask n w i s c = ask_ends n w i s c.now.asks c
+
+-- a load of a scan found the word x
+abbrev pub after : (n w : ℕ) → Load → (x : ℕ) → Scan → Scan
+after n w (Open place) x = after_open place x
+after n w (Read place number item) x = after_read w place number item x
+after n w (Confirm place) x = after_confirm n w place x
+after n w (Ask place) x = after_ask place x
+after n w (EndAsk place) x = after_end_ask n w place x

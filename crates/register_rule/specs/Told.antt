@@ -1,0 +1,104 @@
+-- What a step tells of the rule.
+use Rattle.std.specs.Prelude.{◌≡◌, ◌≢◌, ◌⊎◌, ℕ, ◌+◌, ◌*◌, ◌<◌, ◌≤◌, Bool, false, List, [], ◌∷◌, ◌++◌, length, map, slice_index}
+use mathlib.Core.Option.{some}
+use lib.ListN.{get_elem?}
+use Rattle.atomic_table.specs.Table.{State}
+use Rattle.ledger_core.specs.declared.op.Op.{Op}
+use Rattle.register_rule.specs.declared.view.Who.TheVariants.{Worker}
+use Rattle.register_rule.specs.declared.view.Look.{Look}
+use Rattle.register_rule.specs.declared.view.Made.{Made}
+use Rattle.register_rule.specs.declared.view.Asked.{Asked}
+use Rattle.register_rule.specs.declared.view.Answer.{Answer}
+use Rattle.register_rule.specs.declared.view.Member.{Member}
+use Rattle.register_rule.specs.declared.view.View.{View}
+use Rattle.register_rule.specs.declared.load.Load.{Load}
+use Rattle.register_rule.specs.declared.load.Load.TheVariants.{Open, Read, Confirm, Ask, EndAsk}
+use Rattle.segment_layout.specs.Layout.{span}
+use Rattle.register_rule.specs.Words.{item_of, seg}
+use Rattle.register_rule.specs.History.{count, Comparable}
+use Rattle.register_rule.specs.Sums.{Legal}
+use Rattle.register_rule.specs.Scans.{number_of, IsScan}
+use Rattle.register_rule.specs.Members.{first_of, made_of}
+use Rattle.register_rule.specs.Shown.{Shows}
+use Rattle.register_rule.specs.Rule.{Rule}
+
+-- x is the number of the segment i: it is at least each number that the first member found there before or has seen,
+-- and where worker i is among the members, it is how often that worker published
+pub record IsNumber (i : ℕ) (ms : List Member) (x : ℕ) : Type 0 where
+  pub opened : (q y : ℕ) → get_elem? (first_of ms).scan.opened q ≡ some (i, y) → y ≤ x
+  pub confirmed : (q y : ℕ) → get_elem? (first_of ms).scan.confirmed q ≡ some (i, y) → y ≤ x
+  pub asked : (q : ℕ) (e : Asked) → get_elem? (first_of ms).scan.asked q ≡ some e → e.worker ≡ i → e.again ≤ x
+  pub seen : (y : ℕ) → get_elem? (first_of ms).scan.seen i ≡ some y → y ≤ x
+  pub own : (p : ℕ) (m : Member) → get_elem? ms p ≡ some m → m.who ≡ Worker i → x ≡ length m.work.made
+
+-- the load is of a word of the board, where a buffer has b words
+abbrev pub IsLoad : (n b : ℕ) → Load → Type 0
+IsLoad n b (Open place) = place < n
+IsLoad n b (Read place number item) = (place < n) × (item < b)
+IsLoad n b (Confirm place) = place < n
+IsLoad n b (Ask place) = place < n
+IsLoad n b (EndAsk place) = place < n
+
+-- the place of this word
+abbrev pub place_of : (b : ℕ) → Load → ℕ
+place_of b (Open place) = place * span b + 0
+place_of b (Read place number item) = place * span b + item_of b number item
+place_of b (Confirm place) = place * span b + 0
+place_of b (Ask place) = place * span b + 0
+place_of b (EndAsk place) = place * span b + 0
+
+-- a load tells that it found a number, or that a word of a row is at most 2^48 - 1
+abbrev pub IsTold : (w : ℕ) → Load → List Member → ℕ → Type 0
+IsTold w (Open place) ms x = IsNumber place ms x
+IsTold w (Read place number item) ms x = item < w → x ≤ 281474976710655
+IsTold w (Confirm place) ms x = IsNumber place ms x
+IsTold w (Ask place) ms x = IsNumber place ms x
+IsTold w (EndAsk place) ms x = IsNumber place ms x
+
+-- all that the rule says of these members: there are publishes of all workers, in one order, of which those of the
+-- workers among them are a part, and by which the scans of each of them are right
+pub record AreRuled (n w : ℕ) (adds : List Op → ℕ → ℕ) (accepts : (ℕ → ℕ) → List Op → Type 0) (ms : List Member) : Type 0 where
+  pub made : ℕ → List Made
+  pub history : List ℕ
+  pub counted : (i : ℕ) → i < n → count i history ≡ length (made i)
+  pub legal : (i : ℕ) → i < n → Legal adds accepts [] (made i)
+  pub own : (p i : ℕ) (m : Member) → get_elem? ms p ≡ some m → m.who ≡ Worker i → (i < n) × (m.work.made ≡ made i) × (get_elem? m.scan.seen i ≡ some (length (made i)))
+  pub scans : (p : ℕ) (m : Member) → get_elem? ms p ≡ some m → IsScan n w adds made history m.scan
+
+-- the members of all seats, in pairs
+module _ (n b : ℕ) (s : State (Unit {0}) View) where
+  -- m is a member of some seat's view
+  abbrev pub Sits : Member → Type 0
+  Sits m = (j : ℕ) × (p : ℕ) × (v : View) × (get_elem? s.views j ≡ some v) × (get_elem? v.members p ≡ some m)
+
+  -- a is an answer that a member recorded
+  abbrev pub Records : Answer → Type 0
+  Records a = (m : Member) × Sits m × ((q : ℕ) × (get_elem? m.scan.recorded q ≡ some a))
+
+  -- these are the places of a member's try, and all are opened
+  abbrev pub Tries : List Look → Type 0
+  Tries looks = (m : Member) × Sits m × (m.scan.now.looks ≡ looks) × (length looks ≡ n)
+
+  -- at a place that is not confirmed the number is no longer the one opened
+  abbrev pub IsDoomed : List Look → Type 0
+  IsDoomed looks = (q : ℕ) × (l : Look) × (get_elem? looks q ≡ some l) × (l.sure ≡ false) × (seg b s.words l.place 0 ≢ l.number)
+
+  -- any two recorded vectors are comparable; of two tries one is doomed or their vectors are comparable; and a try is
+  -- doomed or its vector is comparable with each recorded one
+  pub record AreComparable : Type 0 where
+    pub recorded : (a c : Answer) → Records a → Records c → Comparable a.vector c.vector
+    pub tries : (looks others : List Look) → Tries looks → Tries others → (IsDoomed looks ⊎ IsDoomed others) ⊎ Comparable (map number_of looks) (map number_of others)
+    pub between : (looks : List Look) (a : Answer) → Tries looks → Records a → IsDoomed looks ⊎ Comparable (map number_of looks) a.vector
+
+-- the hidden buffer of b words holds the version that this publish makes
+abbrev pub HoldsNext : (n w b : ℕ) → (List Op → ℕ → ℕ) → List Op → (lends : Bool) → Member → Type 0
+HoldsNext n w b adds ops lends m = (k : ℕ) → k < b → Shows n w adds (m.work.made ++ made_of ops lends m ∷ []) k (slice_index m.work.hidden k)
+
+-- the answers of these members are comparable, each with each
+abbrev pub AnswersCompare : List Member → Type 0
+AnswersCompare ms = (p q i k : ℕ) (m o : Member) (a c : Answer) → get_elem? ms p ≡ some m → get_elem? ms q ≡ some o
+    → get_elem? m.scan.recorded i ≡ some a → get_elem? o.scan.recorded k ≡ some c → Comparable a.vector c.vector
+
+-- the rule, and what it says of members in pairs
+abbrev pub Keeps : (n w b : ℕ) → (List Op → ℕ → ℕ) → ((ℕ → ℕ) → List Op → Type 0) → State (Unit {0}) View → Type 0
+Keeps n w b adds accepts s = Rule n w b adds accepts s × AreComparable n b s

@@ -1,0 +1,61 @@
+//! The board, and what it is made into.
+ghost use Rattle.std.specs.Prelude.{◌≡◌, ℕ};
+ghost use Rattle.ledger_core.specs.Ops.{width};
+ghost use Rattle.segment_layout.specs.Layout.{IsGeometry, words};
+
+use crate::seats::{ReadSeat, WorkSeat};
+use crate::view::View;
+use atomic_table::{Play, Split, Table, TableRule};
+use std::alloc::Global;
+use std::marker::Brand;
+
+/// What the table is told once: the board's id, and how many readers there are.
+#[derive(Drop)]
+pub struct Key {
+    pub(crate) id: u64,
+    pub(crate) readers: usize,
+}
+
+/// The rule of a board of this geometry.
+pub struct Law<const N: usize, const C: usize, const H: usize, const G: usize>;
+
+impl<const N: usize, const C: usize, const H: usize, const G: usize> TableRule<(), View, Key>
+    for Law<N, C, H, G> {
+    ghost use Rattle.ledger_core.specs.Ops.{width, sum_ops};
+    ghost use Rattle.ledger_core.specs.Row.{Accepts};
+    ghost use Rattle.segment_layout.specs.Layout.{depth};
+    ghost use Rattle.register_rule.specs.Told.{Keeps};
+    ghost use Rattle.register_rule.specs.Members.{everyone};
+
+    ghost holds = { λ _. Keeps N (width C H G) (depth N (width C H G)) (sum_ops C H) (Accepts C H G) };
+
+    ghost first = { λ key. everyone N (width C H G) (depth N (width C H G)) key.readers };
+}
+
+// Each call picks what it tells.
+impl Play<(), View> for Brand {
+    ghost then = { λ _ _ _ _. Unit {0} };
+}
+
+impl Split<View> for Brand {
+    ghost left = { λ v. v };
+
+    ghost right = { λ v. v };
+}
+
+/// The words that all workers and readers share: `N` segments of rows of `C` counters, `H` histograms and `G` gauges.
+#[derive(Drop)]
+pub struct Board<const N: usize, const C: usize, const H: usize, const G: usize> {
+    pub(crate) table: Table<(), View, Key, Law<N, C, H, G>, Global>,
+    pub(crate) id: u64,
+    ghost sized: { IsGeometry N C H G × (table.shared.table_id.words ≡ words N (width C H G)) },
+    ghost named: { table.shared.key.id ≡ id },
+}
+
+/// A board, and a seat of its own for each worker and each reader, in their order.
+#[derive(Drop)]
+pub struct Parts<const N: usize, const C: usize, const H: usize, const G: usize> {
+    pub board: Board<N, C, H, G>,
+    pub work: Vec<WorkSeat>,
+    pub read: Vec<ReadSeat>,
+}

@@ -1,0 +1,83 @@
+//! Seats of one member as bundles, and back, without a step.
+ghost use Rattle.std.specs.Prelude.{◌≡◌, [], ◌∷◌, length};
+ghost use Rattle.register_rule.specs.declared.view.Who.TheVariants.{Worker, Reader};
+ghost use Rattle.register_rule.specs.Members.{first_of};
+ghost use Rattle.register_rule.specs.Seats.{table_of, members_of, worker_of, reader_of};
+
+use crate::seats::{Bundle, ReadSeat, WorkSeat};
+
+impl WorkSeat {
+    /// The worker whose seat it is.
+    pub fn worker(&self) -> usize
+        ensures { (worker_of self.now).who ≡ Worker result }
+    {
+        self.worker
+    }
+
+    /// How often the worker has published.
+    pub fn number(&self) -> u64
+        ensures { result ≡ length (worker_of self.now).work.made }
+    {
+        self.number
+    }
+
+    /// The seat as a bundle of this one worker.
+    pub fn into_bundle(self) -> Bundle
+        ensures same { result ≡ self.bundle }
+        ensures one { members_of result ≡ worker_of self ∷ [] }
+    {
+        let WorkSeat {
+            bundle,
+            worker: _,
+            number: _,
+        } = self;
+        bundle
+    }
+}
+
+impl ReadSeat {
+    /// The reader whose seat it is.
+    pub fn reader(&self) -> usize
+        ensures { (reader_of self.now).who ≡ Reader result }
+    {
+        self.reader
+    }
+
+    /// The seat as a bundle of this one reader.
+    pub fn into_bundle(self) -> Bundle
+        ensures same { result ≡ self.bundle }
+        ensures one { members_of result ≡ reader_of self ∷ [] }
+    {
+        let ReadSeat { bundle, reader: _ } = self;
+        bundle
+    }
+}
+
+impl Bundle {
+    /// The bundle of one worker, which has published `number` times, as its seat.
+    pub fn into_work(self, worker: usize, number: u64) -> WorkSeat
+        requires one { members_of self ≡ first_of (members_of self) ∷ [] }
+        requires is { (first_of (members_of self)).who ≡ Worker worker }
+        requires counts { number ≡ length (first_of (members_of self)).work.made }
+        ensures same { result.bundle ≡ self }
+        ensures worker { result.worker ≡ worker }
+    {
+        WorkSeat {
+            bundle: self,
+            worker,
+            number,
+        }
+    }
+
+    /// The bundle of one reader as its seat.
+    pub fn into_read(self, reader: usize) -> ReadSeat
+        requires one { members_of self ≡ first_of (members_of self) ∷ [] }
+        requires is { (first_of (members_of self)).who ≡ Reader reader }
+        ensures same { result.bundle ≡ self }
+    {
+        ReadSeat {
+            bundle: self,
+            reader,
+        }
+    }
+}

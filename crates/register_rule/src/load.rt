@@ -1,0 +1,28 @@
+//! The loads that a scan makes, each one atomic step.
+
+/// A load of one word of the board for a scan.
+#[derive(Clone, Copy, Debug, PartialEq, Eq)]
+pub enum Load {
+    /// The opening load: the number of a segment, before its row is read.
+    Open {
+        place: usize,
+    },
+    /// A word of the buffer that a number shows: item `item` of it.
+    Read {
+        place: usize,
+        number: u64,
+        item: usize,
+    },
+    /// The confirming load: the number of a segment, after all rows were read.
+    Confirm {
+        place: usize,
+    },
+    /// The opening load of a worker that is asked for the view that it lends.
+    Ask {
+        place: usize,
+    },
+    /// The confirming load of the worker that is asked.
+    EndAsk {
+        place: usize,
+    },
+}

@@ -1,0 +1,56 @@
+//! The steps of the table with one more argument, for the proof alone: a call picks what its step tells, and may name
+//! it.
+ghost use Rattle.std.specs.Prelude.{◌≡◌, ℕ, ◌<◌, [], ◌∷◌, ◌++◌};
+ghost use mathlib.Core.Option.{none};
+ghost use Rattle.atomic_table.specs.Table.{step, Allows, Splits, Joins};
+ghost use Rattle.register_rule.specs.Members.{group, met};
+
+use crate::view::View;
+use atomic_table::{Join, Play, Seat, Shared, Split, TableRule};
+
+#[inline]
+pub(crate) fn load_as<X, K, J: Play<(), View>, P: TableRule<(), View, K>>(
+    shared: &Shared<(), View, K, P>,
+    seat: &mut Seat<(), View>,
+    word: usize,
+    _about: &X,
+) -> u64
+    requires { (seat.old.table_id ≡ shared.now.table_id) × (word < shared.now.table_id.words) × Allows (P.holds shared.now.key) shared.now.table_id.slots seat.old.id seat.old.me word (λ n. n) (J.then (step shared.now.table_id.slots word 0 0 none) seat.old.me) }
+    ensures { (seat.new.table_id ≡ seat.old.table_id) × (seat.new.id ≡ seat.old.id) × J.then (step shared.now.table_id.slots word 0 0 none) seat.old.me result seat.new.me }
+{
+    shared.load::<J>(seat, word)
+}
+
+#[inline]
+pub(crate) fn store_as<X, K, J: Play<(), View>, P: TableRule<(), View, K>>(
+    shared: &Shared<(), View, K, P>,
+    seat: &mut Seat<(), View>,
+    word: usize,
+    new: u64,
+    _about: &X,
+)
+    requires { (seat.old.table_id ≡ shared.now.table_id) × (word < shared.now.table_id.words) × Allows (P.holds shared.now.key) shared.now.table_id.slots seat.old.id seat.old.me word (λ _. new) (λ _. J.then (step shared.now.table_id.slots word new 0 none) seat.old.me new) }
+    ensures { (seat.new.table_id ≡ seat.old.table_id) × (seat.new.id ≡ seat.old.id) × J.then (step shared.now.table_id.slots word new 0 none) seat.old.me new seat.new.me }
+{
+    shared.store::<J>(seat, word, new);
+}
+
+pub(crate) fn split_as<X, K, J: Split<View>, P: TableRule<(), View, K>>(
+    shared: &Shared<(), View, K, P>,
+    seat: &mut Seat<(), View>,
+    _about: &X,
+) -> Seat<(), View>
+    requires { (seat.old.table_id ≡ shared.now.table_id) × (0 < shared.now.table_id.words) × Splits (P.holds shared.now.key) seat.old.id seat.old.me.0 (J.left seat.old.me.0) (J.right seat.old.me.0) }
+    ensures { (seat.new.table_id ≡ seat.old.table_id) × (seat.new.id ≡ seat.old.id) × (seat.new.me ≡ (J.left seat.old.me.0, seat.old.me.1)) × (result.table_id ≡ seat.old.table_id) × (result.me ≡ (J.right seat.old.me.0, [])) }
+{
+    shared.split_seat::<J>(seat)
+}
+
+/// The members of both seats meet in the first one.
+pub(crate) struct Both;
+
+impl Join<View> for Both {
+    ghost both = { λ v w. group (met (v.members ++ w.members)) };
+
+    ghost spent = { group [] };
+}

@@ -1,0 +1,152 @@
+//! The steps of a scan, which workers and readers make alike.
+ghost use Rattle.std.specs.Prelude.{◌≡◌, ℕ, ◌<◌, ◌≤◌, List, ◌∷◌};
+ghost use Rattle.ledger_core.specs.Ops.{width, sum_ops};
+ghost use Rattle.ledger_core.specs.Row.{Accepts};
+ghost use Rattle.segment_layout.specs.Layout.{depth};
+ghost use Rattle.register_rule.specs.declared.view.Member.{Member};
+ghost use Rattle.register_rule.specs.Steps.{after, after_open, after_read, after_confirm, after_ask, after_end_ask};
+ghost use Rattle.register_rule.specs.Members.{led, scanned};
+ghost use Rattle.register_rule.specs.Told.{IsLoad, IsTold, IsNumber, AreRuled};
+ghost use Rattle.register_rule.specs.Seats.{table_of, members_of, Has};
+
+use crate::board::Board;
+use crate::load::Load;
+use crate::seats::{Bundle, ReadSeat, WorkSeat};
+
+/// A seat that scans: that of a worker, of a reader, or of several members, where the first one scans.
+pub trait ScanSeat<const N: usize, const C: usize, const H: usize, const G: usize>: Sized {
+    ghost use Rattle.register_rule.specs.declared.seats.Bundle.{Bundle};
+
+    ghost bundle: { Self → Bundle };
+
+    /// One load of the scan.
+    fn load(&mut self, board: &Board<N, C, H, G>, what: Load) -> u64
+        requires own { Has board.now (bundle self.old) }
+        requires some { (m : Member) × (ms : List Member) × (members_of (bundle self.old) ≡ m ∷ ms) }
+        requires inside { IsLoad N (depth N (width C H G)) what }
+        ensures own { table_of (bundle self.new) ≡ table_of (bundle self.old) }
+        ensures member { members_of (bundle self.new) ≡ led (scanned (after N (width C H G) what result)) (members_of (bundle self.old)) }
+        ensures told { IsTold (width C H G) what (members_of (bundle self.old)) result }
+        ensures ruled { AreRuled N (width C H G) (sum_ops C H) (Accepts C H G) (members_of (bundle self.new)) };
+}
+
+impl<const N: usize, const C: usize, const H: usize, const G: usize> ScanSeat<N, C, H, G>
+    for Bundle {
+    ghost bundle = { λ s. s };
+
+    #[inline]
+    fn load(&mut self, board: &Board<N, C, H, G>, what: Load) -> u64 {
+        board.load(self, what)
+    }
+}
+
+impl<const N: usize, const C: usize, const H: usize, const G: usize> ScanSeat<N, C, H, G>
+    for WorkSeat {
+    ghost bundle = { λ s. s.bundle };
+
+    #[inline]
+    fn load(&mut self, board: &Board<N, C, H, G>, what: Load) -> u64 {
+        board.load(&mut self.bundle, what)
+    }
+}
+
+impl<const N: usize, const C: usize, const H: usize, const G: usize> ScanSeat<N, C, H, G>
+    for ReadSeat {
+    ghost bundle = { λ s. s.bundle };
+
+    #[inline]
+    fn load(&mut self, board: &Board<N, C, H, G>, what: Load) -> u64 {
+        board.load(&mut self.bundle, what)
+    }
+}
+
+impl<const N: usize, const C: usize, const H: usize, const G: usize> Board<N, C, H, G> {
+    /// The opening load of a place: its number, which is at least each number found there before.
+    ///
+    /// Where it is the next place of a try in which nothing is confirmed yet, the try has it then. Where the row that
+    /// is remembered of this segment has this number, its words need not be read.
+    #[inline]
+    pub fn open<S: ScanSeat<N, C, H, G>>(&self, seat: &mut S, place: usize) -> u64
+        requires own { Has self.now (S.bundle seat.old) }
+        requires some { (m : Member) × (ms : List Member) × (members_of (S.bundle seat.old) ≡ m ∷ ms) }
+        requires inside { place < N }
+        ensures own { table_of (S.bundle seat.new) ≡ table_of (S.bundle seat.old) }
+        ensures member { members_of (S.bundle seat.new) ≡ led (scanned (after_open place result)) (members_of (S.bundle seat.old)) }
+        ensures told { IsNumber place (members_of (S.bundle seat.old)) result }
+        ensures ruled { AreRuled N (width C H G) (sum_ops C H) (Accepts C H G) (members_of (S.bundle seat.new)) }
+    {
+        seat.load(self, Load::Open { place })
+    }
+
+    /// Loads the item `item` of the buffer that the number `number` of a segment shows. A word of a row is at most
+    /// 2^48 - 1. As long as the number is not confirmed it may be a word of a later version.
+    #[inline]
+    pub fn read_word<S: ScanSeat<N, C, H, G>>(
+        &self,
+        seat: &mut S,
+        place: usize,
+        number: u64,
+        item: usize,
+    ) -> u64
+        requires own { Has self.now (S.bundle seat.old) }
+        requires some { (m : Member) × (ms : List Member) × (members_of (S.bundle seat.old) ≡ m ∷ ms) }
+        requires inside { (place < N) × (item < depth N (width C H G)) }
+        ensures own { table_of (S.bundle seat.new) ≡ table_of (S.bundle seat.old) }
+        ensures member { members_of (S.bundle seat.new) ≡ led (scanned (after_read (width C H G) place number item result)) (members_of (S.bundle seat.old)) }
+        ensures bounded { item < width C H G → result ≤ 281474976710655 }
+    {
+        seat.load(
+            self,
+            Load::Read {
+                place,
+                number,
+                item,
+            },
+        )
+    }
+
+    /// The confirming load of a place: its number, which is at least the one that was opened. That of the last place
+    /// ends the try: with an answer, where each number was found again, and else with the workers to be asked, the
+    /// next try, or the end of the scan.
+    #[inline]
+    pub fn confirm<S: ScanSeat<N, C, H, G>>(&self, seat: &mut S, place: usize) -> u64
+        requires own { Has self.now (S.bundle seat.old) }
+        requires some { (m : Member) × (ms : List Member) × (members_of (S.bundle seat.old) ≡ m ∷ ms) }
+        requires inside { place < N }
+        ensures own { table_of (S.bundle seat.new) ≡ table_of (S.bundle seat.old) }
+        ensures member { members_of (S.bundle seat.new) ≡ led (scanned (after_confirm N (width C H G) place result)) (members_of (S.bundle seat.old)) }
+        ensures told { IsNumber place (members_of (S.bundle seat.old)) result }
+        ensures ruled { AreRuled N (width C H G) (sum_ops C H) (Accepts C H G) (members_of (S.bundle seat.new)) }
+    {
+        seat.load(self, Load::Confirm { place })
+    }
+
+    /// The opening load of a worker that is asked for the view that it lends. Its flag, the numbers of its vector and
+    /// its totals are then read by `read_word`, in this order.
+    #[inline]
+    pub fn ask<S: ScanSeat<N, C, H, G>>(&self, seat: &mut S, place: usize) -> u64
+        requires own { Has self.now (S.bundle seat.old) }
+        requires some { (m : Member) × (ms : List Member) × (members_of (S.bundle seat.old) ≡ m ∷ ms) }
+        requires inside { place < N }
+        ensures own { table_of (S.bundle seat.new) ≡ table_of (S.bundle seat.old) }
+        ensures member { members_of (S.bundle seat.new) ≡ led (scanned (after_ask place result)) (members_of (S.bundle seat.old)) }
+        ensures told { IsNumber place (members_of (S.bundle seat.old)) result }
+        ensures ruled { AreRuled N (width C H G) (sum_ops C H) (Accepts C H G) (members_of (S.bundle seat.new)) }
+    {
+        seat.load(self, Load::Ask { place })
+    }
+
+    /// The confirming load of the worker that is asked. Where it lends, the scan ends with its view.
+    #[inline]
+    pub fn end_ask<S: ScanSeat<N, C, H, G>>(&self, seat: &mut S, place: usize) -> u64
+        requires own { Has self.now (S.bundle seat.old) }
+        requires some { (m : Member) × (ms : List Member) × (members_of (S.bundle seat.old) ≡ m ∷ ms) }
+        requires inside { place < N }
+        ensures own { table_of (S.bundle seat.new) ≡ table_of (S.bundle seat.old) }
+        ensures member { members_of (S.bundle seat.new) ≡ led (scanned (after_end_ask N (width C H G) place result)) (members_of (S.bundle seat.old)) }
+        ensures told { IsNumber place (members_of (S.bundle seat.old)) result }
+        ensures ruled { AreRuled N (width C H G) (sum_ops C H) (Accepts C H G) (members_of (S.bundle seat.new)) }
+    {
+        seat.load(self, Load::EndAsk { place })
+    }
+}

@@ -1,0 +1,180 @@
+//! The steps: each makes one atomic load or store of one word of the board, and takes no memory.
+ghost use Rattle.std.specs.Prelude.{◌≡◌, ℕ, ◌+◌, ◌*◌, ◌<◌, ◌≤◌, List, [], ◌∷◌, ◌++◌, length};
+ghost use Rattle.ledger_core.specs.Ops.{width, sum_ops};
+ghost use Rattle.ledger_core.specs.Row.{Accepts};
+ghost use Rattle.segment_layout.specs.Layout.{depth, span, words};
+ghost use Rattle.register_rule.specs.declared.view.Who.TheVariants.{Worker};
+ghost use Rattle.register_rule.specs.declared.view.Member.{Member};
+ghost use Rattle.register_rule.specs.Words.{item_of};
+ghost use Rattle.register_rule.specs.Sums.{total};
+ghost use Rattle.register_rule.specs.Steps.{after};
+ghost use Rattle.register_rule.specs.Members.{led, scanned, filled, published, picked, without, met};
+ghost use Rattle.register_rule.specs.Told.{IsLoad, place_of, IsTold, IsNumber, AreRuled, HoldsNext, AnswersCompare};
+ghost use Rattle.register_rule.specs.Seats.{table_of, members_of, worker_of, board_id, Has, HasWorker};
+
+use crate::board::{Board, Key, Law};
+use crate::load::Load;
+use crate::moves::{Both, load_as, split_as, store_as};
+use crate::seats::{Bundle, WorkSeat};
+use crate::view::Who;
+use ledger_core::Op;
+use segment_layout::{Part, buffer_words};
+use std::marker::Brand;
+
+impl<const N: usize, const C: usize, const H: usize, const G: usize> Board<N, C, H, G> {
+    /// The id that the board was made with.
+    pub fn id(&self) -> u64
+        ensures { result ≡ board_id self.now }
+    {
+        self.id
+    }
+
+    #[inline]
+    fn number_at(&self, segment: usize) -> usize
+        requires { segment < N }
+        ensures { (result ≡ segment * span (depth N (width C H G)) + 0) × (result < self.now.table.shared.table_id.words) }
+    {
+        segment_layout::place_of(N, C, H, G, segment, Part::Number)
+    }
+
+    #[inline]
+    fn item_at(&self, segment: usize, version: u64, item: usize) -> usize
+        requires { (segment < N) × (item < depth N (width C H G)) }
+        ensures { (result ≡ segment * span (depth N (width C H G)) + item_of (depth N (width C H G)) version item) × (result < self.now.table.shared.table_id.words) }
+    {
+        self.number_at(segment) + 1 + (version % 2) as usize * buffer_words(N, C, H, G) + item
+    }
+
+    #[inline]
+    fn place(&self, what: Load) -> usize
+        requires { IsLoad N (depth N (width C H G)) what }
+        ensures { (result ≡ place_of (depth N (width C H G)) what) × (result < self.now.table.shared.table_id.words) }
+    {
+        match what {
+            Load::Open { place } => self.number_at(place),
+            Load::Read {
+                place,
+                number,
+                item,
+            } => self.item_at(place, number, item),
+            Load::Confirm { place } => self.number_at(place),
+            Load::Ask { place } => self.number_at(place),
+            Load::EndAsk { place } => self.number_at(place),
+        }
+    }
+
+    /// One load of a scan by the first member of a bundle.
+    #[inline]
+    pub(crate) fn load(&self, bundle: &mut Bundle, what: Load) -> u64
+        requires own { Has self.now bundle.old }
+        requires some { (m : Member) × (ms : List Member) × (members_of bundle.old ≡ m ∷ ms) }
+        requires inside { IsLoad N (depth N (width C H G)) what }
+        ensures own { table_of bundle.new ≡ table_of bundle.old }
+        ensures member { members_of bundle.new ≡ led (scanned (after N (width C H G) what result)) (members_of bundle.old) }
+        ensures told { IsTold (width C H G) what (members_of bundle.old) result }
+        ensures ruled { AreRuled N (width C H G) (sum_ops C H) (Accepts C H G) (members_of bundle.new) }
+    {
+        let at = self.place(what);
+        load_as::<Load, Key, Brand, Law<N, C, H, G>>(
+            &self.table.shared,
+            &mut bundle.seat,
+            at,
+            &what,
+        )
+    }
+
+    /// Stores a word into the worker's own hidden buffer, at the item `item` of it.
+    ///
+    /// Items are the row's words, the flag, one number for each worker, and the lent totals, in this order. A word of
+    /// the row is at most 2^48 - 1.
+    #[inline]
+    pub fn fill_word(&self, seat: &mut WorkSeat, item: usize, word: u64)
+        requires own { HasWorker self.now seat.old }
+        requires inside { item < depth N (width C H G) }
+        requires bounded { item < width C H G → word ≤ 281474976710655 }
+        ensures own { HasWorker self.now seat.new }
+        ensures member { worker_of seat.new ≡ filled item word (worker_of seat.old) }
+    {
+        let at = self.item_at(seat.worker, seat.number % 2 + 1, item);
+        store_as::<usize, Key, Brand, Law<N, C, H, G>>(
+            &self.table.shared,
+            &mut seat.bundle.seat,
+            at,
+            word,
+            &item,
+        );
+    }
+
+    /// Stores the worker's own number plus one, which makes the hidden buffer the shown one: the worker has then
+    /// published these operations. With `lends` the version lends the last answer that the worker recorded.
+    ///
+    /// The hidden buffer has to hold the new row, the flag, and with `lends` the vector and the totals of that answer.
+    #[inline]
+    pub fn publish(&self, seat: &mut WorkSeat, ops: &[Op], lends: bool)
+        requires own { HasWorker self.now seat.old }
+        requires room { length (worker_of seat.old).work.made + 1 < 18446744073709551616 }
+        requires full { HoldsNext N (width C H G) (depth N (width C H G)) (sum_ops C H) ops.now lends (worker_of seat.old) }
+        requires accepted { Accepts C H G (total (sum_ops C H) (worker_of seat.old).work.made) ops.now }
+        ensures own { HasWorker self.now seat.new }
+        ensures member { (i : ℕ) → (worker_of seat.old).who ≡ Worker i → worker_of seat.new ≡ published (width C H G) i ops.now lends (worker_of seat.old) }
+    {
+        let at = self.number_at(seat.worker);
+        let number = seat.number + 1;
+        store_as::<(usize, &[Op], bool), Key, Brand, Law<N, C, H, G>>(
+            &self.table.shared,
+            &mut seat.bundle.seat,
+            at,
+            number,
+            &(seat.worker, ops, lends),
+        );
+        seat.number = number;
+    }
+
+    /// Loads the number of a segment, and changes no view. It tells all that the rule says of the members at hand.
+    #[inline]
+    pub fn tell(&self, bundle: &mut Bundle, place: usize) -> u64
+        requires own { Has self.now bundle.old }
+        requires inside { place < N }
+        ensures own { table_of bundle.new ≡ table_of bundle.old }
+        ensures same { members_of bundle.new ≡ members_of bundle.old }
+        ensures number { IsNumber place (members_of bundle.old) result }
+        ensures ruled { AreRuled N (width C H G) (sum_ops C H) (Accepts C H G) (members_of bundle.old) }
+        ensures comparable { AnswersCompare (members_of bundle.old) }
+    {
+        let at = self.number_at(place);
+        load_as::<usize, Key, Brand, Law<N, C, H, G>>(
+            &self.table.shared,
+            &mut bundle.seat,
+            at,
+            &place,
+        )
+    }
+
+    /// Parts a member of a bundle from it, by one load: it gets a seat of its own.
+    pub fn part(&self, bundle: &mut Bundle, who: Who) -> Bundle
+        requires own { Has self.now bundle.old }
+        requires there { (m : Member) × (picked who (members_of bundle.old) ≡ m ∷ []) }
+        ensures own { (table_of bundle.new ≡ table_of bundle.old) × (table_of result ≡ table_of bundle.old) }
+        ensures others { members_of bundle.new ≡ without who (members_of bundle.old) }
+        ensures one { members_of result ≡ picked who (members_of bundle.old) }
+    {
+        Bundle {
+            seat: split_as::<Who, Key, Brand, Law<N, C, H, G>>(
+                &self.table.shared,
+                &mut bundle.seat,
+                &who,
+            ),
+        }
+    }
+
+    /// Joins the members of another bundle into this one, behind its own, by one load: they meet, and each has then
+    /// seen what any of them has seen or made.
+    pub fn join(&self, bundle: &mut Bundle, other: Bundle)
+        requires own { Has self.now bundle.old × Has self.now other }
+        ensures own { table_of bundle.new ≡ table_of bundle.old }
+        ensures all { members_of bundle.new ≡ met (members_of bundle.old ++ members_of other) }
+    {
+        let Bundle { seat } = other;
+        self.table.shared.join_seat::<Both>(&mut bundle.seat, seat);
+    }
+}
