@@ -141,6 +141,16 @@ impl<const C: usize, const H: usize, const G: usize> Row<C, H, G> {
         }
     }
 
+    /// The word `k` of the row: counters first, then the 27 words of each histogram, then the two of each gauge.
+    #[inline]
+    pub fn word_at(&self, k: usize) -> u64
+        requires { k < width C H G }
+        ensures word { result ≡ slice_index self.now k }
+        ensures bounded { result ≤ MAX_WORD }
+    {
+        self.word(Word::at::<C, H, G>(k))
+    }
+
     // Adds one operation, the one at the place `at`, or nothing.
     fn try_add(&mut self, at: usize, op: &Op) -> Result<(), OpFault>
         ensures ok { OnOk result (Rises self.old (part C H op.now) self.new) }

@@ -247,3 +247,23 @@ fn faults_name_their_place(rt: HostRuntime) -> Result<(), Fail> {
     );
     Ok(())
 }
+
+#[test]
+fn words_stand_in_their_order(rt: HostRuntime) {
+    let mut row = Row::<2, 1, 1>::new();
+    let ops = [
+        Op::Inc { counter: 1, by: 5 },
+        Op::Observe {
+            hist: 0,
+            place: 3,
+            value: 7,
+        },
+        Op::Up { gauge: 0, by: 2 },
+        Op::Down { gauge: 0, by: 9 },
+    ];
+    assert_eq!(rt; row.try_apply(&ops), Ok(()));
+    assert_eq!(rt; (row.word_at(0), row.word_at(1)), (0, 5));
+    assert_eq!(rt; (row.word_at(2), row.word_at(5)), (0, 1));
+    assert_eq!(rt; (row.word_at(27), row.word_at(28)), (7, 1));
+    assert_eq!(rt; (row.word_at(29), row.word_at(30)), (2, 9));
+}
