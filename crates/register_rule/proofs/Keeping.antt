@@ -24,13 +24,13 @@ use Rattle.register_rule.specs.Scans.{IsScan}
 use Rattle.register_rule.specs.Rule.{IsWorker, IsRole, IsMember, Rule}
 use Rattle.register_rule.specs.Steps.{after}
 use Rattle.register_rule.specs.Members.{group, led, scanned, filled}
-use Rattle.register_rule.specs.Told.{IsNumber, IsLoad, place_of, IsTold, AreRuled, AreComparable, AnswersCompare, Keeps}
+use Rattle.register_rule.specs.Told.{IsNumber, IsLoad, place_of, IsTold, AreRuled, Sits, AllCompare, CompareAt, Keeps}
 use Rattle.register_rule.proofs.Words.{item_lt, items_apart, sides, seg_here, seg_else, seg_at, only_one, place_lt}
 use Rattle.register_rule.proofs.Moments.{comparable}
 use Rattle.register_rule.proofs.Growth.{Grows}
 use Rattle.register_rule.proofs.Finds.{Finds}
 use Rattle.register_rule.proofs.Looks.{scan_grows, scan_after, records_stay, own_stays}
-use Rattle.register_rule.proofs.Pairs.{compares, allows_both}
+use Rattle.register_rule.proofs.Pairs.{fewer, compares, allows_both}
 
 pub at_below : {A : Type 0} (l : List A) (q : ℕ) (x : A) → get_elem? l q ≡ some x → q < length l
 at_below [] q x e = absurd (some-ne-none x (sym e))
@@ -167,7 +167,7 @@ module _ (n w b : ℕ) (adds : List Op → ℕ → ℕ) (accepts : (ℕ → ℕ)
 
     pub fill_allows : me.0.members ≡ m ∷ [] → m.who ≡ Worker i → k < b → w ≤ b → (k < w → x ≤ 281474976710655) → at ≡ i * span b + item_of b (suc (length m.work.made)) k
         → Allows (Keeps n w b adds accepts) slots id me at (λ _. x) (λ _ me'. (me'.0 ≡ group (led (filled k x) me.0.members)) × (me'.1 ≡ me.1))
-    fill_allows one who inside room low place = allows_both Ruled (AreComparable n b) (compares n w b adds accepts) slots id me at (λ _. x) (λ _ me'. (me'.0 ≡ group (led (filled k x) me.0.members)) × (me'.1 ≡ me.1)) (fills one who inside room low place)
+    fill_allows one who inside room low place = allows_both Ruled (AllCompare n b) (compares n w b adds accepts) slots id me at (λ _. x) (λ _ me'. (me'.0 ≡ group (led (filled k x) me.0.members)) × (me'.1 ≡ me.1)) (fills one who inside room low place)
 
   -- what the rule says of the members of one seat
   module _ (made : ℕ → List Made) (owner : Who → ℕ) (history words : List ℕ) (id : ℕ) where
@@ -198,9 +198,6 @@ module _ (n w b : ℕ) (adds : List Op → ℕ → ℕ) (accepts : (ℕ → ℕ)
       own = λ p i m e who. let was = as_worker made owner history words id i m who (each p m e) in (was.work.inside, was.work.all, was.own);
       scans = λ p m e. (each p m e).scan;
     }
-
-    answers_compare : (ms : List Member) → ((p : ℕ) (m : Member) → get_elem? ms p ≡ some m → IsMember n w b adds made owner history words id m) → AnswersCompare ms
-    answers_compare ms each p q i k m o a c em eo ea ec = comparable n history a.vector c.vector ((each p m em).scan.recorded i a ea).0.moment ((each q o eo).scan.recorded k c ec).0.moment
 
     -- a load of a scan leaves what the member is
     role_after : (m : Member) (who : Who) (what : Load) (x : ℕ) → IsScan n w adds made history m.scan → IsScan n w adds made history (after n w what x m.scan) → IsRole n w b adds made words m who → IsRole n w b adds made words (scanned (after n w what x) m) who
@@ -275,12 +272,12 @@ module _ (n w b : ℕ) (adds : List Op → ℕ → ℕ) (accepts : (ℕ → ℕ)
 
     pub load_allows : me.0.members ≡ m ∷ ms → IsLoad n b what → at ≡ place_of b what
         → Allows (Keeps n w b adds accepts) slots id me at (λ z. z) (λ found me'. (me'.0 ≡ group (led (scanned (after n w what found)) me.0.members)) × (me'.1 ≡ me.1) × IsTold w what me.0.members found × AreRuled n w adds accepts me'.0.members)
-    load_allows one inside place = allows_both Ruled (AreComparable n b) (compares n w b adds accepts) slots id me at (λ z. z) Loaded (loads one inside place)
+    load_allows one inside place = allows_both Ruled (AllCompare n b) (compares n w b adds accepts) slots id me at (λ z. z) Loaded (loads one inside place)
 
   -- **A load of a number** that changes no view
   module _ (slots id : ℕ) (me : Mine) (i at : ℕ) where
     abbrev Tells : ℕ → Mine → Type 0
-    Tells found me' = (me'.0 ≡ me.0) × (me'.1 ≡ me.1) × IsNumber i me.0.members found × AreRuled n w adds accepts me.0.members × AnswersCompare me.0.members
+    Tells found me' = (me'.0 ≡ me.0) × (me'.1 ≡ me.1) × IsNumber i me.0.members found × AreRuled n w adds accepts me.0.members × CompareAt n i me.0.members found
 
     tells : i < n → at ≡ i * span b + 0 → Allows Ruled slots id me at (λ z. z) Tells
     tells inside place s r deep seat fits =
@@ -294,10 +291,10 @@ module _ (n w b : ℕ) (adds : List Op → ℕ → ℕ) (accepts : (ℕ → ℕ)
             refl,
             number_told r.made r.owner r.history s.words id i _ me.0.members (found_number s r i at inside place) each,
             ruled r.made r.owner r.history s.words id me.0.members r.counted r.legal each,
-            answers_compare r.made r.owner r.history s.words id me.0.members each,
+            (λ j. seg b s.words j 0, sym (seg_at b s.words i 0 at place), fewer n (λ j. seg b s.words j 0) (Sits s) (λ m. (p : ℕ) × (get_elem? me.0.members p ≡ some m)) (λ m t. (id, t.0, me.0, seat, t.1)) (compares n w b adds accepts s r)),
           ),
         )
 
     pub tell_allows : i < n → at ≡ i * span b + 0
-        → Allows (Keeps n w b adds accepts) slots id me at (λ z. z) (λ found me'. (me'.0 ≡ me.0) × (me'.1 ≡ me.1) × IsNumber i me.0.members found × AreRuled n w adds accepts me.0.members × AnswersCompare me.0.members)
-    tell_allows inside place = allows_both Ruled (AreComparable n b) (compares n w b adds accepts) slots id me at (λ z. z) Tells (tells inside place)
+        → Allows (Keeps n w b adds accepts) slots id me at (λ z. z) (λ found me'. (me'.0 ≡ me.0) × (me'.1 ≡ me.1) × IsNumber i me.0.members found × AreRuled n w adds accepts me.0.members × CompareAt n i me.0.members found)
+    tell_allows inside place = allows_both Ruled (AllCompare n b) (compares n w b adds accepts) slots id me at (λ z. z) Tells (tells inside place)

@@ -6,36 +6,48 @@ use Rattle.register_rule.specs.declared.view.Look.{Look}
 use Rattle.register_rule.specs.declared.view.Answer.{Answer}
 use Rattle.register_rule.specs.declared.view.Member.{Member}
 use Rattle.register_rule.specs.declared.view.View.{View}
+use Rattle.register_rule.specs.Words.{seg}
 use Rattle.register_rule.specs.History.{IsMoment}
 use Rattle.register_rule.specs.Scans.{number_of, Doomed, IsScan}
 use Rattle.register_rule.specs.Rule.{Rule}
-use Rattle.register_rule.specs.Told.{Sits, Records, Tries, IsDoomed, AreComparable}
+use Rattle.register_rule.specs.Told.{Records, Tries, IsDoomed, AreComparable, Sits, AllCompare}
 use Rattle.register_rule.proofs.Moments.{comparable}
 
 module _ (n w b : ℕ) (adds : List Op → ℕ → ℕ) (accepts : (ℕ → ℕ) → List Op → Type 0) (s : State (Unit {0}) View) (r : Rule n w b adds accepts s) where
-  scan_of : (m : Member) → Sits n b s m → IsScan n w adds r.made r.history m.scan
+  abbrev number : State (Unit {0}) View → ℕ → ℕ
+  number x i = seg b x.words i 0
+
+  scan_of : (m : Member) → Sits s m → IsScan n w adds r.made r.history m.scan
   scan_of m t = (r.each t.0 t.2 t.3 t.1 m t.4).scan
 
   -- a number that has moved is not the word of the board
-  is_doomed : (m : Member) → Sits n b s m → Doomed n w adds r.made m.scan.now.looks → IsDoomed n b s m.scan.now.looks
+  is_doomed : (m : Member) → Sits s m → Doomed n w adds r.made m.scan.now.looks → IsDoomed n (number s) (Sits s) m.scan.now.looks
   is_doomed m t d = (d.0, d.1, d.2, d.3.0, λ e. let x = r.number d.1.place ((scan_of m t).looks d.0 d.1 d.2).0.inside in let h = d.3.1 in omega arith)
 
-  moment_of : (a : Answer) → Records n b s a → IsMoment n r.history a.vector
+  moment_of : (a : Answer) → Records n (number s) (Sits s) a → IsMoment n r.history a.vector
   moment_of a x = ((scan_of x.0 x.1).recorded x.2.0 a x.2.1).0.moment
 
   -- a try with all places opened
-  of_try : (looks : List Look) → Tries n b s looks → IsDoomed n b s looks ⊎ IsMoment n r.history (map number_of looks)
-  of_try looks x = subst (λ (z : List Look). IsDoomed n b s z ⊎ IsMoment n r.history (map number_of z)) x.2
+  of_try : (looks : List Look) → Tries n (number s) (Sits s) looks → IsDoomed n (number s) (Sits s) looks ⊎ IsMoment n r.history (map number_of looks)
+  of_try looks x = subst (λ (z : List Look). IsDoomed n (number s) (Sits s) z ⊎ IsMoment n r.history (map number_of z)) x.2
       (⊎_elim (λ (d : Doomed n w adds r.made x.0.scan.now.looks). inl (is_doomed x.0 x.1 d)) (λ (p : IsMoment n r.history (map number_of x.0.scan.now.looks)). inr p)
       ((scan_of x.0 x.1).whole (ap (λ (z : List Look). length z) x.2 ∙ x.3)))
 
   -- the numbers of two moments of one history are comparable
-  pub compares : AreComparable n b s
+  pub compares : AllCompare n b s
   compares = record {
     recorded = λ a c x y. comparable n r.history a.vector c.vector (moment_of a x) (moment_of c y);
     tries = λ looks others x y. ⊎_elim (λ d. inl (inl d)) (λ p. ⊎_elim (λ d. inl (inr d)) (λ p'. inr (comparable n r.history _ _ p p')) (of_try others y)) (of_try looks x);
     between = λ looks a x y. ⊎_elim (λ d. inl d) (λ p. inr (comparable n r.history _ _ p (moment_of a y))) (of_try looks x);
   }
+
+-- fewer members compare too
+pub fewer : (n : ℕ) (number : ℕ → ℕ) (Is Is' : Member → Type 0) → ((m : Member) → Is' m → Is m) → AreComparable n number Is → AreComparable n number Is'
+fewer n number Is Is' all ok = record {
+  recorded = λ a c x y. ok.recorded a c (x.0, all x.0 x.1, x.2) (y.0, all y.0 y.1, y.2);
+  tries = λ looks others x y. ok.tries looks others (x.0, all x.0 x.1, x.2, x.3) (y.0, all y.0 y.1, y.2, y.3);
+  between = λ looks a x y. ok.between looks a (x.0, all x.0 x.1, x.2, x.3) (y.0, all y.0 y.1, y.2);
+}
 
 -- a rule may say beside A what follows from A
 module _ {S V : Type 0} (A B : State S V → Type 0) (follows : (s : State S V) → A s → B s) where

@@ -23,7 +23,7 @@ use Rattle.register_rule.specs.Shown.{Shows}
 use Rattle.register_rule.specs.Scans.{IsVersion}
 use Rattle.register_rule.specs.Rule.{IsWorker, IsRole, IsMember, Rule}
 use Rattle.register_rule.specs.Members.{group, led, last_entry, made_of, published}
-use Rattle.register_rule.specs.Told.{AreComparable, HoldsNext, Keeps}
+use Rattle.register_rule.specs.Told.{AllCompare, HoldsNext, Keeps}
 use Rattle.register_rule.proofs.Words.{item_lt, seg_here, seg_else, place_lt, put, put_here, put_else}
 use Rattle.register_rule.proofs.Moments.{count_append}
 use Rattle.register_rule.proofs.Growth.{Grows}
@@ -186,5 +186,5 @@ module _ (n w b : ℕ) (adds : List Op → ℕ → ℕ) (accepts : (ℕ → ℕ)
 
   pub publish_allows : me.0.members ≡ m ∷ [] → m.who ≡ Worker i → at ≡ i * span b + 0 → x ≡ suc (length m.work.made) → w ≤ b → HoldsNext n w b adds ops lends m → accepts (total adds m.work.made) ops
       → Allows (Keeps n w b adds accepts) slots id me at (λ _. x) (λ _ me'. (me'.0 ≡ group (led (published w i ops lends) me.0.members)) × (me'.1 ≡ me.1))
-  publish_allows one who place next room holds fine = allows_both Ruled (AreComparable n b) (compares n w b adds accepts) slots id me at (λ _. x)
+  publish_allows one who place next room holds fine = allows_both Ruled (AllCompare n b) (compares n w b adds accepts) slots id me at (λ _. x)
       (λ _ me'. (me'.0 ≡ group (led (published w i ops lends) me.0.members)) × (me'.1 ≡ me.1)) (publishes one who place next room holds fine)

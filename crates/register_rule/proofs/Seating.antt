@@ -16,7 +16,7 @@ use Rattle.register_rule.specs.Scans.{AtMost}
 use Rattle.register_rule.specs.Steps.{upper}
 use Rattle.register_rule.specs.Rule.{IsRole, IsMember, Rule}
 use Rattle.register_rule.specs.Members.{group, same_who, picked, without, raised_by, reach, greatest, raised, met}
-use Rattle.register_rule.specs.Told.{Keeps, AreComparable}
+use Rattle.register_rule.specs.Told.{Keeps, AllCompare}
 use Rattle.register_rule.proofs.Words.{place_lt, from_map}
 use Rattle.register_rule.proofs.Upper.{length_upper, upper_from}
 use Rattle.register_rule.proofs.Pairs.{compares, splits_both, joins_both}
@@ -168,7 +168,7 @@ module _ (n w b : ℕ) (adds : List Op → ℕ → ℕ) (accepts : (ℕ → ℕ)
       }
 
   pub part_splits : (id : ℕ) (v : View) (who : Who) → (m : Member) × (picked who v.members ≡ m ∷ []) → Splits (Keeps n w b adds accepts) id v (group (without who v.members)) (group (picked who v.members))
-  part_splits id v who there = splits_both (Rule n w b adds accepts) (AreComparable n b) (compares n w b adds accepts) id v _ _ (parts id v who there)
+  part_splits id v who there = splits_both (Rule n w b adds accepts) (AllCompare n b) (compares n w b adds accepts) id v _ _ (parts id v who there)
 
   -- the seat that takes in the other one owns all members of both
   meets : (id : ℕ) (v : View) (other : ℕ) (u : View) → Joins (Rule n w b adds accepts) id v other u (group (met (v.members ++ u.members))) (group [])
@@ -213,4 +213,4 @@ module _ (n w b : ℕ) (adds : List Op → ℕ → ℕ) (accepts : (ℕ → ℕ)
       }
 
   pub meet_joins : (id : ℕ) (v : View) (other : ℕ) (u : View) → Joins (Keeps n w b adds accepts) id v other u (group (met (v.members ++ u.members))) (group [])
-  meet_joins id v other u = joins_both (Rule n w b adds accepts) (AreComparable n b) (compares n w b adds accepts) id v other u _ _ (meets id v other u)
+  meet_joins id v other u = joins_both (Rule n w b adds accepts) (AllCompare n b) (compares n w b adds accepts) id v other u _ _ (meets id v other u)

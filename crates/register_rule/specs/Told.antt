@@ -65,23 +65,19 @@ pub record AreRuled (n w : ℕ) (adds : List Op → ℕ → ℕ) (accepts : (ℕ
   pub own : (p i : ℕ) (m : Member) → get_elem? ms p ≡ some m → m.who ≡ Worker i → (i < n) × (m.work.made ≡ made i) × (get_elem? m.scan.seen i ≡ some (length (made i)))
   pub scans : (p : ℕ) (m : Member) → get_elem? ms p ≡ some m → IsScan n w adds made history m.scan
 
--- the members of all seats, in pairs
-module _ (n b : ℕ) (s : State (Unit {0}) View) where
-  -- m is a member of some seat's view
-  abbrev pub Sits : Member → Type 0
-  Sits m = (j : ℕ) × (p : ℕ) × (v : View) × (get_elem? s.views j ≡ some v) × (get_elem? v.members p ≡ some m)
-
-  -- a is an answer that a member recorded
+-- some members, in pairs: n workers, of whom i has the number `number i`
+module _ (n : ℕ) (number : ℕ → ℕ) (Is : Member → Type 0) where
+  -- a is an answer that one of them recorded
   abbrev pub Records : Answer → Type 0
-  Records a = (m : Member) × Sits m × ((q : ℕ) × (get_elem? m.scan.recorded q ≡ some a))
+  Records a = (m : Member) × Is m × ((q : ℕ) × (get_elem? m.scan.recorded q ≡ some a))
 
-  -- these are the places of a member's try, and all are opened
+  -- these are the places of a try of one of them, and all are opened
   abbrev pub Tries : List Look → Type 0
-  Tries looks = (m : Member) × Sits m × (m.scan.now.looks ≡ looks) × (length looks ≡ n)
+  Tries looks = (m : Member) × Is m × (m.scan.now.looks ≡ looks) × (length looks ≡ n)
 
   -- at a place that is not confirmed the number is no longer the one opened
   abbrev pub IsDoomed : List Look → Type 0
-  IsDoomed looks = (q : ℕ) × (l : Look) × (get_elem? looks q ≡ some l) × (l.sure ≡ false) × (seg b s.words l.place 0 ≢ l.number)
+  IsDoomed looks = (q : ℕ) × (l : Look) × (get_elem? looks q ≡ some l) × (l.sure ≡ false) × (number l.place ≢ l.number)
 
   -- any two recorded vectors are comparable; of two tries one is doomed or their vectors are comparable; and a try is
   -- doomed or its vector is comparable with each recorded one
@@ -90,15 +86,22 @@ module _ (n b : ℕ) (s : State (Unit {0}) View) where
     pub tries : (looks others : List Look) → Tries looks → Tries others → (IsDoomed looks ⊎ IsDoomed others) ⊎ Comparable (map number_of looks) (map number_of others)
     pub between : (looks : List Look) (a : Answer) → Tries looks → Records a → IsDoomed looks ⊎ Comparable (map number_of looks) a.vector
 
+-- m is a member of some seat's view
+abbrev pub Sits : State (Unit {0}) View → Member → Type 0
+Sits s m = (j : ℕ) × (p : ℕ) × (v : View) × (get_elem? s.views j ≡ some v) × (get_elem? v.members p ≡ some m)
+
+-- the members of all seats compare, by the numbers that stand on the board
+abbrev pub AllCompare : (n b : ℕ) → State (Unit {0}) View → Type 0
+AllCompare n b s = AreComparable n (λ i. seg b s.words i 0) (Sits s)
+
+-- these members compare, by the numbers of one moment, at which x is that of the segment i
+abbrev pub CompareAt : (n i : ℕ) → List Member → (x : ℕ) → Type 0
+CompareAt n i ms x = (number : ℕ → ℕ) × (number i ≡ x) × AreComparable n number (λ m. (p : ℕ) × (get_elem? ms p ≡ some m))
+
 -- the hidden buffer of b words holds the version that this publish makes
 abbrev pub HoldsNext : (n w b : ℕ) → (List Op → ℕ → ℕ) → List Op → (lends : Bool) → Member → Type 0
 HoldsNext n w b adds ops lends m = (k : ℕ) → k < b → Shows n w adds (m.work.made ++ made_of ops lends m ∷ []) k (slice_index m.work.hidden k)
 
--- the answers of these members are comparable, each with each
-abbrev pub AnswersCompare : List Member → Type 0
-AnswersCompare ms = (p q i k : ℕ) (m o : Member) (a c : Answer) → get_elem? ms p ≡ some m → get_elem? ms q ≡ some o
-    → get_elem? m.scan.recorded i ≡ some a → get_elem? o.scan.recorded k ≡ some c → Comparable a.vector c.vector
-
 -- the rule, and what it says of members in pairs
 abbrev pub Keeps : (n w b : ℕ) → (List Op → ℕ → ℕ) → ((ℕ → ℕ) → List Op → Type 0) → State (Unit {0}) View → Type 0
-Keeps n w b adds accepts s = Rule n w b adds accepts s × AreComparable n b s
+Keeps n w b adds accepts s = Rule n w b adds accepts s × AllCompare n b s
