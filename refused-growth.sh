@@ -1,8 +1,8 @@
 #!/bin/sh
 # Runs the example script with the Nth allocation refused, for each N, and compares what is printed and the status.
 # The program makes 12 allocations: 4 for its arguments, 2 before the first line, and 1, 1 and 4 at the lines 1, 3 and 6.
-# Then runs the tests of expo_text with each test's Nth allocation refused: a test may then end for want of memory, but none
-# may see another answer in its place.
+# Then runs the tests of expo_text and register_rule with each test's Nth allocation refused: a test may then end for want
+# of memory, but none may see another answer in its place. A board of 2 workers and 2 readers makes 5 allocations.
 set -eu
 cd "$(dirname "$0")/crates/metrics_run"
 logs=$(mktemp -d)
@@ -31,13 +31,19 @@ for n in $(seq 1 13); do
 done
 echo "each of 12 allocations refused in turn: as expected"
 
-cd ../expo_text
-seq 1 12 | xargs -P "$(nproc)" -I{} sh -c 'rt try --test --fail-alloc {} >"$0/text{}" 2>&1 || true' "$logs"
-for n in $(seq 1 12); do
-    if ! grep -q '^test result:' "$logs/text$n" || grep -q 'assertion failed' "$logs/text$n"; then
-        echo "allocation $n of a test refused: another answer came in place of want of memory"
-        cat "$logs/text$n"
-        exit 1
-    fi
-done
-echo "each of the first 12 allocations of every test of expo_text refused in turn: no other answer came in its place"
+# The tests of the crate $1 with each test's Nth allocation refused, for each N up to $2.
+refuse_in_tests() {
+    cd "../$1"
+    seq 1 "$2" | xargs -P "$(nproc)" -I{} sh -c 'rt try --test --fail-alloc {} >"$0/$1{}" 2>&1 || true' "$logs" "$1"
+    for n in $(seq 1 "$2"); do
+        if ! grep -q '^test result:' "$logs/$1$n" || grep -q 'assertion failed' "$logs/$1$n"; then
+            echo "allocation $n of a test refused: another answer came in place of want of memory"
+            cat "$logs/$1$n"
+            exit 1
+        fi
+    done
+    echo "each of the first $2 allocations of every test of $1 refused in turn: no other answer came in its place"
+}
+
+refuse_in_tests expo_text 12
+refuse_in_tests register_rule 5

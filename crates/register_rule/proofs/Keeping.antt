@@ -24,7 +24,7 @@ use Rattle.register_rule.specs.Scans.{IsScan}
 use Rattle.register_rule.specs.Rule.{IsWorker, IsRole, IsMember, Rule}
 use Rattle.register_rule.specs.Steps.{after}
 use Rattle.register_rule.specs.Members.{group, led, scanned, filled}
-use Rattle.register_rule.specs.Told.{IsNumber, IsLoad, place_of, IsTold, AreRuled, Sits, AllCompare, CompareAt, Keeps}
+use Rattle.register_rule.specs.Told.{IsNumber, IsLoad, place_of, IsTold, AreRuled, AreRuledAt, Sits, AllCompare, CompareAt, Keeps}
 use Rattle.register_rule.proofs.Words.{item_lt, items_apart, sides, seg_here, seg_else, seg_at, only_one, place_lt}
 use Rattle.register_rule.proofs.Moments.{comparable}
 use Rattle.register_rule.proofs.Growth.{Grows}
@@ -277,9 +277,10 @@ module _ (n w b : ℕ) (adds : List Op → ℕ → ℕ) (accepts : (ℕ → ℕ)
   -- **A load of a number** that changes no view
   module _ (slots id : ℕ) (me : Mine) (i at : ℕ) where
     abbrev Tells : ℕ → Mine → Type 0
-    Tells found me' = (me'.0 ≡ me.0) × (me'.1 ≡ me.1) × IsNumber i me.0.members found × AreRuled n w adds accepts me.0.members × CompareAt n i me.0.members found
+    Tells found me' = (me'.0 ≡ me.0) × (me'.1 ≡ me.1) × IsNumber i me.0.members found × AreRuledAt n w adds accepts i me.0.members found × CompareAt n i me.0.members found
 
     tells : i < n → at ≡ i * span b + 0 → Allows Ruled slots id me at (λ z. z) Tells
+    unfolding ruled
     tells inside place s r deep seat fits =
         let each = r.each id me.0 seat in (
           me.0,
@@ -290,11 +291,11 @@ module _ (n w b : ℕ) (adds : List Op → ℕ → ℕ) (accepts : (ℕ → ℕ)
             refl,
             refl,
             number_told r.made r.owner r.history s.words id i _ me.0.members (found_number s r i at inside place) each,
-            ruled r.made r.owner r.history s.words id me.0.members r.counted r.legal each,
+            (ruled r.made r.owner r.history s.words id me.0.members r.counted r.legal each, found_number s r i at inside place),
             (λ j. seg b s.words j 0, sym (seg_at b s.words i 0 at place), fewer n (λ j. seg b s.words j 0) (Sits s) (λ m. (p : ℕ) × (get_elem? me.0.members p ≡ some m)) (λ m t. (id, t.0, me.0, seat, t.1)) (compares n w b adds accepts s r)),
           ),
         )
 
     pub tell_allows : i < n → at ≡ i * span b + 0
-        → Allows (Keeps n w b adds accepts) slots id me at (λ z. z) (λ found me'. (me'.0 ≡ me.0) × (me'.1 ≡ me.1) × IsNumber i me.0.members found × AreRuled n w adds accepts me.0.members × CompareAt n i me.0.members found)
+        → Allows (Keeps n w b adds accepts) slots id me at (λ z. z) (λ found me'. (me'.0 ≡ me.0) × (me'.1 ≡ me.1) × IsNumber i me.0.members found × AreRuledAt n w adds accepts i me.0.members found × CompareAt n i me.0.members found)
     tell_allows inside place = allows_both Ruled (AllCompare n b) (compares n w b adds accepts) slots id me at (λ z. z) Tells (tells inside place)

@@ -65,6 +65,10 @@ pub record AreRuled (n w : ℕ) (adds : List Op → ℕ → ℕ) (accepts : (ℕ
   pub own : (p i : ℕ) (m : Member) → get_elem? ms p ≡ some m → m.who ≡ Worker i → (i < n) × (m.work.made ≡ made i) × (get_elem? m.scan.seen i ≡ some (length (made i)))
   pub scans : (p : ℕ) (m : Member) → get_elem? ms p ≡ some m → IsScan n w adds made history m.scan
 
+-- the same, where x is the number of the segment i
+abbrev pub AreRuledAt : (n w : ℕ) → (List Op → ℕ → ℕ) → ((ℕ → ℕ) → List Op → Type 0) → (i : ℕ) → List Member → (x : ℕ) → Type 0
+AreRuledAt n w adds accepts i ms x = (r : AreRuled n w adds accepts ms) × (x ≡ length (r.made i))
+
 -- some members, in pairs: n workers, of whom i has the number `number i`
 module _ (n : ℕ) (number : ℕ → ℕ) (Is : Member → Type 0) where
   -- a is an answer that one of them recorded

@@ -9,7 +9,7 @@ ghost use Rattle.register_rule.specs.Words.{item_of};
 ghost use Rattle.register_rule.specs.Sums.{total};
 ghost use Rattle.register_rule.specs.Steps.{after};
 ghost use Rattle.register_rule.specs.Members.{led, scanned, filled, published, picked, without, met};
-ghost use Rattle.register_rule.specs.Told.{IsLoad, place_of, IsTold, IsNumber, AreRuled, HoldsNext, CompareAt};
+ghost use Rattle.register_rule.specs.Told.{IsLoad, place_of, IsTold, IsNumber, AreRuled, AreRuledAt, HoldsNext, CompareAt};
 ghost use Rattle.register_rule.specs.Seats.{table_of, members_of, worker_of, board_id, Has, HasWorker};
 
 use crate::board::{Board, Key, Law};
@@ -138,7 +138,7 @@ impl<const N: usize, const C: usize, const H: usize, const G: usize> Board<N, C,
         ensures own { table_of bundle.new ≡ table_of bundle.old }
         ensures same { members_of bundle.new ≡ members_of bundle.old }
         ensures number { IsNumber place (members_of bundle.old) result }
-        ensures ruled { AreRuled N (width C H G) (sum_ops C H) (Accepts C H G) (members_of bundle.old) }
+        ensures ruled { AreRuledAt N (width C H G) (sum_ops C H) (Accepts C H G) place (members_of bundle.old) result }
         ensures comparable { CompareAt N place (members_of bundle.old) result }
     {
         let at = self.number_at(place);
