@@ -1,0 +1,4 @@
+pub mod Loops
+pub mod Sized
+pub mod Collects
+pub mod Told

@@ -1,0 +1,123 @@
+ghost use Rattle.std.specs.Prelude.{◌≡◌, length, MatchOption};
+ghost use Rattle.snapshot_core.specs.Told.{workers_of};
+
+use crate::{Next, ScanState};
+
+// Each tells a read that the scan wants, and no other.
+
+fn first(state: &mut ScanState, number: u64, whole: bool)
+    ensures { workers_of state.new ≡ workers_of state.old }
+{
+    if let Next::First(_) = state.next() {
+        state.first(number, whole);
+    }
+}
+
+fn second(state: &mut ScanState, number: u64)
+    ensures { workers_of state.new ≡ workers_of state.old }
+{
+    if let Next::Second(_) = state.next() {
+        state.second(number);
+    }
+}
+
+fn asked(state: &mut ScanState, vector: Option<&[u64]>)
+    requires { MatchOption vector (Unit {0}) (λ v. length v.now ≡ workers_of state.old) }
+    ensures { workers_of state.new ≡ workers_of state.old }
+{
+    if let Next::Ask(_) = state.next() {
+        state.asked(vector);
+    }
+}
+
+// One worker, who publishes twice in each of two tries.
+fn one_worker() -> ScanState
+    ensures { workers_of result ≡ 1 }
+{
+    let mut state = ScanState::new(1);
+    first(&mut state, 1, true);
+    second(&mut state, 2);
+    first(&mut state, 3, true);
+    second(&mut state, 4);
+    state
+}
+
+#[test]
+fn an_asked_worker_lends(rt: HostRuntime) {
+    let mut state = one_worker();
+    assert_eq!(rt; state.next(), Next::Ask(0));
+    asked(&mut state, Some(&[1]));
+    assert_eq!(rt; state.next(), Next::Lent(0));
+}
+
+#[test]
+fn a_vector_below_the_floor_is_not_lent(rt: HostRuntime) {
+    let mut state = one_worker();
+    asked(&mut state, Some(&[0]));
+    assert_eq!(rt; state.next(), Next::First(0));
+}
+
+#[test]
+fn a_scan_gives_up(rt: HostRuntime) {
+    let mut state = one_worker();
+    asked(&mut state, None);
+    assert_eq!(rt; state.next(), Next::First(0));
+    first(&mut state, 5, true);
+    second(&mut state, 6);
+    asked(&mut state, None);
+    assert_eq!(rt;
+        state.next(),
+        Next::GaveUp {
+            worker: 0,
+            first: 5,
+            last: 6
+        }
+    );
+}
+
+#[test]
+fn a_clean_try_ends_directly(rt: HostRuntime) {
+    let mut state = ScanState::new(2);
+    first(&mut state, 3, true);
+    first(&mut state, 4, true);
+    second(&mut state, 3);
+    second(&mut state, 4);
+    assert_eq!(rt; state.next(), Next::Direct);
+}
+
+#[test]
+fn a_torn_read_fails_its_try(rt: HostRuntime) {
+    let mut state = ScanState::new(2);
+    first(&mut state, 3, false);
+    first(&mut state, 4, true);
+    second(&mut state, 3);
+    second(&mut state, 4);
+    assert_eq!(rt; state.next(), Next::First(0));
+}
+
+#[test]
+fn a_scan_of_the_most_workers(rt: HostRuntime) {
+    assert_eq!(rt; ScanState::new(32).next(), Next::First(0));
+}
+
+#[test]
+fn workers_are_asked_in_rising_order(rt: HostRuntime) {
+    let mut state = ScanState::new(3);
+    for _ in 0..3 {
+        first(&mut state, 0, true);
+    }
+    second(&mut state, 1);
+    second(&mut state, 0);
+    second(&mut state, 1);
+    first(&mut state, 3, true);
+    first(&mut state, 0, true);
+    first(&mut state, 3, true);
+    second(&mut state, 3);
+    second(&mut state, 0);
+    second(&mut state, 4);
+    assert_eq!(rt; state.next(), Next::Ask(0));
+    asked(&mut state, None);
+    assert_eq!(rt; state.next(), Next::Ask(2));
+    asked(&mut state, None);
+    assert_eq!(rt; state.next(), Next::First(0));
+}
