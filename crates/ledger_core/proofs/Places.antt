@@ -165,3 +165,11 @@ shape_zeros c h g = record {
   gauge_words = All-replicate (HasLength 2) g (replicate 2 0) refl;
   bounded = λ k. rw (zeros c h g) (below-zeros (width c h g) k);
 }
+
+-- how many words a row has
+pub row-length : (c h g : ℕ) (counters : List ℕ) (hists gauges : List (List ℕ)) → HasShape c h g counters hists gauges
+    → c + 27 * h + 2 * g ≡ length (counters ++ concat hists ++ concat gauges)
+row-length c h g counters hists gauges s =
+    let a = s.all_counters in let b = s.all_hists in let d = s.all_gauges in
+    let x = length-concat 27 hists s.hist_words in let y = length-concat 2 gauges s.gauge_words in
+    simp length-append (omega (arith, a, b, d, x, y))

@@ -66,6 +66,28 @@ impl<const C: usize, const H: usize, const G: usize> Row<C, H, G> {
         }
     }
 
+    /// How many words the row has.
+    #[inline]
+    pub fn len(&self) -> usize
+        ensures width { result ≡ width C H G }
+        ensures within { result ≡ length self.now }
+    {
+        // A look into the row tells the proof how many words it has.
+        let _ = &self.hists;
+        self.counters.len() + 27 * self.hists.len() + 2 * self.gauges.len()
+    }
+
+    /// A row of the same words.
+    pub fn copy(&self) -> Row<C, H, G>
+        ensures { result ≡ self.now }
+    {
+        Row {
+            counters: self.counters,
+            hists: self.hists,
+            gauges: self.gauges,
+        }
+    }
+
     /// Adds the whole list, or nothing.
     ///
     /// Operations are tried in order, and the first that fails is named by its place `at` in the list:

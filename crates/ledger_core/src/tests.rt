@@ -267,3 +267,13 @@ fn words_stand_in_their_order(rt: HostRuntime) {
     assert_eq!(rt; (row.word_at(27), row.word_at(28)), (7, 1));
     assert_eq!(rt; (row.word_at(29), row.word_at(30)), (2, 9));
 }
+
+#[test]
+fn a_copy_is_equal_and_apart(rt: HostRuntime) {
+    let mut row = Row::<2, 1, 1>::new();
+    assert_eq!(rt; row.try_apply(&[Op::Inc { counter: 0, by: 5 }]), Ok(()));
+    let copy = row.copy();
+    assert_eq!(rt; row.try_apply(&[Op::Inc { counter: 0, by: 1 }]), Ok(()));
+    assert_eq!(rt; (copy.counter(0), row.counter(0)), (5, 6));
+    assert_eq!(rt; (copy.len(), Row::<0, 0, 0>::new().len()), (31, 0));
+}

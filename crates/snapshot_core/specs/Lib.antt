@@ -3,3 +3,8 @@ pub mod Next
 pub mod Told
 pub mod Sized
 pub mod Scan
+pub mod History
+pub mod Turns
+pub mod Faithful
+pub mod Runs
+pub mod Machine

@@ -80,8 +80,7 @@ impl Scan {
 
     /// Takes what the asked worker lends.
     pub fn asked(&mut self, vector: Option<&[u64]>)
-        requires sized { IsSized self.old }
-        requires vector { MatchOption vector (Unit {0}) (λ v. length v.now ≡ self.old.n) }
+        requires { IsSized self.old }
         ensures { self.new ≡ asked_by (option_map (λ v. v.now) vector.entry) self.old self.old.next }
     {
         if let Next::Ask(place) = self.next {
@@ -192,10 +191,12 @@ impl Scan {
     // Whether the vector is below the floor nowhere.
     #[tactic(auto, using(crate::proofs::Loops::above_next, crate::proofs::Loops::above_here))]
     fn is_lent_by(&self, vector: &[u64]) -> bool
-        requires sized { IsSized self.now }
-        requires vector { length vector.now ≡ self.now.n }
+        requires { IsSized self.now }
         ensures { result ≡ lends_to self.now vector.now }
     {
+        if vector.len() < self.n {
+            return false;
+        }
         for k in 0..self.n {
             if vector[k] < self.floor[k] {
                 return false;

@@ -9,7 +9,7 @@ use crate::scan::Scan;
 /// takes no memory.
 #[derive(Clone, Copy)]
 pub struct ScanState {
-    scan: Scan,
+    pub(crate) scan: Scan,
     ghost sized: { IsSized scan },
 }
 
