@@ -1,8 +1,9 @@
 #!/bin/sh
 # Runs the example script with the Nth allocation refused, for each N, and compares what is printed and the status.
 # The program makes 12 allocations: 4 for its arguments, 2 before the first line, and 1, 1 and 4 at the lines 1, 3 and 6.
-# Then runs the tests of expo_text, register_rule and snapshot_core with each test's Nth allocation refused: a test may then end for want
-# of memory, but none may see another answer in its place. A board of 2 workers and 2 readers makes 5 allocations.
+# Then runs the tests of expo_text, register_rule and snapshot_core with each test's Nth allocation refused: a test may then
+# end for want of memory, but none may see another answer in its place. A board of 2 workers and 2 readers makes 5
+# allocations.
 set -eu
 cd "$(dirname "$0")/crates/metrics_run"
 logs=$(mktemp -d)
