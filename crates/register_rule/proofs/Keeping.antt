@@ -26,7 +26,6 @@ use Rattle.register_rule.specs.Steps.{after}
 use Rattle.register_rule.specs.Members.{group, led, scanned, filled}
 use Rattle.register_rule.specs.Told.{IsNumber, IsLoad, place_of, IsTold, AreRuled, AreRuledAt, Sits, AllCompare, CompareAt, Keeps}
 use Rattle.register_rule.proofs.Words.{item_lt, items_apart, sides, seg_here, seg_else, seg_at, only_one, place_lt}
-use Rattle.register_rule.proofs.Moments.{comparable}
 use Rattle.register_rule.proofs.Growth.{Grows}
 use Rattle.register_rule.proofs.Finds.{Finds}
 use Rattle.register_rule.proofs.Looks.{scan_grows, scan_after, records_stay, own_stays}

@@ -16,11 +16,22 @@ table_of s = s.seat.table_id
 abbrev pub members_of : Bundle → List Member
 members_of s = s.seat.me.0.members
 
+-- a seat of one member as a bundle, and that member
+abbrev pub work_bundle : WorkSeat → Bundle
+work_bundle s = s.bundle
+
 abbrev pub worker_of : WorkSeat → Member
-worker_of s = first_of (members_of s.bundle)
+worker_of s = first_of (members_of (work_bundle s))
+
+-- the worker whose seat it is
+abbrev pub index_of : WorkSeat → ℕ
+index_of s = s.worker
+
+abbrev pub read_bundle : ReadSeat → Bundle
+read_bundle s = s.bundle
 
 abbrev pub reader_of : ReadSeat → Member
-reader_of s = first_of (members_of s.bundle)
+reader_of s = first_of (members_of (read_bundle s))
 
 module _ {N C H G : ℕ} where
   abbrev pub board_id : Board N C H G → ℕ
@@ -32,7 +43,7 @@ module _ {N C H G : ℕ} where
 
   -- the seat is that of one of its workers
   abbrev pub HasWorker : Board N C H G → WorkSeat → Type 0
-  HasWorker b s = Has b s.bundle × (s.worker < N)
+  HasWorker b s = Has b (work_bundle s) × (index_of s < N)
 
   abbrev pub HasReader : Board N C H G → ReadSeat → Type 0
-  HasReader b s = Has b s.bundle
+  HasReader b s = Has b (read_bundle s)

@@ -43,7 +43,8 @@ impl Split<View> for Brand {
     ghost right = { λ v. v };
 }
 
-/// The words that all workers and readers share: `N` segments of rows of `C` counters, `H` histograms and `G` gauges.
+/// The words that all workers and readers share: `N` segments, 1 to 32, of rows of `C` counters, at most 256, `H`
+/// histograms, at most 32, and `G` gauges, at most 64. A row has `C + 27 * H + 2 * G` words of at most 2^48 - 1.
 #[derive(Drop)]
 pub struct Board<const N: usize, const C: usize, const H: usize, const G: usize> {
     pub(crate) table: Table<(), View, Key, Law<N, C, H, G>, Global>,
@@ -55,7 +56,10 @@ pub struct Board<const N: usize, const C: usize, const H: usize, const G: usize>
 /// A board, and a seat of its own for each worker and each reader, in their order.
 #[derive(Drop)]
 pub struct Parts<const N: usize, const C: usize, const H: usize, const G: usize> {
+    /// The words.
     pub board: Board<N, C, H, G>,
+    /// The seats of workers 0 to `N` - 1.
     pub work: Vec<WorkSeat>,
+    /// The seats of the readers, from 0.
     pub read: Vec<ReadSeat>,
 }

@@ -2,14 +2,15 @@
 ghost use Rattle.std.specs.Prelude.{◌≡◌, [], ◌∷◌, length};
 ghost use Rattle.register_rule.specs.declared.view.Who.TheVariants.{Worker, Reader};
 ghost use Rattle.register_rule.specs.Members.{first_of};
-ghost use Rattle.register_rule.specs.Seats.{table_of, members_of, worker_of, reader_of};
+ghost use Rattle.register_rule.specs.Seats.{members_of, work_bundle, worker_of, index_of, read_bundle, reader_of};
 
 use crate::seats::{Bundle, ReadSeat, WorkSeat};
 
 impl WorkSeat {
     /// The worker whose seat it is.
     pub fn worker(&self) -> usize
-        ensures { (worker_of self.now).who ≡ Worker result }
+        ensures who { (worker_of self.now).who ≡ Worker result }
+        ensures index { result ≡ index_of self.now }
     {
         self.worker
     }
@@ -23,7 +24,7 @@ impl WorkSeat {
 
     /// The seat as a bundle of this one worker.
     pub fn into_bundle(self) -> Bundle
-        ensures same { result ≡ self.bundle }
+        ensures same { result ≡ work_bundle self }
         ensures one { members_of result ≡ worker_of self ∷ [] }
     {
         let WorkSeat {
@@ -45,7 +46,7 @@ impl ReadSeat {
 
     /// The seat as a bundle of this one reader.
     pub fn into_bundle(self) -> Bundle
-        ensures same { result ≡ self.bundle }
+        ensures same { result ≡ read_bundle self }
         ensures one { members_of result ≡ reader_of self ∷ [] }
     {
         let ReadSeat { bundle, reader: _ } = self;
@@ -59,8 +60,8 @@ impl Bundle {
         requires one { members_of self ≡ first_of (members_of self) ∷ [] }
         requires is { (first_of (members_of self)).who ≡ Worker worker }
         requires counts { number ≡ length (first_of (members_of self)).work.made }
-        ensures same { result.bundle ≡ self }
-        ensures worker { result.worker ≡ worker }
+        ensures same { work_bundle result ≡ self }
+        ensures worker { index_of result ≡ worker }
     {
         WorkSeat {
             bundle: self,
@@ -73,7 +74,7 @@ impl Bundle {
     pub fn into_read(self, reader: usize) -> ReadSeat
         requires one { members_of self ≡ first_of (members_of self) ∷ [] }
         requires is { (first_of (members_of self)).who ≡ Reader reader }
-        ensures same { result.bundle ≡ self }
+        ensures same { read_bundle result ≡ self }
     {
         ReadSeat {
             bundle: self,

@@ -1,4 +1,14 @@
-//! The shared words of all workers and readers, and the rule that holds of them between any two atomic steps.
+//! The board: the 64-bit words that `N` workers and 1 to 4 readers share, and the rule that holds of them between any two
+//! atomic steps of any threads.
+//!
+//! [`Board::new`] gives a seat for each worker and reader. A thread makes its steps with its seat: [`Board::open`],
+//! [`Board::read_word`], [`Board::confirm`], [`Board::ask`] and [`Board::end_ask`] are the loads of a scan,
+//! [`Board::fill_word`] and [`Board::publish`] the stores of a worker, [`Board::join`] and [`Board::part`] put the members of
+//! seats together and apart, and [`Board::tell`] is a load that only tells. No step is handed memory. What a seat knows is
+//! a [`View`], which contracts see and no program makes.
+//!
+//! The algorithm is the unbounded single-writer snapshot of Afek, Attiya, Dolev, Gafni, Merritt and Shavit, "Atomic
+//! Snapshots of Shared Memory", J. ACM 40(4), 1993, section 3. Where each word stands is said in `segment_layout`.
 #![tactic(auto)]
 
 mod board;

@@ -112,12 +112,16 @@ pub struct Work {
 
 /// A worker or a reader. A reader's `work` is empty.
 pub struct Member {
+    /// Which worker or reader it is.
     pub who: Who,
+    /// What it has written.
     pub work: Work,
+    /// What it has loaded and learned.
     pub scan: Scan,
 }
 
 /// What a seat knows: its members, of which the first one makes its steps.
 pub struct View {
+    /// Each is in the view of one seat only.
     pub members: LinkedList<Member>,
 }

@@ -14,15 +14,18 @@ pub enum How {
     GaveUp,
 }
 
-/// How a scan ended. Those of updates are among them.
+/// A scan that is over. Those of updates are among them.
 #[derive(Drop)]
 pub struct Answer {
+    /// The worker, 0 to n - 1, or the reader, n to n + 3, that scanned.
     pub actor: usize,
     /// The event of its Begin.
     pub begin: usize,
     /// The event of its last read.
     pub end: usize,
+    /// How many tries it made, 1 to n + 2.
     pub tries: usize,
+    /// How it ended.
     pub how: How,
     /// The number of each worker; empty where the scan gave up.
     pub vector: Vec<u64>,
@@ -36,7 +39,9 @@ pub struct Answer {
 pub struct Publish {
     /// The event at which it stands.
     pub at: usize,
+    /// The worker, 0 to n - 1.
     pub worker: usize,
+    /// The operations that it added, in their order.
     pub ops: Vec<Op>,
 }
 
