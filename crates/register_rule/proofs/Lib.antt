@@ -13,3 +13,4 @@ pub mod Lending
 pub mod Meeting
 pub mod Seating
 pub mod Start
+pub mod Placed

@@ -33,7 +33,7 @@ pub record Scans (n : ℕ) (ps : List Published) (answers : List Answered) (read
   pub meets : (q : ℕ) (r : Read) → get_elem? told_reads q ≡ some r → Meets ps answers r
 
 -- reads of the same events, each of which meets its moment, are alike
-alike_all : (ps : List Published) (answers : List Answered) (xs ys : List Read) → map where_and_torn xs ≡ map where_and_torn ys → ((q : ℕ) (r : Read) → get_elem? xs q ≡ some r → Meets ps answers r) → ((q : ℕ) (r : Read) → get_elem? ys q ≡ some r → Meets ps answers r) → AllAlike xs ys
+pub alike_all : (ps : List Published) (answers : List Answered) (xs ys : List Read) → map where_and_torn xs ≡ map where_and_torn ys → ((q : ℕ) (r : Read) → get_elem? xs q ≡ some r → Meets ps answers r) → ((q : ℕ) (r : Read) → get_elem? ys q ≡ some r → Meets ps answers r) → AllAlike xs ys
 alike_all ps answers [] [] e mx my = tt
 alike_all ps answers [] (y ∷ ys) e mx my = absurd (cc)
 alike_all ps answers (x ∷ xs) [] e mx my = absurd (cc)
@@ -74,7 +74,7 @@ from_both [] ys q y e = inr (q, e)
 from_both (x ∷ xs) ys zero y e = inl (zero, e)
 from_both (x ∷ xs) ys (suc q) y e = ⊎_elim (λ t. inl (suc t.0, t.1)) (λ t. inr t) (from_both xs ys q y e)
 
-to_front : {A : Type 0} (xs ys : List A) (q : ℕ) (y : A) → get_elem? xs q ≡ some y → get_elem? (xs ++ ys) q ≡ some y
+pub to_front : {A : Type 0} (xs ys : List A) (q : ℕ) (y : A) → get_elem? xs q ≡ some y → get_elem? (xs ++ ys) q ≡ some y
 to_front [] ys q y e = absurd (some-ne-none y (sym e))
 to_front (x ∷ xs) ys zero y e = e
 to_front (x ∷ xs) ys (suc q) y e = to_front xs ys q y e

@@ -116,9 +116,9 @@ module _ (c h g n : ℕ) (es : List Event) where
     pub justified : (q : ℕ) (a : Answered) → get_elem? zs q ≡ some a → IsJustified n ps zs (reads_in es a) a.tries a.how a.view
     justified q a e = (whole.answer q a e (answer_within q a e)).justified
 
-    pub published : (q : ℕ) (p : Published) → get_elem? ps q ≡ some p → (r : ℕ) × (a : Answered) × (get_elem? zs r ≡ some a) × (a.actor ≡ p.worker)
-        × (p.ops ≡ ops_of (slice_get es a.begin)) × IsFirstStep es a.actor a.end p.at
-    published q p e = let ok = whole.published q p e (publish_within q p e) in (ok.place, ok.answer, ok.is_answer, ok.of_worker, ok.ops, ok.first)
+    pub published : (q : ℕ) (p : Published) → get_elem? ps q ≡ some p → (p.worker < n) × ((r : ℕ) × (a : Answered) × (get_elem? zs r ≡ some a) × (a.actor ≡ p.worker)
+        × (p.ops ≡ ops_of (slice_get es a.begin)) × IsFirstStep es a.actor a.end p.at)
+    published q p e = let ok = whole.published q p e (publish_within q p e) in (ok.inside, (ok.place, ok.answer, ok.is_answer, ok.of_worker, ok.ops, ok.first))
 
     pub publishes : (r e : ℕ) (a : Answered) → get_elem? zs r ≡ some a → a.actor < n → IsFirstStep es a.actor a.end e
         → (q : ℕ) × (p : Published) × (get_elem? ps q ≡ some p) × (p.worker ≡ a.actor) × (p.at ≡ e)

@@ -80,6 +80,7 @@ module _ (c h g n : ℕ) (es : List Event) (ps : List Published) (zs : List Answ
     pub answer : Answered
     pub is_answer : get_elem? zs place ≡ some answer
     pub of_worker : answer.actor ≡ p.worker
+    pub inside : p.worker < n
     pub ops : p.ops ≡ ops_of (slice_get es answer.begin)
     pub first : IsFirstStep es answer.actor answer.end p.at
     pub is_open : IsOpen n c h g es ps zs p.at p.worker answer.begin

@@ -77,7 +77,7 @@ module _ {A : Type 0} (at : A → ℕ) where
   pub one_at : (xs ls l : List A) (x : A) → ls ≡ (xs ++ x ∷ []) ++ l → get_elem? ls (length xs) ≡ some x
   one_at xs ls l x is = ap (λ (y : List A). get_elem? y (length xs)) (is ∙ append_assoc xs (x ∷ []) l) ∙ at_end xs l x
 
-  rising_tail : (x : A) (xs : List A) → Rising (x ∷ xs) → Rising xs
+  pub rising_tail : (x : A) (xs : List A) → Rising (x ∷ xs) → Rising xs
   rising_tail x xs rise q r y z ey ez lt = rise (suc q) (suc r) y z ey ez (omega arith)
 
 -- an entry at a that counts for worker i or not, where it is not at k for i
@@ -99,15 +99,15 @@ abbrev pub at_answer : Answered → ℕ
 at_answer a = a.end
 
 -- a sum over a worker's publishes before j
-abbrev weigh : (Published → ℕ) → List Published → (j i : ℕ) → ℕ
+abbrev pub weigh : (Published → ℕ) → List Published → (j i : ℕ) → ℕ
 weigh v [] j i = 0
 weigh v (p ∷ ps) j i = cond (ltb p.at j && eqb p.worker i) (v p) 0 + weigh v ps j i
 
-number_is : (ps : List Published) (j i : ℕ) → number_at ps j i ≡ weigh (λ p. 1) ps j i
+pub number_is : (ps : List Published) (j i : ℕ) → number_at ps j i ≡ weigh (λ p. 1) ps j i
 number_is [] j i = refl
 number_is (p ∷ ps) j i = ap (λ (y : ℕ). cond (ltb p.at j && eqb p.worker i) 1 0 + y) (number_is ps j i)
 
-row_is : (adds : List Op → ℕ → ℕ) (ps : List Published) (j i x : ℕ) → row_at adds ps j i x ≡ weigh (λ p. adds p.ops x) ps j i
+pub row_is : (adds : List Op → ℕ → ℕ) (ps : List Published) (j i x : ℕ) → row_at adds ps j i x ≡ weigh (λ p. adds p.ops x) ps j i
 row_is adds [] j i x = refl
 row_is adds (p ∷ ps) j i x = ap (λ (y : ℕ). cond (ltb p.at j && eqb p.worker i) (adds p.ops x) 0 + y) (row_is adds ps j i x)
 

@@ -24,4 +24,10 @@ pub mod Calm
 pub mod Rising
 pub mod Whole
 pub mod Progress
-pub mod Outcome
+pub mod ComesTo
+pub mod OneScan
+pub mod Agree
+pub mod OneTurn
+pub mod OneTrace
+pub mod Same
+pub mod Decided

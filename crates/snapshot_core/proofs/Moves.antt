@@ -141,6 +141,7 @@ module _ (c h g n : ℕ) (es : List Event) (ps : List Published) (zs : List Answ
         answer = ok.answer;
         is_answer = ok.is_answer;
         of_worker = ok.of_actor;
+        inside = ok.inside;
         ops = ops_are ∙ ap (λ (y : ℕ). ops_of (slice_get es y)) (sym ok.of_begin);
         first = record {
           after = ok.over;

@@ -42,7 +42,7 @@ module _ (n c h g : ℕ) (es : List Event) (ps : List Published) (zs : List Answ
   no_end e i p a ends = ⊎_elim (λ t. p t.0 t.1.0 t.1.1 t.1.2 t.1.4 t.1.3) (λ t. a t.0 t.1.0 t.1.1 t.1.2 t.1.4 t.1.3) ends
 
 -- An actor's own reads.
-own_snoc : (es : List Event) (i b m : ℕ) → own_reads es i b (suc m) ≡ own_reads es i b m ++ own i (b + m) (slice_get es (b + m))
+pub own_snoc : (es : List Event) (i b m : ℕ) → own_reads es i b (suc m) ≡ own_reads es i b m ++ own i (b + m) (slice_get es (b + m))
 own_snoc es i b zero = append-nil (own i b (slice_get es b)) ∙ (let e : b ≡ b + 0 = omega arith in ap (λ (z : ℕ). own i z (slice_get es z)) e)
 own_snoc es i b (suc m) = ap (λ (z : List (ℕ × Bool)). own i b (slice_get es b) ++ z) (own_snoc es i (suc b) m) ∙ sym (append_assoc (own i b (slice_get es b)) (own_reads es i (suc b) m) (own i (suc b + m) (slice_get es (suc b + m)))) ∙ (let e : suc b + m ≡ b + suc m = omega arith in ap (λ (z : ℕ). own_reads es i b (suc m) ++ own i z (slice_get es z)) e)
 

@@ -19,14 +19,14 @@ AllAlike [] [] = Unit {0}
 AllAlike (r ∷ rs) (q ∷ qs) = Alike r q × AllAlike rs qs
 AllAlike _ _ = ⊥
 
-head_same : {A : Type 0} (x y : A) (xs ys : List A) → x ∷ xs ≡ y ∷ ys → x ≡ y
+pub head_same : {A : Type 0} (x y : A) (xs ys : List A) → x ∷ xs ≡ y ∷ ys → x ≡ y
 head_same x y xs ys e = cc
 
-tail_same : {A : Type 0} (x y : A) (xs ys : List A) → x ∷ xs ≡ y ∷ ys → xs ≡ ys
+pub tail_same : {A : Type 0} (x y : A) (xs ys : List A) → x ∷ xs ≡ y ∷ ys → xs ≡ ys
 tail_same x y xs ys e = cc
 
 -- where the places of two fronts are the same, so are the fronts, and what follows is alike
-same_front : (xs xs' ys ys' : List Read) → map place_of xs ≡ map place_of xs' → AllAlike (xs ++ ys) (xs' ++ ys') → (xs ≡ xs') × AllAlike ys ys'
+pub same_front : (xs xs' ys ys' : List Read) → map place_of xs ≡ map place_of xs' → AllAlike (xs ++ ys) (xs' ++ ys') → (xs ≡ xs') × AllAlike ys ys'
 same_front [] [] ys ys' e a = (refl, a)
 same_front [] (q ∷ qs) ys ys' e a = absurd (cc)
 same_front (r ∷ rs) [] ys ys' e a = absurd (cc)
@@ -35,7 +35,7 @@ same_front (r ∷ rs) (q ∷ qs) ys ys' e a =
     let h = a.0.same (head_same r.place q.place (map place_of rs) (map place_of qs) e) in
     (λ k. h k ∷ t.0 k, t.1)
 
-alike_length : (xs ys : List Read) → AllAlike xs ys → length xs ≡ length ys
+pub alike_length : (xs ys : List Read) → AllAlike xs ys → length xs ≡ length ys
 alike_length [] [] a = refl
 alike_length [] (q ∷ qs) a = absurd a
 alike_length (r ∷ rs) [] a = absurd a
@@ -45,30 +45,30 @@ front_form : (t : Try) (xs : List Read) → t.first ++ t.second ++ t.asks ++ xs 
 front_form t xs = simp append_assoc
 
 -- both collects of two tries
-record SameTwo (n : ℕ) (t u : Try) (xs ys : List Read) : Type 0 where
+pub record SameTwo (n : ℕ) (t u : Try) (xs ys : List Read) : Type 0 where
   pub first : t.first ≡ u.first
   pub second : t.second ≡ u.second
   pub rest : AllAlike (t.asks ++ xs) (u.asks ++ ys)
 
-same_two : (n : ℕ) (t u : Try) (xs ys : List Read) → TwoCollects n t → TwoCollects n u → AllAlike (t.first ++ t.second ++ t.asks ++ xs) (u.first ++ u.second ++ u.asks ++ ys) → SameTwo n t u xs ys
+pub same_two : (n : ℕ) (t u : Try) (xs ys : List Read) → TwoCollects n t → TwoCollects n u → AllAlike (t.first ++ t.second ++ t.asks ++ xs) (u.first ++ u.second ++ u.asks ++ ys) → SameTwo n t u xs ys
 same_two n t u xs ys ct cu a =
     let f = same_front t.first u.first (t.second ++ (t.asks ++ xs)) (u.second ++ (u.asks ++ ys)) (ct.first ∙ sym cu.first)
     (subst (λ (z : List Read × List Read). AllAlike z.0 z.1) (λ k. (front_form t xs k, front_form u ys k)) a) in
     let s = same_front t.second u.second (t.asks ++ xs) (u.asks ++ ys) (ct.second ∙ sym cu.second) f.1 in
     record { first = f.0; second = s.0; rest = s.1 }
 
-clean_same : (t u : Try) → t.first ≡ u.first → t.second ≡ u.second → is_clean t ≡ is_clean u
+pub clean_same : (t u : Try) → t.first ≡ u.first → t.second ≡ u.second → is_clean t ≡ is_clean u
 clean_same t u f s = ap (λ (z : List Read × List Read). is_clean (record { first = z.0; second = z.1; asks = [] })) (λ k. (f k, s k))
 
 -- two tries that failed
-same_failed : (n : ℕ) (floor base : List ℕ) (t u : Try) (xs ys : List Read) → Failed n floor base t → Failed n floor base u → AllAlike (t.first ++ t.second ++ t.asks ++ xs) (u.first ++ u.second ++ u.asks ++ ys) → (t ≡ u) × AllAlike xs ys
+pub same_failed : (n : ℕ) (floor base : List ℕ) (t u : Try) (xs ys : List Read) → Failed n floor base t → Failed n floor base u → AllAlike (t.first ++ t.second ++ t.asks ++ xs) (u.first ++ u.second ++ u.asks ++ ys) → (t ≡ u) × AllAlike xs ys
 same_failed n floor base t u xs ys ft fu a =
     let two = same_two n t u xs ys ft.collects fu.collects a in
     let asks = same_front t.asks u.asks xs ys (ft.asked ∙ (ap (to_ask base) two.second ∙ sym fu.asked)) two.rest in
     (λ k. record { first = two.first k; second = two.second k; asks = asks.0 k }, asks.1)
 
 -- one that lends is among those asked
-lends_among : (floor : List ℕ) (before : List Read) (last : Read) → lends floor last ≡ true → none_lends floor (before ++ last ∷ []) ≡ false
+pub lends_among : (floor : List ℕ) (before : List Read) (last : Read) → lends floor last ≡ true → none_lends floor (before ++ last ∷ []) ≡ false
 lends_among floor [] last e = ap (λ (b : Bool). not b && true) e
 lends_among floor (r ∷ rs) last e = go (not (lends floor r)) (none_lends floor (rs ++ last ∷ [])) (lends_among floor rs last e)
   where
@@ -80,11 +80,11 @@ lends_among floor (r ∷ rs) last e = go (not (lends floor r)) (none_lends floor
 two_long : (n : ℕ) (t : Try) → TwoCollects n t → length t.first + length t.second ≡ 2 * n
 two_long n t c = let f : length t.first ≡ n = sym (length-map t.first place_of) ∙ (ap (λ (z : List ℕ). length z) c.first ∙ length_from 0 n) in let s : length t.second ≡ n = sym (length-map t.second place_of) ∙ (ap (λ (z : List ℕ). length z) c.second ∙ length_from 0 n) in omega (arith, f, s)
 
-false_true : (b : Bool) → b ≡ true → b ≡ false → ⊥
+pub false_true : (b : Bool) → b ≡ true → b ≡ false → ⊥
 false_true b e f = let g : true ≡ false = sym e ∙ f in cc
 
 -- the asks of a try that has asked all, and of one that ends with an ask that lends
-not_lent : (n : ℕ) (floor base : List ℕ) (t u : Try) (from : ℕ) (view : Option View) (xs : List Read) → Failed n floor base t → EndsLent n floor base from view u → AllAlike (t.first ++ t.second ++ t.asks ++ xs) (u.first ++ u.second ++ u.asks ++ []) → ⊥
+pub not_lent : (n : ℕ) (floor base : List ℕ) (t u : Try) (from : ℕ) (view : Option View) (xs : List Read) → Failed n floor base t → EndsLent n floor base from view u → AllAlike (t.first ++ t.second ++ t.asks ++ xs) (u.first ++ u.second ++ u.asks ++ []) → ⊥
 not_lent n floor base t u from view xs ft eu a =
     let two = same_two n t u xs [] ft.collects eu.collects a in
     let len = alike_length (t.asks ++ xs) (u.asks ++ []) two.rest in
@@ -110,7 +110,7 @@ module _ (n : ℕ) (floor base : List ℕ) where
   EndsSo before t (how.Lent from) view = EndsLent n floor base from view t
   EndsSo before t how.GaveUp view = Failed n floor base t × (before ≡ n + 1)
 
-  failed_ends : (t u : Try) (h : How) (view : Option View) (before : ℕ) (xs : List Read) → Failed n floor base t → EndsSo before u h view → AllAlike (t.first ++ t.second ++ t.asks ++ xs) (u.first ++ u.second ++ u.asks ++ []) → before ≡ n + 1
+  pub failed_ends : (t u : Try) (h : How) (view : Option View) (before : ℕ) (xs : List Read) → Failed n floor base t → EndsSo before u h view → AllAlike (t.first ++ t.second ++ t.asks ++ xs) (u.first ++ u.second ++ u.asks ++ []) → before ≡ n + 1
   failed_ends t u how.Direct view before xs ft eu a = let two = same_two n t u xs [] ft.collects eu.collects a in absurd (false_true (is_clean t) (clean_same t u two.first two.second ∙ eu.is_clean) ft.unclean)
   failed_ends t u (how.Lent from) view before xs ft eu a = absurd (not_lent n floor base t u from view xs ft eu a)
   failed_ends t u how.GaveUp view before xs ft eu a = eu.1
@@ -179,7 +179,7 @@ module _ (n : ℕ) (floor base : List ℕ) where
       false_true (none_lends floor t.asks) none (ap (none_lends floor) (same ∙ eu.asks) ∙ lends_among floor eu.before eu.last eu.lends)
   ask_ends t u p how.GaveUp view before at eu a = asks_fewer t u p [] at eu.0 a
 
-  collects_of : (before : ℕ) (u : Try) (h : How) (view : Option View) → EndsSo before u h view → TwoCollects n u
+  pub collects_of : (before : ℕ) (u : Try) (h : How) (view : Option View) → EndsSo before u h view → TwoCollects n u
   collects_of before u how.Direct view e = e.collects
   collects_of before u (how.Lent from) view e = e.collects
   collects_of before u how.GaveUp view e = e.0.collects
@@ -212,23 +212,23 @@ in_progress n before t Direct w f = absurd w
 in_progress n before t (Lent p) w f = absurd w
 in_progress n before t (GaveUp x y z) w f = absurd w
 
-ends_so : (n : ℕ) (before : List Try) (t : Try) (h : How) (view : Option View) → Ends n before t h view → EndsSo n (floor_of before t) (base_of before t) (length before) t h view
+pub ends_so : (n : ℕ) (before : List Try) (t : Try) (h : How) (view : Option View) → Ends n before t h view → EndsSo n (floor_of before t) (base_of before t) (length before) t h view
 ends_so n before t how.Direct None e = absurd e
 ends_so n before t how.Direct (Some v) e = e.0
 ends_so n before t (how.Lent from) view e = e
 ends_so n before t how.GaveUp view e = (e.0, e.1)
 
 -- both collects of the first try
-first_two : (n : ℕ) (before : List Try) (t : Try) → AllFailed n (floor_of before t) (base_of before t) before → TwoCollects n t → TwoCollects n (first_try before t)
+pub first_two : (n : ℕ) (before : List Try) (t : Try) → AllFailed n (floor_of before t) (base_of before t) before → TwoCollects n t → TwoCollects n (first_try before t)
 first_two n [] t f c = c
 first_two n (s ∷ ts) t f c = f.0.collects
 
 -- what follows the asks of the first try
-abbrev after_first : List Try → Try → List Read
+abbrev pub after_first : List Try → Try → List Read
 after_first [] t = []
 after_first (s ∷ ts) t = reads_of (ts ++ t ∷ [])
 
-first_form : (before : List Try) (t : Try) → reads_of (before ++ t ∷ []) ≡ (first_try before t).first ++ (first_try before t).second ++ (first_try before t).asks ++ after_first before t
+pub first_form : (before : List Try) (t : Try) → reads_of (before ++ t ∷ []) ≡ (first_try before t).first ++ (first_try before t).second ++ (first_try before t).asks ++ after_first before t
 first_form [] t = refl
 first_form (s ∷ ts) t = refl
 

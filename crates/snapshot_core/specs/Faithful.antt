@@ -79,10 +79,10 @@ pub record IsFaithful (n c h g : ℕ) (es : List Event) (ps : List Published) (a
   pub justified : (q : ℕ) (a : Answered) → get_elem? answers q ≡ some a → IsJustified n ps answers (reads_in es a) a.tries a.how a.view
   pub unanswered : (actor b m : ℕ) → IsTurn n c h g es ps answers actor b → ((q : ℕ) (a : Answered) → get_elem? answers q ≡ some a → a.actor ≡ actor → a.begin ≢ b)
       → b + m < length es → (tries : ℕ) (how : How) (view : Option View) → ¬ IsJustified n ps answers (own_reads es actor (suc b) m) tries how view
-  -- a publish has its Begin's operations and stands at the worker's first Step after its answer's end, and where there is
-  -- such a Step there is a publish at it
-  pub published : (q : ℕ) (p : Published) → get_elem? ps q ≡ some p → (r : ℕ) × (a : Answered) × (get_elem? answers r ≡ some a) × (a.actor ≡ p.worker)
-      × (p.ops ≡ ops_of (slice_get es a.begin)) × IsFirstStep es a.actor a.end p.at
+  -- a publish is of a worker, has its Begin's operations and stands at the worker's first Step after its answer's end, and
+  -- where there is such a Step there is a publish at it
+  pub published : (q : ℕ) (p : Published) → get_elem? ps q ≡ some p → (p.worker < n) × ((r : ℕ) × (a : Answered) × (get_elem? answers r ≡ some a) × (a.actor ≡ p.worker)
+      × (p.ops ≡ ops_of (slice_get es a.begin)) × IsFirstStep es a.actor a.end p.at)
   pub publishes : (r e : ℕ) (a : Answered) → get_elem? answers r ≡ some a → a.actor < n → IsFirstStep es a.actor a.end e
       → (q : ℕ) × (p : Published) × (get_elem? ps q ≡ some p) × (p.worker ≡ a.actor) × (p.at ≡ e)
   -- publishes stand in the order of their events, and answers in that of their ends
@@ -119,3 +119,12 @@ reads_by n tries GaveUp = 0
 abbrev pub WholeReadsAnswer : List Event → (n : ℕ) → List Answered → Type 0
 WholeReadsAnswer es n answers = ((e actor : ℕ) → slice_get es e ≢ Some (Torn actor)) → (q : ℕ) (a : Answered) → get_elem? answers q ≡ some a
     → (a.how ≢ GaveUp) × (length (reads_in es a) ≡ reads_by n a.tries a.how)
+
+-- the publishes and the answers are what the events come to: all that `run` promises of them. Of all lists, one of publishes
+-- and one of answers are
+pub record IsOutcome (n c h g : ℕ) (es : List Event) (ps : List Published) (answers : List Answered) : Type 0 where
+  pub faithful : IsFaithful n c h g es ps answers
+  pub steps : AreOneStep n c h g ps answers
+  pub few : AreFew n answers
+  pub direct : UndisturbedIsDirect n c h g es ps answers
+  pub whole : WholeReadsAnswer es n answers

@@ -10,6 +10,9 @@ mod actor;
 mod event;
 mod machine;
 mod next;
+mod outcome;
+#[cfg(test)]
+mod outcome_tests;
 mod reading;
 mod run_fault;
 #[cfg(test)]
@@ -19,12 +22,17 @@ mod scan;
 mod scan_state;
 mod taking;
 #[cfg(test)]
+mod test_events;
+#[cfg(test)]
 mod tests;
 mod trace;
 mod words;
+#[cfg(test)]
+mod wrong_tests;
 
 pub use event::Event;
 pub use next::Next;
+pub use outcome::is_outcome;
 pub use run_fault::RunFault;
 pub use runs::run;
 pub use scan_state::ScanState;

@@ -2,37 +2,11 @@
 use crate::event::Event;
 use crate::run_fault::RunFault;
 use crate::runs::run;
+use crate::test_events::{begin, events_of};
 use crate::trace::{How, Trace};
 use ledger_core::Op;
 use std::alloc::Global;
 use std::process::Abort;
-
-fn begin(alloc: Global, rt: &impl Abort, actor: usize, by: u64) -> Event {
-    let mut ops = Vec::new(alloc);
-    if by > 0 {
-        ops.push(Op::Inc { counter: 0, by }).expect(rt, "room");
-    }
-    Event::Begin { actor, ops }
-}
-
-/// One letter an event: b begins the reader, B worker 0 and C worker 1 by `by`, s and t step and tear the reader, S and T step
-/// worker 0 and 1.
-fn events_of(alloc: Global, rt: &impl Abort, text: &str, reader: usize, by: u64) -> Vec<Event> {
-    let mut events = Vec::new(alloc);
-    for c in text.bytes() {
-        let event = match c {
-            b'b' => begin(alloc, rt, reader, 0),
-            b'B' => begin(alloc, rt, 0, by),
-            b'C' => begin(alloc, rt, 1, by),
-            b's' => Event::Step { actor: reader },
-            b't' => Event::Torn { actor: reader },
-            b'S' => Event::Step { actor: 0 },
-            _ => Event::Step { actor: 1 },
-        };
-        events.push(event).expect(rt, "room");
-    }
-    events
-}
 
 fn traced(alloc: Global, rt: &impl Abort, n: usize, text: &str, reader: usize, by: u64) -> Trace {
     let events = events_of(alloc, rt, text, reader, by);
@@ -290,5 +264,24 @@ fn out_of_range(rt: HostRuntime) {
             .expect_err(&rt, "refused");
         assert_eq!(rt; fault, RunFault::Geometry);
         assert_eq!(rt; fault.number(), 13);
+    }
+}
+
+// A publish with an operation and a reader's answer, in rows of one counter. Where a growth of the run is refused, it says
+// so.
+#[test]
+fn each_growth(rt: HostRuntime) {
+    let alloc = rt.alloc();
+    let events = events_of(alloc, &rt, "BSSSbss", 1, 1);
+    match run::<1, 0, 0>(alloc, 1, events.as_slice()) {
+        Ok(t) => {
+            assert_eq!(rt; t.publishes.len(), 1);
+            assert_eq!(rt; t.answers.len(), 2);
+            let scan = t.answers.get(1).expect(&rt, "an answer");
+            assert_eq!(rt; scan.actor, 1);
+            assert!(rt; scan.vector.as_slice() == [1].as_slice());
+            assert!(rt; scan.totals.as_slice() == [1].as_slice());
+        }
+        Err(fault) => assert_eq!(rt; fault.number(), 6),
     }
 }

@@ -1,6 +1,6 @@
 use Rattle.std.proofs.Common.{arith}
 use Rattle.snapshot_core.specs.Machine.{world_of}
-use Rattle.snapshot_core.proofs.Outcome.{outcome_of}
+use Rattle.snapshot_core.proofs.ComesTo.{outcome_of}
 use Rattle.snapshot_core.proofs.runs.run.Goals as goal
 
 pub returns-clause-faithful : goal.returns-clause-faithful

@@ -5,9 +5,8 @@ use lib.ListN.{get_elem?}
 use Rattle.ledger_core.specs.Ops.{width, sum_ops}
 use Rattle.snapshot_core.specs.declared.event.Event.{Event}
 use Rattle.snapshot_core.specs.declared.trace.How.{How}
-use Rattle.snapshot_core.specs.History.{Published}
 use Rattle.snapshot_core.specs.Turns.{Answered, IsTurn, own_reads}
-use Rattle.snapshot_core.specs.Faithful.{IsJustified, IsFaithful, AreOneStep, AreFew, UndisturbedIsDirect, WholeReadsAnswer}
+use Rattle.snapshot_core.specs.Faithful.{IsJustified, IsOutcome}
 use Rattle.snapshot_core.specs.Machine.{World, world_at}
 use Rattle.snapshot_core.proofs.Calm.{Scans, not_justified, undisturbed}
 use Rattle.snapshot_core.proofs.Faithful.{ps, zs, before_event, turns, justified, answers_rise, publishes_rise, faithful_with, HasNoAnswer}
@@ -16,14 +15,6 @@ use Rattle.snapshot_core.proofs.Progress.{progress, lends_from}
 use Rattle.snapshot_core.proofs.Steps.{one_step, few_tries}
 use Rattle.snapshot_core.proofs.Turns.{open_after}
 use Rattle.snapshot_core.proofs.Whole.{Run, whole_reads}
-
--- all that is promised of what the events come to
-pub record IsOutcome (c h g n : ℕ) (es : List Event) (l : List Published) (answers : List Answered) : Type 0 where
-  pub faithful : IsFaithful n c h g es l answers
-  pub steps : AreOneStep n c h g l answers
-  pub few : AreFew n answers
-  pub direct : UndisturbedIsDirect n c h g es l answers
-  pub whole : WholeReadsAnswer es n answers
 
 module _ (c h g n : ℕ) (es : List Event) (one : 1 ≤ n) (most : n ≤ 32) where
   worlds : ℕ → World
@@ -50,7 +41,7 @@ module _ (c h g n : ℕ) (es : List Event) (one : 1 ≤ n) (most : n ≤ 32) whe
         (world_ordered c h g n es (length es)).publishes;
   }
 
-  pub outcome : IsOutcome c h g n es (ps c h g n es) (zs c h g n es)
+  pub outcome : IsOutcome n c h g es (ps c h g n es) (zs c h g n es)
   outcome = record {
     faithful = faithful_with c h g n es one most never_justified;
     steps = one_step c h g n es one most (length es);
@@ -60,5 +51,5 @@ module _ (c h g n : ℕ) (es : List Event) (one : 1 ≤ n) (most : n ≤ 32) whe
   }
 
   -- the same of the machine that has run them
-  pub outcome_of : (w : World) → w ≡ world_at c h g n es (length es) → IsOutcome c h g n es w.publishes w.answers
-  outcome_of w is = subst (λ (z : World). IsOutcome c h g n es z.publishes z.answers) (sym is) outcome
+  pub outcome_of : (w : World) → w ≡ world_at c h g n es (length es) → IsOutcome n c h g es w.publishes w.answers
+  outcome_of w is = subst (λ (z : World). IsOutcome n c h g es z.publishes z.answers) (sym is) outcome
