@@ -19,6 +19,7 @@ pub mod Families
 pub mod Owned
 pub mod Apart
 pub mod Once
+pub mod Distinct
 pub mod Parted
 pub mod Whole
 pub mod Printed

@@ -13,7 +13,7 @@ use Rattle.expo_text.specs.Reader.{rest_parts, AreReadSoFar, AreParts}
 use Rattle.expo_text.specs.Samples.{Sample}
 use Rattle.expo_text.specs.Groups.{Group}
 use Rattle.metric_desc.specs.declared.kind.Kind.TheVariants.{Histogram}
-use Rattle.expo_text.specs.Reads.{Match, IsGroup, IsSameSeries, IsHistogramGroup, Reads}
+use Rattle.expo_text.specs.Reads.{Match, IsGroup, IsSameSeries, HasDistinctLabels, IsHistogramGroup, Reads}
 
 -- a text is cut before its first line feed
 pub cut_first : (bytes : List ℕ) (n : ℕ) → n ≡ prefix_len (λ b. not (b == 10)) bytes → n < length bytes
@@ -98,14 +98,16 @@ written_more written raw bytes at byte within so_far front =
 pub reads_from : (bytes : List ℕ) (parts : List Part) (groups : List Group) → AreParts bytes parts → Match IsGroup parts groups
     → AllPairs (λ (a b : Group). a.name ≢ b.name) groups
     → AllPairs (λ (a b : Sample). ¬ (IsSameSeries a b)) (flat_map (λ (group : Group). group.samples) groups)
+    → All HasDistinctLabels (flat_map (λ (group : Group). group.samples) groups)
     → All (λ (group : Group). group.kind ≡ Histogram → IsHistogramGroup group) groups
     → Reads bytes groups
-reads_from bytes parts groups are found unbroken once histograms = record {
+reads_from bytes parts groups are found unbroken once labels histograms = record {
   lines = are.lines;
   cut = are.cut;
   formed = are.formed;
   parts = subst (λ made. Match IsGroup made groups) (sym are.made) found;
   unbroken = unbroken;
   once = once;
+  labels = labels;
   histograms = histograms;
 }

@@ -1,5 +1,5 @@
 -- The text of a scrape is read as the groups that the scrape prints, and as no others.
-use Rattle.std.proofs.Common.{◌≡◌, ◌↔◌, List, [], ◌∷◌, map, refl, sym, ap, ◌∙◌, subst}
+use Rattle.std.proofs.Common.{◌≡◌, ◌↔◌, List, [], ◌∷◌, map, sym, ap, ◌∙◌, subst}
 use Rattle.std.specs.Prelude.{All}
 use Rattle.std.proofs.lemmas.List.Elements.{All-head, All-tail}
 use Rattle.expo_text.specs.Scraped.{Scraped}
@@ -7,7 +7,6 @@ use Rattle.expo_text.specs.Order.{IsScrape}
 use Rattle.expo_text.specs.Spelled.{IsSpelledIfPrinted}
 use Rattle.expo_text.specs.Text.{text}
 use Rattle.expo_text.specs.Groups.{Group, groups_of}
-use Rattle.expo_text.specs.Lines.{entry_of}
 use Rattle.expo_text.specs.Parts.{parts_of}
 use Rattle.expo_text.specs.Reads.{Match, IsGroup, Reads}
 use Rattle.expo_text.proofs.Entries.{part_of, IsPrintedGroup}
@@ -16,6 +15,7 @@ use Rattle.expo_text.proofs.SamplesRead.{group_reads}
 use Rattle.expo_text.proofs.Families.{unbroken}
 use Rattle.expo_text.proofs.Parted.{parted}
 use Rattle.expo_text.proofs.Once.{once}
+use Rattle.expo_text.proofs.Distinct.{distinct}
 use Rattle.expo_text.proofs.Whole.{histograms}
 use Rattle.expo_text.proofs.Printed.{printed}
 use Rattle.expo_text.proofs.OneReading.{one_reading}
@@ -40,6 +40,7 @@ reads scrape is spelled =
       parts = subst (λ found. Match IsGroup found (groups_of scrape)) parts (groups_read (groups_of scrape) all);
       unbroken = unbroken scrape is spelled;
       once = once scrape is spelled;
+      labels = distinct scrape is spelled;
       histograms = histograms scrape is spelled;
     }
 

@@ -62,6 +62,10 @@ pub record IsSameSeries (a b : Sample) : Type 0 where
   pub name : a.name ≡ b.name
   pub labels : a.labels ≡ b.labels
 
+-- no two labels of a sample have one name
+abbrev pub HasDistinctLabels : Sample → Type 0
+HasDistinctLabels sample = AllPairs (λ (a b : List ℕ × List ℕ). a.0 ≢ b.0) sample.labels
+
 -- the labels of a child: all but `le`
 abbrev pub others : List (List ℕ × List ℕ) → List (List ℕ × List ℕ)
 others labels = filter (λ label. not (same label.0 (codes "le"))) labels
@@ -94,7 +98,7 @@ pub record IsHistogramGroup (group : Group) : Type 0 where
   pub whole : All (IsWhole group) group.samples
 
 -- the bytes are an exposition of these groups: each line is one of the format, the lines of a group are unbroken, no series
--- stands twice, and the buckets of histograms rise to their count
+-- stands twice, no sample has two labels of one name, and the buckets of histograms rise to their count
 pub record Reads (bytes : List ℕ) (groups : List Group) : Type 0 where
   pub lines : List (List ℕ)
   pub cut : AreLines bytes lines
@@ -102,4 +106,5 @@ pub record Reads (bytes : List ℕ) (groups : List Group) : Type 0 where
   pub parts : Match IsGroup (parts_of (map entry_of lines)) groups
   pub unbroken : AllPairs (λ (a b : Group). a.name ≢ b.name) groups
   pub once : AllPairs (λ a b. ¬ (IsSameSeries a b)) (flat_map (λ (group : Group). group.samples) groups)
+  pub labels : All HasDistinctLabels (flat_map (λ (group : Group). group.samples) groups)
   pub histograms : All (λ (group : Group). group.kind ≡ Histogram → IsHistogramGroup group) groups

@@ -4,7 +4,7 @@ ghost use Rattle.std.specs.Prelude.{◌≡◌, ◌≢◌, ◌↔◌, ◌<◌, �
 ghost use Rattle.expo_text.specs.Lines.{same};
 ghost use Rattle.expo_text.specs.Samples.{Sample};
 ghost use Rattle.expo_text.specs.Groups.{Group};
-ghost use Rattle.expo_text.specs.Reads.{IsSameSeries, IsBucketPair, IsHistogramGroup, others};
+ghost use Rattle.expo_text.specs.Reads.{IsSameSeries, HasDistinctLabels, IsBucketPair, IsHistogramGroup, others};
 ghost use Rattle.expo_text.specs.Checks.{IsTotalOf, IsCountOf, HasCount, HasTotal};
 
 use crate::reader::found::{Found, FoundLabel, FoundSample, Word};
@@ -134,6 +134,55 @@ pub(crate) fn is_once(groups: &[Found]) -> bool
     for at in 0..groups.len() {
         let group = &groups[at];
         if !are_distinct(&group.samples) || !are_new_in_groups(&groups[..at], &group.samples) {
+            return false;
+        }
+    }
+    true
+}
+
+/// Whether none of the labels has this name.
+fn is_new_label(labels: &[FoundLabel], name: &Word) -> bool
+    ensures { IsTrue result → All (λ (label : List ℕ × List ℕ). label.0 ≢ name.now) labels.now }
+{
+    for label in labels {
+        if is_same_word(&label.name, name) {
+            return false;
+        }
+    }
+    true
+}
+
+/// Whether no two of the labels have one name.
+fn are_distinct_names(labels: &[FoundLabel]) -> bool
+    ensures { IsTrue result → AllPairs (λ (a b : List ℕ × List ℕ). a.0 ≢ b.0) labels.now }
+{
+    for at in 0..labels.len() {
+        let label = &labels[at];
+        if !is_new_label(&labels[..at], &label.name) {
+            return false;
+        }
+    }
+    true
+}
+
+/// Whether none of the samples has two labels of one name.
+fn have_distinct_labels(samples: &[FoundSample]) -> bool
+    ensures { IsTrue result → All HasDistinctLabels samples.now }
+{
+    for sample in samples {
+        if !are_distinct_names(&sample.labels) {
+            return false;
+        }
+    }
+    true
+}
+
+/// Whether no sample of the groups has two labels of one name.
+pub(crate) fn are_labels_distinct(groups: &[Found]) -> bool
+    ensures { IsTrue result → All HasDistinctLabels (flat_map (λ (group : Group). group.samples) groups.now) }
+{
+    for group in groups {
+        if !have_distinct_labels(&group.samples) {
             return false;
         }
     }

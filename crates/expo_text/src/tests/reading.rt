@@ -88,6 +88,48 @@ fn groups_refused(rt: HostRuntime) -> Result<(), Fail> {
 }
 
 #[test]
+fn labels_refused(rt: HostRuntime) -> Result<(), Fail> {
+    let alloc = rt.alloc();
+    assert!(rt; is_read(alloc, b"# TYPE a counter\na{b=\"1\",c=\"1\"} 1\n")?);
+    assert!(rt; is_read(alloc, b"# TYPE a counter\na{b=\"1\"} 1\na{b=\"2\"} 1\n")?);
+    assert!(rt; !is_read(alloc, b"# TYPE a counter\na{b=\"1\",b=\"2\"} 1\n")?);
+    assert!(rt; !is_read(alloc, b"# TYPE a counter\na{b=\"1\",b=\"1\"} 1\n")?);
+    assert!(rt; !is_read(alloc, b"# TYPE a counter\na{b=\"1\",c=\"1\",b=\"2\"} 1\n")?);
+    assert!(rt; !is_read(alloc, b"# TYPE a counter\na 1\na{b=\"1\",b=\"2\"} 1\n")?);
+    assert!(rt;
+        !is_read(
+            alloc,
+            b"# TYPE a counter\na 1\n# TYPE b counter\nb{c=\"1\",c=\"2\"} 1\n"
+        )?
+    );
+    Ok(())
+}
+
+#[test]
+fn le_refused(rt: HostRuntime) -> Result<(), Fail> {
+    let alloc = rt.alloc();
+    assert!(rt;
+        is_read(
+            alloc,
+            b"# TYPE h histogram\nh_bucket{le=\"+Inf\"} 2\nh_sum 1\nh_count 2\n"
+        )?
+    );
+    assert!(rt;
+        !is_read(
+            alloc,
+            b"# TYPE h histogram\nh_bucket{le=\"+Inf\",le=\"+Inf\"} 2\nh_sum 1\nh_count 2\n"
+        )?
+    );
+    assert!(rt;
+        !is_read(
+            alloc,
+            b"# TYPE h histogram\nh_bucket{le=\"1\",le=\"+Inf\"} 2\nh_sum 1\nh_count 2\n"
+        )?
+    );
+    Ok(())
+}
+
+#[test]
 fn histograms(rt: HostRuntime) -> Result<(), Fail> {
     let alloc = rt.alloc();
     let front = b"# TYPE h histogram\nh_bucket{le=\"1\"} 2\n";
