@@ -5,7 +5,7 @@ use std::alloc::Global;
 use std::io::{self, Error, ErrorKind, Write};
 use std::test::Fail;
 
-// Takes one byte a call, and fails from a call on.
+// Takes one byte a call, and fails from a call on. What it takes fits into memory that was made before.
 #[derive(Drop)]
 struct Slow {
     taken: Vec<u8>,
@@ -44,7 +44,7 @@ impl Write for Full {
     }
 }
 
-// Takes all it is given, and counts the calls.
+// Takes all it is given into memory that was made before, and counts the calls.
 #[derive(Drop)]
 struct Counting {
     taken: Vec<u8>,
@@ -73,7 +73,7 @@ fn small(alloc: Global) -> Result<Scrape, Fail> {
 #[test]
 fn sends_all(rt: HostRuntime) -> Result<(), Fail> {
     let alloc = rt.alloc();
-    let mut out = Watched::new(Vec::new(alloc));
+    let mut out = Watched::new(Vec::with_capacity(alloc, TEXT.len())?);
     write_to(&small(alloc)?, &mut out)?;
     assert!(rt; !out.failed() && !out.ended());
     assert_eq!(rt; out.into_inner().as_slice(), TEXT);
@@ -84,7 +84,7 @@ fn sends_all(rt: HostRuntime) -> Result<(), Fail> {
 fn sends_byte_by_byte(rt: HostRuntime) -> Result<(), Fail> {
     let alloc = rt.alloc();
     let mut out = Watched::new(Slow {
-        taken: Vec::new(alloc),
+        taken: Vec::with_capacity(alloc, TEXT.len())?,
         calls: 21,
     });
     write_to(&small(alloc)?, &mut out)?;
@@ -99,7 +99,7 @@ fn fails_at_each_call(rt: HostRuntime) -> Result<(), Fail> {
     let scrape = small(alloc)?;
     for calls in 0..TEXT.len() {
         let mut out = Watched::new(Slow {
-            taken: Vec::new(alloc),
+            taken: Vec::with_capacity(alloc, TEXT.len())?,
             calls,
         });
         assert_eq!(rt;
@@ -133,14 +133,15 @@ fn long_text_in_few_calls(rt: HostRuntime) -> Result<(), Fail> {
     let desc = histogram(alloc, label(alloc, "l")?, &bounds)?;
     let values = value(alloc, feeds.as_str())?;
     let scrape = one(alloc, desc, values, Number::Histogram(single()))?;
+    let text = render(&scrape)?;
     let mut out = Watched::new(Counting {
-        taken: Vec::new(alloc),
+        taken: Vec::with_capacity(alloc, text.len())?,
         calls: 0,
     });
     write_to(&scrape, &mut out)?;
     let out = out.into_inner();
     assert!(rt; out.taken.len() > 27 * 512);
-    assert_eq!(rt; out.taken.as_slice(), render(&scrape)?.as_slice());
+    assert_eq!(rt; out.taken.as_slice(), text.as_slice());
     assert_eq!(rt; out.calls, 4);
     Ok(())
 }
