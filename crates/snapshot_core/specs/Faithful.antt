@@ -114,11 +114,12 @@ reads_by n tries Direct = 2 * n * tries
 reads_by n tries (Lent from) = 2 * n * tries + 1
 reads_by n tries GaveUp = 0
 
--- where no event is torn, no scan is given up, so that every update publishes a view, and a scan makes 2n reads a try,
--- and one more where its view is lent: the first worker that is asked lends
-abbrev pub WholeReadsAnswer : List Event → (n : ℕ) → List Answered → Type 0
-WholeReadsAnswer es n answers = ((e actor : ℕ) → slice_get es e ≢ Some (Torn actor)) → (q : ℕ) (a : Answered) → get_elem? answers q ≡ some a
-    → (a.how ≢ GaveUp) × (length (reads_in es a) ≡ reads_by n a.tries a.how)
+-- where no event is torn, no scan is given up, and a scan makes 2n reads a try, and one more where its view is lent: the
+-- first worker that is asked lends. So every update publishes a view: a worker that has published lends one
+abbrev pub WholeReadsAnswer : List Event → (n : ℕ) → List Published → List Answered → Type 0
+WholeReadsAnswer es n ps answers = ((e actor : ℕ) → slice_get es e ≢ Some (Torn actor))
+    → ((q : ℕ) (a : Answered) → get_elem? answers q ≡ some a → (a.how ≢ GaveUp) × (length (reads_in es a) ≡ reads_by n a.tries a.how))
+    × ((e i : ℕ) → i < n → 0 < number_at ps e i → (v : View) × (lent_at ps answers e i ≡ Some v))
 
 -- the publishes and the answers are what the events come to: all that `run` promises of them. Of all lists, one of publishes
 -- and one of answers are
@@ -127,4 +128,4 @@ pub record IsOutcome (n c h g : ℕ) (es : List Event) (ps : List Published) (an
   pub steps : AreOneStep n c h g ps answers
   pub few : AreFew n answers
   pub direct : UndisturbedIsDirect n c h g es ps answers
-  pub whole : WholeReadsAnswer es n answers
+  pub whole : WholeReadsAnswer es n ps answers

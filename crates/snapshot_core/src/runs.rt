@@ -16,7 +16,7 @@ use std::alloc::Global;
 ///
 /// The trace is faithful to the events. Each answer that is not given up is all segments at one event of its turn; a scan
 /// makes at most n + 2 tries; one that makes 2n whole reads while nobody publishes is direct in its first try; and where
-/// no event is torn, no scan is given up.
+/// no event is torn, no scan is given up, and every update publishes a view. No other trace is all of this.
 ///
 /// # Errors
 ///
@@ -33,7 +33,7 @@ pub fn run<const C: usize, const H: usize, const G: usize>(
     ensures one_step { IfOk result (λ t. AreOneStep n C H G (map published_of t.publishes.items) (map answered_of t.answers.items)) }
     ensures few { IfOk result (λ t. AreFew n (map answered_of t.answers.items)) }
     ensures direct { IfOk result (λ t. UndisturbedIsDirect n C H G events.now (map published_of t.publishes.items) (map answered_of t.answers.items)) }
-    ensures whole { IfOk result (λ t. WholeReadsAnswer events.now n (map answered_of t.answers.items)) }
+    ensures whole { IfOk result (λ t. WholeReadsAnswer events.now n (map published_of t.publishes.items) (map answered_of t.answers.items)) }
 {
     if n < 1 || n > MOST {
         return Err(RunFault::Geometry);
