@@ -289,11 +289,14 @@ module _ (n w : ℕ) (adds : List Op → ℕ → ℕ) (es : List Event) (ps : Li
   all_before whole (suc k) r b lt is = (answer_long whole r b is (λ s c less at. all_before whole k s c (omega arith) at)).0
 
 pub whole_reads : (n w : ℕ) (adds : List Op → ℕ → ℕ) (es : List Event) (ps : List Published) (answers : List Answered) → Run n w adds es ps answers → WholeReadsAnswer es n ps answers
-whole_reads n w adds es ps answers run whole = (each, λ e i inside some.
-    let l = run.lends e i inside some in
-    let j = run.justified l.0 l.1 l.2 in
-    let v = has_view n j.scan.before j.scan.last l.1.how l.1.view j.scan.ends (each l.0 l.1 l.2).0 in
-    (v.0, l.5 ∙ v.1))
+whole_reads n w adds es ps answers run whole = (
+  each,
+  λ e i inside some.
+      let l = run.lends e i inside some in
+      let j = run.justified l.0 l.1 l.2 in
+      let v = has_view n j.scan.before j.scan.last l.1.how l.1.view j.scan.ends (each l.0 l.1 l.2).0 in
+      (v.0, l.5 ∙ v.1),
+)
   where
     each : (q : ℕ) (a : Answered) → get_elem? answers q ≡ some a → (a.how ≢ GaveUp) × (length (reads_in es a) ≡ reads_by n a.tries a.how)
     each q a is = answer_long n w adds es ps answers run whole q a is (all_before n w adds es ps answers run whole q)

@@ -9,7 +9,7 @@ use crate::actor::{Actor, Machine, Phase, Segment};
 use crate::event::Event;
 use crate::reading::place_of;
 use crate::trace::Publish;
-use crate::words::{apply, copied_ops};
+use crate::words::{apply, copied};
 use ledger_core::{Op, Row};
 use std::alloc::{AllocError, Global};
 
@@ -208,7 +208,7 @@ impl<const C: usize, const H: usize, const G: usize> Machine<C, H, G> {
         if number == u64::MAX {
             return Ok(());
         }
-        let ops = copied_ops(alloc, ops)?;
+        let ops = copied(alloc, ops)?;
         self.publishes.push(Publish {
             at,
             worker: who,

@@ -5,23 +5,12 @@ ghost use Rattle.snapshot_core.specs.Machine.{added, applied};
 use ledger_core::{Op, Row};
 use std::alloc::{AllocError, Global};
 
-/// A copy of the words.
-pub(crate) fn copied(alloc: Global, words: &[u64]) -> Result<Vec<u64>, AllocError>
-    ensures { IfOk result (λ v. v.items ≡ words.now) }
+/// A copy of the items.
+pub(crate) fn copied<T: Copy>(alloc: Global, items: &[T]) -> Result<Vec<T>, AllocError>
+    ensures { IfOk result (λ v. v.items ≡ items.now) }
 {
     let mut copy = Vec::new(alloc);
-    copy.extend_from_slice(words)?;
-    Ok(copy)
-}
-
-/// A copy of the operations.
-pub(crate) fn copied_ops(alloc: Global, ops: &[Op]) -> Result<Vec<Op>, AllocError>
-    ensures { IfOk result (λ v. v.items ≡ ops.now) }
-{
-    let mut copy = Vec::new(alloc);
-    for op in ops {
-        copy.push(*op)?;
-    }
+    copy.extend_from_slice(items)?;
     Ok(copy)
 }
 
