@@ -1,7 +1,23 @@
 #!/bin/sh
-# All tests: the example script with each allocation refused in turn, and then everything from nothing, where the last
-# line is 'N passed, 0 failed'.
+# All tests. Everything is proved and tried from nothing, and beside that, on a copy of the crates, the example script and
+# tests run with each allocation refused in turn. The last line is 'N passed, 0 failed'.
 set -eu
 cd "$(dirname "$0")"
-./refused-growth.sh
-exec rt ci
+work=$(mktemp -d)
+trap 'rm -rf "$work"' EXIT
+
+mkdir "$work/copy"
+cp -R HANDLES crates.txt crates refused-growth.sh "$work/copy"
+"$work/copy/refused-growth.sh" >"$work/growth" 2>&1 &
+growth=$!
+
+{ rt ci || touch "$work/failed"; } | tee "$work/ci"
+if ! wait "$growth"; then
+    cat "$work/growth"
+    exit 1
+fi
+cat "$work/growth"
+if [ -e "$work/failed" ]; then
+    exit 1
+fi
+tail -n 1 "$work/ci"
