@@ -1,12 +1,11 @@
 -- The end of a scan, and the loads that ask a worker for what it lends: what they leave true of the scan.
-use Rattle.std.proofs.Common.{◌≡◌, ℕ, zero, suc, ◌+◌, ◌<◌, ◌≤◌, ◌⊎◌, inl, map, ⊎_elim, ◌==◌, ◌&&◌, true, List, [], ◌∷◌, ◌++◌, length, take, drop, get_or, slice_index, Option, Some, None, sym, refl, ap, ◌∙◌, subst, arith, length-drop}
+use Rattle.std.proofs.Common.{◌≡◌, ℕ, ◌+◌, ◌<◌, ◌≤◌, ◌⊎◌, inl, map, ⊎_elim, ◌==◌, ◌&&◌, true, List, [], ◌∷◌, ◌++◌, length, take, drop, get_or, Option, Some, None, sym, refl, ap, ◌∙◌, subst, arith, length-drop}
 use mathlib.Core.Logic.{dite}
 use mathlib.Core.Option.{some, some-injective, some-ne-none}
 use native.Mathlib.Decide.{dec_le}
 use lib.ListN.{get_elem?}
-use Rattle.std.proofs.lemmas.List.{get_or-take, get_or-drop, ext_get_or, length-take-le}
-use Rattle.std.proofs.lemmas.Bool.{eqb-true}
-use Rattle.atomic_table.proofs.Lists.{at_snoc}
+use Rattle.std.proofs.lemmas.List.{get_or_past, take_all, get_or-take, get_or-drop, ext_get_or, length-take-le}
+use Rattle.std.proofs.lemmas.Bool.{eqb-true, and_parts, cond_both}
 use Rattle.ledger_core.specs.declared.op.Op.{Op}
 use Rattle.register_rule.specs.declared.view.Made.{Made}
 use Rattle.register_rule.specs.declared.view.Look.{Look}
@@ -14,32 +13,15 @@ use Rattle.register_rule.specs.declared.view.Answer.{Answer}
 use Rattle.register_rule.specs.declared.view.Asked.{Asked}
 use Rattle.register_rule.specs.declared.view.Try.{Try}
 use Rattle.register_rule.specs.declared.view.Scan.{Scan}
-use Rattle.register_rule.specs.History.{tab, count, IsMoment, Below}
+use Rattle.register_rule.specs.History.{count, IsMoment, Below}
 use Rattle.register_rule.specs.Sums.{row_sum, last_lent, flag_of}
 use Rattle.register_rule.specs.Shown.{Shows}
-use Rattle.register_rule.specs.Scans.{number_of, HasMoved, IsLook, Doomed, IsAnswer, IsAsked, IsScan}
+use Rattle.register_rule.specs.Scans.{number_of, AreLoads, HasMoved, IsLook, Doomed, IsAnswer, IsAsked, IsScan}
 use Rattle.register_rule.specs.Steps.{upper, at_rest, answered, given_up, begun, is_next, after_ask, rest, lent_answer, lends, asked_of, answers, ask_ends, after_end_ask}
-use Rattle.register_rule.proofs.Words.{only_one, by_cond, and_parts}
-use Rattle.register_rule.proofs.Upper.{length_upper, upper_from, upper_right}
-use Rattle.register_rule.proofs.Growth.{take-all, below_upper}
-
-module _ {A : Type 0} where
-  pub at_end : (l : List A) (q : ℕ) (x : A) → get_elem? l q ≡ some x → q < length l
-  at_end [] q x e = absurd (some-ne-none x (sym e))
-  at_end (y ∷ l) zero x e = omega arith
-  at_end (y ∷ l) (suc q) x e = let t = at_end l q x e in omega arith
-
-pub there : (l : List ℕ) (k : ℕ) → k < length l → get_elem? l k ≡ some (get_or l k 0)
-there [] k lt = absurd (omega arith)
-there (x ∷ xs) zero lt = refl
-there (x ∷ xs) (suc k) lt = there xs k (omega arith)
-
-here : (l : List ℕ) (k x : ℕ) → get_elem? l k ≡ some x → get_or l k 0 ≡ x
-here l k x e = some-injective (get_or l k 0) x (sym (there l k (at_end l k x e)) ∙ e)
-
-length_tab : (i k : ℕ) (f : ℕ → ℕ) → length (tab i k f) ≡ k
-length_tab i zero f = refl
-length_tab i (suc k) f = ap suc (length_tab (suc i) k f)
+use Rattle.register_rule.proofs.Words.{there, read_at, from_replicate, each_push}
+use Rattle.register_rule.proofs.Moments.{length_tab}
+use Rattle.register_rule.proofs.Upper.{length_upper, upper_from, upper_of}
+use Rattle.register_rule.proofs.Growth.{below_upper}
 
 -- k words of a list from its word j on
 piece_at : (j k : ℕ) (l : List ℕ) (i : ℕ) → i < k → get_or (take k (drop j l)) i 0 ≡ get_or l (j + i) 0
@@ -60,13 +42,15 @@ abbrev pub nothing_lent : (n x : ℕ) → Look → Scan → Scan
 nothing_lent n x l c = record c { asked = c.asked ++ asked_of n x l ∷ []; now = record c.now { due = rest c.now.due; asks = [] } }
 
 module _ (n w : ℕ) (adds : List Op → ℕ → ℕ) (made : ℕ → List Made) (h : List ℕ) where
-  -- nothing but the try in progress changes, and perhaps how many scans were given up
-  pub with_now : (c : Scan) (quit' : ℕ) (t : Try) → ((q : ℕ) (l : Look) → get_elem? t.looks q ≡ some l → IsLook n w adds made 0 l × (l.place ≡ q)) → ((q : ℕ) (l : Look) → get_elem? t.asks q ≡ some l → IsLook n w adds made w l)
-      → (length t.looks ≡ n → Doomed n w adds made t.looks ⊎ IsMoment n h (map number_of t.looks)) → IsScan n w adds made h c → IsScan n w adds made h (record c { quit = quit'; now = t })
-  with_now c quit' t looks' asks' whole' ok = record {
-    opened = ok.opened;
+  -- nothing changes but the loads that opened a place, the workers that were asked, how many scans were given up, and the
+  -- try in progress
+  pub with_now : (c : Scan) (loads : List (ℕ × ℕ)) (asks : List Asked) (quit' : ℕ) (t : Try) → AreLoads n w adds made loads → ((q : ℕ) (e : Asked) → get_elem? asks q ≡ some e → IsAsked n w adds made e)
+      → ((q : ℕ) (l : Look) → get_elem? t.looks q ≡ some l → IsLook n w adds made 0 l × (l.place ≡ q)) → ((q : ℕ) (l : Look) → get_elem? t.asks q ≡ some l → IsLook n w adds made w l)
+      → (length t.looks ≡ n → Doomed n w adds made t.looks ⊎ IsMoment n h (map number_of t.looks)) → IsScan n w adds made h c → IsScan n w adds made h (record c { opened = loads; asked = asks; quit = quit'; now = t })
+  with_now c loads asks quit' t opened' asked' looks' asks' whole' ok = record {
+    opened = opened';
     confirmed = ok.confirmed;
-    asked = ok.asked;
+    asked = asked';
     recorded = ok.recorded;
     seen = ok.seen;
     seen_wide = ok.seen_wide;
@@ -79,8 +63,8 @@ module _ (n w : ℕ) (adds : List Op → ℕ → ℕ) (made : ℕ → List Made)
 
   -- a scan gives up
   pub scan_gives : (c : Scan) → 0 < n → IsScan n w adds made h c → IsScan n w adds made h (given_up n c)
-  scan_gives c some_n ok = by_cond (length c.now.due == 0 && c.now.failed == n + 2) (IsScan n w adds made h) (record c { quit = c.quit + 1; now = at_rest }) c
-      (λ _. with_now c (c.quit + 1) at_rest (λ q l e. absurd (some-ne-none l (sym e))) (λ q l e. absurd (some-ne-none l (sym e))) (λ none. absurd (let z : 0 ≡ n = none in omega arith)) ok)
+  scan_gives c some_n ok = cond_both (length c.now.due == 0 && c.now.failed == n + 2) (record c { quit = c.quit + 1; now = at_rest }) c (IsScan n w adds made h)
+      (λ _. with_now c c.opened c.asked (c.quit + 1) at_rest ok.opened ok.asked (λ q l e. absurd (some-ne-none l (sym e))) (λ q l e. absurd (some-ne-none l (sym e))) (λ none. absurd (let z : 0 ≡ n = none in omega arith)) ok)
       (λ _. ok)
 
   -- a scan ends with an answer
@@ -89,12 +73,11 @@ module _ (n w : ℕ) (adds : List Op → ℕ → ℕ) (made : ℕ → List Made)
     opened = ok.opened;
     confirmed = ok.confirmed;
     asked = ok.asked;
-    recorded = λ q x e. ⊎_elim
-        (λ t. ((ok.recorded q x t).0, below_upper x.vector c.seen a.vector same (ok.recorded q x t).1))
-        (λ (t : a ≡ x). subst (λ (y : Answer). IsAnswer n w adds made h y × Below y.vector (upper c.seen a.vector)) t (answer, new same))
-        (at_snoc c.recorded a x q e);
+    recorded = each_push (λ (y : Answer). IsAnswer n w adds made h y × Below y.vector (upper c.seen a.vector)) c.recorded a
+        (λ q x t. ((ok.recorded q x t).0, below_upper x.vector c.seen a.vector same (ok.recorded q x t).1))
+        (answer, new same);
     seen = λ i s e. ⊎_elim (ok.seen i s) (answer.low i s) (upper_from c.seen a.vector i s e);
-    seen_wide = length_upper c.seen a.vector same ∙ ok.seen_wide;
+    seen_wide = length_upper c.seen a.vector (omega (arith, same)) ∙ ok.seen_wide;
     kept = ok.kept;
     kept_wide = ok.kept_wide;
     looks = λ q l e. absurd (some-ne-none l (sym e));
@@ -103,31 +86,15 @@ module _ (n w : ℕ) (adds : List Op → ℕ → ℕ) (made : ℕ → List Made)
   }
     where
       new : length c.seen ≡ length a.vector → Below a.vector (upper c.seen a.vector)
-      new same i x z ex ez = let t = upper_right c.seen a.vector i z same ez in let e : t.0 ≡ x = some-injective t.0 x (sym t.1 ∙ ex) in let le = t.2 in omega (arith, e)
+      new same i x z ex ez = let t = upper_of c.seen a.vector i z same ez in let e : t.1 ≡ x = some-injective t.1 x (sym t.3 ∙ ex) in let le = t.4 in omega (arith, e)
 
   -- the opening load of a worker that is asked
   pub ask_right : (c : Scan) (i x : ℕ) → i < n → x ≡ length (made i) → IsScan n w adds made h c → IsScan n w adds made h (after_ask i x c)
-  ask_right c i x inside is ok = by_cond (is_next i c.now.due) (λ (t : Try). IsScan n w adds made h (record c { now = t })) (record c.now { asks = begun i x [] ∷ [] }) c.now
-      (λ _. with_now c c.quit (record c.now { asks = begun i x [] ∷ [] }) ok.looks
-      (λ q l e. subst (IsLook n w adds made w) (only_one _ q l e) record { inside = inside; old = omega (arith, is); risen = inl refl; right = λ k y e'. absurd (some-ne-none y (sym e')) })
+  ask_right c i x inside is ok = cond_both (is_next i c.now.due) (record c.now { asks = begun i x [] ∷ [] }) c.now (λ (t : Try). IsScan n w adds made h (record c { now = t }))
+      (λ _. with_now c c.opened c.asked c.quit (record c.now { asks = begun i x [] ∷ [] }) ok.opened ok.asked ok.looks
+      (λ q l e. subst (IsLook n w adds made w) (from_replicate 1 _ q l e) record { inside = inside; old = omega (arith, is); risen = inl refl; right = λ k y e'. absurd (some-ne-none y (sym e')) })
       ok.whole ok)
       (λ _. ok)
-
-  -- one more worker was asked
-  asked_more : (c : Scan) (e : Asked) → IsAsked n w adds made e → IsScan n w adds made h c → IsScan n w adds made h (record c { asked = c.asked ++ e ∷ [] })
-  asked_more c e right ok = record {
-    opened = ok.opened;
-    confirmed = ok.confirmed;
-    asked = λ q y at. ⊎_elim (ok.asked q y) (λ (t : e ≡ y). subst (IsAsked n w adds made) t right) (at_snoc c.asked e y q at);
-    recorded = ok.recorded;
-    seen = ok.seen;
-    seen_wide = ok.seen_wide;
-    kept = ok.kept;
-    kept_wide = ok.kept_wide;
-    looks = ok.looks;
-    asks = ok.asks;
-    whole = ok.whole;
-  }
 
   -- what a worker was found to lend
   asked_right : (i x : ℕ) (l : Look) → l.place ≡ i → x ≡ length (made i) → IsLook n w adds made w l → IsAsked n w adds made (asked_of n x l)
@@ -139,13 +106,9 @@ module _ (n w : ℕ) (adds : List Op → ℕ → ℕ) (made : ℕ → List Made)
         (λ le. ⊎_elim
         (λ (t : Shows n w adds (take l.number (made l.place)) (w + 0) (get_or l.words 0 0)). let f = t.flag (omega arith) in let g = flag_low (last_lent (take l.number (made l.place))) in omega arith)
         (λ (t : HasMoved n w adds made l). let t' = t.1 in absurd (omega (arith, end, same)))
-        (ok.right 0 (get_or l.words 0 0) (there l.words 0 le)))
-        (λ none. no_words l.words none);
+        (ok.right 0 (get_or l.words 0 0) (there l.words 0 0 le)))
+        (λ none. let z : get_or l.words 0 0 ≡ 0 = get_or_past l.words 0 0 (omega (arith, none)) in omega arith);
   }
-    where
-      no_words : (ws : List ℕ) → (1 ≤ length ws → ⊥) → slice_index ws 0 ≤ 1
-      no_words [] none = omega arith
-      no_words (y ∷ ys) none = absurd (none (omega arith))
 
   -- what a worker whose number stood still has shown is what it lends
   lent_right : (i x : ℕ) (floor : List ℕ) (l : Look) → l.place ≡ i → x ≡ length (made i) → ((a : Answer) → last_lent (made i) ≡ Some a → IsAnswer n w adds made h a) → IsLook n w adds made w l → lends n w x floor l ≡ true
@@ -154,10 +117,10 @@ module _ (n w : ℕ) (adds : List Op → ℕ → ℕ) (made : ℕ → List Made)
       let t3 = and_parts _ _ hit in let t2 = and_parts _ _ t3.0 in let t1 = and_parts _ _ t2.0 in
       let this : l.number ≡ x = eqb-true _ _ t1.0 in let len : length l.words ≡ 1 + n + w = eqb-true _ _ t1.1 in let one : get_or l.words 0 0 ≡ 1 = eqb-true _ _ t2.1 in
       let still : l.number ≡ length (made l.place) = this ∙ (is ∙ ap (λ (z : ℕ). length (made z)) (sym at)) in
-      let all : take l.number (made l.place) ≡ made i = take-all (made l.place) l.number still ∙ ap made at in
+      let all : take l.number (made l.place) ≡ made i = take_all l.number (made l.place) (omega (arith, still)) ∙ ap made at in
       let shows : (p : ℕ) → p < length l.words → Shows n w adds (made i) (w + p) (get_or l.words p 0) =
       λ p lt. subst (λ (z : List Made). Shows n w adds z (w + p) (get_or l.words p 0)) all
-      (⊎_elim (λ t. t) (λ (t : HasMoved n w adds made l). let t' = t.1 in absurd (omega arith)) (ok.right p (get_or l.words p 0) (there l.words p lt))) in
+      (⊎_elim (λ t. t) (λ (t : HasMoved n w adds made l). let t' = t.1 in absurd (omega arith)) (ok.right p (get_or l.words p 0) (there l.words p 0 lt))) in
       go shows len one (last_lent (made i)) refl
     where
       go : ((p : ℕ) → p < length l.words → Shows n w adds (made i) (w + p) (get_or l.words p 0)) → length l.words ≡ 1 + n + w → get_or l.words 0 0 ≡ 1 → (o : Option Answer) → last_lent (made i) ≡ o
@@ -171,11 +134,11 @@ module _ (n w : ℕ) (adds : List Op → ℕ → ℕ) (made : ℕ → List Made)
           let long : length a.vector ≡ n = ap length ok'.moment.2 ∙ length_tab 0 n (λ z. count z (take ok'.moment.0 h)) in
           let same : take n (drop 1 l.words) ≡ a.vector = ext_get_or 0 (take n (drop 1 l.words)) a.vector (wide ∙ sym long) (λ j lt.
           let lt' : j < n = omega (arith, wide) in
-          piece_at 1 n l.words j lt' ∙ sym (here a.vector j _ ((shows (1 + j) (omega (arith, len))).vector a j e lt' (omega arith)))) in (
+          piece_at 1 n l.words j lt' ∙ sym (read_at a.vector j _ 0 ((shows (1 + j) (omega (arith, len))).vector a j e lt' (omega arith)))) in (
             record {
               low = λ q s found. ok'.low q s (ap (λ (y : List ℕ). get_elem? y q) (sym same) ∙ found);
               moment = subst (IsMoment n h) (sym same) ok'.moment;
-              sums = λ k lt. there (take w (drop (1 + n) l.words)) k (omega (arith, wide'))
+              sums = λ k lt. there (take w (drop (1 + n) l.words)) k 0 (omega (arith, wide'))
                   ∙ (ap some (piece_at (1 + n) w l.words k lt)
                   ∙ (sym ((shows (1 + n + k) (omega (arith, len))).totals a k e lt (omega arith))
                   ∙ (ok'.sums k lt ∙ ap (λ (y : List ℕ). some (row_sum adds made 0 y k)) (sym same))));
@@ -189,9 +152,9 @@ module _ (n w : ℕ) (adds : List Op → ℕ → ℕ) (made : ℕ → List Made)
     where
       by_asks : (ls : List Look) → ((q : ℕ) (l : Look) → get_elem? ls q ≡ some l → IsLook n w adds made w l) → IsScan n w adds made h (ask_ends n w i x ls c)
       by_asks [] each = ok
-      by_asks (l ∷ ls) each = by_cond (l.place == i) (IsScan n w adds made h) (answers n w x l c) c
-          (λ same. let at : l.place ≡ i = eqb-true _ _ same in let more = asked_more c (asked_of n x l) (asked_right i x l at is (each 0 l refl)) ok in
-          by_cond (lends n w x c.now.floor l) (IsScan n w adds made h) (answered (lent_answer n w l) (once_asked n x l c)) (given_up n (nothing_lent n x l c))
-          (λ hit. let t = lent_right i x c.now.floor l at is lent (each 0 l refl) hit in scan_answered (once_asked n x l c) (lent_answer n w l) some_n t.1 t.0 more)
-          (λ _. scan_gives (nothing_lent n x l c) some_n (with_now (once_asked n x l c) c.quit (record c.now { due = rest c.now.due; asks = [] }) ok.looks (λ q l e. absurd (some-ne-none l (sym e))) ok.whole more)))
+      by_asks (l ∷ ls) each = cond_both (l.place == i) (answers n w x l c) c (IsScan n w adds made h)
+          (λ same. let at : l.place ≡ i = eqb-true _ _ same in let asked' = each_push (IsAsked n w adds made) c.asked (asked_of n x l) ok.asked (asked_right i x l at is (each 0 l refl)) in
+          cond_both (lends n w x c.now.floor l) (answered (lent_answer n w l) (once_asked n x l c)) (given_up n (nothing_lent n x l c)) (IsScan n w adds made h)
+          (λ hit. let t = lent_right i x c.now.floor l at is lent (each 0 l refl) hit in scan_answered (once_asked n x l c) (lent_answer n w l) some_n t.1 t.0 (with_now c c.opened (c.asked ++ asked_of n x l ∷ []) c.quit c.now ok.opened asked' ok.looks ok.asks ok.whole ok))
+          (λ _. scan_gives (nothing_lent n x l c) some_n (with_now c c.opened (c.asked ++ asked_of n x l ∷ []) c.quit (record c.now { due = rest c.now.due; asks = [] }) ok.opened asked' ok.looks (λ q l e. absurd (some-ne-none l (sym e))) ok.whole ok)))
           (λ _. ok)

@@ -1,8 +1,7 @@
 -- What publishes of others, and members that meet, leave true of a scan.
-use Rattle.std.proofs.Common.{◌≡◌, ℕ, zero, suc, ◌+◌, ◌<◌, ◌≤◌, inl, inr, ⊎_elim, List, [], ◌∷◌, ◌++◌, length, map, take, max, slice_set, sym, refl, ap, ◌∙◌, subst, arith, length-set}
-use mathlib.Core.Option.{some, some-injective, some-ne-none}
+use Rattle.std.proofs.Common.{◌≡◌, ℕ, suc, ◌+◌, ◌<◌, ◌≤◌, inl, inr, ⊎_elim, List, [], ◌∷◌, ◌++◌, length, map, take, slice_set, sym, refl, ap, ◌∙◌, subst, arith, length-set}
+use mathlib.Core.Option.{some}
 use lib.ListN.{get_elem?}
-use lib.Seq.{take-length}
 use Rattle.atomic_table.proofs.Lists.{at_set}
 use Rattle.ledger_core.specs.declared.op.Op.{Op}
 use Rattle.register_rule.specs.declared.view.Made.{Made}
@@ -17,24 +16,14 @@ use Rattle.register_rule.specs.Shown.{Shows}
 use Rattle.register_rule.specs.Scans.{number_of, AtMost, AreLoads, HasMoved, IsLook, Doomed, IsVersion, IsAnswer, IsAsked, IsScan}
 use Rattle.register_rule.specs.Steps.{upper}
 use Rattle.register_rule.proofs.Moments.{past_grows}
-use Rattle.register_rule.proofs.Upper.{length_upper, upper_from, upper_left}
+use Rattle.register_rule.proofs.Upper.{length_upper, upper_from, upper_of}
 
 -- each worker has published more, or nothing
 abbrev pub Grows : (made made' : ℕ → List Made) → Type 0
 Grows made made' = (j : ℕ) → (length (made j) ≤ length (made' j)) × ((q : ℕ) → q ≤ length (made j) → take q (made' j) ≡ take q (made j))
 
-pub take-all : {A : Type 0} (l : List A) (n : ℕ) → n ≡ length l → take n l ≡ l
-take-all l n e = ap (λ (z : ℕ). take z l) e ∙ take-length l
-
--- an entry of the first vector has a greater one at its place
-pub upper_at : (u v : List ℕ) (i x : ℕ) → get_elem? u i ≡ some x → (z : ℕ) × (get_elem? (upper u v) i ≡ some z) × (x ≤ z)
-upper_at [] v i x e = absurd (some-ne-none x (sym e))
-upper_at (y ∷ u) [] i x e = (x, e, omega arith)
-upper_at (y ∷ u) (z ∷ v) zero x e = let h : y ≡ x = some-injective y x e in (max y z, refl, omega (arith, h))
-upper_at (y ∷ u) (z ∷ v) (suc i) x e = upper_at u v i x e
-
 pub below_upper : (v s u : List ℕ) → length s ≡ length u → Below v s → Below v (upper s u)
-below_upper v s u len low i x z ex ez = let t = upper_left s u i z len ez in let p = low i x t.0 ex t.1 in let q = t.2 in omega arith
+below_upper v s u len low i x z ex ez = let t = upper_of s u i z len ez in let p = low i x t.0 ex t.2 in let q = t.4 in omega arith
 
 module _ (n w : ℕ) (adds : List Op → ℕ → ℕ) where
   module _ (made made' : ℕ → List Made) (more : Grows made made') where
@@ -140,7 +129,7 @@ module _ (n w : ℕ) (adds : List Op → ℕ → ℕ) where
       asked = ok.asked;
       recorded = λ q a e. ((ok.recorded q a e).0, below_upper a.vector c.seen v same (ok.recorded q a e).1);
       seen = λ i s e. ⊎_elim (ok.seen i s) (low i s) (upper_from c.seen v i s e);
-      seen_wide = length_upper c.seen v same ∙ ok.seen_wide;
+      seen_wide = length_upper c.seen v (omega (arith, same)) ∙ ok.seen_wide;
       kept = ok.kept;
       kept_wide = ok.kept_wide;
       looks = ok.looks;
@@ -148,8 +137,6 @@ module _ (n w : ℕ) (adds : List Op → ℕ → ℕ) where
       whole = ok.whole;
     }
 
-  -- what is seen at the own place is the own number, and no vector is above that
-  pub own_raised : (made : ℕ → List Made) (u v : List ℕ) (i : ℕ) → length u ≡ length v → AtMost n w adds made u → AtMost n w adds made v → get_elem? u i ≡ some (length (made i)) → get_elem? (upper u v) i ≡ some (length (made i))
-  own_raised made u v i len lu lv e = let t = upper_at u v i (length (made i)) e in let up = t.2 in
-      let le : t.0 ≤ length (made i) = ⊎_elim (lu i t.0) (lv i t.0) (upper_from u v i t.0 t.1) in
-      let same : t.0 ≡ length (made i) = omega arith in t.1 ∙ ap some same
+  -- what is seen at the own place is the own number; what is seen later is at least that, and not above it
+  pub own_rises : (made : ℕ → List Made) (u v : List ℕ) (i : ℕ) → AtMost n w adds made v → ((x : ℕ) → get_elem? u i ≡ some x → (z : ℕ) × (get_elem? v i ≡ some z) × (x ≤ z)) → get_elem? u i ≡ some (length (made i)) → get_elem? v i ≡ some (length (made i))
+  own_rises made u v i low rises e = let t = rises (length (made i)) e in let up = t.2 in let le = low i t.0 t.1 in let same : t.0 ≡ length (made i) = omega arith in t.1 ∙ ap some same

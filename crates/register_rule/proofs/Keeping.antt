@@ -1,9 +1,10 @@
 -- Each load, and each store into a hidden buffer, keeps the rule.
-use Rattle.std.proofs.Common.{◌≡◌, ◌≢◌, ℕ, zero, suc, ◌+◌, ◌*◌, ◌%◌, ◌<◌, ◌≤◌, ⊎_elim, List, [], ◌∷◌, ◌++◌, length, get_or, set, sym, refl, ap, ◌∙◌, subst, arith, length-set, append-nil}
-use mathlib.Core.Option.{some, some-injective, some-ne-none}
+use Rattle.std.proofs.Common.{◌≡◌, ◌≢◌, ℕ, suc, ◌+◌, ◌*◌, ◌<◌, ◌≤◌, ⊎_elim, List, [], ◌∷◌, ◌++◌, length, get_or, set, sym, refl, ap, ◌∙◌, subst, arith, length-set, append-nil}
+use mathlib.Core.Option.{some, some-ne-none}
 use mathlib.Core.Logic.{dite}
 use native.Mathlib.Decide.{ℕ_discrete}
 use lib.ListN.{get_elem?}
+use lib.Arith.{digits_lt}
 use lib.Seq.{set-get_or}
 use Rattle.atomic_table.specs.Table.{State, Me, keeps, Allows}
 use Rattle.atomic_table.proofs.Lists.{at_set, set_again}
@@ -25,23 +26,11 @@ use Rattle.register_rule.specs.Rule.{IsWorker, IsRole, IsMember, Rule}
 use Rattle.register_rule.specs.Steps.{after}
 use Rattle.register_rule.specs.Members.{group, led, scanned, filled}
 use Rattle.register_rule.specs.Told.{IsNumber, IsLoad, place_of, IsTold, AreRuled, AreRuledAt, Sits, AllCompare, CompareAt, Keeps}
-use Rattle.register_rule.proofs.Words.{item_lt, items_apart, sides, seg_here, seg_else, seg_at, only_one, place_lt}
-use Rattle.register_rule.proofs.Growth.{Grows}
+use Rattle.register_rule.proofs.Words.{item_lt, same_item, items_apart, seg_here, seg_else, seg_at, at_below, from_replicate, each_of}
+use Rattle.register_rule.proofs.Growth.{Grows, scan_grows, own_rises}
 use Rattle.register_rule.proofs.Finds.{Finds}
-use Rattle.register_rule.proofs.Looks.{scan_grows, scan_after, records_stay, own_stays}
+use Rattle.register_rule.proofs.Looks.{scan_after, records_stay, seen_stays}
 use Rattle.register_rule.proofs.Pairs.{fewer, compares, allows_both}
-
-pub at_below : {A : Type 0} (l : List A) (q : ℕ) (x : A) → get_elem? l q ≡ some x → q < length l
-at_below [] q x e = absurd (some-ne-none x (sym e))
-at_below (y ∷ ys) zero x e = omega arith
-at_below (y ∷ ys) (suc q) x e = let h = at_below ys q x e in omega arith
-
--- two words of two versions stand at one item only where they are the same word of the row
-same_item : (b s v k j : ℕ) → k < b → j < b → item_of b v j ≡ item_of b s k → j ≡ k
-same_item b s v k j hk hj e = ⊎_elim
-    (λ (t : (s % 2 * b ≡ 0) × (suc s % 2 * b ≡ b)). let p = t.0 in ⊎_elim (λ (u : (v % 2 * b ≡ 0) × (suc v % 2 * b ≡ b)). let q = u.0 in omega arith) (λ (u : (v % 2 * b ≡ b) × (suc v % 2 * b ≡ 0)). let q = u.0 in omega arith) (sides v b))
-    (λ (t : (s % 2 * b ≡ b) × (suc s % 2 * b ≡ 0)). let p = t.0 in ⊎_elim (λ (u : (v % 2 * b ≡ 0) × (suc v % 2 * b ≡ b)). let q = u.0 in omega arith) (λ (u : (v % 2 * b ≡ b) × (suc v % 2 * b ≡ 0)). let q = u.0 in omega arith) (sides v b))
-    (sides s b)
 
 -- all members of all seats, where the seat `id` has the view u from now on
 pub everyone_else : (F : ℕ → Member → Type 0) (vs : List View) (id : ℕ) (u : View) → ((p : ℕ) (x : Member) → get_elem? u.members p ≡ some x → F id x)
@@ -56,7 +45,7 @@ everyone_else F vs id u here others j v e p x at = ⊎_elim
 pub everywhere : (F : ℕ → Member → Type 0) (vs : List View) (id : ℕ) (m : Member) → F id m
     → ((j : ℕ) (v : View) → j ≢ id → get_elem? vs j ≡ some v → (p : ℕ) (x : Member) → get_elem? v.members p ≡ some x → F j x)
     → (j : ℕ) (v : View) → get_elem? (set vs id (group (m ∷ []))) j ≡ some v → (p : ℕ) (x : Member) → get_elem? v.members p ≡ some x → F j x
-everywhere F vs id m here = everyone_else F vs id (group (m ∷ [])) (λ p x at. subst (F id) (only_one m p x at) here)
+everywhere F vs id m here = everyone_else F vs id (group (m ∷ [])) (λ p x at. subst (F id) (from_replicate 1 m p x at) here)
 
 module _ (n w b : ℕ) (adds : List Op → ℕ → ℕ) (accepts : (ℕ → ℕ) → List Op → Type 0) where
   abbrev Ruled : State (Unit {0}) View → Type 0
@@ -123,7 +112,7 @@ module _ (n w b : ℕ) (adds : List Op → ℕ → ℕ) (accepts : (ℕ → ℕ)
         let number : ℕ = length (r.made i) in
         let place' : at ≡ i * span b + item_of b (suc number) k = place ∙ ap (λ (l : List Made). i * span b + item_of b (suc (length l)) k) was.work.all in
         let item = item_lt b (suc number) k inside in
-        let at_lt : at < length s.words = subst (λ (z : ℕ × ℕ). z.0 < z.1) (λ c. (sym place' c, sym r.wide c)) (place_lt i n _ (span b) was.work.inside item) in
+        let at_lt : at < length s.words = subst (λ (z : ℕ × ℕ). z.0 < z.1) (λ c. (sym place' c, sym r.wide c)) (digits_lt was.work.inside item) in
         let words' : List ℕ = set s.words at x in
         let new : Member = filled k x m in
         let hidden_deep = was.work.hidden_deep in
@@ -157,7 +146,7 @@ module _ (n w b : ℕ) (adds : List Op → ℕ → ℕ) (accepts : (ℕ → ℕ)
           shown = λ j k' h lt. subst (Shows n w adds (r.made j) k') (sym (seg_else b s.words i _ x at j _ place' item (item_lt b (length (r.made j)) k' lt)
               (λ ji e. items_apart b number k k' inside lt (sym e ∙ ap (λ (z : ℕ). item_of b (length (r.made z)) k') ji)))) (r.shown j k' h lt);
           lent = r.lent;
-          bounded = stays_small (item_of b (suc number) k) s.words room place' item at_lt (λ v q lt e. low (subst (λ (z : ℕ). z < w) (same_item b (suc number) v k q inside (omega arith) e) lt)) r.bounded;
+          bounded = stays_small (item_of b (suc number) k) s.words room place' item at_lt (λ v q lt e. low (subst (λ (z : ℕ). z < w) (same_item b (suc number) v k q inside (omega arith) e).1 lt)) r.bounded;
           each = everywhere (IsMember n w b adds r.made r.owner r.history words') s.views id new here (λ j v other e p y at'. subst (λ (z : List ℕ). IsMember n w b adds r.made r.owner z words' j y) (append-nil r.history)
               (stays r.made r.made r.owner r.history [] s.words words' i id own (λ _. (omega arith, λ _ _. refl)) (λ _ _. refl)
               (λ h y' apart lt. seg_else b s.words i _ x at h y' place' item lt (λ same. absurd (apart same))) j y other (r.each j v e p y at')));
@@ -199,16 +188,16 @@ module _ (n w b : ℕ) (adds : List Op → ℕ → ℕ) (accepts : (ℕ → ℕ)
     }
 
     -- a load of a scan leaves what the member is
-    role_after : (m : Member) (who : Who) (what : Load) (x : ℕ) → IsScan n w adds made history m.scan → IsScan n w adds made history (after n w what x m.scan) → IsRole n w b adds made words m who → IsRole n w b adds made words (scanned (after n w what x) m) who
-    role_after m (Worker i) what x ok ok' was = record {
+    role_after : (m : Member) (who : Who) (what : Load) (x : ℕ) → IsScan n w adds made history (after n w what x m.scan) → IsRole n w b adds made words m who → IsRole n w b adds made words (scanned (after n w what x) m) who
+    role_after m (Worker i) what x ok was = record {
       work = was.work;
-      own = own_stays n w adds made history what x m.scan i ok ok' was.own;
+      own = own_rises n w adds made m.scan.seen (after n w what x m.scan).seen i ok.seen (seen_stays n w what x m.scan i) was.own;
       lends = λ q y a e l. let t = was.lends q y a e l in (t.0, records_stay n w what x m.scan t.0 a t.1);
     }
-    role_after m (Reader r) what x ok ok' was = tt
+    role_after m (Reader r) what x ok was = tt
 
     member_after : (m : Member) (what : Load) (x : ℕ) → IsScan n w adds made history (after n w what x m.scan) → IsMember n w b adds made owner history words id m → IsMember n w b adds made owner history words id (scanned (after n w what x) m)
-    member_after m what x ok' was = record { here = was.here; role = role_after m m.who what x was.scan ok' was.role; scan = ok' }
+    member_after m what x ok' was = record { here = was.here; role = role_after m m.who what x ok' was.role; scan = ok' }
 
   -- what a load of a word of the board finds
   module _ (s : State (Unit {0}) View) (r : Ruled s) where
@@ -248,7 +237,7 @@ module _ (n w b : ℕ) (adds : List Op → ℕ → ℕ) (accepts : (ℕ → ℕ)
         let was = first s r id me.0 m ms seat one in
         let each = r.each id me.0 seat in
         let ok = member_after r.made r.owner r.history s.words id m what x (scan_after n w adds r.made r.history r.counted r.lent what x m.scan (some_worker what inside) (finds s r what at inside place) was.scan) was in
-        let here = here_after s r seat ok in
+        let here = each_of (IsMember n w b adds r.made r.owner r.history s.words id) new ms ok (λ p y e. each (suc p) y (ap (λ (l : List Member). get_elem? l (suc p)) one ∙ e)) in
         let rule : Ruled record { words = set s.words at x; homes = s.homes; views = set s.views id (group (new ∷ ms)) } =
         subst (λ (ws : List ℕ). Ruled record { words = ws; homes = s.homes; views = set s.views id (group (new ∷ ms)) }) (sym (set-get_or s.words at 0)) record {
           made = r.made;
@@ -264,10 +253,6 @@ module _ (n w b : ℕ) (adds : List Op → ℕ → ℕ) (accepts : (ℕ → ℕ)
           each = everyone_else (IsMember n w b adds r.made r.owner r.history s.words) s.views id (group (new ∷ ms)) here (λ j v other e. r.each j v e);
         } in
         (group (new ∷ ms), keeps, tt, rule, (ap (λ (l : List Member). group (led (scanned (after n w what x)) l)) (sym one), refl, told s r id what at me.0.members inside place each, ruled r.made r.owner r.history s.words id (new ∷ ms) r.counted r.legal here))
-      where
-        here_after : {new : Member} → (s : State (Unit {0}) View) (r : Ruled s) → get_elem? s.views id ≡ some me.0 → IsMember n w b adds r.made r.owner r.history s.words id new → (p : ℕ) (y : Member) → get_elem? (new ∷ ms) p ≡ some y → IsMember n w b adds r.made r.owner r.history s.words id y
-        here_after s r seat ok zero y e = subst (IsMember n w b adds r.made r.owner r.history s.words id) (some-injective _ y e) ok
-        here_after s r seat ok (suc p) y e = r.each id me.0 seat (suc p) y (ap (λ (l : List Member). get_elem? l (suc p)) one ∙ e)
 
     pub load_allows : me.0.members ≡ m ∷ ms → IsLoad n b what → at ≡ place_of b what
         → Allows (Keeps n w b adds accepts) slots id me at (λ z. z) (λ found me'. (me'.0 ≡ group (led (scanned (after n w what found)) me.0.members)) × (me'.1 ≡ me.1) × IsTold w what me.0.members found × AreRuled n w adds accepts me'.0.members)

@@ -1,19 +1,21 @@
 -- A worker of a board of one worker and one counter that published 5, scanned, and lends its answer with 10 more.
-use Rattle.std.proofs.Common.{◌≡◌, ℕ, zero, suc, ◌+◌, ◌≤◌, true, false, Option, Some, None, List, [], ◌∷◌, ◌++◌, take, slice_index, slice_index_or, sym, refl, ap, ◌∙◌, subst, arith}
+use Rattle.std.proofs.Common.{◌≡◌, ℕ, true, false, List, [], ◌∷◌, ◌++◌, slice_index, sym, refl, ap, ◌∙◌, subst, arith}
 use mathlib.Core.Option.{some}
+use Rattle.std.proofs.lemmas.Option.{same_Some}
 use lib.ListN.{get_elem?}
 use Rattle.ledger_core.specs.declared.op.Op.{Op}
 use Rattle.ledger_core.specs.declared.op.Op.TheVariants.{Inc}
-use Rattle.ledger_core.specs.Ops.{sum_ops, IsWithin}
+use Rattle.ledger_core.specs.Ops.{sum_ops}
 use Rattle.ledger_core.specs.Row.{Accepts}
 use Rattle.register_rule.specs.declared.view.Made.{Made}
 use Rattle.register_rule.specs.declared.view.Answer.{Answer}
 use Rattle.register_rule.specs.declared.view.Scan.{Scan}
 use Rattle.register_rule.specs.declared.view.Member.{Member}
 use Rattle.register_rule.specs.Steps.{after_open, after_read, after_confirm}
-use Rattle.register_rule.specs.Sums.{total, last_lent}
+use Rattle.register_rule.specs.Sums.{total}
 use Rattle.register_rule.specs.Members.{new_worker, first_of, led, scanned, filled, published, made_of}
 use Rattle.register_rule.specs.Told.{HoldsNext}
+use Rattle.register_rule.proofs.Adding.{accepts_inc}
 
 -- one step of a scan by a member that is alone
 pub scans_alone : (f : Scan → Scan) (before after : List Member) (m : Member) → before ≡ first_of before ∷ [] → after ≡ led (scanned f) before → first_of before ≡ m → first_of after ≡ scanned f m
@@ -37,37 +39,15 @@ longer = ready.work.made ++ made_of more true ready ∷ []
 abbrev lent : Answer
 lent = record { vector = 1 ∷ []; totals = 5 ∷ [] }
 
-or_lent : Option Answer → Answer
-or_lent None = lent
-or_lent (Some a) = a
-
-is_lent : last_lent longer ≡ Some lent
-is_lent = refl
-
-the_lent : (a : Answer) → last_lent longer ≡ Some a → lent ≡ a
-unfolding or_lent
-the_lent a e = ap or_lent (sym is_lent ∙ e)
-
 holds : HoldsNext 1 1 4 (sum_ops 1 0) more true ready
 holds k lt = record {
   row = λ h. let z : k ≡ 0 = omega arith in subst (λ (j : ℕ). slice_index ready.work.hidden j ≡ total (sum_ops 1 0) longer j) (sym z) refl;
   flag = λ h. ap (slice_index ready.work.hidden) h;
   vector = λ a j e h at. let zj : j ≡ 0 = omega arith in let zk : k ≡ 2 = omega arith in
-      subst (λ (t : Answer × ℕ × ℕ). get_elem? t.0.vector t.1 ≡ some (slice_index ready.work.hidden t.2)) (λ c. (the_lent a e c, sym zj c, sym zk c)) refl;
+      subst (λ (t : Answer × ℕ × ℕ). get_elem? t.0.vector t.1 ≡ some (slice_index ready.work.hidden t.2)) (λ c. (same_Some lent a e c, sym zj c, sym zk c)) refl;
   totals = λ a j e h at. let zj : j ≡ 0 = omega arith in let zk : k ≡ 3 = omega arith in
-      subst (λ (t : Answer × ℕ × ℕ). get_elem? t.0.totals t.1 ≡ some (slice_index ready.work.hidden t.2)) (λ c. (the_lent a e c, sym zj c, sym zk c)) refl;
-}
-
-begins : (j : ℕ) → total (sum_ops 1 0) ready.work.made 0 + sum_ops 1 0 (take j more) 0 ≤ 281474976710655
-begins zero = omega arith
-begins (suc zero) = omega arith
-begins (suc (suc j)) = omega arith
-
-accepts : Accepts 1 0 0 (total (sum_ops 1 0) ready.work.made) more
-accepts = record {
-  within = λ k d h. let z : k ≡ 0 = omega arith in subst (λ (j : ℕ). IsWithin 1 0 0 (slice_index_or more j d)) (sym z) (omega arith);
-  fits = λ j h k lt. let z : k ≡ 0 = omega arith in subst (λ (i : ℕ). total (sum_ops 1 0) ready.work.made i + sum_ops 1 0 (take j more) i ≤ 281474976710655) (sym z) (begins j);
+      subst (λ (t : Answer × ℕ × ℕ). get_elem? t.0.totals t.1 ≡ some (slice_index ready.work.hidden t.2)) (λ c. (same_Some lent a e c, sym zj c, sym zk c)) refl;
 }
 
 pub full : (z : Member) → z ≡ ready → HoldsNext 1 1 4 (sum_ops 1 0) more true z × Accepts 1 0 0 (total (sum_ops 1 0) z.work.made) more
-full z e = subst (λ (y : Member). HoldsNext 1 1 4 (sum_ops 1 0) more true y × Accepts 1 0 0 (total (sum_ops 1 0) y.work.made) more) (sym e) (holds, accepts)
+full z e = subst (λ (y : Member). HoldsNext 1 1 4 (sum_ops 1 0) more true y × Accepts 1 0 0 (total (sum_ops 1 0) y.work.made) more) (sym e) (holds, accepts_inc 5 10 ready.work.made refl (omega arith))

@@ -4,9 +4,9 @@ use mathlib.Core.Logic.{dite}
 use mathlib.Core.Option.{some, some-injective, some-ne-none}
 use native.Mathlib.Decide.{ℕ_discrete}
 use lib.ListN.{get_elem?, length-map}
-use lib.Seq.{take-length}
-use Rattle.std.proofs.lemmas.Bool.{eqb-true, not-true, ne_eqb, or_from, true≢false}
-use Rattle.atomic_table.proofs.Lists.{at_snoc, at_map, at_longer, at_set}
+use lib.Seq.{take-length, take_all}
+use Rattle.std.proofs.lemmas.Bool.{and_parts, cond_both, eqb-true, not-true, ne_eqb, or_from, true≢false}
+use Rattle.atomic_table.proofs.Lists.{at_map, at_longer, at_set}
 use Rattle.ledger_core.specs.declared.op.Op.{Op}
 use Rattle.register_rule.specs.declared.view.Made.{Made}
 use Rattle.register_rule.specs.declared.view.Look.{Look}
@@ -21,23 +21,16 @@ use Rattle.register_rule.specs.Sums.{total, row_sum, last_lent}
 use Rattle.register_rule.specs.Shown.{Shows}
 use Rattle.register_rule.specs.Scans.{number_of, AreLoads, HasMoved, IsLook, Doomed, IsVersion, IsAnswer, IsScan}
 use Rattle.register_rule.specs.Steps.{every, answered, given_up, words_kept, begun, unsure, opens_next, after_open, noted, after_read, settled, remembered, confirmed_at, clean, is_clean, sum_words, answer_of, based, failed_once_more, ended, after_confirm, lends, lent_answer, answers, ask_ends, after}
-use Rattle.register_rule.proofs.Words.{from_map, by_cond, and_parts}
+use Rattle.register_rule.proofs.Words.{at_below, there, from_map, last_is, each_of, each_push}
 use Rattle.register_rule.proofs.Moments.{tab_at}
 use Rattle.register_rule.proofs.Finds.{Finds}
-use Rattle.register_rule.proofs.Growth.{take-all, upper_at}
-use Rattle.register_rule.proofs.Asks.{at_end, there, once_asked, nothing_lent, with_now, scan_gives, scan_answered, ask_right, end_ask_right}
-pub use Rattle.register_rule.proofs.Growth.{answer_grows, scan_grows, scan_published, scan_raised, own_raised}
+use Rattle.register_rule.proofs.Upper.{upper_at}
+use Rattle.register_rule.proofs.Asks.{once_asked, nothing_lent, with_now, scan_gives, scan_answered, ask_right, end_ask_right}
 
 every_at : {A : Type 0} (p : A → Bool) (xs : List A) → every p xs ≡ true → (q : ℕ) (x : A) → get_elem? xs q ≡ some x → p x ≡ true
 every_at p [] e q x at = absurd (some-ne-none x (sym at))
 every_at p (y ∷ ys) e zero x at = ap p (sym (some-injective y x at)) ∙ (and_parts (p y) (every p ys) e).0
 every_at p (y ∷ ys) e (suc q) x at = every_at p ys (and_parts (p y) (every p ys) e).1 q x at
-
-last_is : {A : Type 0} (l : List A) (a b : A) (j : ℕ) → get_elem? (l ++ a ∷ []) j ≡ some b → (get_elem? l j ≡ some b) ⊎ ((a ≡ b) × (j ≡ length l))
-last_is [] a b zero e = inr (some-injective a b e, refl)
-last_is [] a b (suc j) e = absurd (some-ne-none b (sym e))
-last_is (x ∷ xs) a b zero e = inl e
-last_is (x ∷ xs) a b (suc j) e = ⊎_elim (λ t. inl t) (λ t. inr (t.0, ap suc t.1)) (last_is xs a b j e)
 
 -- the numbers of a try, place by place
 as_tab : (i : ℕ) (ls : List Look) (f : ℕ → ℕ) → ((q : ℕ) (l : Look) → get_elem? ls q ≡ some l → l.number ≡ f (i + q)) → map number_of ls ≡ tab i (length ls) f
@@ -52,18 +45,18 @@ map_same f same (l ∷ ls) = λ k. same l k ∷ map_same f same ls k
 -- the words that are remembered are those of the version of this number, or there are none
 words_from : (P : List ℕ → Type 0) (i s : ℕ) (kept : List Version) → P [] → ((v : Version) → get_elem? kept i ≡ some v → v.number ≡ s → P v.row) → P (words_kept i s kept)
 words_from P i s [] none each = none
-words_from P zero s (v ∷ vs) none each = by_cond (v.number == s) P v.row [] (λ same. each v refl (eqb-true _ _ same)) (λ _. none)
+words_from P zero s (v ∷ vs) none each = cond_both (v.number == s) v.row [] P (λ same. each v refl (eqb-true _ _ same)) (λ _. none)
 words_from P (suc i) s (v ∷ vs) none each = words_from P i s vs none each
 
 length_remembered : (w i : ℕ) (ls : List Look) (kept : List Version) → length (remembered w i ls kept) ≡ length kept
 length_remembered w i [] kept = refl
-length_remembered w i (l ∷ ls) kept = by_cond (l.place == i && l.sure && length l.words == w) (λ (z : List Version). length z ≡ length kept) (slice_set kept i (record { number = l.number; row = l.words })) (remembered w i ls kept)
+length_remembered w i (l ∷ ls) kept = cond_both (l.place == i && l.sure && length l.words == w) (slice_set kept i (record { number = l.number; row = l.words })) (remembered w i ls kept) (λ (z : List Version). length z ≡ length kept)
     (λ _. length-set kept i _) (λ _. length_remembered w i ls kept)
 
 module _ (n w : ℕ) (adds : List Op → ℕ → ℕ) (made : ℕ → List Made) (h : List ℕ) (counted : (i : ℕ) → i < n → count i h ≡ length (made i)) where
   -- one more load, of the place i
   loads_more : (xs : List (ℕ × ℕ)) (i x : ℕ) → i < n → x ≡ length (made i) → AreLoads n w adds made xs → AreLoads n w adds made (xs ++ (i, x) ∷ [])
-  loads_more xs i x inside is ok q y e = ⊎_elim (ok q y) (λ (t : (i, x) ≡ y). subst (λ (z : ℕ × ℕ). (z.0 < n) × (z.1 ≤ length (made z.0))) t (inside, omega (arith, is))) (at_snoc xs (i, x) y q e)
+  loads_more xs i x inside is ok = each_push (λ (z : ℕ × ℕ). (z.0 < n) × (z.1 ≤ length (made z.0))) xs (i, x) ok (inside, omega (arith, is))
 
   -- of places of which none is confirmed, one has moved, or all stand at their numbers
   moved_or : (ls : List Look) → ((q : ℕ) (l : Look) → get_elem? ls q ≡ some l → (l.number ≤ length (made l.place)) × (l.sure ≡ false))
@@ -71,13 +64,9 @@ module _ (n w : ℕ) (adds : List Op → ℕ → ℕ) (made : ℕ → List Made)
   moved_or [] ok = inr (λ q l e. absurd (some-ne-none l (sym e)))
   moved_or (l ∷ ls) ok = dite (ℕ_discrete l.number (length (made l.place)))
       (λ same. ⊎_elim (λ (d : Doomed n w adds made ls). inl (suc d.0, d.1, d.2, d.3))
-      (λ (all : (q : ℕ) (x : Look) → get_elem? ls q ≡ some x → x.number ≡ length (made x.place)). inr (both same all))
+      (λ (all : (q : ℕ) (x : Look) → get_elem? ls q ≡ some x → x.number ≡ length (made x.place)). inr (each_of (λ (x : Look). x.number ≡ length (made x.place)) l ls same all))
       (moved_or ls (λ q x e. ok (suc q) x e)))
       (λ other. let le = (ok 0 l refl).0 in inl (0, l, refl, ((ok 0 l refl).1, omega arith)))
-    where
-      both : l.number ≡ length (made l.place) → ((q : ℕ) (x : Look) → get_elem? ls q ≡ some x → x.number ≡ length (made x.place)) → (q : ℕ) (x : Look) → get_elem? (l ∷ ls) q ≡ some x → x.number ≡ length (made x.place)
-      both same all zero x e = subst (λ (z : Look). z.number ≡ length (made z.place)) (some-injective l x e) same
-      both same all (suc q) x e = all q x e
 
   -- the numbers of this moment
   moment_now : (ls : List Look) → length ls ≡ n → ((q : ℕ) (l : Look) → get_elem? ls q ≡ some l → IsLook n w adds made 0 l × (l.place ≡ q))
@@ -97,7 +86,7 @@ module _ (n w : ℕ) (adds : List Op → ℕ → ℕ) (made : ℕ → List Made)
     risen = inl refl;
     right = words_from (λ (ws : List ℕ). (k y : ℕ) → get_elem? ws k ≡ some y → Shows n w adds (take x (made i)) (0 + k) y ⊎ HasMoved n w adds made (begun i x (words_kept i x kept))) i x kept
         (λ k y e. absurd (some-ne-none y (sym e)))
-        (λ v at new k y e. inl (let lt = at_end v.row k y e in let wide = (ok i v at).wide in let z : k ≡ 0 + k = omega arith in record {
+        (λ v at new k y e. inl (let lt = at_below v.row k y e in let wide = (ok i v at).wide in let z : k ≡ 0 + k = omega arith in record {
           row = λ _. (ok i v at).row k y e ∙ (λ c. total adds (take (new c) (made i)) (z c));
           flag = λ is. absurd (omega arith);
           vector = λ a j _ _ is. absurd (omega arith);
@@ -107,7 +96,7 @@ module _ (n w : ℕ) (adds : List Op → ℕ → ℕ) (made : ℕ → List Made)
 
   -- the opening load
   after_open_right : (c : Scan) (i x : ℕ) → i < n → x ≡ length (made i) → IsScan n w adds made h c → IsScan n w adds made h (after_open i x c)
-  after_open_right c i x inside is ok = by_cond (opens_next i c.now) (λ (t : Try). IsScan n w adds made h (record c { opened = c.opened ++ (i, x) ∷ []; now = t })) (record c.now { looks = c.now.looks ++ begun i x (words_kept i x c.kept) ∷ [] }) c.now
+  after_open_right c i x inside is ok = cond_both (opens_next i c.now) (record c.now { looks = c.now.looks ++ begun i x (words_kept i x c.kept) ∷ [] }) c.now (λ (t : Try). IsScan n w adds made h (record c { opened = c.opened ++ (i, x) ∷ []; now = t }))
       (λ hit. let t = and_parts _ _ hit in let at : i ≡ length c.now.looks = eqb-true _ _ t.0 in let free = (and_parts _ _ t.1).1 in
       let new = begun i x (words_kept i x c.kept) in
       let looks' : (q : ℕ) (l : Look) → get_elem? (c.now.looks ++ new ∷ []) q ≡ some l → IsLook n w adds made 0 l × (l.place ≡ q) =
@@ -115,32 +104,16 @@ module _ (n w : ℕ) (adds : List Op → ℕ → ℕ) (made : ℕ → List Made)
       (λ (z : (new ≡ l) × (q ≡ length c.now.looks)). subst (λ (y : Look). IsLook n w adds made 0 y × (y.place ≡ q)) z.0 (begun_right i x c.kept inside is ok.kept, at ∙ sym z.1))
       (last_is c.now.looks _ l q e) in
       let none : (q : ℕ) (l : Look) → get_elem? (c.now.looks ++ new ∷ []) q ≡ some l → (l.number ≤ length (made l.place)) × (l.sure ≡ false) =
-      λ q l e. ((looks' q l e).0.old, ⊎_elim (λ z. not-true l.sure (every_at unsure c.now.looks free q l z)) (λ (z : new ≡ l). ap (λ (y : Look). y.sure) (sym z)) (at_snoc c.now.looks _ l q e)) in
-      more (record c.now { looks = c.now.looks ++ new ∷ [] }) looks' ok.asks
-      (λ len. ⊎_elim (λ (d : Doomed n w adds made (c.now.looks ++ new ∷ [])). inl d) (λ all. inr (moment_now _ len looks' all)) (moved_or (c.now.looks ++ new ∷ []) none)))
-      (λ _. more c.now ok.looks ok.asks ok.whole)
-    where
-      more : (t : Try) → ((q : ℕ) (l : Look) → get_elem? t.looks q ≡ some l → IsLook n w adds made 0 l × (l.place ≡ q)) → ((q : ℕ) (l : Look) → get_elem? t.asks q ≡ some l → IsLook n w adds made w l)
-          → (length t.looks ≡ n → Doomed n w adds made t.looks ⊎ IsMoment n h (map number_of t.looks)) → IsScan n w adds made h (record c { opened = c.opened ++ (i, x) ∷ []; now = t })
-      more t looks' asks' whole' = record {
-        opened = loads_more c.opened i x inside is ok.opened;
-        confirmed = ok.confirmed;
-        asked = ok.asked;
-        recorded = ok.recorded;
-        seen = ok.seen;
-        seen_wide = ok.seen_wide;
-        kept = ok.kept;
-        kept_wide = ok.kept_wide;
-        looks = looks';
-        asks = asks';
-        whole = whole';
-      }
+      λ q l e. ((looks' q l e).0.old, each_push (λ (y : Look). y.sure ≡ false) c.now.looks new (λ q y z. not-true y.sure (every_at unsure c.now.looks free q y z)) refl q l e) in
+      with_now n w adds made h c (c.opened ++ (i, x) ∷ []) c.asked c.quit (record c.now { looks = c.now.looks ++ new ∷ [] }) (loads_more c.opened i x inside is ok.opened) ok.asked looks' ok.asks
+      (λ len. ⊎_elim (λ (d : Doomed n w adds made (c.now.looks ++ new ∷ [])). inl d) (λ all. inr (moment_now _ len looks' all)) (moved_or (c.now.looks ++ new ∷ []) none)) ok)
+      (λ _. with_now n w adds made h c (c.opened ++ (i, x) ∷ []) c.asked c.quit c.now (loads_more c.opened i x inside is ok.opened) ok.asked ok.looks ok.asks ok.whole ok)
 
   -- a load that changes looks one by one, and no place or number
   scan_maps : (c : Scan) (f g : Look → Look) → ((l : Look) → (f l).number ≡ l.number) → ((l : Look) → (f l).place ≡ l.place) → ((l : Look) → IsLook n w adds made 0 l → IsLook n w adds made 0 (f l))
       → ((l : Look) → IsLook n w adds made w l → IsLook n w adds made w (g l)) → ((l : Look) → HasMoved n w adds made l → (f l).sure ≡ false)
       → IsScan n w adds made h c → IsScan n w adds made h (record c { now = record c.now { looks = map f c.now.looks; asks = map g c.now.asks } })
-  scan_maps c f g number place look look' sure ok = with_now n w adds made h c c.quit (record c.now { looks = map f c.now.looks; asks = map g c.now.asks })
+  scan_maps c f g number place look look' sure ok = with_now n w adds made h c c.opened c.asked c.quit (record c.now { looks = map f c.now.looks; asks = map g c.now.asks }) ok.opened ok.asked
       (λ q l e. let t = from_map f c.now.looks q l e in subst (λ (z : Look). IsLook n w adds made 0 z × (z.place ≡ q)) t.2 (look t.0 (ok.looks q t.0 t.1).0, place t.0 ∙ (ok.looks q t.0 t.1).1))
       (λ q l e. let t = from_map g c.now.asks q l e in subst (IsLook n w adds made w) t.2 (look' t.0 (ok.asks q t.0 t.1)))
       (λ len. ⊎_elim
@@ -152,11 +125,11 @@ module _ (n w : ℕ) (adds : List Op → ℕ → ℕ) (made : ℕ → List Made)
   -- the load of a word, which is right as long as the number of the segment is s
   after_read_right : (c : Scan) (i s k x : ℕ) → (s ≡ length (made i) → Shows n w adds (made i) k x) → IsScan n w adds made h c → IsScan n w adds made h (after_read w i s k x c)
   after_read_right c i s k x right ok = scan_maps c (noted 0 i s k x) (noted w i s k x)
-      (λ l. by_cond (test 0 l) (λ (y : Look). y.number ≡ l.number) _ _ (λ _. refl) (λ _. refl))
-      (λ l. by_cond (test 0 l) (λ (y : Look). y.place ≡ l.place) _ _ (λ _. refl) (λ _. refl))
-      (λ l ok'. by_cond (test 0 l) (IsLook n w adds made 0) (record l { words = l.words ++ x ∷ [] }) l (λ hit. notes 0 l ok' hit) (λ _. ok'))
-      (λ l ok'. by_cond (test w l) (IsLook n w adds made w) (record l { words = l.words ++ x ∷ [] }) l (λ hit. notes w l ok' hit) (λ _. ok'))
-      (λ l moved. by_cond (test 0 l) (λ (y : Look). y.sure ≡ false) _ _ (λ _. moved.0) (λ _. moved.0))
+      (λ l. cond_both (test 0 l) _ _ (λ (y : Look). y.number ≡ l.number) (λ _. refl) (λ _. refl))
+      (λ l. cond_both (test 0 l) _ _ (λ (y : Look). y.place ≡ l.place) (λ _. refl) (λ _. refl))
+      (λ l ok'. cond_both (test 0 l) (record l { words = l.words ++ x ∷ [] }) l (IsLook n w adds made 0) (λ hit. notes 0 l ok' hit) (λ _. ok'))
+      (λ l ok'. cond_both (test w l) (record l { words = l.words ++ x ∷ [] }) l (IsLook n w adds made w) (λ hit. notes w l ok' hit) (λ _. ok'))
+      (λ l moved. cond_both (test 0 l) _ _ (λ (y : Look). y.sure ≡ false) (λ _. moved.0) (λ _. moved.0))
       ok
     where
       test : ℕ → Look → Bool
@@ -173,7 +146,7 @@ module _ (n w : ℕ) (adds : List Op → ℕ → ℕ) (made : ℕ → List Made)
                 (λ (t : (x ≡ y) × (q ≡ length l.words)). dite (ℕ_discrete l.number (length (made l.place)))
                 (λ is. let kq : k ≡ from + q = at ∙ ap (λ (z : ℕ). from + z) (sym t.1) in
                 let fresh : s ≡ length (made i) = sym this ∙ (is ∙ ap (λ (z : ℕ). length (made z)) here) in
-                let all : made i ≡ take l.number (made l.place) = ap made (sym here) ∙ sym (take-all (made l.place) l.number is) in
+                let all : made i ≡ take l.number (made l.place) = ap made (sym here) ∙ sym (take_all l.number (made l.place) (omega (arith, is))) in
                 inl (subst (λ (z : List Made × ℕ × ℕ). Shows n w adds z.0 z.1 z.2) (λ c. (all c, kq c, t.0 c)) (right fresh)))
                 (λ other. let le = ok'.old in inr (off, omega arith)))
                 (last_is l.words x y q e);
@@ -183,7 +156,7 @@ module _ (n w : ℕ) (adds : List Op → ℕ → ℕ) (made : ℕ → List Made)
   remembers : (i : ℕ) (ls : List Look) (kept : List Version) → ((q : ℕ) (l : Look) → get_elem? ls q ≡ some l → IsLook n w adds made 0 l) → ((p : ℕ) (v : Version) → get_elem? kept p ≡ some v → IsVersion n w adds made p v)
       → (p : ℕ) (v : Version) → get_elem? (remembered w i ls kept) p ≡ some v → IsVersion n w adds made p v
   remembers i [] kept each ok = ok
-  remembers i (l ∷ ls) kept each ok = by_cond (l.place == i && l.sure && length l.words == w) (λ (z : List Version). (p : ℕ) (v : Version) → get_elem? z p ≡ some v → IsVersion n w adds made p v) (slice_set kept i (record { number = l.number; row = l.words })) (remembered w i ls kept)
+  remembers i (l ∷ ls) kept each ok = cond_both (l.place == i && l.sure && length l.words == w) (slice_set kept i (record { number = l.number; row = l.words })) (remembered w i ls kept) (λ (z : List Version). (p : ℕ) (v : Version) → get_elem? z p ≡ some v → IsVersion n w adds made p v)
       (λ hit p v e. ⊎_elim
       (λ t. subst (λ (z : ℕ × Version). IsVersion n w adds made z.0 z.1) (λ k. (sym t.0 k, t.1 k)) (new hit))
       (λ t. ok p v t.1)
@@ -195,7 +168,7 @@ module _ (n w : ℕ) (adds : List Op → ℕ → ℕ) (made : ℕ → List Made)
           let here : l.place ≡ i = eqb-true _ _ t1.0 in let on : l.sure ≡ true = t1.1 in let wide' : length l.words ≡ w = eqb-true _ _ t2.1 in let right = each 0 l refl in record {
             old = let o = right.old in subst (λ (z : ℕ). l.number ≤ length (made z)) here o;
             wide = wide';
-            row = λ k x e. let lt = at_end l.words k x e in let z : 0 + k ≡ k = omega arith in ⊎_elim
+            row = λ k x e. let lt = at_below l.words k x e in let z : 0 + k ≡ k = omega arith in ⊎_elim
                 (λ (t : Shows n w adds (take l.number (made l.place)) (0 + k) x). t.row (omega arith) ∙ (λ c. total adds (take l.number (made (here c))) (z c)))
                 (λ (t : HasMoved n w adds made l). absurd (true≢false (sym on ∙ t.0)))
                 (right.right k x e);
@@ -204,9 +177,9 @@ module _ (n w : ℕ) (adds : List Op → ℕ → ℕ) (made : ℕ → List Made)
   -- a confirming load, but for the end of the try
   confirmed_right : (c : Scan) (i x : ℕ) → i < n → x ≡ length (made i) → IsScan n w adds made h c → IsScan n w adds made h (confirmed_at w i x c)
   confirmed_right c i x inside is ok = let m = scan_maps c (settled i x) (λ l. l)
-      (λ l. by_cond (l.place == i) (λ (y : Look). y.number ≡ l.number) _ _ (λ _. refl) (λ _. refl))
-      (λ l. by_cond (l.place == i) (λ (y : Look). y.place ≡ l.place) _ _ (λ _. refl) (λ _. refl))
-      (λ l ok'. by_cond (l.place == i) (IsLook n w adds made 0) (record l { sure = l.sure || l.number == x; found = x }) l
+      (λ l. cond_both (l.place == i) _ _ (λ (y : Look). y.number ≡ l.number) (λ _. refl) (λ _. refl))
+      (λ l. cond_both (l.place == i) _ _ (λ (y : Look). y.place ≡ l.place) (λ _. refl) (λ _. refl))
+      (λ l ok'. cond_both (l.place == i) (record l { sure = l.sure || l.number == x; found = x }) l (IsLook n w adds made 0)
       (λ same. let end = still l same in record {
         inside = ok'.inside;
         old = ok'.old;
@@ -215,7 +188,7 @@ module _ (n w : ℕ) (adds : List Op → ℕ → ℕ) (made : ℕ → List Made)
       })
       (λ _. ok'))
       (λ l ok'. ok')
-      (λ l moved. by_cond (l.place == i) (λ (y : Look). y.sure ≡ false) (record l { sure = l.sure || l.number == x; found = x }) l (λ same. off l same moved) (λ _. moved.0))
+      (λ l moved. cond_both (l.place == i) (record l { sure = l.sure || l.number == x; found = x }) l (λ (y : Look). y.sure ≡ false) (λ same. off l same moved) (λ _. moved.0))
       ok in record {
         opened = m.opened;
         confirmed = loads_more c.confirmed i x inside is ok.confirmed;
@@ -267,7 +240,7 @@ module _ (n w : ℕ) (adds : List Op → ℕ → ℕ) (made : ℕ → List Made)
             (ok.looks q l at).1 ∙ z',
             let long = (each q l at).1 in ⊎_elim (λ (r : Shows n w adds (take l.number (made l.place)) (0 + k) (get_or l.words k 0)). let z'' : 0 + k ≡ k = omega arith in r.row (omega arith) ∙ ap (total adds (take l.number (made l.place))) z'')
                 (λ (r : HasMoved n w adds made l). absurd (true≢false (sym (each q l at).0 ∙ r.0)))
-                ((ok.looks q l at).0.right k (get_or l.words k 0) (there l.words k (omega (arith, long)))),
+                ((ok.looks q l at).0.right k (get_or l.words k 0) (there l.words k 0 (omega (arith, long)))),
           )));
         },
         length-map c.now.looks number_of ∙ len,
@@ -275,17 +248,17 @@ module _ (n w : ℕ) (adds : List Op → ℕ → ℕ) (made : ℕ → List Made)
 
   -- the end of a try
   ended_right : (c : Scan) → 0 < n → IsScan n w adds made h c → IsScan n w adds made h (ended n w c)
-  ended_right c some_n ok = by_cond (is_clean n w c.now.looks) (IsScan n w adds made h) (answered (answer_of w c.now.looks) c) (given_up n (record c { now = failed_once_more (based c.now) }))
+  ended_right c some_n ok = cond_both (is_clean n w c.now.looks) (answered (answer_of w c.now.looks) c) (given_up n (record c { now = failed_once_more (based c.now) })) (IsScan n w adds made h)
       (λ hit. let t = clean_right c ok hit in scan_answered n w adds made h c (answer_of w c.now.looks) some_n t.1 t.0 ok)
       (λ _. scan_gives n w adds made h (record c { now = failed_once_more (based c.now) }) some_n
-      (with_now n w adds made h c c.quit (failed_once_more (based c.now)) (λ q l e. absurd (some-ne-none l (sym e)))
-      (by_cond (c.now.failed == 0) (λ (t : Try). (q : ℕ) (l : Look) → get_elem? t.asks q ≡ some l → IsLook n w adds made w l) (record c.now { floor = _; base = _ }) c.now (λ _. ok.asks) (λ _. ok.asks))
+      (with_now n w adds made h c c.opened c.asked c.quit (failed_once_more (based c.now)) ok.opened ok.asked (λ q l e. absurd (some-ne-none l (sym e)))
+      (cond_both (c.now.failed == 0) (record c.now { floor = _; base = _ }) c.now (λ (t : Try). (q : ℕ) (l : Look) → get_elem? t.asks q ≡ some l → IsLook n w adds made w l) (λ _. ok.asks) (λ _. ok.asks))
       (λ none. absurd (let z : 0 ≡ n = none in omega arith)) ok))
 
   -- the confirming load
   after_confirm_right : (c : Scan) (i x : ℕ) → 0 < n → i < n → x ≡ length (made i) → IsScan n w adds made h c → IsScan n w adds made h (after_confirm n w i x c)
   after_confirm_right c i x some_n inside is ok = let new = confirmed_right c i x inside is ok in
-      by_cond (i + 1 == n) (IsScan n w adds made h) (ended n w (confirmed_at w i x c)) (confirmed_at w i x c) (λ _. ended_right (confirmed_at w i x c) some_n new) (λ _. new)
+      cond_both (i + 1 == n) (ended n w (confirmed_at w i x c)) (confirmed_at w i x c) (IsScan n w adds made h) (λ _. ended_right (confirmed_at w i x c) some_n new) (λ _. new)
 
 -- a load of a scan
 pub scan_after : (n w : ℕ) (adds : List Op → ℕ → ℕ) (made : ℕ → List Made) (h : List ℕ) → ((i : ℕ) → i < n → count i h ≡ length (made i))
@@ -313,33 +286,29 @@ answer_stays c d a r s = let was = as_was c d r s in record {
 }
 
 give_stays : (n : ℕ) (c d : Scan) → d.recorded ≡ c.recorded → d.seen ≡ c.seen → Stays c (given_up n d)
-give_stays n c d r s = by_cond (length d.now.due == 0 && d.now.failed == n + 2) (Stays c) _ d (λ _. as_was c _ r s) (λ _. as_was c d r s)
+give_stays n c d r s = cond_both (length d.now.due == 0 && d.now.failed == n + 2) _ d (Stays c) (λ _. as_was c _ r s) (λ _. as_was c d r s)
 
 ask_stays : (n w i x : ℕ) (ls : List Look) (c : Scan) → Stays c (ask_ends n w i x ls c)
 ask_stays n w i x [] c = as_was c c refl refl
-ask_stays n w i x (l ∷ ls) c = by_cond (l.place == i) (Stays c) (answers n w x l c) c
-    (λ _. by_cond (lends n w x c.now.floor l) (Stays c) (answered (lent_answer n w l) (once_asked n x l c)) (given_up n (nothing_lent n x l c))
+ask_stays n w i x (l ∷ ls) c = cond_both (l.place == i) (answers n w x l c) c (Stays c)
+    (λ _. cond_both (lends n w x c.now.floor l) (answered (lent_answer n w l) (once_asked n x l c)) (given_up n (nothing_lent n x l c)) (Stays c)
     (λ _. answer_stays c (once_asked n x l c) (lent_answer n w l) refl refl)
     (λ _. give_stays n c (nothing_lent n x l c) refl refl))
     (λ _. as_was c c refl refl)
 
 end_stays : (n w i x : ℕ) (c : Scan) → Stays c (ended n w (confirmed_at w i x c))
-end_stays n w i x c = let d = confirmed_at w i x c in by_cond (is_clean n w d.now.looks) (Stays c) (answered (answer_of w d.now.looks) d) (given_up n (record d { now = failed_once_more (based d.now) }))
+end_stays n w i x c = let d = confirmed_at w i x c in cond_both (is_clean n w d.now.looks) (answered (answer_of w d.now.looks) d) (given_up n (record d { now = failed_once_more (based d.now) })) (Stays c)
     (λ _. answer_stays c d (answer_of w d.now.looks) refl refl) (λ _. give_stays n c (record d { now = failed_once_more (based d.now) }) refl refl)
 
 stays : (n w : ℕ) (what : Load) (x : ℕ) (c : Scan) → Stays c (after n w what x c)
 stays n w (Open place) x c = as_was c _ refl refl
 stays n w (Read place number item) x c = as_was c _ refl refl
-stays n w (Confirm place) x c = by_cond (place + 1 == n) (Stays c) (ended n w (confirmed_at w place x c)) (confirmed_at w place x c) (λ _. end_stays n w place x c) (λ _. as_was c _ refl refl)
+stays n w (Confirm place) x c = cond_both (place + 1 == n) (ended n w (confirmed_at w place x c)) (confirmed_at w place x c) (Stays c) (λ _. end_stays n w place x c) (λ _. as_was c _ refl refl)
 stays n w (Ask place) x c = as_was c _ refl refl
 stays n w (EndAsk place) x c = ask_stays n w place x c.now.asks c
 
 pub records_stay : (n w : ℕ) (what : Load) (x : ℕ) (c : Scan) (p : ℕ) (a : Answer) → get_elem? c.recorded p ≡ some a → get_elem? (after n w what x c).recorded p ≡ some a
 records_stay n w what x c p a e = (stays n w what x c).answer p a e
 
--- what is seen at the own place is the own number, and no load finds a greater one
-pub own_stays : (n w : ℕ) (adds : List Op → ℕ → ℕ) (made : ℕ → List Made) (h : List ℕ) (what : Load) (x : ℕ) (c : Scan) (i : ℕ) → IsScan n w adds made h c → IsScan n w adds made h (after n w what x c)
-    → get_elem? c.seen i ≡ some (length (made i)) → get_elem? (after n w what x c).seen i ≡ some (length (made i))
-own_stays n w adds made h what x c i ok ok' e = let t = (stays n w what x c).seen i (length (made i)) e in let up = t.2 in
-    let le : t.0 ≤ length (made i) = ok'.seen i t.0 t.1 in
-    let same : t.0 ≡ length (made i) = omega arith in t.1 ∙ ap some same
+pub seen_stays : (n w : ℕ) (what : Load) (x : ℕ) (c : Scan) (i y : ℕ) → get_elem? c.seen i ≡ some y → (z : ℕ) × (get_elem? (after n w what x c).seen i ≡ some z) × (y ≤ z)
+seen_stays n w what x c i y e = (stays n w what x c).seen i y e

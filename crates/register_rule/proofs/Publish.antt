@@ -1,13 +1,15 @@
 -- The store of the own number keeps the rule: the hidden buffer becomes the shown one.
-use Rattle.std.proofs.Common.{◌≡◌, ◌≢◌, ℕ, zero, suc, ◌+◌, ◌*◌, ◌%◌, ◌<◌, ◌≤◌, ⊎_elim, Bool, true, false, cond, List, [], ◌∷◌, ◌++◌, length, take, set, slice_index, sym, refl, ap, ◌∙◌, subst, arith, length-set, length-append, append_assoc, append-nil, Option, Some, None, eq-eqb, ne_eqb}
+use Rattle.std.proofs.Common.{◌≡◌, ◌≢◌, ℕ, suc, ◌+◌, ◌*◌, ◌%◌, ◌<◌, ◌≤◌, Bool, true, false, cond, List, [], ◌∷◌, ◌++◌, length, take, set, slice_index, sym, refl, ap, ◌∙◌, subst, arith, length-set, length-append, append_assoc, append-nil, Some, None, eq-eqb, ne_eqb}
 use mathlib.Core.Logic.{dite}
-use mathlib.Core.Option.{some, some-injective, some-ne-none}
+use mathlib.Core.Option.{some}
 use native.Mathlib.Decide.{ℕ_discrete}
 use lib.ListN.{get_elem?}
+use lib.Arith.{digits_lt}
 use lib.Seq.{length-take-le}
-use Rattle.std.proofs.lemmas.List.{take-append-le, take_all}
+use Rattle.std.proofs.lemmas.List.{take-append-le, take_all, get_or-take}
+use Rattle.std.proofs.lemmas.Option.{none-some, same_Some}
 use Rattle.atomic_table.specs.Table.{State, Me, keeps, Allows}
-use Rattle.atomic_table.proofs.Lists.{set_here, at_snoc}
+use Rattle.atomic_table.proofs.Lists.{set_here}
 use Rattle.segment_layout.specs.Layout.{span}
 use Rattle.ledger_core.specs.declared.op.Op.{Op}
 use Rattle.register_rule.specs.declared.view.Made.{Made}
@@ -24,39 +26,27 @@ use Rattle.register_rule.specs.Scans.{IsVersion}
 use Rattle.register_rule.specs.Rule.{IsWorker, IsRole, IsMember, Rule}
 use Rattle.register_rule.specs.Members.{group, led, last_entry, made_of, published}
 use Rattle.register_rule.specs.Told.{AllCompare, HoldsNext, Keeps}
-use Rattle.register_rule.proofs.Words.{item_lt, seg_here, seg_else, place_lt, put, put_here, put_else}
+use Rattle.register_rule.proofs.Words.{item_lt, seg_here, seg_else, at_below, there, read_at, each_push, put, put_here, put_else}
 use Rattle.register_rule.proofs.Moments.{count_append}
-use Rattle.register_rule.proofs.Growth.{Grows}
-use Rattle.register_rule.proofs.Looks.{answer_grows, scan_grows, scan_published}
+use Rattle.register_rule.proofs.Growth.{Grows, answer_grows, scan_grows, scan_published}
 use Rattle.register_rule.proofs.Pairs.{compares, allows_both}
-use Rattle.register_rule.proofs.Keeping.{at_below, everywhere, first, as_worker, stays}
+use Rattle.register_rule.proofs.Keeping.{everywhere, first, as_worker, stays}
 
--- what `Some` is of
-or_else : {A : Type 0} → A → Option A → A
-or_else d None = d
-or_else d (Some a) = a
-
-some_same : {A : Type 0} (x a : A) → Some x ≡ Some a → x ≡ a
-unfolding or_else
-some_same x a e = ap (or_else x) e
-
-none_some : {A : Type 0} (a : A) → None ≡ Some a → ⊥
-none_some a e = cc
-
-lent_last : (xs : List Made) (x : Made) → last_lent (xs ++ x ∷ []) ≡ x.lends
+-- what is lent after one more publish
+pub lent_last : (xs : List Made) (x : Made) → last_lent (xs ++ x ∷ []) ≡ x.lends
 lent_last [] x = refl
 lent_last (y ∷ []) x = refl
 lent_last (y ∷ z ∷ zs) x = lent_last (z ∷ zs) x
 
 at_last_entry : (l : List Answer) (a : Answer) → last_entry l ≡ Some a → (q : ℕ) × (get_elem? l q ≡ some a)
-at_last_entry [] a e = absurd (none_some a e)
-at_last_entry (x ∷ []) a e = (0, ap some (some_same x a e))
+at_last_entry [] a e = absurd (none-some a e)
+at_last_entry (x ∷ []) a e = (0, ap some (same_Some x a e))
 at_last_entry (x ∷ y ∷ ys) a e = let t = at_last_entry (y ∷ ys) a e in (suc t.0, t.1)
 
 -- what a publish lends is an answer that its worker recorded
 lent_entry : (m : Member) (lends : Bool) (a : Answer) → cond lends (last_entry m.scan.recorded) None ≡ Some a → (q : ℕ) × (get_elem? m.scan.recorded q ≡ some a)
 lent_entry m true a e = at_last_entry m.scan.recorded a e
-lent_entry m false a e = absurd (none_some a e)
+lent_entry m false a e = absurd (none-some a e)
 
 -- a list that the row accepts may come next
 legal_more : (adds : List Op → ℕ → ℕ) (accepts : (ℕ → ℕ) → List Op → Type 0) (before xs : List Made) (x : Made) → Legal adds accepts before xs → accepts (total adds (before ++ xs)) x.ops → Legal adds accepts before (xs ++ x ∷ [])
@@ -66,18 +56,6 @@ legal_more adds accepts before (x ∷ xs) y h a = (h.0, legal_more adds accepts 
 -- the version after the next one has its words where this one has them
 item_again : (b s k : ℕ) → item_of b (suc (suc s)) k ≡ item_of b s k
 item_again b s k = let e : suc (suc s) % 2 ≡ s % 2 = omega arith in ap (λ (z : ℕ). 1 + z * b + k) e
-
--- a list read by `slice_index` and by `get_elem?`
-indexed : (l : List ℕ) (k : ℕ) → k < length l → get_elem? l k ≡ some (slice_index l k)
-indexed [] k h = absurd (omega arith)
-indexed (x ∷ xs) zero h = refl
-indexed (x ∷ xs) (suc k) h = indexed xs k (omega arith)
-
-taken : (w : ℕ) (l : List ℕ) (k x : ℕ) → get_elem? (take w l) k ≡ some x → (k < w) × (get_elem? l k ≡ some x)
-taken zero l k x e = absurd (some-ne-none x (sym e))
-taken (suc w) [] k x e = absurd (some-ne-none x (sym e))
-taken (suc w) (y ∷ l) zero x e = (omega arith, e)
-taken (suc w) (y ∷ l) (suc k) x e = let t = taken w l k x e in let h = t.0 in (omega arith, t.1)
 
 module _ (n w b : ℕ) (adds : List Op → ℕ → ℕ) (accepts : (ℕ → ℕ) → List Op → Type 0) (slots id : ℕ) (me : Me (Unit {0}) View) (m : Member) (i x at : ℕ) (ops : List Op) (lends : Bool) where
   abbrev Ruled : State (Unit {0}) View → Type 0
@@ -100,8 +78,8 @@ module _ (n w b : ℕ) (adds : List Op → ℕ → ℕ) (accepts : (ℕ → ℕ)
       let whole : take (suc (length m.work.made)) (made i) ≡ longer = ap (take (suc (length m.work.made))) is ∙ take_all (suc (length m.work.made)) longer (omega arith) in record {
         old = let e : length (made i) ≡ length longer = ap (λ (l : List Made). length l) is in omega arith;
         wide = length-take-le w m.work.hidden (omega arith);
-        row = λ k y e. let t = taken w m.work.hidden k y e in let lt = t.0 in
-            some-injective y (slice_index m.work.hidden k) (sym t.1 ∙ indexed m.work.hidden k (at_below m.work.hidden k y t.1)) ∙ ((holds k (omega arith)).row lt ∙ ap (λ (l : List Made). total adds l k) (sym whole));
+        row = λ k y e. let below = at_below (take w m.work.hidden) k y e in let len : length (take w m.work.hidden) ≡ w = length-take-le w m.work.hidden (omega arith) in let lt : k < w = omega arith in
+            sym (read_at (take w m.work.hidden) k y 0 e) ∙ (get_or-take w m.work.hidden k 0 lt ∙ ((holds k (omega arith)).row lt ∙ ap (λ (l : List Made). total adds l k) (sym whole)));
       }
 
   -- the worker's segment shows the new version from now on, and the history has one more publish
@@ -121,7 +99,7 @@ module _ (n w b : ℕ) (adds : List Op → ℕ → ℕ) (accepts : (ℕ → ℕ)
       let len : length longer ≡ suc (length old) = omega (arith, length-append old (last ∷ [])) in
       let number : length (made' i) ≡ suc (length old) = ap (λ (l : List Made). length l) now ∙ len in
       let number' : suc (length m.work.made) ≡ length (made' i) = ap (λ (l : List Made). suc (length l)) all ∙ sym number in
-      let at_lt : at < length s.words = subst (λ (z : ℕ × ℕ). z.0 < z.1) (λ c. (sym place c, sym r.wide c)) (place_lt i n 0 (span b) inside (omega arith)) in
+      let at_lt : at < length s.words = subst (λ (z : ℕ × ℕ). z.0 < z.1) (λ c. (sym place c, sym r.wide c)) (digits_lt inside (omega arith)) in
       let words' : List ℕ = set s.words at x in
       let same : (j : ℕ) → j ≢ i → made' j ≡ r.made j = λ j other. put_else r.made i longer j other in
       let more : Grows r.made made' = λ j. dite (ℕ_discrete j i)
@@ -147,7 +125,7 @@ module _ (n w b : ℕ) (adds : List Op → ℕ → ℕ) (accepts : (ℕ → ℕ)
               ap (λ (z : ℕ). seg b words' i (item_of b z k)) number ∙ (item_stays i (suc (length old)) k (omega arith) ∙ was.work.hidden k y e);
         };
         own = set_here m.scan.seen i (suc (length m.work.made)) (omega arith) ∙ ap some number';
-        lends = λ q y a e l. ⊎_elim (λ (t : get_elem? m.work.made q ≡ some y). was.lends q y a t l) (λ (t : last ≡ y). lent_entry m lends a (ap (λ (z : Made). z.lends) t ∙ l)) (at_snoc m.work.made last y q e);
+        lends = λ q y a. each_push (λ (z : Made). z.lends ≡ Some a → (p : ℕ) × (get_elem? m.scan.recorded p ≡ some a)) m.work.made last (λ p z. was.lends p z a) (lent_entry m lends a) q y;
       } in
       let here : IsMember n w b adds made' r.owner later words' id new = record {
         here = ok.here;
@@ -172,7 +150,7 @@ module _ (n w b : ℕ) (adds : List Op → ℕ → ℕ) (accepts : (ℕ → ℕ)
         shown = λ j k h lt. dite (ℕ_discrete j i)
             (λ e. subst (λ (z : ℕ). Shows n w adds (made' z) k (seg b words' z (item_of b (length (made' z)) k))) (sym e)
             (subst (λ (z : List Made × ℕ). Shows n w adds z.0 k z.1)
-            (λ c. (mine c, sym (role.work.shown k (slice_index m.work.hidden k) (indexed m.work.hidden k (omega arith))) c)) (holds k lt)))
+            (λ c. (mine c, sym (role.work.shown k (slice_index m.work.hidden k) (there m.work.hidden k 0 (omega arith))) c)) (holds k lt)))
             (λ other. subst (λ (l : List Made). Shows n w adds l k (seg b words' j (item_of b (length l) k))) (sym (same j other)) (subst (Shows n w adds (r.made j) k) (sym (item_stays j (length (r.made j)) k lt)) (r.shown j k h lt)));
         lent = λ j a h e. dite (ℕ_discrete j i)
             (λ ji. let e' : last_lent longer ≡ Some a = sym (ap last_lent now) ∙ (ap (λ (z : ℕ). last_lent (made' z)) (sym ji) ∙ e) in

@@ -1,10 +1,11 @@
 use Rattle.std.proofs.Common.{lit<, ◌≡◌, ap, sym, ◌∙◌, subst, List, map, ◌++◌, ◌+◌, ◌-◌, All}
+use Rattle.std.proofs.lemmas.List.Elements.{All-push}
 use Rattle.ledger_core.specs.Ops.{width}
 use Rattle.register_rule.specs.declared.seats.ReadSeat.{ReadSeat}
 use Rattle.register_rule.specs.declared.view.Member.{Member}
 use Rattle.register_rule.specs.Members.{first_of, new_reader, readers_from}
 use Rattle.register_rule.specs.Seats.{table_of, members_of, reader_of, HasReader}
-use Rattle.register_rule.proofs.Start.{one_reader, more_readers, single, all_more}
+use Rattle.register_rule.proofs.Start.{readers_in_order, one_reader, one_more, single}
 use Rattle.register_rule.proofs.board.Board.part_readers.Goals as goal
 
 pub part-one-requires : goal.part-one-requires
@@ -25,8 +26,8 @@ loop-i-preserved g c =
       c.part-one.ensures.others ∙ is.1,
       subst (λ (z : List ReadSeat). map reader_of z ++ readers_from g.row.N (width g.row.C g.row.H g.row.G) (c.loop-i.i + 1) (c.args.readers - (c.loop-i.i + 1)) ≡ readers_from g.row.N (width g.row.C g.row.H g.row.G) 0 c.args.readers)
           (sym c.in_ok-push.ensures.items)
-          (more_readers reader_of g.row.N (width g.row.C g.row.H g.row.G) c.loop-i.i c.args.readers c.loop-i.read.items c.into_read.result c.loop-i-test.true one c.loop-i.invariant.2),
+          (one_more (readers_in_order g.row.N (width g.row.C g.row.H g.row.G)) reader_of c.loop-i.i c.args.readers c.loop-i.read.items c.into_read.result _ c.loop-i-test.true one c.loop-i.invariant.2),
       subst (All (HasReader c.args.self.now)) (sym c.in_ok-push.ensures.items)
-          (all_more (HasReader c.args.self.now) c.loop-i.read.items c.into_read.result c.loop-i.invariant.3
+          (All-push (HasReader c.args.self.now) c.loop-i.read.items c.into_read.result c.loop-i.invariant.3
           (ap table_of c.into_read.ensures.same ∙ (c.part-one.ensures.own.1 ∙ (c.loop-i.invariant.0 ∙ c.requires.own)))),
     )
