@@ -1,15 +1,14 @@
 -- Bytes are read in one way: as the groups of one list at most.
-use Rattle.std.proofs.Common.{◌≡◌, ℕ, ◌<◌, List, [], ◌∷◌, ◌++◌, drop, length, get_or, map, refl, sym, ap, ap₂, ◌∙◌, subst, inl, inr, arith}
-use Rattle.std.specs.Prelude.{ℤ, pos, neg_ℤ, codes}
+use Rattle.std.proofs.Common.{◌≡◌, ℕ, List, [], ◌∷◌, drop, length, get_or, map, refl, sym, ap, ap₂, ◌∙◌, subst, inl, inr, arith}
+use Rattle.std.specs.Prelude.{ℤ, pos, neg_ℤ}
 use Rattle.std.specs.Str.Parse.{IsNumeral, digits_value}
 use Rattle.std.proofs.lemmas.List.{append_cancel_right}
-use Rattle.metric_names.specs.Escapes.{EscHelp, EscLabel}
 use Rattle.metric_names.proofs.Escapes.{help_alone, label_alone}
 use Rattle.metric_desc.specs.declared.kind.Kind.{Kind}
 use Rattle.metric_desc.specs.declared.kind.Kind.TheVariants.{Counter, Histogram, Gauge}
 use Rattle.expo_text.specs.Samples.{Sample}
 use Rattle.expo_text.specs.Groups.{Group}
-use Rattle.expo_text.specs.Lines.{Written, AreLines, entry_of}
+use Rattle.expo_text.specs.Lines.{Written, entry_of}
 use Rattle.expo_text.specs.Parts.{Part, parts_of}
 use Rattle.expo_text.specs.Reads.{Match, IsHelpOf, word_of, WritesValue, IsLabel, IsSample, IsGroup, Reads}
 

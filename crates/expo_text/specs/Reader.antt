@@ -1,5 +1,5 @@
 -- What the values of the reader's types stand for.
-use Rattle.std.specs.Prelude.{◌≡◌, ◌≢◌, ℕ, Option, ◌==◌, List, [], ◌∷◌, ◌++◌, map, All}
+use Rattle.std.specs.Prelude.{◌≡◌, ◌≢◌, ℕ, Option, ◌==◌, List, ◌++◌, map, All}
 use Rattle.std.specs.Prelude.{Some, None}
 use Rattle.std.specs.List.{slice_split}
 use Rattle.expo_text.specs.Lines.{Place, Entry, AreLines, entry_of}

@@ -1,6 +1,5 @@
 -- The lines of the script language.
-use Rattle.std.specs.Prelude.{◌≡◌, ◌≢◌, ℕ, ◌<◌, ◌⊎◌, List, [], ◌∷◌, ◌++◌, codes, decimal, slice_get, All, Option, Some}
-use Rattle.std.specs.Borrow.{Bor}
+use Rattle.std.specs.Prelude.{◌≡◌, ◌≢◌, ℕ, ◌<◌, ◌⊎◌, List, [], ◌++◌, codes, decimal, slice_get, All, Some}
 use Rattle.metrics_run.specs.declared.line.Line.{Line}
 use Rattle.metrics_run.specs.declared.line.Line.TheVariants.{Nothing, Counter, Child, Inc, Go, Scrape}
 

@@ -1,7 +1,6 @@
 -- What script lines are, and what they queue and print.
-use Rattle.std.specs.Prelude.{◌≡◌, ◌≢◌, ℕ, ◌<◌, ◌⊎◌, ◌==◌, List, [], ◌∷◌, ◌++◌, codes, decimal, map, filter, slice_index, All, Option, None, Some, Bool, true, false}
+use Rattle.std.specs.Prelude.{ℕ, ◌==◌, List, [], ◌++◌, codes, decimal, map, filter, slice_index, Option, None, Some, Bool, true, false}
 use Rattle.ledger_core.specs.declared.op.Op.{Op}
-use Rattle.ledger_core.specs.declared.op.Op.TheVariants.{Inc}
 use Rattle.expo_text.specs.Text.{text}
 use Rattle.metrics_run.specs.CounterText.{one_counter_scrape}
 use Rattle.metrics_run.specs.declared.script.Queued.{Queued}

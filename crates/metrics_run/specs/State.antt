@@ -1,5 +1,5 @@
 -- What a script has made, before and after a line.
-use Rattle.std.specs.Prelude.{◌≡◌, ℕ, List, [], ◌∷◌, ◌++◌, Option, None, Some, Bool, false}
+use Rattle.std.specs.Prelude.{◌≡◌, ℕ, List, [], ◌∷◌, ◌++◌, None, Some, false}
 use Rattle.metrics_run.specs.declared.script.State.{State}
 use Rattle.metrics_run.specs.declared.script.Queued.{Queued}
 

@@ -1,4 +1,4 @@
-use Rattle.std.proofs.Common.{◌≡◌, ◌↔◌, ◌++◌, List, ℕ, ap, sym, ◌∙◌, subst}
+use Rattle.std.proofs.Common.{◌≡◌, ◌↔◌, ◌++◌, ap, sym, ◌∙◌, subst}
 use Rattle.expo_text.specs.Groups.{groups_of}
 use Rattle.expo_text.specs.Text.{text}
 use Rattle.expo_text.specs.Reads.{Reads}

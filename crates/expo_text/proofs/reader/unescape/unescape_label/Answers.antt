@@ -1,4 +1,4 @@
-use Rattle.std.proofs.Common.{◌-◌, ◌≤◌, ◌∙◌, length, subst, arith}
+use Rattle.std.proofs.Common.{◌-◌, ◌≤◌, length, subst, arith}
 use Rattle.metric_names.specs.Escapes.{label_byte}
 use Rattle.expo_text.proofs.ReadSoFar.{written_more, rest_length}
 use Rattle.expo_text.proofs.reader.unescape.unescape_label.Goals as goal
