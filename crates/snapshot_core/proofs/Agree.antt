@@ -1,8 +1,9 @@
 -- Two traces that are the same before an event have the same numbers, rows, views and turns there.
 use Rattle.std.proofs.Common.{◌≡◌, ℕ, zero, suc, ◌+◌, ◌<◌, ◌≤◌, ◌&&◌, inl, inr, ⊎_elim, Bool, true, false, cond, List, [], ◌∷◌, eqb, ltb, ltb-true, lt-ltb, le-ltb, sym, refl, ap, ◌∙◌, arith, Option, Some, None}
 use Rattle.std.specs.Prelude.{slice_get}
-use Rattle.std.proofs.lemmas.Bool.Decides.{nat_tests}
 use Rattle.std.proofs.lemmas.Option.{none-some, same_Some}
+use Rattle.std.proofs.lemmas.Bool.{ltb-false}
+use Rattle.std.proofs.Math.Nat.{zero-add}
 use mathlib.Core.Option.{some, some-injective, some-ne-none}
 use lib.ListN.{get_elem?}
 use Rattle.ledger_core.specs.declared.op.Op.{Op}
@@ -63,13 +64,10 @@ module _ {A : Type 0} (at : A → ℕ) where
       go false is rec = rec
   same_upto e (x ∷ xs) (y ∷ ys) rx ry h k = go (ltb (at x) e) (ltb (at y) e) refl refl (same_upto e xs ys (rising_tail at x xs rx) (rising_tail at y ys ry))
     where
-      late : (z : A) → ltb (at z) e ≡ false → e ≤ at z
-      late z is = grind (arith, nat_tests)
-
       -- the one before e is in the other list, whose first is not before e
       alone : (x y : A) (ys : List A) → Rising at (y ∷ ys) → ltb (at x) e ≡ true → ltb (at y) e ≡ false → (r : ℕ) → get_elem? (y ∷ ys) r ≡ some x → ⊥
-      alone x y ys ry ix iy zero is = let a = ltb-true (at x) e ix in let b = late y iy in let s : at y ≡ at x = ap at (some-injective y x is) in omega (arith, a, b, s)
-      alone x y ys ry ix iy (suc r) is = let a = ltb-true (at x) e ix in let b = late y iy in let l = ry 0 (suc r) y x refl is (omega arith) in omega (arith, a, b, l)
+      alone x y ys ry ix iy zero is = let a = ltb-true (at x) e ix in let b = ltb-false (at y) e iy in let s : at y ≡ at x = ap at (some-injective y x is) in omega (arith, a, b, s)
+      alone x y ys ry ix iy (suc r) is = let a = ltb-true (at x) e ix in let b = ltb-false (at y) e iy in let l = ry 0 (suc r) y x refl is (omega arith) in omega (arith, a, b, l)
 
       go : (b c : Bool) → ltb (at x) e ≡ b → ltb (at y) e ≡ c → (Has e xs ys → Has e ys xs → upto e xs ≡ upto e ys) → cond b (x ∷ upto e xs) (upto e xs) ≡ cond c (y ∷ upto e ys) (upto e ys)
       go true true ix iy rec =
@@ -81,52 +79,25 @@ module _ {A : Type 0} (at : A → ℕ) where
       go true false ix iy rec = absurd (let t = h 0 x refl (ltb-true (at x) e ix) in alone x y ys ry ix iy t.0 t.1)
       go false true ix iy rec = absurd (let t = k 0 y refl (ltb-true (at y) e iy) in alone y x xs rx iy ix t.0 t.1)
       go false false ix iy rec = rec
-          (has_past e xs ys y (λ q z ez lt s. let a = late y iy in let w : at y ≡ at z = ap at s in omega (arith, a, w, lt)) (λ q. h (suc q)))
-          (has_past e ys xs x (λ q z ez lt s. let a = late x ix in let w : at x ≡ at z = ap at s in omega (arith, a, w, lt)) (λ q. k (suc q)))
+          (has_past e xs ys y (λ q z ez lt s. let a = ltb-false (at y) e iy in let w : at y ≡ at z = ap at s in omega (arith, a, w, lt)) (λ q. h (suc q)))
+          (has_past e ys xs x (λ q z ez lt s. let a = ltb-false (at x) e ix in let w : at x ≡ at z = ap at s in omega (arith, a, w, lt)) (λ q. k (suc q)))
 
   -- where all are before e, those are all
   pub upto_all : (e : ℕ) (xs : List A) → ((q : ℕ) (x : A) → get_elem? xs q ≡ some x → at x < e) → upto e xs ≡ xs
   upto_all e [] h = refl
   upto_all e (x ∷ xs) h = let rest = upto_all e xs (λ q. h (suc q)) in ap (λ (b : Bool). cond b (x ∷ upto e xs) (upto e xs)) (lt-ltb (at x) e (h 0 x refl)) ∙ (λ d. x ∷ rest d)
 
--- What a moment up to e has is of what is before e.
-not_before : (a e j : ℕ) → ltb a e ≡ false → j ≤ e → ltb a j ≡ false
-not_before a e j is le = le-ltb a j (grind (arith, nat_tests))
+  -- what does not look at elements that are not before j is the same of those before e
+  looks_upto : {C : Type 0} (F : List A → C) (j e : ℕ) → j ≤ e → ((x : A) (xs : List A) → j ≤ at x → F (x ∷ xs) ≡ F xs) → ((x : A) (xs ys : List A) → F xs ≡ F ys → F (x ∷ xs) ≡ F (x ∷ ys)) → (xs : List A) → F (upto e xs) ≡ F xs
+  looks_upto F j e le late more [] = refl
+  looks_upto F j e le late more (x ∷ xs) = go (ltb (at x) e) refl (looks_upto F j e le late more xs)
+    where
+      go : (b : Bool) → ltb (at x) e ≡ b → F (upto e xs) ≡ F xs → F (cond b (x ∷ upto e xs) (upto e xs)) ≡ F (x ∷ xs)
+      go true is rec = more x (upto e xs) xs rec
+      go false is rec = rec ∙ sym (late x xs (let l = ltb-false (at x) e is in omega arith))
 
-none_more : (x : ℕ) → x ≡ 0 + x
-none_more x = omega arith
-
-upto_weigh : (v : Published → ℕ) (ps : List Published) (e j i : ℕ) → j ≤ e → weigh v (upto at_publish e ps) j i ≡ weigh v ps j i
-upto_weigh v [] e j i le = refl
-upto_weigh v (p ∷ ps) e j i le = go (ltb p.at e) refl (upto_weigh v ps e j i le)
-  where
-    go : (b : Bool) → ltb p.at e ≡ b → weigh v (upto at_publish e ps) j i ≡ weigh v ps j i → weigh v (cond b (p ∷ upto at_publish e ps) (upto at_publish e ps)) j i ≡ weigh v (p ∷ ps) j i
-    go true is rec = ap (λ (y : ℕ). cond (ltb p.at j && eqb p.worker i) (v p) 0 + y) rec
-    go false is rec = rec ∙ (none_more (weigh v ps j i) ∙ sym (ap (λ (b : Bool). cond (b && eqb p.worker i) (v p) 0 + weigh v ps j i) (not_before p.at e j is le)))
-
-upto_total : (adds : List Op → ℕ → ℕ) (ps : List Published) (e j x : ℕ) → j ≤ e → total_at adds (upto at_publish e ps) j x ≡ total_at adds ps j x
-upto_total adds [] e j x le = refl
-upto_total adds (p ∷ ps) e j x le = go (ltb p.at e) refl (upto_total adds ps e j x le)
-  where
-    go : (b : Bool) → ltb p.at e ≡ b → total_at adds (upto at_publish e ps) j x ≡ total_at adds ps j x → total_at adds (cond b (p ∷ upto at_publish e ps) (upto at_publish e ps)) j x ≡ total_at adds (p ∷ ps) j x
-    go true is rec = ap (λ (y : ℕ). cond (ltb p.at j) (adds p.ops x) 0 + y) rec
-    go false is rec = rec ∙ (none_more (total_at adds ps j x) ∙ sym (ap (λ (b : Bool). cond b (adds p.ops x) 0 + total_at adds ps j x) (not_before p.at e j is le)))
-
-upto_publish : (ps : List Published) (e j i : ℕ) → j ≤ e → (f : Option ℕ) → last_publish (upto at_publish e ps) j i f ≡ last_publish ps j i f
-upto_publish [] e j i le f = refl
-upto_publish (p ∷ ps) e j i le f = go (ltb p.at e) refl (upto_publish ps e j i le)
-  where
-    go : (b : Bool) → ltb p.at e ≡ b → ((f : Option ℕ) → last_publish (upto at_publish e ps) j i f ≡ last_publish ps j i f) → last_publish (cond b (p ∷ upto at_publish e ps) (upto at_publish e ps)) j i f ≡ last_publish (p ∷ ps) j i f
-    go true is rec = rec (cond (ltb p.at j && eqb p.worker i) (Some p.at) f)
-    go false is rec = rec f ∙ sym (ap (λ (b : Bool). last_publish ps j i (cond (b && eqb p.worker i) (Some p.at) f)) (not_before p.at e j is le))
-
-upto_view : (zs : List Answered) (e j i : ℕ) → j ≤ e → (f : Option View) → last_view (upto at_answer e zs) j i f ≡ last_view zs j i f
-upto_view [] e j i le f = refl
-upto_view (a ∷ zs) e j i le f = go (ltb a.end e) refl (upto_view zs e j i le)
-  where
-    go : (b : Bool) → ltb a.end e ≡ b → ((f : Option View) → last_view (upto at_answer e zs) j i f ≡ last_view zs j i f) → last_view (cond b (a ∷ upto at_answer e zs) (upto at_answer e zs)) j i f ≡ last_view (a ∷ zs) j i f
-    go true is rec = rec (cond (ltb a.end j && eqb a.actor i) a.view f)
-    go false is rec = rec f ∙ sym (ap (λ (b : Bool). last_view zs j i (cond (b && eqb a.actor i) a.view f)) (not_before a.end e j is le))
+  looks_same : {C : Type 0} (F : List A → C) (j e : ℕ) → j ≤ e → ((x : A) (xs : List A) → j ≤ at x → F (x ∷ xs) ≡ F xs) → ((x : A) (xs ys : List A) → F xs ≡ F ys → F (x ∷ xs) ≡ F (x ∷ ys)) → (xs ys : List A) → upto e xs ≡ upto e ys → F xs ≡ F ys
+  looks_same F j e le late more xs ys same = sym (looks_upto F j e le late more xs) ∙ (ap F same ∙ looks_upto F j e le late more ys)
 
 -- a last publish before j stands before j
 last_before : (ps : List Published) (j i : ℕ) (f : Option ℕ) (a : ℕ) → ((b : ℕ) → f ≡ Some b → b ≤ j) → last_publish ps j i f ≡ Some a → a ≤ j
@@ -152,7 +123,9 @@ agree_back e ps qs zs ys a = record { publishes = sym a.publishes; answers = sym
 
 module _ (e : ℕ) (ps qs : List Published) (zs ys : List Answered) (ag : Agree e ps qs zs ys) where
   weigh_same : (v : Published → ℕ) (j i : ℕ) → j ≤ e → weigh v ps j i ≡ weigh v qs j i
-  weigh_same v j i le = sym (upto_weigh v ps e j i le) ∙ (ap (λ (l : List Published). weigh v l j i) ag.publishes ∙ upto_weigh v qs e j i le)
+  weigh_same v j i le = looks_same at_publish (λ l. weigh v l j i) j e le
+      (λ p l late. ap (λ (b : Bool). cond (b && eqb p.worker i) (v p) 0 + weigh v l j i) (le-ltb p.at j late) ∙ zero-add (weigh v l j i))
+      (λ p l m same. ap (λ (y : ℕ). cond (ltb p.at j && eqb p.worker i) (v p) 0 + y) same) ps qs ag.publishes
 
   pub number_same : (j i : ℕ) → j ≤ e → number_at ps j i ≡ number_at qs j i
   number_same j i le = number_is ps j i ∙ (weigh_same (λ p. 1) j i le ∙ sym (number_is qs j i))
@@ -161,17 +134,22 @@ module _ (e : ℕ) (ps qs : List Published) (zs ys : List Answered) (ag : Agree 
   row_same adds j i x le = row_is adds ps j i x ∙ (weigh_same (λ p. adds p.ops x) j i le ∙ sym (row_is adds qs j i x))
 
   pub total_same : (adds : List Op → ℕ → ℕ) (j x : ℕ) → j ≤ e → total_at adds ps j x ≡ total_at adds qs j x
-  total_same adds j x le = sym (upto_total adds ps e j x le) ∙ (ap (λ (l : List Published). total_at adds l j x) ag.publishes ∙ upto_total adds qs e j x le)
+  total_same adds j x le = looks_same at_publish (λ l. total_at adds l j x) j e le
+      (λ p l late. ap (λ (b : Bool). cond b (adds p.ops x) 0 + total_at adds l j x) (le-ltb p.at j late) ∙ zero-add (total_at adds l j x))
+      (λ p l m same. ap (λ (y : ℕ). cond (ltb p.at j) (adds p.ops x) 0 + y) same) ps qs ag.publishes
 
   lent_same : (j i : ℕ) → j ≤ e → lent_at ps zs j i ≡ lent_at qs ys j i
-  lent_same j i le = go (last_publish ps j i None) refl ∙ ap (lent_since ys i) (sym (upto_publish ps e j i le None) ∙ (ap (λ (l : List Published). last_publish l j i None) ag.publishes ∙ upto_publish qs e j i le None))
+  lent_same j i le = go (last_publish ps j i None) refl ∙ ap (λ (g : Option ℕ → Option ℕ). lent_since ys i (g None)) (looks_same at_publish (λ l f. last_publish l j i f) j e le
+      (λ p l late k f. last_publish l j i (cond (le-ltb p.at j late k && eqb p.worker i) (Some p.at) f))
+      (λ p l m same k f. same k (cond (ltb p.at j && eqb p.worker i) (Some p.at) f)) ps qs ag.publishes)
     where
       go : (o : Option ℕ) → last_publish ps j i None ≡ o → lent_since zs i o ≡ lent_since ys i o
       go None is = refl
       go (Some a) is =
           let l = last_before ps j i None a (λ b s. absurd (none-some b s)) is in
-          let up : a ≤ e = omega (arith, l, le) in
-          sym (upto_view zs e a i up None) ∙ (ap (λ (z : List Answered). last_view z a i None) ag.answers ∙ upto_view ys e a i up None)
+          ap (λ (g : Option View → Option View). g None) (looks_same at_answer (λ l f. last_view l a i f) a e (omega (arith, l, le))
+          (λ z l late k f. last_view l a i (cond (le-ltb z.end a late k && eqb z.actor i) z.view f))
+          (λ z l m same k f. same k (cond (ltb z.end a && eqb z.actor i) z.view f)) zs ys ag.answers)
 
   pub meets_same : (r : Read) → r.at ≤ e → Meets ps zs r → Meets qs ys r
   meets_same r le m = record { number = m.number ∙ number_same r.at r.place le; view = m.view ∙ lent_same r.at r.place le }

@@ -1,10 +1,9 @@
 -- A turn without an answer is not justified, and one that nobody disturbs ends directly in its first try.
-use Rattle.std.proofs.Common.{◌≡◌, ◌⊎◌, inl, inr, ⊎_elim, ℕ, zero, suc, ◌+◌, ◌-◌, ◌*◌, ◌<◌, ◌≤◌, ◌==◌, Bool, true, false, cond, not, ◌&&◌, Option, Some, None, List, [], ◌∷◌, ◌++◌, length, map, sym, refl, ap, ◌∙◌, subst, arith, length-append, append_assoc, ltb, lt-ltb, le-ltb, eq-eqb}
-use mathlib.Core.Logic.{dite}
-use mathlib.Core.Option.{some, some-injective, some-ne-none}
-use native.Mathlib.Decide.{dec_le}
+use Rattle.std.proofs.Common.{◌≡◌, ◌⊎◌, ⊎_elim, ℕ, zero, suc, ◌+◌, ◌-◌, ◌*◌, ◌<◌, ◌≤◌, ◌==◌, Bool, true, false, cond, not, Option, Some, None, List, [], ◌∷◌, ◌++◌, length, map, sym, refl, ap, ◌∙◌, subst, arith, eq-eqb}
+use mathlib.Core.Option.{some, some-ne-none}
 use lib.ListN.{get_elem?, length-map}
 use Rattle.std.specs.Prelude.{slice_get}
+use Rattle.std.proofs.lemmas.Bool.{both_ways, and_from}
 use Rattle.snapshot_core.specs.declared.event.Event.{Event}
 use Rattle.snapshot_core.specs.declared.event.Event.TheVariants.{Begin, Step, Torn}
 use Rattle.snapshot_core.specs.declared.next.Next.{Next}
@@ -12,14 +11,16 @@ use Rattle.snapshot_core.specs.declared.next.Next.TheVariants.{First, Second, As
 use Rattle.snapshot_core.specs.declared.trace.How.{How}
 use Rattle.snapshot_core.specs.declared.trace.How.TheVariants as how
 use Rattle.snapshot_core.specs.declared.scan.Scan.{Scan}
-use Rattle.snapshot_core.specs.Tries.{View, Read, Try, place_of, number_of, from_on, reads_of, TwoCollects, is_whole, same_numbers, is_clean, AllFailed, floor_of, base_of}
+use Rattle.snapshot_core.specs.Tries.{View, Read, Try, place_of, number_of, reads_of, TwoCollects, is_whole, same_numbers, is_clean, AllFailed, floor_of, base_of}
 use Rattle.snapshot_core.specs.Next.{Follows}
 use Rattle.snapshot_core.specs.Told.{Told}
 use Rattle.snapshot_core.specs.History.{Published, number_at}
 use Rattle.snapshot_core.specs.Turns.{Answered, IsTurn, own, own_reads}
 use Rattle.snapshot_core.specs.Faithful.{Meets, where_and_torn, Ends, lent_at, IsJustified, NoneTorn, UndisturbedIsDirect}
-use Rattle.snapshot_core.proofs.Collects.{length_from}
-use Rattle.snapshot_core.proofs.Unique.{AllAlike, IsWanted, wanted_not_ended}
+use Rattle.snapshot_core.proofs.Collects.{count_of, length_parts}
+use Rattle.snapshot_core.proofs.Unique.{AllAlike, IsWanted, wanted_not_ended, head_same, tail_same}
+use Rattle.snapshot_core.proofs.Lending.{in_both, in_first, get_map, only_one, number_calm}
+use Rattle.snapshot_core.proofs.Turns.{own_front}
 
 -- a scan in progress: what it was told is all its own reads, and each meets its moment
 pub record Scans (n : ℕ) (ps : List Published) (answers : List Answered) (reads : List (ℕ × Bool)) : Type 0 where
@@ -37,16 +38,10 @@ pub alike_all : (ps : List Published) (answers : List Answered) (xs ys : List Re
 alike_all ps answers [] [] e mx my = tt
 alike_all ps answers [] (y ∷ ys) e mx my = absurd (cc)
 alike_all ps answers (x ∷ xs) [] e mx my = absurd (cc)
-alike_all ps answers (x ∷ xs) (y ∷ ys) e mx my = (record { same = same_read }, alike_all ps answers xs ys (rest_same e) (λ q. mx (suc q)) (λ q. my (suc q)))
+alike_all ps answers (x ∷ xs) (y ∷ ys) e mx my = (record { same = same_read }, alike_all ps answers xs ys (tail_same (where_and_torn x) (where_and_torn y) (map where_and_torn xs) (map where_and_torn ys) e) (λ q. mx (suc q)) (λ q. my (suc q)))
   where
     first_same : where_and_torn x ≡ where_and_torn y
-    first_same = head_of (where_and_torn x) (where_and_torn y) (map where_and_torn xs) (map where_and_torn ys) e
-      where
-        head_of : (a b : ℕ × Bool) (as' bs : List (ℕ × Bool)) → a ∷ as' ≡ b ∷ bs → a ≡ b
-        head_of a b as' bs e = cc
-
-    rest_same : map where_and_torn (x ∷ xs) ≡ map where_and_torn (y ∷ ys) → map where_and_torn xs ≡ map where_and_torn ys
-    rest_same e = cc
+    first_same = head_same (where_and_torn x) (where_and_torn y) (map where_and_torn xs) (map where_and_torn ys) e
 
     same_read : x.place ≡ y.place → x ≡ y
     same_read p =
@@ -69,59 +64,24 @@ not_justified n ps answers reads s tries h view j =
     (omega (arith, count, few)) j.scan.failed j.scan.ends
     (subst (λ (z : List Read × List Read). AllAlike z.0 z.1) (λ k. (told.all k, j.scan.all k)) alike)
 
-from_both : {A : Type 0} (xs ys : List A) (q : ℕ) (y : A) → get_elem? (xs ++ ys) q ≡ some y → ((p : ℕ) × (get_elem? xs p ≡ some y)) ⊎ ((p : ℕ) × (get_elem? ys p ≡ some y))
-from_both [] ys q y e = inr (q, e)
-from_both (x ∷ xs) ys zero y e = inl (zero, e)
-from_both (x ∷ xs) ys (suc q) y e = ⊎_elim (λ t. inl (suc t.0, t.1)) (λ t. inr t) (from_both xs ys q y e)
-
-pub to_front : {A : Type 0} (xs ys : List A) (q : ℕ) (y : A) → get_elem? xs q ≡ some y → get_elem? (xs ++ ys) q ≡ some y
-to_front [] ys q y e = absurd (some-ne-none y (sym e))
-to_front (x ∷ xs) ys zero y e = e
-to_front (x ∷ xs) ys (suc q) y e = to_front xs ys q y e
+-- an actor's own read of an event is of that event
+if_own : (e : ℕ) (torn t : Bool) (q : ℕ) (x : ℕ × Bool) → get_elem? (cond t ((e, torn) ∷ []) []) q ≡ some x → x.0 ≡ e
+if_own e torn true q x h = sym (ap (λ (z : ℕ × Bool). z.0) (only_one (e, torn) q x h))
+if_own e torn false q x h = absurd (some-ne-none x (sym h))
 
 one_own : (actor e : ℕ) (o : Option Event) (q : ℕ) (x : ℕ × Bool) → get_elem? (own actor e o) q ≡ some x → x.0 ≡ e
 one_own actor e None q x h = absurd (some-ne-none x (sym h))
 one_own actor e (Some (Begin who ops)) q x h = absurd (some-ne-none x (sym h))
-one_own actor e (Some (Step who)) q x h = go (who == actor) q h
-  where
-    go : (t : Bool) (q : ℕ) → get_elem? (cond t ((e, false) ∷ []) []) q ≡ some x → x.0 ≡ e
-    go true zero h = ap (λ (z : ℕ × Bool). z.0) (sym (some-injective (e, false) x h))
-    go true (suc q) h = absurd (some-ne-none x (sym h))
-    go false q h = absurd (some-ne-none x (sym h))
-one_own actor e (Some (Torn who)) q x h = go (who == actor) q h
-  where
-    go : (t : Bool) (q : ℕ) → get_elem? (cond t ((e, true) ∷ []) []) q ≡ some x → x.0 ≡ e
-    go true zero h = ap (λ (z : ℕ × Bool). z.0) (sym (some-injective (e, true) x h))
-    go true (suc q) h = absurd (some-ne-none x (sym h))
-    go false q h = absurd (some-ne-none x (sym h))
+one_own actor e (Some (Step who)) q x h = if_own e false (who == actor) q x h
+one_own actor e (Some (Torn who)) q x h = if_own e true (who == actor) q x h
 
 -- own reads are of the events that are looked at
 pub own_within : (es : List Event) (actor e m q : ℕ) (x : ℕ × Bool) → get_elem? (own_reads es actor e m) q ≡ some x → (e ≤ x.0) × (x.0 < e + m)
 own_within es actor e zero q x h = absurd (some-ne-none x (sym h))
 own_within es actor e (suc m) q x h = ⊎_elim
-    (λ (t : (p : ℕ) × (get_elem? (own actor e (slice_get es e)) p ≡ some x)). let z = one_own actor e (slice_get es e) t.0 x t.1 in (omega (arith, z), omega (arith, z)))
-    (λ (t : (p : ℕ) × (get_elem? (own_reads es actor (suc e) m) p ≡ some x)). let z = own_within es actor (suc e) m t.0 x t.1 in let z0 = z.0 in let z1 = z.1 in (omega (arith, z0), omega (arith, z1)))
-    (from_both (own actor e (slice_get es e)) (own_reads es actor (suc e) m) q x h)
-
--- the first m of them
-pub own_front : (es : List Event) (actor e m d : ℕ) → own_reads es actor e (m + d) ≡ own_reads es actor e m ++ own_reads es actor (e + m) d
-own_front es actor e zero d = let z : 0 + d ≡ d = omega arith in let y : e ≡ e + 0 = omega arith in λ k. own_reads es actor (y k) (z k)
-own_front es actor e (suc m) d =
-    let z : suc m + d ≡ suc (m + d) = omega arith in let y : suc e + m ≡ e + suc m = omega arith in
-    ap (own_reads es actor e) z ∙ (ap (λ (r : List (ℕ × Bool)). own actor e (slice_get es e) ++ r) (own_front es actor (suc e) m d ∙ ap (λ (r : ℕ). own_reads es actor (suc e) m ++ own_reads es actor r d) y)
-    ∙ sym (append_assoc (own actor e (slice_get es e)) (own_reads es actor (suc e) m) (own_reads es actor (e + suc m) d)))
-
--- while nobody publishes, numbers stay
-calm_number : (ps : List Published) (b l e i : ℕ) → ((q : ℕ) (p : Published) → get_elem? ps q ≡ some p → b < p.at → ¬ (p.at ≤ l)) → suc b ≤ e → e ≤ l → number_at ps e i ≡ number_at ps (suc b) i
-calm_number [] b l e i none lo hi = refl
-calm_number (p ∷ ps) b l e i none lo hi =
-    let rest = calm_number ps b l e i (λ q. none (suc q)) lo hi in
-    λ k. cond (same k && p.worker == i) 1 0 + rest k
-  where
-    same : ltb p.at e ≡ ltb p.at (suc b)
-    same = dite (dec_le p.at b)
-        (λ le. lt-ltb p.at e (omega arith) ∙ sym (lt-ltb p.at (suc b) (omega arith)))
-        (λ gt. let far : ¬ (p.at ≤ l) = none 0 p refl (omega arith) in le-ltb p.at e (omega arith) ∙ sym (le-ltb p.at (suc b) (omega arith)))
+    (λ t. let z = one_own actor e (slice_get es e) q x t in (omega (arith, z), omega (arith, z)))
+    (λ t. let z = own_within es actor (suc e) m t.0 x t.2 in let z0 = z.0 in let z1 = z.1 in (omega (arith, z0), omega (arith, z1)))
+    (in_both (own actor e (slice_get es e)) (own_reads es actor (suc e) m) q x h)
 
 -- whole reads that meet the numbers of one moment
 module _ (ps : List Published) (b : ℕ) where
@@ -146,11 +106,7 @@ module _ (ps : List Published) (b : ℕ) where
 
   calm_whole : (rs : List Read) → AreCalm rs → is_whole rs ≡ true
   calm_whole [] h = refl
-  calm_whole (r ∷ rs) h = go r.torn h.0.0 (calm_whole rs h.1)
-    where
-      go : (t : Bool) → t ≡ false → is_whole rs ≡ true → (not t && is_whole rs) ≡ true
-      go true e w = absurd (cc)
-      go false e w = w
+  calm_whole (r ∷ rs) h = and_from (not r.torn) (is_whole rs) (ap not h.0.0) (calm_whole rs h.1)
 
   calm_numbers : (rs : List Read) → AreCalm rs → map number_of rs ≡ map (number_at ps (suc b)) (map place_of rs)
   calm_numbers [] h = refl
@@ -158,52 +114,34 @@ module _ (ps : List Published) (b : ℕ) where
 
   same_self : (xs : List ℕ) → same_numbers xs xs ≡ true
   same_self [] = refl
-  same_self (x ∷ xs) = go (x == x) (eq-eqb x x refl) (same_self xs)
-    where
-      go : (t : Bool) → t ≡ true → same_numbers xs xs ≡ true → (t && same_numbers xs xs) ≡ true
-      go true e r = r
-      go false e r = absurd (cc)
+  same_self (x ∷ xs) = and_from (x == x) (same_numbers xs xs) (eq-eqb x x refl) (same_self xs)
 
   calm_clean : (n : ℕ) (t : Try) → TwoCollects n t → AreCalm t.first → AreCalm t.second → is_clean t ≡ true
   calm_clean n t c f s =
       let numbers : map number_of t.second ≡ map number_of t.first = calm_numbers t.second s ∙ (ap (map (number_at ps (suc b))) (c.second ∙ sym c.first) ∙ sym (calm_numbers t.first f)) in
-      let same : same_numbers (map number_of t.first) (map number_of t.second) ≡ true = ap (same_numbers (map number_of t.first)) numbers ∙ same_self (map number_of t.first) in
-      go (is_whole t.first) (calm_whole t.first f) same
-    where
-      go : (a : Bool) → a ≡ true → same_numbers (map number_of t.first) (map number_of t.second) ≡ true → (a && same_numbers (map number_of t.first) (map number_of t.second)) ≡ true
-      go true e r = r
-      go false e r = absurd (cc)
+      and_from (is_whole t.first) (same_numbers (map number_of t.first) (map number_of t.second)) (calm_whole t.first f) (ap (same_numbers (map number_of t.first)) numbers ∙ same_self (map number_of t.first))
 
   -- the first try of reads that are calm
   calm_try : (n : ℕ) (t : Try) (xs : List Read) → TwoCollects n t → AreCalm (t.first ++ t.second ++ t.asks ++ xs) → is_clean t ≡ true
   calm_try n t xs c h = let two = calm_front (t.first ++ t.second) t.asks (calm_front (t.first ++ t.second ++ t.asks) xs h) in calm_clean n t c (calm_front t.first t.second two) (calm_back t.first t.second two)
 
-  never : (t : Bool) → t ≡ true → t ≡ false → ⊥
-  never t e f = let g : true ≡ false = sym e ∙ f in cc
-
   -- so a scan that ended with calm reads was direct at once
   calm_ends : (n : ℕ) (before : List Try) (last : Try) (h : How) (view : Option View) → AllFailed n (floor_of before last) (base_of before last) before → Ends n before last h view → AreCalm (reads_of (before ++ last ∷ [])) → (h ≡ how.Direct) × (before ≡ [])
-  calm_ends n (s ∷ ts) last h view f e calm = absurd (never (is_clean s) (calm_try n s (reads_of (ts ++ last ∷ [])) f.0.collects calm) f.0.unclean)
+  calm_ends n (s ∷ ts) last h view f e calm = absurd (both_ways (is_clean s) f.0.unclean (calm_try n s (reads_of (ts ++ last ∷ [])) f.0.collects calm))
   calm_ends n [] last how.Direct view f e calm = (refl, refl)
-  calm_ends n [] last (how.Lent from) view f e calm = absurd (never (is_clean last) (calm_try n last [] e.collects calm) e.unclean)
-  calm_ends n [] last how.GaveUp view f e calm = absurd (never (is_clean last) (calm_try n last [] e.0.collects calm) e.0.unclean)
+  calm_ends n [] last (how.Lent from) view f e calm = absurd (both_ways (is_clean last) e.unclean (calm_try n last [] e.collects calm))
+  calm_ends n [] last how.GaveUp view f e calm = absurd (both_ways (is_clean last) e.0.unclean (calm_try n last [] e.0.collects calm))
 
   -- and one that goes on has made fewer than 2n reads
   calm_goes_on : (n : ℕ) (before : List Try) (t : Try) (next : Next) → IsWanted next → AllFailed n (floor_of before t) (base_of before t) before → Follows n before t next → AreCalm (reads_of (before ++ t ∷ [])) → length (reads_of (before ++ t ∷ [])) < 2 * n
-  calm_goes_on n (s ∷ ts) t next w f follows calm = absurd (never (is_clean s) (calm_try n s (reads_of (ts ++ t ∷ [])) f.0.collects calm) f.0.unclean)
+  calm_goes_on n (s ∷ ts) t next w f follows calm = absurd (both_ways (is_clean s) f.0.unclean (calm_try n s (reads_of (ts ++ t ∷ [])) f.0.collects calm))
   calm_goes_on n [] t (First p) w f (lt, places, second, asks) calm =
-      let l0 = length_of t.first (from_on 0 p) places in let l1 = length-append (t.first ++ t.second ++ t.asks) [] in let l2 = length-append (t.first ++ t.second) t.asks in let l3 = length-append t.first t.second in
-      let z : length t.second ≡ 0 = ap (λ (x : List Read). length x) second in let y : length t.asks ≡ 0 = ap (λ (x : List Read). length x) asks in let p0 = length_from 0 p in omega (arith, l0, l1, l2, l3, z, y, p0, lt)
-    where
-      length_of : (rs : List Read) (xs : List ℕ) → map place_of rs ≡ xs → length rs ≡ length xs
-      length_of rs xs e = sym (length-map rs place_of) ∙ ap (λ (x : List ℕ). length x) e
+      let l0 = count_of t.first 0 p places in let l1 = length_parts t.first t.second t.asks [] in
+      let z : length t.second ≡ 0 = ap (λ (x : List Read). length x) second in let y : length t.asks ≡ 0 = ap (λ (x : List Read). length x) asks in omega (arith, l0, l1, z, y, lt)
   calm_goes_on n [] t (Second p) w f (lt, places, seconds, asks) calm =
-      let l0 = length_of t.first (from_on 0 n) places in let l1 = length-append (t.first ++ t.second ++ t.asks) [] in let l2 = length-append (t.first ++ t.second) t.asks in let l3 = length-append t.first t.second in
-      let z = length_of t.second (from_on 0 p) seconds in let y : length t.asks ≡ 0 = ap (λ (x : List Read). length x) asks in let p0 = length_from 0 p in let n0 = length_from 0 n in omega (arith, l0, l1, l2, l3, z, y, p0, n0, lt)
-    where
-      length_of : (rs : List Read) (xs : List ℕ) → map place_of rs ≡ xs → length rs ≡ length xs
-      length_of rs xs e = sym (length-map rs place_of) ∙ ap (λ (x : List ℕ). length x) e
-  calm_goes_on n [] t (Ask p) w f (lt, collects, unclean, none, later) calm = absurd (never (is_clean t) (calm_try n t [] collects calm) unclean)
+      let l0 = count_of t.first 0 n places in let l1 = length_parts t.first t.second t.asks [] in
+      let z = count_of t.second 0 p seconds in let y : length t.asks ≡ 0 = ap (λ (x : List Read). length x) asks in omega (arith, l0, l1, z, y, lt)
+  calm_goes_on n [] t (Ask p) w f (lt, collects, unclean, none, later) calm = absurd (both_ways (is_clean t) unclean (calm_try n t [] collects calm))
   calm_goes_on n [] t Direct w f follows calm = absurd w
   calm_goes_on n [] t (Lent p) w f follows calm = absurd w
   calm_goes_on n [] t (GaveUp x y z) w f follows calm = absurd w
@@ -212,20 +150,15 @@ calm_met : (n c h g : ℕ) (es : List Event) (ps : List Published) (answers : Li
     → (met : List Read) → map where_and_torn met ≡ own_reads es actor (suc b) d → ((q : ℕ) (r : Read) → get_elem? met q ≡ some r → Meets ps answers r) → AreCalm ps b met
 calm_met n c h g es ps answers actor b m d le whole none met same meets = calm_from ps b met each
   where
-    at_map : (rs : List Read) (q : ℕ) (r : Read) → get_elem? rs q ≡ some r → get_elem? (map where_and_torn rs) q ≡ some (where_and_torn r)
-    at_map [] q r e = absurd (some-ne-none r (sym e))
-    at_map (x ∷ rs) zero r e = ap (λ (z : Read). some (where_and_torn z)) (some-injective x r e)
-    at_map (x ∷ rs) (suc q) r e = at_map rs q r e
-
     each : (q : ℕ) (r : Read) → get_elem? met q ≡ some r → IsCalm ps b r
     each q r e =
-        let there : get_elem? (own_reads es actor (suc b) d) q ≡ some (where_and_torn r) = sym (ap (λ (z : List (ℕ × Bool)). get_elem? z q) same) ∙ at_map met q r e in
+        let there : get_elem? (own_reads es actor (suc b) d) q ≡ some (where_and_torn r) = sym (ap (λ (z : List (ℕ × Bool)). get_elem? z q) same) ∙ get_map where_and_torn met q r e in
         let all : get_elem? (own_reads es actor (suc b) m) q ≡ some (where_and_torn r) =
         (let z : d + (m - d) ≡ m = omega arith in sym (ap (λ (y : ℕ). get_elem? (own_reads es actor (suc b) y) q) z) ∙ (ap (λ (y : List (ℕ × Bool)). get_elem? y q) (own_front es actor (suc b) d (m - d))
-        ∙ to_front (own_reads es actor (suc b) d) (own_reads es actor (suc b + d) (m - d)) q (where_and_torn r) there)) in
+        ∙ in_first (own_reads es actor (suc b) d) (own_reads es actor (suc b + d) (m - d)) q (where_and_torn r) there)) in
         let within = own_within es actor (suc b) d q (where_and_torn r) there in let w0 = within.0 in let w1 = within.1 in
         let met_it = meets q r e in
-        (whole q (where_and_torn r) all, met_it.number ∙ calm_number ps b (b + m) r.at r.place none (omega arith) (omega arith))
+        (whole q (where_and_torn r) all, met_it.number ∙ number_calm ps r.place (suc b) r.at (omega arith) (λ e lo hi k p is at of. none k p is (omega arith) (omega arith)))
 
 -- a turn that makes 2n reads while nobody publishes is answered directly in its first try
 pub undisturbed : (n c h g : ℕ) (es : List Event) (ps : List Published) (answers : List Answered)

@@ -1,15 +1,13 @@
 -- Each event keeps what is true of the machine.
-use Rattle.std.proofs.Common.{◌≡◌, ◌≢◌, ◌&&◌, ℕ, zero, suc, ◌+◌, ◌-◌, ◌^◌, ◌<◌, ◌≤◌, ⊎_elim, Bool, true, false, not, cond, List, [], ◌∷◌, ◌++◌, length, map, take, replicate, get_or, eqb, leb, ltb, eq-eqb, ne_eqb, sym, refl, ap, ◌∙◌, subst, arith, Option, Some, None, length-set, lt_of_not-le}
+use Rattle.std.proofs.Common.{◌≡◌, ◌≢◌, ℕ, suc, ◌+◌, ◌-◌, ◌^◌, ◌<◌, ◌≤◌, ⊎_elim, Bool, true, false, not, cond, List, [], ◌∷◌, ◌++◌, length, take, replicate, get_or, eqb, ltb, sym, refl, ap, ◌∙◌, subst, arith, Option, Some, None, length-set, lt_of_not-le}
 use Rattle.std.specs.Prelude.{slice_get}
 use Rattle.std.proofs.Math.ListN.{set}
-use Rattle.std.proofs.lemmas.Bool.Decides.{nat_tests}
-use Rattle.std.proofs.lemmas.List.{length-map}
-use Rattle.std.proofs.lemmas.List.Sums.{sum_by-cons}
 use Rattle.std.proofs.lemmas.Option.{slice_get_within, slice_get-get_or, none-some, same_Some}
+use Rattle.std.proofs.lemmas.Bool.{cond_both}
 use mathlib.Core.Logic.{dite}
-use native.Mathlib.Decide.{ℕ_discrete, dec_le}
+use native.Mathlib.Decide.{dec_le}
 use Rattle.ledger_core.specs.declared.op.Op.{Op}
-use Rattle.ledger_core.specs.Ops.{width, part, sum_ops}
+use Rattle.ledger_core.specs.Ops.{width, sum_ops}
 use Rattle.snapshot_core.specs.declared.actor.Phase.{Phase}
 use Rattle.snapshot_core.specs.declared.actor.Phase.TheVariants as phase
 use Rattle.snapshot_core.specs.declared.event.Event.{Event}
@@ -19,66 +17,19 @@ use Rattle.snapshot_core.specs.declared.next.Next.TheVariants.{First, Second, As
 use Rattle.snapshot_core.specs.declared.trace.How.{How}
 use Rattle.snapshot_core.specs.declared.trace.How.TheVariants as how
 use Rattle.snapshot_core.specs.History.{Published, number_at, row_at, OneStep}
-use Rattle.snapshot_core.specs.Machine.{Seg, Act, World, is_within, has_room, raised, applied, added, begun_of, blank_of, not_torn, read_by, place_in, end_by, accepts, begins_if, begins, over, ends, reads_from, reads_place, publishes_row, publishes_as, steps_in, steps, happens_at}
+use Rattle.snapshot_core.specs.Machine.{Seg, Act, World, applied, added, begun_of, blank_of, not_torn, read_by, place_in, end_by, accepts, begins_if, begins, over, ends, reads_from, reads_place, publishes_row, publishes_as, steps_in, steps, happens_at}
 use Rattle.snapshot_core.specs.Scan.{first_by, second_by, asked_by, asked_at}
 use Rattle.snapshot_core.specs.Sized.{IsSized}
 use Rattle.snapshot_core.specs.Told.{vector_of}
-use Rattle.snapshot_core.specs.Tries.{View, from_on}
+use Rattle.snapshot_core.specs.Tries.{View}
 use Rattle.snapshot_core.specs.Turns.{ops_of}
-use Rattle.snapshot_core.proofs.Collects.{length_from}
-use Rattle.snapshot_core.proofs.Past.{number_rises, number_more, row_more, number_next, row_next, early_more, inside_more}
+use Rattle.snapshot_core.proofs.Past.{number_rises}
 use Rattle.snapshot_core.proofs.Scanning.{Based, NextOk, Good, none_read, added_length, first_good, second_good, refused, lent}
-use Rattle.snapshot_core.proofs.Sized.{by_cond, sized_first, sized_second, sized_asked}
+use Rattle.snapshot_core.proofs.Sized.{sized_first, sized_second, sized_asked}
 use Rattle.snapshot_core.proofs.Worlds.{Same, same_more, at_set, with_actor, SegOk, ScanOk, PhaseOk, ActOk, Inv, step_grows, phase_grows, seg_grows, answers_grow, answers_more, ticks, one_actor}
-
--- A row that accepted operations.
-and_parts : (s t : Bool) → (s && t) ≡ true → (s ≡ true) × (t ≡ true)
-and_parts true true e = (refl, refl)
-and_parts true false e = absurd (cc)
-and_parts false t e = absurd (cc)
-
-le_of : (x y : ℕ) → leb x y ≡ true → x ≤ y
-le_of x y h = grind (arith, nat_tests)
-
-at_from : (f : ℕ → ℕ) (k m q : ℕ) → q < m → get_or (map f (from_on k m)) q 0 ≡ f (k + q)
-at_from f k zero q l = absurd (omega arith)
-at_from f k (suc m) zero l = let e : k ≡ k + 0 = omega arith in ap f e
-at_from f k (suc m) (suc q) l = at_from f (suc k) m q (omega arith) ∙ (let e : suc k + q ≡ k + suc q = omega arith in ap f e)
-
-room_at : (c h : ℕ) (row : List ℕ) (op : Op) (k m : ℕ) → has_room c h row op k m ≡ true → (x : ℕ) → k ≤ x → x < k + m → get_or row x 0 + part c h op x ≤ 281474976710655
-room_at c h row op k zero e x a l = absurd (omega arith)
-room_at c h row op k (suc m) e x a l = let parts = and_parts _ _ e in dite (ℕ_discrete x k)
-    (λ same. subst (λ (y : ℕ). get_or row y 0 + part c h op y ≤ 281474976710655) (sym same) (le_of _ _ parts.0))
-    (λ other. room_at c h row op (suc k) m parts.1 x (omega arith) (omega arith))
-
--- `row` accepted these operations and became `new`
-pub record Took (c h g : ℕ) (row : List ℕ) (ops : List Op) (new : List ℕ) : Type 0 where
-  pub words : length new ≡ width c h g
-  pub sums : (x : ℕ) → x < width c h g → get_or new x 0 ≡ get_or row x 0 + sum_ops c h ops x
-  pub small : (x : ℕ) → x < width c h g → get_or new x 0 ≤ 281474976710655
-
-pub took : (c h g : ℕ) (row : List ℕ) (ops : List Op) (new : List ℕ) → length row ≡ width c h g → ((x : ℕ) → x < width c h g → get_or row x 0 ≤ 281474976710655) → applied c h g row ops ≡ Some new → Took c h g row ops new
-took c h g row [] new len small e = let same : row ≡ new = same_Some row new e in record {
-  words = ap length (sym same) ∙ len;
-  sums = λ x l. ap (λ (z : List ℕ). get_or z x 0) (sym same) ∙ (let g : get_or row x 0 ≡ get_or row x 0 + 0 = omega arith in g);
-  small = λ x l. subst (λ (z : List ℕ). get_or z x 0 ≤ 281474976710655) same (small x l);
-}
-took c h g row (op ∷ ops) new len small e = go (is_within c h g op && has_room c h row op 0 (width c h g)) refl e (took c h g (raised c h g row op) ops new (length-map (from_on 0 (width c h g)) _ ∙ length_from 0 (width c h g)))
-  where
-    here : (x : ℕ) → x < width c h g → get_or (raised c h g row op) x 0 ≡ get_or row x 0 + part c h op x
-    here x l = at_from (λ k. get_or row k 0 + part c h op k) 0 (width c h g) x l ∙ (let e : 0 + x ≡ x = omega arith in ap (λ (k : ℕ). get_or row k 0 + part c h op k) e)
-
-    go : (t : Bool) → (is_within c h g op && has_room c h row op 0 (width c h g)) ≡ t → cond t (applied c h g (raised c h g row op) ops) None ≡ Some new
-        → (((x : ℕ) → x < width c h g → get_or (raised c h g row op) x 0 ≤ 281474976710655) → applied c h g (raised c h g row op) ops ≡ Some new → Took c h g (raised c h g row op) ops new) → Took c h g row (op ∷ ops) new
-    go false is e rec = absurd (none-some new e)
-    go true is e rec = let room : has_room c h row op 0 (width c h g) ≡ true = (and_parts (is_within c h g op) (has_room c h row op 0 (width c h g)) is).1 in
-        let t : Took c h g (raised c h g row op) ops new = rec (λ x l. subst (λ (z : ℕ). z ≤ 281474976710655) (sym (here x l)) (room_at c h row op 0 (width c h g) room x (omega arith) (let w : ℕ = width c h g in let l' : x < w = l in let goal : x < 0 + w = omega arith in goal))) e in
-        record {
-          words = t.words;
-          small = t.small;
-          sums = λ x l. t.sums x l ∙ ap (λ (z : ℕ). z + sum_ops c h ops x) (here x l)
-              ∙ (let s = sum_by-cons (λ (o : Op). part c h o x) op ops in let u : ℕ = part c h op x in let v : ℕ = sum_ops c h ops x in let s' : sum_ops c h (op ∷ ops) x ≡ u + v = s in let goal : get_or row x 0 + u + v ≡ get_or row x 0 + sum_ops c h (op ∷ ops) x = omega arith in goal);
-        }
+use Rattle.snapshot_core.proofs.Accepted.{taken}
+use Rattle.snapshot_core.proofs.Lending.{at_publish, NoPublish, below_with, not_yet, number_quiet, row_quiet, Rising, rising_more, at_end, only_one, in_both, number_now, row_now}
+use Rattle.snapshot_core.proofs.Grows.{Ordered}
 
 -- A read, by an actor of a machine whose rows have w words.
 module _ (adds : List Op → ℕ → ℕ) (w n k : ℕ) (m : World) (r : Inv adds w n k m) where
@@ -133,7 +84,7 @@ module _ (adds : List Op → ℕ → ℕ) (w n k : ℕ) (m : World) (r : Inv add
     read_shape (GaveUp x y z) = ok.shape
 
     read_wide : (x : Next) → length (read_by s torn a x).totals ≡ w
-    read_wide (First q) = by_cond torn (λ y. length y ≡ w) _ _ (λ _. wide) (λ _. by_cond (eqb q 0) (λ y. length y ≡ w) _ _ (λ _. seg.words) (λ _. added_length a.totals s.row ∙ wide))
+    read_wide (First q) = cond_both torn _ _ (λ y. length y ≡ w) (λ _. wide) (λ _. cond_both (eqb q 0) _ _ (λ y. length y ≡ w) (λ _. seg.words) (λ _. added_length a.totals s.row ∙ wide))
     read_wide (Second q) = wide
     read_wide (Ask q) = wide
     read_wide Direct = wide
@@ -150,7 +101,7 @@ module _ (adds : List Op → ℕ → ℕ) (w n k : ℕ) (m : World) (r : Inv add
     read_same (GaveUp x y z) = (refl, refl)
 
 -- The machine of n workers, with rows of c counters, h histograms and g gauges.
-module _ (c h g n k : ℕ) (m : World) (r : Inv (sum_ops c h) (width c h g) n k m) where
+module _ (c h g n k : ℕ) (m : World) (r : Inv (sum_ops c h) (width c h g) n k m) (low : Ordered k m) where
   abbrev A : List Op → ℕ → ℕ
   A = sum_ops c h
 
@@ -158,12 +109,15 @@ module _ (c h g n k : ℕ) (m : World) (r : Inv (sum_ops c h) (width c h g) n k 
   W = width c h g
 
   stays : Inv A W n (suc k) m
-  stays = ticks A W n k m r
+  stays = ticks A W n k m low.publishes r
+
+  quiet : (i : ℕ) → NoPublish m.publishes k i
+  quiet i = not_yet m.publishes k i low.publishes
 
   -- after a read of the segment s the scan goes on or ends
   module _ (who : ℕ) (s : Seg) (a : Act) (wide : length a.totals ≡ W) (begun : a.begin < k) (shape : IsSized a.scan) (good : Good A W n m.publishes a.begin k a.scan a.totals s.view) (scans : a.phase ≡ phase.Scan) (still : number_at m.publishes a.begin who ≡ number_at m.publishes k who) where
     still_next : number_at m.publishes a.begin who ≡ number_at m.publishes (suc k) who
-    still_next = still ∙ sym (number_next m.publishes k who r.early)
+    still_next = still ∙ sym (number_quiet m.publishes k who (quiet who))
 
     goes_on : Inv A W n (suc k) (with_actor m who a)
     goes_on = one_actor A W n (suc k) m who a stays (wide, subst (PhaseOk A W n m.publishes (suc k) who a) (sym scans) (record { last = k; met = s.view; by = omega arith; after = omega arith; shape = shape; good = good }, still_next))
@@ -174,7 +128,6 @@ module _ (c h g n k : ℕ) (m : World) (r : Inv (sum_ops c h) (width c h g) n k 
           some = next.some;
           most = next.most;
           inside = next.inside;
-          early = next.early;
           count = next.count;
           people = next.people;
           segment = next.segment;
@@ -219,23 +172,29 @@ module _ (c h g n k : ℕ) (m : World) (r : Inv (sum_ops c h) (width c h g) n k 
     same : Same A k m.publishes more
     same = same_more A k m.publishes one refl
 
+    rise : Rising at_publish more
+    rise = rising_more at_publish k m.publishes one low.publishes refl low.publishes_rise
+
+    no_other : (i : ℕ) → i ≢ who → NoPublish more k i
+    no_other i ne q p e at of = ⊎_elim (λ t. quiet i q p t at of) (λ t. ne (sym of ∙ sym (ap (λ (x : Published). x.worker) (only_one one t.0 p t.2)))) (in_both m.publishes (one ∷ []) q p e)
+
     others : (i : ℕ) → i ≢ who → number_at more (suc k) i ≡ number_at m.publishes k i
-    others i ne = number_more m.publishes one k i refl ∙ (let c = ap (λ (b : Bool). cond b 1 0) (ne_eqb who i (λ e. ne (sym e))) in let d = number_next m.publishes k i r.early in let x : ℕ = cond (eqb who i) 1 0 in let c' : x ≡ 0 = c in let g : number_at m.publishes (suc k) i + x ≡ number_at m.publishes k i = omega arith in g)
+    others i ne = number_quiet more k i (no_other i ne) ∙ same.numbers k i (omega arith)
 
     other_rows : (i x : ℕ) → i ≢ who → row_at A more (suc k) i x ≡ row_at A m.publishes k i x
-    other_rows i x ne = row_more A m.publishes one k i x refl ∙ (let c = ap (λ (b : Bool). cond b (A ops x) 0) (ne_eqb who i (λ e. ne (sym e))) in let d = row_next A m.publishes k i x r.early in let y : ℕ = cond (eqb who i) (A ops x) 0 in let c' : y ≡ 0 = c in let g : row_at A m.publishes (suc k) i x + y ≡ row_at A m.publishes k i x = omega arith in g)
+    other_rows i x ne = row_quiet A more k i x (no_other i ne) ∙ same.rows k i x (omega arith)
 
     mine : number_at more (suc k) who ≡ number_at m.publishes k who + 1
-    mine = number_more m.publishes one k who refl ∙ (let c = ap (λ (b : Bool). cond b 1 0) (eq-eqb who who refl) in let d = number_next m.publishes k who r.early in let x : ℕ = cond (eqb who who) 1 0 in let c' : x ≡ 1 = c in let g : number_at m.publishes (suc k) who + x ≡ number_at m.publishes k who + 1 = omega arith in g)
+    mine = number_now more k who (length m.publishes) one rise (at_end m.publishes [] one) refl refl ∙ ap (λ (z : ℕ). z + 1) (same.numbers k who (omega arith))
 
     my_row : (x : ℕ) → row_at A more (suc k) who x ≡ row_at A m.publishes k who x + A ops x
-    my_row x = row_more A m.publishes one k who x refl ∙ (let c = ap (λ (b : Bool). cond b (A ops x) 0) (eq-eqb who who refl) in let d = row_next A m.publishes k who x r.early in let a : ℕ = A ops x in let y : ℕ = cond (eqb who who) (A ops x) 0 in let c' : y ≡ a = c in let g : row_at A m.publishes (suc k) who x + y ≡ row_at A m.publishes k who x + a = omega arith in g)
+    my_row x = row_now A more k who (length m.publishes) x one rise (at_end m.publishes [] one) refl refl ∙ ap (λ (z : ℕ). z + A ops x) (same.rows k who x (omega arith))
 
     new_segment : SegOk A W n more (suc k) who (record { number = s.number + 1; row = row; view = a.view })
-    new_segment = let ok = r.segment who s at in let t = took c h g s.row ops row ok.words (λ x l. let y = ok.row x l in let z = ok.small x l in omega arith) takes in
+    new_segment = let ok = r.segment who s at in let t = taken c h g s.row ops row ok.words (λ x l. let y = ok.row x l in let z = ok.small x l in omega arith) takes in
         record {
           number = let num = ok.number in let e = mine in omega arith;
-          words = t.words;
+          words = t.wide;
           row = λ x l. t.sums x l ∙ ap (λ (z : ℕ). z + A ops x) (ok.row x l) ∙ sym (my_row x);
           small = λ x l. subst (λ (z : ℕ). z ≤ 281474976710655) (t.sums x l ∙ ap (λ (z : ℕ). z + A ops x) (ok.row x l) ∙ sym (my_row x)) (t.small x l);
           lends = λ v is. (
@@ -249,8 +208,7 @@ module _ (c h g n k : ℕ) (m : World) (r : Inv (sum_ops c h) (width c h g) n k 
     published = record {
       some = r.some;
       most = r.most;
-      inside = inside_more n m.publishes one r.inside (let c = r.count in let l = slice_get_within m.segments who s at in omega arith);
-      early = early_more k m.publishes one r.early refl;
+      inside = below_with (λ (p : Published). p.worker) n m.publishes one r.inside (let c = r.count in let l = slice_get_within m.segments who s at in omega arith);
       count = length-set _ _ _ ∙ r.count;
       people = length-set _ _ _ ∙ r.people;
       segment = λ i y is. ⊎_elim (λ t. subst (λ (z : ℕ × Seg). SegOk A W n more (suc k) z.0 z.1) (λ c. (sym t.0 c, t.1 c)) new_segment)
@@ -266,7 +224,7 @@ module _ (c h g n k : ℕ) (m : World) (r : Inv (sum_ops c h) (width c h g) n k 
     where
       go : (o : Option (List ℕ)) → applied c h g s.row ops ≡ o → Inv A W n (suc k) (publishes_row c h g n m k who ops a s o)
       go None is = stays
-      go (Some row) is = by_cond (ltb s.number (2 ^ 64 - 1)) (λ (y : World). Inv A W n (suc k) y) _ m (λ _. published who a wide ops s at row is ok.0 ok.1 ok.2) (λ _. stays)
+      go (Some row) is = cond_both (ltb s.number (2 ^ 64 - 1)) _ m (λ (y : World). Inv A W n (suc k) y) (λ _. published who a wide ops s at row is ok.0 ok.1 ok.2) (λ _. stays)
 
   steps_ok : (es : List Event) (who : ℕ) (torn : Bool) (o : Option Act) → slice_get m.actors who ≡ o → Inv A W n (suc k) (steps c h g n es m k who torn o)
   steps_ok es who torn None at = stays
@@ -275,7 +233,7 @@ module _ (c h g n k : ℕ) (m : World) (r : Inv (sum_ops c h) (width c h g) n k 
       go : (x : Phase) → a.phase ≡ x → PhaseOk A W n m.publishes k who a x → Inv A W n (suc k) (steps_in c h g n es m k who torn a x)
       go phase.Rest is ok = stays
       go phase.Scan is ok = reads who a torn is (r.actor who a at).0 ok.0 ok.1 (place_in a.scan.next) refl
-      go phase.Ready is ok = by_cond torn (λ (y : World). Inv A W n (suc k) y) m _ (λ _. stays) (λ _. publishes who a (ops_of (slice_get es a.begin)) (r.actor who a at).0 ok (slice_get m.segments who) refl)
+      go phase.Ready is ok = cond_both torn m _ (λ (y : World). Inv A W n (suc k) y) (λ _. stays) (λ _. publishes who a (ops_of (slice_get es a.begin)) (r.actor who a at).0 ok (slice_get m.segments who) refl)
 
   begins_ok : (who : ℕ) (ops : List Op) (o : Option Act) → slice_get m.actors who ≡ o → Inv A W n (suc k) (begins c h g n m k who ops o)
   begins_ok who ops None at = stays
@@ -293,12 +251,12 @@ module _ (c h g n k : ℕ) (m : World) (r : Inv (sum_ops c h) (width c h g) n k 
             shape = record { some = r.some; most = r.most; begun = omega arith; few = omega arith; inside = omega arith; opened = refl; whole = refl; found = refl };
             good = (refl, (omega arith, none_read A W m.publishes k k (replicate 32 0) (replicate 32 false) a.totals, λ ne. absurd (ne refl)));
           },
-          sym (number_next m.publishes k who r.early),
+          sym (number_quiet m.publishes k who (quiet who)),
         ),
       )
 
       go : (x : Phase) → Inv A W n (suc k) (begins_if c h g n m k who ops a x)
-      go phase.Rest = by_cond (accepts c h g n ops (slice_get m.segments who)) (λ (y : World). Inv A W n (suc k) y) _ m (λ _. one_actor A W n (suc k) m who (begun_of n k a) stays fresh) (λ _. stays)
+      go phase.Rest = cond_both (accepts c h g n ops (slice_get m.segments who)) _ m (λ (y : World). Inv A W n (suc k) y) (λ _. one_actor A W n (suc k) m who (begun_of n k a) stays fresh) (λ _. stays)
       go phase.Scan = stays
       go phase.Ready = stays
 

@@ -1,6 +1,7 @@
 -- Publishes and answers are only ever appended, and in the order of their events.
 use Rattle.std.proofs.Common.{◌≡◌, ℕ, zero, suc, ◌+◌, ◌-◌, ◌^◌, ◌≤◌, ⊎_elim, Bool, true, false, ltb, List, [], ◌∷◌, ◌++◌, sym, refl, ap, ◌∙◌, subst, arith, Option, Some, None, append_assoc, append-nil}
 use Rattle.std.specs.Prelude.{slice_get, slice_set}
+use Rattle.std.proofs.lemmas.Bool.{cond_both}
 use mathlib.Core.Option.{some-ne-none}
 use Rattle.ledger_core.specs.declared.op.Op.{Op}
 use Rattle.snapshot_core.specs.declared.event.Event.{Event}
@@ -12,7 +13,6 @@ use Rattle.snapshot_core.specs.Tries.{View}
 use Rattle.snapshot_core.specs.History.{Published}
 use Rattle.snapshot_core.specs.Turns.{Answered, ops_of}
 use Rattle.snapshot_core.specs.Machine.{Seg, Act, World, applied, place_in, read_by, end_by, accepts, begins_if, begins, ends, reads_from, reads_place, publishes_row, publishes_as, steps_in, steps, happens_at, world_at}
-use Rattle.snapshot_core.proofs.Sized.{by_cond}
 use Rattle.snapshot_core.proofs.Lending.{Below, NotBelow, Rising, at_publish, at_answer, in_both, only_one, below_more, below_next, rising_more}
 
 -- nothing, or one element that stands at k
@@ -34,11 +34,11 @@ module _ {A : Type 0} (at : A → ℕ) where
 
   sole_later : (k j : ℕ) (new : List A) → k ≤ j → Sole at j new → NotBelow at k new
   sole_later k j [] le s q x e = absurd (some-ne-none x (sym e))
-  sole_later k j (y ∷ []) le s q x e = let same : at y ≡ at x = ap at (only_one at y q x e) in omega arith
+  sole_later k j (y ∷ []) le s q x e = let same : at y ≡ at x = ap at (only_one y q x e) in omega arith
   sole_later k j (x ∷ y ∷ ys) le s q z e = absurd s
 
   later_both : (k : ℕ) (xs ys : List A) → NotBelow at k xs → NotBelow at k ys → NotBelow at k (xs ++ ys)
-  later_both k xs ys a b q x e = ⊎_elim (λ t. a q x t) (λ t. b t.0 x t.2) (in_both at xs ys q x e)
+  later_both k xs ys a b q x e = ⊎_elim (λ t. a q x t) (λ t. b t.0 x t.2) (in_both xs ys q x e)
 
 -- one event appends a publish, an answer or nothing
 pub record Grown (k : ℕ) (w y : World) : Type 0 where
@@ -96,7 +96,7 @@ module _ (c h g n : ℕ) (es : List Event) where
       where
         go : (o : Option (List ℕ)) → Grown k w (publishes_row c h g n w k who ops a s o)
         go None = keeps w refl refl
-        go (Some row) = by_cond (ltb s.number (2 ^ 64 - 1)) (Grown k w) (with_publish k w who ops a s row) w (λ _. record { new = _ ∷ []; publishes = refl; sole = refl; also = []; answers = sym (append-nil w.answers); single = tt }) (λ _. keeps w refl refl)
+        go (Some row) = cond_both (ltb s.number (2 ^ 64 - 1)) (with_publish k w who ops a s row) w (Grown k w) (λ _. record { new = _ ∷ []; publishes = refl; sole = refl; also = []; answers = sym (append-nil w.answers); single = tt }) (λ _. keeps w refl refl)
 
     steps_grow : (who : ℕ) (torn : Bool) (o : Option Act) → Grown k w (steps c h g n es w k who torn o)
     steps_grow who torn None = keeps w refl refl
@@ -105,14 +105,14 @@ module _ (c h g n : ℕ) (es : List Event) where
         go : (x : Phase) → Grown k w (steps_in c h g n es w k who torn a x)
         go Rest = keeps w refl refl
         go Scan = reads_grow who a torn (place_in a.scan.next)
-        go Ready = by_cond torn (Grown k w) w _ (λ _. keeps w refl refl) (λ _. publishes_grow who (ops_of (slice_get es a.begin)) a (slice_get w.segments who))
+        go Ready = cond_both torn w _ (Grown k w) (λ _. keeps w refl refl) (λ _. publishes_grow who (ops_of (slice_get es a.begin)) a (slice_get w.segments who))
 
     begins_grow : (who : ℕ) (ops : List Op) (o : Option Act) → Grown k w (begins c h g n w k who ops o)
     begins_grow who ops None = keeps w refl refl
     begins_grow who ops (Some a) = go a.phase
       where
         go : (x : Phase) → Grown k w (begins_if c h g n w k who ops a x)
-        go Rest = by_cond (accepts c h g n ops (slice_get w.segments who)) (Grown k w) _ w (λ _. keeps _ refl refl) (λ _. keeps w refl refl)
+        go Rest = cond_both (accepts c h g n ops (slice_get w.segments who)) _ w (Grown k w) (λ _. keeps _ refl refl) (λ _. keeps w refl refl)
         go Scan = keeps w refl refl
         go Ready = keeps w refl refl
 

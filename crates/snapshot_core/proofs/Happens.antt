@@ -1,8 +1,9 @@
 -- Each event keeps what is true of the machine.
-use Rattle.std.proofs.Common.{◌≡◌, ◌≢◌, ℕ, suc, ◌+◌, ◌-◌, ◌^◌, ◌<◌, ◌≤◌, inl, inr, ⊎_elim, Bool, true, false, cond, List, [], ◌∷◌, ◌++◌, length, map, get_or, eqb, ltb, ltb-true, lt-ltb, sym, refl, ap, ◌∙◌, subst, arith, Option, Some, None}
+use Rattle.std.proofs.Common.{◌≡◌, ◌≢◌, ℕ, suc, ◌+◌, ◌-◌, ◌^◌, ◌<◌, ◌≤◌, inl, inr, ⊎_elim, Bool, true, false, cond, List, [], ◌∷◌, ◌++◌, length, map, get_or, eqb, ltb, ltb-true, lt-ltb, sym, refl, ap, ◌∙◌, subst, arith, Option, Some, None, true≢false, eqb-true}
 use Rattle.std.specs.Prelude.{slice_get, slice_set}
-use Rattle.std.proofs.lemmas.Bool.Decides.{nat_tests}
 use Rattle.std.proofs.lemmas.Option.{none-some, same_Some, slice_get_within, slice_get-get_or}
+use Rattle.std.proofs.lemmas.Bool.{cond_both, and_parts, and_from}
+use Rattle.std.proofs.lemmas.List.{map_push, nil_from_length}
 use mathlib.Core.Logic.{dite}
 use mathlib.Core.Option.{some, some-ne-none}
 use native.Mathlib.Decide.{dec_le, ℕ_discrete}
@@ -23,16 +24,14 @@ use Rattle.snapshot_core.specs.History.{Published, number_at, row_at}
 use Rattle.snapshot_core.specs.Turns.{Answered, MayBegin, BeginsAt, IsOpen, own, own_reads, ops_of}
 use Rattle.snapshot_core.specs.Faithful.{Meets, where_and_torn}
 use Rattle.snapshot_core.specs.Machine.{Seg, Act, World, applied, blank_of, begun_of, is_some, accepts, place_in, read_by, end_by, over, begins_if, begins, ends, reads_from, reads_place, publishes_row, publishes_as, steps_in, steps, happens_at}
-use Rattle.snapshot_core.proofs.Sized.{by_cond}
-use Rattle.snapshot_core.proofs.Collects.{map_snoc}
 use Rattle.snapshot_core.proofs.Told.{told_new}
 use Rattle.snapshot_core.proofs.Lending.{Rising, NoPublish, at_publish, at_answer, in_both, only_one, one_only, one_at, view_now}
 use Rattle.snapshot_core.proofs.Grows.{Ordered, Extends, with_publish}
 use Rattle.snapshot_core.proofs.Turns.{open_after, open_on, open_begins, closed_by, no_end, own_next, read_event, own_other, own_mine, step_of}
-use Rattle.snapshot_core.proofs.Accepted.{both_true, true_both, accepts_same, taken, takes}
+use Rattle.snapshot_core.proofs.Accepted.{accepts_same, taken, takes}
 use Rattle.snapshot_core.proofs.Scanned.{read_here, HasRead, has_read, scan_over}
 use Rattle.snapshot_core.proofs.Justify.{RowTakes, InScan, IsReady, ActOk, AnswerOk, J, Idle, takes_on, before_or}
-use Rattle.snapshot_core.proofs.Moves.{scan_ready, nobody_publishes, nobody_answers, rests_all, one_moves, publishes_j}
+use Rattle.snapshot_core.proofs.Moves.{scan_ready, nobody_publishes, nobody_answers, rests_all, one_moves, publishes_j, rest_ready}
 
 module _ (c h g n : ℕ) (es : List Event) (ps : List Published) (zs : List Answered) where
   -- who may begin
@@ -47,17 +46,10 @@ module _ (c h g n : ℕ) (es : List Event) (ps : List Published) (zs : List Answ
     applied_is None e = absurd (cc)
     applied_is (Some r) e = (r, refl)
 
-    none_left : (ops : List Op) → eqb (length ops) 0 ≡ true → ops ≡ []
-    none_left [] e = refl
-    none_left (op ∷ ops) e = absurd (no_length (length ops) e)
-      where
-        no_length : (m : ℕ) → eqb (suc m) 0 ≡ true → ⊥
-        no_length m e = grind (arith, nat_tests)
-
     may_begin : (who : ℕ) (ops : List Op) (o : Option Seg) → who < n + 4 → slice_get w.segments who ≡ o → accepts c h g n ops o ≡ true → MayBegin n c h g es ps zs k who ops
-    may_begin who ops None actor is e = inr (no_segment who is, actor, none_left ops e)
+    may_begin who ops None actor is e = inr (no_segment who is, actor, nil_from_length ops (eqb-true (length ops) 0 e))
     may_begin who ops (Some s) actor is e =
-        let b = both_true (ltb s.number (2 ^ 64 - 1)) (is_some c h g n (applied c h g s.row ops)) e in let old = j.segment who s is in let r = applied_is (applied c h g s.row ops) b.1 in
+        let b = and_parts (ltb s.number (2 ^ 64 - 1)) (is_some c h g n (applied c h g s.row ops)) e in let old = j.segment who s is in let r = applied_is (applied c h g s.row ops) b.1 in
         let t = taken c h g s.row ops r.0 old.wide old.small r.1 in
         inl (
           segment_below who s is,
@@ -74,22 +66,20 @@ module _ (c h g n : ℕ) (es : List Event) (ps : List Published) (zs : List Answ
     may_not : (who : ℕ) (ops : List Op) (o : Option Seg) → slice_get w.segments who ≡ o → accepts c h g n ops o ≡ false → ¬ MayBegin n c h g es ps zs k who ops
     may_not who ops None is e may = ⊎_elim
         (λ t. let le = no_segment who is in let lt = t.0 in absurd (omega arith))
-        (λ t. absurd (true_false (ap (λ (x : List Op). eqb (length x) 0) (sym t.2) ∙ e))) may
-      where
-        true_false : true ≡ false → ⊥
-        true_false e = cc
+        (λ t. absurd (true≢false (ap (λ (x : List Op). eqb (length x) 0) (sym t.2) ∙ e))) may
     may_not who ops (Some s) is e may = ⊎_elim
-        (λ t. let r = row_accepts who ops s is t.2 in true_false (sym (true_both (ltb s.number (2 ^ 64 - 1)) (is_some c h g n (applied c h g s.row ops)) (number_test who s is t.1) (ap (is_some c h g n) r.1)) ∙ e))
+        (λ t. let r = row_accepts who ops s is t.2 in true≢false (sym (and_from (ltb s.number (2 ^ 64 - 1)) (is_some c h g n (applied c h g s.row ops)) (number_test who s is t.1) (ap (is_some c h g n) r.1)) ∙ e))
         (λ t. let lt = segment_below who s is in let le = t.0 in absurd (omega arith)) may
-      where
-        true_false : true ≡ false → ⊥
-        true_false e = cc
 
   module _ (one : 1 ≤ n) (most : n ≤ 32) (rise_p : Rising at_publish ps) (rise_z : Rising at_answer zs) (k : ℕ) (w : World) (j : J c h g n es ps zs k w) (low : Ordered k w) where
+    -- a read is no Begin
+    no_begin : (who i : ℕ) (torn : Bool) → slice_get es k ≡ Some (read_event who torn) → ¬ BeginsAt n c h g es ps zs k i (slice_get es k)
+    no_begin who i true here = subst (λ (o : Option Event). ¬ BeginsAt n c h g es ps zs k i o) (sym here) (λ t. t)
+    no_begin who i false here = subst (λ (o : Option Event). ¬ BeginsAt n c h g es ps zs k i o) (sym here) (λ t. t)
+
     -- an event that is a read or a Begin of `who` is none of another's
     idle_step : (who i : ℕ) (torn : Bool) (x : Phase) → slice_get es k ≡ Some (read_event who torn) → i ≢ who → Idle c h g n es ps zs k i x
-    idle_step who i true Rest here ne = subst (λ (o : Option Event). ¬ BeginsAt n c h g es ps zs k i o) (sym here) (λ t. t)
-    idle_step who i false Rest here ne = subst (λ (o : Option Event). ¬ BeginsAt n c h g es ps zs k i o) (sym here) (λ t. t)
+    idle_step who i torn Rest here ne = no_begin who i torn here
     idle_step who i torn Scan here ne = own_other who i k torn (slice_get es k) here ne
     idle_step who i torn Ready here ne = λ e. ne (sym (step_of who i torn (slice_get es k) here e).1)
 
@@ -112,14 +102,14 @@ module _ (c h g n : ℕ) (es : List Event) (ps : List Published) (zs : List Answ
 
       meets : (q : ℕ) (r : Read) → get_elem? (ok.reads ++ read_here p k torn s ∷ []) q ≡ some r → Meets ps zs r
       meets q r e = ⊎_elim (λ t. ok.meets q r t)
-          (λ t. subst (Meets ps zs) (only_one (λ (x : Read). x.at) (read_here p k torn s) t.0 r t.2) (record { number = (j.segment p s sat).number; view = (j.segment p s sat).view }))
-          (in_both (λ (x : Read). x.at) ok.reads (read_here p k torn s ∷ []) q r e)
+          (λ t. subst (Meets ps zs) (only_one (read_here p k torn s) t.0 r t.2) (record { number = (j.segment p s sat).number; view = (j.segment p s sat).view }))
+          (in_both ok.reads (read_here p k torn s ∷ []) q r e)
 
       begun : now.begin < k
       begun = let l = open_after n c h g es ps zs k who a.begin ok.is_open in let e = read.begin in omega arith
 
       all_own : map where_and_torn (ok.reads ++ read_here p k torn s ∷ []) ≡ own_reads es who (suc now.begin) (suc k - suc now.begin)
-      all_own = map_snoc where_and_torn ok.reads (read_here p k torn s)
+      all_own = map_push where_and_torn ok.reads (read_here p k torn s)
           ∙ ap (λ (x : List (ℕ × Bool)). x ++ (k, torn) ∷ []) ok.all_own
           ∙ ap (λ (x : List (ℕ × Bool)). own_reads es who (suc a.begin) (k - suc a.begin) ++ x) (sym (own_mine who k torn (slice_get es k) here))
           ∙ sym (own_next es who a.begin k (open_after n c h g es ps zs k who a.begin ok.is_open))
@@ -152,7 +142,7 @@ module _ (c h g n : ℕ) (es : List Event) (ps : List Published) (zs : List Answ
             told = read.told;
             meets = meets;
             all_own = all_own;
-            fresh = λ q z e lt of. ⊎_elim (λ l. fresh q z e l of) (λ same. absurd (no_answer q z e same)) (before_or c h g n es ps zs z.end k lt);
+            fresh = λ q z e lt of. ⊎_elim (λ l. fresh q z e l of) (λ same. absurd (no_answer q z e same)) (before_or z.end k lt);
             accepted = takes_still no_publish;
           }))
         where
@@ -171,7 +161,7 @@ module _ (c h g n : ℕ) (es : List Event) (ps : List Published) (zs : List Answ
         after = record now { phase = over c h g n (slice_get w.segments who); view = e.1 }
 
         there : get_elem? zs (length w.answers) ≡ some given
-        there = one_at at_answer w.answers zs ext.also given ext.answers
+        there = one_at w.answers zs ext.also given ext.answers
 
         only : (q : ℕ) (z : Answered) → get_elem? zs q ≡ some z → z.end ≡ k → given ≡ z
         only q z ez same = one_only at_answer zs rise_z (length w.answers) q given z there ez (sym same)
@@ -247,21 +237,14 @@ module _ (c h g n : ℕ) (es : List Event) (ps : List Published) (zs : List Answ
 
         go : (o : Option (List ℕ)) → applied c h g s.row (ops_of (slice_get es a.begin)) ≡ o → Extends (suc k) ps zs (publishes_row c h g n w k who (ops_of (slice_get es a.begin)) a s o) → J c h g n es ps zs (suc k) (publishes_row c h g n w k who (ops_of (slice_get es a.begin)) a s o)
         go None e ext = absurd (none-some row.0 (sym e ∙ row.1))
-        go (Some r) e ext = by_cond (ltb s.number (2 ^ 64 - 1)) (λ (y : World). Extends (suc k) ps zs y → J c h g n es ps zs (suc k) y) (with_publish k w who (ops_of (slice_get es a.begin)) a s r) w
+        go (Some r) e ext = cond_both (ltb s.number (2 ^ 64 - 1)) (with_publish k w who (ops_of (slice_get es a.begin)) a s r) w (λ (y : World). Extends (suc k) ps zs y → J c h g n es ps zs (suc k) y)
             (λ _ v. publishes_j c h g n es ps zs k w j low rise_p who (ops_of (slice_get es a.begin)) a s r at sat is ok refl here (λ i x ne. idle_step who i false x here ne) e v)
-            (λ no_room v. absurd (true_false (sym (number_test k w j who s sat ok.accepted.below) ∙ no_room))) ext
-          where
-            true_false : true ≡ false → ⊥
-            true_false e = cc
+            (λ no_room v. absurd (true≢false (sym (number_test k w j who s sat ok.accepted.below) ∙ no_room))) ext
 
     -- nobody but who is not in it
     idles : (who : ℕ) (torn : Bool) → slice_get es k ≡ Some (read_event who torn) → ((a : Act) → slice_get w.actors who ≡ Some a → Idle c h g n es ps zs k who a.phase) → Extends (suc k) ps zs w → J c h g n es ps zs (suc k) w
     idles who torn here mine ext = rests_all c h g n es ps zs k w j low
         (λ i a at. dite (ℕ_discrete i who) (λ same. subst (λ (y : ℕ). Idle c h g n es ps zs k y a.phase) (sym same) (mine a (ap (slice_get w.actors) (sym same) ∙ at))) (λ ne. idle_step who i torn a.phase here ne)) ext
-
-    no_begin : (who : ℕ) (torn : Bool) → slice_get es k ≡ Some (read_event who torn) → ¬ BeginsAt n c h g es ps zs k who (slice_get es k)
-    no_begin who true here = subst (λ (o : Option Event). ¬ BeginsAt n c h g es ps zs k who o) (sym here) (λ t. t)
-    no_begin who false here = subst (λ (o : Option Event). ¬ BeginsAt n c h g es ps zs k who o) (sym here) (λ t. t)
 
     steps_j : (who : ℕ) (torn : Bool) → slice_get es k ≡ Some (read_event who torn) → (o : Option Act) → slice_get w.actors who ≡ o → Extends (suc k) ps zs (steps c h g n es w k who torn o) → J c h g n es ps zs (suc k) (steps c h g n es w k who torn o)
     steps_j who torn here None at ext = idles who torn here (λ a is. absurd (none-some a (sym at ∙ is))) ext
@@ -272,14 +255,11 @@ module _ (c h g n : ℕ) (es : List Event) (ps : List Published) (zs : List Answ
 
         ready : (t : Bool) → torn ≡ t → a.phase ≡ Ready → IsReady c h g n es ps zs k who a
             → Extends (suc k) ps zs (cond t w (publishes_as c h g n w k who (ops_of (slice_get es a.begin)) a (slice_get w.segments who))) → J c h g n es ps zs (suc k) (cond t w (publishes_as c h g n w k who (ops_of (slice_get es a.begin)) a (slice_get w.segments who)))
-        ready true t is ok ext = idles who torn here (phase_of Ready is (λ e. true_false (sym t ∙ (step_of who who torn (slice_get es k) here e).0))) ext
-          where
-            true_false : true ≡ false → ⊥
-            true_false e = cc
+        ready true t is ok ext = idles who torn here (phase_of Ready is (λ e. true≢false (sym t ∙ (step_of who who torn (slice_get es k) here e).0))) ext
         ready false t is ok ext = publishes who a at is ok (here ∙ ap (λ (y : Bool). Some (read_event who y)) t) (slice_get w.segments who) refl ext
 
         go : (x : Phase) → a.phase ≡ x → ActOk c h g n es ps zs k who a x → Extends (suc k) ps zs (steps_in c h g n es w k who torn a x) → J c h g n es ps zs (suc k) (steps_in c h g n es w k who torn a x)
-        go Rest is ok ext = idles who torn here (phase_of Rest is (no_begin who torn here)) ext
+        go Rest is ok ext = idles who torn here (phase_of Rest is (no_begin who who torn here)) ext
         go Scan is ok ext = reads who a torn at is ok here ext
         go Ready is ok ext = ready torn refl is ok ext
 
@@ -303,13 +283,10 @@ module _ (c h g n : ℕ) (es : List Event) (ps : List Published) (zs : List Answ
             told = told_new n one;
             meets = λ q r e. absurd (some-ne-none r (sym e));
             all_own = (let e : 0 ≡ suc k - suc k = omega arith in ap (own_reads es who (suc k)) e);
-            fresh = λ q z e lt of same. ⊎_elim (λ l. let o = open_after n c h g es ps zs z.end z.actor z.begin (j.answer q z e l).is_open in absurd (omega arith)) (λ s. no_answer q z e s) (before_or c h g n es ps zs z.end k lt);
+            fresh = λ q z e lt of same. ⊎_elim (λ l. let o = open_after n c h g es ps zs z.end z.actor z.begin (j.answer q z e l).is_open in absurd (omega arith)) (λ s. no_answer q z e s) (before_or z.end k lt);
             accepted = λ lt. takes_on c h g n es ps zs k who k no_publish (row lt);
           })
         where
-          rest_ready : Rest ≡ Ready → ⊥
-          rest_ready e = cc
-
           no_answer : (q : ℕ) (z : Answered) → get_elem? zs q ≡ some z → z.end ≢ k
           no_answer = nobody_answers c h g n es ps zs k w j low (record w { actors = slice_set w.actors who (begun_of n k a) }) ext refl
 
@@ -332,15 +309,12 @@ module _ (c h g n : ℕ) (es : List Event) (ps : List Published) (zs : List Answ
           scan_rest : Scan ≡ Rest → ⊥
           scan_rest e = cc
 
-          ready_rest : Ready ≡ Rest → ⊥
-          ready_rest e = cc
-
           go : (x : Phase) → a.phase ≡ x → ActOk c h g n es ps zs k who a x → Extends (suc k) ps zs (begins_if c h g n w k who args.items a x) → J c h g n es ps zs (suc k) (begins_if c h g n w k who args.items a x)
-          go Rest is ok ext = by_cond (accepts c h g n args.items (slice_get w.segments who)) (λ (y : World). Extends (suc k) ps zs y → J c h g n es ps zs (suc k) y) (record w { actors = slice_set w.actors who (begun_of n k a) }) w
+          go Rest is ok ext = cond_both (accepts c h g n args.items (slice_get w.segments who)) (record w { actors = slice_set w.actors who (begun_of n k a) }) w (λ (y : World). Extends (suc k) ps zs y → J c h g n es ps zs (suc k) y)
               (λ allowed v. begin_now a at is ok allowed v)
               (λ denied v. begin_idle (λ b bat rests. may_not k w j who args.items (slice_get w.segments who) refl denied) v) ext
           go Scan is ok ext = begin_idle (other Scan is scan_rest) ext
-          go Ready is ok ext = begin_idle (other Ready is ready_rest) ext
+          go Ready is ok ext = begin_idle (other Ready is (λ e. rest_ready (sym e))) ext
 
     pub happens_j : (o : Option Event) → slice_get es k ≡ o → Extends (suc k) ps zs (happens_at c h g n es w k o) → J c h g n es ps zs (suc k) (happens_at c h g n es w k o)
     happens_j None is ext = rests_all c h g n es ps zs k w j low (λ i a at. nothing i a.phase) ext

@@ -22,6 +22,10 @@ use Rattle.snapshot_core.proofs.Lending.{NoPublish, NoAnswer, number_quiet, row_
 use Rattle.snapshot_core.proofs.Turns.{IsClosed, open_after, open_on, closed_on, no_end, own_none}
 use Rattle.snapshot_core.proofs.Accepted.{accepts_same}
 
+-- an event before k, or k itself
+pub before_or : (e k : ℕ) → e < suc k → (e < k) ⊎ (e ≡ k)
+before_or e k lt = dite (ℕ_discrete e k) inr (λ ne. inl (omega arith))
+
 -- the events, and the publishes and answers of the whole run
 module _ (c h g n : ℕ) (es : List Event) (ps : List Published) (zs : List Answered) where
   -- a segment before the event k
@@ -124,10 +128,6 @@ module _ (c h g n : ℕ) (es : List Event) (ps : List Published) (zs : List Answ
     words = λ x lt. ok.words x lt ∙ sym (row_quiet (sum_ops c h) ps k i x none);
     small = ok.small;
   }
-
-  -- an event before k, or k itself
-  pub before_or : (e k : ℕ) → e < suc k → (e < k) ⊎ (e ≡ k)
-  before_or e k lt = dite (ℕ_discrete e k) inr (λ ne. inl (omega arith))
 
   pub act_waits : (k i : ℕ) (a : Act) (x : Phase) → NoPublish ps k i → NoAnswer zs k i → Idle k i x → ActOk k i a x → ActOk (suc k) i a x
   act_waits k i a Rest nop noz idle ok = closed_on n c h g es ps zs k i ok idle

@@ -1,5 +1,6 @@
 -- What a worker's number, its row and what it lends are after one more event.
-use Rattle.std.proofs.Common.{◌≡◌, ◌≢◌, ◌&&◌, ℕ, zero, suc, ◌+◌, ◌<◌, ◌≤◌, ◌⊎◌, inl, inr, ⊎_elim, Bool, true, false, cond, List, [], ◌∷◌, ◌++◌, length, eqb, ltb, lt-ltb, le-ltb, eq-eqb, ne_eqb, sym, refl, ap, ◌∙◌, arith, Option, Some, None, append_assoc}
+use Rattle.std.proofs.Common.{◌≡◌, ◌≢◌, ◌&&◌, ℕ, zero, suc, ◌+◌, ◌<◌, ◌≤◌, ◌⊎◌, inl, inr, ⊎_elim, Bool, true, false, cond, List, [], ◌∷◌, ◌++◌, length, eqb, ltb, lt-ltb, le-ltb, eq-eqb, ne_eqb, sym, refl, ap, ◌∙◌, arith, Option, Some, None, append_assoc, map, subst}
+use Rattle.std.proofs.lemmas.Bool.{and_right}
 use mathlib.Core.Logic.{dite}
 use mathlib.Core.Option.{some, some-injective, some-ne-none}
 use native.Mathlib.Decide.{ℕ_discrete, dec_le}
@@ -10,20 +11,8 @@ use Rattle.snapshot_core.specs.History.{Published, number_at, row_at}
 use Rattle.snapshot_core.specs.Turns.{Answered}
 use Rattle.snapshot_core.specs.Faithful.{last_publish, last_view, lent_since, lent_at}
 
--- Lists whose elements stand at events.
-module _ {A : Type 0} (at : A → ℕ) where
-  -- all before k
-  abbrev pub Below : ℕ → List A → Type 0
-  Below k xs = (q : ℕ) (x : A) → get_elem? xs q ≡ some x → at x < k
-
-  -- none before k
-  abbrev pub NotBelow : ℕ → List A → Type 0
-  NotBelow k xs = (q : ℕ) (x : A) → get_elem? xs q ≡ some x → k ≤ at x
-
-  -- in the order of their events
-  abbrev pub Rising : List A → Type 0
-  Rising xs = (q r : ℕ) (x y : A) → get_elem? xs q ≡ some x → get_elem? xs r ≡ some y → q < r → at x < at y
-
+-- What stands in a list.
+module _ {A : Type 0} where
   pub in_both : (xs ys : List A) (q : ℕ) (x : A) → get_elem? (xs ++ ys) q ≡ some x → (get_elem? xs q ≡ some x) ⊎ ((r : ℕ) × (q ≡ length xs + r) × (get_elem? ys r ≡ some x))
   in_both [] ys q x e = inr (q, omega arith, e)
   in_both (z ∷ xs) ys zero x e = inl e
@@ -47,12 +36,54 @@ module _ {A : Type 0} (at : A → ℕ) where
   only_one x zero y e = some-injective x y e
   only_one x (suc q) y e = absurd (some-ne-none y (sym e))
 
-  -- one more, at k
-  pub below_more : (k : ℕ) (xs : List A) (x : A) → Below k xs → at x ≡ k → Below (suc k) (xs ++ x ∷ [])
-  below_more k xs x h is q y e = ⊎_elim (λ t. let l = h q y t in omega arith) (λ t. let s : at x ≡ at y = ap at (only_one x t.0 y t.2) in omega arith) (in_both xs (x ∷ []) q y e)
+  -- the element that follows those of xs
+  pub one_at : (xs ls l : List A) (x : A) → ls ≡ (xs ++ x ∷ []) ++ l → get_elem? ls (length xs) ≡ some x
+  one_at xs ls l x is = ap (λ (y : List A). get_elem? y (length xs)) (is ∙ append_assoc xs (x ∷ []) l) ∙ at_end xs l x
+
+  pub get_map : {B : Type 0} (f : A → B) (xs : List A) (q : ℕ) (x : A) → get_elem? xs q ≡ some x → get_elem? (map f xs) q ≡ some (f x)
+  get_map f [] q x e = absurd (some-ne-none x (sym e))
+  get_map f (y ∷ xs) zero x e = ap (λ z. some (f z)) (some-injective y x e)
+  get_map f (y ∷ xs) (suc q) x e = get_map f xs q x e
+
+  -- an element whose two numbers are these, or that there is none
+  pub find : (f g : A → ℕ) (xs : List A) (a b : ℕ) → ((q : ℕ) × (x : A) × (get_elem? xs q ≡ some x) × (f x ≡ a) × (g x ≡ b)) ⊎ ((q : ℕ) (x : A) → get_elem? xs q ≡ some x → f x ≡ a → g x ≢ b)
+  find f g [] a b = inr (λ q x e. absurd (some-ne-none x (sym e)))
+  find f g (y ∷ xs) a b = dite (ℕ_discrete (f y) a)
+      (λ same. dite (ℕ_discrete (g y) b) (λ too. inl (0, y, refl, same, too)) (λ ne. on (λ s. ne) (find f g xs a b)))
+      (λ ne. on (λ s. absurd (ne s)) (find f g xs a b))
+    where
+      past : (f y ≡ a → g y ≢ b) → ((q : ℕ) (x : A) → get_elem? xs q ≡ some x → f x ≡ a → g x ≢ b) → (q : ℕ) (x : A) → get_elem? (y ∷ xs) q ≡ some x → f x ≡ a → g x ≢ b
+      past unlike none zero x e = subst (λ (z : A). f z ≡ a → g z ≢ b) (some-injective y x e) unlike
+      past unlike none (suc q) x e = none q x e
+
+      on : (f y ≡ a → g y ≢ b) → ((q : ℕ) × (x : A) × (get_elem? xs q ≡ some x) × (f x ≡ a) × (g x ≡ b)) ⊎ ((q : ℕ) (x : A) → get_elem? xs q ≡ some x → f x ≡ a → g x ≢ b)
+          → ((q : ℕ) × (x : A) × (get_elem? (y ∷ xs) q ≡ some x) × (f x ≡ a) × (g x ≡ b)) ⊎ ((q : ℕ) (x : A) → get_elem? (y ∷ xs) q ≡ some x → f x ≡ a → g x ≢ b)
+      on unlike t = ⊎_elim (λ s. inl (suc s.0, s.1, s.2, s.3, s.4)) (λ none. inr (past unlike none)) t
+
+-- Lists whose elements stand at events.
+module _ {A : Type 0} (at : A → ℕ) where
+  -- all before k
+  abbrev pub Below : ℕ → List A → Type 0
+  Below k xs = (q : ℕ) (x : A) → get_elem? xs q ≡ some x → at x < k
+
+  -- none before k
+  abbrev pub NotBelow : ℕ → List A → Type 0
+  NotBelow k xs = (q : ℕ) (x : A) → get_elem? xs q ≡ some x → k ≤ at x
+
+  -- in the order of their events
+  abbrev pub Rising : List A → Type 0
+  Rising xs = (q r : ℕ) (x y : A) → get_elem? xs q ≡ some x → get_elem? xs r ≡ some y → q < r → at x < at y
 
   pub below_next : (k : ℕ) (xs : List A) → Below k xs → Below (suc k) xs
   below_next k xs h q y e = let l = h q y e in omega arith
+
+  -- one more
+  pub below_with : (k : ℕ) (xs : List A) (x : A) → Below k xs → at x < k → Below k (xs ++ x ∷ [])
+  below_with k xs x h lt q y e = ⊎_elim (λ t. h q y t) (λ t. let s : at x ≡ at y = ap at (only_one x t.0 y t.2) in omega arith) (in_both xs (x ∷ []) q y e)
+
+  -- one more, at k
+  pub below_more : (k : ℕ) (xs : List A) (x : A) → Below k xs → at x ≡ k → Below (suc k) (xs ++ x ∷ [])
+  below_more k xs x h is = below_with (suc k) xs x (below_next k xs h) (omega arith)
 
   pub rising_more : (k : ℕ) (xs : List A) (x : A) → Below k xs → at x ≡ k → Rising xs → Rising (xs ++ x ∷ [])
   rising_more k xs x h is rise q r y z ey ez lt = ⊎_elim
@@ -73,24 +104,14 @@ module _ {A : Type 0} (at : A → ℕ) where
   pub none_at : (k : ℕ) (xs ls l : List A) → Below k xs → NotBelow (suc k) l → ls ≡ xs ++ l → (q : ℕ) (x : A) → get_elem? ls q ≡ some x → at x ≢ k
   none_at k xs ls l below later is q x e same = ⊎_elim (λ t. let b = below q x t in absurd (omega arith)) (λ t. let b = later t.0 x t.2 in absurd (omega arith)) (in_both xs l q x (ap (λ (y : List A). get_elem? y q) (sym is) ∙ e))
 
-  -- one at k
-  pub one_at : (xs ls l : List A) (x : A) → ls ≡ (xs ++ x ∷ []) ++ l → get_elem? ls (length xs) ≡ some x
-  one_at xs ls l x is = ap (λ (y : List A). get_elem? y (length xs)) (is ∙ append_assoc xs (x ∷ []) l) ∙ at_end xs l x
-
   pub rising_tail : (x : A) (xs : List A) → Rising (x ∷ xs) → Rising xs
   rising_tail x xs rise q r y z ey ez lt = rise (suc q) (suc r) y z ey ez (omega arith)
 
 -- an entry at a that counts for worker i or not, where it is not at k for i
 test_quiet : (a b k i : ℕ) → (a ≡ k → b ≢ i) → (ltb a (suc k) && eqb b i) ≡ (ltb a k && eqb b i)
 test_quiet a b k i h = dite (ℕ_discrete a k)
-    (λ same. off (ltb a (suc k)) (ltb a k) (eqb b i) (ne_eqb b i (h same)))
+    (λ same. let off = ne_eqb b i (h same) in and_right (ltb a (suc k)) (eqb b i) off ∙ sym (and_right (ltb a k) (eqb b i) off))
     (λ other. ap (λ (y : Bool). y && eqb b i) (dite (dec_le a k) (λ le. lt-ltb a (suc k) (omega arith) ∙ sym (lt-ltb a k (omega arith))) (λ gt. le-ltb a (suc k) (omega arith) ∙ sym (le-ltb a k (omega arith)))))
-  where
-    off : (x y z : Bool) → z ≡ false → (x && z) ≡ (y && z)
-    off true true z e = refl
-    off true false z e = e
-    off false true z e = sym e
-    off false false z e = refl
 
 abbrev pub at_publish : Published → ℕ
 at_publish p = p.at
@@ -114,6 +135,10 @@ row_is adds (p ∷ ps) j i x = ap (λ (y : ℕ). cond (ltb p.at j && eqb p.worke
 -- the worker i publishes nothing at k
 abbrev pub NoPublish : List Published → (k i : ℕ) → Type 0
 NoPublish ps k i = (q : ℕ) (p : Published) → get_elem? ps q ≡ some p → p.at ≡ k → p.worker ≢ i
+
+-- where all publishes are before k
+pub not_yet : (ps : List Published) (k i : ℕ) → Below at_publish k ps → NoPublish ps k i
+not_yet ps k i h q p e at = absurd (let l = h q p e in omega arith)
 
 -- the actor i has no answer at k
 abbrev pub NoAnswer : List Answered → (k i : ℕ) → Type 0
@@ -149,6 +174,13 @@ weigh_now v (s ∷ ps) k i (suc q) p rise e is of =
 -- The number and the row of a worker.
 pub number_quiet : (ps : List Published) (k i : ℕ) → NoPublish ps k i → number_at ps (suc k) i ≡ number_at ps k i
 number_quiet ps k i h = number_is ps (suc k) i ∙ weigh_quiet (λ p. 1) ps k i h ∙ sym (number_is ps k i)
+
+-- while the worker publishes nothing
+pub number_calm : (ps : List Published) (i j k : ℕ) → j ≤ k → ((e : ℕ) → j ≤ e → e < k → NoPublish ps e i) → number_at ps k i ≡ number_at ps j i
+number_calm ps i j zero le none = ap (λ (y : ℕ). number_at ps y i) (let g : 0 ≡ j = omega arith in g)
+number_calm ps i j (suc k) le none = dite (ℕ_discrete j (suc k))
+    (λ same. ap (λ (y : ℕ). number_at ps y i) (sym same))
+    (λ ne. number_quiet ps k i (none k (omega arith) (omega arith)) ∙ number_calm ps i j k (omega arith) (λ e lo hi. none e lo (omega arith)))
 
 pub row_quiet : (adds : List Op → ℕ → ℕ) (ps : List Published) (k i x : ℕ) → NoPublish ps k i → row_at adds ps (suc k) i x ≡ row_at adds ps k i x
 row_quiet adds ps k i x h = row_is adds ps (suc k) i x ∙ weigh_quiet (λ p. adds p.ops x) ps k i h ∙ sym (row_is adds ps k i x)

@@ -1,7 +1,7 @@
 -- The actor and the segment that the machine looks up, and what it writes back.
-use Rattle.std.proofs.Common.{◌≡◌, ℕ, zero, suc, ◌+◌, ◌<◌, ◌≤◌, Bool, true, false, cond, List, [], ◌∷◌, ◌++◌, length, map, get_or, set, ltb, ltb-true, ltb-false, Option, Some, None, refl, sym, ap, ◌∙◌, arith, append-nil}
+use Rattle.std.proofs.Common.{◌≡◌, ℕ, zero, suc, ◌+◌, ◌<◌, Bool, true, false, cond, List, [], ◌∷◌, ◌++◌, length, map, get_or, set, ltb, ltb-true, ltb-false, Option, Some, None, refl, sym, ap, ◌∙◌, arith, append-nil}
 use Rattle.std.specs.Prelude.{slice_get, option_map, Result, Ok, Err, OnOk}
-use Rattle.std.proofs.lemmas.List.{map-set, length-map}
+use Rattle.std.proofs.lemmas.List.{map-set, length-map, get_or_read}
 use Rattle.std.proofs.lemmas.Option.{slice_get_read, slice_get_past, slice_get-map}
 use Rattle.ledger_core.specs.declared.op.Op.{Op}
 use Rattle.snapshot_core.specs.declared.event.Event.{Event}
@@ -13,20 +13,11 @@ use Rattle.snapshot_core.specs.declared.actor.Actor.{Actor}
 use Rattle.snapshot_core.specs.History.{Published}
 use Rattle.snapshot_core.specs.Tries.{View}
 use Rattle.snapshot_core.specs.Turns.{Answered}
-use Rattle.snapshot_core.specs.Machine.{Seg, Act, World, seg_of, act_of, applied, begun_of, place_in, accepts, begins_if, begins, over, ends, finished, told, read_of, end_of, ended_by, told_by, phase_after, reads_from, reads_place, reads, publishes_row, publishes_as, publishes_by, steps_in, steps, happens_at, happens, world_at}
+use Rattle.snapshot_core.specs.Machine.{Seg, Act, World, seg_of, act_of, applied, begun_of, place_in, accepts, begins_if, begins, over, ends, finished, told, read_of, end_of, ended_by, told_by, phase_after, reads_from, reads_place, reads, publishes_row, publishes_as, publishes_by, happens_at, happens, world_at}
 
 -- what a list holds of an element that the code has read
 pub found : {A B : Type 0} (f : A → B) (xs : List A) (k : ℕ) (x : A) → k < length xs → x ≡ get_or xs k x → slice_get (map f xs) k ≡ Some (f x)
 found f xs k x lt is = slice_get-map f xs k ∙ ap (option_map f) (slice_get_read xs (length xs) k x refl lt is)
-
-pub none_past : {A B : Type 0} (f : A → B) (xs : List A) (k : ℕ) → length xs ≤ k → slice_get (map f xs) k ≡ None
-none_past f xs k le = slice_get-map f xs k ∙ ap (option_map f) (slice_get_past xs k le)
-
--- two reads of one element
-pub same_read : {A : Type 0} (xs : List A) (k : ℕ) (x y : A) → k < length xs → x ≡ get_or xs k x → y ≡ get_or xs k y → x ≡ y
-same_read [] k x y lt a b = absurd (omega arith)
-same_read (z ∷ xs) zero x y lt a b = a ∙ sym b
-same_read (z ∷ xs) (suc k) x y lt a b = same_read xs k x y (omega arith) a b
 
 -- what follows of two facts of an Ok
 pub on_both : {T E : Type 0} (r : Result T E) {P Q R : Type 0} → OnOk r P → OnOk r Q → (P → Q → R) → OnOk r R
@@ -41,7 +32,7 @@ module _ (c h g n : ℕ) where
       let w : World = record { segments = ss; actors = map act_of xs; publishes = ps; answers = os } in
       ap (λ (z : List Act). let y : World = record { segments = ss; actors = z; publishes = ps; answers = os } in y) (map-set act_of xs who new ∙ ap (set (map act_of xs) who) e)
       ∙ ap (λ (z : Bool). cond z (record w { actors = set w.actors who (begun_of n at (act_of b)) }) w) t
-      ∙ ap (begins_if c h g n w at who ops (act_of b)) (sym (ap (λ (z : Actor). z.phase) (same_read xs who b a lt isb isa) ∙ rest))
+      ∙ ap (begins_if c h g n w at who ops (act_of b)) (sym (ap (λ (z : Actor). z.phase) (get_or_read xs who b lt isb a ∙ sym isa) ∙ rest))
       ∙ ap (begins c h g n w at who ops) (sym (found act_of xs who b lt isb))
 
   over_in : (ss : List Seg) (who : ℕ) → who < length ss → over c h g n (slice_get ss who) ≡ phase.Ready
@@ -64,7 +55,7 @@ module _ (c h g n : ℕ) where
   reads_at ms xs ps os later at who place torn worker x a new s lt isx isa next there iss work e l =
       let w : World = record { segments = map seg_of ms; actors = map act_of xs; publishes = ps; answers = os } in
       let len : ltb who (length (map seg_of ms)) ≡ worker = ap (ltb who) (length-map ms seg_of) ∙ sym work in
-      let p : place_in a.scan.scan.next ≡ Some place = ap (λ (z : Actor). place_in z.scan.scan.next) (same_read xs who a x lt isa isx) ∙ next in
+      let p : place_in a.scan.scan.next ≡ Some place = ap (λ (z : Actor). place_in z.scan.scan.next) (get_or_read xs who a lt isa x ∙ sym isx) ∙ next in
       ap (λ (z : List Act × List Answered). let y : World = record { segments = map seg_of ms; actors = z.0; publishes = ps; answers = z.1 } in y) (λ i. ((map-set act_of xs who new ∙ ap (set (map act_of xs) who) e) i, l i))
       ∙ sym (ends_is w at who (read_of (act_of a) (seg_of s) torn) worker len (end_of (act_of a) (seg_of s) torn))
       ∙ ap (reads_from c h g n w at who (act_of a) torn) (sym (found seg_of ms place s there iss))
@@ -83,11 +74,6 @@ module _ (c h g n : ℕ) where
       ∙ ap (publishes_row c h g n w at who ops (act_of a) (seg_of s)) (sym ap1)
       ∙ ap (publishes_as c h g n w at who ops (act_of a)) (sym (found seg_of ms who s lts iss))
       ∙ ap (publishes_by c h g n w at who ops) (sym (found act_of xs who a lt isa))
-
-  -- a step of an actor in this phase
-  pub steps_at : (es : List Event) (w : World) (xs : List Actor) (at who : ℕ) (torn : Bool) (a : Actor) (p : Phase) → w.actors ≡ map act_of xs → who < length xs → a ≡ get_or xs who a → a.phase ≡ p
-      → steps c h g n es w at who torn (slice_get (map act_of xs) who) ≡ steps_in c h g n es w at who torn (act_of a) p
-  steps_at es w xs at who torn a p e lt is ph = ap (steps c h g n es w at who torn) (found act_of xs who a lt is) ∙ ap (steps_in c h g n es w at who torn (act_of a)) ph
 
   pub world_next : (es : List Event) (k : ℕ) (e : Event) → k < length es → e ≡ get_or es k e → world_at c h g n es (k + 1) ≡ happens c h g n es (world_at c h g n es k) k e
   world_next es k e lt is = let s : k + 1 ≡ suc k = omega arith in ap (world_at c h g n es) s ∙ ap (happens_at c h g n es (world_at c h g n es k) k) (slice_get_read es (length es) k e refl lt is)

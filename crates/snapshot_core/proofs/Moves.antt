@@ -1,5 +1,5 @@
 -- One event's changes to the machine, and what is true after them.
-use Rattle.std.proofs.Common.{◌≡◌, ◌≢◌, ℕ, zero, suc, ◌+◌, ◌<◌, ◌⊎◌, inl, inr, ⊎_elim, List, [], ◌∷◌, ◌++◌, length, sym, refl, ap, ◌∙◌, subst, arith, Some, None, length-set}
+use Rattle.std.proofs.Common.{◌≡◌, ◌≢◌, ℕ, zero, suc, ◌+◌, ◌<◌, inl, ⊎_elim, List, [], ◌∷◌, ◌++◌, length, sym, refl, ap, ◌∙◌, subst, arith, Some, None, length-set}
 use Rattle.std.specs.Prelude.{slice_get, slice_set}
 use Rattle.std.proofs.Math.ListN.{set}
 use Rattle.std.proofs.lemmas.Option.{none-some, same_Some}
@@ -16,18 +16,12 @@ use Rattle.snapshot_core.specs.Turns.{Answered, IsOpen, ops_of}
 use Rattle.snapshot_core.specs.Machine.{Seg, Act, World, applied}
 use Rattle.snapshot_core.proofs.Lending.{Rising, NoPublish, at_publish, at_answer, one_only, none_at, one_at, number_now, row_now, lent_now}
 use Rattle.snapshot_core.proofs.Grows.{Ordered, Extends, with_publish}
-use Rattle.snapshot_core.proofs.Turns.{closed_by}
+use Rattle.snapshot_core.proofs.Turns.{closed_by, same_step}
 use Rattle.snapshot_core.proofs.Accepted.{taken}
 use Rattle.snapshot_core.proofs.Justify.{SegOk, IsReady, ActOk, AnswerOk, PublishOk, IsReadyIn, J, Idle, seg_waits, act_waits, next_j}
+use Rattle.snapshot_core.proofs.Worlds.{at_set}
 
--- what stands in a list after a write
-pub at_set : {A : Type 0} (l : List A) (i : ℕ) (x : A) (j : ℕ) (y : A) → slice_get (set l i x) j ≡ Some y → ((j ≡ i) × (x ≡ y)) ⊎ ((j ≢ i) × (slice_get l j ≡ Some y))
-at_set [] i x j y e = absurd (none-some y e)
-at_set (z ∷ l) zero x zero y e = inl (refl, same_Some x y e)
-at_set (z ∷ l) zero x (suc j) y e = inr ((λ same. absurd (omega arith)), e)
-at_set (z ∷ l) (suc i) x zero y e = inr ((λ same. absurd (omega arith)), e)
-at_set (z ∷ l) (suc i) x (suc j) y e = ⊎_elim (λ t. let t0 = t.0 in inl (omega arith, t.1)) (λ t. inr ((λ same. t.0 (omega arith)), t.1)) (at_set l i x j y e)
-
+-- the element that a write puts in a list, and another one there
 set_here : {A : Type 0} (l : List A) (i : ℕ) (x y : A) → slice_get l i ≡ Some y → slice_get (set l i x) i ≡ Some x
 set_here [] i x y e = absurd (none-some y e)
 set_here (z ∷ l) zero x y e = refl
@@ -40,7 +34,7 @@ set_there (z ∷ l) zero (suc j) x y ne e = e
 set_there (z ∷ l) (suc i) zero x y ne e = e
 set_there (z ∷ l) (suc i) (suc j) x y ne e = set_there l i j x y (λ same. ne (omega arith)) e
 
-rest_ready : Rest ≡ Ready → ⊥
+pub rest_ready : Rest ≡ Ready → ⊥
 rest_ready e = cc
 
 pub scan_ready : Scan ≡ Ready → ⊥
@@ -115,7 +109,7 @@ module _ (c h g n : ℕ) (es : List Event) (ps : List Published) (zs : List Answ
       one = record { at = k; worker = who; ops = ops }
 
       there : get_elem? ps (length w.publishes) ≡ some one
-      there = one_at at_publish w.publishes ps ext.new one ext.publishes
+      there = one_at w.publishes ps ext.new one ext.publishes
 
       only : (q : ℕ) (p : Published) → get_elem? ps q ≡ some p → p.at ≡ k → one ≡ p
       only q p e same = one_only at_publish ps rise (length w.publishes) q one p there e (sym same)
@@ -154,9 +148,6 @@ module _ (c h g n : ℕ) (es : List Event) (ps : List Published) (zs : List Answ
       not_who : (i : ℕ) → slice_get es k ≢ Some (Step i) → i ≢ who
       not_who i ne same = ne (step ∙ ap (λ (y : ℕ). Some (Step y)) (sym same))
 
-      step_is : (i : ℕ) → Some (Step who) ≡ Some (Step i) → who ≡ i
-      step_is i e = cc
-
       pub publishes_j : J c h g n es ps zs (suc k) (with_publish k w who ops a s row)
       publishes_j = next_j c h g n es ps zs k w (with_publish k w who ops a s row) j (record {
         many = length-set _ _ _ ∙ j.many;
@@ -173,5 +164,5 @@ module _ (c h g n : ℕ) (es : List Event) (ps : List Published) (zs : List Answ
         published = λ q p e same. subst (PublishOk c h g n es ps zs) (only q p e same) published;
         ready = λ q z e same inside. absurd (no_answer q z e same);
         stays = λ i r ne. (r.0, set_there w.actors who i (record a { phase = Rest; view = None }) r.0 (not_who i ne) r.1, r.2);
-        publishes = λ i r e. (length w.publishes, one, there, step_is i (sym step ∙ e), refl);
+        publishes = λ i r e. (length w.publishes, one, there, same_step who i (sym step ∙ e), refl);
       })

@@ -1,48 +1,30 @@
 -- Where the reads of a scan that has ended begin those of another that has ended, they are all of them, and both scans end the same.
-use Rattle.std.proofs.Common.{◌≡◌, ℕ, suc, ◌+◌, ◌<◌, ◌≤◌, true, not, ◌&&◌, Option, Some, None, List, [], ◌∷◌, ◌++◌, length, map, sym, refl, ap, ◌∙◌, subst, arith, length-append, append-nil, append_assoc}
-use lib.ListN.{length-map}
+use Rattle.std.proofs.Common.{◌≡◌, ℕ, suc, ◌+◌, ◌<◌, ◌≤◌, true, not, Option, Some, None, List, [], ◌∷◌, ◌++◌, length, map, sym, refl, ap, ◌∙◌, subst, arith, length-append, append_assoc}
+use Rattle.std.proofs.lemmas.Bool.{and_parts, both_ways}
+use Rattle.std.proofs.lemmas.List.{nil_from_length}
 use Rattle.snapshot_core.specs.declared.trace.How.{How}
 use Rattle.snapshot_core.specs.declared.trace.How.TheVariants as how
-use Rattle.snapshot_core.specs.Tries.{View, Read, Try, place_of, number_of, reads_of, TwoCollects, is_clean, to_ask, lends, none_lends, Failed, AllFailed, EndsLent, first_try, floor_of, base_of}
+use Rattle.snapshot_core.specs.Tries.{View, Read, Try, place_of, number_of, reads_of, is_clean, to_ask, lends, none_lends, AllFailed, EndsLent, floor_of, base_of}
 use Rattle.snapshot_core.specs.Told.{vector_of}
 use Rattle.snapshot_core.specs.Faithful.{Ends, IsScan}
-use Rattle.snapshot_core.proofs.Accepted.{both_true}
-use Rattle.snapshot_core.proofs.Unique.{AllAlike, head_same, tail_same, same_front, alike_length, same_two, clean_same, same_failed, lends_among, false_true, not_lent, EndsSo, failed_ends, collects_of, ends_so, first_two, after_first, first_form}
+use Rattle.snapshot_core.proofs.Unique.{AllAlike, head_same, tail_same, same_front, alike_length, same_two, clean_same, same_failed, EndsSo, ends_so, ended_two, same_heads, alike_back, front_of, lent_failed, ends_failed}
 
 -- reads that are alike to none are none
 alike_none : (xs : List Read) → AllAlike xs [] → xs ≡ []
-alike_none [] a = refl
-alike_none (x ∷ xs) a = absurd a
-
--- where the places of both begin one list, the shorter reads begin the longer ones
-front_of : (rs qs : List Read) (cs ds : List ℕ) (xs ys : List Read) → length rs ≤ length qs → map place_of rs ++ cs ≡ map place_of qs ++ ds → AllAlike (rs ++ xs) (qs ++ ys)
-    → (more : List Read) × (qs ≡ rs ++ more) × AllAlike xs (more ++ ys)
-front_of [] qs cs ds xs ys l e a = (qs, refl, a)
-front_of (r ∷ rs) [] cs ds xs ys l e a = absurd (omega (arith, l))
-front_of (r ∷ rs) (q ∷ qs) cs ds xs ys l e a =
-    let rest = front_of rs qs cs ds xs ys (omega (arith, l)) (tail_same r.place q.place (map place_of rs ++ cs) (map place_of qs ++ ds) e) a.1 in
-    let one = a.0.same (head_same r.place q.place (map place_of rs ++ cs) (map place_of qs ++ ds) e) in
-    (rest.0, λ k. sym one k ∷ rest.1 k, rest.2)
-
--- where none of the reads lends, none at their beginning does
-none_front : (floor : List ℕ) (f m : List Read) → none_lends floor (f ++ m) ≡ true → none_lends floor f ≡ true
-none_front floor [] m e = refl
-none_front floor (r ∷ rs) m e =
-    let both = both_true (not (lends floor r)) (none_lends floor (rs ++ m)) e in
-    λ k. both.0 k && none_front floor rs m both.1 k
+alike_none xs a = nil_from_length xs (alike_length xs [] a)
 
 -- where a list of reads ends with its first that lends, and another such list begins it, no more reads are in it
 one_last : (floor : List ℕ) (cs bs more : List Read) (r q : Read) → lends floor r ≡ true → none_lends floor bs ≡ true → bs ++ q ∷ [] ≡ cs ++ r ∷ [] ++ more → (more ≡ []) × (q ≡ r)
 one_last floor [] [] more r q l none e = (sym (tail_same q r [] more e), head_same q r [] more e)
 one_last floor [] (b ∷ bs) more r q l none e =
     let same = head_same b r (bs ++ q ∷ []) more e in
-    let not_b = (both_true (not (lends floor b)) (none_lends floor bs) none).0 in
-    absurd (false_true (not (lends floor b)) not_b (ap (λ (z : Read). not (lends floor z)) same ∙ ap not l))
+    let not_b = (and_parts (not (lends floor b)) (none_lends floor bs) none).0 in
+    absurd (both_ways (not (lends floor b)) (ap (λ (z : Read). not (lends floor z)) same ∙ ap not l) not_b)
 one_last floor (a ∷ cs) [] more r q l none e =
     let len : 1 ≡ suc (length (cs ++ r ∷ [] ++ more)) = ap (λ (z : List Read). length z) e in
     let l1 = length-append (cs ++ r ∷ []) more in let l2 = length-append cs (r ∷ []) in absurd (omega (arith, len, l1, l2))
 one_last floor (a ∷ cs) (b ∷ bs) more r q l none e =
-    one_last floor cs bs more r q l (both_true (not (lends floor b)) (none_lends floor bs) none).1 (tail_same b a (bs ++ q ∷ []) (cs ++ r ∷ [] ++ more) e)
+    one_last floor cs bs more r q l (and_parts (not (lends floor b)) (none_lends floor bs) none).1 (tail_same b a (bs ++ q ∷ []) (cs ++ r ∷ [] ++ more) e)
 
 -- a try, what is read after it, and what is read after that
 after_try : (s : Try) (ys xs : List Read) → s.first ++ s.second ++ s.asks ++ ys ++ xs ≡ s.first ++ s.second ++ s.asks ++ (ys ++ xs)
@@ -62,26 +44,6 @@ record SameLast (t u : Try) (h h' : How) (v v' : Option View) (xs : List Read) :
   pub lent : SameLent h v v'
 
 module _ (n : ℕ) (floor base : List ℕ) where
-  -- a try in which a worker lends is not one that failed
-  lent_failed : (t u : Try) (from : ℕ) (view : Option View) (xs ys : List Read) → EndsLent n floor base from view t → Failed n floor base u → AllAlike (t.first ++ t.second ++ t.asks ++ xs) (u.first ++ u.second ++ u.asks ++ ys) → ⊥
-  lent_failed t u from view xs ys et fu a =
-      let two = same_two n t u xs ys et.collects fu.collects a in
-      let places : map place_of t.asks ++ et.later ≡ map place_of u.asks ++ [] = et.asked ∙ (ap (to_ask base) two.second ∙ (sym fu.asked ∙ sym (append-nil (map place_of u.asks)))) in
-      let len = ap (λ (z : List ℕ). length z) places in
-      let l1 = length-append (map place_of t.asks) et.later in
-      let l2 = length-append (map place_of u.asks) [] in
-      let l3 : length (map place_of t.asks) ≡ length t.asks = length-map t.asks place_of in
-      let l4 : length (map place_of u.asks) ≡ length u.asks = length-map u.asks place_of in
-      let front = front_of t.asks u.asks et.later [] xs ys (omega (arith, len, l1, l2, l3, l4)) places two.rest in
-      let none = none_front floor t.asks front.0 (ap (none_lends floor) (sym front.1) ∙ fu.none) in
-      false_true (none_lends floor t.asks) none (ap (none_lends floor) et.asks ∙ lends_among floor et.before et.last et.lends)
-
-  -- a try that ends a scan, and one that failed: the first is the last of n + 2
-  ends_failed : (t u : Try) (h : How) (view : Option View) (before : ℕ) (xs ys : List Read) → EndsSo n floor base before t h view → Failed n floor base u → AllAlike (t.first ++ t.second ++ t.asks ++ xs) (u.first ++ u.second ++ u.asks ++ ys) → before ≡ n + 1
-  ends_failed t u how.Direct view before xs ys et fu a = let two = same_two n t u xs ys et.collects fu.collects a in absurd (false_true (is_clean t) et.is_clean (clean_same t u two.first two.second ∙ fu.unclean))
-  ends_failed t u (how.Lent from) view before xs ys et fu a = absurd (lent_failed t u from view xs ys et fu a)
-  ends_failed t u how.GaveUp view before xs ys et fu a = et.1
-
   -- two tries that end with an ask that lends
   both_lent : (t u : Try) (from from' : ℕ) (v v' : Option View) (xs : List Read) → EndsLent n floor base from v t → EndsLent n floor base from' v' u → AllAlike (t.first ++ t.second ++ t.asks ++ xs) (u.first ++ u.second ++ u.asks ++ [])
       → SameLast t u (how.Lent from) (how.Lent from') v v' xs
@@ -107,16 +69,16 @@ module _ (n : ℕ) (floor base : List ℕ) where
       let rest = same_front t.asks u.asks xs [] (ap (map place_of) (et.none_asked ∙ sym eu.none_asked)) two.rest in
       record { none = alike_none xs rest.1; ended = refl; first = two.first; lent = tt }
   both_end t u how.Direct (how.Lent from) v v' before before' xs et eu a =
-      let two = same_two n t u xs [] et.collects eu.collects a in absurd (false_true (is_clean t) et.is_clean (clean_same t u two.first two.second ∙ eu.unclean))
+      let two = same_two n t u xs [] et.collects eu.collects a in absurd (both_ways (is_clean t) (clean_same t u two.first two.second ∙ eu.unclean) et.is_clean)
   both_end t u how.Direct how.GaveUp v v' before before' xs et eu a =
-      let two = same_two n t u xs [] et.collects eu.0.collects a in absurd (false_true (is_clean t) et.is_clean (clean_same t u two.first two.second ∙ eu.0.unclean))
+      let two = same_two n t u xs [] et.collects eu.0.collects a in absurd (both_ways (is_clean t) (clean_same t u two.first two.second ∙ eu.0.unclean) et.is_clean)
   both_end t u (how.Lent from) how.Direct v v' before before' xs et eu a =
-      let two = same_two n t u xs [] et.collects eu.collects a in absurd (false_true (is_clean t) (clean_same t u two.first two.second ∙ eu.is_clean) et.unclean)
+      let two = same_two n t u xs [] et.collects eu.collects a in absurd (both_ways (is_clean t) et.unclean (clean_same t u two.first two.second ∙ eu.is_clean))
   both_end t u (how.Lent from) (how.Lent from') v v' before before' xs et eu a = both_lent t u from from' v v' xs et eu a
-  both_end t u (how.Lent from) how.GaveUp v v' before before' xs et eu a = absurd (lent_failed t u from v xs [] et eu.0 a)
+  both_end t u (how.Lent from) how.GaveUp v v' before before' xs et eu a = absurd (lent_failed n floor base t u from v xs [] et eu.0 a)
   both_end t u how.GaveUp how.Direct v v' before before' xs et eu a =
-      let two = same_two n t u xs [] et.0.collects eu.collects a in absurd (false_true (is_clean t) (clean_same t u two.first two.second ∙ eu.is_clean) et.0.unclean)
-  both_end t u how.GaveUp (how.Lent from) v v' before before' xs et eu a = absurd (not_lent n floor base t u from v' xs et.0 eu a)
+      let two = same_two n t u xs [] et.0.collects eu.collects a in absurd (both_ways (is_clean t) et.0.unclean (clean_same t u two.first two.second ∙ eu.is_clean))
+  both_end t u how.GaveUp (how.Lent from) v v' before before' xs et eu a = absurd (lent_failed n floor base u t from v' [] xs eu et.0 (alike_back _ _ a))
   both_end t u how.GaveUp how.GaveUp v v' before before' xs et eu a =
       let same = same_failed n floor base t u xs [] et.0 eu.0 a in
       record { none = alike_none xs same.1; ended = refl; first = ap (λ (z : Try). z.first) same.0; lent = tt }
@@ -128,10 +90,10 @@ module _ (n : ℕ) (floor base : List ℕ) where
   one_end k [] [] t u h h' v v' xs ft et fu eu few few' a =
       (refl, both_end t u h h' v v' (k + 0) (k + 0) xs et eu (subst (λ (z : List Read). AllAlike z (reads_of ([] ++ u ∷ []))) (after_try t [] xs) a))
   one_end k [] (w ∷ us) t u h h' v v' xs ft et fu eu few few' a =
-      let e = ends_failed t w h v (k + 0) xs (reads_of (us ++ u ∷ [])) et fu.0 (subst (λ (z : List Read). AllAlike z (reads_of (w ∷ us ++ u ∷ []))) (after_try t [] xs) a) in
+      let e = ends_failed n floor base t w h v (k + 0) xs (reads_of (us ++ u ∷ [])) et fu.0 (subst (λ (z : List Read). AllAlike z (reads_of (w ∷ us ++ u ∷ []))) (after_try t [] xs) a) in
       absurd (omega (arith, e, few'))
   one_end k (s ∷ ts) [] t u h h' v v' xs ft et fu eu few few' a =
-      let e = failed_ends n floor base s u h' v' (k + 0) (reads_of (ts ++ t ∷ []) ++ xs) ft.0 eu (subst (λ (z : List Read). AllAlike z (reads_of ([] ++ u ∷ []))) (after_try s (reads_of (ts ++ t ∷ [])) xs) a) in
+      let e = ends_failed n floor base u s h' v' (k + 0) [] (reads_of (ts ++ t ∷ []) ++ xs) eu ft.0 (alike_back _ _ (subst (λ (z : List Read). AllAlike z (reads_of ([] ++ u ∷ []))) (after_try s (reads_of (ts ++ t ∷ [])) xs) a)) in
       absurd (omega (arith, e, few))
   one_end k (s ∷ ts) (w ∷ us) t u h h' v v' xs ft et fu eu few few' a =
       let same = same_failed n floor base s w (reads_of (ts ++ t ∷ []) ++ xs) (reads_of (us ++ u ∷ [])) ft.0 fu.0 (subst (λ (z : List Read). AllAlike z (reads_of (w ∷ us ++ u ∷ []))) (after_try s (reads_of (ts ++ t ∷ [])) xs) a) in
@@ -163,28 +125,14 @@ ended_once n rs xs rs' tries tries' h h' v v' s s' few few' a = (
     reads : AllAlike (reads_of (s.before ++ s.last ∷ []) ++ xs) (reads_of (s'.before ++ s'.last ∷ []))
     reads = subst (λ (z : List Read × List Read). AllAlike (z.0 ++ xs) z.1) (λ k. (s.all k, s'.all k)) a
 
-    -- how a scan ended, with its tries counted from 0
-    from_zero : (bs : List Try) (t : Try) (x : How) (view : Option View) → Ends n bs t x view → EndsSo n (floor_of bs t) (base_of bs t) (0 + length bs) t x view
-    from_zero bs t x view e = subst (λ (z : ℕ). EndsSo n (floor_of bs t) (base_of bs t) z t x view) (let g : length bs ≡ 0 + length bs = omega arith in g) (ends_so n bs t x view e)
-
-    first_collects : (bs : List Try) (t : Try) (x : How) (view : Option View) → AllFailed n (floor_of bs t) (base_of bs t) bs → Ends n bs t x view → TwoCollects n (first_try bs t)
-    first_collects bs t x view f e = first_two n bs t f (collects_of n (floor_of bs t) (base_of bs t) (length bs) t x view (ends_so n bs t x view e))
-
-    first_reads : (bs : List Try) (t : Try) → reads_of (bs ++ t ∷ []) ++ xs ≡ (first_try bs t).first ++ (first_try bs t).second ++ (first_try bs t).asks ++ (after_first bs t ++ xs)
-    first_reads bs t = ap (λ (z : List Read). z ++ xs) (first_form bs t) ∙ after_try (first_try bs t) (after_first bs t) xs
-
     -- floor and base are the same
     heads : (floor_of s'.before s'.last ≡ floor_of s.before s.last) × (base_of s'.before s'.last ≡ base_of s.before s.last)
-    heads =
-        let two = same_two n (first_try s.before s.last) (first_try s'.before s'.last) (after_first s.before s.last ++ xs) (after_first s'.before s'.last)
-        (first_collects s.before s.last h v s.failed s.ends) (first_collects s'.before s'.last h' v' s'.failed s'.ends)
-        (subst (λ (z : List Read × List Read). AllAlike z.0 z.1) (λ k. (first_reads s.before s.last k, first_form s'.before s'.last k)) reads) in
-        (sym (ap (map number_of) two.first), sym (ap (map number_of) two.second))
+    heads = same_heads n s.before s'.before s.last s'.last xs (ended_two n s.before s.last h v s.failed s.ends) (ended_two n s'.before s'.last h' v' s'.failed s'.ends) reads
 
     same : (length s.before ≡ length s'.before) × SameLast s.last s'.last h h' v v' xs
     same =
         let c = s.count in let c' = s'.count in
-        one_end n (floor_of s.before s.last) (base_of s.before s.last) 0 s.before s'.before s.last s'.last h h' v v' xs s.failed (from_zero s.before s.last h v s.ends)
+        one_end n (floor_of s.before s.last) (base_of s.before s.last) 0 s.before s'.before s.last s'.last h h' v v' xs s.failed (ends_so n s.before s.last h v s.ends)
         (subst (λ (z : List ℕ × List ℕ). AllFailed n z.0 z.1 s'.before) (λ k. (heads.0 k, heads.1 k)) s'.failed)
-        (subst (λ (z : List ℕ × List ℕ). EndsSo n z.0 z.1 (0 + length s'.before) s'.last h' v') (λ k. (heads.0 k, heads.1 k)) (from_zero s'.before s'.last h' v' s'.ends))
+        (subst (λ (z : List ℕ × List ℕ). EndsSo n z.0 z.1 (0 + length s'.before) s'.last h' v') (λ k. (heads.0 k, heads.1 k)) (ends_so n s'.before s'.last h' v' s'.ends))
         (omega (arith, few, c)) (omega (arith, few', c')) reads

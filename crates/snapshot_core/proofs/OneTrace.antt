@@ -1,10 +1,10 @@
 -- Of all lists, one of publishes and one of answers are what the events come to.
-use Rattle.std.proofs.Common.{◌≡◌, ◌≢◌, ◌⊎◌, inl, inr, ⊎_elim, ℕ, zero, suc, ◌+◌, ◌-◌, ◌<◌, ◌≤◌, Bool, Option, Some, None, List, [], ◌∷◌, ◌++◌, length, map, sym, refl, ap, ◌∙◌, subst, arith, length-append}
+use Rattle.std.proofs.Common.{◌≡◌, ◌≢◌, ⊎_elim, ℕ, zero, suc, ◌+◌, ◌-◌, ◌<◌, ◌≤◌, Bool, Option, Some, None, List, [], ◌∷◌, ◌++◌, length, map, sym, refl, ap, ◌∙◌, subst, arith, length-append}
 use Rattle.std.specs.Prelude.{slice_get, slice_index}
 use Rattle.std.proofs.lemmas.Grind.{same_number_lists}
 use Rattle.std.proofs.lemmas.Option.{none-some, same_Some, slice_get_within}
 use mathlib.Core.Logic.{dite}
-use mathlib.Core.Option.{some, some-injective, some-ne-none}
+use mathlib.Core.Option.{some, some-injective}
 use native.Mathlib.Decide.{ℕ_discrete, dec_le}
 use lib.ListN.{get_elem?}
 use Rattle.ledger_core.specs.declared.op.Op.{Op}
@@ -19,18 +19,14 @@ use Rattle.snapshot_core.specs.Turns.{Answered, IsOpen, own, own_reads, ops_of}
 use Rattle.snapshot_core.specs.Faithful.{where_and_torn, IsJustified, IsFirstStep, reads_in, IsFaithful, AreOneStep, AreFew, IsOutcome}
 use Rattle.snapshot_core.proofs.Unique.{AllAlike, head_same, tail_same}
 use Rattle.snapshot_core.proofs.Past.{Inside, sum_ap, row_stays, rows_total}
-use Rattle.snapshot_core.proofs.Lending.{at_publish, at_answer}
-use Rattle.snapshot_core.proofs.Turns.{open_after, own_snoc}
-use Rattle.snapshot_core.proofs.Calm.{alike_all, to_front, own_within, own_front}
+use Rattle.snapshot_core.proofs.Lending.{at_publish, at_answer, in_first, get_map, find}
+use Rattle.snapshot_core.proofs.Turns.{open_after, own_snoc, own_front, turn_of}
+use Rattle.snapshot_core.proofs.Calm.{alike_all, own_within}
 use Rattle.snapshot_core.proofs.OneScan.{ended_once}
 use Rattle.snapshot_core.proofs.Agree.{Has, same_upto, upto_all, Agree, agree_back, number_same, total_same, meets_same, open_same}
-use Rattle.snapshot_core.proofs.OneTurn.{turn_of, one_before}
+use Rattle.snapshot_core.proofs.OneTurn.{one_before}
 
 -- Where all numbers are the same at two moments, so are the totals.
-inside_of : (n : ℕ) (ps : List Published) → ((q : ℕ) (p : Published) → get_elem? ps q ≡ some p → p.worker < n) → Inside n ps
-inside_of n [] h = tt
-inside_of n (p ∷ ps) h = (h 0 p refl, inside_of n ps (λ q. h (suc q)))
-
 totals_fixed : (adds : List Op → ℕ → ℕ) (n : ℕ) (ps : List Published) (j k x : ℕ) → Inside n ps → ((i : ℕ) → i < n → number_at ps j i ≡ number_at ps k i) → total_at adds ps j x ≡ total_at adds ps k x
 totals_fixed adds n ps j k x inside same = sym (rows_total adds n ps j x inside) ∙ (sum_ap n _ _ (λ i lt. dite (dec_le j k)
     (λ le. row_stays adds ps j k i x le (same i lt))
@@ -62,11 +58,6 @@ views_same adds n w e b ps qs zs ys ag inside (Some x) (Some y) is s t = λ d. S
         one.right.sums k in_w ∙ (total_same e ps qs zs ys ag adds one.at k one.by ∙ (totals_fixed adds n qs one.at two.at k inside numbers ∙ sym (two.right.sums k in_w))))
 
 -- Reads.
-get_map : {A B : Type 0} (f : A → B) (xs : List A) (q : ℕ) (x : A) → get_elem? xs q ≡ some x → get_elem? (map f xs) q ≡ some (f x)
-get_map f [] q x e = absurd (some-ne-none x (sym e))
-get_map f (y ∷ xs) zero x e = ap (λ z. some (f z)) (some-injective y x e)
-get_map f (y ∷ xs) (suc q) x e = get_map f xs q x e
-
 pub record Split {A B : Type 0} (f : A → B) (xs : List A) (as' bs : List B) : Type 0 where
   pub front : List A
   pub rest : List A
@@ -113,26 +104,6 @@ module _ (n c h g : ℕ) (es : List Event) where
       let l : length (own_reads es i b d ++ (x ∷ [])) ≡ 0 = ap (λ (z : List (ℕ × Bool)). length z) ((λ k. own_reads es i b d ++ sym is k) ∙ (sym (own_snoc es i b d) ∙ none)) in
       let m = length-append (own_reads es i b d) (x ∷ []) in omega (arith, l, m)
 
-  -- a turn's answer, or that it has none
-  abbrev Found : List Answered → (i b : ℕ) → Type 0
-  Found zs i b = (q : ℕ) × (a : Answered) × (get_elem? zs q ≡ some a) × (a.actor ≡ i) × (a.begin ≡ b)
-
-  abbrev NotFound : List Answered → (i b : ℕ) → Type 0
-  NotFound zs i b = (q : ℕ) (a : Answered) → get_elem? zs q ≡ some a → a.actor ≡ i → a.begin ≢ b
-
-  find : (zs : List Answered) (i b : ℕ) → Found zs i b ⊎ NotFound zs i b
-  find [] i b = inr (λ q a e. absurd (some-ne-none a (sym e)))
-  find (z ∷ zs) i b = dite (ℕ_discrete z.actor i)
-      (λ same. dite (ℕ_discrete z.begin b) (λ too. inl (0, z, refl, same, too)) (λ ne. on (λ s. ne) (find zs i b)))
-      (λ ne. on (λ s. absurd (ne s)) (find zs i b))
-    where
-      past : (z.actor ≡ i → z.begin ≢ b) → NotFound zs i b → (q : ℕ) (a : Answered) → get_elem? (z ∷ zs) q ≡ some a → a.actor ≡ i → a.begin ≢ b
-      past unlike none zero a e = subst (λ (y : Answered). y.actor ≡ i → y.begin ≢ b) (some-injective z a e) unlike
-      past unlike none (suc q) a e = none q a e
-
-      on : (z.actor ≡ i → z.begin ≢ b) → Found zs i b ⊎ NotFound zs i b → Found (z ∷ zs) i b ⊎ NotFound (z ∷ zs) i b
-      on unlike t = ⊎_elim (λ s. inl (suc s.0, s.1, s.2, s.3, s.4)) (λ none. inr (past unlike none)) t
-
   -- what makes a trace the only one
   pub record IsRight (ps : List Published) (zs : List Answered) : Type 0 where
     pub faithful : IsFaithful n c h g es ps zs
@@ -172,7 +143,7 @@ module _ (n c h g : ℕ) (es : List Event) where
       just : IsJustified n qs ys (reads_in es a) a.tries a.how a.view
       just = just_same e ps qs zs ys ag a.actor a.begin (a.end - a.begin) (omega (arith, at, begun)) a.tries a.how a.view (one.faithful.justified q a is)
 
-      none_there : NotFound ys a.actor a.begin → ⊥
+      none_there : ((r : ℕ) (b : Answered) → get_elem? ys r ≡ some b → b.actor ≡ a.actor → b.begin ≢ a.begin) → ⊥
       none_there none =
           let own_read = (one.faithful.turns q a is).1 in
           let within : a.end < length es = read_within a.actor a.end (a.end, own_read.0) (slice_get es a.end) refl own_read.1 in
@@ -203,7 +174,7 @@ module _ (n c h g : ℕ) (es : List Event) where
           ended : (split.rest ≡ []) × (a.tries ≡ b.tries) × (a.how ≡ b.how) × (vector_of a.view ≡ vector_of b.view)
           ended = ended_once n just.met split.rest justified.met a.tries b.tries a.how b.how a.view b.view just.scan justified.scan (one.few q a is) (two.few r b ib)
               (subst (AllAlike (just.met ++ split.rest)) split.both (alike_more just.met split.front split.rest
-              (alike_all qs ys just.met split.front (just.same ∙ sym split.is_front) just.meets (λ k x ix. justified.meets k x (ap (λ (z : List Read). get_elem? z k) (sym split.both) ∙ to_front split.front split.rest k x ix)))))
+              (alike_all qs ys just.met split.front (just.same ∙ sym split.is_front) just.meets (λ k x ix. justified.meets k x (ap (λ (z : List Read). get_elem? z k) (sym split.both) ∙ in_first split.front split.rest k x ix)))))
 
           no_more : own_reads es a.actor (suc a.end) d ≡ []
           no_more = sym split.is_rest ∙ ap (map where_and_torn) ended.0
@@ -222,7 +193,7 @@ module _ (n c h g : ℕ) (es : List Event) where
         same_answer end =
             let zero_more : b.end ≡ a.end + 0 = omega (arith, end) in
             let x = ended 0 zero_more in
-            let inside = inside_of n qs (λ k p ip. (two.faithful.published k p ip).0) in
+            let inside : Inside n qs = λ k p ip. (two.faithful.published k p ip).0 in
             let view : a.view ≡ b.view = views_same (sum_ops c h) n (width c h g) e a.begin ps qs zs ys ag inside a.view b.view x.3
             (λ y iy. subst (λ (z : ℕ). OneStep (sum_ops c h) n (width c h g) ps a.begin z y) at (one.steps q a y is iy))
             (λ y iy. subst (λ (z : ℕ × ℕ). OneStep (sum_ops c h) n (width c h g) qs z.0 z.1 y) (λ k. (begin k, (end ∙ at) k)) (two.steps r b y ib iy)) in
@@ -234,7 +205,7 @@ module _ (n c h g : ℕ) (es : List Event) where
             (λ gt. absurd (not_early (omega (arith, gt, at))))
 
       answer_there : (r : ℕ) × (get_elem? ys r ≡ some a)
-      answer_there = ⊎_elim (λ t. (t.0, t.2 ∙ ap some (the_same t.0 t.1 t.2 t.3 t.4))) (λ none. absurd (none_there none)) (find ys a.actor a.begin)
+      answer_there = ⊎_elim (λ t. (t.0, t.2 ∙ ap some (the_same t.0 t.1 t.2 t.3 t.4))) (λ none. absurd (none_there none)) (find (λ (b : Answered). b.actor) (λ b. b.begin) ys a.actor a.begin)
 
   -- one event more
   has_next : {A : Type 0} (at : A → ℕ) (e : ℕ) (xs ys : List A) → Has at e xs ys → ((q : ℕ) (x : A) → get_elem? xs q ≡ some x → at x ≡ e → (r : ℕ) × (get_elem? ys r ≡ some x)) → Has at (suc e) xs ys

@@ -8,21 +8,13 @@ use lib.ListN.{get_elem?}
 use Rattle.snapshot_core.specs.declared.event.Event.{Event}
 use Rattle.snapshot_core.specs.declared.event.Event.TheVariants.{Step}
 use Rattle.snapshot_core.specs.History.{Published}
-use Rattle.snapshot_core.specs.Turns.{Answered, EndsAt, IsOpen, IsTurn}
+use Rattle.snapshot_core.specs.Turns.{Answered, EndsAt, IsOpen}
 use Rattle.snapshot_core.specs.Faithful.{IsFirstStep, IsFaithful}
 use Rattle.snapshot_core.proofs.Turns.{open_one, open_on}
 
 module _ (n c h g : ℕ) (es : List Event) (ps : List Published) (zs : List Answered) where
   abbrev Open : (e i b : ℕ) → Type 0
   Open e i b = IsOpen n c h g es ps zs e i b
-
-  -- a turn that is open was open from its begin on
-  pub turn_of : (e i b : ℕ) → Open e i b → IsTurn n c h g es ps zs i b
-  turn_of zero i b o = absurd o
-  turn_of (suc e) i b o = go o (λ t. turn_of e i b t)
-    where
-      go : Open (suc e) i b → (Open e i b → IsTurn n c h g es ps zs i b) → IsTurn n c h g es ps zs i b
-      go o rec = ⊎_elim (λ t. rec t.0) (λ t. subst (λ (y : ℕ). Open (suc y) i b) (sym t.0) o) o
 
   -- the worker of this answer publishes nothing at its end
   abbrev NoneAt : Answered → Type 0

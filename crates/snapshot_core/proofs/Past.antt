@@ -1,9 +1,11 @@
 -- The numbers, rows and totals of moments.
-use Rattle.std.proofs.Common.{◌≡◌, ◌≢◌, ℕ, zero, suc, ◌+◌, ◌*◌, ◌<◌, ◌≤◌, ◌&&◌, Bool, true, false, cond, List, [], ◌∷◌, ◌++◌, eqb, eq-eqb, ne_eqb, ltb, ltb-true, lt-ltb, le-ltb, sym, refl, ap, ◌∙◌, arith}
+use Rattle.std.proofs.Common.{◌≡◌, ◌≢◌, ℕ, zero, suc, ◌+◌, ◌*◌, ◌<◌, ◌≤◌, ◌&&◌, Bool, true, false, cond, List, [], ◌∷◌, ◌++◌, eqb, eq-eqb, ne_eqb, ltb, ltb-true, lt-ltb, le-ltb, refl, ap, ◌∙◌, arith}
+use Rattle.std.proofs.lemmas.Bool.{and_right}
 use mathlib.Core.Logic.{dite}
 use native.Mathlib.Decide.{ℕ_discrete}
 use Rattle.ledger_core.specs.declared.op.Op.{Op}
 use Rattle.snapshot_core.specs.History.{Published, number_at, row_at, total_at}
+use Rattle.snapshot_core.proofs.Lending.{Below}
 
 -- an event before j is before all that are not before j
 later : (a j j' : ℕ) → j ≤ j' → ltb a j ≡ true → ltb a j' ≡ true
@@ -18,6 +20,11 @@ pub number_rises : (ps : List Published) (j j' i : ℕ) → j ≤ j' → number_
 number_rises [] j j' i le = omega arith
 number_rises (p ∷ ps) j j' i le = let a = number_rises ps j j' i le in let b = cond_le (ltb p.at j) (ltb p.at j') (eqb p.worker i) 1 (later p.at j j' le) in
     let x : ℕ = cond (ltb p.at j && eqb p.worker i) 1 0 in let y : ℕ = cond (ltb p.at j' && eqb p.worker i) 1 0 in let goal : x + number_at ps j i ≤ y + number_at ps j' i = omega arith in goal
+
+-- nothing was published before the first event
+pub number_first : (ps : List Published) (i : ℕ) → number_at ps 0 i ≡ 0
+number_first [] i = refl
+number_first (p ∷ ps) i = ap (λ (z : Bool × ℕ). cond (z.0 && eqb p.worker i) 1 0 + z.1) (λ d. (le-ltb p.at 0 (omega arith) d, number_first ps i d))
 
 row_step : (x y w : Bool) (r nt nt' rt rt' : ℕ) → (x ≡ true → y ≡ true) → nt ≤ nt' → (nt ≡ nt' → rt ≡ rt') → cond (x && w) 1 0 + nt ≡ cond (y && w) 1 0 + nt' → cond (x && w) r 0 + rt ≡ cond (y && w) r 0 + rt'
 row_step true true true r nt nt' rt rt' h le same e = let t = same (omega arith) in omega arith
@@ -35,35 +42,6 @@ pub number_grows : (ps : List Published) (p : Published) (j i : ℕ) → j ≤ p
 number_grows [] p j i le = and_false p.at j (eqb p.worker i) 1 le
 number_grows (x ∷ ps) p j i le = ap (λ (t : ℕ). cond (ltb x.at j && eqb x.worker i) 1 0 + t) (number_grows ps p j i le)
 
--- one more publish at k, seen after k
-and_true : (a k : ℕ) (b : Bool) (v : ℕ) → a ≡ k → cond (ltb a (suc k) && b) v 0 + 0 ≡ 0 + cond b v 0
-and_true a k b v e = let lt : a < suc k = omega arith in let c : ℕ = cond b v 0 in ap (λ (t : Bool). cond (t && b) v 0 + 0) (lt-ltb a (suc k) lt) ∙ (let g : c + 0 ≡ 0 + c = omega arith in g)
-
-pub number_more : (ps : List Published) (p : Published) (k i : ℕ) → p.at ≡ k → number_at (ps ++ p ∷ []) (suc k) i ≡ number_at ps (suc k) i + cond (eqb p.worker i) 1 0
-number_more [] p k i e = and_true p.at k (eqb p.worker i) 1 e
-number_more (x ∷ ps) p k i e = let a = number_more ps p k i e in let d : ℕ = cond (ltb x.at (suc k) && eqb x.worker i) 1 0 in let c : ℕ = cond (eqb p.worker i) 1 0 in let g : d + number_at (ps ++ p ∷ []) (suc k) i ≡ d + number_at ps (suc k) i + c = omega arith in g
-
--- every publish is at an event before k
-abbrev pub Early : ℕ → List Published → Type 0
-Early k [] = Unit {0}
-Early k (p ∷ ps) = (p.at < k) × Early k ps
-
-pub early_more : (k : ℕ) (ps : List Published) (p : Published) → Early k ps → p.at ≡ k → Early (suc k) (ps ++ p ∷ [])
-early_more k [] p h e = (omega arith, tt)
-early_more k (x ∷ ps) p h e = let lt = h.0 in (omega arith, early_more k ps p h.1 e)
-
-pub early_next : (k : ℕ) (ps : List Published) → Early k ps → Early (suc k) ps
-early_next k [] h = tt
-early_next k (x ∷ ps) h = let lt = h.0 in (omega arith, early_next k ps h.1)
-
--- nothing was published at k yet
-both_early : (a k : ℕ) (b : Bool) (v : ℕ) → a < k → cond (ltb a (suc k) && b) v 0 ≡ cond (ltb a k && b) v 0
-both_early a k b v lt = ap (λ (t : Bool). cond (t && b) v 0) (lt-ltb a (suc k) (omega arith) ∙ sym (lt-ltb a k lt))
-
-pub number_next : (ps : List Published) (k i : ℕ) → Early k ps → number_at ps (suc k) i ≡ number_at ps k i
-number_next [] k i h = refl
-number_next (p ∷ ps) k i h = ap (λ (z : ℕ × ℕ). z.0 + z.1) (λ c. (both_early p.at k (eqb p.worker i) 1 h.0 c, number_next ps k i h.1 c))
-
 -- sums over the places below p
 abbrev pub sum_to : ℕ → (ℕ → ℕ) → ℕ
 sum_to zero f = 0
@@ -78,8 +56,7 @@ sum_plus zero f g = refl
 sum_plus (suc p) f g = let a = sum_plus p f g in omega arith
 
 and_none : (t e : Bool) (v : ℕ) → e ≡ false → cond (t && e) v 0 ≡ 0
-and_none true e v h = ap (λ (b : Bool). cond b v 0) h
-and_none false e v h = refl
+and_none t e v h = ap (λ (b : Bool). cond b v 0) (and_right t e h)
 
 and_one : (t e : Bool) (v : ℕ) → e ≡ true → cond (t && e) v 0 ≡ cond t v 0
 and_one true e v h = ap (λ (b : Bool). cond b v 0) h
@@ -105,18 +82,17 @@ sum_le (suc p) f h = let a = sum_le p f (λ q l. h q (omega arith)) in let b = h
 
 -- every publish is of a worker below n
 abbrev pub Inside : ℕ → List Published → Type 0
-Inside n [] = Unit {0}
-Inside n (p ∷ ps) = (p.worker < n) × Inside n ps
-
-pub inside_more : (n : ℕ) (ps : List Published) (p : Published) → Inside n ps → p.worker < n → Inside n (ps ++ p ∷ [])
-inside_more n [] p i h = (h, tt)
-inside_more n (x ∷ ps) p i h = (i.0, inside_more n ps p i.1 h)
+Inside n ps = Below (λ (p : Published). p.worker) n ps
 
 module _ (adds : List Op → ℕ → ℕ) where
   pub row_rises : (ps : List Published) (j j' i x : ℕ) → j ≤ j' → row_at adds ps j i x ≤ row_at adds ps j' i x
   row_rises [] j j' i x le = omega arith
   row_rises (p ∷ ps) j j' i x le = let a = row_rises ps j j' i x le in let b = cond_le (ltb p.at j) (ltb p.at j') (eqb p.worker i) (adds p.ops x) (later p.at j j' le) in
       let y : ℕ = cond (ltb p.at j && eqb p.worker i) (adds p.ops x) 0 in let z : ℕ = cond (ltb p.at j' && eqb p.worker i) (adds p.ops x) 0 in let goal : y + row_at adds ps j i x ≤ z + row_at adds ps j' i x = omega arith in goal
+
+  pub row_first : (ps : List Published) (i x : ℕ) → row_at adds ps 0 i x ≡ 0
+  row_first [] i x = refl
+  row_first (p ∷ ps) i x = ap (λ (z : Bool × ℕ). cond (z.0 && eqb p.worker i) (adds p.ops x) 0 + z.1) (λ d. (le-ltb p.at 0 (omega arith) d, row_first ps i x d))
 
   -- where a worker's number did not move, nor did its row
   pub row_stays : (ps : List Published) (j j' i x : ℕ) → j ≤ j' → number_at ps j i ≡ number_at ps j' i → row_at adds ps j i x ≡ row_at adds ps j' i x
@@ -131,16 +107,8 @@ module _ (adds : List Op → ℕ → ℕ) where
   total_grows [] p j x le = ap (λ (b : Bool). cond b (adds p.ops x) 0 + 0) (le-ltb p.at j le)
   total_grows (y ∷ ps) p j x le = ap (λ (t : ℕ). cond (ltb y.at j) (adds y.ops x) 0 + t) (total_grows ps p j x le)
 
-  pub row_more : (ps : List Published) (p : Published) (k i x : ℕ) → p.at ≡ k → row_at adds (ps ++ p ∷ []) (suc k) i x ≡ row_at adds ps (suc k) i x + cond (eqb p.worker i) (adds p.ops x) 0
-  row_more [] p k i x e = and_true p.at k (eqb p.worker i) (adds p.ops x) e
-  row_more (y ∷ ps) p k i x e = let a = row_more ps p k i x e in let d : ℕ = cond (ltb y.at (suc k) && eqb y.worker i) (adds y.ops x) 0 in let c : ℕ = cond (eqb p.worker i) (adds p.ops x) 0 in let g : d + row_at adds (ps ++ p ∷ []) (suc k) i x ≡ d + row_at adds ps (suc k) i x + c = omega arith in g
-
-  pub row_next : (ps : List Published) (k i x : ℕ) → Early k ps → row_at adds ps (suc k) i x ≡ row_at adds ps k i x
-  row_next [] k i x h = refl
-  row_next (p ∷ ps) k i x h = ap (λ (z : ℕ × ℕ). z.0 + z.1) (λ c. (both_early p.at k (eqb p.worker i) (adds p.ops x) h.0 c, row_next ps k i x h.1 c))
-
   -- all rows together are the totals
   pub rows_total : (n : ℕ) (ps : List Published) (j x : ℕ) → Inside n ps → sum_to n (λ q. row_at adds ps j q x) ≡ total_at adds ps j x
   rows_total n [] j x inside = sum_zero n
   rows_total n (p ∷ ps) j x inside = sum_plus n (λ q. cond (ltb p.at j && eqb p.worker q) (adds p.ops x) 0) (λ q. row_at adds ps j q x)
-      ∙ ap (λ (z : ℕ × ℕ). z.0 + z.1) (λ c. (sum_one n p.worker (ltb p.at j) (adds p.ops x) inside.0 c, rows_total n ps j x inside.1 c))
+      ∙ ap (λ (z : ℕ × ℕ). z.0 + z.1) (λ c. (sum_one n p.worker (ltb p.at j) (adds p.ops x) (inside 0 p refl) c, rows_total n ps j x (λ q. inside (suc q)) c))

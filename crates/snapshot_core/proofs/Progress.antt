@@ -1,10 +1,11 @@
 -- What the machine's invariant says of a turn that has begun, and of what a worker lends.
-use Rattle.std.proofs.Common.{◌≡◌, ◌≢◌, ◌⊎◌, inl, inr, ⊎_elim, ℕ, zero, suc, ◌+◌, ◌-◌, ◌<◌, ◌≤◌, Bool, cond, ◌&&◌, ◌==◌, le-ltb, Option, Some, None, List, [], ◌∷◌, length, sym, refl, ap, ◌∙◌, subst, arith}
+use Rattle.std.proofs.Common.{◌≡◌, ◌⊎◌, inl, inr, ⊎_elim, ℕ, zero, suc, ◌+◌, ◌-◌, ◌<◌, ◌≤◌, Option, Some, None, List, length, sym, refl, ap, ◌∙◌, subst, arith, get_or}
 use mathlib.Core.Logic.{dite}
-use mathlib.Core.Option.{some, some-injective, some-ne-none}
+use mathlib.Core.Option.{some}
 use native.Mathlib.Decide.{ℕ_discrete, dec_le}
 use lib.ListN.{get_elem?}
 use Rattle.std.specs.Prelude.{slice_get}
+use Rattle.std.proofs.lemmas.Option.{slice_get-get_or}
 use Rattle.snapshot_core.specs.declared.event.Event.{Event}
 use Rattle.snapshot_core.specs.declared.event.Event.TheVariants.{Begin, Step, Torn}
 use Rattle.snapshot_core.specs.declared.next.Next.{Next}
@@ -14,18 +15,13 @@ use Rattle.snapshot_core.specs.declared.actor.Phase.TheVariants.{Rest, Scan, Rea
 use Rattle.snapshot_core.specs.History.{Published, number_at}
 use Rattle.snapshot_core.specs.Turns.{Answered, IsOpen, IsTurn, BeginsAt, EndsAt, own_reads}
 use Rattle.snapshot_core.specs.Faithful.{last_view, lent_at}
-use Rattle.snapshot_core.specs.Machine.{Act, World, place_in}
+use Rattle.snapshot_core.specs.Machine.{Act, World, place_in, idle_of}
 use Rattle.snapshot_core.proofs.Unique.{IsWanted}
 use Rattle.snapshot_core.proofs.Calm.{Scans}
-use Rattle.snapshot_core.proofs.Turns.{open_one, open_after}
-use Rattle.snapshot_core.proofs.Lending.{NoPublish, NoAnswer, Rising, at_publish, at_answer, number_quiet, number_now, lent_quiet, lent_now, view_quiet, view_now}
+use Rattle.snapshot_core.proofs.Turns.{open_one, open_after, open_before, turn_of}
+use Rattle.snapshot_core.proofs.Lending.{NoPublish, NoAnswer, Rising, at_publish, at_answer, number_quiet, number_now, lent_quiet, lent_now, view_quiet, view_now, find, number_calm}
 use Rattle.snapshot_core.proofs.Justify.{J, ActOk, PublishOk}
-
--- the actor with this number
-there : {A : Type 0} (l : List A) (i : ℕ) → i < length l → (x : A) × (slice_get l i ≡ Some x)
-there [] i h = absurd (omega arith)
-there (x ∷ xs) zero h = (x, refl)
-there (x ∷ xs) (suc i) h = there xs i (omega arith)
+use Rattle.snapshot_core.proofs.Past.{number_first}
 
 wanted_by : (next : Next) (p : ℕ) → place_in next ≡ Some p → IsWanted next
 wanted_by (First q) p e = tt
@@ -56,49 +52,11 @@ module _ (c h g n : ℕ) (es : List Event) (ps : List Published) (zs : List Answ
       (t.1.0, a, t.1.2, t.1.3, same, omega (arith, at)))
       ends
 
-  find_publish : (l : List Published) (actor e : ℕ) → ((q : ℕ) × (p : Published) × (get_elem? l q ≡ some p) × (p.worker ≡ actor) × (p.at ≡ e)) ⊎ ((q : ℕ) (p : Published) → get_elem? l q ≡ some p → p.worker ≡ actor → p.at ≢ e)
-  find_publish [] actor e = inr (λ q p at _ _. some-ne-none p (sym at))
-  find_publish (p ∷ l) actor e = go (ℕ_discrete p.worker actor) (ℕ_discrete p.at e) (find_publish l actor e)
-    where
-      go : Dec (p.worker ≡ actor) → Dec (p.at ≡ e) → ((q : ℕ) × (p : Published) × (get_elem? l q ≡ some p) × (p.worker ≡ actor) × (p.at ≡ e)) ⊎ ((q : ℕ) (p : Published) → get_elem? l q ≡ some p → p.worker ≡ actor → p.at ≢ e)
-          → ((q : ℕ) × (s : Published) × (get_elem? (p ∷ l) q ≡ some s) × (s.worker ≡ actor) × (s.at ≡ e)) ⊎ ((q : ℕ) (s : Published) → get_elem? (p ∷ l) q ≡ some s → s.worker ≡ actor → s.at ≢ e)
-      go (yes w) (yes a) rest = inl (0, p, refl, w, a)
-      go w a (inl t) = inl (suc t.0, t.1, t.2, t.3, t.4)
-      go (no w) a (inr none) = inr (λ q. by_place q (λ s is of. w (ap (λ (z : Published). z.worker) is ∙ of)) none)
-        where
-          by_place : (q : ℕ) → ((s : Published) → p ≡ s → s.worker ≡ actor → ⊥) → ((q : ℕ) (s : Published) → get_elem? l q ≡ some s → s.worker ≡ actor → s.at ≢ e) → (s : Published) → get_elem? (p ∷ l) q ≡ some s → s.worker ≡ actor → s.at ≢ e
-          by_place zero f rest s is of at = f s (some-injective p s is) of
-          by_place (suc q) f rest s is of at = rest q s is of at
-      go (yes w) (no a) (inr none) = inr (λ q. by_place q none)
-        where
-          by_place : (q : ℕ) → ((q : ℕ) (s : Published) → get_elem? l q ≡ some s → s.worker ≡ actor → s.at ≢ e) → (s : Published) → get_elem? (p ∷ l) q ≡ some s → s.worker ≡ actor → s.at ≢ e
-          by_place zero rest s is of at = a (ap (λ (z : Published). z.at) (some-injective p s is) ∙ at)
-          by_place (suc q) rest s is of at = rest q s is of at
-
-  find_answer : (l : List Answered) (actor e : ℕ) → ((q : ℕ) × (a : Answered) × (get_elem? l q ≡ some a) × (a.actor ≡ actor) × (a.end ≡ e)) ⊎ ((q : ℕ) (a : Answered) → get_elem? l q ≡ some a → a.actor ≡ actor → a.end ≢ e)
-  find_answer [] actor e = inr (λ q p at _ _. some-ne-none p (sym at))
-  find_answer (p ∷ l) actor e = go (ℕ_discrete p.actor actor) (ℕ_discrete p.end e) (find_answer l actor e)
-    where
-      go : Dec (p.actor ≡ actor) → Dec (p.end ≡ e) → ((q : ℕ) × (p : Answered) × (get_elem? l q ≡ some p) × (p.actor ≡ actor) × (p.end ≡ e)) ⊎ ((q : ℕ) (p : Answered) → get_elem? l q ≡ some p → p.actor ≡ actor → p.end ≢ e)
-          → ((q : ℕ) × (s : Answered) × (get_elem? (p ∷ l) q ≡ some s) × (s.actor ≡ actor) × (s.end ≡ e)) ⊎ ((q : ℕ) (s : Answered) → get_elem? (p ∷ l) q ≡ some s → s.actor ≡ actor → s.end ≢ e)
-      go (yes w) (yes a) rest = inl (0, p, refl, w, a)
-      go w a (inl t) = inl (suc t.0, t.1, t.2, t.3, t.4)
-      go (no w) a (inr none) = inr (λ q. by_place q (λ s is of. w (ap (λ (z : Answered). z.actor) is ∙ of)) none)
-        where
-          by_place : (q : ℕ) → ((s : Answered) → p ≡ s → s.actor ≡ actor → ⊥) → ((q : ℕ) (s : Answered) → get_elem? l q ≡ some s → s.actor ≡ actor → s.end ≢ e) → (s : Answered) → get_elem? (p ∷ l) q ≡ some s → s.actor ≡ actor → s.end ≢ e
-          by_place zero f rest s is of at = f s (some-injective p s is) of
-          by_place (suc q) f rest s is of at = rest q s is of at
-      go (yes w) (no a) (inr none) = inr (λ q. by_place q none)
-        where
-          by_place : (q : ℕ) → ((q : ℕ) (s : Answered) → get_elem? l q ≡ some s → s.actor ≡ actor → s.end ≢ e) → (s : Answered) → get_elem? (p ∷ l) q ≡ some s → s.actor ≡ actor → s.end ≢ e
-          by_place zero rest s is of at = a (ap (λ (z : Answered). z.end) (some-injective p s is) ∙ at)
-          by_place (suc q) rest s is of at = rest q s is of at
-
   -- whether what the actor has begun ends at e
   ends_or_not : (e actor : ℕ) → EndsAt n c h g es ps zs e actor ⊎ (¬ EndsAt n c h g es ps zs e actor)
   ends_or_not e actor = dite (dec_le (suc actor) n)
-      (λ worker. ⊎_elim (λ t. inl (inl (omega arith, t))) (λ none. inr (λ ends. ⊎_elim (λ t. none t.1.0 t.1.1 t.1.2 t.1.3 t.1.4) (λ t. let u = t.0 in omega arith) ends)) (find_publish ps actor e))
-      (λ reader. ⊎_elim (λ t. inl (inr (omega arith, t))) (λ none. inr (λ ends. ⊎_elim (λ t. let u = t.0 in omega arith) (λ t. none t.1.0 t.1.1 t.1.2 t.1.3 t.1.4) ends)) (find_answer zs actor e))
+      (λ worker. ⊎_elim (λ t. inl (inl (omega arith, t))) (λ none. inr (λ ends. ⊎_elim (λ t. none t.1.0 t.1.1 t.1.2 t.1.3 t.1.4) (λ t. let u = t.0 in omega arith) ends)) (find (λ (p : Published). p.worker) at_publish ps actor e))
+      (λ reader. ⊎_elim (λ t. inl (inr (omega arith, t))) (λ none. inr (λ ends. ⊎_elim (λ t. let u = t.0 in omega arith) (λ t. none t.1.0 t.1.1 t.1.2 t.1.3 t.1.4) ends)) (find (λ (a : Answered). a.actor) at_answer zs actor e))
 
   open_still : (actor b d : ℕ) → b + suc d ≤ length es → IsTurn n c h g es ps zs actor b → IsOpen n c h g es ps zs (b + suc d) actor b ⊎ IsAnswered actor b (b + suc d)
   open_still actor b zero le turn = let z : suc b ≡ b + 1 = omega arith in inl (subst (λ (y : ℕ). IsOpen n c h g es ps zs y actor b) z turn)
@@ -128,8 +86,8 @@ module _ (c h g n : ℕ) (es : List Event) (ps : List Published) (zs : List Answ
   progress actor b m turn inside = ⊎_elim
       (λ (o : IsOpen n c h g es ps zs (b + suc m) actor b).
       let j = ok (b + suc m) (omega arith) in
-      let act = there (worlds (b + suc m)).actors actor (let l = j.actors in let i = is_actor actor b turn in omega (arith, l, i)) in
-      go act.0 act.0.phase o (j.actor actor act.0 act.1))
+      let a = get_or (worlds (b + suc m)).actors actor (idle_of 0 n) in
+      go a a.phase o (j.actor actor a (slice_get-get_or (worlds (b + suc m)).actors actor (idle_of 0 n) (let l = j.actors in let i = is_actor actor b turn in omega (arith, l, i)))))
       (λ (t : IsAnswered actor b (b + suc m)). let lt = t.5 in inr (t.0, t.1, t.2, t.3, t.4, omega arith))
       (open_still actor b m (omega arith) turn)
     where
@@ -154,20 +112,6 @@ module _ (c h g n : ℕ) (es : List Event) (ps : List Published) (zs : List Answ
           let same : a.begin ≡ b = open_one n c h g es ps zs (b + suc m) actor a.begin b r.is_open o in
           let over = r.over in inr (r.place, r.answer, r.is_answer, r.of_actor, r.of_begin ∙ same, omega (arith, over))
 
-  -- an open turn was open before
-  open_before : (e i b d : ℕ) → IsOpen n c h g es ps zs (e + d) i b → b < e → IsOpen n c h g es ps zs e i b
-  open_before e i b zero o lt = let z : e + 0 ≡ e = omega arith in subst (λ (y : ℕ). IsOpen n c h g es ps zs y i b) z o
-  open_before e i b (suc d) o lt =
-      let z : e + suc d ≡ suc (e + d) = omega arith in
-      ⊎_elim (λ t. open_before e i b d t.0 lt) (λ t. let same = t.0 in absurd (omega arith)) (subst (λ (y : ℕ). IsOpen n c h g es ps zs y i b) z o)
-
-  -- while a worker's turn is open it publishes nothing
-  quiet_turn : (i b e d : ℕ) → i < n → IsOpen n c h g es ps zs (suc e + d) i b → b ≤ e → NoPublish ps e i ⊎ (b ≡ e)
-  quiet_turn i b e d worker o le = dite (ℕ_discrete b e) (λ same. inr same) (λ other. ⊎_elim
-      (λ t. inl (λ q p is at of. t.1 (inl (worker, (q, p, is, of, at)))))
-      (λ t. inr t.0)
-      (open_before (suc e) i b d o (omega arith)))
-
   module _ (rise_p : Rising at_publish ps) (rise_z : Rising at_answer zs) (before : (q : ℕ) (p : Published) → get_elem? ps q ≡ some p → p.at < length es) where
     last : J c h g n es ps zs (length es) (worlds (length es))
     last = ok (length es) (omega arith)
@@ -176,26 +120,20 @@ module _ (c h g n : ℕ) (es : List Event) (ps : List Published) (zs : List Answ
     of_publish q p is = last.published q p is (before q p is)
 
     -- a worker publishes nothing where its turn begins
-    no_publish_begin : (i b d : ℕ) → IsOpen n c h g es ps zs (suc b + d) i b → NoPublish ps b i
-    no_publish_begin i b d o q p is at of =
+    no_publish_begin : (i b k : ℕ) → IsOpen n c h g es ps zs k i b → NoPublish ps b i
+    no_publish_begin i b k o q p is at of =
         let u = of_publish q p is in
         let step : slice_get es b ≡ Some (Step i) = ap (slice_get es) (sym at) ∙ (u.first.step ∙ ap (λ (z : ℕ). Some (Step z)) (u.of_worker ∙ of)) in
-        ⊎_elim (λ t. let l = open_after n c h g es ps zs b i b t.0 in omega arith) (λ t. begins (slice_get es b) step t.1) (open_before (suc b) i b d o (omega arith))
+        ⊎_elim (λ t. let l = open_after n c h g es ps zs b i b t.0 in omega arith) (λ t. begins (slice_get es b) step t.1) (turn_of n c h g es ps zs k i b o)
       where
         begins : (x : Option Event) → x ≡ Some (Step i) → BeginsAt n c h g es ps zs b i x → ⊥
         begins x e t = subst (BeginsAt n c h g es ps zs b i) e t
 
-    -- from its begin to its publish a worker's number stays
-    number_stays : (i b top : ℕ) → i < n → IsOpen n c h g es ps zs top i b → (d : ℕ) → b + d ≤ top → number_at ps (b + d) i ≡ number_at ps b i
-    number_stays i b top worker o zero le = let z : b + 0 ≡ b = omega arith in ap (λ (y : ℕ). number_at ps y i) z
-    number_stays i b top worker o (suc d) le =
-        let z : b + suc d ≡ suc (b + d) = omega arith in
-        let far : (top - suc (b + d)) + suc (b + d) ≡ top = omega arith in
-        let y : top ≡ suc (b + d) + (top - suc (b + d)) = omega arith in
-        let o' = subst (λ (x : ℕ). IsOpen n c h g es ps zs x i b) y o in
-        let none : NoPublish ps (b + d) i = ⊎_elim (λ t. t) (λ same. let w : b ≡ b + d = same in subst (λ (x : ℕ). NoPublish ps x i) w (let v : suc (b + d) + (top - suc (b + d)) ≡ suc b + (top - suc b) = omega arith in no_publish_begin i b (top - suc b) (subst (λ (x : ℕ). IsOpen n c h g es ps zs x i b) v o')))
-        (quiet_turn i b (b + d) (top - suc (b + d)) worker o' (omega arith)) in
-        ap (λ (x : ℕ). number_at ps x i) z ∙ (number_quiet ps (b + d) i none ∙ number_stays i b top worker o d (omega arith))
+    -- nor while it is open
+    no_publish_in : (i b k e : ℕ) → i < n → IsOpen n c h g es ps zs k i b → b ≤ e → e < k → NoPublish ps e i
+    no_publish_in i b k e worker o le lt = dite (ℕ_discrete b e)
+        (λ same. subst (λ (x : ℕ). NoPublish ps x i) same (no_publish_begin i b k o))
+        (λ other. ⊎_elim (λ t q p is at of. t.1 (inl (worker, (q, p, is, of, at)))) (λ t. absurd (other t.0)) (open_before n c h g es ps zs k (suc e) i b o (omega arith) lt))
 
     -- after its answer a worker has no other before its publish
     view_stays : (i top r : ℕ) (a : Answered) → get_elem? zs r ≡ some a → a.actor ≡ i → a.begin < a.end → top ≤ length es → IsOpen n c h g es ps zs top i a.begin → (d : ℕ) → suc a.end + d ≤ top → last_view zs (suc a.end + d) i None ≡ a.view
@@ -209,8 +147,7 @@ module _ (c h g n : ℕ) (es : List Event) (ps : List Published) (zs : List Answ
             let e : ℕ = suc a.end + d in
             let lt : e < top = omega (arith, le) in
             let k = last.answer q x at (omega (arith, end, lt, within)) in
-            let y : top ≡ e + (top - e) = omega (arith, lt) in
-            let here : IsOpen n c h g es ps zs e i a.begin = open_before e i a.begin (top - e) (subst (λ (z : ℕ). IsOpen n c h g es ps zs z i a.begin) y o) (omega (arith, order)) in
+            let here : IsOpen n c h g es ps zs e i a.begin = open_before n c h g es ps zs top e i a.begin o (omega (arith, order)) (omega (arith, lt)) in
             let same : x.begin ≡ a.begin = open_one n c h g es ps zs e i x.begin a.begin (subst (λ (z : ℕ × ℕ). IsOpen n c h g es ps zs z.0 z.1 x.begin) (λ c. (end c, actor c)) k.is_open) here in
             let one = last.once q r x a at is (omega (arith, end, lt, within)) (omega (arith, lt, within)) (actor ∙ sym of) same in
             omega (arith, one, end)
@@ -222,8 +159,7 @@ module _ (c h g n : ℕ) (es : List Event) (ps : List Published) (zs : List Answ
         let k = last.answer u.place a u.is_answer (omega (arith, after, bound)) in
         let order : a.begin < a.end = open_after n c h g es ps zs a.end a.actor a.begin k.is_open in
         let o : IsOpen n c h g es ps zs p.at i a.begin = subst (λ (z : ℕ). IsOpen n c h g es ps zs p.at z a.begin) of u.is_open in
-        let y : a.begin + (p.at - a.begin) ≡ p.at = omega (arith, order, after) in
-        let number : number_at ps p.at i ≡ number_at ps a.begin i = ap (λ (z : ℕ). number_at ps z i) (sym y) ∙ number_stays i a.begin p.at worker o (p.at - a.begin) (omega (arith, y)) in
+        let number : number_at ps p.at i ≡ number_at ps a.begin i = number_calm ps i a.begin p.at (omega (arith, order, after)) (λ e lo hi. no_publish_in i a.begin p.at e worker o lo hi) in
         let now = number_now ps p.at i q p rise_p is refl of in
         let x : suc a.end + (p.at - suc a.end) ≡ p.at = omega (arith, after) in
         let view : last_view zs p.at i None ≡ a.view = ap (λ (z : ℕ). last_view zs z i None) (sym x) ∙ view_stays i p.at u.place a u.is_answer (u.of_worker ∙ of) order (omega (arith, bound)) o (p.at - suc a.end) (omega (arith, x)) in
@@ -232,11 +168,7 @@ module _ (c h g n : ℕ) (es : List Event) (ps : List Published) (zs : List Answ
     -- a worker that has published lends the view of an answer that began after the publish before
     pub lends_from : (e i : ℕ) → i < n → 0 < number_at ps e i
         → (r : ℕ) × (a : Answered) × (get_elem? zs r ≡ some a) × (a.end < e) × (number_at ps a.begin i + 1 ≡ number_at ps e i) × (lent_at ps zs e i ≡ a.view)
-    lends_from zero i worker some_made = absurd (let z = none_yet ps in omega (arith, z))
-      where
-        none_yet : (l : List Published) → number_at l 0 i ≡ 0
-        none_yet [] = refl
-        none_yet (p ∷ l) = let e : number_at (p ∷ l) 0 i ≡ 0 + number_at l 0 i = ap (λ (b : Bool). cond (b && p.worker == i) 1 0 + number_at l 0 i) (le-ltb p.at 0 (omega arith)) in let z = none_yet l in omega (arith, e, z)
+    lends_from zero i worker some_made = absurd (let z = number_first ps i in omega (arith, z))
     lends_from (suc k) i worker some_made = ⊎_elim
         (λ (t : (q : ℕ) × (p : Published) × (get_elem? ps q ≡ some p) × (p.worker ≡ i) × (p.at ≡ k)).
         subst (λ (z : ℕ). (r : ℕ) × (a : Answered) × (get_elem? zs r ≡ some a) × (a.end < suc z) × (number_at ps a.begin i + 1 ≡ number_at ps (suc z) i) × (lent_at ps zs (suc z) i ≡ a.view)) t.4 (lends_now i t.0 t.1 worker t.2 t.3))
@@ -245,4 +177,4 @@ module _ (c h g n : ℕ) (es : List Event) (ps : List Published) (zs : List Answ
         let number = number_quiet ps k i quiet in
         let t = lends_from k i worker (omega (arith, number, some_made)) in let lt = t.3 in let num = t.4 in
         (t.0, t.1, t.2, omega (arith, lt), omega (arith, num, number), lent_quiet ps zs k i quiet ∙ t.5))
-        (find_publish ps i k)
+        (find (λ (p : Published). p.worker) at_publish ps i k)

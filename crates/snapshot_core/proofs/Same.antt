@@ -1,25 +1,21 @@
 -- When two lists, read element by element, are the same, and when two operations are.
-use Rattle.std.proofs.Common.{◌≡◌, ℕ, ◌+◌, ◌<◌, ◌≤◌, Bool, List, [], ◌∷◌, ◌++◌, length, map, take, get_or, sym, ap, ◌∙◌}
+use Rattle.std.proofs.Common.{◌≡◌, ℕ, ◌+◌, ◌<◌, ◌≤◌, List, [], ◌∷◌, ◌++◌, length, map, take, get_or, sym, ap, ◌∙◌}
 use Rattle.std.specs.Bool.{Decides}
-use Rattle.std.proofs.lemmas.Bool.Decides.{Decides-and, Decides-eqb}
+use Rattle.std.proofs.lemmas.Bool.Decides.{Decides-and, Decides-eqb, Decides-like}
 use Rattle.std.proofs.lemmas.List.{get_or-map, map_more, take_all}
 use Rattle.ledger_core.specs.declared.op.Op.{Op}
 use Rattle.ledger_core.specs.declared.op.Op.TheVariants.{Inc, Observe, Up, Down}
 use Rattle.ledger_core.specs.contracts.op.OpPartialEq.TheImpl.{eq-value}
 
--- a test of one fact is a test of another that says as much
-decides_as : {P Q : Type 0} (r : Bool) → (P → Q) → (Q → P) → Decides r P → Decides r Q
-decides_as r to from d = (λ is. to (d.0 is), λ q. d.1 (from q))
-
 -- the operations' `==` tells whether they are one
 pub op_decides : (a b : Op) → Decides (eq-value.it a b) (a ≡ b)
-op_decides (Inc c x) (Inc d y) = decides_as _ (λ e. cc) (λ e. (cc, cc)) (Decides-and _ _ (Decides-eqb c d) (Decides-eqb x y))
+op_decides (Inc c x) (Inc d y) = Decides-like _ (λ e. cc) (λ e. (cc, cc)) (Decides-and _ _ (Decides-eqb c d) (Decides-eqb x y))
 op_decides (Inc c x) b = (λ is. cc, λ same. cc)
-op_decides (Observe c p x) (Observe d q y) = decides_as _ (λ e. cc) (λ e. (cc, (cc, cc))) (Decides-and _ _ (Decides-eqb c d) (Decides-and _ _ (Decides-eqb p q) (Decides-eqb x y)))
+op_decides (Observe c p x) (Observe d q y) = Decides-like _ (λ e. cc) (λ e. (cc, (cc, cc))) (Decides-and _ _ (Decides-eqb c d) (Decides-and _ _ (Decides-eqb p q) (Decides-eqb x y)))
 op_decides (Observe c p x) b = (λ is. cc, λ same. cc)
-op_decides (Up c x) (Up d y) = decides_as _ (λ e. cc) (λ e. (cc, cc)) (Decides-and _ _ (Decides-eqb c d) (Decides-eqb x y))
+op_decides (Up c x) (Up d y) = Decides-like _ (λ e. cc) (λ e. (cc, cc)) (Decides-and _ _ (Decides-eqb c d) (Decides-eqb x y))
 op_decides (Up c x) b = (λ is. cc, λ same. cc)
-op_decides (Down c x) (Down d y) = decides_as _ (λ e. cc) (λ e. (cc, cc)) (Decides-and _ _ (Decides-eqb c d) (Decides-eqb x y))
+op_decides (Down c x) (Down d y) = Decides-like _ (λ e. cc) (λ e. (cc, cc)) (Decides-and _ _ (Decides-eqb c d) (Decides-eqb x y))
 op_decides (Down c x) b = (λ is. cc, λ same. cc)
 
 module _ {A B : Type 0} (f : A → B) where

@@ -1,7 +1,10 @@
 -- A read of an actor's scan is told to it, and a scan that is over is what its answer says.
 use Rattle.std.proofs.Common.{◌≡◌, ℕ, zero, suc, ◌+◌, ◌-◌, ◌<◌, ◌≤◌, Bool, true, false, not, cond, List, [], ◌∷◌, ◌++◌, length, map, take, get_or, eqb, ltb, sym, refl, ap, ◌∙◌, subst, arith, Option, Some, None, append_assoc, append-nil}
 use Rattle.std.proofs.Math.ListN.{set}
+use Rattle.std.proofs.Math.Bool.{not-not}
 use Rattle.std.proofs.lemmas.Option.{none-some, same_Some}
+use Rattle.std.proofs.lemmas.Bool.{cond_both}
+use Rattle.std.proofs.lemmas.List.{same_from_push}
 use Rattle.snapshot_core.specs.declared.next.Next.{Next}
 use Rattle.snapshot_core.specs.declared.next.Next.TheVariants.{First, Second, Ask, Direct, Lent, GaveUp}
 use Rattle.snapshot_core.specs.declared.scan.Scan.{Scan}
@@ -15,12 +18,12 @@ use Rattle.snapshot_core.specs.Tries.{View, Read, Try, number_of, from_on, reads
 use Rattle.snapshot_core.specs.Faithful.{Ends, IsScan}
 use Rattle.snapshot_core.specs.Machine.{Seg, Act, read_by, place_in, end_by, not_torn}
 use Rattle.snapshot_core.proofs.Collects.{parts_are}
-use Rattle.snapshot_core.proofs.Sized.{by_cond, sized_first, sized_second, sized_asked}
-use Rattle.snapshot_core.proofs.Told.{after_first, after_second, after_asked}
+use Rattle.snapshot_core.proofs.Sized.{sized_first, sized_second, sized_asked}
+use Rattle.snapshot_core.proofs.Told.{after_first, after_second, after_asked, reads_append}
 
 -- The number of workers stays.
 n_failed : (s : Scan) → (failed_of s).n ≡ s.n
-n_failed s = by_cond (ltb s.tries (s.n + 2)) (λ (y : Scan). y.n ≡ s.n) (record s { tries = s.tries + 1; next = First 0 }) (given_up s (least_of s)) (λ _. refl) (λ _. refl)
+n_failed s = cond_both (ltb s.tries (s.n + 2)) (record s { tries = s.tries + 1; next = First 0 }) (given_up s (least_of s)) (λ (y : Scan). y.n ≡ s.n) (λ _. refl) (λ _. refl)
 
 n_asks : (k : ℕ) (s : Scan) → (asked_from k s).n ≡ s.n
 n_asks k s = go (next_asked_of s.base s.found k (s.n - k))
@@ -34,7 +37,7 @@ n_ends true s = n_asks 0 s
 n_ends false s = refl
 
 n_based : (s : Scan) → (based s).n ≡ s.n
-n_based s = by_cond (eqb s.tries 1) (λ (y : Scan). y.n ≡ s.n) (record s { floor = s.opened; base = s.found }) s (λ _. refl) (λ _. refl)
+n_based s = cond_both (eqb s.tries 1) (record s { floor = s.opened; base = s.found }) s (λ (y : Scan). y.n ≡ s.n) (λ _. refl) (λ _. refl)
 
 n_first : (number : ℕ) (whole : Bool) (s : Scan) (x : Next) → (first_by number whole s x).n ≡ s.n
 n_first number whole s (First p) = refl
@@ -45,7 +48,7 @@ n_first number whole s (Lent p) = refl
 n_first number whole s (GaveUp x y z) = refl
 
 n_second : (number : ℕ) (s : Scan) (x : Next) → (second_by number s x).n ≡ s.n
-n_second number s (Second p) = by_cond (ltb (p + 1) s.n) (λ (y : Scan). y.n ≡ s.n) (record s { found = set s.found p number; next = Second (p + 1) }) (collected (record s { found = set s.found p number })) (λ _. refl)
+n_second number s (Second p) = cond_both (ltb (p + 1) s.n) (record s { found = set s.found p number; next = Second (p + 1) }) (collected (record s { found = set s.found p number })) (λ (y : Scan). y.n ≡ s.n) (λ _. refl)
     (λ _. n_ends (failed_at s.opened s.whole (set s.found p number) (least_of (record s { found = set s.found p number }))) (based (record s { found = set s.found p number })) ∙ n_based (record s { found = set s.found p number }))
 n_second number s (First p) = refl
 n_second number s (Ask p) = refl
@@ -55,7 +58,7 @@ n_second number s (GaveUp x y z) = refl
 
 n_asked : (vector : Option (List ℕ)) (s : Scan) (x : Next) → (asked_by vector s x).n ≡ s.n
 n_asked None s (Ask p) = n_asks (p + 1) s
-n_asked (Some v) s (Ask p) = by_cond (lends_to s v) (λ (y : Scan). y.n ≡ s.n) (record s { next = Lent p }) (asked_from (p + 1) s) (λ _. refl) (λ _. n_asks (p + 1) s)
+n_asked (Some v) s (Ask p) = cond_both (lends_to s v) (record s { next = Lent p }) (asked_from (p + 1) s) (λ (y : Scan). y.n ≡ s.n) (λ _. refl) (λ _. n_asks (p + 1) s)
 n_asked v s (First p) = refl
 n_asked v s (Second p) = refl
 n_asked v s Direct = refl
@@ -74,10 +77,6 @@ pub record HasRead (s : Seg) (torn : Bool) (k p : ℕ) (reads : List Read) (a b 
   pub wide : b.scan.n ≡ a.scan.n
   pub told : Told b.scan (reads ++ read_here p k torn s ∷ [])
 
-not_twice : (t : Bool) → t ≡ not (not t)
-not_twice true = refl
-not_twice false = refl
-
 lent_same : (t : Bool) (v : Option View) → cond t None (vector_of v) ≡ not_torn t (vector_of v)
 lent_same true v = refl
 lent_same false v = refl
@@ -91,7 +90,7 @@ has_read a s torn k p reads z told at = go a.scan.next refl at
       begin = refl;
       sized = sized_first s.number (not torn) a.scan a.scan.next z;
       wide = n_first s.number (not torn) a.scan a.scan.next;
-      told = after_first s.number (not torn) a.scan (first_by s.number (not torn) a.scan a.scan.next) reads (read_here p k torn s) z refl told (is ∙ ap First (same_Some q p at)) refl (not_twice torn);
+      told = after_first s.number (not torn) a.scan (first_by s.number (not torn) a.scan a.scan.next) reads (read_here p k torn s) z refl told (is ∙ ap First (same_Some q p at)) refl (sym (not-not torn));
     }
     go (Second q) is at = record {
       phase = refl;
@@ -112,21 +111,6 @@ has_read a s torn k p reads z told at = go a.scan.next refl at
     go (GaveUp x y w) is at = absurd (none-some p at)
 
 -- The last read of some tries.
-last_same : {A : Type 0} (xs ys : List A) (x y : A) → xs ++ x ∷ [] ≡ ys ++ y ∷ [] → x ≡ y
-last_same [] [] x y e = cc
-last_same [] (z ∷ []) x y e = absurd (cc)
-last_same [] (z ∷ u ∷ ys) x y e = absurd (cc)
-last_same (z ∷ []) [] x y e = absurd (cc)
-last_same (z ∷ u ∷ xs) [] x y e = absurd (cc)
-last_same (z ∷ xs) (u ∷ ys) x y e = last_same xs ys x y (cc)
-
-reads_append : (xs ys : List Try) → reads_of (xs ++ ys) ≡ reads_of xs ++ reads_of ys
-reads_append [] ys = refl
-reads_append (t ∷ xs) ys = ap (λ (z : List Read). t.first ++ t.second ++ t.asks ++ z) (reads_append xs ys) ∙ sym append_assoc_of
-  where
-    append_assoc_of : (t.first ++ t.second ++ t.asks ++ reads_of xs) ++ reads_of ys ≡ t.first ++ t.second ++ t.asks ++ (reads_of xs ++ reads_of ys)
-    append_assoc_of = simp append_assoc
-
 last_read : (before : List Try) (t : Try) (asks : List Read) (x : Read) → t.asks ≡ asks ++ x ∷ [] → reads_of (before ++ t ∷ []) ≡ (reads_of before ++ t.first ++ t.second ++ asks) ++ x ∷ []
 last_read before t asks x e = reads_append before (t ∷ []) ∙ ap (λ (y : List Read). reads_of before ++ (t.first ++ t.second ++ y ++ [])) e ∙ ending
   where
@@ -159,7 +143,7 @@ over_at s seg a torn k p reads e same z t x is ends = record { before = t.before
     go (Ask q) en f = absurd (none-some e en)
     go Direct en f = shown how.Direct (Some (record { vector = take a.scan.n a.scan.opened; totals = a.totals })) en (f, vector f.collects.first)
     go (Lent q) en f = shown (how.Lent q) seg.view en
-        (subst (λ (v : Option View). EndsLent s.n (floor_of t.before t.now) (base_of t.before t.now) q v t.now) (sym (ap (λ (r : Read). r.view) (last_same reads _ (read_here p k torn seg) f.1.1.last (t.all ∙ last_read t.before t.now f.1.1.before f.1.1.last f.1.1.asks)) ∙ f.1.1.view_is)) f.1.1)
+        (subst (λ (v : Option View). EndsLent s.n (floor_of t.before t.now) (base_of t.before t.now) q v t.now) (sym (ap (λ (r : Read). r.view) (same_from_push reads _ (read_here p k torn seg) f.1.1.last (t.all ∙ last_read t.before t.now f.1.1.before f.1.1.last f.1.1.asks)).1 ∙ f.1.1.view_is)) f.1.1)
     go (GaveUp u v w) en f = shown how.GaveUp None en (f.0, f.1, refl)
 
 pub scan_over : (n : ℕ) (seg : Seg) (a : Act) (torn : Bool) (k p : ℕ) (reads : List Read) (e : How × Option View) → a.scan.n ≡ n → IsSized a.scan → Told a.scan (reads ++ read_here p k torn seg ∷ []) → end_by seg a a.scan.next ≡ Some e

@@ -1,8 +1,8 @@
 -- What is true of a scan in progress, and that each read keeps it.
-use Rattle.std.proofs.Common.{◌≡◌, ◌≢◌, ◌||◌, ℕ, zero, suc, ◌+◌, ◌-◌, ◌*◌, ◌%◌, ◌^◌, ◌<◌, ◌≤◌, Bool, true, false, not, cond, List, [], ◌∷◌, length, take, get_or, eqb, leb, ltb, ltb-true, ltb-false, sym, refl, ap, ◌∙◌, subst, arith, Option, Some, None, get_or-set_same, get_or-set_other, length-set}
+use Rattle.std.proofs.Common.{◌≡◌, ◌≢◌, ℕ, zero, suc, ◌+◌, ◌-◌, ◌*◌, ◌%◌, ◌^◌, ◌<◌, ◌≤◌, Bool, true, false, not, cond, List, [], ◌∷◌, length, take, get_or, eqb, ltb, ltb-true, ltb-false, sym, refl, ap, ◌∙◌, subst, arith, Option, Some, None, get_or-set_same, get_or-set_other, length-set}
 use Rattle.std.proofs.Math.ListN.{set}
 use Rattle.std.proofs.lemmas.List.{length-take-le, get_or-take}
-use Rattle.std.proofs.lemmas.Bool.Decides.{nat_tests}
+use Rattle.std.proofs.lemmas.Bool.{cond_both, eqb-true, eqb-false, leb-true, or_parts, not-true, not-false, cond-true, cond-false, eq-eqb, ne_eqb}
 use mathlib.Core.Logic.{dite}
 use native.Mathlib.Decide.{ℕ_discrete}
 use Rattle.ledger_core.specs.declared.op.Op.{Op}
@@ -11,44 +11,23 @@ use Rattle.snapshot_core.specs.declared.next.Next.TheVariants.{First, Second, As
 use Rattle.snapshot_core.specs.declared.scan.Scan.{Scan}
 use Rattle.snapshot_core.specs.History.{Published, number_at, row_at, OneStep}
 use Rattle.snapshot_core.specs.Machine.{added}
-use Rattle.snapshot_core.specs.Scan.{least_of, failed_at, least_failed_of, is_to_ask, next_asked_of, lends_to, failed_of, given_up, asks_or_fails, asked_from, asks_or_ends, collected, first_at, second_at, asked_at}
+use Rattle.snapshot_core.specs.Scan.{least_of, failed_at, least_failed_of, next_asked_of, lends_to, failed_of, given_up, asks_or_fails, asked_from, asks_or_ends, collected, first_at, second_at, asked_at}
 use Rattle.snapshot_core.specs.Sized.{IsSized}
 use Rattle.snapshot_core.specs.Tries.{View}
 use Rattle.snapshot_core.proofs.Past.{number_rises, row_rises, row_stays, sum_to, sum_ap, sum_le, rows_total, Inside}
-use Rattle.snapshot_core.proofs.Sized.{by_cond}
-
-abbrev choose : {P A : Type 0} → Dec P → A → A → A
-choose (yes _) a b = a
-choose (no _) a b = b
+use Rattle.snapshot_core.proofs.Sized.{asked_within}
 
 -- f, with c at i
 put : (ℕ → ℕ) → ℕ → ℕ → ℕ → ℕ
-put f i c j = choose (ℕ_discrete j i) c (f j)
+put f i c j = cond (eqb j i) c (f j)
 
 put_here : (f : ℕ → ℕ) (i : ℕ) (c : ℕ) → put f i c i ≡ c
 unfolding put
-put_here f i c = go (ℕ_discrete i i)
-  where
-    go : (d : Dec (i ≡ i)) → choose d c (f i) ≡ c
-    go (yes _) = refl
-    go (no n) = absurd (n refl)
+put_here f i c = cond-true (eqb i i) c (f i) (eq-eqb i i refl)
 
 put_else : (f : ℕ → ℕ) (i : ℕ) (c : ℕ) (j : ℕ) → j ≢ i → put f i c j ≡ f j
 unfolding put
-put_else f i c j other = go (ℕ_discrete j i)
-  where
-    go : (d : Dec (j ≡ i)) → choose d c (f j) ≡ f j
-    go (yes e) = absurd (other e)
-    go (no _) = refl
-
-eq_of : (x y : ℕ) → eqb x y ≡ true → x ≡ y
-eq_of x y h = grind (arith, nat_tests)
-
-ne_of : (x y : ℕ) → eqb x y ≡ false → x ≢ y
-ne_of x y h = grind (arith, nat_tests)
-
-le_of : (x y : ℕ) → leb x y ≡ true → x ≤ y
-le_of x y h = grind (arith, nat_tests)
+put_else f i c j other = cond-false (eqb j i) c (f j) (ne_eqb j i other)
 
 -- where the least place that failed is none, no place failed
 none_failed : (o : List ℕ) (w : List Bool) (f : List ℕ) (k m : ℕ) → failed_at o w f (least_failed_of o w f k m) ≡ false → (q : ℕ) → k ≤ q → q ≤ k + m → failed_at o w f q ≡ false
@@ -59,20 +38,6 @@ none_failed o w f k (suc m) e q a h = go (failed_at o w f k) refl e (none_failed
         → (failed_at o w f (least_failed_of o w f (suc k) m) ≡ false → (q : ℕ) → suc k ≤ q → q ≤ suc k + m → failed_at o w f q ≡ false) → failed_at o w f q ≡ false
     go true is e rec = absurd (let x : true ≡ false = sym is ∙ e in cc)
     go false is e rec = dite (ℕ_discrete q k) (λ same. ap (failed_at o w f) same ∙ is) (λ other. rec e q (omega arith) (omega arith))
-
-not_failed : (a b : Bool) → (not a || not b) ≡ false → (a ≡ true) × (b ≡ true)
-not_failed true true e = (refl, refl)
-not_failed true false e = absurd (cc)
-not_failed false b e = absurd (cc)
-
--- the place that is asked
-asked_is : (base found : List ℕ) (k m p : ℕ) → next_asked_of base found k m ≡ Some p → (p < k + m) × (is_to_ask base found p ≡ true)
-asked_is base found k zero p e = absurd (cc)
-asked_is base found k (suc m) p e = go (is_to_ask base found k) refl e (asked_is base found (suc k) m p)
-  where
-    go : (t : Bool) → is_to_ask base found k ≡ t → cond t (Some k) (next_asked_of base found (suc k) m) ≡ Some p → (next_asked_of base found (suc k) m ≡ Some p → (p < suc k + m) × (is_to_ask base found p ≡ true)) → (p < k + suc m) × (is_to_ask base found p ≡ true)
-    go true is e rec = let same : k ≡ p = cc in (omega arith, ap (is_to_ask base found) (sym same) ∙ is)
-    go false is e rec = let r = rec e in let r0 = r.0 in (omega arith, r.1)
 
 -- the totals after one more row
 pub added_length : (t r : List ℕ) → length (added t r) ≡ length t
@@ -87,9 +52,9 @@ added_at (y ∷ t) (z ∷ r) zero h l = refl
 added_at (y ∷ t) (z ∷ r) (suc x) h l = added_at t r x (omega arith) (omega arith)
 
 totals_more : (p x w : ℕ) (t r : List ℕ) (u v : ℕ) → x < w → length t ≡ w → length r ≡ w → (p ≡ 0 → u ≡ 0) → (p ≢ 0 → get_or t x 0 ≡ u) → get_or r x 0 ≡ v → u + v < 2 ^ 64 → get_or (cond (eqb p 0) r (added t r)) x 0 ≡ u + v
-totals_more p x w t r u v hx lt lr zero_u is_u is_v small = by_cond (eqb p 0) (λ z. get_or z x 0 ≡ u + v) r (added t r)
-    (λ e. let z = zero_u (eq_of p 0 e) in omega arith)
-    (λ e. let z = is_u (ne_of p 0 e) in added_at t r x (omega arith) (omega arith) ∙ (let g : (get_or t x 0 + get_or r x 0) % 2 ^ 64 ≡ u + v = omega arith in g))
+totals_more p x w t r u v hx lt lr zero_u is_u is_v small = cond_both (eqb p 0) r (added t r) (λ z. get_or z x 0 ≡ u + v)
+    (λ e. let z = zero_u (eqb-true p 0 e) in omega arith)
+    (λ e. let z = is_u (eqb-false p 0 e) in added_at t r x (omega arith) (omega arith) ∙ (let g : (get_or t x 0 + get_or r x 0) % 2 ^ 64 ≡ u + v = omega arith in g))
 
 -- `adds` tells what operations add to a word, and a row has w words
 module _ (adds : List Op → ℕ → ℕ) (w : ℕ) where
@@ -140,7 +105,7 @@ none_read adds w ps b e o wh t = record { moment = λ q. 0; after = λ q h. absu
 
 module _ (adds : List Op → ℕ → ℕ) (w n : ℕ) (ps : List Published) (b : ℕ) where
   fails_good : (e : ℕ) (s : Scan) (t : List ℕ) (v : Option View) → s.n ≡ n → 1 ≤ n → Based n ps b e s → Good adds w n ps b e (failed_of s) t v
-  fails_good e s t v size some base = by_cond (ltb s.tries (s.n + 2)) (λ (y : Scan). Good adds w n ps b e y t v) (record s { tries = s.tries + 1; next = First 0 }) (given_up s (least_of s))
+  fails_good e s t v size some base = cond_both (ltb s.tries (s.n + 2)) (record s { tries = s.tries + 1; next = First 0 }) (given_up s (least_of s)) (λ (y : Scan). Good adds w n ps b e y t v)
       (λ h. (size, (omega arith, none_read adds w ps b e s.opened s.whole t, λ _. base)))
       (λ h. (size, tt))
 
@@ -149,7 +114,7 @@ module _ (adds : List Op → ℕ → ℕ) (w n : ℕ) (ps : List Published) (b :
     where
       go : (o : Option ℕ) → next_asked_of s.base s.found k (s.n - k) ≡ o → Good adds w n ps b e (asks_or_fails s o) t v
       go None is = fails_good e s t v size some base
-      go (Some p) is = let a = asked_is s.base s.found k (s.n - k) p is in let a0 = a.0 in let lt : p < n = omega arith in let twice = le_of _ _ a.1 in let up = seen p lt in
+      go (Some p) is = let a = asked_within s.base s.found k (s.n - k) p is in let a1 = a.1 in let lt : p < n = omega arith in let twice = leb-true _ _ a.2 in let up = seen p lt in
           (size, (lt, base, seen, omega arith))
 
   -- a try without a place that failed is a moment: the event of its last first read
@@ -167,10 +132,10 @@ module _ (adds : List Op → ℕ → ℕ) (w n : ℕ) (ps : List Published) (b :
   }
     where
       clean : (q : ℕ) → q < n → (get_or s.whole q false ≡ true) × (eqb (get_or s.opened q 0) (get_or s.found q 0) ≡ true)
-      clean q l = not_failed _ _ (none_failed s.opened s.whole s.found 0 (s.n - 1) none q (omega arith) (omega arith))
+      clean q l = let e = or_parts _ _ (none_failed s.opened s.whole s.found 0 (s.n - 1) none q (omega arith) (omega arith)) in (not-false _ e.0, not-false _ e.1)
 
       same : (q : ℕ) → q < n → number_at ps (r.firsts.moment q) q ≡ number_at ps r.mid q
-      same q l = let c = eq_of _ _ (clean q l).1 in let f = r.found q l in let f3 = f.3 in let o = r.firsts.number q l in
+      same q l = let c = eqb-true _ _ (clean q l).1 in let f = r.found q l in let f3 = f.3 in let o = r.firsts.number q l in
           let up = number_rises ps (r.firsts.moment q) r.mid q (r.firsts.by q l) in let up2 = number_rises ps r.mid f.0 q f.1 in omega arith
 
   settles : (e : ℕ) (s : Scan) (t : List ℕ) (v : Option View) (o : Bool) → Inside n ps → IsSized s → s.n ≡ n → length t ≡ w → Seconds adds w n ps b e n s t → Based n ps b e s → failed_at s.opened s.whole s.found (least_of s) ≡ o → Good adds w n ps b e (asks_or_ends o s) t v
@@ -178,12 +143,12 @@ module _ (adds : List Op → ℕ → ℕ) (w n : ℕ) (ps : List Published) (b :
   settles e s t v true inside z size words r base is = asks_good e 0 s t v size (let some = z.some in omega arith) (omega arith) base (λ q l. let f = r.found q l in let f3 = f.3 in let up = number_rises ps f.0 e q f.2 in omega arith)
 
   collects : (e : ℕ) (s : Scan) (t : List ℕ) (v : Option View) → Inside n ps → IsSized s → s.n ≡ n → length t ≡ w → Seconds adds w n ps b e n s t → MayBeBased n ps b e s → Good adds w n ps b e (collected s) t v
-  collects e s t v inside z size words r base = by_cond (eqb s.tries 1) (λ (y : Scan). Good adds w n ps b e (asks_or_ends (failed_at s.opened s.whole s.found (least_of s)) y) t v) (record s { floor = s.opened; base = s.found }) s
+  collects e s t v inside z size words r base = cond_both (eqb s.tries 1) (record s { floor = s.opened; base = s.found }) s (λ (y : Scan). Good adds w n ps b e (asks_or_ends (failed_at s.opened s.whole s.found (least_of s)) y) t v)
       (λ h. settles e (record s { floor = s.opened; base = s.found }) t v (failed_at s.opened s.whole s.found (least_of s)) inside
       (record { some = z.some; most = z.most; begun = z.begun; few = z.few; inside = z.inside; opened = z.opened; whole = z.whole; found = z.found }) size words
       (record { mid = r.mid; after = r.after; by = r.by; firsts = r.firsts; found = r.found })
       (λ q l. let f = r.found q l in let f1 = f.1 in let af = r.after in (f.0, omega arith, f.2, f.3)) refl)
-      (λ h. settles e s t v (failed_at s.opened s.whole s.found (least_of s)) inside z size words r (base (ne_of s.tries 1 h)) refl)
+      (λ h. settles e s t v (failed_at s.opened s.whole s.found (least_of s)) inside z size words r (base (eqb-false s.tries 1 h)) refl)
 
   later_base : (e k : ℕ) (s : Scan) → e ≤ k → Based n ps b e s → Based n ps b k s
   later_base e k s le base q l = let f = base q l in let f2 = f.2 in (f.0, f.1, omega arith, f.3)
@@ -202,13 +167,9 @@ module _ (adds : List Op → ℕ → ℕ) (w n : ℕ) (ps : List Published) (b :
     number = λ q l. dite (ℕ_discrete q p)
         (λ same. subst (λ (y : ℕ). get_or (set s.opened p num) y 0 ≡ number_at ps (put r.moment p k y) y) (sym same) (get_or-set_same s.opened p num 0 (omega arith) ∙ is_num ∙ ap (λ (m : ℕ). number_at ps m p) (sym (put_here r.moment p k))))
         (λ other. get_or-set_other s.opened p q num 0 other ∙ r.number q (omega arith) ∙ ap (λ (m : ℕ). number_at ps m q) (sym (put_else r.moment p k q other)));
-    sums = λ _ all x hx. sums_of x hx (torn_of torn (sym (get_or-set_same s.whole p (not torn) false (omega arith)) ∙ all p (omega arith))) all;
+    sums = λ _ all x hx. sums_of x hx (not-true torn (sym (get_or-set_same s.whole p (not torn) false (omega arith)) ∙ all p (omega arith))) all;
   }
     where
-      torn_of : (b : Bool) → not b ≡ true → b ≡ false
-      torn_of true e = absurd (cc)
-      torn_of false e = refl
-
       at : (q : ℕ) → q < suc p → (P : ℕ → Type 0) → P k → (q < p → P (r.moment q)) → P (put r.moment p k q)
       at q l P here else = dite (ℕ_discrete q p)
           (λ same. subst P (sym (put_here r.moment p k) ∙ ap (put r.moment p k) (sym same)) here)
@@ -236,7 +197,7 @@ module _ (adds : List Op → ℕ → ℕ) (w n : ℕ) (ps : List Published) (b :
   first_good e k p s t row v u num torn le ble z size len_t len_r is_num is_row small (lt, r, base) =
       let more = firsts_more e k p s t row num torn le ble lt (let most = z.most in omega arith) z.opened z.whole len_t len_r is_num is_row small r in (
         size,
-        by_cond (ltb (p + 1) s.n) (λ (y : Next). NextOk adds w n ps b k (first_at num (not torn) s p) (cond torn t (cond (eqb p 0) row (added t row))) u y) (First (p + 1)) (Second 0)
+        cond_both (ltb (p + 1) s.n) (First (p + 1)) (Second 0) (λ (y : Next). NextOk adds w n ps b k (first_at num (not torn) s p) (cond torn t (cond (eqb p 0) row (added t row))) u y)
             (λ h. let l = ltb-true (p + 1) s.n h in (omega arith, subst (λ (y : ℕ). Firsts adds w ps b k y (set s.opened p num) (set s.whole p (not torn)) (cond torn t (cond (eqb p 0) row (added t row)))) (let g : suc p ≡ p + 1 = omega arith in g) more, λ ne. later_base e k s le (base ne)))
             (λ h. let l = ltb-false (p + 1) s.n h in (omega arith, record { mid = k; after = ble; by = (let g : k ≤ k = omega arith in g); firsts = subst (λ (y : ℕ). Firsts adds w ps b k y (set s.opened p num) (set s.whole p (not torn)) (cond torn t (cond (eqb p 0) row (added t row)))) (let g : suc p ≡ n = omega arith in g) more; found = λ q l. absurd (omega arith) }, λ ne. later_base e k s le (base ne))),
       )
@@ -245,7 +206,7 @@ module _ (adds : List Op → ℕ → ℕ) (w n : ℕ) (ps : List Published) (b :
   pub second_good : (e k p : ℕ) (s : Scan) (t : List ℕ) (v u : Option View) (num : ℕ) → e ≤ k → Inside n ps → IsSized s → s.n ≡ n → length t ≡ w
       → num ≡ number_at ps k p → NextOk adds w n ps b e s t v (Second p) → Good adds w n ps b k (second_at num s p) t u
   second_good e k p s t v u num le inside z size len_t is_num (lt, r, base) =
-      by_cond (ltb (p + 1) s.n) (λ (y : Scan). Good adds w n ps b k y t u) (record s { found = set s.found p num; next = Second (p + 1) }) (collected (record s { found = set s.found p num }))
+      cond_both (ltb (p + 1) s.n) (record s { found = set s.found p num; next = Second (p + 1) }) (collected (record s { found = set s.found p num })) (λ (y : Scan). Good adds w n ps b k y t u)
       (λ h. let l = ltb-true (p + 1) s.n h in (size, (omega arith, record { mid = r.mid; after = r.after; by = by_k; firsts = r.firsts; found = λ q l. found_at q (omega arith) }, λ ne. later_base e k s le (base ne))))
       (λ h. let over = ltb-false (p + 1) s.n h in collects k (record s { found = set s.found p num }) t u inside
       (record { some = z.some; most = z.most; begun = z.begun; few = z.few; inside = z.inside; opened = z.opened; whole = z.whole; found = length-set _ _ _ ∙ z.found }) size len_t
@@ -266,6 +227,6 @@ module _ (adds : List Op → ℕ → ℕ) (w n : ℕ) (ps : List Published) (b :
 
   -- an asked worker has a view
   pub lent : (e k p : ℕ) (s : Scan) (t : List ℕ) (v : Option View) (a : View) → e ≤ k → IsSized s → s.n ≡ n → OneStep adds n w ps b k a → NextOk adds w n ps b e s t v (Ask p) → Good adds w n ps b k (asked_at (Some a.vector) s p) t (Some a)
-  lent e k p s t v a le z size step ok = by_cond (lends_to s a.vector) (λ (y : Scan). Good adds w n ps b k y t (Some a)) (record s { next = Lent p }) (asked_from (p + 1) s)
+  lent e k p s t v a le z size step ok = cond_both (lends_to s a.vector) (record s { next = Lent p }) (asked_from (p + 1) s) (λ (y : Scan). Good adds w n ps b k y t (Some a))
       (λ h. (size, (a, refl, step)))
       (λ h. refused e k p s t v (Some a) le z size ok)

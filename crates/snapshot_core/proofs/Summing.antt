@@ -1,5 +1,7 @@
 -- Lists that a loop changes word by word.
-use Rattle.std.proofs.Common.{◌≡◌, ℕ, zero, suc, ◌+◌, ◌%◌, ◌^◌, ◌<◌, ◌&&◌, Bool, true, false, min, List, [], ◌∷◌, length, map, get_or, set, leb, sym, refl, ap, ◌∙◌, arith}
+use Rattle.std.proofs.Common.{◌≡◌, ℕ, zero, suc, ◌+◌, ◌%◌, ◌^◌, ◌<◌, false, min, List, [], ◌∷◌, length, map, get_or, set, leb, sym, refl, ap, ◌∙◌, arith}
+use Rattle.std.proofs.lemmas.Bool.{and_right}
+use Rattle.std.proofs.lemmas.List.{get_or_read}
 use Rattle.snapshot_core.specs.Tries.{from_on, is_above}
 use Rattle.snapshot_core.specs.Machine.{added}
 
@@ -35,25 +37,16 @@ added_all (suc k) (x ∷ words) [] e = refl
 added_all zero (x ∷ words) (y ∷ row) e = absurd (omega arith)
 added_all (suc k) (x ∷ words) (y ∷ row) e = ap (λ (z : List ℕ). (x + y) % 2 ^ 64 ∷ z) (added_all k words row (omega arith))
 
-and_false : (b : Bool) → (b && false) ≡ false
-and_false true = refl
-and_false false = refl
-
 -- a vector that is too short is above no floor
 pub above_short : (f : ℕ → ℕ) (k n : ℕ) (vector : List ℕ) → length vector < n → is_above (map f (from_on k n)) vector ≡ false
 above_short f k zero vector h = absurd (omega arith)
 above_short f k (suc n) [] h = refl
-above_short f k (suc n) (y ∷ vector) h = ap (λ (b : Bool). leb (f k) y && b) (above_short f (suc k) n vector (omega arith)) ∙ and_false (leb (f k) y)
-
-read_is : (xs : List ℕ) (k x : ℕ) → k < length xs → x ≡ get_or xs k x → x ≡ get_or xs k 0
-read_is [] k x lt is = absurd (omega arith)
-read_is (y ∷ xs) zero x lt is = is
-read_is (y ∷ xs) (suc k) x lt is = read_is xs k x (omega arith) is
+above_short f k (suc n) (y ∷ vector) h = and_right (leb (f k) y) _ (above_short f (suc k) n vector (omega arith))
 
 -- the sum that the loop writes
 pub added_step : (k : ℕ) (words now row : List ℕ) (x y : ℕ) → now ≡ added_up k words row → x ≡ get_or now k x → y ≡ get_or row k 0 → k < length words → k < length row → set now k ((x + y) % 2 ^ 64) ≡ added_up (k + 1) words row
 added_step k words now row x y is at there a b =
     let l : length now ≡ length words = ap length is ∙ length_added_up k words row in
-    let e : x ≡ get_or now k 0 = read_is now k x (omega arith) at in
+    let e : x ≡ get_or now k 0 = get_or_read now k x (omega arith) at 0 in
     ap (λ (z : ℕ × ℕ). set now k ((z.0 + z.1) % 2 ^ 64)) (λ i. (e i, there i))
     ∙ ap (λ (z : List ℕ). set z k ((get_or z k 0 + get_or row k 0) % 2 ^ 64)) is ∙ added_next k words row a b

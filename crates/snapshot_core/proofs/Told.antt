@@ -1,8 +1,9 @@
 -- Each call of a scan tells it one more read.
-use Rattle.std.proofs.Common.{◌≡◌, ◌≢◌, ◌&&◌, ℕ, suc, ◌+◌, ◌-◌, ◌<◌, ◌≤◌, Bool, true, false, not, cond, List, [], ◌∷◌, ◌++◌, length, map, get_or, eqb, ltb, ltb-true, ltb-false, sym, refl, ap, ◌∙◌, subst, arith, Option, Some, None, length-append, length-set, append_assoc, append-nil}
+use Rattle.std.proofs.Common.{◌≡◌, ◌&&◌, ℕ, suc, ◌+◌, ◌-◌, ◌<◌, ◌≤◌, Bool, true, false, not, cond, List, [], ◌∷◌, ◌++◌, length, map, get_or, eqb, ltb, ltb-true, ltb-false, sym, refl, ap, ◌∙◌, subst, arith, Option, Some, None, length-append, length-set, append_assoc, append-nil}
 use Rattle.std.proofs.Math.ListN.{set}
-use Rattle.std.proofs.lemmas.List.{length-map}
-use Rattle.std.proofs.lemmas.Bool.Decides.{nat_tests}
+use Rattle.std.proofs.Math.Bool.{not-not}
+use Rattle.std.proofs.lemmas.List.{length-map, map_push}
+use Rattle.std.proofs.lemmas.Bool.{cond_both, eqb-true, eqb-false, and_parts, and_from}
 use Rattle.snapshot_core.specs.declared.next.Next.{Next}
 use Rattle.snapshot_core.specs.declared.next.Next.TheVariants.{First, Second, Ask, Direct, Lent}
 use Rattle.snapshot_core.specs.declared.scan.Scan.{Scan}
@@ -11,10 +12,10 @@ use Rattle.snapshot_core.specs.Scan.{least_of, failed_at, next_asked_of, lends_t
 use Rattle.snapshot_core.specs.Sized.{IsSized}
 use Rattle.snapshot_core.specs.Told.{Told, lent_by, vector_of}
 use Rattle.snapshot_core.specs.Tries.{View, Read, Try, place_of, number_of, from_on, reads_of, TwoCollects, is_clean, to_ask, is_above, lends_view, lends, none_lends, Failed, AllFailed, first_try, floor_of, base_of}
-use Rattle.snapshot_core.proofs.Collects.{words, Stands, map_snoc, count_of, places_more, stands_more, parts_are, clean_is, least_within, least_held, tests_at, asked_over, asked_none, asked_some, asked_after, asks_same}
-use Rattle.snapshot_core.proofs.Sized.{by_cond}
+use Rattle.snapshot_core.proofs.Collects.{words, Stands, count_of, places_more, stands_more, parts_are, clean_is, least_within, least_held, tests_at, asked_over, asked_none, asked_some, asked_after, asks_same}
+use Rattle.snapshot_core.proofs.Sized.{asked_within}
 
-reads_append : (xs ys : List Try) → reads_of (xs ++ ys) ≡ reads_of xs ++ reads_of ys
+pub reads_append : (xs ys : List Try) → reads_of (xs ++ ys) ≡ reads_of xs ++ reads_of ys
 reads_append [] ys = refl
 reads_append (t ∷ xs) ys = ap (λ (z : List Read). t.first ++ t.second ++ t.asks ++ z) (reads_append xs ys) ∙ sym append_assoc_of
   where
@@ -43,16 +44,16 @@ failed_more n floor base (x ∷ ts) t h f = (h.0, failed_more n floor base ts t 
 
 none_more : (floor : List ℕ) (rs : List Read) (r : Read) → none_lends floor rs ≡ true → lends floor r ≡ false → none_lends floor (rs ++ r ∷ []) ≡ true
 none_more floor [] r h e = ap (λ (b : Bool). not b && true) e
-none_more floor (x ∷ rs) r h e = go (lends floor x) (none_lends floor rs) refl refl h (none_more floor rs r)
-  where
-    go : (a b : Bool) → lends floor x ≡ a → none_lends floor rs ≡ b → (not a && b) ≡ true → (none_lends floor rs ≡ true → lends floor r ≡ false → none_lends floor (rs ++ r ∷ []) ≡ true) → (not (lends floor x) && none_lends floor (rs ++ r ∷ [])) ≡ true
-    go false true isa isb h rec = ap (λ (z : Bool). not z && none_lends floor (rs ++ r ∷ [])) isa ∙ rec isb e
-    go false false isa isb h rec = absurd (cc)
-    go true b isa isb h rec = absurd (cc)
+none_more floor (x ∷ rs) r h e = let parts = and_parts (not (lends floor x)) (none_lends floor rs) h in and_from _ _ parts.0 (none_more floor rs r parts.1 e)
 
 first_snoc : (before : List Try) (t u : Try) → first_try (before ++ t ∷ []) u ≡ first_try before t
 first_snoc [] t u = refl
 first_snoc (x ∷ before) t u = refl
+
+-- both collects of the first try
+pub first_two : (n : ℕ) (floor base : List ℕ) (before : List Try) (t : Try) → AllFailed n floor base before → TwoCollects n t → TwoCollects n (first_try before t)
+first_two n floor base [] t f c = c
+first_two n floor base (s ∷ ts) t f c = f.0.collects
 
 -- a try whose collects stay as they are gives one floor and one base
 first_same : (before : List Try) (t u : Try) → t.first ≡ u.first → t.second ≡ u.second → (floor_of before t ≡ floor_of before u) × (base_of before t ≡ base_of before u)
@@ -86,8 +87,7 @@ record Over (s : Scan) (before : List Try) (t : Try) : Type 0 where
   collects : TwoCollects s.n t
 
 complete : (s : Scan) (before : List Try) (t : Try) → AllFailed s.n (floor_of before t) (base_of before t) before → TwoCollects s.n t → length (base_of before t) ≡ s.n
-complete s [] t fail both = length-map t.second number_of ∙ count_of t.second 0 s.n both.second
-complete s (x ∷ before) t fail both = length-map x.second number_of ∙ count_of x.second 0 s.n fail.0.collects.second
+complete s before t fail both = length-map (first_try before t).second number_of ∙ count_of (first_try before t).second 0 s.n (first_two s.n (floor_of before t) (base_of before t) before t fail both).second
 
 clean_of : (s : Scan) (before : List Try) (t : Try) → Over s before t → is_clean t ≡ not (failed_at s.opened s.whole s.found (least_of s))
 clean_of s before t o = clean_is s.opened s.whole s.found s.n t o.sized.some o.collects.first o.collects.second o.arrays.0 o.arrays.1 o.arrays.2
@@ -111,7 +111,7 @@ gives_up s before t o un = (failed, held)
 
 -- a try that failed
 told_fails : (s : Scan) (before : List Try) (t : Try) → Over s before t → Failed s.n (floor_of before t) (base_of before t) t → Told (failed_of s) (reads_of (before ++ t ∷ []))
-told_fails s before t o fail = by_cond (ltb s.tries (s.n + 2)) (λ (y : Scan). Told y (reads_of (before ++ t ∷ []))) (record s { tries = s.tries + 1; next = First 0 }) (given_up s (least_of s))
+told_fails s before t o fail = cond_both (ltb s.tries (s.n + 2)) (record s { tries = s.tries + 1; next = First 0 }) (given_up s (least_of s)) (λ (y : Scan). Told y (reads_of (before ++ t ∷ [])))
     (λ h. subst (Told (record s { tries = s.tries + 1; next = First 0 })) (reads_append (before ++ t ∷ []) (none_yet ∷ []) ∙ append-nil (reads_of (before ++ t ∷ [])))
     (told_of (record s { tries = s.tries + 1; next = First 0 }) (before ++ t ∷ []) none_yet (
       (let c = o.counted.0 in let l = length-append before (t ∷ []) in omega arith),
@@ -134,9 +134,9 @@ told_asks k s before t le o un none asked = go (next_asked_of s.base s.found k (
       none = none;
       asked = sym (append-nil (map place_of t.asks)) ∙ ap (λ (y : List ℕ). map place_of t.asks ++ y) (sym (asked_none s.base s.found k (s.n - k) is)) ∙ asked;
     })
-    go (Some p) is = let a = asked_some s.base s.found k (s.n - k) p is in let a0 = a.0 in let a1 = a.1 in
+    go (Some p) is = let a = asked_within s.base s.found k (s.n - k) p is in let a0 = a.0 in let a1 = a.1 in
         told_of (record s { next = Ask p }) before t o.counted o.arrays o.heads
-        (omega arith, o.collects, un, none, (asked_over s.base s.found (p + 1) (k + (s.n - k) - (p + 1)), ap (λ (y : List ℕ). map place_of t.asks ++ y) (sym a.2) ∙ asked))
+        (omega arith, o.collects, un, none, (asked_over s.base s.found (p + 1) (k + (s.n - k) - (p + 1)), ap (λ (y : List ℕ). map place_of t.asks ++ y) (sym (asked_some s.base s.found k (s.n - k) p is)) ∙ asked))
 
 -- all workers that are to be asked
 to_ask_is : (s : Scan) (before : List Try) (t : Try) → Over s before t → to_ask (base_of before t) t.second ≡ asked_over s.base s.found 0 s.n
@@ -149,7 +149,7 @@ told_ends s before t false o empty is = told_of (record s { next = Direct }) bef
 
 -- both collects are over, and the first try's floor and base are kept
 told_collects : (s : Scan) (before : List Try) (t : Try) → IsSized s → Counted s before t → Arrays s t → ((u : Try) (us : List Try) → before ≡ u ∷ us → Heads s before t) → TwoCollects s.n t → t.asks ≡ [] → Told (collected s) (reads_of (before ++ t ∷ []))
-told_collects s [] t z count arrays heads both empty = by_cond (eqb s.tries 1) (λ (y : Scan). Told (asks_or_ends (failed_at s.opened s.whole s.found (least_of s)) y) (reads_of ([] ++ t ∷ []))) (record s { floor = s.opened; base = s.found }) s
+told_collects s [] t z count arrays heads both empty = cond_both (eqb s.tries 1) (record s { floor = s.opened; base = s.found }) s (λ (y : Scan). Told (asks_or_ends (failed_at s.opened s.whole s.found (least_of s)) y) (reads_of ([] ++ t ∷ [])))
     (λ h. told_ends (record s { floor = s.opened; base = s.found }) [] t (failed_at s.opened s.whole s.found (least_of s))
     (record {
       sized = record { some = z.some; most = z.most; begun = z.begun; few = z.few; inside = z.inside; opened = z.opened; whole = z.whole; found = z.found };
@@ -158,17 +158,11 @@ told_collects s [] t z count arrays heads both empty = by_cond (eqb s.tries 1) (
       collects = both;
       heads = ((λ e. parts_are number_of 0 s.opened t.first s.n both.first arrays.0), (λ e. parts_are number_of 0 s.found t.second s.n both.second arrays.2));
     }) empty refl)
-    (λ h. absurd (ne_of s.tries 1 h count.0))
-  where
-    ne_of : (x y : ℕ) → eqb x y ≡ false → x ≢ y
-    ne_of x y h = grind (arith, nat_tests)
-told_collects s (u ∷ us) t z count arrays heads both empty = by_cond (eqb s.tries 1) (λ (y : Scan). Told (asks_or_ends (failed_at s.opened s.whole s.found (least_of s)) y) (reads_of ((u ∷ us) ++ t ∷ []))) (record s { floor = s.opened; base = s.found }) s
-    (λ h. absurd (let e = eq_of s.tries 1 h in let c : s.tries ≡ suc (length us) + 1 = count.0 in omega arith))
+    (λ h. absurd (eqb-false s.tries 1 h count.0))
+told_collects s (u ∷ us) t z count arrays heads both empty = cond_both (eqb s.tries 1) (record s { floor = s.opened; base = s.found }) s (λ (y : Scan). Told (asks_or_ends (failed_at s.opened s.whole s.found (least_of s)) y) (reads_of ((u ∷ us) ++ t ∷ [])))
+    (λ h. absurd (let e = eqb-true s.tries 1 h in let c : s.tries ≡ suc (length us) + 1 = count.0 in omega arith))
     (λ h. told_ends s (u ∷ us) t (failed_at s.opened s.whole s.found (least_of s))
     (record { sized = z; counted = count; arrays = arrays; heads = heads u us refl; collects = both }) empty refl)
-  where
-    eq_of : (x y : ℕ) → eqb x y ≡ true → x ≡ y
-    eq_of x y h = grind (arith, nat_tests)
 
 -- the tries that failed are not touched by a read of the try in progress
 counted_on : (s : Scan) (before : List Try) (t u : Try) → Counted s before t → Counted s before u
@@ -185,7 +179,7 @@ told_first s r p before t z at count arrays heads (lt, places, no_second, no_ask
       arrays.2,
     )
     (heads_of before heads)
-    (by_cond (ltb (p + 1) s.n) (λ (y : Next). Follows s.n before more y) (First (p + 1)) (Second 0)
+    (cond_both (ltb (p + 1) s.n) (First (p + 1)) (Second 0) (λ (y : Next). Follows s.n before more y)
     (λ h. let l = ltb-true (p + 1) s.n h in (omega arith, places_of ∙ (let e : suc p ≡ p + 1 = omega arith in ap (from_on 0) e), no_second, no_asks))
     (λ h. let l = ltb-false (p + 1) s.n h in (omega arith, places_of ∙ (let e : suc p ≡ s.n = omega arith in ap (from_on 0) e), ap (map place_of) no_second, no_asks))))
   where
@@ -203,7 +197,7 @@ told_first s r p before t z at count arrays heads (lt, places, no_second, no_ask
 pub told_second : (s : Scan) (r : Read) (p : ℕ) (before : List Try) (t : Try) → IsSized s → r.place ≡ p → Counted s before t → Arrays s t → Heads s before t → Follows s.n before t (Second p) → Told (second_at r.number s p) (reads_of (before ++ t ∷ []) ++ r ∷ [])
 told_second s r p before t z at count arrays heads (lt, places, seconds, no_asks) =
     subst (Told (second_at r.number s p)) (sym (reads_then before t more r (tail_second t.first t.second t.asks r no_asks)))
-    (by_cond (ltb (p + 1) s.n) (λ (y : Scan). Told y (reads_of (before ++ more ∷ []))) (record s { found = set s.found p r.number; next = Second (p + 1) }) (collected (record s { found = set s.found p r.number }))
+    (cond_both (ltb (p + 1) s.n) (record s { found = set s.found p r.number; next = Second (p + 1) }) (collected (record s { found = set s.found p r.number })) (λ (y : Scan). Told y (reads_of (before ++ more ∷ [])))
     (λ h. let l = ltb-true (p + 1) s.n h in told_of (record s { found = set s.found p r.number; next = Second (p + 1) }) before more (counted_on s before t more count) (arrays.0, arrays.1, found_of)
     (heads_of l before heads) (omega arith, places, places_of ∙ (let e : suc p ≡ p + 1 = omega arith in ap (from_on 0) e), no_asks))
     (λ h. let l = ltb-false (p + 1) s.n h in told_collects (record s { found = set s.found p r.number }) before more
@@ -269,7 +263,7 @@ told_asked s vector r p before t z at is count arrays heads (lt, both, un, none,
     later_is = asked_after s.base s.found 0 s.n (map place_of t.asks) p rest.0 (sym (rest.1 ∙ to_ask_is s before t over)) ∙ (let e : 0 + s.n - (p + 1) ≡ s.n - (p + 1) = omega arith in ap (asked_over s.base s.found (p + 1)) e)
 
     asked_more : map place_of (t.asks ++ r ∷ []) ++ rest.0 ≡ to_ask (base_of before more) t.second
-    asked_more = ap (λ (y : List ℕ). y ++ rest.0) (map_snoc place_of t.asks r) ∙ append_assoc (map place_of t.asks) (r.place ∷ []) rest.0 ∙ ap (λ (y : ℕ). map place_of t.asks ++ y ∷ rest.0) at ∙ rest.1 ∙ ap (λ (y : List ℕ). to_ask y t.second) same.1
+    asked_more = ap (λ (y : List ℕ). y ++ rest.0) (map_push place_of t.asks r) ∙ append_assoc (map place_of t.asks) (r.place ∷ []) rest.0 ∙ ap (λ (y : ℕ). map place_of t.asks ++ y ∷ rest.0) at ∙ rest.1 ∙ ap (λ (y : List ℕ). to_ask y t.second) same.1
 
     refuse : lends (floor_of before t) r ≡ false → Told (asked_from (p + 1) s) (reads_of (before ++ more ∷ []))
     refuse denied = told_asks (p + 1) s before more (omega arith) over_more un
@@ -299,13 +293,9 @@ told_asked s vector r p before t z at is count arrays heads (lt, both, un, none,
 
     go : (vector : Option (List ℕ)) → lent_by r ≡ vector → Told (asked_at vector s p) (reads_of (before ++ more ∷ []))
     go None is = refuse (ap (λ (y : List ℕ). lends y r) floor_is ∙ lends_as (words s.n s.floor) r None is)
-    go (Some v) is = by_cond (lends_to s v) (λ (y : Scan). Told y (reads_of (before ++ more ∷ []))) (record s { next = Lent p }) (asked_from (p + 1) s)
+    go (Some v) is = cond_both (lends_to s v) (record s { next = Lent p }) (asked_from (p + 1) s) (λ (y : Scan). Told y (reads_of (before ++ more ∷ [])))
         (λ h. lend (ap (λ (y : List ℕ). lends y r) floor_is ∙ lends_as (words s.n s.floor) r (Some v) is ∙ h))
         (λ h. refuse (ap (λ (y : List ℕ). lends y r) floor_is ∙ lends_as (words s.n s.floor) r (Some v) is ∙ h))
-
-not_not : (a b : Bool) → a ≡ not b → not a ≡ b
-not_not a true e = ap not e
-not_not a false e = ap not e
 
 -- what the calls of a scan ensure
 pub after_first : (number : ℕ) (whole : Bool) (s y : Scan) (reads : List Read) (r : Read) → IsSized s → y ≡ first_by number whole s s.next → Told s reads → s.next ≡ First r.place → r.number ≡ number → r.torn ≡ not whole → Told y (reads ++ r ∷ [])
@@ -314,7 +304,7 @@ after_first number whole s y reads r z is told next e1 e2 =
     (told_first s r r.place told.before told.now z refl (told.count, told.failed) (told.opened, told.whole, told.found) (told.floor, told.base) (subst (Follows s.n told.before told.now) next told.follows))
   where
     new_is : y ≡ first_at r.number (not r.torn) s r.place
-    new_is = is ∙ ap (first_by number whole s) next ∙ ap (λ (v : ℕ × Bool). first_at v.0 v.1 s r.place) (λ i. (sym e1 i, sym (not_not r.torn whole e2) i))
+    new_is = is ∙ ap (first_by number whole s) next ∙ ap (λ (v : ℕ × Bool). first_at v.0 v.1 s r.place) (λ i. (sym e1 i, sym (ap not e2 ∙ not-not whole) i))
 
 pub after_second : (number : ℕ) (s y : Scan) (reads : List Read) (r : Read) → IsSized s → y ≡ second_by number s s.next → Told s reads → s.next ≡ Second r.place → r.number ≡ number → Told y (reads ++ r ∷ [])
 after_second number s y reads r z is told next e1 =

@@ -1,11 +1,12 @@
 -- Turns that are open, and an actor's own reads, over one more event.
-use Rattle.std.proofs.Common.{◌≡◌, ◌≢◌, ℕ, zero, suc, ◌+◌, ◌-◌, ◌<◌, ◌≤◌, inl, inr, ⊎_elim, Bool, true, false, cond, List, [], ◌∷◌, ◌++◌, eq-eqb, ne_eqb, sym, refl, ap, ◌∙◌, arith, Option, Some, append_assoc, append-nil}
+use Rattle.std.proofs.Common.{◌≡◌, ◌≢◌, ℕ, zero, suc, ◌+◌, ◌-◌, ◌<◌, ◌≤◌, inl, inr, ⊎_elim, Bool, true, false, cond, List, [], ◌∷◌, ◌++◌, eq-eqb, ne_eqb, sym, refl, ap, ◌∙◌, arith, Option, Some, append_assoc, append-nil, subst}
 use Rattle.std.specs.Prelude.{slice_get}
-use Rattle.std.proofs.lemmas.Option.{same_Some}
+use mathlib.Core.Logic.{dite}
+use native.Mathlib.Decide.{ℕ_discrete}
 use Rattle.snapshot_core.specs.declared.event.Event.{Event}
 use Rattle.snapshot_core.specs.declared.event.Event.TheVariants.{Step, Torn}
 use Rattle.snapshot_core.specs.History.{Published}
-use Rattle.snapshot_core.specs.Turns.{Answered, EndsAt, BeginsAt, IsOpen, own, own_reads}
+use Rattle.snapshot_core.specs.Turns.{Answered, EndsAt, BeginsAt, IsOpen, own, own_reads, IsTurn}
 use Rattle.snapshot_core.proofs.Lending.{NoPublish, NoAnswer}
 
 module _ (n c h g : ℕ) (es : List Event) (ps : List Published) (zs : List Answered) where
@@ -25,6 +26,16 @@ module _ (n c h g : ℕ) (es : List Event) (ps : List Published) (zs : List Answ
       (λ t. ⊎_elim (λ r. open_one e i b d t.0 r.0) (λ r. absurd (r.2 b t.0)) u)
       (λ t. ⊎_elim (λ r. absurd (t.2 d r.0)) (λ r. t.0 ∙ sym r.0) u) o
 
+  -- an open turn was open before, from its begin on
+  pub open_before : (k e i b : ℕ) → IsOpen n c h g es ps zs k i b → b < e → e ≤ k → IsOpen n c h g es ps zs e i b
+  open_before zero e i b o lt le = absurd o
+  open_before (suc k) e i b o lt le = dite (ℕ_discrete e (suc k))
+      (λ same. subst (λ (y : ℕ). IsOpen n c h g es ps zs y i b) (sym same) o)
+      (λ ne. ⊎_elim (λ t. open_before k e i b t.0 lt (omega arith)) (λ t. let same = t.0 in absurd (omega arith)) o)
+
+  pub turn_of : (e i b : ℕ) → IsOpen n c h g es ps zs e i b → IsTurn n c h g es ps zs i b
+  turn_of e i b o = open_before e (suc b) i b o (omega arith) (open_after e i b o)
+
   pub open_on : (e i b : ℕ) → IsOpen n c h g es ps zs e i b → ¬ EndsAt n c h g es ps zs e i → IsOpen n c h g es ps zs (suc e) i b
   open_on e i b o none = inl (o, none)
 
@@ -41,10 +52,16 @@ module _ (n c h g : ℕ) (es : List Event) (ps : List Published) (zs : List Answ
   pub no_end : (e i : ℕ) → (i < n → NoPublish ps e i) → (n ≤ i → NoAnswer zs e i) → ¬ EndsAt n c h g es ps zs e i
   no_end e i p a ends = ⊎_elim (λ t. p t.0 t.1.0 t.1.1 t.1.2 t.1.4 t.1.3) (λ t. a t.0 t.1.0 t.1.1 t.1.2 t.1.4 t.1.3) ends
 
--- An actor's own reads.
+-- An actor's own reads, of which these are the first m.
+pub own_front : (es : List Event) (i b m d : ℕ) → own_reads es i b (m + d) ≡ own_reads es i b m ++ own_reads es i (b + m) d
+own_front es i b zero d = let z : 0 + d ≡ d = omega arith in let y : b ≡ b + 0 = omega arith in λ k. own_reads es i (y k) (z k)
+own_front es i b (suc m) d =
+    let z : suc m + d ≡ suc (m + d) = omega arith in let y : suc b + m ≡ b + suc m = omega arith in
+    ap (own_reads es i b) z ∙ (ap (λ (r : List (ℕ × Bool)). own i b (slice_get es b) ++ r) (own_front es i (suc b) m d ∙ ap (λ (r : ℕ). own_reads es i (suc b) m ++ own_reads es i r d) y)
+    ∙ sym (append_assoc (own i b (slice_get es b)) (own_reads es i (suc b) m) (own_reads es i (b + suc m) d)))
+
 pub own_snoc : (es : List Event) (i b m : ℕ) → own_reads es i b (suc m) ≡ own_reads es i b m ++ own i (b + m) (slice_get es (b + m))
-own_snoc es i b zero = append-nil (own i b (slice_get es b)) ∙ (let e : b ≡ b + 0 = omega arith in ap (λ (z : ℕ). own i z (slice_get es z)) e)
-own_snoc es i b (suc m) = ap (λ (z : List (ℕ × Bool)). own i b (slice_get es b) ++ z) (own_snoc es i (suc b) m) ∙ sym (append_assoc (own i b (slice_get es b)) (own_reads es i (suc b) m) (own i (suc b + m) (slice_get es (suc b + m)))) ∙ (let e : suc b + m ≡ b + suc m = omega arith in ap (λ (z : ℕ). own_reads es i b (suc m) ++ own i z (slice_get es z)) e)
+own_snoc es i b m = (let e : suc m ≡ m + 1 = omega arith in ap (own_reads es i b) e) ∙ own_front es i b m 1 ∙ ap (λ (z : List (ℕ × Bool)). own_reads es i b m ++ z) (append-nil (own i (b + m) (slice_get es (b + m))))
 
 -- the reads of a turn that begins at b, one event later
 pub own_next : (es : List Event) (i b k : ℕ) → b < k → own_reads es i (suc b) (suc k - suc b) ≡ own_reads es i (suc b) (k - suc b) ++ own i k (slice_get es k)
@@ -65,12 +82,12 @@ pub own_mine : (who k : ℕ) (torn : Bool) (o : Option Event) → o ≡ Some (re
 own_mine who k true o e = ap (own who k) e ∙ ap (λ (b : Bool). cond b ((k, true) ∷ []) []) (eq-eqb who who refl)
 own_mine who k false o e = ap (own who k) e ∙ ap (λ (b : Bool). cond b ((k, false) ∷ []) []) (eq-eqb who who refl)
 
-same_step : (who i : ℕ) → Step who ≡ Step i → who ≡ i
+pub same_step : (who i : ℕ) → Some (Step who) ≡ Some (Step i) → who ≡ i
 same_step who i e = cc
 
-torn_step : (who i : ℕ) → Torn who ≡ Step i → ⊥
+torn_step : (who i : ℕ) → Some (Torn who) ≡ Some (Step i) → ⊥
 torn_step who i e = cc
 
 pub step_of : (who i : ℕ) (torn : Bool) (o : Option Event) → o ≡ Some (read_event who torn) → o ≡ Some (Step i) → (torn ≡ false) × (who ≡ i)
-step_of who i true o e f = absurd (torn_step who i (same_Some (Torn who) (Step i) (sym e ∙ f)))
-step_of who i false o e f = (refl, same_step who i (same_Some (Step who) (Step i) (sym e ∙ f)))
+step_of who i true o e f = absurd (torn_step who i (sym e ∙ f))
+step_of who i false o e f = (refl, same_step who i (sym e ∙ f))

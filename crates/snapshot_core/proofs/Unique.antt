@@ -1,5 +1,7 @@
 -- A list of reads is a scan in one way at most, so that one whose next read is still wanted is no scan that has ended.
-use Rattle.std.proofs.Common.{◌≡◌, ℕ, suc, ◌+◌, ◌*◌, ◌<◌, Bool, true, false, not, ◌&&◌, Option, Some, None, List, [], ◌∷◌, ◌++◌, length, map, sym, refl, ap, ◌∙◌, subst, arith, length-append, append-nil, append_assoc}
+use Rattle.std.proofs.Common.{◌≡◌, ℕ, suc, ◌+◌, ◌<◌, Bool, true, false, not, ◌&&◌, Option, Some, None, List, [], ◌∷◌, ◌++◌, length, map, sym, refl, ap, ◌∙◌, subst, arith, length-append, append-nil, append_assoc, ◌≤◌}
+use Rattle.std.proofs.lemmas.Bool.{both_ways, and_right, and_parts}
+use Rattle.std.proofs.Math.Nat.{zero-add}
 use lib.ListN.{length-map}
 use Rattle.snapshot_core.specs.declared.next.Next.{Next}
 use Rattle.snapshot_core.specs.declared.next.Next.TheVariants.{First, Second, Ask, Direct, Lent, GaveUp}
@@ -8,7 +10,8 @@ use Rattle.snapshot_core.specs.declared.trace.How.TheVariants as how
 use Rattle.snapshot_core.specs.Tries.{View, Read, Try, place_of, number_of, from_on, reads_of, TwoCollects, is_clean, to_ask, lends, none_lends, Failed, AllFailed, EndsDirectly, EndsLent, first_try, floor_of, base_of}
 use Rattle.snapshot_core.specs.Next.{Follows}
 use Rattle.snapshot_core.specs.Faithful.{Ends}
-use Rattle.snapshot_core.proofs.Collects.{length_from}
+use Rattle.snapshot_core.proofs.Collects.{count_of, length_parts, try_long}
+use Rattle.snapshot_core.proofs.Told.{first_two}
 
 -- two reads of one event, which meet the same where they are of one place
 pub record Alike (r q : Read) : Type 0 where
@@ -34,6 +37,12 @@ same_front (r ∷ rs) (q ∷ qs) ys ys' e a =
     let t = same_front rs qs ys ys' (tail_same r.place q.place (map place_of rs) (map place_of qs) e) a.1 in
     let h = a.0.same (head_same r.place q.place (map place_of rs) (map place_of qs) e) in
     (λ k. h k ∷ t.0 k, t.1)
+
+pub alike_back : (xs ys : List Read) → AllAlike xs ys → AllAlike ys xs
+alike_back [] [] a = tt
+alike_back [] (q ∷ qs) a = absurd a
+alike_back (r ∷ rs) [] a = absurd a
+alike_back (r ∷ rs) (q ∷ qs) a = (record { same = λ e. sym (a.0.same (sym e)) }, alike_back rs qs a.1)
 
 pub alike_length : (xs ys : List Read) → AllAlike xs ys → length xs ≡ length ys
 alike_length [] [] a = refl
@@ -68,52 +77,58 @@ same_failed n floor base t u xs ys ft fu a =
     (λ k. record { first = two.first k; second = two.second k; asks = asks.0 k }, asks.1)
 
 -- one that lends is among those asked
-pub lends_among : (floor : List ℕ) (before : List Read) (last : Read) → lends floor last ≡ true → none_lends floor (before ++ last ∷ []) ≡ false
+lends_among : (floor : List ℕ) (before : List Read) (last : Read) → lends floor last ≡ true → none_lends floor (before ++ last ∷ []) ≡ false
 lends_among floor [] last e = ap (λ (b : Bool). not b && true) e
-lends_among floor (r ∷ rs) last e = go (not (lends floor r)) (none_lends floor (rs ++ last ∷ [])) (lends_among floor rs last e)
-  where
-    go : (a b : Bool) → b ≡ false → (a && b) ≡ false
-    go true b e = e
-    go false b e = refl
+lends_among floor (r ∷ rs) last e = and_right (not (lends floor r)) (none_lends floor (rs ++ last ∷ [])) (lends_among floor rs last e)
 
--- all n words of a place
-two_long : (n : ℕ) (t : Try) → TwoCollects n t → length t.first + length t.second ≡ 2 * n
-two_long n t c = let f : length t.first ≡ n = sym (length-map t.first place_of) ∙ (ap (λ (z : List ℕ). length z) c.first ∙ length_from 0 n) in let s : length t.second ≡ n = sym (length-map t.second place_of) ∙ (ap (λ (z : List ℕ). length z) c.second ∙ length_from 0 n) in omega (arith, f, s)
+-- where the places of both begin one list, the shorter reads begin the longer ones
+pub front_of : (rs qs : List Read) (cs ds : List ℕ) (xs ys : List Read) → length rs ≤ length qs → map place_of rs ++ cs ≡ map place_of qs ++ ds → AllAlike (rs ++ xs) (qs ++ ys)
+    → (more : List Read) × (qs ≡ rs ++ more) × AllAlike xs (more ++ ys)
+front_of [] qs cs ds xs ys l e a = (qs, refl, a)
+front_of (r ∷ rs) [] cs ds xs ys l e a = absurd (omega (arith, l))
+front_of (r ∷ rs) (q ∷ qs) cs ds xs ys l e a =
+    let rest = front_of rs qs cs ds xs ys (omega (arith, l)) (tail_same r.place q.place (map place_of rs ++ cs) (map place_of qs ++ ds) e) a.1 in
+    let one = a.0.same (head_same r.place q.place (map place_of rs ++ cs) (map place_of qs ++ ds) e) in
+    (rest.0, λ k. sym one k ∷ rest.1 k, rest.2)
 
-pub false_true : (b : Bool) → b ≡ true → b ≡ false → ⊥
-false_true b e f = let g : true ≡ false = sym e ∙ f in cc
+-- where none of the reads lends, none at their beginning does
+none_front : (floor : List ℕ) (f m : List Read) → none_lends floor (f ++ m) ≡ true → none_lends floor f ≡ true
+none_front floor [] m e = refl
+none_front floor (r ∷ rs) m e =
+    let both = and_parts (not (lends floor r)) (none_lends floor (rs ++ m)) e in
+    λ k. both.0 k && none_front floor rs m both.1 k
 
--- the asks of a try that has asked all, and of one that ends with an ask that lends
-pub not_lent : (n : ℕ) (floor base : List ℕ) (t u : Try) (from : ℕ) (view : Option View) (xs : List Read) → Failed n floor base t → EndsLent n floor base from view u → AllAlike (t.first ++ t.second ++ t.asks ++ xs) (u.first ++ u.second ++ u.asks ++ []) → ⊥
-not_lent n floor base t u from view xs ft eu a =
-    let two = same_two n t u xs [] ft.collects eu.collects a in
-    let len = alike_length (t.asks ++ xs) (u.asks ++ []) two.rest in
-    let l1 = length-append t.asks xs in
-    let l2 = length-append u.asks [] in
-    let l3 : length t.asks ≡ length (to_ask base t.second) = sym (length-map t.asks place_of) ∙ ap (λ (z : List ℕ). length z) ft.asked in
-    let l4 : length (map place_of u.asks ++ eu.later) ≡ length (to_ask base t.second) = ap (λ (z : List ℕ). length z) (eu.asked ∙ ap (to_ask base) (sym two.second)) in
-    let l5 = length-append (map place_of u.asks) eu.later in
-    let l6 : length (map place_of u.asks) ≡ length u.asks = length-map u.asks place_of in
-    let none : eu.later ≡ [] = empty eu.later (omega (arith, len, l1, l2, l3, l4, l5, l6)) in
-    let places : map place_of t.asks ≡ map place_of u.asks = ft.asked ∙ (ap (to_ask base) two.second ∙ (sym eu.asked ∙ (ap (λ (z : List ℕ). map place_of u.asks ++ z) none ∙ append-nil (map place_of u.asks)))) in
-    let same = (same_front t.asks u.asks xs [] places two.rest).0 in
-    false_true (none_lends floor t.asks) ft.none (ap (none_lends floor) (same ∙ eu.asks) ∙ lends_among floor eu.before eu.last eu.lends)
-  where
-    empty : (l : List ℕ) → length l ≡ 0 → l ≡ []
-    empty [] e = refl
-    empty (x ∷ xs) e = absurd (omega (arith, e))
+-- where one of some reads lends, one lends of all that go on from them
+lent_none : (floor : List ℕ) (us ts before : List Read) (last : Read) (cs ds : List ℕ) (xs ys : List Read) → us ≡ before ++ last ∷ [] → lends floor last ≡ true → none_lends floor ts ≡ true → length us ≤ length ts → map place_of us ++ cs ≡ map place_of ts ++ ds
+    → AllAlike (us ++ xs) (ts ++ ys) → ⊥
+lent_none floor us ts before last cs ds xs ys is lent none le places a =
+    let front = front_of us ts cs ds xs ys le places a in
+    both_ways (none_lends floor us) (ap (none_lends floor) is ∙ lends_among floor before last lent) (none_front floor us front.0 (ap (none_lends floor) (sym front.1) ∙ none))
 
--- a try that failed, and one that ends a scan: it is the last of n + 2
+-- how a try ends a scan; one that gives up is the last of n + 2
 module _ (n : ℕ) (floor base : List ℕ) where
   abbrev pub EndsSo : (before : ℕ) → Try → How → Option View → Type 0
   EndsSo before t how.Direct view = EndsDirectly n t
   EndsSo before t (how.Lent from) view = EndsLent n floor base from view t
   EndsSo before t how.GaveUp view = Failed n floor base t × (before ≡ n + 1)
 
-  pub failed_ends : (t u : Try) (h : How) (view : Option View) (before : ℕ) (xs : List Read) → Failed n floor base t → EndsSo before u h view → AllAlike (t.first ++ t.second ++ t.asks ++ xs) (u.first ++ u.second ++ u.asks ++ []) → before ≡ n + 1
-  failed_ends t u how.Direct view before xs ft eu a = let two = same_two n t u xs [] ft.collects eu.collects a in absurd (false_true (is_clean t) (clean_same t u two.first two.second ∙ eu.is_clean) ft.unclean)
-  failed_ends t u (how.Lent from) view before xs ft eu a = absurd (not_lent n floor base t u from view xs ft eu a)
-  failed_ends t u how.GaveUp view before xs ft eu a = eu.1
+  -- a try in which a worker lends is not one that failed
+  pub lent_failed : (t u : Try) (from : ℕ) (view : Option View) (xs ys : List Read) → EndsLent n floor base from view t → Failed n floor base u → AllAlike (t.first ++ t.second ++ t.asks ++ xs) (u.first ++ u.second ++ u.asks ++ ys) → ⊥
+  lent_failed t u from view xs ys et fu a =
+      let two = same_two n t u xs ys et.collects fu.collects a in
+      let places : map place_of t.asks ++ et.later ≡ map place_of u.asks ++ [] = et.asked ∙ (ap (to_ask base) two.second ∙ (sym fu.asked ∙ sym (append-nil (map place_of u.asks)))) in
+      let len = ap (λ (z : List ℕ). length z) places in
+      let l1 = length-append (map place_of t.asks) et.later in
+      let l2 = length-append (map place_of u.asks) [] in
+      let l3 : length (map place_of t.asks) ≡ length t.asks = length-map t.asks place_of in
+      let l4 : length (map place_of u.asks) ≡ length u.asks = length-map u.asks place_of in
+      lent_none floor t.asks u.asks et.before et.last et.later [] xs ys et.asks et.lends fu.none (omega (arith, len, l1, l2, l3, l4)) places two.rest
+
+  -- a try that ends a scan, and one that failed: the first is the last of n + 2
+  pub ends_failed : (t u : Try) (h : How) (view : Option View) (before : ℕ) (xs ys : List Read) → EndsSo before t h view → Failed n floor base u → AllAlike (t.first ++ t.second ++ t.asks ++ xs) (u.first ++ u.second ++ u.asks ++ ys) → before ≡ n + 1
+  ends_failed t u how.Direct view before xs ys et fu a = let two = same_two n t u xs ys et.collects fu.collects a in absurd (both_ways (is_clean t) (clean_same t u two.first two.second ∙ fu.unclean) et.is_clean)
+  ends_failed t u (how.Lent from) view before xs ys et fu a = absurd (lent_failed t u from view xs ys et fu a)
+  ends_failed t u how.GaveUp view before xs ys et fu a = et.1
 
   -- a try in progress: not over
   abbrev pub InProgress : Try → Next → Type 0
@@ -122,25 +137,19 @@ module _ (n : ℕ) (floor base : List ℕ) where
   InProgress t (Ask place) = (place < n) × TwoCollects n t × (is_clean t ≡ false) × (none_lends floor t.asks ≡ true) × ((later : List ℕ) × (map place_of t.asks ++ place ∷ later ≡ to_ask base t.second))
   InProgress t _ = ⊥
 
-  length_three : (a b c : List Read) (xs : List Read) → length (a ++ b ++ c ++ xs) ≡ length a + length b + length c + length xs
-  length_three a b c xs = let e = length-append (a ++ b ++ c) xs in let f = length-append (a ++ b) c in let g = length-append a b in omega (arith, e, f, g)
-
-  short : (t : Try) (p q : ℕ) → map place_of t.first ≡ from_on 0 p → map place_of t.second ≡ from_on 0 q → (length t.first ≡ p) × (length t.second ≡ q)
-  short t p q f s = (sym (length-map t.first place_of) ∙ (ap (λ (z : List ℕ). length z) f ∙ length_from 0 p), sym (length-map t.second place_of) ∙ (ap (λ (z : List ℕ). length z) s ∙ length_from 0 q))
-
   -- it is too short for two collects and all asks of a try
   too_short : (t u : Try) (next : Next) (ys : List Read) → InProgress t next → TwoCollects n u → AllAlike (t.first ++ t.second ++ t.asks ++ []) (u.first ++ u.second ++ u.asks ++ ys)
       → (place : ℕ) × (next ≡ Ask place)
   too_short t u (First p) ys (lt, f, s, q) cu a =
       let len = alike_length (t.first ++ t.second ++ t.asks ++ []) (u.first ++ u.second ++ u.asks ++ ys) a in
-      let l1 = length_three t.first t.second t.asks [] in let l2 = length_three u.first u.second u.asks ys in
-      let m = short t p 0 f (ap (map place_of) s) in let m0 = m.0 in let m1 = m.1 in
-      let m2 : length t.asks ≡ 0 = ap (λ (z : List Read). length z) q in let two = two_long n u cu in absurd (omega (arith, len, l1, l2, m0, m1, m2, two))
+      let l1 = length_parts t.first t.second t.asks [] in let l2 = try_long n u ys cu in
+      let m0 = count_of t.first 0 p f in let m1 : length t.second ≡ 0 = ap (λ (z : List Read). length z) s in
+      let m2 : length t.asks ≡ 0 = ap (λ (z : List Read). length z) q in absurd (omega (arith, len, l1, l2, m0, m1, m2))
   too_short t u (Second p) ys (lt, f, s, q) cu a =
       let len = alike_length (t.first ++ t.second ++ t.asks ++ []) (u.first ++ u.second ++ u.asks ++ ys) a in
-      let l1 = length_three t.first t.second t.asks [] in let l2 = length_three u.first u.second u.asks ys in
-      let m = short t n p f s in let m0 = m.0 in let m1 = m.1 in
-      let m2 : length t.asks ≡ 0 = ap (λ (z : List Read). length z) q in let two = two_long n u cu in absurd (omega (arith, len, l1, l2, m0, m1, m2, two))
+      let l1 = length_parts t.first t.second t.asks [] in let l2 = try_long n u ys cu in
+      let m0 = count_of t.first 0 n f in let m1 = count_of t.second 0 p s in
+      let m2 : length t.asks ≡ 0 = ap (λ (z : List Read). length z) q in absurd (omega (arith, len, l1, l2, m0, m1, m2))
   too_short t u (Ask p) ys h cu a = (p, refl)
   too_short t u Direct ys h cu a = absurd h
   too_short t u (Lent p) ys h cu a = absurd h
@@ -158,28 +167,17 @@ module _ (n : ℕ) (floor base : List ℕ) where
       let l6 : length u.asks ≡ length (to_ask base t.second) = sym (length-map u.asks place_of) ∙ ap (λ (z : List ℕ). length z) (fu.asked ∙ ap (to_ask base) (sym two.second)) in
       omega (arith, len, l1, l2, l3, l4, l5, l6)
 
-  -- fronts of one length of the same list are the same
-  fronts : (xs ys cs bs : List ℕ) → length xs ≡ length ys → xs ++ cs ≡ ys ++ bs → xs ≡ ys
-  fronts [] [] cs bs l e = refl
-  fronts [] (y ∷ ys) cs bs l e = absurd (omega (arith, l))
-  fronts (x ∷ xs) [] cs bs l e = absurd (omega (arith, l))
-  fronts (x ∷ xs) (y ∷ ys) cs bs l e = let h = head_same x y (xs ++ cs) (ys ++ bs) e in let r = fronts xs ys cs bs (omega (arith, l)) (tail_same x y (xs ++ cs) (ys ++ bs) e) in λ k. h k ∷ r k
-
   ask_ends : (t u : Try) (p : ℕ) (h : How) (view : Option View) (before : ℕ) → InProgress t (Ask p) → EndsSo before u h view → AllAlike (t.first ++ t.second ++ t.asks ++ []) (u.first ++ u.second ++ u.asks ++ []) → ⊥
   ask_ends t u p how.Direct view before (lt, collects, unclean, none, (later, asked)) eu a =
-      let two = same_two n t u [] [] collects eu.collects a in false_true (is_clean t) (clean_same t u two.first two.second ∙ eu.is_clean) unclean
+      let two = same_two n t u [] [] collects eu.collects a in both_ways (is_clean t) unclean (clean_same t u two.first two.second ∙ eu.is_clean)
   ask_ends t u p (how.Lent from) view before (lt, collects, unclean, none, (later, asked)) eu a =
       let two = same_two n t u [] [] collects eu.collects a in
       let len = alike_length (t.asks ++ []) (u.asks ++ []) two.rest in
       let l1 = length-append t.asks [] in let l2 = length-append u.asks [] in
-      let l3 : length (map place_of t.asks) ≡ length t.asks = length-map t.asks place_of in
-      let l4 : length (map place_of u.asks) ≡ length u.asks = length-map u.asks place_of in
-      let places : map place_of t.asks ≡ map place_of u.asks = fronts (map place_of t.asks) (map place_of u.asks) (p ∷ later) eu.later (omega (arith, len, l1, l2, l3, l4)) (asked ∙ (ap (to_ask base) two.second ∙ sym eu.asked)) in
-      let same = (same_front t.asks u.asks [] [] places two.rest).0 in
-      false_true (none_lends floor t.asks) none (ap (none_lends floor) (same ∙ eu.asks) ∙ lends_among floor eu.before eu.last eu.lends)
+      lent_none floor u.asks t.asks eu.before eu.last eu.later (p ∷ later) [] [] eu.asks eu.lends none (omega (arith, len, l1, l2)) (eu.asked ∙ (ap (to_ask base) (sym two.second) ∙ sym asked)) (alike_back _ _ two.rest)
   ask_ends t u p how.GaveUp view before at eu a = asks_fewer t u p [] at eu.0 a
 
-  pub collects_of : (before : ℕ) (u : Try) (h : How) (view : Option View) → EndsSo before u h view → TwoCollects n u
+  collects_of : (before : ℕ) (u : Try) (h : How) (view : Option View) → EndsSo before u h view → TwoCollects n u
   collects_of before u how.Direct view e = e.collects
   collects_of before u (how.Lent from) view e = e.collects
   collects_of before u how.GaveUp view e = e.0.collects
@@ -191,7 +189,7 @@ module _ (n : ℕ) (floor base : List ℕ) where
       let s = too_short t u next [] at (collects_of (k + 0) u h view eu) a in ask_ends t u s.0 h view (k + 0) (subst (InProgress t) s.1 at) eu a
   not_over k [] (v ∷ us) t u next h view ft at fu eu few a =
       let s = too_short t v next (reads_of (us ++ u ∷ [])) at fu.0.collects a in asks_fewer t v s.0 (reads_of (us ++ u ∷ [])) (subst (InProgress t) s.1 at) fu.0 a
-  not_over k (s ∷ ts) [] t u next h view ft at fu eu few a = let e = failed_ends s u h view (k + 0) (reads_of (ts ++ t ∷ [])) ft.0 eu a in omega (arith, e, few)
+  not_over k (s ∷ ts) [] t u next h view ft at fu eu few a = let e = ends_failed u s h view (k + 0) [] (reads_of (ts ++ t ∷ [])) eu ft.0 (alike_back _ _ a) in omega (arith, e, few)
   not_over k (s ∷ ts) (v ∷ us) t u next h view ft at fu eu few a =
       let r = same_failed n floor base s v (reads_of (ts ++ t ∷ [])) (reads_of (us ++ u ∷ [])) ft.0 fu.0 a in
       let z : k + suc (length us) ≡ suc k + length us = omega arith in
@@ -212,25 +210,32 @@ in_progress n before t Direct w f = absurd w
 in_progress n before t (Lent p) w f = absurd w
 in_progress n before t (GaveUp x y z) w f = absurd w
 
-pub ends_so : (n : ℕ) (before : List Try) (t : Try) (h : How) (view : Option View) → Ends n before t h view → EndsSo n (floor_of before t) (base_of before t) (length before) t h view
+pub ends_so : (n : ℕ) (before : List Try) (t : Try) (h : How) (view : Option View) → Ends n before t h view → EndsSo n (floor_of before t) (base_of before t) (0 + length before) t h view
 ends_so n before t how.Direct None e = absurd e
 ends_so n before t how.Direct (Some v) e = e.0
 ends_so n before t (how.Lent from) view e = e
-ends_so n before t how.GaveUp view e = (e.0, e.1)
-
--- both collects of the first try
-pub first_two : (n : ℕ) (before : List Try) (t : Try) → AllFailed n (floor_of before t) (base_of before t) before → TwoCollects n t → TwoCollects n (first_try before t)
-first_two n [] t f c = c
-first_two n (s ∷ ts) t f c = f.0.collects
+ends_so n before t how.GaveUp view e = (e.0, zero-add (length before) ∙ e.1)
 
 -- what follows the asks of the first try
-abbrev pub after_first : List Try → Try → List Read
+abbrev after_first : List Try → Try → List Read
 after_first [] t = []
 after_first (s ∷ ts) t = reads_of (ts ++ t ∷ [])
 
-pub first_form : (before : List Try) (t : Try) → reads_of (before ++ t ∷ []) ≡ (first_try before t).first ++ (first_try before t).second ++ (first_try before t).asks ++ after_first before t
+first_form : (before : List Try) (t : Try) → reads_of (before ++ t ∷ []) ≡ (first_try before t).first ++ (first_try before t).second ++ (first_try before t).asks ++ after_first before t
 first_form [] t = refl
 first_form (s ∷ ts) t = refl
+
+-- both collects of the first try of a scan that has ended
+pub ended_two : (n : ℕ) (before : List Try) (t : Try) (h : How) (view : Option View) → AllFailed n (floor_of before t) (base_of before t) before → Ends n before t h view → TwoCollects n (first_try before t)
+ended_two n before t h view f e = first_two n (floor_of before t) (base_of before t) before t f (collects_of n (floor_of before t) (base_of before t) (0 + length before) t h view (ends_so n before t h view e))
+
+-- where the first tries of alike scans made both collects, floor and base are the same
+pub same_heads : (n : ℕ) (before us : List Try) (t u : Try) (xs : List Read) → TwoCollects n (first_try before t) → TwoCollects n (first_try us u) → AllAlike (reads_of (before ++ t ∷ []) ++ xs) (reads_of (us ++ u ∷ [])) → (floor_of us u ≡ floor_of before t) × (base_of us u ≡ base_of before t)
+same_heads n before us t u xs c d a =
+    let s = first_try before t in
+    let form = ap (λ (z : List Read). z ++ xs) (first_form before t) ∙ append_assoc (s.first ++ s.second ++ s.asks) (after_first before t) xs in
+    let two = same_two n s (first_try us u) (after_first before t ++ xs) (after_first us u) c d (subst (λ (z : List Read × List Read). AllAlike z.0 z.1) (λ k. (form k, first_form us u k)) a) in
+    (sym (ap (map number_of) two.first), sym (ap (map number_of) two.second))
 
 -- a scan whose next read is wanted is not one that has ended, whatever the reads of one event met
 pub wanted_not_ended : (n : ℕ) (before us : List Try) (t u : Try) (next : Next) (h : How) (view : Option View) → IsWanted next → Follows n before t next → AllFailed n (floor_of before t) (base_of before t) before → length before < n + 2
@@ -238,24 +243,15 @@ pub wanted_not_ended : (n : ℕ) (before us : List Try) (t u : Try) (next : Next
 wanted_not_ended n before us t u next h view w follows ft few fu ends a = go before follows ft few a
   where
     first_u : TwoCollects n (first_try us u)
-    first_u = first_two n us u fu (collects_of n (floor_of us u) (base_of us u) (length us) u h view (ends_so n us u h view ends))
-
-    -- where the first tries made both collects, floor and base are the same
-    same_heads : (before : List Try) (t : Try) → TwoCollects n (first_try before t) → AllAlike (reads_of (before ++ t ∷ [])) (reads_of (us ++ u ∷ [])) → (floor_of us u ≡ floor_of before t) × (base_of us u ≡ base_of before t)
-    same_heads before t c a =
-        let two = same_two n (first_try before t) (first_try us u) (after_first before t) (after_first us u) c first_u
-        (subst (λ (z : List Read × List Read). AllAlike z.0 z.1) (λ k. (first_form before t k, first_form us u k)) a) in
-        (sym (ap (map number_of) two.first), sym (ap (map number_of) two.second))
-
-    zero_plus : length us ≡ 0 + length us
-    zero_plus = omega arith
+    first_u = ended_two n us u h view fu ends
 
     over : (before : List Try) (t : Try) (next : Next) → IsWanted next → Follows n before t next → AllFailed n (floor_of before t) (base_of before t) before → length before < n + 2 → AllAlike (reads_of (before ++ t ∷ [])) (reads_of (us ++ u ∷ []))
-        → (floor_of us u ≡ floor_of before t) × (base_of us u ≡ base_of before t) → ⊥
-    over before t next w follows ft few a heads =
+        → TwoCollects n (first_try before t) → ⊥
+    over before t next w follows ft few a two =
+        let heads = same_heads n before us t u [] two first_u (subst (λ (z : List Read). AllAlike z (reads_of (us ++ u ∷ []))) (sym (append-nil (reads_of (before ++ t ∷ [])))) a) in
         not_over n (floor_of before t) (base_of before t) 0 before us t u next h view ft (in_progress n before t next w follows)
         (subst (λ (z : List ℕ × List ℕ). AllFailed n z.0 z.1 us) (λ k. (heads.0 k, heads.1 k)) fu)
-        (subst (λ (z : List ℕ × List ℕ). EndsSo n z.0 z.1 (0 + length us) u h view) (λ k. (heads.0 k, heads.1 k)) (subst (λ (z : ℕ). EndsSo n (floor_of us u) (base_of us u) z u h view) zero_plus (ends_so n us u h view ends)))
+        (subst (λ (z : List ℕ × List ℕ). EndsSo n z.0 z.1 (0 + length us) u h view) (λ k. (heads.0 k, heads.1 k)) (ends_so n us u h view ends))
         (omega (arith, few)) a
 
     alone : (t : Try) (next : Next) → IsWanted next → Follows n [] t next → AllAlike (reads_of ([] ++ t ∷ [])) (reads_of (us ++ u ∷ [])) → TwoCollects n t
@@ -265,5 +261,5 @@ wanted_not_ended n before us t u next h view w follows ft few fu ends a = go bef
         (subst (Follows n [] t) s.1 follows).1
 
     go : (bs : List Try) → Follows n bs t next → AllFailed n (floor_of bs t) (base_of bs t) bs → length bs < n + 2 → AllAlike (reads_of (bs ++ t ∷ [])) (reads_of (us ++ u ∷ [])) → ⊥
-    go [] follows ft few a = over [] t next w follows ft few a (same_heads [] t (alone t next w follows a) a)
-    go (s ∷ ts) follows ft few a = over (s ∷ ts) t next w follows ft few a (same_heads (s ∷ ts) t ft.0.collects a)
+    go [] follows ft few a = over [] t next w follows ft few a (alone t next w follows a)
+    go (s ∷ ts) follows ft few a = over (s ∷ ts) t next w follows ft few a ft.0.collects

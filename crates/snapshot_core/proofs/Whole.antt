@@ -1,6 +1,6 @@
 -- Where no event is torn, no scan is given up, and each makes 2n reads a try, and one more where its view is lent.
-use Rattle.std.proofs.Common.{◌≡◌, ◌≢◌, ℕ, zero, suc, ◌+◌, ◌-◌, ◌*◌, ◌<◌, ◌≤◌, Bool, true, false, cond, not, ◌&&◌, Option, Some, None, List, [], ◌∷◌, ◌++◌, length, map, sym, refl, ap, ◌∙◌, subst, arith, length-append, mul-suc}
-use Rattle.std.proofs.lemmas.Bool.{leb-true}
+use Rattle.std.proofs.Common.{◌≡◌, ◌≢◌, ℕ, zero, suc, ◌+◌, ◌-◌, ◌*◌, ◌<◌, ◌≤◌, Bool, true, false, cond, not, ◌&&◌, Option, Some, None, List, [], ◌∷◌, ◌++◌, length, map, sym, refl, ap, ◌∙◌, subst, arith, mul-suc}
+use Rattle.std.proofs.lemmas.Bool.{leb-true, false≢true, and_parts, both_ways, not-true}
 use mathlib.Core.Logic.{dite}
 use mathlib.Core.Option.{some, some-injective, some-ne-none}
 use native.Mathlib.Decide.{ℕ_discrete, dec_le}
@@ -16,8 +16,10 @@ use Rattle.snapshot_core.specs.History.{Published, number_at, IsMoment, OneStep}
 use Rattle.snapshot_core.specs.Turns.{Answered}
 use Rattle.snapshot_core.specs.Faithful.{lent_at, where_and_torn, Ends, IsScan, IsJustified, reads_in, reads_by, WholeReadsAnswer}
 use Rattle.snapshot_core.proofs.Past.{number_rises}
-use Rattle.snapshot_core.proofs.Collects.{count_of, read_at}
+use Rattle.snapshot_core.proofs.Collects.{count_of, read_at, try_long}
 use Rattle.snapshot_core.proofs.Rising.{RisingPairs, own_rising, Fine, Within, within_of, within_span, within_at, Spans, try_parts, tries_more, number_newer, moment_above, none_more}
+use Rattle.snapshot_core.proofs.Told.{first_two}
+use Rattle.snapshot_core.proofs.Lending.{within}
 
 -- what is known of the publishes and answers that a list of events came to
 pub record Run (n w : ℕ) (adds : List Op → ℕ → ℕ) (es : List Event) (ps : List Published) (answers : List Answered) : Type 0 where
@@ -42,31 +44,20 @@ asked_at base (r ∷ rs) p later e = go (nat_le (slice_index base r.place + 2) r
     go false is e rec = let t = rec e in (suc t.0, t.1, t.2, t.3, t.4)
 
 place_in : (rs : List Read) (q k m : ℕ) (r : Read) → get_elem? rs q ≡ some r → map place_of rs ≡ from_on k m → (r.place ≡ k + q) × (q < m)
-place_in [] q k m r is e = absurd (some-ne-none r (sym is))
-place_in (x ∷ rs) q k zero r is e = absurd (cc)
-place_in (x ∷ rs) zero k (suc m) r is e = let h : x.place ≡ k = cc in let same : x ≡ r = some-injective x r is in let at : r.place ≡ x.place = sym (ap place_of same) in (omega (arith, at, h), omega arith)
-place_in (x ∷ rs) (suc q) k (suc m) r is e = let rest : map place_of rs ≡ from_on (suc k) m = cc in let t = place_in rs q (suc k) m r is rest in let a = t.0 in let b = t.1 in (omega arith, omega arith)
+place_in rs q k m r is e =
+    let lt : q < m = (let l = within rs q r is in let c = count_of rs k m e in omega arith) in
+    let s = read_at rs k m q e lt in (ap place_of (some-injective r s.0 (sym is ∙ s.1)) ∙ s.2, lt)
 
 index_of : (rs : List Read) (q : ℕ) (r : Read) → get_elem? rs q ≡ some r → slice_index (map number_of rs) q ≡ r.number
 index_of [] q r is = absurd (some-ne-none r (sym is))
 index_of (x ∷ rs) zero r is = ap number_of (some-injective x r is)
 index_of (x ∷ rs) (suc q) r is = index_of rs q r is
 
--- the length of a try's reads and what follows
-try_long : (n : ℕ) (t : Try) (xs : List Read) → TwoCollects n t → length (t.first ++ t.second ++ t.asks ++ xs) ≡ 2 * n + length t.asks + length xs
-try_long n t xs two =
-    let a = length-append (t.first ++ t.second ++ t.asks) xs in let b = length-append (t.first ++ t.second) t.asks in let c = length-append t.first t.second in
-    let f = count_of t.first 0 n two.first in let s = count_of t.second 0 n two.second in omega (arith, a, b, c, f, s)
-
 not_both : (x : Bool) (y : Bool) → x ≡ true → (not x && y) ≡ true → ⊥
-not_both x y e h = let f : (not true && y) ≡ true = ap (λ (z : Bool). not z && y) (sym e) ∙ h in cc
+not_both x y e h = both_ways x (not-true x (and_parts (not x) y h).0) e
 
 lends_so : (floor : List ℕ) (r : Read) (v : View) → r.torn ≡ false → r.view ≡ Some v → is_above floor v.vector ≡ true → lends floor r ≡ true
 lends_so floor r v intact seen above = ap (λ (z : Bool × Option View). not z.0 && lends_view floor z.1) (λ k. (intact k, seen k)) ∙ above
-
-first_collects : (n : ℕ) (floor base : List ℕ) (before : List Try) (last : Try) → AllFailed n floor base before → TwoCollects n last → TwoCollects n (first_try before last)
-first_collects n floor base [] last failed two = two
-first_collects n floor base (t ∷ ts) last failed two = failed.0.collects
 
 module _ (adds : List Op → ℕ → ℕ) (n w : ℕ) (ps : List Published) (answers : List Answered) where
   -- the view that worker i lends at the event e is all segments at one event after its publish before the last one
@@ -219,7 +210,7 @@ module _ (adds : List Op → ℕ → ℕ) (n w : ℕ) (ps : List Published) (ans
       → ((b lo' mid : ℕ) (s : Spans ps answers lo' mid last) → b ≤ s.two → mid ≤ hi → Collected (first_try before last).first (first_try before last).second b → length last.asks ≡ k)
       → length (reads_of (before ++ last ∷ [])) ≡ 2 * n * tries + k
   last_long lo hi tries k before last loans h failed two count asks =
-      let all = all_timed lo hi before last (first_collects n (floor_of before last) (base_of before last) before last failed two) h in
+      let all = all_timed lo hi before last (first_two n (floor_of before last) (base_of before last) before last failed two) h in
       let z = failed_long (first_try before last).first (first_try before last).second all.0 lo hi hi before last loans all.1 (omega arith) all.2 failed in
       let l = z.1 in
       let e = asks all.0 z.0 l.0 l.1 l.2 l.3 all.1 in
@@ -248,12 +239,8 @@ has_view n before last Direct (Some v) ends ne = (v, refl)
 has_view n before last GaveUp view ends ne = absurd (ne refl)
 has_view n before last (Lent from) view ends ne = go ends.last.view refl
   where
-    no_view : (t : Bool) → (not t && false) ≡ true → ⊥
-    no_view true e = cc
-    no_view false e = cc
-
     go : (x : Option View) → ends.last.view ≡ x → (v : View) × (view ≡ Some v)
-    go None e = absurd (no_view ends.last.torn (sym (ap (λ (z : Option View). not ends.last.torn && lends_view (floor_of before last) z) e) ∙ ends.lends))
+    go None e = absurd (false≢true (and_parts (not ends.last.torn) false (sym (ap (λ (z : Option View). not ends.last.torn && lends_view (floor_of before last) z) e) ∙ ends.lends)).1)
     go (Some v) e = (v, sym ends.view_is ∙ e)
 
 module _ (n w : ℕ) (adds : List Op → ℕ → ℕ) (es : List Event) (ps : List Published) (answers : List Answered) (run : Run n w adds es ps answers) where

@@ -1,8 +1,10 @@
 -- What is true of the whole machine before each event.
-use Rattle.std.proofs.Common.{◌≡◌, ◌≢◌, ℕ, zero, suc, ◌+◌, ◌<◌, ◌≤◌, ◌⊎◌, inl, inr, ⊎_elim, List, [], ◌∷◌, ◌++◌, length, take, get_or, sym, refl, ap, ◌∙◌, subst, arith, Bool, Option, Some, length-set}
+use Rattle.std.proofs.Common.{◌≡◌, ◌≢◌, ℕ, zero, suc, ◌+◌, ◌<◌, ◌≤◌, ◌⊎◌, inl, inr, ⊎_elim, List, [], ◌∷◌, ◌++◌, length, take, get_or, sym, refl, ap, ◌∙◌, subst, arith, Bool, Option, Some, length-set, replicate}
 use Rattle.std.specs.Prelude.{slice_get}
 use Rattle.std.proofs.Math.ListN.{set}
 use Rattle.std.proofs.lemmas.Option.{none-some, same_Some}
+use mathlib.Core.Option.{some}
+use lib.ListN.{get_elem?}
 use Rattle.ledger_core.specs.declared.op.Op.{Op}
 use Rattle.snapshot_core.specs.declared.actor.Phase.{Phase}
 use Rattle.snapshot_core.specs.declared.actor.Phase.TheVariants as phase
@@ -14,8 +16,9 @@ use Rattle.snapshot_core.specs.Machine.{Seg, Act, World}
 use Rattle.snapshot_core.specs.Sized.{IsSized}
 use Rattle.snapshot_core.specs.Tries.{View}
 use Rattle.snapshot_core.specs.Turns.{Answered}
-use Rattle.snapshot_core.proofs.Past.{number_grows, row_grows, total_grows, number_next, row_next, Early, early_next, Inside, sum_ap}
+use Rattle.snapshot_core.proofs.Past.{number_grows, row_grows, total_grows, Inside, sum_ap}
 use Rattle.snapshot_core.proofs.Scanning.{Firsts, Seconds, Based, NextOk, Good}
+use Rattle.snapshot_core.proofs.Lending.{Below, at_publish, not_yet, number_quiet, row_quiet, in_both, only_one}
 
 -- what stands in a list after a write
 pub at_set : {A : Type 0} (l : List A) (i : ℕ) (x : A) (j : ℕ) (y : A) → slice_get (set l i x) j ≡ Some y → ((j ≡ i) × (x ≡ y)) ⊎ ((j ≢ i) × (slice_get l j ≡ Some y))
@@ -24,6 +27,12 @@ at_set (z ∷ l) zero x zero y e = inl (refl, same_Some x y e)
 at_set (z ∷ l) zero x (suc j) y e = inr ((λ same. absurd (omega arith)), e)
 at_set (z ∷ l) (suc i) x zero y e = inr ((λ same. absurd (omega arith)), e)
 at_set (z ∷ l) (suc i) x (suc j) y e = ⊎_elim (λ t. let t0 = t.0 in inl (omega arith, t.1)) (λ t. inr ((λ same. t.0 (omega arith)), t.1)) (at_set l i x j y e)
+
+-- what stands in a list of one element several times
+pub in_several : {A : Type 0} (m : ℕ) (x : A) (i : ℕ) (y : A) → slice_get (replicate m x) i ≡ Some y → x ≡ y
+in_several zero x i y e = absurd (none-some y e)
+in_several (suc m) x zero y e = same_Some x y e
+in_several (suc m) x (suc i) y e = in_several m x i y e
 
 abbrev pub with_actor : World → (who : ℕ) → Act → World
 with_actor m who a = record m { actors = set m.actors who a }
@@ -69,15 +78,13 @@ module _ (adds : List Op → ℕ → ℕ) (w : ℕ) where
     pub step : (v : View) → a.view ≡ Some v → OneStep adds n w ps a.begin a.end v
 
   abbrev pub AllAnswers : (n : ℕ) → List Published → (k : ℕ) → List Answered → Type 0
-  AllAnswers n ps k [] = Unit {0}
-  AllAnswers n ps k (a ∷ zs) = (a.end < k) × AnswerOk n ps a × AllAnswers n ps k zs
+  AllAnswers n ps k zs = (q : ℕ) (a : Answered) → get_elem? zs q ≡ some a → (a.end < k) × AnswerOk n ps a
 
   -- the machine of n workers before the event k
   pub record Inv (n k : ℕ) (m : World) : Type 0 where
     pub some : 1 ≤ n
     pub most : n ≤ 32
     pub inside : Inside n m.publishes
-    pub early : Early k m.publishes
     pub count : length m.segments ≡ n
     pub people : length m.actors ≡ n + 4
     pub segment : (i : ℕ) (s : Seg) → slice_get m.segments i ≡ Some s → SegOk n m.publishes k i s
@@ -123,8 +130,7 @@ module _ (adds : List Op → ℕ → ℕ) (w n k : ℕ) (ps qs : List Published)
   next_grows b e s t v (GaveUp x y z) le st = tt
 
   pub answers_grow : (zs : List Answered) → AllAnswers adds w n ps k zs → AllAnswers adds w n qs (suc k) zs
-  answers_grow [] h = tt
-  answers_grow (a ∷ zs) h = let lt = h.0 in (omega arith, record { tries = h.1.tries; order = h.1.order; step = λ v is. step_grows a.begin a.end a.end v (omega arith) (omega arith) (h.1.step v is) }, answers_grow zs h.2)
+  answers_grow zs h q a is = let x = h q a is in let lt = x.0 in (omega arith, record { tries = x.1.tries; order = x.1.order; step = λ v seen. step_grows a.begin a.end a.end v (omega arith) (omega arith) (x.1.step v seen) })
 
   -- an actor whose number did not move
   pub phase_grows : (i : ℕ) (a : Act) (ph : Phase) → number_at qs (suc k) i ≡ number_at ps k i → PhaseOk adds w n ps k i a ph → PhaseOk adds w n qs (suc k) i a ph
@@ -147,20 +153,18 @@ module _ (adds : List Op → ℕ → ℕ) (w n k : ℕ) (ps qs : List Published)
 
 module _ (adds : List Op → ℕ → ℕ) (w n k : ℕ) where
   pub answers_more : (ps : List Published) (zs : List Answered) (a : Answered) → AllAnswers adds w n ps k zs → a.end < k → AnswerOk adds w n ps a → AllAnswers adds w n ps k (zs ++ a ∷ [])
-  answers_more ps [] a h lt ok = (lt, ok, tt)
-  answers_more ps (x ∷ zs) a h lt ok = (h.0, h.1, answers_more ps zs a h.2 lt ok)
+  answers_more ps zs a h lt ok q x is = ⊎_elim (λ t. h q x t) (λ t. subst (λ (y : Answered). (y.end < k) × AnswerOk adds w n ps y) (only_one a t.0 x t.2) (lt, ok)) (in_both zs (a ∷ []) q x is)
 
   -- time passes
-  pub ticks : (m : World) → Inv adds w n k m → Inv adds w n (suc k) m
-  ticks m r = let same = same_self adds k m.publishes in record {
+  pub ticks : (m : World) → Below at_publish k m.publishes → Inv adds w n k m → Inv adds w n (suc k) m
+  ticks m early r = let same = same_self adds k m.publishes in record {
     some = r.some;
     most = r.most;
     inside = r.inside;
-    early = early_next k m.publishes r.early;
     count = r.count;
     people = r.people;
-    segment = λ i s is. seg_grows adds w n k m.publishes m.publishes same i s (number_next m.publishes k i r.early) (λ x. row_next adds m.publishes k i x r.early) (r.segment i s is);
-    actor = λ i a is. let ok = r.actor i a is in (ok.0, phase_grows adds w n k m.publishes m.publishes same i a a.phase (number_next m.publishes k i r.early) ok.1);
+    segment = λ i s is. seg_grows adds w n k m.publishes m.publishes same i s (number_quiet m.publishes k i (not_yet m.publishes k i early)) (λ x. row_quiet adds m.publishes k i x (not_yet m.publishes k i early)) (r.segment i s is);
+    actor = λ i a is. let ok = r.actor i a is in (ok.0, phase_grows adds w n k m.publishes m.publishes same i a a.phase (number_quiet m.publishes k i (not_yet m.publishes k i early)) ok.1);
     answers = answers_grow adds w n k m.publishes m.publishes same m.answers r.answers;
   }
 
@@ -170,7 +174,6 @@ module _ (adds : List Op → ℕ → ℕ) (w n k : ℕ) where
     some = r.some;
     most = r.most;
     inside = r.inside;
-    early = r.early;
     count = r.count;
     people = length-set _ _ _ ∙ r.people;
     segment = r.segment;
