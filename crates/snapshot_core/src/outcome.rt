@@ -11,13 +11,17 @@ use crate::trace::{Answer, How, Publish, Trace};
 use ledger_core::Op;
 use std::alloc::Global;
 
-/// Whether the trace is what the events come to, by the definitions that [`run`] meets: one of all traces is.
+/// Whether the trace is what the events come to, by the definitions that [`run`] meets: one trace is. `n`, `C`, `H`, `G` and
+/// the events are as `run` takes them.
 ///
-/// It tries a trace from elsewhere: one that was written by hand, or that another program made.
+/// It tries a trace from elsewhere: one that was written by hand, or that another program made. It runs the events and
+/// compares.
 ///
 /// # Errors
 ///
 /// [`RunFault::Geometry`], 13, unless `n` is 1 to 32; then [`RunFault::NoMemory`], 6.
+///
+/// Source: Afek and others, "Atomic Snapshots of Shared Memory", J. ACM 40(4), 1993, section 3.
 pub fn is_outcome<const C: usize, const H: usize, const G: usize>(
     alloc: Global,
     n: usize,

@@ -125,20 +125,20 @@ pub(crate) fn says(
 }
 
 // Worker 0 publishes in the reader's first try. The reader steps once more after its answer.
-const SECOND_TRY: Case = Case {
+pub(crate) const SECOND_TRY: Case = Case {
     n: 2,
     text: "bssBSSSSSsssssss",
     reader: 2,
     by: 5,
 };
 
-const PUBLISH: PublishRow = PublishRow {
+pub(crate) const PUBLISH: PublishRow = PublishRow {
     at: 8,
     worker: 0,
     by: &[5],
 };
 
-const UPDATE: AnswerRow = AnswerRow {
+pub(crate) const UPDATE: AnswerRow = AnswerRow {
     actor: 0,
     begin: 3,
     end: 7,

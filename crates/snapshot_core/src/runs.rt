@@ -11,8 +11,9 @@ use crate::scan::MOST;
 use crate::trace::Trace;
 use std::alloc::Global;
 
-/// Runs the events on `n` workers and four readers over plain segments, whose rows have `C` counters, `H` histograms and
-/// `G` gauges and are zeros at first: the algorithm of Afek and others, J. ACM 40(4), 1993, section 3.
+/// Runs the events on `n` workers and four readers over plain segments, whose rows have `C` counters, at most 256, `H`
+/// histograms, at most 32, and `G` gauges, at most 64, and are zeros at first: the algorithm of Afek and others, J. ACM
+/// 40(4), 1993, section 3.
 ///
 /// The trace is faithful to the events. Each answer that is not given up is all segments at one event of its turn; a scan
 /// makes at most n + 2 tries; one that makes 2n whole reads while nobody publishes is direct in its first try; and where

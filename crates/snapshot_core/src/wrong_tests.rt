@@ -1,5 +1,5 @@
 // What wrong algorithms would answer, on lists where they differ: `is_outcome` refuses each. Rows have one counter.
-use crate::outcome_tests::{AnswerRow, Case, PublishRow, says};
+use crate::outcome_tests::{AnswerRow, Case, PUBLISH, PublishRow, SECOND_TRY, UPDATE, says};
 use crate::trace::How;
 use std::alloc::Global;
 use std::process::Abort;
@@ -14,60 +14,33 @@ const READER: AnswerRow = AnswerRow {
     totals: &[0],
 };
 
-/// What is said of a list of one worker and its reader in which the worker does nothing, and of this answer.
-fn says_of_one(alloc: Global, rt: &impl Abort, text: &str, answer: AnswerRow) -> bool {
+/// What is said of a list of one worker, who does nothing, and one reader, and of these answers.
+fn says_of_one(alloc: Global, rt: &impl Abort, text: &str, answers: &[AnswerRow]) -> bool {
     let case = Case {
         n: 1,
         text,
         reader: 1,
         by: 1,
     };
-    says(alloc, rt, case, &[], &[answer])
+    says(alloc, rt, case, &[], answers)
 }
-
-// Two workers, of which worker 0 publishes 5 at event 8, between the reader's two collects.
-const MOVED: Case = Case {
-    n: 2,
-    text: "bssBSSSSSssssss",
-    reader: 2,
-    by: 5,
-};
-
-const UPDATE: AnswerRow = AnswerRow {
-    actor: 0,
-    begin: 3,
-    end: 7,
-    tries: 1,
-    how: How::Direct,
-    vector: &[0, 0],
-    totals: &[0],
-};
 
 // The numbers are copied at the Begin, and called direct after 2n reads.
 #[test]
 fn numbers_of_the_begin(rt: HostRuntime) {
-    let publish = PublishRow {
-        at: 8,
-        worker: 0,
-        by: &[5],
-    };
     let scan = AnswerRow {
         actor: 2,
         begin: 0,
         end: 10,
         ..UPDATE
     };
-    assert!(rt; !says(rt.alloc(), &rt, MOVED, &[publish], &[UPDATE, scan]));
+    assert!(rt; !says(rt.alloc(), &rt, SECOND_TRY, &[PUBLISH], &[UPDATE, scan]));
 }
 
 // A scan is over after one collect.
 #[test]
 fn one_collect(rt: HostRuntime) {
-    let publish = PublishRow {
-        at: 6,
-        worker: 0,
-        by: &[5],
-    };
+    let publish = PublishRow { at: 6, ..PUBLISH };
     let scan = AnswerRow {
         actor: 2,
         begin: 0,
@@ -75,39 +48,33 @@ fn one_collect(rt: HostRuntime) {
         ..UPDATE
     };
     let update = AnswerRow { end: 5, ..UPDATE };
-    assert!(rt; !says(rt.alloc(), &rt, MOVED, &[publish], &[scan, update]));
+    assert!(rt; !says(rt.alloc(), &rt, SECOND_TRY, &[publish], &[scan, update]));
 }
 
 // Every scan gives up, after one try or without an answer.
 #[test]
 fn gives_up(rt: HostRuntime) {
     let alloc = rt.alloc();
-    assert!(rt; says_of_one(alloc, &rt, "bss", READER));
+    assert!(rt; says_of_one(alloc, &rt, "bss", &[READER]));
     let given_up = AnswerRow {
         how: How::GaveUp,
         ..READER
     };
-    assert!(rt; !says_of_one(alloc, &rt, "bss", given_up));
-    let case = Case {
-        n: 1,
-        text: "bss",
-        reader: 1,
-        by: 1,
-    };
-    assert!(rt; !says(alloc, &rt, case, &[], &[]));
+    assert!(rt; !says_of_one(alloc, &rt, "bss", &[given_up]));
+    assert!(rt; !says_of_one(alloc, &rt, "bss", &[]));
 }
 
 // A torn read is taken as whole.
 #[test]
 fn torn_as_whole(rt: HostRuntime) {
     let alloc = rt.alloc();
-    assert!(rt; !says_of_one(alloc, &rt, "btsss", READER));
+    assert!(rt; !says_of_one(alloc, &rt, "btsss", &[READER]));
     let second = AnswerRow {
         end: 4,
         tries: 2,
         ..READER
     };
-    assert!(rt; says_of_one(alloc, &rt, "btsss", second));
+    assert!(rt; says_of_one(alloc, &rt, "btsss", &[second]));
 }
 
 /// What is said of two updates of one worker, one in each of the reader's first two tries, and of this answer.
