@@ -5,3 +5,5 @@ pub mod Shape
 pub mod Word
 pub mod Rise
 pub mod Legal
+pub mod Limits
+pub mod Vectors

@@ -7,6 +7,7 @@
 #![tactic(auto)]
 
 mod handles;
+mod limits;
 mod op;
 mod op_fault;
 mod row;
@@ -14,6 +15,7 @@ mod totals;
 mod word;
 
 pub use handles::{Counter, Gauge, Histogram};
+pub use limits::{MAX_COUNTERS, MAX_GAUGES, MAX_HISTOGRAMS, MAX_WORKERS};
 pub use op::Op;
 pub use op_fault::OpFault;
 pub use row::{MAX_WORD, Row};

@@ -7,13 +7,13 @@ use Rattle.ledger_core.specs.declared.op.Op.{Op}
 use Rattle.register_rule.specs.declared.view.Made.{Made}
 use Rattle.register_rule.specs.declared.view.Look.{Look}
 use Rattle.register_rule.specs.declared.view.Version.{Version}
-use Rattle.register_rule.specs.declared.view.Answer.{Answer}
+use Rattle.register_rule.specs.declared.view.Entry.{Entry}
 use Rattle.register_rule.specs.declared.view.Asked.{Asked}
 use Rattle.register_rule.specs.declared.view.Scan.{Scan}
-use Rattle.register_rule.specs.History.{IsMoment, Below}
+use Rattle.register_rule.specs.History.{IsCut, Below}
 use Rattle.register_rule.specs.Sums.{total, row_sum}
 use Rattle.register_rule.specs.Shown.{Shows}
-use Rattle.register_rule.specs.Scans.{number_of, AtMost, AreLoads, HasMoved, IsLook, Doomed, IsVersion, IsAnswer, IsAsked, IsScan}
+use Rattle.register_rule.specs.Scans.{opened_at, AtMost, AreLoads, HasMoved, IsLook, Doomed, IsVersion, IsEntry, IsAsked, IsSound}
 use Rattle.register_rule.specs.Steps.{upper}
 use Rattle.register_rule.proofs.Moments.{past_grows}
 use Rattle.register_rule.proofs.Upper.{length_upper, upper_from, upper_of}
@@ -58,7 +58,12 @@ module _ (n w : ℕ) (adds : List Op → ℕ → ℕ) where
     }
 
     asked_grows : (e : Asked) → IsAsked n w adds made e → IsAsked n w adds made' e
-    asked_grows e ok = record { inside = ok.inside; risen = ok.risen; old = let up = (more e.worker).0 in let h = ok.old in omega arith; flag = ok.flag }
+    asked_grows e ok = record {
+      inside = ok.inside;
+      risen = ok.risen;
+      old = let up = (more e.worker).0 in let h = ok.old in omega arith;
+      shown = λ same k x at. subst (λ (z : List Made). Shows n w adds z (w + k) x) (sym ((more e.worker).1 e.number (let h = ok.old in let r = ok.risen in omega arith))) (ok.shown same k x at);
+    }
 
     sums_grow : (i : ℕ) (v : List ℕ) (k : ℕ) → ((q s : ℕ) → get_elem? v q ≡ some s → s ≤ length (made (i + q))) → row_sum adds made' i v k ≡ row_sum adds made i v k
     sums_grow i [] k low = refl
@@ -69,14 +74,14 @@ module _ (n w : ℕ) (adds : List Op → ℕ → ℕ) where
         let rest = sums_grow (suc i) v k (λ q x at. let e' : i + suc q ≡ suc i + q = omega arith in subst (λ (z : ℕ). x ≤ length (made z)) e' (low (suc q) x at)) in
         λ c. total adds (here c) k + rest c
 
-  pub answer_grows : (made made' : ℕ → List Made) (h more : List ℕ) (a : Answer) → Grows made made' → IsAnswer n w adds made h a → IsAnswer n w adds made' (h ++ more) a
+  pub answer_grows : (made made' : ℕ → List Made) (h more : List ℕ) (a : Entry) → Grows made made' → IsEntry n w adds made h a → IsEntry n w adds made' (h ++ more) a
   answer_grows made made' h more a grows ok = record {
     low = low_grows made made' grows a.vector ok.low;
     moment = past_grows n h more a.vector ok.moment;
     sums = λ k lt. ok.sums k lt ∙ ap some (sym (sums_grow made made' grows 0 a.vector k (λ q s at. let e : q ≡ 0 + q = omega arith in subst (λ (z : ℕ). s ≤ length (made z)) e (ok.low q s at))));
   }
 
-  pub scan_grows : (made made' : ℕ → List Made) (h more : List ℕ) (c : Scan) → Grows made made' → IsScan n w adds made h c → IsScan n w adds made' (h ++ more) c
+  pub scan_grows : (made made' : ℕ → List Made) (h more : List ℕ) (c : Scan) → Grows made made' → IsSound n w adds made h c → IsSound n w adds made' (h ++ more) c
   scan_grows made made' h more c grows ok = record {
     opened = loads_grow made made' grows c.opened ok.opened;
     confirmed = loads_grow made made' grows c.confirmed ok.confirmed;
@@ -88,13 +93,13 @@ module _ (n w : ℕ) (adds : List Op → ℕ → ℕ) where
     kept_wide = ok.kept_wide;
     looks = λ q l e. (look_grows made made' grows 0 l (ok.looks q l e).0, (ok.looks q l e).1);
     asks = λ q l e. look_grows made made' grows w l (ok.asks q l e);
-    whole = λ all. ⊎_elim (λ (d : Doomed n w adds made c.now.looks). inl (doomed_grows made made' grows c.now.looks d)) (λ (p : IsMoment n h (map number_of c.now.looks)). inr (past_grows n h more _ p)) (ok.whole all);
+    whole = λ all. ⊎_elim (λ (d : Doomed n w adds made c.now.looks). inl (doomed_grows made made' grows c.now.looks d)) (λ (p : IsCut n h (map opened_at c.now.looks)). inr (past_grows n h more _ p)) (ok.whole all);
   }
 
   module _ (made : ℕ → List Made) (h : List ℕ) where
     -- worker i at its publish has seen its own number and knows its new row
     pub scan_published : (i : ℕ) (v : Version) (c : Scan) → i < n → IsVersion n w adds made i v → v.number ≡ length (made i) → (len : ℕ) → len ≡ length (made i)
-        → ((y : ℕ) → get_elem? c.seen i ≡ some y → y ≤ len) → IsScan n w adds made h c → IsScan n w adds made h (record c { seen = slice_set c.seen i len; kept = slice_set c.kept i v })
+        → ((y : ℕ) → get_elem? c.seen i ≡ some y → y ≤ len) → IsSound n w adds made h c → IsSound n w adds made h (record c { seen = slice_set c.seen i len; kept = slice_set c.kept i v })
     scan_published i v c inside version new len is most ok = record {
       opened = ok.opened;
       confirmed = ok.confirmed;
@@ -122,7 +127,7 @@ module _ (n w : ℕ) (adds : List Op → ℕ → ℕ) where
     }
 
     -- members that meet
-    pub scan_raised : (c : Scan) (v : List ℕ) → AtMost n w adds made v → length v ≡ n → IsScan n w adds made h c → IsScan n w adds made h (record c { seen = upper c.seen v })
+    pub scan_raised : (c : Scan) (v : List ℕ) → AtMost n w adds made v → length v ≡ n → IsSound n w adds made h c → IsSound n w adds made h (record c { seen = upper c.seen v })
     scan_raised c v low wide ok = let same : length c.seen ≡ length v = ok.seen_wide ∙ sym wide in record {
       opened = ok.opened;
       confirmed = ok.confirmed;

@@ -21,16 +21,16 @@ use Rattle.register_rule.specs.Words.{item_of, seg}
 use Rattle.register_rule.specs.History.{count}
 use Rattle.register_rule.specs.Sums.{Legal}
 use Rattle.register_rule.specs.Shown.{Shows}
-use Rattle.register_rule.specs.Scans.{IsScan}
-use Rattle.register_rule.specs.Rule.{IsWorker, IsRole, IsMember, Rule}
+use Rattle.register_rule.specs.Scans.{IsSound}
+use Rattle.register_rule.specs.Rule.{IsWorker, IsRole, IsMember, Rule, AreApart}
 use Rattle.register_rule.specs.Steps.{after}
 use Rattle.register_rule.specs.Members.{group, led, scanned, filled}
-use Rattle.register_rule.specs.Told.{IsNumber, IsLoad, place_of, IsTold, AreRuled, AreRuledAt, Sits, AllCompare, CompareAt, Keeps}
+use Rattle.register_rule.specs.Told.{IsNumber, IsLoad, word_of, IsTold, AreRuled, AreRuledAt, Sits, AllCompare, Keeps}
 use Rattle.register_rule.proofs.Words.{item_lt, same_item, items_apart, seg_here, seg_else, seg_at, at_below, from_replicate, each_of}
 use Rattle.register_rule.proofs.Growth.{Grows, scan_grows, own_rises}
 use Rattle.register_rule.proofs.Finds.{Finds}
 use Rattle.register_rule.proofs.Looks.{scan_after, records_stay, seen_stays}
-use Rattle.register_rule.proofs.Pairs.{fewer, compares, allows_both}
+use Rattle.register_rule.proofs.Pairs.{fewer, compares, allows_both, compares_now}
 
 -- all members of all seats, where the seat `id` has the view u from now on
 pub everyone_else : (F : ℕ → Member → Type 0) (vs : List View) (id : ℕ) (u : View) → ((p : ℕ) (x : Member) → get_elem? u.members p ≡ some x → F id x)
@@ -46,6 +46,16 @@ pub everywhere : (F : ℕ → Member → Type 0) (vs : List View) (id : ℕ) (m 
     → ((j : ℕ) (v : View) → j ≢ id → get_elem? vs j ≡ some v → (p : ℕ) (x : Member) → get_elem? v.members p ≡ some x → F j x)
     → (j : ℕ) (v : View) → get_elem? (set vs id (group (m ∷ []))) j ≡ some v → (p : ℕ) (x : Member) → get_elem? v.members p ≡ some x → F j x
 everywhere F vs id m here = everyone_else F vs id (group (m ∷ [])) (λ p x at. subst (F id) (from_replicate 1 m p x at) here)
+
+-- members are apart in all views where they are in the one that changes
+pub views_apart : (vs : List View) (id : ℕ) (u : View) → AreApart u.members → ((j : ℕ) (v : View) → get_elem? vs j ≡ some v → AreApart v.members) → (j : ℕ) (v : View) → get_elem? (set vs id u) j ≡ some v → AreApart v.members
+views_apart vs id u here all j v e = ⊎_elim
+    (λ (t : (j ≡ id) × (u ≡ v)). subst (λ (y : View). AreApart y.members) t.1 here)
+    (λ (t : (j ≢ id) × (get_elem? vs j ≡ some v)). all j v t.1)
+    (at_set vs id j u v e)
+
+pub one_apart : (m : Member) → AreApart (m ∷ [])
+one_apart m = (λ q o e. absurd (some-ne-none o (sym e)), tt)
 
 module _ (n w b : ℕ) (adds : List Op → ℕ → ℕ) (accepts : (ℕ → ℕ) → List Op → Type 0) where
   abbrev Ruled : State (Unit {0}) View → Type 0
@@ -147,6 +157,7 @@ module _ (n w b : ℕ) (adds : List Op → ℕ → ℕ) (accepts : (ℕ → ℕ)
               (λ ji e. items_apart b number k k' inside lt (sym e ∙ ap (λ (z : ℕ). item_of b (length (r.made z)) k') ji)))) (r.shown j k' h lt);
           lent = r.lent;
           bounded = stays_small (item_of b (suc number) k) s.words room place' item at_lt (λ v q lt e. low (subst (λ (z : ℕ). z < w) (same_item b (suc number) v k q inside (omega arith) e).1 lt)) r.bounded;
+          apart = views_apart s.views id (group (new ∷ [])) (one_apart new) r.apart;
           each = everywhere (IsMember n w b adds r.made r.owner r.history words') s.views id new here (λ j v other e p y at'. subst (λ (z : List ℕ). IsMember n w b adds r.made r.owner z words' j y) (append-nil r.history)
               (stays r.made r.made r.owner r.history [] s.words words' i id own (λ _. (omega arith, λ _ _. refl)) (λ _ _. refl)
               (λ h y' apart lt. seg_else b s.words i _ x at h y' place' item lt (λ same. absurd (apart same))) j y other (r.each j v e p y at')));
@@ -177,8 +188,9 @@ module _ (n w b : ℕ) (adds : List Op → ℕ → ℕ) (accepts : (ℕ → ℕ)
     }
 
     ruled : (ms : List Member) → ((i : ℕ) → i < n → count i history ≡ length (made i)) → ((i : ℕ) → i < n → Legal adds accepts [] (made i))
-        → ((p : ℕ) (m : Member) → get_elem? ms p ≡ some m → IsMember n w b adds made owner history words id m) → AreRuled n w adds accepts ms
-    ruled ms counted legal each = record {
+        → ((p : ℕ) (m : Member) → get_elem? ms p ≡ some m → IsMember n w b adds made owner history words id m) → AreApart ms → AreRuled n w adds accepts ms
+    ruled ms counted legal each apart = record {
+      apart = apart;
       made = made;
       history = history;
       counted = counted;
@@ -188,7 +200,7 @@ module _ (n w b : ℕ) (adds : List Op → ℕ → ℕ) (accepts : (ℕ → ℕ)
     }
 
     -- a load of a scan leaves what the member is
-    role_after : (m : Member) (who : Who) (what : Load) (x : ℕ) → IsScan n w adds made history (after n w what x m.scan) → IsRole n w b adds made words m who → IsRole n w b adds made words (scanned (after n w what x) m) who
+    role_after : (m : Member) (who : Who) (what : Load) (x : ℕ) → IsSound n w adds made history (after n w what x m.scan) → IsRole n w b adds made words m who → IsRole n w b adds made words (scanned (after n w what x) m) who
     role_after m (Worker i) what x ok was = record {
       work = was.work;
       own = own_rises n w adds made m.scan.seen (after n w what x m.scan).seen i ok.seen (seen_stays n w what x m.scan i) was.own;
@@ -196,7 +208,7 @@ module _ (n w b : ℕ) (adds : List Op → ℕ → ℕ) (accepts : (ℕ → ℕ)
     }
     role_after m (Reader r) what x ok was = tt
 
-    member_after : (m : Member) (what : Load) (x : ℕ) → IsScan n w adds made history (after n w what x m.scan) → IsMember n w b adds made owner history words id m → IsMember n w b adds made owner history words id (scanned (after n w what x) m)
+    member_after : (m : Member) (what : Load) (x : ℕ) → IsSound n w adds made history (after n w what x m.scan) → IsMember n w b adds made owner history words id m → IsMember n w b adds made owner history words id (scanned (after n w what x) m)
     member_after m what x ok' was = record { here = was.here; role = role_after m m.who what x ok' was.role; scan = ok' }
 
   -- what a load of a word of the board finds
@@ -204,14 +216,14 @@ module _ (n w b : ℕ) (adds : List Op → ℕ → ℕ) (accepts : (ℕ → ℕ)
     found_number : (i at : ℕ) → i < n → at ≡ i * span b + 0 → get_or s.words at 0 ≡ length (r.made i)
     found_number i at inside place = seg_at b s.words i 0 at place ∙ r.number i inside
 
-    finds : (what : Load) (at : ℕ) → IsLoad n b what → at ≡ place_of b what → Finds n w adds r.made what (get_or s.words at 0)
+    finds : (what : Load) (at : ℕ) → IsLoad n b what → at ≡ word_of b what → Finds n w adds r.made what (get_or s.words at 0)
     finds (Open place) at inside is = (inside, found_number place at inside is)
     finds (Read place number item) at inside is = λ e. subst (Shows n w adds (r.made place) item) (sym (seg_at b s.words place _ at is ∙ ap (λ (z : ℕ). seg b s.words place (item_of b z item)) e)) (r.shown place item inside.0 inside.1)
     finds (Confirm place) at inside is = (inside, found_number place at inside is)
     finds (Ask place) at inside is = (inside, found_number place at inside is)
     finds (EndAsk place) at inside is = (inside, found_number place at inside is)
 
-    told : (id : ℕ) (what : Load) (at : ℕ) (ms : List Member) → IsLoad n b what → at ≡ place_of b what → ((p : ℕ) (m : Member) → get_elem? ms p ≡ some m → IsMember n w b adds r.made r.owner r.history s.words id m) → IsTold w what ms (get_or s.words at 0)
+    told : (id : ℕ) (what : Load) (at : ℕ) (ms : List Member) → IsLoad n b what → at ≡ word_of b what → ((p : ℕ) (m : Member) → get_elem? ms p ≡ some m → IsMember n w b adds r.made r.owner r.history s.words id m) → IsTold w what ms (get_or s.words at 0)
     told id (Open place) at ms inside is each = number_told r.made r.owner r.history s.words id place _ ms (found_number place at inside is) each
     told id (Read place number item) at ms inside is each = λ lt. subst (λ (z : ℕ). z ≤ 281474976710655) (sym (seg_at b s.words place _ at is)) (r.bounded place number item inside.0 lt)
     told id (Confirm place) at ms inside is each = number_told r.made r.owner r.history s.words id place _ ms (found_number place at inside is) each
@@ -230,7 +242,7 @@ module _ (n w b : ℕ) (adds : List Op → ℕ → ℕ) (accepts : (ℕ → ℕ)
     abbrev Loaded : ℕ → Mine → Type 0
     Loaded found me' = (me'.0 ≡ group (led (scanned (after n w what found)) me.0.members)) × (me'.1 ≡ me.1) × IsTold w what me.0.members found × AreRuled n w adds accepts me'.0.members
 
-    loads : me.0.members ≡ m ∷ ms → IsLoad n b what → at ≡ place_of b what → Allows Ruled slots id me at (λ z. z) Loaded
+    loads : me.0.members ≡ m ∷ ms → IsLoad n b what → at ≡ word_of b what → Allows Ruled slots id me at (λ z. z) Loaded
     loads one inside place s r deep seat fits =
         let x : ℕ = get_or s.words at 0 in
         let new : Member = scanned (after n w what x) m in
@@ -238,6 +250,7 @@ module _ (n w b : ℕ) (adds : List Op → ℕ → ℕ) (accepts : (ℕ → ℕ)
         let each = r.each id me.0 seat in
         let ok = member_after r.made r.owner r.history s.words id m what x (scan_after n w adds r.made r.history r.counted r.lent what x m.scan (some_worker what inside) (finds s r what at inside place) was.scan) was in
         let here = each_of (IsMember n w b adds r.made r.owner r.history s.words id) new ms ok (λ p y e. each (suc p) y (ap (λ (l : List Member). get_elem? l (suc p)) one ∙ e)) in
+        let here_apart : AreApart (m ∷ ms) = subst AreApart one (r.apart id me.0 seat) in
         let rule : Ruled record { words = set s.words at x; homes = s.homes; views = set s.views id (group (new ∷ ms)) } =
         subst (λ (ws : List ℕ). Ruled record { words = ws; homes = s.homes; views = set s.views id (group (new ∷ ms)) }) (sym (set-get_or s.words at 0)) record {
           made = r.made;
@@ -250,18 +263,19 @@ module _ (n w b : ℕ) (adds : List Op → ℕ → ℕ) (accepts : (ℕ → ℕ)
           shown = r.shown;
           lent = r.lent;
           bounded = r.bounded;
+          apart = views_apart s.views id (group (new ∷ ms)) here_apart r.apart;
           each = everyone_else (IsMember n w b adds r.made r.owner r.history s.words) s.views id (group (new ∷ ms)) here (λ j v other e. r.each j v e);
         } in
-        (group (new ∷ ms), keeps, tt, rule, (ap (λ (l : List Member). group (led (scanned (after n w what x)) l)) (sym one), refl, told s r id what at me.0.members inside place each, ruled r.made r.owner r.history s.words id (new ∷ ms) r.counted r.legal here))
+        (group (new ∷ ms), keeps, tt, rule, (ap (λ (l : List Member). group (led (scanned (after n w what x)) l)) (sym one), refl, told s r id what at me.0.members inside place each, ruled r.made r.owner r.history s.words id (new ∷ ms) r.counted r.legal here here_apart))
 
-    pub load_allows : me.0.members ≡ m ∷ ms → IsLoad n b what → at ≡ place_of b what
+    pub load_allows : me.0.members ≡ m ∷ ms → IsLoad n b what → at ≡ word_of b what
         → Allows (Keeps n w b adds accepts) slots id me at (λ z. z) (λ found me'. (me'.0 ≡ group (led (scanned (after n w what found)) me.0.members)) × (me'.1 ≡ me.1) × IsTold w what me.0.members found × AreRuled n w adds accepts me'.0.members)
     load_allows one inside place = allows_both Ruled (AllCompare n b) (compares n w b adds accepts) slots id me at (λ z. z) Loaded (loads one inside place)
 
   -- **A load of a number** that changes no view
   module _ (slots id : ℕ) (me : Mine) (i at : ℕ) where
     abbrev Tells : ℕ → Mine → Type 0
-    Tells found me' = (me'.0 ≡ me.0) × (me'.1 ≡ me.1) × IsNumber i me.0.members found × AreRuledAt n w adds accepts i me.0.members found × CompareAt n i me.0.members found
+    Tells found me' = (me'.0 ≡ me.0) × (me'.1 ≡ me.1) × IsNumber i me.0.members found × AreRuledAt n w adds accepts i me.0.members found
 
     tells : i < n → at ≡ i * span b + 0 → Allows Ruled slots id me at (λ z. z) Tells
     unfolding ruled
@@ -275,11 +289,14 @@ module _ (n w b : ℕ) (adds : List Op → ℕ → ℕ) (accepts : (ℕ → ℕ)
             refl,
             refl,
             number_told r.made r.owner r.history s.words id i _ me.0.members (found_number s r i at inside place) each,
-            (ruled r.made r.owner r.history s.words id me.0.members r.counted r.legal each, found_number s r i at inside place),
-            (λ j. seg b s.words j 0, sym (seg_at b s.words i 0 at place), fewer n (λ j. seg b s.words j 0) (Sits s) (λ m. (p : ℕ) × (get_elem? me.0.members p ≡ some m)) (λ m t. (id, t.0, me.0, seat, t.1)) (compares n w b adds accepts s r)),
+            (
+              ruled r.made r.owner r.history s.words id me.0.members r.counted r.legal each (r.apart id me.0 seat),
+              found_number s r i at inside place,
+              fewer n (λ j. length (r.made j)) (Sits s) (λ m. (p : ℕ) × (get_elem? me.0.members p ≡ some m)) (λ m t. (id, t.0, me.0, seat, t.1)) (compares_now n w b adds accepts s r),
+            ),
           ),
         )
 
     pub tell_allows : i < n → at ≡ i * span b + 0
-        → Allows (Keeps n w b adds accepts) slots id me at (λ z. z) (λ found me'. (me'.0 ≡ me.0) × (me'.1 ≡ me.1) × IsNumber i me.0.members found × AreRuledAt n w adds accepts i me.0.members found × CompareAt n i me.0.members found)
+        → Allows (Keeps n w b adds accepts) slots id me at (λ z. z) (λ found me'. (me'.0 ≡ me.0) × (me'.1 ≡ me.1) × IsNumber i me.0.members found × AreRuledAt n w adds accepts i me.0.members found)
     tell_allows inside place = allows_both Ruled (AllCompare n b) (compares n w b adds accepts) slots id me at (λ z. z) Tells (tells inside place)

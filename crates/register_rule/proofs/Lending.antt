@@ -8,7 +8,7 @@ use Rattle.ledger_core.specs.declared.op.Op.TheVariants.{Inc}
 use Rattle.ledger_core.specs.Ops.{sum_ops}
 use Rattle.ledger_core.specs.Row.{Accepts}
 use Rattle.register_rule.specs.declared.view.Made.{Made}
-use Rattle.register_rule.specs.declared.view.Answer.{Answer}
+use Rattle.register_rule.specs.declared.view.Entry.{Entry}
 use Rattle.register_rule.specs.declared.view.Scan.{Scan}
 use Rattle.register_rule.specs.declared.view.Member.{Member}
 use Rattle.register_rule.specs.Steps.{after_open, after_read, after_confirm}
@@ -36,7 +36,7 @@ more = Inc 0 10 ∷ []
 abbrev longer : List Made
 longer = ready.work.made ++ made_of more true ready ∷ []
 
-abbrev lent : Answer
+abbrev lent : Entry
 lent = record { vector = 1 ∷ []; totals = 5 ∷ [] }
 
 holds : HoldsNext 1 1 4 (sum_ops 1 0) more true ready
@@ -44,9 +44,9 @@ holds k lt = record {
   row = λ h. let z : k ≡ 0 = omega arith in subst (λ (j : ℕ). slice_index ready.work.hidden j ≡ total (sum_ops 1 0) longer j) (sym z) refl;
   flag = λ h. ap (slice_index ready.work.hidden) h;
   vector = λ a j e h at. let zj : j ≡ 0 = omega arith in let zk : k ≡ 2 = omega arith in
-      subst (λ (t : Answer × ℕ × ℕ). get_elem? t.0.vector t.1 ≡ some (slice_index ready.work.hidden t.2)) (λ c. (same_Some lent a e c, sym zj c, sym zk c)) refl;
+      subst (λ (t : Entry × ℕ × ℕ). get_elem? t.0.vector t.1 ≡ some (slice_index ready.work.hidden t.2)) (λ c. (same_Some lent a e c, sym zj c, sym zk c)) refl;
   totals = λ a j e h at. let zj : j ≡ 0 = omega arith in let zk : k ≡ 3 = omega arith in
-      subst (λ (t : Answer × ℕ × ℕ). get_elem? t.0.totals t.1 ≡ some (slice_index ready.work.hidden t.2)) (λ c. (same_Some lent a e c, sym zj c, sym zk c)) refl;
+      subst (λ (t : Entry × ℕ × ℕ). get_elem? t.0.totals t.1 ≡ some (slice_index ready.work.hidden t.2)) (λ c. (same_Some lent a e c, sym zj c, sym zk c)) refl;
 }
 
 pub full : (z : Member) → z ≡ ready → HoldsNext 1 1 4 (sum_ops 1 0) more true z × Accepts 1 0 0 (total (sum_ops 1 0) z.work.made) more

@@ -14,3 +14,4 @@ pub mod Meeting
 pub mod Seating
 pub mod Start
 pub mod Placed
+pub mod Picking

@@ -11,16 +11,16 @@ use Rattle.ledger_core.specs.declared.op.Op.{Op}
 use Rattle.register_rule.specs.declared.view.Made.{Made}
 use Rattle.register_rule.specs.declared.view.Look.{Look}
 use Rattle.register_rule.specs.declared.view.Version.{Version}
-use Rattle.register_rule.specs.declared.view.Answer.{Answer}
-use Rattle.register_rule.specs.declared.view.Try.{Try}
+use Rattle.register_rule.specs.declared.view.Entry.{Entry}
+use Rattle.register_rule.specs.declared.view.Progress.{Progress}
 use Rattle.register_rule.specs.declared.view.Scan.{Scan}
 use Rattle.register_rule.specs.declared.load.Load.{Load}
 use Rattle.register_rule.specs.declared.load.Load.TheVariants.{Open, Read, Confirm, Ask, EndAsk}
-use Rattle.register_rule.specs.History.{tab, count, numbers_after, IsMoment}
+use Rattle.register_rule.specs.History.{tab, count, numbers_after, IsCut}
 use Rattle.register_rule.specs.Sums.{total, row_sum, last_lent}
 use Rattle.register_rule.specs.Shown.{Shows}
-use Rattle.register_rule.specs.Scans.{number_of, AreLoads, HasMoved, IsLook, Doomed, IsVersion, IsAnswer, IsScan}
-use Rattle.register_rule.specs.Steps.{every, answered, given_up, words_kept, begun, unsure, opens_next, after_open, noted, after_read, settled, remembered, confirmed_at, clean, is_clean, sum_words, answer_of, based, failed_once_more, ended, after_confirm, lends, lent_answer, answers, ask_ends, after}
+use Rattle.register_rule.specs.Scans.{opened_at, AreLoads, HasMoved, IsLook, Doomed, IsVersion, IsEntry, IsSound}
+use Rattle.register_rule.specs.Steps.{every, answered, gives_up, words_kept, begun, unsure, opens_next, after_open, noted, after_read, settled, remembered, confirmed_at, clean, are_clean, sum_words, entry_of, with_base, failed_once_more, ended, after_confirm, is_lender, lent_entry, answers, ask_ends, after}
 use Rattle.register_rule.proofs.Words.{at_below, there, from_map, last_is, each_of, each_push}
 use Rattle.register_rule.proofs.Moments.{tab_at}
 use Rattle.register_rule.proofs.Finds.{Finds}
@@ -33,12 +33,12 @@ every_at p (y ∷ ys) e zero x at = ap p (sym (some-injective y x at)) ∙ (and_
 every_at p (y ∷ ys) e (suc q) x at = every_at p ys (and_parts (p y) (every p ys) e).1 q x at
 
 -- the numbers of a try, place by place
-as_tab : (i : ℕ) (ls : List Look) (f : ℕ → ℕ) → ((q : ℕ) (l : Look) → get_elem? ls q ≡ some l → l.number ≡ f (i + q)) → map number_of ls ≡ tab i (length ls) f
+as_tab : (i : ℕ) (ls : List Look) (f : ℕ → ℕ) → ((q : ℕ) (l : Look) → get_elem? ls q ≡ some l → l.number ≡ f (i + q)) → map opened_at ls ≡ tab i (length ls) f
 as_tab i [] f h = refl
 as_tab i (l ∷ ls) f h = let e : i + 0 ≡ i = omega arith in let a : l.number ≡ f i = h 0 l refl ∙ ap f e in
     let rest = as_tab (suc i) ls f (λ q x at. let e' : i + suc q ≡ suc i + q = omega arith in h (suc q) x at ∙ ap f e') in λ k. a k ∷ rest k
 
-map_same : (f : Look → Look) → ((l : Look) → (f l).number ≡ l.number) → (ls : List Look) → map number_of (map f ls) ≡ map number_of ls
+map_same : (f : Look → Look) → ((l : Look) → (f l).number ≡ l.number) → (ls : List Look) → map opened_at (map f ls) ≡ map opened_at ls
 map_same f same [] = refl
 map_same f same (l ∷ ls) = λ k. same l k ∷ map_same f same ls k
 
@@ -70,7 +70,7 @@ module _ (n w : ℕ) (adds : List Op → ℕ → ℕ) (made : ℕ → List Made)
 
   -- the numbers of this moment
   moment_now : (ls : List Look) → length ls ≡ n → ((q : ℕ) (l : Look) → get_elem? ls q ≡ some l → IsLook n w adds made 0 l × (l.place ≡ q))
-      → ((q : ℕ) (l : Look) → get_elem? ls q ≡ some l → l.number ≡ length (made l.place)) → IsMoment n h (map number_of ls)
+      → ((q : ℕ) (l : Look) → get_elem? ls q ≡ some l → l.number ≡ length (made l.place)) → IsCut n h (map opened_at ls)
   moment_now ls len ok same = (
     length h,
     omega arith,
@@ -95,8 +95,8 @@ module _ (n w : ℕ) (adds : List Op → ℕ → ℕ) (made : ℕ → List Made)
   }
 
   -- the opening load
-  after_open_right : (c : Scan) (i x : ℕ) → i < n → x ≡ length (made i) → IsScan n w adds made h c → IsScan n w adds made h (after_open i x c)
-  after_open_right c i x inside is ok = cond_both (opens_next i c.now) (record c.now { looks = c.now.looks ++ begun i x (words_kept i x c.kept) ∷ [] }) c.now (λ (t : Try). IsScan n w adds made h (record c { opened = c.opened ++ (i, x) ∷ []; now = t }))
+  after_open_right : (c : Scan) (i x : ℕ) → i < n → x ≡ length (made i) → IsSound n w adds made h c → IsSound n w adds made h (after_open i x c)
+  after_open_right c i x inside is ok = cond_both (opens_next i c.now) (record c.now { looks = c.now.looks ++ begun i x (words_kept i x c.kept) ∷ [] }) c.now (λ (t : Progress). IsSound n w adds made h (record c { opened = c.opened ++ (i, x) ∷ []; now = t }))
       (λ hit. let t = and_parts _ _ hit in let at : i ≡ length c.now.looks = eqb-true _ _ t.0 in let free = (and_parts _ _ t.1).1 in
       let new = begun i x (words_kept i x c.kept) in
       let looks' : (q : ℕ) (l : Look) → get_elem? (c.now.looks ++ new ∷ []) q ≡ some l → IsLook n w adds made 0 l × (l.place ≡ q) =
@@ -112,18 +112,18 @@ module _ (n w : ℕ) (adds : List Op → ℕ → ℕ) (made : ℕ → List Made)
   -- a load that changes looks one by one, and no place or number
   scan_maps : (c : Scan) (f g : Look → Look) → ((l : Look) → (f l).number ≡ l.number) → ((l : Look) → (f l).place ≡ l.place) → ((l : Look) → IsLook n w adds made 0 l → IsLook n w adds made 0 (f l))
       → ((l : Look) → IsLook n w adds made w l → IsLook n w adds made w (g l)) → ((l : Look) → HasMoved n w adds made l → (f l).sure ≡ false)
-      → IsScan n w adds made h c → IsScan n w adds made h (record c { now = record c.now { looks = map f c.now.looks; asks = map g c.now.asks } })
+      → IsSound n w adds made h c → IsSound n w adds made h (record c { now = record c.now { looks = map f c.now.looks; asks = map g c.now.asks } })
   scan_maps c f g number place look look' sure ok = with_now n w adds made h c c.opened c.asked c.quit (record c.now { looks = map f c.now.looks; asks = map g c.now.asks }) ok.opened ok.asked
       (λ q l e. let t = from_map f c.now.looks q l e in subst (λ (z : Look). IsLook n w adds made 0 z × (z.place ≡ q)) t.2 (look t.0 (ok.looks q t.0 t.1).0, place t.0 ∙ (ok.looks q t.0 t.1).1))
       (λ q l e. let t = from_map g c.now.asks q l e in subst (IsLook n w adds made w) t.2 (look' t.0 (ok.asks q t.0 t.1)))
       (λ len. ⊎_elim
       (λ (d : Doomed n w adds made c.now.looks). inl (d.0, f d.1, at_map f c.now.looks d.0 d.1 d.2, (sure d.1 d.3, subst (λ (z : ℕ × ℕ). z.0 < length (made z.1)) (λ k. (sym (number d.1) k, sym (place d.1) k)) d.3.1)))
-      (λ (p : IsMoment n h (map number_of c.now.looks)). inr (subst (IsMoment n h) (sym (map_same f number c.now.looks)) p))
+      (λ (p : IsCut n h (map opened_at c.now.looks)). inr (subst (IsCut n h) (sym (map_same f number c.now.looks)) p))
       (ok.whole (sym (length-map c.now.looks f) ∙ len)))
       ok
 
   -- the load of a word, which is right as long as the number of the segment is s
-  after_read_right : (c : Scan) (i s k x : ℕ) → (s ≡ length (made i) → Shows n w adds (made i) k x) → IsScan n w adds made h c → IsScan n w adds made h (after_read w i s k x c)
+  after_read_right : (c : Scan) (i s k x : ℕ) → (s ≡ length (made i) → Shows n w adds (made i) k x) → IsSound n w adds made h c → IsSound n w adds made h (after_read w i s k x c)
   after_read_right c i s k x right ok = scan_maps c (noted 0 i s k x) (noted w i s k x)
       (λ l. cond_both (test 0 l) _ _ (λ (y : Look). y.number ≡ l.number) (λ _. refl) (λ _. refl))
       (λ l. cond_both (test 0 l) _ _ (λ (y : Look). y.place ≡ l.place) (λ _. refl) (λ _. refl))
@@ -175,7 +175,7 @@ module _ (n w : ℕ) (adds : List Op → ℕ → ℕ) (made : ℕ → List Made)
           }
 
   -- a confirming load, but for the end of the try
-  confirmed_right : (c : Scan) (i x : ℕ) → i < n → x ≡ length (made i) → IsScan n w adds made h c → IsScan n w adds made h (confirmed_at w i x c)
+  confirmed_right : (c : Scan) (i x : ℕ) → i < n → x ≡ length (made i) → IsSound n w adds made h c → IsSound n w adds made h (confirmed_at w i x c)
   confirmed_right c i x inside is ok = let m = scan_maps c (settled i x) (λ l. l)
       (λ l. cond_both (l.place == i) _ _ (λ (y : Look). y.number ≡ l.number) (λ _. refl) (λ _. refl))
       (λ l. cond_both (l.place == i) _ _ (λ (y : Look). y.place ≡ l.place) (λ _. refl) (λ _. refl))
@@ -212,7 +212,7 @@ module _ (n w : ℕ) (adds : List Op → ℕ → ℕ) (made : ℕ → List Made)
 
   -- the sums of a clean try
   sums_right : (k i : ℕ) (ls : List Look) → ((q : ℕ) (l : Look) → get_elem? ls q ≡ some l → (l.place ≡ i + q) × (slice_index l.words k ≡ total adds (take l.number (made l.place)) k))
-      → sum_words k ls ≡ row_sum adds made i (map number_of ls) k
+      → sum_words k ls ≡ row_sum adds made i (map opened_at ls) k
   sums_right k i [] ok = refl
   sums_right k i (l ∷ ls) ok =
       let e : i + 0 ≡ i = omega arith in
@@ -222,14 +222,14 @@ module _ (n w : ℕ) (adds : List Op → ℕ → ℕ) (made : ℕ → List Made)
       λ c. here c + rest c
 
   -- the numbers of a try are at most those of the segments
-  low_of : (i : ℕ) (ls : List Look) → ((q : ℕ) (l : Look) → get_elem? ls q ≡ some l → (l.number ≤ length (made l.place)) × (l.place ≡ i + q)) → (q s : ℕ) → get_elem? (map number_of ls) q ≡ some s → s ≤ length (made (i + q))
+  low_of : (i : ℕ) (ls : List Look) → ((q : ℕ) (l : Look) → get_elem? ls q ≡ some l → (l.number ≤ length (made l.place)) × (l.place ≡ i + q)) → (q s : ℕ) → get_elem? (map opened_at ls) q ≡ some s → s ≤ length (made (i + q))
   low_of i [] ok q s e = absurd (some-ne-none s (sym e))
   low_of i (l ∷ ls) ok zero s e = let t = ok 0 l refl in subst (λ (z : ℕ × ℕ). z.0 ≤ length (made z.1)) (λ c. (some-injective l.number s e c, t.1 c)) t.0
   low_of i (l ∷ ls) ok (suc q) s e = let e' : suc i + q ≡ i + suc q = omega arith in subst (λ (z : ℕ). s ≤ length (made z)) e'
       (low_of (suc i) ls (λ p x at. let e'' : i + suc p ≡ suc i + p = omega arith in ((ok (suc p) x at).0, (ok (suc p) x at).1 ∙ e'')) q s e)
 
   -- the answer of a clean try
-  clean_right : (c : Scan) → IsScan n w adds made h c → is_clean n w c.now.looks ≡ true → IsAnswer n w adds made h (answer_of w c.now.looks) × (length (map number_of c.now.looks) ≡ n)
+  clean_right : (c : Scan) → IsSound n w adds made h c → are_clean n w c.now.looks ≡ true → IsEntry n w adds made h (entry_of w c.now.looks) × (length (map opened_at c.now.looks) ≡ n)
   clean_right c ok hit =
       let t = and_parts _ _ hit in let len : length c.now.looks ≡ n = eqb-true _ _ t.0 in
       let each : (q : ℕ) (l : Look) → get_elem? c.now.looks q ≡ some l → (l.sure ≡ true) × (length l.words ≡ w) = λ q l e. let p = and_parts _ _ (every_at (clean w) c.now.looks t.1 q l e) in (p.0, eqb-true _ _ p.1) in (
@@ -243,27 +243,27 @@ module _ (n w : ℕ) (adds : List Op → ℕ → ℕ) (made : ℕ → List Made)
                 ((ok.looks q l at).0.right k (get_or l.words k 0) (there l.words k 0 (omega (arith, long)))),
           )));
         },
-        length-map c.now.looks number_of ∙ len,
+        length-map c.now.looks opened_at ∙ len,
       )
 
   -- the end of a try
-  ended_right : (c : Scan) → 0 < n → IsScan n w adds made h c → IsScan n w adds made h (ended n w c)
-  ended_right c some_n ok = cond_both (is_clean n w c.now.looks) (answered (answer_of w c.now.looks) c) (given_up n (record c { now = failed_once_more (based c.now) })) (IsScan n w adds made h)
-      (λ hit. let t = clean_right c ok hit in scan_answered n w adds made h c (answer_of w c.now.looks) some_n t.1 t.0 ok)
-      (λ _. scan_gives n w adds made h (record c { now = failed_once_more (based c.now) }) some_n
-      (with_now n w adds made h c c.opened c.asked c.quit (failed_once_more (based c.now)) ok.opened ok.asked (λ q l e. absurd (some-ne-none l (sym e)))
-      (cond_both (c.now.failed == 0) (record c.now { floor = _; base = _ }) c.now (λ (t : Try). (q : ℕ) (l : Look) → get_elem? t.asks q ≡ some l → IsLook n w adds made w l) (λ _. ok.asks) (λ _. ok.asks))
+  ended_right : (c : Scan) → 0 < n → IsSound n w adds made h c → IsSound n w adds made h (ended n w c)
+  ended_right c some_n ok = cond_both (are_clean n w c.now.looks) (answered (entry_of w c.now.looks) c) (gives_up n (record c { now = failed_once_more (with_base c.now) })) (IsSound n w adds made h)
+      (λ hit. let t = clean_right c ok hit in scan_answered n w adds made h c (entry_of w c.now.looks) some_n t.1 t.0 ok)
+      (λ _. scan_gives n w adds made h (record c { now = failed_once_more (with_base c.now) }) some_n
+      (with_now n w adds made h c c.opened c.asked c.quit (failed_once_more (with_base c.now)) ok.opened ok.asked (λ q l e. absurd (some-ne-none l (sym e)))
+      (cond_both (c.now.failed == 0) (record c.now { floor = _; base = _ }) c.now (λ (t : Progress). (q : ℕ) (l : Look) → get_elem? t.asks q ≡ some l → IsLook n w adds made w l) (λ _. ok.asks) (λ _. ok.asks))
       (λ none. absurd (let z : 0 ≡ n = none in omega arith)) ok))
 
   -- the confirming load
-  after_confirm_right : (c : Scan) (i x : ℕ) → 0 < n → i < n → x ≡ length (made i) → IsScan n w adds made h c → IsScan n w adds made h (after_confirm n w i x c)
+  after_confirm_right : (c : Scan) (i x : ℕ) → 0 < n → i < n → x ≡ length (made i) → IsSound n w adds made h c → IsSound n w adds made h (after_confirm n w i x c)
   after_confirm_right c i x some_n inside is ok = let new = confirmed_right c i x inside is ok in
-      cond_both (i + 1 == n) (ended n w (confirmed_at w i x c)) (confirmed_at w i x c) (IsScan n w adds made h) (λ _. ended_right (confirmed_at w i x c) some_n new) (λ _. new)
+      cond_both (i + 1 == n) (ended n w (confirmed_at w i x c)) (confirmed_at w i x c) (IsSound n w adds made h) (λ _. ended_right (confirmed_at w i x c) some_n new) (λ _. new)
 
 -- a load of a scan
 pub scan_after : (n w : ℕ) (adds : List Op → ℕ → ℕ) (made : ℕ → List Made) (h : List ℕ) → ((i : ℕ) → i < n → count i h ≡ length (made i))
-    → ((i : ℕ) (a : Answer) → i < n → last_lent (made i) ≡ Some a → IsAnswer n w adds made h a)
-    → (what : Load) (x : ℕ) (c : Scan) → 0 < n → Finds n w adds made what x → IsScan n w adds made h c → IsScan n w adds made h (after n w what x c)
+    → ((i : ℕ) (a : Entry) → i < n → last_lent (made i) ≡ Some a → IsEntry n w adds made h a)
+    → (what : Load) (x : ℕ) (c : Scan) → 0 < n → Finds n w adds made what x → IsSound n w adds made h c → IsSound n w adds made h (after n w what x c)
 scan_after n w adds made h counted lent (Open place) x c some_n found ok = after_open_right n w adds made h counted c place x found.0 found.1 ok
 scan_after n w adds made h counted lent (Read place number item) x c some_n found ok = after_read_right n w adds made h counted c place number item x found ok
 scan_after n w adds made h counted lent (Confirm place) x c some_n found ok = after_confirm_right n w adds made h counted c place x some_n found.0 found.1 ok
@@ -272,33 +272,33 @@ scan_after n w adds made h counted lent (EndAsk place) x c some_n found ok = end
 
 -- no answer is lost, and nothing that was seen falls
 record Stays (c d : Scan) : Type 0 where
-  answer : (p : ℕ) (a : Answer) → get_elem? c.recorded p ≡ some a → get_elem? d.recorded p ≡ some a
+  answer : (p : ℕ) (a : Entry) → get_elem? c.recorded p ≡ some a → get_elem? d.recorded p ≡ some a
   seen : (i x : ℕ) → get_elem? c.seen i ≡ some x → (z : ℕ) × (get_elem? d.seen i ≡ some z) × (x ≤ z)
 
 -- where both are as they were
 as_was : (c d : Scan) → d.recorded ≡ c.recorded → d.seen ≡ c.seen → Stays c d
-as_was c d r s = record { answer = λ p a e. ap (λ (z : List Answer). get_elem? z p) r ∙ e; seen = λ i x e. (x, ap (λ (z : List ℕ). get_elem? z i) s ∙ e, omega arith) }
+as_was c d r s = record { answer = λ p a e. ap (λ (z : List Entry). get_elem? z p) r ∙ e; seen = λ i x e. (x, ap (λ (z : List ℕ). get_elem? z i) s ∙ e, omega arith) }
 
-answer_stays : (c d : Scan) (a : Answer) → d.recorded ≡ c.recorded → d.seen ≡ c.seen → Stays c (answered a d)
+answer_stays : (c d : Scan) (a : Entry) → d.recorded ≡ c.recorded → d.seen ≡ c.seen → Stays c (answered a d)
 answer_stays c d a r s = let was = as_was c d r s in record {
   answer = λ p b e. at_longer d.recorded (a ∷ []) p b (was.answer p b e);
   seen = λ i x e. let t = upper_at d.seen a.vector i x (ap (λ (z : List ℕ). get_elem? z i) s ∙ e) in t;
 }
 
-give_stays : (n : ℕ) (c d : Scan) → d.recorded ≡ c.recorded → d.seen ≡ c.seen → Stays c (given_up n d)
+give_stays : (n : ℕ) (c d : Scan) → d.recorded ≡ c.recorded → d.seen ≡ c.seen → Stays c (gives_up n d)
 give_stays n c d r s = cond_both (length d.now.due == 0 && d.now.failed == n + 2) _ d (Stays c) (λ _. as_was c _ r s) (λ _. as_was c d r s)
 
 ask_stays : (n w i x : ℕ) (ls : List Look) (c : Scan) → Stays c (ask_ends n w i x ls c)
 ask_stays n w i x [] c = as_was c c refl refl
 ask_stays n w i x (l ∷ ls) c = cond_both (l.place == i) (answers n w x l c) c (Stays c)
-    (λ _. cond_both (lends n w x c.now.floor l) (answered (lent_answer n w l) (once_asked n x l c)) (given_up n (nothing_lent n x l c)) (Stays c)
-    (λ _. answer_stays c (once_asked n x l c) (lent_answer n w l) refl refl)
+    (λ _. cond_both (is_lender n w x c.now.floor l) (answered (lent_entry n w l) (once_asked n x l c)) (gives_up n (nothing_lent n x l c)) (Stays c)
+    (λ _. answer_stays c (once_asked n x l c) (lent_entry n w l) refl refl)
     (λ _. give_stays n c (nothing_lent n x l c) refl refl))
     (λ _. as_was c c refl refl)
 
 end_stays : (n w i x : ℕ) (c : Scan) → Stays c (ended n w (confirmed_at w i x c))
-end_stays n w i x c = let d = confirmed_at w i x c in cond_both (is_clean n w d.now.looks) (answered (answer_of w d.now.looks) d) (given_up n (record d { now = failed_once_more (based d.now) })) (Stays c)
-    (λ _. answer_stays c d (answer_of w d.now.looks) refl refl) (λ _. give_stays n c (record d { now = failed_once_more (based d.now) }) refl refl)
+end_stays n w i x c = let d = confirmed_at w i x c in cond_both (are_clean n w d.now.looks) (answered (entry_of w d.now.looks) d) (gives_up n (record d { now = failed_once_more (with_base d.now) })) (Stays c)
+    (λ _. answer_stays c d (entry_of w d.now.looks) refl refl) (λ _. give_stays n c (record d { now = failed_once_more (with_base d.now) }) refl refl)
 
 stays : (n w : ℕ) (what : Load) (x : ℕ) (c : Scan) → Stays c (after n w what x c)
 stays n w (Open place) x c = as_was c _ refl refl
@@ -307,7 +307,7 @@ stays n w (Confirm place) x c = cond_both (place + 1 == n) (ended n w (confirmed
 stays n w (Ask place) x c = as_was c _ refl refl
 stays n w (EndAsk place) x c = ask_stays n w place x c.now.asks c
 
-pub records_stay : (n w : ℕ) (what : Load) (x : ℕ) (c : Scan) (p : ℕ) (a : Answer) → get_elem? c.recorded p ≡ some a → get_elem? (after n w what x c).recorded p ≡ some a
+pub records_stay : (n w : ℕ) (what : Load) (x : ℕ) (c : Scan) (p : ℕ) (a : Entry) → get_elem? c.recorded p ≡ some a → get_elem? (after n w what x c).recorded p ≡ some a
 records_stay n w what x c p a e = (stays n w what x c).answer p a e
 
 pub seen_stays : (n w : ℕ) (what : Load) (x : ℕ) (c : Scan) (i y : ℕ) → get_elem? c.seen i ≡ some y → (z : ℕ) × (get_elem? (after n w what x c).seen i ≡ some z) × (y ≤ z)

@@ -5,7 +5,7 @@ use mathlib.Core.Option.{some, some-injective}
 use native.Mathlib.Decide.{dec_le}
 use lib.ListN.{get_elem?}
 use Rattle.std.proofs.lemmas.List.{take-append-le}
-use Rattle.register_rule.specs.History.{tab, count, numbers_after, IsMoment, Below, Comparable}
+use Rattle.register_rule.specs.History.{tab, count, numbers_after, IsCut, Below, Comparable}
 use Rattle.register_rule.proofs.Words.{at_below}
 
 -- how many numbers `tab` gives, and which
@@ -35,10 +35,10 @@ count_take i (suc a) (suc c) (x ∷ xs) le = let e = count_take i a c xs (omega 
 pub rises : (n a c : ℕ) (h : List ℕ) → a ≤ c → Below (numbers_after n (take a h)) (numbers_after n (take c h))
 rises n a c h le i x y ex ey = let p = tab_from 0 n _ i x ex in let q = tab_from 0 n _ i y ey in let m = count_take (0 + i) a c h le in omega arith
 
-pub comparable : (n : ℕ) (h u v : List ℕ) → IsMoment n h u → IsMoment n h v → Comparable u v
+pub comparable : (n : ℕ) (h u v : List ℕ) → IsCut n h u → IsCut n h v → Comparable u v
 comparable n h u v p q = dite (dec_le p.0 q.0)
     (λ le. inl (subst (λ (z : List ℕ × List ℕ). Below z.0 z.1) (λ k. (sym p.2 k, sym q.2 k)) (rises n p.0 q.0 h le)))
     (λ gt. inr (subst (λ (z : List ℕ × List ℕ). Below z.0 z.1) (λ k. (sym q.2 k, sym p.2 k)) (rises n q.0 p.0 h (omega arith))))
 
-pub past_grows : (n : ℕ) (h more v : List ℕ) → IsMoment n h v → IsMoment n (h ++ more) v
+pub past_grows : (n : ℕ) (h more v : List ℕ) → IsCut n h v → IsCut n (h ++ more) v
 past_grows n h more v p = let le = p.1 in (p.0, omega (arith, length-append h more), p.2 ∙ ap (numbers_after n) (sym (take-append-le p.0 h more le)))

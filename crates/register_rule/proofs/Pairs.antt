@@ -1,45 +1,50 @@
 -- What the rule says of members in pairs.
-use Rattle.std.proofs.Common.{◌⊎◌, inl, inr, ⊎_elim, ℕ, List, length, map, ap, subst, ◌∙◌, arith}
+use Rattle.std.proofs.Common.{◌⊎◌, inl, inr, ⊎_elim, ℕ, ◌<◌, ◌≡◌, refl, List, length, map, ap, subst, ◌∙◌, arith}
 use Rattle.atomic_table.specs.Table.{State, Me, Allows, Splits, Joins}
 use Rattle.ledger_core.specs.declared.op.Op.{Op}
 use Rattle.register_rule.specs.declared.view.Look.{Look}
-use Rattle.register_rule.specs.declared.view.Answer.{Answer}
+use Rattle.register_rule.specs.declared.view.Entry.{Entry}
 use Rattle.register_rule.specs.declared.view.Member.{Member}
 use Rattle.register_rule.specs.declared.view.View.{View}
 use Rattle.register_rule.specs.Words.{seg}
-use Rattle.register_rule.specs.History.{IsMoment}
-use Rattle.register_rule.specs.Scans.{number_of, Doomed, IsScan}
+use Rattle.register_rule.specs.History.{IsCut}
+use Rattle.register_rule.specs.Scans.{opened_at, Doomed, IsSound}
 use Rattle.register_rule.specs.Rule.{Rule}
 use Rattle.register_rule.specs.Told.{Records, Tries, IsDoomed, AreComparable, Sits, AllCompare}
 use Rattle.register_rule.proofs.Moments.{comparable}
 
 module _ (n w b : ℕ) (adds : List Op → ℕ → ℕ) (accepts : (ℕ → ℕ) → List Op → Type 0) (s : State (Unit {0}) View) (r : Rule n w b adds accepts s) where
-  abbrev number : State (Unit {0}) View → ℕ → ℕ
-  number x i = seg b x.words i 0
-
-  scan_of : (m : Member) → Sits s m → IsScan n w adds r.made r.history m.scan
+  scan_of : (m : Member) → Sits s m → IsSound n w adds r.made r.history m.scan
   scan_of m t = (r.each t.0 t.2 t.3 t.1 m t.4).scan
 
-  -- a number that has moved is not the word of the board
-  is_doomed : (m : Member) → Sits s m → Doomed n w adds r.made m.scan.now.looks → IsDoomed n (number s) (Sits s) m.scan.now.looks
-  is_doomed m t d = (d.0, d.1, d.2, d.3.0, λ e. let x = r.number d.1.place ((scan_of m t).looks d.0 d.1 d.2).0.inside in let h = d.3.1 in omega arith)
+  -- by these numbers, which are those of the segments
+  module _ (number : ℕ → ℕ) (same : (i : ℕ) → i < n → number i ≡ length (r.made i)) where
+    -- a number that has moved is not that of the segment
+    is_doomed : (m : Member) → Sits s m → Doomed n w adds r.made m.scan.now.looks → IsDoomed n number (Sits s) m.scan.now.looks
+    is_doomed m t d = (d.0, d.1, d.2, d.3.0, λ e. let x = same d.1.place ((scan_of m t).looks d.0 d.1 d.2).0.inside in let h = d.3.1 in omega arith)
 
-  moment_of : (a : Answer) → Records n (number s) (Sits s) a → IsMoment n r.history a.vector
-  moment_of a x = ((scan_of x.0 x.1).recorded x.2.0 a x.2.1).0.moment
+    moment_of : (a : Entry) → Records n number (Sits s) a → IsCut n r.history a.vector
+    moment_of a x = ((scan_of x.0 x.1).recorded x.2.0 a x.2.1).0.moment
 
-  -- a try with all places opened
-  of_try : (looks : List Look) → Tries n (number s) (Sits s) looks → IsDoomed n (number s) (Sits s) looks ⊎ IsMoment n r.history (map number_of looks)
-  of_try looks x = subst (λ (z : List Look). IsDoomed n (number s) (Sits s) z ⊎ IsMoment n r.history (map number_of z)) x.2
-      (⊎_elim (λ (d : Doomed n w adds r.made x.0.scan.now.looks). inl (is_doomed x.0 x.1 d)) (λ (p : IsMoment n r.history (map number_of x.0.scan.now.looks)). inr p)
-      ((scan_of x.0 x.1).whole (ap (λ (z : List Look). length z) x.2 ∙ x.3)))
+    -- a try with all places opened
+    of_try : (looks : List Look) → Tries n number (Sits s) looks → IsDoomed n number (Sits s) looks ⊎ IsCut n r.history (map opened_at looks)
+    of_try looks x = subst (λ (z : List Look). IsDoomed n number (Sits s) z ⊎ IsCut n r.history (map opened_at z)) x.2
+        (⊎_elim (λ (d : Doomed n w adds r.made x.0.scan.now.looks). inl (is_doomed x.0 x.1 d)) (λ (p : IsCut n r.history (map opened_at x.0.scan.now.looks)). inr p)
+        ((scan_of x.0 x.1).whole (ap (λ (z : List Look). length z) x.2 ∙ x.3)))
 
-  -- the numbers of two moments of one history are comparable
+    -- the numbers of two moments of one history are comparable
+    pub compares_by : AreComparable n number (Sits s)
+    compares_by = record {
+      recorded = λ a c x y. comparable n r.history a.vector c.vector (moment_of a x) (moment_of c y);
+      tries = λ looks others x y. ⊎_elim (λ d. inl (inl d)) (λ p. ⊎_elim (λ d. inl (inr d)) (λ p'. inr (comparable n r.history _ _ p p')) (of_try others y)) (of_try looks x);
+      between = λ looks a x y. ⊎_elim (λ d. inl d) (λ p. inr (comparable n r.history _ _ p (moment_of a y))) (of_try looks x);
+    }
+
   pub compares : AllCompare n b s
-  compares = record {
-    recorded = λ a c x y. comparable n r.history a.vector c.vector (moment_of a x) (moment_of c y);
-    tries = λ looks others x y. ⊎_elim (λ d. inl (inl d)) (λ p. ⊎_elim (λ d. inl (inr d)) (λ p'. inr (comparable n r.history _ _ p p')) (of_try others y)) (of_try looks x);
-    between = λ looks a x y. ⊎_elim (λ d. inl d) (λ p. inr (comparable n r.history _ _ p (moment_of a y))) (of_try looks x);
-  }
+  compares = compares_by (λ i. seg b s.words i 0) r.number
+
+  pub compares_now : AreComparable n (λ i. length (r.made i)) (Sits s)
+  compares_now = compares_by (λ i. length (r.made i)) (λ i h. refl)
 
 -- fewer members compare too
 pub fewer : (n : ℕ) (number : ℕ → ℕ) (Is Is' : Member → Type 0) → ((m : Member) → Is' m → Is m) → AreComparable n number Is → AreComparable n number Is'

@@ -6,7 +6,7 @@ use Rattle.ledger_core.specs.declared.op.Op.{Op}
 use Rattle.segment_layout.specs.declared.part.Part.TheVariants.{Number, Row, Flag, Vector, Lent}
 use Rattle.segment_layout.specs.Layout.{depth, place}
 use Rattle.register_rule.specs.declared.view.Made.{Made}
-use Rattle.register_rule.specs.declared.view.Answer.{Answer}
+use Rattle.register_rule.specs.declared.view.Entry.{Entry}
 use Rattle.register_rule.specs.Words.{item_of, seg}
 use Rattle.register_rule.specs.Sums.{total, last_lent, flag_of}
 use Rattle.register_rule.specs.Shown.{Shows}
@@ -17,8 +17,8 @@ module _ (n w : ℕ) (adds : List Op → ℕ → ℕ) (words : List ℕ) (i : �
   pub record HasParts : Type 0 where
     pub row : (k : ℕ) → k < w → slice_index words (place n w i (Row (length made % 2) k)) ≡ total adds made k
     pub flag : slice_index words (place n w i (Flag (length made % 2))) ≡ flag_of (last_lent made)
-    pub vector : (a : Answer) (j : ℕ) → last_lent made ≡ Some a → j < n → get_elem? a.vector j ≡ some (slice_index words (place n w i (Vector (length made % 2) j)))
-    pub totals : (a : Answer) (j : ℕ) → last_lent made ≡ Some a → j < w → get_elem? a.totals j ≡ some (slice_index words (place n w i (Lent (length made % 2) j)))
+    pub vector : (a : Entry) (j : ℕ) → last_lent made ≡ Some a → j < n → get_elem? a.vector j ≡ some (slice_index words (place n w i (Vector (length made % 2) j)))
+    pub totals : (a : Entry) (j : ℕ) → last_lent made ≡ Some a → j < w → get_elem? a.totals j ≡ some (slice_index words (place n w i (Lent (length made % 2) j)))
 
   pub shown_parts : ((k : ℕ) → k < depth n w → Shows n w adds made k (seg (depth n w) words i (item_of (depth n w) (length made) k))) → HasParts
   shown_parts shown = record {

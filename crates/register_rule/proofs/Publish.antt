@@ -14,7 +14,7 @@ use Rattle.segment_layout.specs.Layout.{span}
 use Rattle.ledger_core.specs.declared.op.Op.{Op}
 use Rattle.register_rule.specs.declared.view.Made.{Made}
 use Rattle.register_rule.specs.declared.view.Who.TheVariants.{Worker}
-use Rattle.register_rule.specs.declared.view.Answer.{Answer}
+use Rattle.register_rule.specs.declared.view.Entry.{Entry}
 use Rattle.register_rule.specs.declared.view.Version.{Version}
 use Rattle.register_rule.specs.declared.view.Member.{Member}
 use Rattle.register_rule.specs.declared.view.View.{View}
@@ -30,7 +30,7 @@ use Rattle.register_rule.proofs.Words.{item_lt, seg_here, seg_else, at_below, th
 use Rattle.register_rule.proofs.Moments.{count_append}
 use Rattle.register_rule.proofs.Growth.{Grows, answer_grows, scan_grows, scan_published}
 use Rattle.register_rule.proofs.Pairs.{compares, allows_both}
-use Rattle.register_rule.proofs.Keeping.{everywhere, first, as_worker, stays}
+use Rattle.register_rule.proofs.Keeping.{everywhere, first, as_worker, stays, views_apart, one_apart}
 
 -- what is lent after one more publish
 pub lent_last : (xs : List Made) (x : Made) → last_lent (xs ++ x ∷ []) ≡ x.lends
@@ -38,15 +38,15 @@ lent_last [] x = refl
 lent_last (y ∷ []) x = refl
 lent_last (y ∷ z ∷ zs) x = lent_last (z ∷ zs) x
 
-at_last_entry : (l : List Answer) (a : Answer) → last_entry l ≡ Some a → (q : ℕ) × (get_elem? l q ≡ some a)
+at_last_entry : (l : List Entry) (a : Entry) → last_entry l ≡ Some a → (q : ℕ) × (get_elem? l q ≡ some a)
 at_last_entry [] a e = absurd (none-some a e)
 at_last_entry (x ∷ []) a e = (0, ap some (same_Some x a e))
 at_last_entry (x ∷ y ∷ ys) a e = let t = at_last_entry (y ∷ ys) a e in (suc t.0, t.1)
 
 -- what a publish lends is an answer that its worker recorded
-lent_entry : (m : Member) (lends : Bool) (a : Answer) → cond lends (last_entry m.scan.recorded) None ≡ Some a → (q : ℕ) × (get_elem? m.scan.recorded q ≡ some a)
-lent_entry m true a e = at_last_entry m.scan.recorded a e
-lent_entry m false a e = absurd (none-some a e)
+lent_recorded : (m : Member) (lends : Bool) (a : Entry) → cond lends (last_entry m.scan.recorded) None ≡ Some a → (q : ℕ) × (get_elem? m.scan.recorded q ≡ some a)
+lent_recorded m true a e = at_last_entry m.scan.recorded a e
+lent_recorded m false a e = absurd (none-some a e)
 
 -- a list that the row accepts may come next
 legal_more : (adds : List Op → ℕ → ℕ) (accepts : (ℕ → ℕ) → List Op → Type 0) (before xs : List Made) (x : Made) → Legal adds accepts before xs → accepts (total adds (before ++ xs)) x.ops → Legal adds accepts before (xs ++ x ∷ [])
@@ -125,7 +125,7 @@ module _ (n w b : ℕ) (adds : List Op → ℕ → ℕ) (accepts : (ℕ → ℕ)
               ap (λ (z : ℕ). seg b words' i (item_of b z k)) number ∙ (item_stays i (suc (length old)) k (omega arith) ∙ was.work.hidden k y e);
         };
         own = set_here m.scan.seen i (suc (length m.work.made)) (omega arith) ∙ ap some number';
-        lends = λ q y a. each_push (λ (z : Made). z.lends ≡ Some a → (p : ℕ) × (get_elem? m.scan.recorded p ≡ some a)) m.work.made last (λ p z. was.lends p z a) (lent_entry m lends a) q y;
+        lends = λ q y a. each_push (λ (z : Made). z.lends ≡ Some a → (p : ℕ) × (get_elem? m.scan.recorded p ≡ some a)) m.work.made last (λ p z. was.lends p z a) (lent_recorded m lends a) q y;
       } in
       let here : IsMember n w b adds made' r.owner later words' id new = record {
         here = ok.here;
@@ -154,9 +154,10 @@ module _ (n w b : ℕ) (adds : List Op → ℕ → ℕ) (accepts : (ℕ → ℕ)
             (λ other. subst (λ (l : List Made). Shows n w adds l k (seg b words' j (item_of b (length l) k))) (sym (same j other)) (subst (Shows n w adds (r.made j) k) (sym (item_stays j (length (r.made j)) k lt)) (r.shown j k h lt)));
         lent = λ j a h e. dite (ℕ_discrete j i)
             (λ ji. let e' : last_lent longer ≡ Some a = sym (ap last_lent now) ∙ (ap (λ (z : ℕ). last_lent (made' z)) (sym ji) ∙ e) in
-            let t = lent_entry m lends a (sym (lent_last old last) ∙ e') in answer_grows n w adds r.made made' r.history (i ∷ []) a more (ok.scan.recorded t.0 a t.1).0)
+            let t = lent_recorded m lends a (sym (lent_last old last) ∙ e') in answer_grows n w adds r.made made' r.history (i ∷ []) a more (ok.scan.recorded t.0 a t.1).0)
             (λ other. answer_grows n w adds r.made made' r.history (i ∷ []) a more (r.lent j a h (ap last_lent (sym (same j other)) ∙ e)));
         bounded = λ j v k h lt. subst (λ (z : ℕ). z ≤ 281474976710655) (sym (item_stays j v k (omega arith))) (r.bounded j v k h lt);
+        apart = views_apart s.views id (group (new ∷ [])) (one_apart new) r.apart;
         each = everywhere (IsMember n w b adds made' r.owner later words') s.views id new here
             (λ j v other e p y at'. stays n w b adds accepts r.made made' r.owner r.history (i ∷ []) s.words words' i id own more same else_word j y other (r.each j v e p y at'));
       } in

@@ -1,7 +1,7 @@
 -- Parting and joining of seats keep the rule.
-use Rattle.std.proofs.Common.{◌≡◌, ◌≢◌, ℕ, suc, ◌+◌, ◌*◌, ◌<◌, ◌≤◌, ◌==◌, ⊎_elim, max, Bool, true, false, not, cond, List, [], ◌∷◌, ◌++◌, length, get_or, set, sym, refl, ap, ◌∙◌, subst, arith, length-set, eq-eqb, ne_eqb}
+use Rattle.std.proofs.Common.{◌≡◌, ◌≢◌, ℕ, suc, ◌+◌, ◌*◌, ◌<◌, ◌≤◌, ◌==◌, ⊎_elim, max, Bool, true, false, not, cond, List, [], ◌∷◌, ◌++◌, length, map, get_or, set, sym, refl, ap, ◌∙◌, subst, arith, length-set, eq-eqb, ne_eqb}
 use Rattle.std.specs.List.{filter}
-use Rattle.std.proofs.lemmas.Bool.{false_from_ne_true, not-true, eqb-true}
+use Rattle.std.proofs.lemmas.Bool.{false_from_ne_true, not-true, eqb-true, cond_both}
 use Rattle.std.proofs.lemmas.List.Elements.{All-filter, filter_passes}
 use Rattle.std.proofs.lemmas.Nat.{mul-add-lt}
 use mathlib.Core.Option.{some, some-ne-none}
@@ -15,16 +15,16 @@ use Rattle.register_rule.specs.declared.view.Who.{Who}
 use Rattle.register_rule.specs.declared.view.Who.TheVariants.{Worker, Reader}
 use Rattle.register_rule.specs.declared.view.Member.{Member}
 use Rattle.register_rule.specs.declared.view.View.{View}
-use Rattle.register_rule.specs.Scans.{AtMost, IsScan}
+use Rattle.register_rule.specs.Scans.{AtMost, IsSound}
 use Rattle.register_rule.specs.Steps.{upper}
-use Rattle.register_rule.specs.Rule.{IsRole, IsMember, Rule}
+use Rattle.register_rule.specs.Rule.{IsRole, IsMember, Rule, AreApart}
 use Rattle.register_rule.specs.Members.{group, same_who, picked, without, raised_by, reach, greatest, raised, met}
 use Rattle.register_rule.specs.Told.{Keeps, AllCompare}
 use Rattle.register_rule.proofs.Words.{there, read_at, from_all, from_map, from_both, last_is}
 use Rattle.register_rule.proofs.Upper.{length_upper, upper_from, upper_at}
 use Rattle.register_rule.proofs.Growth.{scan_raised, own_rises}
 use Rattle.register_rule.proofs.Pairs.{compares, splits_both, joins_both}
-use Rattle.register_rule.proofs.Keeping.{everyone_else}
+use Rattle.register_rule.proofs.Keeping.{everyone_else, views_apart}
 
 pub some_words : (words n b : ℕ) → words ≡ n * span b → 0 < n → 0 < words
 some_words words n b e h = subst (λ (z : ℕ). 0 < z) (sym e) (omega (arith, mul-add-lt 0 (span b) 0 n h (omega arith)))
@@ -35,6 +35,24 @@ from_filter {A} p l q y e = (
   from_all (λ (x : A). (k : ℕ) × (get_elem? l k ≡ some x)) (filter p l) (All-filter p (λ (x : A). (k : ℕ) × (get_elem? l k ≡ some x)) l (λ k d lt. (k, there l k d lt))) q y e,
   from_all (λ (x : A). p x ≡ true) (filter p l) (filter_passes p l) q y e,
 )
+
+-- members that are apart stay so where some are left out, where they learn, and beside others of other names
+filter_apart : (f : Member → Bool) (l : List Member) → AreApart l → AreApart (filter f l)
+filter_apart f [] h = tt
+filter_apart f (m ∷ ms) h = cond_both (f m) (m ∷ filter f ms) (filter f ms) AreApart
+    (λ _. (λ q o e. let t = from_filter f ms q o e in h.0 t.0.0 o t.0.1, filter_apart f ms h.1))
+    (λ _. filter_apart f ms h.1)
+
+pub both_apart : (xs ys : List Member) → AreApart xs → AreApart ys → ((p q : ℕ) (m o : Member) → get_elem? xs p ≡ some m → get_elem? ys q ≡ some o → o.who ≢ m.who) → AreApart (xs ++ ys)
+both_apart [] ys a b c = b
+both_apart (x ∷ xs) ys a b c = (
+  λ q o e. ⊎_elim (λ (t : get_elem? xs q ≡ some o). a.0 q o t) (λ (t : (k : ℕ) × (get_elem? ys k ≡ some o) × (q ≡ length xs + k)). c 0 t.0 x o refl t.1) (from_both xs ys q o e),
+  both_apart xs ys a.1 b (λ p. c (suc p)),
+)
+
+raised_apart : (v : List ℕ) (ms : List Member) → AreApart ms → AreApart (map (raised v) ms)
+raised_apart v [] a = tt
+raised_apart v (m ∷ ms) a = (λ q o e same. let t = from_map (raised v) ms q o e in a.0 q t.0 t.1 (ap (λ (z : Member). z.who) t.2 ∙ same), raised_apart v ms a.1)
 
 -- the members that are picked, and those that are left, as those that pass a test
 pub picked_is : (who : Who) (ms : List Member) → picked who ms ≡ filter (λ m. same_who who m.who) ms
@@ -56,7 +74,7 @@ from_picked who ms q y e = from_filter (λ m. same_who who m.who) ms q y (ap (λ
 from_without : (who : Who) (ms : List Member) (q : ℕ) (y : Member) → get_elem? (without who ms) q ≡ some y → ((p : ℕ) × (get_elem? ms p ≡ some y)) × (same_who who y.who ≡ false)
 from_without who ms q y e = let t = from_filter (λ (m : Member). not (same_who who m.who)) ms q y (ap (λ (l : List Member). get_elem? l q) (sym (without_is who ms)) ∙ e) in (t.0, not-true _ t.1)
 
-same_is : (a c : Who) → same_who a c ≡ true → a ≡ c
+pub same_is : (a c : Who) → same_who a c ≡ true → a ≡ c
 same_is (Worker i) (Worker j) e = ap (λ (z : ℕ). Worker z) (eqb-true i j e)
 same_is (Reader i) (Reader j) e = ap (λ (z : ℕ). Reader z) (eqb-true i j e)
 same_is (Worker i) (Reader j) e = absurd (let f : false ≡ true = e in cc)
@@ -92,7 +110,7 @@ module _ (n w b : ℕ) (adds : List Op → ℕ → ℕ) where
     raises : (m : Member) (v : List ℕ) → AtMost n w adds made v → length v ≡ n → IsMember n w b adds made owner h ws j m → IsMember n w b adds made owner h ws j (raised v m)
     raises m v low wide ok = record { here = ok.here; role = go m.who ok.role; scan = scan }
       where
-        scan : IsScan n w adds made h (raised v m).scan
+        scan : IsSound n w adds made h (raised v m).scan
         scan = scan_raised n w adds made h m.scan v low wide ok.scan
 
         go : (who : Who) → IsRole n w b adds made ws m who → IsRole n w b adds made ws (raised v m) who
@@ -135,6 +153,10 @@ module _ (n w b : ℕ) (adds : List Op → ℕ → ℕ) (accepts : (ℕ → ℕ)
         shown = r.shown;
         lent = r.lent;
         bounded = r.bounded;
+        apart = λ j u e. ⊎_elim
+            (views_apart s.views id (group (without who v.members)) (subst AreApart (sym (without_is who v.members)) (filter_apart _ v.members (r.apart id v at))) r.apart j u)
+            (λ (t : (group (picked who v.members) ≡ u) × (j ≡ length (set s.views id (group (without who v.members))))). subst (λ (z : View). AreApart z.members) t.0 (subst AreApart (sym (picked_is who v.members)) (filter_apart _ v.members (r.apart id v at))))
+            (last_is _ _ u j e);
         each = λ j u e. ⊎_elim
             (everyone_else (IsMember n w b adds r.made owner' r.history s.words) s.views id (group (without who v.members))
             (λ p m e'. let x = from_without who v.members p m e' in let ok = r.each id v at x.0.0 m x.0.1 in
@@ -179,6 +201,9 @@ module _ (n w b : ℕ) (adds : List Op → ℕ → ℕ) (accepts : (ℕ → ℕ)
         shown = r.shown;
         lent = r.lent;
         bounded = r.bounded;
+        apart = views_apart (set s.views id both) other (group []) tt (views_apart s.views id both
+            (raised_apart (greatest ms) ms (both_apart v.members u.members (r.apart id v at) (r.apart other u was)
+            (λ p q m o em eo same. apart (sym (r.each other u was q o eo).here ∙ (ap r.owner same ∙ (r.each id v at p m em).here))))) r.apart);
         each = everyone_else (IsMember n w b adds r.made owner' r.history s.words) (set s.views id both) other (group []) (λ p m e. absurd (some-ne-none m (sym e)))
             (λ j x apart' e p m e'. everyone_else (λ k y. k ≢ other → IsMember n w b adds r.made owner' r.history s.words k y) s.views id both
             (λ q y at' _. let z = from_map (raised (greatest ms)) ms q y at' in

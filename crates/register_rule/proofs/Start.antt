@@ -1,5 +1,6 @@
 -- The board at the start, and how its members are parted.
-use Rattle.std.proofs.Common.{◌≡◌, ⊎_elim, ℕ, zero, suc, ◌+◌, ◌*◌, ◌-◌, ◌<◌, ◌≤◌, ◌==◌, true, false, List, [], ◌∷◌, ◌++◌, length, map, replicate, get_or, slice_index, sym, refl, ap, ◌∙◌, subst, arith, eq-eqb, ne_eqb}
+use Rattle.std.proofs.Common.{◌≡◌, ◌≢◌, ⊎_elim, ℕ, zero, suc, ◌+◌, ◌*◌, ◌-◌, ◌<◌, ◌≤◌, ◌==◌, true, false, List, [], ◌∷◌, ◌++◌, length, map, replicate, get_or, slice_index, sym, refl, ap, ◌∙◌, subst, arith, eq-eqb, ne_eqb}
+use Rattle.std.proofs.lemmas.Bool.{eqb-true}
 use mathlib.Core.Option.{some, some-injective, some-ne-none}
 use lib.ListN.{get_elem?, length-replicate}
 use lib.Seq.{append_snoc}
@@ -16,13 +17,13 @@ use Rattle.register_rule.specs.declared.view.Who.TheVariants.{Worker, Reader}
 use Rattle.register_rule.specs.declared.view.Member.{Member}
 use Rattle.register_rule.specs.declared.view.View.{View}
 use Rattle.register_rule.specs.Shown.{Shows}
-use Rattle.register_rule.specs.Scans.{IsVersion, IsScan}
-use Rattle.register_rule.specs.Rule.{IsMember, Rule}
-use Rattle.register_rule.specs.Members.{new_scan, new_worker, new_reader, workers_from, readers_from, everyone, first_of, same_who, picked, without}
+use Rattle.register_rule.specs.Scans.{IsVersion, IsSound}
+use Rattle.register_rule.specs.Rule.{IsMember, Rule, AreApart}
+use Rattle.register_rule.specs.Members.{fresh_scan, new_worker, new_reader, workers_from, readers_from, everyone, first_of, same_who, picked, without}
 use Rattle.register_rule.specs.Told.{Keeps}
 use Rattle.register_rule.proofs.Words.{there, from_replicate, from_both}
 use Rattle.register_rule.proofs.Pairs.{compares}
-use Rattle.register_rule.proofs.Seating.{picked_is, without_is}
+use Rattle.register_rule.proofs.Seating.{picked_is, without_is, both_apart}
 
 zero_at : (k p : ℕ) → slice_index (replicate k 0) p ≡ 0
 zero_at zero p = refl
@@ -49,11 +50,26 @@ module _ {f : ℕ → Member} {from : (i k : ℕ) → List Member} (order : InOr
   from_order i (suc k) zero m e = (i, omega arith, some-injective (f i) m (ap (λ (l : List Member). get_elem? l 0) (sym (order.more i k)) ∙ e))
   from_order i (suc k) (suc q) m e = let t = from_order (i + 1) k q m (ap (λ (l : List Member). get_elem? l (suc q)) (sym (order.more i k)) ∙ e) in let t1 = t.1 in (t.0, omega arith, t.2)
 
+  -- and no two of them have one name
+  from_apart : (i k q : ℕ) (m : Member) → get_elem? (from i k) q ≡ some m → (h : ℕ) × (i ≤ h) × (f h ≡ m)
+  from_apart i zero q m e = absurd (some-ne-none m (sym (ap (λ (l : List Member). get_elem? l q) (sym (order.none i)) ∙ e)))
+  from_apart i (suc k) zero m e = (i, omega arith, some-injective (f i) m (ap (λ (l : List Member). get_elem? l 0) (sym (order.more i k)) ∙ e))
+  from_apart i (suc k) (suc q) m e = let t = from_apart (i + 1) k q m (ap (λ (l : List Member). get_elem? l (suc q)) (sym (order.more i k)) ∙ e) in let t1 = t.1 in (t.0, omega arith, t.2)
+
+  order_apart : (i k : ℕ) → AreApart (from i k)
+  order_apart i zero = subst AreApart (sym (order.none i)) tt
+  order_apart i (suc k) = subst AreApart (sym (order.more i k)) (
+    λ q o e same. let t = from_apart (i + 1) k q o e in let t1 = t.1 in
+        let z : (i == t.0) ≡ true = sym (order.names i t.0) ∙ (ap (λ (x : Who). same_who (f i).who x) (ap (λ (x : Member). x.who) t.2 ∙ same) ∙ (order.names i i ∙ eq-eqb i i refl)) in
+        let y : i ≡ t.0 = eqb-true i t.0 z in absurd (omega (arith, y)),
+    order_apart (i + 1) k,
+  )
+
 -- nobody has published
 abbrev none_made : ℕ → List Made
 none_made i = []
 
-new_scan_is : (n w : ℕ) (adds : List Op → ℕ → ℕ) → 0 < n → IsScan n w adds none_made [] (new_scan n w)
+new_scan_is : (n w : ℕ) (adds : List Op → ℕ → ℕ) → 0 < n → IsSound n w adds none_made [] (fresh_scan n w)
 new_scan_is n w adds some_n = record {
   opened = λ q x e. absurd (some-ne-none x (sym e));
   confirmed = λ q x e. absurd (some-ne-none x (sym e));
@@ -110,6 +126,17 @@ module _ (n w b : ℕ) (adds : List Op → ℕ → ℕ) (accepts : (ℕ → ℕ)
   each zero v e p m e' = one p m (ap (λ (z : View). get_elem? z.members p) (some-injective _ v e) ∙ e')
   each (suc j) v e p m e' = absurd (some-ne-none v (sym e))
 
+  -- no worker has a reader's name
+  cross : (p q : ℕ) (m o : Member) → get_elem? (workers_from n w b 0 n) p ≡ some m → get_elem? (readers_from n w 0 readers) q ≡ some o → o.who ≢ m.who
+  cross p q m o em eo same =
+      let x = from_order (workers_in_order n w b) 0 n p m em in let y = from_order (readers_in_order n w) 0 readers q o eo in
+      let e : Reader y.0 ≡ Worker x.0 = ap (λ (z : Member). z.who) y.2 ∙ (same ∙ sym (ap (λ (z : Member). z.who) x.2)) in
+      let f : false ≡ true = ap (λ (z : Who). same_who (Worker x.0) z) e ∙ eq-eqb x.0 x.0 refl in absurd (let g : false ≡ true = f in cc)
+
+  all_apart : (j : ℕ) (v : View) → get_elem? (everyone n w b readers ∷ []) j ≡ some v → AreApart v.members
+  all_apart zero v e = subst (λ (z : View). AreApart z.members) (some-injective _ v e) (both_apart (workers_from n w b 0 n) (readers_from n w 0 readers) (order_apart (workers_in_order n w b) 0 n) (order_apart (readers_in_order n w) 0 readers) cross)
+  all_apart (suc j) v e = absurd (some-ne-none v (sym e))
+
   ruled : Rule n w b adds accepts (opening ws [] (everyone n w b readers))
   ruled = record {
     made = none_made;
@@ -122,6 +149,7 @@ module _ (n w b : ℕ) (adds : List Op → ℕ → ℕ) (accepts : (ℕ → ℕ)
     shown = λ i k h h'. subst (Shows n w adds [] k) (sym (zeros _)) record { row = λ _. refl; flag = λ _. refl; vector = λ a j e. absurd (none-some a e); totals = λ a j e. absurd (none-some a e) };
     lent = λ i a h e. absurd (none-some a e);
     bounded = λ i v k h h'. subst (λ (z : ℕ). z ≤ 281474976710655) (sym (zeros _)) (omega arith);
+    apart = all_apart;
     each = each;
   }
 

@@ -18,8 +18,8 @@ abbrev pub numbers_after : (n : ℕ) → List ℕ → List ℕ
 numbers_after n history = tab 0 n (λ i. count i history)
 
 -- the vector is the numbers at one moment of the history
-abbrev pub IsMoment : (n : ℕ) → (history vector : List ℕ) → Type 0
-IsMoment n history vector = (t : ℕ) × (t ≤ length history) × (vector ≡ numbers_after n (take t history))
+abbrev pub IsCut : (n : ℕ) → (history vector : List ℕ) → Type 0
+IsCut n history vector = (t : ℕ) × (t ≤ length history) × (vector ≡ numbers_after n (take t history))
 
 -- u is above v at no place
 abbrev pub Below : (u v : List ℕ) → Type 0

@@ -3,7 +3,7 @@ use Rattle.std.specs.Prelude.{ℕ, zero, suc, ◌+◌, ◌==◌, max, Bool, fals
 use Rattle.ledger_core.specs.declared.op.Op.{Op}
 use Rattle.register_rule.specs.declared.view.Who.{Who}
 use Rattle.register_rule.specs.declared.view.Who.TheVariants.{Worker, Reader}
-use Rattle.register_rule.specs.declared.view.Answer.{Answer}
+use Rattle.register_rule.specs.declared.view.Entry.{Entry}
 use Rattle.register_rule.specs.declared.view.Made.{Made}
 use Rattle.register_rule.specs.declared.view.Scan.{Scan}
 use Rattle.register_rule.specs.declared.view.Member.{Member}
@@ -14,14 +14,14 @@ abbrev pub group : List Member → View
 group ms = record { members = ms }
 
 -- a member that has made no step: n workers, rows of w words, buffers of b words
-abbrev pub new_scan : (n w : ℕ) → Scan
-new_scan n w = record { opened = []; confirmed = []; asked = []; recorded = []; quit = 0; seen = replicate n 0; kept = replicate n (record { number = 0; row = replicate w 0 }); now = at_rest }
+abbrev pub fresh_scan : (n w : ℕ) → Scan
+fresh_scan n w = record { opened = []; confirmed = []; asked = []; recorded = []; quit = 0; seen = replicate n 0; kept = replicate n (record { number = 0; row = replicate w 0 }); now = at_rest }
 
 abbrev pub new_worker : (n w b i : ℕ) → Member
-new_worker n w b i = record { who = Worker i; work = record { made = []; hidden = replicate b 0; shown = replicate b 0 }; scan = new_scan n w }
+new_worker n w b i = record { who = Worker i; work = record { made = []; hidden = replicate b 0; shown = replicate b 0 }; scan = fresh_scan n w }
 
 abbrev pub new_reader : (n w i : ℕ) → Member
-new_reader n w i = record { who = Reader i; work = record { made = []; hidden = []; shown = [] }; scan = new_scan n w }
+new_reader n w i = record { who = Reader i; work = record { made = []; hidden = []; shown = [] }; scan = fresh_scan n w }
 
 -- the workers from i on, k of them; the readers likewise
 abbrev pub workers_from : (n w b i k : ℕ) → List Member
@@ -51,7 +51,7 @@ scanned f m = record m { scan = f m.scan }
 abbrev pub filled : (k x : ℕ) → Member → Member
 filled k x m = record m { work = record m.work { hidden = slice_set m.work.hidden k x } }
 
-abbrev pub last_entry : List Answer → Option Answer
+abbrev pub last_entry : List Entry → Option Entry
 last_entry [] = None
 last_entry (a ∷ []) = Some a
 last_entry (a ∷ x ∷ xs) = last_entry (x ∷ xs)

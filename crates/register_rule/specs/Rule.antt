@@ -1,5 +1,5 @@
 -- The rule over all words of the board and the views of all seats.
-use Rattle.std.specs.Prelude.{◌≡◌, ℕ, suc, ◌*◌, ◌<◌, ◌≤◌, Some, List, [], length}
+use Rattle.std.specs.Prelude.{◌≢◌, ◌∷◌, ◌≡◌, ℕ, suc, ◌*◌, ◌<◌, ◌≤◌, Some, List, [], length}
 use mathlib.Core.Option.{some}
 use lib.ListN.{get_elem?}
 use Rattle.atomic_table.specs.Table.{State}
@@ -8,7 +8,7 @@ use Rattle.ledger_core.specs.declared.op.Op.{Op}
 use Rattle.register_rule.specs.declared.view.Made.{Made}
 use Rattle.register_rule.specs.declared.view.Who.{Who}
 use Rattle.register_rule.specs.declared.view.Who.TheVariants.{Worker, Reader}
-use Rattle.register_rule.specs.declared.view.Answer.{Answer}
+use Rattle.register_rule.specs.declared.view.Entry.{Entry}
 use Rattle.register_rule.specs.declared.view.Work.{Work}
 use Rattle.register_rule.specs.declared.view.Member.{Member}
 use Rattle.register_rule.specs.declared.view.View.{View}
@@ -16,7 +16,16 @@ use Rattle.register_rule.specs.Words.{item_of, seg}
 use Rattle.register_rule.specs.History.{count}
 use Rattle.register_rule.specs.Sums.{Legal, last_lent}
 use Rattle.register_rule.specs.Shown.{Shows}
-use Rattle.register_rule.specs.Scans.{IsAnswer, IsScan}
+use Rattle.register_rule.specs.Scans.{IsEntry, IsSound}
+
+-- none of these members has this name
+abbrev pub AreOthers : Who → List Member → Type 0
+AreOthers who ms = (q : ℕ) (o : Member) → get_elem? ms q ≡ some o → o.who ≢ who
+
+-- no two of these members have one name
+abbrev pub AreApart : List Member → Type 0
+AreApart [] = Unit {0}
+AreApart (m ∷ ms) = AreOthers m.who ms × AreApart ms
 
 -- n workers, rows of w words, buffers of b words
 module _ (n w b : ℕ) (adds : List Op → ℕ → ℕ) (made : ℕ → List Made) where
@@ -33,7 +42,7 @@ module _ (n w b : ℕ) (adds : List Op → ℕ → ℕ) (made : ℕ → List Mad
   pub record IsWorker (words : List ℕ) (i : ℕ) (m : Member) : Type 0 where
     pub work : IsWork words i m.work
     pub own : get_elem? m.scan.seen i ≡ some (length (made i))
-    pub lends : (q : ℕ) (x : Made) (a : Answer) → get_elem? m.work.made q ≡ some x → x.lends ≡ Some a
+    pub lends : (q : ℕ) (x : Made) (a : Entry) → get_elem? m.work.made q ≡ some x → x.lends ≡ Some a
         → (p : ℕ) × (get_elem? m.scan.recorded p ≡ some a)
 
   abbrev pub IsRole : (words : List ℕ) → Member → Who → Type 0
@@ -44,7 +53,7 @@ module _ (n w b : ℕ) (adds : List Op → ℕ → ℕ) (made : ℕ → List Mad
   pub record IsMember (owner : Who → ℕ) (history words : List ℕ) (j : ℕ) (m : Member) : Type 0 where
     pub here : owner m.who ≡ j
     pub role : IsRole words m m.who
-    pub scan : IsScan n w adds made history m.scan
+    pub scan : IsSound n w adds made history m.scan
 
 -- `accepts` tells which lists a row of these words accepts
 pub record Rule (n w b : ℕ) (adds : List Op → ℕ → ℕ) (accepts : (ℕ → ℕ) → List Op → Type 0) (s : State (Unit {0}) View) : Type 0 where
@@ -59,8 +68,9 @@ pub record Rule (n w b : ℕ) (adds : List Op → ℕ → ℕ) (accepts : (ℕ �
   -- the buffer that the number shows is the version after all publishes
   pub shown : (i k : ℕ) → i < n → k < b → Shows n w adds (made i) k (seg b s.words i (item_of b (length (made i)) k))
   -- what a version lends is right
-  pub lent : (i : ℕ) (a : Answer) → i < n → last_lent (made i) ≡ Some a → IsAnswer n w adds made history a
+  pub lent : (i : ℕ) (a : Entry) → i < n → last_lent (made i) ≡ Some a → IsEntry n w adds made history a
   -- every word of a row, shown or hidden, is at most 2^48 - 1
   pub bounded : (i v k : ℕ) → i < n → k < w → seg b s.words i (item_of b v k) ≤ 281474976710655
+  pub apart : (j : ℕ) (v : View) → get_elem? s.views j ≡ some v → AreApart v.members
   pub each : (j : ℕ) (v : View) → get_elem? s.views j ≡ some v → (p : ℕ) (m : Member) → get_elem? v.members p ≡ some m
       → IsMember n w b adds made owner history s.words j m

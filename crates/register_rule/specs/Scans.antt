@@ -7,15 +7,15 @@ use Rattle.ledger_core.specs.declared.op.Op.{Op}
 use Rattle.register_rule.specs.declared.view.Made.{Made}
 use Rattle.register_rule.specs.declared.view.Look.{Look}
 use Rattle.register_rule.specs.declared.view.Version.{Version}
-use Rattle.register_rule.specs.declared.view.Answer.{Answer}
+use Rattle.register_rule.specs.declared.view.Entry.{Entry}
 use Rattle.register_rule.specs.declared.view.Asked.{Asked}
 use Rattle.register_rule.specs.declared.view.Scan.{Scan}
-use Rattle.register_rule.specs.History.{IsMoment, Below}
+use Rattle.register_rule.specs.History.{IsCut, Below}
 use Rattle.register_rule.specs.Sums.{total, row_sum}
 use Rattle.register_rule.specs.Shown.{Shows}
 
-abbrev pub number_of : Look → ℕ
-number_of l = l.number
+abbrev pub opened_at : Look → ℕ
+opened_at l = l.number
 
 module _ (n w : ℕ) (adds : List Op → ℕ → ℕ) (made : ℕ → List Made) where
   -- each number is at most the number of the segment at its place
@@ -48,22 +48,23 @@ module _ (n w : ℕ) (adds : List Op → ℕ → ℕ) (made : ℕ → List Made)
     pub row : (k x : ℕ) → get_elem? v.row k ≡ some x → x ≡ total adds (take v.number (made i)) k
 
   -- all segments at one moment: the numbers, and the sums of the rows of these versions
-  pub record IsAnswer (history : List ℕ) (a : Answer) : Type 0 where
+  pub record IsEntry (history : List ℕ) (a : Entry) : Type 0 where
     pub low : AtMost a.vector
-    pub moment : IsMoment n history a.vector
+    pub moment : IsCut n history a.vector
     pub sums : (k : ℕ) → k < w → get_elem? a.totals k ≡ some (row_sum adds made 0 a.vector k)
 
   pub record IsAsked (e : Asked) : Type 0 where
     pub inside : e.worker < n
     pub risen : e.number ≤ e.again
     pub old : e.again ≤ length (made e.worker)
-    pub flag : e.number ≡ e.again → e.flag ≤ 1
+    -- where the number was found again, the words are those of its version, from the flag on
+    pub shown : e.number ≡ e.again → (k x : ℕ) → get_elem? e.words k ≡ some x → Shows n w adds (take e.number (made e.worker)) (w + k) x
 
-  pub record IsScan (history : List ℕ) (c : Scan) : Type 0 where
+  pub record IsSound (history : List ℕ) (c : Scan) : Type 0 where
     pub opened : AreLoads c.opened
     pub confirmed : AreLoads c.confirmed
     pub asked : (q : ℕ) (e : Asked) → get_elem? c.asked q ≡ some e → IsAsked e
-    pub recorded : (q : ℕ) (a : Answer) → get_elem? c.recorded q ≡ some a → IsAnswer history a × Below a.vector c.seen
+    pub recorded : (q : ℕ) (a : Entry) → get_elem? c.recorded q ≡ some a → IsEntry history a × Below a.vector c.seen
     pub seen : AtMost c.seen
     pub seen_wide : length c.seen ≡ n
     pub kept : (i : ℕ) (v : Version) → get_elem? c.kept i ≡ some v → IsVersion i v
@@ -72,4 +73,4 @@ module _ (n w : ℕ) (adds : List Op → ℕ → ℕ) (made : ℕ → List Made)
     pub looks : (q : ℕ) (l : Look) → get_elem? c.now.looks q ≡ some l → IsLook 0 l × (l.place ≡ q)
     pub asks : (q : ℕ) (l : Look) → get_elem? c.now.asks q ≡ some l → IsLook w l
     -- a try that has opened all places is doomed, or its numbers are those of one moment
-    pub whole : length c.now.looks ≡ n → Doomed c.now.looks ⊎ IsMoment n history (map number_of c.now.looks)
+    pub whole : length c.now.looks ≡ n → Doomed c.now.looks ⊎ IsCut n history (map opened_at c.now.looks)

@@ -1,5 +1,5 @@
 -- What a clause reads of a board and of seats.
-use Rattle.std.specs.Prelude.{◌≡◌, ℕ, ◌<◌, List}
+use Rattle.std.specs.Prelude.{◌≡◌, ℕ, ◌<◌, List, ◌∷◌}
 use Rattle.atomic_table.specs.Seated.{TableId}
 use Rattle.register_rule.specs.declared.view.Member.{Member}
 use Rattle.register_rule.specs.declared.seats.Bundle.{Bundle}
@@ -15,6 +15,10 @@ table_of s = s.seat.table_id
 -- what the seat knows
 abbrev pub members_of : Bundle → List Member
 members_of s = s.seat.me.0.members
+
+-- the seat has a member: the first one makes its steps
+abbrev pub HasMember : List Member → Type 0
+HasMember ms = (m : Member) × (others : List Member) × (ms ≡ m ∷ others)
 
 -- a seat of one member as a bundle, and that member
 abbrev pub work_bundle : WorkSeat → Bundle
@@ -40,6 +44,10 @@ module _ {N C H G : ℕ} where
   -- the seat is of this board's parts
   abbrev pub Has : Board N C H G → Bundle → Type 0
   Has b s = table_of s ≡ b.table.shared.table_id
+
+  -- and can make steps of a scan
+  abbrev pub MayScan : Board N C H G → Bundle → Type 0
+  MayScan b s = Has b s × HasMember (members_of s)
 
   -- the seat is that of one of its workers
   abbrev pub HasWorker : Board N C H G → WorkSeat → Type 0

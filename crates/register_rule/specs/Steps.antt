@@ -1,16 +1,17 @@
 -- What each load of a scan does to what its member knows. n workers, rows of w words. Each is a function of every
 -- scan, with its tests inside, so that a load out of its turn does no harm to the rule.
 use Rattle.std.specs.Prelude.{ℕ, zero, suc, ◌+◌, ◌==◌, ◌&&◌, ◌||◌, not, max, nat_le, Bool, true, false, cond, List, [], ◌∷◌, ◌++◌, map, length, take, drop, slice_index, slice_set}
+use Rattle.ledger_core.specs.Vectors.{is_above}
 use Rattle.register_rule.specs.declared.view.Look.{Look}
 use Rattle.register_rule.specs.declared.view.Version.{Version}
-use Rattle.register_rule.specs.declared.view.Answer.{Answer}
+use Rattle.register_rule.specs.declared.view.Entry.{Entry}
 use Rattle.register_rule.specs.declared.view.Asked.{Asked}
-use Rattle.register_rule.specs.declared.view.Try.{Try}
+use Rattle.register_rule.specs.declared.view.Progress.{Progress}
 use Rattle.register_rule.specs.declared.view.Scan.{Scan}
 use Rattle.register_rule.specs.declared.load.Load.{Load}
 use Rattle.register_rule.specs.declared.load.Load.TheVariants.{Open, Read, Confirm, Ask, EndAsk}
 use Rattle.register_rule.specs.History.{tab}
-use Rattle.register_rule.specs.Scans.{number_of}
+use Rattle.register_rule.specs.Scans.{opened_at}
 
 abbrev pub every : {A : Type 0} → (A → Bool) → List A → Bool
 every p [] = true
@@ -23,16 +24,16 @@ upper (x ∷ u) [] = x ∷ u
 upper (x ∷ u) (y ∷ v) = max x y ∷ upper u v
 
 -- no scan is in progress
-abbrev pub at_rest : Try
+abbrev pub at_rest : Progress
 at_rest = record { failed = 0; floor = []; base = []; looks = []; due = []; asks = [] }
 
 -- a scan ends with an answer
-abbrev pub answered : Answer → Scan → Scan
+abbrev pub answered : Entry → Scan → Scan
 answered a c = record c { recorded = c.recorded ++ a ∷ []; seen = upper c.seen a.vector; now = at_rest }
 
 -- a scan whose try n + 2 has failed, and that has nobody to ask, is given up
-abbrev pub given_up : (n : ℕ) → Scan → Scan
-given_up n c = cond (length c.now.due == 0 && c.now.failed == n + 2) (record c { quit = c.quit + 1; now = at_rest }) c
+abbrev pub gives_up : (n : ℕ) → Scan → Scan
+gives_up n c = cond (length c.now.due == 0 && c.now.failed == n + 2) (record c { quit = c.quit + 1; now = at_rest }) c
 
 -- **The opening load** of the place i found the number s. It opens the next place of a try in which nothing is
 -- confirmed yet, where nobody is still to be asked. The words of a row that is remembered need not be read again.
@@ -47,7 +48,7 @@ begun i s words = record { place = i; number = s; words = words; sure = false; f
 abbrev pub unsure : Look → Bool
 unsure l = not l.sure
 
-abbrev pub opens_next : ℕ → Try → Bool
+abbrev pub opens_next : ℕ → Progress → Bool
 opens_next i t = i == length t.looks && (length t.due == 0 && every unsure t.looks)
 
 abbrev pub after_open : (i s : ℕ) → Scan → Scan
@@ -84,16 +85,16 @@ confirmed_at w i s c = record c {
 abbrev pub clean : (w : ℕ) → Look → Bool
 clean w l = l.sure && length l.words == w
 
-abbrev pub is_clean : (n w : ℕ) → List Look → Bool
-is_clean n w looks = length looks == n && every (clean w) looks
+abbrev pub are_clean : (n w : ℕ) → List Look → Bool
+are_clean n w looks = length looks == n && every (clean w) looks
 
 abbrev pub sum_words : ℕ → List Look → ℕ
 sum_words k [] = 0
 sum_words k (l ∷ ls) = slice_index l.words k + sum_words k ls
 
 -- its answer: the numbers, and the sums of the rows
-abbrev pub answer_of : (w : ℕ) → List Look → Answer
-answer_of w looks = record { vector = map number_of looks; totals = tab 0 w (λ k. sum_words k looks) }
+abbrev pub entry_of : (w : ℕ) → List Look → Entry
+entry_of w looks = record { vector = map opened_at looks; totals = tab 0 w (λ k. sum_words k looks) }
 
 abbrev pub found_of : Look → ℕ
 found_of l = l.found
@@ -105,14 +106,14 @@ due_of (x ∷ base) [] = []
 due_of (x ∷ base) (l ∷ looks) = cond (nat_le (x + 2) l.found) (l.place ∷ due_of base looks) (due_of base looks)
 
 -- the first try that fails gives the floor and the base of the scan
-abbrev pub based : Try → Try
-based t = cond (t.failed == 0) (record t { floor = map number_of t.looks; base = map found_of t.looks }) t
+abbrev pub with_base : Progress → Progress
+with_base t = cond (t.failed == 0) (record t { floor = map opened_at t.looks; base = map found_of t.looks }) t
 
-abbrev pub failed_once_more : Try → Try
+abbrev pub failed_once_more : Progress → Progress
 failed_once_more t = record t { failed = t.failed + 1; looks = []; due = due_of t.base t.looks }
 
 abbrev pub ended : (n w : ℕ) → Scan → Scan
-ended n w c = cond (is_clean n w c.now.looks) (answered (answer_of w c.now.looks) c) (given_up n (record c { now = failed_once_more (based c.now) }))
+ended n w c = cond (are_clean n w c.now.looks) (answered (entry_of w c.now.looks) c) (gives_up n (record c { now = failed_once_more (with_base c.now) }))
 
 abbrev pub after_confirm : (n w i s : ℕ) → Scan → Scan
 after_confirm n w i s c = cond (i + 1 == n) (ended n w (confirmed_at w i s c)) (confirmed_at w i s c)
@@ -128,28 +129,23 @@ after_ask i s c = record c { now = cond (is_next i c.now.due) (record c.now { as
 -- **The confirming load of the worker that is asked** found the number s. It lends where its number is found again,
 -- its flag is 1, all its words are read, and its vector is below the floor nowhere. If it does not, the next one is
 -- asked, and after the last one the next try begins.
-abbrev pub is_above : (floor vector : List ℕ) → Bool
-is_above [] vector = true
-is_above (x ∷ floor) [] = false
-is_above (x ∷ floor) (y ∷ vector) = nat_le x y && is_above floor vector
+abbrev pub lent_entry : (n w : ℕ) → Look → Entry
+lent_entry n w l = record { vector = take n (drop 1 l.words); totals = take w (drop (1 + n) l.words) }
 
-abbrev pub lent_answer : (n w : ℕ) → Look → Answer
-lent_answer n w l = record { vector = take n (drop 1 l.words); totals = take w (drop (1 + n) l.words) }
+abbrev pub is_lender : (n w s : ℕ) → (floor : List ℕ) → Look → Bool
+is_lender n w s floor l = l.number == s && length l.words == 1 + n + w && slice_index l.words 0 == 1 && is_above floor (take n (drop 1 l.words))
 
-abbrev pub lends : (n w s : ℕ) → (floor : List ℕ) → Look → Bool
-lends n w s floor l = l.number == s && length l.words == 1 + n + w && slice_index l.words 0 == 1 && is_above floor (take n (drop 1 l.words))
-
-abbrev pub asked_of : (n s : ℕ) → Look → Asked
-asked_of n s l = record { worker = l.place; number = l.number; flag = slice_index l.words 0; vector = take n (drop 1 l.words); again = s }
+abbrev pub asked_of : (s : ℕ) → Look → Asked
+asked_of s l = record { worker = l.place; number = l.number; words = l.words; again = s }
 
 abbrev pub rest : List ℕ → List ℕ
 rest [] = []
 rest (x ∷ xs) = xs
 
 abbrev pub answers : (n w s : ℕ) → Look → Scan → Scan
-answers n w s l c = cond (lends n w s c.now.floor l)
-    (answered (lent_answer n w l) (record c { asked = c.asked ++ asked_of n s l ∷ [] }))
-    (given_up n (record c { asked = c.asked ++ asked_of n s l ∷ []; now = record c.now { due = rest c.now.due; asks = [] } }))
+answers n w s l c = cond (is_lender n w s c.now.floor l)
+    (answered (lent_entry n w l) (record c { asked = c.asked ++ asked_of s l ∷ [] }))
+    (gives_up n (record c { asked = c.asked ++ asked_of s l ∷ []; now = record c.now { due = rest c.now.due; asks = [] } }))
 
 abbrev pub ask_ends : (n w i s : ℕ) → List Look → Scan → Scan
 ask_ends n w i s [] c = c

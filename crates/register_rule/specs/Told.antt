@@ -8,7 +8,7 @@ use Rattle.register_rule.specs.declared.view.Who.TheVariants.{Worker}
 use Rattle.register_rule.specs.declared.view.Look.{Look}
 use Rattle.register_rule.specs.declared.view.Made.{Made}
 use Rattle.register_rule.specs.declared.view.Asked.{Asked}
-use Rattle.register_rule.specs.declared.view.Answer.{Answer}
+use Rattle.register_rule.specs.declared.view.Entry.{Entry}
 use Rattle.register_rule.specs.declared.view.Member.{Member}
 use Rattle.register_rule.specs.declared.view.View.{View}
 use Rattle.register_rule.specs.declared.load.Load.{Load}
@@ -17,10 +17,10 @@ use Rattle.segment_layout.specs.Layout.{span}
 use Rattle.register_rule.specs.Words.{item_of, seg}
 use Rattle.register_rule.specs.History.{count, Comparable}
 use Rattle.register_rule.specs.Sums.{Legal}
-use Rattle.register_rule.specs.Scans.{number_of, IsScan}
+use Rattle.register_rule.specs.Scans.{opened_at, IsSound}
 use Rattle.register_rule.specs.Members.{first_of, made_of}
 use Rattle.register_rule.specs.Shown.{Shows}
-use Rattle.register_rule.specs.Rule.{Rule}
+use Rattle.register_rule.specs.Rule.{Rule, AreApart}
 
 -- x is the number of the segment i: it is at least each number that the first member found there before or has seen,
 -- and where worker i is among the members, it is how often that worker published
@@ -40,12 +40,12 @@ IsLoad n b (Ask place) = place < n
 IsLoad n b (EndAsk place) = place < n
 
 -- the place of this word
-abbrev pub place_of : (b : ℕ) → Load → ℕ
-place_of b (Open place) = place * span b + 0
-place_of b (Read place number item) = place * span b + item_of b number item
-place_of b (Confirm place) = place * span b + 0
-place_of b (Ask place) = place * span b + 0
-place_of b (EndAsk place) = place * span b + 0
+abbrev pub word_of : (b : ℕ) → Load → ℕ
+word_of b (Open place) = place * span b + 0
+word_of b (Read place number item) = place * span b + item_of b number item
+word_of b (Confirm place) = place * span b + 0
+word_of b (Ask place) = place * span b + 0
+word_of b (EndAsk place) = place * span b + 0
 
 -- a load tells that it found a number, or that a word of a row is at most 2^48 - 1
 abbrev pub IsTold : (w : ℕ) → Load → List Member → ℕ → Type 0
@@ -63,16 +63,13 @@ pub record AreRuled (n w : ℕ) (adds : List Op → ℕ → ℕ) (accepts : (ℕ
   pub counted : (i : ℕ) → i < n → count i history ≡ length (made i)
   pub legal : (i : ℕ) → i < n → Legal adds accepts [] (made i)
   pub own : (p i : ℕ) (m : Member) → get_elem? ms p ≡ some m → m.who ≡ Worker i → (i < n) × (m.work.made ≡ made i) × (get_elem? m.scan.seen i ≡ some (length (made i)))
-  pub scans : (p : ℕ) (m : Member) → get_elem? ms p ≡ some m → IsScan n w adds made history m.scan
-
--- the same, where x is the number of the segment i
-abbrev pub AreRuledAt : (n w : ℕ) → (List Op → ℕ → ℕ) → ((ℕ → ℕ) → List Op → Type 0) → (i : ℕ) → List Member → (x : ℕ) → Type 0
-AreRuledAt n w adds accepts i ms x = (r : AreRuled n w adds accepts ms) × (x ≡ length (r.made i))
+  pub scans : (p : ℕ) (m : Member) → get_elem? ms p ≡ some m → IsSound n w adds made history m.scan
+  pub apart : AreApart ms
 
 -- some members, in pairs: n workers, of whom i has the number `number i`
 module _ (n : ℕ) (number : ℕ → ℕ) (Is : Member → Type 0) where
   -- a is an answer that one of them recorded
-  abbrev pub Records : Answer → Type 0
+  abbrev pub Records : Entry → Type 0
   Records a = (m : Member) × Is m × ((q : ℕ) × (get_elem? m.scan.recorded q ≡ some a))
 
   -- these are the places of a try of one of them, and all are opened
@@ -86,9 +83,9 @@ module _ (n : ℕ) (number : ℕ → ℕ) (Is : Member → Type 0) where
   -- any two recorded vectors are comparable; of two tries one is doomed or their vectors are comparable; and a try is
   -- doomed or its vector is comparable with each recorded one
   pub record AreComparable : Type 0 where
-    pub recorded : (a c : Answer) → Records a → Records c → Comparable a.vector c.vector
-    pub tries : (looks others : List Look) → Tries looks → Tries others → (IsDoomed looks ⊎ IsDoomed others) ⊎ Comparable (map number_of looks) (map number_of others)
-    pub between : (looks : List Look) (a : Answer) → Tries looks → Records a → IsDoomed looks ⊎ Comparable (map number_of looks) a.vector
+    pub recorded : (a c : Entry) → Records a → Records c → Comparable a.vector c.vector
+    pub tries : (looks others : List Look) → Tries looks → Tries others → (IsDoomed looks ⊎ IsDoomed others) ⊎ Comparable (map opened_at looks) (map opened_at others)
+    pub between : (looks : List Look) (a : Entry) → Tries looks → Records a → IsDoomed looks ⊎ Comparable (map opened_at looks) a.vector
 
 -- m is a member of some seat's view
 abbrev pub Sits : State (Unit {0}) View → Member → Type 0
@@ -98,9 +95,9 @@ Sits s m = (j : ℕ) × (p : ℕ) × (v : View) × (get_elem? s.views j ≡ some
 abbrev pub AllCompare : (n b : ℕ) → State (Unit {0}) View → Type 0
 AllCompare n b s = AreComparable n (λ i. seg b s.words i 0) (Sits s)
 
--- these members compare, by the numbers of one moment, at which x is that of the segment i
-abbrev pub CompareAt : (n i : ℕ) → List Member → (x : ℕ) → Type 0
-CompareAt n i ms x = (number : ℕ → ℕ) × (number i ≡ x) × AreComparable n number (λ m. (p : ℕ) × (get_elem? ms p ≡ some m))
+-- the same, at one moment: x is the number of the segment i, and these members compare, by the numbers of that moment
+abbrev pub AreRuledAt : (n w : ℕ) → (List Op → ℕ → ℕ) → ((ℕ → ℕ) → List Op → Type 0) → (i : ℕ) → List Member → (x : ℕ) → Type 0
+AreRuledAt n w adds accepts i ms x = (r : AreRuled n w adds accepts ms) × (x ≡ length (r.made i)) × AreComparable n (λ j. length (r.made j)) (λ m. (p : ℕ) × (get_elem? ms p ≡ some m))
 
 -- the hidden buffer of b words holds the version that this publish makes
 abbrev pub HoldsNext : (n w b : ℕ) → (List Op → ℕ → ℕ) → List Op → (lends : Bool) → Member → Type 0

@@ -29,4 +29,4 @@ pub use board_fault::BoardFault;
 pub use load::Load;
 pub use scans::ScanSeat;
 pub use seats::{Bundle, ReadSeat, WorkSeat};
-pub use view::{Answer, Asked, Look, Made, Member, Scan, Try, Version, View, Who, Work};
+pub use view::{Entry, Asked, Look, Made, Member, Scan, Progress, Version, View, Who, Work};

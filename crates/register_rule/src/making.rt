@@ -12,16 +12,9 @@ use crate::board_fault::BoardFault;
 use crate::seats::{Bundle, ReadSeat, WorkSeat};
 use crate::view::Who;
 use atomic_table::Table;
+use ledger_core::{MAX_COUNTERS, MAX_GAUGES, MAX_HISTOGRAMS, MAX_WORKERS};
 use segment_layout::words_needed;
 use std::alloc::{AllocError, Global};
-
-const MAX_WORKERS: usize = 32;
-
-const MAX_COUNTERS: usize = 256;
-
-const MAX_HISTOGRAMS: usize = 32;
-
-const MAX_GAUGES: usize = 64;
 
 const MAX_READERS: usize = 4;
 

@@ -1,13 +1,11 @@
 //! The steps of a scan, which workers and readers make alike.
-ghost use Rattle.std.specs.Prelude.{◌≡◌, ℕ, ◌<◌, ◌≤◌, List, ◌∷◌};
-ghost use Rattle.ledger_core.specs.Ops.{width, sum_ops};
-ghost use Rattle.ledger_core.specs.Row.{Accepts};
+ghost use Rattle.std.specs.Prelude.{ℕ, ◌<◌, ◌≤◌};
+ghost use Rattle.ledger_core.specs.Ops.{width};
 ghost use Rattle.segment_layout.specs.Layout.{depth};
-ghost use Rattle.register_rule.specs.declared.view.Member.{Member};
 ghost use Rattle.register_rule.specs.Steps.{after, after_open, after_read, after_confirm, after_ask, after_end_ask};
-ghost use Rattle.register_rule.specs.Members.{led, scanned};
-ghost use Rattle.register_rule.specs.Told.{IsLoad, IsTold, IsNumber, AreRuled};
-ghost use Rattle.register_rule.specs.Seats.{table_of, members_of, Has};
+ghost use Rattle.register_rule.specs.Told.{IsLoad, IsTold, IsNumber};
+ghost use Rattle.register_rule.specs.Seats.{members_of, MayScan};
+ghost use Rattle.register_rule.specs.Learned.{Learns};
 
 use crate::board::Board;
 use crate::load::Load;
@@ -21,13 +19,10 @@ pub trait ScanSeat<const N: usize, const C: usize, const H: usize, const G: usiz
 
     /// One load of the scan.
     fn load(&mut self, board: &Board<N, C, H, G>, what: Load) -> u64
-        requires own { Has board.now (bundle self.old) }
-        requires some { (m : Member) × (ms : List Member) × (members_of (bundle self.old) ≡ m ∷ ms) }
+        requires own { MayScan board.now (bundle self.old) }
         requires inside { IsLoad N (depth N (width C H G)) what }
-        ensures own { table_of (bundle self.new) ≡ table_of (bundle self.old) }
-        ensures member { members_of (bundle self.new) ≡ led (scanned (after N (width C H G) what result)) (members_of (bundle self.old)) }
-        ensures told { IsTold (width C H G) what (members_of (bundle self.old)) result }
-        ensures ruled { AreRuled N (width C H G) (sum_ops C H) (Accepts C H G) (members_of (bundle self.new)) };
+        ensures learns { Learns N C H G (after N (width C H G) what result) (bundle self.old) (bundle self.new) }
+        ensures told { IsTold (width C H G) what (members_of (bundle self.old)) result };
 }
 
 impl<const N: usize, const C: usize, const H: usize, const G: usize> ScanSeat<N, C, H, G>
@@ -67,13 +62,10 @@ impl<const N: usize, const C: usize, const H: usize, const G: usize> Board<N, C,
     /// is remembered of this segment has this number, its words need not be read.
     #[inline]
     pub fn open<S: ScanSeat<N, C, H, G>>(&self, seat: &mut S, place: usize) -> u64
-        requires own { Has self.now (S.bundle seat.old) }
-        requires some { (m : Member) × (ms : List Member) × (members_of (S.bundle seat.old) ≡ m ∷ ms) }
+        requires own { MayScan self.now (S.bundle seat.old) }
         requires inside { place < N }
-        ensures own { table_of (S.bundle seat.new) ≡ table_of (S.bundle seat.old) }
-        ensures member { members_of (S.bundle seat.new) ≡ led (scanned (after_open place result)) (members_of (S.bundle seat.old)) }
+        ensures learns { Learns N C H G (after_open place result) (S.bundle seat.old) (S.bundle seat.new) }
         ensures told { IsNumber place (members_of (S.bundle seat.old)) result }
-        ensures ruled { AreRuled N (width C H G) (sum_ops C H) (Accepts C H G) (members_of (S.bundle seat.new)) }
     {
         seat.load(self, Load::Open { place })
     }
@@ -88,11 +80,9 @@ impl<const N: usize, const C: usize, const H: usize, const G: usize> Board<N, C,
         number: u64,
         item: usize,
     ) -> u64
-        requires own { Has self.now (S.bundle seat.old) }
-        requires some { (m : Member) × (ms : List Member) × (members_of (S.bundle seat.old) ≡ m ∷ ms) }
+        requires own { MayScan self.now (S.bundle seat.old) }
         requires inside { (place < N) × (item < depth N (width C H G)) }
-        ensures own { table_of (S.bundle seat.new) ≡ table_of (S.bundle seat.old) }
-        ensures member { members_of (S.bundle seat.new) ≡ led (scanned (after_read (width C H G) place number item result)) (members_of (S.bundle seat.old)) }
+        ensures learns { Learns N C H G (after_read (width C H G) place number item result) (S.bundle seat.old) (S.bundle seat.new) }
         ensures bounded { item < width C H G → result ≤ 281474976710655 }
     {
         seat.load(
@@ -110,13 +100,10 @@ impl<const N: usize, const C: usize, const H: usize, const G: usize> Board<N, C,
     /// next try, or the end of the scan.
     #[inline]
     pub fn confirm<S: ScanSeat<N, C, H, G>>(&self, seat: &mut S, place: usize) -> u64
-        requires own { Has self.now (S.bundle seat.old) }
-        requires some { (m : Member) × (ms : List Member) × (members_of (S.bundle seat.old) ≡ m ∷ ms) }
+        requires own { MayScan self.now (S.bundle seat.old) }
         requires inside { place < N }
-        ensures own { table_of (S.bundle seat.new) ≡ table_of (S.bundle seat.old) }
-        ensures member { members_of (S.bundle seat.new) ≡ led (scanned (after_confirm N (width C H G) place result)) (members_of (S.bundle seat.old)) }
+        ensures learns { Learns N C H G (after_confirm N (width C H G) place result) (S.bundle seat.old) (S.bundle seat.new) }
         ensures told { IsNumber place (members_of (S.bundle seat.old)) result }
-        ensures ruled { AreRuled N (width C H G) (sum_ops C H) (Accepts C H G) (members_of (S.bundle seat.new)) }
     {
         seat.load(self, Load::Confirm { place })
     }
@@ -125,13 +112,10 @@ impl<const N: usize, const C: usize, const H: usize, const G: usize> Board<N, C,
     /// its totals are then read by `read_word`, in this order.
     #[inline]
     pub fn ask<S: ScanSeat<N, C, H, G>>(&self, seat: &mut S, place: usize) -> u64
-        requires own { Has self.now (S.bundle seat.old) }
-        requires some { (m : Member) × (ms : List Member) × (members_of (S.bundle seat.old) ≡ m ∷ ms) }
+        requires own { MayScan self.now (S.bundle seat.old) }
         requires inside { place < N }
-        ensures own { table_of (S.bundle seat.new) ≡ table_of (S.bundle seat.old) }
-        ensures member { members_of (S.bundle seat.new) ≡ led (scanned (after_ask place result)) (members_of (S.bundle seat.old)) }
+        ensures learns { Learns N C H G (after_ask place result) (S.bundle seat.old) (S.bundle seat.new) }
         ensures told { IsNumber place (members_of (S.bundle seat.old)) result }
-        ensures ruled { AreRuled N (width C H G) (sum_ops C H) (Accepts C H G) (members_of (S.bundle seat.new)) }
     {
         seat.load(self, Load::Ask { place })
     }
@@ -139,13 +123,10 @@ impl<const N: usize, const C: usize, const H: usize, const G: usize> Board<N, C,
     /// The confirming load of the worker that is asked. Where it lends, the scan ends with its view.
     #[inline]
     pub fn end_ask<S: ScanSeat<N, C, H, G>>(&self, seat: &mut S, place: usize) -> u64
-        requires own { Has self.now (S.bundle seat.old) }
-        requires some { (m : Member) × (ms : List Member) × (members_of (S.bundle seat.old) ≡ m ∷ ms) }
+        requires own { MayScan self.now (S.bundle seat.old) }
         requires inside { place < N }
-        ensures own { table_of (S.bundle seat.new) ≡ table_of (S.bundle seat.old) }
-        ensures member { members_of (S.bundle seat.new) ≡ led (scanned (after_end_ask N (width C H G) place result)) (members_of (S.bundle seat.old)) }
+        ensures learns { Learns N C H G (after_end_ask N (width C H G) place result) (S.bundle seat.old) (S.bundle seat.new) }
         ensures told { IsNumber place (members_of (S.bundle seat.old)) result }
-        ensures ruled { AreRuled N (width C H G) (sum_ops C H) (Accepts C H G) (members_of (S.bundle seat.new)) }
     {
         seat.load(self, Load::EndAsk { place })
     }

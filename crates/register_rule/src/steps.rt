@@ -3,14 +3,14 @@ ghost use Rattle.std.specs.Prelude.{◌≡◌, ℕ, ◌+◌, ◌*◌, ◌<◌, �
 ghost use Rattle.ledger_core.specs.Ops.{width, sum_ops};
 ghost use Rattle.ledger_core.specs.Row.{Accepts};
 ghost use Rattle.segment_layout.specs.Layout.{depth, span, words};
-ghost use Rattle.register_rule.specs.declared.view.Who.TheVariants.{Worker};
 ghost use Rattle.register_rule.specs.declared.view.Member.{Member};
 ghost use Rattle.register_rule.specs.Words.{item_of};
 ghost use Rattle.register_rule.specs.Sums.{total};
 ghost use Rattle.register_rule.specs.Steps.{after};
-ghost use Rattle.register_rule.specs.Members.{led, scanned, filled, published, picked, without, met};
-ghost use Rattle.register_rule.specs.Told.{IsLoad, place_of, IsTold, IsNumber, AreRuled, AreRuledAt, HoldsNext, CompareAt};
-ghost use Rattle.register_rule.specs.Seats.{table_of, members_of, worker_of, board_id, Has, HasWorker};
+ghost use Rattle.register_rule.specs.Members.{filled, published, picked, without, met};
+ghost use Rattle.register_rule.specs.Told.{IsLoad, word_of, IsTold, IsNumber, AreRuledAt, HoldsNext};
+ghost use Rattle.register_rule.specs.Learned.{Learns};
+ghost use Rattle.register_rule.specs.Seats.{table_of, members_of, worker_of, index_of, board_id, Has, MayScan, HasWorker};
 
 use crate::board::{Board, Key, Law};
 use crate::load::Load;
@@ -48,7 +48,7 @@ impl<const N: usize, const C: usize, const H: usize, const G: usize> Board<N, C,
     #[inline]
     fn place(&self, what: Load) -> usize
         requires { IsLoad N (depth N (width C H G)) what }
-        ensures { (result ≡ place_of (depth N (width C H G)) what) × (result < self.now.table.shared.table_id.words) }
+        ensures { (result ≡ word_of (depth N (width C H G)) what) × (result < self.now.table.shared.table_id.words) }
     {
         match what {
             Load::Open { place } => self.number_at(place),
@@ -66,13 +66,10 @@ impl<const N: usize, const C: usize, const H: usize, const G: usize> Board<N, C,
     /// One load of a scan by the first member of a bundle.
     #[inline]
     pub(crate) fn load(&self, bundle: &mut Bundle, what: Load) -> u64
-        requires own { Has self.now bundle.old }
-        requires some { (m : Member) × (ms : List Member) × (members_of bundle.old ≡ m ∷ ms) }
+        requires own { MayScan self.now bundle.old }
         requires inside { IsLoad N (depth N (width C H G)) what }
-        ensures own { table_of bundle.new ≡ table_of bundle.old }
-        ensures member { members_of bundle.new ≡ led (scanned (after N (width C H G) what result)) (members_of bundle.old) }
+        ensures learns { Learns N C H G (after N (width C H G) what result) bundle.old bundle.new }
         ensures told { IsTold (width C H G) what (members_of bundle.old) result }
-        ensures ruled { AreRuled N (width C H G) (sum_ops C H) (Accepts C H G) (members_of bundle.new) }
     {
         let at = self.place(what);
         load_as::<Load, Key, Brand, Law<N, C, H, G>>(
@@ -85,14 +82,15 @@ impl<const N: usize, const C: usize, const H: usize, const G: usize> Board<N, C,
 
     /// Stores a word into the worker's own hidden buffer, at the item `item` of it.
     ///
-    /// Items are the row's words, the flag, one number for each worker, and the lent totals, in this order. A word of
-    /// the row is at most 2^48 - 1.
+    /// An item is counted along the buffer: `item_at` of segment_layout says where the row's words, the flag, the vector
+    /// and the lent totals stand. A word of the row is at most 2^48 - 1.
     #[inline]
     pub fn fill_word(&self, seat: &mut WorkSeat, item: usize, word: u64)
         requires own { HasWorker self.now seat.old }
         requires inside { item < depth N (width C H G) }
         requires bounded { item < width C H G → word ≤ 281474976710655 }
         ensures own { HasWorker self.now seat.new }
+        ensures index { index_of seat.new ≡ index_of seat.old }
         ensures member { worker_of seat.new ≡ filled item word (worker_of seat.old) }
     {
         let at = self.item_at(seat.worker, seat.number % 2 + 1, item);
@@ -116,7 +114,8 @@ impl<const N: usize, const C: usize, const H: usize, const G: usize> Board<N, C,
         requires full { HoldsNext N (width C H G) (depth N (width C H G)) (sum_ops C H) ops.now lends (worker_of seat.old) }
         requires accepted { Accepts C H G (total (sum_ops C H) (worker_of seat.old).work.made) ops.now }
         ensures own { HasWorker self.now seat.new }
-        ensures member { (i : ℕ) → (worker_of seat.old).who ≡ Worker i → worker_of seat.new ≡ published (width C H G) i ops.now lends (worker_of seat.old) }
+        ensures index { index_of seat.new ≡ index_of seat.old }
+        ensures member { worker_of seat.new ≡ published (width C H G) (index_of seat.old) ops.now lends (worker_of seat.old) }
     {
         let at = self.number_at(seat.worker);
         let number = seat.number + 1;
@@ -139,7 +138,6 @@ impl<const N: usize, const C: usize, const H: usize, const G: usize> Board<N, C,
         ensures same { members_of bundle.new ≡ members_of bundle.old }
         ensures number { IsNumber place (members_of bundle.old) result }
         ensures ruled { AreRuledAt N (width C H G) (sum_ops C H) (Accepts C H G) place (members_of bundle.old) result }
-        ensures comparable { CompareAt N place (members_of bundle.old) result }
     {
         let at = self.number_at(place);
         load_as::<usize, Key, Brand, Law<N, C, H, G>>(

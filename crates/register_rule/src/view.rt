@@ -35,7 +35,7 @@ pub struct Look {
 }
 
 /// What a scan recorded: all segments at one moment.
-pub struct Answer {
+pub struct Entry {
     /// The number of each segment.
     pub vector: LinkedList<u64>,
     /// The sums of the segments' rows, word by word.
@@ -47,7 +47,7 @@ pub struct Made {
     /// The operations that it added.
     pub ops: LinkedList<Op>,
     /// The answer that its version lends, if it lends one.
-    pub lends: Option<Answer>,
+    pub lends: Option<Entry>,
 }
 
 /// A worker that was asked for the view that it lends.
@@ -56,16 +56,15 @@ pub struct Asked {
     pub worker: usize,
     /// The number that the opening load found.
     pub number: u64,
-    /// The flag that was read.
-    pub flag: u64,
-    /// The vector that was read.
-    pub vector: LinkedList<u64>,
+    /// The words of the buffer that this number shows, as many as were read, from the flag on: the flag, the vector, the
+    /// totals.
+    pub words: LinkedList<u64>,
     /// The number that the confirming load found.
     pub again: u64,
 }
 
 /// A scan in progress, at its present try.
-pub struct Try {
+pub struct Progress {
     /// How many tries of the scan have failed.
     pub failed: u64,
     /// The numbers that the first try opened, once it has failed.
@@ -89,7 +88,7 @@ pub struct Scan {
     /// All workers asked.
     pub asked: LinkedList<Asked>,
     /// The answers of the scans that were not given up.
-    pub recorded: LinkedList<Answer>,
+    pub recorded: LinkedList<Entry>,
     /// How many scans were given up.
     pub quit: u64,
     /// For each segment the greatest number that is known to have been published.
@@ -97,7 +96,7 @@ pub struct Scan {
     /// For each segment the row that was confirmed last.
     pub kept: LinkedList<Version>,
     /// The scan in progress.
-    pub now: Try,
+    pub now: Progress,
 }
 
 /// What a worker has written.

@@ -12,8 +12,8 @@
 mod part;
 mod place;
 
-pub use part::Part;
-pub use place::{buffer_words, place_of, segment_words, words_needed};
+pub use part::{Item, Part};
+pub use place::{buffer_words, item_at, place_of, segment_words, words_needed};
 
 #[cfg(test)]
 mod tests;

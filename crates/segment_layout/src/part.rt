@@ -1,3 +1,16 @@
+/// What one word of a buffer is: a buffer has a row, a flag, a vector and the lent totals, in this order.
+#[derive(Clone, Copy, Debug, PartialEq, Eq)]
+pub enum Item {
+    /// A word of the row, below `w`.
+    Row { word: usize },
+    /// The flag.
+    Flag,
+    /// The number of the view's vector of a worker below `n`.
+    Vector { worker: usize },
+    /// The lent total of a word of the row, below `w`.
+    Lent { word: usize },
+}
+
 /// What one word of a segment is. Buffers are 0 and 1, and version `s` uses buffer `s` mod 2.
 #[derive(Clone, Copy, Debug, PartialEq, Eq)]
 pub enum Part {

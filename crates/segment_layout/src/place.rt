@@ -1,8 +1,8 @@
 ghost use Rattle.std.specs.Prelude.{◌≡◌, ◌+◌, ◌<◌, ◌≤◌};
 ghost use Rattle.ledger_core.specs.Ops.{width};
-ghost use Rattle.segment_layout.specs.Layout.{IsGeometry, IsPart, StandsAlone, depth, span, words, in_buffer, in_segment, place};
+ghost use Rattle.segment_layout.specs.Layout.{IsGeometry, IsPart, StandsAlone, depth, span, words, IsItem, item_at, in_buffer, in_segment, place};
 
-use crate::part::Part;
+use crate::part::{Item, Part};
 
 /// How many words a buffer has: `2 * w + 1 + n`, at most 2,529.
 #[inline]
@@ -46,6 +46,23 @@ pub fn place_of(n: usize, c: usize, h: usize, g: usize, segment: usize, part: Pa
     segment * segment_words(n, c, h, g) + in_segment(n, c, h, g, part)
 }
 
+/// The place of an item in its buffer, in words from the buffer's beginning.
+#[inline]
+pub fn item_at(n: usize, c: usize, h: usize, g: usize, item: Item) -> usize
+    requires geometry { IsGeometry n c h g }
+    requires item { IsItem n (width c h g) item }
+    ensures place { result ≡ item_at n (width c h g) item }
+    ensures within { result < depth n (width c h g) }
+{
+    let flag = row_words(c, h, g);
+    match item {
+        Item::Row { word } => word,
+        Item::Flag => flag,
+        Item::Vector { worker } => flag + 1 + worker,
+        Item::Lent { word } => flag + 1 + n + word,
+    }
+}
+
 // How many words a row has.
 #[inline]
 fn row_words(c: usize, h: usize, g: usize) -> usize
@@ -65,24 +82,23 @@ fn in_segment(n: usize, c: usize, h: usize, g: usize, part: Part) -> usize
     ensures place { result ≡ in_segment n (width c h g) part }
     ensures within { result < span (depth n (width c h g)) }
 {
-    let flag = row_words(c, h, g);
     match part {
         Part::Number => 0,
-        Part::Row { buffer, word } => in_buffer(n, c, h, g, buffer, word),
-        Part::Flag { buffer } => in_buffer(n, c, h, g, buffer, flag),
-        Part::Vector { buffer, worker } => in_buffer(n, c, h, g, buffer, flag + 1 + worker),
-        Part::Lent { buffer, word } => in_buffer(n, c, h, g, buffer, flag + 1 + n + word),
+        Part::Row { buffer, word } => in_buffer(n, c, h, g, buffer, Item::Row { word }),
+        Part::Flag { buffer } => in_buffer(n, c, h, g, buffer, Item::Flag),
+        Part::Vector { buffer, worker } => in_buffer(n, c, h, g, buffer, Item::Vector { worker }),
+        Part::Lent { buffer, word } => in_buffer(n, c, h, g, buffer, Item::Lent { word }),
     }
 }
 
 // The place of an item of a buffer from its segment's beginning.
 #[inline]
-fn in_buffer(n: usize, c: usize, h: usize, g: usize, buffer: usize, item: usize) -> usize
+fn in_buffer(n: usize, c: usize, h: usize, g: usize, buffer: usize, item: Item) -> usize
     requires geometry { IsGeometry n c h g }
     requires buffer { buffer < 2 }
-    requires item { item < depth n (width c h g) }
-    ensures place { result ≡ in_buffer n (width c h g) buffer item }
+    requires item { IsItem n (width c h g) item }
+    ensures place { result ≡ in_buffer n (width c h g) buffer (item_at n (width c h g) item) }
     ensures within { result < span (depth n (width c h g)) }
 {
-    1 + buffer * buffer_words(n, c, h, g) + item
+    1 + buffer * buffer_words(n, c, h, g) + item_at(n, c, h, g, item)
 }

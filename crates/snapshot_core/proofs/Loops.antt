@@ -1,7 +1,8 @@
 -- One more step of a search.
 use Rattle.std.proofs.Common.{◌≡◌, ℕ, suc, ◌+◌, ◌-◌, ◌<◌, ◌≤◌, ◌&&◌, Bool, true, false, cond, List, ◌∷◌, Some, leb, le-leb, ap, ◌∙◌, arith, drop, length, get_or, drop-cons, map}
 use Rattle.std.proofs.lemmas.Bool.{lt-leb}
-use Rattle.snapshot_core.specs.Tries.{from_on, is_above}
+use Rattle.ledger_core.specs.Vectors.{is_above}
+use Rattle.snapshot_core.specs.Tries.{from_on}
 use Rattle.snapshot_core.specs.Scan.{failed_at, least_failed_of, is_to_ask, next_asked_of}
 
 pub failed_next : (o : List ℕ) (w : List Bool) (f : List ℕ) (k n : ℕ) → k < n → failed_at o w f k ≡ false → least_failed_of o w f k (n - k) ≡ least_failed_of o w f (k + 1) (n - (k + 1))

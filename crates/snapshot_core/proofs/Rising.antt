@@ -9,7 +9,8 @@ use lib.ListN.{get_elem?}
 use Rattle.std.specs.Prelude.{slice_get, slice_index, nat_le}
 use Rattle.snapshot_core.specs.declared.event.Event.{Event}
 use Rattle.snapshot_core.specs.declared.event.Event.TheVariants.{Begin, Step, Torn}
-use Rattle.snapshot_core.specs.Tries.{Read, Try, place_of, number_of, from_on, reads_of, TwoCollects, is_whole, same_numbers, is_clean, to_ask, is_above, Failed, AllFailed}
+use Rattle.ledger_core.specs.Vectors.{is_above}
+use Rattle.snapshot_core.specs.Tries.{Read, Try, place_of, number_of, from_on, reads_of, TwoCollects, is_whole, same_numbers, is_clean, to_ask, Failed, AllFailed}
 use Rattle.snapshot_core.specs.History.{Published, number_at}
 use Rattle.snapshot_core.specs.Turns.{Answered, own, own_reads}
 use Rattle.snapshot_core.specs.Faithful.{Meets, where_and_torn}

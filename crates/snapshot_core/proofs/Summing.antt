@@ -2,7 +2,8 @@
 use Rattle.std.proofs.Common.{◌≡◌, ℕ, zero, suc, ◌+◌, ◌%◌, ◌^◌, ◌<◌, false, min, List, [], ◌∷◌, length, map, get_or, set, leb, sym, refl, ap, ◌∙◌, arith}
 use Rattle.std.proofs.lemmas.Bool.{and_right}
 use Rattle.std.proofs.lemmas.List.{get_or_read}
-use Rattle.snapshot_core.specs.Tries.{from_on, is_above}
+use Rattle.ledger_core.specs.Vectors.{is_above}
+use Rattle.snapshot_core.specs.Tries.{from_on}
 use Rattle.snapshot_core.specs.Machine.{added}
 
 -- the first k words added

@@ -11,7 +11,8 @@ use Rattle.snapshot_core.specs.Next.{Follows, FailedAt, HeldAt}
 use Rattle.snapshot_core.specs.Scan.{least_of, failed_at, next_asked_of, lends_to, failed_of, given_up, asks_or_fails, asked_from, asks_or_ends, collected, first_at, second_at, asked_at, first_by, second_by, asked_by, new_scan}
 use Rattle.snapshot_core.specs.Sized.{IsSized}
 use Rattle.snapshot_core.specs.Told.{Told, lent_by, vector_of}
-use Rattle.snapshot_core.specs.Tries.{View, Read, Try, place_of, number_of, from_on, reads_of, TwoCollects, is_clean, to_ask, is_above, lends_view, lends, none_lends, Failed, AllFailed, first_try, floor_of, base_of}
+use Rattle.ledger_core.specs.Vectors.{is_above}
+use Rattle.snapshot_core.specs.Tries.{View, Read, Try, place_of, number_of, from_on, reads_of, TwoCollects, is_clean, to_ask, lends_view, lends, none_lends, Failed, AllFailed, first_try, floor_of, base_of}
 use Rattle.snapshot_core.proofs.Collects.{words, Stands, count_of, places_more, stands_more, parts_are, clean_is, least_within, least_held, tests_at, asked_over, asked_none, asked_some, asked_after, asks_same}
 use Rattle.snapshot_core.proofs.Sized.{asked_within}
 

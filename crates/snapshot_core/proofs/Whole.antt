@@ -11,7 +11,8 @@ use Rattle.snapshot_core.specs.declared.event.Event.{Event}
 use Rattle.snapshot_core.specs.declared.event.Event.TheVariants.{Torn}
 use Rattle.snapshot_core.specs.declared.trace.How.{How}
 use Rattle.snapshot_core.specs.declared.trace.How.TheVariants.{Direct, Lent, GaveUp}
-use Rattle.snapshot_core.specs.Tries.{View, Read, Try, place_of, number_of, from_on, reads_of, TwoCollects, to_ask, is_above, lends, lends_view, none_lends, Failed, AllFailed, EndsLent, first_try, floor_of, base_of}
+use Rattle.ledger_core.specs.Vectors.{is_above}
+use Rattle.snapshot_core.specs.Tries.{View, Read, Try, place_of, number_of, from_on, reads_of, TwoCollects, to_ask, lends, lends_view, none_lends, Failed, AllFailed, EndsLent, first_try, floor_of, base_of}
 use Rattle.snapshot_core.specs.History.{Published, number_at, IsMoment, OneStep}
 use Rattle.snapshot_core.specs.Turns.{Answered}
 use Rattle.snapshot_core.specs.Faithful.{lent_at, where_and_torn, Ends, IsScan, IsJustified, reads_in, reads_by, WholeReadsAnswer}

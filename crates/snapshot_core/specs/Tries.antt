@@ -2,6 +2,7 @@
 -- Snapshots of Shared Memory", J. ACM 40(4), 1993, section 3; who is asked, who lends and how many tries there are, are
 -- this project's own.
 use Rattle.std.specs.Prelude.{◌≡◌, ℕ, zero, suc, ◌+◌, ◌==◌, ◌&&◌, not, nat_le, cond, Bool, true, false, Option, Some, None, List, [], ◌∷◌, ◌++◌, map, slice_index}
+use Rattle.ledger_core.specs.Vectors.{is_above}
 
 -- a vector, one number for each worker, and the totals of all rows at this vector
 pub record View : Type 0 where
@@ -61,12 +62,6 @@ is_clean t = is_whole t.first && same_numbers (map number_of t.first) (map numbe
 abbrev pub to_ask : (base : List ℕ) → List Read → List ℕ
 to_ask base [] = []
 to_ask base (r ∷ rs) = cond (nat_le (slice_index base r.place + 2) r.number) (r.place ∷ to_ask base rs) (to_ask base rs)
-
--- the vector is below the floor nowhere
-abbrev pub is_above : (floor vector : List ℕ) → Bool
-is_above [] vector = true
-is_above (x ∷ floor) [] = false
-is_above (x ∷ floor) (y ∷ vector) = nat_le x y && is_above floor vector
 
 -- an asked worker lends where it is read whole and its version has a view that is not below the floor
 abbrev pub lends_view : (floor : List ℕ) → Option View → Bool

@@ -1,7 +1,8 @@
 //! The machine of events: n workers and four readers over plain segments, one event an atomic action.
 ghost use Rattle.std.specs.Prelude.{◌≡◌, ◌<◌, ◌+◌, length, map, replicate, slice_get, OnOk, IfOk};
 ghost use Rattle.ledger_core.specs.Ops.{width};
-ghost use Rattle.snapshot_core.specs.Runs.{AreWorkers, IsGeometry};
+ghost use Rattle.ledger_core.specs.Limits.{AreWorkers};
+ghost use Rattle.ledger_core.specs.Limits.{AreSlots};
 ghost use Rattle.snapshot_core.specs.Turns.{ops_of};
 ghost use Rattle.snapshot_core.specs.Machine.{act_of, seg_of, world_of, idle_of, blank_of, start, accepts, begins, reads, publishes_by, steps, happens, world_at};
 
@@ -27,7 +28,7 @@ fn new_segments<const C: usize, const H: usize, const G: usize>(
     alloc: Global,
     n: usize,
 ) -> Result<Vec<Segment<C, H, G>>, AllocError>
-    requires { IsGeometry C H G }
+    requires { AreSlots C H G }
     ensures { IfOk result (λ v. map seg_of v.items ≡ replicate n (blank_of (width C H G))) }
 {
     let mut segments = Vec::new(alloc);
@@ -47,7 +48,7 @@ fn new_actors<const C: usize, const H: usize, const G: usize>(
     count: usize,
 ) -> Result<Vec<Actor>, AllocError>
     requires workers { AreWorkers n }
-    requires geometry { IsGeometry C H G }
+    requires geometry { AreSlots C H G }
     ensures { IfOk result (λ v. map act_of v.items ≡ replicate count (idle_of (width C H G) n)) }
 {
     let mut actors = Vec::new(alloc);
@@ -61,7 +62,7 @@ impl<const C: usize, const H: usize, const G: usize> Machine<C, H, G> {
     /// Nothing has happened.
     fn new(alloc: Global, n: usize) -> Result<Machine<C, H, G>, AllocError>
         requires workers { AreWorkers n }
-        requires geometry { IsGeometry C H G }
+        requires geometry { AreSlots C H G }
         ensures same { IfOk result (λ m. m.n ≡ n) }
         ensures world { IfOk result (λ m. world_of m ≡ start n (width C H G)) }
     {
@@ -83,7 +84,7 @@ impl<const C: usize, const H: usize, const G: usize> Machine<C, H, G> {
         event: &Event,
     ) -> Result<(), AllocError>
         requires workers { AreWorkers self.old.n }
-        requires geometry { IsGeometry C H G }
+        requires geometry { AreSlots C H G }
         ensures same { self.new.n ≡ self.old.n }
         ensures world { OnOk result (world_of self.new ≡ happens C H G self.old.n events.now (world_of self.old) at event.now) }
     {
@@ -100,7 +101,7 @@ impl<const C: usize, const H: usize, const G: usize> Machine<C, H, G> {
     // An actor at rest begins, where it may.
     fn begin(&mut self, at: usize, who: usize, ops: &[Op])
         requires workers { AreWorkers self.old.n }
-        requires geometry { IsGeometry C H G }
+        requires geometry { AreSlots C H G }
         ensures same { self.new.n ≡ self.old.n }
         ensures world { world_of self.new ≡ begins C H G self.old.n (world_of self.old) at who ops.now (slice_get (world_of self.old).actors who) }
     {
@@ -116,7 +117,7 @@ impl<const C: usize, const H: usize, const G: usize> Machine<C, H, G> {
 
     // Whether a worker's row accepts the operations and its number is not the greatest, or a reader has none.
     fn accepts(&self, who: usize, ops: &[Op]) -> bool
-        requires { IsGeometry C H G }
+        requires { AreSlots C H G }
         ensures { result ≡ accepts C H G self.now.n ops.now (slice_get (world_of self.now).segments who) }
     {
         if who < self.segments.len() {
@@ -137,7 +138,7 @@ impl<const C: usize, const H: usize, const G: usize> Machine<C, H, G> {
         who: usize,
         torn: bool,
     ) -> Result<(), AllocError>
-        requires { IsGeometry C H G }
+        requires { AreSlots C H G }
         ensures same { self.new.n ≡ self.old.n }
         ensures world { OnOk result (world_of self.new ≡ steps C H G self.old.n events.now (world_of self.old) at who torn (slice_get (world_of self.old).actors who)) }
     {
@@ -160,7 +161,7 @@ impl<const C: usize, const H: usize, const G: usize> Machine<C, H, G> {
     // The next read of the actor's scan, and its end where it ends.
     fn read(&mut self, alloc: Global, at: usize, who: usize, torn: bool) -> Result<(), AllocError>
         requires known { who < length self.old.actors.items }
-        requires geometry { IsGeometry C H G }
+        requires geometry { AreSlots C H G }
         ensures same { self.new.n ≡ self.old.n }
         ensures world { OnOk result (world_of self.new ≡ reads C H G self.old.n (world_of self.old) at who torn (slice_get (world_of self.old).actors who)) }
     {
@@ -192,7 +193,7 @@ impl<const C: usize, const H: usize, const G: usize> Machine<C, H, G> {
         ops: &[Op],
     ) -> Result<(), AllocError>
         requires known { who < length self.old.actors.items }
-        requires geometry { IsGeometry C H G }
+        requires geometry { AreSlots C H G }
         ensures same { self.new.n ≡ self.old.n }
         ensures world { OnOk result (world_of self.new ≡ publishes_by C H G self.old.n (world_of self.old) at who ops.now (slice_get (world_of self.old).actors who)) }
     {
@@ -233,7 +234,7 @@ pub(crate) fn run_machine<const C: usize, const H: usize, const G: usize>(
     events: &[Event],
 ) -> Result<Machine<C, H, G>, AllocError>
     requires workers { AreWorkers n }
-    requires geometry { IsGeometry C H G }
+    requires geometry { AreSlots C H G }
     ensures { IfOk result (λ m. world_of m ≡ world_at C H G n events.now (length events.now)) }
 {
     let mut machine = Machine::<C, H, G>::new(alloc, n)?;

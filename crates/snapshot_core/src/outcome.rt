@@ -1,6 +1,8 @@
 // Whether a trace is what a list of events comes to.
 ghost use Rattle.std.specs.Prelude.{◌≡◌, ◌↔◌, map, IsTrue, IfOk, IfErr};
-ghost use Rattle.snapshot_core.specs.Runs.{AreWorkers, IsGeometry, IsRunFault};
+ghost use Rattle.ledger_core.specs.Limits.{AreWorkers};
+ghost use Rattle.ledger_core.specs.Limits.{AreSlots};
+ghost use Rattle.snapshot_core.specs.Runs.{IsRunFault};
 ghost use Rattle.snapshot_core.specs.Turns.{answered_of, published_of};
 ghost use Rattle.snapshot_core.specs.Faithful.{IsOutcome};
 
@@ -28,7 +30,7 @@ pub fn is_outcome<const C: usize, const H: usize, const G: usize>(
     events: &[Event],
     trace: &Trace,
 ) -> Result<bool, RunFault>
-    requires { IsGeometry C H G }
+    requires { AreSlots C H G }
     ensures fault { IfErr result (IsRunFault n) }
     ensures workers { IfOk result (λ _. AreWorkers n) }
     ensures decided { IfOk result (λ b. IsTrue b ↔ IsOutcome n C H G events.now (map published_of trace.now.publishes.items) (map answered_of trace.now.answers.items)) }

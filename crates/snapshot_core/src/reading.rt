@@ -3,7 +3,8 @@ ghost use Rattle.std.specs.Prelude.{◌≡◌, ℕ, ◌==◌, ◌++◌, cond, ta
 ghost use Rattle.ledger_core.specs.Ops.{width};
 ghost use Rattle.snapshot_core.specs.Told.{vector_of};
 ghost use Rattle.snapshot_core.specs.Scan.{asked_by};
-ghost use Rattle.snapshot_core.specs.Runs.{AreWorkers, IsGeometry};
+ghost use Rattle.ledger_core.specs.Limits.{AreWorkers};
+ghost use Rattle.ledger_core.specs.Limits.{AreSlots};
 ghost use Rattle.snapshot_core.specs.Turns.{view_of, answered_of};
 ghost use Rattle.snapshot_core.specs.Machine.{act_of, seg_of, lent_of, idle_of, begun_of, added, not_torn, read_by, place_in, end_by, ended_of, ended_by, told_by, or_blank};
 
@@ -68,7 +69,7 @@ impl Actor {
         n: usize,
     ) -> Result<Actor, AllocError>
         requires workers { AreWorkers n }
-        requires geometry { IsGeometry C H G }
+        requires geometry { AreSlots C H G }
         ensures { IfOk result (λ a. act_of a ≡ idle_of (width C H G) n) }
     {
         let mut totals = Vec::new(alloc);

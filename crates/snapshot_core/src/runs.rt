@@ -1,14 +1,16 @@
 // Running a list of events.
 ghost use Rattle.std.specs.Prelude.{◌≡◌, length, map, IfOk, IfErr};
-ghost use Rattle.snapshot_core.specs.Runs.{AreWorkers, IsGeometry, IsRunFault};
+ghost use Rattle.ledger_core.specs.Limits.{AreWorkers};
+ghost use Rattle.ledger_core.specs.Limits.{AreSlots};
+ghost use Rattle.snapshot_core.specs.Runs.{IsRunFault};
 ghost use Rattle.snapshot_core.specs.Turns.{answered_of, published_of};
 ghost use Rattle.snapshot_core.specs.Faithful.{IsFaithful, AreOneStep, AreFew, UndisturbedIsDirect, WholeReadsAnswer};
 
 use crate::event::Event;
 use crate::machine::run_machine;
 use crate::run_fault::RunFault;
-use crate::scan::MOST;
 use crate::trace::Trace;
+use ledger_core::MAX_WORKERS;
 use std::alloc::Global;
 
 /// Runs the events on `n` workers and four readers over plain segments, whose rows have `C` counters, at most 256, `H`
@@ -27,7 +29,7 @@ pub fn run<const C: usize, const H: usize, const G: usize>(
     n: usize,
     events: &[Event],
 ) -> Result<Trace, RunFault>
-    requires { IsGeometry C H G }
+    requires { AreSlots C H G }
     ensures fault { IfErr result (IsRunFault n) }
     ensures workers { IfOk result (λ _. AreWorkers n) }
     ensures faithful { IfOk result (λ t. IsFaithful n C H G events.now (map published_of t.publishes.items) (map answered_of t.answers.items)) }
@@ -36,7 +38,7 @@ pub fn run<const C: usize, const H: usize, const G: usize>(
     ensures direct { IfOk result (λ t. UndisturbedIsDirect n C H G events.now (map published_of t.publishes.items) (map answered_of t.answers.items)) }
     ensures whole { IfOk result (λ t. WholeReadsAnswer events.now n (map published_of t.publishes.items) (map answered_of t.answers.items)) }
 {
-    if n < 1 || n > MOST {
+    if n < 1 || n > MAX_WORKERS {
         return Err(RunFault::Geometry);
     }
     let machine = run_machine::<C, H, G>(alloc, n, events)?;

@@ -2,9 +2,7 @@
 ghost use Rattle.std.specs.Prelude.{◌≡◌, ℕ, ◌+◌, ◌-◌, ◌<◌, ◌≤◌, length, Option, Some, None, Bool, true, false, map, option_map, nat_lt, slice_index, MatchOption};
 
 use crate::next::Next;
-
-/// The most workers.
-pub const MOST: usize = 32;
+use ledger_core::MAX_WORKERS;
 
 /// A scan of `n` workers: what its try in progress has read, and what comes next.
 #[derive(Clone, Copy)]
@@ -16,15 +14,15 @@ pub struct Scan {
     /// What comes next.
     pub next: Next,
     /// The numbers of the first collect.
-    pub opened: [u64; MOST],
+    pub opened: [u64; MAX_WORKERS],
     /// Which workers the first collect read whole.
-    pub whole: [bool; MOST],
+    pub whole: [bool; MAX_WORKERS],
     /// The numbers of the second collect.
-    pub found: [u64; MOST],
+    pub found: [u64; MAX_WORKERS],
     /// The numbers of the first collect of the first try.
-    pub floor: [u64; MOST],
+    pub floor: [u64; MAX_WORKERS],
     /// The numbers of the second collect of the first try.
-    pub base: [u64; MOST],
+    pub base: [u64; MAX_WORKERS],
 }
 
 impl Scan {
@@ -39,11 +37,11 @@ impl Scan {
             n,
             tries: 1,
             next: Next::First(0),
-            opened: [0; MOST],
-            whole: [false; MOST],
-            found: [0; MOST],
-            floor: [0; MOST],
-            base: [0; MOST],
+            opened: [0; MAX_WORKERS],
+            whole: [false; MAX_WORKERS],
+            found: [0; MAX_WORKERS],
+            floor: [0; MAX_WORKERS],
+            base: [0; MAX_WORKERS],
         }
     }
 

@@ -1,6 +1,6 @@
 // The steps of a scan as the machine of events takes them: each gives the very scan.
 ghost use Rattle.std.specs.Prelude.{◌≡◌, option_map, take};
-ghost use Rattle.snapshot_core.specs.Runs.{AreWorkers};
+ghost use Rattle.ledger_core.specs.Limits.{AreWorkers};
 ghost use Rattle.snapshot_core.specs.Scan.{new_scan, first_by, second_by, asked_by};
 
 use crate::scan::Scan;
