@@ -1,0 +1,11 @@
+pub mod Words
+pub mod Blank
+pub mod Opening
+pub mod Settling
+pub mod Asking
+pub mod Trying
+pub mod Scanning
+pub mod Coming
+pub mod Arriving
+pub mod Totals
+pub mod LastEntry

@@ -1,0 +1,109 @@
+-- The totals of an answer: each is below 2^53, and of each histogram the buckets add up to the count.
+use Rattle.std.proofs.Common.{◌≡◌, ℕ, zero, suc, ◌+◌, ◌*◌, ◌<◌, ◌≤◌, List, [], ◌∷◌, ◌++◌, length, take, slice_index, sym, refl, ap, ap₂, ◌∙◌, subst, arith, append_assoc, append-nil}
+use mathlib.Core.Option.{some}
+use lib.ListN.{get_elem?}
+use Rattle.std.specs.Prelude.{sum_by}
+use Rattle.std.specs.List.{range_with_len}
+use Rattle.std.proofs.Math.Seq.{take-length}
+use Rattle.std.proofs.lemmas.List.Sums.{sum_by-cons}
+use Rattle.ledger_core.specs.declared.op.Op.{Op}
+use Rattle.ledger_core.specs.Ops.{width, sum_ops}
+use Rattle.ledger_core.specs.Row.{Accepts}
+use Rattle.ledger_core.specs.Legal.{IsLegal}
+use Rattle.ledger_core.proofs.Legal.{legal_zeros, legal_ops, legal_sums}
+use Rattle.register_rule.specs.declared.view.Made.{Made}
+use Rattle.register_rule.specs.declared.view.Entry.{Entry}
+use Rattle.register_rule.specs.declared.view.Member.{Member}
+use Rattle.register_rule.specs.Sums.{total, row_sum, Legal}
+use Rattle.register_rule.specs.Scans.{IsEntry}
+use Rattle.register_rule.specs.Told.{AreRuled}
+use Rattle.register_rule.proofs.Moments.{length_tab}
+use Rattle.register_rule.proofs.Words.{read_at}
+use Rattle.snapshot_scan.specs.Snapshots.{AreLow}
+
+total_last : (adds : List Op → ℕ → ℕ) (xs : List Made) (x : Made) (k : ℕ) → total adds (xs ++ x ∷ []) k ≡ total adds xs k + adds x.ops k
+total_last adds [] x k = omega arith
+total_last adds (y ∷ ys) x k = let e = total_last adds ys x k in omega (arith, e)
+
+-- sums over the places from a on
+sum_same : (f f' : ℕ → ℕ) (a n : ℕ) → ((k : ℕ) → a ≤ k → k < a + n → f k ≡ f' k) → sum_by f (range_with_len a n) ≡ sum_by f' (range_with_len a n)
+sum_same f f' a zero same = refl
+sum_same f f' a (suc n) same =
+    sum_by-cons f a (range_with_len (a + 1) n)
+    ∙ ap₂ ◌+◌ (same a (omega arith) (omega arith)) (sum_same f f' (a + 1) n (λ k low high. same k (omega arith) (omega arith)))
+    ∙ sym (sum_by-cons f' a (range_with_len (a + 1) n))
+
+-- a row of c counters, h histograms and g gauges
+module _ (c h g : ℕ) where
+  abbrev AreAccepted : (before after : List Made) → Type 0
+  AreAccepted before after = Legal (sum_ops c h) (Accepts c h g) before after
+
+  -- each version of a worker has words of at most 2^48 - 1
+  row_low : (k : ℕ) → k < width c h g → (before after : List Made) (s : ℕ) → total (sum_ops c h) before k ≤ 281474976710655 → AreAccepted before after
+      → total (sum_ops c h) (before ++ take s after) k ≤ 281474976710655
+  row_low k lt before after zero low legal = subst (λ (z : List Made). total (sum_ops c h) z k ≤ 281474976710655) (sym (append-nil before)) low
+  row_low k lt before [] (suc s) low legal = subst (λ (z : List Made). total (sum_ops c h) z k ≤ 281474976710655) (sym (append-nil before)) low
+  row_low k lt before (x ∷ xs) (suc s) low legal =
+      let fits : total (sum_ops c h) before k + sum_ops c h (take (length x.ops) x.ops) k ≤ 281474976710655 = legal.0.fits (length x.ops) (omega arith) k lt in
+      let all : sum_ops c h (take (length x.ops) x.ops) k ≡ sum_ops c h x.ops k = ap (λ (z : List Op). sum_ops c h z k) (take-length x.ops) in
+      let one = total_last (sum_ops c h) before x k in
+      subst (λ (z : List Made). total (sum_ops c h) z k ≤ 281474976710655) (append_assoc before (x ∷ []) (take s xs))
+      (row_low k lt (before ++ x ∷ []) xs s (omega (arith, fits, all, one)) legal.1)
+
+  -- and is legal
+  row_legal : (before after : List Made) (s : ℕ) → AreAccepted before after → IsLegal c h (total (sum_ops c h) (take s after))
+  row_legal before after zero legal = legal_zeros c h 0
+  row_legal before [] (suc s) legal = legal_zeros c h 0
+  row_legal before (x ∷ xs) (suc s) legal =
+      legal_sums c h (sum_ops c h x.ops) (total (sum_ops c h) (take s xs)) (legal_ops c h g x.ops legal.0.within) (row_legal (before ++ x ∷ []) xs s legal.1)
+
+  module _ (n : ℕ) (made : ℕ → List Made) (legal : (i : ℕ) → i < n → AreAccepted [] (made i)) where
+    sum_low : (k : ℕ) → k < width c h g → (i : ℕ) (vector : List ℕ) → i + length vector ≤ n → row_sum (sum_ops c h) made i vector k ≤ length vector * 281474976710655
+    sum_low k lt i [] le = omega arith
+    sum_low k lt i (s ∷ vector) le =
+        let one = row_low k lt [] (made i) s (omega arith) (legal i (omega (arith, le))) in
+        let rest = sum_low k lt (suc i) vector (omega (arith, le)) in
+        omega (arith, one, rest)
+
+    sum_legal : (i : ℕ) (vector : List ℕ) → i + length vector ≤ n → IsLegal c h (row_sum (sum_ops c h) made i vector)
+    sum_legal i [] le = legal_zeros c h 0
+    sum_legal i (s ∷ vector) le =
+        legal_sums c h (total (sum_ops c h) (take s (made i))) (row_sum (sum_ops c h) made (suc i) vector)
+        (row_legal [] (made i) s (legal i (omega (arith, le)))) (sum_legal (suc i) vector (omega (arith, le)))
+
+  -- words that agree with those of a legal row are legal
+  legal_within : (row words : ℕ → ℕ) → ((k : ℕ) → k < width c h g → words k ≡ row k) → IsLegal c h row → IsLegal c h words
+  legal_within row words same legal = record {
+    counts = λ slot within.
+        same (c + 27 * slot + 26) (omega (arith, within))
+        ∙ (legal.counts slot within
+        ∙ sum_same (λ place. row (c + 27 * slot + place)) (λ place. words (c + 27 * slot + place)) 0 25 (λ k _ high. sym (same (c + 27 * slot + k) (omega (arith, within, high)))));
+  }
+
+-- an answer that a member of a board of n workers recorded
+module _ (n c h g : ℕ) (few : n ≤ 32) (ms : List Member) (ruled : AreRuled n (width c h g) (sum_ops c h) (Accepts c h g) ms)
+    (p q : ℕ) (m : Member) (a : Entry) (sits : get_elem? ms p ≡ some m) (records : get_elem? m.scan.recorded q ≡ some a) where
+  entry : IsEntry n (width c h g) (sum_ops c h) ruled.made ruled.history a
+  entry = ((ruled.scans p m sits).recorded q a records).0
+
+  -- it has a number for each worker
+  pub numbers_long : length a.vector ≡ n
+  numbers_long = ap length entry.moment.2 ∙ length_tab 0 n _
+
+  sum_at : (k : ℕ) → k < width c h g → slice_index a.totals k ≡ row_sum (sum_ops c h) ruled.made 0 a.vector k
+  sum_at k lt = read_at a.totals k _ 0 (entry.sums k lt)
+
+  -- each of its totals is below 2^53
+  pub totals_low : AreLow (width c h g) a.totals
+  totals_low k lt =
+      let e = sum_at k lt in
+      let low = sum_low c h g n ruled.made ruled.legal k lt 0 a.vector (omega (arith, numbers_long)) in
+      omega (arith, e, low, numbers_long, few)
+
+  pub total_low : (k x : ℕ) → get_elem? a.totals k ≡ some x → k < width c h g → x < 9007199254740992
+  total_low k x e lt = subst (λ (z : ℕ). z < 9007199254740992) (read_at a.totals k x 0 e) (totals_low k lt)
+
+  -- and of each histogram the buckets add up to the count
+  pub totals_legal : IsLegal c h (slice_index a.totals)
+  totals_legal = legal_within c h g (row_sum (sum_ops c h) ruled.made 0 a.vector) (slice_index a.totals) sum_at
+      (sum_legal c h g n ruled.made ruled.legal 0 a.vector (omega (arith, numbers_long)))

@@ -1,0 +1,124 @@
+use Rattle.std.proofs.Common.{◌≡◌, ◌≢◌, ◌<◌, ◌≤◌, ◌+◌, ◌-◌, ℕ, ◌==◌, ◌&&◌, Bool, true, false, List, [], ◌∷◌, ◌++◌, length, take, drop, map, slice_index, get_or, sym, refl, ap, ◌∙◌, subst, arith, rules, eq-eqb, ne_eqb, append_assoc}
+use mathlib.Core.Option.{some, some-ne-none}
+use lib.ListN.{get_elem?}
+use Rattle.ledger_core.specs.Ops.{width, sum_ops}
+use Rattle.register_rule.specs.declared.view.Asked.{Asked}
+use Rattle.register_rule.specs.declared.view.Scan.{Scan}
+use Rattle.register_rule.specs.declared.view.Member.{Member}
+use Rattle.register_rule.specs.Steps.{answered, gives_up}
+use Rattle.register_rule.specs.Members.{led, scanned}
+use Rattle.register_rule.specs.Seats.{HasMember, members_of}
+use Rattle.register_rule.proofs.Words.{each_push}
+use Rattle.snapshot_scan.specs.Shape.{scan_of, with_scan}
+use Rattle.snapshot_scan.specs.Asking.{Refuses, lent_in, asked_too, refused, refused_all, due_from, worker_of, MayAsk}
+use Rattle.snapshot_scan.proofs.Words.{scan_with, with_same, led_some, with_led}
+use Rattle.snapshot_scan.proofs.Opening.{map_both}
+use Rattle.snapshot_scan.proofs.Asking.{may_next, refused_snoc, due_here, due_other}
+use Rattle.snapshot_scan.proofs.asks.ask_all.Goals as goal
+
+pub loop-place-init : goal.loop-place-init
+loop-place-init g c = let ms = members_of (g.S.ScanSeat.bundle c.args.seat.now) in (
+  [],
+  record {
+    own = search rules;
+    ruled = c.requires.ruled;
+    leads = c.requires.own.1;
+    asked = refl;
+    refuses = λ q e at. absurd (some-ne-none e (sym at));
+    may = c.requires.may_ask;
+    view = sym (with_same ms);
+  },
+)
+
+-- what asking needs here
+floor_here : (low more : List ℕ) (p : ℕ) (c : Scan) → MayAsk low (p ∷ more) c → c.now.floor ≡ low
+floor_here low more p c may = may.floor (λ h. let h' = h in cc)
+
+pub ask-lends-requires : goal.ask-lends-requires
+ask-lends-requires g c =
+    let p = c.loop-place.place in let base = c.args.base.now in let found = c.args.found.now in
+    let ms = members_of (g.S.ScanSeat.bundle c.args.seat.now) in
+    let es = c.loop-place.invariant.0 in let inv = c.loop-place.invariant.1 in
+    let lens = c.requires.lengths in let a = c.loop-place.auto.lent in let t = c.loop-place-test.true in
+    let h : get_or base p 0 + 2 ≤ get_or found p 0 = c.if-not-due.ensures.0 refl in
+    let more = due_from (p + 1) (drop (p + 1) base) (drop (p + 1) found) in
+    let e : due_from p (drop p base) (drop p found) ≡ p ∷ more = due_here p base found (omega (arith, lens.2, lens.3)) t h in
+    let may : MayAsk c.args.floor.now (p ∷ more) (refused_all g.row.N es (scan_of ms)) = subst (λ (l : List ℕ). MayAsk c.args.floor.now l (refused_all g.row.N es (scan_of ms))) e inv.may in
+    let scan : scan_of (members_of (g.S.ScanSeat.bundle c.loop-place.seat)) ≡ refused_all g.row.N es (scan_of ms) = ap scan_of inv.view ∙ scan_with _ ms c.requires.own.1 in (
+      search rules,
+      (
+        (inv.own ∙ c.requires.own.0, inv.leads),
+        (
+          c.requires.geometry,
+          (
+            omega (arith, lens.3, t),
+            (
+              (lens.0, lens.1, a ∙ lens.4),
+              (
+                (more, ap (λ (d : Scan). d.now.due) scan ∙ may.due),
+                (
+                  (ap (λ (d : Scan). d.now.looks) scan ∙ may.looks, ap (λ (d : Scan). d.now.asks) scan ∙ may.asks),
+                  ap (λ (d : Scan). d.now.floor) scan ∙ floor_here c.args.floor.now more p (refused_all g.row.N es (scan_of ms)) may,
+                ),
+              ),
+            ),
+          ),
+        ),
+      ),
+    )
+
+pub returns-then-lends-clause-lends : goal.returns-then-lends-clause-lends
+returns-then-lends-clause-lends g c = λ _.
+    let p = c.loop-place.place in let base = c.args.base.now in let found = c.args.found.now in
+    let ms = members_of (g.S.ScanSeat.bundle c.args.seat.now) in
+    let n : ℕ = g.row.N in let w : ℕ = width g.row.C g.row.H g.row.G in
+    let es = c.loop-place.invariant.0 in let inv = c.loop-place.invariant.1 in
+    let lens = c.requires.lengths in let t = c.loop-place-test.true in
+    let h : get_or base p 0 + 2 ≤ get_or found p 0 = c.if-not-due.ensures.0 refl in
+    let more = due_from (p + 1) (drop (p + 1) base) (drop (p + 1) found) in
+    let d : due_from p (drop p base) (drop p found) ≡ p ∷ more = due_here p base found (omega (arith, lens.2, lens.3)) t h in
+    let scan : scan_of (members_of (g.S.ScanSeat.bundle c.loop-place.seat)) ≡ refused_all n es (scan_of ms) = ap scan_of inv.view ∙ scan_with _ ms c.requires.own.1 in
+    let l = c.ask-lends.ensures.lends c.if-lends.true in
+    let e : Asked = l.0 in
+    let a = lent_in n w c.ask-lends.new.lent in (
+      es,
+      e,
+      more,
+      ap (λ (z : ℕ). map worker_of es ++ z ∷ more) l.1 ∙ (ap (λ (z : List ℕ). map worker_of es ++ z) (sym d) ∙ inv.asked),
+      inv.refuses,
+      l.2,
+      l.3,
+      l.4 ∙ (ap (λ (x : Scan). with_scan (answered a (asked_too e x)) (members_of (g.S.ScanSeat.bundle c.loop-place.seat))) scan
+          ∙ (ap (with_scan (answered a (asked_too e (refused_all n es (scan_of ms))))) inv.view ∙ with_led (λ _. answered a (asked_too e (refused_all n es (scan_of ms)))) (refused_all n es (scan_of ms)) ms)),
+    )
+
+pub loop-place-preserved : goal.loop-place-preserved
+loop-place-preserved g c =
+    let p = c.loop-place.place in let base = c.args.base.now in let found = c.args.found.now in
+    let ms = members_of (g.S.ScanSeat.bundle c.args.seat.now) in
+    let n : ℕ = g.row.N in
+    let es = c.loop-place.invariant.0 in let inv = c.loop-place.invariant.1 in
+    let lens = c.requires.lengths in let t = c.loop-place-test.true in
+    let h : get_or base p 0 + 2 ≤ get_or found p 0 = c.if-not-due.ensures.0 refl in
+    let more = due_from (p + 1) (drop (p + 1) base) (drop (p + 1) found) in
+    let d : due_from p (drop p base) (drop p found) ≡ p ∷ more = due_here p base found (omega (arith, lens.2, lens.3)) t h in
+    let scan : scan_of (members_of (g.S.ScanSeat.bundle c.loop-place.seat)) ≡ refused_all n es (scan_of ms) = ap scan_of inv.view ∙ scan_with _ ms c.requires.own.1 in
+    let r = c.ask-lends.ensures.refuses c.if-lends.false in
+    let e : Asked = r.0 in
+    let snoc = refused_snoc n es e (scan_of ms) in
+    let view : members_of (g.S.ScanSeat.bundle c.ask-lends.new.seat) ≡ with_scan (refused_all n (es ++ e ∷ []) (scan_of ms)) ms =
+    r.3 ∙ (ap (λ (x : Scan). with_scan (gives_up n (refused e x)) (members_of (g.S.ScanSeat.bundle c.loop-place.seat))) scan
+    ∙ (ap (with_scan (gives_up n (refused e (refused_all n es (scan_of ms))))) inv.view ∙ (with_led (λ _. gives_up n (refused e (refused_all n es (scan_of ms)))) (refused_all n es (scan_of ms)) ms
+    ∙ ap (λ (x : Scan). with_scan x ms) (sym snoc)))) in (
+      es ++ e ∷ [],
+      record {
+        own = c.ask-lends.ensures.own ∙ inv.own;
+        ruled = c.ask-lends.ensures.ruled;
+        leads = subst HasMember (sym view) (led_some (λ _. refused_all n (es ++ e ∷ []) (scan_of ms)) ms c.requires.own.1);
+        asked = ap (λ (z : List ℕ). z ++ more) (map_both worker_of es e) ∙ (append_assoc (map worker_of es) (worker_of e ∷ []) more
+            ∙ (ap (λ (z : ℕ). map worker_of es ++ z ∷ more) r.1 ∙ (ap (λ (z : List ℕ). map worker_of es ++ z) (sym d) ∙ inv.asked)));
+        refuses = each_push (Refuses g.row.N c.args.floor.now) es e inv.refuses r.2;
+        may = subst (MayAsk c.args.floor.now more) (sym snoc) (may_next n p e c.args.floor.now more (refused_all n es (scan_of ms)) (subst (λ (l : List ℕ). MayAsk c.args.floor.now l (refused_all n es (scan_of ms))) d inv.may));
+        view = view;
+      },
+    )

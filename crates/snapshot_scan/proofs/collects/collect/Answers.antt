@@ -1,0 +1,92 @@
+use Rattle.std.proofs.Common.{Bool, true, ◌≡◌, ◌≢◌, ◌<◌, ◌+◌, ◌≤◌, ◌==◌, ℕ, zero, suc, List, [], ◌∷◌, ◌++◌, length, take, set, map, get_or, arith, rules, sym, ap, ◌∙◌, subst, below_more, get_or-set_other, get_or-set_same, ⊎_elim}
+use mathlib.Core.Option.{some, some-injective}
+use mathlib.Core.Logic.{dite}
+use native.Mathlib.Decide.{ℕ_discrete}
+use Rattle.std.proofs.lemmas.Bool.{eqb-true}
+use lib.ListN.{get_elem?}
+use Rattle.ledger_core.specs.Ops.{width}
+use Rattle.register_rule.proofs.Words.{there, at_below}
+use Rattle.snapshot_scan.proofs.Settling.{set_at}
+use Rattle.snapshot_scan.proofs.Asking.{and_parts}
+use Rattle.register_rule.specs.declared.view.Member.{Member}
+use Rattle.register_rule.specs.declared.view.Version.{Version}
+use Rattle.register_rule.specs.declared.view.Scan.{Scan}
+use Rattle.register_rule.specs.Members.{led, scanned}
+use Rattle.register_rule.specs.Seats.{HasMember, members_of}
+use Rattle.snapshot_scan.specs.declared.kept.Kept.{Kept}
+use Rattle.snapshot_scan.specs.Shape.{scan_of, with_scan, looked_at}
+use Rattle.snapshot_scan.specs.Memory.{IsWide, AreWide, IsLoaded, version_of, opening}
+use Rattle.snapshot_scan.proofs.Words.{take_next, take_all, length_take, led_some, with_led, with_same, from_set, map_set, set_same, at_map}
+use Rattle.snapshot_scan.proofs.Opening.{opens_more, opening_starts, loaded}
+use Rattle.snapshot_scan.proofs.collects.collect.Goals as goal
+
+pub loop-place-init : goal.loop-place-init
+loop-place-init g c =
+    let ms = members_of (g.S.ScanSeat.bundle c.args.seat.now) in record {
+      own = search rules;
+      leads = c.requires.own.1;
+      wide = c.requires.wide;
+      same = search rules;
+      view = sym (ap (λ (d : Scan). with_scan d ms) (opening_starts c.args.kept.now (scan_of ms) c.requires.rest.0) ∙ with_same ms);
+      known = λ e q x lt. absurd (omega (arith, lt));
+      told = λ q lt. absurd (omega (arith, lt));
+    }
+
+pub look-number-requires : goal.look-number-requires
+look-number-requires g c =
+    let p = c.loop-place.place in let gs = c.loop-place.kept in let gg : Kept = get_or gs p c.index-kept-place.result in
+    let inv = c.loop-place.invariant in
+    let lens = c.requires.lengths in let a1 = c.loop-place.auto.kept in let t = c.loop-place-test.true in
+    let lt : p < length gs = omega arith in
+    let at : get_elem? gs p ≡ some gg = there gs p c.index-kept-place.result lt in
+    let geo = c.requires.geometry in
+    (search rules, ((inv.own ∙ c.requires.own.0, inv.leads), (omega (arith, lens.0), (omega (arith, geo.workers.1, geo.slots.counters, geo.slots.histograms, geo.slots.gauges), inv.wide p gg at))))
+
+pub loop-place-preserved : goal.loop-place-preserved
+loop-place-preserved g c =
+    let bundle = g.S.ScanSeat.bundle in
+    let w : ℕ = width g.row.C g.row.H g.row.G in
+    let p = c.loop-place.place in let gs = c.loop-place.kept in let os = c.loop-place.opened in let x = c.look-number.result in let g' : Kept = c.look-number.new.self in
+    let ms = members_of (bundle c.args.seat.now) in
+    let c0 : Scan = scan_of ms in
+    let inv = c.loop-place.invariant in
+    let lens = c.requires.lengths in let a1 = c.loop-place.auto.kept in let a2 = c.loop-place.auto.opened in let t = c.loop-place-test.true in
+    let lt : p < length gs = omega arith in
+    let lt' : p < length os = omega (arith, lens.0, lens.1) in
+    let gg : Kept = get_or gs p c.index-kept-place.result in
+    let at : get_elem? gs p ≡ some gg = there gs p c.index-kept-place.result lt in
+    let more : take (p + 1) (set os p x) ≡ take p os ++ x ∷ [] = take_next os p x lt' in
+    let deep : length (take p os) ≡ p = length_take os p (omega arith) in
+    let f = looked_at w p x (gg.number == x) g'.fresh.items in
+    let shape : f (opening (take p os) gs c0) ≡ opening (take (p + 1) (set os p x)) (set gs p g') c0 =
+    subst (λ (z : ℕ). looked_at w z x (gg.number == x) g'.fresh.items (opening (take p os) gs c0) ≡ opening (take p os ++ x ∷ []) (set gs z g') c0) deep
+    (opens_more w x (take p os) gs gg g' c0 (ap (get_elem? gs) deep ∙ at) (omega (arith, deep)) c.look-number.ensures.same (c.requires.kept ∙ sym inv.same) c.requires.rest.1 c.requires.rest.2)
+    ∙ ap (λ (z : List ℕ). opening z (set gs p g') c0) (sym more) in
+    let view : members_of (bundle c.look-number.new.seat) ≡ with_scan (opening (take (p + 1) (set os p x)) (set gs p g') c0) ms =
+    c.look-number.ensures.member ∙ (ap (led (scanned f)) inv.view ∙ (with_led f (opening (take p os) gs c0) ms ∙ ap (λ (d : Scan). with_scan d ms) shape)) in
+    record {
+      own = c.look-number.ensures.own ∙ inv.own;
+      leads = subst HasMember (sym c.look-number.ensures.member) (led_some f _ inv.leads);
+      wide = λ q y e. ⊎_elim (λ h. inv.wide q y h) (λ h. subst (IsWide w) h.0 c.look-number.ensures.wide) (from_set gs p g' q y e);
+      same = map_set version_of gs p g' ∙ (ap (set (map version_of gs) p) c.look-number.ensures.same ∙ (set_same (map version_of gs) p (version_of gg) (at_map version_of gs p gg at) ∙ inv.same));
+      view = view;
+      known = λ t q y sm at'. let dd = c.index-kept-place-in-loop-place.result in let read : get_or (set gs p g') p dd ≡ g' = get_or-set_same gs p g' dd lt in let both = and_parts (c.loop-place.known) (x == (get_or (set gs p g') p dd).number) t in dite (ℕ_discrete q p)
+          (λ here. let yg : y ≡ g' = some-injective y g' (sym at' ∙ (ap (get_elem? (set gs p g')) here ∙ set_at gs p g' gg at)) in
+          let num : x ≡ g'.number = eqb-true x _ both.1 ∙ ap (λ (k : Kept). k.number) read in
+          ap (λ (k : Kept). k.number) yg ∙ (sym num ∙ (sym (get_or-set_same os p x 0 lt') ∙ ap (λ (i : ℕ). get_or (set os p x) i 0) (sym here))))
+          (λ other. let low : q < p = omega (arith, sm, other) in
+          ⊎_elim (λ h. inv.known both.0 q y low h ∙ sym (get_or-set_other os p q x 0 other)) (λ h. absurd (other h.1)) (from_set gs p g' q y at'));
+      told = below_more (λ (q : ℕ). IsLoaded q c0 (get_or (set os p x) q 0)) p
+          (λ q h. let ne : q ≢ p = omega (arith, h) in subst (IsLoaded q c0) (sym (get_or-set_other os p q x 0 ne)) (inv.told q h))
+          (subst (IsLoaded p c0) (sym (get_or-set_same os p x 0 lt')) (loaded p x c0 (take p os) gs ms _ c.requires.own.1 inv.view c.look-number.ensures.told));
+    }
+
+pub returns-clause-known : goal.returns-clause-known
+returns-clause-known g c = λ t q x at. let lens = c.requires.lengths in let a = c.loop-place.auto.kept in let f = c.loop-place-test.false in
+    c.loop-place.invariant.known t q x (let h = at_below c.loop-place.kept q x at in omega (arith, h, f)) at
+
+pub returns-clause-view : goal.returns-clause-view
+returns-clause-view g c =
+    let ms = members_of (g.S.ScanSeat.bundle c.args.seat.now) in
+    let lens = c.requires.lengths in let a2 = c.loop-place.auto.opened in let f = c.loop-place-test.false in
+    c.loop-place.invariant.view ∙ ap (λ (z : List ℕ). with_scan (opening z c.loop-place.kept (scan_of ms)) ms) (take_all c.loop-place.opened c.loop-place.place (omega (arith, lens.0, lens.1)))

@@ -1,0 +1,23 @@
+use Rattle.std.proofs.Common.{◌≡◌, ◌≢◌, ℕ, ◌==◌, Bool, cond, List, ◌++◌, length, take, drop, sym, ap, ◌∙◌, arith, ne_eqb}
+use Rattle.ledger_core.specs.Ops.{width}
+use Rattle.register_rule.specs.Members.{led, scanned}
+use Rattle.register_rule.specs.Steps.{after_open}
+use Rattle.register_rule.specs.Seats.{members_of}
+use Rattle.snapshot_scan.specs.Shape.{read_all, looked_at}
+use Rattle.snapshot_scan.proofs.Words.{led_led, over}
+use Rattle.snapshot_scan.proofs.kept.Kept.look.Goals as goal
+
+pub returns-then-number-self-clause-member : goal.returns-then-number-self-clause-member
+returns-then-number-self-clause-member g c =
+    let ws = c.read_items.new.words in
+    let w = width g.row.C g.row.H g.row.G in
+    let s = c.open-number.result in
+    let old = c.args.self.now in
+    let ne : old.number ≢ s = λ e. c.if-number-self.true (sym e) in
+    let a = c.read_items.auto.words in let v = c.as_mut_slice.ensures.value in
+    let n = c.as_mut_slice.ensures.len in
+    let e : take old.fresh.len (ws ++ drop (length ws) old.fresh.items) ≡ ws = over ws old.fresh.items old.fresh.len (a ∙ ap (λ (l : List ℕ). length l) v) (omega arith) in
+    c.read_items.ensures.member ∙ (ap (led (scanned (read_all w c.args.place s 0 ws))) c.open-number.ensures.learns.member
+    ∙ led_led (read_all w c.args.place s 0 ws) (after_open c.args.place s) (looked_at w c.args.place s (old.number == s) (take old.fresh.len (ws ++ drop (length ws) old.fresh.items))) (members_of (g.S.ScanSeat.bundle c.args.seat.now))
+    (λ d. sym (ap (λ (t : Bool). cond t (after_open c.args.place s d) (read_all w c.args.place s 0 (take old.fresh.len (ws ++ drop (length ws) old.fresh.items)) (after_open c.args.place s d))) (ne_eqb old.number s ne)
+    ∙ ap (λ (l : List ℕ). read_all w c.args.place s 0 l (after_open c.args.place s d)) e)))

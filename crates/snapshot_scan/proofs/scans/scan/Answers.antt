@@ -1,0 +1,315 @@
+use Rattle.std.proofs.Common.{◌≡◌, ◌<◌, ◌≤◌, ◌+◌, ℕ, List, [], ◌∷◌, ◌++◌, length, map, take, drop, slice_index, sym, refl, ap, ◌∙◌, subst, arith, rules, length-set}
+use Rattle.ledger_core.specs.Ops.{width}
+use Rattle.ledger_core.specs.Vectors.{is_above}
+use Rattle.register_rule.specs.declared.view.Asked.{Asked}
+use Rattle.register_rule.specs.declared.view.Scan.{Scan}
+use Rattle.register_rule.specs.declared.view.Member.{Member}
+use Rattle.register_rule.specs.Steps.{answered, gives_up}
+use Rattle.register_rule.specs.Seats.{members_of}
+use Rattle.register_rule.specs.History.{Below}
+use mathlib.Core.Option.{some, some-ne-none}
+use Rattle.snapshot_scan.specs.declared.kept.Kept.{Kept}
+use Rattle.snapshot_scan.specs.Shape.{scan_of, with_scan}
+use Rattle.snapshot_scan.specs.Memory.{version_of, opening, settling, failing, IsLoaded}
+use Rattle.snapshot_scan.specs.Asking.{lent_in, asked_too, refused_all, due_from, worker_of, MayAsk}
+use Rattle.snapshot_scan.specs.Scanned.{Tried, FailedTry, IsIdle, IsAnswered, IsGivenUp}
+use Rattle.snapshot_scan.proofs.Asking.{vector_long}
+use Rattle.snapshot_scan.proofs.Trying.{stood, AreTries, asking, given_last, none_due}
+use Rattle.snapshot_scan.proofs.Scanning.{now_is, still_some, others_same, then_is, seen_below, direct_first, direct_later, lent_later, all_failed, tries_more, tries_one, may_start, first_starts, at_loop, loop_fails, loop_lends, loop_refuses, count_more}
+use Rattle.snapshot_core.specs.declared.next.Next.TheVariants.{Direct, Lent, GaveUp}
+use Rattle.snapshot_scan.specs.Core.{CameTo, AnswersBy}
+use Rattle.snapshot_scan.proofs.Arriving.{came_first, came_later, came_lending, came_up}
+use Rattle.snapshot_scan.proofs.scans.scan.Goals as goal
+
+pub returns-then-clean-clause-direct : goal.returns-then-clean-clause-direct
+returns-then-clean-clause-direct g c = λ _ _.
+    let ms = members_of (g.S.ScanSeat.bundle c.args.seat.now) in
+    let r = c.try_once-clean.new in let lens = c.requires.lengths in
+    subst (λ (x : Scan). IsAnswered g.row.N (scan_of ms) x (record { vector = r.opened; totals = r.totals })) (sym (now_is _ ms _ c.requires.own.1 (c.try_once-clean.ensures.clean c.if-clean.true)))
+    (direct_first g.row.N r.opened r.found r.totals r.kept (scan_of ms) (c.try_once-clean.auto.opened ∙ lens.2) c.try_once-clean.ensures.told)
+
+pub loop-k-init : goal.loop-k-init
+loop-k-init g c =
+    let ms = members_of (g.S.ScanSeat.bundle c.args.seat.now) in
+    let n : ℕ = g.row.N in let w : ℕ = width g.row.C g.row.H g.row.G in
+    let r = c.try_once-clean.new in let lens = c.requires.lengths in
+    let fl = c.copy_from_slice.new.self in let ba = c.copy_from_slice-2.new.self in
+    let few : length r.kept ≡ n = c.try_once-clean.auto.kept ∙ lens.0 in
+    let long : length r.opened ≡ n = c.try_once-clean.auto.opened ∙ lens.2 in
+    let deep : length r.found ≡ n = c.try_once-clean.auto.found ∙ lens.3 in
+    let f : r.opened ≡ fl = sym c.copy_from_slice.ensures.after in let b : r.found ≡ ba = sym c.copy_from_slice-2.ensures.after in
+    let one : Tried = record { first = r.opened; second = r.found; asks = [] } in
+    let view : members_of (g.S.ScanSeat.bundle r.seat) ≡ with_scan (gives_up n (stood (one ∷ []) r.kept r.opened r.found (scan_of ms))) ms =
+    c.try_once-clean.ensures.failed c.if-clean.false ∙ ap (λ (x : Scan). with_scan (gives_up n x) ms) (first_starts n w r.opened r.found r.kept (scan_of ms) few long deep c.requires.idle.rest) in
+    let failed : FailedTry n r.opened r.found one = record { opened = long; found = deep; risen = c.try_once-clean.ensures.risen; rose = c.try_once-clean.ensures.rose c.if-clean.false; asked = sym (none_due 0 r.found); none = λ q e at. absurd (some-ne-none e (sym at)) } in (
+      one ∷ [],
+      record {
+        own = c.try_once-clean.ensures.own;
+        ruled = c.try_once-clean.ensures.ruled;
+        leads = still_some _ ms _ c.requires.own.1 view;
+        wide = c.try_once-clean.ensures.wide;
+        totals = c.try_once-clean.ensures.totals;
+        count = refl;
+        tried = subst (λ (x : List ℕ). AreTries n x ba r.opened r.found (one ∷ [])) f (subst (λ (x : List ℕ). AreTries n r.opened x r.opened r.found (one ∷ [])) b (tries_one n r.opened r.found failed));
+        lengths = (ap (λ (l : List ℕ). length l) (sym f) ∙ long, ap (λ (l : List ℕ). length l) (sym b) ∙ deep);
+        seen = subst (λ (x : List ℕ). Below (scan_of ms).seen x) f (seen_below n (scan_of ms) r.opened long c.try_once-clean.ensures.told);
+        view = view ∙ (λ z. with_scan (gives_up n (stood (one ∷ []) r.kept (f z) (b z) (scan_of ms))) ms);
+      },
+    )
+
+pub try_once-clean-requires-in-loop-k : goal.try_once-clean-requires-in-loop-k
+try_once-clean-requires-in-loop-k g c =
+    let ms = members_of (g.S.ScanSeat.bundle c.args.seat.now) in
+    let n : ℕ = g.row.N in
+    let inv = c.loop-k.invariant.1 in let tries = c.loop-k.invariant.0 in let lens = c.requires.lengths in
+    let fl = c.copy_from_slice.new.self in let ba = c.copy_from_slice-2.new.self in
+    let view = at_loop n c.loop-k._k tries c.loop-k.kept fl ba ms _ inv.count c.loop-k-test.true inv.view in
+    let scan = now_is (stood tries c.loop-k.kept fl ba (scan_of ms)) ms _ c.requires.own.1 view in (
+      search rules,
+      (
+        (inv.own ∙ c.requires.own.0, inv.leads),
+        (
+          c.requires.geometry,
+          (
+            (c.loop-k.auto.kept ∙ (c.try_once-clean.auto.kept ∙ lens.0), c.loop-k.auto.totals ∙ (c.try_once-clean.auto.totals ∙ lens.1), c.loop-k.auto.opened ∙ (c.try_once-clean.auto.opened ∙ lens.2), c.loop-k.auto.found ∙ (c.try_once-clean.auto.found ∙ lens.3)),
+            (inv.wide, (inv.totals, (ap (λ (d : Scan). d.kept) scan, (ap (λ (d : Scan). d.now.looks) scan, ap (λ (d : Scan). d.now.due) scan, ap (λ (d : Scan). d.now.asks) scan)))),
+          ),
+        ),
+      ),
+    )
+
+pub returns-then-clean-2-clause-own : goal.returns-then-clean-2-clause-own
+returns-then-clean-2-clause-own g c = c.try_once-clean-in-loop-k.ensures.own ∙ c.loop-k.invariant.1.own
+
+pub returns-then-clean-2-clause-idle : goal.returns-then-clean-2-clause-idle
+returns-then-clean-2-clause-idle g c = let scan = now_is _ _ _ c.loop-k.invariant.1.leads (c.try_once-clean-in-loop-k.ensures.clean c.if-clean-2.true) in
+    record { kept = ap (λ (d : Scan). d.kept) scan; rest = ap (λ (d : Scan). d.now) scan }
+
+pub returns-then-clean-2-clause-others : goal.returns-then-clean-2-clause-others
+returns-then-clean-2-clause-others g c =
+    let ms = members_of (g.S.ScanSeat.bundle c.args.seat.now) in
+    let inv = c.loop-k.invariant.1 in let r = c.try_once-clean-in-loop-k.new in
+    others_same _ ms _ c.requires.own.1 (then_is (λ (d : Scan). answered (record { vector = r.opened; totals = r.totals }) (settling r.opened r.found r.kept (opening r.opened r.kept d))) _ ms _ _ c.requires.own.1 inv.view (c.try_once-clean-in-loop-k.ensures.clean c.if-clean-2.true))
+
+pub returns-then-clean-2-clause-direct : goal.returns-then-clean-2-clause-direct
+returns-then-clean-2-clause-direct g c = λ _ _.
+    let ms = members_of (g.S.ScanSeat.bundle c.args.seat.now) in
+    let n : ℕ = g.row.N in
+    let inv = c.loop-k.invariant.1 in let tries = c.loop-k.invariant.0 in let lens = c.requires.lengths in
+    let fl = c.copy_from_slice.new.self in let ba = c.copy_from_slice-2.new.self in
+    let r = c.try_once-clean-in-loop-k.new in
+    let view = at_loop n c.loop-k._k tries c.loop-k.kept fl ba ms _ inv.count c.loop-k-test.true inv.view in
+    let d : Scan = stood tries c.loop-k.kept fl ba (scan_of ms) in
+    let scan = now_is d ms _ c.requires.own.1 view in
+    let end = then_is (λ (x : Scan). answered (record { vector = r.opened; totals = r.totals }) (settling r.opened r.found r.kept (opening r.opened r.kept x))) d ms _ _ c.requires.own.1 view (c.try_once-clean-in-loop-k.ensures.clean c.if-clean-2.true) in
+    subst (λ (x : Scan). IsAnswered n (scan_of ms) x (record { vector = r.opened; totals = r.totals })) (sym (now_is _ ms _ c.requires.own.1 end))
+    (direct_later n fl ba c.loop-k.opened c.loop-k.found tries inv.tried c.loop-k.kept (scan_of ms) r.opened r.found r.totals r.kept inv.lengths.0
+    (c.try_once-clean-in-loop-k.auto.opened ∙ (c.loop-k.auto.opened ∙ (c.try_once-clean.auto.opened ∙ lens.2)))
+    (λ q lt. subst (λ (x : Scan). IsLoaded q x (slice_index r.opened q)) scan (c.try_once-clean-in-loop-k.ensures.told q lt)))
+
+pub ask_all-lends-requires : goal.ask_all-lends-requires
+ask_all-lends-requires g c =
+    let ms = members_of (g.S.ScanSeat.bundle c.args.seat.now) in
+    let n : ℕ = g.row.N in let w : ℕ = width g.row.C g.row.H g.row.G in
+    let inv = c.loop-k.invariant.1 in let tries = c.loop-k.invariant.0 in let lens = c.requires.lengths in
+    let fl = c.copy_from_slice.new.self in let ba = c.copy_from_slice-2.new.self in
+    let r = c.try_once-clean-in-loop-k.new in
+    let few : length r.kept ≡ n = c.try_once-clean-in-loop-k.auto.kept ∙ (c.loop-k.auto.kept ∙ (c.try_once-clean.auto.kept ∙ lens.0)) in
+    let long : length r.opened ≡ n = c.try_once-clean-in-loop-k.auto.opened ∙ (c.loop-k.auto.opened ∙ (c.try_once-clean.auto.opened ∙ lens.2)) in
+    let deep : length r.found ≡ n = c.try_once-clean-in-loop-k.auto.found ∙ (c.loop-k.auto.found ∙ (c.try_once-clean.auto.found ∙ lens.3)) in
+    let view = at_loop n c.loop-k._k tries c.loop-k.kept fl ba ms _ inv.count c.loop-k-test.true inv.view in
+    let d : Scan = stood tries c.loop-k.kept fl ba (scan_of ms) in
+    let fails = loop_fails n w c.loop-k._k r.opened r.found r.kept c.loop-k.kept few long deep tries fl ba ms _ _ c.requires.own.1 inv.count view (c.try_once-clean-in-loop-k.ensures.failed c.if-clean-2.false) in
+    let scan = now_is _ ms _ c.requires.own.1 fails in (
+      search rules,
+      (
+        (c.try_once-clean-in-loop-k.ensures.own ∙ (inv.own ∙ c.requires.own.0), still_some _ ms _ c.requires.own.1 fails),
+        (
+          c.try_once-clean-in-loop-k.ensures.ruled,
+          (
+            c.requires.geometry,
+            (
+              (c.try_once-clean.auto.totals ∙ lens.1, inv.lengths.0, inv.lengths.1, deep, c.loop-k.auto.lent ∙ lens.4),
+              subst (MayAsk fl (due_from 0 ba r.found)) (sym scan) (may_start n r.opened r.found r.kept fl ba (due_from 0 ba r.found) d),
+            ),
+          ),
+        ),
+      ),
+    )
+
+pub returns-then-lends-clause-own : goal.returns-then-lends-clause-own
+returns-then-lends-clause-own g c = c.ask_all-lends.ensures.own ∙ (c.try_once-clean-in-loop-k.ensures.own ∙ c.loop-k.invariant.1.own)
+
+pub returns-then-lends-clause-idle : goal.returns-then-lends-clause-idle
+returns-then-lends-clause-idle g c =
+    let ms = members_of (g.S.ScanSeat.bundle c.args.seat.now) in
+    let n : ℕ = g.row.N in let w : ℕ = width g.row.C g.row.H g.row.G in
+    let inv = c.loop-k.invariant.1 in let tries = c.loop-k.invariant.0 in let lens = c.requires.lengths in
+    let fl = c.copy_from_slice.new.self in let ba = c.copy_from_slice-2.new.self in
+    let r = c.try_once-clean-in-loop-k.new in
+    let few : length r.kept ≡ n = c.try_once-clean-in-loop-k.auto.kept ∙ (c.loop-k.auto.kept ∙ (c.try_once-clean.auto.kept ∙ lens.0)) in
+    let long : length r.opened ≡ n = c.try_once-clean-in-loop-k.auto.opened ∙ (c.loop-k.auto.opened ∙ (c.try_once-clean.auto.opened ∙ lens.2)) in
+    let deep : length r.found ≡ n = c.try_once-clean-in-loop-k.auto.found ∙ (c.loop-k.auto.found ∙ (c.try_once-clean.auto.found ∙ lens.3)) in
+    let view = at_loop n c.loop-k._k tries c.loop-k.kept fl ba ms _ inv.count c.loop-k-test.true inv.view in
+    let d : Scan = stood tries c.loop-k.kept fl ba (scan_of ms) in
+    let fails = loop_fails n w c.loop-k._k r.opened r.found r.kept c.loop-k.kept few long deep tries fl ba ms _ _ c.requires.own.1 inv.count view (c.try_once-clean-in-loop-k.ensures.failed c.if-clean-2.false) in
+    let l = c.ask_all-lends.ensures.lends c.if-lends.true in
+    let a = lent_in n w c.ask_all-lends.new.lent in
+    let end = loop_lends n w c.loop-k._k r.opened r.found r.kept c.loop-k.kept few long deep tries fl ba ms _ _ c.requires.own.1 inv.count view _ a l.1 l.0 l.2 fails l.3 l.7 in
+    let scan = now_is _ ms _ c.requires.own.1 end in
+    record { kept = ap (λ (x : Scan). x.kept) scan; rest = ap (λ (x : Scan). x.now) scan }
+
+pub returns-then-lends-clause-others : goal.returns-then-lends-clause-others
+returns-then-lends-clause-others g c =
+    let ms = members_of (g.S.ScanSeat.bundle c.args.seat.now) in
+    let n : ℕ = g.row.N in let w : ℕ = width g.row.C g.row.H g.row.G in
+    let inv = c.loop-k.invariant.1 in let tries = c.loop-k.invariant.0 in let lens = c.requires.lengths in
+    let fl = c.copy_from_slice.new.self in let ba = c.copy_from_slice-2.new.self in
+    let r = c.try_once-clean-in-loop-k.new in
+    let few : length r.kept ≡ n = c.try_once-clean-in-loop-k.auto.kept ∙ (c.loop-k.auto.kept ∙ (c.try_once-clean.auto.kept ∙ lens.0)) in
+    let long : length r.opened ≡ n = c.try_once-clean-in-loop-k.auto.opened ∙ (c.loop-k.auto.opened ∙ (c.try_once-clean.auto.opened ∙ lens.2)) in
+    let deep : length r.found ≡ n = c.try_once-clean-in-loop-k.auto.found ∙ (c.loop-k.auto.found ∙ (c.try_once-clean.auto.found ∙ lens.3)) in
+    let view = at_loop n c.loop-k._k tries c.loop-k.kept fl ba ms _ inv.count c.loop-k-test.true inv.view in
+    let d : Scan = stood tries c.loop-k.kept fl ba (scan_of ms) in
+    let fails = loop_fails n w c.loop-k._k r.opened r.found r.kept c.loop-k.kept few long deep tries fl ba ms _ _ c.requires.own.1 inv.count view (c.try_once-clean-in-loop-k.ensures.failed c.if-clean-2.false) in
+    let l = c.ask_all-lends.ensures.lends c.if-lends.true in
+    let a = lent_in n w c.ask_all-lends.new.lent in
+    let end = loop_lends n w c.loop-k._k r.opened r.found r.kept c.loop-k.kept few long deep tries fl ba ms _ _ c.requires.own.1 inv.count view _ a l.1 l.0 l.2 fails l.3 l.7 in
+    others_same _ ms _ c.requires.own.1 end
+
+pub returns-then-lends-clause-lent : goal.returns-then-lends-clause-lent
+returns-then-lends-clause-lent g c = λ _.
+    let ms = members_of (g.S.ScanSeat.bundle c.args.seat.now) in
+    let n : ℕ = g.row.N in let w : ℕ = width g.row.C g.row.H g.row.G in
+    let inv = c.loop-k.invariant.1 in let tries = c.loop-k.invariant.0 in let lens = c.requires.lengths in
+    let fl = c.copy_from_slice.new.self in let ba = c.copy_from_slice-2.new.self in
+    let r = c.try_once-clean-in-loop-k.new in
+    let few : length r.kept ≡ n = c.try_once-clean-in-loop-k.auto.kept ∙ (c.loop-k.auto.kept ∙ (c.try_once-clean.auto.kept ∙ lens.0)) in
+    let long : length r.opened ≡ n = c.try_once-clean-in-loop-k.auto.opened ∙ (c.loop-k.auto.opened ∙ (c.try_once-clean.auto.opened ∙ lens.2)) in
+    let deep : length r.found ≡ n = c.try_once-clean-in-loop-k.auto.found ∙ (c.loop-k.auto.found ∙ (c.try_once-clean.auto.found ∙ lens.3)) in
+    let view = at_loop n c.loop-k._k tries c.loop-k.kept fl ba ms _ inv.count c.loop-k-test.true inv.view in
+    let d : Scan = stood tries c.loop-k.kept fl ba (scan_of ms) in
+    let fails = loop_fails n w c.loop-k._k r.opened r.found r.kept c.loop-k.kept few long deep tries fl ba ms _ _ c.requires.own.1 inv.count view (c.try_once-clean-in-loop-k.ensures.failed c.if-clean-2.false) in
+    let l = c.ask_all-lends.ensures.lends c.if-lends.true in
+    let a = lent_in n w c.ask_all-lends.new.lent in
+    let end = loop_lends n w c.loop-k._k r.opened r.found r.kept c.loop-k.kept few long deep tries fl ba ms _ _ c.requires.own.1 inv.count view _ a l.1 l.0 l.2 fails l.3 l.7 in
+    subst (λ (x : Scan). IsAnswered n (scan_of ms) x a) (sym (now_is _ ms _ c.requires.own.1 end))
+    (lent_later n fl ba c.loop-k.opened c.loop-k.found tries inv.tried c.loop-k.kept (scan_of ms) r.opened r.found r.kept a l.1 l.0 (worker_of l.1 ∷ l.2) inv.lengths.0
+    (vector_long n w c.ask_all-lends.new.lent (c.ask_all-lends.auto.lent ∙ (c.loop-k.auto.lent ∙ lens.4))) inv.seen (ap (λ (ws : List ℕ). is_above fl (take n (drop 1 ws))) (sym l.5) ∙ l.6.above))
+
+pub loop-k-preserved : goal.loop-k-preserved
+loop-k-preserved g c =
+    let ms = members_of (g.S.ScanSeat.bundle c.args.seat.now) in
+    let n : ℕ = g.row.N in let w : ℕ = width g.row.C g.row.H g.row.G in
+    let inv = c.loop-k.invariant.1 in let tries = c.loop-k.invariant.0 in let lens = c.requires.lengths in
+    let fl = c.copy_from_slice.new.self in let ba = c.copy_from_slice-2.new.self in
+    let r = c.try_once-clean-in-loop-k.new in
+    let few : length r.kept ≡ n = c.try_once-clean-in-loop-k.auto.kept ∙ (c.loop-k.auto.kept ∙ (c.try_once-clean.auto.kept ∙ lens.0)) in
+    let long : length r.opened ≡ n = c.try_once-clean-in-loop-k.auto.opened ∙ (c.loop-k.auto.opened ∙ (c.try_once-clean.auto.opened ∙ lens.2)) in
+    let deep : length r.found ≡ n = c.try_once-clean-in-loop-k.auto.found ∙ (c.loop-k.auto.found ∙ (c.try_once-clean.auto.found ∙ lens.3)) in
+    let view = at_loop n c.loop-k._k tries c.loop-k.kept fl ba ms _ inv.count c.loop-k-test.true inv.view in
+    let d : Scan = stood tries c.loop-k.kept fl ba (scan_of ms) in
+    let fails = loop_fails n w c.loop-k._k r.opened r.found r.kept c.loop-k.kept few long deep tries fl ba ms _ _ c.requires.own.1 inv.count view (c.try_once-clean-in-loop-k.ensures.failed c.if-clean-2.false) in
+    let q = c.ask_all-lends.ensures.refuses c.if-lends.false in
+    let t : Tried = record { first = r.opened; second = r.found; asks = q.0 } in
+    let end = loop_refuses n w c.loop-k._k r.opened r.found r.kept c.loop-k.kept few long deep tries fl ba ms _ _ c.requires.own.1 inv.count view _ q.0 fails q.1 q.3 in
+    let failed : FailedTry n fl ba t = record { opened = long; found = deep; risen = c.try_once-clean-in-loop-k.ensures.risen; rose = c.try_once-clean-in-loop-k.ensures.rose c.if-clean-2.false; asked = q.1; none = q.2 } in (
+      tries ++ t ∷ [],
+      record {
+        own = c.ask_all-lends.ensures.own ∙ (c.try_once-clean-in-loop-k.ensures.own ∙ inv.own);
+        ruled = c.ask_all-lends.ensures.ruled;
+        leads = still_some _ ms _ c.requires.own.1 end;
+        wide = c.try_once-clean-in-loop-k.ensures.wide;
+        totals = c.try_once-clean-in-loop-k.ensures.totals;
+        count = count_more tries t c.loop-k._k inv.count;
+        tried = tries_more n fl ba c.loop-k.opened c.loop-k.found tries inv.tried c.loop-k.kept (scan_of ms) r.opened r.found q.0 failed;
+        lengths = inv.lengths;
+        seen = inv.seen;
+        view = end;
+      },
+    )
+
+pub returns-clause-own : goal.returns-clause-own
+returns-clause-own g c = c.loop-k.invariant.1.own
+
+pub returns-clause-wide : goal.returns-clause-wide
+returns-clause-wide g c = c.loop-k.invariant.1.wide
+
+pub returns-clause-totals : goal.returns-clause-totals
+returns-clause-totals g c = c.loop-k.invariant.1.totals
+
+pub returns-clause-idle : goal.returns-clause-idle
+returns-clause-idle g c =
+    let ms = members_of (g.S.ScanSeat.bundle c.args.seat.now) in
+    let n : ℕ = g.row.N in
+    let inv = c.loop-k.invariant.1 in let tries = c.loop-k.invariant.0 in
+    let t = c.loop-k-test.false in let last = c.loop-k.auto._k-end in let count = inv.count in
+    let fl = c.copy_from_slice.new.self in let ba = c.copy_from_slice-2.new.self in
+    let scan = now_is _ ms _ c.requires.own.1 inv.view ∙ given_last n (stood tries c.loop-k.kept fl ba (scan_of ms)) refl (omega (arith, count, t, last)) in
+    record { kept = ap (λ (x : Scan). x.kept) scan; rest = ap (λ (x : Scan). x.now) scan }
+
+pub returns-clause-others : goal.returns-clause-others
+returns-clause-others g c = others_same _ _ _ c.requires.own.1 c.loop-k.invariant.1.view
+
+pub returns-clause-gave_up : goal.returns-clause-gave_up
+returns-clause-gave_up g c = λ _.
+    let ms = members_of (g.S.ScanSeat.bundle c.args.seat.now) in
+    let n : ℕ = g.row.N in
+    let inv = c.loop-k.invariant.1 in let tries = c.loop-k.invariant.0 in
+    let t = c.loop-k-test.false in let last = c.loop-k.auto._k-end in let count = inv.count in
+    let fl = c.copy_from_slice.new.self in let ba = c.copy_from_slice-2.new.self in
+    subst (λ (x : Scan). IsGivenUp n (scan_of ms) x c.loop-k.opened c.loop-k.found) (sym (now_is _ ms _ c.requires.own.1 inv.view))
+    (all_failed n fl ba c.loop-k.opened c.loop-k.found tries inv.tried c.loop-k.kept (scan_of ms) (omega (arith, count, t, last)))
+
+pub returns-then-clean-clause-came_direct : goal.returns-then-clean-clause-came_direct
+returns-then-clean-clause-came_direct g c = λ _ _.
+    let ms = members_of (g.S.ScanSeat.bundle c.args.seat.now) in
+    let r = c.try_once-clean.new in let lens = c.requires.lengths in
+    let n : ℕ = g.row.N in let w : ℕ = width g.row.C g.row.H g.row.G in
+    subst (λ (x : Scan). AnswersBy n w (scan_of ms) x (record { vector = r.opened; totals = r.totals })) (sym (now_is _ ms _ c.requires.own.1 (c.try_once-clean.ensures.clean c.if-clean.true)))
+    (came_first n w r.opened r.found r.kept (scan_of ms) (record { vector = r.opened; totals = r.totals }) (c.try_once-clean.auto.opened ∙ lens.2) (c.try_once-clean.ensures.same c.if-clean.true) refl)
+
+pub returns-then-clean-2-clause-came_direct : goal.returns-then-clean-2-clause-came_direct
+returns-then-clean-2-clause-came_direct g c = λ _ _.
+    let ms = members_of (g.S.ScanSeat.bundle c.args.seat.now) in
+    let n : ℕ = g.row.N in let w : ℕ = width g.row.C g.row.H g.row.G in
+    let inv = c.loop-k.invariant.1 in let tries = c.loop-k.invariant.0 in let lens = c.requires.lengths in
+    let fl = c.copy_from_slice.new.self in let ba = c.copy_from_slice-2.new.self in
+    let r = c.try_once-clean-in-loop-k.new in
+    let view = at_loop n c.loop-k._k tries c.loop-k.kept fl ba ms _ inv.count c.loop-k-test.true inv.view in
+    let d : Scan = stood tries c.loop-k.kept fl ba (scan_of ms) in
+    let end = then_is (λ (x : Scan). answered (record { vector = r.opened; totals = r.totals }) (settling r.opened r.found r.kept (opening r.opened r.kept x))) d ms _ _ c.requires.own.1 view (c.try_once-clean-in-loop-k.ensures.clean c.if-clean-2.true) in
+    let count = inv.count in let lt = c.loop-k-test.true in
+    subst (λ (x : Scan). AnswersBy n w (scan_of ms) x (record { vector = r.opened; totals = r.totals })) (sym (now_is _ ms _ c.requires.own.1 end))
+    (came_later n w fl ba c.loop-k.opened c.loop-k.found tries inv.tried c.loop-k.kept (scan_of ms) r.opened r.found r.kept (record { vector = r.opened; totals = r.totals })
+    (c.try_once-clean-in-loop-k.auto.opened ∙ (c.loop-k.auto.opened ∙ (c.try_once-clean.auto.opened ∙ lens.2))) (c.try_once-clean-in-loop-k.ensures.same c.if-clean-2.true) (omega (arith, count, lt)) refl)
+
+pub returns-then-lends-clause-came_lent : goal.returns-then-lends-clause-came_lent
+returns-then-lends-clause-came_lent g c = λ _.
+    let ms = members_of (g.S.ScanSeat.bundle c.args.seat.now) in
+    let n : ℕ = g.row.N in let w : ℕ = width g.row.C g.row.H g.row.G in
+    let inv = c.loop-k.invariant.1 in let tries = c.loop-k.invariant.0 in let lens = c.requires.lengths in
+    let fl = c.copy_from_slice.new.self in let ba = c.copy_from_slice-2.new.self in
+    let r = c.try_once-clean-in-loop-k.new in
+    let few : length r.kept ≡ n = c.try_once-clean-in-loop-k.auto.kept ∙ (c.loop-k.auto.kept ∙ (c.try_once-clean.auto.kept ∙ lens.0)) in
+    let long : length r.opened ≡ n = c.try_once-clean-in-loop-k.auto.opened ∙ (c.loop-k.auto.opened ∙ (c.try_once-clean.auto.opened ∙ lens.2)) in
+    let deep : length r.found ≡ n = c.try_once-clean-in-loop-k.auto.found ∙ (c.loop-k.auto.found ∙ (c.try_once-clean.auto.found ∙ lens.3)) in
+    let view = at_loop n c.loop-k._k tries c.loop-k.kept fl ba ms _ inv.count c.loop-k-test.true inv.view in
+    let fails = loop_fails n w c.loop-k._k r.opened r.found r.kept c.loop-k.kept few long deep tries fl ba ms _ _ c.requires.own.1 inv.count view (c.try_once-clean-in-loop-k.ensures.failed c.if-clean-2.false) in
+    let l = c.ask_all-lends.ensures.lends c.if-lends.true in
+    let a = lent_in n w c.ask_all-lends.new.lent in
+    let end = loop_lends n w c.loop-k._k r.opened r.found r.kept c.loop-k.kept few long deep tries fl ba ms _ _ c.requires.own.1 inv.count view _ a l.1 l.0 l.2 fails l.3 l.7 in
+    let count = inv.count in let lt = c.loop-k-test.true in
+    subst (λ (x : Scan). AnswersBy n w (scan_of ms) x a) (sym (now_is _ ms _ c.requires.own.1 end))
+    (came_lending n w fl ba c.loop-k.opened c.loop-k.found tries inv.tried c.loop-k.kept (scan_of ms) r.opened r.found r.kept a l.1 l.0 l.2 (worker_of l.1 ∷ l.2) long deep (omega (arith, count, lt))
+    (c.try_once-clean-in-loop-k.ensures.rose c.if-clean-2.false) l.3 l.4 l.6 (ap (lent_in n w) (sym l.5)))
+
+pub returns-clause-came_up : goal.returns-clause-came_up
+returns-clause-came_up g c = λ _ e moved.
+    let ms = members_of (g.S.ScanSeat.bundle c.args.seat.now) in
+    let n : ℕ = g.row.N in let w : ℕ = width g.row.C g.row.H g.row.G in
+    let inv = c.loop-k.invariant.1 in let tries = c.loop-k.invariant.0 in
+    let t = c.loop-k-test.false in let last = c.loop-k.auto._k-end in let count = inv.count in
+    let fl = c.copy_from_slice.new.self in let ba = c.copy_from_slice-2.new.self in
+    subst (λ (x : Scan). CameTo n w (scan_of ms) x (GaveUp e.worker e.first e.last)) (sym (now_is _ ms _ c.requires.own.1 inv.view))
+    (came_up n w fl ba c.loop-k.opened c.loop-k.found tries inv.tried c.loop-k.kept (scan_of ms) (omega (arith, count, t, last)) e moved)

@@ -1,0 +1,24 @@
+use Rattle.std.proofs.Common.{◌≡◌, ◌+◌, ℕ, List, length}
+use Rattle.ledger_core.specs.Ops.{width}
+use Rattle.register_rule.specs.Steps.{gives_up}
+use Rattle.register_rule.specs.Seats.{HasMember, table_of, members_of}
+use Rattle.snapshot_scan.specs.Shape.{scan_of, with_scan, IsRuled}
+use Rattle.snapshot_scan.specs.Memory.{AreWide, AreTotals}
+use Rattle.register_rule.specs.History.{Below}
+use Rattle.snapshot_scan.specs.Scanned.{Tried}
+use Rattle.snapshot_scan.proofs.Trying.{stood, AreTries}
+use Rattle.snapshot_scan.proofs.scans.scan.Given as goal
+
+abbrev pub invariant-loop-k : goal.invariant-loop-k
+invariant-loop-k g l = let bundle = g.S.ScanSeat.bundle in let ms = members_of (bundle l.fn.seat) in let w : ℕ = width g.row.C g.row.H g.row.G in (tries : List Tried) × record {
+  own : table_of (bundle l.seat) ≡ table_of (bundle l.fn.seat);
+  ruled : IsRuled g.row.N g.row.C g.row.H g.row.G (bundle l.seat);
+  leads : HasMember (members_of (bundle l.seat));
+  wide : AreWide w l.kept;
+  totals : AreTotals w l.kept l.totals;
+  count : length tries ≡ l._k + 1;
+  tried : AreTries g.row.N l.floor l.base l.opened l.found tries;
+  lengths : (length l.floor ≡ g.row.N) × (length l.base ≡ g.row.N);
+  seen : Below (scan_of ms).seen l.floor;
+  view : members_of (bundle l.seat) ≡ with_scan (gives_up g.row.N (stood tries l.kept l.floor l.base (scan_of ms))) ms;
+}

@@ -1,0 +1,58 @@
+-- Workers that are asked.
+use Rattle.std.specs.Prelude.{◌≡◌, ◌⊎◌, ℕ, suc, ◌+◌, ◌<◌, nat_le, true, cond, List, [], ◌∷◌, ◌++◌, length, take, drop, slice_index, ◌≢◌}
+use mathlib.Core.Option.{some}
+use lib.ListN.{get_elem?}
+use Rattle.ledger_core.specs.Vectors.{is_above}
+use Rattle.register_rule.specs.declared.view.Entry.{Entry}
+use Rattle.register_rule.specs.declared.view.Asked.{Asked}
+use Rattle.register_rule.specs.declared.view.Scan.{Scan}
+use Rattle.register_rule.specs.Steps.{rest, gives_up}
+
+-- the vector is below the floor at some place
+abbrev pub IsBelow : (floor vector : List ℕ) → Type 0
+IsBelow floor vector = (q x y : ℕ) × (get_elem? floor q ≡ some x) × (get_elem? vector q ≡ some y) × (y < x)
+
+-- an asked worker does not lend: it was not found under the same number again, its flag was read as 0, or its vector as
+-- below the floor
+abbrev pub Refuses : (n : ℕ) → (floor : List ℕ) → Asked → Type 0
+Refuses n floor e = (e.number ≢ e.again) ⊎ ((get_elem? e.words 0 ≡ some 0) ⊎ IsBelow floor (take n (drop 1 e.words)))
+
+-- an asked worker lends: it was found under the same number again, all its words were read, its flag is 1, and its vector is
+-- below the floor nowhere
+pub record Lends (n w : ℕ) (floor : List ℕ) (e : Asked) : Type 0 where
+  pub same : e.number ≡ e.again
+  pub all : length e.words ≡ 1 + n + w
+  pub flag : slice_index e.words 0 ≡ 1
+  pub above : is_above floor (take n (drop 1 e.words)) ≡ true
+
+abbrev pub asked_too : Asked → Scan → Scan
+asked_too e c = record c { asked = c.asked ++ e ∷ [] }
+
+-- the first worker to be asked did not lend
+abbrev pub refused : Asked → Scan → Scan
+refused e c = record c { asked = c.asked ++ e ∷ []; now = record c.now { due = rest c.now.due; asks = [] } }
+
+-- the flag, the vector and the totals that were read
+abbrev pub lent_in : (n w : ℕ) → List ℕ → Entry
+lent_in n w words = record { vector = take n (drop 1 words); totals = take w (drop (1 + n) words) }
+
+-- the workers from q on that are to be asked: those whose number was found 2 or more above the base
+abbrev pub due_from : (q : ℕ) → (base found : List ℕ) → List ℕ
+due_from q [] found = []
+due_from q (x ∷ base) [] = []
+due_from q (x ∷ base) (f ∷ found) = cond (nat_le (x + 2) f) (q ∷ due_from (suc q) base found) (due_from (suc q) base found)
+
+abbrev pub worker_of : Asked → ℕ
+worker_of e = e.worker
+
+-- these workers were asked, one by one, and did not lend
+abbrev pub refused_all : (n : ℕ) → List Asked → Scan → Scan
+refused_all n [] c = c
+refused_all n (e ∷ es) c = refused_all n es (gives_up n (refused e c))
+
+-- these workers are to be asked next, under this floor
+pub record MayAsk (low workers : List ℕ) (c : Scan) : Type 0 where
+  pub due : c.now.due ≡ workers
+  pub looks : c.now.looks ≡ []
+  pub asks : c.now.asks ≡ []
+  pub floor : workers ≢ [] → c.now.floor ≡ low

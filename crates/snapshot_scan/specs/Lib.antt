@@ -1,0 +1,9 @@
+pub mod Shape
+pub mod Memory
+pub mod Asking
+pub mod Scanned
+pub mod Contention
+pub mod Core
+pub mod Memories
+pub mod Snapshots
+pub mod Readers

@@ -1,0 +1,44 @@
+-- What the memory of a scan says.
+use Rattle.std.specs.Prelude.{◌≡◌, ℕ, Bool, true, List, length, map, replicate}
+use Rattle.register_rule.specs.declared.view.Entry.{Entry}
+use Rattle.register_rule.specs.declared.view.Version.{Version}
+use Rattle.register_rule.specs.declared.view.Scan.{Scan}
+use Rattle.ledger_core.specs.Ops.{width}
+use Rattle.snapshot_scan.specs.declared.ending.Ended.{Ended}
+use Rattle.snapshot_scan.specs.declared.ending.Ended.TheVariants.{Direct, Lent, GaveUp}
+use Rattle.snapshot_scan.specs.declared.memory.Memory.{Memory}
+use Rattle.snapshot_scan.specs.Memory.{version_of, AreKnown}
+use Rattle.snapshot_scan.specs.Asking.{lent_in}
+use Rattle.snapshot_scan.specs.Scanned.{IsIdle}
+
+-- the scan ended with a view
+abbrev pub HasView : Ended → Type 0
+HasView (Direct quiet) = Unit {0}
+HasView Lent = Unit {0}
+HasView GaveUp = ⊥
+
+module _ {N C H G : ℕ} where
+  -- the rows that are remembered
+  abbrev pub rows_of : Memory N C H G → List Version
+  rows_of m = map version_of m.kept.items
+
+  -- no scan is in progress, and the rows that are remembered are those of the view
+  abbrev pub IsReady : Scan → Memory N C H G → Type 0
+  IsReady c m = IsIdle c m.kept.items
+
+  -- the sums of the remembered rows
+  abbrev pub sums_of : Memory N C H G → List ℕ
+  sums_of m = m.totals.items
+
+  -- the numbers of the last first and second collect
+  abbrev pub opened_in : Memory N C H G → List ℕ
+  opened_in m = m.opened.items
+
+  abbrev pub found_in : Memory N C H G → List ℕ
+  found_in m = m.found.items
+
+  -- the answer of the scan that ended so: its own numbers with the sums of the rows, or the view that was lent
+  abbrev pub answer_of : Memory N C H G → Ended → Entry
+  answer_of m (Direct quiet) = record { vector = m.opened.items; totals = m.totals.items }
+  answer_of m Lent = lent_in N (width C H G) m.lent.items
+  answer_of m GaveUp = record { vector = m.opened.items; totals = m.totals.items }

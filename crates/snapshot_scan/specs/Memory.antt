@@ -1,0 +1,80 @@
+-- What a scan remembers, and what its looks are by it.
+use Rattle.std.specs.Prelude.{◌≡◌, ℕ, suc, ◌+◌, ◌<◌, ◌≤◌, ◌==◌, cond, List, [], ◌∷◌, ◌++◌, length, map, replicate, slice_index}
+use mathlib.Core.Option.{some}
+use lib.ListN.{get_elem?}
+use Rattle.register_rule.specs.declared.view.Version.{Version}
+use Rattle.register_rule.specs.declared.view.Look.{Look}
+use Rattle.register_rule.specs.declared.view.Scan.{Scan}
+use Rattle.register_rule.specs.Steps.{begun, settled, with_base, failed_once_more}
+use Rattle.snapshot_scan.specs.declared.kept.Kept.{Kept}
+
+abbrev pub version_of : Kept → Version
+version_of g = record { number = g.number; row = g.row.items }
+
+-- rows of w words, each at most 2^48 - 1
+pub record IsWide (w : ℕ) (g : Kept) : Type 0 where
+  pub row : length g.row.items ≡ w
+  pub fresh : length g.fresh.items ≡ w
+  pub row_low : (k : ℕ) → k < w → slice_index g.row.items k ≤ 281474976710655
+  pub fresh_low : (k : ℕ) → k < w → slice_index g.fresh.items k ≤ 281474976710655
+
+abbrev pub AreWide : (w : ℕ) → List Kept → Type 0
+AreWide w gs = (q : ℕ) (g : Kept) → get_elem? gs q ≡ some g → IsWide w g
+
+-- the row of version 0: zeros
+pub record IsBlank (w : ℕ) (g : Kept) : Type 0 where
+  pub number : g.number ≡ 0
+  pub row : g.row.items ≡ replicate w 0
+  pub fresh : g.fresh.items ≡ replicate w 0
+
+abbrev pub AreBlank : (w : ℕ) → List Kept → Type 0
+AreBlank w gs = (q : ℕ) (g : Kept) → get_elem? gs q ≡ some g → IsBlank w g
+
+-- the row under the number s: the one that is remembered, or the one that the try read
+abbrev pub words_of : ℕ → Kept → List ℕ
+words_of s g = cond (g.number == s) g.row.items g.fresh.items
+
+-- the looks of the places from q on, which were opened at these numbers, and of which the first ones were confirmed at those
+abbrev pub looks_of : (q : ℕ) → (opened found : List ℕ) → List Kept → List Look
+looks_of q [] found gs = []
+looks_of q (s ∷ opened) found [] = []
+looks_of q (s ∷ opened) [] (g ∷ gs) = begun q s (words_of s g) ∷ looks_of (suc q) opened [] gs
+looks_of q (s ∷ opened) (f ∷ found) (g ∷ gs) = settled q f (begun q s (words_of s g)) ∷ looks_of (suc q) opened found gs
+
+-- each number that was opened is the one that is remembered
+abbrev pub AreKnown : (opened : List ℕ) → List Kept → Type 0
+AreKnown opened gs = (q : ℕ) (g : Kept) → get_elem? gs q ≡ some g → g.number ≡ slice_index opened q
+
+-- the numbers are those of these versions
+abbrev pub AreNumbers : (numbers : List ℕ) → List Version → Type 0
+AreNumbers numbers vs = (q : ℕ) (v : Version) → get_elem? vs q ≡ some v → v.number ≡ slice_index numbers q
+
+-- loads of numbers of the places from q on
+abbrev pub pairs : (q : ℕ) → List ℕ → List (ℕ × ℕ)
+pairs q [] = []
+pairs q (x ∷ xs) = (q, x) ∷ pairs (suc q) xs
+
+-- a try of c that has opened these
+abbrev pub opening : (opened : List ℕ) → List Kept → Scan → Scan
+opening opened gs c = record c { opened = c.opened ++ pairs 0 opened; now = record c.now { looks = looks_of 0 opened [] gs } }
+
+-- and confirmed those
+abbrev pub settling : (opened found : List ℕ) → List Kept → Scan → Scan
+settling opened found gs c = record c { confirmed = c.confirmed ++ pairs 0 found; kept = map version_of gs; now = record c.now { looks = looks_of 0 opened found gs } }
+
+-- the word k of all rows together
+abbrev pub sum_rows : (k : ℕ) → List Kept → ℕ
+sum_rows k [] = 0
+sum_rows k (g ∷ gs) = slice_index g.row.items k + sum_rows k gs
+
+abbrev pub AreTotals : (w : ℕ) → List Kept → List ℕ → Type 0
+AreTotals w gs totals = (k : ℕ) → k < w → slice_index totals k ≡ sum_rows k gs
+
+-- x is at least what was loaded at this place before, or seen
+pub record IsLoaded (i : ℕ) (c : Scan) (x : ℕ) : Type 0 where
+  pub opened : (q y : ℕ) → get_elem? c.opened q ≡ some (i, y) → y ≤ x
+  pub seen : (y : ℕ) → get_elem? c.seen i ≡ some y → y ≤ x
+
+-- the try has failed
+abbrev pub failing : Scan → Scan
+failing c = record c { now = failed_once_more (with_base c.now) }

@@ -1,0 +1,116 @@
+//! Asking a worker for the view that it lends.
+ghost use Rattle.std.specs.Prelude.{◌≡◌, ℕ, ◌+◌, ◌<◌, ◌≤◌, [], ◌∷◌, ◌++◌, ◌↔◌, IsTrue, Bool, true, false, length, List, take, drop, map};
+ghost use mathlib.Core.Option.{some};
+ghost use lib.ListN.{get_elem?};
+ghost use Rattle.ledger_core.specs.Ops.{width};
+ghost use Rattle.segment_layout.specs.Layout.{IsGeometry, depth};
+ghost use Rattle.register_rule.specs.declared.view.Asked.{Asked};
+ghost use Rattle.ledger_core.specs.Vectors.{is_above};
+ghost use Rattle.register_rule.specs.Steps.{answered, gives_up};
+ghost use Rattle.register_rule.specs.Seats.{table_of, members_of, MayScan};
+ghost use Rattle.snapshot_scan.specs.Shape.{scan_in, with_scan, IsRuled};
+ghost use Rattle.snapshot_scan.specs.Asking.{Refuses, Lends, asked_too, refused, lent_in, due_from, refused_all, worker_of, MayAsk};
+
+use crate::items::read_items;
+use register_rule::{Board, ScanSeat};
+
+/// Whether the vector is below the floor nowhere.
+fn is_above(floor: &[u64], vector: &[u64]) -> bool
+    requires { length floor.now ≡ length vector.now }
+    ensures { result ≡ is_above floor.now vector.now }
+{
+    for k in 0..floor.len() {
+        if vector[k] < floor[k] {
+            return false;
+        }
+    }
+    true
+}
+
+/// Asks the next worker that is to be asked, and says whether it lends. Its flag, vector and totals are read into `lent`.
+fn ask<S: ScanSeat<N, C, H, G>, const N: usize, const C: usize, const H: usize, const G: usize>(
+    board: &Board<N, C, H, G>,
+    seat: &mut S,
+    place: usize,
+    row: usize,
+    floor: &[u64],
+    lent: &mut [u64],
+) -> bool
+    requires own { MayScan board.now (S.bundle seat.old) }
+    requires geometry { IsGeometry N C H G }
+    requires inside { place < N }
+    requires lengths { (row ≡ width C H G) × (length floor.now ≡ N) × (length lent.old ≡ 1 + N + width C H G) }
+    requires next { (rest : List ℕ) × ((scan_in (S.bundle seat.old)).now.due ≡ place ∷ rest) }
+    requires rest { ((scan_in (S.bundle seat.old)).now.looks ≡ []) × ((scan_in (S.bundle seat.old)).now.asks ≡ []) }
+    requires floor { (scan_in (S.bundle seat.old)).now.floor ≡ floor.now }
+    ensures own { table_of (S.bundle seat.new) ≡ table_of (S.bundle seat.old) }
+    ensures ruled { IsRuled N C H G (S.bundle seat.new) }
+    ensures lends { result ≡ true → (e : Asked) × (e.worker ≡ place) × (e.words ≡ lent.new) × Lends N (width C H G) floor.now e
+        × (members_of (S.bundle seat.new) ≡ with_scan (answered (lent_in N (width C H G) lent.new) (asked_too e (scan_in (S.bundle seat.old)))) (members_of (S.bundle seat.old))) }
+    ensures refuses { result ≡ false → (e : Asked) × (e.worker ≡ place) × Refuses N floor.now e
+        × (members_of (S.bundle seat.new) ≡ with_scan (gives_up N (refused e (scan_in (S.bundle seat.old)))) (members_of (S.bundle seat.old))) }
+{
+    let number = board.ask(seat, place);
+    read_items(board, seat, place, number, row, lent);
+    let again = board.end_ask(seat, place);
+    if number != again {
+        return false;
+    }
+    if lent[0] != 1 {
+        return false;
+    }
+    is_above(floor, &lent[1..1 + floor.len()])
+}
+
+/// Whether a worker is to be asked.
+fn is_due(base: u64, found: u64) -> bool
+    ensures { IsTrue result ↔ (base + 2 ≤ found) }
+{
+    found >= 2 && base <= found - 2
+}
+
+/// Asks all workers that are to be asked after a try, until one lends, and says whether one did.
+pub(crate) fn ask_all<
+    S: ScanSeat<N, C, H, G>,
+    const N: usize,
+    const C: usize,
+    const H: usize,
+    const G: usize,
+>(
+    board: &Board<N, C, H, G>,
+    seat: &mut S,
+    row: usize,
+    floor: &[u64],
+    base: &[u64],
+    found: &[u64],
+    lent: &mut [u64],
+) -> bool
+    requires own { MayScan board.now (S.bundle seat.old) }
+    requires ruled { IsRuled N C H G (S.bundle seat.old) }
+    requires geometry { IsGeometry N C H G }
+    requires lengths { (row ≡ width C H G) × (length floor.now ≡ N) × (length base.now ≡ N) × (length found.now ≡ N) × (length lent.old ≡ 1 + N + width C H G) }
+    requires may_ask { MayAsk floor.now (due_from 0 base.now found.now) (scan_in (S.bundle seat.old)) }
+    ensures own { table_of (S.bundle seat.new) ≡ table_of (S.bundle seat.old) }
+    ensures ruled { IsRuled N C H G (S.bundle seat.new) }
+    ensures lends { result ≡ true → (es : List Asked) × (e : Asked) × (more : List ℕ)
+        × (map worker_of es ++ worker_of e ∷ more ≡ due_from 0 base.now found.now)
+        × ((q : ℕ) (x : Asked) → get_elem? es q ≡ some x → Refuses N floor.now x)
+        × (e.words ≡ lent.new) × Lends N (width C H G) floor.now e
+        × (members_of (S.bundle seat.new) ≡ with_scan (answered (lent_in N (width C H G) lent.new) (asked_too e (refused_all N es (scan_in (S.bundle seat.old))))) (members_of (S.bundle seat.old))) }
+    ensures refuses { result ≡ false → (es : List Asked)
+        × (map worker_of es ≡ due_from 0 base.now found.now)
+        × ((q : ℕ) (e : Asked) → get_elem? es q ≡ some e → Refuses N floor.now e)
+        × (members_of (S.bundle seat.new) ≡ with_scan (refused_all N es (scan_in (S.bundle seat.old))) (members_of (S.bundle seat.old))) }
+{
+    for place in 0..found.len() {
+        let due = is_due(base[place], found[place]);
+        if !due {
+            continue;
+        }
+        let lends = ask(board, seat, place, row, floor, lent);
+        if lends {
+            return true;
+        }
+    }
+    false
+}

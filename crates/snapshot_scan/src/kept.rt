@@ -1,0 +1,111 @@
+//! What a scan remembers of one segment.
+ghost use Rattle.std.specs.Prelude.{◌≡◌, ℕ, ◌+◌, ◌-◌, ◌<◌, ◌≤◌, ◌==◌, cond, length, slice_index, IfOk};
+ghost use Rattle.ledger_core.specs.Ops.{width};
+ghost use Rattle.segment_layout.specs.Layout.{depth};
+ghost use Rattle.register_rule.specs.Members.{led, scanned};
+ghost use Rattle.register_rule.specs.Told.{IsNumber};
+ghost use Rattle.register_rule.specs.Seats.{table_of, members_of, MayScan};
+
+use crate::items::read_items;
+use register_rule::{Board, ScanSeat};
+use std::alloc::{AllocError, Global};
+use std::mem::swap;
+
+/// What a scan remembers of one segment.
+#[derive(Drop)]
+pub struct Kept {
+    /// The number that was confirmed last.
+    pub number: u64,
+    /// The row of this version.
+    pub row: Vec<u64>,
+    /// The row that the try in progress read, where its number is another.
+    pub fresh: Vec<u64>,
+}
+
+impl Kept {
+    ghost use Rattle.snapshot_scan.specs.Memory.{IsBlank};
+
+    /// The row of version 0, which is zeros, of `row` words.
+    pub(crate) fn new(alloc: Global, row: usize) -> Result<Kept, AllocError>
+        ensures { IfOk result (IsBlank row) }
+    {
+        Ok(Kept {
+            number: 0,
+            row: vec![in alloc; 0u64; row]?,
+            fresh: vec![in alloc; 0u64; row]?,
+        })
+    }
+
+    ghost use Rattle.snapshot_scan.specs.Shape.{looked_at};
+    ghost use Rattle.snapshot_scan.specs.Memory.{IsWide, version_of, words_of};
+
+    /// The opening load of the segment, and its row, where it is not the one that is remembered.
+    #[inline]
+    pub fn look<
+        S: ScanSeat<N, C, H, G>,
+        const N: usize,
+        const C: usize,
+        const H: usize,
+        const G: usize,
+    >(&mut self, board: &Board<N, C, H, G>, seat: &mut S, place: usize) -> u64
+        requires own { MayScan board.now (S.bundle seat.old) }
+        requires inside { place < N }
+        requires deep { depth N (width C H G) ≤ 2529 }
+        requires wide { IsWide (width C H G) self.old }
+        ensures own { table_of (S.bundle seat.new) ≡ table_of (S.bundle seat.old) }
+        ensures member { members_of (S.bundle seat.new) ≡ led (scanned (looked_at (width C H G) place result (self.old.number == result) self.new.fresh.items)) (members_of (S.bundle seat.old)) }
+        ensures told { IsNumber place (members_of (S.bundle seat.old)) result }
+        ensures wide { IsWide (width C H G) self.new }
+        ensures same { version_of self.new ≡ version_of self.old }
+    {
+        let number = board.open(seat, place);
+        if number != self.number {
+            read_items(board, seat, place, number, 0, self.fresh.as_mut_slice());
+        }
+        number
+    }
+
+    /// The confirming load of the segment, which was opened at `opened`, found `found`. Where that is the same number, the
+    /// row is remembered, and its words take the place of the old ones in the totals.
+    #[inline]
+    pub fn settle(&mut self, opened: u64, found: u64, totals: &mut [u64])
+        requires wide { IsWide (length totals.old) self.old }
+        requires part { (k : ℕ) → k < length totals.old → (slice_index self.old.row.items k ≤ slice_index totals.old k) × (slice_index totals.old k ≤ 9007199254740992) }
+        ensures wide { IsWide (length totals.old) self.new }
+        ensures version { version_of self.new ≡ cond (opened == found) (record { number = opened; row = words_of opened self.old }) (version_of self.old) }
+        ensures words { words_of opened self.new ≡ words_of opened self.old }
+        ensures totals { (k : ℕ) → k < length totals.old → slice_index totals.new k + slice_index self.old.row.items k ≡ slice_index totals.old k + slice_index self.new.row.items k }
+    {
+        if found == opened && opened != self.number {
+            self.replace(opened, totals);
+        }
+    }
+
+    /// Remembers the row in `fresh`, under this number, and its words take the place of the old ones in the totals.
+    #[inline]
+    pub fn replace(&mut self, number: u64, totals: &mut [u64])
+        requires wide { IsWide (length totals.old) self.old }
+        requires part { (k : ℕ) → k < length totals.old → (slice_index self.old.row.items k ≤ slice_index totals.old k) × (slice_index totals.old k ≤ 9007199254740992) }
+        ensures wide { IsWide (length totals.old) self.new }
+        ensures version { version_of self.new ≡ record { number = number; row = self.old.fresh.items } }
+        ensures swapped { self.new.fresh.items ≡ self.old.row.items }
+        ensures totals { (k : ℕ) → k < length totals.old → slice_index totals.new k + slice_index self.old.row.items k ≡ slice_index totals.old k + slice_index self.old.fresh.items k }
+    {
+        exchange(totals, self.row.as_slice(), self.fresh.as_slice());
+        swap(&mut self.row, &mut self.fresh);
+        self.number = number;
+    }
+}
+
+/// Takes the words of one row from the totals, and adds those of another.
+#[inline]
+fn exchange(totals: &mut [u64], old: &[u64], new: &[u64])
+    requires lengths { (length old.now ≡ length totals.old) × (length new.now ≡ length totals.old) }
+    requires part { (k : ℕ) → k < length totals.old → (slice_index old.now k ≤ slice_index totals.old k) × (slice_index totals.old k ≤ 9007199254740992) }
+    requires low { (k : ℕ) → k < length totals.old → slice_index new.now k ≤ 281474976710655 }
+    ensures { (k : ℕ) → k < length totals.old → slice_index totals.new k + slice_index old.now k ≡ slice_index totals.old k + slice_index new.now k }
+{
+    for k in 0..totals.len() {
+        totals[k] = totals[k] - old[k] + new[k];
+    }
+}

@@ -1,0 +1,33 @@
+//! Scans of running threads: all segments of a board at one moment, taken while workers publish.
+//!
+//! A [`Reader`] scans into a [`Snapshot`]: a vector of how often each worker has published, and the totals of all rows at that
+//! vector. A scan makes at most `N` + 2 tries; it ends direct, where a try met the same numbers twice, with the view that a
+//! worker lent, or with [`Contended`]. It takes no memory and waits for nobody. [`Memory`] is what the scans of one seat work
+//! with: the rows that were confirmed last are remembered, so that a scan reads the words of those rows alone that moved.
+//!
+//! The algorithm is the unbounded single-writer snapshot of Afek, Attiya, Dolev, Gafni, Merritt and Shavit, "Atomic
+//! Snapshots of Shared Memory", J. ACM 40(4), 1993, section 3; a scan here is a scan of `snapshot_core`, by a clause.
+#![tactic(auto)]
+
+mod asks;
+mod collects;
+mod contended;
+mod ending;
+mod items;
+mod kept;
+mod memory;
+mod no_room;
+mod reader;
+mod reading;
+mod remembering;
+mod scans;
+mod snapshot;
+#[cfg(test)]
+mod snapshot_tests;
+
+pub use contended::Contended;
+pub use ending::Ended;
+pub use memory::Memory;
+pub use no_room::NoRoom;
+pub use reader::Reader;
+pub use snapshot::Snapshot;

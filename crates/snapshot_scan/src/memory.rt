@@ -1,0 +1,22 @@
+//! What the scans of one seat work with, made once.
+ghost use Rattle.std.specs.Prelude.{◌≡◌, ℕ, ◌+◌, ◌<◌, ◌≤◌, Bool, true, length, map, replicate, slice_index, IfOk};
+ghost use Rattle.ledger_core.specs.Ops.{width};
+ghost use Rattle.segment_layout.specs.Layout.{IsGeometry};
+ghost use Rattle.snapshot_scan.specs.Memory.{AreWide, AreTotals};
+
+use crate::kept::Kept;
+
+/// What the scans of one seat work with and remember: of each segment the row that was confirmed last, the sums of these
+/// rows, the numbers of both collects, and the words that a worker lends. It grows no more once it is made.
+#[derive(Drop)]
+pub struct Memory<const N: usize, const C: usize, const H: usize, const G: usize> {
+    pub(crate) kept: Vec<Kept>,
+    pub(crate) totals: Vec<u64>,
+    pub(crate) opened: Vec<u64>,
+    pub(crate) found: Vec<u64>,
+    pub(crate) lent: Vec<u64>,
+    ghost geometry: { IsGeometry N C H G },
+    ghost sizes: { (length kept.items ≡ N) × (length totals.items ≡ width C H G) × (length opened.items ≡ N) × (length found.items ≡ N) × (length lent.items ≡ 1 + N + width C H G) },
+    ghost wide: { AreWide (width C H G) kept.items },
+    ghost sums: { AreTotals (width C H G) kept.items totals.items },
+}

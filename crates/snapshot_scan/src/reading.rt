@@ -1,0 +1,76 @@
+//! What a reader does.
+ghost use Rattle.std.specs.Prelude.{◌≡◌, slice_index, IfOk, IfErr, OnOk, OnErr};
+ghost use Rattle.ledger_core.specs.Ops.{width};
+ghost use Rattle.ledger_core.specs.Legal.{IsLegal};
+ghost use Rattle.segment_layout.specs.Layout.{IsGeometry};
+ghost use Rattle.register_rule.specs.Members.{fresh_scan};
+ghost use Rattle.register_rule.specs.Seats.{read_bundle, reader_of};
+ghost use Rattle.snapshot_core.specs.declared.next.Next.TheVariants as Next;
+ghost use Rattle.snapshot_scan.specs.Shape.{with_scan, IsRuled};
+ghost use Rattle.snapshot_scan.specs.Scanned.{IsAnswered};
+ghost use Rattle.snapshot_scan.specs.Contention.{IsContended};
+ghost use Rattle.snapshot_scan.specs.Core.{CameTo, AnswersBy};
+ghost use Rattle.snapshot_scan.specs.Snapshots.{entry_of};
+ghost use Rattle.snapshot_scan.specs.Readers.{bundle_of, members_with, scan_by, index_of, IsReaderOf};
+
+use crate::contended::Contended;
+use crate::memory::Memory;
+use crate::no_room::NoRoom;
+use crate::reader::Reader;
+use crate::snapshot::Snapshot;
+use register_rule::{Board, ReadSeat};
+use std::alloc::Global;
+
+impl<const N: usize, const C: usize, const H: usize, const G: usize> Reader<N, C, H, G> {
+    /// A reader of a seat that has made no step since its board was made. All memory that its scans need is taken here.
+    ///
+    /// # Errors
+    ///
+    /// 6 [`NoRoom`], with the seat.
+    pub fn new(alloc: Global, seat: ReadSeat) -> Result<Reader<N, C, H, G>, NoRoom<ReadSeat>>
+        requires geometry { IsGeometry N C H G }
+        requires fresh { (reader_of seat).scan ≡ fresh_scan N (width C H G) }
+        ensures same { IfOk result (λ r. bundle_of r ≡ read_bundle seat) }
+        ensures back { IfErr result (λ e. e.seat ≡ seat) }
+    {
+        let Ok(memory) = Memory::new(alloc) else {
+            return Err(NoRoom { seat });
+        };
+        let index = seat.reader();
+        Ok(Reader {
+            bundle: seat.into_bundle(),
+            index,
+            memory,
+        })
+    }
+
+    /// A scan: all segments at one moment, written to `out`. It takes no memory and waits for nobody.
+    ///
+    /// The vector of `out` is not below the first `N` numbers that the scan loads, nor below what the reader has seen before;
+    /// it is comparable with every vector that any scan of this board records. After Ok it is the last entry of what the
+    /// reader has recorded.
+    ///
+    /// # Errors
+    ///
+    /// 14 [`Contended`]: in each of `N` + 2 tries some worker's number rose, and nobody lent a view that is new enough.
+    /// `out` is unchanged.
+    pub fn scan(
+        &mut self,
+        board: &Board<N, C, H, G>,
+        out: &mut Snapshot<N, C, H, G>,
+    ) -> Result<(), Contended>
+        requires own { IsReaderOf board.now self.old }
+        ensures own { IsReaderOf board.now self.new }
+        ensures index { index_of self.new ≡ index_of self.old }
+        ensures others { members_with self.new ≡ with_scan (scan_by self.new) (members_with self.old) }
+        ensures ruled { IsRuled N C H G (bundle_of self.new) }
+        ensures answered { OnOk result (IsAnswered N (scan_by self.old) (scan_by self.new) (entry_of out.new)) }
+        ensures answers { OnOk result (AnswersBy N (width C H G) (scan_by self.old) (scan_by self.new) (entry_of out.new)) }
+        ensures legal { OnOk result (IsLegal C H (slice_index out.new.totals)) }
+        ensures contended { IfErr result (IsContended N (scan_by self.old) (scan_by self.new)) }
+        ensures came_up { IfErr result (λ e. CameTo N (width C H G) (scan_by self.old) (scan_by self.new) (Next.GaveUp e.worker e.first e.last)) }
+        ensures unchanged { OnErr result (out.new ≡ out.old) }
+    {
+        self.memory.scan_to(board, &mut self.bundle, out)
+    }
+}

@@ -1,0 +1,137 @@
+//! A scan with the memory of its seat.
+ghost use Rattle.std.specs.Prelude.{◌≡◌, ℕ, ◌+◌, ◌<◌, ◌≤◌, [], ◌∷◌, Bool, true, length, map, replicate, slice_index, take, drop, IfOk, IfErr, OnOk, OnErr};
+ghost use Rattle.ledger_core.specs.Ops.{width};
+ghost use Rattle.segment_layout.specs.Layout.{IsGeometry};
+ghost use Rattle.register_rule.specs.Seats.{table_of, members_of, MayScan};
+ghost use Rattle.snapshot_core.specs.declared.next.Next.TheVariants as Next;
+ghost use Rattle.snapshot_scan.specs.declared.contended.Contended.{Contended};
+ghost use Rattle.snapshot_scan.specs.declared.ending.Ended.TheVariants as Ended;
+ghost use Rattle.snapshot_scan.specs.Shape.{scan_in, with_scan, IsRuled};
+ghost use Rattle.snapshot_scan.specs.Memory.{AreNumbers, AreBlank};
+ghost use Rattle.ledger_core.specs.Legal.{IsLegal};
+ghost use Rattle.snapshot_scan.specs.Contention.{IsFirstMoved, IsContended};
+ghost use Rattle.snapshot_scan.specs.Snapshots.{entry_of};
+ghost use Rattle.snapshot_scan.specs.Scanned.{IsAnswered, IsGivenUp};
+ghost use Rattle.snapshot_scan.specs.Core.{CameTo, AnswersBy};
+ghost use Rattle.snapshot_scan.specs.Memories.{rows_of, sums_of, opened_in, found_in, answer_of, HasView, IsReady};
+
+use crate::contended::{Contended, first_moved};
+use crate::ending::Ended;
+use crate::kept::Kept;
+use crate::memory::Memory;
+use crate::scans::scan;
+use crate::snapshot::Snapshot;
+use register_rule::{Board, ScanSeat};
+use std::alloc::{AllocError, Global};
+
+impl<const N: usize, const C: usize, const H: usize, const G: usize> Memory<N, C, H, G> {
+    /// A memory of rows of zeros, under the number 0.
+    pub fn new(alloc: Global) -> Result<Memory<N, C, H, G>, AllocError>
+        requires { IsGeometry N C H G }
+        ensures rows { IfOk result (λ m. rows_of m ≡ replicate N (record { number = 0; row = replicate (width C H G) 0 })) }
+    {
+        let row = C + 27 * H + 2 * G;
+        let kept = blank_rows(alloc, N, row)?;
+        let totals = vec![in alloc; 0u64; row]?;
+        let opened = vec![in alloc; 0u64; N]?;
+        let found = vec![in alloc; 0u64; N]?;
+        let lent = vec![in alloc; 0u64; 1 + N + row]?;
+        Ok(Memory {
+            kept,
+            totals,
+            opened,
+            found,
+            lent,
+        })
+    }
+
+    /// A scan of at most `N` + 2 tries, which takes no memory and waits for nobody.
+    pub fn scan<S: ScanSeat<N, C, H, G>>(
+        &mut self,
+        board: &Board<N, C, H, G>,
+        seat: &mut S,
+    ) -> Ended
+        requires own { MayScan board.now (S.bundle seat.old) }
+        requires ready { IsReady (scan_in (S.bundle seat.old)) self.old }
+        ensures own { table_of (S.bundle seat.new) ≡ table_of (S.bundle seat.old) }
+        ensures ruled { IsRuled N C H G (S.bundle seat.new) }
+        ensures others { members_of (S.bundle seat.new) ≡ with_scan (scan_in (S.bundle seat.new)) (members_of (S.bundle seat.old)) }
+        ensures ready { IsReady (scan_in (S.bundle seat.new)) self.new }
+        ensures answered { HasView result → IsAnswered N (scan_in (S.bundle seat.old)) (scan_in (S.bundle seat.new)) (answer_of self.new result) }
+        ensures answers { HasView result → AnswersBy N (width C H G) (scan_in (S.bundle seat.old)) (scan_in (S.bundle seat.new)) (answer_of self.new result) }
+        ensures quiet { result ≡ Ended.Direct true → (rows_of self.new ≡ rows_of self.old) × (sums_of self.new ≡ sums_of self.old) × AreNumbers (opened_in self.new) (rows_of self.new) }
+        ensures gave_up { result ≡ Ended.GaveUp → IsGivenUp N (scan_in (S.bundle seat.old)) (scan_in (S.bundle seat.new)) (opened_in self.new) (found_in self.new) }
+        ensures came_up { result ≡ Ended.GaveUp → (e : Contended) → IsFirstMoved (opened_in self.new) (found_in self.new) e → CameTo N (width C H G) (scan_in (S.bundle seat.old)) (scan_in (S.bundle seat.new)) (Next.GaveUp e.worker e.first e.last) }
+    {
+        scan(
+            board,
+            seat,
+            self.kept.as_mut_slice(),
+            self.totals.as_mut_slice(),
+            self.opened.as_mut_slice(),
+            self.found.as_mut_slice(),
+            self.lent.as_mut_slice(),
+        )
+    }
+}
+
+impl<const N: usize, const C: usize, const H: usize, const G: usize> Memory<N, C, H, G> {
+    /// A scan whose answer is written to `out`.
+    ///
+    /// # Errors
+    ///
+    /// 14 [`Contended`]: the scan was given up after `N` + 2 tries, and `out` is unchanged.
+    pub fn scan_to<S: ScanSeat<N, C, H, G>>(
+        &mut self,
+        board: &Board<N, C, H, G>,
+        seat: &mut S,
+        out: &mut Snapshot<N, C, H, G>,
+    ) -> Result<(), Contended>
+        requires own { MayScan board.now (S.bundle seat.old) }
+        requires ready { IsReady (scan_in (S.bundle seat.old)) self.old }
+        ensures own { table_of (S.bundle seat.new) ≡ table_of (S.bundle seat.old) }
+        ensures ruled { IsRuled N C H G (S.bundle seat.new) }
+        ensures others { members_of (S.bundle seat.new) ≡ with_scan (scan_in (S.bundle seat.new)) (members_of (S.bundle seat.old)) }
+        ensures ready { IsReady (scan_in (S.bundle seat.new)) self.new }
+        ensures answered { OnOk result (IsAnswered N (scan_in (S.bundle seat.old)) (scan_in (S.bundle seat.new)) (entry_of out.new)) }
+        ensures answers { OnOk result (AnswersBy N (width C H G) (scan_in (S.bundle seat.old)) (scan_in (S.bundle seat.new)) (entry_of out.new)) }
+        ensures legal { OnOk result (IsLegal C H (slice_index out.new.totals)) }
+        ensures contended { IfErr result (IsContended N (scan_in (S.bundle seat.old)) (scan_in (S.bundle seat.new))) }
+        ensures came_up { IfErr result (λ e. CameTo N (width C H G) (scan_in (S.bundle seat.old)) (scan_in (S.bundle seat.new)) (Next.GaveUp e.worker e.first e.last)) }
+        ensures unchanged { OnErr result (out.new ≡ out.old) }
+    {
+        match self.scan(board, seat) {
+            Ended::Direct { quiet: _ } => {
+                out.set(self.opened.as_slice(), self.totals.as_slice());
+                Ok(())
+            }
+            Ended::Lent => {
+                let (vector, totals) = lent_view(self.lent.as_slice(), N);
+                out.set(vector, totals);
+                Ok(())
+            }
+            Ended::GaveUp => Err(first_moved(self.opened.as_slice(), self.found.as_slice())),
+        }
+    }
+}
+
+// The vector of `count` numbers and the totals, in the words that a worker lends, which begin with the flag.
+fn lent_view(words: &[u64], count: usize) -> (&[u64], &[u64])
+    requires { 1 + count ≤ length words.now }
+    ensures vector { result.0.now ≡ take count (drop 1 words.now) }
+    ensures totals { result.1.now ≡ drop (1 + count) words.now }
+{
+    (&words[1..1 + count], &words[1 + count..])
+}
+
+// What is remembered of `count` segments at first.
+fn blank_rows(alloc: Global, count: usize, row: usize) -> Result<Vec<Kept>, AllocError>
+    requires few { row ≤ 1248 }
+    ensures { IfOk result (λ v. (length v.items ≡ count) × AreBlank row v.items) }
+{
+    let mut kept = Vec::new(alloc);
+    for _k in 0..count {
+        kept.push(Kept::new(alloc, row)?)?;
+    }
+    Ok(kept)
+}

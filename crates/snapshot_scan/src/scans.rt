@@ -1,0 +1,121 @@
+//! A scan.
+ghost use Rattle.std.specs.Prelude.{◌≡◌, ℕ, ◌+◌, ◌<◌, ◌≤◌, [], Bool, true, false, length, map, slice_index};
+ghost use Rattle.register_rule.specs.Steps.{answered, gives_up};
+ghost use Rattle.ledger_core.specs.Ops.{width};
+ghost use Rattle.segment_layout.specs.Layout.{IsGeometry};
+ghost use Rattle.register_rule.specs.Seats.{table_of, members_of, MayScan};
+ghost use Rattle.snapshot_scan.specs.Shape.{scan_in, with_scan, IsRuled};
+ghost use Rattle.snapshot_scan.specs.Memory.{AreWide, AreTotals, IsLoaded, version_of, opening, settling, failing};
+ghost use Rattle.snapshot_scan.specs.Asking.{lent_in};
+ghost use Rattle.snapshot_core.specs.declared.next.Next.TheVariants as Next;
+ghost use Rattle.snapshot_scan.specs.declared.contended.Contended.{Contended};
+ghost use Rattle.snapshot_scan.specs.Contention.{IsFirstMoved};
+ghost use Rattle.snapshot_scan.specs.Scanned.{IsIdle, IsQuiet, IsAnswered, IsGivenUp};
+ghost use Rattle.snapshot_scan.specs.Core.{CameTo, AnswersBy};
+
+use crate::asks::ask_all;
+use crate::collects::{collect, confirm};
+use crate::ending::Ended;
+use crate::kept::Kept;
+use register_rule::{Board, ScanSeat};
+
+/// One try of a scan, without the asking. It says whether the try is clean, and in `known` whether each row is remembered.
+fn try_once<
+    S: ScanSeat<N, C, H, G>,
+    const N: usize,
+    const C: usize,
+    const H: usize,
+    const G: usize,
+>(
+    board: &Board<N, C, H, G>,
+    seat: &mut S,
+    kept: &mut [Kept],
+    totals: &mut [u64],
+    opened: &mut [u64],
+    found: &mut [u64],
+    known: &mut bool,
+) -> bool
+    requires own { MayScan board.now (S.bundle seat.old) }
+    requires geometry { IsGeometry N C H G }
+    requires lengths { (length kept.old ≡ N) × (length totals.old ≡ width C H G) × (length opened.old ≡ N) × (length found.old ≡ N) }
+    requires wide { AreWide (width C H G) kept.old }
+    requires totals { AreTotals (width C H G) kept.old totals.old }
+    requires kept { (scan_in (S.bundle seat.old)).kept ≡ map version_of kept.old }
+    requires rest { ((scan_in (S.bundle seat.old)).now.looks ≡ []) × ((scan_in (S.bundle seat.old)).now.due ≡ []) × ((scan_in (S.bundle seat.old)).now.asks ≡ []) }
+    ensures own { table_of (S.bundle seat.new) ≡ table_of (S.bundle seat.old) }
+    ensures ruled { IsRuled N C H G (S.bundle seat.new) }
+    ensures wide { AreWide (width C H G) kept.new }
+    ensures totals { AreTotals (width C H G) kept.new totals.new }
+    ensures told { (q : ℕ) → q < N → IsLoaded q (scan_in (S.bundle seat.old)) (slice_index opened.new q) }
+    ensures clean { result ≡ true → members_of (S.bundle seat.new) ≡ with_scan (answered (record { vector = opened.new; totals = totals.new }) (settling opened.new found.new kept.new (opening opened.new kept.new (scan_in (S.bundle seat.old))))) (members_of (S.bundle seat.old)) }
+    ensures same { result ≡ true → opened.new ≡ found.new }
+    ensures failed { result ≡ false → members_of (S.bundle seat.new) ≡ with_scan (gives_up N (failing (settling opened.new found.new kept.new (opening opened.new kept.new (scan_in (S.bundle seat.old)))))) (members_of (S.bundle seat.old)) }
+    ensures risen { (q : ℕ) → q < N → slice_index opened.new q ≤ slice_index found.new q }
+    ensures rose { result ≡ false → (q : ℕ) × (q < N) × (slice_index opened.new q < slice_index found.new q) }
+    ensures quiet { known.new ≡ true → IsQuiet kept.old kept.new totals.old totals.new opened.new }
+{
+    *known = collect(board, seat, kept, opened);
+    confirm(board, seat, kept, totals, opened, found, *known)
+}
+
+/// A scan of at most `N` + 2 tries.
+///
+/// It reads the words only of those rows whose number is not the remembered one. Its memory: what is remembered of each
+/// segment, the sums of the remembered rows, the numbers of both collects, and the words that a worker lends.
+pub(crate) fn scan<
+    S: ScanSeat<N, C, H, G>,
+    const N: usize,
+    const C: usize,
+    const H: usize,
+    const G: usize,
+>(
+    board: &Board<N, C, H, G>,
+    seat: &mut S,
+    kept: &mut [Kept],
+    totals: &mut [u64],
+    opened: &mut [u64],
+    found: &mut [u64],
+    lent: &mut [u64],
+) -> Ended
+    requires own { MayScan board.now (S.bundle seat.old) }
+    requires geometry { IsGeometry N C H G }
+    requires lengths { (length kept.old ≡ N) × (length totals.old ≡ width C H G) × (length opened.old ≡ N) × (length found.old ≡ N) × (length lent.old ≡ 1 + N + width C H G) }
+    requires wide { AreWide (width C H G) kept.old }
+    requires totals { AreTotals (width C H G) kept.old totals.old }
+    requires idle { IsIdle (scan_in (S.bundle seat.old)) kept.old }
+    ensures own { table_of (S.bundle seat.new) ≡ table_of (S.bundle seat.old) }
+    ensures ruled { IsRuled N C H G (S.bundle seat.new) }
+    ensures wide { AreWide (width C H G) kept.new }
+    ensures totals { AreTotals (width C H G) kept.new totals.new }
+    ensures idle { IsIdle (scan_in (S.bundle seat.new)) kept.new }
+    ensures others { members_of (S.bundle seat.new) ≡ with_scan (scan_in (S.bundle seat.new)) (members_of (S.bundle seat.old)) }
+    ensures direct { (q : Bool) → result ≡ Ended.Direct q → IsAnswered N (scan_in (S.bundle seat.old)) (scan_in (S.bundle seat.new)) (record { vector = opened.new; totals = totals.new }) }
+    ensures came_direct { (q : Bool) → result ≡ Ended.Direct q → AnswersBy N (width C H G) (scan_in (S.bundle seat.old)) (scan_in (S.bundle seat.new)) (record { vector = opened.new; totals = totals.new }) }
+    ensures quiet { result ≡ Ended.Direct true → IsQuiet kept.old kept.new totals.old totals.new opened.new }
+    ensures lent { result ≡ Ended.Lent → IsAnswered N (scan_in (S.bundle seat.old)) (scan_in (S.bundle seat.new)) (lent_in N (width C H G) lent.new) }
+    ensures came_lent { result ≡ Ended.Lent → AnswersBy N (width C H G) (scan_in (S.bundle seat.old)) (scan_in (S.bundle seat.new)) (lent_in N (width C H G) lent.new) }
+    ensures gave_up { result ≡ Ended.GaveUp → IsGivenUp N (scan_in (S.bundle seat.old)) (scan_in (S.bundle seat.new)) opened.new found.new }
+    ensures came_up { result ≡ Ended.GaveUp → (e : Contended) → IsFirstMoved opened.new found.new e → CameTo N (width C H G) (scan_in (S.bundle seat.old)) (scan_in (S.bundle seat.new)) (Next.GaveUp e.worker e.first e.last) }
+{
+    let mut known = false;
+    let clean = try_once(board, seat, kept, totals, opened, found, &mut known);
+    if clean {
+        return Ended::Direct { quiet: known };
+    }
+    let mut floor = [0; N];
+    floor.copy_from_slice(opened);
+    let mut base = [0; N];
+    base.copy_from_slice(found);
+    let row = totals.len();
+    for _k in 0..N + 1 {
+        let clean = try_once(board, seat, kept, totals, opened, found, &mut known);
+        if clean {
+            return Ended::Direct { quiet: false };
+        }
+        let lends = ask_all(board, seat, row, &floor, &base, found, lent);
+        if lends {
+            return Ended::Lent;
+        }
+    }
+    Ended::GaveUp
+}

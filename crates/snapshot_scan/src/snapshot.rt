@@ -1,0 +1,114 @@
+//! What a scan gives its caller.
+ghost use Rattle.std.specs.Prelude.{◌≡◌, ℕ, ◌+◌, ◌*◌, ◌<◌, ◌-ℤ◌, pos, length, take, drop, slice_index, replicate, IfOk, All};
+ghost use Rattle.ledger_core.specs.Ops.{width};
+ghost use Rattle.segment_layout.specs.Layout.{IsGeometry};
+ghost use Rattle.snapshot_scan.specs.Snapshots.{AreLow};
+
+use ledger_core::HistTotals;
+use std::alloc::{AllocError, Global};
+use std::marker::Model;
+
+/// How many words a histogram has: its buckets, its sum and its count.
+const HIST_WORDS: usize = 27;
+
+/// How many of them are buckets.
+const BUCKETS: usize = 25;
+
+/// How many words a gauge has: its ups and its downs.
+const GAUGE_WORDS: usize = 2;
+
+/// All segments at one moment: how often each of `N` workers had published, and the totals of `C` counters, `H`
+/// histograms and `G` gauges over all workers, `C + 27 * H + 2 * G` words in the order of a row, each below 2^53.
+///
+/// Contracts see it as these two lists.
+#[derive(Drop)]
+pub struct Snapshot<const N: usize, const C: usize, const H: usize, const G: usize> {
+    vector: Vec<u64>,
+    totals: Vec<u64>,
+}
+
+impl<const N: usize, const C: usize, const H: usize, const G: usize> Model
+    for Snapshot<N, C, H, G> {
+    ghost use Rattle.snapshot_scan.specs.Snapshots.{Taken, IsTaken};
+
+    ghost Value = { Taken };
+
+    ghost view = { λ s. record { vector = s.vector.items; totals = s.totals.items } };
+
+    ghost invariant = { λ s. IsTaken N C H G s.vector.items s.totals.items };
+}
+
+impl<const N: usize, const C: usize, const H: usize, const G: usize> Snapshot<N, C, H, G> {
+    /// The moment at which nobody has published: all numbers and totals are zero.
+    ///
+    /// # Errors
+    ///
+    /// Refusal 6 for want of memory.
+    pub fn new(alloc: Global) -> Result<Snapshot<N, C, H, G>, AllocError>
+        requires { IsGeometry N C H G }
+        ensures vector { IfOk result (λ s. s.vector ≡ replicate N 0) }
+        ensures totals { IfOk result (λ s. s.totals ≡ replicate (width C H G) 0) }
+    {
+        let vector = vec![in alloc; 0u64; N]?;
+        let totals = vec![in alloc; 0u64; C + HIST_WORDS * H + GAUGE_WORDS * G]?;
+        Ok(Snapshot { vector, totals })
+    }
+
+    /// How often each worker had published, by worker: `N` numbers.
+    pub fn vector(&self) -> &[u64]
+        ensures numbers { result.now ≡ self.now.vector }
+        ensures all { length result.now ≡ N }
+    {
+        self.vector.as_slice()
+    }
+
+    /// The total of a counter.
+    pub fn counter(&self, slot: usize) -> u64
+        requires { slot < C }
+        ensures total { result ≡ slice_index self.now.totals slot }
+        ensures low { result < 9007199254740992 }
+    {
+        self.totals[slot]
+    }
+
+    /// The totals of a histogram.
+    pub fn hist(&self, slot: usize) -> HistTotals
+        requires { slot < H }
+        ensures buckets { result.buckets ≡ take 25 (drop (C + 27 * slot) self.now.totals) }
+        ensures sum { result.sum ≡ slice_index self.now.totals (C + 27 * slot + 25) }
+        ensures count { result.count ≡ slice_index self.now.totals (C + 27 * slot + 26) }
+        ensures low { All (λ bucket. bucket < 9007199254740992) result.buckets × (result.sum < 9007199254740992) × (result.count < 9007199254740992) }
+    {
+        let totals = self.totals.as_slice();
+        let first = C + HIST_WORDS * slot;
+        let mut buckets = [0; BUCKETS];
+        buckets.copy_from_slice(&totals[first..first + BUCKETS]);
+        HistTotals {
+            buckets,
+            sum: totals[first + BUCKETS],
+            count: totals[first + BUCKETS + 1],
+        }
+    }
+
+    /// The value of a gauge: its ups less its downs.
+    pub fn gauge(&self, slot: usize) -> i64
+        requires { slot < G }
+        ensures { result ≡ pos (slice_index self.now.totals (C + 27 * H + 2 * slot)) -ℤ pos (slice_index self.now.totals (C + 27 * H + 2 * slot + 1)) }
+    {
+        let totals = self.totals.as_slice();
+        let first = C + HIST_WORDS * H + GAUGE_WORDS * slot;
+        totals[first] as i64 - totals[first + 1] as i64
+    }
+
+    /// Makes this the snapshot of other numbers and totals. It takes no memory.
+    pub(crate) fn set(&mut self, vector: &[u64], totals: &[u64])
+        requires all { length vector.now ≡ N }
+        requires wide { length totals.now ≡ width C H G }
+        requires low { AreLow (width C H G) totals.now }
+        ensures vector { self.new.vector ≡ vector.now }
+        ensures totals { self.new.totals ≡ totals.now }
+    {
+        self.vector.as_mut_slice().copy_from_slice(vector);
+        self.totals.as_mut_slice().copy_from_slice(totals);
+    }
+}
