@@ -56,7 +56,7 @@ last_entry [] = None
 last_entry (a ∷ []) = Some a
 last_entry (a ∷ x ∷ xs) = last_entry (x ∷ xs)
 
--- a publish of these operations, which lends the last answer that the member recorded, or nothing
+-- a publish of these operations, which lends the last entry that the member recorded, or nothing
 abbrev pub made_of : List Op → (lends : Bool) → Member → Made
 made_of ops lends m = record { ops = ops; lends = cond lends (last_entry m.scan.recorded) None }
 

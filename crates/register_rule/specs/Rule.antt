@@ -38,7 +38,7 @@ module _ (n w b : ℕ) (adds : List Op → ℕ → ℕ) (made : ℕ → List Mad
     pub hidden : (k x : ℕ) → get_elem? m.hidden k ≡ some x → seg b words i (item_of b (suc (length (made i))) k) ≡ x
     pub shown : (k x : ℕ) → get_elem? m.shown k ≡ some x → seg b words i (item_of b (length (made i)) k) ≡ x
 
-  -- a worker writes its own segment, has seen its own number, and what it lends are answers of its own scans
+  -- a worker writes its own segment, has seen its own number, and what it lends are entries of its own scans
   pub record IsWorker (words : List ℕ) (i : ℕ) (m : Member) : Type 0 where
     pub work : IsWork words i m.work
     pub own : get_elem? m.scan.seen i ≡ some (length (made i))

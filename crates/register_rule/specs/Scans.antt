@@ -47,7 +47,7 @@ module _ (n w : ℕ) (adds : List Op → ℕ → ℕ) (made : ℕ → List Made)
     pub wide : length v.row ≡ w
     pub row : (k x : ℕ) → get_elem? v.row k ≡ some x → x ≡ total adds (take v.number (made i)) k
 
-  -- all segments at one moment: the numbers, and the sums of the rows of these versions
+  -- the answer of a scan is all segments at one moment: the numbers, and the sums of the rows of these versions
   pub record IsEntry (history : List ℕ) (a : Entry) : Type 0 where
     pub low : AtMost a.vector
     pub moment : IsCut n history a.vector

@@ -27,7 +27,7 @@ upper (x ∷ u) (y ∷ v) = max x y ∷ upper u v
 abbrev pub at_rest : Progress
 at_rest = record { failed = 0; floor = []; base = []; looks = []; due = []; asks = [] }
 
--- a scan ends with an answer
+-- a scan ends with an answer, which is recorded
 abbrev pub answered : Entry → Scan → Scan
 answered a c = record c { recorded = c.recorded ++ a ∷ []; seen = upper c.seen a.vector; now = at_rest }
 
@@ -92,7 +92,7 @@ abbrev pub sum_words : ℕ → List Look → ℕ
 sum_words k [] = 0
 sum_words k (l ∷ ls) = slice_index l.words k + sum_words k ls
 
--- its answer: the numbers, and the sums of the rows
+-- its entry: the numbers, and the sums of the rows
 abbrev pub entry_of : (w : ℕ) → List Look → Entry
 entry_of w looks = record { vector = map opened_at looks; totals = tab 0 w (λ k. sum_words k looks) }
 

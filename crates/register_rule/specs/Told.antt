@@ -68,7 +68,7 @@ pub record AreRuled (n w : ℕ) (adds : List Op → ℕ → ℕ) (accepts : (ℕ
 
 -- some members, in pairs: n workers, of whom i has the number `number i`
 module _ (n : ℕ) (number : ℕ → ℕ) (Is : Member → Type 0) where
-  -- a is an answer that one of them recorded
+  -- a is an entry that one of them recorded
   abbrev pub Records : Entry → Type 0
   Records a = (m : Member) × Is m × ((q : ℕ) × (get_elem? m.scan.recorded q ≡ some a))
 

@@ -19,8 +19,8 @@ use std::alloc::{AllocError, Global};
 const MAX_READERS: usize = 4;
 
 impl<const N: usize, const C: usize, const H: usize, const G: usize> Board<N, C, H, G> {
-    /// A board whose words are all zero, with a seat for each of its `N` workers and `readers` readers, in order:
-    /// nobody has published, recorded or seen anything.
+    /// A board of this id whose words are all zero, with a seat for each of its `N` workers and `readers` readers, in
+    /// order: nobody has published, recorded or seen anything.
     ///
     /// # Errors
     ///

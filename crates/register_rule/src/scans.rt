@@ -17,7 +17,7 @@ pub trait ScanSeat<const N: usize, const C: usize, const H: usize, const G: usiz
 
     ghost bundle: { Self → Bundle };
 
-    /// One load of the scan.
+    /// One load of the scan, by the first member: the word that it found.
     fn load(&mut self, board: &Board<N, C, H, G>, what: Load) -> u64
         requires own { MayScan board.now (bundle self.old) }
         requires inside { IsLoad N (depth N (width C H G)) what }
@@ -56,7 +56,8 @@ impl<const N: usize, const C: usize, const H: usize, const G: usize> ScanSeat<N,
 }
 
 impl<const N: usize, const C: usize, const H: usize, const G: usize> Board<N, C, H, G> {
-    /// The opening load of a place: its number, which is at least each number found there before.
+    /// The opening load of a place, that of a worker's segment, from 0: its number, which is at least each number found
+    /// there before.
     ///
     /// Where it is the next place of a try in which nothing is confirmed yet, the try has it then. Where the row that
     /// is remembered of this segment has this number, its words need not be read.
@@ -70,8 +71,9 @@ impl<const N: usize, const C: usize, const H: usize, const G: usize> Board<N, C,
         seat.load(self, Load::Open { place })
     }
 
-    /// Loads the item `item` of the buffer that the number `number` of a segment shows. A word of a row is at most
-    /// 2^48 - 1. As long as the number is not confirmed it may be a word of a later version.
+    /// Loads the item `item` of the buffer that the number `number` of a segment shows, counted as in
+    /// [`Board::fill_word`]. A word of a row is at most 2^48 - 1. As long as the number is not confirmed it may be a word
+    /// of a later version.
     #[inline]
     pub fn read_word<S: ScanSeat<N, C, H, G>>(
         &self,
@@ -96,8 +98,8 @@ impl<const N: usize, const C: usize, const H: usize, const G: usize> Board<N, C,
     }
 
     /// The confirming load of a place: its number, which is at least the one that was opened. That of the last place
-    /// ends the try: with an answer, where each number was found again, and else with the workers to be asked, the
-    /// next try, or the end of the scan.
+    /// ends the try: with an answer, where each row was read and each number found again, and else with the workers to be
+    /// asked, the next try, or the end of the scan.
     #[inline]
     pub fn confirm<S: ScanSeat<N, C, H, G>>(&self, seat: &mut S, place: usize) -> u64
         requires own { MayScan self.now (S.bundle seat.old) }
@@ -108,8 +110,8 @@ impl<const N: usize, const C: usize, const H: usize, const G: usize> Board<N, C,
         seat.load(self, Load::Confirm { place })
     }
 
-    /// The opening load of a worker that is asked for the view that it lends. Its flag, the numbers of its vector and
-    /// its totals are then read by `read_word`, in this order.
+    /// The opening load of a worker that is asked for the view that it lends: its number. Its flag, the numbers of its
+    /// vector and its totals are then read by [`Board::read_word`], in this order.
     #[inline]
     pub fn ask<S: ScanSeat<N, C, H, G>>(&self, seat: &mut S, place: usize) -> u64
         requires own { MayScan self.now (S.bundle seat.old) }
@@ -120,7 +122,7 @@ impl<const N: usize, const C: usize, const H: usize, const G: usize> Board<N, C,
         seat.load(self, Load::Ask { place })
     }
 
-    /// The confirming load of the worker that is asked. Where it lends, the scan ends with its view.
+    /// The confirming load of the worker that is asked: its number. Where it lends, the scan ends with its view.
     #[inline]
     pub fn end_ask<S: ScanSeat<N, C, H, G>>(&self, seat: &mut S, place: usize) -> u64
         requires own { MayScan self.now (S.bundle seat.old) }

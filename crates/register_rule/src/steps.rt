@@ -104,9 +104,10 @@ impl<const N: usize, const C: usize, const H: usize, const G: usize> Board<N, C,
     }
 
     /// Stores the worker's own number plus one, which makes the hidden buffer the shown one: the worker has then
-    /// published these operations. With `lends` the version lends the last answer that the worker recorded.
+    /// published these operations. With `lends` the version lends the last entry that the worker recorded, if there is
+    /// one. A worker publishes at most 2^64 - 1 times.
     ///
-    /// The hidden buffer has to hold the new row, the flag, and with `lends` the vector and the totals of that answer.
+    /// The hidden buffer has to hold the new row, the flag, and where an entry is lent its vector and its totals.
     #[inline]
     pub fn publish(&self, seat: &mut WorkSeat, ops: &[Op], lends: bool)
         requires own { HasWorker self.now seat.old }
@@ -129,7 +130,8 @@ impl<const N: usize, const C: usize, const H: usize, const G: usize> Board<N, C,
         seat.number = number;
     }
 
-    /// Loads the number of a segment, and changes no view. It tells all that the rule says of the members at hand.
+    /// Loads the number of the segment of this place, and changes no view. It tells all that the rule says of the members
+    /// at hand, alone and in pairs, at the moment of the load.
     #[inline]
     pub fn tell(&self, bundle: &mut Bundle, place: usize) -> u64
         requires own { Has self.now bundle.old }

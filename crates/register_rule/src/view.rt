@@ -34,11 +34,11 @@ pub struct Look {
     pub found: u64,
 }
 
-/// What a scan recorded: all segments at one moment.
+/// The answer of a scan, as it is recorded: all segments at one moment.
 pub struct Entry {
-    /// The number of each segment.
+    /// The number of each segment, `N` of them.
     pub vector: LinkedList<u64>,
-    /// The sums of the segments' rows, word by word.
+    /// The sums of the segments' rows, word by word: `C + 27 * H + 2 * G` of them.
     pub totals: LinkedList<u64>,
 }
 
@@ -46,7 +46,7 @@ pub struct Entry {
 pub struct Made {
     /// The operations that it added.
     pub ops: LinkedList<Op>,
-    /// The answer that its version lends, if it lends one.
+    /// The entry that its version lends, if it lends one.
     pub lends: Option<Entry>,
 }
 

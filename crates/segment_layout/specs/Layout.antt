@@ -1,5 +1,5 @@
 -- Where each word of a board stands. The layout is this project's own.
-use Rattle.std.specs.Prelude.{◌≡◌, ⊤, ℕ, ◌+◌, ◌*◌, ◌<◌, ◌≤◌}
+use Rattle.std.specs.Prelude.{◌≡◌, ⊤, ℕ, ◌+◌, ◌*◌, ◌<◌}
 use Rattle.ledger_core.specs.Limits.{AreWorkers, AreSlots}
 use Rattle.segment_layout.specs.declared.part.Part.{Part}
 use Rattle.segment_layout.specs.declared.part.Part.TheVariants.{Number, Row, Flag, Vector, Lent}

@@ -5,9 +5,9 @@ pub enum Item {
     Row { word: usize },
     /// The flag.
     Flag,
-    /// The number of the view's vector of a worker below `n`.
+    /// The number that the view's vector has of a worker, below `n`.
     Vector { worker: usize },
-    /// The lent total of a word of the row, below `w`.
+    /// The total that is lent of a word of the row, below `w`.
     Lent { word: usize },
 }
 
@@ -20,7 +20,7 @@ pub enum Part {
     Row { buffer: usize, word: usize },
     /// A buffer's flag.
     Flag { buffer: usize },
-    /// The number of the view's vector, in a buffer, of a worker below `n`.
+    /// The number that the view's vector, in a buffer, has of a worker, below `n`.
     Vector { buffer: usize, worker: usize },
     /// A buffer's lent total of a word of the row, below `w`.
     Lent { buffer: usize, word: usize },

@@ -46,7 +46,7 @@ pub fn place_of(n: usize, c: usize, h: usize, g: usize, segment: usize, part: Pa
     segment * segment_words(n, c, h, g) + in_segment(n, c, h, g, part)
 }
 
-/// The place of an item in its buffer, in words from the buffer's beginning.
+/// The place of an item in its buffer, in words from the buffer's beginning. It is below [`buffer_words`].
 #[inline]
 pub fn item_at(n: usize, c: usize, h: usize, g: usize, item: Item) -> usize
     requires geometry { IsGeometry n c h g }

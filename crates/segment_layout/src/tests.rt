@@ -1,4 +1,4 @@
-use crate::{Part, buffer_words, place_of, segment_words, words_needed};
+use crate::{Item, Part, buffer_words, item_at, place_of, segment_words, words_needed};
 
 #[test]
 fn words_of_two_workers(rt: HostRuntime) {
@@ -58,6 +58,17 @@ fn places_of_the_second_segment(rt: HostRuntime) {
     assert_eq!(rt; place_of(2, 3, 1, 0, 1, flag), 221);
     assert_eq!(rt; place_of(2, 3, 1, 0, 1, vector), 223);
     assert_eq!(rt; place_of(2, 3, 1, 0, 1, lent), 253);
+}
+
+#[test]
+fn items_of_a_buffer(rt: HostRuntime) {
+    let row = Item::Row { word: 29 };
+    let vector = Item::Vector { worker: 1 };
+    let lent = Item::Lent { word: 29 };
+    assert_eq!(rt; item_at(2, 3, 1, 0, row), 29);
+    assert_eq!(rt; item_at(2, 3, 1, 0, Item::Flag), 30);
+    assert_eq!(rt; item_at(2, 3, 1, 0, vector), 32);
+    assert_eq!(rt; item_at(2, 3, 1, 0, lent), 62);
 }
 
 /// The ups of the gauge are word 30 of the row, and its downs word 31.

@@ -9,3 +9,4 @@ pub mod Coming
 pub mod Arriving
 pub mod Totals
 pub mod LastEntry
+pub mod OwnRow

@@ -1,6 +1,8 @@
 -- Reading words one by one.
-use Rattle.std.proofs.Common.{◌≡◌, ◌⊎◌, inl, inr, ⊎_elim, map, ℕ, zero, suc, ◌+◌, ◌<◌, ◌≤◌, List, [], ◌∷◌, ◌++◌, length, take, drop, set, sym, refl, ap, ◌∙◌, arith}
+use Rattle.std.proofs.Common.{get_or, Contains, ◌≡◌, ◌⊎◌, inl, inr, ⊎_elim, map, ℕ, zero, suc, ◌+◌, ◌<◌, ◌≤◌, List, [], ◌∷◌, ◌++◌, length, take, drop, set, sym, refl, ap, ◌∙◌, arith}
 use mathlib.Core.Option.{some, some-injective, some-ne-none}
+use mathlib.Core.Logic.{dite}
+use native.Mathlib.Decide.{ℕ_discrete}
 use lib.ListN.{get_elem?}
 use Rattle.register_rule.specs.declared.view.Member.{Member}
 use Rattle.register_rule.specs.declared.view.Scan.{Scan}
@@ -89,3 +91,22 @@ pub at_map : {A B : Type 0} (f : A → B) (l : List A) (i : ℕ) (a : A) → get
 at_map f [] i a e = absurd (some-ne-none a (sym e))
 at_map f (x ∷ l) zero a e = ap (λ z. some (f z)) (some-injective x a e)
 at_map f (x ∷ l) (suc i) a e = at_map f l i a e
+
+-- lists of one length with the same words
+pub same_words : (xs ys : List ℕ) → length xs ≡ length ys → ((k : ℕ) → k < length xs → get_or xs k 0 ≡ get_or ys k 0) → xs ≡ ys
+same_words [] [] e h = refl
+same_words [] (y ∷ ys) e h = absurd (omega (arith, e))
+same_words (x ∷ xs) [] e h = absurd (omega (arith, e))
+same_words (x ∷ xs) (y ∷ ys) e h = let a : x ≡ y = h 0 (omega arith) in let others = same_words xs ys (omega (arith, e)) (λ k lt. h (suc k) (omega (arith, lt))) in λ z. a z ∷ others z
+
+-- a list of numbers has a number, or has it not
+pub contains_or_not : (xs : List ℕ) (k : ℕ) → Contains xs k ⊎ (¬ (Contains xs k))
+contains_or_not [] k = inr (λ h. let lt = h.1 in omega (arith, lt))
+contains_or_not (x ∷ xs) k = dite (ℕ_discrete x k)
+    (λ e. inl (0, omega arith, e))
+    (λ other. ⊎_elim (λ h. let lt = h.1 in inl (suc h.0, omega (arith, lt), h.2))
+        (λ none. inr (λ h. go h.0 h.1 h.2 other none)) (contains_or_not xs k))
+  where
+    go : (q : ℕ) → q < length (x ∷ xs) → get_or (x ∷ xs) q k ≡ k → (x ≡ k → ⊥) → ¬ (Contains xs k) → ⊥
+    go zero lt e other none = other e
+    go (suc q) lt e other none = none (q, omega (arith, lt), e)

@@ -1,5 +1,5 @@
 //! What a scan remembers of one segment.
-ghost use Rattle.std.specs.Prelude.{◌≡◌, ℕ, ◌+◌, ◌-◌, ◌<◌, ◌≤◌, ◌==◌, cond, length, slice_index, IfOk};
+ghost use Rattle.std.specs.Prelude.{◌≡◌, ℕ, ◌+◌, ◌-◌, ◌<◌, ◌≤◌, ◌==◌, cond, Contains, length, slice_index, slice_set, IfOk};
 ghost use Rattle.ledger_core.specs.Ops.{width};
 ghost use Rattle.segment_layout.specs.Layout.{depth};
 ghost use Rattle.register_rule.specs.Members.{led, scanned};
@@ -7,6 +7,7 @@ ghost use Rattle.register_rule.specs.Told.{IsNumber};
 ghost use Rattle.register_rule.specs.Seats.{table_of, members_of, MayScan};
 
 use crate::items::read_items;
+use ledger_core::Row;
 use register_rule::{Board, ScanSeat};
 use std::alloc::{AllocError, Global};
 use std::mem::swap;
@@ -95,6 +96,93 @@ impl Kept {
         swap(&mut self.row, &mut self.fresh);
         self.number = number;
     }
+
+    /// Remembers this row under this number.
+    pub fn learn<const C: usize, const H: usize, const G: usize>(
+        &mut self,
+        number: u64,
+        row: &Row<C, H, G>,
+        totals: &mut [u64],
+    )
+        requires long { length totals.old ≡ width C H G }
+        requires wide { IsWide (width C H G) self.old }
+        requires part { (k : ℕ) → k < width C H G → (slice_index self.old.row.items k ≤ slice_index totals.old k) × (slice_index totals.old k ≤ 9007199254740992) }
+        ensures wide { IsWide (width C H G) self.new }
+        ensures version { version_of self.new ≡ record { number = number; row = row.now } }
+        ensures totals { (k : ℕ) → k < width C H G → slice_index totals.new k + slice_index self.old.row.items k ≡ slice_index totals.old k + slice_index row.now k }
+    {
+        copy_words(self.fresh.as_mut_slice(), row);
+        self.replace(number, totals);
+    }
+
+    /// Remembers this row under this number, where it differs from the remembered one at these words alone.
+    #[inline]
+    pub fn change<const C: usize, const H: usize, const G: usize>(
+        &mut self,
+        number: u64,
+        row: &Row<C, H, G>,
+        items: &[usize],
+        totals: &mut [u64],
+    )
+        requires long { length totals.old ≡ width C H G }
+        requires wide { IsWide (width C H G) self.old }
+        requires words { (j : ℕ) → Contains items.now j → j < width C H G }
+        requires others { (k : ℕ) → k < width C H G → ¬ (Contains items.now k) → slice_index self.old.row.items k ≡ slice_index row.now k }
+        requires part { (k : ℕ) → k < width C H G → (slice_index self.old.row.items k ≤ slice_index totals.old k) × (slice_index totals.old k ≤ 9007199254740992) }
+        ensures wide { IsWide (width C H G) self.new }
+        ensures version { version_of self.new ≡ record { number = number; row = row.now } }
+        ensures totals { (k : ℕ) → k < width C H G → slice_index totals.new k + slice_index self.old.row.items k ≡ slice_index totals.old k + slice_index row.now k }
+    {
+        prove!(row.len() == self.row.len());
+        change_words(totals, self.row.as_mut_slice(), row, items);
+        self.number = number;
+    }
+}
+
+/// Makes these the words of the row.
+fn copy_words<const C: usize, const H: usize, const G: usize>(words: &mut [u64], row: &Row<C, H, G>)
+    requires { length words.old ≡ width C H G }
+    ensures words { words.new ≡ row.now }
+    ensures low { (k : ℕ) → k < width C H G → slice_index words.new k ≤ 281474976710655 }
+{
+    for k in 0..row.len() {
+        words[k] = row.word_at(k);
+    }
+}
+
+/// Makes the words of the old row at these items those of the new one, also in the totals.
+#[inline]
+fn change_words<const C: usize, const H: usize, const G: usize>(
+    totals: &mut [u64],
+    old: &mut [u64],
+    row: &Row<C, H, G>,
+    items: &[usize],
+)
+    requires lengths { (length totals.old ≡ width C H G) × (length old.old ≡ width C H G) }
+    requires words { (j : ℕ) → Contains items.now j → j < width C H G }
+    requires low { (k : ℕ) → k < width C H G → slice_index old.old k ≤ 281474976710655 }
+    requires part { (k : ℕ) → k < width C H G → (slice_index old.old k ≤ slice_index totals.old k) × (slice_index totals.old k ≤ 9007199254740992) }
+    ensures changed { (k : ℕ) → Contains items.now k → slice_index old.new k ≡ slice_index row.now k }
+    ensures others { (k : ℕ) → ¬ (Contains items.now k) → slice_index old.new k ≡ slice_index old.old k }
+    ensures low { (k : ℕ) → k < width C H G → slice_index old.new k ≤ 281474976710655 }
+    ensures sums { (k : ℕ) → k < width C H G → slice_index totals.new k + slice_index old.old k ≡ slice_index totals.old k + slice_index old.new k }
+{
+    for &item in items {
+        change_word(totals, old, item, row.word_at(item));
+    }
+}
+
+/// Makes one word of the old row another, also in the totals.
+#[inline]
+fn change_word(totals: &mut [u64], old: &mut [u64], item: usize, word: u64)
+    requires inside { (item < length totals.old) × (item < length old.old) }
+    requires part { slice_index old.old item ≤ slice_index totals.old item }
+    requires room { slice_index totals.old item + word < 18446744073709551616 }
+    ensures old { old.new ≡ slice_set old.old item word }
+    ensures totals { totals.new ≡ slice_set totals.old item (slice_index totals.old item - slice_index old.old item + word) }
+{
+    totals[item] = totals[item] - old[item] + word;
+    old[item] = word;
 }
 
 /// Takes the words of one row from the totals, and adds those of another.

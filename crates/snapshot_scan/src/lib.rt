@@ -17,6 +17,7 @@ mod items;
 mod kept;
 mod memory;
 mod no_room;
+mod own_row;
 mod reader;
 mod reading;
 mod remembering;

@@ -1,0 +1,80 @@
+-- A buffer that is filled item by item.
+use Rattle.std.proofs.Common.{◌≡◌, ◌⊎◌, ⊎_elim, inl, inr, ℕ, ◌+◌, ◌<◌, ◌≤◌, false, List, [], ◌∷◌, length, set, get_or, sym, ap, ◌∙◌, subst, arith, get_or-set_same, get_or-set_other}
+use Rattle.std.specs.List.{Contains}
+use Rattle.std.proofs.lemmas.Bool.{cases_eq}
+use Rattle.std.proofs.lemmas.List.Elements.{Contains-append_right, Contains-append_cases}
+use Rattle.std.proofs.lemmas.List.{same_lists, get_or_default}
+use Rattle.snapshot_update.specs.Images.{Changed}
+use Rattle.snapshot_update.specs.Changes.{Notes}
+use Rattle.snapshot_update.proofs.Noted.{none_listed}
+
+-- where two images differ is listed, of their items below n
+pub record SoFar (n : ℕ) (changed : Changed) (old new : List ℕ) : Type 0 where
+  pub differ : changed.all ≡ false → (j : ℕ) → j < n → ¬ (Contains changed.items j) → get_or old j 0 ≡ get_or new j 0
+  pub inside : (j : ℕ) → Contains changed.items j → j < n
+  pub listed : (j : ℕ) → Contains changed.items j → ¬ (get_or old j 0 ≡ get_or new j 0)
+  pub longer : length changed.items ≤ n
+  pub fits : n ≤ 256 → changed.all ≡ false
+
+only_one : (x j : ℕ) → Contains (x ∷ []) j → x ≡ j
+only_one x j h = let lt = h.1 in let zero : h.0 ≡ 0 = omega (arith, lt) in subst (λ (k : ℕ). get_or (x ∷ []) k j ≡ j) zero h.2
+
+pub so_far_none : (changed : Changed) (old new : List ℕ) → changed.all ≡ false → changed.items ≡ [] → SoFar 0 changed old new
+so_far_none changed old new all items =
+    let nothing : (j : ℕ) → ¬ (Contains changed.items j) = λ j h. none_listed j (subst (λ (l : List ℕ). Contains l j) items h) in record {
+      differ = λ _ j lt. absurd (omega arith);
+      inside = λ j h. absurd (nothing j h);
+      listed = λ j h. absurd (nothing j h);
+      longer = let e = ap length items in omega arith;
+      fits = λ _. all;
+    }
+
+-- an item at which they are the same
+pub so_far_same : (n : ℕ) (changed : Changed) (old new : List ℕ) → get_or old n 0 ≡ get_or new n 0 → SoFar n changed old new → SoFar (n + 1) changed old new
+so_far_same n changed old new e is = record {
+  differ = λ h j lt other. elim (cases_eq j n) [
+    | inl here ↦ subst (λ (i : ℕ). get_or old i 0 ≡ get_or new i 0) (sym here) e
+    | inr apart ↦ is.differ h j (omega arith) other
+  ];
+  inside = λ j h. let lt = is.inside j h in omega arith;
+  listed = is.listed;
+  longer = let l = is.longer in omega arith;
+  fits = λ few. is.fits (omega arith);
+}
+
+-- one at which they differ
+pub so_far_noted : (n : ℕ) (was now : Changed) (old new : List ℕ) → (get_or old n 0 ≡ get_or new n 0 → ⊥) → Notes n was now → SoFar n was old new → SoFar (n + 1) now old new
+so_far_noted n was now old new ne notes is = record {
+  differ = λ h j lt other. elim (cases_eq j n) [
+    | inl here ↦ absurd (other (subst (Contains now.items) (sym here) (notes.notes h)))
+    | inr apart ↦ is.differ (notes.listed h) j (omega arith) (λ there. other (notes.keeps h j there))
+  ];
+  inside = λ j h. ⊎_elim (λ there. let lt = is.inside j there in omega arith) (λ here. omega (arith, here)) (notes.others j h);
+  listed = λ j h same. ⊎_elim (λ there. is.listed j there same) (λ here. ne (subst (λ (i : ℕ). get_or old i 0 ≡ get_or new i 0) here same)) (notes.others j h);
+  longer = let l = is.longer in let m = notes.longer in omega arith;
+  fits = λ few. let l = is.longer in notes.fits (is.fits (omega arith)) (omega arith);
+}
+
+-- a store of the word that is to be there, at an item n: the items below it are as they should be, and then this one, too
+pub below_set : (xs ys now : List ℕ) (n word : ℕ) → n < length xs → now ≡ set xs n word → word ≡ get_or ys n 0
+    → ((j : ℕ) → j < n → get_or xs j 0 ≡ get_or ys j 0) → (j : ℕ) → j < n + 1 → get_or now j 0 ≡ get_or ys j 0
+below_set xs ys now n word lt is e below j within = ap (λ (l : List ℕ). get_or l j 0) is ∙ elim (cases_eq j n) [
+  | inl here ↦ subst (λ (k : ℕ). get_or (set xs n word) k 0 ≡ get_or ys k 0) (sym here) (get_or-set_same xs n word 0 lt ∙ e)
+  | inr apart ↦ get_or-set_other xs n j word 0 apart ∙ below j (omega arith)
+]
+
+-- whether an item is listed
+pub listed_or : (xs : List ℕ) (j : ℕ) → Contains xs j ⊎ ¬ (Contains xs j)
+listed_or [] j = inr (none_listed j)
+listed_or (x ∷ xs) j = elim (cases_eq x j) [
+  | inl here ↦ inl (0, omega arith, here)
+  | inr apart ↦ ⊎_elim
+      (λ there. inl (Contains-append_right (x ∷ []) xs j there))
+      (λ nowhere. inr (λ h. ⊎_elim (λ first. apart (only_one x j first)) nowhere (Contains-append_cases (x ∷ []) xs j h)))
+      (listed_or xs j)
+]
+
+-- a buffer that has the word that it should at each item
+pub all_filled : (xs ys : List ℕ) (n : ℕ) → length xs ≡ n → length ys ≡ n → ((j : ℕ) → j < n → get_or xs j 0 ≡ get_or ys j 0) → xs ≡ ys
+all_filled xs ys n long long' same = same_lists xs ys (long ∙ sym long') (λ k d lt.
+    get_or_default xs k d 0 lt ∙ (same k (omega arith) ∙ get_or_default ys k 0 d (omega arith)))

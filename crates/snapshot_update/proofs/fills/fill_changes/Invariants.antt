@@ -1,0 +1,14 @@
+use Rattle.std.proofs.Common.{◌≡◌, ◌<◌, ℕ, get_or}
+use Rattle.register_rule.specs.Seats.{worker_of, index_of, HasWorker}
+use Rattle.snapshot_update.specs.Images.{with_hidden}
+use Rattle.snapshot_update.specs.Target.{target_of}
+use Rattle.snapshot_update.proofs.fills.fill_changes.Given as goal
+
+abbrev pub invariant-loop-item : goal.invariant-loop-item
+invariant-loop-item g l = record {
+  own : HasWorker l.board l.seat;
+  index : index_of l.seat ≡ index_of l.fn.seat;
+  member : worker_of l.seat ≡ with_hidden l.hidden (worker_of l.fn.seat);
+  filled : (k : ℕ) → k < l.item-index → get_or l.hidden (get_or l.items k 0) 0 ≡ get_or (target_of l.version) (get_or l.items k 0) 0;
+  kept : (j : ℕ) → get_or l.fn.hidden j 0 ≡ get_or (target_of l.version) j 0 → get_or l.hidden j 0 ≡ get_or (target_of l.version) j 0;
+}

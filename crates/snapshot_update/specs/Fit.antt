@@ -1,0 +1,46 @@
+-- What a worker's data say of its member.
+use Rattle.std.specs.Prelude.{◌≡◌, ℕ, suc, ◌+◌, ◌<◌, List, Contains, length, map, slice_index}
+use mathlib.Core.Option.{some}
+use lib.ListN.{get_elem?}
+use Rattle.ledger_core.specs.Ops.{width, sum_ops}
+use Rattle.segment_layout.specs.Layout.{depth}
+use Rattle.register_rule.specs.declared.view.Member.{Member}
+use Rattle.register_rule.specs.declared.view.Version.{Version}
+use Rattle.register_rule.specs.declared.view.Who.TheVariants.{Worker}
+use Rattle.register_rule.specs.Sums.{total}
+use Rattle.snapshot_scan.specs.declared.memory.Memory.{Memory}
+use Rattle.snapshot_scan.specs.Memories.{rows_of, sums_of, IsReady}
+use Rattle.snapshot_update.specs.Images.{Changed, DifferAt, version_words}
+
+-- all items that are listed are items of a buffer of b words
+abbrev pub AreInside : (b : ℕ) → Changed → Type 0
+AreInside b changed = (j : ℕ) → Contains changed.items j → j < b
+
+abbrev pub number_in : Version → ℕ
+number_in v = v.number
+
+-- the version that an update of nothing would publish now, if its scan found all that is remembered
+abbrev pub next_words : (row : List ℕ) → List Version → (sums : List ℕ) → List ℕ
+next_words row rows sums = version_words row 1 (map number_in rows) sums
+
+-- the images of both buffers, of b words; where they differ from each other, and where the shown one differs from the version
+-- `next`
+pub record AreImages (b : ℕ) (next hidden shown : List ℕ) (recently lately : Changed) : Type 0 where
+  pub next_deep : length next ≡ b
+  pub hidden_deep : length hidden ≡ b
+  pub shown_deep : length shown ≡ b
+  pub recent : DifferAt recently hidden shown
+  pub recent_inside : AreInside b recently
+  pub late : DifferAt lately shown next
+  pub late_inside : AreInside b lately
+
+-- the member is the worker of this index, which has published `number` times; this is its row, and these are its buffers
+pub record IsFit (n c h g index number : ℕ) (row : List ℕ) (memory : Memory n c h g) (hidden shown : List ℕ) (recent late : Changed) (m : Member) : Type 0 where
+  pub who : m.who ≡ Worker index
+  pub counts : number ≡ length m.work.made
+  pub sums : (k : ℕ) → k < width c h g → slice_index row k ≡ total (sum_ops c h) m.work.made k
+  pub own_row : get_elem? (rows_of memory) index ≡ some (record { number = number; row = row })
+  pub ready : IsReady m.scan memory
+  pub hidden_is : m.work.hidden ≡ hidden
+  pub shown_is : m.work.shown ≡ shown
+  pub images : AreImages (depth n (width c h g)) (next_words row (rows_of memory) (sums_of memory)) hidden shown recent late

@@ -1,0 +1,5 @@
+pub mod Images
+pub mod Changes
+pub mod Target
+pub mod Fit
+pub mod Updated

@@ -1,0 +1,28 @@
+-- What an update comes to.
+use Rattle.std.specs.Prelude.{◌≡◌, ℕ, Bool, true, false, List}
+use Rattle.ledger_core.specs.declared.op.Op.{Op}
+use Rattle.register_rule.specs.declared.view.Entry.{Entry}
+use Rattle.register_rule.specs.declared.view.Member.{Member}
+use Rattle.register_rule.specs.declared.view.Scan.{Scan}
+use Rattle.register_rule.specs.Members.{published}
+use Rattle.snapshot_core.specs.declared.next.Next.TheVariants.{GaveUp}
+use Rattle.snapshot_scan.specs.declared.contended.Contended.{Contended}
+use Rattle.snapshot_scan.specs.Scanned.{IsAnswered}
+use Rattle.snapshot_scan.specs.Contention.{IsContended}
+use Rattle.snapshot_scan.specs.Core.{CameTo, AnswersBy}
+use Rattle.snapshot_update.specs.Images.{with_hidden}
+
+-- the scan of an update: where the version lends a view, an answer was recorded, which is then the last one; where it does not,
+-- the scan was given up. n workers, rows of w words
+abbrev pub ScanMeets : (n w : ℕ) (c c' : Scan) (lends : Bool) → Type 0
+ScanMeets n w c c' true = (a : Entry) × IsAnswered n c c' a × AnswersBy n w c c' a
+ScanMeets n w c c' false = (e : Contended) × IsContended n c c' e × CameTo n w c c' (GaveUp e.worker e.first e.last)
+
+-- from m to m' worker i scanned, and then published one version, which adds these operations and lends the answer of that
+-- scan, or nothing where it was given up
+pub record IsUpdated (n w i : ℕ) (ops : List Op) (m m' : Member) : Type 0 where
+  pub scan : Scan
+  pub lends : Bool
+  pub hidden : List ℕ
+  pub meets : ScanMeets n w m.scan scan lends
+  pub is : m' ≡ published w i ops lends (with_hidden hidden (record m { scan = scan }))

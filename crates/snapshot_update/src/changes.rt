@@ -1,0 +1,99 @@
+//! At which items of a buffer something may have changed.
+ghost use Rattle.std.specs.Prelude.{◌≡◌, ◌+◌, ◌<◌, ◌≤◌, ℕ, true, false, [], length, IfOk};
+ghost use Rattle.snapshot_update.specs.Changes.{Notes};
+
+use std::alloc::{AllocError, Global};
+use std::marker::Model;
+
+/// How many items can be listed: where more change, all count as changed.
+const ROOM: usize = 256;
+
+/// Items of a buffer at which something may have changed: at most 256 of them are listed, or all may have changed.
+///
+/// It takes memory when it is made, and never after.
+#[derive(Drop)]
+pub(crate) struct Changes {
+    items: Vec<usize>,
+    count: usize,
+    all: bool,
+}
+
+impl Model for Changes {
+    ghost use Rattle.std.specs.Prelude.{◌≡◌, ◌≤◌, length, take};
+    ghost use Rattle.snapshot_update.specs.Images.{Changed};
+
+    ghost Value = { Changed };
+
+    ghost view = { λ c. record { all = c.all; items = take c.count c.items.items } };
+
+    ghost invariant = { λ c. (c.count ≤ 256) × (length c.items.items ≡ 256) };
+}
+
+impl Changes {
+    /// All items may have changed.
+    pub(crate) fn new(alloc: Global) -> Result<Changes, AllocError>
+        ensures { IfOk result (λ c. (c.all ≡ true) × (c.items ≡ [])) }
+    {
+        let items = vec![in alloc; 0usize; ROOM]?;
+        Ok(Changes {
+            items,
+            count: 0,
+            all: true,
+        })
+    }
+
+    /// Nothing has changed.
+    #[inline]
+    pub(crate) fn clear(&mut self)
+        ensures none { (self.new.all ≡ false) × (self.new.items ≡ []) }
+    {
+        self.count = 0;
+        self.all = false;
+    }
+
+    /// This item may have changed, too. Where no more can be listed, all may have.
+    #[inline]
+    pub(crate) fn note(&mut self, item: usize)
+        ensures kept { self.old.all ≡ true → self.new ≡ self.old }
+        ensures notes { Notes item self.old self.new }
+    {
+        if self.all {
+            return;
+        }
+        if self.count > 0 && self.items[self.count - 1] == item {
+            return;
+        }
+        if self.count == ROOM {
+            self.all = true;
+            return;
+        }
+        self.items[self.count] = item;
+        self.count += 1;
+    }
+
+    /// All items may have changed.
+    #[inline]
+    pub(crate) fn note_all(&mut self)
+        ensures all { self.new.all ≡ true }
+        ensures items { self.new.items ≡ self.old.items }
+    {
+        self.all = true;
+    }
+
+    /// Whether all items may have changed.
+    #[inline]
+    pub(crate) fn is_all(&self) -> bool
+        ensures { result ≡ self.now.all }
+    {
+        self.all
+    }
+
+    /// The items that are listed: where not all may have changed, no others have.
+    #[inline]
+    pub(crate) fn as_slice(&self) -> &[usize]
+        ensures listed { result.now ≡ self.now.items }
+        ensures few { length result.now ≤ 256 }
+    {
+        &self.items[..self.count]
+    }
+}

@@ -1,0 +1,122 @@
+//! Filling the hidden buffer with a version: only the words that change are stored.
+ghost use Rattle.std.specs.Prelude.{◌≡◌, ◌<◌, ◌≤◌, ℕ, false, length, slice_index, slice_set, Contains};
+ghost use Rattle.ledger_core.specs.Ops.{width};
+ghost use Rattle.segment_layout.specs.Layout.{depth};
+ghost use Rattle.register_rule.specs.Seats.{worker_of, index_of, HasWorker};
+ghost use Rattle.snapshot_update.specs.Images.{DifferAt, with_hidden};
+ghost use Rattle.snapshot_update.specs.Target.{target_of};
+
+use crate::changes::Changes;
+use crate::version::Version;
+use register_rule::{Board, WorkSeat};
+
+/// Makes an item of the hidden buffer this word. `hidden` is what the buffer holds, and a word that it holds is not stored.
+#[inline]
+pub(crate) fn fill_item<const N: usize, const C: usize, const H: usize, const G: usize>(
+    board: &Board<N, C, H, G>,
+    seat: &mut WorkSeat,
+    hidden: &mut [u64],
+    item: usize,
+    word: u64,
+)
+    requires own { HasWorker board.now seat.old }
+    requires exact { (worker_of seat.old).work.hidden ≡ hidden.old }
+    requires inside { (item < length hidden.old) × (length hidden.old ≡ depth N (width C H G)) }
+    requires bounded { item < width C H G → word ≤ 281474976710655 }
+    ensures own { HasWorker board.now seat.new }
+    ensures index { index_of seat.new ≡ index_of seat.old }
+    ensures hidden { hidden.new ≡ slice_set hidden.old item word }
+    ensures member { worker_of seat.new ≡ with_hidden hidden.new (worker_of seat.old) }
+{
+    if hidden[item] != word {
+        hidden[item] = word;
+        board.fill_word(seat, item, word);
+    }
+}
+
+/// Fills the items that are listed with the version's words. An item that had the version's word keeps it.
+#[inline]
+pub(crate) fn fill_changes<const N: usize, const C: usize, const H: usize, const G: usize>(
+    board: &Board<N, C, H, G>,
+    seat: &mut WorkSeat,
+    hidden: &mut [u64],
+    changes: &Changes,
+    version: &Version<C, H, G>,
+)
+    requires own { HasWorker board.now seat.old }
+    requires exact { (worker_of seat.old).work.hidden ≡ hidden.old }
+    requires lengths { (length hidden.old ≡ depth N (width C H G)) × (length (target_of version.now) ≡ depth N (width C H G)) }
+    requires listed { changes.now.all ≡ false }
+    requires inside { (j : ℕ) → Contains changes.now.items j → j < depth N (width C H G) }
+    ensures own { HasWorker board.now seat.new }
+    ensures index { index_of seat.new ≡ index_of seat.old }
+    ensures member { worker_of seat.new ≡ with_hidden hidden.new (worker_of seat.old) }
+    ensures filled { (j : ℕ) → Contains changes.now.items j → slice_index hidden.new j ≡ slice_index (target_of version.now) j }
+    ensures kept { (j : ℕ) → slice_index hidden.old j ≡ slice_index (target_of version.now) j → slice_index hidden.new j ≡ slice_index (target_of version.now) j }
+{
+    let items = changes.as_slice();
+    for &item in items {
+        fill_item(board, seat, hidden, item, version.word(item));
+    }
+}
+
+/// Fills the hidden buffer with the version, where it differs from it at no items but those of three lists: those at which
+/// the two buffers differ, by the last publish and by a late one, and those that this update touches.
+#[inline]
+pub(crate) fn fill_known<const N: usize, const C: usize, const H: usize, const G: usize>(
+    board: &Board<N, C, H, G>,
+    seat: &mut WorkSeat,
+    hidden: &mut [u64],
+    recent: &Changes,
+    late: &Changes,
+    touched: &Changes,
+    version: &Version<C, H, G>,
+)
+    requires own { HasWorker board.now seat.old }
+    requires exact { (worker_of seat.old).work.hidden ≡ hidden.old }
+    requires lengths { (length hidden.old ≡ depth N (width C H G)) × (length (target_of version.now) ≡ depth N (width C H G)) }
+    requires listed { (recent.now.all ≡ false) × (late.now.all ≡ false) × (touched.now.all ≡ false) }
+    requires recent { (j : ℕ) → Contains recent.now.items j → j < depth N (width C H G) }
+    requires late { (j : ℕ) → Contains late.now.items j → j < depth N (width C H G) }
+    requires touched { (j : ℕ) → Contains touched.now.items j → j < depth N (width C H G) }
+    requires known { (j : ℕ) → j < depth N (width C H G) → ¬ (Contains recent.now.items j) → ¬ (Contains late.now.items j) → ¬ (Contains touched.now.items j) → slice_index hidden.old j ≡ slice_index (target_of version.now) j }
+    ensures own { HasWorker board.now seat.new }
+    ensures index { index_of seat.new ≡ index_of seat.old }
+    ensures member { worker_of seat.new ≡ with_hidden hidden.new (worker_of seat.old) }
+    ensures hidden { hidden.new ≡ target_of version.now }
+{
+    fill_changes(board, seat, hidden, recent, version);
+    fill_changes(board, seat, hidden, late, version);
+    fill_changes(board, seat, hidden, touched, version);
+}
+
+/// Fills the whole hidden buffer with the version, and lists where the version differs from what the shown buffer holds.
+pub(crate) fn fill_all<const N: usize, const C: usize, const H: usize, const G: usize>(
+    board: &Board<N, C, H, G>,
+    seat: &mut WorkSeat,
+    hidden: &mut [u64],
+    shown: &[u64],
+    recent: &mut Changes,
+    version: &Version<C, H, G>,
+)
+    requires own { HasWorker board.now seat.old }
+    requires exact { (worker_of seat.old).work.hidden ≡ hidden.old }
+    requires lengths { (length hidden.old ≡ depth N (width C H G)) × (length shown.now ≡ depth N (width C H G)) × (length (target_of version.now) ≡ depth N (width C H G)) }
+    ensures own { HasWorker board.now seat.new }
+    ensures index { index_of seat.new ≡ index_of seat.old }
+    ensures member { worker_of seat.new ≡ with_hidden hidden.new (worker_of seat.old) }
+    ensures hidden { hidden.new ≡ target_of version.now }
+    ensures differ { DifferAt recent.new shown.now (target_of version.now) }
+    ensures inside { (j : ℕ) → Contains recent.new.items j → j < depth N (width C H G) }
+    ensures listed { (j : ℕ) → Contains recent.new.items j → ¬ (slice_index shown.now j ≡ slice_index (target_of version.now) j) }
+    ensures few { depth N (width C H G) ≤ 256 → recent.new.all ≡ false }
+{
+    recent.clear();
+    for item in 0..hidden.len() {
+        let word = version.word(item);
+        if shown[item] != word {
+            recent.note(item);
+        }
+        fill_item(board, seat, hidden, item, word);
+    }
+}

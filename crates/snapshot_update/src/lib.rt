@@ -1,0 +1,18 @@
+//! Updates: how a worker makes its hidden buffer the next version of its segment, and what it knows of both its buffers.
+//!
+//! A worker knows the words of both its buffers, so it stores only those that change, and it compares only the items
+//! that may have changed.
+#![tactic(auto)]
+
+mod changes;
+mod fills;
+mod images;
+mod listing;
+mod next_fill;
+mod scanning;
+#[cfg(test)]
+mod tests;
+mod touched;
+mod update;
+mod version;
+mod words;

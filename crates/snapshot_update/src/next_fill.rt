@@ -1,0 +1,53 @@
+//! Filling the hidden buffer with the next version, and listing what changed by it.
+ghost use Rattle.std.specs.Prelude.{◌≡◌, ℕ, ◌+◌, ◌<◌, ◌≤◌, true, false, length, slice_index, Contains};
+ghost use Rattle.ledger_core.specs.Ops.{width};
+ghost use Rattle.segment_layout.specs.Layout.{depth};
+ghost use Rattle.register_rule.specs.Seats.{worker_of, index_of, HasWorker};
+ghost use Rattle.snapshot_update.specs.Images.{DifferAt, with_hidden};
+ghost use Rattle.snapshot_update.specs.Target.{target_of};
+ghost use Rattle.snapshot_update.specs.Fit.{AreInside};
+
+use crate::changes::Changes;
+use crate::fills::{fill_all, fill_known};
+use crate::listing::note_each;
+use crate::version::Version;
+use register_rule::{Board, WorkSeat};
+
+/// Fills the hidden buffer with the version, and lists in `recent` where it differs from what the shown buffer holds. Where
+/// it is `known` that the version differs from that at no items but the late and the touched ones, no others are compared.
+#[inline]
+pub(crate) fn fill_next<const N: usize, const C: usize, const H: usize, const G: usize>(
+    board: &Board<N, C, H, G>,
+    seat: &mut WorkSeat,
+    hidden: &mut [u64],
+    shown: &[u64],
+    recent: &mut Changes,
+    late: &Changes,
+    touched: &Changes,
+    version: &Version<C, H, G>,
+    known: bool,
+)
+    requires own { HasWorker board.now seat.old }
+    requires exact { (worker_of seat.old).work.hidden ≡ hidden.old }
+    requires lengths { (length hidden.old ≡ depth N (width C H G)) × (length shown.now ≡ depth N (width C H G)) × (length (target_of version.now) ≡ depth N (width C H G)) }
+    requires few { depth N (width C H G) ≤ 2529 }
+    requires inside { AreInside (depth N (width C H G)) recent.old × AreInside (depth N (width C H G)) late.now × AreInside (depth N (width C H G)) touched.now }
+    requires listed { known ≡ true → (recent.old.all ≡ false) × (late.now.all ≡ false) × (touched.now.all ≡ false) }
+    requires recent { DifferAt recent.old hidden.old shown.now }
+    requires known { known ≡ true → (j : ℕ) → j < depth N (width C H G) → ¬ (Contains late.now.items j) → ¬ (Contains touched.now.items j) → slice_index shown.now j ≡ slice_index (target_of version.now) j }
+    ensures own { HasWorker board.now seat.new }
+    ensures index { index_of seat.new ≡ index_of seat.old }
+    ensures member { worker_of seat.new ≡ with_hidden hidden.new (worker_of seat.old) }
+    ensures hidden { hidden.new ≡ target_of version.now }
+    ensures recent { DifferAt recent.new shown.now (target_of version.now) }
+    ensures inside { AreInside (depth N (width C H G)) recent.new }
+{
+    if known {
+        fill_known(board, seat, hidden, recent, late, touched, version);
+        recent.clear();
+        note_each(recent, late, 0);
+        note_each(recent, touched, 0);
+        return;
+    }
+    fill_all(board, seat, hidden, shown, recent, version);
+}

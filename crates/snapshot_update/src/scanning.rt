@@ -1,0 +1,51 @@
+//! The scan of an update.
+ghost use Rattle.std.specs.Prelude.{◌≡◌, ℕ, true, false};
+ghost use Rattle.ledger_core.specs.Ops.{width};
+ghost use Rattle.register_rule.specs.Seats.{worker_of, index_of, HasWorker};
+ghost use Rattle.snapshot_scan.specs.declared.ending.Ended.TheVariants as Ended;
+ghost use Rattle.snapshot_scan.specs.Scanned.{IsAnswered};
+ghost use Rattle.snapshot_scan.specs.Core.{AnswersBy};
+ghost use Rattle.snapshot_scan.specs.Memory.{AreNumbers};
+ghost use Rattle.snapshot_scan.specs.Memories.{rows_of, sums_of, answer_of, HasView, IsReady};
+ghost use Rattle.snapshot_update.specs.Updated.{ScanMeets};
+
+use register_rule::{Board, WorkSeat};
+use snapshot_scan::{Ended, Memory};
+
+/// Whether the scan has a view to lend.
+#[inline]
+pub(crate) fn has_view(ended: Ended) -> bool
+    ensures view { result ≡ true → HasView ended }
+    ensures none { result ≡ false → ended ≡ Ended.GaveUp }
+{
+    !matches!(ended, Ended::GaveUp)
+}
+
+/// Whether the scan found all that is remembered.
+#[inline]
+pub(crate) fn is_quiet(ended: Ended) -> bool
+    ensures { result ≡ true → ended ≡ Ended.Direct true }
+{
+    matches!(ended, Ended::Direct { quiet: true })
+}
+
+/// The scan of a worker for its update: its other parts stay as they were.
+#[inline]
+pub(crate) fn scan_own<const N: usize, const C: usize, const H: usize, const G: usize>(
+    board: &Board<N, C, H, G>,
+    seat: &mut WorkSeat,
+    memory: &mut Memory<N, C, H, G>,
+) -> Ended
+    requires own { HasWorker board.now seat.old }
+    requires ready { IsReady (worker_of seat.old).scan memory.old }
+    ensures own { HasWorker board.now seat.new }
+    ensures index { index_of seat.new ≡ index_of seat.old }
+    ensures others { worker_of seat.new ≡ record (worker_of seat.old) { scan = (worker_of seat.new).scan } }
+    ensures ready { IsReady (worker_of seat.new).scan memory.new }
+    ensures view { HasView result → IsAnswered N (worker_of seat.old).scan (worker_of seat.new).scan (answer_of memory.new result) }
+    ensures meets { HasView result → ScanMeets N (width C H G) (worker_of seat.old).scan (worker_of seat.new).scan true }
+    ensures quiet { result ≡ Ended.Direct true → (rows_of memory.new ≡ rows_of memory.old) × (sums_of memory.new ≡ sums_of memory.old) × AreNumbers (answer_of memory.new result).vector (rows_of memory.new) }
+    ensures gave_up { result ≡ Ended.GaveUp → ScanMeets N (width C H G) (worker_of seat.old).scan (worker_of seat.new).scan false }
+{
+    memory.scan(board, seat)
+}

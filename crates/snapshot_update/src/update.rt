@@ -1,0 +1,166 @@
+//! An update: a scan, the fills, and the store of the number.
+ghost use Rattle.std.specs.Prelude.{◌≡◌, ℕ, ◌+◌, ◌<◌, ◌≤◌, List, Bool, true, false, cond, length, slice_index, slice_set, Contains, OnOk, OnErr, IfErr};
+ghost use Rattle.ledger_core.specs.Ops.{width, sum_ops};
+ghost use Rattle.ledger_core.specs.Row.{Accepts};
+ghost use Rattle.ledger_core.specs.OpFault.{IsOpFault};
+ghost use Rattle.segment_layout.specs.Layout.{IsGeometry, depth};
+ghost use mathlib.Core.Option.{some};
+ghost use lib.ListN.{get_elem?};
+ghost use Rattle.register_rule.specs.declared.view.Version.{Version as version};
+ghost use Rattle.register_rule.specs.Sums.{total};
+ghost use Rattle.register_rule.specs.Seats.{worker_of, index_of, HasWorker};
+ghost use Rattle.snapshot_scan.specs.declared.ending.Ended.TheVariants as Ended;
+ghost use Rattle.snapshot_scan.specs.Memories.{rows_of, sums_of, answer_of, HasView};
+ghost use Rattle.snapshot_update.specs.Images.{DifferAt, version_words, with_hidden};
+ghost use Rattle.snapshot_update.specs.Fit.{AreInside, AreImages, IsFit};
+ghost use Rattle.snapshot_update.specs.Updated.{IsUpdated};
+
+use crate::images::Images;
+use crate::listing::list_late;
+use crate::next_fill::fill_next;
+use crate::scanning::{has_view, is_quiet, scan_own};
+use crate::touched::touch;
+use crate::version::Version;
+use ledger_core::{Op, OpFault, Row};
+use register_rule::{Board, WorkSeat};
+use segment_layout::{Item, item_at};
+use snapshot_scan::{Ended, Memory};
+use std::mem::swap;
+
+// The flag of a version that lends a view, or does not.
+#[inline]
+fn flag_word(lends: bool) -> u64
+    ensures { result ≡ cond lends 1 0 }
+{
+    if lends { 1 } else { 0 }
+}
+
+/// Fills the hidden buffer with the version of this row, with the answer of the scan that ended so, and says whether it lends
+/// that. `quiet` says that the scan found all that is remembered, and all touched words are listed.
+#[inline]
+fn fill_version<const N: usize, const C: usize, const H: usize, const G: usize>(
+    board: &Board<N, C, H, G>,
+    seat: &mut WorkSeat,
+    row: &Row<C, H, G>,
+    memory: &Memory<N, C, H, G>,
+    images: &mut Images,
+    ended: Ended,
+    quiet: bool,
+) -> bool
+    requires own { HasWorker board.now seat.old }
+    requires geometry { IsGeometry N C H G }
+    requires exact { (worker_of seat.old).work.hidden ≡ images.old.hidden.items }
+    requires touched { AreInside (width C H G) images.old.touched }
+    requires images { (next : List ℕ) × AreImages (depth N (width C H G)) next images.old.hidden.items images.old.shown.items images.old.recent images.old.late
+        × (quiet ≡ true → (images.old.touched.all ≡ false) × (ended ≡ Ended.Direct true)
+            × ((j : ℕ) → j < depth N (width C H G) → ¬ (Contains images.old.touched.items j) → slice_index next j ≡ slice_index (version_words row.now 1 (answer_of memory.now ended).vector (answer_of memory.now ended).totals) j)) }
+    ensures own { HasWorker board.now seat.new }
+    ensures index { index_of seat.new ≡ index_of seat.old }
+    ensures member { worker_of seat.new ≡ with_hidden images.new.hidden.items (worker_of seat.old) }
+    ensures hidden { images.new.hidden.items ≡ version_words row.now (cond result 1 0) (answer_of memory.now ended).vector (answer_of memory.now ended).totals }
+    ensures others { (images.new.shown.items ≡ images.old.shown.items) × (images.new.late ≡ images.old.late) × (images.new.touched ≡ images.old.touched) }
+    ensures recent { DifferAt images.new.recent images.old.shown.items images.new.hidden.items }
+    ensures inside { AreInside (depth N (width C H G)) images.new.recent }
+    ensures view { result ≡ true → HasView ended }
+    ensures none { result ≡ false → ended ≡ Ended.GaveUp }
+{
+    let (vector, totals) = memory.answer(ended);
+    let lends = has_view(ended);
+    let version = Version::new(row, flag_word(lends), vector, totals);
+    let known = quiet & !images.recent.is_all() & !images.late.is_all();
+    fill_next(
+        board,
+        seat,
+        images.hidden.as_mut_slice(),
+        images.shown.as_slice(),
+        &mut images.recent,
+        &images.late,
+        &images.touched,
+        &version,
+        known,
+    );
+    lends
+}
+
+/// After the publish the buffers have changed their roles. `known` says that all touched words are listed, and that the
+/// version was published with what is remembered.
+#[inline]
+fn turn<const N: usize, const C: usize, const H: usize, const G: usize>(
+    images: &mut Images,
+    own: usize,
+    known: bool,
+)
+    requires geometry { IsGeometry N C H G }
+    requires inside { own < N }
+    requires touched { AreInside (width C H G) images.old.touched }
+    ensures buffers { (images.new.hidden.items ≡ images.old.shown.items) × (images.new.shown.items ≡ images.old.hidden.items) }
+    ensures others { (images.new.recent ≡ images.old.recent) × (images.new.touched ≡ images.old.touched) }
+    ensures unknown { known ≡ false → images.new.late.all ≡ true }
+    ensures own { images.new.late.all ≡ false → Contains images.new.late.items (width C H G + 1 + own) }
+    ensures lent { images.new.late.all ≡ false → (k : ℕ) → Contains images.old.touched.items k → Contains images.new.late.items (width C H G + 1 + N + k) }
+    ensures inside { AreInside (depth N (width C H G)) images.new.late }
+{
+    swap(&mut images.hidden, &mut images.shown);
+    let number = item_at(N, C, H, G, Item::Vector { worker: own });
+    let lent = item_at(N, C, H, G, Item::Flag) + 1 + N;
+    list_late(&mut images.late, &images.touched, number, lent, known);
+}
+
+/// Remembers the worker's own new row. Where it is `known`, it differs from the remembered one at the touched words alone.
+#[inline]
+fn learn<const N: usize, const C: usize, const H: usize, const G: usize>(
+    memory: &mut Memory<N, C, H, G>,
+    own: usize,
+    number: u64,
+    row: &Row<C, H, G>,
+    images: &Images,
+    known: bool,
+)
+    requires geometry { IsGeometry N C H G }
+    requires inside { own < N }
+    requires touched { AreInside (width C H G) images.now.touched }
+    requires known { known ≡ true → (v : version) → get_elem? (rows_of memory.old) own ≡ some v → (k : ℕ) → k < width C H G → ¬ (Contains images.now.touched.items k) → slice_index v.row k ≡ slice_index row.now k }
+    ensures rows { rows_of memory.new ≡ slice_set (rows_of memory.old) own (record { number = number; row = row.now }) }
+    ensures sums { (v : version) → get_elem? (rows_of memory.old) own ≡ some v → (k : ℕ) → k < width C H G → slice_index (sums_of memory.new) k + slice_index v.row k ≡ slice_index (sums_of memory.old) k + slice_index row.now k }
+{
+    if known {
+        memory.remember_at(own, number, row, images.touched.as_slice());
+        return;
+    }
+    memory.remember(own, number, row);
+}
+
+/// An update: the operations are added to the row, a scan is made, and the version is published with the view of the scan, or
+/// without one where that was given up. It takes no memory and waits for nobody.
+pub(crate) fn update<const N: usize, const C: usize, const H: usize, const G: usize>(
+    board: &Board<N, C, H, G>,
+    seat: &mut WorkSeat,
+    row: &mut Row<C, H, G>,
+    memory: &mut Memory<N, C, H, G>,
+    images: &mut Images,
+    ops: &[Op],
+) -> Result<(), OpFault>
+    requires own { HasWorker board.now seat.old }
+    requires geometry { IsGeometry N C H G }
+    requires room { length (worker_of seat.old).work.made + 1 < 18446744073709551616 }
+    requires fit { IsFit N C H G (index_of seat.old) (length (worker_of seat.old).work.made) row.old memory.old images.old.hidden.items images.old.shown.items images.old.recent images.old.late (worker_of seat.old) }
+    ensures own { HasWorker board.now seat.new }
+    ensures index { index_of seat.new ≡ index_of seat.old }
+    ensures fit { IsFit N C H G (index_of seat.new) (length (worker_of seat.new).work.made) row.new memory.new images.new.hidden.items images.new.shown.items images.new.recent images.new.late (worker_of seat.new) }
+    ensures updated { OnOk result (IsUpdated N (width C H G) (index_of seat.old) ops.now (worker_of seat.old) (worker_of seat.new)) }
+    ensures accepted { OnOk result (Accepts C H G (total (sum_ops C H) (worker_of seat.old).work.made) ops.now) }
+    ensures fault { IfErr result (IsOpFault C H G (total (sum_ops C H) (worker_of seat.old).work.made) ops.now) }
+    ensures unchanged { OnErr result (worker_of seat.new ≡ worker_of seat.old) }
+{
+    row.try_apply(ops)?;
+    let ended = scan_own(board, seat, memory);
+    touch::<C, H, G>(ops, &mut images.touched);
+    let quiet = is_quiet(ended) & !images.touched.is_all();
+    let lends = fill_version(board, seat, row, memory, images, ended, quiet);
+    board.publish(seat, ops, lends);
+    let own = seat.worker();
+    turn::<N, C, H, G>(images, own, quiet);
+    let number = seat.number();
+    learn(memory, own, number, row, images, quiet);
+    Ok(())
+}
