@@ -6,3 +6,4 @@ pub mod Giving
 pub mod Shifted
 pub mod VersionWords
 pub mod Fitting
+pub mod FirstFit

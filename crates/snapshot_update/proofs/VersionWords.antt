@@ -69,6 +69,7 @@ number_at numbers vs i are lt = let t = some_at vs i lt in at_number vs i t.0 t.
     some_at [] i h = absurd (omega (arith, h))
     some_at (v ∷ vs) zero h = (v, refl)
     some_at (v ∷ vs) (suc i) h = some_at vs i (omega (arith, h))
+
     at_number : (vs : List Version) (i : ℕ) (v : Version) → get_elem? vs i ≡ some v → slice_index (map number_in vs) i ≡ v.number
     at_number [] i v e = absurd (some-ne-none v (sym e))
     at_number (x ∷ vs) zero v e = ap number_in (some-injective x v e)
@@ -101,6 +102,7 @@ module _ (w n : ℕ) (row row' : List ℕ) (rows : List Version) (sums opened to
     where
       there : (k : ℕ) → j ≡ k → slice_index (next_words row rows sums) k ≡ slice_index (version_words row' 1 opened totals) k → slice_index (next_words row rows sums) j ≡ slice_index (version_words row' 1 opened totals) j
       there k e h = subst (λ (z : ℕ). slice_index (next_words row rows sums) z ≡ slice_index (version_words row' 1 opened totals) z) (sym e) h
+
       go : Which w n j → slice_index (next_words row rows sums) j ≡ slice_index (version_words row' 1 opened totals) j
       go (in_row h) = row_word w n row 1 (map number_in rows) sums wide all_rows j h ∙ (rest j h none ∙ sym (row_word w n row' 1 opened totals wide' all j h))
       go (at_flag e) = there w e (flag_word w n row 1 (map number_in rows) sums wide all_rows ∙ sym (flag_word w n row' 1 opened totals wide' all))
@@ -116,8 +118,10 @@ module _ (w n : ℕ) (row row' : List ℕ) (rows : List Version) (sums opened to
     where
       all_new : length (map number_in (set rows own v)) ≡ n
       all_new = numbers_long (set rows own v) ∙ (set_long rows own v ∙ few)
+
       there : (k : ℕ) → j ≡ k → slice_index (version_words row' 1 opened totals) k ≡ slice_index (next_words row' (set rows own v) sums') k → slice_index (version_words row' 1 opened totals) j ≡ slice_index (next_words row' (set rows own v) sums') j
       there k e h = subst (λ (z : ℕ). slice_index (version_words row' 1 opened totals) z ≡ slice_index (next_words row' (set rows own v) sums') z) (sym e) h
+
       go : Which w n j → slice_index (version_words row' 1 opened totals) j ≡ slice_index (next_words row' (set rows own v) sums') j
       go (in_row h) = row_word w n row' 1 opened totals wide' all j h ∙ sym (row_word w n row' 1 (map number_in (set rows own v)) sums' wide' all_new j h)
       go (at_flag e) = there w e (flag_word w n row' 1 opened totals wide' all ∙ sym (flag_word w n row' 1 (map number_in (set rows own v)) sums' wide' all_new))

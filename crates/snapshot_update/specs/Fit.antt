@@ -1,5 +1,5 @@
 -- What a worker's data say of its member.
-use Rattle.std.specs.Prelude.{◌≡◌, ℕ, suc, ◌+◌, ◌<◌, List, Contains, length, map, slice_index}
+use Rattle.std.specs.Prelude.{◌≡◌, ℕ, ◌<◌, Bool, true, List, Contains, length, map, slice_index}
 use mathlib.Core.Option.{some}
 use lib.ListN.{get_elem?}
 use Rattle.ledger_core.specs.Ops.{width, sum_ops}
@@ -34,13 +34,20 @@ pub record AreImages (b : ℕ) (next hidden shown : List ℕ) (recently lately :
   pub late : DifferAt lately shown next
   pub late_inside : AreInside b lately
 
--- the member is the worker of this index, which has published `number` times; this is its row, and these are its buffers
-pub record IsFit (n c h g index number : ℕ) (row : List ℕ) (memory : Memory n c h g) (hidden shown : List ℕ) (recent late : Changed) (m : Member) : Type 0 where
+-- the member is the worker of this index, which has published `number` times; this is its row, and these are its buffers. Where
+-- `own` is true, the row that is remembered of its own segment is this row
+pub record IsFit (n c h g index number : ℕ) (row : List ℕ) (memory : Memory n c h g) (hidden shown : List ℕ) (recent late : Changed) (own : Bool) (m : Member) : Type 0 where
   pub who : m.who ≡ Worker index
   pub counts : number ≡ length m.work.made
   pub sums : (k : ℕ) → k < width c h g → slice_index row k ≡ total (sum_ops c h) m.work.made k
-  pub own_row : get_elem? (rows_of memory) index ≡ some (record { number = number; row = row })
+  pub wide : length row ≡ width c h g
+  pub own_row : own ≡ true → get_elem? (rows_of memory) index ≡ some (record { number = number; row = row })
   pub ready : IsReady m.scan memory
   pub hidden_is : m.work.hidden ≡ hidden
   pub shown_is : m.work.shown ≡ shown
   pub images : AreImages (depth n (width c h g)) (next_words row (rows_of memory) (sums_of memory)) hidden shown recent late
+
+-- the same, of the member of a seat of this index
+abbrev pub HoldsFor : (n c h g index number : ℕ) (row : List ℕ) (memory : Memory n c h g) (hidden shown : List ℕ) (recent late : Changed) (own : Bool) (seat : ℕ) (m : Member) → Type 0
+HoldsFor n c h g index number row memory hidden shown recent late own seat m =
+    (seat ≡ index) × (number ≡ length m.work.made) × IsFit n c h g seat (length m.work.made) row memory hidden shown recent late own m

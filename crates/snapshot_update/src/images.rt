@@ -16,6 +16,8 @@ pub(crate) struct Images {
     pub(crate) recent: Changes,
     /// Where the shown one differs from the version that an update of nothing would publish now.
     pub(crate) late: Changes,
+    /// Whether the row that is remembered of the worker's own segment is known to be its row.
+    pub(crate) own: bool,
     /// The words of the row that the last list of operations touched.
     pub(crate) touched: Changes,
 }
@@ -33,6 +35,7 @@ impl Images {
             shown: vec![in alloc; 0u64; words]?,
             recent: Changes::new(alloc)?,
             late: Changes::new(alloc)?,
+            own: true,
             touched: Changes::new(alloc)?,
         })
     }

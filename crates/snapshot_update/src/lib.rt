@@ -4,7 +4,9 @@
 //! that may have changed.
 #![tactic(auto)]
 
+mod applying;
 mod changes;
+mod faults;
 mod fills;
 mod images;
 mod listing;
@@ -16,3 +18,7 @@ mod touched;
 mod update;
 mod version;
 mod words;
+mod worker;
+
+pub use faults::{ApplyFault, CountFault};
+pub use worker::Worker;

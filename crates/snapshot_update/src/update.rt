@@ -53,12 +53,12 @@ fn fill_version<const N: usize, const C: usize, const H: usize, const G: usize>(
     requires touched { AreInside (width C H G) images.old.touched }
     requires images { (next : List ℕ) × AreImages (depth N (width C H G)) next images.old.hidden.items images.old.shown.items images.old.recent images.old.late
         × (quiet ≡ true → (images.old.touched.all ≡ false) × (ended ≡ Ended.Direct true)
-            × ((j : ℕ) → j < depth N (width C H G) → ¬ (Contains images.old.touched.items j) → slice_index next j ≡ slice_index (version_words row.now 1 (answer_of memory.now ended).vector (answer_of memory.now ended).totals) j)) }
+        × ((j : ℕ) → j < depth N (width C H G) → ¬ (Contains images.old.touched.items j) → slice_index next j ≡ slice_index (version_words row.now 1 (answer_of memory.now ended).vector (answer_of memory.now ended).totals) j)) }
     ensures own { HasWorker board.now seat.new }
     ensures index { index_of seat.new ≡ index_of seat.old }
     ensures member { worker_of seat.new ≡ with_hidden images.new.hidden.items (worker_of seat.old) }
     ensures hidden { images.new.hidden.items ≡ version_words row.now (cond result 1 0) (answer_of memory.now ended).vector (answer_of memory.now ended).totals }
-    ensures others { (images.new.shown.items ≡ images.old.shown.items) × (images.new.late ≡ images.old.late) × (images.new.touched ≡ images.old.touched) }
+    ensures others { (images.new.shown.items ≡ images.old.shown.items) × (images.new.late ≡ images.old.late) × (images.new.touched ≡ images.old.touched) × (images.new.own ≡ images.old.own) }
     ensures recent { DifferAt images.new.recent images.old.shown.items images.new.hidden.items }
     ensures inside { AreInside (depth N (width C H G)) images.new.recent }
     ensures view { result ≡ true → HasView ended }
@@ -143,10 +143,10 @@ pub(crate) fn update<const N: usize, const C: usize, const H: usize, const G: us
     requires own { HasWorker board.now seat.old }
     requires geometry { IsGeometry N C H G }
     requires room { length (worker_of seat.old).work.made + 1 < 18446744073709551616 }
-    requires fit { IsFit N C H G (index_of seat.old) (length (worker_of seat.old).work.made) row.old memory.old images.old.hidden.items images.old.shown.items images.old.recent images.old.late (worker_of seat.old) }
+    requires fit { IsFit N C H G (index_of seat.old) (length (worker_of seat.old).work.made) row.old memory.old images.old.hidden.items images.old.shown.items images.old.recent images.old.late images.old.own (worker_of seat.old) }
     ensures own { HasWorker board.now seat.new }
     ensures index { index_of seat.new ≡ index_of seat.old }
-    ensures fit { IsFit N C H G (index_of seat.new) (length (worker_of seat.new).work.made) row.new memory.new images.new.hidden.items images.new.shown.items images.new.recent images.new.late (worker_of seat.new) }
+    ensures fit { IsFit N C H G (index_of seat.new) (length (worker_of seat.new).work.made) row.new memory.new images.new.hidden.items images.new.shown.items images.new.recent images.new.late images.new.own (worker_of seat.new) }
     ensures updated { OnOk result (IsUpdated N (width C H G) (index_of seat.old) ops.now (worker_of seat.old) (worker_of seat.new)) }
     ensures accepted { OnOk result (Accepts C H G (total (sum_ops C H) (worker_of seat.old).work.made) ops.now) }
     ensures fault { IfErr result (IsOpFault C H G (total (sum_ops C H) (worker_of seat.old).work.made) ops.now) }
@@ -155,12 +155,13 @@ pub(crate) fn update<const N: usize, const C: usize, const H: usize, const G: us
     row.try_apply(ops)?;
     let ended = scan_own(board, seat, memory);
     touch::<C, H, G>(ops, &mut images.touched);
-    let quiet = is_quiet(ended) & !images.touched.is_all();
+    let quiet = is_quiet(ended) & !images.touched.is_all() & images.own;
     let lends = fill_version(board, seat, row, memory, images, ended, quiet);
     board.publish(seat, ops, lends);
     let own = seat.worker();
     turn::<N, C, H, G>(images, own, quiet);
     let number = seat.number();
     learn(memory, own, number, row, images, quiet);
+    images.own = true;
     Ok(())
 }

@@ -15,4 +15,4 @@ loop-item-preserved c = notes_next c.args.shift c.loop-item.item-index c.as_slic
 pub returns : goal.returns
 returns c = let f = c.loop-item-test.false in let e = c.loop-item.auto.item-index-end in
     subst (λ (l : List ℕ). NotesEach c.args.shift l c.args.to.now c.loop-item.to) c.as_slice-items.ensures.listed
-        (notes_each c.args.shift c.loop-item.item-index c.as_slice-items.result.now c.args.to.now c.loop-item.to (omega arith) c.loop-item.invariant)
+    (notes_each c.args.shift c.loop-item.item-index c.as_slice-items.result.now c.args.to.now c.loop-item.to (omega arith) c.loop-item.invariant)

@@ -17,9 +17,10 @@ note_each-requires-then-known g c = record { room = λ j has. let lt = c.require
 -- the items of two lists
 both_listed : (one two : List ℕ) (cleared a b : Changed) → cleared.items ≡ [] → NotesEach 0 one cleared a → NotesEach 0 two a b → b.all ≡ false → (j : ℕ) → ¬ (Contains b.items j) → (¬ (Contains one j)) × (¬ (Contains two j))
 both_listed one two cleared a b empty x y listed j not =
-    let e : j + 0 ≡ j = omega arith in
-    (λ h. not (y.keeps listed j (subst (λ (k : ℕ). Contains a.items k) e (x.notes (y.listed listed) j h))),
-     λ h. not (subst (λ (k : ℕ). Contains b.items k) e (y.notes listed j h)))
+    let e : j + 0 ≡ j = omega arith in (
+      λ h. not (y.keeps listed j (subst (λ (k : ℕ). Contains a.items k) e (x.notes (y.listed listed) j h))),
+      λ h. not (subst (λ (k : ℕ). Contains b.items k) e (y.notes listed j h)),
+    )
 
 both_inside : (n : ℕ) (one two : List ℕ) (cleared a b : Changed) → cleared.items ≡ [] → NotesEach 0 one cleared a → NotesEach 0 two a b
     → ((j : ℕ) → Contains one j → j < n) → ((j : ℕ) → Contains two j → j < n) → (j : ℕ) → Contains b.items j → j < n
@@ -35,4 +36,4 @@ returns-then-known-clause-recent g c = λ listed j lt not. let lens = c.requires
 pub returns-then-known-clause-inside : goal.returns-then-known-clause-inside
 returns-then-known-clause-inside g c =
     both_inside (depth g.row.N (width g.row.C g.row.H g.row.G)) c.args.late.now.items c.args.touched.now.items c.clear.new.self c.note_each.new.to c.note_each-then-known.new.to c.clear.ensures.none.1 c.note_each.ensures c.note_each-then-known.ensures
-        c.requires.inside.1 c.requires.inside.2
+    c.requires.inside.1 c.requires.inside.2

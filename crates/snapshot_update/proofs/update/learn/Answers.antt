@@ -2,6 +2,16 @@ use Rattle.std.proofs.Common.{◌≡◌, ◌<◌, ℕ, List, Contains, slice_ind
 use Rattle.snapshot_update.proofs.update.learn.Goals as goal
 
 pub remember_at-requires : goal.remember_at-requires
-remember_at-requires g c = let same = c.as_slice.ensures.listed in
-    (search rules, (search rules, (c.requires.inside, (λ j has. c.requires.touched j (subst (λ (l : List ℕ). Contains l j) same has),
-    λ v at k lt none. c.requires.known c.if-known.true v at k lt (λ has. none (subst (λ (l : List ℕ). Contains l k) (sym same) has))))))
+remember_at-requires g c = let same = c.as_slice.ensures.listed in (
+  search rules,
+  (
+    search rules,
+    (
+      c.requires.inside,
+      (
+        λ j has. c.requires.touched j (subst (λ (l : List ℕ). Contains l j) same has),
+        λ v at k lt none. c.requires.known c.if-known.true v at k lt (λ has. none (subst (λ (l : List ℕ). Contains l k) (sym same) has)),
+      ),
+    ),
+  ),
+)

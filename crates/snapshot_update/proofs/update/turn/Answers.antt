@@ -2,8 +2,10 @@ use Rattle.std.proofs.Common.{◌≡◌, ◌⊎◌, ⊎_elim, ◌<◌, ◌≤◌
 use Rattle.snapshot_update.proofs.update.turn.Goals as goal
 
 pub list_late-requires : goal.list_late-requires
-list_late-requires g c = record { room = λ j has. let lt = c.requires.touched j has in let e = c.item_at.ensures.place in let few = c.requires.geometry.workers.1 in
-    let s = c.requires.geometry.slots in let a = s.counters in let b = s.histograms in let d = s.gauges in omega (arith, lt, e, few, a, b, d) }
+list_late-requires g c = record {
+  room = λ j has. let lt = c.requires.touched j has in let e = c.item_at.ensures.place in let few = c.requires.geometry.workers.1 in
+      let s = c.requires.geometry.slots in let a = s.counters in let b = s.histograms in let d = s.gauges in omega (arith, lt, e, few, a, b, d);
+}
 
 pub returns-clause-lent : goal.returns-clause-lent
 returns-clause-lent g c = λ listed k has. let e = c.item_at.ensures.place in

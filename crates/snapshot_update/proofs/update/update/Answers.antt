@@ -21,7 +21,7 @@ use Rattle.snapshot_update.specs.Images.{Changed, DifferAt, version_words, with_
 use Rattle.snapshot_update.specs.Fit.{AreInside, number_in, next_words}
 use Rattle.snapshot_update.specs.Updated.{ScanMeets}
 use Rattle.snapshot_update.proofs.VersionWords.{known_words, late_words, words_long, row_taken, numbers_long, set_long}
-use Rattle.snapshot_update.proofs.Fitting.{total_last, answer_long, row_wide, rows_many, accepts_same, holds}
+use Rattle.snapshot_update.proofs.Fitting.{total_last, answer_long, rows_many, accepts_same, holds}
 use Rattle.snapshot_update.proofs.update.update.Goals as goal
 
 pub fill_version-lends-requires : goal.fill_version-lends-requires
@@ -29,16 +29,42 @@ fill_version-lends-requires g c =
     let n : ℕ = g.row.N in let w : ℕ = width g.row.C g.row.H g.row.G in
     let fit = c.requires.fit in let s = c.scan_own-ended in let memory = s.new.memory in
     let row = c.args.row.now in let row' = c.try_apply.new.self in let adds = c.in_ok-try_apply.ensures.ok in
-    let wide : length row ≡ w = row_wide n g.row.C g.row.H g.row.G c.args.memory.now (index_of c.args.seat.now) _ fit.own_row in
-    let a = answer_of memory s.result in let long = answer_long n g.row.C g.row.H g.row.G memory s.result in
-    (search rules, (search rules, (search rules, (s.ensures.own, (c.requires.geometry, (ap (λ (m : Member). m.work.hidden) s.ensures.others ∙ fit.hidden_is, (c.touch.ensures.inside,
-    (next_words row (rows_of c.args.memory.now) (sums_of c.args.memory.now), fit.images, λ quiet.
-        let both = and_parts _ _ quiet in let is = c.is_quiet.ensures both.0 in let q = s.ensures.quiet is in
-        let listed : c.touch.new.touched.all ≡ false = sym c.is_all.ensures ∙ not-true _ both.1 in
-        (listed, is, λ j lt none.
-            ap (λ (x : (List Version) × (List ℕ)). slice_index (next_words row x.0 x.1) j) (λ z. (sym q.0 z, sym q.1 z))
-            ∙ known_words w n row row' (rows_of memory) (sums_of memory) a.vector a.totals wide (adds.width_stays ∙ wide) (rows_many n g.row.C g.row.H g.row.G memory) long.0 q.2 (ap (λ (e : Ended). (answer_of memory e).totals) is) c.touch.new.touched.items
-                (λ k lt' none'. let e = adds.sums k in let z = c.touch.ensures.rises listed k none' in omega (arith, e, z)) j (omega (arith, lt)) none)))))))))
+    let wide : length row ≡ w = fit.wide in
+    let a = answer_of memory s.result in let long = answer_long n g.row.C g.row.H g.row.G memory s.result in (
+      search rules,
+      (
+        search rules,
+        (
+          search rules,
+          (
+            s.ensures.own,
+            (
+              c.requires.geometry,
+              (
+                ap (λ (m : Member). m.work.hidden) s.ensures.others ∙ fit.hidden_is,
+                (
+                  c.touch.ensures.inside,
+                  (
+                    next_words row (rows_of c.args.memory.now) (sums_of c.args.memory.now),
+                    fit.images,
+                    λ quiet.
+                        let both = and_parts _ _ (and_parts _ _ quiet).0 in let is = c.is_quiet.ensures both.0 in let q = s.ensures.quiet is in
+                        let listed : c.touch.new.touched.all ≡ false = sym c.is_all.ensures ∙ not-true _ both.1 in (
+                          listed,
+                          is,
+                          λ j lt none.
+                              ap (λ (x : (List Version) × (List ℕ)). slice_index (next_words row x.0 x.1) j) (λ z. (sym q.0 z, sym q.1 z))
+                              ∙ known_words w n row row' (rows_of memory) (sums_of memory) a.vector a.totals wide (adds.width_stays ∙ wide) (rows_many n g.row.C g.row.H g.row.G memory) long.0 q.2 (ap (λ (e : Ended). (answer_of memory e).totals) is) c.touch.new.touched.items
+                              (λ k lt' none'. let e = adds.sums k in let z = c.touch.ensures.rises listed k none' in omega (arith, e, z)) j (omega (arith, lt)) none,
+                        ),
+                  ),
+                ),
+              ),
+            ),
+          ),
+        ),
+      ),
+    )
 
 -- the member before the publish
 abbrev ready_member : List ℕ → Member → Scan → Member
@@ -50,17 +76,26 @@ publish-requires g c =
     let fit = c.requires.fit in let s = c.scan_own-ended in let f = c.fill_version-lends in let memory = s.new.memory in
     let m : Member = worker_of c.args.seat.now in let c' : Scan = (worker_of s.new.seat).scan in
     let row = c.args.row.now in let row' = c.try_apply.new.self in let adds = c.in_ok-try_apply.ensures.ok in let ops = c.args.ops.now in
-    let wide : length row ≡ w = row_wide n g.row.C g.row.H g.row.G c.args.memory.now (index_of c.args.seat.now) _ fit.own_row in
+    let wide : length row ≡ w = fit.wide in
     let a = answer_of memory s.result in let long = answer_long n g.row.C g.row.H g.row.G memory s.result in
     let is : worker_of f.new.seat ≡ ready_member f.new.images.hidden.items m c' = f.ensures.member ∙ ap (with_hidden f.new.images.hidden.items) s.ensures.others in
     let full : HoldsNext n w b (sum_ops g.row.C g.row.H) ops f.result (ready_member f.new.images.hidden.items m c') =
-        holds n w b (sum_ops g.row.C g.row.H) ops (ready_member f.new.images.hidden.items m c') row' a.vector a.totals (adds.width_stays ∙ wide) long.0 long.1
-            (λ k lt. adds.sums k ∙ ap (λ (z : ℕ). z + sum_ops g.row.C g.row.H ops k) (fit.sums k lt)) f.result f.ensures.hidden
-            (λ lends. (m.scan.recorded, (s.ensures.view (f.ensures.view lends)).recorded)) in
-    (search rules, (f.ensures.own, (subst (λ (x : Member). length x.work.made + 1 < 18446744073709551616) (sym is) c.requires.room, (
-        subst (HoldsNext n w b (sum_ops g.row.C g.row.H) ops f.result) (sym is) full,
-        subst (λ (x : Member). Accepts g.row.C g.row.H g.row.G (total (sum_ops g.row.C g.row.H) x.work.made) ops) (sym is)
-            (accepts_same g.row.C g.row.H g.row.G (slice_index row) (total (sum_ops g.row.C g.row.H) m.work.made) ops fit.sums c.in_ok-try_apply.ensures.accepted)))))
+    holds n w b (sum_ops g.row.C g.row.H) ops (ready_member f.new.images.hidden.items m c') row' a.vector a.totals (adds.width_stays ∙ wide) long.0 long.1
+    (λ k lt. adds.sums k ∙ ap (λ (z : ℕ). z + sum_ops g.row.C g.row.H ops k) (fit.sums k lt)) f.result f.ensures.hidden
+    (λ lends. (m.scan.recorded, (s.ensures.view (f.ensures.view lends)).recorded)) in (
+      search rules,
+      (
+        f.ensures.own,
+        (
+          subst (λ (x : Member). length x.work.made + 1 < 18446744073709551616) (sym is) c.requires.room,
+          (
+            subst (HoldsNext n w b (sum_ops g.row.C g.row.H) ops f.result) (sym is) full,
+            subst (λ (x : Member). Accepts g.row.C g.row.H g.row.G (total (sum_ops g.row.C g.row.H) x.work.made) ops) (sym is)
+                (accepts_same g.row.C g.row.H g.row.G (slice_index row) (total (sum_ops g.row.C g.row.H) m.work.made) ops fit.sums c.in_ok-try_apply.ensures.accepted),
+          ),
+        ),
+      ),
+    )
 
 pub turn-requires-clause-touched : goal.turn-requires-clause-touched
 turn-requires-clause-touched g c = subst (AreInside (width g.row.C g.row.H g.row.G)) (sym c.fill_version-lends.ensures.others.2) c.touch.ensures.inside
@@ -72,14 +107,27 @@ learn-requires g c =
     let row = c.args.row.now in let row' = c.try_apply.new.self in let adds = c.in_ok-try_apply.ensures.ok in
     let i : ℕ = index_of c.args.seat.now in
     let same : c.worker-own.result ≡ i = c.worker-own.ensures.index ∙ (c.publish.ensures.index ∙ (f.ensures.index ∙ s.ensures.index)) in
-    let touched : c.turn.new.images.touched ≡ c.touch.new.touched = c.turn.ensures.others.1 ∙ f.ensures.others.2 in
-    (search rules, (search rules, (c.requires.geometry, ((let lt = c.requires.own.1 in omega (arith, same, lt)), (subst (AreInside w) (sym touched) c.touch.ensures.inside,
-    λ quiet v at k lt none.
-        let both = and_parts _ _ quiet in let is = c.is_quiet.ensures both.0 in let q = s.ensures.quiet is in
-        let listed : c.touch.new.touched.all ≡ false = sym c.is_all.ensures ∙ not-true _ both.1 in
-        let here : some v ≡ some (record { number = length (worker_of c.args.seat.now).work.made; row = row }) = sym at ∙ ((λ z. get_elem? (q.0 z) (same z)) ∙ fit.own_row) in
-        let e = ap (λ (x : Version). slice_index x.row k) (some-injective v _ here) in
-        let z = c.touch.ensures.rises listed k (λ has. none (subst (λ (t : Changed). Contains t.items k) (sym touched) has)) in let d = adds.sums k in omega (arith, e, z, d))))))
+    let touched : c.turn.new.images.touched ≡ c.touch.new.touched = c.turn.ensures.others.1 ∙ f.ensures.others.2 in (
+      search rules,
+      (
+        search rules,
+        (
+          c.requires.geometry,
+          (
+            (let lt = c.requires.own.1 in omega (arith, same, lt)),
+            (
+              subst (AreInside w) (sym touched) c.touch.ensures.inside,
+              λ quiet v at k lt none.
+                  let both = and_parts _ _ (and_parts _ _ quiet).0 in let is = c.is_quiet.ensures both.0 in let q = s.ensures.quiet is in
+                  let listed : c.touch.new.touched.all ≡ false = sym c.is_all.ensures ∙ not-true _ both.1 in
+                  let here : some v ≡ some (record { number = length (worker_of c.args.seat.now).work.made; row = row }) = sym at ∙ ((λ z. get_elem? (q.0 z) (same z)) ∙ fit.own_row (and_parts _ _ quiet).1) in
+                  let e = ap (λ (x : Version). slice_index x.row k) (some-injective v _ here) in
+                  let z = c.touch.ensures.rises listed k (λ has. none (subst (λ (t : Changed). Contains t.items k) (sym touched) has)) in let d = adds.sums k in omega (arith, e, z, d),
+            ),
+          ),
+        ),
+      ),
+    )
 
 by_known : {P : Type 0} (b : Bool) → (b ≡ true → P) → (b ≡ false → P) → P
 by_known true p q = p refl
@@ -106,7 +154,7 @@ returns-clause-fit g c =
     let fit = c.requires.fit in let s = c.scan_own-ended in let f = c.fill_version-lends in let memory = s.new.memory in
     let m : Member = worker_of c.args.seat.now in let c' : Scan = (worker_of s.new.seat).scan in
     let row = c.args.row.now in let row' = c.try_apply.new.self in let adds = c.in_ok-try_apply.ensures.ok in let ops = c.args.ops.now in
-    let wide : length row ≡ w = row_wide n g.row.C g.row.H g.row.G c.args.memory.now (index_of c.args.seat.now) _ fit.own_row in
+    let wide : length row ≡ w = fit.wide in
     let wide' : length row' ≡ w = adds.width_stays ∙ wide in
     let a = answer_of memory s.result in let long = answer_long n g.row.C g.row.H g.row.G memory s.result in
     let is : worker_of f.new.seat ≡ ready_member f.new.images.hidden.items m c' = f.ensures.member ∙ ap (with_hidden f.new.images.hidden.items) s.ensures.others in
@@ -127,12 +175,13 @@ returns-clause-fit g c =
     let taken : take w f.new.images.hidden.items ≡ row' = ap (take w) hidden ∙ row_taken w n row' (cond f.result 1 0) a.vector a.totals wide' long.0 in
     let after = c.learn.new.memory in
     let all_after : length (map number_in (rows_of after)) ≡ n = numbers_long (rows_of after) ∙ rows_many n g.row.C g.row.H g.row.G after in
-    let quiet : Bool = c.is_quiet.result && not c.is_all.result in
+    let quiet : Bool = (c.is_quiet.result && not c.is_all.result) && c.args.images.now.own in
     record {
       who = c.publish.new.seat.is;
       counts = refl;
       sums = λ k lt'. adds.sums k ∙ (ap (λ (z : ℕ). z + sum_ops g.row.C g.row.H ops k) (fit.sums k lt') ∙ sym (ap (λ (l : List Made). total (sum_ops g.row.C g.row.H) l k) made ∙ total_last (sum_ops g.row.C g.row.H) m.work.made last k));
-      own_row = (λ z. get_elem? (rows' z) (index_of c.publish.new.seat)) ∙ (ap (get_elem? (set (rows_of memory) c.worker-own.result v)) (sym c.worker-own.ensures.index)
+      wide = wide';
+      own_row = λ _. (λ z. get_elem? (rows' z) (index_of c.publish.new.seat)) ∙ (ap (get_elem? (set (rows_of memory) c.worker-own.result v)) (sym c.worker-own.ensures.index)
           ∙ (set_there (rows_of memory) c.worker-own.result v (omega (arith, lt, many)) ∙ (λ z. some (record { number = c.number-number.ensures z; row = row' }))));
       ready = record {
         kept = ap (λ (x : Member). x.scan.kept) is3 ∙ ((λ z. set (s.ensures.ready.kept z) (sym own z) (record { number = sym number z; row = taken z })) ∙ sym rows');
@@ -149,17 +198,17 @@ returns-clause-fit g c =
             (subst (DifferAt f.new.images.recent c.args.images.now.shown.items) (sym c.turn.ensures.buffers.1) f.ensures.recent));
         recent_inside = subst (AreInside b) (sym c.turn.ensures.others.0) f.ensures.inside;
         late = by_known quiet (λ known.
-            let both = and_parts _ _ known in let direct = c.is_quiet.ensures both.0 in let q = s.ensures.quiet direct in
+            let both = and_parts _ _ (and_parts _ _ known).0 in let direct = c.is_quiet.ensures both.0 in let q = s.ensures.quiet direct in
             let listed : c.touch.new.touched.all ≡ false = sym c.is_all.ensures ∙ not-true _ both.1 in
             let touched : f.new.images.touched ≡ c.touch.new.touched = f.ensures.others.2 in
             let yes' : f.result ≡ true = lends_quiet f.result s.result f.ensures.none direct in
             let words : c.turn.new.images.shown.items ≡ version_words row' 1 a.vector a.totals = c.turn.ensures.buffers.1 ∙ (hidden ∙ ap (λ (t : Bool). version_words row' (cond t 1 0) a.vector a.totals) yes') in
-            let own_at : get_elem? (rows_of memory) c.worker-own.result ≡ some (record { number = length m.work.made; row = row }) = (λ z. get_elem? (q.0 z) (own' z)) ∙ fit.own_row in
+            let own_at : get_elem? (rows_of memory) c.worker-own.result ≡ some (record { number = length m.work.made; row = row }) = (λ z. get_elem? (q.0 z) (own' z)) ∙ fit.own_row (and_parts _ _ known).1 in
             subst (λ (x : List Version). DifferAt c.turn.new.images.late c.turn.new.images.shown.items (next_words row' x (sums_of after))) (sym rows')
             (subst (λ (x : List ℕ). DifferAt c.turn.new.images.late x (next_words row' (set (rows_of memory) c.worker-own.result v) (sums_of after))) (sym words)
             (late_words w n row row' (rows_of memory) (sums_of memory) a.vector a.totals wide wide' many long.0 q.2 (ap (λ (e : Ended). (answer_of memory e).totals) direct) f.new.images.touched.items
-                (λ k lt' none. let e = adds.sums k in let z = c.touch.ensures.rises listed k (λ has. none (subst (λ (t : Changed). Contains t.items k) (sym touched) has)) in omega (arith, e, z))
-                c.worker-own.result v (sums_of after) c.turn.new.images.late (c.learn.ensures.sums _ own_at) after.sizes.1 c.turn.ensures.own c.turn.ensures.lent)))
+            (λ k lt' none. let e = adds.sums k in let z = c.touch.ensures.rises listed k (λ has. none (subst (λ (t : Changed). Contains t.items k) (sym touched) has)) in omega (arith, e, z))
+            c.worker-own.result v (sums_of after) c.turn.new.images.late (c.learn.ensures.sums _ own_at) after.sizes.1 c.turn.ensures.own c.turn.ensures.lent)))
             (λ unknown listed. absurd (let h = sym (c.turn.ensures.unknown unknown) ∙ listed in cc));
         late_inside = c.turn.ensures.inside;
       };

@@ -1,0 +1,24 @@
+use Rattle.std.proofs.Common.{◌≡◌, ◌<◌, ℕ, Some, length, sym, ap, ◌∙◌, subst, arith, rules}
+use Rattle.register_rule.specs.declared.seats.WorkSeat.{WorkSeat}
+use Rattle.register_rule.specs.declared.view.Member.{Member}
+use Rattle.register_rule.specs.Seats.{worker_of, index_of}
+use Rattle.snapshot_update.specs.Fit.{HoldsFor}
+use Rattle.snapshot_update.proofs.FirstFit.{first_fit}
+use Rattle.snapshot_update.proofs.worker.Worker.new.Goals as goal
+
+same_seat : (a b : WorkSeat) → Some a ≡ Some b → a ≡ b
+same_seat a b e = cc
+
+pub invariant_of-result : goal.invariant_of-result
+invariant_of-result g c =
+    let im = c.in-Ok.images in let seat : WorkSeat = c.args.seat in
+    let index : c.worker-index.result ≡ index_of seat = c.worker-index.ensures.index in record {
+      geometry = c.requires.geometry;
+      inside = let lt = c.requires.inside in omega (arith, lt, index);
+      holds = λ x e. subst (λ (s : WorkSeat). HoldsFor g.row.N g.row.C g.row.H g.row.G c.worker-index.result 0 c.in-Ok.row.value c.in-Ok.memory im.hidden.items im.shown.items im.recent im.late im.own (index_of s) (worker_of s))
+          (same_seat seat x e) (
+            sym index,
+            sym (ap (λ (m : Member). length m.work.made) c.requires.fresh),
+            first_fit g.row.N g.row.C g.row.H g.row.G (index_of seat) c.in-Ok.row.value c.in-Ok.memory im c.requires.inside c.in-Ok.ensures.row c.in-Ok.ensures.rows c.in-Ok.ensures.images (worker_of seat) c.requires.fresh,
+          );
+    }

@@ -1,0 +1,15 @@
+-- The numbers of a worker's refusals.
+use Rattle.std.specs.Prelude.{ℕ}
+use Rattle.ledger_core.specs.OpFault as Op
+use Rattle.snapshot_update.specs.declared.faults.ApplyFault.{ApplyFault}
+use Rattle.snapshot_update.specs.declared.faults.ApplyFault.TheVariants.{Exhausted, Refused}
+use Rattle.snapshot_update.specs.declared.faults.CountFault.{CountFault}
+use Rattle.snapshot_update.specs.declared.faults.CountFault.TheVariants.{WrongRegistry, Apply}
+
+abbrev pub apply_number : ApplyFault → ℕ
+apply_number Exhausted = 15
+apply_number (Refused fault) = Op.number_of fault
+
+abbrev pub count_number : CountFault → ℕ
+count_number WrongRegistry = 16
+count_number (Apply fault) = apply_number fault

@@ -1,0 +1,50 @@
+-- What a clause reads of a worker.
+use Rattle.std.specs.Prelude.{◌≡◌, ℕ, ◌<◌, Option, Some, None, List, map, length, IsSomeAnd}
+use Rattle.ledger_core.specs.declared.op.Op.{Op}
+use Rattle.ledger_core.specs.Ops.{sum_ops}
+use Rattle.ledger_core.specs.OpFault.{IsOpFault}
+use Rattle.register_rule.specs.declared.view.Made.{Made}
+use Rattle.register_rule.specs.declared.view.Member.{Member}
+use Rattle.register_rule.specs.declared.view.Scan.{Scan}
+use Rattle.register_rule.specs.declared.seats.WorkSeat.{WorkSeat}
+use Rattle.register_rule.specs.declared.board.Board.{Board}
+use Rattle.register_rule.specs.Sums.{total}
+use Rattle.register_rule.specs.Members.{new_worker}
+use Rattle.register_rule.specs.Seats.{worker_of, HasWorker}
+use Rattle.snapshot_update.specs.declared.worker.Worker.{Worker}
+use Rattle.snapshot_update.specs.declared.faults.ApplyFault.{ApplyFault}
+use Rattle.snapshot_update.specs.declared.faults.ApplyFault.TheVariants.{Exhausted, Refused}
+
+abbrev pub member_in : Option WorkSeat → Member
+member_in None = new_worker 0 0 0 0
+member_in (Some s) = worker_of s
+
+abbrev pub ops_in : Made → List Op
+ops_in x = x.ops
+
+module _ {N C H G : ℕ} where
+  -- which worker it is
+  abbrev pub index_of : Worker N C H G → ℕ
+  index_of w = w.index
+
+  -- a worker that is not lent, as a member
+  abbrev pub member_of : Worker N C H G → Member
+  member_of w = member_in w.seat
+
+  -- all lists of operations that it has published, in order
+  abbrev pub lists_of : Worker N C H G → List (List Op)
+  lists_of w = map ops_in (member_of w).work.made
+
+  -- what it has learned by its scans
+  abbrev pub scan_by : Worker N C H G → Scan
+  scan_by w = (member_of w).scan
+
+  -- it is of this board's parts, and not lent
+  abbrev pub IsWorkerOf : Board N C H G → Worker N C H G → Type 0
+  IsWorkerOf b w = IsSomeAnd w.seat (HasWorker b)
+
+-- why a worker refuses a list: its number is the greatest that there is, or else its row does not accept the list. A row of
+-- c counters, h histograms and g gauges
+abbrev pub IsApplyFault : (c h g : ℕ) → Member → List Op → ApplyFault → Type 0
+IsApplyFault c h g m ops Exhausted = length m.work.made ≡ 18446744073709551615
+IsApplyFault c h g m ops (Refused fault) = (length m.work.made < 18446744073709551615) × IsOpFault c h g (total (sum_ops c h) m.work.made) ops fault

@@ -1,0 +1,26 @@
+//! A worker: what a thread counts with.
+ghost use Rattle.std.specs.Prelude.{◌≡◌, ◌<◌, length};
+ghost use Rattle.std.specs.Option.{ForSome};
+ghost use Rattle.segment_layout.specs.Layout.{IsGeometry};
+ghost use Rattle.register_rule.specs.Seats.{worker_of, index_of};
+ghost use Rattle.snapshot_update.specs.Fit.{HoldsFor};
+
+use crate::images::Images;
+use ledger_core::Row;
+use register_rule::WorkSeat;
+use snapshot_scan::Memory;
+
+/// What a thread counts with: a worker's seat, its row, what its scans remember, and what it knows of its buffers. While the
+/// worker is lent to a reader, it has no seat.
+#[derive(Drop)]
+pub struct Worker<const N: usize, const C: usize, const H: usize, const G: usize> {
+    pub(crate) seat: Option<WorkSeat>,
+    pub(crate) index: usize,
+    pub(crate) number: u64,
+    pub(crate) row: Box<Row<C, H, G>>,
+    pub(crate) memory: Memory<N, C, H, G>,
+    pub(crate) images: Images,
+    ghost geometry: { IsGeometry N C H G },
+    ghost inside: { index < N },
+    ghost holds: { ForSome seat (λ s. HoldsFor N C H G index number row.value memory images.hidden.items images.shown.items images.recent images.late images.own (index_of s) (worker_of s)) },
+}
