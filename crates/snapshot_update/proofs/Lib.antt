@@ -7,3 +7,4 @@ pub mod Shifted
 pub mod VersionWords
 pub mod Fitting
 pub mod FirstFit
+pub mod ScannedFit

@@ -1,7 +1,8 @@
 -- What a clause reads of a worker.
-use Rattle.std.specs.Prelude.{◌≡◌, ℕ, ◌<◌, Option, Some, None, List, map, length, IsSomeAnd}
+use Rattle.std.specs.Prelude.{◌≡◌, ◌≢◌, ℕ, ◌<◌, Option, Some, None, List, [], ◌∷◌, ◌++◌, map, length, IsSomeAnd}
 use Rattle.ledger_core.specs.declared.op.Op.{Op}
-use Rattle.ledger_core.specs.Ops.{sum_ops}
+use Rattle.ledger_core.specs.Ops.{width, sum_ops}
+use Rattle.ledger_core.specs.Row.{Accepts}
 use Rattle.ledger_core.specs.OpFault.{IsOpFault}
 use Rattle.register_rule.specs.declared.view.Made.{Made}
 use Rattle.register_rule.specs.declared.view.Member.{Member}
@@ -14,6 +15,9 @@ use Rattle.register_rule.specs.Seats.{worker_of, HasWorker}
 use Rattle.snapshot_update.specs.declared.worker.Worker.{Worker}
 use Rattle.snapshot_update.specs.declared.faults.ApplyFault.{ApplyFault}
 use Rattle.snapshot_update.specs.declared.faults.ApplyFault.TheVariants.{Exhausted, Refused}
+use Rattle.snapshot_update.specs.declared.faults.CountFault.{CountFault}
+use Rattle.snapshot_update.specs.declared.faults.CountFault.TheVariants.{WrongRegistry, Apply}
+use Rattle.snapshot_update.specs.Updated.{IsUpdated}
 
 abbrev pub member_in : Option WorkSeat → Member
 member_in None = new_worker 0 0 0 0
@@ -43,8 +47,24 @@ module _ {N C H G : ℕ} where
   abbrev pub IsWorkerOf : Board N C H G → Worker N C H G → Type 0
   IsWorkerOf b w = IsSomeAnd w.seat (HasWorker b)
 
+  -- one version was published, which adds this one operation, by a handle of the registry `id`; the row accepts it
+  pub record IsCounted (id registry : ℕ) (op : Op) (w w' : Worker N C H G) : Type 0 where
+    pub of_it : registry ≡ id
+    pub updated : IsUpdated N (width C H G) (index_of w) (op ∷ []) (member_of w) (member_of w')
+    pub lists : lists_of w' ≡ lists_of w ++ (op ∷ []) ∷ []
+    pub accepted : Accepts C H G (total (sum_ops C H) (member_of w).work.made) (op ∷ [])
+
+-- the member after it has scanned
+abbrev pub scanned : Scan → Member → Member
+scanned c m = record m { scan = c }
+
 -- why a worker refuses a list: its number is the greatest that there is, or else its row does not accept the list. A row of
 -- c counters, h histograms and g gauges
 abbrev pub IsApplyFault : (c h g : ℕ) → Member → List Op → ApplyFault → Type 0
 IsApplyFault c h g m ops Exhausted = length m.work.made ≡ 18446744073709551615
 IsApplyFault c h g m ops (Refused fault) = (length m.work.made < 18446744073709551615) × IsOpFault c h g (total (sum_ops c h) m.work.made) ops fault
+
+-- why a worker refuses an operation by a handle: the handle is not of the registry `id`, or else as above
+abbrev pub IsCountFault : (c h g id registry : ℕ) → Op → Member → CountFault → Type 0
+IsCountFault c h g id registry op m WrongRegistry = registry ≢ id
+IsCountFault c h g id registry op m (Apply fault) = (registry ≡ id) × IsApplyFault c h g m (op ∷ []) fault

@@ -6,6 +6,7 @@
 
 mod applying;
 mod changes;
+mod counting;
 mod faults;
 mod fills;
 mod images;

@@ -1,16 +1,20 @@
-//! The scan of an update.
-ghost use Rattle.std.specs.Prelude.{◌≡◌, ℕ, true, false};
+//! The scans of a worker.
+ghost use Rattle.std.specs.Prelude.{◌≡◌, ℕ, true, false, slice_index, IfErr, OnOk, OnErr};
 ghost use Rattle.ledger_core.specs.Ops.{width};
+ghost use Rattle.ledger_core.specs.Legal.{IsLegal};
 ghost use Rattle.register_rule.specs.Seats.{worker_of, index_of, HasWorker};
 ghost use Rattle.snapshot_scan.specs.declared.ending.Ended.TheVariants as Ended;
 ghost use Rattle.snapshot_scan.specs.Scanned.{IsAnswered};
-ghost use Rattle.snapshot_scan.specs.Core.{AnswersBy};
+ghost use Rattle.snapshot_core.specs.declared.next.Next.TheVariants as Next;
+ghost use Rattle.snapshot_scan.specs.Contention.{IsContended};
+ghost use Rattle.snapshot_scan.specs.Core.{CameTo, AnswersBy};
+ghost use Rattle.snapshot_scan.specs.Snapshots.{entry_of};
 ghost use Rattle.snapshot_scan.specs.Memory.{AreNumbers};
 ghost use Rattle.snapshot_scan.specs.Memories.{rows_of, sums_of, answer_of, HasView, IsReady};
 ghost use Rattle.snapshot_update.specs.Updated.{ScanMeets};
 
 use register_rule::{Board, WorkSeat};
-use snapshot_scan::{Ended, Memory};
+use snapshot_scan::{Contended, Ended, Memory, Snapshot};
 
 /// Whether the scan has a view to lend.
 #[inline]
@@ -48,4 +52,27 @@ pub(crate) fn scan_own<const N: usize, const C: usize, const H: usize, const G: 
     ensures gave_up { result ≡ Ended.GaveUp → ScanMeets N (width C H G) (worker_of seat.old).scan (worker_of seat.new).scan false }
 {
     memory.scan(board, seat)
+}
+
+/// The scan of a worker for itself: its other parts stay as they were.
+pub(crate) fn scan_to<const N: usize, const C: usize, const H: usize, const G: usize>(
+    board: &Board<N, C, H, G>,
+    seat: &mut WorkSeat,
+    memory: &mut Memory<N, C, H, G>,
+    out: &mut Snapshot<N, C, H, G>,
+) -> Result<(), Contended>
+    requires own { HasWorker board.now seat.old }
+    requires ready { IsReady (worker_of seat.old).scan memory.old }
+    ensures own { HasWorker board.now seat.new }
+    ensures index { index_of seat.new ≡ index_of seat.old }
+    ensures others { worker_of seat.new ≡ record (worker_of seat.old) { scan = (worker_of seat.new).scan } }
+    ensures ready { IsReady (worker_of seat.new).scan memory.new }
+    ensures answered { OnOk result (IsAnswered N (worker_of seat.old).scan (worker_of seat.new).scan (entry_of out.new)) }
+    ensures answers { OnOk result (AnswersBy N (width C H G) (worker_of seat.old).scan (worker_of seat.new).scan (entry_of out.new)) }
+    ensures legal { OnOk result (IsLegal C H (slice_index out.new.totals)) }
+    ensures contended { IfErr result (IsContended N (worker_of seat.old).scan (worker_of seat.new).scan) }
+    ensures came_up { IfErr result (λ e. CameTo N (width C H G) (worker_of seat.old).scan (worker_of seat.new).scan (Next.GaveUp e.worker e.first e.last)) }
+    ensures unchanged { OnErr result (out.new ≡ out.old) }
+{
+    memory.scan_to(board, seat, out)
 }

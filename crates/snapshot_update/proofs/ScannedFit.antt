@@ -1,0 +1,36 @@
+-- A worker's data fit its member after a scan of its own.
+use Rattle.std.proofs.Common.{◌≡◌, ℕ, ◌<◌, true, false, Bool, List, length, map, Contains, sym, refl, ap, ◌∙◌, subst, arith}
+use Rattle.ledger_core.specs.Ops.{width}
+use Rattle.segment_layout.specs.Layout.{depth}
+use Rattle.register_rule.specs.declared.view.Member.{Member}
+use Rattle.register_rule.specs.declared.view.Scan.{Scan}
+use Rattle.snapshot_scan.specs.declared.memory.Memory.{Memory}
+use Rattle.snapshot_scan.specs.Memories.{rows_of, sums_of, IsReady}
+use Rattle.snapshot_update.specs.Images.{Changed}
+use Rattle.snapshot_update.specs.Fit.{number_in, IsFit}
+use Rattle.snapshot_update.proofs.VersionWords.{words_long, numbers_long}
+use Rattle.snapshot_update.proofs.Fitting.{rows_many}
+
+-- all that is known of the next version is that all its items may differ
+pub scanned_fit : (n c h g index number : ℕ) (row : List ℕ) (memory memory' : Memory n c h g) (hidden shown : List ℕ) (recent late late' : Changed) (own : Bool) (m : Member) (s : Scan)
+    → IsFit n c h g index number row memory hidden shown recent late own m → IsReady s memory' → late'.all ≡ true → late'.items ≡ late.items
+    → IsFit n c h g index number row memory' hidden shown recent late' false (record m { scan = s })
+scanned_fit n c h g index number row memory memory' hidden shown recent late late' own m s fit ready all items = record {
+  who = fit.who;
+  counts = fit.counts;
+  sums = fit.sums;
+  wide = fit.wide;
+  own_row = λ known. absurd (cc);
+  ready = ready;
+  hidden_is = fit.hidden_is;
+  shown_is = fit.shown_is;
+  images = record {
+    next_deep = (let e = words_long (width c h g) n row 1 (map number_in (rows_of memory')) (sums_of memory') fit.wide (numbers_long (rows_of memory') ∙ rows_many n c h g memory') (width c h g) memory'.sizes.1 in omega (arith, e));
+    hidden_deep = fit.images.hidden_deep;
+    shown_deep = fit.images.shown_deep;
+    recent = fit.images.recent;
+    recent_inside = fit.images.recent_inside;
+    late = λ listed. absurd (let e = sym all ∙ listed in cc);
+    late_inside = λ j has. fit.images.late_inside j (subst (λ (l : List ℕ). Contains l j) items has);
+  };
+}

@@ -1,0 +1,32 @@
+use Rattle.std.proofs.Common.{◌≡◌, ℕ, false, List, Some, length, sym, ap, ◌∙◌, subst}
+use Rattle.register_rule.specs.declared.seats.WorkSeat.{WorkSeat}
+use Rattle.register_rule.specs.declared.view.Member.{Member}
+use Rattle.register_rule.specs.declared.view.Scan.{Scan}
+use Rattle.register_rule.specs.Seats.{worker_of, index_of}
+use Rattle.snapshot_update.specs.Fit.{HoldsFor, IsFit}
+use Rattle.snapshot_update.proofs.ScannedFit.{scanned_fit}
+use Rattle.snapshot_update.proofs.worker.Worker.scan.Goals as goal
+
+same_seat : (a b : WorkSeat) → Some a ≡ Some b → a ≡ b
+same_seat a b e = cc
+
+pub invariant_of-self : goal.invariant_of-self
+invariant_of-self g c =
+    let n : ℕ = g.row.N in let cs : ℕ = g.row.C in let hs : ℕ = g.row.H in let gs : ℕ = g.row.G in
+    let s = c.scan_to-end.new in let told = c.scan_to-end.ensures in let w = c.args.self.now in let seat = c.in-Some.seat in
+    let row : List ℕ = w.row.value in let im = w.images in let late' = c.note_all.new.self in
+    let m : Member = worker_of seat in let scan : Scan = (worker_of s.seat).scan in
+    let old = w.holds seat c.in-Some.is in
+    let fit : IsFit n cs hs gs (index_of seat) (length m.work.made) row s.memory im.hidden.items im.shown.items im.recent late' false (record m { scan = scan })
+    = scanned_fit n cs hs gs (index_of seat) (length m.work.made) row w.memory s.memory im.hidden.items im.shown.items im.recent im.late late' im.own m scan old.2 told.ready c.note_all.ensures.all c.note_all.ensures.items in
+    record {
+      geometry = w.geometry;
+      inside = w.inside;
+      holds = λ x e. subst (λ (y : WorkSeat). HoldsFor n cs hs gs w.index w.number row s.memory im.hidden.items im.shown.items im.recent late' false (index_of y) (worker_of y))
+          (same_seat s.seat x e)
+          (subst (λ (y : Member). HoldsFor n cs hs gs w.index w.number row s.memory im.hidden.items im.shown.items im.recent late' false (index_of s.seat) y) (sym told.others) (
+            told.index ∙ old.0,
+            old.1,
+            subst (λ (i : ℕ). IsFit n cs hs gs i (length m.work.made) row s.memory im.hidden.items im.shown.items im.recent late' false (record m { scan = scan })) (sym told.index) fit,
+          ));
+    }
