@@ -1,9 +1,9 @@
 #!/bin/sh
 # Runs the example script with the Nth allocation refused, for each N, and compares what is printed and the status.
 # The program makes 12 allocations: 4 for its arguments, 2 before the first line, and 1, 1 and 4 at the lines 1, 3 and 6.
-# Then runs the tests of expo_text, register_rule and snapshot_core with each test's Nth allocation refused: a test may then
-# end for want of memory, but none may see another answer in its place. A board of 2 workers and 2 readers makes 5
-# allocations. The test each_growth of snapshot_core makes 3 for its list of events and 21 in its run, which has a publish
+# Then runs the tests of expo_text, register_rule, snapshot_core, snapshot_scan and snapshot_update with each test's Nth
+# allocation refused: a test may then end for want of memory, but none may see another answer in its place. A board of 2
+# workers makes 5 allocations, a reader of it 9, and a worker 15. The test each_growth of snapshot_core makes 3 for its list of events and 21 in its run, which has a publish
 # and two answers.
 set -eu
 cd "$(dirname "$0")/crates/metrics_run"
@@ -54,3 +54,5 @@ refuse_in_tests() {
 refuse_in_tests expo_text 12
 refuse_in_tests register_rule 5
 refuse_in_tests snapshot_core 24
+refuse_in_tests snapshot_scan 16
+refuse_in_tests snapshot_update 20

@@ -10,3 +10,4 @@ pub mod Arriving
 pub mod Totals
 pub mod LastEntry
 pub mod OwnRow
+pub mod Lends

@@ -105,7 +105,7 @@ contains_or_not [] k = inr (λ h. let lt = h.1 in omega (arith, lt))
 contains_or_not (x ∷ xs) k = dite (ℕ_discrete x k)
     (λ e. inl (0, omega arith, e))
     (λ other. ⊎_elim (λ h. let lt = h.1 in inl (suc h.0, omega (arith, lt), h.2))
-        (λ none. inr (λ h. go h.0 h.1 h.2 other none)) (contains_or_not xs k))
+    (λ none. inr (λ h. go h.0 h.1 h.2 other none)) (contains_or_not xs k))
   where
     go : (q : ℕ) → q < length (x ∷ xs) → get_or (x ∷ xs) q k ≡ k → (x ≡ k → ⊥) → ¬ (Contains xs k) → ⊥
     go zero lt e other none = other e

@@ -25,6 +25,8 @@ mod scans;
 mod snapshot;
 #[cfg(test)]
 mod snapshot_tests;
+#[cfg(test)]
+mod tests;
 
 pub use contended::Contended;
 pub use ending::Ended;

@@ -46,9 +46,9 @@ impl<const N: usize, const C: usize, const H: usize, const G: usize> Reader<N, C
 
     /// A scan: all segments at one moment, written to `out`. It takes no memory and waits for nobody.
     ///
-    /// The vector of `out` is not below the first `N` numbers that the scan loads, nor below what the reader has seen before;
-    /// it is comparable with every vector that any scan of this board records. After Ok it is the last entry of what the
-    /// reader has recorded.
+    /// The vector of `out` is not below the first `N` numbers that the scan loads, nor below what the reader has seen before.
+    /// After Ok `out` is the last entry of what the reader has recorded, and all segments at one moment. By the board's rule its
+    /// vector is comparable with every one that any scan of this board records; this call tells so of the reader's own alone.
     ///
     /// # Errors
     ///

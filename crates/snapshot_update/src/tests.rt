@@ -1,8 +1,12 @@
 ghost use Rattle.std.specs.Prelude.{◌≡◌, ◌∷◌, [], IfOk};
 ghost use Rattle.register_rule.specs.Seats.{worker_of, HasWorker, HasReader};
 
+mod crew;
 mod filling;
+mod refusing;
+mod threads;
 mod touching;
+mod working;
 
 use crate::changes::Changes;
 use register_rule::{Board, Parts, ReadSeat, WorkSeat};

@@ -33,14 +33,14 @@ loop-item-preserved g c =
     let there : (k : ℕ) → k ≢ x → get_or c.change_word.new.old k 0 ≡ get_or old k 0 = λ k e. ap (λ (l : List ℕ). get_or l k 0) new_old ∙ get_or-set_other old x k word 0 e in
     record {
       done = below_more (λ (q : ℕ). get_or c.change_word.new.old (get_or c.args.items.now q 0) 0 ≡ get_or c.args.row.now (get_or c.args.items.now q 0) 0) i
-        (λ q lt. let z = get_or c.args.items.now q 0 in dite (ℕ_discrete z x) (λ e. here z e ∙ (value ∙ ap (λ (j : ℕ). get_or c.args.row.now j 0) (sym e))) (λ e. there z e ∙ inv.done q lt))
-        (here x (λ _. x) ∙ value);
+          (λ q lt. let z = get_or c.args.items.now q 0 in dite (ℕ_discrete z x) (λ e. here z e ∙ (value ∙ ap (λ (j : ℕ). get_or c.args.row.now j 0) (sym e))) (λ e. there z e ∙ inv.done q lt))
+          (here x (λ _. x) ∙ value);
       others = λ k none. there k (λ e. none (subst (Contains c.args.items.now) (sym e) (Contains-get_or c.args.items.now i 0 c.loop-item-test.true))) ∙ inv.others k none;
       low = λ k lt. dite (ℕ_discrete k x) (λ e. let h = here k e in let b' = c.word_at.ensures.bounded in omega (arith, h, b')) (λ e. let h = there k e in let l = inv.low k lt in omega (arith, h, l));
       sums = λ k lt. dite (ℕ_discrete k x)
-        (λ e. let h = here k e in let t : get_or c.change_word.new.totals k 0 ≡ y = ap (λ (j : ℕ). get_or c.change_word.new.totals j 0) e ∙ (ap (λ (l : List ℕ). get_or l x 0) new_totals ∙ get_or-set_same totals x y 0 lt') in
-              let s = inv.sums x within in let p = c.requires.part x within in let f = ap (λ (j : ℕ). get_or c.args.old.now j 0) e in let f' = ap (λ (j : ℕ). get_or c.args.totals.now j 0) e in omega (arith, h, t, s, p.0, f, f'))
-        (λ e. let h = there k e in let t : get_or c.change_word.new.totals k 0 ≡ get_or totals k 0 = ap (λ (l : List ℕ). get_or l k 0) new_totals ∙ get_or-set_other totals x k y 0 e in let s = inv.sums k lt in omega (arith, h, t, s));
+          (λ e. let h = here k e in let t : get_or c.change_word.new.totals k 0 ≡ y = ap (λ (j : ℕ). get_or c.change_word.new.totals j 0) e ∙ (ap (λ (l : List ℕ). get_or l x 0) new_totals ∙ get_or-set_same totals x y 0 lt') in
+          let s = inv.sums x within in let p = c.requires.part x within in let f = ap (λ (j : ℕ). get_or c.args.old.now j 0) e in let f' = ap (λ (j : ℕ). get_or c.args.totals.now j 0) e in omega (arith, h, t, s, p.0, f, f'))
+          (λ e. let h = there k e in let t : get_or c.change_word.new.totals k 0 ≡ get_or totals k 0 = ap (λ (l : List ℕ). get_or l k 0) new_totals ∙ get_or-set_other totals x k y 0 e in let s = inv.sums k lt in omega (arith, h, t, s));
     }
 
 pub returns-clause-changed : goal.returns-clause-changed

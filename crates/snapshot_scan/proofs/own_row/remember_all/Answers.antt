@@ -25,7 +25,7 @@ returns-clause-totals g c =
     let gs = c.args.kept.now in let i = c.args.place in
     let old : Kept = get_or gs i c.index-kept-place.result in
     own_totals (width g.row.C g.row.H g.row.G) gs c.args.totals.now c.learn.new.totals i old c.learn.new.self c.args.row.now (there gs i c.index-kept-place.result c.requires.inside.0) c.requires.totals
-        (ap (λ (v : Version). v.row) c.learn.ensures.version) c.learn.ensures.totals
+    (ap (λ (v : Version). v.row) c.learn.ensures.version) c.learn.ensures.totals
 
 pub returns-clause-rows : goal.returns-clause-rows
 returns-clause-rows g c = map_set version_of c.args.kept.now c.args.place c.learn.new.self ∙ ap (set (map version_of c.args.kept.now) c.args.place) c.learn.ensures.version

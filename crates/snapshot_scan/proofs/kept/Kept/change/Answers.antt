@@ -15,7 +15,7 @@ returns-clause-version g c =
     let long : length new ≡ w = a ∙ (ap (λ (l : List ℕ). length l) value ∙ wide) in
     let written : take old.row.len (new ++ drop (length new) old.row.items) ≡ new = over new old.row.items old.row.len (a ∙ ap (λ (l : List ℕ). length l) value) (let n = c.as_mut_slice.ensures.len in omega (arith, a)) in
     let same : new ≡ row = same_words new row (long ∙ (sym c.len.ensures.width ∙ c.len.ensures.within)) (λ k lt. words_are w old.row.items new row c.args.items.now c.change_words.ensures.changed
-        (λ j none. c.change_words.ensures.others j none ∙ ap (λ (l : List ℕ). slice_index l j) value) c.requires.others k (omega (arith, long, lt))) in
+    (λ j none. c.change_words.ensures.others j none ∙ ap (λ (l : List ℕ). slice_index l j) value) c.requires.others k (omega (arith, long, lt))) in
     λ z. record { number = c.args.number; row = (written ∙ same) z }
 
 pub returns-clause-totals : goal.returns-clause-totals
@@ -23,5 +23,5 @@ returns-clause-totals g c = λ k lt.
     let w : ℕ = width g.row.C g.row.H g.row.G in let old = c.args.self.now in let value = c.as_mut_slice.ensures.value in
     let s = c.change_words.ensures.sums k lt in let v = ap (λ (l : List ℕ). slice_index l k) value in
     let e = words_are w old.row.items c.change_words.new.old c.args.row.now c.args.items.now c.change_words.ensures.changed
-        (λ j none. c.change_words.ensures.others j none ∙ ap (λ (l : List ℕ). slice_index l j) value) c.requires.others k lt in
+    (λ j none. c.change_words.ensures.others j none ∙ ap (λ (l : List ℕ). slice_index l j) value) c.requires.others k lt in
     omega (arith, s, v, e)

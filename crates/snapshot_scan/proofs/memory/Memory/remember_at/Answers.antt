@@ -22,7 +22,19 @@ pub remember_some-requires : goal.remember_some-requires
 remember_some-requires g c =
     let w : ℕ = width g.row.C g.row.H g.row.G in let m = c.args.self.now in let i = c.args.place in
     let gs = c.as_mut_slice.ensures.value in let ts = c.as_mut_slice-2.ensures.value in
-    let few = m.sizes.0 in let n = m.geometry.workers.1 in let p = c.requires.inside in let l = ap (λ (x : List Kept). length x) gs in
-    (search rules, ((omega (arith, few, p, l), omega (arith, few, n, l)), (ap (λ (x : List ℕ). length x) ts ∙ m.sizes.1,
-    (subst (AreWide w) (sym gs) m.wide, (λ k lt. ap (λ (x : List ℕ). slice_index x k) ts ∙ (m.sums k lt ∙ ap (λ (x : List Kept). sum_rows k x) (sym gs)),
-    (c.requires.words, λ y at. c.requires.others (version_of y) (at_map version_of m.kept.items i y (ap (λ (x : List Kept). get_elem? x i) (sym gs) ∙ at))))))))
+    let few = m.sizes.0 in let n = m.geometry.workers.1 in let p = c.requires.inside in let l = ap (λ (x : List Kept). length x) gs in (
+      search rules,
+      (
+        (omega (arith, few, p, l), omega (arith, few, n, l)),
+        (
+          ap (λ (x : List ℕ). length x) ts ∙ m.sizes.1,
+          (
+            subst (AreWide w) (sym gs) m.wide,
+            (
+              λ k lt. ap (λ (x : List ℕ). slice_index x k) ts ∙ (m.sums k lt ∙ ap (λ (x : List Kept). sum_rows k x) (sym gs)),
+              (c.requires.words, λ y at. c.requires.others (version_of y) (at_map version_of m.kept.items i y (ap (λ (x : List Kept). get_elem? x i) (sym gs) ∙ at))),
+            ),
+          ),
+        ),
+      ),
+    )
