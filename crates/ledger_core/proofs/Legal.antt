@@ -18,7 +18,7 @@ only_other : (word by k : ℕ) → k ≢ word → only word by k ≡ 0
 only_other word by k ne = ap (λ t. cond t by 0) (ne_eqb k word ne)
 
 -- sums over the places from a on
-sum_same : (f f' : ℕ → ℕ) (a n : ℕ) → ((k : ℕ) → a ≤ k → k < a + n → f k ≡ f' k)
+pub sum_same : (f f' : ℕ → ℕ) (a n : ℕ) → ((k : ℕ) → a ≤ k → k < a + n → f k ≡ f' k)
     → sum_by f (range_with_len a n) ≡ sum_by f' (range_with_len a n)
 sum_same f f' a zero same = refl
 sum_same f f' a (suc n) same =

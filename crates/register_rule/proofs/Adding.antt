@@ -11,11 +11,7 @@ use Rattle.register_rule.specs.declared.view.Member.{Member}
 use Rattle.register_rule.specs.Sums.{total, last_lent, flag_of}
 use Rattle.register_rule.specs.Members.{made_of, filled, published}
 use Rattle.register_rule.specs.Told.{HoldsNext}
-use Rattle.register_rule.proofs.Publish.{lent_last}
-
-total_last : (adds : List Op → ℕ → ℕ) (xs : List Made) (x : Made) (k : ℕ) → total adds (xs ++ x ∷ []) k ≡ total adds xs k + adds x.ops k
-total_last adds [] x k = omega arith
-total_last adds (y ∷ ys) x k = let e = total_last adds ys x k in omega (arith, e)
+use Rattle.register_rule.proofs.Publish.{lent_last, total_last}
 
 one_inc : (by : ℕ) → sum_ops 1 0 (Inc 0 by ∷ []) 0 ≡ by
 one_inc by = omega arith

@@ -15,7 +15,7 @@ use Rattle.register_rule.specs.History.{count, IsCut, Below}
 use Rattle.register_rule.specs.Sums.{row_sum, last_lent, flag_of}
 use Rattle.register_rule.specs.Shown.{Shows}
 use Rattle.register_rule.specs.Scans.{opened_at, AreLoads, HasMoved, IsLook, Doomed, IsEntry, IsAsked, IsSound}
-use Rattle.register_rule.specs.Steps.{upper, at_rest, answered, gives_up, begun, is_next, after_ask, rest, lent_entry, is_lender, asked_of, answers, ask_ends, after_end_ask}
+use Rattle.register_rule.specs.Steps.{upper, at_rest, answered, gives_up, begun, is_next, after_ask, rest, lent_in, is_lender, asked_of, answers, ask_ends, after_end_ask}
 use Rattle.register_rule.proofs.Words.{there, read_at, from_replicate, each_push}
 use Rattle.register_rule.proofs.Moments.{length_tab}
 use Rattle.register_rule.proofs.Upper.{length_upper, upper_from, upper_of}
@@ -108,7 +108,7 @@ module _ (n w : ℕ) (adds : List Op → ℕ → ℕ) (made : ℕ → List Made)
 
   -- what a worker whose number stood still has shown is what it lends
   lent_right : (i x : ℕ) (floor : List ℕ) (l : Look) → l.place ≡ i → x ≡ length (made i) → ((a : Entry) → last_lent (made i) ≡ Some a → IsEntry n w adds made h a) → IsLook n w adds made w l → is_lender n w x floor l ≡ true
-      → IsEntry n w adds made h (lent_entry n w l) × (length (lent_entry n w l).vector ≡ n)
+      → IsEntry n w adds made h (lent_in n w l.words) × (length (lent_in n w l.words).vector ≡ n)
   lent_right i x floor l at is lent ok hit =
       let t3 = and_parts _ _ hit in let t2 = and_parts _ _ t3.0 in let t1 = and_parts _ _ t2.0 in
       let this : l.number ≡ x = eqb-true _ _ t1.0 in let len : length l.words ≡ 1 + n + w = eqb-true _ _ t1.1 in let one : get_or l.words 0 0 ≡ 1 = eqb-true _ _ t2.1 in
@@ -120,7 +120,7 @@ module _ (n w : ℕ) (adds : List Op → ℕ → ℕ) (made : ℕ → List Made)
       go shows len one (last_lent (made i)) refl
     where
       go : ((p : ℕ) → p < length l.words → Shows n w adds (made i) (w + p) (get_or l.words p 0)) → length l.words ≡ 1 + n + w → get_or l.words 0 0 ≡ 1 → (o : Option Entry) → last_lent (made i) ≡ o
-          → IsEntry n w adds made h (lent_entry n w l) × (length (lent_entry n w l).vector ≡ n)
+          → IsEntry n w adds made h (lent_in n w l.words) × (length (lent_in n w l.words).vector ≡ n)
       go shows len one None e = let f : get_or l.words 0 0 ≡ flag_of (last_lent (made i)) = (shows 0 (omega (arith, len))).flag (omega arith) in let f' : flag_of (last_lent (made i)) ≡ 0 = ap flag_of e in absurd (omega (arith, f, f', one))
       go shows len one (Some a) e =
           let ok' = lent a e in
@@ -150,7 +150,7 @@ module _ (n w : ℕ) (adds : List Op → ℕ → ℕ) (made : ℕ → List Made)
       by_asks [] each = ok
       by_asks (l ∷ ls) each = cond_both (l.place == i) (answers n w x l c) c (IsSound n w adds made h)
           (λ same. let at : l.place ≡ i = eqb-true _ _ same in let asked' = each_push (IsAsked n w adds made) c.asked (asked_of x l) ok.asked (asked_right i x l at is (each 0 l refl)) in
-          cond_both (is_lender n w x c.now.floor l) (answered (lent_entry n w l) (once_asked n x l c)) (gives_up n (nothing_lent n x l c)) (IsSound n w adds made h)
-          (λ hit. let t = lent_right i x c.now.floor l at is lent (each 0 l refl) hit in scan_answered (once_asked n x l c) (lent_entry n w l) some_n t.1 t.0 (with_now c c.opened (c.asked ++ asked_of x l ∷ []) c.quit c.now ok.opened asked' ok.looks ok.asks ok.whole ok))
+          cond_both (is_lender n w x c.now.floor l) (answered (lent_in n w l.words) (once_asked n x l c)) (gives_up n (nothing_lent n x l c)) (IsSound n w adds made h)
+          (λ hit. let t = lent_right i x c.now.floor l at is lent (each 0 l refl) hit in scan_answered (once_asked n x l c) (lent_in n w l.words) some_n t.1 t.0 (with_now c c.opened (c.asked ++ asked_of x l ∷ []) c.quit c.now ok.opened asked' ok.looks ok.asks ok.whole ok))
           (λ _. scan_gives (nothing_lent n x l c) some_n (with_now c c.opened (c.asked ++ asked_of x l ∷ []) c.quit (record c.now { due = rest c.now.due; asks = [] }) ok.opened asked' ok.looks (λ q l e. absurd (some-ne-none l (sym e))) ok.whole ok)))
           (λ _. ok)

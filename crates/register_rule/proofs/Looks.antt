@@ -20,7 +20,7 @@ use Rattle.register_rule.specs.History.{tab, count, numbers_after, IsCut}
 use Rattle.register_rule.specs.Sums.{total, row_sum, last_lent}
 use Rattle.register_rule.specs.Shown.{Shows}
 use Rattle.register_rule.specs.Scans.{opened_at, AreLoads, HasMoved, IsLook, Doomed, IsVersion, IsEntry, IsSound}
-use Rattle.register_rule.specs.Steps.{every, answered, gives_up, words_kept, begun, unsure, opens_next, after_open, noted, after_read, settled, remembered, confirmed_at, clean, are_clean, sum_words, entry_of, with_base, failed_once_more, ended, after_confirm, is_lender, lent_entry, answers, ask_ends, after}
+use Rattle.register_rule.specs.Steps.{every, answered, gives_up, words_kept, begun, unsure, opens_next, after_open, noted, after_read, settled, remembered, confirmed_at, clean, are_clean, sum_words, entry_of, with_base, failed_once_more, ended, after_confirm, is_lender, lent_in, answers, ask_ends, after}
 use Rattle.register_rule.proofs.Words.{at_below, there, from_map, last_is, each_of, each_push}
 use Rattle.register_rule.proofs.Moments.{tab_at}
 use Rattle.register_rule.proofs.Finds.{Finds}
@@ -291,8 +291,8 @@ give_stays n c d r s = cond_both (length d.now.due == 0 && d.now.failed == n + 2
 ask_stays : (n w i x : ℕ) (ls : List Look) (c : Scan) → Stays c (ask_ends n w i x ls c)
 ask_stays n w i x [] c = as_was c c refl refl
 ask_stays n w i x (l ∷ ls) c = cond_both (l.place == i) (answers n w x l c) c (Stays c)
-    (λ _. cond_both (is_lender n w x c.now.floor l) (answered (lent_entry n w l) (once_asked n x l c)) (gives_up n (nothing_lent n x l c)) (Stays c)
-    (λ _. answer_stays c (once_asked n x l c) (lent_entry n w l) refl refl)
+    (λ _. cond_both (is_lender n w x c.now.floor l) (answered (lent_in n w l.words) (once_asked n x l c)) (gives_up n (nothing_lent n x l c)) (Stays c)
+    (λ _. answer_stays c (once_asked n x l c) (lent_in n w l.words) refl refl)
     (λ _. give_stays n c (nothing_lent n x l c) refl refl))
     (λ _. as_was c c refl refl)
 

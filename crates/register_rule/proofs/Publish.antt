@@ -48,6 +48,11 @@ lent_recorded : (m : Member) (lends : Bool) (a : Entry) → cond lends (last_ent
 lent_recorded m true a e = at_last_entry m.scan.recorded a e
 lent_recorded m false a e = absurd (none-some a e)
 
+-- what a list of versions adds, and one more
+pub total_last : (adds : List Op → ℕ → ℕ) (xs : List Made) (x : Made) (k : ℕ) → total adds (xs ++ x ∷ []) k ≡ total adds xs k + adds x.ops k
+total_last adds [] x k = omega arith
+total_last adds (y ∷ ys) x k = let e = total_last adds ys x k in omega (arith, e)
+
 -- a list that the row accepts may come next
 legal_more : (adds : List Op → ℕ → ℕ) (accepts : (ℕ → ℕ) → List Op → Type 0) (before xs : List Made) (x : Made) → Legal adds accepts before xs → accepts (total adds (before ++ xs)) x.ops → Legal adds accepts before (xs ++ x ∷ [])
 legal_more adds accepts before [] y h a = (subst (λ (z : List Made). accepts (total adds z) y.ops) (append-nil before) a, tt)

@@ -126,11 +126,13 @@ is_next i (x ∷ xs) = i == x
 abbrev pub after_ask : (i s : ℕ) → Scan → Scan
 after_ask i s c = record c { now = cond (is_next i c.now.due) (record c.now { asks = begun i s [] ∷ [] }) c.now }
 
+-- the view in the words that were read, which begin with the flag
+abbrev pub lent_in : (n w : ℕ) → List ℕ → Entry
+lent_in n w words = record { vector = take n (drop 1 words); totals = take w (drop (1 + n) words) }
+
 -- **The confirming load of the worker that is asked** found the number s. It lends where its number is found again,
 -- its flag is 1, all its words are read, and its vector is below the floor nowhere. If it does not, the next one is
 -- asked, and after the last one the next try begins.
-abbrev pub lent_entry : (n w : ℕ) → Look → Entry
-lent_entry n w l = record { vector = take n (drop 1 l.words); totals = take w (drop (1 + n) l.words) }
 
 abbrev pub is_lender : (n w s : ℕ) → (floor : List ℕ) → Look → Bool
 is_lender n w s floor l = l.number == s && length l.words == 1 + n + w && slice_index l.words 0 == 1 && is_above floor (take n (drop 1 l.words))
@@ -144,7 +146,7 @@ rest (x ∷ xs) = xs
 
 abbrev pub answers : (n w s : ℕ) → Look → Scan → Scan
 answers n w s l c = cond (is_lender n w s c.now.floor l)
-    (answered (lent_entry n w l) (record c { asked = c.asked ++ asked_of s l ∷ [] }))
+    (answered (lent_in n w l.words) (record c { asked = c.asked ++ asked_of s l ∷ [] }))
     (gives_up n (record c { asked = c.asked ++ asked_of s l ∷ []; now = record c.now { due = rest c.now.due; asks = [] } }))
 
 abbrev pub ask_ends : (n w i s : ℕ) → List Look → Scan → Scan

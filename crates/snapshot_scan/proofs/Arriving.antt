@@ -1,26 +1,23 @@
 -- What a scan's loads come to, in the terms of the core.
 use Rattle.std.proofs.Common.{◌≡◌, ◌≢◌, ⊎_elim, ℕ, zero, suc, ◌+◌, ◌<◌, ◌≤◌, List, [], ◌∷◌, ◌++◌, length, map, slice_index, sym, refl, ap, ◌∙◌, subst, arith, append_assoc}
+use Rattle.std.proofs.lemmas.List.{append-nil}
 use mathlib.Core.Option.{some, some-ne-none}
 use lib.ListN.{get_elem?}
 use Rattle.register_rule.specs.declared.view.Asked.{Asked}
 use Rattle.register_rule.specs.declared.view.Entry.{Entry}
 use Rattle.register_rule.specs.declared.view.Scan.{Scan}
-use Rattle.register_rule.specs.Steps.{answered, gives_up}
+use Rattle.register_rule.specs.Steps.{answered, gives_up, lent_in}
 use Rattle.snapshot_core.specs.declared.next.Next.TheVariants.{Direct, Lent, GaveUp}
 use Rattle.snapshot_core.specs.Next.{Comes}
 use Rattle.snapshot_scan.specs.declared.contended.Contended.{Contended}
 use Rattle.snapshot_scan.specs.declared.kept.Kept.{Kept}
 use Rattle.snapshot_scan.specs.Memory.{opening, settling, pairs}
-use Rattle.snapshot_scan.specs.Asking.{Refuses, Lends, lent_in, due_from, worker_of, asked_too}
+use Rattle.snapshot_scan.specs.Asking.{Refuses, Lends, due_from, worker_of, asked_too}
 use Rattle.snapshot_scan.specs.Contention.{IsFirstMoved}
 use Rattle.snapshot_scan.specs.Scanned.{Tried, all_opened, all_confirmed, all_asked, FailedTry}
 use Rattle.snapshot_scan.specs.Core.{AreLoadsOf, CameTo, AnswersBy, core_reads}
 use Rattle.snapshot_scan.proofs.Trying.{AreTries, stood, asking, given_last, opened_snoc, confirmed_snoc, asked_snoc, count_snoc}
 use Rattle.snapshot_scan.proofs.Coming.{AllFail, HeadIs, comes_direct, comes_lent, comes_gave_up}
-
-append_nil : {A : Type 0} (l : List A) → l ++ [] ≡ l
-append_nil [] = refl
-append_nil (x ∷ l) = ap (λ z. x ∷ z) (append_nil l)
 
 -- the first try is clean
 pub came_first : (n w : ℕ) (opened found : List ℕ) (gs : List Kept) (c : Scan) (a : Entry) → length opened ≡ n → opened ≡ found → a.vector ≡ opened
@@ -32,9 +29,9 @@ came_first n w opened found gs c a long same is = record {
     before = [];
     last = record { first = opened; second = opened; asks = [] };
     loads = record {
-      opened = ap (λ z. c.opened ++ z) (sym (append_nil (pairs 0 opened)));
-      confirmed = ap (λ z. c.confirmed ++ pairs 0 z) (sym same) ∙ ap (λ z. c.confirmed ++ z) (sym (append_nil (pairs 0 opened)));
-      asked = sym (append_nil c.asked);
+      opened = ap (λ z. c.opened ++ z) (sym (append-nil (pairs 0 opened)));
+      confirmed = ap (λ z. c.confirmed ++ pairs 0 z) (sym same) ∙ ap (λ z. c.confirmed ++ z) (sym (append-nil (pairs 0 opened)));
+      asked = sym (append-nil c.asked);
     };
     comes = comes_direct n w [] [] [] (λ q t e. absurd (some-ne-none t (sym e))) tt opened long (omega arith);
   };
@@ -59,7 +56,7 @@ module _ (n w : ℕ) (floor base first last : List ℕ) (tries : List Tried) (tr
       loads = record {
         opened = one_more (all_opened tries) (pairs 0 opened) (all_opened (tries ++ t ∷ [])) c.opened (opened_snoc tries t);
         confirmed = ap (λ z. (c.confirmed ++ all_confirmed tries) ++ pairs 0 z) (sym same) ∙ one_more (all_confirmed tries) (pairs 0 opened) (all_confirmed (tries ++ t ∷ [])) c.confirmed (confirmed_snoc tries t);
-        asked = ap (λ z. c.asked ++ z) (sym (asked_snoc tries t ∙ append_nil (all_asked tries)));
+        asked = ap (λ z. c.asked ++ z) (sym (asked_snoc tries t ∙ append-nil (all_asked tries)));
       };
       comes = comes_direct n w floor base tries tried.each head_is opened long few;
     };

@@ -1,12 +1,13 @@
 -- Asking a worker.
 use Rattle.std.proofs.Common.{Option, Some, None, ◌≡◌, ◌≢◌, ◌⊎◌, ⊎_elim, inl, inr, ℕ, zero, suc, ◌+◌, ◌<◌, ◌≤◌, eqb, Bool, true, false, cond, ◌&&◌, ◌||◌, not, ◌==◌, nat_le, List, [], ◌∷◌, ◌++◌, length, map, take, drop, drop-cons, get_or, slice_index, sym, refl, ap, ◌∙◌, subst, arith, eq-eqb, ne_eqb, append_assoc}
+use Rattle.std.proofs.lemmas.List.{append-nil}
 use mathlib.Core.Logic.{dite}
 use native.Mathlib.Decide.{ℕ_discrete, dec_le}
 use mathlib.Core.Option.{some, some-injective, some-ne-none}
 use lib.ListN.{get_elem?}
 use Rattle.ledger_core.specs.declared.op.Op.{Op}
 use Rattle.std.proofs.Math.Bool.{and-false}
-use Rattle.std.proofs.lemmas.Bool.{eqb-true, leb-true, le-leb, lt-leb}
+use Rattle.std.proofs.lemmas.Bool.{and_parts, eqb-true, leb-true, le-leb, lt-leb}
 use Rattle.ledger_core.specs.Vectors.{is_above}
 use Rattle.register_rule.specs.declared.view.Entry.{Entry}
 use Rattle.register_rule.specs.Sums.{last_lent, flag_of}
@@ -17,10 +18,10 @@ use Rattle.register_rule.specs.declared.view.Member.{Member}
 use Rattle.register_rule.specs.Scans.{IsSound, IsAsked}
 use Rattle.register_rule.specs.Told.{AreRuled}
 use Rattle.register_rule.specs.Members.{first_of, led, scanned}
-use Rattle.register_rule.specs.Steps.{begun, noted, after_read, after_ask, after_end_ask, is_next, answers, asked_of, is_lender, answered, gives_up, rest}
+use Rattle.register_rule.specs.Steps.{begun, noted, after_read, after_ask, after_end_ask, is_next, answers, asked_of, is_lender, answered, gives_up, rest, lent_in}
 use Rattle.register_rule.specs.Seats.{HasMember}
 use Rattle.snapshot_scan.specs.Shape.{scan_of, with_scan, read_all}
-use Rattle.snapshot_scan.specs.Asking.{Refuses, IsBelow, asked_too, refused, lent_in, refused_all, MayAsk, due_from, worker_of}
+use Rattle.snapshot_scan.specs.Asking.{Refuses, IsBelow, asked_too, refused, refused_all, MayAsk, due_from, worker_of}
 use Rattle.snapshot_scan.proofs.Words.{scan_with, led_some, length_take}
 
 pub three : (f g h : Scan → Scan) (ms a b d : List Member) → a ≡ led (scanned f) ms → b ≡ led (scanned g) a → d ≡ led (scanned h) b → d ≡ with_scan (h (g (f (scan_of ms)))) ms
@@ -40,11 +41,7 @@ noted_here w i s k x ws e =
     ap (λ (z : Bool). cond z (begun i s (ws ++ x ∷ [])) (begun i s ws)) t
 
 reads_view : (w i s k : ℕ) (ws xs : List ℕ) (c : Scan) → k ≡ w + length ws → read_all w i s k xs (asks_now (begun i s ws) c) ≡ asks_now (begun i s (ws ++ xs)) c
-reads_view w i s k ws [] c e = ap (λ (z : List ℕ). asks_now (begun i s z) c) (sym (append_nil ws))
-  where
-    append_nil : (l : List ℕ) → l ++ [] ≡ l
-    append_nil [] = refl
-    append_nil (x ∷ l) = ap (λ z. x ∷ z) (append_nil l)
+reads_view w i s k ws [] c e = ap (λ (z : List ℕ). asks_now (begun i s z) c) (sym (append-nil ws))
 reads_view w i s k ws (x ∷ xs) c e =
     let long = snoc_long ws x in
     ap (λ (l : Look). read_all w i s (suc k) xs (asks_now l c)) (noted_here w i s k x ws e)
@@ -108,10 +105,6 @@ flag_low n w adds accepts (m ∷ ms) c e t ruled scan same x at =
     one_or_none : (o : Option Entry) → flag_of o ≤ 1
     one_or_none None = omega arith
     one_or_none (Some a) = omega arith
-
-pub and_parts : (a b : Bool) → (a && b) ≡ true → (a ≡ true) × (b ≡ true)
-and_parts true b e = (refl, e)
-and_parts false b e = absurd (let f : false ≡ true = e in cc)
 
 -- the vector is below the floor nowhere
 pub above_all : (floor vector : List ℕ) → length floor ≡ length vector → ((k : ℕ) → k < length floor → slice_index floor k ≤ slice_index vector k) → is_above floor vector ≡ true

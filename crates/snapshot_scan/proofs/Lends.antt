@@ -15,10 +15,7 @@ use Rattle.register_rule.specs.Members.{filled, published, made_of, last_entry}
 use Rattle.register_rule.specs.Told.{HoldsNext}
 use Rattle.register_rule.proofs.Publish.{lent_last}
 use Rattle.register_rule.proofs.Adding.{accepts_inc}
-
-total_last : (adds : List Op → ℕ → ℕ) (xs : List Made) (x : Made) (k : ℕ) → total adds (xs ++ x ∷ []) k ≡ total adds xs k + adds x.ops k
-total_last adds [] x k = omega arith
-total_last adds (y ∷ ys) x k = let e = total_last adds ys x k in omega (arith, e)
+use Rattle.register_rule.proofs.Publish.{total_last}
 
 -- five stores fill a buffer of five words
 stored : (s x y t : ℕ) (words : List ℕ) → length words ≡ 5 → slice_set (slice_set (slice_set (slice_set (slice_set words 0 s) 1 1) 2 x) 3 y) 4 t ≡ s ∷ 1 ∷ x ∷ y ∷ t ∷ []

@@ -1,5 +1,6 @@
 -- The first collect of a try, place by place.
 use Rattle.std.proofs.Common.{◌≡◌, ◌≢◌, ◌⊎◌, ⊎_elim, inl, inr, ℕ, zero, suc, ◌+◌, ◌<◌, ◌≤◌, eqb, Bool, true, false, cond, ◌&&◌, ◌||◌, not, ◌==◌, List, [], ◌∷◌, ◌++◌, length, map, take, set, get_or, sym, refl, ap, ◌∙◌, subst, arith, eq-eqb, ne_eqb, append_assoc}
+use Rattle.std.proofs.lemmas.List.{append-nil}
 use mathlib.Core.Logic.{dite}
 use native.Mathlib.Decide.{ℕ_discrete}
 use mathlib.Core.Option.{some, some-injective, some-ne-none}
@@ -77,11 +78,7 @@ looking ls c = record c { now = record c.now { looks = ls } }
 -- the words of the place that was begun last, all in their order
 reads_row : (w i s : ℕ) (opened : List ℕ) (gs : List Kept) (ws xs : List ℕ) (c : Scan) → length opened ≡ i → c.now.asks ≡ []
     → read_all w i s (length ws) xs (looking (looks_of 0 opened [] gs ++ begun i s ws ∷ []) c) ≡ looking (looks_of 0 opened [] gs ++ begun i s (ws ++ xs) ∷ []) c
-reads_row w i s opened gs ws [] c here none = ap (λ (z : List ℕ). looking (looks_of 0 opened [] gs ++ begun i s z ∷ []) c) (sym (append_nil ws))
-  where
-    append_nil : (l : List ℕ) → l ++ [] ≡ l
-    append_nil [] = refl
-    append_nil (x ∷ l) = ap (λ z. x ∷ z) (append_nil l)
+reads_row w i s opened gs ws [] c here none = ap (λ (z : List ℕ). looking (looks_of 0 opened [] gs ++ begun i s z ∷ []) c) (sym (append-nil ws))
 reads_row w i s opened gs ws (x ∷ xs) c here none =
     let k = length ws in
     let looks : map (noted 0 i s k x) (looks_of 0 opened [] gs ++ begun i s ws ∷ []) ≡ looks_of 0 opened [] gs ++ begun i s (ws ++ x ∷ []) ∷ [] =
@@ -126,11 +123,7 @@ opens_more w s opened gs g g' c at inside same kept due asks =
     go false h = ap (read_all w (length opened) s 0 g'.fresh.items) h ∙ reads_row w (length opened) s opened gs [] g'.fresh.items (record c { opened = c.opened ++ pairs 0 (opened ++ s ∷ []) }) refl asks
 
 pub opening_starts : (gs : List Kept) (c : Scan) → c.now.looks ≡ [] → opening [] gs c ≡ c
-opening_starts gs c none = λ z. record c { opened = append_nil c.opened z; now = record c.now { looks = sym none z } }
-  where
-    append_nil : {A : Type 0} (l : List A) → l ++ [] ≡ l
-    append_nil [] = refl
-    append_nil (x ∷ l) = ap (λ z. x ∷ z) (append_nil l)
+opening_starts gs c none = λ z. record c { opened = append-nil c.opened z; now = record c.now { looks = sym none z } }
 
 pub loaded : (i x : ℕ) (c : Scan) (opened : List ℕ) (gs : List Kept) (ms ms' : List Member) → HasMember ms → ms' ≡ with_scan (opening opened gs c) ms → IsNumber i ms' x → IsLoaded i c x
 loaded i x c opened gs ms ms' some_ view number =

@@ -1,5 +1,6 @@
 -- The tries of a scan, and its ends.
 use Rattle.std.proofs.Common.{◌≡◌, ◌≢◌, ◌⊎◌, ⊎_elim, inl, inr, ℕ, zero, suc, ◌+◌, ◌<◌, ◌≤◌, Bool, true, false, cond, ◌==◌, List, [], ◌∷◌, ◌++◌, length, map, take, drop, get_or, slice_index, sym, refl, ap, ◌∙◌, subst, arith, eq-eqb, ne_eqb, append_assoc}
+use Rattle.std.proofs.lemmas.List.{append-nil}
 use mathlib.Core.Option.{some, some-injective, some-ne-none}
 use lib.ListN.{get_elem?}
 use Rattle.ledger_core.specs.Vectors.{is_above}
@@ -7,15 +8,16 @@ use Rattle.register_rule.specs.declared.view.Entry.{Entry}
 use Rattle.register_rule.specs.declared.view.Asked.{Asked}
 use Rattle.register_rule.specs.declared.view.Member.{Member}
 use Rattle.register_rule.specs.declared.view.Scan.{Scan}
+use Rattle.register_rule.specs.declared.view.Version.{Version}
 use Rattle.register_rule.specs.History.{Below}
-use Rattle.register_rule.specs.Steps.{answered, gives_up, at_rest, upper}
+use Rattle.register_rule.specs.Steps.{answered, gives_up, at_rest, upper, lent_in}
 use Rattle.register_rule.proofs.Words.{there, at_below, read_at, each_push}
 use Rattle.snapshot_scan.specs.declared.kept.Kept.{Kept}
 use Rattle.register_rule.specs.Seats.{HasMember}
 use Rattle.snapshot_scan.specs.Shape.{scan_of, with_scan}
-use Rattle.snapshot_scan.specs.Memory.{version_of, pairs, opening, settling, failing, IsLoaded}
-use Rattle.snapshot_scan.specs.Asking.{Refuses, refused_all, due_from, worker_of, asked_too, lent_in, MayAsk}
-use Rattle.snapshot_scan.specs.Scanned.{Tried, all_opened, all_confirmed, all_asked, FailedTry, IsIdle, IsAnswered, IsGivenUp}
+use Rattle.snapshot_scan.specs.Memory.{version_of, HasOther, pairs, opening, settling, failing, IsLoaded}
+use Rattle.snapshot_scan.specs.Asking.{Refuses, refused_all, due_from, worker_of, asked_too, MayAsk}
+use Rattle.snapshot_scan.specs.Scanned.{Tried, all_opened, all_confirmed, all_asked, FailedTry, IsIdle, HasMoved, IsAnswered, IsGivenUp}
 use Rattle.snapshot_scan.proofs.Words.{scan_with, with_led, with_same, led_some}
 use Rattle.snapshot_scan.proofs.Asking.{above_below, vector_long}
 use Rattle.snapshot_scan.proofs.Trying.{stood, stood_more, AreTries, asking, fails_later, fails_first, asked_none, asked_some, given_due, given_later, given_last, loads_in}
@@ -47,10 +49,6 @@ floor_below n c d floor opened later long told e i x y p q =
     let h = (told i (omega (arith, long, lt))).opened (length c.opened + i) x (ap (λ (l : List (ℕ × ℕ)). get_elem? l (length c.opened + i)) e ∙ loads_in c.opened floor later i x p) in
     let r = read_at opened i y 0 q in omega (arith, h, r)
 
-append_nil : {A : Type 0} (l : List A) → l ++ [] ≡ l
-append_nil [] = refl
-append_nil (x ∷ l) = ap (λ z. x ∷ z) (append_nil l)
-
 -- the first try is clean
 pub direct_first : (n : ℕ) (opened found totals : List ℕ) (gs : List Kept) (c : Scan) → length opened ≡ n → ((q : ℕ) → q < n → IsLoaded q c (slice_index opened q))
     → IsAnswered n c (answered (record { vector = opened; totals = totals }) (settling opened found gs (opening opened gs c))) (record { vector = opened; totals = totals })
@@ -60,11 +58,26 @@ direct_first n opened found totals gs c long told = record {
   seen = refl;
   floor = opened;
   later = [];
-  opened = ap (λ z. c.opened ++ z) (sym (append_nil (pairs 0 opened)));
+  opened = ap (λ z. c.opened ++ z) (sym (append-nil (pairs 0 opened)));
   all = long;
   above = above_self opened;
   seen_before = seen_below n c opened long told;
 }
+
+-- the first try is clean, and met a number other than the remembered one
+pub moved_first : (n : ℕ) (rows : List Version) (opened : List ℕ) (c c' : Scan) → length opened ≡ n → HasOther opened rows → c'.opened ≡ c.opened ++ pairs 0 opened → HasMoved n rows c c'
+moved_first n rows opened c c' long other loads = record {
+  first = opened;
+  later = [];
+  opened = loads ∙ ap (λ z. c.opened ++ z) (sym (append-nil (pairs 0 opened)));
+  all = long;
+  why = inl other;
+}
+
+some_loads : (l : List (ℕ × ℕ)) (xs : List ℕ) → 0 < length xs → l ++ pairs 0 xs ≢ []
+some_loads l [] h = absurd (omega (arith, h))
+some_loads [] (x ∷ xs) h = λ e. cc
+some_loads (y ∷ l) (x ∷ xs) h = λ e. cc
 
 module _ (n : ℕ) (floor base first last : List ℕ) (tries : List Tried) (tried : AreTries n floor base first last tries) (gs0 : List Kept) (c : Scan) where
   opened_so : (stood tries gs0 floor base c).opened ≡ c.opened ++ (pairs 0 floor ++ all_opened tried.others)
@@ -83,6 +96,16 @@ module _ (n : ℕ) (floor base first last : List ℕ) (tries : List Tried) (trie
     all = wide;
     above = floor_below n c (stood tries gs0 floor base c) floor opened (all_opened tried.others) long told opened_so;
     seen_before = seen_below n (stood tries gs0 floor base c) opened long told;
+  }
+
+  -- and the scan made more than one try
+  pub moved_later : (rows : List Version) (opened : List ℕ) (c' : Scan) → 0 < n → length floor ≡ n → length opened ≡ n → c'.opened ≡ (stood tries gs0 floor base c).opened ++ pairs 0 opened → HasMoved n rows c c'
+  moved_later rows opened c' any wide long loads = record {
+    first = floor;
+    later = all_opened tried.others ++ pairs 0 opened;
+    opened = loads ∙ (ap (λ z. z ++ pairs 0 opened) opened_so ∙ (append_assoc c.opened (pairs 0 floor ++ all_opened tried.others) (pairs 0 opened) ∙ ap (λ z. c.opened ++ z) (append_assoc (pairs 0 floor) (all_opened tried.others) (pairs 0 opened))));
+    all = wide;
+    why = inr (some_loads (all_opened tried.others) opened (omega (arith, any, long)));
   }
 
   -- a worker lends
@@ -163,8 +186,8 @@ pub first_starts : (n w : ℕ) (opened found : List ℕ) (gs : List Kept) (c : S
 first_starts n w opened found gs c few long deep none =
     fails_first n w opened found gs gs few long deep c none
     ∙ (λ z. record c {
-      opened = c.opened ++ sym (append_nil (pairs 0 opened)) z;
-      confirmed = c.confirmed ++ sym (append_nil (pairs 0 found)) z;
+      opened = c.opened ++ sym (append-nil (pairs 0 opened)) z;
+      confirmed = c.confirmed ++ sym (append-nil (pairs 0 found)) z;
       asked = c.asked ++ [];
       kept = map version_of gs;
       now = record { failed = ap (λ (t : ℕ). t + 1) (ap (λ (u : _). u.failed) none) z; floor = opened; base = found; looks = []; due = []; asks = [] };

@@ -1,5 +1,6 @@
 -- The second collect of a try, place by place.
 use Rattle.std.proofs.Common.{◌≡◌, ◌≢◌, ◌⊎◌, ⊎_elim, inl, inr, ℕ, zero, suc, ◌+◌, ◌*◌, ◌<◌, ◌≤◌, eqb, Bool, true, false, cond, ◌&&◌, ◌||◌, not, ◌==◌, List, [], ◌∷◌, ◌++◌, length, map, take, set, get_or, slice_index, sym, refl, ap, ◌∙◌, subst, arith, eq-eqb, ne_eqb, append_assoc}
+use Rattle.std.proofs.lemmas.List.{append-nil}
 use mathlib.Core.Option.{some, some-injective, some-ne-none}
 use lib.ListN.{get_elem?}
 use Rattle.register_rule.specs.declared.view.Look.{Look}
@@ -133,9 +134,5 @@ words_wide w o g wide = go (g.number == o)
     go true = wide.row
     go false = wide.fresh
 
-append_nil : {A : Type 0} (l : List A) → l ++ [] ≡ l
-append_nil [] = refl
-append_nil (x ∷ l) = ap (λ z. x ∷ z) (append_nil l)
-
 pub settling_starts : (opened : List ℕ) (gs : List Kept) (c : Scan) → c.kept ≡ map version_of gs → c.now.looks ≡ looks_of 0 opened [] gs → c ≡ settling opened [] gs c
-settling_starts opened gs c kept looks = λ z. record c { confirmed = sym (append_nil c.confirmed) z; kept = kept z; now = record c.now { looks = looks z } }
+settling_starts opened gs c kept looks = λ z. record c { confirmed = sym (append-nil c.confirmed) z; kept = kept z; now = record c.now { looks = looks z } }

@@ -10,7 +10,7 @@ use Rattle.ledger_core.specs.declared.op.Op.{Op}
 use Rattle.ledger_core.specs.Ops.{width, sum_ops}
 use Rattle.ledger_core.specs.Row.{Accepts}
 use Rattle.ledger_core.specs.Legal.{IsLegal}
-use Rattle.ledger_core.proofs.Legal.{legal_zeros, legal_ops, legal_sums}
+use Rattle.ledger_core.proofs.Legal.{legal_zeros, legal_ops, legal_sums, sum_same}
 use Rattle.register_rule.specs.declared.view.Made.{Made}
 use Rattle.register_rule.specs.declared.view.Entry.{Entry}
 use Rattle.register_rule.specs.declared.view.Member.{Member}
@@ -19,19 +19,8 @@ use Rattle.register_rule.specs.Scans.{IsEntry}
 use Rattle.register_rule.specs.Told.{AreRuled}
 use Rattle.register_rule.proofs.Moments.{length_tab}
 use Rattle.register_rule.proofs.Words.{read_at}
+use Rattle.register_rule.proofs.Publish.{total_last}
 use Rattle.snapshot_scan.specs.Snapshots.{AreLow}
-
-total_last : (adds : List Op → ℕ → ℕ) (xs : List Made) (x : Made) (k : ℕ) → total adds (xs ++ x ∷ []) k ≡ total adds xs k + adds x.ops k
-total_last adds [] x k = omega arith
-total_last adds (y ∷ ys) x k = let e = total_last adds ys x k in omega (arith, e)
-
--- sums over the places from a on
-sum_same : (f f' : ℕ → ℕ) (a n : ℕ) → ((k : ℕ) → a ≤ k → k < a + n → f k ≡ f' k) → sum_by f (range_with_len a n) ≡ sum_by f' (range_with_len a n)
-sum_same f f' a zero same = refl
-sum_same f f' a (suc n) same =
-    sum_by-cons f a (range_with_len (a + 1) n)
-    ∙ ap₂ ◌+◌ (same a (omega arith) (omega arith)) (sum_same f f' (a + 1) n (λ k low high. same k (omega arith) (omega arith)))
-    ∙ sym (sum_by-cons f' a (range_with_len (a + 1) n))
 
 -- a row of c counters, h histograms and g gauges
 module _ (c h g : ℕ) where

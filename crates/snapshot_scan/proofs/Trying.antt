@@ -1,11 +1,12 @@
 -- A try as a whole, and the tries of a scan.
 use Rattle.std.proofs.Common.{◌≡◌, ◌≢◌, ◌⊎◌, ⊎_elim, inl, inr, ℕ, zero, suc, ◌+◌, ◌*◌, ◌<◌, ◌≤◌, eqb, Bool, true, false, cond, ◌&&◌, ◌||◌, not, ◌==◌, nat_le, List, [], ◌∷◌, ◌++◌, length, map, take, drop, get_or, slice_index, sym, refl, ap, ◌∙◌, subst, arith, eq-eqb, ne_eqb, append_assoc}
+use Rattle.std.proofs.lemmas.List.{append-nil}
 use mathlib.Core.Option.{some, some-injective, some-ne-none}
 use mathlib.Core.Logic.{dite}
 use native.Mathlib.Decide.{ℕ_discrete, dec_lt}
 use lib.ListN.{get_elem?}
 use Rattle.std.proofs.Math.Bool.{and-false}
-use Rattle.std.proofs.lemmas.Bool.{eqb-true, lt-leb}
+use Rattle.std.proofs.lemmas.Bool.{and_parts, eqb-true, lt-leb}
 use Rattle.register_rule.specs.declared.view.Look.{Look}
 use Rattle.register_rule.specs.declared.view.Entry.{Entry}
 use Rattle.register_rule.specs.declared.view.Version.{Version}
@@ -14,18 +15,13 @@ use Rattle.register_rule.specs.declared.view.Progress.{Progress}
 use Rattle.register_rule.specs.declared.view.Scan.{Scan}
 use Rattle.register_rule.specs.History.{tab, Below}
 use Rattle.register_rule.specs.Scans.{opened_at}
-use Rattle.register_rule.specs.Steps.{every, begun, settled, clean, are_clean, sum_words, entry_of, found_of, due_of, with_base, failed_once_more, answered, gives_up, ended, at_rest, upper, rest}
+use Rattle.register_rule.specs.Steps.{every, begun, settled, clean, are_clean, sum_words, entry_of, found_of, due_of, with_base, failed_once_more, answered, gives_up, ended, at_rest, upper, rest, lent_in}
 use Rattle.snapshot_scan.specs.declared.kept.Kept.{Kept}
 use Rattle.snapshot_scan.specs.Memory.{version_of, IsWide, AreWide, AreTotals, words_of, looks_of, pairs, opening, settling, sum_rows, IsLoaded}
-use Rattle.snapshot_scan.specs.Asking.{Refuses, refused, refused_all, due_from, worker_of, asked_too, lent_in, MayAsk}
+use Rattle.snapshot_scan.specs.Asking.{Refuses, refused, refused_all, due_from, worker_of, asked_too, MayAsk}
 use Rattle.snapshot_scan.specs.Scanned.{Tried, all_opened, all_confirmed, all_asked, FailedTry, IsIdle, IsAnswered, IsGivenUp}
 use Rattle.snapshot_scan.proofs.Opening.{looks_long, map_both}
 use Rattle.snapshot_scan.proofs.Settling.{settled_here, words_wide}
-use Rattle.snapshot_scan.proofs.Asking.{and_parts}
-
-append_nil : {A : Type 0} (l : List A) → l ++ [] ≡ l
-append_nil [] = refl
-append_nil (x ∷ l) = ap (λ z. x ∷ z) (append_nil l)
 
 clean_here : (w q s f : ℕ) (ws : List ℕ) → length ws ≡ w → clean w (settled q f (begun q s ws)) ≡ (s == f)
 clean_here w q s f ws long = ap (clean w) (settled_here q f s ws) ∙ (ap (λ (b : Bool). (s == f) && b) (eq-eqb (length ws) w long) ∙ and_true (s == f))
@@ -140,7 +136,7 @@ pub record AreTries (n : ℕ) (floor base first last : List ℕ) (tries : List T
   pub ends : (before : List Tried) × (final : Tried) × (tries ≡ before ++ final ∷ []) × (final.first ≡ first) × (final.second ≡ last)
 
 pub stood_starts : (gs : List Kept) (c : Scan) → IsIdle c gs → c ≡ stood [] gs [] [] c
-stood_starts gs c idle = λ z. record c { opened = sym (append_nil c.opened) z; confirmed = sym (append_nil c.confirmed) z; asked = sym (append_nil c.asked) z; kept = idle.kept z; now = idle.rest z }
+stood_starts gs c idle = λ z. record c { opened = sym (append-nil c.opened) z; confirmed = sym (append-nil c.confirmed) z; asked = sym (append-nil c.asked) z; kept = idle.kept z; now = idle.rest z }
 
 -- a scan is not given up while somebody is to be asked, or before its last try
 given_not : (n : ℕ) (c : Scan) → (length c.now.due == 0 && c.now.failed == n + 2) ≡ false → gives_up n c ≡ c
@@ -183,7 +179,7 @@ module _ (n w : ℕ) (opened found : List ℕ) (gs gs' : List Kept) (few : lengt
       ∙ (λ z. record d {
         opened = d.opened ++ pairs 0 opened;
         confirmed = d.confirmed ++ pairs 0 found;
-        asked = sym (append_nil d.asked) z;
+        asked = sym (append-nil d.asked) z;
         kept = map version_of gs;
         now = record { failed = d.now.failed + 1; floor = d.now.floor; base = d.now.base; looks = []; due = due z; asks = none z };
       })
@@ -199,14 +195,14 @@ module _ (n w : ℕ) (opened found : List ℕ) (gs gs' : List Kept) (few : lengt
       ∙ (λ z. record d {
         opened = d.opened ++ pairs 0 opened;
         confirmed = d.confirmed ++ pairs 0 found;
-        asked = sym (append_nil d.asked) z;
+        asked = sym (append-nil d.asked) z;
         kept = map version_of gs;
         now = record { failed = ap (λ (u : Progress). u.failed + 1) (sym none) z; floor = numbers_are 0 opened found gs (omega (arith, few, long)) z; base = founds_are 0 opened found gs (long ∙ sym few) (deep ∙ sym few) z; looks = []; due = due z; asks = [] };
       })
 
   -- nobody lends
   pub asked_none : (floor base : List ℕ) (es before : List Asked) (d : Scan) → refused_all n es (gives_up n (asking opened found gs floor base before (map worker_of es) d)) ≡ gives_up n (asking opened found gs floor base (before ++ es) [] d)
-  asked_none floor base [] before d = ap (λ (l : List Asked). gives_up n (asking opened found gs floor base l [] d)) (sym (append_nil before))
+  asked_none floor base [] before d = ap (λ (l : List Asked). gives_up n (asking opened found gs floor base l [] d)) (sym (append-nil before))
   asked_none floor base (e ∷ es) before d =
       ap (λ (x : Scan). refused_all n es (gives_up n (refused e x))) (given_due n (asking opened found gs floor base before (map worker_of (e ∷ es)) d) (worker_of e) (map worker_of es) refl)
       ∙ (ap (λ (l : List Asked). refused_all n es (gives_up n (record (asking opened found gs floor base before (map worker_of es) d) { asked = l }))) (append_assoc d.asked before (e ∷ []))
@@ -215,7 +211,7 @@ module _ (n w : ℕ) (opened found : List ℕ) (gs gs' : List Kept) (few : lengt
 
   -- the next one lends
   pub asked_some : (floor base more : List ℕ) (i : ℕ) (es before : List Asked) (d : Scan) → refused_all n es (gives_up n (asking opened found gs floor base before (map worker_of es ++ i ∷ more) d)) ≡ asking opened found gs floor base (before ++ es) (i ∷ more) d
-  asked_some floor base more i [] before d = given_due n (asking opened found gs floor base before (i ∷ more) d) i more refl ∙ ap (λ (l : List Asked). asking opened found gs floor base l (i ∷ more) d) (sym (append_nil before))
+  asked_some floor base more i [] before d = given_due n (asking opened found gs floor base before (i ∷ more) d) i more refl ∙ ap (λ (l : List Asked). asking opened found gs floor base l (i ∷ more) d) (sym (append-nil before))
   asked_some floor base more i (e ∷ es) before d =
       ap (λ (x : Scan). refused_all n es (gives_up n (refused e x))) (given_due n (asking opened found gs floor base before (map worker_of (e ∷ es) ++ i ∷ more) d) (worker_of e) (map worker_of es ++ i ∷ more) refl)
       ∙ (ap (λ (l : List Asked). refused_all n es (gives_up n (record (asking opened found gs floor base before (map worker_of es ++ i ∷ more) d) { asked = l }))) (append_assoc d.asked before (e ∷ []))
@@ -223,15 +219,15 @@ module _ (n w : ℕ) (opened found : List ℕ) (gs gs' : List Kept) (few : lengt
       ∙ ap (λ (l : List Asked). asking opened found gs floor base l (i ∷ more) d) (append_assoc before (e ∷ []) es)))
 
 pub opened_snoc : (ts : List Tried) (t : Tried) → all_opened (ts ++ t ∷ []) ≡ all_opened ts ++ pairs 0 t.first
-opened_snoc [] t = append_nil (pairs 0 t.first)
+opened_snoc [] t = append-nil (pairs 0 t.first)
 opened_snoc (x ∷ ts) t = ap (λ z. pairs 0 x.first ++ z) (opened_snoc ts t) ∙ sym (append_assoc (pairs 0 x.first) (all_opened ts) (pairs 0 t.first))
 
 pub confirmed_snoc : (ts : List Tried) (t : Tried) → all_confirmed (ts ++ t ∷ []) ≡ all_confirmed ts ++ pairs 0 t.second
-confirmed_snoc [] t = append_nil (pairs 0 t.second)
+confirmed_snoc [] t = append-nil (pairs 0 t.second)
 confirmed_snoc (x ∷ ts) t = ap (λ z. pairs 0 x.second ++ z) (confirmed_snoc ts t) ∙ sym (append_assoc (pairs 0 x.second) (all_confirmed ts) (pairs 0 t.second))
 
 pub asked_snoc : (ts : List Tried) (t : Tried) → all_asked (ts ++ t ∷ []) ≡ all_asked ts ++ t.asks
-asked_snoc [] t = append_nil t.asks
+asked_snoc [] t = append-nil t.asks
 asked_snoc (x ∷ ts) t = ap (λ z. x.asks ++ z) (asked_snoc ts t) ∙ sym (append_assoc x.asks (all_asked ts) t.asks)
 
 pub count_snoc : (ts : List Tried) (t : Tried) → length (ts ++ t ∷ []) ≡ length ts + 1
@@ -281,7 +277,7 @@ pub loads_in : (before : List (ℕ × ℕ)) (xs : List ℕ) (later : List (ℕ �
 loads_in before xs later q x e = let z : 0 + q ≡ q = omega arith in at_after before (pairs 0 xs ++ later) q ∙ (front_at (pairs 0 xs) later q (0 + q, x) (at_pairs 0 xs q x e) ∙ ap (λ (k : ℕ). some (k, x)) z)
 
 pub loads_at : (before : List (ℕ × ℕ)) (xs : List ℕ) (later : List (ℕ × ℕ)) (q x : ℕ) → get_elem? xs q ≡ some x → get_elem? (before ++ pairs 0 xs) (length before + q) ≡ some (q, x)
-loads_at before xs later q x e = ap (λ (l : List (ℕ × ℕ)). get_elem? (before ++ l) (length before + q)) (sym (append_nil (pairs 0 xs))) ∙ loads_in before xs [] q x e
+loads_at before xs later q x e = ap (λ (l : List (ℕ × ℕ)). get_elem? (before ++ l) (length before + q)) (sym (append-nil (pairs 0 xs))) ∙ loads_in before xs [] q x e
 
 abbrev sums_by : (k : ℕ) → List Version → ℕ
 sums_by k [] = 0

@@ -32,10 +32,6 @@ asked_too e c = record c { asked = c.asked ++ e ∷ [] }
 abbrev pub refused : Asked → Scan → Scan
 refused e c = record c { asked = c.asked ++ e ∷ []; now = record c.now { due = rest c.now.due; asks = [] } }
 
--- the flag, the vector and the totals that were read
-abbrev pub lent_in : (n w : ℕ) → List ℕ → Entry
-lent_in n w words = record { vector = take n (drop 1 words); totals = take w (drop (1 + n) words) }
-
 -- the workers from q on that are to be asked: those whose number was found 2 or more above the base
 abbrev pub due_from : (q : ℕ) → (base found : List ℕ) → List ℕ
 due_from q [] found = []

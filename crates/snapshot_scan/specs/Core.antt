@@ -6,7 +6,7 @@ use Rattle.register_rule.specs.declared.view.Entry.{Entry}
 use Rattle.register_rule.specs.declared.view.Scan.{Scan}
 use Rattle.snapshot_core.specs.declared.next.Next.{Next}
 use Rattle.snapshot_core.specs.declared.next.Next.TheVariants.{Direct, Lent}
-use Rattle.snapshot_scan.specs.Asking.{lent_in}
+use Rattle.register_rule.specs.Steps.{lent_in}
 use Rattle.snapshot_core.specs.Tries.{View, Read, Try, reads_of}
 use Rattle.snapshot_core.specs.Next.{Comes}
 use Rattle.snapshot_scan.specs.Scanned.{Tried, all_opened, all_confirmed, all_asked}

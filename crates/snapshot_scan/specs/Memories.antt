@@ -8,7 +8,7 @@ use Rattle.snapshot_scan.specs.declared.ending.Ended.{Ended}
 use Rattle.snapshot_scan.specs.declared.ending.Ended.TheVariants.{Direct, Lent, GaveUp}
 use Rattle.snapshot_scan.specs.declared.memory.Memory.{Memory}
 use Rattle.snapshot_scan.specs.Memory.{version_of, AreKnown}
-use Rattle.snapshot_scan.specs.Asking.{lent_in}
+use Rattle.register_rule.specs.Steps.{lent_in}
 use Rattle.snapshot_scan.specs.Scanned.{IsIdle}
 
 -- the scan ended with a view

@@ -1,5 +1,5 @@
 -- What a scan remembers, and what its looks are by it.
-use Rattle.std.specs.Prelude.{◌≡◌, ℕ, suc, ◌+◌, ◌<◌, ◌≤◌, ◌==◌, cond, List, [], ◌∷◌, ◌++◌, length, map, replicate, slice_index}
+use Rattle.std.specs.Prelude.{◌≡◌, ◌≢◌, ℕ, suc, ◌+◌, ◌<◌, ◌≤◌, ◌==◌, cond, List, [], ◌∷◌, ◌++◌, length, map, replicate, slice_index}
 use mathlib.Core.Option.{some}
 use lib.ListN.{get_elem?}
 use Rattle.register_rule.specs.declared.view.Version.{Version}
@@ -48,6 +48,10 @@ AreKnown opened gs = (q : ℕ) (g : Kept) → get_elem? gs q ≡ some g → g.nu
 -- the numbers are those of these versions
 abbrev pub AreNumbers : (numbers : List ℕ) → List Version → Type 0
 AreNumbers numbers vs = (q : ℕ) (v : Version) → get_elem? vs q ≡ some v → v.number ≡ slice_index numbers q
+
+-- some number is not that of its version
+abbrev pub HasOther : (numbers : List ℕ) → List Version → Type 0
+HasOther numbers vs = (q : ℕ) × (v : Version) × (get_elem? vs q ≡ some v) × (v.number ≢ slice_index numbers q)
 
 -- loads of numbers of the places from q on
 abbrev pub pairs : (q : ℕ) → List ℕ → List (ℕ × ℕ)

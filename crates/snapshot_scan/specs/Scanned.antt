@@ -1,14 +1,15 @@
 -- What a scan comes to.
-use Rattle.std.specs.Prelude.{◌≡◌, ℕ, ◌+◌, ◌<◌, ◌≤◌, List, [], ◌∷◌, ◌++◌, length, map, slice_index}
+use Rattle.std.specs.Prelude.{◌≡◌, ◌≢◌, ◌⊎◌, ℕ, ◌+◌, ◌<◌, ◌≤◌, List, [], ◌∷◌, ◌++◌, length, map, slice_index}
 use mathlib.Core.Option.{some}
 use lib.ListN.{get_elem?}
 use Rattle.register_rule.specs.declared.view.Entry.{Entry}
 use Rattle.register_rule.specs.declared.view.Asked.{Asked}
 use Rattle.register_rule.specs.declared.view.Scan.{Scan}
+use Rattle.register_rule.specs.declared.view.Version.{Version}
 use Rattle.register_rule.specs.History.{Below}
 use Rattle.register_rule.specs.Steps.{at_rest, upper}
 use Rattle.snapshot_scan.specs.declared.kept.Kept.{Kept}
-use Rattle.snapshot_scan.specs.Memory.{version_of, AreKnown, pairs}
+use Rattle.snapshot_scan.specs.Memory.{version_of, AreKnown, HasOther, pairs}
 use Rattle.snapshot_scan.specs.Asking.{Refuses, due_from, worker_of}
 
 -- a try as its loads: the numbers of both collects, and the workers asked
@@ -49,6 +50,15 @@ pub record IsQuiet (gs gs' : List Kept) (before after opened : List ℕ) : Type 
   pub kept : map version_of gs' ≡ map version_of gs
   pub totals : after ≡ before
   pub known : AreKnown opened gs'
+
+-- from c to c' a scan found something other than these rows: one of the n numbers that it opened first is another, or it made
+-- more than one try
+pub record HasMoved (n : ℕ) (rows : List Version) (c c' : Scan) : Type 0 where
+  pub first : List ℕ
+  pub later : List (ℕ × ℕ)
+  pub opened : c'.opened ≡ c.opened ++ (pairs 0 first ++ later)
+  pub all : length first ≡ n
+  pub why : HasOther first rows ⊎ (later ≢ [])
 
 -- from c to c' a scan recorded this answer
 pub record IsAnswered (n : ℕ) (c c' : Scan) (a : Entry) : Type 0 where

@@ -6,10 +6,10 @@ ghost use Rattle.ledger_core.specs.Ops.{width};
 ghost use Rattle.segment_layout.specs.Layout.{IsGeometry, depth};
 ghost use Rattle.register_rule.specs.declared.view.Asked.{Asked};
 ghost use Rattle.ledger_core.specs.Vectors.{is_above};
-ghost use Rattle.register_rule.specs.Steps.{answered, gives_up};
+ghost use Rattle.register_rule.specs.Steps.{answered, gives_up, lent_in};
 ghost use Rattle.register_rule.specs.Seats.{table_of, members_of, MayScan};
 ghost use Rattle.snapshot_scan.specs.Shape.{scan_in, with_scan, IsRuled};
-ghost use Rattle.snapshot_scan.specs.Asking.{Refuses, Lends, asked_too, refused, lent_in, due_from, refused_all, worker_of, MayAsk};
+ghost use Rattle.snapshot_scan.specs.Asking.{Refuses, Lends, asked_too, refused, due_from, refused_all, worker_of, MayAsk};
 
 use crate::items::read_items;
 use register_rule::{Board, ScanSeat};

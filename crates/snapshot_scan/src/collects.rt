@@ -1,5 +1,5 @@
 //! The two collects of a try.
-ghost use Rattle.std.specs.Prelude.{◌≡◌, ℕ, ◌+◌, ◌<◌, ◌≤◌, ◌↔◌, [], true, IsTrue, length, map, slice_index};
+ghost use Rattle.std.specs.Prelude.{◌≡◌, ℕ, ◌+◌, ◌<◌, ◌≤◌, ◌↔◌, [], true, false, IsTrue, length, map, slice_index};
 ghost use mathlib.Core.Option.{some};
 ghost use lib.ListN.{get_elem?};
 ghost use Rattle.ledger_core.specs.Ops.{width};
@@ -7,7 +7,7 @@ ghost use Rattle.segment_layout.specs.Layout.{IsGeometry, depth};
 ghost use Rattle.register_rule.specs.Steps.{ended};
 ghost use Rattle.register_rule.specs.Seats.{table_of, members_of, MayScan};
 ghost use Rattle.snapshot_scan.specs.Shape.{scan_in, with_scan, IsRuled};
-ghost use Rattle.snapshot_scan.specs.Memory.{AreWide, AreTotals, AreKnown, IsLoaded, version_of, looks_of, opening, settling};
+ghost use Rattle.snapshot_scan.specs.Memory.{AreWide, AreTotals, AreKnown, HasOther, IsLoaded, version_of, looks_of, opening, settling};
 
 use crate::kept::Kept;
 use register_rule::{Board, ScanSeat};
@@ -32,6 +32,7 @@ pub(crate) fn collect<
     ensures view { members_of (S.bundle seat.new) ≡ with_scan (opening opened.new kept.new (scan_in (S.bundle seat.old))) (members_of (S.bundle seat.old)) }
     ensures told { (q : ℕ) → q < N → IsLoaded q (scan_in (S.bundle seat.old)) (slice_index opened.new q) }
     ensures known { result ≡ true → AreKnown opened.new kept.new }
+    ensures unknown { result ≡ false → HasOther opened.new (map version_of kept.old) }
 {
     let mut known = true;
     for place in 0..kept.len() {

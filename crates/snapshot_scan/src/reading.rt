@@ -3,6 +3,7 @@ ghost use Rattle.std.specs.Prelude.{◌≡◌, slice_index, IfOk, IfErr, OnOk, O
 ghost use Rattle.ledger_core.specs.Ops.{width};
 ghost use Rattle.ledger_core.specs.Legal.{IsLegal};
 ghost use Rattle.segment_layout.specs.Layout.{IsGeometry};
+ghost use Rattle.register_rule.specs.declared.view.Who.TheVariants as Who;
 ghost use Rattle.register_rule.specs.Members.{fresh_scan};
 ghost use Rattle.register_rule.specs.Seats.{read_bundle, reader_of};
 ghost use Rattle.snapshot_core.specs.declared.next.Next.TheVariants as Next;
@@ -31,6 +32,7 @@ impl<const N: usize, const C: usize, const H: usize, const G: usize> Reader<N, C
         requires geometry { IsGeometry N C H G }
         requires fresh { (reader_of seat).scan ≡ fresh_scan N (width C H G) }
         ensures same { IfOk result (λ r. bundle_of r ≡ read_bundle seat) }
+        ensures index { IfOk result (λ r. (reader_of seat).who ≡ Who.Reader (index_of r)) }
         ensures back { IfErr result (λ e. e.seat ≡ seat) }
     {
         let Ok(memory) = Memory::new(alloc) else {

@@ -1,5 +1,5 @@
 //! A scan with the memory of its seat.
-ghost use Rattle.std.specs.Prelude.{◌≡◌, ℕ, ◌+◌, ◌<◌, ◌≤◌, [], ◌∷◌, Bool, true, length, map, replicate, slice_index, take, drop, IfOk, IfErr, OnOk, OnErr};
+ghost use Rattle.std.specs.Prelude.{◌≡◌, ℕ, ◌+◌, ◌<◌, ◌≤◌, [], ◌∷◌, ◌++◌, Bool, true, false, length, map, replicate, slice_index, take, drop, IfOk, IfErr, OnOk, OnErr};
 ghost use Rattle.ledger_core.specs.Ops.{width};
 ghost use Rattle.segment_layout.specs.Layout.{IsGeometry};
 ghost use Rattle.register_rule.specs.Seats.{table_of, members_of, MayScan};
@@ -7,11 +7,11 @@ ghost use Rattle.snapshot_core.specs.declared.next.Next.TheVariants as Next;
 ghost use Rattle.snapshot_scan.specs.declared.contended.Contended.{Contended};
 ghost use Rattle.snapshot_scan.specs.declared.ending.Ended.TheVariants as Ended;
 ghost use Rattle.snapshot_scan.specs.Shape.{scan_in, with_scan, IsRuled};
-ghost use Rattle.snapshot_scan.specs.Memory.{AreNumbers, AreBlank};
+ghost use Rattle.snapshot_scan.specs.Memory.{AreNumbers, AreBlank, pairs};
 ghost use Rattle.ledger_core.specs.Legal.{IsLegal};
 ghost use Rattle.snapshot_scan.specs.Contention.{IsFirstMoved, IsContended};
 ghost use Rattle.snapshot_scan.specs.Snapshots.{entry_of};
-ghost use Rattle.snapshot_scan.specs.Scanned.{IsAnswered, IsGivenUp};
+ghost use Rattle.snapshot_scan.specs.Scanned.{IsAnswered, HasMoved, IsGivenUp};
 ghost use Rattle.snapshot_scan.specs.Core.{CameTo, AnswersBy};
 ghost use Rattle.snapshot_scan.specs.Memories.{rows_of, sums_of, opened_in, found_in, answer_of, HasView, IsReady};
 
@@ -60,6 +60,8 @@ impl<const N: usize, const C: usize, const H: usize, const G: usize> Memory<N, C
         ensures answered { HasView result → IsAnswered N (scan_in (S.bundle seat.old)) (scan_in (S.bundle seat.new)) (answer_of self.new result) }
         ensures answers { HasView result → AnswersBy N (width C H G) (scan_in (S.bundle seat.old)) (scan_in (S.bundle seat.new)) (answer_of self.new result) }
         ensures quiet { result ≡ Ended.Direct true → (rows_of self.new ≡ rows_of self.old) × (sums_of self.new ≡ sums_of self.old) × AreNumbers (opened_in self.new) (rows_of self.new) }
+        ensures once { result ≡ Ended.Direct true → (scan_in (S.bundle seat.new)).opened ≡ (scan_in (S.bundle seat.old)).opened ++ pairs 0 (opened_in self.new) }
+        ensures moved { result ≡ Ended.Direct false → HasMoved N (rows_of self.old) (scan_in (S.bundle seat.old)) (scan_in (S.bundle seat.new)) }
         ensures gave_up { result ≡ Ended.GaveUp → IsGivenUp N (scan_in (S.bundle seat.old)) (scan_in (S.bundle seat.new)) (opened_in self.new) (found_in self.new) }
         ensures came_up { result ≡ Ended.GaveUp → (e : Contended) → IsFirstMoved (opened_in self.new) (found_in self.new) e → CameTo N (width C H G) (scan_in (S.bundle seat.old)) (scan_in (S.bundle seat.new)) (Next.GaveUp e.worker e.first e.last) }
     {
@@ -100,28 +102,14 @@ impl<const N: usize, const C: usize, const H: usize, const G: usize> Memory<N, C
         ensures came_up { IfErr result (λ e. CameTo N (width C H G) (scan_in (S.bundle seat.old)) (scan_in (S.bundle seat.new)) (Next.GaveUp e.worker e.first e.last)) }
         ensures unchanged { OnErr result (out.new ≡ out.old) }
     {
-        match self.scan(board, seat) {
-            Ended::Direct { quiet: _ } => {
-                out.set(self.opened.as_slice(), self.totals.as_slice());
-                Ok(())
-            }
-            Ended::Lent => {
-                let (vector, totals) = lent_view(self.lent.as_slice(), N);
-                out.set(vector, totals);
-                Ok(())
-            }
-            Ended::GaveUp => Err(first_moved(self.opened.as_slice(), self.found.as_slice())),
+        let ended = self.scan(board, seat);
+        if let Ended::GaveUp = ended {
+            return Err(first_moved(self.opened.as_slice(), self.found.as_slice()));
         }
+        let (vector, totals) = self.answer(ended);
+        out.set(vector, totals);
+        Ok(())
     }
-}
-
-// The vector of `count` numbers and the totals, in the words that a worker lends, which begin with the flag.
-fn lent_view(words: &[u64], count: usize) -> (&[u64], &[u64])
-    requires { 1 + count ≤ length words.now }
-    ensures vector { result.0.now ≡ take count (drop 1 words.now) }
-    ensures totals { result.1.now ≡ drop (1 + count) words.now }
-{
-    (&words[1..1 + count], &words[1 + count..])
 }
 
 // What is remembered of `count` segments at first.

@@ -1,16 +1,15 @@
 //! A scan.
-ghost use Rattle.std.specs.Prelude.{◌≡◌, ℕ, ◌+◌, ◌<◌, ◌≤◌, [], Bool, true, false, length, map, slice_index};
-ghost use Rattle.register_rule.specs.Steps.{answered, gives_up};
+ghost use Rattle.std.specs.Prelude.{◌≡◌, ℕ, ◌+◌, ◌<◌, ◌≤◌, [], ◌++◌, Bool, true, false, length, map, slice_index};
+ghost use Rattle.register_rule.specs.Steps.{answered, gives_up, lent_in};
 ghost use Rattle.ledger_core.specs.Ops.{width};
 ghost use Rattle.segment_layout.specs.Layout.{IsGeometry};
 ghost use Rattle.register_rule.specs.Seats.{table_of, members_of, MayScan};
 ghost use Rattle.snapshot_scan.specs.Shape.{scan_in, with_scan, IsRuled};
-ghost use Rattle.snapshot_scan.specs.Memory.{AreWide, AreTotals, IsLoaded, version_of, opening, settling, failing};
-ghost use Rattle.snapshot_scan.specs.Asking.{lent_in};
+ghost use Rattle.snapshot_scan.specs.Memory.{AreWide, AreTotals, HasOther, IsLoaded, pairs, version_of, opening, settling, failing};
 ghost use Rattle.snapshot_core.specs.declared.next.Next.TheVariants as Next;
 ghost use Rattle.snapshot_scan.specs.declared.contended.Contended.{Contended};
 ghost use Rattle.snapshot_scan.specs.Contention.{IsFirstMoved};
-ghost use Rattle.snapshot_scan.specs.Scanned.{IsIdle, IsQuiet, IsAnswered, IsGivenUp};
+ghost use Rattle.snapshot_scan.specs.Scanned.{IsIdle, IsQuiet, HasMoved, IsAnswered, IsGivenUp};
 ghost use Rattle.snapshot_scan.specs.Core.{CameTo, AnswersBy};
 
 use crate::asks::ask_all;
@@ -53,6 +52,7 @@ fn try_once<
     ensures risen { (q : ℕ) → q < N → slice_index opened.new q ≤ slice_index found.new q }
     ensures rose { result ≡ false → (q : ℕ) × (q < N) × (slice_index opened.new q < slice_index found.new q) }
     ensures quiet { known.new ≡ true → IsQuiet kept.old kept.new totals.old totals.new opened.new }
+    ensures unknown { known.new ≡ false → HasOther opened.new (map version_of kept.old) }
 {
     *known = collect(board, seat, kept, opened);
     confirm(board, seat, kept, totals, opened, found, *known)
@@ -92,6 +92,8 @@ pub(crate) fn scan<
     ensures direct { (q : Bool) → result ≡ Ended.Direct q → IsAnswered N (scan_in (S.bundle seat.old)) (scan_in (S.bundle seat.new)) (record { vector = opened.new; totals = totals.new }) }
     ensures came_direct { (q : Bool) → result ≡ Ended.Direct q → AnswersBy N (width C H G) (scan_in (S.bundle seat.old)) (scan_in (S.bundle seat.new)) (record { vector = opened.new; totals = totals.new }) }
     ensures quiet { result ≡ Ended.Direct true → IsQuiet kept.old kept.new totals.old totals.new opened.new }
+    ensures once { result ≡ Ended.Direct true → (scan_in (S.bundle seat.new)).opened ≡ (scan_in (S.bundle seat.old)).opened ++ pairs 0 opened.new }
+    ensures moved { result ≡ Ended.Direct false → HasMoved N (map version_of kept.old) (scan_in (S.bundle seat.old)) (scan_in (S.bundle seat.new)) }
     ensures lent { result ≡ Ended.Lent → IsAnswered N (scan_in (S.bundle seat.old)) (scan_in (S.bundle seat.new)) (lent_in N (width C H G) lent.new) }
     ensures came_lent { result ≡ Ended.Lent → AnswersBy N (width C H G) (scan_in (S.bundle seat.old)) (scan_in (S.bundle seat.new)) (lent_in N (width C H G) lent.new) }
     ensures gave_up { result ≡ Ended.GaveUp → IsGivenUp N (scan_in (S.bundle seat.old)) (scan_in (S.bundle seat.new)) opened.new found.new }

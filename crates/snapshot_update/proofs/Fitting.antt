@@ -18,6 +18,7 @@ use Rattle.register_rule.specs.Members.{made_of, last_entry, published}
 use Rattle.register_rule.specs.Told.{HoldsNext}
 use Rattle.register_rule.proofs.Publish.{lent_last}
 use Rattle.register_rule.proofs.Words.{there}
+use Rattle.register_rule.proofs.Publish.{total_last}
 use Rattle.snapshot_scan.specs.declared.ending.Ended.{Ended}
 use Rattle.snapshot_scan.specs.declared.ending.Ended.TheVariants.{Direct, Lent, GaveUp}
 use Rattle.snapshot_scan.specs.declared.kept.Kept.{Kept}
@@ -29,10 +30,6 @@ use Rattle.snapshot_scan.proofs.Blank.{from_rows}
 use Rattle.snapshot_scan.proofs.Words.{length_take}
 use Rattle.snapshot_update.specs.Images.{version_words, with_hidden}
 use Rattle.snapshot_update.proofs.VersionWords.{row_word, flag_word, vector_word, total_word}
-
-pub total_last : (adds : List Op → ℕ → ℕ) (xs : List Made) (x : Made) (k : ℕ) → total adds (xs ++ x ∷ []) k ≡ total adds xs k + adds x.ops k
-total_last adds [] x k = omega arith
-total_last adds (y ∷ ys) x k = let e = total_last adds ys x k in omega (arith, e)
 
 last_of : (l : List Entry) (a : Entry) → last_entry (l ++ a ∷ []) ≡ Some a
 last_of [] a = refl

@@ -1,10 +1,13 @@
 -- What an update comes to.
-use Rattle.std.specs.Prelude.{◌≡◌, ℕ, Bool, true, false, List}
+use Rattle.std.specs.Prelude.{◌≡◌, ℕ, Bool, true, false, List, [], ◌∷◌}
 use Rattle.ledger_core.specs.declared.op.Op.{Op}
+use Rattle.ledger_core.specs.Ops.{width, sum_ops}
+use Rattle.ledger_core.specs.Row.{Accepts}
 use Rattle.register_rule.specs.declared.view.Entry.{Entry}
 use Rattle.register_rule.specs.declared.view.Member.{Member}
 use Rattle.register_rule.specs.declared.view.Scan.{Scan}
 use Rattle.register_rule.specs.Members.{published}
+use Rattle.register_rule.specs.Told.{AreRuled}
 use Rattle.snapshot_core.specs.declared.next.Next.TheVariants.{GaveUp}
 use Rattle.snapshot_scan.specs.declared.contended.Contended.{Contended}
 use Rattle.snapshot_scan.specs.Scanned.{IsAnswered}
@@ -18,11 +21,16 @@ abbrev pub ScanMeets : (n w : ℕ) (c c' : Scan) (lends : Bool) → Type 0
 ScanMeets n w c c' true = (a : Entry) × IsAnswered n c c' a × AnswersBy n w c c' a
 ScanMeets n w c c' false = (e : Contended) × IsContended n c c' e × CameTo n w c c' (GaveUp e.worker e.first e.last)
 
+-- all that the rule says of one member alone, on a board of n workers, c counters, h histograms and g gauges
+abbrev pub IsRuledAlone : (n c h g : ℕ) → Member → Type 0
+IsRuledAlone n c h g m = AreRuled n (width c h g) (sum_ops c h) (Accepts c h g) (m ∷ [])
+
 -- from m to m' worker i scanned, and then published one version, which adds these operations and lends the answer of that
--- scan, or nothing where it was given up
-pub record IsUpdated (n w i : ℕ) (ops : List Op) (m m' : Member) : Type 0 where
+-- scan, or nothing where it was given up. After the scan the rule said this of the worker: each answer that it recorded is right
+pub record IsUpdated (n c h g i : ℕ) (ops : List Op) (m m' : Member) : Type 0 where
   pub scan : Scan
   pub lends : Bool
   pub hidden : List ℕ
-  pub meets : ScanMeets n w m.scan scan lends
-  pub is : m' ≡ published w i ops lends (with_hidden hidden (record m { scan = scan }))
+  pub meets : ScanMeets n (width c h g) m.scan scan lends
+  pub ruled : IsRuledAlone n c h g (record m { scan = scan })
+  pub is : m' ≡ published (width c h g) i ops lends (with_hidden hidden (record m { scan = scan }))

@@ -50,7 +50,7 @@ module _ {N C H G : ℕ} where
   -- one version was published, which adds this one operation, by a handle of the registry `id`; the row accepts it
   pub record IsCounted (id registry : ℕ) (op : Op) (w w' : Worker N C H G) : Type 0 where
     pub of_it : registry ≡ id
-    pub updated : IsUpdated N (width C H G) (index_of w) (op ∷ []) (member_of w) (member_of w')
+    pub updated : IsUpdated N C H G (index_of w) (op ∷ []) (member_of w) (member_of w')
     pub lists : lists_of w' ≡ lists_of w ++ (op ∷ []) ∷ []
     pub accepted : Accepts C H G (total (sum_ops C H) (member_of w).work.made) (op ∷ [])
 

@@ -65,7 +65,7 @@ impl<const N: usize, const C: usize, const H: usize, const G: usize> Worker<N, C
         requires own { IsWorkerOf board.now self.old }
         ensures own { IsWorkerOf board.now self.new }
         ensures index { index_of self.new ≡ index_of self.old }
-        ensures updated { OnOk result (IsUpdated N (width C H G) (index_of self.old) ops.now (member_of self.old) (member_of self.new)) }
+        ensures updated { OnOk result (IsUpdated N C H G (index_of self.old) ops.now (member_of self.old) (member_of self.new)) }
         ensures lists { OnOk result (lists_of self.new ≡ lists_of self.old ++ ops.now ∷ []) }
         ensures accepted { OnOk result (Accepts C H G (total (sum_ops C H) (member_of self.old).work.made) ops.now) }
         ensures fault { IfErr result (IsApplyFault C H G (member_of self.old) ops.now) }

@@ -10,7 +10,7 @@ ghost use Rattle.snapshot_scan.specs.Scanned.{IsAnswered};
 ghost use Rattle.snapshot_scan.specs.Contention.{IsContended};
 ghost use Rattle.snapshot_scan.specs.Core.{CameTo, AnswersBy};
 ghost use Rattle.snapshot_scan.specs.Snapshots.{entry_of};
-ghost use Rattle.snapshot_update.specs.Updated.{IsUpdated};
+ghost use Rattle.snapshot_update.specs.Updated.{IsRuledAlone};
 ghost use Rattle.snapshot_update.specs.Workers.{index_of, member_of, lists_of, scan_by, scanned, IsWorkerOf, IsCounted, IsCountFault};
 
 use crate::faults::CountFault;
@@ -138,7 +138,8 @@ impl<const N: usize, const C: usize, const H: usize, const G: usize> Worker<N, C
     /// A scan: all segments at one moment, written to `out`, with all that the worker itself has published. It takes no memory
     /// and waits for nobody.
     ///
-    /// It promises what [`Reader::scan`](snapshot_scan::Reader::scan) does. The worker's versions stay as they were.
+    /// It promises what [`Reader::scan`](snapshot_scan::Reader::scan) does, with what the rule says of the worker alone. The
+    /// worker's versions stay as they were.
     ///
     /// # Errors
     ///
@@ -151,6 +152,7 @@ impl<const N: usize, const C: usize, const H: usize, const G: usize> Worker<N, C
         requires own { IsWorkerOf board.now self.old }
         ensures own { IsWorkerOf board.now self.new }
         ensures index { index_of self.new ≡ index_of self.old }
+        ensures ruled { IsRuledAlone N C H G (member_of self.new) }
         ensures made { member_of self.new ≡ scanned (scan_by self.new) (member_of self.old) }
         ensures answered { OnOk result (IsAnswered N (scan_by self.old) (scan_by self.new) (entry_of out.new)) }
         ensures answers { OnOk result (AnswersBy N (width C H G) (scan_by self.old) (scan_by self.new) (entry_of out.new)) }

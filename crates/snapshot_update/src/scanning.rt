@@ -11,7 +11,7 @@ ghost use Rattle.snapshot_scan.specs.Core.{CameTo, AnswersBy};
 ghost use Rattle.snapshot_scan.specs.Snapshots.{entry_of};
 ghost use Rattle.snapshot_scan.specs.Memory.{AreNumbers};
 ghost use Rattle.snapshot_scan.specs.Memories.{rows_of, sums_of, answer_of, HasView, IsReady};
-ghost use Rattle.snapshot_update.specs.Updated.{ScanMeets};
+ghost use Rattle.snapshot_update.specs.Updated.{ScanMeets, IsRuledAlone};
 
 use register_rule::{Board, WorkSeat};
 use snapshot_scan::{Contended, Ended, Memory, Snapshot};
@@ -44,6 +44,7 @@ pub(crate) fn scan_own<const N: usize, const C: usize, const H: usize, const G: 
     requires ready { IsReady (worker_of seat.old).scan memory.old }
     ensures own { HasWorker board.now seat.new }
     ensures index { index_of seat.new ≡ index_of seat.old }
+    ensures ruled { IsRuledAlone N C H G (worker_of seat.new) }
     ensures others { worker_of seat.new ≡ record (worker_of seat.old) { scan = (worker_of seat.new).scan } }
     ensures ready { IsReady (worker_of seat.new).scan memory.new }
     ensures view { HasView result → IsAnswered N (worker_of seat.old).scan (worker_of seat.new).scan (answer_of memory.new result) }
@@ -65,6 +66,7 @@ pub(crate) fn scan_to<const N: usize, const C: usize, const H: usize, const G: u
     requires ready { IsReady (worker_of seat.old).scan memory.old }
     ensures own { HasWorker board.now seat.new }
     ensures index { index_of seat.new ≡ index_of seat.old }
+    ensures ruled { IsRuledAlone N C H G (worker_of seat.new) }
     ensures others { worker_of seat.new ≡ record (worker_of seat.old) { scan = (worker_of seat.new).scan } }
     ensures ready { IsReady (worker_of seat.new).scan memory.new }
     ensures answered { OnOk result (IsAnswered N (worker_of seat.old).scan (worker_of seat.new).scan (entry_of out.new)) }

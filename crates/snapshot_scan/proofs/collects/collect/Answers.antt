@@ -1,13 +1,12 @@
-use Rattle.std.proofs.Common.{Bool, true, ◌≡◌, ◌≢◌, ◌<◌, ◌+◌, ◌≤◌, ◌==◌, ℕ, zero, suc, List, [], ◌∷◌, ◌++◌, length, take, set, map, get_or, arith, rules, sym, ap, ◌∙◌, subst, below_more, get_or-set_other, get_or-set_same, ⊎_elim}
+use Rattle.std.proofs.Common.{Bool, true, false, refl, ◌≡◌, ◌≢◌, ◌<◌, ◌+◌, ◌≤◌, ◌==◌, ℕ, zero, suc, List, [], ◌∷◌, ◌++◌, length, take, set, map, get_or, arith, rules, sym, ap, ◌∙◌, subst, below_more, get_or-set_other, get_or-set_same, ⊎_elim}
 use mathlib.Core.Option.{some, some-injective}
 use mathlib.Core.Logic.{dite}
 use native.Mathlib.Decide.{ℕ_discrete}
-use Rattle.std.proofs.lemmas.Bool.{eqb-true}
+use Rattle.std.proofs.lemmas.Bool.{eqb-true, eqb-false, and_parts, and_cases, true≢false}
 use lib.ListN.{get_elem?}
 use Rattle.ledger_core.specs.Ops.{width}
 use Rattle.register_rule.proofs.Words.{there, at_below}
 use Rattle.snapshot_scan.proofs.Settling.{set_at}
-use Rattle.snapshot_scan.proofs.Asking.{and_parts}
 use Rattle.register_rule.specs.declared.view.Member.{Member}
 use Rattle.register_rule.specs.declared.view.Version.{Version}
 use Rattle.register_rule.specs.declared.view.Scan.{Scan}
@@ -20,6 +19,14 @@ use Rattle.snapshot_scan.proofs.Words.{take_next, take_all, length_take, led_som
 use Rattle.snapshot_scan.proofs.Opening.{opens_more, opening_starts, loaded}
 use Rattle.snapshot_scan.proofs.collects.collect.Goals as goal
 
+-- another place stays
+set_elsewhere : {A : Type 0} (l : List A) (i q : ℕ) (a : A) → q ≢ i → get_elem? (set l i a) q ≡ get_elem? l q
+set_elsewhere [] i q a other = refl
+set_elsewhere (x ∷ l) zero zero a other = absurd (other refl)
+set_elsewhere (x ∷ l) zero (suc q) a other = refl
+set_elsewhere (x ∷ l) (suc i) zero a other = refl
+set_elsewhere (x ∷ l) (suc i) (suc q) a other = set_elsewhere l i q a (λ e. other (ap suc e))
+
 pub loop-place-init : goal.loop-place-init
 loop-place-init g c =
     let ms = members_of (g.S.ScanSeat.bundle c.args.seat.now) in record {
@@ -29,6 +36,7 @@ loop-place-init g c =
       same = search rules;
       view = sym (ap (λ (d : Scan). with_scan d ms) (opening_starts c.args.kept.now (scan_of ms) c.requires.rest.0) ∙ with_same ms);
       known = λ e q x lt. absurd (omega (arith, lt));
+      unknown = λ e. absurd (true≢false e);
       told = λ q lt. absurd (omega (arith, lt));
     }
 
@@ -76,6 +84,11 @@ loop-place-preserved g c =
           ap (λ (k : Kept). k.number) yg ∙ (sym num ∙ (sym (get_or-set_same os p x 0 lt') ∙ ap (λ (i : ℕ). get_or (set os p x) i 0) (sym here))))
           (λ other. let low : q < p = omega (arith, sm, other) in
           ⊎_elim (λ h. inv.known both.0 q y low h ∙ sym (get_or-set_other os p q x 0 other)) (λ h. absurd (other h.1)) (from_set gs p g' q y at'));
+      unknown = λ t. let dd = c.index-kept-place-in-loop-place.result in let read : get_or (set gs p g') p dd ≡ g' = get_or-set_same gs p g' dd lt in
+          ⊎_elim (λ h. let old = inv.unknown h in let low = old.2 in let other : old.0 ≢ p = λ e. omega (arith, low, e) in
+            (old.0, old.1, omega (arith, low), set_elsewhere gs p old.0 g' other ∙ old.3, λ e. old.4 (e ∙ get_or-set_other os p old.0 x 0 other)))
+          (λ h. (p, g', omega arith, set_at gs p g' gg at, λ e. eqb-false x (get_or (set gs p g') p dd).number h (sym (get_or-set_same os p x 0 lt') ∙ (sym e ∙ ap (λ (k : Kept). k.number) (sym read)))))
+          (and_cases c.loop-place.known (x == (get_or (set gs p g') p dd).number) t);
       told = below_more (λ (q : ℕ). IsLoaded q c0 (get_or (set os p x) q 0)) p
           (λ q h. let ne : q ≢ p = omega (arith, h) in subst (IsLoaded q c0) (sym (get_or-set_other os p q x 0 ne)) (inv.told q h))
           (subst (IsLoaded p c0) (sym (get_or-set_same os p x 0 lt')) (loaded p x c0 (take p os) gs ms _ c.requires.own.1 inv.view c.look-number.ensures.told));
@@ -84,6 +97,10 @@ loop-place-preserved g c =
 pub returns-clause-known : goal.returns-clause-known
 returns-clause-known g c = λ t q x at. let lens = c.requires.lengths in let a = c.loop-place.auto.kept in let f = c.loop-place-test.false in
     c.loop-place.invariant.known t q x (let h = at_below c.loop-place.kept q x at in omega (arith, h, f)) at
+
+pub returns-clause-unknown : goal.returns-clause-unknown
+returns-clause-unknown g c = λ t. let u = c.loop-place.invariant.unknown t in
+    (u.0, version_of u.1, (λ z. get_elem? (sym c.loop-place.invariant.same z) u.0) ∙ at_map version_of c.loop-place.kept u.0 u.1 u.3, u.4)
 
 pub returns-clause-view : goal.returns-clause-view
 returns-clause-view g c =

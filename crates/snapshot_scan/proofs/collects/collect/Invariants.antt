@@ -1,4 +1,4 @@
-use Rattle.std.proofs.Common.{◌≡◌, ◌<◌, ◌+◌, ◌≤◌, ℕ, true, take, map, get_or}
+use Rattle.std.proofs.Common.{◌≡◌, ◌≢◌, ◌<◌, ◌+◌, ◌≤◌, ℕ, true, false, take, map, get_or}
 use Rattle.ledger_core.specs.Ops.{width}
 use Rattle.register_rule.specs.Seats.{HasMember, table_of, members_of}
 use mathlib.Core.Option.{some}
@@ -16,5 +16,6 @@ invariant-loop-place g l = let bundle = g.S.ScanSeat.bundle in let ms = members_
   same : map version_of l.kept ≡ map version_of l.fn.kept;
   view : members_of (bundle l.seat) ≡ with_scan (opening (take l.place l.opened) l.kept (scan_of ms)) ms;
   known : l.known ≡ true → (q : ℕ) (x : Kept) → q < l.place → get_elem? l.kept q ≡ some x → x.number ≡ get_or l.opened q 0;
+  unknown : l.known ≡ false → (q : ℕ) × (x : Kept) × (q < l.place) × (get_elem? l.kept q ≡ some x) × (x.number ≢ get_or l.opened q 0);
   told : (q : ℕ) → q < l.place → IsLoaded q (scan_of ms) (get_or l.opened q 0);
 }

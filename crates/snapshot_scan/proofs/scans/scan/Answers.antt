@@ -1,21 +1,23 @@
-use Rattle.std.proofs.Common.{◌≡◌, ◌<◌, ◌≤◌, ◌+◌, ℕ, List, [], ◌∷◌, ◌++◌, length, map, take, drop, slice_index, sym, refl, ap, ◌∙◌, subst, arith, rules, length-set}
+use Rattle.std.proofs.Common.{◌≡◌, ◌<◌, ◌≤◌, ◌+◌, ℕ, Bool, false, List, [], ◌∷◌, ◌++◌, length, map, take, drop, slice_index, sym, refl, ap, ◌∙◌, subst, arith, rules, length-set}
 use Rattle.ledger_core.specs.Ops.{width}
 use Rattle.ledger_core.specs.Vectors.{is_above}
 use Rattle.register_rule.specs.declared.view.Asked.{Asked}
 use Rattle.register_rule.specs.declared.view.Scan.{Scan}
 use Rattle.register_rule.specs.declared.view.Member.{Member}
-use Rattle.register_rule.specs.Steps.{answered, gives_up}
+use Rattle.register_rule.specs.Steps.{answered, gives_up, lent_in}
 use Rattle.register_rule.specs.Seats.{members_of}
 use Rattle.register_rule.specs.History.{Below}
 use mathlib.Core.Option.{some, some-ne-none}
 use Rattle.snapshot_scan.specs.declared.kept.Kept.{Kept}
+use Rattle.snapshot_scan.specs.declared.ending.Ended.{Ended}
+use Rattle.snapshot_scan.specs.declared.ending.Ended.TheVariants as End
 use Rattle.snapshot_scan.specs.Shape.{scan_of, with_scan}
 use Rattle.snapshot_scan.specs.Memory.{version_of, opening, settling, failing, IsLoaded}
-use Rattle.snapshot_scan.specs.Asking.{lent_in, asked_too, refused_all, due_from, worker_of, MayAsk}
+use Rattle.snapshot_scan.specs.Asking.{asked_too, refused_all, due_from, worker_of, MayAsk}
 use Rattle.snapshot_scan.specs.Scanned.{Tried, FailedTry, IsIdle, IsAnswered, IsGivenUp}
 use Rattle.snapshot_scan.proofs.Asking.{vector_long}
 use Rattle.snapshot_scan.proofs.Trying.{stood, AreTries, asking, given_last, none_due}
-use Rattle.snapshot_scan.proofs.Scanning.{now_is, still_some, others_same, then_is, seen_below, direct_first, direct_later, lent_later, all_failed, tries_more, tries_one, may_start, first_starts, at_loop, loop_fails, loop_lends, loop_refuses, count_more}
+use Rattle.snapshot_scan.proofs.Scanning.{now_is, still_some, others_same, then_is, seen_below, direct_first, direct_later, moved_first, moved_later, lent_later, all_failed, tries_more, tries_one, may_start, first_starts, at_loop, loop_fails, loop_lends, loop_refuses, count_more}
 use Rattle.snapshot_core.specs.declared.next.Next.TheVariants.{Direct, Lent, GaveUp}
 use Rattle.snapshot_scan.specs.Core.{CameTo, AnswersBy}
 use Rattle.snapshot_scan.proofs.Arriving.{came_first, came_later, came_lending, came_up}
@@ -27,6 +29,34 @@ returns-then-clean-clause-direct g c = λ _ _.
     let r = c.try_once-clean.new in let lens = c.requires.lengths in
     subst (λ (x : Scan). IsAnswered g.row.N (scan_of ms) x (record { vector = r.opened; totals = r.totals })) (sym (now_is _ ms _ c.requires.own.1 (c.try_once-clean.ensures.clean c.if-clean.true)))
     (direct_first g.row.N r.opened r.found r.totals r.kept (scan_of ms) (c.try_once-clean.auto.opened ∙ lens.2) c.try_once-clean.ensures.told)
+
+abbrev quiet_in : Ended → Bool
+quiet_in (End.Direct quiet) = quiet
+quiet_in End.Lent = false
+quiet_in End.GaveUp = false
+
+pub returns-then-clean-clause-once : goal.returns-then-clean-clause-once
+returns-then-clean-clause-once g c = λ _. ap (λ (x : Scan). x.opened) (now_is _ _ _ c.requires.own.1 (c.try_once-clean.ensures.clean c.if-clean.true))
+
+pub returns-then-clean-clause-moved : goal.returns-then-clean-clause-moved
+returns-then-clean-clause-moved g c = λ e.
+    let lens = c.requires.lengths in
+    moved_first g.row.N (map version_of c.args.kept.now) c.try_once-clean.new.opened _ _ (c.try_once-clean.auto.opened ∙ lens.2) (c.try_once-clean.ensures.unknown (ap quiet_in e))
+    (ap (λ (x : Scan). x.opened) (now_is _ _ _ c.requires.own.1 (c.try_once-clean.ensures.clean c.if-clean.true)))
+
+pub returns-then-clean-2-clause-moved : goal.returns-then-clean-2-clause-moved
+returns-then-clean-2-clause-moved g c = λ _.
+    let ms = members_of (g.S.ScanSeat.bundle c.args.seat.now) in
+    let n : ℕ = g.row.N in
+    let inv = c.loop-k.invariant.1 in let tries = c.loop-k.invariant.0 in let lens = c.requires.lengths in
+    let fl = c.copy_from_slice.new.self in let ba = c.copy_from_slice-2.new.self in
+    let r = c.try_once-clean-in-loop-k.new in
+    let view = at_loop n c.loop-k._k tries c.loop-k.kept fl ba ms _ inv.count c.loop-k-test.true inv.view in
+    let d : Scan = stood tries c.loop-k.kept fl ba (scan_of ms) in
+    let end = then_is (λ (x : Scan). answered (record { vector = r.opened; totals = r.totals }) (settling r.opened r.found r.kept (opening r.opened r.kept x))) d ms _ _ c.requires.own.1 view (c.try_once-clean-in-loop-k.ensures.clean c.if-clean-2.true) in
+    moved_later n fl ba c.loop-k.opened c.loop-k.found tries inv.tried c.loop-k.kept (scan_of ms) (map version_of c.args.kept.now) r.opened _ c.requires.geometry.workers.0 inv.lengths.0
+    (c.try_once-clean-in-loop-k.auto.opened ∙ (c.loop-k.auto.opened ∙ (c.try_once-clean.auto.opened ∙ lens.2)))
+    (ap (λ (x : Scan). x.opened) (now_is _ ms _ c.requires.own.1 end))
 
 pub loop-k-init : goal.loop-k-init
 loop-k-init g c =

@@ -2,6 +2,7 @@ use Rattle.std.proofs.Common.{zero, ◌≡◌, ◌⊎◌, ◌<◌, ◌≤◌, �
 use mathlib.Core.Option.{some, some-injective}
 use lib.ListN.{get_elem?}
 use Rattle.std.proofs.lemmas.Bool.{and_parts, not-true}
+use Rattle.std.proofs.lemmas.List.{length_push}
 use Rattle.ledger_core.specs.Ops.{width, sum_ops}
 use Rattle.ledger_core.specs.Row.{Accepts}
 use Rattle.segment_layout.specs.Layout.{depth}
@@ -19,9 +20,10 @@ use Rattle.snapshot_scan.specs.declared.ending.Ended.TheVariants.{Direct, GaveUp
 use Rattle.snapshot_scan.specs.Memories.{rows_of, sums_of, answer_of}
 use Rattle.snapshot_update.specs.Images.{Changed, DifferAt, version_words, with_hidden}
 use Rattle.snapshot_update.specs.Fit.{AreInside, number_in, next_words}
-use Rattle.snapshot_update.specs.Updated.{ScanMeets}
+use Rattle.snapshot_update.specs.Updated.{ScanMeets, IsRuledAlone}
 use Rattle.snapshot_update.proofs.VersionWords.{known_words, late_words, words_long, row_taken, numbers_long, set_long}
-use Rattle.snapshot_update.proofs.Fitting.{total_last, answer_long, rows_many, accepts_same, holds}
+use Rattle.register_rule.proofs.Publish.{total_last}
+use Rattle.snapshot_update.proofs.Fitting.{answer_long, rows_many, accepts_same, holds}
 use Rattle.snapshot_update.proofs.update.update.Goals as goal
 
 pub fill_version-lends-requires : goal.fill_version-lends-requires
@@ -138,11 +140,6 @@ lends_quiet : (b : Bool) (e : Ended) → (b ≡ false → e ≡ GaveUp) → e �
 lends_quiet true e none quiet = refl
 lends_quiet false e none quiet = absurd (let h = sym (none refl) ∙ quiet in cc)
 
--- one more publish
-made_longer : (l : List Made) (x : Made) → length (l ++ x ∷ []) ≡ suc (length l)
-made_longer [] x = refl
-made_longer (y ∷ l) x = ap suc (made_longer l x)
-
 set_there : (l : List Version) (i : ℕ) (v : Version) → i < length l → get_elem? (set l i v) i ≡ some v
 set_there [] i v h = absurd (omega (arith, h))
 set_there (x ∷ l) zero v h = refl
@@ -164,7 +161,7 @@ returns-clause-fit g c =
     let is3 : m3 ≡ published w i ops f.result (ready_member f.new.images.hidden.items m c') = c.publish.ensures.member ∙ ap (published w i ops f.result) is in
     let last : Made = made_of ops f.result (ready_member f.new.images.hidden.items m c') in
     let made : m3.work.made ≡ m.work.made ++ last ∷ [] = ap (λ (x : Member). x.work.made) is3 in
-    let number : c.number-number.result ≡ suc (length m.work.made) = c.number-number.ensures ∙ (ap (λ (l : List Made). length l) made ∙ made_longer m.work.made last) in
+    let number : c.number-number.result ≡ suc (length m.work.made) = c.number-number.ensures ∙ (ap (λ (l : List Made). length l) made ∙ (let e = length_push m.work.made last in let one : length (m.work.made ++ last ∷ []) ≡ suc (length m.work.made) = omega (arith, e) in one)) in
     let target = version_words row' (cond f.result 1 0) a.vector a.totals in
     let hidden : f.new.images.hidden.items ≡ target = f.ensures.hidden in
     let v : Version = record { number = c.number-number.result; row = row' } in
@@ -228,6 +225,7 @@ returns-clause-updated g c =
       scan = c';
       lends = f.result;
       hidden = f.new.images.hidden.items;
+      ruled = subst (λ (x : Member). IsRuledAlone n g.row.C g.row.H g.row.G x) s.ensures.others s.ensures.ruled;
       meets = met n w m.scan c' f.result (λ lends. s.ensures.meets (f.ensures.view lends)) (λ none. s.ensures.gave_up (f.ensures.none none));
       is = c.publish.ensures.member ∙ (λ z. published w (same z) ops f.result (is z));
     }
