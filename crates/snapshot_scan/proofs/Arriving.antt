@@ -1,5 +1,5 @@
 -- What a scan's loads come to, in the terms of the core.
-use Rattle.std.proofs.Common.{◌≡◌, ◌≢◌, ⊎_elim, ℕ, zero, suc, ◌+◌, ◌<◌, ◌≤◌, List, [], ◌∷◌, ◌++◌, length, map, slice_index, sym, refl, ap, ◌∙◌, subst, arith, append_assoc}
+use Rattle.std.proofs.Common.{◌≡◌, ℕ, zero, suc, ◌+◌, ◌<◌, List, [], ◌∷◌, ◌++◌, length, map, slice_index, sym, refl, ap, ◌∙◌, subst, arith, append_assoc}
 use Rattle.std.proofs.lemmas.List.{append-nil}
 use mathlib.Core.Option.{some, some-ne-none}
 use lib.ListN.{get_elem?}
@@ -14,8 +14,8 @@ use Rattle.snapshot_scan.specs.declared.kept.Kept.{Kept}
 use Rattle.snapshot_scan.specs.Memory.{opening, settling, pairs}
 use Rattle.snapshot_scan.specs.Asking.{Refuses, Lends, due_from, worker_of, asked_too}
 use Rattle.snapshot_scan.specs.Contention.{IsFirstMoved}
-use Rattle.snapshot_scan.specs.Scanned.{Tried, all_opened, all_confirmed, all_asked, FailedTry}
-use Rattle.snapshot_scan.specs.Core.{AreLoadsOf, CameTo, AnswersBy, core_reads}
+use Rattle.snapshot_scan.specs.Scanned.{Tried, all_opened, all_confirmed, all_asked}
+use Rattle.snapshot_scan.specs.Core.{CameTo, AnswersBy, core_reads}
 use Rattle.snapshot_scan.proofs.Trying.{AreTries, stood, asking, given_last, opened_snoc, confirmed_snoc, asked_snoc, count_snoc}
 use Rattle.snapshot_scan.proofs.Coming.{AllFail, HeadIs, comes_direct, comes_lent, comes_gave_up}
 

@@ -1,5 +1,5 @@
 -- Asking a worker.
-use Rattle.std.proofs.Common.{Option, Some, None, ◌≡◌, ◌≢◌, ◌⊎◌, ⊎_elim, inl, inr, ℕ, zero, suc, ◌+◌, ◌<◌, ◌≤◌, eqb, Bool, true, false, cond, ◌&&◌, ◌||◌, not, ◌==◌, nat_le, List, [], ◌∷◌, ◌++◌, length, map, take, drop, drop-cons, get_or, slice_index, sym, refl, ap, ◌∙◌, subst, arith, eq-eqb, ne_eqb, append_assoc}
+use Rattle.std.proofs.Common.{Option, Some, None, ◌≡◌, inl, inr, ℕ, zero, suc, ◌+◌, ◌<◌, ◌≤◌, eqb, Bool, true, false, cond, ◌&&◌, not, ◌==◌, nat_le, List, [], ◌∷◌, ◌++◌, length, take, drop, drop-cons, get_or, slice_index, sym, refl, ap, ◌∙◌, subst, arith, eq-eqb, append_assoc}
 use Rattle.std.proofs.lemmas.List.{append-nil}
 use mathlib.Core.Logic.{dite}
 use native.Mathlib.Decide.{ℕ_discrete, dec_le}
@@ -15,13 +15,12 @@ use Rattle.register_rule.specs.declared.view.Look.{Look}
 use Rattle.register_rule.specs.declared.view.Asked.{Asked}
 use Rattle.register_rule.specs.declared.view.Scan.{Scan}
 use Rattle.register_rule.specs.declared.view.Member.{Member}
-use Rattle.register_rule.specs.Scans.{IsSound, IsAsked}
 use Rattle.register_rule.specs.Told.{AreRuled}
-use Rattle.register_rule.specs.Members.{first_of, led, scanned}
-use Rattle.register_rule.specs.Steps.{begun, noted, after_read, after_ask, after_end_ask, is_next, answers, asked_of, is_lender, answered, gives_up, rest, lent_in}
+use Rattle.register_rule.specs.Members.{led, scanned}
+use Rattle.register_rule.specs.Steps.{begun, noted, after_ask, after_end_ask, is_next, answers, asked_of, is_lender, answered, gives_up, rest, lent_in}
 use Rattle.register_rule.specs.Seats.{HasMember}
 use Rattle.snapshot_scan.specs.Shape.{scan_of, with_scan, read_all}
-use Rattle.snapshot_scan.specs.Asking.{Refuses, IsBelow, asked_too, refused, refused_all, MayAsk, due_from, worker_of}
+use Rattle.snapshot_scan.specs.Asking.{Refuses, IsBelow, asked_too, refused, refused_all, MayAsk, due_from}
 use Rattle.snapshot_scan.proofs.Words.{scan_with, led_some, length_take}
 
 pub three : (f g h : Scan → Scan) (ms a b d : List Member) → a ≡ led (scanned f) ms → b ≡ led (scanned g) a → d ≡ led (scanned h) b → d ≡ with_scan (h (g (f (scan_of ms)))) ms

@@ -1,11 +1,11 @@
 -- One remembered row takes the place of another.
-use Rattle.std.proofs.Common.{[], ◌∷◌, zero, suc, refl, ◌≡◌, ⊎_elim, ℕ, ◌+◌, ◌*◌, ◌<◌, ◌≤◌, List, length, map, set, slice_index, sym, ap, ◌∙◌, subst, arith}
+use Rattle.std.proofs.Common.{[], ◌∷◌, zero, suc, refl, ◌≡◌, ⊎_elim, ℕ, ◌+◌, ◌<◌, ◌≤◌, List, length, map, set, slice_index, sym, ap, subst, arith}
 use mathlib.Core.Option.{some, some-injective, some-ne-none}
 use lib.ListN.{get_elem?}
 use Rattle.register_rule.specs.declared.view.Version.{Version}
 use Rattle.snapshot_scan.specs.declared.kept.Kept.{Kept}
 use Rattle.snapshot_scan.specs.Memory.{version_of, IsWide, AreWide, AreTotals, sum_rows}
-use Rattle.snapshot_scan.proofs.Words.{from_set, map_set}
+use Rattle.snapshot_scan.proofs.Words.{from_set}
 use Rattle.snapshot_scan.proofs.Settling.{row_in, sum_low, sum_set}
 
 pub own_wide : (w : ℕ) (gs : List Kept) (i : ℕ) (g : Kept) → AreWide w gs → IsWide w g → AreWide w (set gs i g)

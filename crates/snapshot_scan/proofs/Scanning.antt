@@ -1,7 +1,7 @@
 -- The tries of a scan, and its ends.
-use Rattle.std.proofs.Common.{◌≡◌, ◌≢◌, ◌⊎◌, ⊎_elim, inl, inr, ℕ, zero, suc, ◌+◌, ◌<◌, ◌≤◌, Bool, true, false, cond, ◌==◌, List, [], ◌∷◌, ◌++◌, length, map, take, drop, get_or, slice_index, sym, refl, ap, ◌∙◌, subst, arith, eq-eqb, ne_eqb, append_assoc}
+use Rattle.std.proofs.Common.{◌≡◌, ◌≢◌, inl, inr, ℕ, zero, suc, ◌+◌, ◌<◌, Bool, true, false, cond, ◌==◌, List, [], ◌∷◌, ◌++◌, length, map, get_or, slice_index, sym, refl, ap, ◌∙◌, subst, arith, ne_eqb, append_assoc}
 use Rattle.std.proofs.lemmas.List.{append-nil}
-use mathlib.Core.Option.{some, some-injective, some-ne-none}
+use mathlib.Core.Option.{some-injective, some-ne-none}
 use lib.ListN.{get_elem?}
 use Rattle.ledger_core.specs.Vectors.{is_above}
 use Rattle.register_rule.specs.declared.view.Entry.{Entry}
@@ -10,16 +10,16 @@ use Rattle.register_rule.specs.declared.view.Member.{Member}
 use Rattle.register_rule.specs.declared.view.Scan.{Scan}
 use Rattle.register_rule.specs.declared.view.Version.{Version}
 use Rattle.register_rule.specs.History.{Below}
-use Rattle.register_rule.specs.Steps.{answered, gives_up, at_rest, upper, lent_in}
+use Rattle.register_rule.specs.Steps.{answered, gives_up, at_rest}
 use Rattle.register_rule.proofs.Words.{there, at_below, read_at, each_push}
 use Rattle.snapshot_scan.specs.declared.kept.Kept.{Kept}
 use Rattle.register_rule.specs.Seats.{HasMember}
 use Rattle.snapshot_scan.specs.Shape.{scan_of, with_scan}
 use Rattle.snapshot_scan.specs.Memory.{version_of, HasOther, pairs, opening, settling, failing, IsLoaded}
-use Rattle.snapshot_scan.specs.Asking.{Refuses, refused_all, due_from, worker_of, asked_too, MayAsk}
-use Rattle.snapshot_scan.specs.Scanned.{Tried, all_opened, all_confirmed, all_asked, FailedTry, IsIdle, HasMoved, IsAnswered, IsGivenUp}
-use Rattle.snapshot_scan.proofs.Words.{scan_with, with_led, with_same, led_some}
-use Rattle.snapshot_scan.proofs.Asking.{above_below, vector_long}
+use Rattle.snapshot_scan.specs.Asking.{refused_all, due_from, worker_of, asked_too, MayAsk}
+use Rattle.snapshot_scan.specs.Scanned.{Tried, all_opened, FailedTry, HasMoved, IsAnswered, IsGivenUp}
+use Rattle.snapshot_scan.proofs.Words.{scan_with, with_led, led_some}
+use Rattle.snapshot_scan.proofs.Asking.{above_below}
 use Rattle.snapshot_scan.proofs.Trying.{stood, stood_more, AreTries, asking, fails_later, fails_first, asked_none, asked_some, given_due, given_later, given_last, loads_in}
 
 -- what the first member's scan is now

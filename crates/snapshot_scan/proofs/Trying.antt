@@ -1,9 +1,9 @@
 -- A try as a whole, and the tries of a scan.
-use Rattle.std.proofs.Common.{◌≡◌, ◌≢◌, ◌⊎◌, ⊎_elim, inl, inr, ℕ, zero, suc, ◌+◌, ◌*◌, ◌<◌, ◌≤◌, eqb, Bool, true, false, cond, ◌&&◌, ◌||◌, not, ◌==◌, nat_le, List, [], ◌∷◌, ◌++◌, length, map, take, drop, get_or, slice_index, sym, refl, ap, ◌∙◌, subst, arith, eq-eqb, ne_eqb, append_assoc}
+use Rattle.std.proofs.Common.{◌≡◌, ◌≢◌, ℕ, zero, suc, ◌+◌, ◌<◌, ◌≤◌, Bool, true, false, cond, ◌&&◌, ◌==◌, nat_le, List, [], ◌∷◌, ◌++◌, length, map, slice_index, sym, refl, ap, ◌∙◌, arith, eq-eqb, ne_eqb, append_assoc}
 use Rattle.std.proofs.lemmas.List.{append-nil}
 use mathlib.Core.Option.{some, some-injective, some-ne-none}
 use mathlib.Core.Logic.{dite}
-use native.Mathlib.Decide.{ℕ_discrete, dec_lt}
+use native.Mathlib.Decide.{dec_lt}
 use lib.ListN.{get_elem?}
 use Rattle.std.proofs.Math.Bool.{and-false}
 use Rattle.std.proofs.lemmas.Bool.{and_parts, eqb-true, lt-leb}
@@ -13,14 +13,14 @@ use Rattle.register_rule.specs.declared.view.Version.{Version}
 use Rattle.register_rule.specs.declared.view.Asked.{Asked}
 use Rattle.register_rule.specs.declared.view.Progress.{Progress}
 use Rattle.register_rule.specs.declared.view.Scan.{Scan}
-use Rattle.register_rule.specs.History.{tab, Below}
+use Rattle.register_rule.specs.History.{tab}
 use Rattle.register_rule.specs.Scans.{opened_at}
-use Rattle.register_rule.specs.Steps.{every, begun, settled, clean, are_clean, sum_words, entry_of, found_of, due_of, with_base, failed_once_more, answered, gives_up, ended, at_rest, upper, rest, lent_in}
+use Rattle.register_rule.specs.Steps.{every, begun, settled, clean, are_clean, sum_words, entry_of, found_of, due_of, with_base, failed_once_more, answered, gives_up, ended, at_rest}
 use Rattle.snapshot_scan.specs.declared.kept.Kept.{Kept}
-use Rattle.snapshot_scan.specs.Memory.{version_of, IsWide, AreWide, AreTotals, words_of, looks_of, pairs, opening, settling, sum_rows, IsLoaded}
-use Rattle.snapshot_scan.specs.Asking.{Refuses, refused, refused_all, due_from, worker_of, asked_too, MayAsk}
-use Rattle.snapshot_scan.specs.Scanned.{Tried, all_opened, all_confirmed, all_asked, FailedTry, IsIdle, IsAnswered, IsGivenUp}
-use Rattle.snapshot_scan.proofs.Opening.{looks_long, map_both}
+use Rattle.snapshot_scan.specs.Memory.{version_of, AreWide, AreTotals, words_of, looks_of, pairs, opening, settling, sum_rows}
+use Rattle.snapshot_scan.specs.Asking.{refused, refused_all, due_from, worker_of}
+use Rattle.snapshot_scan.specs.Scanned.{Tried, all_opened, all_confirmed, all_asked, FailedTry, IsIdle}
+use Rattle.snapshot_scan.proofs.Opening.{looks_long}
 use Rattle.snapshot_scan.proofs.Settling.{settled_here, words_wide}
 
 clean_here : (w q s f : ℕ) (ws : List ℕ) → length ws ≡ w → clean w (settled q f (begun q s ws)) ≡ (s == f)

@@ -1,5 +1,5 @@
 -- What the memory of a scan says.
-use Rattle.std.specs.Prelude.{◌≡◌, ℕ, Bool, true, List, length, map, replicate}
+use Rattle.std.specs.Prelude.{ℕ, List, map}
 use Rattle.register_rule.specs.declared.view.Entry.{Entry}
 use Rattle.register_rule.specs.declared.view.Version.{Version}
 use Rattle.register_rule.specs.declared.view.Scan.{Scan}
@@ -7,7 +7,7 @@ use Rattle.ledger_core.specs.Ops.{width}
 use Rattle.snapshot_scan.specs.declared.ending.Ended.{Ended}
 use Rattle.snapshot_scan.specs.declared.ending.Ended.TheVariants.{Direct, Lent, GaveUp}
 use Rattle.snapshot_scan.specs.declared.memory.Memory.{Memory}
-use Rattle.snapshot_scan.specs.Memory.{version_of, AreKnown}
+use Rattle.snapshot_scan.specs.Memory.{version_of}
 use Rattle.register_rule.specs.Steps.{lent_in}
 use Rattle.snapshot_scan.specs.Scanned.{IsIdle}
 

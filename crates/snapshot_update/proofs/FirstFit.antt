@@ -1,5 +1,5 @@
 -- A worker's data fit its member at first.
-use Rattle.std.proofs.Common.{◌≡◌, ℕ, zero, suc, ◌+◌, ◌*◌, ◌<◌, Bool, true, false, List, [], ◌∷◌, length, map, replicate, slice_index, Contains, sym, refl, ap, ◌∙◌, subst, arith}
+use Rattle.std.proofs.Common.{◌≡◌, ℕ, zero, suc, ◌<◌, List, [], length, map, replicate, slice_index, Contains, sym, refl, ap, ◌∙◌, subst, arith}
 use mathlib.Core.Option.{some}
 use lib.ListN.{get_elem?, length-replicate}
 use Rattle.ledger_core.specs.Ops.{width}

@@ -1,20 +1,17 @@
 -- What an update publishes, and that the worker's data fit its member again.
-use Rattle.std.proofs.Common.{◌≡◌, ◌≢◌, ◌⊎◌, ⊎_elim, ℕ, zero, suc, ◌+◌, ◌*◌, ◌<◌, ◌≤◌, Bool, true, false, cond, Some, None, List, [], ◌∷◌, ◌++◌, length, map, take, drop, set, slice_index, get_or, sym, refl, ap, ◌∙◌, subst, arith, length-drop}
-use mathlib.Core.Option.{some, some-injective, some-ne-none}
+use Rattle.std.proofs.Common.{◌≡◌, ℕ, suc, ◌+◌, ◌<◌, ◌≤◌, Bool, true, false, cond, Some, None, List, [], ◌∷◌, ◌++◌, length, map, take, drop, slice_index, sym, refl, ap, ◌∙◌, subst, arith, length-drop}
+use mathlib.Core.Option.{some}
 use lib.ListN.{get_elem?}
 use Rattle.std.proofs.lemmas.Option.{none-some}
 use Rattle.ledger_core.specs.declared.op.Op.{Op}
 use Rattle.ledger_core.specs.Ops.{sum_ops, width}
-use Rattle.ledger_core.specs.Row.{Accepts, Adds}
-use Rattle.segment_layout.specs.Layout.{depth}
+use Rattle.ledger_core.specs.Row.{Accepts}
 use Rattle.register_rule.specs.declared.view.Entry.{Entry}
 use Rattle.register_rule.specs.declared.view.Made.{Made}
 use Rattle.register_rule.specs.declared.view.Member.{Member}
-use Rattle.register_rule.specs.declared.view.Scan.{Scan}
 use Rattle.register_rule.specs.declared.view.Version.{Version}
 use Rattle.register_rule.specs.Sums.{total, last_lent, flag_of}
-use Rattle.register_rule.specs.Shown.{Shows}
-use Rattle.register_rule.specs.Members.{made_of, last_entry, published}
+use Rattle.register_rule.specs.Members.{made_of, last_entry}
 use Rattle.register_rule.specs.Told.{HoldsNext}
 use Rattle.register_rule.proofs.Publish.{lent_last}
 use Rattle.register_rule.proofs.Words.{there}
@@ -24,11 +21,10 @@ use Rattle.snapshot_scan.specs.declared.ending.Ended.TheVariants.{Direct, Lent, 
 use Rattle.snapshot_scan.specs.declared.kept.Kept.{Kept}
 use Rattle.snapshot_scan.specs.declared.memory.Memory.{Memory}
 use Rattle.snapshot_scan.specs.Memory.{version_of}
-use Rattle.snapshot_scan.specs.Memories.{rows_of, sums_of, answer_of, HasView}
-use Rattle.snapshot_scan.specs.Scanned.{IsAnswered}
+use Rattle.snapshot_scan.specs.Memories.{rows_of, answer_of}
 use Rattle.snapshot_scan.proofs.Blank.{from_rows}
 use Rattle.snapshot_scan.proofs.Words.{length_take}
-use Rattle.snapshot_update.specs.Images.{version_words, with_hidden}
+use Rattle.snapshot_update.specs.Images.{version_words}
 use Rattle.snapshot_update.proofs.VersionWords.{row_word, flag_word, vector_word, total_word}
 
 last_of : (l : List Entry) (a : Entry) → last_entry (l ++ a ∷ []) ≡ Some a

@@ -1,5 +1,5 @@
 -- Noting one list's items in another, one by one.
-use Rattle.std.proofs.Common.{◌≡◌, ◌⊎◌, inl, inr, ⊎_elim, ℕ, suc, ◌+◌, ◌<◌, false, List, length, Contains, get_or, sym, refl, ap, ◌∙◌, subst, arith, below_more}
+use Rattle.std.proofs.Common.{◌≡◌, ◌⊎◌, inl, inr, ⊎_elim, ℕ, ◌+◌, ◌<◌, false, List, length, Contains, get_or, ◌∙◌, subst, arith, below_more}
 use Rattle.register_rule.proofs.Words.{there, read_at}
 use Rattle.snapshot_update.specs.Images.{Changed}
 use Rattle.snapshot_update.specs.Changes.{Notes, NotesEach}

@@ -1,7 +1,7 @@
 -- What a clause reads of a worker.
 use Rattle.std.specs.Prelude.{◌≡◌, ◌≢◌, ℕ, ◌<◌, Option, Some, None, List, [], ◌∷◌, ◌++◌, map, length, IsSomeAnd}
 use Rattle.ledger_core.specs.declared.op.Op.{Op}
-use Rattle.ledger_core.specs.Ops.{width, sum_ops}
+use Rattle.ledger_core.specs.Ops.{sum_ops}
 use Rattle.ledger_core.specs.Row.{Accepts}
 use Rattle.ledger_core.specs.OpFault.{IsOpFault}
 use Rattle.register_rule.specs.declared.view.Made.{Made}

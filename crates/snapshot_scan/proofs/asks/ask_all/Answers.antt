@@ -1,19 +1,16 @@
-use Rattle.std.proofs.Common.{◌≡◌, ◌≢◌, ◌<◌, ◌≤◌, ◌+◌, ◌-◌, ℕ, ◌==◌, ◌&&◌, Bool, true, false, List, [], ◌∷◌, ◌++◌, length, take, drop, map, slice_index, get_or, sym, refl, ap, ◌∙◌, subst, arith, rules, eq-eqb, ne_eqb, append_assoc}
-use mathlib.Core.Option.{some, some-ne-none}
-use lib.ListN.{get_elem?}
-use Rattle.ledger_core.specs.Ops.{width, sum_ops}
+use Rattle.std.proofs.Common.{◌≡◌, ◌≤◌, ◌+◌, ℕ, List, [], ◌∷◌, ◌++◌, drop, map, get_or, sym, refl, ap, ◌∙◌, subst, arith, rules, append_assoc}
+use mathlib.Core.Option.{some-ne-none}
+use Rattle.ledger_core.specs.Ops.{width}
 use Rattle.register_rule.specs.declared.view.Asked.{Asked}
 use Rattle.register_rule.specs.declared.view.Scan.{Scan}
-use Rattle.register_rule.specs.declared.view.Member.{Member}
 use Rattle.register_rule.specs.Steps.{answered, gives_up, lent_in}
-use Rattle.register_rule.specs.Members.{led, scanned}
 use Rattle.register_rule.specs.Seats.{HasMember, members_of}
 use Rattle.register_rule.proofs.Words.{each_push}
 use Rattle.snapshot_scan.specs.Shape.{scan_of, with_scan}
 use Rattle.snapshot_scan.specs.Asking.{Refuses, asked_too, refused, refused_all, due_from, worker_of, MayAsk}
 use Rattle.snapshot_scan.proofs.Words.{scan_with, with_same, led_some, with_led}
 use Rattle.snapshot_scan.proofs.Opening.{map_both}
-use Rattle.snapshot_scan.proofs.Asking.{may_next, refused_snoc, due_here, due_other}
+use Rattle.snapshot_scan.proofs.Asking.{may_next, refused_snoc, due_here}
 use Rattle.snapshot_scan.proofs.asks.ask_all.Goals as goal
 
 pub loop-place-init : goal.loop-place-init

@@ -1,4 +1,4 @@
-use Rattle.std.proofs.Common.{◌≡◌, ◌≢◌, ◌<◌, ◌+◌, ◌≤◌, ℕ, true, false, take, map, get_or}
+use Rattle.std.proofs.Common.{◌≡◌, ◌≢◌, ◌<◌, ℕ, true, false, take, map, get_or}
 use Rattle.ledger_core.specs.Ops.{width}
 use Rattle.register_rule.specs.Seats.{HasMember, table_of, members_of}
 use mathlib.Core.Option.{some}

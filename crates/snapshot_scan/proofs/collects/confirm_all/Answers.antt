@@ -1,19 +1,18 @@
-use Rattle.std.proofs.Common.{◌≡◌, ◌≢◌, ◌<◌, ◌+◌, ◌≤◌, ◌==◌, ◌*◌, Bool, true, false, cond, ℕ, zero, suc, List, [], ◌∷◌, ◌++◌, length, take, set, map, get_or, slice_index, arith, rules, sym, ap, ◌∙◌, subst, below_more, get_or-set_other, get_or-set_same, ⊎_elim, eq-eqb, ne_eqb}
+use Rattle.std.proofs.Common.{◌≡◌, ◌≢◌, ◌<◌, ◌+◌, ◌≤◌, ◌==◌, Bool, false, cond, ℕ, List, [], ◌∷◌, ◌++◌, length, take, set, get_or, arith, rules, sym, ap, ◌∙◌, subst, below_more, get_or-set_other, get_or-set_same, ⊎_elim, eq-eqb, ne_eqb}
 use mathlib.Core.Option.{some, some-injective}
 use mathlib.Core.Logic.{dite}
 use native.Mathlib.Decide.{ℕ_discrete}
 use Rattle.register_rule.specs.declared.view.Version.{Version}
 use lib.ListN.{get_elem?}
 use Rattle.ledger_core.specs.Ops.{width}
-use Rattle.register_rule.proofs.Words.{there, at_below, read_at}
-use Rattle.register_rule.specs.declared.view.Member.{Member}
+use Rattle.register_rule.proofs.Words.{there, at_below}
 use Rattle.register_rule.specs.declared.view.Scan.{Scan}
 use Rattle.register_rule.specs.Members.{led, scanned}
 use Rattle.register_rule.specs.Steps.{ended, after_confirm, confirmed_at}
 use Rattle.register_rule.specs.Seats.{HasMember, members_of}
 use Rattle.snapshot_scan.specs.declared.kept.Kept.{Kept}
 use Rattle.snapshot_scan.specs.Shape.{scan_of, with_scan}
-use Rattle.snapshot_scan.specs.Memory.{IsWide, AreWide, AreTotals, version_of, words_of, settling, sum_rows}
+use Rattle.snapshot_scan.specs.Memory.{IsWide, version_of, words_of, settling}
 use Rattle.snapshot_scan.proofs.Words.{take_next, take_all, length_take, led_some, with_led, with_same, scan_with, from_set}
 use Rattle.snapshot_scan.proofs.Settling.{confirms_more, row_in, sum_low, sum_set, words_wide, settling_starts, set_at}
 use Rattle.snapshot_scan.proofs.collects.confirm_all.Goals as goal

@@ -1,21 +1,17 @@
-use Rattle.std.proofs.Common.{refl, ◌≡◌, ◌≢◌, ◌<◌, ◌+◌, ◌≤◌, ◌==◌, ◌*◌, Bool, true, false, cond, ℕ, zero, suc, List, [], ◌∷◌, ◌++◌, length, take, set, map, get_or, slice_index, arith, rules, sym, ap, ◌∙◌, subst, below_more, get_or-set_other, get_or-set_same, ⊎_elim, eq-eqb, ne_eqb}
-use mathlib.Core.Option.{some, some-injective}
-use mathlib.Core.Logic.{dite}
-use native.Mathlib.Decide.{ℕ_discrete}
-use Rattle.register_rule.specs.declared.view.Version.{Version}
+use Rattle.std.proofs.Common.{refl, ◌≡◌, ◌≢◌, ◌<◌, ◌+◌, ◌≤◌, ◌==◌, Bool, true, false, cond, ℕ, zero, suc, List, [], ◌∷◌, ◌++◌, length, take, set, get_or, arith, rules, sym, ap, ◌∙◌, subst, below_more, get_or-set_other, get_or-set_same, eq-eqb, ne_eqb}
+use mathlib.Core.Option.{some}
 use lib.ListN.{get_elem?}
 use Rattle.ledger_core.specs.Ops.{width}
-use Rattle.register_rule.proofs.Words.{there, at_below, read_at}
-use Rattle.register_rule.specs.declared.view.Member.{Member}
+use Rattle.register_rule.proofs.Words.{there}
 use Rattle.register_rule.specs.declared.view.Scan.{Scan}
 use Rattle.register_rule.specs.Members.{led, scanned}
 use Rattle.register_rule.specs.Steps.{ended, after_confirm, confirmed_at}
 use Rattle.register_rule.specs.Seats.{HasMember, members_of}
 use Rattle.snapshot_scan.specs.declared.kept.Kept.{Kept}
 use Rattle.snapshot_scan.specs.Shape.{scan_of, with_scan}
-use Rattle.snapshot_scan.specs.Memory.{IsWide, AreWide, AreTotals, version_of, words_of, settling, sum_rows}
-use Rattle.snapshot_scan.proofs.Words.{set_same, take_next, take_all, length_take, led_some, with_led, with_same, scan_with, from_set}
-use Rattle.snapshot_scan.proofs.Settling.{confirms_more, row_in, sum_low, sum_set, words_wide, settling_starts, set_at}
+use Rattle.snapshot_scan.specs.Memory.{version_of, words_of, settling}
+use Rattle.snapshot_scan.proofs.Words.{set_same, take_next, take_all, length_take, led_some, with_led, with_same, scan_with}
+use Rattle.snapshot_scan.proofs.Settling.{confirms_more, words_wide, settling_starts}
 use Rattle.snapshot_scan.proofs.collects.confirm_known.Goals as goal
 
 pub loop-place-init : goal.loop-place-init

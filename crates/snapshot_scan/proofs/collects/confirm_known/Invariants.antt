@@ -1,12 +1,9 @@
-use Rattle.std.proofs.Common.{◌≡◌, ◌<◌, ◌+◌, ◌≤◌, ◌==◌, cond, ℕ, take, map, get_or}
-use mathlib.Core.Option.{some}
-use lib.ListN.{get_elem?}
+use Rattle.std.proofs.Common.{◌≡◌, ◌<◌, ◌≤◌, ◌==◌, cond, ℕ, take, get_or}
 use Rattle.ledger_core.specs.Ops.{width}
 use Rattle.register_rule.specs.Steps.{ended}
 use Rattle.register_rule.specs.Seats.{HasMember, table_of, members_of}
-use Rattle.snapshot_scan.specs.declared.kept.Kept.{Kept}
 use Rattle.snapshot_scan.specs.Shape.{scan_of, with_scan, IsRuled}
-use Rattle.snapshot_scan.specs.Memory.{AreWide, AreTotals, settling}
+use Rattle.snapshot_scan.specs.Memory.{settling}
 use Rattle.snapshot_scan.proofs.collects.confirm_known.Given as goal
 
 abbrev pub invariant-loop-place : goal.invariant-loop-place

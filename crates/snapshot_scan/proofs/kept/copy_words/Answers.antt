@@ -1,4 +1,4 @@
-use Rattle.std.proofs.Common.{◌≡◌, ◌<◌, ℕ, length, get_or, arith, ◌∙◌, sym}
+use Rattle.std.proofs.Common.{arith, ◌∙◌, sym}
 use Rattle.snapshot_scan.proofs.Words.{same_words}
 use Rattle.snapshot_scan.proofs.kept.copy_words.Goals as goal
 

@@ -1,11 +1,11 @@
-use Rattle.std.proofs.Common.{◌≡◌, ◌<◌, ◌≤◌, ℕ, List, length, map, set, get_or, slice_index, sym, ap, ◌∙◌, subst, arith, rules, refl}
-use mathlib.Core.Option.{some, some-injective}
+use Rattle.std.proofs.Common.{◌≡◌, ℕ, map, set, get_or, ap, ◌∙◌, rules}
+use mathlib.Core.Option.{some}
 use lib.ListN.{get_elem?}
 use Rattle.ledger_core.specs.Ops.{width}
 use Rattle.register_rule.specs.declared.view.Version.{Version}
 use Rattle.register_rule.proofs.Words.{there}
 use Rattle.snapshot_scan.specs.declared.kept.Kept.{Kept}
-use Rattle.snapshot_scan.specs.Memory.{version_of, AreWide}
+use Rattle.snapshot_scan.specs.Memory.{version_of}
 use Rattle.snapshot_scan.proofs.Words.{map_set}
 use Rattle.snapshot_scan.proofs.OwnRow.{own_wide, own_part, own_totals}
 use Rattle.snapshot_scan.proofs.own_row.remember_all.Goals as goal

@@ -1,24 +1,21 @@
-use Rattle.std.proofs.Common.{◌≡◌, ◌<◌, ◌≤◌, ◌+◌, ℕ, Bool, false, List, [], ◌∷◌, ◌++◌, length, map, take, drop, slice_index, sym, refl, ap, ◌∙◌, subst, arith, rules, length-set}
+use Rattle.std.proofs.Common.{◌≡◌, ℕ, Bool, false, List, [], ◌∷◌, ◌++◌, length, map, take, drop, slice_index, sym, refl, ap, ◌∙◌, subst, arith, rules}
 use Rattle.ledger_core.specs.Ops.{width}
 use Rattle.ledger_core.specs.Vectors.{is_above}
-use Rattle.register_rule.specs.declared.view.Asked.{Asked}
 use Rattle.register_rule.specs.declared.view.Scan.{Scan}
-use Rattle.register_rule.specs.declared.view.Member.{Member}
 use Rattle.register_rule.specs.Steps.{answered, gives_up, lent_in}
 use Rattle.register_rule.specs.Seats.{members_of}
 use Rattle.register_rule.specs.History.{Below}
-use mathlib.Core.Option.{some, some-ne-none}
-use Rattle.snapshot_scan.specs.declared.kept.Kept.{Kept}
+use mathlib.Core.Option.{some-ne-none}
 use Rattle.snapshot_scan.specs.declared.ending.Ended.{Ended}
 use Rattle.snapshot_scan.specs.declared.ending.Ended.TheVariants as End
 use Rattle.snapshot_scan.specs.Shape.{scan_of, with_scan}
-use Rattle.snapshot_scan.specs.Memory.{version_of, opening, settling, failing, IsLoaded}
-use Rattle.snapshot_scan.specs.Asking.{asked_too, refused_all, due_from, worker_of, MayAsk}
-use Rattle.snapshot_scan.specs.Scanned.{Tried, FailedTry, IsIdle, IsAnswered, IsGivenUp}
+use Rattle.snapshot_scan.specs.Memory.{version_of, opening, settling, IsLoaded}
+use Rattle.snapshot_scan.specs.Asking.{due_from, worker_of, MayAsk}
+use Rattle.snapshot_scan.specs.Scanned.{Tried, FailedTry, IsAnswered, IsGivenUp}
 use Rattle.snapshot_scan.proofs.Asking.{vector_long}
-use Rattle.snapshot_scan.proofs.Trying.{stood, AreTries, asking, given_last, none_due}
+use Rattle.snapshot_scan.proofs.Trying.{stood, AreTries, given_last, none_due}
 use Rattle.snapshot_scan.proofs.Scanning.{now_is, still_some, others_same, then_is, seen_below, direct_first, direct_later, moved_first, moved_later, lent_later, all_failed, tries_more, tries_one, may_start, first_starts, at_loop, loop_fails, loop_lends, loop_refuses, count_more}
-use Rattle.snapshot_core.specs.declared.next.Next.TheVariants.{Direct, Lent, GaveUp}
+use Rattle.snapshot_core.specs.declared.next.Next.TheVariants.{GaveUp}
 use Rattle.snapshot_scan.specs.Core.{CameTo, AnswersBy}
 use Rattle.snapshot_scan.proofs.Arriving.{came_first, came_later, came_lending, came_up}
 use Rattle.snapshot_scan.proofs.scans.scan.Goals as goal

@@ -1,15 +1,12 @@
-use Rattle.std.proofs.Common.{◌≡◌, ◌≢◌, ◌<◌, ◌≤◌, ◌+◌, ℕ, Bool, true, false, List, [], ◌∷◌, ◌++◌, length, map, slice_index, get_or, sym, refl, ap, ◌∙◌, subst, arith, rules}
-use mathlib.Core.Option.{some}
+use Rattle.std.proofs.Common.{◌≡◌, ◌≢◌, ◌+◌, ℕ, List, [], length, slice_index, get_or, sym, ap, ◌∙◌, subst, arith, rules}
 use lib.ListN.{get_elem?}
 use Rattle.ledger_core.specs.Ops.{width}
-use Rattle.register_rule.proofs.Words.{there, at_below, read_at}
+use Rattle.register_rule.proofs.Words.{there}
 use Rattle.register_rule.specs.declared.view.Scan.{Scan}
-use Rattle.register_rule.specs.Members.{led, scanned}
-use Rattle.register_rule.specs.Steps.{ended, answered, gives_up}
+use Rattle.register_rule.specs.Steps.{ended}
 use Rattle.register_rule.specs.Seats.{HasMember, members_of}
-use Rattle.snapshot_scan.specs.declared.kept.Kept.{Kept}
 use Rattle.snapshot_scan.specs.Shape.{scan_of, with_scan}
-use Rattle.snapshot_scan.specs.Memory.{version_of, opening, settling, failing}
+use Rattle.snapshot_scan.specs.Memory.{opening, settling}
 use Rattle.snapshot_scan.proofs.Words.{scan_with, with_led, led_some}
 use Rattle.snapshot_scan.proofs.Trying.{ends_clean, ends_failed, rose_some, loads_at, true_not_false, sums_same}
 use Rattle.snapshot_scan.proofs.scans.try_once.Goals as goal

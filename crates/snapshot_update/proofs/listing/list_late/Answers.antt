@@ -1,4 +1,4 @@
-use Rattle.std.proofs.Common.{◌≡◌, ◌⊎◌, inl, inr, ⊎_elim, ◌+◌, ℕ, false, List, [], Contains, sym, ap, subst}
+use Rattle.std.proofs.Common.{◌≡◌, ◌⊎◌, inl, inr, ⊎_elim, ◌+◌, ℕ, List, [], Contains, subst}
 use Rattle.snapshot_update.specs.Images.{Changed}
 use Rattle.snapshot_update.specs.Changes.{Notes, NotesEach}
 use Rattle.snapshot_update.proofs.Noted.{none_listed}

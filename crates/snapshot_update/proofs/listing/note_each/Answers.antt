@@ -1,4 +1,4 @@
-use Rattle.std.proofs.Common.{◌≡◌, ◌+◌, ◌<◌, ℕ, List, Contains, length, get_or, sym, ap, ◌∙◌, subst, arith, refl}
+use Rattle.std.proofs.Common.{ℕ, List, Contains, get_or, subst, arith}
 use Rattle.snapshot_update.specs.Changes.{NotesEach}
 use Rattle.snapshot_update.proofs.Shifted.{notes_next, notes_each, from_place}
 use Rattle.snapshot_update.proofs.listing.note_each.Goals as goal

@@ -1,10 +1,8 @@
-use Rattle.std.proofs.Common.{◌≡◌, ◌⊎◌, ⊎_elim, ◌+◌, ◌<◌, ◌≤◌, ℕ, false, true, List, [], Contains, length, slice_index, sym, refl, ap, subst, arith, rules}
+use Rattle.std.proofs.Common.{◌≡◌, ⊎_elim, ◌+◌, ◌<◌, ℕ, false, List, [], Contains, subst, arith}
 use Rattle.ledger_core.specs.Ops.{width}
 use Rattle.segment_layout.specs.Layout.{depth}
-use Rattle.snapshot_update.specs.Images.{Changed, DifferAt}
+use Rattle.snapshot_update.specs.Images.{Changed}
 use Rattle.snapshot_update.specs.Changes.{NotesEach}
-use Rattle.snapshot_update.specs.Target.{target_of}
-use Rattle.snapshot_update.specs.Fit.{AreInside}
 use Rattle.snapshot_update.proofs.Noted.{none_listed}
 use Rattle.snapshot_update.proofs.next_fill.fill_next.Goals as goal
 

@@ -1,4 +1,3 @@
-use Rattle.std.proofs.Common.{◌≡◌, List}
 use Rattle.snapshot_update.proofs.Giving.{first_moved}
 use Rattle.snapshot_update.proofs.scanning.scan_own.Goals as goal
 

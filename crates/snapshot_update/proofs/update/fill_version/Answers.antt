@@ -1,11 +1,11 @@
-use Rattle.std.proofs.Common.{◌≡◌, ◌<◌, ◌≤◌, ◌+◌, ◌*◌, ◌&&◌, ℕ, Bool, true, false, cond, not, List, Contains, length, slice_index, sym, refl, ap, ◌∙◌, subst, arith, rules}
+use Rattle.std.proofs.Common.{◌≡◌, ℕ, Bool, true, false, cond, List, length, slice_index, sym, refl, ap, ◌∙◌, arith, rules}
 use Rattle.std.proofs.lemmas.Bool.{and_parts, not-true}
 use Rattle.ledger_core.specs.Ops.{width}
 use Rattle.segment_layout.specs.Layout.{depth}
 use Rattle.snapshot_scan.specs.declared.ending.Ended.{Ended}
 use Rattle.snapshot_scan.specs.declared.ending.Ended.TheVariants.{Direct, GaveUp}
 use Rattle.snapshot_scan.specs.Memories.{answer_of}
-use Rattle.snapshot_update.specs.Images.{version_words, DifferAt}
+use Rattle.snapshot_update.specs.Images.{version_words}
 use Rattle.snapshot_update.specs.Target.{target_of}
 use Rattle.snapshot_update.proofs.update.fill_version.Goals as goal
 

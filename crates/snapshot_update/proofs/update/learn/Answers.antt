@@ -1,4 +1,4 @@
-use Rattle.std.proofs.Common.{◌≡◌, ◌<◌, ℕ, List, Contains, slice_index, sym, ap, subst, rules}
+use Rattle.std.proofs.Common.{ℕ, List, Contains, sym, subst, rules}
 use Rattle.snapshot_update.proofs.update.learn.Goals as goal
 
 pub remember_at-requires : goal.remember_at-requires

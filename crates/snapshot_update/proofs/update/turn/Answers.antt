@@ -1,4 +1,4 @@
-use Rattle.std.proofs.Common.{◌≡◌, ◌⊎◌, ⊎_elim, ◌<◌, ◌≤◌, ◌+◌, ◌*◌, ℕ, Contains, arith, subst}
+use Rattle.std.proofs.Common.{◌≡◌, ⊎_elim, ◌+◌, ℕ, Contains, arith, subst}
 use Rattle.snapshot_update.proofs.update.turn.Goals as goal
 
 pub list_late-requires : goal.list_late-requires

@@ -1,4 +1,4 @@
-use Rattle.std.proofs.Common.{zero, ◌≡◌, ◌⊎◌, ◌<◌, ◌≤◌, ◌+◌, ◌*◌, ◌&&◌, ℕ, suc, Bool, true, false, cond, not, List, [], ◌∷◌, ◌++◌, length, map, take, set, slice_index, Contains, sym, refl, ap, ◌∙◌, subst, arith, rules}
+use Rattle.std.proofs.Common.{zero, ◌≡◌, ◌<◌, ◌+◌, ◌&&◌, ℕ, suc, Bool, true, false, cond, not, List, [], ◌∷◌, ◌++◌, length, map, take, set, slice_index, Contains, sym, refl, ap, ◌∙◌, subst, arith, rules}
 use mathlib.Core.Option.{some, some-injective}
 use lib.ListN.{get_elem?}
 use Rattle.std.proofs.lemmas.Bool.{and_parts, not-true}
@@ -6,7 +6,6 @@ use Rattle.std.proofs.lemmas.List.{length_push}
 use Rattle.ledger_core.specs.Ops.{width, sum_ops}
 use Rattle.ledger_core.specs.Row.{Accepts}
 use Rattle.segment_layout.specs.Layout.{depth}
-use Rattle.register_rule.specs.declared.view.Entry.{Entry}
 use Rattle.register_rule.specs.declared.view.Member.{Member}
 use Rattle.register_rule.specs.declared.view.Scan.{Scan}
 use Rattle.register_rule.specs.declared.view.Version.{Version}
@@ -21,7 +20,7 @@ use Rattle.snapshot_scan.specs.Memories.{rows_of, sums_of, answer_of}
 use Rattle.snapshot_update.specs.Images.{Changed, DifferAt, version_words, with_hidden}
 use Rattle.snapshot_update.specs.Fit.{AreInside, number_in, next_words}
 use Rattle.snapshot_update.specs.Updated.{ScanMeets, IsRuledAlone}
-use Rattle.snapshot_update.proofs.VersionWords.{known_words, late_words, words_long, row_taken, numbers_long, set_long}
+use Rattle.snapshot_update.proofs.VersionWords.{known_words, late_words, words_long, row_taken, numbers_long}
 use Rattle.register_rule.proofs.Publish.{total_last}
 use Rattle.snapshot_update.proofs.Fitting.{answer_long, rows_many, accepts_same, holds}
 use Rattle.snapshot_update.proofs.update.update.Goals as goal

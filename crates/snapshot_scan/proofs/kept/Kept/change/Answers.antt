@@ -1,4 +1,4 @@
-use Rattle.std.proofs.Common.{◌≡◌, ◌<◌, ◌+◌, ℕ, List, ◌++◌, Contains, length, take, drop, get_or, slice_index, sym, ap, ◌∙◌, arith, ⊎_elim}
+use Rattle.std.proofs.Common.{◌≡◌, ◌<◌, ℕ, List, ◌++◌, Contains, length, take, drop, slice_index, sym, ap, ◌∙◌, arith, ⊎_elim}
 use Rattle.ledger_core.specs.Ops.{width}
 use Rattle.snapshot_scan.proofs.Words.{over, same_words, contains_or_not}
 use Rattle.snapshot_scan.proofs.kept.Kept.change.Goals as goal

@@ -1,4 +1,4 @@
-use Rattle.std.proofs.Common.{◌≡◌, ◌+◌, ◌*◌, ℕ, List, length, replicate, subst, sym, ap, ◌∙◌, arith}
+use Rattle.std.proofs.Common.{◌+◌, ℕ, List, length, subst, sym, ap, ◌∙◌}
 use lib.ListN.{length-replicate}
 use Rattle.ledger_core.specs.Ops.{width}
 use Rattle.snapshot_scan.specs.Memory.{AreBlank, AreTotals}

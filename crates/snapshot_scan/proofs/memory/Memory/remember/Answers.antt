@@ -1,11 +1,9 @@
-use Rattle.std.proofs.Common.{◌≡◌, ◌<◌, ◌≤◌, ◌+◌, ℕ, List, ◌++◌, Contains, length, map, take, drop, set, slice_index, sym, ap, ◌∙◌, subst, arith, rules}
-use mathlib.Core.Option.{some}
-use lib.ListN.{get_elem?}
+use Rattle.std.proofs.Common.{◌≡◌, ℕ, List, ◌++◌, length, map, take, drop, set, slice_index, ap, ◌∙◌, arith}
 use Rattle.ledger_core.specs.Ops.{width}
 use Rattle.register_rule.specs.declared.view.Version.{Version}
 use Rattle.snapshot_scan.specs.declared.kept.Kept.{Kept}
-use Rattle.snapshot_scan.specs.Memory.{version_of, AreWide, AreTotals}
-use Rattle.snapshot_scan.proofs.Words.{over, at_map}
+use Rattle.snapshot_scan.specs.Memory.{version_of}
+use Rattle.snapshot_scan.proofs.Words.{over}
 use Rattle.snapshot_scan.proofs.OwnRow.{own_sums}
 use Rattle.snapshot_scan.proofs.memory.Memory.remember.Goals as goal
 

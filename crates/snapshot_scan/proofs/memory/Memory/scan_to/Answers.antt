@@ -1,9 +1,8 @@
-use Rattle.std.proofs.Common.{refl, ◌≡◌, ◌<◌, ◌≤◌, ◌+◌, ℕ, List, length, take, drop, slice_index, sym, ap, ◌∙◌, subst, arith, rules, length-drop}
+use Rattle.std.proofs.Common.{refl, ◌≡◌, ◌<◌, ℕ, List, length, slice_index, sym, ap, ◌∙◌, subst, arith, rules}
 use Rattle.ledger_core.specs.Ops.{width}
 use Rattle.ledger_core.specs.Legal.{IsLegal}
 use Rattle.register_rule.specs.declared.view.Entry.{Entry}
 use Rattle.register_rule.specs.declared.view.Member.{Member}
-use Rattle.register_rule.specs.declared.view.Scan.{Scan}
 use Rattle.register_rule.specs.Seats.{HasMember, members_of}
 use Rattle.snapshot_scan.specs.Shape.{scan_of, with_scan}
 use Rattle.snapshot_scan.specs.declared.ending.Ended.{Ended}

@@ -1,4 +1,4 @@
-use Rattle.std.proofs.Common.{◌≡◌, ◌<◌, ℕ, Some, length, sym, ap, ◌∙◌, subst, arith, rules}
+use Rattle.std.proofs.Common.{◌≡◌, Some, length, sym, ap, subst, arith}
 use Rattle.register_rule.specs.declared.seats.WorkSeat.{WorkSeat}
 use Rattle.register_rule.specs.declared.view.Member.{Member}
 use Rattle.register_rule.specs.Seats.{worker_of, index_of}
