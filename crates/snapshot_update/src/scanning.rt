@@ -1,5 +1,5 @@
 //! The scans of a worker.
-ghost use Rattle.std.specs.Prelude.{◌≡◌, ℕ, true, false, slice_index, IfErr, OnOk, OnErr};
+ghost use Rattle.std.specs.Prelude.{◌≡◌, ◌↔◌, ℕ, true, false, IsTrue, slice_index, IfErr, OnOk, OnErr};
 ghost use Rattle.ledger_core.specs.Ops.{width};
 ghost use Rattle.ledger_core.specs.Legal.{IsLegal};
 ghost use Rattle.register_rule.specs.Seats.{worker_of, index_of, HasWorker};
@@ -28,7 +28,7 @@ pub(crate) fn has_view(ended: Ended) -> bool
 /// Whether the scan found all that is remembered.
 #[inline]
 pub(crate) fn is_quiet(ended: Ended) -> bool
-    ensures { result ≡ true → ended ≡ Ended.Direct true }
+    ensures { IsTrue result ↔ (ended ≡ Ended.Direct true) }
 {
     matches!(ended, Ended::Direct { quiet: true })
 }

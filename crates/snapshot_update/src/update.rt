@@ -149,6 +149,7 @@ pub(crate) fn update<const N: usize, const C: usize, const H: usize, const G: us
     ensures fit { IsFit N C H G (index_of seat.new) (length (worker_of seat.new).work.made) row.new memory.new images.new.hidden.items images.new.shown.items images.new.recent images.new.late images.new.own (worker_of seat.new) }
     ensures updated { OnOk result (IsUpdated N C H G (index_of seat.old) ops.now (worker_of seat.old) (worker_of seat.new)) }
     ensures accepted { OnOk result (Accepts C H G (total (sum_ops C H) (worker_of seat.old).work.made) ops.now) }
+    ensures own_row { OnOk result (images.new.own ≡ true) }
     ensures fault { IfErr result (IsOpFault C H G (total (sum_ops C H) (worker_of seat.old).work.made) ops.now) }
     ensures unchanged { OnErr result (worker_of seat.new ≡ worker_of seat.old) }
 {

@@ -49,7 +49,7 @@ fill_version-lends-requires g c =
                     next_words row (rows_of c.args.memory.now) (sums_of c.args.memory.now),
                     fit.images,
                     λ quiet.
-                        let both = and_parts _ _ (and_parts _ _ quiet).0 in let is = c.is_quiet.ensures both.0 in let q = s.ensures.quiet is in
+                        let both = and_parts _ _ (and_parts _ _ quiet).0 in let is = c.is_quiet.ensures.0 both.0 in let q = s.ensures.quiet is in
                         let listed : c.touch.new.touched.all ≡ false = sym c.is_all.ensures ∙ not-true _ both.1 in (
                           listed,
                           is,
@@ -119,7 +119,7 @@ learn-requires g c =
             (
               subst (AreInside w) (sym touched) c.touch.ensures.inside,
               λ quiet v at k lt none.
-                  let both = and_parts _ _ (and_parts _ _ quiet).0 in let is = c.is_quiet.ensures both.0 in let q = s.ensures.quiet is in
+                  let both = and_parts _ _ (and_parts _ _ quiet).0 in let is = c.is_quiet.ensures.0 both.0 in let q = s.ensures.quiet is in
                   let listed : c.touch.new.touched.all ≡ false = sym c.is_all.ensures ∙ not-true _ both.1 in
                   let here : some v ≡ some (record { number = length (worker_of c.args.seat.now).work.made; row = row }) = sym at ∙ ((λ z. get_elem? (q.0 z) (same z)) ∙ fit.own_row (and_parts _ _ quiet).1) in
                   let e = ap (λ (x : Version). slice_index x.row k) (some-injective v _ here) in
@@ -194,7 +194,7 @@ returns-clause-fit g c =
             (subst (DifferAt f.new.images.recent c.args.images.now.shown.items) (sym c.turn.ensures.buffers.1) f.ensures.recent));
         recent_inside = subst (AreInside b) (sym c.turn.ensures.others.0) f.ensures.inside;
         late = by_known quiet (λ known.
-            let both = and_parts _ _ (and_parts _ _ known).0 in let direct = c.is_quiet.ensures both.0 in let q = s.ensures.quiet direct in
+            let both = and_parts _ _ (and_parts _ _ known).0 in let direct = c.is_quiet.ensures.0 both.0 in let q = s.ensures.quiet direct in
             let listed : c.touch.new.touched.all ≡ false = sym c.is_all.ensures ∙ not-true _ both.1 in
             let touched : f.new.images.touched ≡ c.touch.new.touched = f.ensures.others.2 in
             let yes' : f.result ≡ true = lends_quiet f.result s.result f.ensures.none direct in
