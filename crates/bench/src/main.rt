@@ -1,0 +1,77 @@
+//! The program: `bench ROUNDS` measures updates and scans of the library, and prints one line a measurement.
+//!
+//! A line has a measurement's name, the geometry of its board as `N,C,H,G` for `N` workers and rows of `C` counters, `H`
+//! histograms and `G` gauges, the nanoseconds of one operation, and how many times that is what its floor takes. The floor
+//! of an operation is as many sequentially consistent loads and stores of plain atomic numbers as the operation makes,
+//! measured in the same run: [`floors`].
+//!
+//! `bench 0` makes each measurement once, and prints one line that is always the same. Exit status 0 at the end; 2 for other
+//! arguments; 1 where something failed.
+#![tactic(auto)]
+
+mod busy;
+mod clock;
+mod counts;
+mod fault;
+mod floors;
+mod geometry;
+mod plain;
+mod plan;
+mod print;
+mod scans;
+mod setup;
+#[cfg(test)]
+mod tests;
+
+use fault::Fault;
+use geometry::measure;
+use plan::Plan;
+use std::env;
+use std::process::ExitCode;
+use std::rt::Env;
+use std::thread::Threads;
+use std::time::Clock;
+
+const USAGE: &str = "usage: bench ROUNDS, a number of at most 1000000000";
+
+/// The one argument, as a plan.
+fn asked(rt: &(impl Env + AllocGlobal)) -> Option<Plan> {
+    let Ok(mut words) = env::args(rt) else {
+        return None;
+    };
+    let _program = words.next();
+    let word = words.next()?;
+    if words.next().is_some() {
+        return None;
+    }
+    let count = word.as_str().parse::<u64>().ok()?;
+    Plan::of(count)
+}
+
+/// Measures three geometries.
+fn measure_all(
+    rt: &(impl Threads + Clock + Print + AllocGlobal + Sync),
+    plan: Plan,
+) -> Result<(), Fault> {
+    measure::<4, 64, 8, 0>(rt, plan)?;
+    measure::<16, 256, 32, 0>(rt, plan)?;
+    measure::<32, 256, 32, 64>(rt, plan)?;
+    if !plan.shown {
+        println!(rt; "measured 3 geometries")?;
+    }
+    Ok(())
+}
+
+fn main(rt: HostRuntime) -> ExitCode {
+    let Some(plan) = asked(&rt) else {
+        let _ = eprintln!(rt; "{USAGE}");
+        return ExitCode::from(2);
+    };
+    match measure_all(&rt, plan) {
+        Ok(()) => ExitCode::SUCCESS,
+        Err(fault) => {
+            let _ = eprintln!(rt; "{fault}");
+            ExitCode::from(1)
+        }
+    }
+}
