@@ -6,9 +6,10 @@ ghost use Rattle.snapshot_update.specs.Workers.{IsWorkerOf};
 use crate::clock::nanos_since;
 use crate::fault::Fault;
 use crate::floors::plain_updates;
+use crate::measured::Measured;
 use crate::plain::{Number, numbers, words};
 use crate::plan::Plan;
-use crate::print::{Measured, line};
+use crate::print::line;
 use crate::setup::ID;
 use ledger_core::Counter;
 use register_rule::Board;
@@ -185,7 +186,7 @@ fn four_plain(
 }
 
 /// `busy_4`: four workers at once, each on a thread of its own and each with the first counter. An operation is one
-/// increment of each of the four: the time until all have ended, by the rounds of one. A worker whose scan meets numbers
+/// increment of each of the four: the time until all have ended, by the rounds of one, in one batch. A worker whose scan meets numbers
 /// that move reads rows and tries again. The floor is four threads at once, of which each makes what the floor of
 /// `inc_one_counter` makes, with numbers that all load and each stores its own of.
 pub fn measure<const N: usize, const C: usize, const H: usize, const G: usize>(
@@ -202,10 +203,7 @@ pub fn measure<const N: usize, const C: usize, const H: usize, const G: usize>(
     let floor = four_plain(rt, N, rounds)?;
     let start = Instant::now(rt)?;
     four_count(rt, board, four, rounds)?;
-    let measured = Measured {
-        rounds,
-        taken: nanos_since(rt, start)?,
-        floor,
-    };
+    let mut measured = Measured::new(rounds);
+    measured.note(nanos_since(rt, start)?, floor);
     line::<N, C, H, G>(rt, plan, "busy_4", measured)
 }

@@ -1,13 +1,15 @@
 //! Updates of one worker, while nobody else publishes.
-ghost use Rattle.std.specs.Prelude.{◌≡◌, ◌<◌, ◌≤◌, length, IfOk};
+ghost use Rattle.std.specs.Prelude.{◌≡◌, ◌+◌, ◌<◌, ◌≤◌, length, IfOk, OnOk};
 ghost use Rattle.segment_layout.specs.Layout.{IsGeometry};
 ghost use Rattle.snapshot_update.specs.Workers.{IsWorkerOf};
+ghost use Rattle.bench.specs.Made.{published_by};
 
 use crate::clock::nanos_since;
 use crate::fault::Fault;
 use crate::floors::updates;
+use crate::measured::{BATCHES, Measured};
 use crate::plan::Plan;
-use crate::print::{Measured, line};
+use crate::print::line;
 use crate::setup::ID;
 use bucket_math::Bounds;
 use ledger_core::{Counter, Histogram, Op};
@@ -36,6 +38,7 @@ fn incs<const N: usize, const C: usize, const H: usize, const G: usize>(
     requires own { IsWorkerOf board.now worker.old }
     requires some { 0 < counters }
     ensures own { IsWorkerOf board.now worker.new }
+    ensures published { OnOk result (published_by worker.new ≡ published_by worker.old + rounds) }
 {
     let mut counter = Counter {
         registry: ID,
@@ -62,6 +65,7 @@ fn observes<const N: usize, const C: usize, const H: usize, const G: usize>(
 ) -> Result<u64, Fault>
     requires own { IsWorkerOf board.now worker.old }
     ensures own { IsWorkerOf board.now worker.new }
+    ensures published { OnOk result (published_by worker.new ≡ published_by worker.old + rounds) }
 {
     let start = Instant::now(clock)?;
     for _k in 0..rounds {
@@ -80,6 +84,7 @@ fn applies<const N: usize, const C: usize, const H: usize, const G: usize>(
 ) -> Result<u64, Fault>
     requires own { IsWorkerOf board.now worker.old }
     ensures own { IsWorkerOf board.now worker.new }
+    ensures published { OnOk result (published_by worker.new ≡ published_by worker.old + rounds) }
 {
     let start = Instant::now(clock)?;
     for _k in 0..rounds {
@@ -115,14 +120,13 @@ fn inc_one_counter<const N: usize, const C: usize, const H: usize, const G: usiz
     requires geometry { IsGeometry N C H G }
     ensures own { IsWorkerOf board.now worker.new }
 {
-    let rounds = plan.rounds;
-    let floor = updates(rt, N, 3, rounds)?;
-    let taken = incs(rt, board, worker, 1, rounds)?;
-    let measured = Measured {
-        rounds,
-        taken,
-        floor,
-    };
+    let rounds = plan.one_in(10);
+    let mut measured = Measured::new(rounds);
+    for _batch in 0..BATCHES {
+        let floor = updates(rt, N, 3, rounds)?;
+        let taken = incs(rt, board, worker, 1, rounds)?;
+        measured.note(taken, floor);
+    }
     line::<N, C, H, G>(rt, plan, "inc_one_counter", measured)
 }
 
@@ -139,14 +143,13 @@ fn inc_in_turn<const N: usize, const C: usize, const H: usize, const G: usize>(
     requires counters { 0 < C }
     ensures own { IsWorkerOf board.now worker.new }
 {
-    let rounds = plan.rounds;
-    let floor = updates(rt, N, 5, rounds)?;
-    let taken = incs(rt, board, worker, C, rounds)?;
-    let measured = Measured {
-        rounds,
-        taken,
-        floor,
-    };
+    let rounds = plan.one_in(10);
+    let mut measured = Measured::new(rounds);
+    for _batch in 0..BATCHES {
+        let floor = updates(rt, N, 5, rounds)?;
+        let taken = incs(rt, board, worker, C, rounds)?;
+        measured.note(taken, floor);
+    }
     line::<N, C, H, G>(rt, plan, "inc_in_turn", measured)
 }
 
@@ -170,14 +173,13 @@ fn observe<const N: usize, const C: usize, const H: usize, const G: usize>(
         slot: 0,
         bounds,
     };
-    let rounds = plan.rounds;
-    let floor = updates(rt, N, 7, rounds)?;
-    let taken = observes(rt, board, worker, &hist, rounds)?;
-    let measured = Measured {
-        rounds,
-        taken,
-        floor,
-    };
+    let rounds = plan.one_in(10);
+    let mut measured = Measured::new(rounds);
+    for _batch in 0..BATCHES {
+        let floor = updates(rt, N, 7, rounds)?;
+        let taken = observes(rt, board, worker, &hist, rounds)?;
+        measured.note(taken, floor);
+    }
     line::<N, C, H, G>(rt, plan, "observe", measured)
 }
 
@@ -196,14 +198,13 @@ fn apply_100<const N: usize, const C: usize, const H: usize, const G: usize>(
     ensures own { IsWorkerOf board.now worker.new }
 {
     let ops = list(rt.alloc(), C)?;
-    let rounds = plan.one_in(10);
-    let floor = updates(rt, N, 2 * C.min(LIST) + 1, rounds)?;
-    let taken = applies(rt, board, worker, ops.as_slice(), rounds)?;
-    let measured = Measured {
-        rounds,
-        taken,
-        floor,
-    };
+    let rounds = plan.one_in(100);
+    let mut measured = Measured::new(rounds);
+    for _batch in 0..BATCHES {
+        let floor = updates(rt, N, 2 * C.min(LIST) + 1, rounds)?;
+        let taken = applies(rt, board, worker, ops.as_slice(), rounds)?;
+        measured.note(taken, floor);
+    }
     line::<N, C, H, G>(rt, plan, "apply_100", measured)
 }
 

@@ -3,7 +3,7 @@
 //! A line has a measurement's name, the geometry of its board as `N,C,H,G` for `N` workers and rows of `C` counters, `H`
 //! histograms and `G` gauges, the nanoseconds of one operation, and how many times that is what its floor takes. The floor
 //! of an operation is as many sequentially consistent loads and stores of plain atomic numbers as the operation makes,
-//! measured in the same run: [`floors`].
+//! measured in the same run: [`floors`]. Both are made by turns, in ten batches each, of which the fastest ones count.
 //!
 //! `bench 0` makes each measurement once, and prints one line that is always the same. Exit status 0 at the end; 2 for other
 //! arguments; 1 where something failed.
@@ -15,6 +15,7 @@ mod counts;
 mod fault;
 mod floors;
 mod geometry;
+mod measured;
 mod plain;
 mod plan;
 mod print;

@@ -2,6 +2,7 @@
 ghost use Rattle.std.specs.Prelude.{◌≡◌, ◌+◌, ◌*◌, ◌/◌, ◌<◌, min};
 
 use crate::fault::Fault;
+use crate::measured::Measured;
 use crate::plan::Plan;
 use std::fmt;
 use std::fmt::{Display, Formatter, Write};
@@ -26,18 +27,6 @@ pub fn in_tenths(amount: u64, parts: u64) -> Tenths
 {
     let parts = parts.min(MOST);
     Tenths((amount.min(MOST) * 10 + parts / 2) / parts)
-}
-
-/// What a measurement found: that `rounds` operations took so many nanoseconds, and that so many floors took `floor`.
-#[derive(Clone, Copy, Debug, PartialEq, Eq)]
-pub struct Measured {
-    /// How many operations, and how many floors.
-    pub rounds: u64,
-    /// Nanoseconds of all operations.
-    pub taken: u64,
-    /// Nanoseconds of all floors.
-    pub floor: u64,
-    ghost some: { 0 < rounds },
 }
 
 /// Prints the line of a measurement, if the plan shows it.

@@ -1,15 +1,18 @@
 //! Scans of a reader, while nobody publishes.
-ghost use Rattle.std.specs.Prelude.{◌≡◌, ◌<◌, ◌≤◌, length, All};
+ghost use Rattle.std.specs.Prelude.{◌≡◌, ℕ, ◌+◌, ◌<◌, ◌≤◌, length, slice_index_or, All, OnOk};
 ghost use Rattle.ledger_core.specs.Ops.{width};
 ghost use Rattle.segment_layout.specs.Layout.{IsGeometry};
 ghost use Rattle.snapshot_scan.specs.Readers.{IsReaderOf};
+ghost use Rattle.snapshot_update.specs.declared.worker.Worker.{Worker};
 ghost use Rattle.snapshot_update.specs.Workers.{IsWorkerOf};
+ghost use Rattle.bench.specs.Made.{published_by, recorded_by};
 
 use crate::clock::{cost, nanos_since};
 use crate::fault::Fault;
 use crate::floors;
+use crate::measured::{BATCHES, Measured};
 use crate::plan::Plan;
-use crate::print::{Measured, line};
+use crate::print::line;
 use crate::setup::ID;
 use ledger_core::Counter;
 use register_rule::Board;
@@ -27,6 +30,7 @@ fn publish<const N: usize, const C: usize, const H: usize, const G: usize>(
     requires moved { moved ≤ length workers.old }
     ensures own { All (IsWorkerOf board.now) workers.new }
     ensures all { length workers.new ≡ length workers.old }
+    ensures moved { OnOk result ((k : ℕ) (d : Worker N C H G) → k < moved → published_by (slice_index_or workers.new k d) ≡ published_by (slice_index_or workers.old k d) + 1) }
 {
     let counter = Counter {
         registry: ID,
@@ -48,6 +52,7 @@ fn quiet_scans<const N: usize, const C: usize, const H: usize, const G: usize>(
 ) -> Result<u64, Fault>
     requires own { IsReaderOf board.now reader.old }
     ensures own { IsReaderOf board.now reader.new }
+    ensures recorded { OnOk result (recorded_by reader.new ≡ recorded_by reader.old + rounds) }
 {
     let start = Instant::now(clock)?;
     for _k in 0..rounds {
@@ -75,6 +80,7 @@ fn moved_scans<const N: usize, const C: usize, const H: usize, const G: usize>(
     ensures workers { All (IsWorkerOf board.now) workers.new }
     ensures all { length workers.new ≡ length workers.old }
     ensures reader { IsReaderOf board.now reader.new }
+    ensures recorded { OnOk result (recorded_by reader.new ≡ recorded_by reader.old + rounds) }
 {
     let mut taken = 0u64;
     for _k in 0..rounds {
@@ -96,15 +102,14 @@ fn scan_quiet<const N: usize, const C: usize, const H: usize, const G: usize>(
     requires geometry { IsGeometry N C H G }
     ensures own { IsReaderOf board.now reader.new }
 {
-    let rounds = plan.rounds;
+    let rounds = plan.one_in(10);
     let row = C + 27 * H + 2 * G;
-    let floor = floors::scans(rt, N, 0, N + row, rounds)?;
-    let taken = quiet_scans(rt, board, reader, out, rounds)?;
-    let measured = Measured {
-        rounds,
-        taken,
-        floor,
-    };
+    let mut measured = Measured::new(rounds);
+    for _batch in 0..BATCHES {
+        let floor = floors::scans(rt, N, 0, N + row, rounds)?;
+        let taken = quiet_scans(rt, board, reader, out, rounds)?;
+        measured.note(taken, floor);
+    }
     line::<N, C, H, G>(rt, plan, "scan_quiet", measured)
 }
 
@@ -129,16 +134,15 @@ fn scan_moved<const N: usize, const C: usize, const H: usize, const G: usize>(
     ensures all { length workers.new ≡ length workers.old }
     ensures reader { IsReaderOf board.now reader.new }
 {
-    let rounds = plan.one_in(100);
+    let rounds = plan.one_in(1_000);
     let row = C + 27 * H + 2 * G;
-    let floor = floors::scans(rt, N, moved * row, N + row, rounds)?;
-    let clock = cost(rt, rounds)?;
-    let timed = moved_scans(rt, board, workers, reader, out, moved, rounds)?;
-    let measured = Measured {
-        rounds,
-        taken: timed.saturating_sub(clock),
-        floor,
-    };
+    let mut measured = Measured::new(rounds);
+    for _batch in 0..BATCHES {
+        let floor = floors::scans(rt, N, moved * row, N + row, rounds)?;
+        let clock = cost(rt, rounds)?;
+        let timed = moved_scans(rt, board, workers, reader, out, moved, rounds)?;
+        measured.note(timed.saturating_sub(clock), floor);
+    }
     line::<N, C, H, G>(rt, plan, name, measured)
 }
 

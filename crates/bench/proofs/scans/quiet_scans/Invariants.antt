@@ -1,5 +1,10 @@
+use Rattle.std.proofs.Common.{◌≡◌, ◌+◌}
 use Rattle.snapshot_scan.specs.Readers.{IsReaderOf}
+use Rattle.bench.specs.Made.{recorded_by}
 use Rattle.bench.proofs.scans.quiet_scans.Given as goal
 
 abbrev pub invariant-loop-k : goal.invariant-loop-k
-invariant-loop-k g l = IsReaderOf l.board l.reader
+invariant-loop-k g l = record {
+  own : IsReaderOf l.board l.reader;
+  recorded : recorded_by l.reader ≡ recorded_by l.fn.reader + l._k;
+}
