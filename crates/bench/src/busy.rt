@@ -1,7 +1,8 @@
 //! Four workers at once, each on a thread of its own.
-ghost use Rattle.std.specs.Prelude.{◌≡◌, ◌+◌, ◌<◌, ◌≤◌, length, All};
+ghost use Rattle.std.specs.Prelude.{◌≡◌, ◌+◌, ◌<◌, ◌≤◌, length, All, IfOk};
 ghost use Rattle.segment_layout.specs.Layout.{IsGeometry};
 ghost use Rattle.snapshot_update.specs.Workers.{IsWorkerOf};
+ghost use Rattle.bench.specs.Made.{published_by};
 
 use crate::clock::nanos_since;
 use crate::fault::Fault;
@@ -18,13 +19,14 @@ use std::sync::atomic::AtomicU64;
 use std::thread::{Threads, join};
 use std::time::{Clock, Instant};
 
-/// So many increments of the first counter.
+/// So many increments of the first counter. It gives how often the worker has then published.
 fn count<const N: usize, const C: usize, const H: usize, const G: usize>(
     board: &Board<N, C, H, G>,
     mut worker: Worker<N, C, H, G>,
     rounds: u64,
-) -> Result<(), CountFault>
+) -> Result<u64, CountFault>
     requires own { IsWorkerOf board.now worker }
+    ensures published { IfOk result (λ n. n ≡ published_by worker.entry + rounds) }
 {
     let counter = Counter {
         registry: ID,
@@ -33,30 +35,33 @@ fn count<const N: usize, const C: usize, const H: usize, const G: usize>(
     for _k in 0..rounds {
         worker.inc(board, &counter, 1)?;
     }
-    Ok(())
+    Ok(worker.number())
 }
 
-/// Two workers count at once.
+/// Two workers count at once. It gives how often each has then published.
 fn two_count<const N: usize, const C: usize, const H: usize, const G: usize>(
     rt: &(impl Threads + Sync),
     board: &Board<N, C, H, G>,
     left: Worker<N, C, H, G>,
     right: Worker<N, C, H, G>,
     rounds: u64,
-) -> Result<(), CountFault>
+) -> Result<(u64, u64), CountFault>
     requires own { IsWorkerOf board.now left × IsWorkerOf board.now right }
+    ensures left { IfOk result (λ n. n.0 ≡ published_by left.entry + rounds) }
+    ensures right { IfOk result (λ n. n.1 ≡ published_by right.entry + rounds) }
 {
     let (left, right) = join(
         rt,
-        || -> Result<(), CountFault>
+        || -> Result<u64, CountFault>
             requires { IsWorkerOf board.now left }
+            ensures { IfOk result (λ n. n ≡ published_by left + rounds) }
         { count(board, left, rounds) },
-        || -> Result<(), CountFault>
+        || -> Result<u64, CountFault>
             requires { IsWorkerOf board.now right }
+            ensures { IfOk result (λ n. n ≡ published_by right + rounds) }
         { count(board, right, rounds) },
     );
-    left?;
-    right
+    Ok((left?, right?))
 }
 
 /// Four workers.
@@ -68,28 +73,31 @@ struct Four<const N: usize, const C: usize, const H: usize, const G: usize> {
     d: Worker<N, C, H, G>,
 }
 
-/// Four workers count at once.
+/// Four workers count at once. It gives how often the first two and the last two have then published.
 fn four_count<const N: usize, const C: usize, const H: usize, const G: usize>(
     rt: &(impl Threads + Sync),
     board: &Board<N, C, H, G>,
     four: Four<N, C, H, G>,
     rounds: u64,
-) -> Result<(), CountFault>
+) -> Result<((u64, u64), (u64, u64)), CountFault>
     requires left { IsWorkerOf board.now four.a × IsWorkerOf board.now four.b }
     requires right { IsWorkerOf board.now four.c × IsWorkerOf board.now four.d }
+    ensures left { IfOk result (λ n. (n.0.0 ≡ published_by four.entry.a + rounds) × (n.0.1 ≡ published_by four.entry.b + rounds)) }
+    ensures right { IfOk result (λ n. (n.1.0 ≡ published_by four.entry.c + rounds) × (n.1.1 ≡ published_by four.entry.d + rounds)) }
 {
     let Four { a, b, c, d } = four;
     let (left, right) = join(
         rt,
-        || -> Result<(), CountFault>
+        || -> Result<(u64, u64), CountFault>
             requires { IsWorkerOf board.now a × IsWorkerOf board.now b }
+            ensures { IfOk result (λ n. (n.0 ≡ published_by a + rounds) × (n.1 ≡ published_by b + rounds)) }
         { two_count(rt, board, a, b, rounds) },
-        || -> Result<(), CountFault>
+        || -> Result<(u64, u64), CountFault>
             requires { IsWorkerOf board.now c × IsWorkerOf board.now d }
+            ensures { IfOk result (λ n. (n.0 ≡ published_by c + rounds) × (n.1 ≡ published_by d + rounds)) }
         { two_count(rt, board, c, d, rounds) },
     );
-    left?;
-    right
+    Ok((left?, right?))
 }
 
 /// The last of these workers.
@@ -202,7 +210,7 @@ pub fn measure<const N: usize, const C: usize, const H: usize, const G: usize>(
     let rounds = plan.one_in(100);
     let floor = four_plain(rt, N, rounds)?;
     let start = Instant::now(rt)?;
-    four_count(rt, board, four, rounds)?;
+    let _published = four_count(rt, board, four, rounds)?;
     let mut measured = Measured::new(rounds);
     measured.note(nanos_since(rt, start)?, floor);
     line::<N, C, H, G>(rt, plan, "busy_4", measured)

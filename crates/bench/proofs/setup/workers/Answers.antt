@@ -1,4 +1,4 @@
-use Rattle.std.proofs.Common.{◌≡◌, ◌++◌, ◌+◌, [], ◌∷◌, All, List, ap, length, length-append, arith, subst, sym}
+use Rattle.std.proofs.Common.{All, List, ap, length, length-append, arith, subst, sym}
 use Rattle.std.proofs.lemmas.List.Elements.{All-push, All-pop}
 use Rattle.snapshot_update.specs.declared.worker.Worker.{Worker}
 use Rattle.snapshot_update.specs.Workers.{IsWorkerOf}
