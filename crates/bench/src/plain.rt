@@ -1,5 +1,5 @@
 //! Plain atomic numbers, and the loads and stores that floors are made of. Each is sequentially consistent.
-ghost use Rattle.std.specs.Prelude.{◌≡◌, ◌<◌, length, IfOk};
+ghost use Rattle.std.specs.Prelude.{◌≡◌, length, IfOk};
 
 use std::alloc::{AllocError, Global};
 use std::sync::atomic::{AtomicU64, Ordering};

@@ -1,5 +1,5 @@
 //! How often each operation is made.
-ghost use Rattle.std.specs.Prelude.{◌≡◌, ◌+◌, ◌/◌, ◌<◌, ◌≤◌, max, true, false, IfSome, IfNone};
+ghost use Rattle.std.specs.Prelude.{◌≡◌, ◌/◌, ◌<◌, ◌≤◌, max, true, false, IfSome, IfNone};
 
 /// The most rounds that can be asked for.
 const MOST: u64 = 1_000_000_000;

@@ -1,9 +1,7 @@
 //! A board with all of its workers and a reader.
-ghost use Rattle.std.specs.Prelude.{◌≡◌, ◌+◌, length, IfOk, All};
-ghost use Rattle.ledger_core.specs.Ops.{width};
-ghost use Rattle.segment_layout.specs.Layout.{IsGeometry, depth};
-ghost use Rattle.register_rule.specs.Members.{fresh_scan};
-ghost use Rattle.register_rule.specs.Seats.{reader_of, board_id, HasReader};
+ghost use Rattle.std.specs.Prelude.{◌≡◌, length, IfOk, All};
+ghost use Rattle.segment_layout.specs.Layout.{IsGeometry};
+ghost use Rattle.register_rule.specs.Seats.{board_id};
 ghost use Rattle.snapshot_scan.specs.Readers.{IsReaderOf};
 ghost use Rattle.snapshot_update.specs.Workers.{IsWorkerOf};
 ghost use Rattle.bench.specs.Seats.{IsFreshWorker, IsFreshReader};
