@@ -84,7 +84,7 @@ loop-place-preserved g c =
           ⊎_elim (λ h. inv.known both.0 q y low h ∙ sym (get_or-set_other os p q x 0 other)) (λ h. absurd (other h.1)) (from_set gs p g' q y at'));
       unknown = λ t. let dd = c.index-kept-place-in-loop-place.result in let read : get_or (set gs p g') p dd ≡ g' = get_or-set_same gs p g' dd lt in
           ⊎_elim (λ h. let old = inv.unknown h in let low = old.2 in let other : old.0 ≢ p = λ e. omega (arith, low, e) in
-            (old.0, old.1, omega (arith, low), set_elsewhere gs p old.0 g' other ∙ old.3, λ e. old.4 (e ∙ get_or-set_other os p old.0 x 0 other)))
+          (old.0, old.1, omega (arith, low), set_elsewhere gs p old.0 g' other ∙ old.3, λ e. old.4 (e ∙ get_or-set_other os p old.0 x 0 other)))
           (λ h. (p, g', omega arith, set_at gs p g' gg at, λ e. eqb-false x (get_or (set gs p g') p dd).number h (sym (get_or-set_same os p x 0 lt') ∙ (sym e ∙ ap (λ (k : Kept). k.number) (sym read)))))
           (and_cases c.loop-place.known (x == (get_or (set gs p g') p dd).number) t);
       told = below_more (λ (q : ℕ). IsLoaded q c0 (get_or (set os p x) q 0)) p
