@@ -1,10 +1,11 @@
 #!/bin/sh
 # Runs the example script with the Nth allocation refused, for each N, and compares what is printed and the status.
 # The program makes 12 allocations: 4 for its arguments, 2 before the first line, and 1, 1 and 4 at the lines 1, 3 and 6.
-# Then runs the tests of expo_text, register_rule, snapshot_core, snapshot_scan and snapshot_update with each test's Nth
-# allocation refused: a test may then end for want of memory, but none may see another answer in its place. A board of 2
-# workers makes 5 allocations, a reader of it 9, and a worker 15. The test each_growth of snapshot_core makes 3 for its list of events and 21 in its run, which has a publish
-# and two answers.
+# Then runs the tests of expo_text, register_rule, snapshot_core, snapshot_scan, snapshot_update and chain_law with each
+# test's Nth allocation refused: a test may then end for want of memory, but none may see another answer in its place. A
+# board of 2 workers makes 5 allocations, a reader of it 9, and a worker 15. The test each_growth of snapshot_core makes 3
+# for its list of events and 21 in its run, which has a publish and two answers. The test one_snapshot_has_a_history of
+# chain_law makes 47 for a snapshot and the list that has it, and the next one in history_of.
 set -eu
 cd "$(dirname "$0")/crates/metrics_run"
 logs=$(mktemp -d)
@@ -36,23 +37,25 @@ echo "each of 12 allocations refused in turn: as expected"
 # What want of memory is called: an error that the test gives back, or what it was met with by an `expect`.
 memory='^ +(error|room|runs|it runs): (NoMemory|AllocError|AllocFailed \{ \.\. \}|Kind\(OutOfMemory\))$'
 
-# The tests of the crate $1 with each test's Nth allocation refused, for each N up to $2. The line after a failed test says
-# why it failed.
+# The tests of the crate $1 with each test's Nth allocation refused, for each N from $2 to $3. The line after a failed test
+# says why it failed.
 refuse_in_tests() {
     cd "../$1"
-    seq 1 "$2" | xargs -P "$(nproc)" -I{} sh -c 'rt try --test --fail-alloc {} >"$0/$1{}" 2>&1 || true' "$logs" "$1"
-    for n in $(seq 1 "$2"); do
+    seq "$2" "$3" | xargs -P "$(nproc)" -I{} sh -c 'rt try --test --fail-alloc {} >"$0/$1{}" 2>&1 || true' "$logs" "$1"
+    for n in $(seq "$2" "$3"); do
         if ! grep -q '^test result:' "$logs/$1$n" || grep -A1 '^test .* FAILED$' "$logs/$1$n" | grep -Ev '^(test |--)' | grep -Evq "$memory"; then
             echo "allocation $n of a test refused: another answer came in place of want of memory"
             cat "$logs/$1$n"
             exit 1
         fi
     done
-    echo "each of the first $2 allocations of every test of $1 refused in turn: no other answer came in its place"
+    echo "the allocations $2 to $3 of every test of $1 refused in turn: no other answer came in its place"
 }
 
-refuse_in_tests expo_text 12
-refuse_in_tests register_rule 5
-refuse_in_tests snapshot_core 24
-refuse_in_tests snapshot_scan 16
-refuse_in_tests snapshot_update 20
+refuse_in_tests expo_text 1 12
+refuse_in_tests register_rule 1 5
+refuse_in_tests snapshot_core 1 24
+refuse_in_tests snapshot_scan 1 16
+refuse_in_tests snapshot_update 1 20
+refuse_in_tests chain_law 1 4
+refuse_in_tests chain_law 44 49

@@ -71,7 +71,7 @@ without_is who (m ∷ ms) = (λ k. cond (same_who who m.who) (without_is who ms 
 from_picked : (who : Who) (ms : List Member) (q : ℕ) (y : Member) → get_elem? (picked who ms) q ≡ some y → ((p : ℕ) × (get_elem? ms p ≡ some y)) × (same_who who y.who ≡ true)
 from_picked who ms q y e = from_filter (λ m. same_who who m.who) ms q y (ap (λ (l : List Member). get_elem? l q) (sym (picked_is who ms)) ∙ e)
 
-from_without : (who : Who) (ms : List Member) (q : ℕ) (y : Member) → get_elem? (without who ms) q ≡ some y → ((p : ℕ) × (get_elem? ms p ≡ some y)) × (same_who who y.who ≡ false)
+pub from_without : (who : Who) (ms : List Member) (q : ℕ) (y : Member) → get_elem? (without who ms) q ≡ some y → ((p : ℕ) × (get_elem? ms p ≡ some y)) × (same_who who y.who ≡ false)
 from_without who ms q y e = let t = from_filter (λ (m : Member). not (same_who who m.who)) ms q y (ap (λ (l : List Member). get_elem? l q) (sym (without_is who ms)) ∙ e) in (t.0, not-true _ t.1)
 
 pub same_is : (a c : Who) → same_who a c ≡ true → a ≡ c

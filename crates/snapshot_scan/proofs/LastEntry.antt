@@ -15,7 +15,7 @@ use Rattle.snapshot_scan.specs.Snapshots.{AreLow}
 use Rattle.snapshot_scan.specs.Scanned.{Tried, FailedTry, IsAnswered, IsGivenUp}
 use Rattle.snapshot_scan.proofs.Totals.{totals_low, totals_legal}
 
-at_end : {A : Type 0} (l : List A) (x : A) → get_elem? (l ++ x ∷ []) (length l) ≡ some x
+pub at_end : {A : Type 0} (l : List A) (x : A) → get_elem? (l ++ x ∷ []) (length l) ≡ some x
 at_end [] x = refl
 at_end (y ∷ l) x = at_end l x
 

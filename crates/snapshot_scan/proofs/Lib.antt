@@ -11,3 +11,6 @@ pub mod Totals
 pub mod LastEntry
 pub mod OwnRow
 pub mod Lends
+pub mod Standing
+pub mod Gathered
+pub mod Comparing

@@ -1,7 +1,7 @@
 -- The tries of a scan, and its ends.
 use Rattle.std.proofs.Common.{◌≡◌, ◌≢◌, inl, inr, ℕ, zero, suc, ◌+◌, ◌<◌, Bool, true, false, cond, ◌==◌, List, [], ◌∷◌, ◌++◌, length, map, get_or, slice_index, sym, refl, ap, ◌∙◌, subst, arith, ne_eqb, append_assoc}
 use Rattle.std.proofs.lemmas.List.{append-nil}
-use mathlib.Core.Option.{some-injective, some-ne-none}
+use mathlib.Core.Option.{some, some-injective, some-ne-none}
 use lib.ListN.{get_elem?}
 use Rattle.ledger_core.specs.Vectors.{is_above}
 use Rattle.register_rule.specs.declared.view.Entry.{Entry}
@@ -125,8 +125,8 @@ module _ (n : ℕ) (floor base first last : List ℕ) (tries : List Tried) (trie
   }
 
   -- all tries have failed
-  pub all_failed : length tries ≡ n + 2 → IsGivenUp n c (gives_up n (stood tries gs0 floor base c)) first last
-  all_failed count = subst (λ (x : Scan). IsGivenUp n c x first last) (sym (given_last n (stood tries gs0 floor base c) refl count)) (record {
+  pub all_failed : length tries ≡ n + 2 → ((q : ℕ) (t : Tried) → get_elem? tries q ≡ some t → Below c.seen t.first) → IsGivenUp n c (gives_up n (stood tries gs0 floor base c)) first last
+  all_failed count above = subst (λ (x : Scan). IsGivenUp n c x first last) (sym (given_last n (stood tries gs0 floor base c) refl count)) (record {
     recorded = refl;
     seen = refl;
     quit = refl;
@@ -140,6 +140,7 @@ module _ (n : ℕ) (floor base first last : List ℕ) (tries : List Tried) (trie
     opened = refl;
     confirmed = refl;
     asked = refl;
+    above = above;
     each = λ q t at. subst (λ (f : List ℕ). FailedTry n f tried.head.second t) (sym tried.is_floor) (subst (λ (b : List ℕ). FailedTry n floor b t) (sym tried.is_base) (tried.each q t at));
     final_first = tried.ends.3;
     final_last = tried.ends.4;

@@ -7,3 +7,5 @@ pub mod Core
 pub mod Memories
 pub mod Snapshots
 pub mod Readers
+pub mod Lent
+pub mod Order

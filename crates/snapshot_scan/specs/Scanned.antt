@@ -73,7 +73,8 @@ pub record IsAnswered (n : ℕ) (c c' : Scan) (a : Entry) : Type 0 where
   pub above : Below floor a.vector
   pub seen_before : Below c.seen a.vector
 
--- from c to c' a scan of n + 2 tries was given up; `first` and `last` are the numbers of its last try
+-- from c to c' a scan of n + 2 tries was given up, none of which opened at less than had been seen before; `first` and `last`
+-- are the numbers of its last try
 pub record IsGivenUp (n : ℕ) (c c' : Scan) (first last : List ℕ) : Type 0 where
   pub recorded : c'.recorded ≡ c.recorded
   pub seen : c'.seen ≡ c.seen
@@ -89,5 +90,6 @@ pub record IsGivenUp (n : ℕ) (c c' : Scan) (first last : List ℕ) : Type 0 wh
   pub confirmed : c'.confirmed ≡ c.confirmed ++ all_confirmed tries
   pub asked : c'.asked ≡ c.asked ++ all_asked tries
   pub each : (q : ℕ) (t : Tried) → get_elem? tries q ≡ some t → FailedTry n head.first head.second t
+  pub above : (q : ℕ) (t : Tried) → get_elem? tries q ≡ some t → Below c.seen t.first
   pub final_first : final.first ≡ first
   pub final_last : final.second ≡ last

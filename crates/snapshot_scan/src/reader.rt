@@ -5,6 +5,7 @@ ghost use Rattle.register_rule.specs.Members.{first_of};
 ghost use Rattle.register_rule.specs.Seats.{members_of};
 ghost use Rattle.snapshot_scan.specs.Shape.{scan_in};
 ghost use Rattle.snapshot_scan.specs.Memories.{IsReady};
+ghost use Rattle.snapshot_scan.specs.Lent.{AreWorkers, behind, HasSeen};
 
 use crate::memory::Memory;
 use register_rule::Bundle;
@@ -19,4 +20,6 @@ pub struct Reader<const N: usize, const C: usize, const H: usize, const G: usize
     ghost leads: { 0 < length (members_of bundle) },
     ghost is: { (first_of (members_of bundle)).who ≡ Reader index },
     ghost ready: { IsReady (scan_in bundle) memory },
+    ghost lent: { AreWorkers (behind (members_of bundle)) },
+    ghost seen: { HasSeen (members_of bundle) },
 }

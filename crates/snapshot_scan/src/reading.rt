@@ -1,5 +1,5 @@
 //! What a reader does.
-ghost use Rattle.std.specs.Prelude.{◌≡◌, slice_index, IfOk, IfErr, OnOk, OnErr};
+ghost use Rattle.std.specs.Prelude.{◌≡◌, slice_index, IfOk, IfErr, OnOk, OnErr, IsOk};
 ghost use Rattle.ledger_core.specs.Ops.{width};
 ghost use Rattle.ledger_core.specs.Legal.{IsLegal};
 ghost use Rattle.segment_layout.specs.Layout.{IsGeometry};
@@ -12,6 +12,9 @@ ghost use Rattle.snapshot_scan.specs.Scanned.{IsAnswered};
 ghost use Rattle.snapshot_scan.specs.Contention.{IsContended};
 ghost use Rattle.snapshot_scan.specs.Core.{CameTo, AnswersBy};
 ghost use Rattle.snapshot_scan.specs.Snapshots.{entry_of};
+ghost use Rattle.snapshot_scan.specs.Lent.{HasNumbers, AllStand};
+ghost use Rattle.register_rule.specs.declared.view.Entry.{Entry};
+ghost use Rattle.snapshot_scan.specs.Order.{HasRecorded, IsAlone};
 ghost use Rattle.snapshot_scan.specs.Readers.{bundle_of, members_with, scan_by, index_of, IsReaderOf};
 
 use crate::contended::Contended;
@@ -33,6 +36,7 @@ impl<const N: usize, const C: usize, const H: usize, const G: usize> Reader<N, C
         requires fresh { (reader_of seat).scan ≡ fresh_scan N (width C H G) }
         ensures same { IfOk result (λ r. bundle_of r ≡ read_bundle seat) }
         ensures index { IfOk result (λ r. (reader_of seat).who ≡ Who.Reader (index_of r)) }
+        ensures alone { IfOk result IsAlone }
         ensures back { IfErr result (λ e. e.seat ≡ seat) }
     {
         let Ok(memory) = Memory::new(alloc) else {
@@ -52,6 +56,9 @@ impl<const N: usize, const C: usize, const H: usize, const G: usize> Reader<N, C
     /// After Ok `out` is the last entry of what the reader has recorded, and all segments at one moment. By the board's rule its
     /// vector is comparable with every one that any scan of this board records; this call tells so of the reader's own alone.
     ///
+    /// A worker that is lent to the reader cannot publish: the vector has its number, and the totals all that it has counted.
+    /// A scan for which all workers are lent is always Ok.
+    ///
     /// # Errors
     ///
     /// 14 [`Contended`]: in each of `N` + 2 tries some worker's number rose, and nobody lent a view that is new enough.
@@ -67,6 +74,11 @@ impl<const N: usize, const C: usize, const H: usize, const G: usize> Reader<N, C
         ensures others { members_with self.new ≡ with_scan (scan_by self.new) (members_with self.old) }
         ensures ruled { IsRuled N C H G (bundle_of self.new) }
         ensures answered { OnOk result (IsAnswered N (scan_by self.old) (scan_by self.new) (entry_of out.new)) }
+        ensures found { OnOk result (HasRecorded self.new (entry_of out.new)) }
+        ensures still { (a : Entry) → HasRecorded self.old a → HasRecorded self.new a }
+        ensures alone { IsAlone self.old → IsAlone self.new }
+        ensures lent { OnOk result (HasNumbers (members_with self.old) out.new.vector) }
+        ensures gathered { AllStand N (members_with self.old) → IsOk result }
         ensures answers { OnOk result (AnswersBy N (width C H G) (scan_by self.old) (scan_by self.new) (entry_of out.new)) }
         ensures legal { OnOk result (IsLegal C H (slice_index out.new.totals)) }
         ensures contended { IfErr result (IsContended N (scan_by self.old) (scan_by self.new)) }

@@ -12,7 +12,7 @@ use Rattle.snapshot_scan.specs.Memories.{rows_of, sums_of}
 use Rattle.snapshot_scan.proofs.Blank.{zero_in}
 use Rattle.snapshot_update.specs.declared.images.Images.{Images}
 use Rattle.snapshot_update.specs.Images.{Changed}
-use Rattle.snapshot_update.specs.Fit.{number_in, IsFit}
+use Rattle.snapshot_update.specs.Fit.{number_in, IsFit, HasSeenOwn}
 use Rattle.snapshot_update.specs.Blank.{AreBlank}
 use Rattle.snapshot_update.proofs.Noted.{none_listed}
 use Rattle.snapshot_update.proofs.VersionWords.{words_long, numbers_long}
@@ -60,3 +60,12 @@ module _ (n c h g index : ℕ) (row : List ℕ) (memory : Memory n c h g) (im : 
 
   pub first_fit : (m : Member) → m ≡ new_worker n (width c h g) (depth n (width c h g)) index → IsFit n c h g index (length m.work.made) row memory im.hidden.items im.shown.items im.recent im.late im.own m
   first_fit m is = subst (λ (x : Member). IsFit n c h g index (length x.work.made) row memory im.hidden.items im.shown.items im.recent im.late im.own x) (sym is) at_first
+
+zero_at : (n i : ℕ) → i < n → get_elem? {A = ℕ} (replicate n 0) i ≡ some 0
+zero_at zero i h = absurd (omega (arith, h))
+zero_at (suc n) zero h = refl
+zero_at (suc n) (suc i) h = zero_at n i (omega (arith, h))
+
+-- a new worker has seen that it published nothing
+pub first_seen : (n c h g i : ℕ) (m : Member) → i < n → m ≡ new_worker n (width c h g) (depth n (width c h g)) i → HasSeenOwn i m
+first_seen n c h g i m lt is = subst (HasSeenOwn i) (sym is) (zero_at n i lt)

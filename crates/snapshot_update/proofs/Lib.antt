@@ -8,3 +8,4 @@ pub mod VersionWords
 pub mod Fitting
 pub mod FirstFit
 pub mod ScannedFit
+pub mod Lending

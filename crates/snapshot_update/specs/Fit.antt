@@ -51,3 +51,7 @@ pub record IsFit (n c h g index number : ℕ) (row : List ℕ) (memory : Memory 
 abbrev pub HoldsFor : (n c h g index number : ℕ) (row : List ℕ) (memory : Memory n c h g) (hidden shown : List ℕ) (recent late : Changed) (own : Bool) (seat : ℕ) (m : Member) → Type 0
 HoldsFor n c h g index number row memory hidden shown recent late own seat m =
     (seat ≡ index) × (number ≡ length m.work.made) × IsFit n c h g seat (length m.work.made) row memory hidden shown recent late own m
+
+-- worker i has seen its own number
+abbrev pub HasSeenOwn : (i : ℕ) → Member → Type 0
+HasSeenOwn i m = get_elem? m.scan.seen i ≡ some (length m.work.made)

@@ -6,3 +6,4 @@ pub mod Updated
 pub mod Workers
 pub mod Faults
 pub mod Blank
+pub mod Lending

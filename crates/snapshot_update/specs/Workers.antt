@@ -47,12 +47,14 @@ module _ {N C H G : ℕ} where
   abbrev pub IsWorkerOf : Board N C H G → Worker N C H G → Type 0
   IsWorkerOf b w = IsSomeAnd w.seat (HasWorker b)
 
-  -- one version was published, which adds this one operation, by a handle of the registry `id`; the row accepts it
+  -- one version was published, which adds this one operation, by a handle of the registry `id`; the row accepts it, and the
+  -- worker's number was not the greatest that there is
   pub record IsCounted (id registry : ℕ) (op : Op) (w w' : Worker N C H G) : Type 0 where
     pub of_it : registry ≡ id
     pub updated : IsUpdated N C H G (index_of w) (op ∷ []) (member_of w) (member_of w')
     pub lists : lists_of w' ≡ lists_of w ++ (op ∷ []) ∷ []
     pub accepted : Accepts C H G (total (sum_ops C H) (member_of w).work.made) (op ∷ [])
+    pub room : length (member_of w).work.made < 18446744073709551615
 
 -- the member after it has scanned
 abbrev pub scanned : Scan → Member → Member

@@ -68,6 +68,7 @@ impl<const N: usize, const C: usize, const H: usize, const G: usize> Worker<N, C
         ensures updated { OnOk result (IsUpdated N C H G (index_of self.old) ops.now (member_of self.old) (member_of self.new)) }
         ensures lists { OnOk result (lists_of self.new ≡ lists_of self.old ++ ops.now ∷ []) }
         ensures accepted { OnOk result (Accepts C H G (total (sum_ops C H) (member_of self.old).work.made) ops.now) }
+        ensures room { OnOk result (length (member_of self.old).work.made < 18446744073709551615) }
         ensures fault { IfErr result (IsApplyFault C H G (member_of self.old) ops.now) }
         ensures unchanged { OnErr result (member_of self.new ≡ member_of self.old) }
     {
@@ -89,6 +90,14 @@ impl<const N: usize, const C: usize, const H: usize, const G: usize> Worker<N, C
         }
         self.number += 1;
         Ok(())
+    }
+
+    /// Which worker it is, from 0.
+    pub fn index(&self) -> usize
+        ensures index { result ≡ index_of self.now }
+        ensures inside { result < N }
+    {
+        self.index
     }
 
     /// How often the worker has published.

@@ -12,9 +12,9 @@ pub(crate) struct Images {
     pub(crate) hidden: Vec<u64>,
     /// The words of the buffer that is shown.
     pub(crate) shown: Vec<u64>,
-    /// Where the two differ.
+    /// Where the two may differ: they do so at no other items.
     pub(crate) recent: Changes,
-    /// Where the shown one differs from the version that an update of nothing would publish now.
+    /// Where the shown one may differ from the version that an update of nothing would publish now.
     pub(crate) late: Changes,
     /// Whether the row that is remembered of the worker's own segment is known to be its row.
     pub(crate) own: bool,

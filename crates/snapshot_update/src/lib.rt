@@ -11,6 +11,7 @@ mod faults;
 mod fills;
 mod images;
 mod listing;
+mod meeting;
 mod next_fill;
 mod scanning;
 #[cfg(test)]

@@ -1,8 +1,10 @@
 ghost use Rattle.std.specs.Prelude.{◌≡◌, ◌∷◌, [], IfOk};
 ghost use Rattle.register_rule.specs.Seats.{worker_of, HasWorker, HasReader};
 
+mod comparing;
 mod crew;
 mod filling;
+mod meeting;
 mod refusing;
 mod threads;
 mod touching;

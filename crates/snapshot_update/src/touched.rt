@@ -16,7 +16,7 @@ const SUM: usize = 25;
 /// The count of a histogram is its last word.
 const COUNT: usize = 26;
 
-/// Lists the words of a row that these operations add to, and no other items.
+/// Lists the words of a row that these operations add to, and no items that are not words of the row.
 #[inline]
 pub(crate) fn touch<const C: usize, const H: usize, const G: usize>(
     ops: &[Op],

@@ -3,7 +3,7 @@ ghost use Rattle.std.specs.Prelude.{◌≡◌, ◌<◌, length};
 ghost use Rattle.std.specs.Option.{ForSome};
 ghost use Rattle.segment_layout.specs.Layout.{IsGeometry};
 ghost use Rattle.register_rule.specs.Seats.{worker_of, index_of};
-ghost use Rattle.snapshot_update.specs.Fit.{HoldsFor};
+ghost use Rattle.snapshot_update.specs.Fit.{HoldsFor, HasSeenOwn};
 
 use crate::images::Images;
 use ledger_core::Row;
@@ -23,4 +23,5 @@ pub struct Worker<const N: usize, const C: usize, const H: usize, const G: usize
     ghost geometry: { IsGeometry N C H G },
     ghost inside: { index < N },
     ghost holds: { ForSome seat (λ s. HoldsFor N C H G index number row.value memory images.hidden.items images.shown.items images.recent images.late images.own (index_of s) (worker_of s)) },
+    ghost seen: { ForSome seat (λ s. HasSeenOwn index (worker_of s)) },
 }

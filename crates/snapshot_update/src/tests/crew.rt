@@ -4,6 +4,7 @@ ghost use Rattle.ledger_core.specs.Ops.{width};
 ghost use Rattle.segment_layout.specs.Layout.{depth, IsGeometry};
 ghost use Rattle.register_rule.specs.Members.{new_worker, fresh_scan};
 ghost use Rattle.register_rule.specs.Seats.{worker_of, reader_of, HasWorker, HasReader};
+ghost use Rattle.snapshot_scan.specs.Order.{IsAlone};
 ghost use Rattle.snapshot_scan.specs.Readers.{IsReaderOf};
 ghost use Rattle.snapshot_update.specs.Workers.{IsWorkerOf};
 
@@ -44,7 +45,8 @@ pub(super) fn new_reader<const N: usize, const C: usize, const H: usize, const G
     requires own { HasReader board.now seat }
     requires geometry { IsGeometry N C H G }
     requires fresh { (reader_of seat).scan ≡ fresh_scan N (width C H G) }
-    ensures { IfOk result (λ r. IsReaderOf board.now r) }
+    ensures own { IfOk result (λ r. IsReaderOf board.now r) }
+    ensures alone { IfOk result IsAlone }
 {
     let Ok(reader) = Reader::new(alloc, seat) else {
         return Err(AllocError);

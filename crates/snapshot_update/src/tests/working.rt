@@ -124,7 +124,7 @@ fn a_gauge_falls_below_zero(rt: HostRuntime) -> Result<(), Fail> {
 }
 
 // Counts by turns: `rounds` times 1 on the counter 0.
-fn often(board: &Board<2, 2, 1, 1>, worker: &mut Worker<2, 2, 1, 1>, rounds: u64)
+pub(super) fn often(board: &Board<2, 2, 1, 1>, worker: &mut Worker<2, 2, 1, 1>, rounds: u64)
     requires own { IsWorkerOf board.now worker.old }
     ensures own { IsWorkerOf board.now worker.new }
 {

@@ -5,6 +5,7 @@ use Rattle.register_rule.specs.declared.view.Scan.{Scan}
 use Rattle.register_rule.specs.Steps.{answered, gives_up, lent_in}
 use Rattle.register_rule.specs.Seats.{members_of}
 use Rattle.register_rule.specs.History.{Below}
+use Rattle.register_rule.proofs.Words.{each_push}
 use mathlib.Core.Option.{some-ne-none}
 use Rattle.snapshot_scan.specs.declared.ending.Ended.{Ended}
 use Rattle.snapshot_scan.specs.declared.ending.Ended.TheVariants as End
@@ -77,6 +78,7 @@ loop-k-init g c =
         wide = c.try_once-clean.ensures.wide;
         totals = c.try_once-clean.ensures.totals;
         count = refl;
+        above = each_push (λ (t : Tried). Below (scan_of ms).seen t.first) [] one (λ p y at. absurd (some-ne-none y (sym at))) (seen_below n (scan_of ms) r.opened long c.try_once-clean.ensures.told);
         tried = subst (λ (x : List ℕ). AreTries n x ba r.opened r.found (one ∷ [])) f (subst (λ (x : List ℕ). AreTries n r.opened x r.opened r.found (one ∷ [])) b (tries_one n r.opened r.found failed));
         lengths = (ap (λ (l : List ℕ). length l) (sym f) ∙ long, ap (λ (l : List ℕ). length l) (sym b) ∙ deep);
         seen = subst (λ (x : List ℕ). Below (scan_of ms).seen x) f (seen_below n (scan_of ms) r.opened long c.try_once-clean.ensures.told);
@@ -249,6 +251,8 @@ loop-k-preserved g c =
         wide = c.try_once-clean-in-loop-k.ensures.wide;
         totals = c.try_once-clean-in-loop-k.ensures.totals;
         count = count_more tries t c.loop-k._k inv.count;
+        above = each_push (λ (u : Tried). Below (scan_of ms).seen u.first) tries t inv.above
+            (seen_below n (stood tries c.loop-k.kept fl ba (scan_of ms)) r.opened long (λ p lt. subst (λ (x : Scan). IsLoaded p x (slice_index r.opened p)) (now_is d ms _ c.requires.own.1 view) (c.try_once-clean-in-loop-k.ensures.told p lt)));
         tried = tries_more n fl ba c.loop-k.opened c.loop-k.found tries inv.tried c.loop-k.kept (scan_of ms) r.opened r.found q.0 failed;
         lengths = inv.lengths;
         seen = inv.seen;
@@ -286,7 +290,7 @@ returns-clause-gave_up g c = λ _.
     let t = c.loop-k-test.false in let last = c.loop-k.auto._k-end in let count = inv.count in
     let fl = c.copy_from_slice.new.self in let ba = c.copy_from_slice-2.new.self in
     subst (λ (x : Scan). IsGivenUp n (scan_of ms) x c.loop-k.opened c.loop-k.found) (sym (now_is _ ms _ c.requires.own.1 inv.view))
-    (all_failed n fl ba c.loop-k.opened c.loop-k.found tries inv.tried c.loop-k.kept (scan_of ms) (omega (arith, count, t, last)))
+    (all_failed n fl ba c.loop-k.opened c.loop-k.found tries inv.tried c.loop-k.kept (scan_of ms) (omega (arith, count, t, last)) inv.above)
 
 pub returns-then-clean-clause-came_direct : goal.returns-then-clean-clause-came_direct
 returns-then-clean-clause-came_direct g c = λ _ _.

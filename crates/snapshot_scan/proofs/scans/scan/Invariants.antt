@@ -7,6 +7,8 @@ use Rattle.snapshot_scan.specs.Memory.{AreWide, AreTotals}
 use Rattle.register_rule.specs.History.{Below}
 use Rattle.snapshot_scan.specs.Scanned.{Tried}
 use Rattle.snapshot_scan.proofs.Trying.{stood, AreTries}
+use mathlib.Core.Option.{some}
+use lib.ListN.{get_elem?}
 use Rattle.snapshot_scan.proofs.scans.scan.Given as goal
 
 abbrev pub invariant-loop-k : goal.invariant-loop-k
@@ -18,6 +20,7 @@ invariant-loop-k g l = let bundle = g.S.ScanSeat.bundle in let ms = members_of (
   totals : AreTotals w l.kept l.totals;
   count : length tries ≡ l._k + 1;
   tried : AreTries g.row.N l.floor l.base l.opened l.found tries;
+  above : (q : ℕ) (t : Tried) → get_elem? tries q ≡ some t → Below (scan_of ms).seen t.first;
   lengths : (length l.floor ≡ g.row.N) × (length l.base ≡ g.row.N);
   seen : Below (scan_of ms).seen l.floor;
   view : members_of (bundle l.seat) ≡ with_scan (gives_up g.row.N (stood tries l.kept l.floor l.base (scan_of ms))) ms;

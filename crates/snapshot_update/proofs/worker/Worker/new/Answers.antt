@@ -1,13 +1,11 @@
-use Rattle.std.proofs.Common.{◌≡◌, Some, length, sym, ap, subst, arith}
+use Rattle.std.proofs.Common.{◌≡◌, ℕ, length, sym, ap, subst, arith}
 use Rattle.register_rule.specs.declared.seats.WorkSeat.{WorkSeat}
 use Rattle.register_rule.specs.declared.view.Member.{Member}
 use Rattle.register_rule.specs.Seats.{worker_of, index_of}
-use Rattle.snapshot_update.specs.Fit.{HoldsFor}
-use Rattle.snapshot_update.proofs.FirstFit.{first_fit}
+use Rattle.snapshot_update.specs.Fit.{HoldsFor, HasSeenOwn}
+use Rattle.snapshot_update.proofs.FirstFit.{first_fit, first_seen}
+use Rattle.snapshot_update.proofs.Lending.{same_seat}
 use Rattle.snapshot_update.proofs.worker.Worker.new.Goals as goal
-
-same_seat : (a b : WorkSeat) → Some a ≡ Some b → a ≡ b
-same_seat a b e = cc
 
 pub invariant_of-result : goal.invariant_of-result
 invariant_of-result g c =
@@ -21,4 +19,6 @@ invariant_of-result g c =
             sym (ap (λ (m : Member). length m.work.made) c.requires.fresh),
             first_fit g.row.N g.row.C g.row.H g.row.G (index_of seat) c.in-Ok.row.value c.in-Ok.memory im c.requires.inside c.in-Ok.ensures.row c.in-Ok.ensures.rows c.in-Ok.ensures.images (worker_of seat) c.requires.fresh,
           );
+      seen = λ x e. subst (λ (s : WorkSeat). HasSeenOwn c.worker-index.result (worker_of s)) (same_seat seat x e)
+          (subst (λ (i : ℕ). HasSeenOwn i (worker_of seat)) (sym index) (first_seen g.row.N g.row.C g.row.H g.row.G (index_of seat) (worker_of seat) c.requires.inside c.requires.fresh));
     }

@@ -1,14 +1,13 @@
-use Rattle.std.proofs.Common.{◌≡◌, ℕ, false, List, Some, length, sym, ◌∙◌, subst}
+use Rattle.std.proofs.Common.{ℕ, false, List, length, sym, ap, ◌∙◌, subst}
 use Rattle.register_rule.specs.declared.seats.WorkSeat.{WorkSeat}
 use Rattle.register_rule.specs.declared.view.Member.{Member}
 use Rattle.register_rule.specs.declared.view.Scan.{Scan}
+use Rattle.register_rule.specs.declared.view.Who.TheVariants.{Worker}
 use Rattle.register_rule.specs.Seats.{worker_of, index_of}
-use Rattle.snapshot_update.specs.Fit.{HoldsFor, IsFit}
+use Rattle.snapshot_update.specs.Fit.{HoldsFor, IsFit, HasSeenOwn}
+use Rattle.snapshot_update.proofs.Lending.{same_seat, told_own}
 use Rattle.snapshot_update.proofs.ScannedFit.{scanned_fit}
 use Rattle.snapshot_update.proofs.worker.Worker.scan.Goals as goal
-
-same_seat : (a b : WorkSeat) → Some a ≡ Some b → a ≡ b
-same_seat a b e = cc
 
 pub invariant_of-self : goal.invariant_of-self
 invariant_of-self g c =
@@ -29,4 +28,6 @@ invariant_of-self g c =
             old.1,
             subst (λ (i : ℕ). IsFit n cs hs gs i (length m.work.made) row s.memory im.hidden.items im.shown.items im.recent late' false (record m { scan = scan })) (sym told.index) fit,
           ));
+      seen = λ x e. subst (λ (y : WorkSeat). HasSeenOwn w.index (worker_of y)) (same_seat s.seat x e)
+          (told_own n cs hs gs w.index (worker_of s.seat) (ap (λ (y : Member). y.who) told.others ∙ (old.2.who ∙ ap Worker old.0)) told.ruled);
     }

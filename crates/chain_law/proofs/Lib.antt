@@ -1,0 +1,10 @@
+pub mod Places
+pub mod LentMore
+pub mod TakenBack
+pub mod Sums
+pub mod Totals
+pub mod Exact
+pub mod Vectors
+pub mod Pieces
+pub mod Histories
+pub mod Recorded

@@ -1,0 +1,29 @@
+use Rattle.std.proofs.Common.{◌≡◌, ℕ, [], sym, ap, ◌∙◌, subst, arith}
+use Rattle.std.proofs.lemmas.List.{length-map}
+use mathlib.Core.Option.{some}
+use lib.ListN.{get_elem?}
+use Rattle.snapshot_scan.specs.Snapshots.{Taken}
+use Rattle.chain_law.specs.History.{vectors_of, IsHistory, IsPiece}
+use Rattle.chain_law.proofs.Histories.{of_none, rises_from, history_next}
+use Rattle.chain_law.proofs.Vectors.{vector_at}
+use Rattle.chain_law.proofs.history.history_of.Goals as goal
+
+pub loop-k-init : goal.loop-k-init
+loop-k-init g c = subst (IsHistory g.row.N []) (sym c.new-turns.ensures.items) (of_none g.row.N)
+
+pub add_turns-requires-clause-all : goal.add_turns-requires-clause-all
+add_turns-requires-clause-all g c = c.vector-to.ensures.all ∙ sym c.vector_before-from.ensures.all
+
+pub add_turns-requires-clause-rises : goal.add_turns-requires-clause-rises
+add_turns-requires-clause-rises g c =
+    let l = c.args.snapshots.now in let k : ℕ = c.loop-k.k in let long = length-map l (λ (s : Taken). s.vector) in
+    let at : get_elem? (vectors_of l) k ≡ some c.vector-to.result.now = vector_at l k c.index-snapshots-k.result c.loop-k-test.true c.index-snapshots-k.is ∙ ap some (sym c.vector-to.ensures.numbers) in
+    rises_from g.row.N (vectors_of l) (λ j u v lt. c.in_default.ensures.none j u v (omega (arith, lt, long))) k c.vector_before-from.result.now c.vector-to.result.now c.vector_before-from.ensures at
+
+pub loop-k-preserved : goal.loop-k-preserved
+loop-k-preserved g c =
+    let l = c.args.snapshots.now in let k : ℕ = c.loop-k.k in let u = c.vector_before-from.result.now in let v = c.vector-to.result.now in let grown = c.in_ok-add_turns.ensures in
+    let at : get_elem? (vectors_of l) k ≡ some v = vector_at l k c.index-snapshots-k.result c.loop-k-test.true c.index-snapshots-k.is ∙ ap some (sym c.vector-to.ensures.numbers) in
+    subst (IsHistory g.row.N _) (sym grown.1)
+    (history_next g.row.N (vectors_of l) c.loop-k.turns.items k u v grown.0 c.loop-k.invariant c.vector_before-from.ensures at c.vector-to.ensures.all
+    (subst (λ (n : ℕ). IsPiece n u v grown.0) c.vector_before-from.ensures.all grown.2))

@@ -1,0 +1,5 @@
+pub mod Made
+pub mod Settled
+pub mod Lent
+pub mod Numbers
+pub mod History

@@ -1,0 +1,8 @@
+-- The numbers of refusals.
+use Rattle.std.specs.Prelude.{ℕ}
+use Rattle.chain_law.specs.declared.turns.ChainFault.{ChainFault}
+use Rattle.chain_law.specs.declared.turns.ChainFault.TheVariants.{NotChain, NoMemory}
+
+abbrev pub chain_number : ChainFault → ℕ
+chain_number (NotChain a b) = 17
+chain_number NoMemory = 6

@@ -1,0 +1,30 @@
+-- What a snapshot of all workers says.
+use Rattle.std.specs.Prelude.{◌≡◌, ℕ, ◌<◌, List, length, map}
+use mathlib.Core.Option.{some}
+use lib.ListN.{get_elem?}
+use Rattle.ledger_core.specs.Ops.{width, sum_ops}
+use Rattle.snapshot_scan.specs.Snapshots.{Taken}
+use Rattle.snapshot_update.specs.declared.worker.Worker.{Worker}
+use Rattle.snapshot_update.specs.Workers.{index_of, lists_of}
+use Rattle.chain_law.specs.Made.{made_all}
+
+module _ {N C H G : ℕ} where
+  -- worker i is one of them
+  abbrev pub HasIndex : List (Worker N C H G) → ℕ → Type 0
+  HasIndex ws i = (p : ℕ) × (w : Worker N C H G) × (get_elem? ws p ≡ some w) × (index_of w ≡ i)
+
+  -- the vector is how often each of them has published, and each total is exactly the sum of all that they published
+  pub record IsSettled (ws : List (Worker N C H G)) (out : Taken) : Type 0 where
+    pub vector : (p : ℕ) (w : Worker N C H G) → get_elem? ws p ≡ some w → get_elem? out.vector (index_of w) ≡ some (length (lists_of w))
+    pub totals : (k : ℕ) → k < width C H G → get_elem? out.totals k ≡ some (sum_ops C H (made_all ws) k)
+
+  -- worker i is the least of N that is none of them
+  pub record IsMissing (ws : List (Worker N C H G)) (i : ℕ) : Type 0 where
+    pub inside : i < N
+    pub none : ¬ (HasIndex ws i)
+    pub least : (j : ℕ) → j < i → HasIndex ws j
+
+  -- they are the workers that they were, and each has published what it had
+  pub record AreSame (old new : List (Worker N C H G)) : Type 0 where
+    pub index : map index_of new ≡ map index_of old
+    pub lists : map lists_of new ≡ map lists_of old

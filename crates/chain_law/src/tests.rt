@@ -1,0 +1,5 @@
+mod crew;
+mod examples;
+mod history;
+mod running;
+mod settling;

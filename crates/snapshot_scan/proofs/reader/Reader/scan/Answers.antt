@@ -1,0 +1,33 @@
+use Rattle.ledger_core.specs.Ops.{width, sum_ops}
+use Rattle.ledger_core.specs.Row.{Accepts}
+use Rattle.register_rule.specs.Seats.{members_of}
+use Rattle.snapshot_scan.specs.Snapshots.{entry_of}
+use Rattle.snapshot_scan.proofs.Standing.{scanned_seen, scanned_workers, behind_scanned}
+use Rattle.snapshot_scan.proofs.Gathered.{sees_on, lent_numbers, gathers, found_last, found_still}
+use Rattle.snapshot_scan.proofs.reader.Reader.scan.Goals as goal
+
+pub invariant_of-self-clause-lent : goal.invariant_of-self-clause-lent
+invariant_of-self-clause-lent g c = let r = c.args.self.now in scanned_workers _ (members_of r.bundle) (members_of c.scan_to.new.seat) c.scan_to.ensures.others r.lent
+
+pub invariant_of-self-clause-seen : goal.invariant_of-self-clause-seen
+invariant_of-self-clause-seen g c = let r = c.args.self.now in let s = c.scan_to in
+    scanned_seen r.index (members_of r.bundle) (members_of s.new.seat) r.leads r.is s.ensures.others (sees_on g.row.N _ _ (entry_of s.new.out) s.result s.ensures.answered s.ensures.contended) r.seen
+
+pub returns-clause-lent : goal.returns-clause-lent
+returns-clause-lent g c = let r = c.args.self.now in let s = c.scan_to in
+    lent_numbers g.row.N (width g.row.C g.row.H g.row.G) r.index (sum_ops g.row.C g.row.H) (Accepts g.row.C g.row.H g.row.G) (members_of s.new.seat) s.ensures.ruled
+    (members_of r.bundle) r.leads r.is r.seen s.ensures.others (entry_of s.new.out) s.result s.ensures.answered
+
+pub returns-clause-gathered : goal.returns-clause-gathered
+returns-clause-gathered g c = let r = c.args.self.now in let s = c.scan_to in
+    gathers g.row.N (width g.row.C g.row.H g.row.G) r.index (sum_ops g.row.C g.row.H) (Accepts g.row.C g.row.H g.row.G) (members_of s.new.seat) s.ensures.ruled
+    (members_of r.bundle) r.leads r.is r.seen s.ensures.others s.result s.ensures.contended
+
+pub returns-clause-found : goal.returns-clause-found
+returns-clause-found g c = let s = c.scan_to in found_last g.row.N _ _ (entry_of s.new.out) s.result s.ensures.answered
+
+pub returns-clause-alone : goal.returns-clause-alone
+returns-clause-alone g c = λ alone. behind_scanned _ (members_of c.args.self.now.bundle) (members_of c.scan_to.new.seat) c.scan_to.ensures.others alone
+
+pub returns-clause-still : goal.returns-clause-still
+returns-clause-still g c = let s = c.scan_to in found_still g.row.N _ _ (entry_of s.new.out) s.result s.ensures.answered s.ensures.contended
