@@ -1,11 +1,11 @@
 #!/bin/sh
 # Runs the example script with the Nth allocation refused, for each N, and compares what is printed and the status.
 # The program makes 12 allocations: 4 for its arguments, 2 before the first line, and 1, 1 and 4 at the lines 1, 3 and 6.
-# Then runs the tests of expo_text, register_rule, snapshot_core, snapshot_scan, snapshot_update and chain_law with each
-# test's Nth allocation refused: a test may then end for want of memory, but none may see another answer in its place. A
-# board of 2 workers makes 5 allocations, a reader of it 9, and a worker 15. The test each_growth of snapshot_core makes 3
-# for its list of events and 21 in its run, which has a publish and two answers. The test one_snapshot_has_a_history of
-# chain_law makes 47 for a snapshot and the list that has it, and the next one in history_of.
+# Then runs the tests of expo_text, expo_reader, register_rule, snapshot_core, snapshot_scan, snapshot_update and chain_law
+# with each test's Nth allocation refused: a test may then end for want of memory, but none may see another answer in its
+# place. A board of 2 workers makes 5 allocations, a reader of it 9, and a worker 15. The test each_growth of snapshot_core
+# makes 3 for its list of events and 21 in its run, which has a publish and two answers. The test
+# one_snapshot_has_a_history of chain_law makes 47 for a snapshot and the list that has it, and the next one in history_of.
 set -eu
 cd "$(dirname "$0")/crates/metrics_run"
 logs=$(mktemp -d)
@@ -53,6 +53,7 @@ refuse_in_tests() {
 }
 
 refuse_in_tests expo_text 1 12
+refuse_in_tests expo_reader 1 12
 refuse_in_tests register_rule 1 5
 refuse_in_tests snapshot_core 1 24
 refuse_in_tests snapshot_scan 1 16

@@ -1,5 +1,5 @@
 -- The samples of one child are of different series, and so are those of two children of a family.
-use Rattle.std.proofs.Common.{◌≡◌, ℕ, ◌<◌, ◌^◌, min, List, [], ◌∷◌, ◌++◌, length, get_or, sym, ap, subst, ◌∙◌, arith}
+use Rattle.std.proofs.Common.{◌≡◌, ◌≢◌, ℕ, ◌<◌, ◌^◌, List, [], ◌∷◌, ◌++◌, length, get_or, sym, ap, subst, ◌∙◌, arith}
 use Rattle.std.specs.Prelude.{zip, codes, decimal, slice_index}
 use Rattle.std.specs.Ordering.{nat_cmp}
 use Rattle.std.specs.Cmp.Lexicographic.{slice_cmp, lists_total}
@@ -9,19 +9,20 @@ use Rattle.std.proofs.lemmas.Cmp.{nat_list_cmp_total, tied_itself}
 use Rattle.std.proofs.lemmas.Fmt.{decimal_injective, decimal_is_IsNumeral}
 use Rattle.std.proofs.lemmas.List.{append_cancel_left}
 use Rattle.std.proofs.lemmas.List.Elements.{recursion_from_All}
-use Rattle.std.proofs.lemmas.Slice.Zip.{length-zip}
 use Rattle.bucket_math.specs.Bounds.{AreBounds}
 use Rattle.ledger_core.specs.declared.totals.HistTotals.{HistTotals}
 use Rattle.metric_desc.specs.Desc.{Descriptor}
+use Rattle.metric_desc.specs.Histogram.{IsDescOf}
 use Rattle.metric_desc.specs.declared.kind.Kind.TheVariants.{Histogram as HistogramKind}
 use Rattle.expo_text.specs.declared.number.Number.{Number}
 use Rattle.expo_text.specs.declared.number.Number.TheVariants.{Counter, Histogram, Gauge}
 use Rattle.expo_text.specs.Scraped.{Child, Family}
 use Rattle.expo_text.specs.Samples.{Sample, bound_samples, last_samples, samples_of_number, samples_of_child, samples_of_family}
 use Rattle.expo_text.specs.Order.{IsChildBefore, IsNumberOf, IsFamily}
-use Rattle.expo_text.specs.Reads.{IsSameSeries}
-use Rattle.expo_text.proofs.Pairs.{Each, Pairs, Across, each_weaker, pairs_recursion, pairs_append, pairs_flat_map, pairs_weaker, across_by}
-use Rattle.expo_text.proofs.Owned.{IsOwned, each_bound, pairs_bounds, number_owned, owned_same, zip_same}
+use Rattle.expo_text.specs.Reads.{AreSameLabels, IsSameSeries}
+use Rattle.expo_text.proofs.LabelSets.{HasNoLe, le_is, le_there, zip_same, zip_no_le}
+use Rattle.expo_text.proofs.Pairs.{Each, Pairs, Across, each_weaker, each_both, pairs_recursion, pairs_append, pairs_flat_map, pairs_weaker, across_by}
+use Rattle.expo_text.proofs.Owned.{OwnedAs, each_bound, pairs_bounds, number_owned_as, owned_same}
 
 -- two samples are of different series
 abbrev pub AreApart : Sample → Sample → Type 0
@@ -44,20 +45,19 @@ pub sum_no_count : (name : List ℕ) → ¬ (name ++ codes "_sum" ≡ name ++ co
 sum_no_count name = ends_differ name (codes "_sum") (codes "_count") 1 (λ e. absurd (omega arith))
 
 -- the bound of all values is no number
-decimal_no_inf : (n : ℕ) → n < 2 ^ 64 → ¬ (decimal n ≡ codes "+Inf")
+pub decimal_no_inf : (n : ℕ) → n < 2 ^ 64 → ¬ (decimal n ≡ codes "+Inf")
 decimal_no_inf n few e =
     let digits : AllDigits 10 (codes "+Inf") = subst (AllDigits 10) e (decimal_is_IsNumeral n few).0.1 in
     let first = digits.0 in
     absurd (omega arith)
 
 -- buckets of one child with equal labels have equal bounds
-bounds_same : (own : List (List ℕ × List ℕ)) (a b : List ℕ) → own ++ ((codes "le", a) ∷ []) ≡ own ++ ((codes "le", b) ∷ []) → a ≡ b
-bounds_same own a b e =
-    ap (λ (xs : List (List ℕ × List ℕ)). (get_or xs 0 ([], [])).1) (append_cancel_left own ((codes "le", a) ∷ []) ((codes "le", b) ∷ []) e)
+bounds_same : (own : List (List ℕ × List ℕ)) (a b : List ℕ) → HasNoLe own → AreSameLabels (own ++ ((codes "le", a) ∷ [])) (own ++ ((codes "le", b) ∷ [])) → a ≡ b
+bounds_same own a b none same = sym (le_is own b a none (same.0 (codes "le", a) (le_there own a)))
 
-module _ (desc : Descriptor) (own : List (List ℕ × List ℕ)) (are : AreBounds desc.bounds) where
+module _ (desc : Descriptor) (own : List (List ℕ × List ℕ)) (are : AreBounds desc.bounds) (none : HasNoLe own) where
   -- each bound is below 2^64
-  bound_small : (k : ℕ) → k < length desc.bounds → slice_index desc.bounds k < 2 ^ 64
+  pub bound_small : (k : ℕ) → k < length desc.bounds → slice_index desc.bounds k < 2 ^ 64
   bound_small k within = let le = are.bounded k 0 within in omega arith
 
   -- the buckets of a child
@@ -65,7 +65,7 @@ module _ (desc : Descriptor) (own : List (List ℕ × List ℕ)) (are : AreBound
   bounds_apart buckets =
       pairs_bounds AreApart desc own buckets (λ j k lt within same.
       let e = decimal_injective (slice_index desc.bounds j) (slice_index desc.bounds k) (bound_small j (omega arith)) (bound_small k within)
-      (bounds_same own (decimal (slice_index desc.bounds j)) (decimal (slice_index desc.bounds k)) same.labels) in
+      (bounds_same own (decimal (slice_index desc.bounds j)) (decimal (slice_index desc.bounds k)) none same.labels) in
       let rises = are.rising j k 0 lt within in
       absurd (omega arith))
 
@@ -81,61 +81,72 @@ module _ (desc : Descriptor) (own : List (List ℕ × List ℕ)) (are : AreBound
   histogram_apart totals =
       pairs_append AreApart (bound_samples desc own totals.buckets) (last_samples desc own totals) (bounds_apart totals.buckets) (last_apart totals)
       (each_bound (λ s. Each (AreApart s) (last_samples desc own totals)) desc own totals.buckets (λ k within. (
-        λ same. decimal_no_inf (slice_index desc.bounds k) (bound_small k within) (bounds_same own (decimal (slice_index desc.bounds k)) (codes "+Inf") same.labels),
+        λ same. decimal_no_inf (slice_index desc.bounds k) (bound_small k within) (bounds_same own (decimal (slice_index desc.bounds k)) (codes "+Inf") none same.labels),
         (λ same. bucket_no_sum desc.name same.name, (λ same. bucket_no_count desc.name same.name, tt)),
       )))
 
 -- the samples of a number
 number_apart : (desc : Descriptor) (own : List (List ℕ × List ℕ)) (number : Number) → IsNumberOf desc.kind number
-    → (desc.kind ≡ HistogramKind → AreBounds desc.bounds) → Pairs AreApart (samples_of_number desc own number)
-number_apart desc own (Counter total) is are = (tt, tt)
-number_apart desc own (Histogram totals) is are = histogram_apart desc own (are is.0) totals
-number_apart desc own (Gauge totals) is are = (tt, tt)
+    → (desc.kind ≡ HistogramKind → AreBounds desc.bounds) → (desc.kind ≡ HistogramKind → HasNoLe own) → Pairs AreApart (samples_of_number desc own number)
+number_apart desc own (Counter total) is are none = (tt, tt)
+number_apart desc own (Histogram totals) is are none = histogram_apart desc own (are is.0) (none is.0) totals
+number_apart desc own (Gauge totals) is are none = (tt, tt)
 
 -- of two children, one before the other, the labels differ
-pub before_labels : (labels : List (List ℕ)) (a b : Child) → length a.values ≡ length labels → length b.values ≡ length labels
-    → IsChildBefore a b → ¬ (zip labels a.values ≡ zip labels b.values)
-before_labels labels a b fit fits before e =
-    let values : a.values ≡ b.values = zip_same labels a.values b.values fit fits e in
+pub before_labels : (labels : List (List ℕ)) (a b : Child) → length a.values ≡ length labels → length b.values ≡ length labels → Pairs (λ x y. x ≢ y) labels
+    → IsChildBefore a b → ¬ (AreSameLabels (zip labels a.values) (zip labels b.values))
+before_labels labels a b fit fits differ before same =
+    let values : a.values ≡ b.values = zip_same labels a.values b.values fit fits differ same in
     let equal : slice_cmp (slice_cmp nat_cmp) b.values b.values ≡ Equal = tied_itself (lists_total nat_list_cmp_total) b.values in
     let less : slice_cmp (slice_cmp nat_cmp) b.values b.values ≡ Less = ap (λ x. slice_cmp (slice_cmp nat_cmp) x b.values) (sym values) ∙ before in
     cc
 
--- the labels of two children are as many
-pub zips_long : (labels : List (List ℕ)) (a b : Child) → length a.values ≡ length labels → length b.values ≡ length labels
-    → length (zip labels a.values) ≡ length (zip labels b.values)
-zips_long labels a b fit fits = length-zip labels a.values ∙ ap (λ n. min (length labels) n) (fit ∙ sym fits) ∙ sym (length-zip labels b.values)
+-- a child that fits its family
+pub record IsFit (desc : Descriptor) (child : Child) : Type 0 where
+  pub fit : length child.values ≡ length desc.labels
+  pub number : IsNumberOf desc.kind child.number
 
--- what holds between the samples of two children, from what their labels are
-pub children_across : (R : Sample → Sample → Type 0) (desc : Descriptor) (a b : Child)
-    → ((s t : Sample) → IsOwned (zip desc.labels a.values) s → IsOwned (zip desc.labels b.values) t → R s t)
-    → Across R (samples_of_child desc a) (samples_of_child desc b)
-children_across R desc a b holds =
-    across_by (IsOwned (zip desc.labels a.values)) (IsOwned (zip desc.labels b.values)) R holds (samples_of_child desc a) (samples_of_child desc b)
-    (number_owned desc (zip desc.labels a.values) a.number) (number_owned desc (zip desc.labels b.values) b.number)
+pub all_fit : (family : Family) → IsFamily family → Each (IsFit family.desc) family.children
+all_fit family is =
+    each_weaker (λ (child : Child). (length child.values ≡ length family.desc.labels) × IsNumberOf family.desc.kind child.number) (IsFit family.desc)
+    (λ child both. record { fit = both.0; number = both.1 }) family.children
+    (each_both (λ (child : Child). length child.values ≡ length family.desc.labels) (λ (child : Child). IsNumberOf family.desc.kind child.number) family.children
+    (recursion_from_All (λ (child : Child). length child.values ≡ length family.desc.labels) family.children is.fit)
+    (recursion_from_All (λ (child : Child). IsNumberOf family.desc.kind child.number) family.children is.numbers))
+
+module _ (desc : Descriptor) (kept : IsDescOf desc.kind desc.labels desc.bounds) where
+  -- none of a histogram's child's own labels is `le`
+  pub own_no_le : (child : Child) → desc.kind ≡ HistogramKind → HasNoLe (zip desc.labels child.values)
+  own_no_le child kind = zip_no_le desc.labels child.values (kept.histogram kind).no_le
+
+  -- what holds between the samples of two children, from what their labels are
+  children_across : (R : Sample → Sample → Type 0) (a b : Child) → IsFit desc a → IsFit desc b
+      → ((s t : Sample) → OwnedAs desc.kind (zip desc.labels a.values) s → OwnedAs desc.kind (zip desc.labels b.values) t → R s t)
+      → Across R (samples_of_child desc a) (samples_of_child desc b)
+  children_across R a b fit fits holds =
+      across_by (OwnedAs desc.kind (zip desc.labels a.values)) (OwnedAs desc.kind (zip desc.labels b.values)) R holds (samples_of_child desc a) (samples_of_child desc b)
+      (number_owned_as desc (zip desc.labels a.values) a.number fit.number (own_no_le a)) (number_owned_as desc (zip desc.labels b.values) b.number fits.number (own_no_le b))
 
 -- what holds between each two samples of a family, from within the children and across each two
-pub pairs_family : (R : Sample → Sample → Type 0) (family : Family) → IsFamily family
+pub pairs_family : (R : Sample → Sample → Type 0) (family : Family) → IsFamily family → IsDescOf family.desc.kind family.desc.labels family.desc.bounds
     → ((child : Child) → IsNumberOf family.desc.kind child.number → Pairs R (samples_of_child family.desc child))
-    → ((a b : Child) → length a.values ≡ length family.desc.labels → length b.values ≡ length family.desc.labels → IsChildBefore a b
-    → (s t : Sample) → IsOwned (zip family.desc.labels a.values) s → IsOwned (zip family.desc.labels b.values) t → R s t)
+    → ((a b : Child) → ¬ (AreSameLabels (zip family.desc.labels a.values) (zip family.desc.labels b.values))
+    → (s t : Sample) → OwnedAs family.desc.kind (zip family.desc.labels a.values) s → OwnedAs family.desc.kind (zip family.desc.labels b.values) t → R s t)
     → Pairs R (samples_of_family family)
-pairs_family R family is within across =
+pairs_family R family is kept within across =
+    let differ = pairs_recursion (λ x y. x ≢ y) family.desc.labels kept.good.distinct in
     pairs_flat_map R (samples_of_child family.desc) family.children
-    (each_weaker (λ (child : Child). IsNumberOf family.desc.kind child.number) (λ child. Pairs R (samples_of_child family.desc child)) within family.children
-    (recursion_from_All (λ (child : Child). IsNumberOf family.desc.kind child.number) family.children is.numbers))
-    (pairs_weaker (λ (child : Child). length child.values ≡ length family.desc.labels) IsChildBefore
+    (each_weaker (IsFit family.desc) (λ child. Pairs R (samples_of_child family.desc child)) (λ child fit. within child fit.number) family.children (all_fit family is))
+    (pairs_weaker (IsFit family.desc) IsChildBefore
     (λ a b. Across R (samples_of_child family.desc a) (samples_of_child family.desc b))
-    (λ a b fit fits before. children_across R family.desc a b (across a b fit fits before)) family.children
-    (recursion_from_All (λ (child : Child). length child.values ≡ length family.desc.labels) family.children is.fit)
+    (λ a b fit fits before. children_across family.desc kept R a b fit fits (across a b (before_labels family.desc.labels a b fit.fit fits.fit differ before))) family.children
+    (all_fit family is)
     (pairs_recursion IsChildBefore family.children is.ordered))
 
 -- the samples of a family are of different series
-pub family_apart : (family : Family) → IsFamily family → (family.desc.kind ≡ HistogramKind → AreBounds family.desc.bounds)
+pub family_apart : (family : Family) → IsFamily family → IsDescOf family.desc.kind family.desc.labels family.desc.bounds
     → Pairs AreApart (samples_of_family family)
-family_apart family is are =
-    pairs_family AreApart family is
-    (λ child number. number_apart family.desc (zip family.desc.labels child.values) child.number number are)
-    (λ a b fit fits before s t left right same.
-    before_labels family.desc.labels a b fit fits before
-    (owned_same (zip family.desc.labels a.values) (zip family.desc.labels b.values) s t (zips_long family.desc.labels a b fit fits) left right same.labels))
+family_apart family is kept =
+    pairs_family AreApart family is kept
+    (λ child number. number_apart family.desc (zip family.desc.labels child.values) child.number number (λ e. (kept.histogram e).bounds_ok) (own_no_le family.desc kept child))
+    (λ a b differ s t left right same. differ (owned_same family.desc.kind (zip family.desc.labels a.values) (zip family.desc.labels b.values) s t left right same.labels))

@@ -1,7 +1,7 @@
 -- No sample of a scrape has two labels of one name.
 use Rattle.std.proofs.Common.{◌≡◌, ◌≢◌, ℕ, List, [], ◌∷◌, ◌++◌, inl, inr, sym, subst}
-use Rattle.std.specs.Prelude.{All, Contains, zip, flat_map, codes}
-use Rattle.std.proofs.lemmas.List.Elements.{All-from_recursion, recursion_from_All, All-contains_itself}
+use Rattle.std.specs.Prelude.{All, zip, flat_map, codes}
+use Rattle.std.proofs.lemmas.List.Elements.{All-from_recursion, recursion_from_All}
 use Rattle.metric_desc.specs.Desc.{Descriptor}
 use Rattle.metric_desc.specs.Histogram.{le, IsDescOf}
 use Rattle.metric_desc.specs.declared.kind.Kind.TheVariants.{Histogram as HistogramKind}
@@ -15,6 +15,7 @@ use Rattle.expo_text.specs.Groups.{Group, groups_of}
 use Rattle.expo_text.specs.Reads.{HasDistinctLabels}
 use Rattle.expo_text.proofs.Pairs.{Each, Pairs, each_weaker, each_flat_map, pairs_places, pairs_recursion, pairs_append}
 use Rattle.expo_text.proofs.Families.{IsPrinted, each_group}
+use Rattle.expo_text.proofs.LabelSets.{each_zip, zip_no_le}
 use Rattle.expo_text.proofs.Owned.{IsOwned, number_owned}
 use Rattle.expo_text.proofs.Once.{IsKnown, all_known}
 
@@ -22,24 +23,11 @@ use Rattle.expo_text.proofs.Once.{IsKnown, all_known}
 abbrev pub NamesDiffer : List ℕ × List ℕ → List ℕ × List ℕ → Type 0
 NamesDiffer a b = a.0 ≢ b.0
 
--- what holds of each name holds of the name of each label that has one of them
-each_zip : (P : List ℕ → Type 0) (names values : List (List ℕ)) → Each P names
-    → Each (λ (label : List ℕ × List ℕ). P label.0) (zip names values)
-each_zip P [] values all = tt
-each_zip P (name ∷ names) [] all = tt
-each_zip P (name ∷ names) (value ∷ values) all = (all.0, each_zip P names values all.1)
-
 -- where no two names are the same, no two labels that have them are of one name
 zip_differ : (names values : List (List ℕ)) → Pairs (λ a b. a ≢ b) names → Pairs NamesDiffer (zip names values)
 zip_differ [] values all = tt
 zip_differ (name ∷ names) [] all = tt
 zip_differ (name ∷ names) (value ∷ values) all = (each_zip (λ other. name ≢ other) names values all.0, zip_differ names values all.1)
-
--- where `le` is none of the names, each of them is another text
-names_no_le : (names : List (List ℕ)) → ¬ (Contains names le) → Each (λ name. name ≢ le) names
-names_no_le names none =
-    each_weaker (Contains names) (λ name. name ≢ le) (λ name there same. none (subst (Contains names) same there)) names
-    (recursion_from_All (Contains names) names (All-contains_itself names))
 
 -- with the label `le` after them, labels of different names are still of different names, where none is named `le`
 with_le : (own : List (List ℕ × List ℕ)) (bound : List ℕ) → Pairs NamesDiffer own → Each (λ (label : List ℕ × List ℕ). label.0 ≢ le) own
@@ -71,7 +59,7 @@ child_distinct : (desc : Descriptor) (child : Child) → IsDescOf desc.kind desc
 child_distinct desc child kept number =
     number_distinct desc (zip desc.labels child.values) child.number number
     (zip_differ desc.labels child.values (pairs_recursion (λ a b. a ≢ b) desc.labels kept.good.distinct))
-    (λ kind. each_zip (λ name. name ≢ le) desc.labels child.values (names_no_le desc.labels (kept.histogram kind).no_le))
+    (λ kind. zip_no_le desc.labels child.values (kept.histogram kind).no_le)
 
 -- no sample of a family has two labels of one name
 family_distinct : (family : Family) → IsFamily family → IsDescOf family.desc.kind family.desc.labels family.desc.bounds

@@ -16,6 +16,7 @@ pub mod SamplesRead
 pub mod OneReading
 pub mod Pairs
 pub mod Families
+pub mod LabelSets
 pub mod Owned
 pub mod Apart
 pub mod Once
@@ -24,6 +25,3 @@ pub mod Parted
 pub mod Whole
 pub mod Printed
 pub mod ReadingLaw
-pub mod ReadSoFar
-pub mod Checked
-pub mod Others

@@ -142,8 +142,11 @@ children-short desc (child ∷ children) is spelled = printed-short desc (child 
 group-short : (family : Family) → IsFamily family → IsSpelledIfPrinted family → length (group_text family) ≤ 50000000
 group-short family is spelled = children-short family.desc family.children is spelled
 
-pub text-short : (scrape : Scraped) → IsScrape scrape → All IsSpelledIfPrinted scrape.families → length (text scrape) < 2 ^ 64
-text-short scrape is spelled =
+pub text-bounded : (scrape : Scraped) → IsScrape scrape → All IsSpelledIfPrinted scrape.families → length (text scrape) < 2 ^ 33
+text-bounded scrape is spelled =
     let each : All (λ (family : Family). length (group_text family) ≤ 50000000) scrape.families = λ k d within. group-short (get_or scrape.families k d) (is.each k d within) (spelled k d within) in
     let all = flat_map-short group_text 50000000 scrape.families each in
     omega (arith, all, is.few)
+
+pub text-short : (scrape : Scraped) → IsScrape scrape → All IsSpelledIfPrinted scrape.families → length (text scrape) < 2 ^ 64
+text-short scrape is spelled = let bounded = text-bounded scrape is spelled in omega (arith, bounded)

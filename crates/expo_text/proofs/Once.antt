@@ -68,7 +68,7 @@ once scrape is spelled =
     (pairs_flat_map AreApart (λ (group : Group). group.samples) (groups_of scrape)
     (each_group (λ (group : Group). Pairs AreApart group.samples) scrape.families
     (each_weaker IsKnown (λ family. IsPrinted family → Pairs AreApart (samples_of_family family))
-    (λ family known printed. family_apart family known.kept (λ e. ((known.spelled printed).desc.kept.histogram e).bounds_ok)) scrape.families
+    (λ family known printed. family_apart family known.kept (known.spelled printed).desc.kept) scrape.families
     (all_known scrape is spelled)))
     (pairs_groups (λ (a b : Group). Across AreApart a.samples b.samples) scrape.families
     (pairs_weaker IsFamily (λ a b. ¬ (Clash a.desc b.desc)) (λ a b. IsPrinted a → IsPrinted b → Across AreApart (samples_of_family a) (samples_of_family b))

@@ -1,9 +1,8 @@
 -- The names and the labels of the samples of a child.
-use Rattle.std.proofs.Common.{◌≡◌, ℕ, ◌<◌, List, [], ◌∷◌, ◌++◌, map, length, ◌⊎◌, inl, inr, refl, sym, ap, ◌∙◌, arith, length-append}
+use Rattle.std.proofs.Common.{◌≡◌, ℕ, ◌<◌, List, [], ◌∷◌, ◌++◌, length, ◌⊎◌, inl, inr, refl, sym, subst, arith}
 use Rattle.std.specs.Prelude.{zip, codes, decimal, slice_index}
 use Rattle.std.specs.List.{range_with_len}
 use Rattle.std.proofs.lemmas.List.Elements.{recursion_from_All}
-use Rattle.std.proofs.lemmas.Slice.Zip.{seconds-zip}
 use Rattle.bucket_math.specs.Buckets.{cumulated}
 use Rattle.metric_desc.specs.Desc.{Descriptor}
 use Rattle.metric_desc.specs.declared.kind.Kind.{Kind}
@@ -14,6 +13,8 @@ use Rattle.expo_text.specs.Scraped.{Child, Family}
 use Rattle.expo_text.specs.Samples.{Sample, bucket_sample, bound_samples, last_samples, samples_of_number, samples_of_child, samples_of_family}
 use Rattle.expo_text.specs.Order.{IsNumberOf, IsFamily}
 use Rattle.expo_text.proofs.Pairs.{Each, Pairs, each_weaker, each_append, each_map, each_flat_map, each_range, pairs_map, pairs_range}
+use Rattle.expo_text.specs.Reads.{AreSameLabels}
+use Rattle.expo_text.proofs.LabelSets.{HasNoLe, one_le, turned, before_le}
 
 -- P holds of the names under which samples of a family stand
 pub record IsOfNames (P : List ℕ → Type 0) (name : List ℕ) (kind : Kind) : Type 0 where
@@ -79,28 +80,38 @@ number_owned desc own (Histogram totals) =
     (inr (codes "+Inf", refl), (inl refl, (inl refl, tt)))
 number_owned desc own (Gauge totals) = (inl refl, tt)
 
--- equal lists with one element after each: what stands before it is equal
-last_cancel : {X : Type 0} (xs ys : List X) (x y : X) → length xs ≡ length ys → xs ++ (x ∷ []) ≡ ys ++ (y ∷ []) → xs ≡ ys
-last_cancel [] [] x y long e = refl
-last_cancel [] (b ∷ ys) x y long e = absurd (omega arith)
-last_cancel (a ∷ xs) [] x y long e = absurd (omega arith)
-last_cancel (a ∷ xs) (b ∷ ys) x y long e =
-    let heads : a ≡ b = cc in
-    let tails : xs ++ (x ∷ []) ≡ ys ++ (y ∷ []) = cc in
-    cc (heads, last_cancel xs ys x y (omega arith) tails)
+-- the same of a family of this kind: of a histogram none of a child's own labels is `le`, and of no other a sample has more
+abbrev pub OwnedAs : Kind → (own : List (List ℕ × List ℕ)) → Sample → Type 0
+OwnedAs CounterKind own sample = sample.labels ≡ own
+OwnedAs HistogramKind own sample = IsOwned own sample × HasNoLe own
+OwnedAs GaugeKind own sample = sample.labels ≡ own
 
--- equal labels of two samples are of one child
-pub owned_same : (a b : List (List ℕ × List ℕ)) (s t : Sample) → length a ≡ length b → IsOwned a s → IsOwned b t → s.labels ≡ t.labels → a ≡ b
-owned_same a b s t long (inl p) (inl q) e = sym p ∙ e ∙ q
-owned_same a b s t long (inl p) (inr q) e =
-    let f : a ≡ b ++ ((codes "le", q.0) ∷ []) = sym p ∙ e ∙ q.1 in
-    absurd (omega (arith, ap length f, length-append b ((codes "le", q.0) ∷ [])))
-owned_same a b s t long (inr p) (inl q) e =
-    let f : a ++ ((codes "le", p.0) ∷ []) ≡ b = sym p.1 ∙ e ∙ q in
-    absurd (omega (arith, ap length f, length-append a ((codes "le", p.0) ∷ [])))
-owned_same a b s t long (inr p) (inr q) e = last_cancel a b (codes "le", p.0) (codes "le", q.0) long (sym p.1 ∙ e ∙ q.1)
+pub number_owned_as : (desc : Descriptor) (own : List (List ℕ × List ℕ)) (number : Number) → IsNumberOf desc.kind number
+    → (desc.kind ≡ HistogramKind → HasNoLe own) → Each (OwnedAs desc.kind own) (samples_of_number desc own number)
+number_owned_as desc own (Counter total) is none = subst (λ kind. Each (OwnedAs kind own) (samples_of_number desc own (Counter total))) (sym is) (refl, tt)
+number_owned_as desc own (Histogram totals) is none =
+    subst (λ kind. Each (OwnedAs kind own) (samples_of_number desc own (Histogram totals))) (sym is.0)
+    (each_weaker (IsOwned own) (λ sample. IsOwned own sample × HasNoLe own) (λ sample owned. (owned, none is.0))
+    (samples_of_number desc own (Histogram totals)) (number_owned desc own (Histogram totals)))
+number_owned_as desc own (Gauge totals) is none = subst (λ kind. Each (OwnedAs kind own) (samples_of_number desc own (Gauge totals))) (sym is) (refl, tt)
 
--- values beside the same names are told apart
-pub zip_same : (labels xs ys : List (List ℕ)) → length xs ≡ length labels → length ys ≡ length labels → zip labels xs ≡ zip labels ys → xs ≡ ys
-zip_same labels xs ys fit fits e =
-    sym (seconds-zip labels xs fit) ∙ ap (map (λ (p : List ℕ × List ℕ). p.1)) e ∙ seconds-zip labels ys fits
+pub owned_so : (kind : Kind) (own : List (List ℕ × List ℕ)) (sample : Sample) → OwnedAs kind own sample → IsOwned own sample
+owned_so CounterKind own sample owned = inl owned
+owned_so HistogramKind own sample owned = owned.0
+owned_so GaugeKind own sample owned = inl owned
+
+-- what is said of labels is said of equal ones
+pub both_same : (a b x y : List (List ℕ × List ℕ)) → x ≡ a → y ≡ b → AreSameLabels x y → AreSameLabels a b
+both_same a b x y p q same = subst (λ l. AreSameLabels l b) p (subst (AreSameLabels x) q same)
+
+-- the same labels of two samples are of one child
+pub owned_same : (kind : Kind) (a b : List (List ℕ × List ℕ)) (s t : Sample) → OwnedAs kind a s → OwnedAs kind b t → AreSameLabels s.labels t.labels → AreSameLabels a b
+owned_same CounterKind a b s t p q same = both_same a b s.labels t.labels p q same
+owned_same GaugeKind a b s t p q same = both_same a b s.labels t.labels p q same
+owned_same HistogramKind a b s t (inl p, left) (inl q, right) same = both_same a b s.labels t.labels p q same
+owned_same HistogramKind a b s t (inl p, left) (inr q, right) same =
+    absurd (one_le a b q.0 left (both_same a (b ++ ((codes "le", q.0) ∷ [])) s.labels t.labels p q.1 same))
+owned_same HistogramKind a b s t (inr p, left) (inl q, right) same =
+    absurd (one_le b a p.0 right (turned (a ++ ((codes "le", p.0) ∷ [])) b (both_same (a ++ ((codes "le", p.0) ∷ [])) b s.labels t.labels p.1 q same)))
+owned_same HistogramKind a b s t (inr p, left) (inr q, right) same =
+    before_le a b p.0 q.0 left right (both_same (a ++ ((codes "le", p.0) ∷ [])) (b ++ ((codes "le", q.0) ∷ [])) s.labels t.labels p.1 q.1 same)

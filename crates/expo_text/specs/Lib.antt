@@ -10,6 +10,3 @@ pub mod Groups
 pub mod Lines
 pub mod Parts
 pub mod Reads
-pub mod Reader
-pub mod Checks
-pub mod Watched

@@ -1,6 +1,6 @@
 -- A text read as an exposition (Prometheus documentation, "Exposition formats", "Text-based format").
 -- That each group has a type, and that each value is a whole number, is this project's narrowing.
-use Rattle.std.specs.Prelude.{◌≡◌, ◌≢◌, ℕ, ℤ, pos, neg_ℤ, ◌≤ℤ◌, ⊤, not, List, [], ◌∷◌, ◌++◌, map, All, AllPairs, Contains, filter, flat_map, codes, ◌⊎◌}
+use Rattle.std.specs.Prelude.{◌≡◌, ◌≢◌, ℕ, ◌<◌, ℤ, pos, neg_ℤ, ◌≤ℤ◌, ⊤, not, Option, Some, None, List, [], ◌∷◌, ◌++◌, map, All, AllPairs, Contains, filter, flat_map, codes, ◌⊎◌}
 use Rattle.std.specs.Str.Parse.{IsNumeral, digits_value}
 use Rattle.metric_names.specs.MetricName.{IsMetricName}
 use Rattle.metric_names.specs.LabelName.{IsLabelName}
@@ -57,10 +57,15 @@ pub record IsGroup (part : Part) (group : Group) : Type 0 where
   pub kind : part.types ≡ word_of group.kind ∷ []
   pub samples : Match (IsSample group.kind) part.samples group.samples
 
--- two samples are of one series: they have the same name and the same labels
+-- the same labels, in any order
+abbrev pub AreSameLabels : (a b : List (List ℕ × List ℕ)) → Type 0
+AreSameLabels a b =
+    ((label : List ℕ × List ℕ) → Contains a label → Contains b label) × ((label : List ℕ × List ℕ) → Contains b label → Contains a label)
+
+-- two samples are of one series: they have the same name and the same labels, in any order
 pub record IsSameSeries (a b : Sample) : Type 0 where
   pub name : a.name ≡ b.name
-  pub labels : a.labels ≡ b.labels
+  pub labels : AreSameLabels a.labels b.labels
 
 -- no two labels of a sample have one name
 abbrev pub HasDistinctLabels : Sample → Type 0
@@ -71,13 +76,35 @@ abbrev pub others : List (List ℕ × List ℕ) → List (List ℕ × List ℕ)
 others labels = filter (λ label. not (same label.0 (codes "le"))) labels
 
 abbrev pub IsOfOneChild : Sample → Sample → Type 0
-IsOfOneChild a b = others a.labels ≡ others b.labels
+IsOfOneChild a b = AreSameLabels (others a.labels) (others b.labels)
 
--- the buckets of a child do not fall from one to the next
-pub record IsBucketPair (name : List ℕ) (a b : Sample) : Type 0 where
-  pub first : a.name ≡ name ++ codes "_bucket"
-  pub second : b.name ≡ name ++ codes "_bucket"
-  pub child : IsOfOneChild a b
+-- the value of `le` writes this bound: a number, or none
+abbrev pub WritesBound : List ℕ → Option ℕ → Type 0
+WritesBound token (Some n) = IsNumeral 10 token × (digits_value 10 token ≡ n)
+WritesBound token None = token ≡ codes "+Inf"
+
+-- a number is below a greater one, and below no bound at all
+abbrev pub IsLower : Option ℕ → Option ℕ → Type 0
+IsLower (Some x) (Some y) = x < y
+IsLower (Some x) None = ⊤
+IsLower None y = ⊥
+
+-- a sample is a bucket of this family, of this bound
+pub record IsBucket (name : List ℕ) (bound : Option ℕ) (sample : Sample) : Type 0 where
+  pub named : sample.name ≡ name ++ codes "_bucket"
+  pub token : List ℕ
+  pub le : Contains sample.labels (codes "le", token)
+  pub writes : WritesBound token bound
+
+-- a sample of a histogram is a bucket of some bound, or its sum or its count, which have no `le`
+abbrev pub IsOfHistogram : (name : List ℕ) → Sample → Type 0
+IsOfHistogram name sample =
+    ((bound : Option ℕ) × IsBucket name bound sample)
+    ⊎ (((sample.name ≡ name ++ codes "_sum") ⊎ (sample.name ≡ name ++ codes "_count")) × ((token : List ℕ) → ¬ (Contains sample.labels (codes "le", token))))
+
+-- where both are buckets of one child, and the first one's bound is lower, its value is not higher
+abbrev pub IsNoHigher : (name : List ℕ) → Sample → Sample → Type 0
+IsNoHigher name a b = (x y : Option ℕ) → IsBucket name x a → IsBucket name y b → IsOfOneChild a b → IsLower x y → a.value ≤ℤ b.value
 
 -- the child of a sample has a bucket `+Inf` and a count, and the two are equal
 pub record IsWhole (group : Group) (sample : Sample) : Type 0 where
@@ -94,7 +121,9 @@ pub record IsWhole (group : Group) (sample : Sample) : Type 0 where
 
 -- what a group of a histogram keeps
 pub record IsHistogramGroup (group : Group) : Type 0 where
-  pub rising : AllPairs (λ a b. IsBucketPair group.name a b → a.value ≤ℤ b.value) group.samples
+  pub formed : All (IsOfHistogram group.name) group.samples
+  -- whatever the order of the lines
+  pub rising : AllPairs (λ a b. IsNoHigher group.name a b × IsNoHigher group.name b a) group.samples
   pub whole : All (IsWhole group) group.samples
 
 -- the bytes are an exposition of these groups: each line is one of the format, the lines of a group are unbroken, no series

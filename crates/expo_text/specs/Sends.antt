@@ -3,7 +3,7 @@ use Rattle.std.specs.Prelude.{◌≡◌, ℕ, ◌<◌, Bool, true, false, Option
 use Rattle.std.specs.Io.KnownBytes.{Appends}
 use Rattle.std.proofs.Common.{refl, sym, ap, subst, ◌∙◌, arith, append_assoc, append-nil, length-append}
 use Rattle.std.proofs.KnownBytes.{Appends-nil, Appends-trans}
-use Rattle.expo_text.specs.Watched.{Watch}
+use Rattle.watched.specs.Watched.{Watch}
 use Rattle.expo_text.specs.Counts.{Counts, counts-none, counts-more}
 
 -- a sender: what its writer holds, whether the writer has failed or ended, the bytes that wait, and how many it has sent

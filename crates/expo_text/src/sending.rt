@@ -5,10 +5,10 @@ ghost use Rattle.expo_text.specs.Text.{text};
 use crate::piece::Piece;
 use crate::scrape::Scrape;
 use crate::sink::Sink;
-use crate::watched::Watched;
 use crate::writer::put_groups;
 use std::io::Write;
 use thiserror::Error;
+use watched::Watched;
 
 /// Refusal 25: the writer failed when it had taken `sent` bytes of the text, which are its first.
 #[derive(Clone, Copy, Debug, PartialEq, Eq, Error)]
@@ -56,6 +56,23 @@ fn send_piece<W: Write>(out: &mut Watched<W>, piece: &[u8]) -> usize
         done += write_once(out, &piece[done..]);
     }
     done
+}
+
+/// Sends bytes to a writer. Takes no memory, and does not flush.
+///
+/// Refusal 25 [`WriteFailed`] the first time that the writer has failed, and no other.
+pub fn send<W: Write>(bytes: &[u8], out: &mut Watched<W>) -> Result<(), WriteFailed>
+    requires not_failed { out.old.failed ≡ false }
+    ensures sent { OnOk result (Appends (W.contents out.old.inner) (W.contents out.new.inner) bytes.now) }
+    ensures part { IfErr result (λ fault. (fault.sent < length bytes.now) × Appends (W.contents out.old.inner) (W.contents out.new.inner) (take fault.sent bytes.now)) }
+    ensures failed { out.new.failed ≡ is_err result }
+    ensures ended { out.new.ended ≡ out.old.ended }
+{
+    let sent = send_piece(out, bytes);
+    if out.failed() {
+        return Err(WriteFailed { sent });
+    }
+    Ok(())
 }
 
 /// A text on its way to a writer: the bytes that wait to go out together, and how many the writer has taken.
@@ -125,6 +142,36 @@ impl<W: Write> Sink for Sending<'_, W> {
     ghost chain = { λ a b c xs ys first second. (second.0 ∙ first.0, sends-chain _ _ _ xs ys first.1 second.1) };
 }
 
+/// Sends bytes and then the text of a scrape to a writer, in pieces of at most 4,096 bytes. Takes no memory, and does not
+/// flush.
+///
+/// Refusal 25 [`WriteFailed`] the first time that the writer has failed, and no other.
+pub fn write_after<W: Write>(
+    front: &[u8],
+    scrape: &Scrape,
+    out: &mut Watched<W>,
+) -> Result<(), WriteFailed>
+    requires not_failed { out.old.failed ≡ false }
+    requires short { length front.now ≤ 4096 }
+    ensures sent { OnOk result (Appends (W.contents out.old.inner) (W.contents out.new.inner) (front.now ++ text scrape.now)) }
+    ensures part { IfErr result (λ fault. (fault.sent < length (front.now ++ text scrape.now)) × Appends (W.contents out.old.inner) (W.contents out.new.inner) (take fault.sent (front.now ++ text scrape.now))) }
+    ensures failed { out.new.failed ≡ is_err result }
+    ensures ended { out.new.ended ≡ out.old.ended }
+{
+    let mut sending = Sending {
+        out,
+        waiting: Piece::new(),
+        sent: 0,
+    };
+    sending.put(front);
+    put_groups(&mut sending, scrape);
+    sending.send();
+    if sending.out.failed() {
+        return Err(WriteFailed { sent: sending.sent });
+    }
+    Ok(())
+}
+
 /// Sends the text of a scrape to a writer, in pieces of at most 4,096 bytes. Takes no memory, and does not flush.
 ///
 /// Refusal 25 [`WriteFailed`] the first time that the writer has failed, and no other. Source: Prometheus documentation,
@@ -136,15 +183,5 @@ pub fn write_to<W: Write>(scrape: &Scrape, out: &mut Watched<W>) -> Result<(), W
     ensures failed { out.new.failed ≡ is_err result }
     ensures ended { out.new.ended ≡ out.old.ended }
 {
-    let mut sending = Sending {
-        out,
-        waiting: Piece::new(),
-        sent: 0,
-    };
-    put_groups(&mut sending, scrape);
-    sending.send();
-    if sending.out.failed() {
-        return Err(WriteFailed { sent: sending.sent });
-    }
-    Ok(())
+    write_after(&[], scrape, out)
 }

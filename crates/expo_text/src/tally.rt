@@ -1,4 +1,4 @@
-ghost use Rattle.std.specs.Prelude.{◌≡◌, length};
+ghost use Rattle.std.specs.Prelude.{◌≡◌, ◌<◌, ◌^◌, length};
 ghost use Rattle.expo_text.specs.Text.{text};
 
 use crate::scrape::Scrape;
@@ -27,7 +27,8 @@ impl Sink for Tally {
 
 /// How many bytes the text of a scrape has. Takes no memory.
 pub fn text_len(scrape: &Scrape) -> usize
-    ensures { result ≡ length (text scrape.now) }
+    ensures len { result ≡ length (text scrape.now) }
+    ensures bounded { result < 2 ^ 33 }
 {
     let mut tally = Tally { len: 0 };
     put_groups(&mut tally, scrape);

@@ -5,11 +5,9 @@ mod children;
 mod counters;
 mod gauges;
 mod histograms;
-mod reading;
 mod sending;
-mod watched;
 
-use crate::{ChildScrape, FamilyScrape, Number, Scrape, read_text, render, text_len};
+use crate::{ChildScrape, FamilyScrape, Number, Scrape, render, text_len};
 use metric_desc::Desc;
 use metric_names::{HelpText, LabelName, LabelValue, MetricName};
 use std::alloc::Global;
@@ -51,12 +49,11 @@ fn one(alloc: Global, desc: Desc, values: Vec<LabelValue>, number: Number) -> Re
     Ok(Scrape::new(Vec::new(alloc), families))
 }
 
-// The text is this one, in memory of its length, and is read back.
+// The text is this one, in memory of its length.
 fn prints(rt: &impl Abort, scrape: &Scrape, expected: &[u8]) -> Result<(), Fail> {
     let text = render(scrape)?;
     assert_eq!(rt; text.as_slice(), expected);
     assert_eq!(rt; text.capacity(), expected.len());
     assert_eq!(rt; text_len(scrape), expected.len());
-    assert!(rt; read_text(*text.allocator(), &text)?.is_some());
     Ok(())
 }

@@ -1,9 +1,10 @@
 use crate::tests::histograms::{histogram, single};
 use crate::tests::{counter, label, one, value};
-use crate::{Number, Scrape, Watched, WriteFailed, render, write_to};
+use crate::{Number, Scrape, WriteFailed, render, send, write_after, write_to};
 use std::alloc::Global;
 use std::io::{self, Error, ErrorKind, Write};
 use std::test::Fail;
+use watched::Watched;
 
 // Takes one byte a call, and fails from a call on. What it takes fits into memory that was made before.
 #[derive(Drop)]
@@ -143,5 +144,55 @@ fn long_text_in_few_calls(rt: HostRuntime) -> Result<(), Fail> {
     assert!(rt; out.taken.len() > 27 * 512);
     assert_eq!(rt; out.taken.as_slice(), text.as_slice());
     assert_eq!(rt; out.calls, 4);
+    Ok(())
+}
+
+const BOTH: &[u8] = b"abc# TYPE a counter\na 0\n";
+
+#[test]
+fn sends_a_front_and_the_text(rt: HostRuntime) -> Result<(), Fail> {
+    let alloc = rt.alloc();
+    let mut out = Watched::new(Counting {
+        taken: Vec::with_capacity(alloc, BOTH.len())?,
+        calls: 0,
+    });
+    write_after(b"abc", &small(alloc)?, &mut out)?;
+    assert!(rt; !out.failed() && !out.flushed());
+    let out = out.into_inner();
+    assert_eq!(rt; out.taken.as_slice(), BOTH);
+    assert_eq!(rt; out.calls, 1);
+    Ok(())
+}
+
+#[test]
+fn fails_in_the_front_and_in_the_text(rt: HostRuntime) -> Result<(), Fail> {
+    let alloc = rt.alloc();
+    let scrape = small(alloc)?;
+    for calls in 0..BOTH.len() {
+        let mut out = Watched::new(Slow {
+            taken: Vec::with_capacity(alloc, BOTH.len())?,
+            calls,
+        });
+        assert_eq!(rt;
+            write_after(b"abc", &scrape, &mut out),
+            Err(WriteFailed { sent: calls })
+        );
+        assert_eq!(rt; out.into_inner().taken.as_slice(), &BOTH[..calls]);
+    }
+    Ok(())
+}
+
+#[test]
+fn sends_bytes(rt: HostRuntime) -> Result<(), Fail> {
+    let alloc = rt.alloc();
+    let mut out = Watched::new(Slow {
+        taken: Vec::with_capacity(alloc, TEXT.len())?,
+        calls: 5,
+    });
+    send(b"", &mut out)?;
+    send(b"abc", &mut out)?;
+    assert_eq!(rt; send(b"defg", &mut out), Err(WriteFailed { sent: 2 }));
+    assert!(rt; out.failed());
+    assert_eq!(rt; out.into_inner().taken.as_slice(), b"abcde".as_slice());
     Ok(())
 }

@@ -1,9 +1,15 @@
 use Rattle.std.proofs.Common.{arith}
-use Rattle.expo_text.proofs.Limits.{text-short}
+use Rattle.expo_text.proofs.Limits.{text-bounded}
 use Rattle.expo_text.proofs.tally.text_len.Goals as goal
 
-pub returns : goal.returns
-returns c =
-    let short = text-short c.args.scrape.now c.put_groups.ensures.ordered c.put_groups.ensures.spelled in
-    let count = c.put_groups.ensures.text (omega (arith, short)) in
+pub returns-clause-len : goal.returns-clause-len
+returns-clause-len c =
+    let bounded = text-bounded c.args.scrape.now c.put_groups.ensures.ordered c.put_groups.ensures.spelled in
+    let count = c.put_groups.ensures.text (omega (arith, bounded)) in
     omega (arith, count)
+
+pub returns-clause-bounded : goal.returns-clause-bounded
+returns-clause-bounded c =
+    let bounded = text-bounded c.args.scrape.now c.put_groups.ensures.ordered c.put_groups.ensures.spelled in
+    let count = c.put_groups.ensures.text (omega (arith, bounded)) in
+    omega (arith, count, bounded)
