@@ -1,5 +1,5 @@
 -- Why there is no descriptor of a histogram.
-use Rattle.std.specs.Prelude.{◌≡◌, ℕ, List, codes, Contains}
+use Rattle.std.specs.Prelude.{◌≡◌, ◌≢◌, ℕ, List, [], codes, Contains}
 use Rattle.bucket_math.specs.Bounds.{AreBounds, FirstBadBound}
 use Rattle.metric_desc.specs.Labels as of_labels
 use Rattle.metric_desc.specs.Labels.{AreLabels, IsLabelsFault}
@@ -30,7 +30,8 @@ pub record IsHistogram (labels : List (List ℕ)) (bounds : List ℕ) : Type 0 w
   pub no_le : Contains labels le → ⊥
   pub bounds_ok : AreBounds bounds
 
--- labels and bounds that a family of this kind may have
+-- labels and bounds that a family of this kind may have; only a histogram has bounds
 pub record IsDescOf (kind : Kind) (labels : List (List ℕ)) (bounds : List ℕ) : Type 0 where
   pub good : AreLabels labels
   pub histogram : kind ≡ Histogram → IsHistogram labels bounds
+  pub others : kind ≢ Histogram → bounds ≡ []

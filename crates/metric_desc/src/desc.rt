@@ -1,4 +1,4 @@
-ghost use Rattle.std.specs.Prelude.{◌≡◌, ◌↔◌, [], ◌∷◌, ◌++◌, map, IfOk, IfErr, IsSome, IfSome};
+ghost use Rattle.std.specs.Prelude.{◌≡◌, ◌≢◌, ◌↔◌, [], ◌∷◌, ◌++◌, map, IfOk, IfErr, IsSome, IfSome};
 ghost use Rattle.std.specs.String.{string_bytes};
 ghost use Rattle.bucket_math.specs.Bounds.{AreBounds};
 ghost use Rattle.metric_desc.specs.Labels.{AreLabels, IsLabelsFault};
@@ -152,6 +152,7 @@ impl Desc {
     pub fn bounds(&self) -> Option<&Bounds>
         ensures histogram { IsSome result ↔ (self.now.kind ≡ Kind.Histogram) }
         ensures bounds { IfSome result (λ bounds. bounds.now ≡ self.now.bounds) }
+        ensures others { self.now.kind ≢ Kind.Histogram → self.now.bounds ≡ [] }
     {
         match &self.shape {
             Shape::Histogram(bounds) => Some(bounds),

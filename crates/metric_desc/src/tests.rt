@@ -1,5 +1,6 @@
 mod clashes;
 mod histograms;
+mod limits;
 
 use crate::{Desc, HistogramFault, Kind, LabelsFault};
 use bucket_math::BadBounds;

@@ -128,3 +128,30 @@ fn copies(rt: HostRuntime) -> Result<(), Fail> {
     assert_eq!(rt; LabelValue::read(alloc, "a b ")?.copy()?.as_str(), "a b ");
     Ok(())
 }
+
+// Of each kind the longest text is read and copied.
+#[test]
+fn longest_copies(rt: HostRuntime) -> Result<(), Fail> {
+    let alloc = rt.alloc();
+    let text = "Z:9_abcd".repeat(alloc, 16)?;
+    assert_eq!(rt; text.len(), 128);
+    let metric = MetricName::read(alloc, text.as_str())?;
+    assert_eq!(rt; metric.as_str(), text.as_str());
+    assert_eq!(rt; metric.copy()?.as_str(), text.as_str());
+    let text = "Z_9_abcd".repeat(alloc, 16)?;
+    assert_eq!(rt; text.len(), 128);
+    let label = LabelName::read(alloc, text.as_str())?;
+    assert_eq!(rt; label.as_str(), text.as_str());
+    assert_eq!(rt; label.copy()?.as_str(), text.as_str());
+    let text = "\\\n\"é xy".repeat(alloc, 128)?;
+    assert_eq!(rt; text.len(), 1024);
+    let help = HelpText::read(alloc, text.as_str())?;
+    assert_eq!(rt; help.as_str(), text.as_str());
+    assert_eq!(rt; help.copy()?.as_str(), text.as_str());
+    let text = "\"\n\\ é\tx".repeat(alloc, 32)?;
+    assert_eq!(rt; text.len(), 256);
+    let value = LabelValue::read(alloc, text.as_str())?;
+    assert_eq!(rt; value.as_str(), text.as_str());
+    assert_eq!(rt; value.copy()?.as_str(), text.as_str());
+    Ok(())
+}
