@@ -7,12 +7,14 @@ use Rattle.std.proofs.lemmas.List.Elements.{All-push}
 use Rattle.std.proofs.lemmas.Grind.{flat_map-append}
 use Rattle.std.proofs.lemmas.List.Splits.{slice_split_first}
 use Rattle.std.proofs.Math.Seq.{take-add}
-use Rattle.expo_text.specs.Lines.{Entry, Malformed, entry_of}
-use Rattle.expo_text.specs.Parts.{Part, parts_of}
-use Rattle.expo_reader.specs.Reader.{rest_parts, AreReadSoFar, AreParts}
+use Rattle.expo_text.specs.Lines.{Entry, Malformed}
+use Rattle.expo_text.specs.Walked.{entry_of, parts_of}
+use Rattle.expo_text.specs.Parts.{Part}
+use Rattle.expo_reader.specs.Reader.{rest_parts, AreReadSoFar, AreReadParts}
 use Rattle.expo_text.specs.Samples.{Sample}
 use Rattle.expo_text.specs.Groups.{Group}
 use Rattle.metric_desc.specs.declared.kind.Kind.TheVariants.{Histogram}
+use Rattle.expo_text.proofs.Walks.{found}
 use Rattle.expo_text.specs.Reads.{Match, IsGroup, IsSameSeries, HasDistinctLabels, IsHistogramGroup, Reads}
 
 -- a text is cut before its first line feed
@@ -53,7 +55,7 @@ one_more bytes rest more line current next done now so_far cut formed taken = re
 
 -- all lines
 pub all_read : (bytes : List ℕ) (current : Option Part) (done parts : List Part) → AreReadSoFar bytes [] current done
-    → parts ≡ rest_parts current done [] → AreParts bytes parts
+    → parts ≡ rest_parts current done [] → AreReadParts bytes parts
 all_read bytes current done parts so_far are = record {
   lines = so_far.lines;
   cut = so_far.cut;
@@ -95,19 +97,20 @@ written_more written raw bytes at byte within so_far front =
     ∙ sym (take-add at (length (written byte)) bytes)
 
 -- parts whose groups pass all tests are a reading
-pub reads_from : (bytes : List ℕ) (parts : List Part) (groups : List Group) → AreParts bytes parts → Match IsGroup parts groups
+pub reads_from : (bytes : List ℕ) (parts : List Part) (groups : List Group) → AreReadParts bytes parts → Match IsGroup parts groups
     → AllPairs (λ (a b : Group). a.name ≢ b.name) groups
     → AllPairs (λ (a b : Sample). ¬ (IsSameSeries a b)) (flat_map (λ (group : Group). group.samples) groups)
     → All HasDistinctLabels (flat_map (λ (group : Group). group.samples) groups)
     → All (λ (group : Group). group.kind ≡ Histogram → IsHistogramGroup group) groups
     → Reads bytes groups
-reads_from bytes parts groups are found unbroken once labels histograms = record {
-  lines = are.lines;
-  cut = are.cut;
-  formed = are.formed;
-  parts = subst (λ made. Match IsGroup made groups) (sym are.made) found;
-  unbroken = unbroken;
-  once = once;
-  labels = labels;
-  histograms = histograms;
-}
+reads_from bytes parts groups are matched unbroken once labels histograms =
+    found bytes groups (record {
+      lines = are.lines;
+      cut = are.cut;
+      formed = are.formed;
+      parts = subst (λ made. Match IsGroup made groups) (sym are.made) matched;
+      unbroken = unbroken;
+      once = once;
+      labels = labels;
+      histograms = histograms;
+    })

@@ -2,9 +2,11 @@
 use Rattle.std.specs.Prelude.{◌≡◌, ◌≢◌, ℕ, Option, ◌==◌, List, ◌++◌, map, All}
 use Rattle.std.specs.Prelude.{Some, None}
 use Rattle.std.specs.List.{slice_split}
-use Rattle.expo_text.specs.Lines.{Place, Entry, AreLines, entry_of}
-use Rattle.expo_text.specs.Parts.{Part, parts_of, gathered}
+use Rattle.expo_text.specs.Lines.{Entry, AreLines}
+use Rattle.expo_text.specs.Walked.{Place, entry_of, parts_of, gathered}
+use Rattle.expo_text.specs.Parts.{Part}
 use Rattle.expo_text.specs.Lines as format
+use Rattle.expo_text.specs.Walked as walked
 use Rattle.expo_reader.specs.declared.labels.At.{At}
 use Rattle.expo_reader.specs.declared.labels.At.TheVariants.{BeforeName, InName, AfterName, BeforeValue, InValue, InEscape, AfterValue, Ended, Failed}
 use Rattle.expo_reader.specs.declared.line.Line.{Line}
@@ -12,15 +14,15 @@ use Rattle.expo_reader.specs.declared.line.Line.TheVariants.{Nothing, Help, Type
 
 -- where in a list of labels the reading is, with the name and the value so far
 abbrev pub place_of : At → (name value : List ℕ) → Place
-place_of BeforeName name value = format.BeforeName
-place_of InName name value = format.InName name
-place_of AfterName name value = format.AfterName name
-place_of BeforeValue name value = format.BeforeValue name
-place_of InValue name value = format.InValue name value
-place_of InEscape name value = format.InEscape name value
-place_of AfterValue name value = format.AfterValue
-place_of Ended name value = format.Ended
-place_of Failed name value = format.Failed
+place_of BeforeName name value = walked.BeforeName
+place_of InName name value = walked.InName name
+place_of AfterName name value = walked.AfterName name
+place_of BeforeValue name value = walked.BeforeValue name
+place_of InValue name value = walked.InValue name value
+place_of InEscape name value = walked.InEscape name value
+place_of AfterValue name value = walked.AfterValue
+place_of Ended name value = walked.Ended
+place_of Failed name value = walked.Failed
 
 -- what a line is
 abbrev pub line_entry : Line → Entry
@@ -43,7 +45,7 @@ pub record AreReadSoFar (bytes rest : List ℕ) (current : Option Part) (done : 
   pub parts : (entries : List Entry) → parts_of (map entry_of lines ++ entries) ≡ rest_parts current done entries
 
 -- all lines of the bytes are read, and make these parts
-pub record AreParts (bytes : List ℕ) (parts : List Part) : Type 0 where
+pub record AreReadParts (bytes : List ℕ) (parts : List Part) : Type 0 where
   pub lines : List (List ℕ)
   pub cut : AreLines bytes lines
   pub formed : All (λ line. entry_of line ≢ format.Malformed) lines

@@ -1,6 +1,6 @@
 ghost use Rattle.std.specs.Prelude.{◌≡◌, ◌++◌, OnOk, IfOk, true};
-ghost use Rattle.expo_text.specs.Lines.{move, completed, has_ended};
-ghost use Rattle.expo_text.specs.Lines as lines;
+ghost use Rattle.expo_text.specs.Walked.{move, completed, has_ended};
+ghost use Rattle.expo_text.specs.Walked as walked;
 ghost use Rattle.expo_reader.specs.Reader.{place_of};
 
 use crate::found::{FoundLabel, Word};
@@ -33,7 +33,7 @@ pub(crate) struct Place {
 impl Place {
     /// Before the first label's name.
     pub(crate) fn new(alloc: Global) -> Place
-        ensures { place_of result.at result.name.items result.value.items ≡ lines.BeforeName }
+        ensures { place_of result.at result.name.items result.value.items ≡ walked.BeforeName }
     {
         Place {
             at: At::BeforeName,

@@ -1,6 +1,7 @@
 ghost use Rattle.std.specs.Prelude.{◌≡◌, [], ◌++◌, IfOk, IsTrue};
-ghost use Rattle.expo_text.specs.Lines.{same, has_ended, move, labels_entry, value_entry, sample_entry, type_entry, hash_entry, entry_of};
-ghost use Rattle.expo_text.specs.Lines as lines;
+ghost use Rattle.expo_text.specs.Lines.{same};
+ghost use Rattle.expo_text.specs.Walked.{has_ended, move, labels_entry, value_entry, sample_entry, type_entry, hash_entry, entry_of};
+ghost use Rattle.expo_text.specs.Walked as walked;
 ghost use Rattle.expo_reader.specs.Reader.{line_entry, place_of};
 
 use crate::found::{FoundLabel, Word, WrittenSample};
@@ -53,7 +54,7 @@ fn read_value(
 }
 
 fn read_labels(alloc: Global, name: &[u8], bytes: &[u8]) -> Result<Line, NoMemory>
-    ensures { IfOk result (λ line. line_entry line ≡ labels_entry name.now lines.BeforeName [] bytes.now) }
+    ensures { IfOk result (λ line. line_entry line ≡ labels_entry name.now walked.BeforeName [] bytes.now) }
 {
     let mut place = Place::new(alloc);
     let mut labels = Vec::new(alloc);

@@ -1,6 +1,6 @@
 ghost use Rattle.std.specs.Prelude.{◌≡◌, ◌++◌, IfOk, OnOk, IsTrue, codes, List, [], ◌∷◌, true, false};
 ghost use Rattle.expo_text.specs.Lines.{same, Entry};
-ghost use Rattle.expo_text.specs.Parts.{ends_of, has_end, joins, joined, begun, parts_of};
+ghost use Rattle.expo_text.specs.Walked.{ends_of, has_end, joins, joined, begun, parts_of};
 ghost use Rattle.expo_reader.specs.Reader.{line_entry, rest_parts};
 
 use crate::found::{Word, WrittenSample};

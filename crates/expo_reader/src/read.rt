@@ -1,4 +1,5 @@
-ghost use Rattle.std.specs.Prelude.{IfOk, IfSome};
+ghost use Rattle.std.specs.Prelude.{◌≡◌, List, IfOk, IfSome};
+ghost use Rattle.expo_text.specs.Groups.{Group};
 ghost use Rattle.expo_text.specs.Reads.{Reads};
 
 use crate::checks::{are_histograms, are_labels_distinct, is_once, is_unbroken};
@@ -18,7 +19,8 @@ use std::alloc::Global;
 /// Refusal 6 [`NoMemory`], and no other. Source: Prometheus documentation, "Exposition formats", "Text-based format".
 #[tactic(auto, using(crate::proofs::ReadSoFar::reads_from))]
 pub fn read_text(alloc: Global, bytes: &[u8]) -> Result<Option<Vec<Found>>, NoMemory>
-    ensures { IfOk result (λ read. IfSome read (λ groups. Reads bytes.now groups.items)) }
+    ensures reads { IfOk result (λ read. IfSome read (λ groups. Reads bytes.now groups.items)) }
+    ensures only { IfOk result (λ read. IfSome read (λ groups. (others : List Group) → Reads bytes.now others → others ≡ groups.items)) }
 {
     let Some(parts) = read_parts(alloc, bytes)? else {
         return Ok(None);

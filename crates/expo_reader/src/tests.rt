@@ -1,2 +1,4 @@
+mod format;
+mod limits;
 mod reading;
 mod rows;

@@ -1,7 +1,7 @@
 ghost use Rattle.std.specs.Prelude.{◌≡◌, ◌∷◌, ◌==◌, ◌<◌, ◌≤◌, not, length, IfOk, IfSome, IsTrue, ◌↔◌};
 ghost use Rattle.std.specs.List.{slice_split, prefix_len};
 ghost use Rattle.expo_text.specs.Lines as lines;
-ghost use Rattle.expo_reader.specs.Reader.{line_entry, AreParts};
+ghost use Rattle.expo_reader.specs.Reader.{line_entry, AreReadParts};
 
 use crate::line::{Line, read_line};
 use crate::part::{Gathered, OpenPart};
@@ -37,7 +37,7 @@ fn is_malformed(line: &Line) -> bool
 /// format.
 #[tactic(auto, using(crate::proofs::ReadSoFar::one_more))]
 pub(crate) fn read_parts(alloc: Global, bytes: &[u8]) -> Result<Option<Vec<OpenPart>>, NoMemory>
-    ensures { IfOk result (λ read. IfSome read (λ parts. AreParts bytes.now parts.items)) }
+    ensures { IfOk result (λ read. IfSome read (λ parts. AreReadParts bytes.now parts.items)) }
 {
     let mut gathered = Gathered::new(alloc);
     let mut rest = bytes;

@@ -1,7 +1,7 @@
 ghost use Rattle.std.specs.Prelude.{◌≡◌, ◌≤◌, length, take_while};
 ghost use Rattle.std.specs.List.{prefix_len};
 ghost use Rattle.metric_names.specs.HelpText.{is_blank};
-ghost use Rattle.expo_text.specs.Lines.{skip, first, after, in_token, in_name, drop_while};
+ghost use Rattle.expo_text.specs.Walked.{skip, first, after, in_token, in_name, drop_while};
 
 /// Whether the byte is a blank or a tab.
 pub(crate) fn is_blank_byte(byte: u8) -> bool

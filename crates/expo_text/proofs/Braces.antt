@@ -4,12 +4,12 @@ use Rattle.std.specs.List.{zip, flat_map}
 use Rattle.std.proofs.lemmas.List.{take_more, flat_map_more, length-take-le}
 use Rattle.std.proofs.lemmas.Slice.Zip.{get_or-zip, length-zip}
 use Rattle.expo_text.specs.Text.{label_text, labels_text}
-use Rattle.expo_text.specs.Walk.{mark, opened, closing, with_bound}
+use Rattle.expo_text.specs.Walk.{mark, opened, closing}
 
 mark-suc : (n : ℕ) → mark (suc n) ≡ codes ","
 mark-suc n = search rules
 
-brace-suc : (n : ℕ) → closing (suc n) [] ≡ codes "}"
+brace-suc : (n : ℕ) → closing (suc n) ≡ codes "}"
 brace-suc n = search rules
 
 -- one more label
@@ -41,11 +41,10 @@ closed-more [] label = refl
 closed-more (_ ∷ _) label = refl
 
 -- the labels, and what ends them
-pub labels_text-closed : (labels : List (List ℕ × List ℕ)) (bound : List ℕ) → opened labels ++ closing (length labels) bound ≡ labels_text (with_bound labels bound)
-labels_text-closed [] [] = refl
-labels_text-closed (label ∷ labels) [] = ap (λ l. opened (label ∷ labels) ++ l) (brace-suc (length labels)) ∙ closed-some label labels
-labels_text-closed labels (b ∷ bound) =
-    let le : List ℕ × List ℕ = (codes "le", b ∷ bound) in
-    sym (append_assoc (opened labels) (mark (length labels) ++ label_text le) (codes "}"))
-    ∙ ap (λ l. l ++ codes "}") (opened-more labels le)
-    ∙ closed-more labels le
+pub labels_text-closed : (labels : List (List ℕ × List ℕ)) → opened labels ++ closing (length labels) ≡ labels_text labels
+labels_text-closed [] = refl
+labels_text-closed (label ∷ labels) = ap (λ l. opened (label ∷ labels) ++ l) (brace-suc (length labels)) ∙ closed-some label labels
+
+-- the labels, one more, and the brace that ends them
+pub labels_text-more : (labels : List (List ℕ × List ℕ)) (label : List ℕ × List ℕ) → opened labels ++ (mark (length labels) ++ label_text label) ++ codes "}" ≡ labels_text (labels ++ label ∷ [])
+labels_text-more labels label = ap (λ l. l ++ codes "}") (opened-more labels label) ∙ closed-more labels label

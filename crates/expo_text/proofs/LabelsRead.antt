@@ -7,9 +7,10 @@ use Rattle.metric_names.specs.Spelling.{name_takes}
 use Rattle.metric_names.specs.HelpText.{is_blank}
 use Rattle.metric_names.specs.Escapes.{label_byte}
 use Rattle.expo_text.specs.Text.{label_text}
-use Rattle.expo_text.specs.Lines.{Place, BeforeName, InName, BeforeValue, InValue, InEscape, AfterValue, move, completed, has_ended, skip, value_entry, labels_entry}
+use Rattle.expo_text.specs.Walked.{BeforeName, InName, BeforeValue, InValue, AfterValue, skip, value_entry, labels_entry}
 use Rattle.expo_text.proofs.Entries.{written_label}
 use Rattle.expo_text.proofs.Tokens.{Each, other_byte}
+use Rattle.expo_text.proofs.LabelsWalked.{step, escaped, unescaped}
 
 -- a byte of a name
 abbrev pub is_name_byte : ℕ → Bool
@@ -18,13 +19,6 @@ is_name_byte b = name_takes true 1 b
 -- a byte of a name is no blank
 pub name_no_blank : (b : ℕ) → is_name_byte b ≡ true → is_blank b ≡ false
 name_no_blank b h = rw (other_byte is_name_byte b 32 refl h, other_byte is_name_byte b 9 refl h) refl
-
--- one byte that completes no label and ends no list
-step : (name : List ℕ) (place next : Place) (done : List (List ℕ × List ℕ)) (b : ℕ) (bytes : List ℕ)
-    → move place b ≡ next → has_ended next ≡ false → completed place b ≡ []
-    → labels_entry name place done (b ∷ bytes) ≡ labels_entry name next done bytes
-step name place next done b bytes moved on none =
-    rw (moved, on, none) (ap (λ labels. labels_entry name next labels bytes) (append-nil done))
 
 -- the bytes of a label's name, after its first
 label_name : (name so_far xs rest : List ℕ) (done : List (List ℕ × List ℕ)) → Each is_name_byte xs
@@ -35,22 +29,6 @@ label_name name so_far (x ∷ xs) rest done h =
     (rw (other_byte is_name_byte x 61 refl h.0, name_no_blank x h.0) refl) refl refl
     ∙ label_name name (so_far ++ (x ∷ [])) xs rest done h.1
     ∙ ap (λ s. labels_entry name (InName s) done rest) (append_assoc so_far (x ∷ []) xs)
-
--- an escaped byte of a value
-escaped : (name label value rest : List ℕ) (done : List (List ℕ × List ℕ)) (c : ℕ)
-    → labels_entry name (InValue label value) done (92 ∷ c ∷ rest)
-    ≡ labels_entry name (InValue label (value ++ (92 ∷ c ∷ []))) done rest
-escaped name label value rest done c =
-    step name (InValue label value) (InEscape label (value ++ (92 ∷ []))) done 92 (c ∷ rest) refl refl refl
-    ∙ step name (InEscape label (value ++ (92 ∷ []))) (InValue label ((value ++ (92 ∷ [])) ++ (c ∷ []))) done c rest refl refl refl
-    ∙ ap (λ s. labels_entry name (InValue label s) done rest) (append_assoc value (92 ∷ []) (c ∷ []))
-
--- a byte of a value that needs no escape
-unescaped : (name label value rest : List ℕ) (done : List (List ℕ × List ℕ)) (b : ℕ) → (b == 34) ≡ false → (b == 92) ≡ false
-    → labels_entry name (InValue label value) done (b ∷ rest)
-    ≡ labels_entry name (InValue label (value ++ (b ∷ []))) done rest
-unescaped name label value rest done b quote slash =
-    step name (InValue label value) (InValue label (value ++ (b ∷ []))) done b rest (rw (quote, slash) refl) refl (rw quote refl)
 
 -- a byte of a value as it is written
 value_piece : (name label value rest : List ℕ) (done : List (List ℕ × List ℕ)) (b : ℕ)

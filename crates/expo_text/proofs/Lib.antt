@@ -1,12 +1,18 @@
 pub mod Lines
 pub mod Runs
 pub mod Braces
+pub mod Filled
 pub mod Rows
 pub mod Sizes
 pub mod Limits
 pub mod Pieces
 pub mod Entries
 pub mod Tokens
+pub mod LabelsWalked
+pub mod LabelsFound
+pub mod Tokened
+pub mod LinesWalked
+pub mod LinesFound
 pub mod LabelsRead
 pub mod Names
 pub mod Feeds
@@ -15,6 +21,9 @@ pub mod LinesRead
 pub mod SamplesRead
 pub mod OneReading
 pub mod Pairs
+pub mod PartsWalked
+pub mod PartsFound
+pub mod Walks
 pub mod Families
 pub mod LabelSets
 pub mod Owned
@@ -25,3 +34,5 @@ pub mod Parted
 pub mod Whole
 pub mod Printed
 pub mod ReadingLaw
+pub mod Checked
+pub mod Sent

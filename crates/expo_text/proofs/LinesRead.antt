@@ -16,7 +16,8 @@ use Rattle.expo_text.specs.Scraped.{Child, Family, Scraped}
 use Rattle.expo_text.specs.Samples.{Sample, samples_of_family}
 use Rattle.expo_text.specs.Groups.{Group, groups_of, group_of_family, group_of_children}
 use Rattle.expo_text.specs.Text.{text, labels_text, sample_line, help_line, kind_text, type_line, group_of, group_text}
-use Rattle.expo_text.specs.Lines.{AreLines, Entry, Typed, Malformed, in_token, entry_of}
+use Rattle.expo_text.specs.Lines.{AreLines, Entry, Typed, Malformed}
+use Rattle.expo_text.specs.Walked.{in_token, entry_of}
 use Rattle.expo_text.specs.Reads.{Match, word_of}
 use Rattle.expo_text.proofs.Entries.{IsPrintedSample, IsPrintedGroup, sampled, help_entries, group_entries, entries_of}
 use Rattle.expo_text.proofs.Tokens.{Each, Stops, each_of, each_append, each_from_All, all_fail}
@@ -26,7 +27,7 @@ use Rattle.expo_text.proofs.Feeds.{is_kept, Kept, named_kept, token_kept, help_k
 use Rattle.expo_text.proofs.LineRead.{help_read, type_read, sample_read}
 
 -- a line as it is printed, without its line feed, and the entry that a scraper reads in it
-record IsLine (line : List ℕ) (entry : Entry) : Type 0 where
+record IsPrintedLine (line : List ℕ) (entry : Entry) : Type 0 where
   kept : Kept line
   reads : entry_of line ≡ entry
   formed : entry ≢ Malformed
@@ -73,7 +74,7 @@ abbrev feed : List (List ℕ) → List ℕ
 feed lines = flat_map ended lines
 
 -- the line of a sample, as it is printed
-is_sample_line : (sample : Sample) → IsPrintedSample sample → IsLine (sample_body sample) (sampled sample)
+is_sample_line : (sample : Sample) → IsPrintedSample sample → IsPrintedLine (sample_body sample) (sampled sample)
 is_sample_line sample printed =
     let named = named_from sample.name printed.nonempty (each_from_All is_name_byte sample.name printed.spelled) in
     let labels = labels_named sample.labels printed.labels in
@@ -87,7 +88,7 @@ is_sample_line sample printed =
     }
 
 -- the lines of samples
-are_sample_lines : (samples : List Sample) → All IsPrintedSample samples → Match IsLine (map sample_body samples) (map sampled samples)
+are_sample_lines : (samples : List Sample) → All IsPrintedSample samples → Match IsPrintedLine (map sample_body samples) (map sampled samples)
 are_sample_lines [] printed = tt
 are_sample_lines (sample ∷ samples) printed = (
   is_sample_line sample (All-head IsPrintedSample sample samples printed),
@@ -95,7 +96,7 @@ are_sample_lines (sample ∷ samples) printed = (
 )
 
 -- the line of a help, if there is one
-are_help_lines : (name help : List ℕ) → IsNamed name → IsHelpText help → Match IsLine (help_lines name help) (help_entries name help)
+are_help_lines : (name help : List ℕ) → IsNamed name → IsHelpText help → Match IsPrintedLine (help_lines name help) (help_entries name help)
 are_help_lines name [] named is = tt
 are_help_lines name (byte ∷ bytes) named is =
     let written = flat_map help_byte (byte ∷ bytes) in (
@@ -127,7 +128,7 @@ same_word Histogram = refl
 same_word Gauge = refl
 
 -- the line of a type
-is_type_line : (name : List ℕ) (kind : Kind) → IsNamed name → IsLine (type_body name kind) (Typed name (word_of kind))
+is_type_line : (name : List ℕ) (kind : Kind) → IsNamed name → IsPrintedLine (type_body name kind) (Typed name (word_of kind))
 is_type_line name kind named = record {
   kept = each_append is_kept (codes "# TYPE ") (name ++ (32 ∷ kind_text kind)) (each_of is_kept (codes "# TYPE ") refl)
       (each_append is_kept name (32 ∷ kind_text kind) (named_kept name named) (refl, kind_kept kind));
@@ -137,24 +138,24 @@ is_type_line name kind named = record {
 }
 
 -- the lines of a group, and the entries in them
-are_group_lines : (group : Group) → IsPrintedGroup group → Match IsLine (group_lines group) (group_entries group)
+are_group_lines : (group : Group) → IsPrintedGroup group → Match IsPrintedLine (group_lines group) (group_entries group)
 are_group_lines group printed =
     let named = metric_named group.name printed.name in
-    match_append IsLine (help_lines group.name group.help) (type_body group.name group.kind ∷ map sample_body group.samples)
+    match_append IsPrintedLine (help_lines group.name group.help) (type_body group.name group.kind ∷ map sample_body group.samples)
     (help_entries group.name group.help) (Typed group.name (word_of group.kind) ∷ map sampled group.samples)
     (are_help_lines group.name group.help named printed.help)
     (is_type_line group.name group.kind named, are_sample_lines group.samples printed.samples)
 
 -- the lines of groups, and the entries in them
-are_lines : (groups : List Group) → All IsPrintedGroup groups → Match IsLine (lines_of groups) (entries_of groups)
+are_lines : (groups : List Group) → All IsPrintedGroup groups → Match IsPrintedLine (lines_of groups) (entries_of groups)
 are_lines [] printed = tt
 are_lines (group ∷ groups) printed =
-    match_append IsLine (group_lines group) (lines_of groups) (group_entries group) (entries_of groups)
+    match_append IsPrintedLine (group_lines group) (lines_of groups) (group_entries group) (entries_of groups)
     (are_group_lines group (All-head IsPrintedGroup group groups printed))
     (are_lines groups (All-tail IsPrintedGroup group groups printed))
 
 -- a text cut at its line feeds gives the lines back
-cut_back : (lines : List (List ℕ)) (entries : List Entry) → Match IsLine lines entries → AreLines (feed lines) lines
+cut_back : (lines : List (List ℕ)) (entries : List Entry) → Match IsPrintedLine lines entries → AreLines (feed lines) lines
 cut_back [] [] h = refl
 cut_back [] (entry ∷ entries) h = absurd h
 cut_back (line ∷ lines) [] h = absurd h
@@ -165,14 +166,14 @@ cut_back (line ∷ lines) (entry ∷ entries) h =
     ∙ ap (λ rest. line ∷ rest) (cut_back lines entries h.1)
 
 -- the entries of the lines
-read_back : (lines : List (List ℕ)) (entries : List Entry) → Match IsLine lines entries → map entry_of lines ≡ entries
+read_back : (lines : List (List ℕ)) (entries : List Entry) → Match IsPrintedLine lines entries → map entry_of lines ≡ entries
 read_back [] [] h = refl
 read_back [] (entry ∷ entries) h = absurd h
 read_back (line ∷ lines) [] h = absurd h
 read_back (line ∷ lines) (entry ∷ entries) h = ap₂ ◌∷◌ h.0.reads (read_back lines entries h.1)
 
 -- each line is one of the format
-formed_each : (lines : List (List ℕ)) (entries : List Entry) → Match IsLine lines entries → All (λ line. entry_of line ≢ Malformed) lines
+formed_each : (lines : List (List ℕ)) (entries : List Entry) → Match IsPrintedLine lines entries → All (λ line. entry_of line ≢ Malformed) lines
 formed_each [] [] h = All-nil (λ line. entry_of line ≢ Malformed)
 formed_each [] (entry ∷ entries) h = absurd h
 formed_each (line ∷ lines) [] h = absurd h
@@ -232,7 +233,7 @@ pub record LinesRead (scrape : Scraped) : Type 0 where
 pub lines_read : (scrape : Scraped) → All IsPrintedGroup (groups_of scrape) → LinesRead scrape
 lines_read scrape printed =
     let groups = groups_of scrape in
-    let found : Match IsLine (lines_of groups) (entries_of groups) = are_lines groups printed in
+    let found : Match IsPrintedLine (lines_of groups) (entries_of groups) = are_lines groups printed in
     record {
       lines = lines_of groups;
       cut = ap (λ bytes. slice_split (λ b. b == 10) bytes) (fed_families scrape.families) ∙ cut_back (lines_of groups) (entries_of groups) found;

@@ -8,8 +8,10 @@ use Rattle.metric_desc.specs.declared.kind.Kind.{Kind}
 use Rattle.metric_desc.specs.declared.kind.Kind.TheVariants.{Counter, Histogram, Gauge}
 use Rattle.expo_text.specs.Samples.{Sample}
 use Rattle.expo_text.specs.Groups.{Group}
-use Rattle.expo_text.specs.Lines.{Written, entry_of}
-use Rattle.expo_text.specs.Parts.{Part, parts_of}
+use Rattle.expo_text.specs.Lines.{Written}
+use Rattle.expo_text.specs.Walked.{entry_of, parts_of, ReadsWalked}
+use Rattle.expo_text.proofs.Walks.{walked}
+use Rattle.expo_text.specs.Parts.{Part}
 use Rattle.expo_text.specs.Reads.{Match, IsHelpOf, word_of, WritesValue, IsLabel, IsSample, IsGroup, Reads}
 
 -- where each element has one partner, each list has one
@@ -71,9 +73,13 @@ group_one part a b is_a is_b =
     ∙ ap (λ k. make b.name b.help k a.samples) same_kind
     ∙ ap (λ s. make b.name b.help b.kind s) (match_one (IsSample b.kind) (sample_one b.kind) part.samples a.samples b.samples in_kind is_b.samples)
 
--- bytes are an exposition of one list of groups at most
-pub one_reading : (bytes : List ℕ) (a b : List Group) → Reads bytes a → Reads bytes b → a ≡ b
-one_reading bytes a b reads_a reads_b =
+-- a walk over bytes finds one list of groups at most
+one_walked : (bytes : List ℕ) (a b : List Group) → ReadsWalked bytes a → ReadsWalked bytes b → a ≡ b
+one_walked bytes a b reads_a reads_b =
     let same_lines : reads_a.lines ≡ reads_b.lines = append_cancel_right reads_a.lines reads_b.lines ([] ∷ []) (sym reads_a.cut ∙ reads_b.cut) in
     match_one IsGroup group_one (parts_of (map entry_of reads_b.lines)) a b
     (subst (λ lines. Match IsGroup (parts_of (map entry_of lines)) a) same_lines reads_a.parts) reads_b.parts
+
+-- bytes are an exposition of one list of groups at most
+pub one_reading : (bytes : List ℕ) (a b : List Group) → Reads bytes a → Reads bytes b → a ≡ b
+one_reading bytes a b reads_a reads_b = one_walked bytes a b (walked bytes a reads_a) (walked bytes b reads_b)

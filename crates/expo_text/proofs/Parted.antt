@@ -1,9 +1,7 @@
 -- A scraper parts the lines of printed groups into those groups.
 use Rattle.std.proofs.Common.{◌≡◌, ◌≢◌, ℕ, true, false, List, [], ◌∷◌, ◌++◌, map, refl, sym, ap, ◌∙◌, append-nil, append_assoc}
 use Rattle.std.specs.Prelude.{All, codes}
-use Rattle.std.specs.Cmp.Lexicographic.{same_text}
-use Rattle.std.proofs.lemmas.Cmp.{nat_list_eq_equiv}
-use Rattle.std.proofs.lemmas.Bool.{false_from_ne_true, cond-true, cond_both}
+use Rattle.std.proofs.lemmas.Bool.{cond-true}
 use Rattle.metric_desc.specs.declared.kind.Kind.{Kind}
 use Rattle.metric_desc.specs.declared.kind.Kind.TheVariants.{Counter, Histogram, Gauge}
 use Rattle.expo_text.specs.Scraped.{Scraped}
@@ -12,9 +10,12 @@ use Rattle.expo_text.specs.Order.{IsScrape}
 use Rattle.expo_text.specs.Spelled.{IsSpelledIfPrinted}
 use Rattle.expo_text.specs.Groups.{Group, groups_of}
 use Rattle.expo_text.specs.Lines.{same, Entry, Help, Typed}
-use Rattle.expo_text.specs.Parts.{Part, ends_of, has_end, begun, gathered, parts_of}
+use Rattle.expo_text.specs.Parts.{Part}
+use Rattle.expo_text.specs.Walked.{ends_of, has_end, begun, gathered, parts_of}
 use Rattle.expo_text.specs.Reads.{word_of}
 use Rattle.expo_text.proofs.Entries.{written_of, help_entries, sampled, entries_of, helps_of, part_of}
+use Rattle.expo_text.proofs.Tokened.{same_self, same_other}
+use Rattle.expo_text.proofs.PartsWalked.{end_here, end_later}
 use Rattle.expo_text.proofs.Pairs.{Each, Pairs, each_weaker}
 use Rattle.expo_text.proofs.Families.{IsPrinted, group_for, each_group, unbroken_pairs}
 use Rattle.expo_text.proofs.Owned.{IsOfNames, family_names}
@@ -23,14 +24,6 @@ use Rattle.expo_text.proofs.Once.{IsKnown, all_known}
 -- each sample's name is one of its group
 abbrev pub IsNamed : Group → Type 0
 IsNamed group = Each (λ (sample : Sample). has_end sample.name group.name (ends_of (word_of group.kind ∷ [])) ≡ true) group.samples
-
--- a text is the same as itself
-same_self : (a : List ℕ) → same a a ≡ true
-same_self a = nat_list_eq_equiv.refl a
-
--- two texts that differ are not the same
-same_other : (a b : List ℕ) → a ≢ b → same a b ≡ false
-same_other a b differ = false_from_ne_true (same a b) (λ e. differ (same_text a b (sym e)))
 
 -- the samples after the types of their group
 gathered-samples : (part : Part) (samples : List Sample) (rest : List Entry)
@@ -87,15 +80,6 @@ parted_groups (group ∷ groups) differ named =
     ∙ parts_of-first group.name group.help group.kind (map sampled group.samples ++ entries_of groups)
     ∙ gathered-samples (open_part group.name group.help group.kind) group.samples (entries_of groups) named.0
     ∙ gathered-groups group groups differ named.1
-
--- the name is the group's with the first of these ends
-end_here : (name group end : List ℕ) (ends : List (List ℕ)) → name ≡ group ++ end → has_end name group (end ∷ ends) ≡ true
-end_here name group end ends e = cond-true (same name (group ++ end)) true (has_end name group ends) (ap (λ other. same name other) (sym e) ∙ same_self name)
-
--- the name is the group's with a later one of these ends
-end_later : (name group end : List ℕ) (ends : List (List ℕ)) → has_end name group ends ≡ true → has_end name group (end ∷ ends) ≡ true
-end_later name group end ends there =
-    cond_both (same name (group ++ end)) true (has_end name group ends) (λ found. found ≡ true) (λ _. refl) (λ _. there)
 
 -- the names of a kind's samples have its ends
 kind_ends : (name : List ℕ) (kind : Kind) → IsOfNames (λ other. has_end other name (ends_of (word_of kind ∷ [])) ≡ true) name kind

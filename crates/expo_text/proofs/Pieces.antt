@@ -5,7 +5,8 @@ use Rattle.std.proofs.KnownBytes.{Appends-trans}
 use Rattle.std.proofs.Math.Seq.{take-add, take-append_seam}
 use Rattle.std.proofs.lemmas.List.{take_rest, take_all, drop_all, length-take-le, take-append-drop}
 use Rattle.std.proofs.Math.Nat.{mod-eq_of_lt}
-use Rattle.expo_text.specs.Sends.{Sender, Sends, sends-failed, sends-chain}
+use Rattle.expo_text.specs.Sends.{Sender, Sends, sends-chain}
+use Rattle.expo_text.proofs.Sent.{sends-failed}
 
 pub kept-appends : (a b : Option (List ℕ)) → Keeps a b → Appends a b []
 kept-appends None b kept = tt

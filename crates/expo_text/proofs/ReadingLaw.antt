@@ -7,7 +7,8 @@ use Rattle.expo_text.specs.Order.{IsScrape}
 use Rattle.expo_text.specs.Spelled.{IsSpelledIfPrinted}
 use Rattle.expo_text.specs.Text.{text}
 use Rattle.expo_text.specs.Groups.{Group, groups_of}
-use Rattle.expo_text.specs.Parts.{parts_of}
+use Rattle.expo_text.specs.Walked.{parts_of, ReadsWalked}
+use Rattle.expo_text.proofs.Walks.{found}
 use Rattle.expo_text.specs.Reads.{Match, IsGroup, Reads}
 use Rattle.expo_text.proofs.Entries.{part_of, IsPrintedGroup}
 use Rattle.expo_text.proofs.LinesRead.{lines_read}
@@ -28,8 +29,8 @@ groups_read (group ∷ groups) all = (
   groups_read groups (All-tail IsPrintedGroup group groups all),
 )
 
-reads : (scrape : Scraped) → IsScrape scrape → All IsSpelledIfPrinted scrape.families → Reads (text scrape) (groups_of scrape)
-reads scrape is spelled =
+reads_walked : (scrape : Scraped) → IsScrape scrape → All IsSpelledIfPrinted scrape.families → ReadsWalked (text scrape) (groups_of scrape)
+reads_walked scrape is spelled =
     let all = printed scrape is spelled in
     let read = lines_read scrape all in
     let parts = sym (ap parts_of read.read ∙ parted scrape is spelled) in
@@ -37,16 +38,19 @@ reads scrape is spelled =
       lines = read.lines;
       cut = read.cut;
       formed = read.formed;
-      parts = subst (λ found. Match IsGroup found (groups_of scrape)) parts (groups_read (groups_of scrape) all);
+      parts = subst (λ made. Match IsGroup made (groups_of scrape)) parts (groups_read (groups_of scrape) all);
       unbroken = unbroken scrape is spelled;
       once = once scrape is spelled;
       labels = distinct scrape is spelled;
       histograms = histograms scrape is spelled;
     }
 
+reads : (scrape : Scraped) → IsScrape scrape → All IsSpelledIfPrinted scrape.families → Reads (text scrape) (groups_of scrape)
+reads scrape is spelled = found (text scrape) (groups_of scrape) (reads_walked scrape is spelled)
+
 pub reading_law : (scrape : Scraped) → IsScrape scrape → All IsSpelledIfPrinted scrape.families
     → (groups : List Group) → Reads (text scrape) groups ↔ (groups ≡ groups_of scrape)
 reading_law scrape is spelled groups = (
-  λ found. one_reading (text scrape) groups (groups_of scrape) found (reads scrape is spelled),
+  λ others. one_reading (text scrape) groups (groups_of scrape) others (reads scrape is spelled),
   λ same. subst (Reads (text scrape)) (sym same) (reads scrape is spelled),
 )

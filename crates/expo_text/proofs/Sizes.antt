@@ -1,5 +1,5 @@
 -- How long the parts of a text are at most.
-use Rattle.std.proofs.Common.{◌≡◌, ℕ, zero, suc, ◌+◌, ◌-◌, ◌*◌, ◌<◌, ◌≤◌, ◌^◌, Bool, true, false, List, [], ◌∷◌, ◌++◌, length, get_or, codes, decimal, All, arith, length-append}
+use Rattle.std.proofs.Common.{rules, ◌≡◌, ℕ, zero, suc, ◌+◌, ◌-◌, ◌*◌, ◌<◌, ◌≤◌, ◌^◌, Bool, true, false, List, [], ◌∷◌, ◌++◌, length, get_or, codes, decimal, All, arith, length-append}
 use Rattle.std.specs.Prelude.{ℤ, pos, negsuc, ◌-ℤ◌, ◌==◌, if◌then◌else◌, nat_lt}
 use Rattle.std.specs.Fmt.{signed_decimal}
 use Rattle.std.specs.List.{flat_map, zip}
@@ -11,6 +11,7 @@ use Rattle.metric_names.specs.LabelName.{IsLabelName}
 use Rattle.metric_names.specs.LabelValue.{IsLabelValue}
 use Rattle.expo_text.specs.Samples.{Sample}
 use Rattle.expo_text.specs.Text.{label_text, labels_text, sample_line}
+use Rattle.expo_text.specs.Walk.{mark, opened, bucket_front}
 
 -- pieces of at most `most` bytes
 pub flat_map-short : {X : Type 0} (f : X → List ℕ) (most : ℕ) (xs : List X) → All (λ x. length (f x) ≤ most) xs → length (flat_map f xs) ≤ most * length xs
@@ -73,6 +74,24 @@ labels_text-short (label ∷ labels) each =
     let first : length (label_text label) ≤ 643 = All-head IsShortLabel label labels each in
     let others = All-weaker IsShortLabel (λ y. length (part y) ≤ 644) (λ y short. omega (arith, short)) labels (All-tail IsShortLabel label labels each) in
     braces-short (label_text label) (flat_map part labels) (length labels) first (flat_map-short part 644 labels others)
+
+-- what the lines of a child's buckets begin with
+opened-short : (labels : List (List ℕ × List ℕ)) → All IsShortLabel labels → length (opened labels) ≤ 2 + 644 * length labels
+opened-short [] each = omega arith
+opened-short (label ∷ labels) each =
+    let all = labels_text-short (label ∷ labels) each in
+    let closed : length (opened (label ∷ labels) ++ codes "}") ≡ length (opened (label ∷ labels)) + 1 = length-append (opened (label ∷ labels)) (codes "}") in
+    omega (arith, all, closed)
+
+mark-short : (n : ℕ) → length (mark n) ≤ 1
+mark-short zero = omega arith
+mark-short (suc n) = search rules
+
+pub front-short : (name : List ℕ) (labels : List (List ℕ × List ℕ)) → length name ≤ 128 → All IsShortLabel labels → length labels ≤ 8 → length (bucket_front name labels) ≤ 6144
+front-short name labels short_name each few =
+    let all = opened-short labels each in
+    let one = mark-short (length labels) in
+    simp length-append (omega (arith, short_name, few, all, one))
 
 -- a sample whose line has at most 6,000 bytes
 pub record IsShortSample (sample : Sample) : Type 0 where

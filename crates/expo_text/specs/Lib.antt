@@ -4,9 +4,11 @@ pub mod Text
 pub mod Order
 pub mod Spelled
 pub mod Counts
+pub mod Fills
 pub mod Sends
 pub mod Walk
 pub mod Groups
 pub mod Lines
 pub mod Parts
 pub mod Reads
+pub mod Walked

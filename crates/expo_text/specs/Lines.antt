@@ -1,7 +1,7 @@
--- How a scraper reads a line: by its tokens (Prometheus documentation, "Exposition formats", "Text format details").
--- Nothing here knows how a scrape is written.
-use Rattle.std.specs.Prelude.{◌≡◌, ℕ, Bool, true, false, not, ◌&&◌, ◌==◌, if◌then◌else◌, nat_eq, List, [], ◌∷◌, ◌++◌, drop, take_while, codes}
-use Rattle.std.specs.List.{prefix_len, slice_split}
+-- The lines of a text, and what stands in each (Prometheus documentation, "Exposition formats", "Text format details").
+-- Nothing here knows how a scrape is written, or how a reader walks.
+use Rattle.std.specs.Prelude.{◌≡◌, ◌≢◌, ◌⊎◌, ⊤, ℕ, Bool, true, false, ◌==◌, nat_eq, All, List, [], ◌∷◌, ◌++◌, codes}
+use Rattle.std.specs.List.{slice_split}
 use Rattle.std.specs.Cmp.Lexicographic.{pointwise}
 use Rattle.metric_names.specs.HelpText.{is_blank}
 
@@ -12,25 +12,6 @@ AreLines bytes lines = slice_split (λ b. b == 10) bytes ≡ lines ++ ([] ∷ []
 -- two texts are the same
 abbrev pub same : List ℕ → List ℕ → Bool
 same a b = pointwise nat_eq a b
-
--- what stands from the first byte on that fails the test
-abbrev pub drop_while : (ℕ → Bool) → List ℕ → List ℕ
-drop_while test bytes = drop (prefix_len test bytes) bytes
-
--- without the blanks and tabs in front
-abbrev pub skip : List ℕ → List ℕ
-skip bytes = drop_while is_blank bytes
-
--- the token in front, which ends at a blank or a tab
-abbrev pub in_token : ℕ → Bool
-in_token b = not (is_blank b)
-
-abbrev pub first : List ℕ → List ℕ
-first bytes = take_while in_token bytes
-
--- what follows the token in front and the blanks after it
-abbrev pub after : List ℕ → List ℕ
-after bytes = skip (drop_while in_token bytes)
 
 -- a sample as it is written: its name, its labels with their values still escaped, and the token of its value
 pub record Written : Type 0 where
@@ -46,91 +27,142 @@ pub data Entry : Type 0 where
   Sampled : Written → Entry
   Malformed : Entry
 
--- where in a list of labels the reading is
-pub data Place : Type 0 where
-  BeforeName : Place
-  InName : (name : List ℕ) → Place
-  AfterName : (name : List ℕ) → Place
-  BeforeValue : (name : List ℕ) → Place
-  InValue : (name value : List ℕ) → Place
-  InEscape : (name value : List ℕ) → Place
-  AfterValue : Place
-  Ended : Place
-  Failed : Place
+-- blanks and tabs alone, or nothing
+abbrev pub AreBlanks : List ℕ → Type 0
+AreBlanks gap = All (λ b. is_blank b ≡ true) gap
 
--- where one byte of a list of labels leads: `=` is 61, a quote 34, a backslash 92, a comma 44, a closing brace 125
-abbrev pub move : Place → ℕ → Place
-move BeforeName b = if b == 125 then Ended else (if is_blank b then BeforeName else InName (b ∷ []))
-move (InName name) b = if b == 61 then BeforeValue name else (if is_blank b then AfterName name else InName (name ++ (b ∷ [])))
-move (AfterName name) b = if b == 61 then BeforeValue name else (if is_blank b then AfterName name else Failed)
-move (BeforeValue name) b = if b == 34 then InValue name [] else (if is_blank b then BeforeValue name else Failed)
-move (InValue name value) b =
-    if b == 34 then AfterValue else (if b == 92 then InEscape name (value ++ (b ∷ [])) else InValue name (value ++ (b ∷ [])))
-move (InEscape name value) b = InValue name (value ++ (b ∷ []))
-move AfterValue b = if b == 44 then BeforeName else (if b == 125 then Ended else (if is_blank b then AfterValue else Failed))
-move Ended b = Ended
-move Failed b = Failed
+-- no blank and no tab
+abbrev pub HasNoBlank : List ℕ → Type 0
+HasNoBlank text = All (λ b. is_blank b ≡ false) text
 
--- the label that a byte completes: the quote after its value
-abbrev pub completed : Place → ℕ → List (List ℕ × List ℕ)
-completed BeforeName b = []
-completed (InName name) b = []
-completed (AfterName name) b = []
-completed (BeforeValue name) b = []
-completed (InValue name value) b = if b == 34 then (name, value) ∷ [] else []
-completed (InEscape name value) b = []
-completed AfterValue b = []
-completed Ended b = []
-completed Failed b = []
+-- a token: a byte or more, none of which is a blank or a tab
+abbrev pub IsToken : List ℕ → Type 0
+IsToken token = (token ≢ []) × HasNoBlank token
 
-abbrev pub has_ended : Place → Bool
-has_ended BeforeName = false
-has_ended (InName name) = false
-has_ended (AfterName name) = false
-has_ended (BeforeValue name) = false
-has_ended (InValue name value) = false
-has_ended (InEscape name value) = false
-has_ended AfterValue = false
-has_ended Ended = true
-has_ended Failed = false
+-- a token before this text is over: a blank or a tab follows, or nothing
+abbrev pub EndsToken : List ℕ → Type 0
+EndsToken [] = ⊤
+EndsToken (b ∷ _) = is_blank b ≡ true
 
--- the value of a sample: one token, and nothing after it
-abbrev pub value_entry : (name : List ℕ) → List (List ℕ × List ℕ) → List ℕ → Entry
-value_entry name labels rest =
-    if same (after rest) [] then Sampled (record { name = name; labels = labels; value = first rest }) else Malformed
+-- no blank and no tab stands in front
+abbrev pub HasNoBlankInFront : List ℕ → Type 0
+HasNoBlankInFront [] = ⊤
+HasNoBlankInFront (b ∷ _) = is_blank b ≡ false
 
--- the labels of a sample from a place on, after those that are read, then its value
-abbrev pub labels_entry : (name : List ℕ) → Place → List (List ℕ × List ℕ) → List ℕ → Entry
-labels_entry name place labels [] = Malformed
-labels_entry name place labels (b ∷ bytes) =
-    if has_ended (move place b) then value_entry name labels (skip bytes)
-    else labels_entry name (move place b) (labels ++ completed place b) bytes
+-- the first token of a text, and what follows it. A text of blanks alone has none: an empty one stands for it
+pub data IsFirst : (text token rest : List ℕ) → Type 0 where
+  NoToken : (gap : List ℕ) → AreBlanks gap → IsFirst gap [] []
+  OneToken : (gap token rest : List ℕ) → AreBlanks gap → IsToken token → EndsToken rest → IsFirst (gap ++ token ++ rest) token rest
 
--- the name of a sample ends at a blank, a tab or an opening brace, which is 123
-abbrev pub in_name : ℕ → Bool
-in_name b = in_token b && not (b == 123)
+-- the only token of a text, with blanks around it. A text of blanks alone has none: an empty one stands for it
+pub record IsOnly (text token : List ℕ) : Type 0 where
+  pub rest : List ℕ
+  pub first : IsFirst text token rest
+  pub blank : AreBlanks rest
 
-abbrev pub after_name : (name : List ℕ) → List ℕ → Entry
-after_name name [] = Malformed
-after_name name (b ∷ bytes) = if b == 123 then labels_entry name BeforeName [] bytes else value_entry name [] (b ∷ bytes)
+-- a label's value between its quotes: bytes that are neither a quote, which is 34, nor a backslash, which is 92, and pairs
+-- of a backslash and any byte
+pub data IsQuoted : List ℕ → Type 0 where
+  NoByte : IsQuoted []
+  Plain : (b : ℕ) (value : List ℕ) → b ≢ 34 → b ≢ 92 → IsQuoted value → IsQuoted (b ∷ value)
+  Escaped : (b : ℕ) (value : List ℕ) → IsQuoted value → IsQuoted (92 ∷ b ∷ value)
 
-abbrev pub sample_entry : List ℕ → Entry
-sample_entry line = after_name (take_while in_name line) (skip (drop_while in_name line))
+-- a label's name: a byte that is neither a blank nor a closing brace, which is 125, and then bytes that are neither blanks
+-- nor `=`, which is 61. So its first byte may be `=`; no name of the grammar has one
+abbrev pub IsLabelWord : List ℕ → Type 0
+IsLabelWord [] = ⊥
+IsLabelWord (b ∷ bytes) = (b ≢ 125) × (is_blank b ≡ false) × All (λ c. (c ≢ 61) × (is_blank c ≡ false)) bytes
 
--- a type has two tokens, its family's name and its kind
-abbrev pub type_entry : List ℕ → Entry
-type_entry rest = if same (after (after rest)) [] then Typed (first rest) (first (after rest)) else Malformed
+-- a label: NAME = "VALUE", with blanks around each
+pub record IsLabelText (text : List ℕ) (label : List ℕ × List ℕ) : Type 0 where
+  pub before : List ℕ
+  pub after_name : List ℕ
+  pub before_value : List ℕ
+  pub after : List ℕ
+  pub is : text ≡ before ++ label.0 ++ after_name ++ codes "=" ++ before_value ++ codes "\"" ++ label.1 ++ codes "\"" ++ after
+  pub blanks : AreBlanks before × AreBlanks after_name × AreBlanks before_value × AreBlanks after
+  pub name : IsLabelWord label.0
+  pub value : IsQuoted label.1
 
--- after a hash: the token HELP with a family's name and all the rest, or the token TYPE, or a comment
-abbrev pub hash_entry : List ℕ → Entry
-hash_entry rest =
-    if same (first rest) (codes "HELP") then Help (first (after rest)) (after (after rest))
-    else (if same (first rest) (codes "TYPE") then type_entry (after rest) else Nothing)
+-- labels and the brace that closes them: none, a last one, or one with a comma after it, and then others or none
+pub data AreLabels : (text : List ℕ) → List (List ℕ × List ℕ) → Type 0 where
+  NoLabel : (gap : List ℕ) → AreBlanks gap → AreLabels (gap ++ codes "}") []
+  LastLabel : (text : List ℕ) (label : List ℕ × List ℕ) → IsLabelText text label → AreLabels (text ++ codes "}") (label ∷ [])
+  NextLabel : (text rest : List ℕ) (label : List ℕ × List ℕ) (labels : List (List ℕ × List ℕ))
+      → IsLabelText text label → AreLabels rest labels → AreLabels (text ++ codes "," ++ rest) (label ∷ labels)
 
--- a line without its blanks in front: empty, or with a hash in front, which is 35, or a sample
-abbrev pub entry_from : List ℕ → Entry
-entry_from [] = Nothing
-entry_from (b ∷ bytes) = if b == 35 then hash_entry (skip bytes) else sample_entry (b ∷ bytes)
+-- a sample's name: no blank and no opening brace, which is 123, and no hash in front. It may be empty before a brace; no
+-- name of the grammar is empty
+pub record IsSampleWord (name : List ℕ) : Type 0 where
+  pub solid : All (λ b. (is_blank b ≡ false) × (b ≢ 123)) name
+  pub no_hash : (rest : List ℕ) → name ≢ codes "#" ++ rest
 
-abbrev pub entry_of : List ℕ → Entry
-entry_of line = entry_from (skip line)
+-- a sample with braces: NAME { LABELS } VALUE. Where no value stands there, an empty one stands for it; it writes no number
+pub record IsBraced (line : List ℕ) (sample : Written) : Type 0 where
+  pub before : List ℕ
+  pub after_name : List ℕ
+  pub inside : List ℕ
+  pub rest : List ℕ
+  pub is : line ≡ before ++ sample.name ++ after_name ++ codes "{" ++ inside ++ rest
+  pub blanks : AreBlanks before × AreBlanks after_name
+  pub name : IsSampleWord sample.name
+  pub labels : AreLabels inside sample.labels
+  pub value : IsOnly rest sample.value
+
+-- a sample without braces: NAME VALUE, and the value does not begin with an opening brace
+pub record IsBare (line : List ℕ) (sample : Written) : Type 0 where
+  pub rest : List ℕ
+  pub first : IsFirst line sample.name rest
+  pub name : IsSampleWord sample.name
+  pub none : sample.labels ≡ []
+  pub value : IsOnly rest sample.value
+  pub some : sample.value ≢ []
+  pub no_brace : (more : List ℕ) → sample.value ≢ codes "{" ++ more
+
+-- a line whose first byte but blanks is a hash, with this text after it
+pub record IsHash (line text : List ℕ) : Type 0 where
+  pub before : List ℕ
+  pub is : line ≡ before ++ codes "#" ++ text
+  pub blanks : AreBlanks before
+
+-- a help: # HELP NAME and all the rest. Where no name stands there, an empty one stands for it; no name of the grammar is
+-- empty
+pub record IsHelp (line name help : List ℕ) : Type 0 where
+  pub text : List ℕ
+  pub words : List ℕ
+  pub rest : List ℕ
+  pub gap : List ℕ
+  pub hash : IsHash line text
+  pub first : IsFirst text (codes "HELP") words
+  pub second : IsFirst words name rest
+  pub is : rest ≡ gap ++ help
+  pub blanks : AreBlanks gap
+  pub front : HasNoBlankInFront help
+
+-- a type: # TYPE NAME WORD. Where one of the two is missing, an empty one stands for it; no kind's word is empty
+pub record IsType (line name word : List ℕ) : Type 0 where
+  pub text : List ℕ
+  pub words : List ℕ
+  pub rest : List ℕ
+  pub hash : IsHash line text
+  pub first : IsFirst text (codes "TYPE") words
+  pub second : IsFirst words name rest
+  pub third : IsOnly rest word
+
+-- a comment: a hash, and neither HELP nor TYPE as the first token after it
+pub record IsComment (line : List ℕ) : Type 0 where
+  pub text : List ℕ
+  pub word : List ℕ
+  pub rest : List ℕ
+  pub hash : IsHash line text
+  pub first : IsFirst text word rest
+  pub no_help : word ≢ codes "HELP"
+  pub no_type : word ≢ codes "TYPE"
+
+-- a line is this entry
+abbrev pub IsLine : (line : List ℕ) → Entry → Type 0
+IsLine line Nothing = AreBlanks line ⊎ IsComment line
+IsLine line (Help name help) = IsHelp line name help
+IsLine line (Typed name word) = IsType line name word
+IsLine line (Sampled sample) = IsBraced line sample ⊎ IsBare line sample
+IsLine line Malformed = ⊥

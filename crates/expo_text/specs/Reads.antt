@@ -1,6 +1,6 @@
 -- A text read as an exposition (Prometheus documentation, "Exposition formats", "Text-based format").
 -- That each group has a type, and that each value is a whole number, is this project's narrowing.
-use Rattle.std.specs.Prelude.{◌≡◌, ◌≢◌, ℕ, ◌<◌, ℤ, pos, neg_ℤ, ◌≤ℤ◌, ⊤, not, Option, Some, None, List, [], ◌∷◌, ◌++◌, map, All, AllPairs, Contains, filter, flat_map, codes, ◌⊎◌}
+use Rattle.std.specs.Prelude.{◌≡◌, ◌≢◌, ℕ, ◌<◌, ℤ, pos, neg_ℤ, ◌≤ℤ◌, ⊤, not, Option, Some, None, List, [], ◌∷◌, ◌++◌, All, AllPairs, Contains, filter, flat_map, codes, ◌⊎◌}
 use Rattle.std.specs.Str.Parse.{IsNumeral, digits_value}
 use Rattle.metric_names.specs.MetricName.{IsMetricName}
 use Rattle.metric_names.specs.LabelName.{IsLabelName}
@@ -9,8 +9,8 @@ use Rattle.metric_desc.specs.declared.kind.Kind.{Kind}
 use Rattle.metric_desc.specs.declared.kind.Kind.TheVariants.{Counter, Histogram, Gauge}
 use Rattle.expo_text.specs.Samples.{Sample}
 use Rattle.expo_text.specs.Groups.{Group}
-use Rattle.expo_text.specs.Lines.{AreLines, same, Written, Malformed, entry_of}
-use Rattle.expo_text.specs.Parts.{Part, parts_of}
+use Rattle.expo_text.specs.Lines.{AreLines, same, Written, Entry, IsLine}
+use Rattle.expo_text.specs.Parts.{Part, AreParts}
 
 -- two lists are as long as each other, and the relation holds between them element by element
 abbrev pub Match : {A B : Type 0} → (A → B → Type 0) → List A → List B → Type 0
@@ -131,8 +131,11 @@ pub record IsHistogramGroup (group : Group) : Type 0 where
 pub record Reads (bytes : List ℕ) (groups : List Group) : Type 0 where
   pub lines : List (List ℕ)
   pub cut : AreLines bytes lines
-  pub formed : All (λ line. entry_of line ≢ Malformed) lines
-  pub parts : Match IsGroup (parts_of (map entry_of lines)) groups
+  pub entries : List Entry
+  pub formed : Match IsLine lines entries
+  pub parts : List Part
+  pub blocks : AreParts entries parts
+  pub matched : Match IsGroup parts groups
   pub unbroken : AllPairs (λ (a b : Group). a.name ≢ b.name) groups
   pub once : AllPairs (λ a b. ¬ (IsSameSeries a b)) (flat_map (λ (group : Group). group.samples) groups)
   pub labels : All HasDistinctLabels (flat_map (λ (group : Group). group.samples) groups)

@@ -1,7 +1,9 @@
 -- What a sender has sent of a text.
 use Rattle.std.specs.Prelude.{◌≡◌, ℕ, ◌<◌, Bool, true, false, Option, List, [], ◌++◌, length}
 use Rattle.std.specs.Io.KnownBytes.{Appends}
-use Rattle.std.proofs.Common.{refl, sym, ap, subst, ◌∙◌, arith, append_assoc, append-nil, length-append}
+use Rattle.std.proofs.Common.{refl, sym, ap, subst, ◌∙◌, append_assoc, append-nil, length-append}
+use Rattle.std.proofs.Math.Nat.{le-add_right, lt_of_lt_of_le}
+use Rattle.std.proofs.lemmas.Bool.{true≢false}
 use Rattle.std.proofs.KnownBytes.{Appends-nil, Appends-trans}
 use Rattle.watched.specs.Watched.{Watch}
 use Rattle.expo_text.specs.Counts.{Counts, counts-none, counts-more}
@@ -31,8 +33,14 @@ pub record Sends (a b : Sender) (bytes : List ℕ) : Type 0 where
   pub still : a.failed ≡ true → gone ≡ []
   pub ended : b.ended ≡ a.ended
 
-clash : {X : Type 0} (b : Bool) → b ≡ true → b ≡ false → X
-clash b is_true is_false = let never : ⊥ = cc in absurd never
+-- nothing is both true and false
+pub clash : {X : Type 0} (b : Bool) → b ≡ true → b ≡ false → X
+clash b is_true is_false = absurd (true≢false (sym is_true ∙ is_false))
+
+-- some bytes and others are some
+some-more : (xs ys : List ℕ) → 0 < length xs → 0 < length (xs ++ ys)
+some-more xs ys some =
+    subst (λ n. 0 < n) (sym (length-append xs ys)) (lt_of_lt_of_le some (le-add_right (length xs) (length ys)))
 
 pub sends-nothing : (a : Sender) → Sends a a []
 sends-nothing a = record {
@@ -42,20 +50,6 @@ sends-nothing a = record {
   count = counts-none a.sent;
   all = λ _. sym (append-nil a.waiting);
   going = λ ok. (ok, refl);
-  stopped = λ end start. clash a.failed end start;
-  still = λ _. refl;
-  ended = refl;
-}
-
--- a sender whose writer has failed takes nothing
-pub sends-failed : (a : Sender) (bytes : List ℕ) → a.failed ≡ true → Sends a a bytes
-sends-failed a bytes failed = record {
-  gone = [];
-  left = a.waiting ++ bytes;
-  appends = Appends-nil a.contents;
-  count = counts-none a.sent;
-  all = λ _. refl;
-  going = λ ok. clash a.failed failed ok;
   stopped = λ end start. clash a.failed end start;
   still = λ _. refl;
   ended = refl;
@@ -91,7 +85,7 @@ chain-failed a b c xs ys failed p q = record {
   count = counts-more a.sent b.sent c.sent p.gone q.gone p.count q.count;
   all = λ start. join-failed p.gone p.left a.waiting xs ys q.gone (p.all start) (q.still failed);
   going = λ end. clash b.failed failed (q.going end).0;
-  stopped = λ end start. let some = p.stopped failed start in rw length-append (omega (arith, some));
+  stopped = λ end start. some-more p.left ys (p.stopped failed start);
   still = λ start. ap (λ l. l ++ q.gone) (p.still start) ∙ q.still failed;
   ended = q.ended ∙ p.ended;
 }
@@ -102,17 +96,3 @@ chain-either a b c xs ys false is p q = chain-going a b c xs ys is p q
 
 pub sends-chain : (a b c : Sender) (xs ys : List ℕ) → Sends a b xs → Sends b c ys → Sends a c (xs ++ ys)
 sends-chain a b c xs ys p q = chain-either a b c xs ys b.failed refl p q
-
--- bytes that begin to wait
-pub sends-waiting : (a b : Sender) (bytes : List ℕ) → b.contents ≡ a.contents → b.failed ≡ a.failed → b.ended ≡ a.ended → b.sent ≡ a.sent → b.waiting ≡ a.waiting ++ bytes → Sends a b bytes
-sends-waiting a b bytes contents failed ended sent waiting = record {
-  gone = [];
-  left = b.waiting;
-  appends = subst (λ known. Appends a.contents known []) (sym contents) (Appends-nil a.contents);
-  count = subst (λ count. Counts a.sent count 0) (sym sent) (counts-none a.sent);
-  all = λ _. waiting;
-  going = λ ok. (sym failed ∙ ok, refl);
-  stopped = λ end start. clash a.failed (sym failed ∙ end) start;
-  still = λ _. refl;
-  ended = ended;
-}

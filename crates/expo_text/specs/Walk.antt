@@ -1,9 +1,7 @@
 -- The parts of a text in the order in which they are written.
 use Rattle.std.specs.Prelude.{ℕ, ◌==◌, Bool, true, false, if◌then◌else◌, List, [], ◌∷◌, ◌++◌, codes, length, map, slice_index, decimal}
-use Rattle.std.specs.List.{join_by, range_with_len}
+use Rattle.std.specs.List.{flat_map, join_by, range_with_len}
 use Rattle.metric_names.specs.Escapes.{help_byte, label_byte}
-use Rattle.metric_desc.specs.Desc.{Descriptor}
-use Rattle.expo_text.specs.Samples.{Sample, bucket_sample}
 use Rattle.expo_text.specs.Text.{label_text, labels_text}
 
 -- how a byte is written, in quotes or in a help
@@ -20,15 +18,9 @@ abbrev pub opened : List (List ℕ × List ℕ) → List ℕ
 opened [] = []
 opened (label ∷ labels) = codes "{" ++ join_by label_text (codes ",") (label ∷ labels)
 
--- after `count` labels: the bound of a bucket, unless it is empty, and the brace that ends the labels
-abbrev pub closing : (count : ℕ) → (bound : List ℕ) → List ℕ
-closing count [] = if count == 0 then [] else codes "}"
-closing count (b ∷ bound) = mark count ++ label_text (codes "le", b ∷ bound) ++ codes "}"
-
--- labels, and after them the bound of a bucket, unless it is empty
-abbrev pub with_bound : List (List ℕ × List ℕ) → (bound : List ℕ) → List (List ℕ × List ℕ)
-with_bound labels [] = labels
-with_bound labels (b ∷ bound) = labels ++ ((codes "le", b ∷ bound) ∷ [])
+-- what ends the labels, of which there are `count`
+abbrev pub closing : (count : ℕ) → List ℕ
+closing count = if count == 0 then [] else codes "}"
 
 -- a line up to its value: a name and labels
 abbrev pub series : (name : List ℕ) → List (List ℕ × List ℕ) → List ℕ
@@ -38,7 +30,15 @@ series name labels = name ++ labels_text labels
 abbrev pub value_text : (sign digits : List ℕ) → List ℕ
 value_text sign digits = codes " " ++ (sign ++ digits) ++ codes "\n"
 
--- the samples of buckets with these bounds and these cumulated values
-abbrev pub bucket_samples : Descriptor → List (List ℕ × List ℕ) → (bounds cumulated : List ℕ) → List Sample
-bucket_samples desc labels bounds cumulated =
-    map (λ k. bucket_sample desc labels (decimal (slice_index bounds k)) (slice_index cumulated k)) (range_with_len 0 (length bounds))
+-- what the lines of a child's buckets begin with, up to the bound
+abbrev pub bucket_front : (name : List ℕ) → List (List ℕ × List ℕ) → List ℕ
+bucket_front name labels = name ++ codes "_bucket" ++ opened labels ++ mark (length labels) ++ codes "le=\""
+
+-- the line of a bucket after this front: its bound, and its value
+abbrev pub bucket_line : (front bound digits : List ℕ) → List ℕ
+bucket_line front bound digits = front ++ bound ++ codes "\"} " ++ digits ++ codes "\n"
+
+-- the lines of the first `n` buckets, of these bounds and these cumulated values
+abbrev pub bucket_lines : (front : List ℕ) → (bounds cumulated : List ℕ) → (n : ℕ) → List ℕ
+bucket_lines front bounds cumulated n =
+    flat_map (λ line. line) (map (λ k. bucket_line front (decimal (slice_index bounds k)) (decimal (slice_index cumulated k))) (range_with_len 0 n))

@@ -3,7 +3,7 @@ ghost use Rattle.std.specs.List.{flat_map};
 ghost use Rattle.metric_names.specs.LabelName.{IsLabelName};
 ghost use Rattle.metric_names.specs.LabelValue.{IsLabelValue};
 ghost use Rattle.expo_text.specs.Text.{label_text, labels_text};
-ghost use Rattle.expo_text.specs.Walk.{byte_text, mark, opened, closing, with_bound};
+ghost use Rattle.expo_text.specs.Walk.{byte_text, mark, opened, closing};
 
 use crate::sink::Sink;
 use metric_names::{LabelName, LabelValue};
@@ -47,14 +47,14 @@ fn put_label<S: Sink>(sink: &mut S, before: &str, name: &str, value: &str)
 }
 
 /// The brace or the comma before the label at a place.
-fn before(place: usize) -> &'static str
+pub(crate) fn mark(place: usize) -> &'static str
     ensures { result.now ≡ mark place }
 {
     if place == 0 { "{" } else { "," }
 }
 
 /// Writes the brace and the labels of a child, without the brace that ends them.
-fn put_opened<S: Sink>(sink: &mut S, names: &[LabelName], values: &[LabelValue])
+pub(crate) fn put_opened<S: Sink>(sink: &mut S, names: &[LabelName], values: &[LabelValue])
     requires { length values.now ≡ length names.now }
     ensures text { S.took sink.old sink.new (opened (zip names.now values.now)) }
     ensures names { All IsLabelName names.now }
@@ -63,37 +63,29 @@ fn put_opened<S: Sink>(sink: &mut S, names: &[LabelName], values: &[LabelValue])
     for place in 0..names.len() {
         put_label(
             sink,
-            before(place),
+            mark(place),
             names[place].as_str(),
             values[place].as_str(),
         );
     }
 }
 
-/// Writes the bound of a bucket as the last label, unless it is empty, and the brace that ends the labels.
-fn put_closing<S: Sink>(sink: &mut S, count: usize, bound: &str)
-    ensures { S.took sink.old sink.new (closing count bound.now) }
+/// Writes the brace that ends the labels, of which there are `count`; after none, nothing.
+fn put_closing<S: Sink>(sink: &mut S, count: usize)
+    ensures { S.took sink.old sink.new (closing count) }
 {
-    if !bound.is_empty() {
-        put_label(sink, before(count), "le", bound);
-        sink.put(b"}");
-    } else if count > 0 {
+    if count > 0 {
         sink.put(b"}");
     }
 }
 
-/// Writes the labels of a sample: those of its child, and then the bound of a bucket as `le`, unless it is empty.
-pub(crate) fn put_labels<S: Sink>(
-    sink: &mut S,
-    names: &[LabelName],
-    values: &[LabelValue],
-    bound: &str,
-)
+/// Writes the labels of a child.
+pub(crate) fn put_labels<S: Sink>(sink: &mut S, names: &[LabelName], values: &[LabelValue])
     requires { length values.now ≡ length names.now }
-    ensures text { S.took sink.old sink.new (labels_text (with_bound (zip names.now values.now) bound.now)) }
+    ensures text { S.took sink.old sink.new (labels_text (zip names.now values.now)) }
     ensures names { All IsLabelName names.now }
     ensures values { All IsLabelValue values.now }
 {
     put_opened(sink, names, values);
-    put_closing(sink, names.len(), bound);
+    put_closing(sink, names.len());
 }

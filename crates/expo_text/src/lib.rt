@@ -4,10 +4,12 @@
 //! Source: Prometheus documentation, "Exposition formats", "Text-based format".
 #![tactic(auto)]
 
+mod front;
 mod labels;
 mod number;
 mod page;
 mod piece;
+mod room;
 mod samples;
 mod scrape;
 mod sending;

@@ -1,38 +1,39 @@
-ghost use Rattle.std.specs.Prelude.{◌≡◌, ◌↔◌, false, List, ◌++◌, IfOk};
+ghost use Rattle.std.specs.Prelude.{◌≡◌, ◌↔◌, ◌≤◌, List, length, IfOk};
 ghost use Rattle.expo_text.specs.Text.{text};
 ghost use Rattle.expo_text.specs.Groups.{Group, groups_of};
 ghost use Rattle.expo_text.specs.Reads.{Reads};
 
+use crate::room::{fill, fill_number};
 use crate::scrape::Scrape;
 use crate::sink::Sink;
 use crate::tally::text_len;
 use crate::writer::put_groups;
 use metric_names::NoMemory;
 
-/// Memory that takes a text, and whether a growth of it was refused.
+/// Memory of a text's length, which is filled from the front on.
 #[derive(Drop)]
 struct Page {
     bytes: Vec<u8>,
-    refused: bool,
+    filled: usize,
+    ghost within: { filled ≤ length bytes.items },
 }
 
 impl Sink for Page {
-    ghost use Rattle.std.proofs.Common.{sym, ap, ◌∙◌, append_assoc, append-nil};
+    ghost use Rattle.expo_text.specs.Fills.{Fills, fills-nothing, fills-chain};
 
-    ghost took = { λ a b xs. b.refused ≡ false → (a.refused ≡ false) × (b.bytes.items ≡ a.bytes.items ++ xs) };
+    ghost took = { λ a b xs. Fills a.bytes.items b.bytes.items a.filled b.filled xs };
 
     fn put(&mut self, bytes: &[u8]) {
-        if !self.refused {
-            self.refused = self.bytes.extend_from_slice(bytes).is_err();
-        }
+        self.filled = fill(&mut self.bytes, self.filled, bytes);
     }
 
-    ghost nothing = { λ a intact. (intact, sym (append-nil a.bytes.items)) };
+    fn put_decimal(&mut self, number: u64) {
+        self.filled = fill_number(&mut self.bytes, self.filled, number);
+    }
 
-    ghost chain = { λ a b c xs ys first second intact.
-        let rest = second intact in
-        let start = first rest.0 in
-        (start.0, rest.1 ∙ ap (λ bytes. bytes ++ ys) start.1 ∙ append_assoc a.bytes.items xs ys) };
+    ghost nothing = { λ a. fills-nothing a.bytes.items a.filled };
+
+    ghost chain = { λ a b c xs ys. fills-chain a.bytes.items b.bytes.items c.bytes.items a.filled b.filled c.filled xs ys };
 }
 
 /// The text of a scrape, in memory that is taken once. It is read back as the groups that the scrape prints, and as no
@@ -44,14 +45,8 @@ pub fn render(scrape: &Scrape) -> Result<Vec<u8>, NoMemory>
     ensures text { IfOk result (λ bytes. bytes.items ≡ text scrape.now) }
     ensures reading { IfOk result (λ bytes. (groups : List Group) → Reads bytes.items groups ↔ (groups ≡ groups_of scrape.now)) }
 {
-    let bytes = Vec::with_capacity(scrape.allocator(), text_len(scrape))?;
-    let mut page = Page {
-        bytes,
-        refused: false,
-    };
+    let bytes = vec![in scrape.allocator(); 0; text_len(scrape)]?;
+    let mut page = Page { bytes, filled: 0 };
     put_groups(&mut page, scrape);
-    if page.refused {
-        return Err(NoMemory);
-    }
     Ok(page.bytes)
 }

@@ -1,5 +1,6 @@
-ghost use Rattle.std.specs.Prelude.{◌≡◌, ◌<◌, ◌≤◌, ◌++◌, [], false, length, take};
+ghost use Rattle.std.specs.Prelude.{◌≡◌, ◌<◌, ◌≤◌, ◌++◌, [], true, false, length, take, decimal};
 
+use crate::room::{digits, fill, fill_number};
 use std::marker::Model;
 
 /// How many bytes go out together at most.
@@ -54,6 +55,30 @@ impl Piece {
         ensures { self.new ≡ [] }
     {
         self.filled = 0;
+    }
+
+    /// Takes all of these bytes where there is room for them, and else none; answers whether there is.
+    pub(crate) fn push(&mut self, bytes: &[u8]) -> bool
+        ensures taken { result ≡ true → self.new ≡ self.old ++ bytes.now }
+        ensures left { result ≡ false → self.new ≡ self.old }
+    {
+        if bytes.len() > PIECE - self.filled {
+            return false;
+        }
+        self.filled = fill(&mut self.places, self.filled, bytes);
+        true
+    }
+
+    /// Takes the decimal digits of a number, as [`Piece::push`] takes bytes.
+    pub(crate) fn push_decimal(&mut self, number: u64) -> bool
+        ensures taken { result ≡ true → self.new ≡ self.old ++ decimal number }
+        ensures left { result ≡ false → self.new ≡ self.old }
+    {
+        if digits(number) > PIECE - self.filled {
+            return false;
+        }
+        self.filled = fill_number(&mut self.places, self.filled, number);
+        true
     }
 
     /// Takes the first of these bytes, as many as there is room for, and answers how many.

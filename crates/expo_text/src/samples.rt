@@ -1,81 +1,113 @@
-ghost use Rattle.std.specs.Prelude.{◌≡◌, ◌<◌, ◌≤◌, ◌^◌, ◌++◌, [], length, sum, zip, decimal, pos, ◌-ℤ◌, All};
+ghost use Rattle.std.specs.Prelude.{◌≡◌, ℕ, slice_index, ◌<◌, ◌≤◌, ◌^◌, ◌++◌, [], length, sum, take, zip, codes, decimal, pos, ◌-ℤ◌, All};
 ghost use Rattle.std.specs.Fmt.{signed_decimal};
 ghost use Rattle.std.specs.List.{flat_map};
 ghost use Rattle.metric_names.specs.LabelName.{IsLabelName};
 ghost use Rattle.metric_names.specs.LabelValue.{IsLabelValue};
+ghost use Rattle.metric_names.specs.MetricName.{IsMetricName};
 ghost use Rattle.expo_text.specs.Order.{IsNumberOf};
 ghost use Rattle.expo_text.specs.Spelled.{IsOfWords};
 ghost use Rattle.expo_text.specs.Samples.{samples_of_number};
 ghost use Rattle.expo_text.specs.Text.{sample_line};
-ghost use Rattle.expo_text.specs.Walk.{series, value_text, with_bound, bucket_samples};
+ghost use Rattle.expo_text.specs.Walk.{series, value_text, bucket_front, bucket_line, bucket_lines};
 
-use crate::labels::put_labels;
+use crate::front::Front;
+use crate::labels::{mark, put_labels, put_opened};
 use crate::number::Number;
 use crate::sink::Sink;
 use bucket_math::cumulate;
-use itoa::Buffer;
 use ledger_core::{GaugeTotals, HistTotals};
 use metric_desc::{Desc, Kind};
 use metric_names::LabelValue;
 
 /// Writes the name and the labels of a sample.
-fn put_series<S: Sink>(sink: &mut S, desc: &Desc, values: &[LabelValue], suffix: &str, bound: &str)
+fn put_series<S: Sink>(sink: &mut S, desc: &Desc, values: &[LabelValue], suffix: &str)
     requires { length values.now ≡ length desc.now.labels }
-    ensures text { S.took sink.old sink.new (series (desc.now.name ++ suffix.now) (with_bound (zip desc.now.labels values.now) bound.now)) }
+    ensures text { S.took sink.old sink.new (series (desc.now.name ++ suffix.now) (zip desc.now.labels values.now)) }
     ensures names { All IsLabelName desc.now.labels }
     ensures values { All IsLabelValue values.now }
 {
     sink.put(desc.name().as_str().as_bytes());
     sink.put(suffix.as_bytes());
-    put_labels(sink, desc.labels(), values, bound);
+    put_labels(sink, desc.labels(), values);
 }
 
 /// Writes a blank, a number after its sign, and a line feed.
 fn put_value<S: Sink>(sink: &mut S, sign: &str, value: u64)
     ensures { S.took sink.old sink.new (value_text sign.now (decimal value)) }
 {
-    let mut buffer = Buffer::new();
     sink.put(b" ");
     sink.put(sign.as_bytes());
-    sink.put(buffer.format(value).as_bytes());
+    sink.put_decimal(value);
     sink.put(b"\n");
 }
 
 /// Writes the line of a sample whose value has no sign.
-fn put_sample<S: Sink>(
-    sink: &mut S,
-    desc: &Desc,
-    values: &[LabelValue],
-    suffix: &str,
-    bound: &str,
-    value: u64,
-)
+fn put_sample<S: Sink>(sink: &mut S, desc: &Desc, values: &[LabelValue], suffix: &str, value: u64)
     requires { length values.now ≡ length desc.now.labels }
-    ensures text { S.took sink.old sink.new (series (desc.now.name ++ suffix.now) (with_bound (zip desc.now.labels values.now) bound.now) ++ value_text [] (decimal value)) }
+    ensures text { S.took sink.old sink.new (series (desc.now.name ++ suffix.now) (zip desc.now.labels values.now) ++ value_text [] (decimal value)) }
     ensures names { All IsLabelName desc.now.labels }
     ensures values { All IsLabelValue values.now }
 {
-    put_series(sink, desc, values, suffix, bound);
+    put_series(sink, desc, values, suffix);
     put_value(sink, "", value);
 }
 
+/// Writes what the lines of a child's buckets begin with, up to the bound.
+fn put_front<S: Sink>(sink: &mut S, desc: &Desc, values: &[LabelValue])
+    requires { length values.now ≡ length desc.now.labels }
+    ensures text { S.took sink.old sink.new (bucket_front desc.now.name (zip desc.now.labels values.now)) }
+    ensures name { IsMetricName desc.now.name }
+    ensures names { All IsLabelName desc.now.labels }
+    ensures values { All IsLabelValue values.now }
+{
+    sink.put(desc.name().as_str().as_bytes());
+    sink.put(b"_bucket");
+    put_opened(sink, desc.labels(), values);
+    sink.put(mark(values.len()).as_bytes());
+    sink.put(b"le=\"");
+}
+
+/// Spells what the lines of a child's buckets begin with, up to the bound.
+fn spell(front: &mut Front, desc: &Desc, values: &[LabelValue])
+    requires { length values.now ≡ length desc.now.labels }
+    ensures front { take front.new.filled front.new.places ≡ bucket_front desc.now.name (zip desc.now.labels values.now) }
+    ensures names { All IsLabelName desc.now.labels }
+    ensures values { All IsLabelValue values.now }
+{
+    let _ = desc.labels();
+    front.clear();
+    put_front(front, desc, values);
+}
+
+/// Writes the line of a bucket after its front.
+fn put_bucket<S: Sink>(sink: &mut S, front: &[u8], bound: u64, value: u64)
+    ensures { S.took sink.old sink.new (bucket_line front.now (decimal bound) (decimal value)) }
+{
+    sink.put(front);
+    sink.put_decimal(bound);
+    sink.put(b"\"} ");
+    sink.put_decimal(value);
+    sink.put(b"\n");
+}
+
 /// Writes the lines of a histogram's buckets under its bounds.
-fn put_buckets<S: Sink>(
-    sink: &mut S,
-    desc: &Desc,
-    values: &[LabelValue],
-    bounds: &[u64],
-    cumulated: &[u64; 25],
-)
-    requires fit { length values.now ≡ length desc.now.labels }
-    requires few { length bounds.now ≤ 24 }
-    ensures { S.took sink.old sink.new (flat_map sample_line (bucket_samples desc.now (zip desc.now.labels values.now) bounds.now cumulated.now)) }
+fn put_buckets<S: Sink>(sink: &mut S, front: &[u8], bounds: &[u64], cumulated: &[u64; 25])
+    requires { length bounds.now ≤ 24 }
+    ensures { S.took sink.old sink.new (bucket_lines front.now bounds.now cumulated.now (length bounds.now)) }
 {
     for place in 0..bounds.len() {
-        let mut bound = Buffer::new();
-        let bound = bound.format(bounds[place]);
-        put_sample(sink, desc, values, "_bucket", bound, cumulated[place]);
+        put_bucket(sink, front, bounds[place], cumulated[place]);
     }
+}
+
+/// Writes the line of the bucket of all values after its front.
+fn put_last_bucket<S: Sink>(sink: &mut S, front: &[u8], count: u64)
+    ensures { S.took sink.old sink.new (bucket_line front.now (codes "+Inf") (decimal count)) }
+{
+    sink.put(front);
+    sink.put(b"+Inf\"} ");
+    sink.put_decimal(count);
+    sink.put(b"\n");
 }
 
 /// The bounds of a histogram.
@@ -83,6 +115,7 @@ fn bounds_of(desc: &Desc) -> &[u64]
     requires { desc.now.kind ≡ Kind.Histogram }
     ensures bounds { result.now ≡ desc.now.bounds }
     ensures few { length result.now ≤ 24 }
+    ensures small { (k : ℕ) → k < length desc.now.bounds → slice_index desc.now.bounds k < 2 ^ 64 }
 {
     match desc.bounds() {
         Some(bounds) => bounds.as_slice(),
@@ -108,7 +141,13 @@ fn sum_and_count(totals: &HistTotals) -> (u64, u64)
 }
 
 /// Writes the lines of a histogram.
-fn put_histogram<S: Sink>(sink: &mut S, desc: &Desc, values: &[LabelValue], totals: &HistTotals)
+fn put_histogram<S: Sink>(
+    sink: &mut S,
+    front: &mut Front,
+    desc: &Desc,
+    values: &[LabelValue],
+    totals: &HistTotals,
+)
     requires fit { length values.now ≡ length desc.now.labels }
     requires kind { desc.now.kind ≡ Kind.Histogram }
     requires count { totals.now.count ≡ sum totals.now.buckets }
@@ -120,10 +159,11 @@ fn put_histogram<S: Sink>(sink: &mut S, desc: &Desc, values: &[LabelValue], tota
     let (sum, count) = sum_and_count(totals);
     let bounds = bounds_of(desc);
     let cumulated = cumulate(&totals.buckets, bounds.len());
-    put_buckets(sink, desc, values, bounds, &cumulated);
-    put_sample(sink, desc, values, "_bucket", "+Inf", count);
-    put_sample(sink, desc, values, "_sum", "", sum);
-    put_sample(sink, desc, values, "_count", "", count);
+    spell(front, desc, values);
+    put_buckets(sink, front.bytes(), bounds, &cumulated);
+    put_last_bucket(sink, front.bytes(), count);
+    put_sample(sink, desc, values, "_sum", sum);
+    put_sample(sink, desc, values, "_count", count);
 }
 
 /// A difference: its sign, which is empty where it is not below zero, and how large it is.
@@ -146,7 +186,7 @@ fn put_gauge<S: Sink>(sink: &mut S, desc: &Desc, values: &[LabelValue], totals: 
     ensures words { IsOfWords (Number.Gauge totals.now) }
 {
     let (sign, size) = difference(totals.up, totals.down);
-    put_series(sink, desc, values, "", "");
+    put_series(sink, desc, values, "");
     put_value(sink, sign, size);
 }
 
@@ -158,11 +198,17 @@ fn put_counter<S: Sink>(sink: &mut S, desc: &Desc, values: &[LabelValue], total:
     ensures values { All IsLabelValue values.now }
     ensures words { IsOfWords (Number.Counter total) }
 {
-    put_sample(sink, desc, values, "", "", total);
+    put_sample(sink, desc, values, "", total);
 }
 
 /// Writes the lines of a number in a family.
-pub(crate) fn put_number<S: Sink>(sink: &mut S, desc: &Desc, values: &[LabelValue], number: &Number)
+pub(crate) fn put_number<S: Sink>(
+    sink: &mut S,
+    front: &mut Front,
+    desc: &Desc,
+    values: &[LabelValue],
+    number: &Number,
+)
     requires fit { length values.now ≡ length desc.now.labels }
     requires kind { IsNumberOf desc.now.kind number.now }
     ensures text { S.took sink.old sink.new (flat_map sample_line (samples_of_number desc.now (zip desc.now.labels values.now) number.now)) }
@@ -172,7 +218,7 @@ pub(crate) fn put_number<S: Sink>(sink: &mut S, desc: &Desc, values: &[LabelValu
 {
     match number {
         Number::Counter(total) => put_counter(sink, desc, values, *total),
-        Number::Histogram(totals) => put_histogram(sink, desc, values, totals),
+        Number::Histogram(totals) => put_histogram(sink, front, desc, values, totals),
         Number::Gauge(totals) => put_gauge(sink, desc, values, totals),
     }
 }

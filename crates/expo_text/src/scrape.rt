@@ -5,39 +5,43 @@ use metric_desc::Desc;
 use metric_names::LabelValue;
 use std::alloc::Global;
 use std::marker::Model;
+use std::sync::Arc;
 
-/// A child of a family: the values of its labels, in the order of the family's labels, and its number.
+/// A child of a family: the values of its labels, in the order of the family's labels, and its number. The values are shared,
+/// so that a scrape of them copies no text.
 ///
 /// Contracts see it as a `Child`, the record of the two.
 #[derive(Debug, Drop)]
 pub struct ChildScrape {
-    pub values: Vec<LabelValue>,
+    pub values: Arc<Vec<LabelValue>>,
     pub number: Number,
 }
 
 impl Model for ChildScrape {
+    ghost use Rattle.std.specs.Arc.{arc_value};
     ghost use Rattle.expo_text.specs.Scraped.{Child};
 
     ghost Value = { Child };
 
-    ghost view = { λ c. record { values = c.values.items; number = c.number } };
+    ghost view = { λ c. record { values = (arc_value c.values).items; number = c.number } };
 }
 
-/// A family: its descriptor and its children.
+/// A family: its descriptor, which is shared, so that a scrape of it copies no text, and its children.
 ///
 /// Contracts see it as a `Family`, the record of the two.
 #[derive(Debug, Drop)]
 pub struct FamilyScrape {
-    pub desc: Desc,
+    pub desc: Arc<Desc>,
     pub children: Vec<ChildScrape>,
 }
 
 impl Model for FamilyScrape {
+    ghost use Rattle.std.specs.Arc.{arc_value};
     ghost use Rattle.expo_text.specs.Scraped.{Family};
 
     ghost Value = { Family };
 
-    ghost view = { λ f. record { desc = f.desc; children = f.children.items } };
+    ghost view = { λ f. record { desc = arc_value f.desc; children = f.children.items } };
 }
 
 /// All families at one moment, in the order of the text.

@@ -6,6 +6,7 @@ use crate::piece::Piece;
 use crate::scrape::Scrape;
 use crate::sink::Sink;
 use crate::writer::put_groups;
+use itoa::Buffer;
 use std::io::Write;
 use thiserror::Error;
 use watched::Watched;
@@ -120,6 +121,17 @@ impl<W: Write> Sending<'_, W> {
         self.make_room();
         self.waiting.take(bytes)
     }
+
+    /// Takes these bytes part by part, until the writer fails.
+    fn put_parts(&mut self, bytes: &[u8])
+        ensures same { self.new.out.ghost_name ≡ self.old.out.ghost_name }
+        ensures sent { Sends (sender_of W.contents self.old.out.now self.old.waiting self.old.sent) (sender_of W.contents self.new.out.now self.new.waiting self.new.sent) bytes.now }
+    {
+        let mut at = 0;
+        while at < bytes.len() && !self.out.failed() {
+            at += self.take(&bytes[at..]);
+        }
+    }
 }
 
 impl<W: Write> Sink for Sending<'_, W> {
@@ -131,9 +143,15 @@ impl<W: Write> Sink for Sending<'_, W> {
         (sender_of W.contents b.out.now b.waiting b.sent) xs };
 
     fn put(&mut self, bytes: &[u8]) {
-        let mut at = 0;
-        while at < bytes.len() && !self.out.failed() {
-            at += self.take(&bytes[at..]);
+        if !self.waiting.push(bytes) {
+            self.put_parts(bytes);
+        }
+    }
+
+    fn put_decimal(&mut self, number: u64) {
+        if !self.waiting.push_decimal(number) {
+            let mut buffer = Buffer::new();
+            self.put_parts(buffer.format(number).as_bytes());
         }
     }
 

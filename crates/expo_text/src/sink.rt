@@ -1,4 +1,4 @@
-ghost use Rattle.std.specs.Prelude.{List, [], ◌++◌};
+ghost use Rattle.std.specs.Prelude.{List, [], ◌++◌, decimal};
 
 /// What takes the bytes of a text, piece by piece. One that can take no more remembers it, and takes nothing from then on.
 pub(crate) trait Sink {
@@ -9,6 +9,10 @@ pub(crate) trait Sink {
     /// Takes these bytes.
     fn put(&mut self, bytes: &[u8])
         ensures { took self.old self.new bytes.now };
+
+    /// Takes the decimal digits of a number.
+    fn put_decimal(&mut self, number: u64)
+        ensures { took self.old self.new (decimal number) };
 
     ghost nothing: { (a : Self) → took a a [] };
 

@@ -1,6 +1,7 @@
 ghost use Rattle.std.specs.Prelude.{◌≡◌, ◌<◌, ◌^◌, length};
 ghost use Rattle.expo_text.specs.Text.{text};
 
+use crate::room::digits;
 use crate::scrape::Scrape;
 use crate::sink::Sink;
 use crate::writer::put_groups;
@@ -18,6 +19,10 @@ impl Sink for Tally {
 
     fn put(&mut self, bytes: &[u8]) {
         self.len = self.len.wrapping_add(bytes.len());
+    }
+
+    fn put_decimal(&mut self, number: u64) {
+        self.len = self.len.wrapping_add(digits(number));
     }
 
     ghost nothing = { λ a. counts-none a.len };

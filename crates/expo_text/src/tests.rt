@@ -5,6 +5,7 @@ mod children;
 mod counters;
 mod gauges;
 mod histograms;
+mod limits;
 mod sending;
 
 use crate::{ChildScrape, FamilyScrape, Number, Scrape, render, text_len};
@@ -12,6 +13,7 @@ use metric_desc::Desc;
 use metric_names::{HelpText, LabelName, LabelValue, MetricName};
 use std::alloc::Global;
 use std::process::Abort;
+use std::sync::Arc;
 use std::test::Fail;
 
 fn counter(alloc: Global, name: &str) -> Result<Desc, Fail>
@@ -42,6 +44,8 @@ fn one(alloc: Global, desc: Desc, values: Vec<LabelValue>, number: Number) -> Re
     requires fit { length values.items ≡ length desc.labels }
     requires kind { IsNumberOf desc.kind number }
 {
+    let desc = Arc::new(alloc, desc)?;
+    let values = Arc::new(alloc, values)?;
     let mut children = Vec::new(alloc);
     children.push(ChildScrape { values, number })?;
     let mut families = Vec::new(alloc);

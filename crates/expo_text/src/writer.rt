@@ -10,6 +10,7 @@ ghost use Rattle.expo_text.specs.Spelled.{IsSpelledChild, IsSpelledDesc, IsSpell
 ghost use Rattle.expo_text.specs.Samples.{samples_of_child};
 ghost use Rattle.expo_text.specs.Text.{help_line, kind_text, sample_line, type_line, group_of, group_text, text};
 
+use crate::front::Front;
 use crate::labels::put_escaped;
 use crate::samples::put_number;
 use crate::scrape::{ChildScrape, FamilyScrape, Scrape};
@@ -62,18 +63,18 @@ fn put_type<S: Sink>(sink: &mut S, desc: &Desc)
 }
 
 /// Writes the lines of a child.
-fn put_child<S: Sink>(sink: &mut S, desc: &Desc, child: &ChildScrape)
+fn put_child<S: Sink>(sink: &mut S, front: &mut Front, desc: &Desc, child: &ChildScrape)
     requires fit { length child.now.values ≡ length desc.now.labels }
     requires kind { IsNumberOf desc.now.kind child.now.number }
     ensures text { S.took sink.old sink.new (flat_map sample_line (samples_of_child desc.now child.now)) }
     ensures names { All IsLabelName desc.now.labels }
     ensures spelled { IsSpelledChild child.now }
 {
-    put_number(sink, desc, &child.values, &child.number);
+    put_number(sink, front, desc, &child.values, &child.number);
 }
 
 /// Writes the lines of a family's children.
-fn put_children<S: Sink>(sink: &mut S, desc: &Desc, children: &[ChildScrape])
+fn put_children<S: Sink>(sink: &mut S, front: &mut Front, desc: &Desc, children: &[ChildScrape])
     requires fit { All (λ (child : Child). length child.values ≡ length desc.now.labels) children.now }
     requires numbers { All (λ (child : Child). IsNumberOf desc.now.kind child.number) children.now }
     ensures text { S.took sink.old sink.new (flat_map sample_line (flat_map (samples_of_child desc.now) children.now)) }
@@ -81,12 +82,12 @@ fn put_children<S: Sink>(sink: &mut S, desc: &Desc, children: &[ChildScrape])
     ensures spelled { All IsSpelledChild children.now }
 {
     for child in children {
-        put_child(sink, desc, child);
+        put_child(sink, front, desc, child);
     }
 }
 
 /// Writes the help, the type and the samples of a family with children.
-fn put_lines<S: Sink>(sink: &mut S, desc: &Desc, children: &[ChildScrape])
+fn put_lines<S: Sink>(sink: &mut S, front: &mut Front, desc: &Desc, children: &[ChildScrape])
     requires fit { All (λ (child : Child). length child.values ≡ length desc.now.labels) children.now }
     requires numbers { All (λ (child : Child). IsNumberOf desc.now.kind child.number) children.now }
     requires some { 0 < length children.now }
@@ -97,17 +98,17 @@ fn put_lines<S: Sink>(sink: &mut S, desc: &Desc, children: &[ChildScrape])
     let _ = desc.labels();
     put_help(sink, desc);
     put_type(sink, desc);
-    put_children(sink, desc, children);
+    put_children(sink, front, desc, children);
 }
 
 /// Writes the group of a family; nothing where it has no children.
-fn put_group<S: Sink>(sink: &mut S, family: &FamilyScrape)
+fn put_group<S: Sink>(sink: &mut S, front: &mut Front, family: &FamilyScrape)
     requires { IsFamily family.now }
     ensures text { S.took sink.old sink.new (group_text family.now) }
     ensures spelled { IsSpelledIfPrinted family.now }
 {
     if !family.children.is_empty() {
-        put_lines(sink, &family.desc, &family.children);
+        put_lines(sink, front, &family.desc, &family.children);
     }
 }
 
@@ -117,7 +118,8 @@ pub(crate) fn put_groups<S: Sink>(sink: &mut S, scrape: &Scrape)
     ensures spelled { All IsSpelledIfPrinted scrape.now.families }
     ensures ordered { IsScrape scrape.now }
 {
+    let mut front = Front::new();
     for family in scrape.families() {
-        put_group(sink, family);
+        put_group(sink, &mut front, family);
     }
 }

@@ -6,6 +6,7 @@ use expo_text::{ChildScrape, FamilyScrape, Number, Scrape, render};
 use metric_desc::Desc;
 use metric_names::{HelpText, MetricName, NoMemory};
 use std::alloc::Global;
+use std::sync::Arc;
 
 /// The text of one counter of this name and total, without help and without labels.
 ///
@@ -15,9 +16,11 @@ pub fn counter_text(alloc: Global, name: MetricName, total: u64) -> Result<Vec<u
 {
     let help = HelpText::empty(alloc);
     let desc = Desc::counter(name, help, Vec::new(alloc)).unwrap();
+    let desc = Arc::new(alloc, desc)?;
+    let values = Arc::new(alloc, Vec::new(alloc))?;
     let mut children = Vec::with_capacity(alloc, 1)?;
     children.push(ChildScrape {
-        values: Vec::new(alloc),
+        values,
         number: Number::Counter(total),
     })?;
     let mut families = Vec::with_capacity(alloc, 1)?;

@@ -1,4 +1,5 @@
 ghost use Rattle.std.specs.Prelude.{◌≡◌, [], ◌∷◌, length, IfOk};
+ghost use Rattle.std.specs.Arc.{arc_value};
 ghost use Rattle.expo_text.specs.Order.{IsChildBefore, IsNumberOf};
 
 use crate::tests::prints;
@@ -6,15 +7,16 @@ use crate::{ChildScrape, FamilyScrape, Number, Scrape};
 use metric_desc::{Desc, Kind};
 use metric_names::{HelpText, LabelName, LabelValue, MetricName};
 use std::alloc::Global;
+use std::sync::Arc;
 use std::test::Fail;
 
-fn values(alloc: Global, method: &str, code: &str) -> Result<Vec<LabelValue>, Fail>
-    ensures { IfOk result (λ values. values.items ≡ method.now ∷ code.now ∷ []) }
+fn values(alloc: Global, method: &str, code: &str) -> Result<Arc<Vec<LabelValue>>, Fail>
+    ensures { IfOk result (λ values. (arc_value values).items ≡ method.now ∷ code.now ∷ []) }
 {
     let mut values = Vec::new(alloc);
     values.push(LabelValue::read(alloc, method)?)?;
     values.push(LabelValue::read(alloc, code)?)?;
-    Ok(values)
+    Ok(Arc::new(alloc, values)?)
 }
 
 fn requests(alloc: Global) -> Result<Desc, Fail>
@@ -39,6 +41,7 @@ fn two(alloc: Global, desc: Desc, first: ChildScrape, second: ChildScrape) -> Re
     let mut children = Vec::new(alloc);
     children.push(first)?;
     children.push(second)?;
+    let desc = Arc::new(alloc, desc)?;
     let mut families = Vec::new(alloc);
     families.push(FamilyScrape { desc, children })?;
     Ok(Scrape::new(Vec::new(alloc), families))

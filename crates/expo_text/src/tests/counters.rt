@@ -1,10 +1,12 @@
 ghost use Rattle.std.specs.Prelude.{◌≡◌, [], ◌∷◌, IfOk};
+ghost use Rattle.std.specs.Arc.{arc_value};
 
 use crate::tests::{counter, label, one, prints, value};
 use crate::{ChildScrape, FamilyScrape, Number, Scrape};
 use metric_desc::{Desc, Kind};
 use metric_names::{HelpText, LabelName, LabelValue, MetricName};
 use std::alloc::Global;
+use std::sync::Arc;
 use std::test::Fail;
 
 #[test]
@@ -21,7 +23,7 @@ fn family_without_children(rt: HostRuntime) -> Result<(), Fail> {
     let desc = counter(alloc, "a")?;
     let mut families = Vec::new(alloc);
     families.push(FamilyScrape {
-        desc,
+        desc: Arc::new(alloc, desc)?,
         children: Vec::new(alloc),
     })?;
     let scrape = Scrape::new(vec![in alloc; 3, 0]?, families);
@@ -65,11 +67,12 @@ fn escapes(rt: HostRuntime) -> Result<(), Fail> {
     prints(&rt, &scrape, expected)
 }
 
-fn named(alloc: Global, name: &str) -> Result<Desc, Fail>
-    ensures { IfOk result (λ desc. desc ≡ record { name = name.now; help = []; labels = []; kind = Kind.Counter; bounds = [] }) }
+fn named(alloc: Global, name: &str) -> Result<Arc<Desc>, Fail>
+    ensures { IfOk result (λ desc. arc_value desc ≡ record { name = name.now; help = []; labels = []; kind = Kind.Counter; bounds = [] }) }
 {
     let name = MetricName::read(alloc, name)?;
-    Ok(Desc::counter(name, HelpText::empty(alloc), Vec::new(alloc))?)
+    let desc = Desc::counter(name, HelpText::empty(alloc), Vec::new(alloc))?;
+    Ok(Arc::new(alloc, desc)?)
 }
 
 fn unlabelled(alloc: Global, total: u64) -> Result<Vec<ChildScrape>, Fail>
@@ -77,7 +80,7 @@ fn unlabelled(alloc: Global, total: u64) -> Result<Vec<ChildScrape>, Fail>
 {
     let mut children = Vec::new(alloc);
     children.push(ChildScrape {
-        values: Vec::new(alloc),
+        values: Arc::new(alloc, Vec::new(alloc))?,
         number: Number::Counter(total),
     })?;
     Ok(children)

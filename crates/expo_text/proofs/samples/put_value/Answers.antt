@@ -4,5 +4,4 @@ pub returns : goal.returns
 returns g c =
     let chain = g.met.S.Sink.chain in
     let sign = rw c.as_bytes.ensures.value at c.put-2.ensures in
-    let digits = rw (c.as_bytes-2.ensures.value, c.format.ensures.text) at c.put-3.ensures in
-    chain _ _ _ _ _ (chain _ _ _ _ _ c.put.ensures (chain _ _ _ _ _ sign digits)) c.put-4.ensures
+    chain _ _ _ _ _ (chain _ _ _ _ _ c.put.ensures (chain _ _ _ _ _ sign c.put_decimal.ensures)) c.put-3.ensures

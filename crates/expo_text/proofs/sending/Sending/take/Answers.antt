@@ -1,5 +1,6 @@
 use Rattle.std.proofs.Common.{refl}
-use Rattle.expo_text.specs.Sends.{sends-chain, sends-waiting}
+use Rattle.expo_text.specs.Sends.{sends-chain}
+use Rattle.expo_text.proofs.Sent.{sends-waiting}
 use Rattle.expo_text.proofs.sending.Sending.take.Goals as goal
 
 pub returns-clause-sent : goal.returns-clause-sent

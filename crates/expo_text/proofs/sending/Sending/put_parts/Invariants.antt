@@ -1,6 +1,6 @@
 use Rattle.std.proofs.Common.{◌≡◌, ◌-◌, ◌≤◌, length, take}
 use Rattle.expo_text.specs.Sends.{Sends, sender_of}
-use Rattle.expo_text.proofs.sending.SendingSink.put.Given as goal
+use Rattle.expo_text.proofs.sending.Sending.put_parts.Given as goal
 
 -- the bytes so far
 abbrev pub invariant-loop-at : goal.invariant-loop-at

@@ -1,0 +1,12 @@
+use Rattle.std.proofs.Common.{arith, rules}
+use Rattle.expo_text.specs.Scraped.{Child}
+use Rattle.expo_text.specs.Order.{IsNumberOf}
+use Rattle.expo_text.proofs.Checked.{all_next, all_taken}
+use Rattle.expo_text.proofs.tests.limits.have_its_numbers.Goals as goal
+
+pub loop-child-preserved : goal.loop-child-preserved
+loop-child-preserved c =
+    all_next (λ (child : Child). IsNumberOf c.args.desc.now.kind child.number) c.args.children.now c.loop-child.child-index c.child-item.result (omega arith) c.child-item.is c.loop-child.invariant (search rules)
+
+pub returns : goal.returns
+returns c = λ _. all_taken (λ (child : Child). IsNumberOf c.args.desc.now.kind child.number) c.args.children.now c.loop-child.child-index (omega arith) c.loop-child.invariant
