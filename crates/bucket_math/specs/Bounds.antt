@@ -1,16 +1,17 @@
 -- The bounds of a histogram's buckets, and the place of a value among them.
 use Rattle.std.specs.Prelude.{◌≡◌, ℕ, ◌-◌, ◌<◌, ◌≤◌, ◌⊎◌, List, length, take, slice_index, count_by, nat_lt, All, AllPairs}
+use Rattle.bucket_math.specs.Words.{greatest_word}
 
 -- at most 24 bounds, each above the one before and at most 2^48 - 1
 pub record AreBounds (bounds : List ℕ) : Type 0 where
   pub few : length bounds ≤ 24
   pub rising : AllPairs (λ a b. a < b) bounds
-  pub bounded : All (λ bound. bound ≤ 281474976710655) bounds
+  pub bounded : All (λ bound. bound ≤ greatest_word) bounds
 
 -- the bound at this place is the 25th, or over 2^48 - 1, or not above the one before
 abbrev pub IsBadBound : List ℕ → ℕ → Type 0
 IsBadBound bounds place =
-    (place ≡ 24) ⊎ ((281474976710655 < slice_index bounds place)
+    (place ≡ 24) ⊎ ((greatest_word < slice_index bounds place)
     ⊎ ((0 < place) × (slice_index bounds place ≤ slice_index bounds (place - 1))))
 
 -- the first bad bound stands at this place

@@ -1,7 +1,7 @@
 -- The fields of `Bounds`: what is true of them, and that the list of the bounds gives them back.
 use Rattle.std.specs.Prelude.{◌≡◌, ℕ, ◌-◌, ◌≤◌, List, ◌++◌, length, take, replicate}
-use Rattle.std.proofs.Common.{sym, ap, ap₂, ◌∙◌, arith}
-use Rattle.std.proofs.lemmas.List.{length-take}
+use Rattle.std.proofs.Common.{sym, ap, ap₂, subst, ◌∙◌}
+use Rattle.std.proofs.lemmas.List.{length-take-le}
 use Rattle.bucket_math.specs.Bounds.{AreBounds}
 use Rattle.bucket_math.specs.declared.bounds.Bounds.TheInside.{Inside}
 
@@ -17,7 +17,7 @@ abbrev pub fields_of : List ℕ → Inside
 fields_of bounds = record { bounds = bounds ++ replicate (24 - length bounds) 0; len = length bounds }
 
 length-view : (places : List ℕ) (len : ℕ) → IsInside places len → length (take len places) ≡ len
-length-view places len inside = simp length-take (omega (arith, inside.all_places, inside.few))
+length-view places len inside = length-take-le len places (subst (λ n. len ≤ n) (sym inside.all_places) inside.few)
 
 pub fields_of-view : (b : Inside) → IsInside b.bounds b.len → fields_of (take b.len b.bounds) ≡ b
 fields_of-view b inside =

@@ -1,3 +1,4 @@
 pub mod Bounds
 pub mod Buckets
 pub mod Inside
+pub mod Words

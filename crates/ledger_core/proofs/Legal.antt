@@ -1,14 +1,17 @@
 -- Legal rows: the row of zeros, what one operation and what a list of them adds, and two rows added.
-use Rattle.std.proofs.Common.{◌≡◌, ◌≢◌, ℕ, zero, suc, ◌+◌, ◌*◌, ◌<◌, ◌≤◌, List, [], ◌∷◌, cond, replicate, refl, sym, ap, ap₂, ◌∙◌, arith, inl, inr, slice_index, All}
-use Rattle.std.specs.Prelude.{sum_by}
+use Rattle.std.proofs.Common.{◌≡◌, ◌≢◌, ℕ, zero, suc, ◌+◌, ◌*◌, ◌<◌, ◌≤◌, List, [], ◌∷◌, cond, length, take, drop, replicate, refl, sym, subst, ap, ap₂, ◌∙◌, arith, inl, inr, slice_index, All}
+use Rattle.std.specs.Prelude.{sum, sum_by}
 use Rattle.std.specs.List.{range_with_len}
+use Rattle.std.proofs.lemmas.List.{drop_more}
 use Rattle.std.proofs.lemmas.List.Sums.{sum_by-cons}
 use Rattle.std.proofs.lemmas.List.Elements.{All-head, All-tail}
 use Rattle.std.proofs.lemmas.Bool.{eq-eqb, ne_eqb, cases_eq}
+use Rattle.std.specs.Prelude.{Result, Ok, Err, OnOk, OnErr}
 use Rattle.ledger_core.specs.declared.op.Op.{Op}
+use Rattle.ledger_core.specs.declared.op_fault.OpFault.{OpFault}
 use Rattle.ledger_core.specs.declared.op.Op.TheVariants.{Inc, Observe, Up, Down}
 use Rattle.ledger_core.specs.Ops.{only, part, sum_ops, IsWithin}
-use Rattle.ledger_core.specs.Row.{Adds}
+use Rattle.ledger_core.specs.Row.{Accepts, Adds}
 use Rattle.ledger_core.specs.Legal.{bucket_sum, IsLegal, SumsAreLegal, LegalSumsAreLegal}
 
 only_same : (word by k : ℕ) → k ≡ word → only word by k ≡ by
@@ -149,3 +152,30 @@ pub legal_adds : (c h g : ℕ) (old new : List ℕ) (ops : List Op) → All (IsW
 legal_adds c h g old new ops all adds legal =
     legal_same c h (λ k. slice_index old k + sum_ops c h ops k) (slice_index new) adds.sums
     (legal_sums c h (slice_index old) (sum_ops c h ops) legal (legal_ops c h g ops all))
+
+-- the words from a + b on, n of them, added up
+sum_part : (xs : List ℕ) (a b n : ℕ) → a + b + n ≤ length xs
+    → sum (take n (drop (a + b) xs)) ≡ sum_by (λ k. slice_index xs (a + k)) (range_with_len b n)
+sum_part xs a b zero within = refl
+sum_part xs a b (suc n) within =
+    let e : a + b + 1 ≡ a + (b + 1) = omega arith in
+    rw (drop_more xs (a + b) 0 (omega (arith, within)), e)
+    (sum_by-cons (λ x. x) (slice_index xs (a + b)) (take n (drop (a + (b + 1)) xs))
+    ∙ ap (λ rest. slice_index xs (a + b) + rest) (sum_part xs a (b + 1) n (omega (arith, within))))
+    ∙ sym (sum_by-cons (λ k. slice_index xs (a + k)) b (range_with_len (b + 1) n))
+
+-- in a legal row the count of a histogram is the sum of its buckets
+pub legal_buckets : (c h slot : ℕ) (row : List ℕ) (count : ℕ) (buckets : List ℕ) → slot < h → c + 27 * slot + 26 < length row
+    → IsLegal c h (slice_index row) → count ≡ slice_index row (c + 27 * slot + 26) → buckets ≡ take 25 (drop (c + 27 * slot) row)
+    → count ≡ sum buckets
+legal_buckets c h slot row count buckets lt within legal count_is buckets_are =
+    let e : c + 27 * slot + 0 ≡ c + 27 * slot = omega arith in
+    count_is ∙ legal.counts slot lt ∙ sym (ap sum buckets_are ∙ subst (λ a. sum (take 25 (drop a row)) ≡ bucket_sum c (slice_index row) slot) e
+    (sum_part row (c + 27 * slot) 0 25 (omega (arith, within))))
+
+-- a legal row is legal after a list that was accepted or refused
+pub legal_after : {T : Type 0} (c h g : ℕ) (old new : List ℕ) (ops : List Op) (answer : Result T OpFault)
+    → OnOk answer (Adds c h old ops new) → OnOk answer (Accepts c h g (slice_index old) ops) → OnErr answer (new ≡ old)
+    → IsLegal c h (slice_index old) → IsLegal c h (slice_index new)
+legal_after c h g old new ops (Ok x) adds accepts same legal = legal_adds c h g old new ops accepts.within adds legal
+legal_after c h g old new ops (Err fault) adds accepts same legal = rw same legal

@@ -4,6 +4,7 @@ use Rattle.std.specs.List.{concat}
 use Rattle.std.proofs.lemmas.List.{get_or_append_left, get_or-append_right, get_or-take, get_or-drop, set-append_left, set-append_right, replicate-append-replicate, length-replicate, length-take-le}
 use Rattle.std.proofs.lemmas.Grind.{same_number_lists}
 use Rattle.std.proofs.lemmas.List.Elements.{All-set, All-get_or, All-from_get_or, All-take, All-drop, All-replicate}
+use Rattle.bucket_math.specs.Words.{greatest_word}
 use Rattle.ledger_core.specs.Ops.{width}
 use Rattle.ledger_core.specs.Shape.{HasShape}
 use Rattle.ledger_core.proofs.Rows.{HasLength, length-concat, place-lt, get_or-concat, concat-set, concat-replicate}
@@ -97,7 +98,7 @@ bounded_part xs m i n h =
     All-take (λ x. x ≤ m) n (drop i xs) (All-drop (λ x. x ≤ m) i xs (All-from_get_or (λ x. x ≤ m) xs 0 (λ k _. h k)))
 
 -- a written word under the limit leaves every word under it
-below-set : (xs : List ℕ) (i v : ℕ) → v ≤ 281474976710655 → ((k : ℕ) → get_or xs k 0 ≤ 281474976710655) → (k : ℕ) → get_or (set xs i v) k 0 ≤ 281474976710655
+below-set : (xs : List ℕ) (i v : ℕ) → v ≤ greatest_word → ((k : ℕ) → get_or xs k 0 ≤ greatest_word) → (k : ℕ) → get_or (set xs i v) k 0 ≤ greatest_word
 below-set [] i v hv h k = h k
 below-set (x ∷ xs) zero v hv h zero = hv
 below-set (x ∷ xs) zero v hv h (suc k) = h (suc k)
@@ -105,10 +106,10 @@ below-set (x ∷ xs) (suc i) v hv h zero = h zero
 below-set (x ∷ xs) (suc i) v hv h (suc k) = below-set xs i v hv (λ q. h (suc q)) k
 
 module _ (c h g : ℕ) (counters : List ℕ) (hists gauges : List (List ℕ)) (shape : HasShape c h g counters hists gauges) where
-  below-from : (old new : List ℕ) (i v : ℕ) → new ≡ set old i v → v ≤ 281474976710655 → ((k : ℕ) → get_or old k 0 ≤ 281474976710655) → (k : ℕ) → get_or new k 0 ≤ 281474976710655
+  below-from : (old new : List ℕ) (i v : ℕ) → new ≡ set old i v → v ≤ greatest_word → ((k : ℕ) → get_or old k 0 ≤ greatest_word) → (k : ℕ) → get_or new k 0 ≤ greatest_word
   below-from old new i v e hv b k = rw e (below-set old i v hv b k)
 
-  pub shape_counter : (i v : ℕ) → i < c → v ≤ 281474976710655 → HasShape c h g (set counters i v) hists gauges
+  pub shape_counter : (i v : ℕ) → i < c → v ≤ greatest_word → HasShape c h g (set counters i v) hists gauges
   shape_counter i v hi hv = record {
     all_counters = length-set counters i v ∙ shape.all_counters;
     all_hists = shape.all_hists;
@@ -118,7 +119,7 @@ module _ (c h g : ℕ) (counters : List ℕ) (hists gauges : List (List ℕ)) (s
     bounded = below-from (words counters hists gauges) _ i v (write_counter c h g counters hists gauges shape i v hi) hv shape.bounded;
   }
 
-  pub shape_hist : (i j v : ℕ) → i < h → j < 27 → v ≤ 281474976710655 → HasShape c h g counters (set hists i (set (get_or hists i []) j v)) gauges
+  pub shape_hist : (i j v : ℕ) → i < h → j < 27 → v ≤ greatest_word → HasShape c h g counters (set hists i (set (get_or hists i []) j v)) gauges
   shape_hist i j v hi hj hv =
       let xs : List ℕ = get_or hists i [] in
       let same : length xs ≡ 27 = All-get_or (HasLength 27) hists i [] (rw shape.all_hists hi) shape.hist_words in
@@ -131,7 +132,7 @@ module _ (c h g : ℕ) (counters : List ℕ) (hists gauges : List (List ℕ)) (s
         bounded = below-from (words counters hists gauges) _ (c + 27 * i + j) v (write_hist c h g counters hists gauges shape i j v hi hj) hv shape.bounded;
       }
 
-  pub shape_gauge : (i j v : ℕ) → i < g → j < 2 → v ≤ 281474976710655 → HasShape c h g counters hists (set gauges i (set (get_or gauges i []) j v))
+  pub shape_gauge : (i j v : ℕ) → i < g → j < 2 → v ≤ greatest_word → HasShape c h g counters hists (set gauges i (set (get_or gauges i []) j v))
   shape_gauge i j v hi hj hv =
       let xs : List ℕ = get_or gauges i [] in
       let same : length xs ≡ 2 = All-get_or (HasLength 2) gauges i [] (rw shape.all_gauges hi) shape.gauge_words in
@@ -145,7 +146,7 @@ module _ (c h g : ℕ) (counters : List ℕ) (hists gauges : List (List ℕ)) (s
       }
 
 -- a row of zeros
-below-zeros : (n k : ℕ) → get_or (replicate n 0) k 0 ≤ 281474976710655
+below-zeros : (n k : ℕ) → get_or (replicate n 0) k 0 ≤ greatest_word
 below-zeros zero k = omega arith
 below-zeros (suc n) zero = omega arith
 below-zeros (suc n) (suc k) = below-zeros n k

@@ -5,6 +5,7 @@ use Rattle.std.proofs.lemmas.List.Elements.{All-more, All-nil}
 use Rattle.std.proofs.lemmas.List.Sums.{sum_by_more, sum_by_more_le}
 use Rattle.std.proofs.lemmas.Option.{slice_get-get_or}
 use Rattle.std.proofs.lemmas.Bool.{cases_lt}
+use Rattle.bucket_math.specs.Words.{greatest_word}
 use Rattle.ledger_core.specs.declared.op.Op.{Op}
 use Rattle.ledger_core.specs.declared.op_fault.OpFault.{OpFault}
 use Rattle.ledger_core.specs.declared.op_fault.OpFault.TheVariants.{OutOfGeometry, TooLarge}
@@ -47,7 +48,7 @@ still_there c h old now ops i d lt so_far added k =
     let s = sum_by_more_le (λ op. part c h op k) ops i d lt in
     omega arith
 
-pub accepts_none : (c h g : ℕ) (row : List ℕ) → ((k : ℕ) → slice_index row k ≤ 281474976710655) → Accepts c h g (slice_index row) []
+pub accepts_none : (c h g : ℕ) (row : List ℕ) → ((k : ℕ) → slice_index row k ≤ greatest_word) → Accepts c h g (slice_index row) []
 accepts_none c h g row bounded = record {
   within = All-nil (IsWithin c h g);
   fits = λ j le k lt. let e : j ≡ 0 = omega arith in rw e (omega (arith, bounded k));

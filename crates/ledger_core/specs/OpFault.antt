@@ -1,5 +1,6 @@
 -- Why a row refuses a list of operations.
 use Rattle.std.specs.Prelude.{ℕ, ◌+◌, ◌<◌, List, take, slice_get, IsSomeAnd}
+use Rattle.bucket_math.specs.Words.{greatest_word}
 use Rattle.ledger_core.specs.declared.op.Op.{Op}
 use Rattle.ledger_core.specs.declared.op_fault.OpFault.{OpFault}
 use Rattle.ledger_core.specs.declared.op_fault.OpFault.TheVariants.{OutOfGeometry, TooLarge}
@@ -10,7 +11,7 @@ use Rattle.ledger_core.specs.Row.{Accepts}
 pub record Overflows (c h g : ℕ) (word : ℕ → ℕ) (ops : List Op) : Type 0 where
   pub at : ℕ
   pub within : at < width c h g
-  pub above : 281474976710655 < word at + sum_ops c h ops at
+  pub above : greatest_word < word at + sum_ops c h ops at
 
 -- the operation at this place is the first that fails: it is outside the row,
 -- or within it and some word would pass 2^48 - 1 by it

@@ -1,11 +1,12 @@
 -- Which lists of operations a row accepts, and the row afterwards.
 use Rattle.std.specs.Prelude.{◌≡◌, ℕ, ◌+◌, ◌<◌, ◌≤◌, List, length, take, slice_index, All}
+use Rattle.bucket_math.specs.Words.{greatest_word}
 use Rattle.ledger_core.specs.declared.op.Op.{Op}
 use Rattle.ledger_core.specs.Ops.{width, sum_ops, IsWithin}
 
 -- no word passes 2^48 - 1 where these operations are added to it
 abbrev pub Fits : (c h g : ℕ) → (ℕ → ℕ) → List Op → Type 0
-Fits c h g word ops = (k : ℕ) → k < width c h g → word k + sum_ops c h ops k ≤ 281474976710655
+Fits c h g word ops = (k : ℕ) → k < width c h g → word k + sum_ops c h ops k ≤ greatest_word
 
 -- a row of these words accepts the list: each operation is within the row,
 -- and no word passes 2^48 - 1 by any beginning of the list

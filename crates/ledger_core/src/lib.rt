@@ -13,6 +13,7 @@ mod op_fault;
 mod row;
 mod totals;
 mod word;
+mod words;
 
 pub use handles::{Counter, Gauge, Histogram};
 pub use limits::{MAX_COUNTERS, MAX_GAUGES, MAX_HISTOGRAMS, MAX_WORKERS};

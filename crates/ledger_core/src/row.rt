@@ -1,56 +1,36 @@
-ghost use Rattle.std.specs.Prelude.{◌≡◌, ℕ, ◌+◌, ◌*◌, ◌<◌, ◌≤◌, ◌↔◌, length, take, drop, slice_index, slice_set, replicate, IsTrue, OnOk, OnErr, IfErr, All};
-ghost use Rattle.std.specs.Bool.{MatchBool};
-ghost use Rattle.ledger_core.specs.Ops.{width, only, part, sum_ops, IsWithin};
+ghost use Rattle.std.specs.Prelude.{◌≡◌, ◌+◌, ◌*◌, ◌<◌, ◌≤◌, length, take, drop, slice_index, replicate, sum, OnOk, OnErr, IfErr, All};
+ghost use Rattle.ledger_core.specs.Ops.{width};
 ghost use Rattle.ledger_core.specs.Row.{Accepts, Adds};
 ghost use Rattle.ledger_core.specs.OpFault.{IsOpFault};
 ghost use Rattle.ledger_core.specs.Legal.{IsLegal, SumsAreLegal, LegalSumsAreLegal};
-ghost use Rattle.ledger_core.specs.Word.{place_of, IsWord};
-ghost use Rattle.ledger_core.specs.Rise.{Rises, HasRoom, LacksRoom, Refuses};
 
 use crate::op::Op;
 use crate::op_fault::OpFault;
 use crate::totals::{GaugeTotals, HistTotals};
-use crate::word::Word;
+use crate::word::{COUNT, DOWNS, SUM, UPS, Word};
+use crate::words::Words;
 use std::marker::Model;
 
 /// The greatest value of one word of a row: 2^48 - 1.
 pub const MAX_WORD: u64 = 281_474_976_710_655;
 
-/// How many buckets a histogram has.
-const BUCKETS: usize = 25;
-
-/// The sum of a histogram comes after its buckets.
-const SUM: usize = 25;
-
-/// The count of a histogram is its last word.
-const COUNT: usize = 26;
-
-/// The first word of a gauge.
-const UPS: usize = 0;
-
-/// The second word of a gauge.
-const DOWNS: usize = 1;
-
-/// What operations add up to: `C + 27 * H + 2 * G` words, kept in place.
+/// What operations add up to: `C + 27 * H + 2 * G` words, kept in place. The buckets of each histogram add up to its count.
 ///
 /// Contracts see it as the list of its words. It takes no memory.
 #[derive(Drop)]
 pub struct Row<const C: usize, const H: usize, const G: usize> {
-    counters: [u64; C],
-    hists: [[u64; 27]; H],
-    gauges: [[u64; 2]; G],
+    words: Words<C, H, G>,
 }
 
 impl<const C: usize, const H: usize, const G: usize> Model for Row<C, H, G> {
-    ghost use Rattle.std.specs.Prelude.{ℕ, List, ◌++◌};
-    ghost use Rattle.std.specs.List.{concat};
-    ghost use Rattle.ledger_core.specs.Shape.{HasShape};
+    ghost use Rattle.std.specs.Prelude.{ℕ, List, slice_index};
+    ghost use Rattle.ledger_core.specs.Legal.{IsLegal};
 
     ghost Value = { List ℕ };
 
-    ghost view = { λ r. r.counters ++ concat r.hists ++ concat r.gauges };
+    ghost view = { λ r. r.words };
 
-    ghost invariant = { λ r. HasShape C H G r.counters r.hists r.gauges };
+    ghost invariant = { λ r. IsLegal C H (slice_index r.words) };
 }
 
 impl<const C: usize, const H: usize, const G: usize> Row<C, H, G> {
@@ -60,9 +40,7 @@ impl<const C: usize, const H: usize, const G: usize> Row<C, H, G> {
         ensures legal { IsLegal C H (slice_index result) }
     {
         Row {
-            counters: [0; C],
-            hists: [[0; 27]; H],
-            gauges: [[0; 2]; G],
+            words: Words::new(),
         }
     }
 
@@ -72,9 +50,7 @@ impl<const C: usize, const H: usize, const G: usize> Row<C, H, G> {
         ensures width { result ≡ width C H G }
         ensures within { result ≡ length self.now }
     {
-        // A look into the row tells the proof how many words it has.
-        let _ = &self.hists;
-        self.counters.len() + 27 * self.hists.len() + 2 * self.gauges.len()
+        self.words.len()
     }
 
     /// A row of the same words.
@@ -82,9 +58,7 @@ impl<const C: usize, const H: usize, const G: usize> Row<C, H, G> {
         ensures { result ≡ self.now }
     {
         Row {
-            counters: self.counters,
-            hists: self.hists,
-            gauges: self.gauges,
+            words: self.words.copy(),
         }
     }
 
@@ -97,17 +71,9 @@ impl<const C: usize, const H: usize, const G: usize> Row<C, H, G> {
         ensures accepted { OnOk result (Accepts C H G (slice_index self.old) ops.now) }
         ensures fault { IfErr result (IsOpFault C H G (slice_index self.old) ops.now) }
         ensures unchanged { OnErr result (self.new ≡ self.old) }
-        ensures legal { IsLegal C H (slice_index self.old) → OnOk result (IsLegal C H (slice_index self.new)) }
+        ensures legal { IsLegal C H (slice_index self.new) }
     {
-        // A look into the row tells the proof that no word of it is over the limit.
-        let _ = &self.counters;
-        for (at, op) in ops.iter().enumerate() {
-            if let Err(fault) = self.try_add(at, op) {
-                self.take_back(&ops[..at]);
-                return Err(fault);
-            }
-        }
-        Ok(())
+        self.words.try_apply(ops)
     }
 
     /// The total of a counter.
@@ -116,7 +82,7 @@ impl<const C: usize, const H: usize, const G: usize> Row<C, H, G> {
         ensures total { result ≡ slice_index self.now slot }
         ensures bounded { result ≤ MAX_WORD }
     {
-        self.counters[slot]
+        self.words.word(Word::Counter(slot))
     }
 
     /// The totals of a histogram.
@@ -126,18 +92,16 @@ impl<const C: usize, const H: usize, const G: usize> Row<C, H, G> {
         ensures sum { result.sum ≡ slice_index self.now (C + 27 * slot + 25) }
         ensures count { result.count ≡ slice_index self.now (C + 27 * slot + 26) }
         ensures bounded { All (λ bucket. bucket ≤ MAX_WORD) result.buckets × (result.sum ≤ MAX_WORD) × (result.count ≤ MAX_WORD) }
+        ensures legal { result.count ≡ sum result.buckets }
         ensures laws { SumsAreLegal C H G × LegalSumsAreLegal C H }
     {
-        let words = &self.hists[slot];
-        let mut buckets = [0; BUCKETS];
-        buckets.copy_from_slice(&words[..BUCKETS]);
         HistTotals {
-            buckets,
-            sum: self.word(Word::Hist {
+            buckets: self.words.buckets(slot),
+            sum: self.words.word(Word::Hist {
                 hist: slot,
                 item: SUM,
             }),
-            count: self.word(Word::Hist {
+            count: self.words.word(Word::Hist {
                 hist: slot,
                 item: COUNT,
             }),
@@ -152,11 +116,11 @@ impl<const C: usize, const H: usize, const G: usize> Row<C, H, G> {
         ensures bounded { (result.up ≤ MAX_WORD) × (result.down ≤ MAX_WORD) }
     {
         GaugeTotals {
-            up: self.word(Word::Gauge {
+            up: self.words.word(Word::Gauge {
                 gauge: slot,
                 item: UPS,
             }),
-            down: self.word(Word::Gauge {
+            down: self.words.word(Word::Gauge {
                 gauge: slot,
                 item: DOWNS,
             }),
@@ -170,155 +134,6 @@ impl<const C: usize, const H: usize, const G: usize> Row<C, H, G> {
         ensures word { result ≡ slice_index self.now k }
         ensures bounded { result ≤ MAX_WORD }
     {
-        self.word(Word::at::<C, H, G>(k))
-    }
-
-    // Adds one operation, the one at the place `at`, or nothing.
-    fn try_add(&mut self, at: usize, op: &Op) -> Result<(), OpFault>
-        ensures ok { OnOk result (Rises self.old (part C H op.now) self.new) }
-        ensures within { OnOk result (IsWithin C H G op.now) }
-        ensures room { OnOk result (HasRoom (slice_index self.old) (part C H op.now)) }
-        ensures fault { IfErr result (Refuses C H G (slice_index self.old) at op.now) }
-        ensures unchanged { OnErr result (self.new ≡ self.old) }
-    {
-        if !self.holds(op) {
-            return Err(OpFault::OutOfGeometry { at });
-        }
-        if !self.has_room(op) {
-            return Err(OpFault::TooLarge { at });
-        }
-        self.add(op);
-        Ok(())
-    }
-
-    // Takes from the row what these operations added to it.
-    fn take_back(&mut self, ops: &[Op])
-        requires within { All (IsWithin C H G) ops.now }
-        requires added { (k : ℕ) → sum_ops C H ops.now k ≤ slice_index self.old k }
-        ensures { Adds C H self.new ops.now self.old }
-    {
-        for op in ops {
-            self.take(op);
-        }
-    }
-
-    // Whether the operation names a slot of the row.
-    fn holds(&self, op: &Op) -> bool
-        ensures { IsTrue result ↔ IsWithin C H G op.now }
-    {
-        match *op {
-            Op::Inc { counter, .. } => counter < C,
-            Op::Observe { hist, place, .. } => hist < H && place < BUCKETS,
-            Op::Up { gauge, .. } | Op::Down { gauge, .. } => gauge < G,
-        }
-    }
-
-    // Whether no word passes the limit by the operation.
-    fn has_room(&self, op: &Op) -> bool
-        requires { IsWithin C H G op.now }
-        ensures { MatchBool result (HasRoom (slice_index self.now) (part C H op.now)) (LacksRoom (width C H G) (slice_index self.now) (part C H op.now)) }
-    {
-        match *op {
-            Op::Inc { counter, by } => self.fits(Word::Counter(counter), by),
-            Op::Observe { hist, place, value } => {
-                self.fits(Word::Hist { hist, item: place }, 1)
-                    && self.fits(Word::Hist { hist, item: SUM }, value)
-                    && self.fits(Word::Hist { hist, item: COUNT }, 1)
-            }
-            Op::Up { gauge, by } => self.fits(Word::Gauge { gauge, item: UPS }, by),
-            Op::Down { gauge, by } => self.fits(Word::Gauge { gauge, item: DOWNS }, by),
-        }
-    }
-
-    // Adds an operation for which there is room.
-    fn add(&mut self, op: &Op)
-        requires within { IsWithin C H G op.now }
-        requires room { HasRoom (slice_index self.old) (part C H op.now) }
-        ensures { Rises self.old (part C H op.now) self.new }
-    {
-        match *op {
-            Op::Inc { counter, by } => self.raise(Word::Counter(counter), by),
-            Op::Observe { hist, place, value } => {
-                self.raise(Word::Hist { hist, item: place }, 1);
-                self.raise(Word::Hist { hist, item: SUM }, value);
-                self.raise(Word::Hist { hist, item: COUNT }, 1);
-            }
-            Op::Up { gauge, by } => self.raise(Word::Gauge { gauge, item: UPS }, by),
-            Op::Down { gauge, by } => self.raise(Word::Gauge { gauge, item: DOWNS }, by),
-        }
-    }
-
-    // Takes from the row an operation that was added to it.
-    fn take(&mut self, op: &Op)
-        requires within { IsWithin C H G op.now }
-        requires added { (k : ℕ) → part C H op.now k ≤ slice_index self.old k }
-        ensures { Rises self.new (part C H op.now) self.old }
-    {
-        match *op {
-            Op::Inc { counter, by } => self.lower(Word::Counter(counter), by),
-            Op::Observe { hist, place, value } => {
-                self.lower(Word::Hist { hist, item: place }, 1);
-                self.lower(Word::Hist { hist, item: SUM }, value);
-                self.lower(Word::Hist { hist, item: COUNT }, 1);
-            }
-            Op::Up { gauge, by } => self.lower(Word::Gauge { gauge, item: UPS }, by),
-            Op::Down { gauge, by } => self.lower(Word::Gauge { gauge, item: DOWNS }, by),
-        }
-    }
-
-    // Whether a word may rise by `by`.
-    fn fits(&self, word: Word, by: u64) -> bool
-        requires { IsWord C H G word }
-        ensures room { IsTrue result ↔ (slice_index self.now (place_of C H word) + by ≤ MAX_WORD) }
-        ensures bounded { (k : ℕ) → slice_index self.now k ≤ MAX_WORD }
-    {
-        by <= MAX_WORD - self.word(word)
-    }
-
-    // Adds `by` to a word.
-    fn raise(&mut self, word: Word, by: u64)
-        requires known { IsWord C H G word }
-        requires room { slice_index self.old (place_of C H word) + by ≤ MAX_WORD }
-        ensures { Rises self.old (only (place_of C H word) by) self.new }
-    {
-        let value = self.word(word) + by;
-        self.set(word, value);
-    }
-
-    // Takes `by` from a word.
-    fn lower(&mut self, word: Word, by: u64)
-        requires known { IsWord C H G word }
-        requires added { by ≤ slice_index self.old (place_of C H word) }
-        ensures { Rises self.new (only (place_of C H word) by) self.old }
-    {
-        let value = self.word(word) - by;
-        self.set(word, value);
-    }
-
-    // The value of a word.
-    fn word(&self, word: Word) -> u64
-        requires { IsWord C H G word }
-        ensures value { result ≡ slice_index self.now (place_of C H word) }
-        ensures within { place_of C H word < length self.now }
-        ensures bounded { (k : ℕ) → slice_index self.now k ≤ MAX_WORD }
-    {
-        match word {
-            Word::Counter(counter) => self.counters[counter],
-            Word::Hist { hist, item } => self.hists[hist][item],
-            Word::Gauge { gauge, item } => self.gauges[gauge][item],
-        }
-    }
-
-    // Writes a word.
-    fn set(&mut self, word: Word, value: u64)
-        requires known { IsWord C H G word }
-        requires bounded { value ≤ MAX_WORD }
-        ensures { self.new ≡ slice_set self.old (place_of C H word) value }
-    {
-        match word {
-            Word::Counter(counter) => self.counters[counter] = value,
-            Word::Hist { hist, item } => self.hists[hist][item] = value,
-            Word::Gauge { gauge, item } => self.gauges[gauge][item] = value,
-        }
+        self.words.word(Word::at::<C, H, G>(k))
     }
 }

@@ -2,6 +2,21 @@ ghost use Rattle.std.specs.Prelude.{◌≡◌, ◌<◌};
 ghost use Rattle.ledger_core.specs.Ops.{width};
 ghost use Rattle.ledger_core.specs.Word.{place_of, IsWord};
 
+/// How many buckets a histogram has.
+pub(crate) const BUCKETS: usize = 25;
+
+/// The sum of a histogram comes after its buckets.
+pub(crate) const SUM: usize = 25;
+
+/// The count of a histogram is its last word.
+pub(crate) const COUNT: usize = 26;
+
+/// The first word of a gauge.
+pub(crate) const UPS: usize = 0;
+
+/// The second word of a gauge.
+pub(crate) const DOWNS: usize = 1;
+
 /// One word of a row, by what it counts.
 #[derive(Clone, Copy)]
 pub(crate) enum Word {

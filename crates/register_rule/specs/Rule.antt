@@ -1,5 +1,6 @@
 -- The rule over all words of the board and the views of all seats.
 use Rattle.std.specs.Prelude.{◌≢◌, ◌∷◌, ◌≡◌, ℕ, suc, ◌*◌, ◌<◌, ◌≤◌, Some, List, [], length}
+use Rattle.bucket_math.specs.Words.{greatest_word}
 use mathlib.Core.Option.{some}
 use lib.ListN.{get_elem?}
 use Rattle.atomic_table.specs.Table.{State}
@@ -70,7 +71,7 @@ pub record Rule (n w b : ℕ) (adds : List Op → ℕ → ℕ) (accepts : (ℕ �
   -- what a version lends is right
   pub lent : (i : ℕ) (a : Entry) → i < n → last_lent (made i) ≡ Some a → IsEntry n w adds made history a
   -- every word of a row, shown or hidden, is at most 2^48 - 1
-  pub bounded : (i v k : ℕ) → i < n → k < w → seg b s.words i (item_of b v k) ≤ 281474976710655
+  pub bounded : (i v k : ℕ) → i < n → k < w → seg b s.words i (item_of b v k) ≤ greatest_word
   pub apart : (j : ℕ) (v : View) → get_elem? s.views j ≡ some v → AreApart v.members
   pub each : (j : ℕ) (v : View) → get_elem? s.views j ≡ some v → (p : ℕ) (m : Member) → get_elem? v.members p ≡ some m
       → IsMember n w b adds made owner history s.words j m

@@ -1,5 +1,6 @@
 -- What a step tells of the rule.
 use Rattle.std.specs.Prelude.{◌≡◌, ◌≢◌, ◌⊎◌, ℕ, ◌+◌, ◌*◌, ◌<◌, ◌≤◌, Bool, false, List, [], ◌∷◌, ◌++◌, length, map, slice_index}
+use Rattle.bucket_math.specs.Words.{greatest_word}
 use mathlib.Core.Option.{some}
 use lib.ListN.{get_elem?}
 use Rattle.atomic_table.specs.Table.{State}
@@ -50,7 +51,7 @@ word_of b (EndAsk place) = place * span b + 0
 -- a load tells that it found a number, or that a word of a row is at most 2^48 - 1
 abbrev pub IsTold : (w : ℕ) → Load → List Member → ℕ → Type 0
 IsTold w (Open place) ms x = IsNumber place ms x
-IsTold w (Read place number item) ms x = item < w → x ≤ 281474976710655
+IsTold w (Read place number item) ms x = item < w → x ≤ greatest_word
 IsTold w (Confirm place) ms x = IsNumber place ms x
 IsTold w (Ask place) ms x = IsNumber place ms x
 IsTold w (EndAsk place) ms x = IsNumber place ms x

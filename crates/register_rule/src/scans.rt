@@ -1,5 +1,6 @@
 //! The steps of a scan, which workers and readers make alike.
 ghost use Rattle.std.specs.Prelude.{ℕ, ◌<◌, ◌≤◌};
+ghost use Rattle.bucket_math.specs.Words.{greatest_word};
 ghost use Rattle.ledger_core.specs.Ops.{width};
 ghost use Rattle.segment_layout.specs.Layout.{depth};
 ghost use Rattle.register_rule.specs.Steps.{after, after_open, after_read, after_confirm, after_ask, after_end_ask};
@@ -85,7 +86,7 @@ impl<const N: usize, const C: usize, const H: usize, const G: usize> Board<N, C,
         requires own { MayScan self.now (S.bundle seat.old) }
         requires inside { (place < N) × (item < depth N (width C H G)) }
         ensures learns { Learns N C H G (after_read (width C H G) place number item result) (S.bundle seat.old) (S.bundle seat.new) }
-        ensures bounded { item < width C H G → result ≤ 281474976710655 }
+        ensures bounded { item < width C H G → result ≤ greatest_word }
     {
         seat.load(
             self,

@@ -1,5 +1,6 @@
 //! The steps: each makes one atomic load or store of one word of the board, and takes no memory.
 ghost use Rattle.std.specs.Prelude.{◌≡◌, ℕ, ◌+◌, ◌*◌, ◌<◌, ◌≤◌, List, [], ◌∷◌, ◌++◌, length};
+ghost use Rattle.bucket_math.specs.Words.{greatest_word};
 ghost use Rattle.ledger_core.specs.Ops.{width, sum_ops};
 ghost use Rattle.ledger_core.specs.Row.{Accepts};
 ghost use Rattle.segment_layout.specs.Layout.{depth, span, words};
@@ -88,7 +89,7 @@ impl<const N: usize, const C: usize, const H: usize, const G: usize> Board<N, C,
     pub fn fill_word(&self, seat: &mut WorkSeat, item: usize, word: u64)
         requires own { HasWorker self.now seat.old }
         requires inside { item < depth N (width C H G) }
-        requires bounded { item < width C H G → word ≤ 281474976710655 }
+        requires bounded { item < width C H G → word ≤ greatest_word }
         ensures own { HasWorker self.now seat.new }
         ensures index { index_of seat.new ≡ index_of seat.old }
         ensures member { worker_of seat.new ≡ filled item word (worker_of seat.old) }

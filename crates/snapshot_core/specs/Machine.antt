@@ -1,5 +1,6 @@
 -- The machine of events, as plain lists: what each of its private functions does. No public clause cites it.
 use Rattle.std.specs.Prelude.{ℕ, zero, suc, ◌+◌, ◌-◌, ◌%◌, ◌^◌, ◌==◌, ◌&&◌, not, nat_lt, nat_le, cond, Bool, true, false, Option, Some, None, option_map, List, [], ◌∷◌, ◌++◌, length, take, slice_get, slice_index, slice_set, map, replicate}
+use Rattle.bucket_math.specs.Words.{greatest_word}
 use Rattle.ledger_core.specs.declared.op.Op.{Op}
 use Rattle.ledger_core.specs.declared.op.Op.TheVariants.{Inc, Observe, Up, Down}
 use Rattle.ledger_core.specs.Ops.{width, part}
@@ -64,7 +65,7 @@ is_within c h g (Down gauge by) = nat_lt gauge g
 -- each of the words k, k + 1, .. , m of them, is at most 2^48 - 1 with the operation
 abbrev pub has_room : (c h : ℕ) → List ℕ → Op → (k m : ℕ) → Bool
 has_room c h row op k zero = true
-has_room c h row op k (suc m) = nat_le (slice_index row k + part c h op k) 281474976710655 && has_room c h row op (suc k) m
+has_room c h row op k (suc m) = nat_le (slice_index row k + part c h op k) greatest_word && has_room c h row op (suc k) m
 
 abbrev pub raised : (c h g : ℕ) → List ℕ → Op → List ℕ
 raised c h g row op = map (λ k. slice_index row k + part c h op k) (from_on 0 (width c h g))

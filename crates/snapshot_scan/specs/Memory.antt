@@ -1,5 +1,6 @@
 -- What a scan remembers, and what its looks are by it.
 use Rattle.std.specs.Prelude.{◌≡◌, ◌≢◌, ℕ, suc, ◌+◌, ◌<◌, ◌≤◌, ◌==◌, cond, List, [], ◌∷◌, ◌++◌, length, map, replicate, slice_index}
+use Rattle.bucket_math.specs.Words.{greatest_word}
 use mathlib.Core.Option.{some}
 use lib.ListN.{get_elem?}
 use Rattle.register_rule.specs.declared.view.Version.{Version}
@@ -15,8 +16,8 @@ version_of g = record { number = g.number; row = g.row.items }
 pub record IsWide (w : ℕ) (g : Kept) : Type 0 where
   pub row : length g.row.items ≡ w
   pub fresh : length g.fresh.items ≡ w
-  pub row_low : (k : ℕ) → k < w → slice_index g.row.items k ≤ 281474976710655
-  pub fresh_low : (k : ℕ) → k < w → slice_index g.fresh.items k ≤ 281474976710655
+  pub row_low : (k : ℕ) → k < w → slice_index g.row.items k ≤ greatest_word
+  pub fresh_low : (k : ℕ) → k < w → slice_index g.fresh.items k ≤ greatest_word
 
 abbrev pub AreWide : (w : ℕ) → List Kept → Type 0
 AreWide w gs = (q : ℕ) (g : Kept) → get_elem? gs q ≡ some g → IsWide w g

@@ -1,5 +1,6 @@
 //! Reading the items of a buffer, one by one.
 ghost use Rattle.std.specs.Prelude.{◌≡◌, ℕ, ◌+◌, ◌<◌, ◌≤◌, length, slice_index};
+ghost use Rattle.bucket_math.specs.Words.{greatest_word};
 ghost use Rattle.ledger_core.specs.Ops.{width};
 ghost use Rattle.segment_layout.specs.Layout.{depth};
 ghost use Rattle.register_rule.specs.Members.{led, scanned};
@@ -29,7 +30,7 @@ pub(crate) fn read_items<
     requires deep { depth N (width C H G) ≤ 2529 }
     ensures own { table_of (S.bundle seat.new) ≡ table_of (S.bundle seat.old) }
     ensures member { members_of (S.bundle seat.new) ≡ led (scanned (read_all (width C H G) place number from words.new)) (members_of (S.bundle seat.old)) }
-    ensures bounded { (k : ℕ) → k < length words.new → from + k < width C H G → slice_index words.new k ≤ 281474976710655 }
+    ensures bounded { (k : ℕ) → k < length words.new → from + k < width C H G → slice_index words.new k ≤ greatest_word }
 {
     for k in 0..words.len() {
         words[k] = board.read_word(seat, place, number, from + k);

@@ -1,5 +1,6 @@
 //! What a scan remembers of one segment.
 ghost use Rattle.std.specs.Prelude.{◌≡◌, ℕ, ◌+◌, ◌-◌, ◌<◌, ◌≤◌, ◌==◌, cond, Contains, length, slice_index, slice_set, IfOk};
+ghost use Rattle.bucket_math.specs.Words.{greatest_word};
 ghost use Rattle.ledger_core.specs.Ops.{width};
 ghost use Rattle.segment_layout.specs.Layout.{depth};
 ghost use Rattle.register_rule.specs.Members.{led, scanned};
@@ -143,7 +144,7 @@ impl Kept {
 fn copy_words<const C: usize, const H: usize, const G: usize>(words: &mut [u64], row: &Row<C, H, G>)
     requires { length words.old ≡ width C H G }
     ensures words { words.new ≡ row.now }
-    ensures low { (k : ℕ) → k < width C H G → slice_index words.new k ≤ 281474976710655 }
+    ensures low { (k : ℕ) → k < width C H G → slice_index words.new k ≤ greatest_word }
 {
     for k in 0..row.len() {
         words[k] = row.word_at(k);
@@ -160,11 +161,11 @@ fn change_words<const C: usize, const H: usize, const G: usize>(
 )
     requires lengths { (length totals.old ≡ width C H G) × (length old.old ≡ width C H G) }
     requires words { (j : ℕ) → Contains items.now j → j < width C H G }
-    requires low { (k : ℕ) → k < width C H G → slice_index old.old k ≤ 281474976710655 }
+    requires low { (k : ℕ) → k < width C H G → slice_index old.old k ≤ greatest_word }
     requires part { (k : ℕ) → k < width C H G → (slice_index old.old k ≤ slice_index totals.old k) × (slice_index totals.old k ≤ 9007199254740992) }
     ensures changed { (k : ℕ) → Contains items.now k → slice_index old.new k ≡ slice_index row.now k }
     ensures others { (k : ℕ) → ¬ (Contains items.now k) → slice_index old.new k ≡ slice_index old.old k }
-    ensures low { (k : ℕ) → k < width C H G → slice_index old.new k ≤ 281474976710655 }
+    ensures low { (k : ℕ) → k < width C H G → slice_index old.new k ≤ greatest_word }
     ensures sums { (k : ℕ) → k < width C H G → slice_index totals.new k + slice_index old.old k ≡ slice_index totals.old k + slice_index old.new k }
 {
     for &item in items {
@@ -190,7 +191,7 @@ fn change_word(totals: &mut [u64], old: &mut [u64], item: usize, word: u64)
 fn exchange(totals: &mut [u64], old: &[u64], new: &[u64])
     requires lengths { (length old.now ≡ length totals.old) × (length new.now ≡ length totals.old) }
     requires part { (k : ℕ) → k < length totals.old → (slice_index old.now k ≤ slice_index totals.old k) × (slice_index totals.old k ≤ 9007199254740992) }
-    requires low { (k : ℕ) → k < length totals.old → slice_index new.now k ≤ 281474976710655 }
+    requires low { (k : ℕ) → k < length totals.old → slice_index new.now k ≤ greatest_word }
     ensures { (k : ℕ) → k < length totals.old → slice_index totals.new k + slice_index old.now k ≡ slice_index totals.old k + slice_index new.now k }
 {
     for k in 0..totals.len() {

@@ -1,5 +1,6 @@
 //! Filling the hidden buffer with a version: only the words that change are stored.
 ghost use Rattle.std.specs.Prelude.{◌≡◌, ◌<◌, ◌≤◌, ℕ, false, length, slice_index, slice_set, Contains};
+ghost use Rattle.bucket_math.specs.Words.{greatest_word};
 ghost use Rattle.ledger_core.specs.Ops.{width};
 ghost use Rattle.segment_layout.specs.Layout.{depth};
 ghost use Rattle.register_rule.specs.Seats.{worker_of, index_of, HasWorker};
@@ -22,7 +23,7 @@ pub(crate) fn fill_item<const N: usize, const C: usize, const H: usize, const G:
     requires own { HasWorker board.now seat.old }
     requires exact { (worker_of seat.old).work.hidden ≡ hidden.old }
     requires inside { (item < length hidden.old) × (length hidden.old ≡ depth N (width C H G)) }
-    requires bounded { item < width C H G → word ≤ 281474976710655 }
+    requires bounded { item < width C H G → word ≤ greatest_word }
     ensures own { HasWorker board.now seat.new }
     ensures index { index_of seat.new ≡ index_of seat.old }
     ensures hidden { hidden.new ≡ slice_set hidden.old item word }

@@ -1,5 +1,6 @@
 //! The words of a version, in the order in which a buffer has them.
 ghost use Rattle.std.specs.Prelude.{◌≡◌, ◌+◌, ◌<◌, ◌≤◌, length, slice_index};
+ghost use Rattle.bucket_math.specs.Words.{greatest_word};
 ghost use Rattle.ledger_core.specs.Ops.{width};
 ghost use Rattle.ledger_core.specs.Limits.{AreSlots};
 ghost use Rattle.snapshot_update.specs.Images.{version_words};
@@ -36,7 +37,7 @@ impl<'a, const C: usize, const H: usize, const G: usize> Version<'a, C, H, G> {
     pub(crate) fn word(&self, item: usize) -> u64
         requires { item < length (target_of self.now) }
         ensures word { result ≡ slice_index (target_of self.now) item }
-        ensures bounded { item < width C H G → result ≤ 281474976710655 }
+        ensures bounded { item < width C H G → result ≤ greatest_word }
     {
         let flag = self.row.len();
         if item < flag {

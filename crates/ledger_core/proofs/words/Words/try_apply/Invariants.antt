@@ -1,6 +1,6 @@
 use Rattle.std.proofs.Common.{take, slice_index}
 use Rattle.ledger_core.specs.Row.{Accepts, Adds}
-use Rattle.ledger_core.proofs.row.Row.try_apply.Given as goal
+use Rattle.ledger_core.proofs.words.Words.try_apply.Given as goal
 
 abbrev pub invariant-loop-at : goal.invariant-loop-at
 invariant-loop-at g l = record {

@@ -1,5 +1,5 @@
 use Rattle.ledger_core.proofs.Places.{shape_counter, shape_hist, shape_gauge, write_counter, write_hist, write_gauge}
-use Rattle.ledger_core.proofs.row.Row.set.Goals as goal
+use Rattle.ledger_core.proofs.words.Words.set.Goals as goal
 
 pub invariant_of-self : goal.invariant_of-self
 invariant_of-self g c =

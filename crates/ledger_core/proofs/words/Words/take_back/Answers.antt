@@ -2,7 +2,7 @@ use Rattle.std.proofs.Common.{rules}
 use Rattle.std.proofs.lemmas.List.Elements.{All-get_or}
 use Rattle.ledger_core.specs.Ops.{IsWithin}
 use Rattle.ledger_core.proofs.Steps.{still_there}
-use Rattle.ledger_core.proofs.row.Row.take_back.Goals as goal
+use Rattle.ledger_core.proofs.words.Words.take_back.Goals as goal
 
 pub take-requires : goal.take-requires
 take-requires g c =

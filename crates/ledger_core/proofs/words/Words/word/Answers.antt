@@ -1,6 +1,6 @@
 use Rattle.std.proofs.Common.{sym}
 use Rattle.ledger_core.proofs.Places.{read_hist, read_gauge, hist-lt, gauge-lt}
-use Rattle.ledger_core.proofs.row.Row.word.Goals as goal
+use Rattle.ledger_core.proofs.words.Words.word.Goals as goal
 
 pub returns-in-Hist-clause-value : goal.returns-in-Hist-clause-value
 returns-in-Hist-clause-value g c =
