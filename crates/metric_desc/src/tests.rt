@@ -19,18 +19,21 @@ fn made(alloc: Global, labels: &[&str]) -> Result<Result<Desc, LabelsFault>, Fai
     Ok(Desc::counter(name, help, names))
 }
 
+/// The descriptor has the texts that [`made`] gives it, and these labels.
+fn expect_texts(rt: &impl Abort, desc: &Desc, labels: &[&str]) {
+    assert_eq!(rt; desc.name().as_str(), "http_requests_total");
+    assert_eq!(rt; desc.help().as_str(), "The total number of HTTP requests.");
+    assert_eq!(rt; desc.labels().len(), labels.len());
+    for (label, own) in desc.labels().iter().zip(labels) {
+        assert_eq!(rt; label.as_str(), *own);
+    }
+}
+
 #[test]
 fn counters(rt: HostRuntime) -> Result<(), Fail> {
     let desc = made(rt.alloc(), &["method", "code"])??;
-    assert_eq!(rt; desc.name().as_str(), "http_requests_total");
-    assert_eq!(rt; desc.help().as_str(), "The total number of HTTP requests.");
-    assert_eq!(rt; desc.labels().len(), 2);
-    assert_eq!(rt; desc.labels()[0].as_str(), "method");
-    assert_eq!(rt; desc.labels()[1].as_str(), "code");
-    let names = desc.names()?;
-    assert_eq!(rt; names.len(), 1);
-    assert_eq!(rt; names[0].as_str(), "http_requests_total");
-    Ok(())
+    expect_texts(&rt, &desc, &["method", "code"]);
+    expect_names(&rt, &desc, &["http_requests_total"])
 }
 
 #[test]
@@ -46,6 +49,7 @@ fn refusals(rt: HostRuntime) -> Result<(), Fail> {
     Ok(())
 }
 
+/// The names of the descriptor's samples are these.
 fn expect_names(rt: &impl Abort, desc: &Desc, expected: &[&str]) -> Result<(), Fail> {
     let names = desc.names()?;
     assert_eq!(rt; names.len(), expected.len());
@@ -55,15 +59,26 @@ fn expect_names(rt: &impl Abort, desc: &Desc, expected: &[&str]) -> Result<(), F
     Ok(())
 }
 
+/// The descriptor of a gauge without help and labels.
+fn gauge(alloc: Global, name: &str) -> Result<Desc, Fail> {
+    let name = MetricName::read(alloc, name)?;
+    let made = Desc::gauge(name, HelpText::empty(alloc), Vec::new(alloc));
+    Ok(made?)
+}
+
+/// The descriptor is of the gauge `g`.
+fn expect_gauge(rt: &impl Abort, desc: &Desc) {
+    assert_eq!(rt; desc.kind(), Kind::Gauge);
+    assert_eq!(rt; desc.name().as_str(), "g");
+    assert!(rt; desc.bounds().is_none());
+}
+
 #[test]
 fn gauges(rt: HostRuntime) -> Result<(), Fail> {
-    let alloc = rt.alloc();
-    let name = MetricName::read(alloc, "g")?;
-    let gauge = Desc::gauge(name, HelpText::empty(alloc), Vec::new(alloc))?;
-    assert_eq!(rt; gauge.kind(), Kind::Gauge);
-    assert_eq!(rt; gauge.copy()?.name().as_str(), "g");
-    assert!(rt; gauge.bounds().is_none());
-    expect_names(&rt, &gauge, &["g"])
+    let desc = gauge(rt.alloc(), "g")?;
+    expect_gauge(&rt, &desc);
+    expect_gauge(&rt, &desc.copy()?);
+    expect_names(&rt, &desc, &["g"])
 }
 
 #[test]

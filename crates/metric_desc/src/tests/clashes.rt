@@ -2,6 +2,7 @@ use crate::tests::histograms::histogram;
 use crate::{Desc, clashes};
 use metric_names::{HelpText, MetricName};
 use std::alloc::Global;
+use std::process::Abort;
 use std::test::Fail;
 
 fn counter(alloc: Global, name: &str) -> Result<Desc, Fail> {
@@ -10,31 +11,58 @@ fn counter(alloc: Global, name: &str) -> Result<Desc, Fail> {
     Ok(made?)
 }
 
+/// Whether the descriptor clashes with a counter of this name.
+fn expect_counter(
+    rt: &impl Abort,
+    alloc: Global,
+    desc: &Desc,
+    name: &str,
+    clash: bool,
+) -> Result<(), Fail> {
+    let other = counter(alloc, name)?;
+    assert_eq!(rt; clashes(desc, &other), clash);
+    assert_eq!(rt; clashes(&other, desc), clash);
+    Ok(())
+}
+
+/// Whether the descriptor clashes with a histogram of this name.
+fn expect_histogram(
+    rt: &impl Abort,
+    alloc: Global,
+    desc: &Desc,
+    name: &str,
+    clash: bool,
+) -> Result<(), Fail> {
+    let other = histogram(alloc, name, &[])?;
+    assert_eq!(rt; clashes(desc, &other), clash);
+    assert_eq!(rt; clashes(&other, desc), clash);
+    Ok(())
+}
+
+/// Which counters the histogram `x` clashes with.
+fn expect_counters(rt: &impl Abort, alloc: Global, desc: &Desc) -> Result<(), Fail> {
+    expect_counter(rt, alloc, desc, "x_bucket", true)?;
+    expect_counter(rt, alloc, desc, "x_sum", true)?;
+    expect_counter(rt, alloc, desc, "x_count", true)?;
+    expect_counter(rt, alloc, desc, "x_total", false)
+}
+
 #[test]
 fn histogram_and_counters(rt: HostRuntime) -> Result<(), Fail> {
-    let alloc = rt.alloc();
-    let x = histogram(alloc, "x", &[])?;
-    assert!(rt; clashes(&x, &counter(alloc, "x_bucket")?));
-    assert!(rt; clashes(&counter(alloc, "x_sum")?, &x));
-    assert!(rt; clashes(&x, &counter(alloc, "x_count")?));
-    assert!(rt; !clashes(&x, &counter(alloc, "x_total")?));
-    Ok(())
+    let x = histogram(rt.alloc(), "x", &[])?;
+    expect_counters(&rt, rt.alloc(), &x)
 }
 
 #[test]
 fn histograms(rt: HostRuntime) -> Result<(), Fail> {
-    let alloc = rt.alloc();
-    let x = histogram(alloc, "x", &[])?;
-    assert!(rt; clashes(&x, &histogram(alloc, "x_sum", &[])?));
-    assert!(rt; !clashes(&x, &histogram(alloc, "y", &[])?));
-    Ok(())
+    let x = histogram(rt.alloc(), "x", &[])?;
+    expect_histogram(&rt, rt.alloc(), &x, "x_sum", true)?;
+    expect_histogram(&rt, rt.alloc(), &x, "y", false)
 }
 
 #[test]
 fn counters(rt: HostRuntime) -> Result<(), Fail> {
-    let alloc = rt.alloc();
-    let x = counter(alloc, "x")?;
-    assert!(rt; clashes(&x, &counter(alloc, "x")?));
-    assert!(rt; !clashes(&x, &counter(alloc, "x_sum")?));
-    Ok(())
+    let x = counter(rt.alloc(), "x")?;
+    expect_counter(&rt, rt.alloc(), &x, "x", true)?;
+    expect_counter(&rt, rt.alloc(), &x, "x_sum", false)
 }

@@ -1,7 +1,9 @@
+use crate::tests::expect_names;
 use crate::{Desc, HistogramFault, Kind, LabelsFault};
 use bucket_math::BadBounds;
 use metric_names::{HelpText, LabelName, MetricName};
 use std::alloc::Global;
+use std::process::Abort;
 use std::test::Fail;
 
 /// The descriptor of a histogram of this name, without labels.
@@ -11,34 +13,33 @@ pub fn histogram(alloc: Global, name: &str, bounds: &[u64]) -> Result<Desc, Fail
     Ok(made?)
 }
 
-#[test]
-fn kept(rt: HostRuntime) -> Result<(), Fail> {
-    let desc = histogram(rt.alloc(), "h", &[10, 20])?;
+/// The descriptor is of the histogram `h` with these bounds.
+fn expect_histogram(rt: &impl Abort, desc: &Desc, expected: &[u64]) {
+    assert_eq!(rt; desc.name().as_str(), "h");
     assert_eq!(rt; desc.kind(), Kind::Histogram);
     let Some(bounds) = desc.bounds() else {
         panic!(rt; "a histogram has bounds");
     };
-    assert_eq!(rt; bounds.as_slice(), [10, 20].as_slice());
+    assert_eq!(rt; bounds.as_slice(), expected);
+}
+
+#[test]
+fn kept(rt: HostRuntime) -> Result<(), Fail> {
+    let desc = histogram(rt.alloc(), "h", &[10, 20])?;
+    expect_histogram(&rt, &desc, &[10, 20]);
     Ok(())
 }
 
 #[test]
 fn names(rt: HostRuntime) -> Result<(), Fail> {
-    let names = histogram(rt.alloc(), "h", &[])?.names()?;
-    assert_eq!(rt; names.len(), 4);
-    assert_eq!(rt; names[0].as_str(), "h");
-    assert_eq!(rt; names[1].as_str(), "h_bucket");
-    assert_eq!(rt; names[2].as_str(), "h_sum");
-    assert_eq!(rt; names[3].as_str(), "h_count");
-    Ok(())
+    let desc = histogram(rt.alloc(), "h", &[])?;
+    expect_names(&rt, &desc, &["h", "h_bucket", "h_sum", "h_count"])
 }
 
 #[test]
 fn copied(rt: HostRuntime) -> Result<(), Fail> {
     let copy = histogram(rt.alloc(), "h", &[7])?.copy()?;
-    assert_eq!(rt; copy.name().as_str(), "h");
-    assert_eq!(rt; copy.kind(), Kind::Histogram);
-    assert!(rt; copy.bounds().is_some());
+    expect_histogram(&rt, &copy, &[7]);
     Ok(())
 }
 
