@@ -1,3 +1,5 @@
+mod calls;
+
 ghost use Rattle.std.specs.Prelude.{◌≡◌, ℕ, ◌<◌, ◌≤◌, ◌++◌, false, not, length, take, IfOk, OnOk};
 ghost use Rattle.std.specs.Io.KnownBytes.{Appends};
 
