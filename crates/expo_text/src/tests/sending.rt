@@ -26,8 +26,9 @@ impl Write for Slow {
         Ok(1)
     }
 
+    // Nobody is to flush it.
     fn flush(&mut self) -> io::Result<()> {
-        Ok(())
+        Err(Error::from(ErrorKind::BrokenPipe))
     }
 }
 
@@ -59,8 +60,9 @@ impl Write for Counting {
         Ok(buf.len())
     }
 
+    // Nobody is to flush it.
     fn flush(&mut self) -> io::Result<()> {
-        Ok(())
+        Err(Error::from(ErrorKind::BrokenPipe))
     }
 }
 
