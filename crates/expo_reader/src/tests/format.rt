@@ -1,5 +1,5 @@
 //! Expositions as other programs write them, and texts that are none.
-use crate::{Found, read_text};
+use crate::{Found, FoundSample, read_text};
 use metric_desc::Kind;
 use std::alloc::Global;
 use std::process::Abort;
@@ -19,6 +19,31 @@ fn only(rt: &impl Abort, alloc: Global, text: &[u8]) -> Result<Found, Fail> {
         panic!(rt; "a group");
     };
     Ok(group)
+}
+
+// The group has as many samples as these values, which are theirs.
+pub fn expect_values(rt: &impl Abort, group: &Found, values: &[i128]) {
+    assert_eq!(rt; group.samples.len(), values.len());
+    for (sample, value) in group.samples.iter().zip(values) {
+        assert_eq!(rt; sample.value, *value);
+    }
+}
+
+// The sample has these labels, in this order.
+fn expect_labels(rt: &impl Abort, sample: &FoundSample, labels: &[(&[u8], &[u8])]) {
+    assert_eq!(rt; sample.labels.len(), labels.len());
+    for (label, (name, value)) in sample.labels.iter().zip(labels) {
+        assert_eq!(rt; label.name.as_bytes(), *name);
+        assert_eq!(rt; label.value.as_bytes(), *value);
+    }
+}
+
+// The first sample of the group has these labels, in this order.
+pub fn expect_first_labels(rt: &impl Abort, group: &Found, labels: &[(&[u8], &[u8])]) {
+    let Some(sample) = group.samples.first() else {
+        panic!(rt; "a sample");
+    };
+    expect_labels(rt, sample, labels);
 }
 
 // The format's example, with whole numbers, a type for each group and no times.
@@ -45,11 +70,8 @@ http_request_duration_seconds_sum 53423
 http_request_duration_seconds_count 144320
 ";
 
-#[test]
-fn example(rt: HostRuntime) -> Result<(), Fail> {
-    let Some(groups) = read_text(rt.alloc(), EXAMPLE)? else {
-        panic!(rt; "an exposition");
-    };
+// The groups of [`EXAMPLE`].
+fn expect_example(rt: &impl Abort, groups: &[Found]) {
     assert_eq!(rt; groups.len(), 4);
     assert_eq!(rt;
         groups[0].name.as_bytes(),
@@ -60,25 +82,31 @@ fn example(rt: HostRuntime) -> Result<(), Fail> {
         b"The total number of HTTP requests.".as_slice()
     );
     assert_eq!(rt; groups[0].kind, Kind::Counter);
-    assert_eq!(rt; groups[0].samples.len(), 2);
-    assert_eq!(rt; groups[0].samples[1].value, 3);
-    assert_eq!(rt; groups[1].samples.len(), 1);
-    let sample = &groups[1].samples[0];
-    assert_eq!(rt; sample.value, 1458255915);
-    assert_eq!(rt; sample.labels.len(), 2);
-    assert_eq!(rt;
-        sample.labels[0].value.as_bytes(),
-        b"C:\\DIR\\FILE.TXT".as_slice()
-    );
-    assert_eq!(rt;
-        sample.labels[1].value.as_bytes(),
-        b"Cannot find file:\n\"FILE.TXT\"".as_slice()
-    );
+    expect_values(rt, &groups[0], &[1027, 3]);
+    expect_values(rt, &groups[1], &[1458255915]);
     assert_eq!(rt; groups[2].kind, Kind::Gauge);
-    assert_eq!(rt; groups[2].samples.len(), 1);
-    assert_eq!(rt; groups[2].samples[0].value, -12);
+    expect_values(rt, &groups[2], &[-12]);
     assert_eq!(rt; groups[3].kind, Kind::Histogram);
-    assert_eq!(rt; groups[3].samples.len(), 5);
+    expect_values(rt, &groups[3], &[24054, 33444, 144320, 53423, 144320]);
+}
+
+// The labels of the second group of [`EXAMPLE`].
+fn expect_escaped(rt: &impl Abort, group: &Found) {
+    let path: &[u8] = b"C:\\DIR\\FILE.TXT";
+    let error: &[u8] = b"Cannot find file:\n\"FILE.TXT\"";
+    expect_first_labels(rt, group, &[(b"path", path), (b"error", error)]);
+}
+
+#[test]
+fn example(rt: HostRuntime) -> Result<(), Fail> {
+    let Some(groups) = read_text(rt.alloc(), EXAMPLE)? else {
+        panic!(rt; "an exposition");
+    };
+    expect_example(&rt, &groups);
+    let Some(second) = groups.get(1) else {
+        panic!(rt; "a group");
+    };
+    expect_escaped(&rt, second);
     Ok(())
 }
 
@@ -88,27 +116,16 @@ fn blanks_and_tabs(rt: HostRuntime) -> Result<(), Fail> {
         b"\t # \t TYPE\t a \t counter \t\n \t a \t { \t l \t = \t \" x\ty \" \t , \t } \t 7 \t \n";
     let group = only(&rt, rt.alloc(), text)?;
     assert_eq!(rt; group.name.as_bytes(), b"a".as_slice());
-    assert_eq!(rt; group.samples.len(), 1);
-    assert_eq!(rt; group.samples[0].value, 7);
-    assert_eq!(rt; group.samples[0].labels.len(), 1);
-    assert_eq!(rt; group.samples[0].labels[0].name.as_bytes(), b"l".as_slice());
-    assert_eq!(rt;
-        group.samples[0].labels[0].value.as_bytes(),
-        b" x\ty ".as_slice()
-    );
+    expect_values(&rt, &group, &[7]);
+    expect_first_labels(&rt, &group, &[(b"l", b" x\ty ")]);
     Ok(())
 }
 
 #[test]
 fn no_blanks(rt: HostRuntime) -> Result<(), Fail> {
     let group = only(&rt, rt.alloc(), b"#TYPE a counter\na{l=\"x\",m=\"}\"}7\n")?;
-    assert_eq!(rt; group.samples.len(), 1);
-    assert_eq!(rt; group.samples[0].value, 7);
-    assert_eq!(rt; group.samples[0].labels.len(), 2);
-    assert_eq!(rt;
-        group.samples[0].labels[1].value.as_bytes(),
-        b"}".as_slice()
-    );
+    expect_values(&rt, &group, &[7]);
+    expect_first_labels(&rt, &group, &[(b"l", b"x"), (b"m", b"}")]);
     Ok(())
 }
 
@@ -119,9 +136,7 @@ fn comments_and_empty_lines(rt: HostRuntime) -> Result<(), Fail> {
     let group = only(&rt, rt.alloc(), text)?;
     assert_eq!(rt; group.kind, Kind::Counter);
     assert_eq!(rt; group.help.as_bytes(), b"".as_slice());
-    assert_eq!(rt; group.samples.len(), 2);
-    assert_eq!(rt; group.samples[0].value, 1);
-    assert_eq!(rt; group.samples[1].value, 2);
+    expect_values(&rt, &group, &[1, 2]);
     Ok(())
 }
 
@@ -154,12 +169,8 @@ fn help_after_type(rt: HostRuntime) -> Result<(), Fail> {
 #[test]
 fn labels_as_they_stand(rt: HostRuntime) -> Result<(), Fail> {
     let group = only(&rt, rt.alloc(), b"# TYPE a counter\na{c=\"2\",b=\"1\"} 1\n")?;
-    assert_eq!(rt; group.samples.len(), 1);
-    let labels = &group.samples[0].labels;
-    assert_eq!(rt; labels.len(), 2);
-    assert_eq!(rt; labels[0].name.as_bytes(), b"c".as_slice());
-    assert_eq!(rt; labels[0].value.as_bytes(), b"2".as_slice());
-    assert_eq!(rt; labels[1].name.as_bytes(), b"b".as_slice());
+    expect_values(&rt, &group, &[1]);
+    expect_first_labels(&rt, &group, &[(b"c", b"2"), (b"b", b"1")]);
     Ok(())
 }
 
@@ -168,11 +179,8 @@ fn escapes(rt: HostRuntime) -> Result<(), Fail> {
     let text = b"# HELP a \\\\n\\n\\\\\n# TYPE a counter\na{l=\"\\\\n\\n\\\"\\\\\",m=\"\\\\\"} 1\n";
     let group = only(&rt, rt.alloc(), text)?;
     assert_eq!(rt; group.help.as_bytes(), b"\\n\n\\".as_slice());
-    assert_eq!(rt; group.samples.len(), 1);
-    let labels = &group.samples[0].labels;
-    assert_eq!(rt; labels.len(), 2);
-    assert_eq!(rt; labels[0].value.as_bytes(), b"\\n\n\"\\".as_slice());
-    assert_eq!(rt; labels[1].value.as_bytes(), b"\\".as_slice());
+    expect_values(&rt, &group, &[1]);
+    expect_first_labels(&rt, &group, &[(b"l", b"\\n\n\"\\"), (b"m", b"\\")]);
     Ok(())
 }
 

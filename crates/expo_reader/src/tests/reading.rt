@@ -1,6 +1,8 @@
-use crate::read_text;
+use crate::tests::format::{expect_first_labels, expect_values};
+use crate::{Found, read_text};
 use metric_desc::Kind;
 use std::alloc::Global;
+use std::process::Abort;
 use std::test::Fail;
 
 fn is_read(alloc: Global, text: &[u8]) -> Result<bool, Fail> {
@@ -23,27 +25,23 @@ fn read(rt: HostRuntime) -> Result<(), Fail> {
     Ok(())
 }
 
+// The groups of the text that `found` reads.
+fn expect_found(rt: &impl Abort, groups: &[Found]) {
+    assert_eq!(rt; groups.len(), 1);
+    assert_eq!(rt; groups[0].name.as_bytes(), b"a".as_slice());
+    assert_eq!(rt; groups[0].help.as_bytes(), b"a\\b\nc".as_slice());
+    assert_eq!(rt; groups[0].kind, Kind::Counter);
+    expect_values(rt, &groups[0], &[5]);
+    expect_first_labels(rt, &groups[0], &[(b"l", b"\"\n\\")]);
+}
+
 #[test]
 fn found(rt: HostRuntime) -> Result<(), Fail> {
     let text = b"# HELP a a\\\\b\\nc\n# TYPE a counter\na{l=\"\\\"\\n\\\\\"} 5\n";
     let Some(groups) = read_text(rt.alloc(), text)? else {
         panic!(rt; "an exposition");
     };
-    assert_eq!(rt; groups.len(), 1);
-    assert_eq!(rt; groups[0].name.as_bytes(), b"a".as_slice());
-    assert_eq!(rt; groups[0].help.as_bytes(), b"a\\b\nc".as_slice());
-    assert_eq!(rt; groups[0].kind, Kind::Counter);
-    assert_eq!(rt; groups[0].samples.len(), 1);
-    assert_eq!(rt; groups[0].samples[0].value, 5);
-    assert_eq!(rt; groups[0].samples[0].labels.len(), 1);
-    assert_eq!(rt;
-        groups[0].samples[0].labels[0].name.as_bytes(),
-        b"l".as_slice()
-    );
-    assert_eq!(rt;
-        groups[0].samples[0].labels[0].value.as_bytes(),
-        b"\"\n\\".as_slice()
-    );
+    expect_found(&rt, &groups);
     Ok(())
 }
 
