@@ -34,5 +34,6 @@ pub mod Parted
 pub mod Whole
 pub mod Printed
 pub mod ReadingLaw
-pub mod Checked
+pub mod Elements
+pub mod Compared
 pub mod Sent

@@ -4,6 +4,7 @@
 //! Source: Prometheus documentation, "Exposition formats", "Text-based format".
 #![tactic(auto)]
 
+mod checked;
 mod front;
 mod labels;
 mod number;

@@ -1,5 +1,6 @@
-ghost use Rattle.std.specs.Prelude.{◌≡◌};
+ghost use Rattle.std.specs.Prelude.{◌≡◌, IfSome, IfNone};
 
+use crate::checked::is_scrape;
 use crate::number::Number;
 use metric_desc::Desc;
 use metric_names::LabelValue;
@@ -77,6 +78,23 @@ impl Scrape {
         ensures { result ≡ record { vector = vector.items; families = families.items } }
     {
         Scrape { vector, families }
+    }
+
+    /// A scrape of these families, at this vector: how many lists of operations each worker had published. `None` where they
+    /// are no families of a scrape: more than 128, not in strict order of their names, two with a sample's name in common, or one
+    /// with more than 256 children, children not in strict order, too many or too few values, a number of another kind, or a
+    /// histogram whose count is not the sum of its buckets.
+    ///
+    /// Takes no memory. Looks for a sample's name in common in each pair of families, of which there are at most 8,128; families,
+    /// and the children of each, are otherwise compared only with the next.
+    pub fn checked(vector: Vec<u64>, families: Vec<FamilyScrape>) -> Option<Scrape>
+        ensures some { IfSome result (λ scrape. scrape ≡ record { vector = vector.items; families = families.items }) }
+        ensures none { IfNone result (¬ (IsScrape (record { vector = vector.items; families = families.items }))) }
+    {
+        if !is_scrape(&families) {
+            return None;
+        }
+        Some(Scrape::new(vector, families))
     }
 
     /// How many lists of operations each worker had published.

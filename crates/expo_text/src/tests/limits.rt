@@ -1,168 +1,16 @@
 //! Scrapes at their limits: 128 families of 256 children, and a family whose names, texts and bounds are as long and as
 //! many as they may be.
-ghost use Rattle.std.specs.Prelude.{◌≡◌, ◌<◌, ℕ, List, length, sum, All, AllPairs, IfOk, IsTrue};
-ghost use Rattle.metric_desc.specs.Desc.{Clash};
-ghost use Rattle.expo_text.specs.Scraped.{Child, Family};
-ghost use Rattle.expo_text.specs.Order.{IsBefore, IsChildBefore, IsFamily, IsNumberOf, IsScrape};
+ghost use Rattle.std.specs.Prelude.{◌≡◌, ◌<◌, sum, IfOk};
 
 use crate::tests::{label, one, prints};
 use crate::{ChildScrape, FamilyScrape, Number, Scrape};
 use ledger_core::{GaugeTotals, HistTotals};
-use metric_desc::{Desc, Kind, clashes};
+use metric_desc::{Desc, Kind};
 use metric_names::{HelpText, LabelName, LabelValue, MetricName};
 use std::alloc::Global;
-use std::cmp::Ordering;
 use std::process::Abort;
 use std::sync::Arc;
 use std::test::Fail;
-
-/// Whether a text stands before another.
-fn is_before(a: &str, b: &str) -> bool
-    ensures { IsTrue result → IsBefore a.now b.now }
-{
-    match a.cmp(b) {
-        Ordering::Less => true,
-        Ordering::Equal | Ordering::Greater => false,
-    }
-}
-
-/// Whether a child stands before another by the first value of each.
-fn is_child_before(a: &ChildScrape, b: &ChildScrape) -> bool
-    ensures { IsTrue result → IsChildBefore a.now b.now }
-{
-    if a.values.is_empty() || b.values.is_empty() {
-        return false;
-    }
-    is_before(a.values[0].as_str(), b.values[0].as_str())
-}
-
-/// Whether children stand in strict order.
-fn are_children_ordered(children: &[ChildScrape]) -> bool
-    ensures { IsTrue result → AllPairs IsChildBefore children.now }
-{
-    for at in 0..children.len() {
-        if at > 0 && !is_child_before(&children[at - 1], &children[at]) {
-            return false;
-        }
-    }
-    true
-}
-
-/// Whether each of the children has as many values as the family has labels.
-fn have_all_values(desc: &Desc, children: &[ChildScrape]) -> bool
-    ensures { IsTrue result → All (λ (child : Child). length child.values ≡ length desc.now.labels) children.now }
-{
-    for child in children {
-        if child.values.len() != desc.labels().len() {
-            return false;
-        }
-    }
-    true
-}
-
-/// Whether a number is one of a counter or of a gauge, as the kind says.
-fn is_number_of(kind: Kind, number: &Number) -> bool
-    ensures { IsTrue result → IsNumberOf kind number.now }
-{
-    match number {
-        Number::Counter(_) => matches!(kind, Kind::Counter),
-        Number::Gauge(_) => matches!(kind, Kind::Gauge),
-        Number::Histogram(_) => false,
-    }
-}
-
-/// Whether each of the children has a number of the family's kind.
-fn have_its_numbers(desc: &Desc, children: &[ChildScrape]) -> bool
-    ensures { IsTrue result → All (λ (child : Child). IsNumberOf desc.now.kind child.number) children.now }
-{
-    for child in children {
-        if !is_number_of(desc.kind(), &child.number) {
-            return false;
-        }
-    }
-    true
-}
-
-/// Whether this is a family of a scrape.
-fn is_family(family: &FamilyScrape) -> bool
-    ensures { IsTrue result → IsFamily family.now }
-{
-    family.children.len() <= 256
-        && have_all_values(&family.desc, &family.children)
-        && have_its_numbers(&family.desc, &family.children)
-        && are_children_ordered(&family.children)
-}
-
-/// Whether each of these is a family of a scrape.
-fn are_families(families: &[FamilyScrape]) -> bool
-    ensures { IsTrue result → All IsFamily families.now }
-{
-    for family in families {
-        if !is_family(family) {
-            return false;
-        }
-    }
-    true
-}
-
-/// Whether the name of a family stands before that of another.
-fn is_name_before(a: &FamilyScrape, b: &FamilyScrape) -> bool
-    ensures { IsTrue result → IsBefore a.now.desc.name b.now.desc.name }
-{
-    is_before(a.desc.name().as_str(), b.desc.name().as_str())
-}
-
-/// Whether families stand in strict order of their names.
-fn are_names_ordered(families: &[FamilyScrape]) -> bool
-    ensures { IsTrue result → AllPairs (λ (a b : Family). IsBefore a.desc.name b.desc.name) families.now }
-{
-    for at in 0..families.len() {
-        if at > 0 && !is_name_before(&families[at - 1], &families[at]) {
-            return false;
-        }
-    }
-    true
-}
-
-/// Whether none of the families has a sample's name in common with this one.
-fn are_apart_from(families: &[FamilyScrape], last: &FamilyScrape) -> bool
-    ensures { IsTrue result → All (λ (family : Family). ¬ (Clash family.desc last.now.desc)) families.now }
-{
-    for family in families {
-        if clashes(&family.desc, &last.desc) {
-            return false;
-        }
-    }
-    true
-}
-
-/// Whether no two of the families have a sample's name in common.
-fn are_apart(families: &[FamilyScrape]) -> bool
-    ensures { IsTrue result → AllPairs (λ (a b : Family). ¬ (Clash a.desc b.desc)) families.now }
-{
-    for at in 0..families.len() {
-        if !are_apart_from(&families[..at], &families[at]) {
-            return false;
-        }
-    }
-    true
-}
-
-/// Whether these are the families of a scrape.
-fn is_scrape(families: &[FamilyScrape]) -> bool
-    ensures { IsTrue result → (vector : List ℕ) → IsScrape (record { vector = vector; families = families.now }) }
-{
-    if families.len() > 128 {
-        return false;
-    }
-    if !are_families(families) {
-        return false;
-    }
-    if !are_names_ordered(families) {
-        return false;
-    }
-    are_apart(families)
-}
 
 /// A descriptor of the label `l`: of counters where the number is even, and of gauges where it is odd.
 fn desc(alloc: Global, number: u64) -> Result<Desc, Fail> {
@@ -246,11 +94,10 @@ fn expected_groups(alloc: Global) -> Result<String, Fail> {
 
 /// A scrape of 128 families of 256 children.
 fn most(rt: &impl Abort, alloc: Global) -> Result<Scrape, Fail> {
-    let families = families(alloc)?;
-    if !is_scrape(&families) {
+    let Some(scrape) = Scrape::checked(Vec::new(alloc), families(alloc)?) else {
         panic!(rt; "these are no families of a scrape");
-    }
-    Ok(Scrape::new(Vec::new(alloc), families))
+    };
+    Ok(scrape)
 }
 
 /// Each family has 256 lines of 15 bytes and a value, after one of 20 bytes or, of a gauge, 18. The values have 152,730

@@ -1,8 +1,0 @@
-use Rattle.std.proofs.Common.{take, All}
-use Rattle.metric_desc.specs.Desc.{Clash}
-use Rattle.expo_text.specs.Scraped.{Family}
-use Rattle.expo_text.proofs.tests.limits.are_apart_from.Given as goal
-
--- no family before this place has a sample's name in common with the last one
-abbrev pub invariant-loop-family : goal.invariant-loop-family
-invariant-loop-family l = All (λ (family : Family). ¬ (Clash family.desc l.last.desc)) (take l.family-index l.families)
