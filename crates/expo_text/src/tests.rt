@@ -1,6 +1,7 @@
 ghost use Rattle.std.specs.Prelude.{◌≡◌, [], length, IfOk};
 ghost use Rattle.expo_text.specs.Order.{IsNumberOf};
 
+mod checked;
 mod children;
 mod counters;
 mod gauges;

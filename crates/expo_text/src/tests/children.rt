@@ -10,7 +10,7 @@ use std::alloc::Global;
 use std::sync::Arc;
 use std::test::Fail;
 
-fn values(alloc: Global, method: &str, code: &str) -> Result<Arc<Vec<LabelValue>>, Fail>
+pub(super) fn values(alloc: Global, method: &str, code: &str) -> Result<Arc<Vec<LabelValue>>, Fail>
     ensures { IfOk result (λ values. (arc_value values).items ≡ method.now ∷ code.now ∷ []) }
 {
     let mut values = Vec::new(alloc);
@@ -19,7 +19,7 @@ fn values(alloc: Global, method: &str, code: &str) -> Result<Arc<Vec<LabelValue>
     Ok(Arc::new(alloc, values)?)
 }
 
-fn requests(alloc: Global) -> Result<Desc, Fail>
+pub(super) fn requests(alloc: Global) -> Result<Desc, Fail>
     ensures { IfOk result (λ desc. (length desc.labels ≡ 2) × (desc.kind ≡ Kind.Counter)) }
 {
     let name = MetricName::read(alloc, "http_requests_total")?;

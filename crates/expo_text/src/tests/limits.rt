@@ -2,7 +2,7 @@
 //! many as they may be.
 ghost use Rattle.std.specs.Prelude.{◌≡◌, ◌<◌, sum, IfOk};
 
-use crate::tests::{label, one, prints};
+use crate::tests::{label, one, prints, value};
 use crate::{ChildScrape, FamilyScrape, Number, Scrape};
 use ledger_core::{GaugeTotals, HistTotals};
 use metric_desc::{Desc, Kind};
@@ -115,6 +115,48 @@ fn most_families_and_children(rt: HostRuntime) -> Result<(), Fail> {
     assert!(rt; text.contains("f000{l=\"255\"} 255\n# TYPE f001 gauge\nf001{l=\"000\"} -256\n"));
     assert!(rt; text.ends_with("f127{l=\"255\"} -32767\n"));
     prints(&rt, &scrape, expected.as_bytes())
+}
+
+/// Families without children.
+fn childless(alloc: Global, count: u64) -> Result<Vec<FamilyScrape>, Fail> {
+    let mut families = Vec::new(alloc);
+    for number in 0..count {
+        families.push(FamilyScrape {
+            desc: Arc::new(alloc, desc(alloc, number)?)?,
+            children: Vec::new(alloc),
+        })?;
+    }
+    Ok(families)
+}
+
+#[test]
+fn one_family_too_many(rt: HostRuntime) -> Result<(), Fail> {
+    let most = Scrape::checked(Vec::new(rt.alloc()), childless(rt.alloc(), 128)?);
+    assert!(rt; most.is_some());
+    let more = Scrape::checked(Vec::new(rt.alloc()), childless(rt.alloc(), 129)?);
+    assert!(rt; more.is_none());
+    Ok(())
+}
+
+/// A family of 257 children.
+fn too_long(alloc: Global) -> Result<FamilyScrape, Fail> {
+    let mut children = children(alloc, 0)?;
+    children.push(ChildScrape {
+        values: Arc::new(alloc, value(alloc, "256")?)?,
+        number: number(0, 0),
+    })?;
+    Ok(FamilyScrape {
+        desc: Arc::new(alloc, desc(alloc, 0)?)?,
+        children,
+    })
+}
+
+#[test]
+fn one_child_too_many(rt: HostRuntime) -> Result<(), Fail> {
+    let mut families = Vec::new(rt.alloc());
+    families.push(too_long(rt.alloc())?)?;
+    assert!(rt; Scrape::checked(Vec::new(rt.alloc()), families).is_none());
+    Ok(())
 }
 
 /// A metric name of 128 bytes.
