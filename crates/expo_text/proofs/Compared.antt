@@ -1,9 +1,10 @@
 -- Two lists that are compared element by element.
-use Rattle.std.proofs.Common.{◌≡◌, ℕ, suc, ◌+◌, ◌<◌, min, List, [], ◌∷◌, length, drop, drop-cons, get_or, refl, sym, ap₂, ◌∙◌, arith}
+use Rattle.std.proofs.Common.{◌≡◌, true, false, ℕ, suc, ◌+◌, ◌<◌, min, List, [], ◌∷◌, length, drop, drop-cons, get_or, refl, sym, ap₂, ◌∙◌, arith}
+use mathlib.Core.Bool.{true≢false}
 use Rattle.std.proofs.lemmas.List.{length-drop}
 use Rattle.std.proofs.lemmas.Cmp.{ranked}
 use Rattle.std.specs.Cmp.Lexicographic.{slice_cmp}
-use Rattle.std.specs.Ordering.{MatchOrdering, nat_cmp, ordering_then}
+use Rattle.std.specs.Ordering.{MatchOrdering, is_ne, nat_cmp, ordering_then}
 use Rattle.std.specs.declared.cmp.Ordering.{Ordering}
 use Rattle.std.specs.declared.cmp.Ordering.TheVariants.{Less, Equal, Greater}
 
@@ -15,6 +16,18 @@ compared_first R xs ys i x y in_xs in_ys is_x is_y =
     let at_x : drop i xs ≡ x ∷ drop (i + 1) xs = drop-cons xs i x in_xs ∙ ap₂ (λ z n. z ∷ drop n xs) (sym is_x) next in
     let at_y : drop i ys ≡ y ∷ drop (i + 1) ys = drop-cons ys i y in_ys ∙ ap₂ (λ z n. z ∷ drop n ys) (sym is_y) next in
     ap₂ (slice_cmp R) at_x at_y
+
+-- elements that are not equal decide
+pub decided : (order rest : Ordering) → is_ne order ≡ true → ordering_then order rest ≡ order
+decided Less rest apart = refl
+decided Equal rest apart = absurd (true≢false (sym apart))
+decided Greater rest apart = refl
+
+-- and those that are equal leave it to the rest
+pub deferred : (order rest : Ordering) → is_ne order ≡ false → ordering_then order rest ≡ rest
+deferred Less rest same = absurd (true≢false same)
+deferred Equal rest same = refl
+deferred Greater rest same = absurd (true≢false same)
 
 -- where one of two lists has ended, their lengths decide
 by_lengths : {X : Type 0} (R : X → X → Ordering) (xs ys : List X) (order : Ordering) → min (length xs) (length ys) ≡ 0

@@ -22,10 +22,7 @@ const CHILDREN: usize = 256;
 fn is_before(a: &str, b: &str) -> bool
     ensures { IsTrue result ↔ IsBefore a.now b.now }
 {
-    match a.cmp(b) {
-        Ordering::Less => true,
-        Ordering::Equal | Ordering::Greater => false,
-    }
+    a.cmp(b).is_lt()
 }
 
 /// How label values stand to others: one by one, a beginning before what it begins.
@@ -33,10 +30,9 @@ fn compare(a: &[LabelValue], b: &[LabelValue]) -> Ordering
     ensures { result ≡ slice_cmp (slice_cmp nat_cmp) a.now b.now }
 {
     for at in 0..a.len().min(b.len()) {
-        match a[at].as_str().cmp(b[at].as_str()) {
-            Ordering::Equal => {}
-            Ordering::Less => return Ordering::Less,
-            Ordering::Greater => return Ordering::Greater,
+        let order = a[at].as_str().cmp(b[at].as_str());
+        if order.is_ne() {
+            return order;
         }
     }
     a.len().cmp(&b.len())
@@ -46,10 +42,7 @@ fn compare(a: &[LabelValue], b: &[LabelValue]) -> Ordering
 fn is_child_before(a: &ChildScrape, b: &ChildScrape) -> bool
     ensures { IsTrue result ↔ IsChildBefore a.now b.now }
 {
-    match compare(&a.values, &b.values) {
-        Ordering::Less => true,
-        Ordering::Equal | Ordering::Greater => false,
-    }
+    compare(&a.values, &b.values).is_lt()
 }
 
 /// Whether children stand in strict order.

@@ -1,5 +1,5 @@
 //! Scrapes at their limits: 128 families of 256 children, and a family whose names, texts and bounds are as long and as
-//! many as they may be.
+//! many as they may be. And one family and one child too many.
 ghost use Rattle.std.specs.Prelude.{◌≡◌, ◌<◌, sum, IfOk};
 
 use crate::tests::{label, one, prints, value};

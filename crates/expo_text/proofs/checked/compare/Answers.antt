@@ -2,10 +2,10 @@ use Rattle.std.proofs.Common.{◌≡◌, ◌+◌, ◌<◌, ℕ, List, drop, leng
 use Rattle.std.specs.Ordering.{nat_cmp, ordering_then}
 use Rattle.std.specs.Cmp.Lexicographic.{slice_cmp}
 use Rattle.std.specs.declared.cmp.Ordering.{Ordering}
-use Rattle.expo_text.proofs.Compared.{compared_first, compared_end}
+use Rattle.expo_text.proofs.Compared.{compared_first, compared_end, decided, deferred}
 use Rattle.expo_text.proofs.checked.compare.Goals as goal
 
--- what the first of the values from a place on say, where they stand to each other as `order` says
+-- the values from a place on, where the first of them, as texts, stand to each other as `order` says
 first : (xs ys : List (List ℕ)) (i : ℕ) (x y s t : List ℕ) (order : Ordering) → i < length xs → i < length ys → x ≡ get_or xs i x → y ≡ get_or ys i y → s ≡ x → t ≡ y → order ≡ slice_cmp nat_cmp s t
     → ordering_then order (slice_cmp (slice_cmp nat_cmp) (drop (i + 1) xs) (drop (i + 1) ys)) ≡ slice_cmp (slice_cmp nat_cmp) (drop i xs) (drop i ys)
 first xs ys i x y s t order in_xs in_ys is_x is_y is_s is_t is =
@@ -15,20 +15,19 @@ first xs ys i x y s t order in_xs in_ys is_x is_y is_s is_t is =
 
 pub loop-at-preserved : goal.loop-at-preserved
 loop-at-preserved c =
-    first c.args.a.now c.args.b.now c.loop-at.at c.index-a-at.result c.index-b-at.result c.as_str.result.now c.as_str-in-loop-at.result.now _ (omega arith) (omega arith) c.index-a-at.is c.index-b-at.is c.as_str.ensures.text c.as_str-in-loop-at.ensures.text c.in-Equal.ensures
+    let rest = slice_cmp (slice_cmp nat_cmp) (drop (c.loop-at.at + 1) c.args.a.now) (drop (c.loop-at.at + 1) c.args.b.now) in
+    sym (deferred c.cmp-order.result rest (sym c.is_ne.ensures ∙ c.if-is_ne.false))
+    ∙ first c.args.a.now c.args.b.now c.loop-at.at c.index-a-at.result c.index-b-at.result c.as_str.result.now c.as_str-in-loop-at.result.now c.cmp-order.result (omega arith) (omega arith) c.index-a-at.is c.index-b-at.is c.as_str.ensures.text c.as_str-in-loop-at.ensures.text c.cmp-order.ensures
     ∙ c.loop-at.invariant
 
-pub returns-in-Less : goal.returns-in-Less
-returns-in-Less c =
-    first c.args.a.now c.args.b.now c.loop-at.at c.index-a-at.result c.index-b-at.result c.as_str.result.now c.as_str-in-loop-at.result.now _ (omega arith) (omega arith) c.index-a-at.is c.index-b-at.is c.as_str.ensures.text c.as_str-in-loop-at.ensures.text c.in-Less.ensures
-    ∙ c.loop-at.invariant
-
-pub returns-in-Greater : goal.returns-in-Greater
-returns-in-Greater c =
-    first c.args.a.now c.args.b.now c.loop-at.at c.index-a-at.result c.index-b-at.result c.as_str.result.now c.as_str-in-loop-at.result.now _ (omega arith) (omega arith) c.index-a-at.is c.index-b-at.is c.as_str.ensures.text c.as_str-in-loop-at.ensures.text c.in-Greater.ensures
+pub returns-then-is_ne : goal.returns-then-is_ne
+returns-then-is_ne c =
+    let rest = slice_cmp (slice_cmp nat_cmp) (drop (c.loop-at.at + 1) c.args.a.now) (drop (c.loop-at.at + 1) c.args.b.now) in
+    sym (decided c.cmp-order.result rest (sym c.is_ne.ensures ∙ c.if-is_ne.true))
+    ∙ first c.args.a.now c.args.b.now c.loop-at.at c.index-a-at.result c.index-b-at.result c.as_str.result.now c.as_str-in-loop-at.result.now c.cmp-order.result (omega arith) (omega arith) c.index-a-at.is c.index-b-at.is c.as_str.ensures.text c.as_str-in-loop-at.ensures.text c.cmp-order.ensures
     ∙ c.loop-at.invariant
 
 pub returns : goal.returns
 returns c =
-    compared_end (slice_cmp nat_cmp) c.args.a.now c.args.b.now c.loop-at.at c.cmp-2.result (omega arith) c.cmp-2.ensures
+    compared_end (slice_cmp nat_cmp) c.args.a.now c.args.b.now c.loop-at.at c.cmp.result (omega arith) c.cmp.ensures
     ∙ c.loop-at.invariant
