@@ -1,2 +1,3 @@
 pub mod Seats
 pub mod Made
+pub mod Services

@@ -1,5 +1,8 @@
 //! Why a measurement stops.
 
+use expo_text::WriteFailed;
+use metric_desc::{HistogramFault, LabelsFault};
+use metric_names::{HelpTextFault, LabelNameFault, LabelValueFault, MetricNameFault};
 use register_rule::BoardFault;
 use snapshot_update::{ApplyFault, CountFault};
 use std::alloc::AllocError;
@@ -30,4 +33,28 @@ pub enum Fault {
     /// A scan was given up.
     #[error("a scan was given up")]
     Contended,
+    /// A metric's name is none.
+    #[error("{0}")]
+    Name(#[from] MetricNameFault),
+    /// A help is none.
+    #[error("{0}")]
+    Help(#[from] HelpTextFault),
+    /// A label's name is none.
+    #[error("{0}")]
+    Label(#[from] LabelNameFault),
+    /// A label's value is none.
+    #[error("{0}")]
+    Value(#[from] LabelValueFault),
+    /// The labels are not those of a family.
+    #[error("{0}")]
+    Labels(#[from] LabelsFault),
+    /// There is no descriptor of the histogram.
+    #[error("{0}")]
+    Histogram(#[from] HistogramFault),
+    /// The families are not those of a scrape.
+    #[error("no scrape")]
+    Scrape,
+    /// The writer in memory failed.
+    #[error("{0}")]
+    Write(#[from] WriteFailed),
 }

@@ -1,9 +1,12 @@
-//! The program: `bench ROUNDS` measures updates and scans of the library, and prints one line a measurement.
+//! The program: `bench ROUNDS` measures updates, scans and texts of the library, and prints one line a measurement.
 //!
 //! A line has a measurement's name, the geometry of its board as `N,C,H,G` for `N` workers and rows of `C` counters, `H`
 //! histograms and `G` gauges, the nanoseconds of one operation, and how many times that is what its floor takes. The floor
 //! of an operation is as many sequentially consistent loads and stores of plain atomic numbers as the operation makes,
 //! measured in the same run: [`floors`]. Both are made by turns, in ten batches each, of which the fastest ones count.
+//!
+//! A line of a text has a measurement's name, how many counters and histograms its scrape has, the nanoseconds of one text, and
+//! how many times that is what each of two floors takes: as many bytes copied, and as many numbers formatted: [`text_floors`].
 //!
 //! `bench 0` makes each measurement once, and prints one line that is always the same. Exit status 0 at the end; 2 for other
 //! arguments; 1 where something failed.
@@ -20,13 +23,17 @@ mod plain;
 mod plan;
 mod print;
 mod scans;
+mod service;
 mod setup;
 #[cfg(test)]
 mod tests;
+mod text_floors;
+mod texts;
 
 use fault::Fault;
 use geometry::measure;
 use plan::Plan;
+use service::Service;
 use std::env;
 use std::process::ExitCode;
 use std::rt::Env;
@@ -49,7 +56,23 @@ fn asked(rt: &(impl Env + AllocGlobal)) -> Option<Plan> {
     Plan::of(count)
 }
 
-/// Measures three geometries.
+/// Measures the texts of two scrapes: of 64 counters and 8 histograms of 10 bounds, and of 256 and 32 of 24.
+fn measure_texts(rt: &(impl Clock + Print + AllocGlobal), plan: Plan) -> Result<(), Fault> {
+    let small = Service {
+        counters: 8,
+        histograms: 1,
+        bounds: 10,
+    };
+    let large = Service {
+        counters: 32,
+        histograms: 4,
+        bounds: 24,
+    };
+    texts::measure(rt, plan, small)?;
+    texts::measure(rt, plan, large)
+}
+
+/// Measures three geometries, and the texts of two scrapes.
 fn measure_all(
     rt: &(impl Threads + Clock + Print + AllocGlobal + Sync),
     plan: Plan,
@@ -57,8 +80,9 @@ fn measure_all(
     measure::<4, 64, 8, 0>(rt, plan)?;
     measure::<16, 256, 32, 0>(rt, plan)?;
     measure::<32, 256, 32, 64>(rt, plan)?;
+    measure_texts(rt, plan)?;
     if !plan.shown {
-        println!(rt; "measured 3 geometries")?;
+        println!(rt; "measured 3 geometries and 2 texts")?;
     }
     Ok(())
 }

@@ -4,6 +4,7 @@ ghost use Rattle.std.specs.Prelude.{◌≡◌, ◌+◌, ◌*◌, ◌/◌, ◌<�
 use crate::fault::Fault;
 use crate::measured::Measured;
 use crate::plan::Plan;
+use crate::service::{CHILDREN, Service};
 use std::fmt;
 use std::fmt::{Display, Formatter, Write};
 
@@ -42,5 +43,27 @@ pub fn line<const N: usize, const C: usize, const H: usize, const G: usize>(
     let each = in_tenths(measured.taken, measured.rounds);
     let ratio = in_tenths(measured.taken, measured.floor.max(1));
     println!(rt; "{name} {N},{C},{H},{G} {each} {ratio}")?;
+    Ok(())
+}
+
+/// Prints the line of a measurement of texts, if the plan shows it: with how many counters and histograms the scrape has,
+/// and with a ratio to each floor.
+pub fn text_line(
+    rt: &impl Print,
+    plan: Plan,
+    name: &str,
+    service: Service,
+    by_copies: Measured,
+    by_formats: Measured,
+) -> Result<(), Fault> {
+    if !plan.shown {
+        return Ok(());
+    }
+    let counters = CHILDREN * service.counters;
+    let histograms = CHILDREN * service.histograms;
+    let each = in_tenths(by_copies.taken, by_copies.rounds);
+    let copies = in_tenths(by_copies.taken, by_copies.floor.max(1));
+    let formats = in_tenths(by_formats.taken, by_formats.floor.max(1));
+    println!(rt; "{name} {counters},{histograms} {each} {copies} {formats}")?;
     Ok(())
 }
