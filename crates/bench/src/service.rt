@@ -142,7 +142,7 @@ fn counter_desc(alloc: Global, family: u64) -> Result<Desc, Fault>
     ensures { IfOk result (λ desc. (desc.kind ≡ Kind.Counter) × (desc.bounds ≡ [])) }
 {
     let name = format!(in alloc; "requests_{family:02}_total")?;
-    let help = format!(in alloc; "Requests that part {family:02} has answered.")?;
+    let help = format!(in alloc; "Requests answered so far by service part {family:02}.")?;
     let (name, help) = named(alloc, name.as_str(), help.as_str())?;
     Ok(Desc::counter(name, help, labels(alloc)?)?)
 }
@@ -153,7 +153,7 @@ fn histogram_desc(alloc: Global, family: u64, bounds: usize) -> Result<Desc, Fau
     ensures { IfOk result (λ desc. (desc.kind ≡ Kind.Histogram) × (length desc.bounds ≡ bounds)) }
 {
     let name = format!(in alloc; "response_{family:02}_micros")?;
-    let help = format!(in alloc; "Microseconds that part {family:02} took.")?;
+    let help = format!(in alloc; "Microseconds taken by answers of part {family:02}.")?;
     let (name, help) = named(alloc, name.as_str(), help.as_str())?;
     Ok(Desc::histogram(name, help, labels(alloc)?, &BOUNDS[..bounds])?)
 }

@@ -1,5 +1,9 @@
 use crate::plan::Plan;
 use crate::print::{Tenths, in_tenths};
+use crate::service::{Service, number, scrape_of};
+use crate::text_floors::plain_of;
+use expo_text::render;
+use std::alloc::Global;
 use std::test::Fail;
 
 #[test]
@@ -37,5 +41,64 @@ fn plans(rt: HostRuntime) -> Result<(), Fail> {
     assert_eq!(rt; (many.rounds, many.shown), (1_000_000_000, true));
     assert_eq!(rt; many.one_in(100), 10_000_000);
     assert!(rt; Plan::of(1_000_000_001).is_none());
+    Ok(())
+}
+
+#[test]
+fn numbers_of_4_to_9_digits(rt: HostRuntime) {
+    assert_eq!(rt; number(0), 1_009);
+    assert_eq!(rt; number(1), 11_440);
+    assert_eq!(rt; number(2), 108_171);
+    assert_eq!(rt; number(3), 1_111_918);
+    assert_eq!(rt; number(4), 11_337_931);
+    assert_eq!(rt; number(5), 116_403_492);
+    assert_eq!(rt; number(256), 10_097_063);
+}
+
+/// The text of a service's scrape.
+fn text_of(alloc: Global, service: Service) -> Result<Vec<u8>, Fail> {
+    let scrape = scrape_of(alloc, service)?;
+    Ok(render(&scrape)?)
+}
+
+#[test]
+fn shows_counters_and_then_histograms(rt: HostRuntime) -> Result<(), Fail> {
+    let service = Service {
+        counters: 1,
+        histograms: 1,
+        bounds: 1,
+    };
+    let text = text_of(rt.alloc(), service)?;
+    let text = text.as_slice();
+    let head =
+        b"# HELP requests_00_total Requests answered so far by service part 00.\n# TYPE requests_00_total counter\nrequests_00_total{handler=\"/api/v1/0\"} 1009\nrequests_00_total{handler=\"/api/v1/1\"} 11440\n";
+    let end =
+        b"response_00_micros_bucket{handler=\"/api/v1/7\",le=\"5\"} 1134\nresponse_00_micros_bucket{handler=\"/api/v1/7\",le=\"+Inf\"} 3403\nresponse_00_micros_sum{handler=\"/api/v1/7\"} 13486\nresponse_00_micros_count{handler=\"/api/v1/7\"} 3403\n";
+    assert!(rt; text.starts_with(head));
+    assert!(rt; text.ends_with(end));
+    Ok(())
+}
+
+/// How many lines the floors take the text of a service's scrape to have.
+fn lines_of(alloc: Global, service: Service) -> Result<usize, Fail> {
+    let plain = plain_of(alloc, text_of(alloc, service)?)?;
+    Ok(plain.numbers.len())
+}
+
+/// Each family has 2 lines before its samples, each counter 1 line, and each histogram one for each bound and 3 more.
+#[test]
+fn formats_a_number_for_each_line(rt: HostRuntime) -> Result<(), Fail> {
+    let small = Service {
+        counters: 8,
+        histograms: 1,
+        bounds: 10,
+    };
+    let large = Service {
+        counters: 32,
+        histograms: 4,
+        bounds: 24,
+    };
+    assert_eq!(rt; lines_of(rt.alloc(), small)?, 9 * 2 + 64 + 8 * 13);
+    assert_eq!(rt; lines_of(rt.alloc(), large)?, 36 * 2 + 256 + 32 * 27);
     Ok(())
 }
