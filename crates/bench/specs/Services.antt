@@ -4,9 +4,10 @@ use Rattle.metric_desc.specs.declared.kind.Kind.{Kind}
 use Rattle.metric_desc.specs.declared.kind.Kind.TheVariants.{Counter, Histogram}
 use Rattle.expo_text.specs.Scraped.{Family}
 
--- a family of eight children, of a kind, with b bounds
+-- a family of eight children, of a kind, with one label and b bounds
 pub record IsFamilyOf (k : Kind) (b : ℕ) (family : Family) : Type 0 where
   pub kind : family.desc.kind ≡ k
+  pub labels : length family.desc.labels ≡ 1
   pub bounds : length family.desc.bounds ≡ b
   pub children : length family.children ≡ 8
 

@@ -126,7 +126,9 @@ fn children(alloc: Global, family: u64, bounds: Option<usize>) -> Result<Vec<Chi
 }
 
 /// The label of each family.
-fn labels(alloc: Global) -> Result<Vec<LabelName>, Fault> {
+fn labels(alloc: Global) -> Result<Vec<LabelName>, Fault>
+    ensures { IfOk result (λ labels. length labels.items ≡ 1) }
+{
     let mut labels = Vec::new(alloc);
     labels.push(LabelName::read(alloc, "handler")?)?;
     Ok(labels)
@@ -139,7 +141,8 @@ fn named(alloc: Global, name: &str, help: &str) -> Result<(MetricName, HelpText)
 
 /// The descriptor of the family of counters at a place.
 fn counter_desc(alloc: Global, family: u64) -> Result<Desc, Fault>
-    ensures { IfOk result (λ desc. (desc.kind ≡ Kind.Counter) × (desc.bounds ≡ [])) }
+    ensures kind { IfOk result (λ desc. (desc.kind ≡ Kind.Counter) × (desc.bounds ≡ [])) }
+    ensures labels { IfOk result (λ desc. length desc.labels ≡ 1) }
 {
     let name = format!(in alloc; "requests_{family:02}_total")?;
     let help = format!(in alloc; "Requests answered so far by service part {family:02}.")?;
@@ -150,7 +153,8 @@ fn counter_desc(alloc: Global, family: u64) -> Result<Desc, Fault>
 /// The descriptor of the family of histograms at a place.
 fn histogram_desc(alloc: Global, family: u64, bounds: usize) -> Result<Desc, Fault>
     requires { bounds ≤ 24 }
-    ensures { IfOk result (λ desc. (desc.kind ≡ Kind.Histogram) × (length desc.bounds ≡ bounds)) }
+    ensures kind { IfOk result (λ desc. (desc.kind ≡ Kind.Histogram) × (length desc.bounds ≡ bounds)) }
+    ensures labels { IfOk result (λ desc. length desc.labels ≡ 1) }
 {
     let name = format!(in alloc; "response_{family:02}_micros")?;
     let help = format!(in alloc; "Microseconds taken by answers of part {family:02}.")?;

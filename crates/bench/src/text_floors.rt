@@ -2,7 +2,7 @@
 //! text has lines.
 //!
 //! What each round made goes to an atomic number, so that no compiler leaves a round out.
-ghost use Rattle.std.specs.Prelude.{◌≡◌, ◌+◌, ◌<◌, ◌≤◌, ◌++◌, length, take, IfOk};
+ghost use Rattle.std.specs.Prelude.{◌≡◌, ◌+◌, ◌/◌, ◌<◌, ◌≤◌, ◌==◌, ◌++◌, length, take, max, count_by, IfOk};
 
 use crate::clock::nanos_since;
 use crate::fault::Fault;
@@ -25,7 +25,9 @@ pub struct Plain {
 }
 
 /// How many lines a text has.
-fn count_lines(text: &[u8]) -> usize {
+fn count_lines(text: &[u8]) -> usize
+    ensures { result ≡ count_by (λ byte. byte == 10) text.now }
+{
     text.iter().filter(|byte| **byte == b'\n').count()
 }
 
@@ -42,7 +44,9 @@ fn numbers(alloc: Global, count: usize) -> Result<Vec<u64>, AllocError>
 
 /// What the floors of this text work on.
 pub fn plain_of(alloc: Global, text: Vec<u8>) -> Result<Plain, AllocError>
-    ensures { IfOk result (λ plain. plain.bytes ≡ text) }
+    ensures text { IfOk result (λ plain. plain.bytes ≡ text) }
+    ensures lines { IfOk result (λ plain. length plain.numbers.items ≡ count_by (λ byte. byte == 10) text.items) }
+    ensures piece { IfOk result (λ plain. plain.piece ≡ max (length text.items / max (length plain.numbers.items) 1) 1) }
 {
     let lines = count_lines(text.as_slice());
     let piece = (text.len() / lines.max(1)).max(1);
