@@ -19,6 +19,7 @@ mod fault;
 mod floors;
 mod geometry;
 mod measured;
+mod numbers;
 mod plain;
 mod plan;
 mod print;
@@ -27,6 +28,7 @@ mod service;
 mod setup;
 #[cfg(test)]
 mod tests;
+mod text_batches;
 mod text_floors;
 mod texts;
 

@@ -3,11 +3,11 @@ ghost use Rattle.std.specs.Prelude.{◌≡◌, ◌<◌, ◌≤◌, [], length, I
 ghost use Rattle.bench.specs.Services.{IsFamilyOf, IsService};
 
 use crate::fault::Fault;
-use expo_text::{ChildScrape, FamilyScrape, Number, Scrape};
-use ledger_core::HistTotals;
+use crate::numbers::shown;
+use expo_text::{ChildScrape, FamilyScrape, Scrape};
 use metric_desc::{Desc, Kind};
 use metric_names::{HelpText, LabelName, LabelValue, MetricName};
-use std::alloc::{AllocError, Global};
+use std::alloc::Global;
 use std::sync::Arc;
 
 /// How many children each family has.
@@ -55,58 +55,12 @@ pub struct Service {
     ghost few_bounds: { bounds ≤ 24 },
 }
 
-/// The number at a place, of 4 to 9 digits.
-pub fn number(place: u64) -> u64
-    ensures least { 1000 ≤ result }
-    ensures most { result < 1000000000 }
-{
-    let small = 1_009 + 31 * (place % 256);
-    match place % 6 {
-        0 => small,
-        1 => 11 * small,
-        2 => 101 * small,
-        3 => 1_009 * small,
-        4 => 10_007 * small,
-        _ => 100_003 * small,
-    }
-}
-
-/// What a histogram of so many bounds shows. Its cumulated buckets are of 4 to 9 digits.
-fn totals(place: u64, bounds: usize) -> HistTotals
-    requires place { place < 1000000 }
-    requires bounds { bounds ≤ 24 }
-{
-    let mut buckets = [0; 25];
-    let mut count = 0;
-    for at in 0..bounds + 1 {
-        let held = 1_000 + number(place + at as u64) / 100;
-        buckets[at] = held;
-        count += held;
-    }
-    HistTotals {
-        buckets,
-        sum: number(place),
-        count,
-    }
-}
-
 /// The values of a child's labels.
 fn values(alloc: Global, child: u64) -> Result<Arc<Vec<LabelValue>>, Fault> {
     let value = format!(in alloc; "/api/v1/{child}")?;
     let mut values = Vec::new(alloc);
     values.push(LabelValue::read(alloc, value.as_str())?)?;
     Ok(Arc::new(alloc, values)?)
-}
-
-/// What the child of a family shows: of a histogram with bounds its totals, and else a counter's total.
-fn shown(place: u64, bounds: Option<usize>) -> Number
-    requires place { place < 1000000 }
-    requires bounds { IfSome bounds (λ n. n ≤ 24) }
-{
-    match bounds {
-        Some(bounds) => Number::Histogram(totals(place, bounds)),
-        None => Number::Counter(number(place)),
-    }
 }
 
 /// The children of the family at a place.

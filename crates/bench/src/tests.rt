@@ -1,6 +1,7 @@
+use crate::numbers::number;
 use crate::plan::Plan;
 use crate::print::{Tenths, in_tenths};
-use crate::service::{Service, number, scrape_of};
+use crate::service::{Service, scrape_of};
 use crate::text_floors::plain_of;
 use expo_text::render;
 use std::alloc::Global;

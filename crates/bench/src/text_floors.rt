@@ -6,7 +6,7 @@ ghost use Rattle.std.specs.Prelude.{◌≡◌, ◌+◌, ◌/◌, ◌<◌, ◌≤
 
 use crate::clock::nanos_since;
 use crate::fault::Fault;
-use crate::service::number;
+use crate::numbers::number;
 use itoa::Buffer;
 use std::alloc::{AllocError, Global};
 use std::sync::atomic::{AtomicU64, Ordering};

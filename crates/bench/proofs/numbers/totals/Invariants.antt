@@ -1,5 +1,5 @@
 use Rattle.std.proofs.Common.{◌≤◌, ◌*◌}
-use Rattle.bench.proofs.service.totals.Given as goal
+use Rattle.bench.proofs.numbers.totals.Given as goal
 
 abbrev pub invariant-loop-at : goal.invariant-loop-at
 invariant-loop-at l = l.count ≤ l.at * 10001000
