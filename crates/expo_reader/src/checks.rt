@@ -295,20 +295,21 @@ fn is_lower(a: Option<u64>, b: Option<u64>) -> bool
     }
 }
 
-/// Whether the bound of a bucket may be lower than that of another.
-fn may_be_lower(name: &Word, a: &FoundSample, b: &FoundSample) -> bool
-    ensures { result ≡ false → (x y : Option ℕ) → IsBucket name.now x a.now → IsBucket name.now y b.now → ¬ (IsLower x y) }
+/// Whether the bound of a bucket is above that of another; false also where one of them is no bucket with a bound that is read.
+fn is_above(name: &Word, a: &FoundSample, b: &FoundSample) -> bool
+    ensures { IsTrue result → (x y : Option ℕ) → IsBucket name.now x a.now → IsBucket name.now y b.now → IsLower y x }
 {
     let Some(x) = bound_of(name, a) else {
-        return true;
+        return false;
     };
     let Some(y) = bound_of(name, b) else {
-        return true;
+        return false;
     };
-    is_lower(x, y)
+    is_lower(y, x)
 }
 
-/// Whether, where two samples are buckets of one child, and the first one's bound is lower, its value is not higher.
+/// Whether, where two samples are buckets of one child, and the first one's bound is not above the other's, its value is
+/// not higher.
 fn is_no_higher(name: &Word, a: &FoundSample, b: &FoundSample) -> bool
     ensures { IsTrue result → IsNoHigher name.now a.now b.now }
 {
@@ -321,7 +322,7 @@ fn is_no_higher(name: &Word, a: &FoundSample, b: &FoundSample) -> bool
     if !is_same_others(&a.labels, &b.labels) {
         return true;
     }
-    !may_be_lower(name, a, b)
+    is_above(name, a, b)
 }
 
 /// Whether a bucket is in order with each of these of its child.
@@ -336,7 +337,7 @@ fn is_in_order(name: &Word, samples: &[FoundSample], b: &FoundSample) -> bool
     true
 }
 
-/// Whether the values of the buckets of a child rise with their bounds.
+/// Whether the values of the buckets of a child rise with their bounds, and are equal where their bounds are.
 fn are_rising(name: &Word, samples: &[FoundSample]) -> bool
     ensures { IsTrue result → AllPairs (λ (a b : Sample). IsNoHigher name.now a b × IsNoHigher name.now b a) samples.now }
 {

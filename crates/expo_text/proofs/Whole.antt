@@ -84,7 +84,7 @@ no_bound desc own value none (Some m) is =
 lower_than : (x y a b : Option ℕ) → x ≡ a → y ≡ b → IsLower x y → IsLower a b
 lower_than x y a b e f lower = subst (λ z. IsLower z b) e (subst (IsLower x) f lower)
 
--- where both are buckets of one child, the one of the lower bound has no higher value
+-- where both are buckets of one child, one whose bound is not above the other's has no higher value
 abbrev pub Rises : (name : List ℕ) → Sample → Sample → Type 0
 Rises name a b = IsNoHigher name a b × IsNoHigher name b a
 
@@ -112,11 +112,10 @@ module _ (desc : Descriptor) (own : List (List ℕ × List ℕ)) (totals : HistT
       let le = cumulated-le totals.buckets (length desc.bounds) j k lt within in
       let rises = are.rising j k 0 lt within in (
         λ x y _ _ _ _. omega (arith, ints, le),
-        λ x y is_x is_y _ lower. absurd (
-            let other : bound k < bound j = lower_than x y (Some (bound k)) (Some (bound j))
-            (bound_is desc own (bound k) (value k) none (bound_small desc own are none k within) x is_x)
-            (bound_is desc own (bound j) (value j) none (bound_small desc own are none j (omega (arith, lt, within))) y is_y) lower in
-            omega (arith, rises, other)),
+        λ x y is_x is_y _ no_lower. absurd (
+            no_lower (lower_than (Some (bound j)) (Some (bound k)) y x
+            (sym (bound_is desc own (bound j) (value j) none (bound_small desc own are none j (omega (arith, lt, within))) y is_y))
+            (sym (bound_is desc own (bound k) (value k) none (bound_small desc own are none k within) x is_x)) rises)),
       )
 
   -- a bucket and the last three samples
@@ -125,7 +124,9 @@ module _ (desc : Descriptor) (own : List (List ℕ × List ℕ)) (totals : HistT
   last_rise k within = (
     (
       λ x y _ _ _ _. let le = cumulated-le_sum totals.buckets (length desc.bounds) k in omega (arith, ints, le),
-      λ x y is_x is_y _ lower. absurd (lower_than x y None (Some (bound k)) (no_bound desc own (sum totals.buckets) none x is_x) (bound_is desc own (bound k) (value k) none (bound_small desc own are none k within) y is_y) lower),
+      λ x y is_x is_y _ no_lower. absurd (
+          no_lower (lower_than (Some (bound k)) None y x
+          (sym (bound_is desc own (bound k) (value k) none (bound_small desc own are none k within) y is_y)) (sym (no_bound desc own (sum totals.buckets) none x is_x)) tt)),
     ),
     (
       (λ x y _ is_y _ _. absurd (no_sum desc own (pos totals.sum) y is_y), λ x y is_x _ _ _. absurd (no_sum desc own (pos totals.sum) x is_x)),

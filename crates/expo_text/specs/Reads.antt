@@ -102,9 +102,9 @@ IsOfHistogram name sample =
     ((bound : Option ℕ) × IsBucket name bound sample)
     ⊎ (((sample.name ≡ name ++ codes "_sum") ⊎ (sample.name ≡ name ++ codes "_count")) × ((token : List ℕ) → ¬ (Contains sample.labels (codes "le", token))))
 
--- where both are buckets of one child, and the first one's bound is lower, its value is not higher
+-- where both are buckets of one child, and the first one's bound is not above the other's, its value is not higher
 abbrev pub IsNoHigher : (name : List ℕ) → Sample → Sample → Type 0
-IsNoHigher name a b = (x y : Option ℕ) → IsBucket name x a → IsBucket name y b → IsOfOneChild a b → IsLower x y → a.value ≤ℤ b.value
+IsNoHigher name a b = (x y : Option ℕ) → IsBucket name x a → IsBucket name y b → IsOfOneChild a b → ¬ (IsLower y x) → a.value ≤ℤ b.value
 
 -- the child of a sample has a bucket `+Inf` and a count, and the two are equal
 pub record IsWhole (group : Group) (sample : Sample) : Type 0 where

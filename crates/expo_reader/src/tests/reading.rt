@@ -225,6 +225,34 @@ fn bounds(rt: HostRuntime) -> Result<(), Fail> {
     Ok(())
 }
 
+// A histogram whose bucket of the bound 1 is written twice.
+#[test]
+fn one_bound_has_one_value(rt: HostRuntime) -> Result<(), Fail> {
+    let alloc = rt.alloc();
+    let all = b"h_bucket{le=\"+Inf\"} 3\n";
+    assert!(rt;
+        buckets(
+            alloc,
+            &joined(alloc, b"h_bucket{le=\"1\"} 2\nh_bucket{le=\"01\"} 2\n", all)?
+        )?
+    );
+    assert!(rt;
+        !buckets(
+            alloc,
+            &joined(alloc, b"h_bucket{le=\"1\"} 2\nh_bucket{le=\"01\"} 1\n", all)?
+        )?,
+        "falls"
+    );
+    assert!(rt;
+        !buckets(
+            alloc,
+            &joined(alloc, b"h_bucket{le=\"1\"} 1\nh_bucket{le=\"01\"} 2\n", all)?
+        )?,
+        "rises"
+    );
+    Ok(())
+}
+
 #[test]
 fn labels_in_any_order(rt: HostRuntime) -> Result<(), Fail> {
     let alloc = rt.alloc();
