@@ -72,22 +72,21 @@ http_request_duration_seconds_count 144320
 
 // The groups of [`EXAMPLE`].
 fn expect_example(rt: &impl Abort, groups: &[Found]) {
-    assert_eq!(rt; groups.len(), 4);
+    let [first, second, third, fourth] = groups else {
+        panic!(rt; "four groups");
+    };
+    assert_eq!(rt; first.name.as_bytes(), b"http_requests_total".as_slice());
     assert_eq!(rt;
-        groups[0].name.as_bytes(),
-        b"http_requests_total".as_slice()
-    );
-    assert_eq!(rt;
-        groups[0].help.as_bytes(),
+        first.help.as_bytes(),
         b"The total number of HTTP requests.".as_slice()
     );
-    assert_eq!(rt; groups[0].kind, Kind::Counter);
-    expect_values(rt, &groups[0], &[1027, 3]);
-    expect_values(rt, &groups[1], &[1458255915]);
-    assert_eq!(rt; groups[2].kind, Kind::Gauge);
-    expect_values(rt, &groups[2], &[-12]);
-    assert_eq!(rt; groups[3].kind, Kind::Histogram);
-    expect_values(rt, &groups[3], &[24054, 33444, 144320, 53423, 144320]);
+    assert_eq!(rt; first.kind, Kind::Counter);
+    expect_values(rt, first, &[1027, 3]);
+    expect_values(rt, second, &[1458255915]);
+    assert_eq!(rt; third.kind, Kind::Gauge);
+    expect_values(rt, third, &[-12]);
+    assert_eq!(rt; fourth.kind, Kind::Histogram);
+    expect_values(rt, fourth, &[24054, 33444, 144320, 53423, 144320]);
 }
 
 // The labels of the second group of [`EXAMPLE`].

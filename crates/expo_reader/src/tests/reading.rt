@@ -27,12 +27,14 @@ fn read(rt: HostRuntime) -> Result<(), Fail> {
 
 // The groups of the text that `found` reads.
 fn expect_found(rt: &impl Abort, groups: &[Found]) {
-    assert_eq!(rt; groups.len(), 1);
-    assert_eq!(rt; groups[0].name.as_bytes(), b"a".as_slice());
-    assert_eq!(rt; groups[0].help.as_bytes(), b"a\\b\nc".as_slice());
-    assert_eq!(rt; groups[0].kind, Kind::Counter);
-    expect_values(rt, &groups[0], &[5]);
-    expect_first_labels(rt, &groups[0], &[(b"l", b"\"\n\\")]);
+    let [group] = groups else {
+        panic!(rt; "one group");
+    };
+    assert_eq!(rt; group.name.as_bytes(), b"a".as_slice());
+    assert_eq!(rt; group.help.as_bytes(), b"a\\b\nc".as_slice());
+    assert_eq!(rt; group.kind, Kind::Counter);
+    expect_values(rt, group, &[5]);
+    expect_first_labels(rt, group, &[(b"l", b"\"\n\\")]);
 }
 
 #[test]
