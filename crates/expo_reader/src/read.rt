@@ -13,8 +13,9 @@ use std::alloc::Global;
 ///
 /// Plain and slow: its time grows with the square of the number of samples, and with that of the number of labels of a
 /// sample. It is meant for tests. What it accepts has one reading, and the groups are that one. It wants a type for
-/// each group and whole numbers below 2^64, of which a gauge's may have a minus; no label name is longer than 128
-/// bytes, and timestamps are none of this format.
+/// each group and whole numbers below 2^64, of which a gauge's may have a minus; no name is longer than 128 bytes, no
+/// label's name begins with `__`, and timestamps are none of this format. It takes bytes that are not UTF-8 in helps and
+/// label values, and buckets of a child in any order of their lines.
 ///
 /// Refusal 6 [`NoMemory`], and no other. Source: Prometheus documentation, "Exposition formats", "Text-based format".
 #[tactic(auto, using(crate::proofs::ReadSoFar::reads_from))]

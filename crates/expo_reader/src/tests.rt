@@ -1,3 +1,4 @@
+mod accepted;
 mod format;
 mod limits;
 mod reading;
