@@ -36,8 +36,8 @@ impl Sink for Page {
     ghost chain = { λ a b c xs ys. fills-chain a.bytes.items b.bytes.items c.bytes.items a.filled b.filled c.filled xs ys };
 }
 
-/// The text of a scrape, in memory that is taken once. It is read back as the groups that the scrape prints, and as no
-/// others.
+/// The text of a scrape, in memory that the code takes once, at the text's length. It is read back as the groups that the
+/// scrape prints, and as no others.
 ///
 /// Refusal 6 [`NoMemory`], and no other. Source: Prometheus documentation, "Exposition formats",
 /// "Text format details".

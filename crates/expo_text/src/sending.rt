@@ -59,7 +59,7 @@ fn send_piece<W: Write>(out: &mut Watched<W>, piece: &[u8]) -> usize
     done
 }
 
-/// Sends bytes to a writer. Takes no memory, and does not flush.
+/// Sends bytes to a writer. Takes no memory, and does not flush. The writer has not failed before.
 ///
 /// Refusal 25 [`WriteFailed`] the first time that the writer has failed, and no other.
 pub fn send<W: Write>(bytes: &[u8], out: &mut Watched<W>) -> Result<(), WriteFailed>
@@ -160,8 +160,8 @@ impl<W: Write> Sink for Sending<'_, W> {
     ghost chain = { λ a b c xs ys first second. (second.0 ∙ first.0, sends-chain _ _ _ xs ys first.1 second.1) };
 }
 
-/// Sends bytes and then the text of a scrape to a writer, in pieces of at most 4,096 bytes. Takes no memory, and does not
-/// flush.
+/// Sends bytes, which are at most 4,096, and then the text of a scrape to a writer, in pieces of at most 4,096 bytes. Takes
+/// no memory, and does not flush. The writer has not failed before.
 ///
 /// Refusal 25 [`WriteFailed`] the first time that the writer has failed, and no other.
 pub fn write_after<W: Write>(
@@ -190,7 +190,8 @@ pub fn write_after<W: Write>(
     Ok(())
 }
 
-/// Sends the text of a scrape to a writer, in pieces of at most 4,096 bytes. Takes no memory, and does not flush.
+/// Sends the text of a scrape to a writer, in pieces of at most 4,096 bytes. Takes no memory, and does not flush. The writer
+/// has not failed before.
 ///
 /// Refusal 25 [`WriteFailed`] the first time that the writer has failed, and no other. Source: Prometheus documentation,
 /// "Exposition formats", "Text format details".
