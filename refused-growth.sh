@@ -53,7 +53,7 @@ refuse_in_tests() {
 }
 
 refuse_in_tests expo_text 1 14
-refuse_in_tests expo_reader 1 12
+refuse_in_tests expo_reader 1 16
 refuse_in_tests register_rule 1 5
 refuse_in_tests snapshot_core 1 24
 refuse_in_tests snapshot_scan 1 16
