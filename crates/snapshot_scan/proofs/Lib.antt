@@ -14,3 +14,4 @@ pub mod Lends
 pub mod Standing
 pub mod Gathered
 pub mod Comparing
+pub mod Sourced

@@ -69,14 +69,14 @@ module _ (c h g : ℕ) where
 -- an answer that a member of a board of n workers recorded
 module _ (n c h g : ℕ) (few : n ≤ 32) (ms : List Member) (ruled : AreRuled n (width c h g) (sum_ops c h) (Accepts c h g) ms)
     (p q : ℕ) (m : Member) (a : Entry) (sits : get_elem? ms p ≡ some m) (records : get_elem? m.scan.recorded q ≡ some a) where
-  entry : IsEntry n (width c h g) (sum_ops c h) ruled.made ruled.history a
+  pub entry : IsEntry n (width c h g) (sum_ops c h) ruled.made ruled.history a
   entry = ((ruled.scans p m sits).recorded q a records).0
 
   -- it has a number for each worker
   pub numbers_long : length a.vector ≡ n
   numbers_long = ap length entry.moment.2 ∙ length_tab 0 n _
 
-  sum_at : (k : ℕ) → k < width c h g → slice_index a.totals k ≡ row_sum (sum_ops c h) ruled.made 0 a.vector k
+  pub sum_at : (k : ℕ) → k < width c h g → slice_index a.totals k ≡ row_sum (sum_ops c h) ruled.made 0 a.vector k
   sum_at k lt = read_at a.totals k _ 0 (entry.sums k lt)
 
   -- each of its totals is below 2^53

@@ -9,3 +9,6 @@ pub mod Snapshots
 pub mod Readers
 pub mod Lent
 pub mod Order
+pub mod Sources
+pub mod PlainNumber
+pub mod Plain

@@ -141,7 +141,10 @@ impl Kept {
 }
 
 /// Makes these the words of the row.
-fn copy_words<const C: usize, const H: usize, const G: usize>(words: &mut [u64], row: &Row<C, H, G>)
+pub(crate) fn copy_words<const C: usize, const H: usize, const G: usize>(
+    words: &mut [u64],
+    row: &Row<C, H, G>,
+)
     requires { length words.old ≡ width C H G }
     ensures words { words.new ≡ row.now }
     ensures low { (k : ℕ) → k < width C H G → slice_index words.new k ≤ greatest_word }

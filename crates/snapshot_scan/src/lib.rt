@@ -20,13 +20,19 @@ mod memory;
 mod no_room;
 mod ordering;
 mod own_row;
+mod plain;
+mod plain_calls;
+mod plain_fault;
 mod reader;
 mod reading;
+mod recording;
 mod remembering;
+mod scanner;
 mod scans;
 mod snapshot;
 #[cfg(test)]
 mod snapshot_tests;
+mod source;
 #[cfg(test)]
 mod tests;
 
@@ -35,5 +41,9 @@ pub use ending::Ended;
 pub use memory::Memory;
 pub use no_room::NoRoom;
 pub use ordering::order;
+pub use plain::PlainSource;
+pub use plain_fault::PlainFault;
 pub use reader::Reader;
+pub use scanner::Scanner;
 pub use snapshot::Snapshot;
+pub use source::Source;

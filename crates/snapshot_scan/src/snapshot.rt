@@ -1,10 +1,12 @@
 //! What a scan gives its caller.
-ghost use Rattle.std.specs.Prelude.{◌≡◌, ℕ, ◌+◌, ◌*◌, ◌<◌, ◌-ℤ◌, pos, length, take, drop, slice_index, replicate, IfOk, All};
+ghost use Rattle.std.specs.Prelude.{◌≡◌, ℕ, ◌+◌, ◌*◌, ◌<◌, ◌-ℤ◌, pos, length, take, drop, slice_index, replicate, sum, IfOk, All, ◌∷◌, []};
 ghost use Rattle.ledger_core.specs.Ops.{width};
+ghost use Rattle.ledger_core.specs.Legal.{IsLegal};
 ghost use Rattle.segment_layout.specs.Layout.{IsGeometry};
 ghost use Rattle.snapshot_scan.specs.Snapshots.{AreLow};
 
-use ledger_core::HistTotals;
+use crate::kept::copy_words;
+use ledger_core::{GaugeTotals, HistTotals, Row};
 use std::alloc::{AllocError, Global};
 use std::marker::Model;
 
@@ -23,8 +25,8 @@ const GAUGE_WORDS: usize = 2;
 /// Contracts see it as these two lists.
 #[derive(Drop)]
 pub struct Snapshot<const N: usize, const C: usize, const H: usize, const G: usize> {
-    vector: Vec<u64>,
-    totals: Vec<u64>,
+    pub(crate) vector: Vec<u64>,
+    pub(crate) totals: Vec<u64>,
 }
 
 impl<const N: usize, const C: usize, const H: usize, const G: usize> Model
@@ -78,6 +80,7 @@ impl<const N: usize, const C: usize, const H: usize, const G: usize> Snapshot<N,
         ensures sum { result.sum ≡ slice_index self.now.totals (C + 27 * slot + 25) }
         ensures count { result.count ≡ slice_index self.now.totals (C + 27 * slot + 26) }
         ensures low { All (λ bucket. bucket < 9007199254740992) result.buckets × (result.sum < 9007199254740992) × (result.count < 9007199254740992) }
+        ensures legal { IsLegal C H (slice_index self.now.totals) → result.count ≡ sum result.buckets }
     {
         let totals = self.totals.as_slice();
         let first = C + HIST_WORDS * slot;
@@ -87,6 +90,21 @@ impl<const N: usize, const C: usize, const H: usize, const G: usize> Snapshot<N,
             buckets,
             sum: totals[first + BUCKETS],
             count: totals[first + BUCKETS + 1],
+        }
+    }
+
+    /// The totals of a gauge: its ups and its downs.
+    pub fn gauge_totals(&self, slot: usize) -> GaugeTotals
+        requires { slot < G }
+        ensures up { result.up ≡ slice_index self.now.totals (C + 27 * H + 2 * slot) }
+        ensures down { result.down ≡ slice_index self.now.totals (C + 27 * H + 2 * slot + 1) }
+        ensures low { (result.up < 9007199254740992) × (result.down < 9007199254740992) }
+    {
+        let totals = self.totals.as_slice();
+        let first = C + HIST_WORDS * H + GAUGE_WORDS * slot;
+        GaugeTotals {
+            up: totals[first],
+            down: totals[first + 1],
         }
     }
 
@@ -110,5 +128,15 @@ impl<const N: usize, const C: usize, const H: usize, const G: usize> Snapshot<N,
     {
         self.vector.as_mut_slice().copy_from_slice(vector);
         self.totals.as_mut_slice().copy_from_slice(totals);
+    }
+
+    /// Makes this the snapshot of one worker, of this number and this row. It takes no memory.
+    pub(crate) fn set_row(&mut self, number: u64, row: &Row<C, H, G>)
+        requires { N ≡ 1 }
+        ensures vector { self.new.vector ≡ number ∷ [] }
+        ensures totals { self.new.totals ≡ row.now }
+    {
+        self.vector[0] = number;
+        copy_words(self.totals.as_mut_slice(), row);
     }
 }

@@ -1,0 +1,30 @@
+-- What a source of snapshots shows of its scans.
+use Rattle.std.specs.Prelude.{◌≡◌, ℕ, ◌<◌, ◌≤◌, List, [], ◌∷◌, ◌++◌, Option, Some, None, length, slice_index}
+use Rattle.std.specs.Option.{ForSome}
+use Rattle.ledger_core.specs.Ops.{width}
+use Rattle.ledger_core.specs.Legal.{IsLegal}
+use Rattle.register_rule.specs.declared.view.Entry.{Entry}
+
+-- the last of these answers, if there is one
+abbrev pub newest : List Entry → Option Entry
+newest [] = None
+newest (a ∷ []) = Some a
+newest (a ∷ b ∷ rest) = newest (b ∷ rest)
+
+-- of n workers and w words, no number and no total of b is below that of a
+pub record Rises (n w : ℕ) (a b : Entry) : Type 0 where
+  pub numbers : (i : ℕ) → i < n → slice_index a.vector i ≤ slice_index b.vector i
+  pub totals : (k : ℕ) → k < w → slice_index a.totals k ≤ slice_index b.totals k
+
+-- an answer of n workers, c counters, h histograms and g gauges: it has a number for each worker and a total for each word,
+-- and of each histogram the buckets add up to the count
+pub record IsWhole (n c h g : ℕ) (a : Entry) : Type 0 where
+  pub numbers : length a.vector ≡ n
+  pub totals : length a.totals ≡ width c h g
+  pub legal : IsLegal c h (slice_index a.totals)
+
+-- a scan recorded one answer more, this one, which is whole and not below the one before it
+pub record Records (n c h g : ℕ) (before after : List Entry) (a : Entry) : Type 0 where
+  pub recorded : after ≡ before ++ a ∷ []
+  pub whole : IsWhole n c h g a
+  pub rises : ForSome (newest before) (λ b. Rises n (width c h g) b a)

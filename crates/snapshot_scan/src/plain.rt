@@ -1,0 +1,28 @@
+//! A source of one thread.
+ghost use Rattle.std.specs.Prelude.{◌≡◌, [], ◌∷◌, length, slice_index};
+ghost use Rattle.std.specs.Option.{ForSome};
+ghost use Rattle.ledger_core.specs.Ops.{width};
+ghost use Rattle.ledger_core.specs.Legal.{IsLegal};
+ghost use Rattle.ledger_core.specs.Limits.{AreSlots};
+ghost use Rattle.snapshot_scan.specs.Sources.{newest, Rises};
+
+use crate::recording::{NoLaw, Recordings};
+use atomic_table::{Seat, Table};
+use ledger_core::Row;
+use std::alloc::Global;
+
+/// A source of one thread: one worker (`N` is 1), which has applied `count` lists of operations to its row. It is never
+/// contended.
+#[derive(Drop)]
+pub struct PlainSource<const N: usize, const C: usize, const H: usize, const G: usize> {
+    pub(crate) table: Table<(), Recordings, (), NoLaw, Global>,
+    pub(crate) seat: Seat<(), Recordings>,
+    pub(crate) row: Row<C, H, G>,
+    pub(crate) count: u64,
+    ghost seated: { (seat.table_id ≡ table.shared.table_id) × (table.shared.table_id.words ≡ 1) × (seat.me.1 ≡ []) },
+    ghost one: { N ≡ 1 },
+    ghost slots: { AreSlots C H G },
+    ghost wide: { length row ≡ width C H G },
+    ghost legal: { IsLegal C H (slice_index row) },
+    ghost below: { ForSome (newest seat.me.0.entries) (λ a. Rises N (width C H G) a (record { vector = count ∷ []; totals = row })) },
+}

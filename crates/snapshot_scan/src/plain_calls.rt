@@ -1,0 +1,90 @@
+//! What a plain source does.
+ghost use Rattle.std.specs.Prelude.{◌≡◌, ◌++◌, [], ◌∷◌, replicate, IfOk, IfErr, OnOk, OnErr};
+ghost use Rattle.ledger_core.specs.Ops.{width};
+ghost use Rattle.ledger_core.specs.Limits.{AreSlots};
+ghost use Rattle.snapshot_scan.specs.Snapshots.{entry_of};
+ghost use Rattle.snapshot_scan.specs.Plain.{row_of, count_of, recorded_by, IsApplied, IsPlainFault};
+
+use crate::contended::Contended;
+use crate::plain::PlainSource;
+use crate::plain_fault::PlainFault;
+use crate::recording::{NoLaw, load_as};
+use crate::snapshot::Snapshot;
+use crate::source::Source;
+use atomic_table::Table;
+use ledger_core::{Op, Row};
+use std::alloc::{AllocError, Global};
+use std::marker::Brand;
+
+impl<const N: usize, const C: usize, const H: usize, const G: usize> PlainSource<N, C, H, G> {
+    /// A source to which nothing has been applied: its row is all zeros, and nothing is recorded.
+    ///
+    /// # Errors
+    ///
+    /// Refusal 6 for want of memory.
+    pub fn new(alloc: Global) -> Result<PlainSource<N, C, H, G>, AllocError>
+        requires one { N ≡ 1 }
+        requires slots { AreSlots C H G }
+        ensures row { IfOk result (λ s. row_of s ≡ replicate (width C H G) 0) }
+        ensures count { IfOk result (λ s. count_of s ≡ 0) }
+        ensures recorded { IfOk result (λ s. recorded_by s ≡ []) }
+    {
+        let (table, seat) = Table::of_words(alloc, &[0], &())?;
+        Ok(PlainSource {
+            table,
+            seat,
+            row: Row::new(),
+            count: 0,
+        })
+    }
+
+    /// Applies the whole list of operations as one, or nothing. It takes no memory.
+    ///
+    /// # Errors
+    ///
+    /// 15 [`PlainFault::Exhausted`] where 2^64 - 1 lists were applied; then 11 and 12 of the first operation that fails.
+    pub fn apply(&mut self, ops: &[Op]) -> Result<(), PlainFault>
+        ensures applied { OnOk result (IsApplied C H G (row_of self.old) (count_of self.old) ops.now (row_of self.new) (count_of self.new)) }
+        ensures recorded { recorded_by self.new ≡ recorded_by self.old }
+        ensures fault { IfErr result (IsPlainFault C H G (row_of self.old) (count_of self.old) ops.now) }
+        ensures unchanged { OnErr result ((row_of self.new ≡ row_of self.old) × (count_of self.new ≡ count_of self.old)) }
+    {
+        if self.count == u64::MAX {
+            return Err(PlainFault::Exhausted);
+        }
+        if let Err(fault) = self.row.try_apply(ops) {
+            return Err(PlainFault::Refused(fault));
+        }
+        self.count += 1;
+        Ok(())
+    }
+
+    /// A scan, which is never given up: its vector is the count of lists, and its totals are the row. It takes no memory.
+    pub fn take(&mut self, out: &mut Snapshot<N, C, H, G>)
+        ensures vector { out.new.vector ≡ count_of self.old ∷ [] }
+        ensures totals { out.new.totals ≡ row_of self.old }
+        ensures recorded { recorded_by self.new ≡ recorded_by self.old ++ entry_of out.new ∷ [] }
+        ensures same { (row_of self.new ≡ row_of self.old) × (count_of self.new ≡ count_of self.old) }
+    {
+        out.set_row(self.count, &self.row);
+        let _ = load_as::<Snapshot<N, C, H, G>, Brand, NoLaw>(
+            &self.table.shared,
+            &mut self.seat,
+            0,
+            out,
+        );
+    }
+}
+
+impl<const N: usize, const C: usize, const H: usize, const G: usize> Source<N, C, H, G>
+    for PlainSource<N, C, H, G> {
+    ghost recorded = { λ s. recorded_by s };
+
+    ghost quit = { λ _. 0 };
+
+    /// A scan, which is never given up: [`PlainSource::take`].
+    fn scan(&mut self, out: &mut Snapshot<N, C, H, G>) -> Result<(), Contended> {
+        self.take(out);
+        Ok(())
+    }
+}

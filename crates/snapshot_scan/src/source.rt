@@ -1,0 +1,30 @@
+//! What snapshots are taken of.
+ghost use Rattle.std.specs.Prelude.{◌≡◌, ℕ, ◌+◌, ◌<◌, List, IfErr, OnOk, OnErr};
+ghost use Rattle.register_rule.specs.declared.view.Entry.{Entry};
+ghost use Rattle.snapshot_scan.specs.Snapshots.{entry_of};
+ghost use Rattle.snapshot_scan.specs.Sources.{Records};
+
+use crate::contended::Contended;
+use crate::snapshot::Snapshot;
+
+/// What snapshots are taken of: `N` workers, and rows of `C` counters, `H` histograms and `G` gauges.
+pub trait Source<const N: usize, const C: usize, const H: usize, const G: usize> {
+    // What its scans recorded, in order.
+    ghost recorded: { Self → List Entry };
+
+    // How many of its scans were given up.
+    ghost quit: { Self → ℕ };
+
+    /// A scan: all segments at one moment, written to `out`. It takes no memory and waits for nobody. What the source
+    /// recorded grows by this one answer, which is not below the one before it.
+    ///
+    /// # Errors
+    ///
+    /// 14 [`Contended`]: the scan was given up. `out` is unchanged, and nothing is recorded.
+    fn scan(&mut self, out: &mut Snapshot<N, C, H, G>) -> Result<(), Contended>
+        ensures recorded { OnOk result (Records N C H G (recorded self.old) (recorded self.new) (entry_of out.new)) }
+        ensures kept { OnOk result (quit self.new ≡ quit self.old) }
+        ensures given_up { OnErr result ((recorded self.new ≡ recorded self.old) × (quit self.new ≡ quit self.old + 1)) }
+        ensures rose { IfErr result (λ e. (e.worker < N) × (e.first < e.last)) }
+        ensures unchanged { OnErr result (out.new ≡ out.old) };
+}
