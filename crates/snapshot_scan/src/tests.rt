@@ -10,6 +10,7 @@ mod interleaved;
 mod lending;
 mod meddling;
 mod quiet;
+mod sources;
 mod threads;
 
 use crate::Reader;
