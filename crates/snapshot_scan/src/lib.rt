@@ -5,6 +5,9 @@
 //! worker lent, or with [`Contended`]. It takes no memory and waits for nobody. [`Memory`] is what the scans of one seat work
 //! with: the rows that were confirmed last are remembered, so that a scan reads the words of those rows alone that moved.
 //!
+//! A [`Source`] is what snapshots are taken of: a [`Scanner`], which is a board and a reader of it, or a [`PlainSource`], a
+//! row of one thread, to which lists of operations are applied or refused with a [`PlainFault`].
+//!
 //! The algorithm is the unbounded single-writer snapshot of Afek, Attiya, Dolev, Gafni, Merritt and Shavit, "Atomic
 //! Snapshots of Shared Memory", J. ACM 40(4), 1993, section 3; a scan here is a scan of `snapshot_core`, by a clause.
 #![tactic(auto)]
