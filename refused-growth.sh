@@ -3,9 +3,10 @@
 # The program makes 14 allocations: 4 for its arguments, 2 before the first line, and 1, 1 and 6 at the lines 1, 3 and 6.
 # Then runs the tests of expo_text, expo_reader, register_rule, snapshot_core, snapshot_scan, snapshot_update and chain_law
 # with each test's Nth allocation refused: a test may then end for want of memory, but none may see another answer in its
-# place. A board of 2 workers makes 5 allocations, a reader of it 9, and a worker 15. The test each_growth of snapshot_core
-# makes 3 for its list of events and 21 in its run, which has a publish and two answers. The test
-# one_snapshot_has_a_history of chain_law makes 47 for a snapshot and the list that has it, and the next one in history_of.
+# place. A label's name is read with the 13th or the 15th allocation of some tests of expo_reader. A board of 2 workers makes
+# 5 allocations, a reader of it 9, and a worker 15. The test each_growth of snapshot_core makes 3 for its list of events and
+# 21 in its run, which has a publish and two answers. The test one_snapshot_has_a_history of chain_law makes 47 for a
+# snapshot and the list that has it, and the next one in history_of.
 set -eu
 cd "$(dirname "$0")/crates/metrics_run"
 logs=$(mktemp -d)
