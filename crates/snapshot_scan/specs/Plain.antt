@@ -21,6 +21,10 @@ module _ {N C H G : ℕ} where
   abbrev pub recorded_by : PlainSource N C H G → List Entry
   recorded_by s = s.seat.me.0.entries
 
+  -- how many of its scans were given up: none ever is
+  abbrev pub quit_by : PlainSource N C H G → ℕ
+  quit_by s = 0
+
 -- from one row and count to the next a list was applied
 pub record IsApplied (c h g : ℕ) (row : List ℕ) (count : ℕ) (ops : List Op) (row' : List ℕ) (count' : ℕ) : Type 0 where
   pub room : count < 18446744073709551615
