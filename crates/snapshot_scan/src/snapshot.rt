@@ -118,6 +118,13 @@ impl<const N: usize, const C: usize, const H: usize, const G: usize> Snapshot<N,
         totals[first] as i64 - totals[first + 1] as i64
     }
 
+    /// Makes this the same snapshot as another. It takes no memory.
+    pub fn copy_from(&mut self, other: &Snapshot<N, C, H, G>)
+        ensures { self.new ≡ other.now }
+    {
+        self.set(&other.vector, &other.totals);
+    }
+
     /// Makes this the snapshot of other numbers and totals. It takes no memory.
     pub(crate) fn set(&mut self, vector: &[u64], totals: &[u64])
         requires all { length vector.now ≡ N }

@@ -59,6 +59,19 @@ fn has_what_it_was_set_to(rt: HostRuntime) -> Result<(), Fail> {
 }
 
 #[test]
+fn a_copy_is_the_same_snapshot(rt: HostRuntime) -> Result<(), Fail> {
+    let mut first = Snapshot::<2, 1, 0, 1>::new(rt.alloc())?;
+    first.set(&[7, 4], &[100, 5, 3]);
+    let mut second = Snapshot::<2, 1, 0, 1>::new(rt.alloc())?;
+    second.set(&[1, 9], &[200, 8, 6]);
+    second.copy_from(&first);
+    first.set(&[8, 4], &[101, 5, 4]);
+    assert_eq!(rt; second.vector(), [7, 4].as_slice());
+    assert_eq!(rt; (second.counter(0), second.gauge(0)), (100, 2));
+    Ok(())
+}
+
+#[test]
 fn a_gauge_is_its_ups_less_its_downs(rt: HostRuntime) -> Result<(), Fail> {
     let alloc = rt.alloc();
     assert_eq!(rt; gauge_of(alloc, 5, 7)?, -2);
