@@ -7,11 +7,27 @@
 # 5 allocations, a reader of it 9, and a worker 15. The test each_growth of snapshot_core makes 3 for its list of events and
 # 21 in its run, which has a publish and two answers. The test one_snapshot_has_a_history of chain_law makes 47 for a
 # snapshot and the list that has it, and the next one in history_of.
+#
+# A build refuses one allocation of the process, whose number is fixed. So that one build of a crate serves for every N, its
+# build refuses the LASTth, and the program and each test first make LAST - N allocations that they give back: the Nth of
+# their own is then the one that is refused. That is written into a copy of the sources, in which each test TEST has become
+# the tests TEST_1, TEST_2 and on, one for each N.
 set -eu
-cd "$(dirname "$0")/crates/metrics_run"
-logs=$(mktemp -d)
-trap 'rm -rf "$logs"' EXIT
+cd "$(dirname "$0")"
+work=$(mktemp -d)
+trap 'rm -rf "$work"' EXIT
 
+mkdir "$work/logs" "$work/scripts"
+cp HANDLES crates.txt "$work"
+for crate in crates/*; do
+    mkdir -p "$work/$crate"
+    for part in src specs proofs stdin; do
+        [ ! -e "$crate/$part" ] || cp -R "$crate/$part" "$work/$crate"
+    done
+done
+cd "$work/crates"
+
+# What the program ends with where its Nth allocation is refused: its status, and the line that tells why.
 expected() {
     case $1 in
     1 | 2 | 3 | 4) echo "2 usage: metrics_run script | metrics_run serve PORT COUNT" ;;
@@ -23,13 +39,97 @@ expected() {
     esac
 }
 
-seq 1 15 | xargs -P "$(nproc)" -I{} sh -c \
-    'status=0; rt try --fail-alloc {} -- script <stdin >"$0/{}" 2>&1 || status=$?; echo "$status" >"$0/{}.status"' "$logs"
+# The program's input is a letter and the script: at the letter a nothing is spent, at b one allocation, and so on.
+prepare_program() {
+    sed -i 's/^fn main(rt: HostRuntime).*{$/&\n    spend(\&rt);/' metrics_run/src/main.rt
+    cat >>metrics_run/src/main.rt <<'END'
+
+fn spend(rt: &(impl Input + AllocGlobal)) {
+    let mut letter = [b'a'];
+    let _ = io::Read::read(&mut rt.reader(), &mut letter);
+    for _ in b'a'..letter[0] {
+        let _spent = Box::new(rt.alloc(), 0u8);
+    }
+}
+END
+    for n in $(seq 1 15); do
+        { echo onmlkjihgfedcba | cut -c "$n" | tr -d '\n'; cat metrics_run/stdin; } >"$work/scripts/$n"
+    done
+}
+
+# Makes of each test of the crate $1 one for each N that follows, of which the greatest stands last. One test more sees that
+# the LASTth allocation of a process is refused, and no other.
+prepare_tests() {
+    crate=$1
+    shift
+    for last in "$@"; do :; done
+    tests=$(grep -rhF '#[test]' "$crate/src" | wc -l)
+    echo "$crate $last $((tests * $# + 1)) $*" >>"$work/crates_of_tests"
+    grep -rlF '#[test]' "$crate/src" | while read -r file; do
+        awk -v all="$*" -v last="$last" '
+            /^#\[test\]$/ { is_test = 1; print ""; next }
+            is_test && /^fn [a-z0-9_]+\(rt: HostRuntime\)/ {
+                is_test = 0
+                split($2, word, "(")
+                names[++count] = word[1]
+                heads[count] = substr($0, length("fn " word[1]) + 1)
+                sub(/rt: HostRuntime/, "rt: impl std::process::Abort + AllocGlobal + std::thread::Threads + Sync + Drop")
+            }
+            { print }
+            END {
+                size = split(all, number, " ")
+                for (i = 1; i <= count; i++)
+                    for (j = 1; j <= size; j++) {
+                        print "\n#[test]\nfn " names[i] "_" number[j] heads[i]
+                        print "    crate::spent::spend(rt.alloc(), " last - number[j] ");\n    " names[i] "(rt)\n}"
+                    }
+            }' "$file" >"$work/tests.rt"
+        mv "$work/tests.rt" "$file"
+    done
+    printf '\n#[cfg(test)]\nmod spent;\n' >>"$crate/src/lib.rt"
+    cat >"$crate/src/spent.rt" <<END
+use std::alloc::Global;
+
+pub fn spend(alloc: Global, count: usize) {
+    for _ in 0..count {
+        let _spent = Box::new(alloc, 0u8);
+    }
+}
+
+#[test]
+fn one_is_refused(rt: HostRuntime) {
+    for i in 1..100usize {
+        assert_eq!(rt; Box::new(rt.alloc(), 0u8).is_err(), i == $last);
+    }
+}
+END
+}
+
+prepare_program
+prepare_tests expo_text $(seq 1 14)
+prepare_tests expo_reader $(seq 1 16)
+prepare_tests register_rule $(seq 1 5)
+prepare_tests snapshot_core $(seq 1 24)
+prepare_tests snapshot_scan $(seq 1 16)
+prepare_tests snapshot_update $(seq 1 20)
+prepare_tests chain_law $(seq 1 4) $(seq 44 49)
+
+# Half of the processors: the rest are for the proofs beside this.
+{
+    echo "metrics_run --fail-alloc 15 --cases $work/scripts -- script"
+    while read -r crate last _; do
+        echo "$crate --test --seconds 3000 --fail-alloc $last"
+    done <"$work/crates_of_tests"
+} | xargs -P "$((($(nproc) + 1) / 2))" -L 1 sh -c 'cd "$1"; shift; rt try "$@" >"$0/${PWD##*/}" 2>&1 || true' "$work/logs"
+
+log=$work/logs/metrics_run
 for n in $(seq 1 15); do
-    got="$(cat "$logs/$n.status") $(grep -E '^(usage|refused|# TYPE)' "$logs/$n" || true)"
+    run=$(sed -n "/^== $n\$/,/^case=$n /p" "$log")
+    status=$(echo "$run" | sed -n 's/^case=.* run=ended status=\([0-9]*\) .*/\1/p')
+    got="$status $(echo "$run" | grep -E '^(usage|refused|# TYPE)' || true)"
     if [ "$got" != "$(expected "$n")" ]; then
         echo "allocation $n refused: got '$got', expected '$(expected "$n")'"
-        cat "$logs/$n"
+        cat "$log"
         exit 1
     fi
 done
@@ -38,26 +138,16 @@ echo "each of 14 allocations refused in turn: as expected"
 # What want of memory is called: an error that the test gives back, or what it was met with by an `expect`.
 memory='^ +(error|room|runs|it runs): (NoMemory|AllocError|AllocFailed \{ \.\. \}|Kind\(OutOfMemory\))$'
 
-# The tests of the crate $1 with each test's Nth allocation refused, for each N from $2 to $3. The line after a failed test
-# says why it failed.
-refuse_in_tests() {
-    cd "../$1"
-    seq "$2" "$3" | xargs -P "$(nproc)" -I{} sh -c 'rt try --test --seconds 600 --fail-alloc {} >"$0/$1{}" 2>&1 || true' "$logs" "$1"
-    for n in $(seq "$2" "$3"); do
-        if ! grep -q '^test result:' "$logs/$1$n" || grep -A1 '^test .* FAILED$' "$logs/$1$n" | grep -Ev '^(test |--)' | grep -Evq "$memory"; then
-            echo "allocation $n of a test refused: another answer came in place of want of memory"
-            cat "$logs/$1$n"
-            exit 1
-        fi
-    done
-    echo "the allocations $2 to $3 of every test of $1 refused in turn: no other answer came in its place"
-}
-
-refuse_in_tests expo_text 1 14
-refuse_in_tests expo_reader 1 16
-refuse_in_tests register_rule 1 5
-refuse_in_tests snapshot_core 1 24
-refuse_in_tests snapshot_scan 1 16
-refuse_in_tests snapshot_update 1 20
-refuse_in_tests chain_law 1 4
-refuse_in_tests chain_law 44 49
+# The line after a failed test says why it failed.
+while read -r crate _ tests numbers; do
+    log=$work/logs/$crate
+    failed=$(grep -c '^test .* FAILED$' "$log" || true)
+    wanting=$(grep -A1 '^test .* FAILED$' "$log" | grep -Ec "$memory" || true)
+    if ! grep -q "^tests: $tests\$" "$log" || ! grep -q '^test result:' "$log" ||
+        ! grep -q '^test spent::one_is_refused \.\.\. ok$' "$log" || [ "$failed" != "$wanting" ]; then
+        echo "an allocation of a test of $crate refused: another answer came in place of want of memory, or not all tests ran"
+        cat "$log"
+        exit 1
+    fi
+    echo "the allocations $numbers of every test of $crate refused in turn: no other answer came in its place"
+done <"$work/crates_of_tests"

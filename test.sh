@@ -1,14 +1,12 @@
 #!/bin/sh
-# All tests. Everything is proved and tried from nothing, and beside that, on a copy of the crates, the example script and
+# All tests. Everything is proved and tried from nothing, and beside that, on a copy of the sources, the example script and
 # tests run with each allocation refused in turn. The last line is 'N passed, 0 failed'.
 set -eu
 cd "$(dirname "$0")"
 work=$(mktemp -d)
 trap 'rm -rf "$work"' EXIT
 
-mkdir "$work/copy"
-cp -R HANDLES crates.txt crates refused-growth.sh "$work/copy"
-"$work/copy/refused-growth.sh" >"$work/growth" 2>&1 &
+./refused-growth.sh >"$work/growth" 2>&1 &
 growth=$!
 
 { rt ci || touch "$work/failed"; } | tee "$work/ci"
