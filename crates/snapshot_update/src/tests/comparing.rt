@@ -1,9 +1,12 @@
 //! Which items an update compares: as many as change, however often a worker counts.
+ghost use Rattle.snapshot_update.specs.Workers.{IsWorkerOf};
 
 use super::crew::{gauge, pair};
 use super::working::often;
 use crate::Worker;
+use register_rule::Board;
 use snapshot_scan::Snapshot;
+use std::process::Abort;
 use std::test::Fail;
 
 /// Whether the next update compares no more items than it has to, where each update adds to one word: the buffers differ at
@@ -16,30 +19,59 @@ fn compares_few(worker: &Worker<2, 2, 1, 1>) -> bool {
     images.recent.as_slice().len() == 3 && images.late.as_slice().len() == 2
 }
 
+/// After another worker's update, and after a scan of its own, two updates compare all.
+fn compares_all_twice(rt: &impl Abort, board: &Board<2, 2, 1, 1>, worker: &mut Worker<2, 2, 1, 1>)
+    requires own { IsWorkerOf board.now worker.old }
+    ensures own { IsWorkerOf board.now worker.new }
+{
+    often(board, worker, 1);
+    assert!(rt; !compares_few(worker));
+    often(board, worker, 1);
+    assert!(rt; compares_few(worker));
+}
+
+/// However long the lists get, and after an operation that is refused, few items are compared.
+fn compares_what_changed(
+    rt: &impl Abort,
+    board: &Board<2, 2, 1, 1>,
+    worker: &mut Worker<2, 2, 1, 1>,
+)
+    requires own { IsWorkerOf board.now worker.old }
+    ensures own { IsWorkerOf board.now worker.new }
+{
+    assert!(rt; !compares_few(worker));
+    often(board, worker, 2);
+    assert!(rt; compares_few(worker));
+    // Longer than a list has room.
+    often(board, worker, 300);
+    assert!(rt; compares_few(worker));
+    // A refused operation changes nothing of that.
+    assert!(rt; worker.up(board, &gauge(1), 1).is_err());
+    assert!(rt; compares_few(worker));
+}
+
+/// After a scan all is compared.
+fn compares_all_after_a_scan(
+    rt: &impl Abort,
+    board: &Board<2, 2, 1, 1>,
+    worker: &mut Worker<2, 2, 1, 1>,
+    out: &mut Snapshot<2, 2, 1, 1>,
+)
+    requires own { IsWorkerOf board.now worker.old }
+    ensures own { IsWorkerOf board.now worker.new }
+{
+    assert_eq!(rt; worker.scan(board, out), Ok(()));
+    assert!(rt; !compares_few(worker));
+}
+
 #[test]
 fn an_update_compares_what_changed(rt: HostRuntime) -> Result<(), Fail> {
     let (board, mut first, mut second, _) = pair(rt.alloc())?;
     let mut out = Snapshot::new(rt.alloc())?;
-    assert!(rt; !compares_few(&first));
-    often(&board, &mut first, 2);
-    assert!(rt; compares_few(&first));
-    // Longer than a list has room.
-    often(&board, &mut first, 300);
-    assert!(rt; compares_few(&first));
-    // A refused operation changes nothing of that.
-    assert!(rt; first.up(&board, &gauge(1), 1).is_err());
-    assert!(rt; compares_few(&first));
-    // After another worker's update, and after a scan of its own, two updates compare all.
+    compares_what_changed(&rt, &board, &mut first);
     often(&board, &mut second, 1);
-    often(&board, &mut first, 1);
-    assert!(rt; !compares_few(&first));
-    often(&board, &mut first, 1);
-    assert!(rt; compares_few(&first));
-    assert_eq!(rt; first.scan(&board, &mut out), Ok(()));
-    assert!(rt; !compares_few(&first));
-    often(&board, &mut first, 1);
-    assert!(rt; !compares_few(&first));
-    often(&board, &mut first, 1);
-    assert!(rt; compares_few(&first));
+    compares_all_twice(&rt, &board, &mut first);
+    compares_all_after_a_scan(&rt, &board, &mut first, &mut out);
+    compares_all_twice(&rt, &board, &mut first);
     Ok(())
 }

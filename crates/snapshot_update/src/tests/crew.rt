@@ -11,8 +11,9 @@ ghost use Rattle.snapshot_update.specs.Workers.{IsWorkerOf};
 use crate::Worker;
 use ledger_core::{Counter, Gauge};
 use register_rule::{Board, Parts, ReadSeat, WorkSeat};
-use snapshot_scan::Reader;
+use snapshot_scan::{Reader, Snapshot};
 use std::alloc::{AllocError, Global};
+use std::process::Abort;
 use std::test::Fail;
 
 /// The id of the boards.
@@ -145,6 +146,85 @@ pub(super) fn four_seats(
     let right = last_reader(&board, &mut read)?;
     let left = last_reader(&board, &mut read)?;
     Ok((board, (a, b, c, d), left, right))
+}
+
+/// A worker and a reader of a board of four workers.
+pub(super) fn one_of_four(
+    alloc: Global,
+) -> Result<(Board<4, 1, 1, 0>, Worker<4, 1, 1, 0>, Reader<4, 1, 1, 0>), Fail>
+    ensures own { IfOk result (λ r. IsWorkerOf r.0 r.1 × IsReaderOf r.0 r.2) }
+{
+    let (board, workers, reader, _right) = four_seats(alloc)?;
+    let (first, _second, _third, _fourth) = workers;
+    let worker = new_worker(alloc, &board, first, 0)?;
+    let reader = new_reader(alloc, &board, reader)?;
+    Ok((board, worker, reader))
+}
+
+/// Two workers of a board of four, and a reader.
+pub(super) fn two_of_four(
+    alloc: Global,
+) -> Result<
+    (
+        Board<4, 1, 1, 0>,
+        Worker<4, 1, 1, 0>,
+        Worker<4, 1, 1, 0>,
+        Reader<4, 1, 1, 0>,
+    ),
+    Fail,
+>
+    ensures own { IfOk result (λ r. IsWorkerOf r.0 r.1 × IsWorkerOf r.0 r.2 × IsReaderOf r.0 r.3) }
+{
+    let (board, workers, reader, _right) = four_seats(alloc)?;
+    let (first, second, _third, _fourth) = workers;
+    let first = new_worker(alloc, &board, first, 0)?;
+    let second = new_worker(alloc, &board, second, 1)?;
+    let reader = new_reader(alloc, &board, reader)?;
+    Ok((board, first, second, reader))
+}
+
+/// Adds to a counter, which is not refused.
+pub(super) fn inc<const N: usize, const C: usize, const H: usize, const G: usize>(
+    rt: &impl Abort,
+    board: &Board<N, C, H, G>,
+    worker: &mut Worker<N, C, H, G>,
+    slot: usize,
+    by: u64,
+)
+    requires own { IsWorkerOf board.now worker.old }
+    ensures own { IsWorkerOf board.now worker.new }
+{
+    assert_eq!(rt; worker.inc(board, &counter(slot), by), Ok(()));
+}
+
+/// A reader's scan is not refused, and finds this vector.
+pub(super) fn finds<const N: usize, const C: usize, const H: usize, const G: usize>(
+    rt: &impl Abort,
+    board: &Board<N, C, H, G>,
+    reader: &mut Reader<N, C, H, G>,
+    out: &mut Snapshot<N, C, H, G>,
+    vector: &[u64],
+)
+    requires own { IsReaderOf board.now reader.old }
+    ensures own { IsReaderOf board.now reader.new }
+{
+    assert_eq!(rt; reader.scan(board, out), Ok(()));
+    assert_eq!(rt; out.vector(), vector);
+}
+
+/// A worker's scan is not refused, and finds this vector.
+pub(super) fn finds_itself<const N: usize, const C: usize, const H: usize, const G: usize>(
+    rt: &impl Abort,
+    board: &Board<N, C, H, G>,
+    worker: &mut Worker<N, C, H, G>,
+    out: &mut Snapshot<N, C, H, G>,
+    vector: &[u64],
+)
+    requires own { IsWorkerOf board.now worker.old }
+    ensures own { IsWorkerOf board.now worker.new }
+{
+    assert_eq!(rt; worker.scan(board, out), Ok(()));
+    assert_eq!(rt; out.vector(), vector);
 }
 
 /// A counter of the boards.

@@ -1,45 +1,73 @@
 //! Workers that meet readers, and readers whose snapshots compare.
-ghost use Rattle.std.specs.Prelude.{◌≡◌, OnOk};
+ghost use Rattle.std.specs.Prelude.{◌≡◌, IfOk, OnOk};
 ghost use Rattle.snapshot_scan.specs.Order.{HasRecorded, IsAlone};
 ghost use Rattle.snapshot_scan.specs.Readers.{IsReaderOf};
 ghost use Rattle.snapshot_scan.specs.Snapshots.{entry_of};
 ghost use Rattle.snapshot_update.specs.Workers.{IsWorkerOf};
 
-use super::crew::{counter, four_seats, new_reader, new_worker};
+use super::crew::{
+    counter, finds, finds_itself, four_seats, inc, new_reader, new_worker, one_of_four, two_of_four,
+};
 use crate::Worker;
 use register_rule::Board;
 use snapshot_scan::{Reader, Snapshot, order};
+use std::alloc::Global;
 use std::cmp::Ordering;
 use std::process::Abort;
 use std::test::Fail;
 
+/// The counter is this.
+fn has_counter(rt: &impl Abort, out: &Snapshot<4, 1, 1, 0>, sum: u64) {
+    assert_eq!(rt; out.counter(0), sum);
+}
+
+/// A worker counts and meets a reader, which meets another worker.
+fn hears_of(
+    rt: &impl Abort,
+    board: &Board<4, 1, 1, 0>,
+    first: &mut Worker<4, 1, 1, 0>,
+    second: &mut Worker<4, 1, 1, 0>,
+    reader: &mut Reader<4, 1, 1, 0>,
+    out: &mut Snapshot<4, 1, 1, 0>,
+)
+    requires own { IsWorkerOf board.now first.old × IsWorkerOf board.now second.old × IsReaderOf board.now reader.old }
+    ensures own { IsWorkerOf board.now first.new × IsWorkerOf board.now second.new × IsReaderOf board.now reader.new }
+{
+    inc(rt, board, first, 0, 3);
+    first.meet(board, reader);
+    finds(rt, board, reader, out, &[1, 0, 0, 0]);
+    has_counter(rt, out, 3);
+    second.meet(board, reader);
+    finds_itself(rt, board, second, out, &[1, 0, 0, 0]);
+    finds_itself(rt, board, second, out, &[1, 0, 0, 0]);
+}
+
+/// Two workers that have met a reader count once more.
+fn count_on(
+    rt: &impl Abort,
+    board: &Board<4, 1, 1, 0>,
+    first: &mut Worker<4, 1, 1, 0>,
+    second: &mut Worker<4, 1, 1, 0>,
+    reader: &mut Reader<4, 1, 1, 0>,
+    out: &mut Snapshot<4, 1, 1, 0>,
+)
+    requires own { IsWorkerOf board.now first.old × IsWorkerOf board.now second.old × IsReaderOf board.now reader.old }
+{
+    second.meet(board, reader);
+    first.meet(board, reader);
+    inc(rt, board, first, 0, 4);
+    inc(rt, board, second, 0, 5);
+    assert_eq!(rt; (first.number(), second.number()), (2, 1));
+    finds(rt, board, reader, out, &[2, 1, 0, 0]);
+    has_counter(rt, out, 12);
+}
+
 #[test]
 fn a_reader_that_was_met_finds_what_was_counted(rt: HostRuntime) -> Result<(), Fail> {
-    let alloc = rt.alloc();
-    let (board, workers, reader, _right) = four_seats(alloc)?;
-    let (first, second, _third, _fourth) = workers;
-    let mut first = new_worker(alloc, &board, first, 0)?;
-    let mut second = new_worker(alloc, &board, second, 1)?;
-    let mut reader = new_reader(alloc, &board, reader)?;
-    let mut out = Snapshot::new(alloc)?;
-    assert_eq!(rt; first.inc(&board, &counter(0), 3), Ok(()));
-    first.meet(&board, &mut reader);
-    assert_eq!(rt; reader.scan(&board, &mut out), Ok(()));
-    assert_eq!(rt; out.vector(), [1, 0, 0, 0].as_slice());
-    assert_eq!(rt; out.counter(0), 3);
-    second.meet(&board, &mut reader);
-    assert_eq!(rt; second.scan(&board, &mut out), Ok(()));
-    assert_eq!(rt; out.vector(), [1, 0, 0, 0].as_slice());
-    assert_eq!(rt; second.scan(&board, &mut out), Ok(()));
-    assert_eq!(rt; out.vector(), [1, 0, 0, 0].as_slice());
-    second.meet(&board, &mut reader);
-    first.meet(&board, &mut reader);
-    assert_eq!(rt; first.inc(&board, &counter(0), 4), Ok(()));
-    assert_eq!(rt; second.inc(&board, &counter(0), 5), Ok(()));
-    assert_eq!(rt; (first.number(), second.number()), (2, 1));
-    assert_eq!(rt; reader.scan(&board, &mut out), Ok(()));
-    assert_eq!(rt; out.vector(), [2, 1, 0, 0].as_slice());
-    assert_eq!(rt; out.counter(0), 12);
+    let (board, mut first, mut second, mut reader) = two_of_four(rt.alloc())?;
+    let mut out = Snapshot::new(rt.alloc())?;
+    hears_of(&rt, &board, &mut first, &mut second, &mut reader, &mut out);
+    count_on(&rt, &board, &mut first, &mut second, &mut reader, &mut out);
     Ok(())
 }
 
@@ -55,26 +83,21 @@ fn counts_and_is_lent(
     requires own { IsWorkerOf board.now worker.old × IsReaderOf board.now reader.old }
     ensures own { IsWorkerOf board.now worker.new × IsReaderOf board.now reader.new }
 {
-    assert_eq!(rt; worker.inc(board, &counter(0), 3), Ok(()));
+    inc(rt, board, worker, 0, 3);
     worker.lend_to(board, reader);
     worker.take_back(board, reader);
     assert_eq!(rt; (worker.index(), worker.number()), (0, number));
-    assert_eq!(rt; reader.scan(board, out), Ok(()));
-    assert_eq!(rt; out.vector(), [number, 0, 0, 0].as_slice());
+    finds(rt, board, reader, out, &[number, 0, 0, 0]);
 }
 
 #[test]
 fn a_worker_that_was_lent_counts_on(rt: HostRuntime) -> Result<(), Fail> {
-    let alloc = rt.alloc();
-    let (board, workers, reader, _right) = four_seats(alloc)?;
-    let (first, _second, _third, _fourth) = workers;
-    let mut worker = new_worker(alloc, &board, first, 0)?;
-    let mut reader = new_reader(alloc, &board, reader)?;
-    let mut out = Snapshot::new(alloc)?;
+    let (board, mut worker, mut reader) = one_of_four(rt.alloc())?;
+    let mut out = Snapshot::new(rt.alloc())?;
     counts_and_is_lent(&rt, &board, &mut worker, &mut reader, &mut out, 1);
     counts_and_is_lent(&rt, &board, &mut worker, &mut reader, &mut out, 2);
     counts_and_is_lent(&rt, &board, &mut worker, &mut reader, &mut out, 3);
-    assert_eq!(rt; out.counter(0), 9);
+    has_counter(&rt, &out, 9);
     Ok(())
 }
 
@@ -97,23 +120,47 @@ fn counts_while_another_is_lent(
     lent.take_back(board, reader);
 }
 
+/// The vector and the counter are these.
+fn has_found(rt: &impl Abort, out: &Snapshot<4, 1, 1, 0>, vector: &[u64], sum: u64) {
+    assert_eq!(rt; out.vector(), vector);
+    assert_eq!(rt; out.counter(0), sum);
+}
+
 #[test]
 fn another_worker_counts_while_one_is_lent(rt: HostRuntime) -> Result<(), Fail> {
-    let alloc = rt.alloc();
-    let mut out = Snapshot::new(alloc)?;
-    let (board, workers, reader, _right) = four_seats(alloc)?;
-    let (first, second, _third, _fourth) = workers;
-    let mut one = new_worker(alloc, &board, first, 0)?;
-    let mut other = new_worker(alloc, &board, second, 1)?;
-    let mut reader = new_reader(alloc, &board, reader)?;
-    assert_eq!(rt; one.inc(&board, &counter(0), 3), Ok(()));
+    let mut out = Snapshot::new(rt.alloc())?;
+    let (board, mut one, mut other, mut reader) = two_of_four(rt.alloc())?;
+    inc(&rt, &board, &mut one, 0, 3);
     counts_while_another_is_lent(&rt, &board, &mut one, &mut other, &mut reader, &mut out);
-    assert_eq!(rt; out.vector(), [1, 1, 0, 0].as_slice());
-    assert_eq!(rt; out.counter(0), 8);
+    has_found(&rt, &out, &[1, 1, 0, 0], 8);
     counts_while_another_is_lent(&rt, &board, &mut other, &mut one, &mut reader, &mut out);
-    assert_eq!(rt; out.vector(), [2, 1, 0, 0].as_slice());
-    assert_eq!(rt; out.counter(0), 13);
+    has_found(&rt, &out, &[2, 1, 0, 0], 13);
     Ok(())
+}
+
+/// Two workers and two readers of a board of four.
+fn two_and_two(
+    alloc: Global,
+) -> Result<
+    (
+        Board<4, 1, 1, 0>,
+        (Worker<4, 1, 1, 0>, Worker<4, 1, 1, 0>),
+        Reader<4, 1, 1, 0>,
+        Reader<4, 1, 1, 0>,
+    ),
+    Fail,
+>
+    ensures workers { IfOk result (λ r. IsWorkerOf r.0 r.1.0 × IsWorkerOf r.0 r.1.1) }
+    ensures readers { IfOk result (λ r. IsReaderOf r.0 r.2 × IsReaderOf r.0 r.3) }
+    ensures alone { IfOk result (λ r. IsAlone r.2 × IsAlone r.3) }
+{
+    let (board, workers, left, right) = four_seats(alloc)?;
+    let (first, second, _third, _fourth) = workers;
+    let first = new_worker(alloc, &board, first, 0)?;
+    let second = new_worker(alloc, &board, second, 1)?;
+    let left = new_reader(alloc, &board, left)?;
+    let right = new_reader(alloc, &board, right)?;
+    Ok((board, (first, second), left, right))
 }
 
 /// A scan that is not refused.
@@ -134,49 +181,92 @@ fn scan(
     };
 }
 
+/// The snapshots of two readers compare so.
+fn compare_as(
+    rt: &impl Abort,
+    board: &Board<4, 1, 1, 0>,
+    one: &Snapshot<4, 1, 1, 0>,
+    left: &mut Reader<4, 1, 1, 0>,
+    other: &Snapshot<4, 1, 1, 0>,
+    right: &mut Reader<4, 1, 1, 0>,
+    expected: Ordering,
+)
+    requires own { IsReaderOf board.now left.old × IsReaderOf board.now right.old }
+    requires alone { IsAlone left.old × IsAlone right.old }
+    requires recorded { HasRecorded left.old (entry_of one.now) × HasRecorded right.old (entry_of other.now) }
+    ensures own { IsReaderOf board.now left.new × IsReaderOf board.now right.new }
+    ensures alone { IsAlone left.new × IsAlone right.new }
+    ensures recorded { HasRecorded left.new (entry_of one.now) × HasRecorded right.new (entry_of other.now) }
+{
+    assert_eq!(rt; order(board, one, left, other, right), expected);
+}
+
+/// The right reader scans after a count that the left one has not scanned.
+fn right_goes_ahead(
+    rt: &impl Abort,
+    board: &Board<4, 1, 1, 0>,
+    first: &mut Worker<4, 1, 1, 0>,
+    left: &mut Reader<4, 1, 1, 0>,
+    right: &mut Reader<4, 1, 1, 0>,
+    one: &mut Snapshot<4, 1, 1, 0>,
+    other: &mut Snapshot<4, 1, 1, 0>,
+)
+    requires own { IsWorkerOf board.now first.old × IsReaderOf board.now left.old × IsReaderOf board.now right.old }
+    requires alone { IsAlone left.old × IsAlone right.old }
+    ensures own { IsReaderOf board.now left.new × IsReaderOf board.now right.new }
+    ensures alone { IsAlone left.new × IsAlone right.new }
+    ensures recorded { HasRecorded right.new (entry_of other.new) }
+{
+    scan(rt, board, left, one);
+    scan(rt, board, right, other);
+    compare_as(rt, board, one, left, other, right, Ordering::Equal);
+    inc(rt, board, first, 0, 3);
+    scan(rt, board, right, other);
+    compare_as(rt, board, one, left, other, right, Ordering::Less);
+    compare_as(rt, board, other, right, one, left, Ordering::Greater);
+}
+
+/// The left reader scans after one count more, and then the right one.
+fn left_goes_ahead(
+    rt: &impl Abort,
+    board: &Board<4, 1, 1, 0>,
+    second: &mut Worker<4, 1, 1, 0>,
+    left: &mut Reader<4, 1, 1, 0>,
+    right: &mut Reader<4, 1, 1, 0>,
+    one: &mut Snapshot<4, 1, 1, 0>,
+    other: &mut Snapshot<4, 1, 1, 0>,
+)
+    requires own { IsWorkerOf board.now second.old × IsReaderOf board.now left.old × IsReaderOf board.now right.old }
+    requires alone { IsAlone left.old × IsAlone right.old }
+    requires recorded { HasRecorded right.old (entry_of other.old) }
+{
+    inc(rt, board, second, 0, 3);
+    scan(rt, board, left, one);
+    assert_eq!(rt; one.vector(), [1, 2, 0, 0].as_slice());
+    compare_as(rt, board, one, left, other, right, Ordering::Greater);
+    compare_as(rt, board, one, left, other, right, Ordering::Greater);
+    scan(rt, board, right, other);
+    compare_as(rt, board, one, left, other, right, Ordering::Equal);
+}
+
 #[test]
 fn snapshots_of_two_readers_compare(rt: HostRuntime) -> Result<(), Fail> {
-    let alloc = rt.alloc();
-    let (board, workers, left, right) = four_seats(alloc)?;
-    let (first, second, _third, _fourth) = workers;
-    let mut first = new_worker(alloc, &board, first, 0)?;
-    let mut second = new_worker(alloc, &board, second, 1)?;
-    let mut left = new_reader(alloc, &board, left)?;
-    let mut right = new_reader(alloc, &board, right)?;
-    let mut one = Snapshot::new(alloc)?;
-    let mut other = Snapshot::new(alloc)?;
-    assert_eq!(rt; second.inc(&board, &counter(0), 3), Ok(()));
-    scan(&rt, &board, &mut left, &mut one);
-    scan(&rt, &board, &mut right, &mut other);
-    assert_eq!(rt;
-        order(&board, &one, &mut left, &other, &mut right),
-        Ordering::Equal
+    let (board, workers, mut left, mut right) = two_and_two(rt.alloc())?;
+    let (mut first, mut second) = workers;
+    let mut one = Snapshot::new(rt.alloc())?;
+    let mut other = Snapshot::new(rt.alloc())?;
+    inc(&rt, &board, &mut second, 0, 3);
+    right_goes_ahead(
+        &rt, &board, &mut first, &mut left, &mut right, &mut one, &mut other,
     );
-    assert_eq!(rt; first.inc(&board, &counter(0), 3), Ok(()));
-    scan(&rt, &board, &mut right, &mut other);
-    assert_eq!(rt;
-        order(&board, &one, &mut left, &other, &mut right),
-        Ordering::Less
-    );
-    assert_eq!(rt;
-        order(&board, &other, &mut right, &one, &mut left),
-        Ordering::Greater
-    );
-    assert_eq!(rt; second.inc(&board, &counter(0), 3), Ok(()));
-    scan(&rt, &board, &mut left, &mut one);
-    assert_eq!(rt; one.vector(), [1, 2, 0, 0].as_slice());
-    assert_eq!(rt;
-        order(&board, &one, &mut left, &other, &mut right),
-        Ordering::Greater
-    );
-    assert_eq!(rt;
-        order(&board, &one, &mut left, &other, &mut right),
-        Ordering::Greater
-    );
-    scan(&rt, &board, &mut right, &mut other);
-    assert_eq!(rt;
-        order(&board, &one, &mut left, &other, &mut right),
-        Ordering::Equal
+    left_goes_ahead(
+        &rt,
+        &board,
+        &mut second,
+        &mut left,
+        &mut right,
+        &mut one,
+        &mut other,
     );
     Ok(())
 }

@@ -1,41 +1,69 @@
 ghost use Rattle.std.specs.Prelude.{◌≡◌};
+ghost use Rattle.snapshot_scan.specs.Readers.{IsReaderOf};
 ghost use Rattle.snapshot_update.specs.Workers.{IsWorkerOf};
 
-use super::crew::{ID, counter, four_seats, gauge, new_reader, new_worker, pair};
+use super::crew::{ID, counter, finds, finds_itself, gauge, inc, one_of_four, pair};
 use crate::Worker;
 use bucket_math::Bounds;
-use ledger_core::{Histogram, Op};
+use ledger_core::{HistTotals, Histogram, Op};
 use register_rule::Board;
-use snapshot_scan::Snapshot;
+use snapshot_scan::{Reader, Snapshot};
+use std::process::Abort;
 use std::test::Fail;
 
-#[test]
-fn a_reader_finds_what_is_counted(rt: HostRuntime) -> Result<(), Fail> {
-    let alloc = rt.alloc();
-    let (board, workers, reader, _right) = four_seats(alloc)?;
-    let (first, _second, _third, _fourth) = workers;
-    let mut worker = new_worker(alloc, &board, first, 0)?;
-    let mut reader = new_reader(alloc, &board, reader)?;
-    let mut out = Snapshot::new(alloc)?;
+/// The board of most tests, its workers, its reader and its snapshots.
+type Pair = Board<2, 2, 1, 1>;
+
+type Member = Worker<2, 2, 1, 1>;
+
+type Onlooker = Reader<2, 2, 1, 1>;
+
+type Found = Snapshot<2, 2, 1, 1>;
+
+/// What the worker has published, and the counter, are these.
+fn has_counted(
+    rt: &impl Abort,
+    board: &Board<4, 1, 1, 0>,
+    worker: &Worker<4, 1, 1, 0>,
+    out: &Snapshot<4, 1, 1, 0>,
+    sum: u64,
+    number: u64,
+)
+    requires own { IsWorkerOf board.now worker.now }
+{
+    assert_eq!(rt; (out.counter(0), worker.number()), (sum, number));
+}
+
+/// A worker counts by turns with a reader's scans.
+fn counts_and_is_found(
+    rt: &impl Abort,
+    board: &Board<4, 1, 1, 0>,
+    worker: &mut Worker<4, 1, 1, 0>,
+    reader: &mut Reader<4, 1, 1, 0>,
+    out: &mut Snapshot<4, 1, 1, 0>,
+)
+    requires own { IsWorkerOf board.now worker.old × IsReaderOf board.now reader.old }
+{
     assert_eq!(rt; worker.number(), 0);
-    assert_eq!(rt; worker.inc(&board, &counter(0), 3), Ok(()));
-    assert_eq!(rt; reader.scan(&board, &mut out), Ok(()));
-    assert_eq!(rt; out.vector(), [1, 0, 0, 0].as_slice());
-    assert_eq!(rt; (out.counter(0), worker.number()), (3, 1));
-    assert_eq!(rt; worker.inc(&board, &counter(0), 3), Ok(()));
-    assert_eq!(rt; reader.scan(&board, &mut out), Ok(()));
-    assert_eq!(rt; reader.scan(&board, &mut out), Ok(()));
-    assert_eq!(rt; out.vector(), [2, 0, 0, 0].as_slice());
-    assert_eq!(rt; (out.counter(0), worker.number()), (6, 2));
-    Ok(())
+    inc(rt, board, worker, 0, 3);
+    finds(rt, board, reader, out, &[1, 0, 0, 0]);
+    has_counted(rt, board, worker, out, 3, 1);
+    inc(rt, board, worker, 0, 3);
+    assert_eq!(rt; reader.scan(board, out), Ok(()));
+    finds(rt, board, reader, out, &[2, 0, 0, 0]);
+    has_counted(rt, board, worker, out, 6, 2);
 }
 
 #[test]
-fn a_worker_finds_its_own_updates(rt: HostRuntime) -> Result<(), Fail> {
-    let (board, mut first, mut second, _) = pair(rt.alloc())?;
+fn a_reader_finds_what_is_counted(rt: HostRuntime) -> Result<(), Fail> {
+    let (board, mut worker, mut reader) = one_of_four(rt.alloc())?;
     let mut out = Snapshot::new(rt.alloc())?;
-    assert_eq!(rt; first.scan(&board, &mut out), Ok(()));
-    assert_eq!(rt; out.vector(), [0, 0].as_slice());
+    counts_and_is_found(&rt, &board, &mut worker, &mut reader, &mut out);
+    Ok(())
+}
+
+/// The counters, the gauge and the count of the histogram are zero.
+fn is_blank(rt: &impl Abort, out: &Found) {
     assert_eq!(rt;
         (
             out.counter(0),
@@ -45,56 +73,93 @@ fn a_worker_finds_its_own_updates(rt: HostRuntime) -> Result<(), Fail> {
         ),
         (0, 0, 0, 0)
     );
-    assert_eq!(rt; first.inc(&board, &counter(1), 5), Ok(()));
-    assert_eq!(rt; second.inc(&board, &counter(1), 2), Ok(()));
-    assert_eq!(rt; first.scan(&board, &mut out), Ok(()));
-    assert_eq!(rt; out.vector(), [1, 1].as_slice());
-    assert_eq!(rt; (out.counter(0), out.counter(1)), (0, 7));
-    assert_eq!(rt; first.scan(&board, &mut out), Ok(()));
-    assert_eq!(rt; first.inc(&board, &counter(1), 5), Ok(()));
-    assert_eq!(rt; first.inc(&board, &counter(0), 1), Ok(()));
-    assert_eq!(rt; second.scan(&board, &mut out), Ok(()));
-    assert_eq!(rt; out.vector(), [3, 1].as_slice());
-    assert_eq!(rt; (out.counter(0), out.counter(1)), (1, 12));
+}
+
+/// The counters are these.
+pub(super) fn has_counters(rt: &impl Abort, out: &Found, first: u64, second: u64) {
+    assert_eq!(rt; (out.counter(0), out.counter(1)), (first, second));
+}
+
+/// A worker's scans have its own updates and those of another worker, and so have the other worker's scans.
+fn find_each_other(
+    rt: &impl Abort,
+    board: &Pair,
+    first: &mut Member,
+    second: &mut Member,
+    out: &mut Found,
+)
+    requires own { IsWorkerOf board.now first.old × IsWorkerOf board.now second.old }
+{
+    finds_itself(rt, board, first, out, &[0, 0]);
+    is_blank(rt, out);
+    inc(rt, board, first, 1, 5);
+    inc(rt, board, second, 1, 2);
+    finds_itself(rt, board, first, out, &[1, 1]);
+    has_counters(rt, out, 0, 7);
+    assert_eq!(rt; first.scan(board, out), Ok(()));
+    inc(rt, board, first, 1, 5);
+    inc(rt, board, first, 0, 1);
+    finds_itself(rt, board, second, out, &[3, 1]);
+    has_counters(rt, out, 1, 12);
+}
+
+#[test]
+fn a_worker_finds_its_own_updates(rt: HostRuntime) -> Result<(), Fail> {
+    let (board, mut first, mut second, _) = pair(rt.alloc())?;
+    let mut out = Snapshot::new(rt.alloc())?;
+    find_each_other(&rt, &board, &mut first, &mut second, &mut out);
     Ok(())
+}
+
+/// An empty list is published, and the worker has then published so often.
+fn publishes_nothing(rt: &impl Abort, board: &Pair, worker: &mut Member, number: u64)
+    requires own { IsWorkerOf board.now worker.old }
+    ensures own { IsWorkerOf board.now worker.new }
+{
+    assert_eq!(rt; worker.apply(board, &[]), Ok(()));
+    assert_eq!(rt; worker.number(), number);
+}
+
+/// A reader finds versions that count nothing.
+fn finds_no_count(rt: &impl Abort, board: &Pair, reader: &mut Onlooker, out: &mut Found)
+    requires own { IsReaderOf board.now reader.old }
+{
+    finds(rt, board, reader, out, &[2, 0]);
+    assert_eq!(rt;
+        (out.counter(0), out.hist(0).count, out.gauge(0)),
+        (0, 0, 0)
+    );
 }
 
 #[test]
 fn an_empty_list_is_a_version(rt: HostRuntime) -> Result<(), Fail> {
     let (board, mut first, _, mut reader) = pair(rt.alloc())?;
     let mut out = Snapshot::new(rt.alloc())?;
-    assert_eq!(rt; first.apply(&board, &[]), Ok(()));
-    assert_eq!(rt; first.number(), 1);
-    assert_eq!(rt; first.apply(&board, &[]), Ok(()));
-    assert_eq!(rt; first.number(), 2);
-    assert_eq!(rt; reader.scan(&board, &mut out), Ok(()));
-    assert_eq!(rt; out.vector(), [2, 0].as_slice());
-    assert_eq!(rt;
-        (out.counter(0), out.hist(0).count, out.gauge(0)),
-        (0, 0, 0)
-    );
+    publishes_nothing(&rt, &board, &mut first, 1);
+    publishes_nothing(&rt, &board, &mut first, 2);
+    finds_no_count(&rt, &board, &mut reader, &mut out);
     Ok(())
 }
 
-#[test]
-fn values_fall_into_buckets(rt: HostRuntime) -> Result<(), Fail> {
-    let (board, mut first, mut second, mut reader) = pair(rt.alloc())?;
-    let mut out = Snapshot::new(rt.alloc())?;
-    let Ok(bounds) = Bounds::from_slice(&[10, 20]) else {
-        return Err("bad bounds".into());
-    };
-    let hist = Histogram {
-        registry: ID,
-        slot: 0,
-        bounds,
-    };
-    assert_eq!(rt; first.observe(&board, &hist, 10), Ok(()));
-    assert_eq!(rt; first.observe(&board, &hist, 11), Ok(()));
-    assert_eq!(rt; second.observe(&board, &hist, 20), Ok(()));
-    assert_eq!(rt; second.observe(&board, &hist, 21), Ok(()));
-    assert_eq!(rt; (first.number(), second.number()), (2, 2));
-    assert_eq!(rt; reader.scan(&board, &mut out), Ok(()));
-    let totals = out.hist(0);
+/// Observes a value and then another one, and has then published twice.
+fn observes(
+    rt: &impl Abort,
+    board: &Pair,
+    worker: &mut Member,
+    hist: &Histogram,
+    value: u64,
+    next: u64,
+)
+    requires own { IsWorkerOf board.now worker.old }
+    ensures own { IsWorkerOf board.now worker.new }
+{
+    assert_eq!(rt; worker.observe(board, hist, value), Ok(()));
+    assert_eq!(rt; worker.observe(board, hist, next), Ok(()));
+    assert_eq!(rt; worker.number(), 2);
+}
+
+/// Four values, of which two lie in the second bucket.
+fn are_in_buckets(rt: &impl Abort, totals: &HistTotals) {
     assert_eq!(rt; (totals.sum, totals.count), (62, 4));
     assert_eq!(rt;
         (
@@ -105,26 +170,67 @@ fn values_fall_into_buckets(rt: HostRuntime) -> Result<(), Fail> {
         ),
         (1, 2, 1, 0)
     );
+}
+
+#[test]
+fn values_fall_into_buckets(rt: HostRuntime) -> Result<(), Fail> {
+    let Ok(bounds) = Bounds::from_slice(&[10, 20]) else {
+        return Err("bad bounds".into());
+    };
+    let hist = Histogram {
+        registry: ID,
+        slot: 0,
+        bounds,
+    };
+    let (board, mut first, mut second, mut reader) = pair(rt.alloc())?;
+    let mut out = Snapshot::new(rt.alloc())?;
+    observes(&rt, &board, &mut first, &hist, 10, 11);
+    observes(&rt, &board, &mut second, &hist, 20, 21);
+    finds(&rt, &board, &mut reader, &mut out, &[2, 2]);
+    are_in_buckets(&rt, &out.hist(0));
     Ok(())
+}
+
+/// Raises the gauge, and has then published so often.
+fn goes_up(rt: &impl Abort, board: &Pair, worker: &mut Member, by: u64, number: u64)
+    requires own { IsWorkerOf board.now worker.old }
+    ensures own { IsWorkerOf board.now worker.new }
+{
+    assert_eq!(rt; worker.up(board, &gauge(0), by), Ok(()));
+    assert_eq!(rt; worker.number(), number);
+}
+
+/// Lowers the gauge, and has then published so often.
+fn goes_down(rt: &impl Abort, board: &Pair, worker: &mut Member, by: u64, number: u64)
+    requires own { IsWorkerOf board.now worker.old }
+    ensures own { IsWorkerOf board.now worker.new }
+{
+    assert_eq!(rt; worker.down(board, &gauge(0), by), Ok(()));
+    assert_eq!(rt; worker.number(), number);
+}
+
+/// The gauge is at this level.
+fn has_level(rt: &impl Abort, out: &Found, level: i64) {
+    assert_eq!(rt; out.gauge(0), level);
 }
 
 #[test]
 fn a_gauge_falls_below_zero(rt: HostRuntime) -> Result<(), Fail> {
     let (board, mut first, mut second, mut reader) = pair(rt.alloc())?;
     let mut out = Snapshot::new(rt.alloc())?;
-    assert_eq!(rt; first.up(&board, &gauge(0), 5), Ok(()));
-    assert_eq!(rt; second.down(&board, &gauge(0), 7), Ok(()));
-    assert_eq!(rt; reader.scan(&board, &mut out), Ok(()));
-    assert_eq!(rt; (out.gauge(0), first.number(), second.number()), (-2, 1, 1));
-    assert_eq!(rt; first.up(&board, &gauge(0), 1), Ok(()));
-    assert_eq!(rt; second.down(&board, &gauge(0), 0), Ok(()));
-    assert_eq!(rt; reader.scan(&board, &mut out), Ok(()));
-    assert_eq!(rt; (out.gauge(0), first.number(), second.number()), (-1, 2, 2));
+    goes_up(&rt, &board, &mut first, 5, 1);
+    goes_down(&rt, &board, &mut second, 7, 1);
+    finds(&rt, &board, &mut reader, &mut out, &[1, 1]);
+    has_level(&rt, &out, -2);
+    goes_up(&rt, &board, &mut first, 1, 2);
+    goes_down(&rt, &board, &mut second, 0, 2);
+    finds(&rt, &board, &mut reader, &mut out, &[2, 2]);
+    has_level(&rt, &out, -1);
     Ok(())
 }
 
 // Counts by turns: `rounds` times 1 on the counter 0.
-pub(super) fn often(board: &Board<2, 2, 1, 1>, worker: &mut Worker<2, 2, 1, 1>, rounds: u64)
+pub(super) fn often(board: &Pair, worker: &mut Member, rounds: u64)
     requires own { IsWorkerOf board.now worker.old }
     ensures own { IsWorkerOf board.now worker.new }
 {
@@ -133,25 +239,42 @@ pub(super) fn often(board: &Board<2, 2, 1, 1>, worker: &mut Worker<2, 2, 1, 1>, 
     }
 }
 
-#[test]
-fn many_operations_in_one_list(rt: HostRuntime) -> Result<(), Fail> {
-    let (board, mut first, mut second, mut reader) = pair(rt.alloc())?;
-    let mut out = Snapshot::new(rt.alloc())?;
+/// Publishes a list, which is not refused.
+pub(super) fn applies(rt: &impl Abort, board: &Pair, worker: &mut Member, ops: &[Op])
+    requires own { IsWorkerOf board.now worker.old }
+    ensures own { IsWorkerOf board.now worker.new }
+{
+    assert_eq!(rt; worker.apply(board, ops), Ok(()));
+}
+
+/// The counter and the gauge are these.
+fn has_both(rt: &impl Abort, out: &Found, sum: u64, level: i64) {
+    assert_eq!(rt; (out.counter(0), out.gauge(0)), (sum, level));
+}
+
+/// By turns 1 on the gauge and 2 on the counter, 150 times each.
+fn three_hundred() -> [Op; 300] {
     let mut ops = [Op::Inc { counter: 0, by: 2 }; 300];
     for k in 0..150 {
         ops[2 * k] = Op::Up { gauge: 0, by: 1 };
     }
-    assert_eq!(rt; first.apply(&board, &ops), Ok(()));
+    ops
+}
+
+#[test]
+fn many_operations_in_one_list(rt: HostRuntime) -> Result<(), Fail> {
+    let (board, mut first, mut second, mut reader) = pair(rt.alloc())?;
+    let mut out = Snapshot::new(rt.alloc())?;
+    let ops = three_hundred();
+    applies(&rt, &board, &mut first, &ops);
     often(&board, &mut first, 3);
-    assert_eq!(rt; reader.scan(&board, &mut out), Ok(()));
-    assert_eq!(rt; out.vector(), [4, 0].as_slice());
-    assert_eq!(rt; (out.counter(0), out.gauge(0)), (303, 150));
+    finds(&rt, &board, &mut reader, &mut out, &[4, 0]);
+    has_both(&rt, &out, 303, 150);
     often(&board, &mut second, 2);
-    assert_eq!(rt; second.apply(&board, &ops), Ok(()));
+    applies(&rt, &board, &mut second, &ops);
     often(&board, &mut first, 2);
-    assert_eq!(rt; first.apply(&board, &ops), Ok(()));
-    assert_eq!(rt; first.scan(&board, &mut out), Ok(()));
-    assert_eq!(rt; out.vector(), [7, 3].as_slice());
-    assert_eq!(rt; (out.counter(0), out.gauge(0)), (907, 450));
+    applies(&rt, &board, &mut first, &ops);
+    finds_itself(&rt, &board, &mut first, &mut out, &[7, 3]);
+    has_both(&rt, &out, 907, 450);
     Ok(())
 }
