@@ -4,9 +4,10 @@
 # Then runs the tests of expo_text, expo_reader, register_rule, snapshot_core, snapshot_scan, snapshot_update and chain_law
 # with each test's Nth allocation refused: a test may then end for want of memory, but none may see another answer in its
 # place. A label's name is read with the 13th or the 15th allocation of some tests of expo_reader. A board of 2 workers makes
-# 5 allocations, a reader of it 9, and a worker 15. The test each_growth of snapshot_core makes 3 for its list of events and
-# 21 in its run, which has a publish and two answers. The test one_snapshot_has_a_history of chain_law makes 47 for a
-# snapshot and the list that has it, and the next one in history_of.
+# 5 allocations, a reader of it 9, and a worker 15; the tests of snapshot_update make a snapshot or two before that, of 2
+# allocations each. The test each_growth of snapshot_core makes 3 for its list of events and 21 in its run, which has a
+# publish and two answers. The test one_snapshot_has_a_history of chain_law makes 47 for a snapshot and the list that has it,
+# and the next one in history_of.
 #
 # A build refuses one allocation of the process, whose number is fixed. So that one build of a crate serves for every N, its
 # build refuses the LASTth, and the program and each test first make LAST - N allocations that they give back: the Nth of
@@ -111,7 +112,7 @@ prepare_tests expo_reader $(seq 1 16)
 prepare_tests register_rule $(seq 1 5)
 prepare_tests snapshot_core $(seq 1 24)
 prepare_tests snapshot_scan $(seq 1 16)
-prepare_tests snapshot_update $(seq 1 20)
+prepare_tests snapshot_update $(seq 1 24)
 prepare_tests chain_law $(seq 1 4) $(seq 44 49)
 
 # Half of the processors: the rest are for the proofs beside this.

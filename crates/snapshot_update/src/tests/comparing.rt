@@ -1,7 +1,7 @@
 //! Which items an update compares: as many as change, however often a worker counts.
 ghost use Rattle.snapshot_update.specs.Workers.{IsWorkerOf};
 
-use super::crew::{gauge, pair};
+use super::crew::{gauge, make_pair};
 use super::working::often;
 use crate::Worker;
 use register_rule::Board;
@@ -64,14 +64,26 @@ fn compares_all_after_a_scan(
     assert!(rt; !compares_few(worker));
 }
 
+/// A worker counts by turns with another one and with a scan of its own.
+fn compares_in_turn(
+    rt: &impl Abort,
+    board: &Board<2, 2, 1, 1>,
+    first: &mut Worker<2, 2, 1, 1>,
+    second: &mut Worker<2, 2, 1, 1>,
+    out: &mut Snapshot<2, 2, 1, 1>,
+)
+    requires own { IsWorkerOf board.now first.old × IsWorkerOf board.now second.old }
+{
+    compares_what_changed(rt, board, first);
+    often(board, second, 1);
+    compares_all_twice(rt, board, first);
+    compares_all_after_a_scan(rt, board, first, out);
+    compares_all_twice(rt, board, first);
+}
+
 #[test]
 fn an_update_compares_what_changed(rt: HostRuntime) -> Result<(), Fail> {
-    let (board, mut first, mut second, _) = pair(rt.alloc())?;
-    let mut out = Snapshot::new(rt.alloc())?;
-    compares_what_changed(&rt, &board, &mut first);
-    often(&board, &mut second, 1);
-    compares_all_twice(&rt, &board, &mut first);
-    compares_all_after_a_scan(&rt, &board, &mut first, &mut out);
-    compares_all_twice(&rt, &board, &mut first);
+    let mut it = make_pair(rt.alloc())?;
+    compares_in_turn(&rt, &it.board, &mut it.first, &mut it.second, &mut it.out);
     Ok(())
 }

@@ -73,25 +73,50 @@ fn two_seats(alloc: Global) -> Result<(Board<2, 2, 1, 1>, WorkSeat, WorkSeat, Re
     Ok((board, first, second, reader))
 }
 
-/// Two workers, whose rows are two counters, a histogram and a gauge, and a reader.
-pub(super) fn pair(
+/// The workers of two seats that have made no step, in order.
+fn two_workers<const N: usize, const C: usize, const H: usize, const G: usize>(
     alloc: Global,
-) -> Result<
-    (
-        Board<2, 2, 1, 1>,
-        Worker<2, 2, 1, 1>,
-        Worker<2, 2, 1, 1>,
-        Reader<2, 2, 1, 1>,
-    ),
-    Fail,
->
-    ensures own { IfOk result (λ r. IsWorkerOf r.0 r.1 × IsWorkerOf r.0 r.2 × IsReaderOf r.0 r.3) }
+    board: &Board<N, C, H, G>,
+    first: WorkSeat,
+    second: WorkSeat,
+) -> Result<(Worker<N, C, H, G>, Worker<N, C, H, G>), AllocError>
+    requires own { HasWorker board.now first × HasWorker board.now second }
+    requires geometry { IsGeometry N C H G }
+    requires fresh_first { worker_of first ≡ new_worker N (width C H G) (depth N (width C H G)) 0 }
+    requires fresh_second { worker_of second ≡ new_worker N (width C H G) (depth N (width C H G)) 1 }
+    ensures { IfOk result (λ r. IsWorkerOf board.now r.0 × IsWorkerOf board.now r.1) }
 {
+    let first = new_worker(alloc, board, first, 0)?;
+    let second = new_worker(alloc, board, second, 1)?;
+    Ok((first, second))
+}
+
+/// Two workers, whose rows are two counters, a histogram and a gauge, a reader, and what scans find.
+#[derive(Drop)]
+pub(super) struct Pair {
+    pub(super) board: Board<2, 2, 1, 1>,
+    pub(super) first: Worker<2, 2, 1, 1>,
+    pub(super) second: Worker<2, 2, 1, 1>,
+    pub(super) reader: Reader<2, 2, 1, 1>,
+    pub(super) out: Snapshot<2, 2, 1, 1>,
+}
+
+/// A pair that has made no step.
+pub(super) fn make_pair(alloc: Global) -> Result<Pair, Fail>
+    ensures workers { IfOk result (λ p. IsWorkerOf p.board p.first × IsWorkerOf p.board p.second) }
+    ensures reader { IfOk result (λ p. IsReaderOf p.board p.reader) }
+{
+    let out = Snapshot::new(alloc)?;
     let (board, first, second, reader) = two_seats(alloc)?;
-    let second = new_worker(alloc, &board, second, 1)?;
-    let first = new_worker(alloc, &board, first, 0)?;
+    let (first, second) = two_workers(alloc, &board, first, second)?;
     let reader = new_reader(alloc, &board, reader)?;
-    Ok((board, first, second, reader))
+    Ok(Pair {
+        board,
+        first,
+        second,
+        reader,
+        out,
+    })
 }
 
 /// The last of these seats.
@@ -148,39 +173,120 @@ pub(super) fn four_seats(
     Ok((board, (a, b, c, d), left, right))
 }
 
-/// A worker and a reader of a board of four workers.
-pub(super) fn one_of_four(
-    alloc: Global,
-) -> Result<(Board<4, 1, 1, 0>, Worker<4, 1, 1, 0>, Reader<4, 1, 1, 0>), Fail>
-    ensures own { IfOk result (λ r. IsWorkerOf r.0 r.1 × IsReaderOf r.0 r.2) }
+/// A worker and a reader of a board of four workers, and what scans find.
+#[derive(Drop)]
+pub(super) struct OneOfFour {
+    pub(super) board: Board<4, 1, 1, 0>,
+    pub(super) worker: Worker<4, 1, 1, 0>,
+    pub(super) reader: Reader<4, 1, 1, 0>,
+    pub(super) out: Snapshot<4, 1, 1, 0>,
+}
+
+/// A worker and a reader that have made no step.
+pub(super) fn one_of_four(alloc: Global) -> Result<OneOfFour, Fail>
+    ensures own { IfOk result (λ p. IsWorkerOf p.board p.worker × IsReaderOf p.board p.reader) }
 {
+    let out = Snapshot::new(alloc)?;
     let (board, workers, reader, _right) = four_seats(alloc)?;
     let (first, _second, _third, _fourth) = workers;
     let worker = new_worker(alloc, &board, first, 0)?;
     let reader = new_reader(alloc, &board, reader)?;
-    Ok((board, worker, reader))
+    Ok(OneOfFour {
+        board,
+        worker,
+        reader,
+        out,
+    })
 }
 
-/// Two workers of a board of four, and a reader.
-pub(super) fn two_of_four(
-    alloc: Global,
-) -> Result<
-    (
-        Board<4, 1, 1, 0>,
-        Worker<4, 1, 1, 0>,
-        Worker<4, 1, 1, 0>,
-        Reader<4, 1, 1, 0>,
-    ),
-    Fail,
->
-    ensures own { IfOk result (λ r. IsWorkerOf r.0 r.1 × IsWorkerOf r.0 r.2 × IsReaderOf r.0 r.3) }
+/// Two workers of a board of four, a reader, and what scans find.
+#[derive(Drop)]
+pub(super) struct TwoOfFour {
+    pub(super) board: Board<4, 1, 1, 0>,
+    pub(super) first: Worker<4, 1, 1, 0>,
+    pub(super) second: Worker<4, 1, 1, 0>,
+    pub(super) reader: Reader<4, 1, 1, 0>,
+    pub(super) out: Snapshot<4, 1, 1, 0>,
+}
+
+/// Two workers and a reader that have made no step.
+pub(super) fn two_of_four(alloc: Global) -> Result<TwoOfFour, Fail>
+    ensures workers { IfOk result (λ p. IsWorkerOf p.board p.first × IsWorkerOf p.board p.second) }
+    ensures reader { IfOk result (λ p. IsReaderOf p.board p.reader) }
 {
+    let out = Snapshot::new(alloc)?;
     let (board, workers, reader, _right) = four_seats(alloc)?;
     let (first, second, _third, _fourth) = workers;
-    let first = new_worker(alloc, &board, first, 0)?;
-    let second = new_worker(alloc, &board, second, 1)?;
+    let (first, second) = two_workers(alloc, &board, first, second)?;
     let reader = new_reader(alloc, &board, reader)?;
-    Ok((board, first, second, reader))
+    Ok(TwoOfFour {
+        board,
+        first,
+        second,
+        reader,
+        out,
+    })
+}
+
+/// Two workers of a board of four and two readers, to which none is lent, and what the readers' scans find.
+#[derive(Drop)]
+pub(super) struct TwoAndTwo {
+    pub(super) board: Board<4, 1, 1, 0>,
+    pub(super) first: Worker<4, 1, 1, 0>,
+    pub(super) second: Worker<4, 1, 1, 0>,
+    pub(super) left: Reader<4, 1, 1, 0>,
+    pub(super) right: Reader<4, 1, 1, 0>,
+    pub(super) one: Snapshot<4, 1, 1, 0>,
+    pub(super) other: Snapshot<4, 1, 1, 0>,
+}
+
+/// The readers of two seats that have made no step.
+fn two_readers(
+    alloc: Global,
+    board: &Board<4, 1, 1, 0>,
+    left: ReadSeat,
+    right: ReadSeat,
+) -> Result<(Reader<4, 1, 1, 0>, Reader<4, 1, 1, 0>), AllocError>
+    requires own { HasReader board.now left × HasReader board.now right }
+    requires fresh_left { (reader_of left).scan ≡ fresh_scan 4 28 }
+    requires fresh_right { (reader_of right).scan ≡ fresh_scan 4 28 }
+    ensures own { IfOk result (λ r. IsReaderOf board.now r.0 × IsReaderOf board.now r.1) }
+    ensures alone { IfOk result (λ r. IsAlone r.0 × IsAlone r.1) }
+{
+    let left = new_reader(alloc, board, left)?;
+    let right = new_reader(alloc, board, right)?;
+    Ok((left, right))
+}
+
+/// Two snapshots that no scan has written.
+fn two_snapshots(
+    alloc: Global,
+) -> Result<(Snapshot<4, 1, 1, 0>, Snapshot<4, 1, 1, 0>), AllocError> {
+    let one = Snapshot::new(alloc)?;
+    let other = Snapshot::new(alloc)?;
+    Ok((one, other))
+}
+
+/// Two workers and two readers that have made no step.
+pub(super) fn two_and_two(alloc: Global) -> Result<TwoAndTwo, Fail>
+    ensures workers { IfOk result (λ p. IsWorkerOf p.board p.first × IsWorkerOf p.board p.second) }
+    ensures readers { IfOk result (λ p. IsReaderOf p.board p.left × IsReaderOf p.board p.right) }
+    ensures alone { IfOk result (λ p. IsAlone p.left × IsAlone p.right) }
+{
+    let (one, other) = two_snapshots(alloc)?;
+    let (board, workers, left, right) = four_seats(alloc)?;
+    let (first, second, _third, _fourth) = workers;
+    let (first, second) = two_workers(alloc, &board, first, second)?;
+    let (left, right) = two_readers(alloc, &board, left, right)?;
+    Ok(TwoAndTwo {
+        board,
+        first,
+        second,
+        left,
+        right,
+        one,
+        other,
+    })
 }
 
 /// Adds to a counter, which is not refused.

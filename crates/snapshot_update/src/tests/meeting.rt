@@ -1,17 +1,14 @@
 //! Workers that meet readers, and readers whose snapshots compare.
-ghost use Rattle.std.specs.Prelude.{◌≡◌, IfOk, OnOk};
+ghost use Rattle.std.specs.Prelude.{◌≡◌, OnOk};
 ghost use Rattle.snapshot_scan.specs.Order.{HasRecorded, IsAlone};
 ghost use Rattle.snapshot_scan.specs.Readers.{IsReaderOf};
 ghost use Rattle.snapshot_scan.specs.Snapshots.{entry_of};
 ghost use Rattle.snapshot_update.specs.Workers.{IsWorkerOf};
 
-use super::crew::{
-    counter, finds, finds_itself, four_seats, inc, new_reader, new_worker, one_of_four, two_of_four,
-};
+use super::crew::{counter, finds, finds_itself, inc, one_of_four, two_and_two, two_of_four};
 use crate::Worker;
 use register_rule::Board;
 use snapshot_scan::{Reader, Snapshot, order};
-use std::alloc::Global;
 use std::cmp::Ordering;
 use std::process::Abort;
 use std::test::Fail;
@@ -62,12 +59,32 @@ fn count_on(
     has_counter(rt, out, 12);
 }
 
+/// Two workers count, and meet a reader by turns.
+fn meet_in_turn(
+    rt: &impl Abort,
+    board: &Board<4, 1, 1, 0>,
+    first: &mut Worker<4, 1, 1, 0>,
+    second: &mut Worker<4, 1, 1, 0>,
+    reader: &mut Reader<4, 1, 1, 0>,
+    out: &mut Snapshot<4, 1, 1, 0>,
+)
+    requires own { IsWorkerOf board.now first.old × IsWorkerOf board.now second.old × IsReaderOf board.now reader.old }
+{
+    hears_of(rt, board, first, second, reader, out);
+    count_on(rt, board, first, second, reader, out);
+}
+
 #[test]
 fn a_reader_that_was_met_finds_what_was_counted(rt: HostRuntime) -> Result<(), Fail> {
-    let (board, mut first, mut second, mut reader) = two_of_four(rt.alloc())?;
-    let mut out = Snapshot::new(rt.alloc())?;
-    hears_of(&rt, &board, &mut first, &mut second, &mut reader, &mut out);
-    count_on(&rt, &board, &mut first, &mut second, &mut reader, &mut out);
+    let mut it = two_of_four(rt.alloc())?;
+    meet_in_turn(
+        &rt,
+        &it.board,
+        &mut it.first,
+        &mut it.second,
+        &mut it.reader,
+        &mut it.out,
+    );
     Ok(())
 }
 
@@ -90,14 +107,26 @@ fn counts_and_is_lent(
     finds(rt, board, reader, out, &[number, 0, 0, 0]);
 }
 
+/// Counts and is lent three times.
+fn is_lent_thrice(
+    rt: &impl Abort,
+    board: &Board<4, 1, 1, 0>,
+    worker: &mut Worker<4, 1, 1, 0>,
+    reader: &mut Reader<4, 1, 1, 0>,
+    out: &mut Snapshot<4, 1, 1, 0>,
+)
+    requires own { IsWorkerOf board.now worker.old × IsReaderOf board.now reader.old }
+{
+    counts_and_is_lent(rt, board, worker, reader, out, 1);
+    counts_and_is_lent(rt, board, worker, reader, out, 2);
+    counts_and_is_lent(rt, board, worker, reader, out, 3);
+    has_counter(rt, out, 9);
+}
+
 #[test]
 fn a_worker_that_was_lent_counts_on(rt: HostRuntime) -> Result<(), Fail> {
-    let (board, mut worker, mut reader) = one_of_four(rt.alloc())?;
-    let mut out = Snapshot::new(rt.alloc())?;
-    counts_and_is_lent(&rt, &board, &mut worker, &mut reader, &mut out, 1);
-    counts_and_is_lent(&rt, &board, &mut worker, &mut reader, &mut out, 2);
-    counts_and_is_lent(&rt, &board, &mut worker, &mut reader, &mut out, 3);
-    has_counter(&rt, &out, 9);
+    let mut it = one_of_four(rt.alloc())?;
+    is_lent_thrice(&rt, &it.board, &mut it.worker, &mut it.reader, &mut it.out);
     Ok(())
 }
 
@@ -126,41 +155,36 @@ fn has_found(rt: &impl Abort, out: &Snapshot<4, 1, 1, 0>, vector: &[u64], sum: u
     assert_eq!(rt; out.counter(0), sum);
 }
 
-#[test]
-fn another_worker_counts_while_one_is_lent(rt: HostRuntime) -> Result<(), Fail> {
-    let mut out = Snapshot::new(rt.alloc())?;
-    let (board, mut one, mut other, mut reader) = two_of_four(rt.alloc())?;
-    inc(&rt, &board, &mut one, 0, 3);
-    counts_while_another_is_lent(&rt, &board, &mut one, &mut other, &mut reader, &mut out);
-    has_found(&rt, &out, &[1, 1, 0, 0], 8);
-    counts_while_another_is_lent(&rt, &board, &mut other, &mut one, &mut reader, &mut out);
-    has_found(&rt, &out, &[2, 1, 0, 0], 13);
-    Ok(())
+/// Each of two workers counts while the other one is lent.
+fn are_lent_in_turn(
+    rt: &impl Abort,
+    board: &Board<4, 1, 1, 0>,
+    one: &mut Worker<4, 1, 1, 0>,
+    other: &mut Worker<4, 1, 1, 0>,
+    reader: &mut Reader<4, 1, 1, 0>,
+    out: &mut Snapshot<4, 1, 1, 0>,
+)
+    requires own { IsWorkerOf board.now one.old × IsWorkerOf board.now other.old × IsReaderOf board.now reader.old }
+{
+    inc(rt, board, one, 0, 3);
+    counts_while_another_is_lent(rt, board, one, other, reader, out);
+    has_found(rt, out, &[1, 1, 0, 0], 8);
+    counts_while_another_is_lent(rt, board, other, one, reader, out);
+    has_found(rt, out, &[2, 1, 0, 0], 13);
 }
 
-/// Two workers and two readers of a board of four.
-fn two_and_two(
-    alloc: Global,
-) -> Result<
-    (
-        Board<4, 1, 1, 0>,
-        (Worker<4, 1, 1, 0>, Worker<4, 1, 1, 0>),
-        Reader<4, 1, 1, 0>,
-        Reader<4, 1, 1, 0>,
-    ),
-    Fail,
->
-    ensures workers { IfOk result (λ r. IsWorkerOf r.0 r.1.0 × IsWorkerOf r.0 r.1.1) }
-    ensures readers { IfOk result (λ r. IsReaderOf r.0 r.2 × IsReaderOf r.0 r.3) }
-    ensures alone { IfOk result (λ r. IsAlone r.2 × IsAlone r.3) }
-{
-    let (board, workers, left, right) = four_seats(alloc)?;
-    let (first, second, _third, _fourth) = workers;
-    let first = new_worker(alloc, &board, first, 0)?;
-    let second = new_worker(alloc, &board, second, 1)?;
-    let left = new_reader(alloc, &board, left)?;
-    let right = new_reader(alloc, &board, right)?;
-    Ok((board, (first, second), left, right))
+#[test]
+fn another_worker_counts_while_one_is_lent(rt: HostRuntime) -> Result<(), Fail> {
+    let mut it = two_of_four(rt.alloc())?;
+    are_lent_in_turn(
+        &rt,
+        &it.board,
+        &mut it.first,
+        &mut it.second,
+        &mut it.reader,
+        &mut it.out,
+    );
+    Ok(())
 }
 
 /// A scan that is not refused.
@@ -251,22 +275,25 @@ fn left_goes_ahead(
 
 #[test]
 fn snapshots_of_two_readers_compare(rt: HostRuntime) -> Result<(), Fail> {
-    let (board, workers, mut left, mut right) = two_and_two(rt.alloc())?;
-    let (mut first, mut second) = workers;
-    let mut one = Snapshot::new(rt.alloc())?;
-    let mut other = Snapshot::new(rt.alloc())?;
-    inc(&rt, &board, &mut second, 0, 3);
+    let mut it = two_and_two(rt.alloc())?;
+    inc(&rt, &it.board, &mut it.second, 0, 3);
     right_goes_ahead(
-        &rt, &board, &mut first, &mut left, &mut right, &mut one, &mut other,
+        &rt,
+        &it.board,
+        &mut it.first,
+        &mut it.left,
+        &mut it.right,
+        &mut it.one,
+        &mut it.other,
     );
     left_goes_ahead(
         &rt,
-        &board,
-        &mut second,
-        &mut left,
-        &mut right,
-        &mut one,
-        &mut other,
+        &it.board,
+        &mut it.second,
+        &mut it.left,
+        &mut it.right,
+        &mut it.one,
+        &mut it.other,
     );
     Ok(())
 }

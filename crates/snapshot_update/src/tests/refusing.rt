@@ -1,12 +1,13 @@
+ghost use Rattle.snapshot_scan.specs.Readers.{IsReaderOf};
 ghost use Rattle.snapshot_update.specs.Workers.{IsWorkerOf};
 
-use super::crew::{ID, counter, finds, gauge, inc, pair};
+use super::crew::{ID, counter, finds, gauge, inc, make_pair};
 use super::working::{applies, has_counters};
 use crate::{ApplyFault, CountFault, Worker};
 use bucket_math::Bounds;
 use ledger_core::{Counter, Gauge, Histogram, Op, OpFault};
 use register_rule::{Board, Parts};
-use snapshot_scan::{NoRoom, Snapshot};
+use snapshot_scan::{NoRoom, Reader, Snapshot};
 use std::alloc::AllocError;
 use std::process::Abort;
 use std::test::Fail;
@@ -34,18 +35,30 @@ fn is_full(rt: &impl Abort, board: &Board<2, 2, 1, 1>, worker: &mut Worker<2, 2,
     assert_eq!(rt; worker.number(), 1);
 }
 
+/// The counter 0 gets the greatest value of a word, and stays at it.
+fn stays_full(
+    rt: &impl Abort,
+    board: &Board<2, 2, 1, 1>,
+    worker: &mut Worker<2, 2, 1, 1>,
+    reader: &mut Reader<2, 2, 1, 1>,
+    out: &mut Snapshot<2, 2, 1, 1>,
+)
+    requires own { IsWorkerOf board.now worker.old × IsReaderOf board.now reader.old }
+{
+    inc(rt, board, worker, 0, MAX);
+    is_full(rt, board, worker);
+    is_full(rt, board, worker);
+    finds(rt, board, reader, out, &[1, 0]);
+    has_counters(rt, out, MAX, 0);
+    inc(rt, board, worker, 0, 0);
+    finds(rt, board, reader, out, &[2, 0]);
+    has_counters(rt, out, MAX, 0);
+}
+
 #[test]
 fn a_word_does_not_overflow(rt: HostRuntime) -> Result<(), Fail> {
-    let (board, mut first, _, mut reader) = pair(rt.alloc())?;
-    let mut out = Snapshot::new(rt.alloc())?;
-    inc(&rt, &board, &mut first, 0, MAX);
-    is_full(&rt, &board, &mut first);
-    is_full(&rt, &board, &mut first);
-    finds(&rt, &board, &mut reader, &mut out, &[1, 0]);
-    has_counters(&rt, &out, MAX, 0);
-    inc(&rt, &board, &mut first, 0, 0);
-    finds(&rt, &board, &mut reader, &mut out, &[2, 0]);
-    has_counters(&rt, &out, MAX, 0);
+    let mut it = make_pair(rt.alloc())?;
+    stays_full(&rt, &it.board, &mut it.first, &mut it.reader, &mut it.out);
     Ok(())
 }
 
@@ -84,17 +97,47 @@ fn refuses_lists(rt: &impl Abort, board: &Board<2, 2, 1, 1>, worker: &mut Worker
     is_refused(rt, board, worker, &[ONE, ONE, ONE, slot], last);
 }
 
+/// Of lists that are refused a reader finds nothing, and of one that is not it finds all.
+fn is_all_or_nothing(
+    rt: &impl Abort,
+    board: &Board<2, 2, 1, 1>,
+    worker: &mut Worker<2, 2, 1, 1>,
+    reader: &mut Reader<2, 2, 1, 1>,
+    out: &mut Snapshot<2, 2, 1, 1>,
+)
+    requires own { IsWorkerOf board.now worker.old × IsReaderOf board.now reader.old }
+{
+    refuses_lists(rt, board, worker);
+    finds(rt, board, reader, out, &[0, 0]);
+    has_counters(rt, out, 0, 0);
+    applies(rt, board, worker, &[ONE, MOST]);
+    finds(rt, board, reader, out, &[1, 0]);
+    has_counters(rt, out, 1, MAX);
+}
+
 #[test]
 fn nothing_of_a_refused_list_is_applied(rt: HostRuntime) -> Result<(), Fail> {
-    let (board, mut first, _, mut reader) = pair(rt.alloc())?;
-    let mut out = Snapshot::new(rt.alloc())?;
-    refuses_lists(&rt, &board, &mut first);
-    finds(&rt, &board, &mut reader, &mut out, &[0, 0]);
-    has_counters(&rt, &out, 0, 0);
-    applies(&rt, &board, &mut first, &[ONE, MOST]);
-    finds(&rt, &board, &mut reader, &mut out, &[1, 0]);
-    has_counters(&rt, &out, 1, MAX);
+    let mut it = make_pair(rt.alloc())?;
+    is_all_or_nothing(&rt, &it.board, &mut it.first, &mut it.reader, &mut it.out);
     Ok(())
+}
+
+/// No row has the slot.
+fn is_outside(rt: &impl Abort, found: Result<(), CountFault>) {
+    let fault = refused(OpFault::OutOfGeometry { at: 0 });
+    assert_eq!(rt; found, Err(fault));
+}
+
+/// The handle is of another registry.
+fn is_of_another(rt: &impl Abort, found: Result<(), CountFault>) {
+    assert_eq!(rt; found, Err(CountFault::WrongRegistry));
+}
+
+/// The worker has published so often.
+fn has_number(rt: &impl Abort, board: &Board<2, 2, 1, 1>, worker: &Worker<2, 2, 1, 1>, number: u64)
+    requires own { IsWorkerOf board.now worker.now }
+{
+    assert_eq!(rt; worker.number(), number);
 }
 
 /// Handles of slots that no row has.
@@ -107,12 +150,11 @@ fn refuses_slots(
     requires own { IsWorkerOf board.now worker.old }
     ensures own { IsWorkerOf board.now worker.new }
 {
-    let fault = Err(refused(OpFault::OutOfGeometry { at: 0 }));
-    assert_eq!(rt; worker.inc(board, &counter(2), 1), fault);
-    assert_eq!(rt; worker.observe(board, hist, 1), fault);
-    assert_eq!(rt; worker.up(board, &gauge(1), 1), fault);
-    assert_eq!(rt; worker.down(board, &gauge(1), 1), fault);
-    assert_eq!(rt; worker.number(), 0);
+    is_outside(rt, worker.inc(board, &counter(2), 1));
+    is_outside(rt, worker.observe(board, hist, 1));
+    is_outside(rt, worker.up(board, &gauge(1), 1));
+    is_outside(rt, worker.down(board, &gauge(1), 1));
+    has_number(rt, board, worker, 0);
 }
 
 #[test]
@@ -125,9 +167,9 @@ fn slots_out_of_range(rt: HostRuntime) -> Result<(), Fail> {
         slot: 1,
         bounds,
     };
-    let (board, mut first, _, _) = pair(rt.alloc())?;
-    refuses_slots(&rt, &board, &mut first, &hist);
-    refuses_slots(&rt, &board, &mut first, &hist);
+    let mut it = make_pair(rt.alloc())?;
+    refuses_slots(&rt, &it.board, &mut it.first, &hist);
+    refuses_slots(&rt, &it.board, &mut it.first, &hist);
     Ok(())
 }
 
@@ -144,19 +186,11 @@ fn refuses_handles(
     let registry = ID + 1;
     let count = Counter { registry, slot: 0 };
     let level = Gauge { registry, slot: 0 };
-    let fault = Err(CountFault::WrongRegistry);
-    assert_eq!(rt; worker.inc(board, &count, 1), fault);
-    assert_eq!(rt; worker.observe(board, hist, 1), fault);
-    assert_eq!(rt; worker.up(board, &level, 1), fault);
-    assert_eq!(rt; worker.down(board, &level, 1), fault);
-    assert_eq!(rt; worker.number(), 0);
-}
-
-/// The worker has published so often.
-fn has_number(rt: &impl Abort, board: &Board<2, 2, 1, 1>, worker: &Worker<2, 2, 1, 1>, number: u64)
-    requires own { IsWorkerOf board.now worker.now }
-{
-    assert_eq!(rt; worker.number(), number);
+    is_of_another(rt, worker.inc(board, &count, 1));
+    is_of_another(rt, worker.observe(board, hist, 1));
+    is_of_another(rt, worker.up(board, &level, 1));
+    is_of_another(rt, worker.down(board, &level, 1));
+    has_number(rt, board, worker, 0);
 }
 
 #[test]
@@ -169,11 +203,11 @@ fn handles_of_another_registry(rt: HostRuntime) -> Result<(), Fail> {
         slot: 9,
         bounds,
     };
-    let (board, mut first, _, _) = pair(rt.alloc())?;
-    refuses_handles(&rt, &board, &mut first, &hist);
-    refuses_handles(&rt, &board, &mut first, &hist);
-    inc(&rt, &board, &mut first, 0, 1);
-    has_number(&rt, &board, &first, 1);
+    let mut it = make_pair(rt.alloc())?;
+    refuses_handles(&rt, &it.board, &mut it.first, &hist);
+    refuses_handles(&rt, &it.board, &mut it.first, &hist);
+    inc(&rt, &it.board, &mut it.first, 0, 1);
+    has_number(&rt, &it.board, &it.first, 1);
     Ok(())
 }
 

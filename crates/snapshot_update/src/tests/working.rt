@@ -2,7 +2,7 @@ ghost use Rattle.std.specs.Prelude.{◌≡◌};
 ghost use Rattle.snapshot_scan.specs.Readers.{IsReaderOf};
 ghost use Rattle.snapshot_update.specs.Workers.{IsWorkerOf};
 
-use super::crew::{ID, counter, finds, finds_itself, gauge, inc, one_of_four, pair};
+use super::crew::{ID, counter, finds, finds_itself, gauge, inc, make_pair, one_of_four};
 use crate::Worker;
 use bucket_math::Bounds;
 use ledger_core::{HistTotals, Histogram, Op};
@@ -11,14 +11,14 @@ use snapshot_scan::{Reader, Snapshot};
 use std::process::Abort;
 use std::test::Fail;
 
-/// The board of most tests, its workers, its reader and its snapshots.
-type Pair = Board<2, 2, 1, 1>;
+/// The board of a pair of workers, its workers, its reader and its snapshots.
+type PairBoard = Board<2, 2, 1, 1>;
 
-type Member = Worker<2, 2, 1, 1>;
+type PairWorker = Worker<2, 2, 1, 1>;
 
-type Onlooker = Reader<2, 2, 1, 1>;
+type PairReader = Reader<2, 2, 1, 1>;
 
-type Found = Snapshot<2, 2, 1, 1>;
+type PairSnapshot = Snapshot<2, 2, 1, 1>;
 
 /// What the worker has published, and the counter, are these.
 fn has_counted(
@@ -56,14 +56,13 @@ fn counts_and_is_found(
 
 #[test]
 fn a_reader_finds_what_is_counted(rt: HostRuntime) -> Result<(), Fail> {
-    let (board, mut worker, mut reader) = one_of_four(rt.alloc())?;
-    let mut out = Snapshot::new(rt.alloc())?;
-    counts_and_is_found(&rt, &board, &mut worker, &mut reader, &mut out);
+    let mut it = one_of_four(rt.alloc())?;
+    counts_and_is_found(&rt, &it.board, &mut it.worker, &mut it.reader, &mut it.out);
     Ok(())
 }
 
 /// The counters, the gauge and the count of the histogram are zero.
-fn is_blank(rt: &impl Abort, out: &Found) {
+fn is_blank(rt: &impl Abort, out: &PairSnapshot) {
     assert_eq!(rt;
         (
             out.counter(0),
@@ -76,17 +75,17 @@ fn is_blank(rt: &impl Abort, out: &Found) {
 }
 
 /// The counters are these.
-pub(super) fn has_counters(rt: &impl Abort, out: &Found, first: u64, second: u64) {
+pub(super) fn has_counters(rt: &impl Abort, out: &PairSnapshot, first: u64, second: u64) {
     assert_eq!(rt; (out.counter(0), out.counter(1)), (first, second));
 }
 
 /// A worker's scans have its own updates and those of another worker, and so have the other worker's scans.
 fn find_each_other(
     rt: &impl Abort,
-    board: &Pair,
-    first: &mut Member,
-    second: &mut Member,
-    out: &mut Found,
+    board: &PairBoard,
+    first: &mut PairWorker,
+    second: &mut PairWorker,
+    out: &mut PairSnapshot,
 )
     requires own { IsWorkerOf board.now first.old × IsWorkerOf board.now second.old }
 {
@@ -105,14 +104,13 @@ fn find_each_other(
 
 #[test]
 fn a_worker_finds_its_own_updates(rt: HostRuntime) -> Result<(), Fail> {
-    let (board, mut first, mut second, _) = pair(rt.alloc())?;
-    let mut out = Snapshot::new(rt.alloc())?;
-    find_each_other(&rt, &board, &mut first, &mut second, &mut out);
+    let mut it = make_pair(rt.alloc())?;
+    find_each_other(&rt, &it.board, &mut it.first, &mut it.second, &mut it.out);
     Ok(())
 }
 
 /// An empty list is published, and the worker has then published so often.
-fn publishes_nothing(rt: &impl Abort, board: &Pair, worker: &mut Member, number: u64)
+fn publishes_nothing(rt: &impl Abort, board: &PairBoard, worker: &mut PairWorker, number: u64)
     requires own { IsWorkerOf board.now worker.old }
     ensures own { IsWorkerOf board.now worker.new }
 {
@@ -121,7 +119,12 @@ fn publishes_nothing(rt: &impl Abort, board: &Pair, worker: &mut Member, number:
 }
 
 /// A reader finds versions that count nothing.
-fn finds_no_count(rt: &impl Abort, board: &Pair, reader: &mut Onlooker, out: &mut Found)
+fn finds_no_count(
+    rt: &impl Abort,
+    board: &PairBoard,
+    reader: &mut PairReader,
+    out: &mut PairSnapshot,
+)
     requires own { IsReaderOf board.now reader.old }
 {
     finds(rt, board, reader, out, &[2, 0]);
@@ -133,19 +136,18 @@ fn finds_no_count(rt: &impl Abort, board: &Pair, reader: &mut Onlooker, out: &mu
 
 #[test]
 fn an_empty_list_is_a_version(rt: HostRuntime) -> Result<(), Fail> {
-    let (board, mut first, _, mut reader) = pair(rt.alloc())?;
-    let mut out = Snapshot::new(rt.alloc())?;
-    publishes_nothing(&rt, &board, &mut first, 1);
-    publishes_nothing(&rt, &board, &mut first, 2);
-    finds_no_count(&rt, &board, &mut reader, &mut out);
+    let mut it = make_pair(rt.alloc())?;
+    publishes_nothing(&rt, &it.board, &mut it.first, 1);
+    publishes_nothing(&rt, &it.board, &mut it.first, 2);
+    finds_no_count(&rt, &it.board, &mut it.reader, &mut it.out);
     Ok(())
 }
 
 /// Observes a value and then another one, and has then published twice.
 fn observes(
     rt: &impl Abort,
-    board: &Pair,
-    worker: &mut Member,
+    board: &PairBoard,
+    worker: &mut PairWorker,
     hist: &Histogram,
     value: u64,
     next: u64,
@@ -172,6 +174,24 @@ fn are_in_buckets(rt: &impl Abort, totals: &HistTotals) {
     );
 }
 
+/// The values of two workers fall into the buckets of one histogram.
+fn observe_in_turn(
+    rt: &impl Abort,
+    board: &PairBoard,
+    first: &mut PairWorker,
+    second: &mut PairWorker,
+    reader: &mut PairReader,
+    out: &mut PairSnapshot,
+    hist: &Histogram,
+)
+    requires own { IsWorkerOf board.now first.old × IsWorkerOf board.now second.old × IsReaderOf board.now reader.old }
+{
+    observes(rt, board, first, hist, 10, 11);
+    observes(rt, board, second, hist, 20, 21);
+    finds(rt, board, reader, out, &[2, 2]);
+    are_in_buckets(rt, &out.hist(0));
+}
+
 #[test]
 fn values_fall_into_buckets(rt: HostRuntime) -> Result<(), Fail> {
     let Ok(bounds) = Bounds::from_slice(&[10, 20]) else {
@@ -182,17 +202,21 @@ fn values_fall_into_buckets(rt: HostRuntime) -> Result<(), Fail> {
         slot: 0,
         bounds,
     };
-    let (board, mut first, mut second, mut reader) = pair(rt.alloc())?;
-    let mut out = Snapshot::new(rt.alloc())?;
-    observes(&rt, &board, &mut first, &hist, 10, 11);
-    observes(&rt, &board, &mut second, &hist, 20, 21);
-    finds(&rt, &board, &mut reader, &mut out, &[2, 2]);
-    are_in_buckets(&rt, &out.hist(0));
+    let mut it = make_pair(rt.alloc())?;
+    observe_in_turn(
+        &rt,
+        &it.board,
+        &mut it.first,
+        &mut it.second,
+        &mut it.reader,
+        &mut it.out,
+        &hist,
+    );
     Ok(())
 }
 
 /// Raises the gauge, and has then published so often.
-fn goes_up(rt: &impl Abort, board: &Pair, worker: &mut Member, by: u64, number: u64)
+fn goes_up(rt: &impl Abort, board: &PairBoard, worker: &mut PairWorker, by: u64, number: u64)
     requires own { IsWorkerOf board.now worker.old }
     ensures own { IsWorkerOf board.now worker.new }
 {
@@ -201,7 +225,7 @@ fn goes_up(rt: &impl Abort, board: &Pair, worker: &mut Member, by: u64, number: 
 }
 
 /// Lowers the gauge, and has then published so often.
-fn goes_down(rt: &impl Abort, board: &Pair, worker: &mut Member, by: u64, number: u64)
+fn goes_down(rt: &impl Abort, board: &PairBoard, worker: &mut PairWorker, by: u64, number: u64)
     requires own { IsWorkerOf board.now worker.old }
     ensures own { IsWorkerOf board.now worker.new }
 {
@@ -210,27 +234,47 @@ fn goes_down(rt: &impl Abort, board: &Pair, worker: &mut Member, by: u64, number
 }
 
 /// The gauge is at this level.
-fn has_level(rt: &impl Abort, out: &Found, level: i64) {
+fn has_level(rt: &impl Abort, out: &PairSnapshot, level: i64) {
     assert_eq!(rt; out.gauge(0), level);
+}
+
+/// The gauge is raised and lowered by turns.
+fn level_in_turn(
+    rt: &impl Abort,
+    board: &PairBoard,
+    first: &mut PairWorker,
+    second: &mut PairWorker,
+    reader: &mut PairReader,
+    out: &mut PairSnapshot,
+)
+    requires own { IsWorkerOf board.now first.old × IsWorkerOf board.now second.old × IsReaderOf board.now reader.old }
+{
+    goes_up(rt, board, first, 5, 1);
+    goes_down(rt, board, second, 7, 1);
+    finds(rt, board, reader, out, &[1, 1]);
+    has_level(rt, out, -2);
+    goes_up(rt, board, first, 1, 2);
+    goes_down(rt, board, second, 0, 2);
+    finds(rt, board, reader, out, &[2, 2]);
+    has_level(rt, out, -1);
 }
 
 #[test]
 fn a_gauge_falls_below_zero(rt: HostRuntime) -> Result<(), Fail> {
-    let (board, mut first, mut second, mut reader) = pair(rt.alloc())?;
-    let mut out = Snapshot::new(rt.alloc())?;
-    goes_up(&rt, &board, &mut first, 5, 1);
-    goes_down(&rt, &board, &mut second, 7, 1);
-    finds(&rt, &board, &mut reader, &mut out, &[1, 1]);
-    has_level(&rt, &out, -2);
-    goes_up(&rt, &board, &mut first, 1, 2);
-    goes_down(&rt, &board, &mut second, 0, 2);
-    finds(&rt, &board, &mut reader, &mut out, &[2, 2]);
-    has_level(&rt, &out, -1);
+    let mut it = make_pair(rt.alloc())?;
+    level_in_turn(
+        &rt,
+        &it.board,
+        &mut it.first,
+        &mut it.second,
+        &mut it.reader,
+        &mut it.out,
+    );
     Ok(())
 }
 
 // Counts by turns: `rounds` times 1 on the counter 0.
-pub(super) fn often(board: &Pair, worker: &mut Member, rounds: u64)
+pub(super) fn often(board: &PairBoard, worker: &mut PairWorker, rounds: u64)
     requires own { IsWorkerOf board.now worker.old }
     ensures own { IsWorkerOf board.now worker.new }
 {
@@ -240,7 +284,7 @@ pub(super) fn often(board: &Pair, worker: &mut Member, rounds: u64)
 }
 
 /// Publishes a list, which is not refused.
-pub(super) fn applies(rt: &impl Abort, board: &Pair, worker: &mut Member, ops: &[Op])
+pub(super) fn applies(rt: &impl Abort, board: &PairBoard, worker: &mut PairWorker, ops: &[Op])
     requires own { IsWorkerOf board.now worker.old }
     ensures own { IsWorkerOf board.now worker.new }
 {
@@ -248,7 +292,7 @@ pub(super) fn applies(rt: &impl Abort, board: &Pair, worker: &mut Member, ops: &
 }
 
 /// The counter and the gauge are these.
-fn has_both(rt: &impl Abort, out: &Found, sum: u64, level: i64) {
+fn has_both(rt: &impl Abort, out: &PairSnapshot, sum: u64, level: i64) {
     assert_eq!(rt; (out.counter(0), out.gauge(0)), (sum, level));
 }
 
@@ -261,20 +305,41 @@ fn three_hundred() -> [Op; 300] {
     ops
 }
 
+/// Both workers publish the list, and count by turns.
+fn apply_in_turn(
+    rt: &impl Abort,
+    board: &PairBoard,
+    first: &mut PairWorker,
+    second: &mut PairWorker,
+    reader: &mut PairReader,
+    out: &mut PairSnapshot,
+    ops: &[Op],
+)
+    requires own { IsWorkerOf board.now first.old × IsWorkerOf board.now second.old × IsReaderOf board.now reader.old }
+{
+    applies(rt, board, first, ops);
+    often(board, first, 3);
+    finds(rt, board, reader, out, &[4, 0]);
+    has_both(rt, out, 303, 150);
+    often(board, second, 2);
+    applies(rt, board, second, ops);
+    often(board, first, 2);
+    applies(rt, board, first, ops);
+    finds_itself(rt, board, first, out, &[7, 3]);
+    has_both(rt, out, 907, 450);
+}
+
 #[test]
 fn many_operations_in_one_list(rt: HostRuntime) -> Result<(), Fail> {
-    let (board, mut first, mut second, mut reader) = pair(rt.alloc())?;
-    let mut out = Snapshot::new(rt.alloc())?;
-    let ops = three_hundred();
-    applies(&rt, &board, &mut first, &ops);
-    often(&board, &mut first, 3);
-    finds(&rt, &board, &mut reader, &mut out, &[4, 0]);
-    has_both(&rt, &out, 303, 150);
-    often(&board, &mut second, 2);
-    applies(&rt, &board, &mut second, &ops);
-    often(&board, &mut first, 2);
-    applies(&rt, &board, &mut first, &ops);
-    finds_itself(&rt, &board, &mut first, &mut out, &[7, 3]);
-    has_both(&rt, &out, 907, 450);
+    let mut it = make_pair(rt.alloc())?;
+    apply_in_turn(
+        &rt,
+        &it.board,
+        &mut it.first,
+        &mut it.second,
+        &mut it.reader,
+        &mut it.out,
+        &three_hundred(),
+    );
     Ok(())
 }
