@@ -1,0 +1,13 @@
+pub mod Lists
+pub mod Placing
+pub mod Ordered
+pub mod Slots
+pub mod Holding
+pub mod Showing
+pub mod Merging
+pub mod Entries
+pub mod Replayed
+pub mod Keeping
+pub mod Growing
+pub mod Windowed
+pub mod Making

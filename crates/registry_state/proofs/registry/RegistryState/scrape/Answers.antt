@@ -1,0 +1,55 @@
+use Rattle.std.proofs.Common.{◌≡◌, ℕ, List, sym, subst, ◌∙◌, arith}
+use Rattle.snapshot_scan.specs.Snapshots.{entry_of}
+use Rattle.snapshot_scan.specs.Sources.{newest, IsWhole}
+use Rattle.registry_state.specs.Journal.{scrapes}
+use Rattle.register_rule.specs.declared.view.Entry.{Entry as Answer}
+use Rattle.registry_state.specs.Replay.{Family}
+use Rattle.registry_state.specs.Kept.{Registry}
+use Rattle.registry_state.specs.Held.{AreShowable, IsOrder}
+use Rattle.registry_state.specs.Filled.{blanks}
+use Rattle.registry_state.specs.Changed.{Keeps}
+use Rattle.registry_state.proofs.Windowed.{is_newest, is_some, held_scrape, keeps_scrape}
+use Rattle.registry_state.proofs.Showing.{showable}
+use Rattle.registry_state.proofs.registry.RegistryState.scrape.Goals as goal
+
+pub unreachable-requires : goal.unreachable-requires
+unreachable-requires g c =
+    let scraped = c.in_ok-scrape.ensures.scraped in
+    is_some c.self.inside.window c.self.inside.journal c.scrape.new.self scraped.0 c.self.invariant.kept.room.0 scraped.2 c.in_default-newest.ensures
+
+pub fill-requires : goal.fill-requires
+fill-requires g c =
+    let scraped = c.in_ok-scrape.ensures.scraped in
+    let families : c.deref.result.now ≡ c.deref-3.result.now = c.deref.ensures.value ∙ sym c.deref-3.ensures.value in
+    let order : c.deref-2.result.now ≡ c.deref-4.result.now = c.deref-2.ensures.value ∙ sym c.deref-4.ensures.value in
+    let blank : c.in-Ok.blank.families.items ≡ blanks c.deref-3.result.now c.deref-4.result.now =
+        subst (λ (l : List Family). c.in-Ok.blank.families.items ≡ blanks l c.deref-4.result.now) families
+        (subst (λ (o : List ℕ). c.in-Ok.blank.families.items ≡ blanks c.deref.result.now o) order c.in-Ok.ensures.families) in
+    let shown : AreShowable g.row.C g.row.H g.row.G c.deref-3.result.now =
+        subst (AreShowable g.row.C g.row.H g.row.G) (sym c.deref-3.ensures.value) (showable _ _ _ _ _ c.self.invariant.held) in
+    let ordered : IsOrder c.deref-3.result.now c.deref-4.result.now =
+        subst (λ (l : List Family). IsOrder l c.deref-4.result.now) (sym c.deref-3.ensures.value)
+        (subst (λ (o : List ℕ). IsOrder c.self.inside.families.items o) (sym c.deref-4.ensures.value) c.self.invariant.ordered) in
+    let same : scraped.0 ≡ entry_of c.in-Some.newest.now = is_newest c.self.inside.window c.self.inside.journal c.scrape.new.self scraped.0 (entry_of c.in-Some.newest.now) c.self.invariant.kept.room.0 scraped.2 c.in-Some.ensures in
+    let whole : IsWhole g.row.N g.row.C g.row.H g.row.G (entry_of c.in-Some.newest.now) =
+        subst (λ (a : Answer). IsWhole g.row.N g.row.C g.row.H g.row.G a) same scraped.1.whole in
+    (omega arith, (c.in-Ok.ensures.vector, (blank, (shown, (ordered, (c.self.invariant.geometry.slots, whole))))))
+
+pub invariant_of-self-2 : goal.invariant_of-self-2
+invariant_of-self-2 g c =
+    let scraped = c.in_ok-scrape.ensures.scraped in
+    held_scrape _ _ _ _ _ _ _ _ _ _ c.self.invariant _ _ scraped.0 scraped.1 scraped.2
+
+pub returns-clause-kept : goal.returns-clause-kept
+returns-clause-kept g c =
+    let scraped = c.in_ok-scrape.ensures.scraped in
+    let now : Registry g.row.S.Denot = record {
+      id = c.self.inside.id;
+      window = c.self.inside.window;
+      source = c.scrape.new.source;
+      journal = c.scrape.new.self;
+      state = record { families = c.self.inside.families.items; last = newest (scrapes c.scrape.new.self) };
+    } in
+    subst (λ (old : Registry g.row.S.Denot). Keeps g.row.N g.row.C g.row.H g.row.G g.S.Source.recorded old now) c.self.view_is
+    (keeps_scrape g.row.N g.row.C g.row.H g.row.G g.S.Source.recorded c.self.inside.id c.self.inside.window c.self.inside.source c.scrape.new.source c.self.inside.journal
+        c.scrape.new.self c.self.inside.families.items scraped.0 c.self.invariant.kept.room.0 scraped.1 scraped.2)

@@ -1,0 +1,78 @@
+-- Why a registry refuses, and the numbers of its refusals.
+use Rattle.std.specs.Prelude.{◌≡◌, ◌≢◌, ℕ, ◌+◌, ◌<◌, ◌≤◌, List, length, take, slice_get, IsSomeAnd}
+use Rattle.metric_desc.specs.Desc.{Descriptor, Clash}
+use Rattle.metric_desc.specs.declared.kind.Kind.{Kind}
+use Rattle.register_rule.specs.declared.view.Entry.{Entry as Answer}
+use Rattle.registry_state.specs.Replay.{Family, IsApart, IsNew, IsFree, slots}
+use Rattle.registry_state.specs.declared.fault.NewFault.{NewFault}
+use Rattle.registry_state.specs.declared.fault.NewFault.TheVariants as New
+use Rattle.registry_state.specs.declared.fault.RegisterFault.{RegisterFault}
+use Rattle.registry_state.specs.declared.fault.RegisterFault.TheVariants as Register
+use Rattle.registry_state.specs.declared.fault.ChildFault.{ChildFault}
+use Rattle.registry_state.specs.declared.fault.ChildFault.TheVariants as Child
+use Rattle.registry_state.specs.declared.fault.ScrapeFault.{ScrapeFault}
+use Rattle.registry_state.specs.declared.fault.ScrapeFault.TheVariants as Scrape
+
+-- a registry may keep 1 to 1,024 scrapes
+abbrev pub IsWindow : ℕ → Type 0
+IsWindow window = (1 ≤ window) × (window ≤ 1024)
+
+-- why there is no registry
+abbrev pub IsNewFault : ℕ → NewFault → Type 0
+IsNewFault window New.BadWindow = ¬ (IsWindow window)
+IsNewFault window New.NoMemory = IsWindow window
+
+-- the family of this number is the least that clashes with the descriptor
+pub record IsFirstClash (families : List Family) (desc : Descriptor) (with : ℕ) : Type 0 where
+  pub clash : IsSomeAnd (slice_get families with) (λ (family : Family). Clash family.desc desc)
+  pub first : IsApart (take with families) desc
+
+-- why a family is not registered
+abbrev pub IsRegisterFault : List Family → Descriptor → RegisterFault → Type 0
+IsRegisterFault families desc (Register.Clash with) = IsFirstClash families desc with
+IsRegisterFault families desc Register.TooManyFamilies = IsApart families desc × (128 ≤ length families)
+IsRegisterFault families desc Register.NoMemory = IsApart families desc × (length families < 128)
+
+-- a slot of this kind is there and free
+abbrev pub HasSlot : (c h g : ℕ) → List Family → Kind → Type 0
+HasSlot c h g families kind = (slot : ℕ) × (slot < slots c h g kind) × IsFree families kind slot
+
+-- the values are as many as the family's labels, and no child of it has them
+abbrev pub IsWanted : Family → List (List ℕ) → Type 0
+IsWanted family values = (length values ≡ length family.desc.labels) × IsNew family values
+
+-- why there is no child of these values of the family of this number
+abbrev pub IsChildFault : (c h g : ℕ) → List Family → (family : ℕ) → (values : List (List ℕ)) → ChildFault → Type 0
+IsChildFault c h g families family values Child.NoSuchFamily = length families ≤ family
+IsChildFault c h g families family values (Child.LabelCount want got) =
+    IsSomeAnd (slice_get families family) (λ (it : Family). (want ≡ length it.desc.labels) × (got ≡ length values) × (want ≢ got))
+IsChildFault c h g families family values (Child.Full kind) =
+    IsSomeAnd (slice_get families family) (λ (it : Family). IsWanted it values × (kind ≡ it.desc.kind) × (¬ (HasSlot c h g families kind)))
+IsChildFault c h g families family values Child.NoMemory =
+    IsSomeAnd (slice_get families family) (λ (it : Family). IsWanted it values × HasSlot c h g families it.desc.kind)
+
+-- what a refused scrape leaves of a source of n workers: it recorded nothing, and gave up a scan exactly where it was contended,
+-- where some worker's number rose
+abbrev pub Leaves : (n : ℕ) → (recorded recorded' : List Answer) → (quit quit' : ℕ) → ScrapeFault → Type 0
+Leaves n recorded recorded' quit quit' Scrape.NoMemory = (recorded' ≡ recorded) × (quit' ≡ quit)
+Leaves n recorded recorded' quit quit' (Scrape.Contended fault) =
+    (recorded' ≡ recorded) × (quit' ≡ quit + 1) × (fault.worker < n) × (fault.first < fault.last)
+
+abbrev pub new_number : NewFault → ℕ
+new_number New.BadWindow = 31
+new_number New.NoMemory = 6
+
+abbrev pub register_number : RegisterFault → ℕ
+register_number (Register.Clash with) = 19
+register_number Register.TooManyFamilies = 23
+register_number Register.NoMemory = 6
+
+abbrev pub child_number : ChildFault → ℕ
+child_number Child.NoSuchFamily = 20
+child_number (Child.LabelCount want got) = 21
+child_number (Child.Full kind) = 22
+child_number Child.NoMemory = 6
+
+abbrev pub scrape_number : ScrapeFault → ℕ
+scrape_number Scrape.NoMemory = 6
+scrape_number (Scrape.Contended fault) = 14

@@ -1,0 +1,34 @@
+-- A scrape's families before and after their numbers are written.
+use Rattle.std.specs.Prelude.{ℕ, ◌<◌, List, map, replicate, All}
+use Rattle.metric_desc.specs.declared.kind.Kind.{Kind}
+use Rattle.metric_desc.specs.declared.kind.Kind.TheVariants.{Counter, Histogram, Gauge}
+use Rattle.expo_text.specs.Scraped.{Child as ChildShown, Family as FamilyShown}
+use Rattle.expo_text.specs.declared.number.Number.{Number}
+use Rattle.registry_state.specs.Replay.{Child, Family, slots}
+use Rattle.registry_state.specs.Held.{family_at}
+use Rattle.registry_state.specs.Shown.{family_shown}
+
+-- a number of this kind that nothing was counted in
+abbrev pub zero_of : Kind → Number
+zero_of Counter = Number.Counter 0
+zero_of Histogram = Number.Histogram (record { buckets = replicate 25 0; sum = 0; count = 0 })
+zero_of Gauge = Number.Gauge (record { up = 0; down = 0 })
+
+abbrev pub child_blank : Kind → Child → ChildShown
+child_blank kind child = record { values = child.values; number = zero_of kind }
+
+-- a family with zeros
+abbrev pub family_blank : Family → FamilyShown
+family_blank family = record { desc = family.desc; children = map (child_blank family.desc.kind) family.children }
+
+-- the families in this order, with zeros
+abbrev pub blanks : List Family → (order : List ℕ) → List FamilyShown
+blanks families order = map (λ number. family_blank (family_at families number)) order
+
+-- the families in this order, with their numbers in these totals of rows of c counters and h histograms
+abbrev pub arranged : (c h : ℕ) → (totals : List ℕ) → List Family → (order : List ℕ) → List FamilyShown
+arranged c h totals families order = map (λ number. family_shown c h totals (family_at families number)) order
+
+-- the children of a family have slots of a row of c counters, h histograms and g gauges
+abbrev pub AreWithin : (c h g : ℕ) → Family → Type 0
+AreWithin c h g family = All (λ (child : Child). child.slot < slots c h g family.desc.kind) family.children

@@ -1,0 +1,26 @@
+-- What a registry keeps, whenever nobody is at work in it.
+use Rattle.std.specs.Prelude.{◌≡◌, ℕ, ◌≤◌, List, ◌++◌, length}
+use Rattle.register_rule.specs.declared.view.Entry.{Entry as Answer}
+use Rattle.registry_state.specs.Journal.{Entry, scrapes}
+use Rattle.registry_state.specs.Replay.{State, Replays}
+
+-- what contracts see of a registry: the id of its handles, how many scrapes it keeps, its source, its journal, and its families and
+-- last scrape
+pub record Registry (S : Type 0) : Type 0 where
+  pub id : ℕ
+  pub window : ℕ
+  pub source : S
+  pub journal : List Entry
+  pub state : State
+
+-- these are the last of what was recorded
+pub record AreLast (kept recorded : List Answer) : Type 0 where
+  pub older : List Answer
+  pub is : recorded ≡ older ++ kept
+
+-- the journal replays to the state; the kept scrapes are at most the window, and the last of what the source recorded, in order
+pub record IsKept (n c h g : ℕ) (recorded : List Answer) (journal : List Entry) (window : ℕ) (state : State) : Type 0 where
+  pub replays : Replays n c h g journal state
+  pub room : (1 ≤ window) × (window ≤ 1024)
+  pub few : length (scrapes journal) ≤ window
+  pub newest : AreLast (scrapes journal) recorded

@@ -1,0 +1,20 @@
+-- How a journal is kept: all changes in order, and the kept scrapes, each with how many changes were made before it.
+use Rattle.std.specs.Prelude.{ℕ, ◌-◌, ◌≤◌, List, [], ◌∷◌, ◌++◌, map, take, drop}
+use Rattle.register_rule.specs.declared.view.Entry.{Entry as Answer}
+use Rattle.snapshot_scan.specs.Snapshots.{Taken, entry_of}
+use Rattle.registry_state.specs.Journal.{Change, Entry, Changed, Scraped}
+
+-- the journal from the change at `from` on
+abbrev pub merged : (changes : List Change) → (from : ℕ) → (kept : List (Taken × ℕ)) → List Entry
+merged changes from [] = map Changed (drop from changes)
+merged changes from (scrape ∷ kept) =
+    map Changed (take (scrape.1 - from) (drop from changes)) ++ Scraped (entry_of scrape.0) ∷ merged changes scrape.1 kept
+
+-- the kept scrapes stand in order, after the change at `from` and within all
+abbrev pub AreNoted : (all from : ℕ) → (kept : List (Taken × ℕ)) → Type 0
+AreNoted all from [] = from ≤ all
+AreNoted all from (scrape ∷ kept) = (from ≤ scrape.1) × AreNoted all scrape.1 kept
+
+-- the answers of kept scrapes
+abbrev pub answers_of : List (Taken × ℕ) → List Answer
+answers_of kept = map (λ (scrape : Taken × ℕ). entry_of scrape.0) kept

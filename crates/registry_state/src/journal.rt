@@ -1,0 +1,178 @@
+//! The journal of a registry.
+ghost use Rattle.std.specs.Prelude.{◌≡◌, ◌+◌, ◌-◌, ◌<◌, ◌≤◌, [], ◌∷◌, ◌++◌, None, Some, drop, length, IfErr, IfOk, MatchOption, OnErr, OnOk};
+ghost use Rattle.std.specs.VecDeque.{deque_capacity};
+ghost use Rattle.register_rule.specs.declared.view.Entry.{Entry as Answer};
+ghost use Rattle.segment_layout.specs.Layout.{IsGeometry};
+ghost use Rattle.snapshot_scan.specs.Snapshots.{entry_of};
+ghost use Rattle.snapshot_scan.specs.Sources.{newest, Records};
+ghost use Rattle.registry_state.specs.Faults.{Leaves};
+ghost use Rattle.registry_state.specs.Journal.{Changed, Scraped, scrapes, within};
+ghost use Rattle.registry_state.specs.Notes.{change_of};
+
+use crate::fault::ScrapeFault;
+use crate::kept::Kept;
+use crate::note::Note;
+use metric_names::NoMemory;
+use snapshot_scan::{Snapshot, Source};
+use std::alloc::{AllocError, Global};
+use std::collections::VecDeque;
+use std::marker::Model;
+
+/// The journal: what was registered, what was made and what was scraped, in order. All changes are kept, and the newest
+/// scrapes.
+///
+/// Contracts see it as the list of its entries.
+#[derive(Drop)]
+pub struct Journal<const N: usize, const C: usize, const H: usize, const G: usize> {
+    notes: Vec<Note>,
+    kept: VecDeque<(Snapshot<N, C, H, G>, usize)>,
+}
+
+impl<const N: usize, const C: usize, const H: usize, const G: usize> Model for Journal<N, C, H, G> {
+    ghost use Rattle.std.specs.Prelude.{List, map, length};
+    ghost use Rattle.segment_layout.specs.Layout.{IsGeometry};
+    ghost use Rattle.registry_state.specs.Journal.{Entry};
+
+    ghost Value = { List Entry };
+
+    ghost use Rattle.registry_state.specs.Notes.{change_of};
+    ghost use Rattle.registry_state.specs.Merged.{merged, AreNoted};
+
+    ghost view = { λ j. merged (map change_of j.notes.items) 0 j.kept.items };
+
+    ghost invariant = { λ j. IsGeometry N C H G × AreNoted (length j.notes.items) 0 j.kept.items };
+}
+
+impl<const N: usize, const C: usize, const H: usize, const G: usize> Journal<N, C, H, G> {
+    /// An empty journal, with room for `window` scrapes.
+    ///
+    /// # Errors
+    ///
+    /// Refusal 6 for want of memory.
+    pub(crate) fn new(alloc: Global, window: usize) -> Result<Journal<N, C, H, G>, AllocError>
+        requires { IsGeometry N C H G }
+        ensures { IfOk result (λ journal. journal ≡ []) }
+    {
+        let kept = VecDeque::with_capacity(alloc, window)?;
+        Ok(Journal {
+            notes: Vec::new(alloc),
+            kept,
+        })
+    }
+
+    /// How many entries there are: changes and kept scrapes.
+    pub fn len(&self) -> usize
+        ensures { result ≡ length self.now }
+    {
+        self.notes.len() + self.kept.len()
+    }
+
+    /// Adds a change.
+    ///
+    /// # Errors
+    ///
+    /// 6 [`NoMemory`]: nothing has changed.
+    pub(crate) fn note(&mut self, note: Note) -> Result<(), NoMemory>
+        ensures noted { OnOk result (self.new ≡ self.old ++ Changed (change_of note) ∷ []) }
+        ensures unchanged { OnErr result (self.new ≡ self.old) }
+    {
+        self.notes.push(note)?;
+        Ok(())
+    }
+
+    /// Makes a scrape of the source, and keeps it and of those before it so many that they are `window` at most, the
+    /// newest. It takes all its memory before it scans.
+    ///
+    /// # Errors
+    ///
+    /// 6 [`ScrapeFault::NoMemory`]: nothing was scanned. 14 [`ScrapeFault::Contended`]: the scan was given up. The
+    /// journal is unchanged.
+    pub(crate) fn scrape<S: Source<N, C, H, G>>(
+        &mut self,
+        source: &mut S,
+        window: usize,
+    ) -> Result<(), ScrapeFault>
+        requires { 1 ≤ window }
+        ensures scraped { OnOk result ((answer : Answer) × Records N C H G (S.recorded source.old) (S.recorded source.new) answer
+            × (self.new ≡ within window (self.old ++ Scraped answer ∷ []))) }
+        ensures kept { OnOk result (S.quit source.new ≡ S.quit source.old) }
+        ensures fault { IfErr result (Leaves N (S.recorded source.old) (S.recorded source.new) (S.quit source.old) (S.quit source.new)) }
+        ensures unchanged { OnErr result (self.new ≡ self.old) }
+    {
+        let mut snapshot = Snapshot::new(*self.notes.allocator())?;
+        make_room(&mut self.kept, window)?;
+        if let Err(fault) = source.scan(&mut snapshot) {
+            return Err(ScrapeFault::Contended(fault));
+        }
+        let before = self.notes.len();
+        keep(&mut self.kept, (snapshot, before), window);
+        Ok(())
+    }
+
+    /// Drops the oldest scrapes where they are more than `window`.
+    pub(crate) fn trim(&mut self, window: usize)
+        ensures { self.new ≡ within window self.old }
+    {
+        drop_oldest(&mut self.kept, window);
+    }
+
+    /// The newest scrape that is kept.
+    pub(crate) fn newest(&self) -> Option<&Snapshot<N, C, H, G>>
+        ensures { MatchOption result (newest (scrapes self.now) ≡ None) (λ snapshot. newest (scrapes self.now) ≡ Some (entry_of snapshot.now)) }
+    {
+        match self.kept.back() {
+            Some((snapshot, _before)) => Some(snapshot),
+            None => None,
+        }
+    }
+
+    /// The scrapes that are kept, from the oldest to the newest.
+    pub fn kept(&self) -> Kept<'_, N, C, H, G>
+        ensures { result ≡ scrapes self.now }
+    {
+        Kept {
+            scrapes: &self.kept,
+        }
+    }
+}
+
+/// Makes room for one scrape more, unless there are `window` already.
+fn make_room<const N: usize, const C: usize, const H: usize, const G: usize>(
+    kept: &mut VecDeque<(Snapshot<N, C, H, G>, usize)>,
+    window: usize,
+) -> Result<(), AllocError>
+    ensures same { kept.new.items ≡ kept.old.items }
+    ensures room { OnOk result (length kept.new.items < window → length kept.new.items < deque_capacity kept.new) }
+{
+    if kept.len() < window {
+        kept.reserve(1)?;
+    }
+    Ok(())
+}
+
+/// Drops the oldest scrapes where they are more than `most`.
+fn drop_oldest<const N: usize, const C: usize, const H: usize, const G: usize>(
+    kept: &mut VecDeque<(Snapshot<N, C, H, G>, usize)>,
+    most: usize,
+)
+    ensures newest { kept.new.items ≡ drop (length kept.old.items - most) kept.old.items }
+    ensures room { deque_capacity kept.new ≡ deque_capacity kept.old }
+{
+    for _ in most..kept.len() {
+        let _oldest = kept.pop_front();
+    }
+}
+
+/// Adds a scrape, for which there is room, and drops the oldest where they are more than `window`.
+fn keep<const N: usize, const C: usize, const H: usize, const G: usize>(
+    kept: &mut VecDeque<(Snapshot<N, C, H, G>, usize)>,
+    scrape: (Snapshot<N, C, H, G>, usize),
+    window: usize,
+)
+    requires window { 1 ≤ window }
+    requires room { length kept.old.items < window → length kept.old.items < deque_capacity kept.old }
+    ensures { kept.new.items ≡ drop (length kept.old.items + 1 - window) (kept.old.items ++ scrape.entry ∷ []) }
+{
+    drop_oldest(kept, window - 1);
+    kept.push_back_reserved(scrape);
+}

@@ -1,0 +1,44 @@
+//! The scrapes that a journal keeps.
+ghost use Rattle.std.specs.Prelude.{◌≡◌, ◌<◌, Some, length, slice_get};
+ghost use Rattle.snapshot_scan.specs.Snapshots.{entry_of};
+
+use snapshot_scan::Snapshot;
+use std::collections::VecDeque;
+use std::marker::Model;
+
+/// The scrapes that are kept, from the oldest to the newest.
+///
+/// Contracts see it as their list.
+#[derive(Drop)]
+pub struct Kept<'a, const N: usize, const C: usize, const H: usize, const G: usize> {
+    pub(crate) scrapes: &'a VecDeque<(Snapshot<N, C, H, G>, usize)>,
+}
+
+impl<'a, const N: usize, const C: usize, const H: usize, const G: usize> Model
+    for Kept<'a, N, C, H, G> {
+    ghost use Rattle.std.specs.Prelude.{List};
+    ghost use Rattle.register_rule.specs.declared.view.Entry.{Entry as Answer};
+    ghost use Rattle.registry_state.specs.Merged.{answers_of};
+
+    ghost Value = { List Answer };
+
+    ghost view = { λ k. answers_of k.scrapes.now.items };
+}
+
+impl<'a, const N: usize, const C: usize, const H: usize, const G: usize> Kept<'a, N, C, H, G> {
+    /// How many scrapes are kept.
+    pub fn len(&self) -> usize
+        ensures { result ≡ length self.now }
+    {
+        self.scrapes.len()
+    }
+
+    /// Makes `out` the scrape of this number, counted from the oldest, which is 0. It takes no memory.
+    pub fn read(&self, number: usize, out: &mut Snapshot<N, C, H, G>)
+        requires { number < length self.now }
+        ensures { slice_get self.now number ≡ Some (entry_of out.new) }
+    {
+        let scrape = &self.scrapes[number];
+        out.copy_from(&scrape.0);
+    }
+}

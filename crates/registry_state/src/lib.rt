@@ -1,0 +1,29 @@
+//! A registry over any source of snapshots: its families and their children, its handles, its journal, and the scrapes that it
+//! gives and keeps.
+#![tactic(auto)]
+
+mod children;
+mod family;
+mod fault;
+mod handle;
+mod journal;
+#[cfg(test)]
+mod journal_tests;
+mod kept;
+mod note;
+mod ordering;
+mod plain;
+mod registering;
+mod registry;
+mod scraping;
+mod shown;
+mod used;
+
+pub use fault::{BadWindow, ChildFault, NewFault, RegisterFault, ScrapeFault};
+pub use handle::{FamilyId, Handle};
+pub use journal::Journal;
+pub use kept::Kept;
+pub use registry::{NotMade, RegistryState};
+
+#[cfg(test)]
+mod tests;

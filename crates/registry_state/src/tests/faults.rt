@@ -1,0 +1,41 @@
+use crate::{ChildFault, NewFault, RegisterFault, ScrapeFault};
+use metric_desc::Kind;
+use snapshot_scan::Contended;
+use std::test::Fail;
+
+#[test]
+fn numbers(rt: HostRuntime) {
+    assert_eq!(rt; NewFault::BadWindow.number(), 31);
+    assert_eq!(rt; NewFault::NoMemory.number(), 6);
+    assert_eq!(rt; RegisterFault::Clash { with: 3 }.number(), 19);
+    assert_eq!(rt; RegisterFault::TooManyFamilies.number(), 23);
+    assert_eq!(rt; RegisterFault::NoMemory.number(), 6);
+    assert_eq!(rt; ChildFault::NoSuchFamily.number(), 20);
+    assert_eq!(rt; ChildFault::LabelCount { want: 2, got: 1 }.number(), 21);
+    assert_eq!(rt; ChildFault::Full { kind: Kind::Gauge }.number(), 22);
+    assert_eq!(rt; ChildFault::NoMemory.number(), 6);
+    let contended = Contended {
+        worker: 1,
+        first: 2,
+        last: 3,
+    };
+    assert_eq!(rt; ScrapeFault::Contended(contended).number(), 14);
+    assert_eq!(rt; ScrapeFault::NoMemory.number(), 6);
+}
+
+#[test]
+fn texts(rt: HostRuntime) -> Result<(), Fail> {
+    let alloc = rt.alloc();
+    let clash = format!(in alloc; "{}", RegisterFault::Clash { with: 3 })?;
+    assert_eq!(rt;
+        clash.as_str(),
+        "a sample's name is shared with the family 3"
+    );
+    let count = format!(in alloc; "{}", ChildFault::LabelCount { want: 2, got: 1 })?;
+    assert_eq!(rt; count.as_str(), "1 label values for 2 labels");
+    let window = format!(in alloc; "{}", NewFault::BadWindow)?;
+    assert_eq!(rt; window.as_str(), "a registry keeps 1 to 1,024 scrapes");
+    let memory = format!(in alloc; "{}", ScrapeFault::NoMemory)?;
+    assert_eq!(rt; memory.as_str(), "out of memory");
+    Ok(())
+}
