@@ -1,0 +1,13 @@
+//! The language of scripts: which texts are which lines ([`read_line`]), what stands in a line ([`unescape`],
+//! [`labels_of`], [`bounds_of`], [`values_of`]), and the lines of a reader ([`Lines`]).
+#![tactic(auto)]
+
+mod line;
+mod list;
+mod number;
+mod word;
+mod writing;
+
+pub use line::{Counting, Line, read_line};
+
+
