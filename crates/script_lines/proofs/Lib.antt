@@ -4,3 +4,8 @@ pub mod Numbers
 pub mod Writings
 pub mod Joined
 pub mod Parts
+pub mod Tokens
+pub mod Families
+pub mod Counts
+pub mod Lines
+pub mod OneLine

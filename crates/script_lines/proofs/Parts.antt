@@ -1,15 +1,15 @@
 -- Bounds and label values, part by part.
-use Rattle.std.proofs.Common.{◌≡◌, ◌≢◌, ℕ, ◌<◌, ◌^◌, Bool, true, false, not, eqb, ◌&&◌, is_some, List, [], ◌∷◌, ◌++◌, length, map, All, Option, Some, None, decimal, codes, refl, sym, ap, ◌∙◌, subst, inl, inr, ⊎_elim, arith}
+use Rattle.std.proofs.Common.{◌≡◌, ◌≢◌, ℕ, ◌<◌, ◌^◌, Bool, true, false, not, eqb, ◌&&◌, is_some, List, [], ◌∷◌, ◌++◌, length, map, All, Option, Some, None, decimal, codes, refl, sym, ap, ◌∙◌, subst, inl, inr, ⊎_elim, arith, length-append}
 use Rattle.std.specs.Prelude.{bytes_eq, ◌⊎◌, filter_map}
 use Rattle.std.specs.List.{slice_split, join_with_byte, list_all, cons_option}
 use Rattle.std.proofs.lemmas.Bool.{and_parts, and_from, or_cases, or_left, or_right, not_from_false, not-true, ne_eqb, eqb-false}
 use Rattle.std.proofs.lemmas.Slice.Eq.{bytes_eq-Decides}
-use Rattle.std.proofs.lemmas.List.Elements.{All-nil, All-cons, All-head, All-tail, All-weaker}
+use Rattle.std.proofs.lemmas.List.Elements.{All-nil, All-cons, All-head, All-tail, All-weaker, All-append}
 use Rattle.std.proofs.lemmas.List.Splits.{join_with_byte-slice_split}
 use Rattle.script_lines.specs.Language.{Lacks, IsToken, IsWriting, AreBounds, AreValues}
 use Rattle.script_lines.specs.Reading.{number_of, is_empty, is_writing, is_value, are_bounds, are_values}
 use Rattle.script_lines.proofs.Options.{none_or_some}
-use Rattle.script_lines.proofs.Numbers.{number_found, number_says, digits_lack}
+use Rattle.script_lines.proofs.Numbers.{number_found, number_says, digits_lack, digits_some}
 use Rattle.script_lines.proofs.Writings.{writing_says, writing_found}
 use Rattle.script_lines.proofs.Joined.{split_joined, some_part, parts_lack}
 
@@ -125,3 +125,26 @@ values_split text values some are =
 pub values_found : (text : List ℕ) (values : List (List ℕ)) → values ≢ [] → AreValues text values → are_values text ≡ true
 unfolding are_values
 values_found text values some are = ap (list_all is_value) (values_split text values some are) ∙ values_pass values are.0
+
+-- bounds are a token
+joined_token : (words : List (List ℕ)) → words ≢ [] → All IsToken words → IsToken (join_with_byte 44 words)
+joined_token [] some all = absurd (some refl)
+joined_token (word ∷ []) some all = All-head IsToken word [] all
+joined_token (word ∷ next ∷ words) some all =
+    let here = All-head IsToken word (next ∷ words) all in
+    let there = joined_token (next ∷ words) (λ e. cc e) (All-tail IsToken word (next ∷ words) all) in (
+      λ e. omega (arith, length-append word (44 ∷ join_with_byte 44 (next ∷ words)), ap length e),
+      All-append (λ b. b ≢ 32) word (44 ∷ join_with_byte 44 (next ∷ words)) here.1 (All-cons (λ b. b ≢ 32) 44 (join_with_byte 44 (next ∷ words)) (λ e. omega (arith, e)) there.1),
+    )
+
+digits_tokens : (numbers : List ℕ) → All (λ n. n < 2 ^ 64) numbers → All IsToken (map decimal numbers)
+digits_tokens [] small = All-nil IsToken
+digits_tokens (n ∷ numbers) small =
+    let here = All-head (λ n. n < 2 ^ 64) n numbers small in
+    All-cons IsToken (decimal n) (map decimal numbers) (digits_some n here, digits_lack 32 n (omega arith) here)
+    (digits_tokens numbers (All-tail (λ n. n < 2 ^ 64) n numbers small))
+
+pub bounds_token : (word : List ℕ) (numbers : List ℕ) → AreBounds word numbers → IsToken word
+bounds_token word numbers (inl none) = subst IsToken (sym none.0) ((λ e. cc e), All-cons (λ b. b ≢ 32) 45 [] (λ e. omega (arith, e)) (All-nil (λ b. b ≢ 32)))
+bounds_token word numbers (inr some) =
+    subst IsToken (sym some.2) (joined_token (map decimal numbers) (some_mapped numbers some.0) (digits_tokens numbers some.1))

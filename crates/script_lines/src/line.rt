@@ -1,4 +1,5 @@
-ghost use Rattle.std.specs.Prelude.{◌≡◌, option_map};
+ghost use Rattle.std.specs.Prelude.{◌≡◌, option_map, IfSome, IfNone};
+ghost use Rattle.script_lines.specs.Language.{Saying, IsLine};
 ghost use Rattle.script_lines.specs.Line.{saying_of};
 ghost use Rattle.script_lines.specs.Reading.{numbered_of, repeated, amount_of, family_of, histogram_of, named, child_of, count_of, after_word, alone_in, worded_of, line_of};
 
@@ -217,9 +218,8 @@ fn read_worded<'a>(first: &'a str, text: &'a str) -> Option<Line<'a>>
     read_after(word, text)
 }
 
-/// Reads a line, or says that the language of scripts has no such line. Takes no memory, and time by the text's length.
 #[tactic(auto, unfolding(crate::specs::Reading::line_of))]
-pub fn read_line(text: &str) -> Option<Line<'_>>
+fn read_text(text: &str) -> Option<Line<'_>>
     ensures { option_map saying_of result ≡ line_of text.now }
 {
     if text.is_empty() || text.as_bytes()[0] == b'#' {
@@ -229,4 +229,14 @@ pub fn read_line(text: &str) -> Option<Line<'_>>
         Some((first, rest)) => read_worded(first, rest),
         None => read_alone(text),
     }
+}
+
+/// Reads a line, without its line feed, or says that the language of scripts has no such line. Takes no memory, and time
+/// that grows with the text's length.
+pub fn read_line(text: &str) -> Option<Line<'_>>
+    ensures some { IfSome result (λ line. IsLine text.now (saying_of line)) }
+    ensures only { IfSome result (λ line. (other : Saying) → IsLine text.now other → other ≡ saying_of line) }
+    ensures none { IfNone result ((other : Saying) → ¬ (IsLine text.now other)) }
+{
+    read_text(text)
 }
