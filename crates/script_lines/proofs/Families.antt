@@ -1,5 +1,5 @@
 -- What stands after the first word of a line that registers a family or makes a child.
-use Rattle.std.proofs.Common.{◌≡◌, ◌≢◌, ℕ, Bool, true, false, not, cond, ◌&&◌, List, [], ◌∷◌, ◌++◌, length, Option, Some, None, option_map, refl, sym, ap, ◌∙◌, subst, inl, inr, ⊎_elim, eqb, arith}
+use Rattle.std.proofs.Common.{◌≡◌, ◌≢◌, ℕ, Bool, true, not, cond, ◌&&◌, List, [], ◌∷◌, ◌++◌, Option, Some, None, refl, sym, ap, ◌∙◌, subst, inl, inr, ⊎_elim, eqb, arith}
 use Rattle.std.specs.Prelude.{option_and_then}
 use Rattle.std.specs.List.{slice_split, join_with_byte}
 use Rattle.std.specs.Option.{option_map_or}
@@ -135,13 +135,17 @@ child_says text s h =
     (λ some.
     let is = named_says some.0.0 some.0.1 (are_values some.0.1) s (at (Some some.0) some.1) in
     let parts = cut_parts text some.0 some.1 in
-    let are = values_say some.0.1 is.1 in
-    (some.0.0, some.0.1, is.2, record {
-      token = (is.0, parts.1);
-      words = slice_split (λ b. eqb b 32) some.0.1;
-      are = are;
-      is = parts.0 ∙ joined_more some.0.0 some.0.1 (slice_split (λ b. eqb b 32) some.0.1) (some_part 32 some.0.1) are.1;
-    }))
+    let are = values_say some.0.1 is.1 in (
+      some.0.0,
+      some.0.1,
+      is.2,
+      record {
+        token = (is.0, parts.1);
+        words = slice_split (λ b. eqb b 32) some.0.1;
+        are = are;
+        is = parts.0 ∙ joined_more some.0.0 some.0.1 (slice_split (λ b. eqb b 32) some.0.1) (some_part 32 some.0.1) are.1;
+      },
+    ))
     (none_or_some (cut_of text))
 
 pub child_found : (text name values : List ℕ) → IsChild text name values → child_of text ≡ Some (Child name values)

@@ -1,19 +1,18 @@
 -- A text is at most one line, and it is read where it is one.
-use Rattle.std.proofs.Common.{◌≡◌, ◌≢◌, ℕ, suc, Bool, true, false, cond, eqb, ◌||◌, List, [], ◌∷◌, ◌++◌, length, get_or, Option, Some, None, option_map, MatchOption, decimal, codes, refl, sym, ap, ◌∙◌, subst, inl, inr, ⊎_elim}
-use Rattle.std.specs.Prelude.{option_and_then, bytes_eq, slice_get, ◌⊎◌}
+use Rattle.std.proofs.Common.{◌≡◌, ℕ, suc, true, false, cond, eqb, ◌||◌, List, [], ◌∷◌, ◌++◌, length, get_or, Option, Some, None, option_map, decimal, codes, refl, sym, ap, ◌∙◌, subst, inl, inr, ⊎_elim}
+use Rattle.std.specs.Prelude.{bytes_eq}
 use Rattle.std.specs.List.{join_with_byte}
 use Rattle.std.specs.Option.{option_map_or}
 use Rattle.std.proofs.Math.Dec.{eqb-suc-zero}
-use Rattle.std.proofs.lemmas.Bool.{or_cases, eqb-true}
+use Rattle.std.proofs.lemmas.Bool.{eqb-true}
 use Rattle.std.proofs.lemmas.Slice.Eq.{bytes_eq-Decides}
-use Rattle.script_lines.specs.Language.{Saying, Nothing, Counter, Gauge, Histogram, Child, Count, Go, Scrape, Window, IsLine, word_of, AreValues}
-use Rattle.script_lines.specs.declared.line.Counting.{Counting}
+use Rattle.script_lines.specs.Language.{Saying, Nothing, Counter, Gauge, Histogram, Child, Count, Go, Scrape, Window, IsLine, word_of}
 use Rattle.script_lines.specs.declared.line.Counting.TheVariants.{Inc, Obs, Up, Down}
 use Rattle.script_lines.specs.declared.word.Word.{Word}
 use Rattle.script_lines.specs.declared.word.Word.TheVariants as word
-use Rattle.script_lines.specs.Reading.{cut_of, number_of, is_empty, family_of, histogram_of, child_of, count_of, word_in, after_word, alone_in, worded_of, line_of}
+use Rattle.script_lines.specs.Reading.{cut_of, number_of, is_empty, family_of, word_in, after_word, alone_in, worded_of, line_of}
 use Rattle.script_lines.proofs.Options.{none_or_some, bind_some, map_some, first_or_next}
-use Rattle.script_lines.proofs.Cut.{cut_parts, cut_whole}
+use Rattle.script_lines.proofs.Cut.{cut_parts}
 use Rattle.script_lines.proofs.Numbers.{number_found, number_says}
 use Rattle.script_lines.proofs.Parts.{bounds_token}
 use Rattle.script_lines.proofs.Families.{IsFamily, IsChild, IsHistogram, family_says, family_found, family_words, words_family, histogram_says, histogram_found, child_says, child_found}
@@ -71,9 +70,9 @@ after_says word.Histogram text s h =
       (is.numbers, is.bounded),
       is.family.written,
       ⊎_elim
-      (λ none. inl (ap (λ r. codes "histogram" ++ 32 ∷ r) (is.is ∙ ap (λ r. found.0 ++ 32 ∷ r) (is.family.is ∙ ap (λ r. found.1 ++ 32 ∷ r) none.0)), none.1))
-      (λ some. inr (ap (λ r. codes "histogram" ++ 32 ∷ r) (is.is ∙ ap (λ r. found.0 ++ 32 ∷ r) (is.family.is ∙ ap (λ r. found.1 ++ 32 ∷ r) some))))
-      is.family.ends,
+          (λ none. inl (ap (λ r. codes "histogram" ++ 32 ∷ r) (is.is ∙ ap (λ r. found.0 ++ 32 ∷ r) (is.family.is ∙ ap (λ r. found.1 ++ 32 ∷ r) none.0)), none.1))
+          (λ some. inr (ap (λ r. codes "histogram" ++ 32 ∷ r) (is.is ∙ ap (λ r. found.0 ++ 32 ∷ r) (is.family.is ∙ ap (λ r. found.1 ++ 32 ∷ r) some))))
+          is.family.ends,
     )
 after_says word.Child text s h =
     let found = child_says text s h in
@@ -167,22 +166,30 @@ line_found text (Gauge name labels help) is =
 line_found text (Histogram name labels bounds help) is =
     let written : (rest : List ℕ) × (text ≡ codes "histogram" ++ 32 ∷ rest) × IsHistogram rest name labels bounds help =
     ⊎_elim
-    (λ none. (name ++ 32 ∷ (labels ++ 32 ∷ bounds), none.0, record {
-      token = is.0;
-      rest = labels ++ 32 ∷ bounds;
-      is = refl;
-      family = record { token = is.1; words = bounds_token bounds is.2.0 is.2.1; written = is.3; tail = bounds; is = refl; ends = inl (refl, none.1) };
-      numbers = is.2.0;
-      bounded = is.2.1;
-    }))
-    (λ some. (name ++ 32 ∷ (labels ++ 32 ∷ (bounds ++ 32 ∷ help)), some, record {
-      token = is.0;
-      rest = labels ++ 32 ∷ (bounds ++ 32 ∷ help);
-      is = refl;
-      family = record { token = is.1; words = bounds_token bounds is.2.0 is.2.1; written = is.3; tail = bounds ++ 32 ∷ help; is = refl; ends = inr refl };
-      numbers = is.2.0;
-      bounded = is.2.1;
-    }))
+    (λ none. (
+      name ++ 32 ∷ (labels ++ 32 ∷ bounds),
+      none.0,
+      record {
+        token = is.0;
+        rest = labels ++ 32 ∷ bounds;
+        is = refl;
+        family = record { token = is.1; words = bounds_token bounds is.2.0 is.2.1; written = is.3; tail = bounds; is = refl; ends = inl (refl, none.1) };
+        numbers = is.2.0;
+        bounded = is.2.1;
+      },
+    ))
+    (λ some. (
+      name ++ 32 ∷ (labels ++ 32 ∷ (bounds ++ 32 ∷ help)),
+      some,
+      record {
+        token = is.0;
+        rest = labels ++ 32 ∷ (bounds ++ 32 ∷ help);
+        is = refl;
+        family = record { token = is.1; words = bounds_token bounds is.2.0 is.2.1; written = is.3; tail = bounds ++ 32 ∷ help; is = refl; ends = inr refl };
+        numbers = is.2.0;
+        bounded = is.2.1;
+      },
+    ))
     is.4 in
     ap line_of written.1 ∙ worded_line word.Histogram written.0 ∙ histogram_found written.0 name labels bounds help written.2
 line_found text (Child name values) is =

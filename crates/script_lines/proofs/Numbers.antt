@@ -1,5 +1,5 @@
 -- Numbers as they are written.
-use Rattle.std.proofs.Common.{◌≡◌, ◌≢◌, ℕ, ◌<◌, ◌^◌, Bool, true, false, cond, ltb, ◌&&◌, List, Option, Some, None, decimal, refl, sym, ap, ◌∙◌, subst, ⊎_elim, [], length, arith}
+use Rattle.std.proofs.Common.{◌≡◌, ◌≢◌, ℕ, ◌<◌, ◌^◌, cond, ltb, ◌&&◌, List, Option, Some, None, decimal, sym, ap, ◌∙◌, subst, ⊎_elim, [], length, arith}
 use Rattle.std.specs.Prelude.{bytes_eq}
 use Rattle.std.specs.Str.Parse.{digits_value}
 use Rattle.std.proofs.lemmas.Bool.{ltb-true, lt-ltb, and_parts, and_from}

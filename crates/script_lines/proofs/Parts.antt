@@ -1,14 +1,13 @@
 -- Bounds and label values, part by part.
-use Rattle.std.proofs.Common.{◌≡◌, ◌≢◌, ℕ, ◌<◌, ◌^◌, Bool, true, false, not, eqb, ◌&&◌, is_some, List, [], ◌∷◌, ◌++◌, length, map, All, Option, Some, None, decimal, codes, refl, sym, ap, ◌∙◌, subst, inl, inr, ⊎_elim, arith, length-append}
-use Rattle.std.specs.Prelude.{bytes_eq, ◌⊎◌, filter_map}
+use Rattle.std.proofs.Common.{◌≡◌, ◌≢◌, ℕ, ◌<◌, ◌^◌, true, false, not, eqb, is_some, List, [], ◌∷◌, length, map, All, Option, Some, None, decimal, codes, refl, sym, ap, ◌∙◌, subst, inl, inr, ⊎_elim, arith, length-append}
+use Rattle.std.specs.Prelude.{bytes_eq, filter_map}
 use Rattle.std.specs.List.{slice_split, join_with_byte, list_all, cons_option}
 use Rattle.std.proofs.lemmas.Bool.{and_parts, and_from, or_cases, or_left, or_right, not_from_false, not-true, ne_eqb, eqb-false}
 use Rattle.std.proofs.lemmas.Slice.Eq.{bytes_eq-Decides}
 use Rattle.std.proofs.lemmas.List.Elements.{All-nil, All-cons, All-head, All-tail, All-weaker, All-append}
 use Rattle.std.proofs.lemmas.List.Splits.{join_with_byte-slice_split}
-use Rattle.script_lines.specs.Language.{Lacks, IsToken, IsWriting, AreBounds, AreValues}
+use Rattle.script_lines.specs.Language.{Lacks, IsToken, IsWriting, AreLabels, AreBounds, AreValues}
 use Rattle.script_lines.specs.Reading.{number_of, is_empty, is_writing, is_value, are_bounds, are_values}
-use Rattle.script_lines.proofs.Options.{none_or_some}
 use Rattle.script_lines.proofs.Numbers.{number_found, number_says, digits_lack, digits_some}
 use Rattle.script_lines.proofs.Writings.{writing_says, writing_found}
 use Rattle.script_lines.proofs.Joined.{split_joined, some_part, parts_lack}
@@ -148,3 +147,26 @@ pub bounds_token : (word : List ℕ) (numbers : List ℕ) → AreBounds word num
 bounds_token word numbers (inl none) = subst IsToken (sym none.0) ((λ e. cc e), All-cons (λ b. b ≢ 32) 45 [] (λ e. omega (arith, e)) (All-nil (λ b. b ≢ 32)))
 bounds_token word numbers (inr some) =
     subst IsToken (sym some.2) (joined_token (map decimal numbers) (some_mapped numbers some.0) (digits_tokens numbers some.1))
+
+-- a dash is no number
+dash_no_number : (o : Option ℕ) → number_of (45 ∷ []) ≡ o → o ≡ None
+dash_no_number None is = refl
+dash_no_number (Some n) is =
+    let says = number_says (45 ∷ []) n is in
+    absurd (All-head (λ b. b ≢ 45) 45 [] (subst (Lacks 45) (sym says.1) (digits_lack 45 n (omega arith) says.0)) refl)
+
+pub bounds_are : (word numbers items : List ℕ) → AreBounds word numbers → items ≡ filter_map number_of (slice_split (λ b. eqb b 44) word) → AreBounds word items
+bounds_are word numbers items (inl none) is =
+    inl (none.0, is ∙ ap (λ w. filter_map number_of (slice_split (λ b. eqb b 44) w)) none.0 ∙ ap (λ o. cons_option o []) (dash_no_number (number_of (45 ∷ [])) refl))
+bounds_are word numbers items (inr some) is =
+    let same = is ∙ ap (filter_map number_of) (bounds_split word numbers some.0 some.1 some.2) ∙ numbers_back numbers some.1 in
+    subst (AreBounds word) (sym same) (inr some)
+
+pub labels_are : (word : List ℕ) (names : List (List ℕ)) → word ≢ codes "-" → names ≡ slice_split (λ b. eqb b 44) word → AreLabels word names
+labels_are word names other is =
+    subst (AreLabels word) (sym is) (inr (other, some_part 44 word, parts_lack 44 word, sym (join_with_byte-slice_split 44 word)))
+
+pub values_are : (text : List ℕ) (words items : List (List ℕ)) → text ≢ [] → AreValues text words → items ≡ slice_split (λ b. eqb b 32) text → AreValues text items
+values_are text [] items some are is = absurd (some are.1)
+values_are text (word ∷ words) items some are is =
+    subst (AreValues text) (sym (is ∙ values_split text (word ∷ words) (λ e. cc e) are)) are

@@ -1,9 +1,9 @@
 -- Tokens and helps, and what is cut of them.
-use Rattle.std.proofs.Common.{◌≡◌, ◌≢◌, ℕ, ◌<◌, ◌^◌, Bool, true, false, not, cond, ◌||◌, List, [], ◌∷◌, ◌++◌, length, Option, Some, None, decimal, refl, sym, ap, ◌∙◌, subst, inl, inr, ⊎_elim, arith}
+use Rattle.std.proofs.Common.{◌≡◌, ◌≢◌, ℕ, ◌<◌, ◌^◌, not, cond, ◌||◌, List, [], ◌∷◌, ◌++◌, Option, Some, None, decimal, refl, sym, ap, ◌∙◌, subst, inl, inr, ⊎_elim, arith}
 use Rattle.std.specs.Prelude.{option_and_then, ◌⊎◌}
 use Rattle.std.specs.Option.{option_map_or}
 use Rattle.std.proofs.lemmas.Bool.{or_parts, or_from, not-false, not_from_true}
-use Rattle.script_lines.specs.Language.{Lacks, IsToken, IsWriting}
+use Rattle.script_lines.specs.Language.{IsToken, IsWriting}
 use Rattle.script_lines.specs.Reading.{cut_of, number_of, is_empty, is_writing, token_of, helped, helped_of, numbered_of}
 use Rattle.script_lines.proofs.Options.{none_or_some, bind_some, unless_some}
 use Rattle.script_lines.proofs.Cut.{cut_found, cut_none, cut_parts, cut_whole}

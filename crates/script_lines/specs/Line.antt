@@ -1,5 +1,4 @@
 -- What the values of the reader's types say.
-use Rattle.std.specs.Prelude.{◌≡◌, ℕ, List, Option, option_map}
 use Rattle.script_lines.specs.Language.{Saying}
 use Rattle.script_lines.specs.Language as language
 use Rattle.script_lines.specs.declared.line.Line.{Line}

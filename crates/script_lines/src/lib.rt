@@ -9,5 +9,5 @@ mod word;
 mod writing;
 
 pub use line::{Counting, Line, read_line};
-
-
+pub use list::{bounds_of, labels_of, values_of};
+pub use writing::unescape;

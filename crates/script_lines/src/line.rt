@@ -54,7 +54,10 @@ pub enum Line<'a> {
     },
     /// `child NAME` or `child NAME VALUE ..`: the values as they are written, one blank between two
     /// ([`crate::values_of`]); empty where there are none.
-    Child { name: &'a str, values: &'a str },
+    Child {
+        name: &'a str,
+        values: &'a str,
+    },
     /// `inc WORKER CHILD BY` or `inc WORKER CHILD BY TIMES`; `obs`, `up` and `down` likewise. The worker is below 4, the
     /// times are 1 to 100,000, and 1 where they are not given.
     Count {
@@ -69,7 +72,9 @@ pub enum Line<'a> {
     /// `scrape`.
     Scrape,
     /// `window SIZE`.
-    Window { size: u64 },
+    Window {
+        size: u64,
+    },
 }
 
 struct Family<'a> {

@@ -1,4 +1,4 @@
-use Rattle.std.proofs.Common.{◌≡◌, is_some, lit<, rules}
+use Rattle.std.proofs.Common.{is_some, lit<, rules}
 use Rattle.std.proofs.lemmas.Iterator.Splits.{YieldsList-from_str_split}
 use Rattle.std.proofs.lemmas.Iterator.Search.{all_from_yields_List}
 use Rattle.script_lines.specs.Reading.{number_of, are_bounds}
