@@ -11,3 +11,6 @@ mod writing;
 pub use line::{Counting, Line, read_line};
 pub use list::{bounds_of, labels_of, values_of};
 pub use writing::unescape;
+
+#[cfg(test)]
+mod tests;
