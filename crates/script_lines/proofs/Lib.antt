@@ -7,5 +7,5 @@ pub mod Parts
 pub mod Tokens
 pub mod Families
 pub mod Counts
-pub mod Lines
+pub mod WholeLine
 pub mod OneLine

@@ -4,7 +4,7 @@ use Rattle.script_lines.specs.Language.{Saying, IsLine}
 use Rattle.script_lines.specs.declared.line.Line.{Line}
 use Rattle.script_lines.specs.Line.{saying_of}
 use Rattle.script_lines.specs.Reading.{line_of}
-use Rattle.script_lines.proofs.Lines.{line_says, line_found}
+use Rattle.script_lines.proofs.WholeLine.{line_says, line_found}
 
 pub some_line : (text : List ℕ) (r : Option Line) → option_map saying_of r ≡ line_of text → IfSome r (λ line. IsLine text (saying_of line))
 some_line text None h = tt

@@ -17,6 +17,9 @@ hash = 35
 abbrev pub backslash : ℕ
 backslash = 92
 
+abbrev pub feed : ℕ
+feed = 10
+
 -- no byte of the text is this one
 abbrev pub Lacks : ℕ → List ℕ → Type 0
 Lacks byte text = All (λ b. b ≢ byte) text

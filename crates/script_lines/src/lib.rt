@@ -3,12 +3,14 @@
 #![tactic(auto)]
 
 mod line;
+mod lines;
 mod list;
 mod number;
 mod word;
 mod writing;
 
 pub use line::{Counting, Line, read_line};
+pub use lines::{Broken, Lines, MAX_LINE_BYTES, Next};
 pub use list::{bounds_of, labels_of, values_of};
 pub use writing::unescape;
 

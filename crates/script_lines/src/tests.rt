@@ -1,2 +1,3 @@
+mod cuts;
 mod lines;
 mod parts;
