@@ -1,5 +1,5 @@
 -- What stands after the first word of a line that counts.
-use Rattle.std.proofs.Common.{◌≡◌, ℕ, ◌<◌, ◌≤◌, ◌^◌, cond, ltb, leb, List, [], ◌∷◌, ◌++◌, Option, Some, None, option_map, decimal, refl, sym, ap, ◌∙◌, subst, inl, inr, ⊎_elim, arith}
+use Rattle.std.proofs.Common.{◌≡◌, ℕ, ◌<◌, ◌≤◌, ◌^◌, true, cond, ltb, leb, List, [], ◌∷◌, ◌++◌, Option, Some, None, option_map, decimal, refl, sym, ap, ◌∙◌, subst, inl, inr, ⊎_elim, arith}
 use Rattle.std.specs.Prelude.{option_and_then, ◌⊎◌}
 use Rattle.std.specs.List.{join_with_byte}
 use Rattle.std.specs.Option.{option_map_or}
@@ -22,6 +22,32 @@ pub record IsAmount (text : List ℕ) (by times : ℕ) : Type 0 where
 abbrev times_step : ℕ → ℕ → Option (ℕ × ℕ)
 times_step n m = cond (is_times m) (Some (n, m)) None
 
+once_says : (text : List ℕ) (by : ℕ) → number_of text ≡ Some by → IsAmount text by 1
+once_says text by is =
+    let says = number_says text by is in
+    record { small = says.0; some = omega arith; few = omega arith; is = inl (says.1, refl) }
+
+more_says : (text : List ℕ) (c : List ℕ × List ℕ) (by times : ℕ) → cut_of text ≡ Some c → number_of c.0 ≡ Some by → number_of c.1 ≡ Some times → is_times times ≡ true → IsAmount text by times
+more_says text c by times cut first next test =
+    let both = and_parts (leb 1 times) (leb times 100000) test in
+    let says = number_says c.0 by first in
+    let tells = number_says c.1 times next in
+    let parts = cut_parts text c cut in
+    record {
+      small = says.0;
+      some = leb-true 1 times both.0;
+      few = leb-true times 100000 both.1;
+      is = inr (parts.0 ∙ ap (λ w. w ++ 32 ∷ c.1) says.1 ∙ ap (λ w. decimal by ++ 32 ∷ w) tells.1);
+    }
+
+amount_is : (text : List ℕ) (by times : ℕ) (a : ℕ × ℕ) → IsAmount text by times → (by, times) ≡ a → IsAmount text a.0 a.1
+amount_is text by times a is same = subst (λ (a : ℕ × ℕ). IsAmount text a.0 a.1) same is
+
+repeated_says : (text : List ℕ) (c : List ℕ × List ℕ) (by times : ℕ) (a : ℕ × ℕ) → cut_of text ≡ Some c → number_of c.0 ≡ Some by → number_of c.1 ≡ Some times → times_step by times ≡ Some a → IsAmount text a.0 a.1
+repeated_says text c by times a cut first next kept =
+    let passed = when_some (is_times times) (by, times) a kept in
+    amount_is text by times a (more_says text c by times cut first next passed.0) passed.1
+
 pub amount_says : (text : List ℕ) (a : ℕ × ℕ) → amount_of text ≡ Some a → IsAmount text a.0 a.1
 unfolding amount_of
 amount_says text a h =
@@ -29,24 +55,11 @@ amount_says text a h =
     ⊎_elim
     (λ none.
     let number = map_some (λ n. (n, 1)) (number_of text) a (at None none) in
-    let says = number_says text number.0 number.1 in
-    subst (λ (a : ℕ × ℕ). IsAmount text a.0 a.1) number.2
-    (record { small = says.0; some = omega arith; few = omega arith; is = inl (says.1, refl) }))
+    amount_is text number.0 1 a (once_says text number.0 number.1) number.2)
     (λ some.
     let by = bind_some (λ n. option_and_then (times_step n) (number_of some.0.1)) (number_of some.0.0) a (at (Some some.0) some.1) in
     let times = bind_some (times_step by.0) (number_of some.0.1) a by.2 in
-    let kept = when_some (is_times times.0) (by.0, times.0) a times.2 in
-    let both = and_parts (leb 1 times.0) (leb times.0 100000) kept.0 in
-    let says = number_says some.0.0 by.0 by.1 in
-    let tells = number_says some.0.1 times.0 times.1 in
-    let parts = cut_parts text some.0 some.1 in
-    subst (λ (a : ℕ × ℕ). IsAmount text a.0 a.1) kept.1
-    (record {
-      small = says.0;
-      some = leb-true 1 times.0 both.0;
-      few = leb-true times.0 100000 both.1;
-      is = inr (parts.0 ∙ ap (λ w. w ++ 32 ∷ some.0.1) says.1 ∙ ap (λ w. decimal by.0 ++ 32 ∷ w) tells.1);
-    }))
+    repeated_says text some.0 by.0 times.0 a some.1 by.1 times.1 times.2)
     (none_or_some (cut_of text))
 
 pub amount_found : (text : List ℕ) (by times : ℕ) → IsAmount text by times → amount_of text ≡ Some (by, times)
@@ -78,6 +91,27 @@ pub record IsCount (text : List ℕ) (worker child by times : ℕ) : Type 0 wher
 abbrev count_step : Counting → (worker child : ℕ × List ℕ) → ℕ × ℕ → Option Saying
 count_step what worker child amount = cond (ltb worker.0 4) (Some (Count what worker.0 child.0 amount.0 amount.1)) None
 
+step_says : (what : Counting) (text : List ℕ) (worker child : ℕ × List ℕ) (amount : ℕ × ℕ) (s : Saying)
+    → numbered_of text ≡ Some worker → numbered_of worker.1 ≡ Some child → amount_of child.1 ≡ Some amount → count_step what worker child amount ≡ Some s
+    → (worker : ℕ) × (child : ℕ) × (by : ℕ) × (times : ℕ) × (s ≡ Count what worker child by times) × IsCount text worker child by times
+step_says what text worker child amount s first next last kept =
+    let passed = when_some (ltb worker.0 4) (Count what worker.0 child.0 amount.0 amount.1) s kept in
+    let front = numbered_says text worker first in
+    let middle = numbered_says worker.1 child next in (
+      worker.0,
+      child.0,
+      amount.0,
+      amount.1,
+      sym passed.1,
+      record {
+        few = ltb-true worker.0 4 passed.0;
+        small = middle.0;
+        rest = child.1;
+        is = front.1 ∙ ap (λ r. decimal worker.0 ++ 32 ∷ r) middle.1;
+        amount = amount_says child.1 amount last;
+      },
+    )
+
 pub count_says : (what : Counting) (text : List ℕ) (s : Saying) → count_of what text ≡ Some s
     → (worker : ℕ) × (child : ℕ) × (by : ℕ) × (times : ℕ) × (s ≡ Count what worker child by times) × IsCount text worker child by times
 unfolding count_of
@@ -85,22 +119,7 @@ count_says what text s h =
     let worker = bind_some (λ (w : ℕ × List ℕ). option_and_then (λ (c : ℕ × List ℕ). option_and_then (count_step what w c) (amount_of c.1)) (numbered_of w.1)) (numbered_of text) s h in
     let child = bind_some (λ (c : ℕ × List ℕ). option_and_then (count_step what worker.0 c) (amount_of c.1)) (numbered_of worker.0.1) s worker.2 in
     let amount = bind_some (count_step what worker.0 child.0) (amount_of child.0.1) s child.2 in
-    let kept = when_some (ltb worker.0.0 4) (Count what worker.0.0 child.0.0 amount.0.0 amount.0.1) s amount.2 in
-    let front = numbered_says text worker.0 worker.1 in
-    let middle = numbered_says worker.0.1 child.0 child.1 in (
-      worker.0.0,
-      child.0.0,
-      amount.0.0,
-      amount.0.1,
-      sym kept.1,
-      record {
-        few = ltb-true worker.0.0 4 kept.0;
-        small = middle.0;
-        rest = child.0.1;
-        is = front.1 ∙ ap (λ r. decimal worker.0.0 ++ 32 ∷ r) middle.1;
-        amount = amount_says child.0.1 amount.0 amount.1;
-      },
-    )
+    step_says what text worker.0 child.0 amount.0 s worker.1 child.1 amount.1 amount.2
 
 pub count_found : (what : Counting) (text : List ℕ) (worker child by times : ℕ) → IsCount text worker child by times → count_of what text ≡ Some (Count what worker child by times)
 unfolding count_of

@@ -66,6 +66,30 @@ pub record IsHistogram (text name labels bounds help : List ℕ) : Type 0 where
 abbrev bounded_step : (name labels : List ℕ × List ℕ) (bounds : List ℕ × List ℕ) → Option Saying
 bounded_step name labels bounds = cond (are_bounds bounds.0) (Some (Histogram name.0 labels.0 bounds.0 bounds.1)) None
 
+step_says : (text : List ℕ) (name labels bounds : List ℕ × List ℕ) (s : Saying)
+    → token_of text ≡ Some name → token_of name.1 ≡ Some labels → helped_of labels.1 ≡ Some bounds → bounded_step name labels bounds ≡ Some s
+    → (name : List ℕ) × (labels : List ℕ) × (bounds : List ℕ) × (help : List ℕ) × (s ≡ Histogram name labels bounds help) × IsHistogram text name labels bounds help
+step_says text name labels bounds s first next last kept =
+    let passed = when_some (are_bounds bounds.0) (Histogram name.0 labels.0 bounds.0 bounds.1) s kept in
+    let front = token_says text name first in
+    let middle = token_says name.1 labels next in
+    let back = helped_says labels.1 bounds last in
+    let numbers = bounds_say bounds.0 passed.0 in (
+      name.0,
+      labels.0,
+      bounds.0,
+      bounds.1,
+      sym passed.1,
+      record {
+        token = front.0;
+        rest = name.1;
+        is = front.1;
+        family = record { token = middle.0; words = back.0; written = back.1; tail = labels.1; is = middle.1; ends = back.2 };
+        numbers = numbers.0;
+        bounded = numbers.1;
+      },
+    )
+
 pub histogram_says : (text : List ℕ) (s : Saying) → histogram_of text ≡ Some s
     → (name : List ℕ) × (labels : List ℕ) × (bounds : List ℕ) × (help : List ℕ) × (s ≡ Histogram name labels bounds help) × IsHistogram text name labels bounds help
 unfolding histogram_of
@@ -73,25 +97,7 @@ histogram_says text s h =
     let name = bind_some (λ (n : List ℕ × List ℕ). option_and_then (λ (l : List ℕ × List ℕ). option_and_then (bounded_step n l) (helped_of l.1)) (token_of n.1)) (token_of text) s h in
     let labels = bind_some (λ (l : List ℕ × List ℕ). option_and_then (bounded_step name.0 l) (helped_of l.1)) (token_of name.0.1) s name.2 in
     let bounds = bind_some (bounded_step name.0 labels.0) (helped_of labels.0.1) s labels.2 in
-    let kept = when_some (are_bounds bounds.0.0) (Histogram name.0.0 labels.0.0 bounds.0.0 bounds.0.1) s bounds.2 in
-    let front = token_says text name.0 name.1 in
-    let middle = token_says name.0.1 labels.0 labels.1 in
-    let back = helped_says labels.0.1 bounds.0 bounds.1 in
-    let numbers = bounds_say bounds.0.0 kept.0 in (
-      name.0.0,
-      labels.0.0,
-      bounds.0.0,
-      bounds.0.1,
-      sym kept.1,
-      record {
-        token = front.0;
-        rest = name.0.1;
-        is = front.1;
-        family = record { token = middle.0; words = back.0; written = back.1; tail = labels.0.1; is = middle.1; ends = back.2 };
-        numbers = numbers.0;
-        bounded = numbers.1;
-      },
-    )
+    step_says text name.0 labels.0 bounds.0 s name.1 labels.1 bounds.1 bounds.2
 
 pub histogram_found : (text name labels bounds help : List ℕ) → IsHistogram text name labels bounds help → histogram_of text ≡ Some (Histogram name labels bounds help)
 unfolding histogram_of

@@ -7,7 +7,7 @@ use Rattle.std.proofs.lemmas.List.Elements.{All-nil, All-cons, All-head, All-tai
 use Rattle.std.proofs.lemmas.List.Splits.{slice_split_none, slice_split_at, length-slice_split}
 use Rattle.script_lines.specs.Language.{Lacks}
 
-none_pass : (c : ℕ) (word : List ℕ) → Lacks c word → All (λ b. eqb b c ≡ false) word
+pub none_pass : (c : ℕ) (word : List ℕ) → Lacks c word → All (λ b. eqb b c ≡ false) word
 none_pass c word lacks = All-weaker (λ b. b ≢ c) (λ b. eqb b c ≡ false) (λ b other. ne_eqb b c other) word lacks
 
 -- they are the parts at that byte

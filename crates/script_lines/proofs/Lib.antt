@@ -9,3 +9,4 @@ pub mod Families
 pub mod Counts
 pub mod WholeLine
 pub mod OneLine
+pub mod LinesIn

@@ -9,7 +9,7 @@ mod number;
 mod word;
 mod writing;
 
-pub use line::{Counting, Line, read_line};
+pub use line::{Counting, Line, MOST_TIMES, WORKERS, read_line};
 pub use lines::{Broken, Lines, MAX_LINE_BYTES, Next};
 pub use list::{bounds_of, labels_of, values_of};
 pub use writing::unescape;

@@ -1,7 +1,7 @@
 ghost use Rattle.std.specs.Prelude.{◌≡◌, ◌≤◌, ◌∷◌, [], length, Some, None, IfOk, OnErr, MatchOption, vec_len, vec_capacity};
 ghost use Rattle.std.specs.Io.KnownBytes.{Keeps, Consumes, IsAtEnd};
 ghost use Rattle.script_lines.specs.Language.{Lacks, feed};
-ghost use Rattle.script_lines.specs.Cuts.{Cuts};
+ghost use Rattle.script_lines.specs.Cuts.{Cuts, TakesLine};
 ghost use Rattle.script_lines.specs.declared.lines.TheConstants.{MAX_LINE_BYTES};
 
 use std::alloc::Global;
@@ -102,6 +102,7 @@ impl<R: Read + Drop> Lines<R> {
     /// Takes no memory.
     pub fn next(&mut self) -> Result<Next, Broken>
         ensures ok { IfOk result (λ next. Cuts (unread R.remaining self.old) (unread R.remaining self.new) (line_bytes self.new) next) }
+        ensures line { IfOk result (λ next. TakesLine (unread R.remaining self.old) (unread R.remaining self.new) (line_bytes self.new) next) }
         ensures err { OnErr result (Consumes (unread R.remaining self.old) (unread R.remaining self.new) (line_bytes self.new)) }
     {
         self.line.clear();
