@@ -1,4 +1,4 @@
--- How a line is read, from its front to its end.
+-- How a line is read, from its front to its end. What a line is stands in Language; private functions alone cite this.
 use Rattle.std.specs.Prelude.{ℕ, ◌^◌, Bool, true, false, not, ◌&&◌, ◌||◌, ◌==◌, nat_lt, nat_le, is_some, bytes_eq, if◌then◌else◌, List, [], ◌∷◌, length, slice_index, codes, decimal, Option, Some, None, option_map, option_and_then}
 use Rattle.std.specs.Option.{option_map_or}
 use Rattle.std.specs.List.{slice_split, list_all}
@@ -29,7 +29,7 @@ number_of text = if nat_lt (digits_value 10 text) (2 ^ 64) && bytes_eq (decimal 
 abbrev pub is_letter : ℕ → Bool
 is_letter b = b == 92 || b == 110 || b == 115 || b == 101
 
--- a text of which a backslash stands in front or not ends in no half of an escape, and has no wrong one
+-- each backslash begins an escape; where `escaped`, one stands in front of the text
 unfoldable pub ends_well : (escaped : Bool) → List ℕ → Bool
 ends_well escaped [] = not escaped
 ends_well escaped (b ∷ bs) = if escaped && not (is_letter b) then false else ends_well (not escaped && b == backslash) bs
@@ -52,7 +52,7 @@ token_of text = do
   c ← cut_of text
   if is_empty c.0 then None else Some c
 
--- a token and a help, if they are
+-- a token and a help, where they are such
 abbrev pub helped : (token help : List ℕ) → Option (List ℕ × List ℕ)
 helped token help = if is_empty token || not (is_writing help) then None else Some (token, help)
 

@@ -4,8 +4,8 @@ ghost use Rattle.script_lines.specs.Language.{Lacks, feed};
 ghost use Rattle.script_lines.specs.Cuts.{Cuts, TakesLine};
 ghost use Rattle.script_lines.specs.declared.lines.TheConstants.{MAX_LINE_BYTES};
 
+use metric_names::NoMemory;
 use std::alloc::Global;
-use std::io;
 use std::io::{BufReader, Read};
 use thiserror::Error;
 
@@ -78,13 +78,15 @@ pub struct Lines<R> {
 impl<R: Read + Drop> Lines<R> {
     ghost use Rattle.script_lines.specs.Lines.{line_bytes, unread};
 
-    /// Before the first line. Takes all memory that the lines need; an error is want of memory.
-    pub fn new(alloc: Global, reader: R) -> io::Result<Lines<R>>
+    /// Before the first line. Takes all memory that the lines need.
+    ///
+    /// Refusal 6 [`NoMemory`], and no other.
+    pub fn new(alloc: Global, reader: R) -> Result<Lines<R>, NoMemory>
         ensures unread { IfOk result (λ lines. Keeps (R.remaining reader) (unread R.remaining lines)) }
         ensures empty { IfOk result (λ lines. line_bytes lines ≡ []) }
     {
         let line = Vec::with_capacity(alloc, MAX_LINE_BYTES)?;
-        let reader = BufReader::new(alloc, reader)?;
+        let reader = BufReader::new(alloc, reader).map_err(|_| NoMemory)?;
         Ok(Lines { reader, line })
     }
 
