@@ -1,4 +1,8 @@
+ghost use Rattle.std.specs.Prelude.{◌≡◌, map, IfOk, IfSome};
+ghost use Rattle.script_lines.specs.Cuts.{lines_in};
+
 use crate::{Broken, Lines, MAX_LINE_BYTES, Next};
+use metric_names::NoMemory;
 use std::alloc::Global;
 use std::io::{self, Error, ErrorKind, Read};
 use std::test::Fail;
@@ -44,6 +48,26 @@ fn told<R: Read + Drop>(alloc: Global, reader: R) -> Result<Vec<u8>, Fail> {
     Ok(told)
 }
 
+// What a caller learns: the lines that were cut are those of the bytes, of which none is lost or made.
+#[tactic(auto, using(crate::proofs::LinesIn::cut_none, crate::proofs::LinesIn::cut_more, crate::proofs::LinesIn::cut_ended))]
+fn cut_all(alloc: Global, bytes: &[u8]) -> Result<Option<Vec<Vec<u8>>>, NoMemory>
+    ensures { IfOk result (λ cut. IfSome cut (λ lines. map (λ line. line.items) lines.items ≡ lines_in bytes.now)) }
+{
+    let mut lines = Lines::new(alloc, bytes)?;
+    let mut all = Vec::new(alloc);
+    'cutting: for _ in 0..20 {
+        match lines.next() {
+            Ok(Next::Line) => {
+                let line = Vec::from_slice(alloc, lines.bytes())?;
+                all.push(line)?;
+            }
+            Ok(Next::End) => return Ok(Some(all)),
+            Ok(Next::TooLong) | Err(Broken) => return Ok(None),
+        }
+    }
+    Ok(None)
+}
+
 #[test]
 fn whole_inputs(rt: HostRuntime) -> Result<(), Fail> {
     let inputs: [(&[u8], &[u8]); 7] = [
@@ -65,6 +89,13 @@ fn whole_inputs(rt: HostRuntime) -> Result<(), Fail> {
         let slowly = told(rt.alloc(), slow)?;
         assert!(rt; slowly.as_slice() == want, "byte by byte");
     }
+    Ok(())
+}
+
+#[test]
+fn all_lines(rt: HostRuntime) -> Result<(), Fail> {
+    let cut = cut_all(rt.alloc(), b"a\n\nb")?;
+    assert!(rt; cut.is_some_and(|lines| lines.len() == 3));
     Ok(())
 }
 
