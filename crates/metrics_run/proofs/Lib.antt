@@ -1,2 +1,4 @@
 pub mod Sent
 pub mod Waiting
+pub mod Reading
+pub mod Given

@@ -1,7 +1,7 @@
-pub mod CounterText
-pub mod OneFault
 pub mod LineFault
-pub mod Number
-pub mod Script
-pub mod Line
+pub mod Parts
+pub mod Printed
+pub mod Status
+pub mod Queue
 pub mod State
+pub mod Done

@@ -1,15 +1,30 @@
 -- The numbers of the refusals of a script line.
 use Rattle.std.specs.Prelude.{ℕ}
 use Rattle.metric_names.specs.MetricName as name
-use Rattle.ledger_core.specs.OpFault as op
+use Rattle.metric_names.specs.LabelName as label
+use Rattle.metric_names.specs.HelpText as help
+use Rattle.metric_names.specs.LabelValue as value
+use Rattle.metric_desc.specs.Labels as labels
+use Rattle.metric_desc.specs.Histogram as histogram
+use Rattle.registry_state.specs.Faults.{register_number, child_number, scrape_number}
+use Rattle.snapshot_scan.specs.PlainNumber.{plain_number}
 use Rattle.metrics_run.specs.declared.line_fault.LineFault.{LineFault}
-use Rattle.metrics_run.specs.declared.line_fault.LineFault.TheVariants.{BadLine, Name, Op, NoSuchFamily, NoSuchChild, NoMemory}
+use Rattle.metrics_run.specs.declared.line_fault.LineFault.TheVariants.{BadLine, Name, Label, Help, Labels, Histogram, Value, Register, NoSuchFamily, Child, NoSuchChild, Op, Scrape, Window, NoMemory}
 
 -- the number of each fault
 abbrev pub number_of : LineFault → ℕ
 number_of BadLine = 27
 number_of (Name fault) = name.number_of fault
-number_of (Op fault) = op.number_of fault
+number_of (Label fault) = label.number_of fault
+number_of (Help fault) = help.number_of fault
+number_of (Labels fault) = labels.number_of fault
+number_of (Histogram fault) = histogram.number_of fault
+number_of (Value fault) = value.number_of fault
+number_of (Register fault) = register_number fault
 number_of NoSuchFamily = 20
+number_of (Child fault) = child_number fault
 number_of NoSuchChild = 28
+number_of (Op fault) = plain_number fault
+number_of (Scrape fault) = scrape_number fault
+number_of (Window fault) = 31
 number_of NoMemory = 6

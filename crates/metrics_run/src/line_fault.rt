@@ -1,11 +1,16 @@
+//! Why a script's line is refused.
 ghost use Rattle.std.specs.Prelude.{◌≡◌};
 ghost use Rattle.metrics_run.specs.LineFault.{number_of};
 
 use ledger_core::OpFault;
-use metric_names::MetricNameFault;
+use metric_desc::{HistogramFault, LabelsFault};
+use metric_names::{HelpTextFault, LabelNameFault, LabelValueFault, MetricNameFault, NoMemory};
+use registry_state::{BadWindow, ChildFault, RegisterFault, ScrapeFault};
+use snapshot_scan::PlainFault;
+use std::alloc::{AllocError, AllocFailed};
 use thiserror::Error;
 
-/// Why a script line is refused.
+/// Why a script's line is refused.
 #[derive(Clone, Copy, Debug, PartialEq, Eq, Error)]
 pub enum LineFault {
     /// Refusal 27: the line is not in the script's language.
@@ -14,15 +19,42 @@ pub enum LineFault {
     /// Refusals 1, 2, 3 and 6 of a metric's name.
     #[error(transparent)]
     Name(MetricNameFault),
-    /// Refusals 11 and 12 of an operation.
+    /// Refusals 1 to 4 and 6 of a label's name.
     #[error(transparent)]
-    Op(OpFault),
+    Label(LabelNameFault),
+    /// Refusals 3, 5 and 6 of a help.
+    #[error(transparent)]
+    Help(HelpTextFault),
+    /// Refusals 7 and 9 of the labels of a counter or a gauge.
+    #[error(transparent)]
+    Labels(LabelsFault),
+    /// Refusals 7 to 10 of the labels and bounds of a histogram.
+    #[error(transparent)]
+    Histogram(HistogramFault),
+    /// Refusals 3 and 6 of a label's value.
+    #[error(transparent)]
+    Value(LabelValueFault),
+    /// Refusals 19, 23 and 6 of a family.
+    #[error(transparent)]
+    Register(RegisterFault),
     /// Refusal 20: no family of that name.
     #[error("there is no family of that name")]
     NoSuchFamily,
-    /// Refusal 28: no child of that number.
-    #[error("there is no child of that number")]
+    /// Refusals 21, 22 and 6 of a child.
+    #[error(transparent)]
+    Child(ChildFault),
+    /// Refusal 28: no child of that number, or one of another kind.
+    #[error("there is no child of that number and kind")]
     NoSuchChild,
+    /// Refusals 12 and 15 of an operation.
+    #[error(transparent)]
+    Op(PlainFault),
+    /// Refusals 6 and 14 of a scrape.
+    #[error(transparent)]
+    Scrape(ScrapeFault),
+    /// Refusal 31: no count of scrapes that may be kept.
+    #[error(transparent)]
+    Window(BadWindow),
     /// Refusal 6: a growth was refused.
     #[error("out of memory")]
     NoMemory,
@@ -36,10 +68,52 @@ impl LineFault {
         match self {
             LineFault::BadLine => 27,
             LineFault::Name(fault) => fault.number(),
-            LineFault::Op(fault) => fault.number(),
+            LineFault::Label(fault) => fault.number(),
+            LineFault::Help(fault) => fault.number(),
+            LineFault::Labels(fault) => fault.number(),
+            LineFault::Histogram(fault) => fault.number(),
+            LineFault::Value(fault) => fault.number(),
+            LineFault::Register(fault) => fault.number(),
             LineFault::NoSuchFamily => 20,
+            LineFault::Child(fault) => fault.number(),
             LineFault::NoSuchChild => 28,
+            LineFault::Op(fault) => fault.number(),
+            LineFault::Scrape(fault) => fault.number(),
+            LineFault::Window(fault) => fault.number(),
             LineFault::NoMemory => 6,
         }
+    }
+}
+
+impl From<NoMemory> for LineFault {
+    ghost use Rattle.std.specs.Prelude.{◌≡◌};
+    ghost use Rattle.metrics_run.specs.declared.line_fault.LineFault.{LineFault};
+
+    ghost from_gives = { λ _ fault. fault ≡ LineFault.NoMemory };
+
+    fn from(_error: NoMemory) -> LineFault {
+        LineFault::NoMemory
+    }
+}
+
+impl From<AllocError> for LineFault {
+    ghost use Rattle.std.specs.Prelude.{◌≡◌};
+    ghost use Rattle.metrics_run.specs.declared.line_fault.LineFault.{LineFault};
+
+    ghost from_gives = { λ _ fault. fault ≡ LineFault.NoMemory };
+
+    fn from(_error: AllocError) -> LineFault {
+        LineFault::NoMemory
+    }
+}
+
+impl<T: Drop> From<AllocFailed<T>> for LineFault {
+    ghost use Rattle.std.specs.Prelude.{◌≡◌};
+    ghost use Rattle.metrics_run.specs.declared.line_fault.LineFault.{LineFault};
+
+    ghost from_gives = { λ _ fault. fault ≡ LineFault.NoMemory };
+
+    fn from(_error: AllocFailed<T>) -> LineFault {
+        LineFault::NoMemory
     }
 }

@@ -4,13 +4,12 @@
 //! standard output failed.
 #![tactic(auto)]
 
-mod counter_text;
-mod line;
 mod line_fault;
-mod lines;
-mod one;
+mod parts;
+mod queue;
 mod script;
 mod send;
+mod state;
 
 use script::{ScriptEnd, run_script};
 use std::process::ExitCode;
@@ -37,12 +36,9 @@ fn main(rt: HostRuntime) -> ExitCode {
         let _ = eprintln!(rt; "{USAGE}");
         return ExitCode::from(2);
     }
-    match run_script(rt.alloc(), rt.reader(), io::writer(&rt)) {
-        ScriptEnd::Done => ExitCode::SUCCESS,
-        ScriptEnd::Refused { .. } => ExitCode::from(1),
-        ScriptEnd::Broken => {
-            let _ = eprintln!(rt; "fault");
-            ExitCode::from(3)
-        }
+    let end = run_script(rt.alloc(), rt.reader(), io::writer(&rt));
+    if end == ScriptEnd::Broken {
+        let _ = eprintln!(rt; "fault");
     }
+    ExitCode::from(end.status())
 }

@@ -1,16 +1,20 @@
-ghost use Rattle.std.specs.Prelude.{◌≡◌, ◌↔◌, ◌++◌, ◌∷◌, [], codes, decimal, true, false, IsSome, IsOk, IfOk, OnOk, OnErr, IfErr, IsErrOf};
+//! Scripts are run.
+ghost use Rattle.std.specs.Prelude.{◌≡◌, ℕ, List, IfOk, OnOk};
 ghost use Rattle.std.specs.Io.KnownBytes.{Appends};
-ghost use Rattle.ledger_core.specs.Row.{Accepts, Adds};
 ghost use Rattle.metrics_run.specs.LineFault.{number_of};
-ghost use Rattle.metrics_run.specs.Script.{waiting_for, scrape_text, refused_line};
+ghost use Rattle.script_lines.specs.Language.{IsLine};
+ghost use Rattle.script_lines.specs.Line.{saying_of};
+ghost use Rattle.metrics_run.specs.Printed.{kept_line, refused_line};
+ghost use Rattle.metrics_run.specs.Status.{status_of};
+ghost use Rattle.metrics_run.specs.Done.{IsDone};
 
-use crate::counter_text::counter_text;
-use crate::line::{Line, WORKERS, read_line};
 use crate::line_fault::LineFault;
-use crate::lines::{Lines, Next};
+use crate::parts::{Parts, counter_of, gauge_of, histogram_of};
+use crate::queue::Refused;
 use crate::send::{Broken, send};
-use ledger_core::{Op, Row};
-use metric_names::MetricName;
+use crate::state::{Count, State};
+use metric_desc::Desc;
+use script_lines::{Line, Lines, Next, read_line};
 use std::alloc::Global;
 use std::io::{Read, Write};
 
@@ -29,11 +33,17 @@ pub enum ScriptEnd {
     Broken,
 }
 
-/// A refusal on its way out: the line, from 1, and its fault.
-#[derive(Clone, Copy, Debug, PartialEq, Eq)]
-struct Refused {
-    line: u64,
-    fault: LineFault,
+impl ScriptEnd {
+    /// The exit status of the program.
+    pub fn status(self) -> u8
+        ensures { result ≡ status_of self }
+    {
+        match self {
+            ScriptEnd::Done => 0,
+            ScriptEnd::Refused { .. } => 1,
+            ScriptEnd::Broken => 3,
+        }
+    }
 }
 
 /// What ends a script before its last line.
@@ -49,151 +59,84 @@ impl From<Broken> for Stop {
     }
 }
 
-/// An increment that waits for `go`.
-#[derive(Clone, Copy, Debug)]
-struct Queued {
-    line: u64,
-    worker: u64,
-    op: Op,
-}
-
-/// What a script has made so far.
-#[derive(Drop)]
-struct State {
-    alloc: Global,
-    counter: Option<MetricName>,
-    has_child: bool,
-    row: Row<1, 0, 0>,
-    queue: Vec<Queued>,
-}
-
-impl State {
-    ghost use Rattle.metrics_run.specs.State.{IsFresh, Registers, Queues};
-
-    fn new(alloc: Global) -> State
-        ensures { IsFresh result }
-    {
-        State {
-            alloc,
-            counter: None,
-            has_child: false,
-            row: Row::new(),
-            queue: Vec::new(alloc),
-        }
+impl From<script_lines::Broken> for Stop {
+    fn from(_broken: script_lines::Broken) -> Stop {
+        Stop::Broken
     }
-
-    fn register(&mut self, name: &str) -> Result<(), LineFault>
-        ensures ok { OnOk result (Registers self.old name.now self.new) }
-        ensures again { IsSome self.old.counter → IsErrOf result LineFault.BadLine }
-        ensures err { OnErr result (self.new ≡ self.old) }
-    {
-        if self.counter.is_some() {
-            return Err(LineFault::BadLine);
-        }
-        let name = MetricName::read(self.alloc, name).map_err(LineFault::Name)?;
-        self.counter = Some(name);
-        Ok(())
-    }
-
-    fn make_child(&mut self, name: &str) -> Result<(), LineFault>
-        ensures known { IsOk result ↔ (self.old.counter ≡ Some name.now) }
-        ensures ok { OnOk result (self.new ≡ record self.old { has_child = true }) }
-        ensures err { IfErr result (λ fault. (fault ≡ LineFault.NoSuchFamily) × (self.new ≡ self.old)) }
-    {
-        match &self.counter {
-            Some(counter) if counter.as_str() == name => {
-                self.has_child = true;
-                Ok(())
-            }
-            _ => Err(LineFault::NoSuchFamily),
-        }
-    }
-
-    fn enqueue(&mut self, line: u64, worker: u64, by: u64) -> Result<(), LineFault>
-        ensures ok { OnOk result (Queues self.old (record { line = line; worker = worker; op = Op.Inc 0 by }) self.new) }
-        ensures no_child { IsErrOf result LineFault.NoSuchChild ↔ (self.old.has_child ≡ false) }
-    {
-        if !self.has_child {
-            return Err(LineFault::NoSuchChild);
-        }
-        let op = Op::Inc { counter: 0, by };
-        self.queue
-            .push(Queued { line, worker, op })
-            .map_err(|_| LineFault::NoMemory)
-    }
-
-    /// Applies all queued increments, worker by worker. Of several refusals the one of the least line is told.
-    fn go(&mut self) -> Result<(), Refused> {
-        let mut least = Ok(());
-        for worker in 0..WORKERS {
-            least = first_refused(least, apply_waiting(&mut self.row, &self.queue, worker));
-        }
-        self.queue.clear();
-        least
-    }
-
-    /// The text of the counter, which is empty before its child is made.
-    fn text(&self) -> Result<Vec<u8>, LineFault>
-        ensures text { IfOk result (λ bytes. bytes.items ≡ scrape_text self.now.counter self.now.has_child self.now.row) }
-        ensures fault { IfErr result (λ fault. fault ≡ LineFault.NoMemory) }
-    {
-        match &self.counter {
-            Some(name) if self.has_child => {
-                let name = name.copy().map_err(|_| LineFault::NoMemory)?;
-                counter_text(self.alloc, name, self.row.counter(0)).map_err(|_| LineFault::NoMemory)
-            }
-            _ => Ok(Vec::new(self.alloc)),
-        }
-    }
-
-    /// Does what a line says. `number` is the line's own, from 1.
-    fn step<W: Write>(&mut self, writer: &mut W, number: u64, text: &str) -> Result<(), Stop> {
-        let Some(line) = read_line(text) else {
-            return Err(stop_at(number, LineFault::BadLine));
-        };
-        let done = match line {
-            Line::Nothing => Ok(()),
-            Line::Counter { name } => self.register(name),
-            Line::Child { name } => self.make_child(name),
-            Line::Inc { worker, by } => self.enqueue(number, worker, by),
-            Line::Go => return self.go().map_err(Stop::Refused),
-            Line::Scrape => match self.text() {
-                Ok(text) => return Ok(send(writer, &text)?),
-                Err(fault) => Err(fault),
-            },
-        };
-        done.map_err(|fault| stop_at(number, fault))
-    }
-}
-
-/// Applies a worker's increments in order, up to the first that is refused.
-fn apply_waiting(row: &mut Row<1, 0, 0>, queue: &[Queued], worker: u64) -> Result<(), Refused>
-    ensures { OnOk result (Adds 1 0 row.old (waiting_for worker queue.now) row.new) }
-{
-    for queued in queue {
-        if queued.worker == worker {
-            if let Err(fault) = row.try_apply(&[queued.op]) {
-                let fault = LineFault::Op(fault);
-                return Err(Refused {
-                    line: queued.line,
-                    fault,
-                });
-            }
-        }
-    }
-    Ok(())
 }
 
 fn stop_at(line: u64, fault: LineFault) -> Stop {
     Stop::Refused(Refused { line, fault })
 }
 
-/// The refusal of the lesser line.
-fn first_refused(a: Result<(), Refused>, b: Result<(), Refused>) -> Result<(), Refused> {
-    match (a, b) {
-        (Err(first), Err(second)) if second.line < first.line => Err(second),
-        (Ok(()), b) => b,
-        (a, _) => a,
+/// Does what a line says that prints nothing. `number` is the line's own, from 1.
+fn act(state: &mut State, number: u64, line: Line<'_>) -> Result<(), LineFault>
+    requires { (text : List ℕ) × IsLine text (saying_of line) }
+    ensures { OnOk result (IsDone state.old number (saying_of line.entry) state.new) }
+{
+    let alloc = state.alloc;
+    match line {
+        Line::Counter { name, labels, help } => {
+            match counter_of(alloc, Parts { name, labels, help }) {
+                Ok(desc) => state.register(desc),
+                Err(fault) => Err(fault),
+            }
+        }
+        Line::Gauge { name, labels, help } => match gauge_of(alloc, Parts { name, labels, help }) {
+            Ok(desc) => state.register(desc),
+            Err(fault) => Err(fault),
+        },
+        Line::Histogram {
+            name,
+            labels,
+            bounds,
+            help,
+        } => match histogram_of(alloc, Parts { name, labels, help }, bounds) {
+            Ok(desc) => state.register(desc),
+            Err(fault) => Err(fault),
+        },
+        Line::Child { name, values } => state.child(name, values),
+        Line::Count {
+            what,
+            worker,
+            child,
+            by,
+            times,
+        } => state.enqueue(
+            number,
+            Count {
+                what,
+                worker,
+                child,
+                by,
+                times,
+            },
+        ),
+        _ => Ok(()),
+    }
+}
+
+/// Does what a line says. `number` is the line's own, from 1.
+fn step<W: Write>(
+    state: &mut State,
+    writer: &mut W,
+    number: u64,
+    text: &str,
+) -> Result<(), Stop> {
+    let Some(line) = read_line(text) else {
+        return Err(stop_at(number, LineFault::BadLine));
+    };
+    match line {
+        Line::Go => state.go().map_err(Stop::Refused),
+        Line::Scrape => match state.scrape() {
+            Ok(text) => Ok(send(writer, &text)?),
+            Err(fault) => Err(stop_at(number, fault)),
+        },
+        Line::Window { size } => match state.set_window(size) {
+            Ok(kept) => Ok(tell_kept(writer, kept)?),
+            Err(fault) => Err(stop_at(number, fault)),
+        },
+        line => act(state, number, line).map_err(|fault| stop_at(number, fault)),
     }
 }
 
@@ -207,7 +150,7 @@ fn run_lines<R: Read + Drop, W: Write>(
             Next::End => return Ok(()),
             Next::TooLong => return Err(stop_at(number, LineFault::BadLine)),
             Next::Line => match std::str::from_utf8(lines.bytes()) {
-                Ok(text) => state.step(writer, number, text)?,
+                Ok(text) => step(state, writer, number, text)?,
                 Err(_) => return Err(stop_at(number, LineFault::BadLine)),
             },
         }
@@ -216,6 +159,15 @@ fn run_lines<R: Read + Drop, W: Write>(
         Next::End => Ok(()),
         _ => Err(stop_at(MAX_LINES + 1, LineFault::BadLine)),
     }
+}
+
+fn tell_kept<W: Write>(writer: &mut W, kept: usize) -> Result<(), Broken>
+    ensures { OnOk result (Appends (W.contents writer.old) (W.contents writer.new) (kept_line kept)) }
+{
+    let mut digits = itoa::Buffer::new();
+    send(writer, b"kept ")?;
+    send(writer, digits.format(kept).as_bytes())?;
+    send(writer, b"\n")
 }
 
 fn tell_refused<W: Write>(writer: &mut W, refused: Refused) -> Result<ScriptEnd, Broken>
@@ -245,22 +197,29 @@ fn ended<W: Write>(writer: &mut W, ran: Result<(), Stop>) -> ScriptEnd {
     }
 }
 
-/// Runs a script: reads its lines, counts, and writes the text of each scrape.
+fn start<R: Read + Drop>(alloc: Global, reader: R) -> Option<(State, Lines<R>)> {
+    let Ok(lines) = Lines::new(alloc, reader) else {
+        return None;
+    };
+    let Ok(state) = State::new(alloc) else {
+        return None;
+    };
+    Some((state, lines))
+}
+
+/// Runs a script: reads its lines, registers, counts, and writes the text of each scrape.
 ///
 /// A line is at most 4,096 bytes of UTF-8 without its line feed, which the last may lack, and at most 1,000,000
-/// lines are read. Lines are `counter NAME -`, `child NAME`, `inc WORKER 0 BY`, `go`, `scrape`, empty, or comments
-/// that begin with `#`. A refused line ends the script, after `refused LINE NUMBER` was written. Refusals:
-/// 27 of a line that is not in this language, 1, 2, 3 of a name, 20 of a family and 28 of a child that is not
-/// there, 12 of an increment, 6 for want of memory.
+/// lines are read. The lines are those of [`script_lines::Line`]. A refused line ends the script, after
+/// `refused LINE NUMBER` was written.
 pub fn run_script<R: Read + Drop, W: Write + Drop>(
     alloc: Global,
     reader: R,
     mut writer: W,
 ) -> ScriptEnd {
-    let fault = LineFault::NoMemory;
-    let ran = match Lines::new(alloc, reader) {
-        Ok(mut lines) => run_lines(&mut State::new(alloc), &mut lines, &mut writer),
-        Err(_) => Err(stop_at(0, fault)),
+    let ran = match start(alloc, reader) {
+        Some((mut state, mut lines)) => run_lines(&mut state, &mut lines, &mut writer),
+        None => Err(stop_at(0, LineFault::NoMemory)),
     };
     ended(&mut writer, ran)
 }

@@ -1,3 +1,2 @@
-mod one;
 mod scripts;
 mod streams;

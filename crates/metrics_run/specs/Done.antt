@@ -1,0 +1,24 @@
+-- What a line that prints nothing has done.
+use Rattle.std.specs.Prelude.{◌≡◌, ℕ, []}
+use Rattle.metric_desc.specs.Desc.{Descriptor}
+use Rattle.metric_desc.specs.declared.kind.Kind.TheVariants as kind
+use Rattle.script_lines.specs.Language.{Saying, Nothing, Counter, Gauge, Histogram, Child, Count, Go, Scrape, Window, AreBounds}
+use Rattle.metrics_run.specs.Parts.{IsDescribed}
+use Rattle.metrics_run.specs.State.{IsSame, IsRegistered, IsNumbered, IsQueued}
+use Rattle.metrics_run.specs.declared.state.State.{State}
+
+-- the line of this number was done
+abbrev pub IsDone : (old : State) (number : ℕ) → Saying → (new : State) → Type 0
+IsDone old number Nothing new = IsSame old new
+IsDone old number (Counter name labels help) new =
+    (desc : Descriptor) × IsDescribed kind.Counter name labels help (λ bounds. bounds ≡ []) desc × IsRegistered old desc new
+IsDone old number (Gauge name labels help) new =
+    (desc : Descriptor) × IsDescribed kind.Gauge name labels help (λ bounds. bounds ≡ []) desc × IsRegistered old desc new
+IsDone old number (Histogram name labels bounds help) new =
+    (desc : Descriptor) × IsDescribed kind.Histogram name labels help (AreBounds bounds) desc × IsRegistered old desc new
+IsDone old number (Child name values) new = IsNumbered old name values new
+IsDone old number (Count what worker child by times) new =
+    IsQueued old number (record { what = what; worker = worker; child = child; by = by; times = times }) new
+IsDone old number Go new = IsSame old new
+IsDone old number Scrape new = IsSame old new
+IsDone old number (Window size) new = IsSame old new

@@ -1,0 +1,10 @@
+-- The lines that a script prints beside its scrapes.
+use Rattle.std.specs.Prelude.{ℕ, List, ◌++◌, codes, decimal}
+
+-- the line that tells a refusal
+abbrev pub refused_line : (line number : ℕ) → List ℕ
+refused_line line number = codes "refused " ++ decimal line ++ codes " " ++ decimal number ++ codes "\n"
+
+-- the line that tells how many scrapes are kept
+abbrev pub kept_line : (kept : ℕ) → List ℕ
+kept_line kept = codes "kept " ++ decimal kept ++ codes "\n"
