@@ -1,7 +1,8 @@
 #!/bin/sh
 # Runs the example script with the Nth allocation refused, for each N, and compares what is printed and the status.
-# The program makes 14 allocations: 4 for its arguments, 2 before the first line, and 1, 1 and 6 at the lines 1, 3 and 6.
-# Then runs the tests of expo_text, expo_reader, register_rule, snapshot_core, snapshot_scan, snapshot_update and chain_law
+# The program makes 24 allocations: 4 for its arguments, 5 before the first line, and 5, 3, 1 and 6 at the lines 1, 2, 3 and 6.
+# Then runs the tests of expo_text, expo_reader, register_rule, snapshot_core, snapshot_scan, snapshot_update, chain_law and
+# registry_state
 # with each test's Nth allocation refused: a test may then end for want of memory, but none may see another answer in its
 # place. A label's name is read with the 13th or the 15th allocation of some tests of expo_reader. A board of 2 workers makes
 # 5 allocations, a reader of it 9, and a worker 15; the tests of snapshot_update make a snapshot or two before that, of 2
@@ -32,10 +33,11 @@ cd "$work/crates"
 expected() {
     case $1 in
     1 | 2 | 3 | 4) echo "2 usage: metrics_run script | metrics_run serve PORT COUNT" ;;
-    5 | 6) echo "1 refused 0 6" ;;
-    7) echo "1 refused 1 6" ;;
-    8) echo "1 refused 3 6" ;;
-    9 | 10 | 11 | 12 | 13 | 14) echo "1 refused 6 6" ;;
+    5 | 6 | 7 | 8 | 9) echo "1 refused 0 6" ;;
+    10 | 11 | 12 | 13 | 14) echo "1 refused 1 6" ;;
+    15 | 16 | 17) echo "1 refused 2 6" ;;
+    18) echo "1 refused 3 6" ;;
+    19 | 20 | 21 | 22 | 23 | 24) echo "1 refused 6 6" ;;
     *) echo "0 # TYPE a counter" ;;
     esac
 }
@@ -53,8 +55,8 @@ fn spend(rt: &(impl Input + AllocGlobal)) {
     }
 }
 END
-    for n in $(seq 1 15); do
-        { echo onmlkjihgfedcba | cut -c "$n" | tr -d '\n'; cat metrics_run/stdin; } >"$work/scripts/$n"
+    for n in $(seq 1 25); do
+        { echo yxwvutsrqponmlkjihgfedcba | cut -c "$n" | tr -d '\n'; cat metrics_run/stdin; } >"$work/scripts/$n"
     done
 }
 
@@ -114,17 +116,18 @@ prepare_tests snapshot_core $(seq 1 24)
 prepare_tests snapshot_scan $(seq 1 16)
 prepare_tests snapshot_update $(seq 1 24)
 prepare_tests chain_law $(seq 1 4) $(seq 44 49)
+prepare_tests registry_state $(seq 1 32)
 
 # Half of the processors: the rest are for the proofs beside this.
 {
-    echo "metrics_run --fail-alloc 15 --cases $work/scripts -- script"
+    echo "metrics_run --fail-alloc 25 --cases $work/scripts -- script"
     while read -r crate last _; do
         echo "$crate --test --seconds 3000 --fail-alloc $last"
     done <"$work/crates_of_tests"
 } | xargs -P "$((($(nproc) + 1) / 2))" -L 1 sh -c 'cd "$1"; shift; rt try "$@" >"$0/${PWD##*/}" 2>&1 || true' "$work/logs"
 
 log=$work/logs/metrics_run
-for n in $(seq 1 15); do
+for n in $(seq 1 25); do
     run=$(sed -n "/^== $n\$/,/^case=$n /p" "$log")
     status=$(echo "$run" | sed -n 's/^case=.* run=ended status=\([0-9]*\) .*/\1/p')
     got="$status $(echo "$run" | grep -E '^(usage|refused|# TYPE)' || true)"
@@ -134,7 +137,7 @@ for n in $(seq 1 15); do
         exit 1
     fi
 done
-echo "each of 14 allocations refused in turn: as expected"
+echo "each of 24 allocations refused in turn: as expected"
 
 # What want of memory is called: an error that the test gives back, or what it was met with by an `expect`.
 memory='^ +(error|room|runs|it runs): (NoMemory|AllocError|AllocFailed \{ \.\. \}|Kind\(OutOfMemory\))$'

@@ -164,11 +164,7 @@ pub(crate) fn gauge_of(alloc: Global, parts: Parts<'_>) -> Result<Desc, LineFaul
 }
 
 /// The descriptor of a family of histograms.
-pub(crate) fn histogram_of(
-    alloc: Global,
-    parts: Parts<'_>,
-    bounds: &str,
-) -> Result<Desc, LineFault>
+pub(crate) fn histogram_of(alloc: Global, parts: Parts<'_>, bounds: &str) -> Result<Desc, LineFault>
     requires help { IsWriting parts.help.now }
     requires bounds { (numbers : List ℕ) × AreBounds bounds.now numbers }
     ensures read { IfOk result (IsDescribed Kinds.Histogram parts.entry.name.now parts.entry.labels.now parts.entry.help.now (AreBounds bounds.now)) }

@@ -117,12 +117,7 @@ fn act(state: &mut State, number: u64, line: Line<'_>) -> Result<(), LineFault>
 }
 
 /// Does what a line says. `number` is the line's own, from 1.
-fn step<W: Write>(
-    state: &mut State,
-    writer: &mut W,
-    number: u64,
-    text: &str,
-) -> Result<(), Stop> {
+fn step<W: Write>(state: &mut State, writer: &mut W, number: u64, text: &str) -> Result<(), Stop> {
     let Some(line) = read_line(text) else {
         return Err(stop_at(number, LineFault::BadLine));
     };

@@ -70,12 +70,27 @@ module _ (n c h g : ℕ) (recorded : List Answer) (journal : List Entry) (window
 pub seen_changed : {S : Type 0} (id window : ℕ) (source : S) (journal journal' : List Entry) (families families' : List Family) (change : Change)
     → journal' ≡ journal ++ Changed change ∷ [] → families' ≡ after families change
     → record { id = id; window = window; source = source; journal = journal'; state = record { families = families'; last = newest (scrapes journal') } }
-      ≡ changed change (record { id = id; window = window; source = source; journal = journal;
-          state = record { families = families; last = newest (scrapes journal) } })
+    ≡ changed change (record {
+      id = id;
+      window = window;
+      source = source;
+      journal = journal;
+      state = record { families = families; last = newest (scrapes journal) };
+    })
 seen_changed {S} id window source journal journal' families families' change one two =
-    let now : (j : List Entry) (f : List Family) → Registry S = λ j f. record { id = id; window = window; source = source; journal = j;
-        state = record { families = f; last = newest (scrapes j) } } in
+    let now : (j : List Entry) (f : List Family) → Registry S = λ j f. record {
+      id = id;
+      window = window;
+      source = source;
+      journal = j;
+      state = record { families = f; last = newest (scrapes j) };
+    } in
     ap (λ j. now j families') one
     ∙ ap (now (journal ++ Changed change ∷ [])) two
-    ∙ ap (λ last. record { id = id; window = window; source = source; journal = journal ++ Changed change ∷ [];
-        state = record { families = after families change; last = last } }) (newest_change journal change)
+    ∙ ap (λ last. record {
+      id = id;
+      window = window;
+      source = source;
+      journal = journal ++ Changed change ∷ [];
+      state = record { families = after families change; last = last };
+    }) (newest_change journal change)

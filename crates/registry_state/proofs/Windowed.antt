@@ -65,13 +65,23 @@ module _ (n c h g : ℕ) (recorded : List Answer) (journal : List Entry) (window
 pub seen_window : {S : Type 0} (id window' : ℕ) (source : S) (journal journal' : List Entry) (families : List Family)
     → 1 ≤ window' → journal' ≡ within window' journal
     → ◌≡◌ {A = Registry S}
-      (record { id = id; window = window'; source = source; journal = journal'; state = record { families = families; last = newest (scrapes journal') } })
-      (record { id = id; window = window'; source = source; journal = within window' journal; state = record { families = families; last = newest (scrapes journal) } })
+    (record { id = id; window = window'; source = source; journal = journal'; state = record { families = families; last = newest (scrapes journal') } })
+    (record { id = id; window = window'; source = source; journal = within window' journal; state = record { families = families; last = newest (scrapes journal) } })
 seen_window {S} id window' source journal journal' families some same =
-    let with_journal : List Entry → Registry S = λ j. record { id = id; window = window'; source = source; journal = j;
-        state = record { families = families; last = newest (scrapes j) } } in
-    let with_last : Option Answer → Registry S = λ last. record { id = id; window = window'; source = source; journal = within window' journal;
-        state = record { families = families; last = last } } in
+    let with_journal : List Entry → Registry S = λ j. record {
+      id = id;
+      window = window';
+      source = source;
+      journal = j;
+      state = record { families = families; last = newest (scrapes j) };
+    } in
+    let with_last : Option Answer → Registry S = λ last. record {
+      id = id;
+      window = window';
+      source = source;
+      journal = within window' journal;
+      state = record { families = families; last = last };
+    } in
     ap with_journal same ∙ ap with_last (newest_within window' journal some)
 
 -- what contracts see of a registry that has scraped

@@ -66,85 +66,260 @@ fn counts(rt: HostRuntime) {
     );
 }
 
+/// The same line twice, and what it says of what is there.
 #[test]
 fn refusals(rt: HostRuntime) {
     let alloc = rt.alloc();
     let refused = [
         ("counter 1a -\n", "refused 1 2\n", 1, 2),
-        ("counter a -\ncounter a -\n", "refused 2 27\n", 2, 27),
+        ("\n# a comment\n\ncounter 1a -\n", "refused 4 2\n", 4, 2),
+        ("counter a -\ncounter a -\n", "refused 2 19\n", 2, 19),
+        ("counter a a,,b\n", "refused 1 1\n", 1, 1),
+        ("counter a b,__b\n", "refused 1 4\n", 1, 4),
+        ("counter a a,a b\n", "refused 1 7\n", 1, 7),
+        ("counter a a,b,c,d,e,f,g,h,i\n", "refused 1 9\n", 1, 9),
+        ("counter a -  b\n", "refused 1 5\n", 1, 5),
+        ("counter a - b\\s\n", "refused 1 5\n", 1, 5),
+        ("counter 1a __b  c\n", "refused 1 2\n", 1, 2),
+        ("counter a __b  c\n", "refused 1 4\n", 1, 4),
+        ("gauge 1a -\n", "refused 1 2\n", 1, 2),
+        ("gauge g -\ngauge g -\n", "refused 2 19\n", 2, 19),
+        ("histogram h a,le 10\n", "refused 1 8\n", 1, 8),
+        ("histogram h - 10,10\n", "refused 1 10\n", 1, 10),
+        ("histogram h - 281474976710656\n", "refused 1 10\n", 1, 10),
+        (
+            "histogram h - 1,2,3,4,5,6,7,8,9,10,11,12,13,14,15,16,17,18,19,20,21,22,23,24,25\n",
+            "refused 1 10\n",
+            1,
+            10,
+        ),
+        (
+            "histogram x - 1\ncounter x_count -\n",
+            "refused 2 19\n",
+            2,
+            19,
+        ),
+        (
+            "counter x_count -\nhistogram x - 1\n",
+            "refused 2 19\n",
+            2,
+            19,
+        ),
         ("child a\n", "refused 1 20\n", 1, 20),
         ("counter a -\nchild b\n", "refused 2 20\n", 2, 20),
+        ("counter a -\nchild a b\n", "refused 2 21\n", 2, 21),
+        ("counter a b,c\nchild a d\n", "refused 2 21\n", 2, 21),
         ("counter a -\ninc 0 0 1\n", "refused 2 28\n", 2, 28),
-        ("inc 0 0 1\n", "refused 1 28\n", 1, 28),
+        ("counter a -\nchild a\ninc 0 1 1\n", "refused 3 28\n", 3, 28),
+        (
+            "counter a -\nchild a\ninc 0 18446744073709551615 1\n",
+            "refused 3 28\n",
+            3,
+            28,
+        ),
+        ("counter a -\nchild a\nobs 0 0 1\n", "refused 3 28\n", 3, 28),
+        ("counter a -\nchild a\nup 0 0 1\n", "refused 3 28\n", 3, 28),
+        (
+            "histogram h - -\nchild h\ninc 0 0 1\n",
+            "refused 3 28\n",
+            3,
+            28,
+        ),
+        ("gauge g -\nchild g\nobs 0 0 1\n", "refused 3 28\n", 3, 28),
+        (
+            "gauge g -\nchild g\ndown 0 0 1\ninc 0 0 1\n",
+            "refused 4 28\n",
+            4,
+            28,
+        ),
+        ("window 0\n", "refused 1 31\n", 1, 31),
+        ("window 1025\n", "refused 1 31\n", 1, 31),
+        ("settle\n", "refused 1 27\n", 1, 27),
+        ("inc 4 0 1\n", "refused 1 27\n", 1, 27),
+        ("inc 0 0 1 0\n", "refused 1 27\n", 1, 27),
+        ("inc 0 0 1 100001\n", "refused 1 27\n", 1, 27),
+        ("counter a\n", "refused 1 27\n", 1, 27),
+        ("counter a - \\x\n", "refused 1 27\n", 1, 27),
+        ("go \n", "refused 1 27\n", 1, 27),
     ];
     for (script, output, line, number) in refused {
         expect_refused(&rt, alloc, script, output, line, number);
     }
+}
+
+/// What a worker's operations leave where one of them is refused.
+#[test]
+fn operations_that_are_refused(rt: HostRuntime) {
+    let alloc = rt.alloc();
     // Worker 3 fails first in the file and worker 0 first in time; both stop there, and worker 1 does not.
     let full =
         "counter a -\nchild a\ninc 3 0 281474976710655\ninc 0 0 281474976710655\ninc 1 0 1\ngo\nscrape\n";
     expect_refused(&rt, alloc, full, "refused 3 12\n", 3, 12);
     let later = "counter a -\nchild a\ninc 0 0 281474976710655\ninc 0 0 1\ninc 0 0 0\ngo\n";
     expect_refused(&rt, alloc, later, "refused 4 12\n", 4, 12);
+    let largest = "counter a -\nchild a\ninc 0 0 18446744073709551615\ngo\n";
+    expect_refused(&rt, alloc, largest, "refused 3 12\n", 3, 12);
+    let second_time = "counter a -\nchild a\nscrape\ninc 0 0 200000000000000 2\ngo\n";
+    let printed = "# TYPE a counter\na 0\nrefused 4 12\n";
+    expect_refused(&rt, alloc, second_time, printed, 4, 12);
 }
 
+/// The longest names, and one byte more.
 #[test]
-fn lines_outside_the_language(rt: HostRuntime) {
+fn long_names_and_values(rt: HostRuntime) -> Result<(), Fail> {
     let alloc = rt.alloc();
-    let bad = [
-        "counter a",
-        "counter a ",
-        "counter  -",
-        "counter a - ",
-        "counter a - help",
-        "counter a b",
-        " counter a -",
-        "counter\ta -",
-        "counter a -\r",
-        "child",
-        "child ",
-        "child a ",
-        "child a b",
-        "Go",
-        "go ",
-        " go",
-        "go now",
-        "go\r",
-        "\r",
-        "\t",
-        " ",
-        "scrape ",
-        "scrape a",
-        "settle",
-        "inc",
-        "inc 0",
-        "inc 0 0",
-        "inc 0 0 ",
-        "inc 0 0 1 ",
-        "inc 0 0 1 2",
-        "inc 4 0 1",
-        "inc -1 0 1",
-        "inc 0 1 1",
-        "inc 00 0 1",
-        "inc 0 00 1",
-        "inc 0 0 01",
-        "inc 0 0 +1",
-        "inc 0 0 1.0",
-        "inc 0 0 18446744073709551616",
-        "inc 0  0 1",
-        "inc\t0 0 1",
-        "obs 0 0 1",
-        "histogram a - -",
-    ];
-    for line in bad {
-        expect_refused(&rt, alloc, line, "refused 1 27\n", 1, 27);
+    for (len, number) in [(129, 3), (128, 0)] {
+        let name = vec![in alloc; b'a'; len]?;
+        let mut script = Vec::new(alloc);
+        script.extend_from_slice(b"counter ")?;
+        script.extend_from_slice(&name)?;
+        script.extend_from_slice(b" -\n")?;
+        ends_at_1(&rt, alloc, &script, "refused 1 3\n", number);
+    }
+    for (len, number) in [(257, 3), (256, 20)] {
+        let value = vec![in alloc; b'a'; len]?;
+        let mut script = Vec::new(alloc);
+        script.extend_from_slice(b"child a ")?;
+        script.extend_from_slice(&value)?;
+        let output = if number == 3 {
+            "refused 1 3\n"
+        } else {
+            "refused 1 20\n"
+        };
+        ends_at_1(&rt, alloc, &script, output, number);
+    }
+    Ok(())
+}
+
+/// Expects that the first line is refused with this number, or nothing where it is 0.
+fn ends_at_1(rt: &impl Abort, alloc: Global, script: &[u8], output: &str, number: u8) {
+    if number == 0 {
+        expect(rt, alloc, script, "", ScriptEnd::Done);
+    } else {
+        expect(
+            rt,
+            alloc,
+            script,
+            output,
+            ScriptEnd::Refused { line: 1, number },
+        );
     }
 }
 
+/// A histogram with a label and a help with blanks, counted by three workers; `settle` is no line.
 #[test]
-fn largest_number_is_a_number(rt: HostRuntime) {
-    let script = "counter a -\nchild a\ninc 0 0 18446744073709551615\ngo\n";
-    expect_refused(&rt, rt.alloc(), script, "refused 3 12\n", 3, 12);
+fn waiting_room(rt: HostRuntime) {
+    let script =
+        "histogram h zone 10,20 Waiting\\s\\sroom\nchild h a\\sb\nobs 0 0 10\nobs 1 0 11\nobs 2 0 99\ngo\nscrape\nsettle\ninc 0 0 1\n";
+    let output =
+        "# HELP h Waiting  room\n# TYPE h histogram\nh_bucket{zone=\"a b\",le=\"10\"} 1\nh_bucket{zone=\"a b\",le=\"20\"} 2\nh_bucket{zone=\"a b\",le=\"+Inf\"} 3\nh_sum{zone=\"a b\"} 120\nh_count{zone=\"a b\"} 3\nrefused 8 27\n";
+    expect_refused(&rt, rt.alloc(), script, output, 8, 27);
+}
+
+/// A gauge may fall below zero.
+#[test]
+fn gauges(rt: HostRuntime) {
+    let alloc = rt.alloc();
+    let script = b"gauge g -\nchild g\nup 0 0 5\ndown 1 0 7\ngo\nscrape\n";
+    expect(
+        &rt,
+        alloc,
+        script,
+        "# TYPE g gauge\ng -2\n",
+        ScriptEnd::Done,
+    );
+    let more = b"gauge g -\nchild g\nup 0 0 5 3\ngo\nscrape\ngo\ndown 3 0 15\ngo\nscrape\n";
+    expect(
+        &rt,
+        alloc,
+        more,
+        "# TYPE g gauge\ng 15\n# TYPE g gauge\ng 0\n",
+        ScriptEnd::Done,
+    );
+}
+
+/// Each operation is done as often as its line says, once for each `go` that follows it first.
+#[test]
+fn times(rt: HostRuntime) {
+    let alloc = rt.alloc();
+    let script =
+        b"counter a -\nchild a\ninc 0 0 2 3\ninc 1 0 1 100000\ngo\ngo\nscrape\ninc 2 0 1\ninc 2 0 1\ngo\nscrape\n";
+    let output = "# TYPE a counter\na 100006\n# TYPE a counter\na 100008\n";
+    expect(&rt, alloc, script, output, ScriptEnd::Done);
+}
+
+/// A child that is there keeps its number, and each new one gets the next, whatever its family.
+#[test]
+fn numbers_of_children(rt: HostRuntime) {
+    let script =
+        b"counter b l\nchild b y\nchild b x\nchild b y\ngauge a -\nchild a\nchild b \\e\ninc 0 0 1\ninc 0 1 2\nup 0 2 3\ninc 0 3 4\ngo\nscrape\n";
+    let output = "# TYPE a gauge\na 3\n# TYPE b counter\nb{l=\"\"} 4\nb{l=\"x\"} 2\nb{l=\"y\"} 1\n";
+    expect(&rt, rt.alloc(), script, output, ScriptEnd::Done);
+}
+
+/// How many scrapes are kept.
+#[test]
+fn windows(rt: HostRuntime) -> Result<(), Fail> {
+    let alloc = rt.alloc();
+    let mut script = Vec::new(alloc);
+    for _ in 0..70 {
+        script.extend_from_slice(b"scrape\n")?;
+    }
+    script.extend_from_slice(
+        b"window 64\nwindow 3\nwindow 3\nscrape\nwindow 1024\nscrape\nwindow 1024\nwindow 0\n",
+    )?;
+    let end = ScriptEnd::Refused {
+        line: 78,
+        number: 31,
+    };
+    expect(
+        &rt,
+        alloc,
+        &script,
+        "kept 64\nkept 3\nkept 3\nkept 3\nkept 4\nrefused 78 31\n",
+        end,
+    );
+    Ok(())
+}
+
+/// The 65th child of counters, and the 129th family.
+#[test]
+fn all_slots_used(rt: HostRuntime) -> Result<(), Fail> {
+    let alloc = rt.alloc();
+    let mut children = Vec::new(alloc);
+    children.extend_from_slice(b"counter a l\n")?;
+    let mut families = Vec::new(alloc);
+    for number in 0..129u32 {
+        let child = format!(in alloc; "child a {number}\n")?;
+        children.extend_from_slice(child.as_bytes())?;
+        let family = format!(in alloc; "gauge g{number} -\n")?;
+        families.extend_from_slice(family.as_bytes())?;
+    }
+    let full = ScriptEnd::Refused {
+        line: 66,
+        number: 22,
+    };
+    expect(&rt, alloc, &children, "refused 66 22\n", full);
+    let many = ScriptEnd::Refused {
+        line: 129,
+        number: 23,
+    };
+    expect(&rt, alloc, &families, "refused 129 23\n", many);
+    Ok(())
+}
+
+#[test]
+fn statuses(rt: HostRuntime) {
+    assert_eq!(rt; ScriptEnd::Done.status(), 0);
+    assert_eq!(rt;
+        ScriptEnd::Refused {
+            line: 3,
+            number: 12
+        }
+        .status(),
+        1
+    );
+    assert_eq!(rt; ScriptEnd::Broken.status(), 3);
 }
 
 #[test]
@@ -185,17 +360,6 @@ fn long_lines(rt: HostRuntime) -> Result<(), Fail> {
             line: 1,
             number: 27,
         },
-    );
-    let mut name = Vec::new(alloc);
-    name.extend_from_slice(b"counter ")?;
-    name.extend_from_slice(&vec![in alloc; b'a'; 129]?)?;
-    name.extend_from_slice(b" -\n")?;
-    expect(
-        &rt,
-        alloc,
-        &name,
-        "refused 1 3\n",
-        ScriptEnd::Refused { line: 1, number: 3 },
     );
     Ok(())
 }

@@ -1,7 +1,7 @@
 //! A registry by its calls, over a row of one thread.
 use crate::tests::{desc, labelled, values};
-use crate::{BadWindow, FamilyId, Handle, NewFault, RegisterFault, RegistryState};
-use expo_text::render;
+use crate::{BadWindow, FamilyId, Handle, NewFault, RegisterFault, RegistryState, ScrapeFault};
+use expo_text::{Scrape, render};
 use ledger_core::Op;
 use metric_desc::{Desc, Kind};
 use snapshot_scan::{PlainSource, Snapshot};
@@ -197,17 +197,17 @@ fn the_65th_scrape(rt: HostRuntime) -> Result<(), Fail> {
     let alloc = rt.alloc();
     let mut registry = registry(alloc, 64)?;
     let family = registry.register(desc(alloc, Kind::Counter, "a")?)?;
-    let counter = slot(&mut registry, alloc, family, &[])?;
+    assert_eq!(rt; slot(&mut registry, alloc, family, &[])?, 0);
     for _ in 0..65 {
         let _scrape = registry.scrape()?;
-        registry.apply(&[Op::Inc { counter, by: 1 }])?;
+        registry.apply(&[Op::Inc { counter: 0, by: 1 }])?;
     }
     assert_eq!(rt; (registry.kept().len(), registry.journal().len()), (64, 66));
     let mut out = Snapshot::new(alloc)?;
     registry.kept().read(0, &mut out);
-    assert_eq!(rt; out.counter(counter), 1);
+    assert_eq!(rt; out.counter(0), 1);
     registry.kept().read(63, &mut out);
-    assert_eq!(rt; out.counter(counter), 64);
+    assert_eq!(rt; out.counter(0), 64);
     Ok(())
 }
 
@@ -246,13 +246,60 @@ fn sources_come_back(rt: HostRuntime) -> Result<(), Fail> {
             }
         }
     }
-    let Ok(mut registry) = Plain::new(alloc, source, 7, 1_024) else {
-        return Ok(assert!(rt; false));
-    };
+    let mut registry = Plain::new(alloc, source, 7, 1_024).map_err(|not_made| not_made.fault)?;
     registry.apply(&[Op::Inc { counter: 1, by: 2 }])?;
     let mut source = registry.into_source();
     let mut out = Snapshot::new(alloc)?;
     source.take(&mut out);
     assert_eq!(rt; (out.counter(1), out.vector()[0]), (11, 2));
+    Ok(())
+}
+
+/// Registers a counter. Where a growth is refused nothing has changed, and the same call again answers as it would have.
+fn registered(
+    rt: &impl Abort,
+    registry: &mut Plain,
+    first: Desc,
+    again: Desc,
+) -> Result<FamilyId, Fail> {
+    let before = registry.journal().len();
+    match registry.register(first) {
+        Err(RegisterFault::NoMemory) => {
+            assert_eq!(rt; registry.journal().len(), before);
+            Ok(registry.register(again)?)
+        }
+        answer => Ok(answer?),
+    }
+}
+
+/// Scrapes likewise.
+fn scraped(rt: &impl Abort, registry: &mut Plain) -> Result<Scrape, Fail> {
+    let before = (registry.kept().len(), registry.journal().len());
+    match registry.scrape() {
+        Err(ScrapeFault::NoMemory) => {
+            assert_eq!(rt; (registry.kept().len(), registry.journal().len()), before);
+            Ok(registry.scrape()?)
+        }
+        answer => Ok(answer?),
+    }
+}
+
+#[test]
+fn each_growth(rt: HostRuntime) -> Result<(), Fail> {
+    let alloc = rt.alloc();
+    let mut registry = registry(alloc, 1)?;
+    let (first, again) = (
+        desc(alloc, Kind::Counter, "a")?,
+        desc(alloc, Kind::Counter, "a")?,
+    );
+    let family = registered(&rt, &mut registry, first, again)?;
+    assert_eq!(rt; (family.number(), registry.journal().len()), (0, 1));
+    let _slot = slot(&mut registry, alloc, family, &[])?;
+    let scrape = scraped(&rt, &mut registry)?;
+    assert_eq!(rt; (registry.kept().len(), registry.journal().len()), (1, 3));
+    assert_eq!(rt;
+        render(&scrape)?.as_slice(),
+        b"# TYPE a counter\na 0\n".as_slice()
+    );
     Ok(())
 }

@@ -19,17 +19,16 @@ returns-in-Err-clause-fault c =
       c.in-Err.fault,
       refl,
       first_bad c.args.labels.now c.deref-word-items.result.now c.loop-word.word-index _ c.in-Err.fault c.loop-word-test.true kept.0
-        (subst (All IsLabelName) kept.1 kept.2) c.in-Err.ensures.fault,
+          (subst (All IsLabelName) kept.1 kept.2) c.in-Err.ensures.fault,
     )
 
 pub loop-word-preserved : goal.loop-word-preserved
 loop-word-preserved c =
     let kept = c.loop-word.invariant in
-    let pushed : c.push.new.self.items ≡ c.loop-word.names.items ++ c.in-Ok-read.name ∷ [] = search rules in
-    (
+    let pushed : c.push.new.self.items ≡ c.loop-word.names.items ++ c.in-Ok-read.name ∷ [] = search rules in (
       kept.0,
       pushed ∙ ap (λ (l : List (List ℕ)). l ++ c.in-Ok-read.name ∷ []) kept.1
-        ∙ ap (λ (n : List ℕ). map now (take c.loop-word.word-index c.deref-word-items.result.now) ++ n ∷ []) c.in-Ok-read.ensures.text
-        ∙ sym (more_words c.deref-word-items.result.now c.loop-word.word-index _ c.loop-word-test.true),
+          ∙ ap (λ (n : List ℕ). map now (take c.loop-word.word-index c.deref-word-items.result.now) ++ n ∷ []) c.in-Ok-read.ensures.text
+          ∙ sym (more_words c.deref-word-items.result.now c.loop-word.word-index _ c.loop-word-test.true),
       subst (All IsLabelName) (sym pushed) (all_push IsLabelName c.loop-word.names.items c.in-Ok-read.name kept.2 c.in-Ok-read.ensures.grammar),
     )

@@ -24,11 +24,10 @@ pub loop-word-preserved : goal.loop-word-preserved
 loop-word-preserved c =
     let kept = c.loop-word.invariant in
     let pushed : c.push.new.self.items ≡ c.loop-word.read.items ++ c.in-Ok-read_value.value ∷ [] = search rules in
-    let more = more_words c.deref-word-items.result.now c.loop-word.word-index _ c.loop-word-test.true in
-    (
+    let more = more_words c.deref-word-items.result.now c.loop-word.word-index _ c.loop-word-test.true in (
       kept.0,
       subst (λ (l : List (List ℕ)). AreWritten l (map now (take (c.loop-word.word-index + 1) c.deref-word-items.result.now))) (sym pushed)
-        (subst (AreWritten (c.loop-word.read.items ++ c.in-Ok-read_value.value ∷ [])) (sym more)
-        (written_push c.loop-word.read.items _ c.in-Ok-read_value.value _ kept.1 c.in-Ok-read_value.ensures.read)),
+          (subst (AreWritten (c.loop-word.read.items ++ c.in-Ok-read_value.value ∷ [])) (sym more)
+          (written_push c.loop-word.read.items _ c.in-Ok-read_value.value _ kept.1 c.in-Ok-read_value.ensures.read)),
       subst (All IsGoodValue) (sym more) (all_push IsGoodValue _ _ kept.2 c.in-Ok-read_value.ensures.good),
     )

@@ -12,5 +12,5 @@ returns-in-Err-child-clause-fault c =
       c.in-Ok.ensures.read,
       c.in-Some.ensures,
       subst (λ (values : List (List ℕ)). IsChildFault 64 8 16 c.args.self.now.registry.state.families c.in-Some.family.number values c.in-Err-child.fault)
-        c.deref.ensures.value c.in-Err-child.ensures.fault,
+          c.deref.ensures.value c.in-Err-child.ensures.fault,
     ))

@@ -43,11 +43,11 @@ invariant_of-self-2 g c =
     let numbers : c.deref-2.result.now ≡ c.self.inside.order.items = c.deref-2.ensures.value in
     let name : c.as_str.result.now ≡ c.args.desc.name = search rules in
     let accepted : (length c.self.inside.families.items < 128) × IsApart c.self.inside.families.items c.args.desc =
-        subst (λ (l : List Family). (length l < 128) × IsApart l c.args.desc) same c.requires in
+    subst (λ (l : List Family). (length l < 128) × IsApart l c.args.desc) same c.requires in
     let at : IsPlaceOfName c.self.inside.families.items c.self.inside.order.items c.args.desc.name c.place_of_name-place.result =
-        subst (λ (l : List Family). IsPlaceOfName l c.self.inside.order.items c.args.desc.name c.place_of_name-place.result) now
-        (subst (λ (o : List ℕ). IsPlaceOfName c.deref.result.now o c.args.desc.name c.place_of_name-place.result) numbers
-        (subst (λ (t : List ℕ). IsPlaceOfName c.deref.result.now c.deref-2.result.now t c.place_of_name-place.result) name c.place_of_name-place.ensures)) in
+    subst (λ (l : List Family). IsPlaceOfName l c.self.inside.order.items c.args.desc.name c.place_of_name-place.result) now
+    (subst (λ (o : List ℕ). IsPlaceOfName c.deref.result.now o c.args.desc.name c.place_of_name-place.result) numbers
+    (subst (λ (t : List ℕ). IsPlaceOfName c.deref.result.now c.deref-2.result.now t c.place_of_name-place.result) name c.place_of_name-place.ensures)) in
     held_more _ _ _ _ _ _ _ _ _ _ c.self.invariant c.args.desc c.place_of_name-place.result _ _ _ accepted at journal families order
 
 pub returns-clause-registered : goal.returns-clause-registered

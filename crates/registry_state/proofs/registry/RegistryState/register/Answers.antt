@@ -20,7 +20,7 @@ returns-in-Err-add-clause-fault g c =
     let families : c.deref.result.now ≡ c.args.self.now.state.families = search rules in
     let few : (length c.deref.result.now < 128) × IsApart c.deref.result.now c.args.desc = search rules in
     let here : (length c.args.self.now.state.families < 128) × IsApart c.args.self.now.state.families c.args.desc =
-        subst (λ (l : List Family). (length l < 128) × IsApart l c.args.desc) families few in
+    subst (λ (l : List Family). (length l < 128) × IsApart l c.args.desc) families few in
     (here.1, here.0)
 
 pub returns-in-Err-clause-fault : goal.returns-in-Err-clause-fault

@@ -23,16 +23,16 @@ fill-requires g c =
     let families : c.deref.result.now ≡ c.deref-3.result.now = c.deref.ensures.value ∙ sym c.deref-3.ensures.value in
     let order : c.deref-2.result.now ≡ c.deref-4.result.now = c.deref-2.ensures.value ∙ sym c.deref-4.ensures.value in
     let blank : c.in-Ok.blank.families.items ≡ blanks c.deref-3.result.now c.deref-4.result.now =
-        subst (λ (l : List Family). c.in-Ok.blank.families.items ≡ blanks l c.deref-4.result.now) families
-        (subst (λ (o : List ℕ). c.in-Ok.blank.families.items ≡ blanks c.deref.result.now o) order c.in-Ok.ensures.families) in
+    subst (λ (l : List Family). c.in-Ok.blank.families.items ≡ blanks l c.deref-4.result.now) families
+    (subst (λ (o : List ℕ). c.in-Ok.blank.families.items ≡ blanks c.deref.result.now o) order c.in-Ok.ensures.families) in
     let shown : AreShowable g.row.C g.row.H g.row.G c.deref-3.result.now =
-        subst (AreShowable g.row.C g.row.H g.row.G) (sym c.deref-3.ensures.value) (showable _ _ _ _ _ c.self.invariant.held) in
+    subst (AreShowable g.row.C g.row.H g.row.G) (sym c.deref-3.ensures.value) (showable _ _ _ _ _ c.self.invariant.held) in
     let ordered : IsOrder c.deref-3.result.now c.deref-4.result.now =
-        subst (λ (l : List Family). IsOrder l c.deref-4.result.now) (sym c.deref-3.ensures.value)
-        (subst (λ (o : List ℕ). IsOrder c.self.inside.families.items o) (sym c.deref-4.ensures.value) c.self.invariant.ordered) in
+    subst (λ (l : List Family). IsOrder l c.deref-4.result.now) (sym c.deref-3.ensures.value)
+    (subst (λ (o : List ℕ). IsOrder c.self.inside.families.items o) (sym c.deref-4.ensures.value) c.self.invariant.ordered) in
     let same : scraped.0 ≡ entry_of c.in-Some.newest.now = is_newest c.self.inside.window c.self.inside.journal c.scrape.new.self scraped.0 (entry_of c.in-Some.newest.now) c.self.invariant.kept.room.0 scraped.2 c.in-Some.ensures in
     let whole : IsWhole g.row.N g.row.C g.row.H g.row.G (entry_of c.in-Some.newest.now) =
-        subst (λ (a : Answer). IsWhole g.row.N g.row.C g.row.H g.row.G a) same scraped.1.whole in
+    subst (λ (a : Answer). IsWhole g.row.N g.row.C g.row.H g.row.G a) same scraped.1.whole in
     (omega arith, (c.in-Ok.ensures.vector, (blank, (shown, (ordered, (c.self.invariant.geometry.slots, whole))))))
 
 pub invariant_of-self-2 : goal.invariant_of-self-2
@@ -52,4 +52,4 @@ returns-clause-kept g c =
     } in
     subst (λ (old : Registry g.row.S.Denot). Keeps g.row.N g.row.C g.row.H g.row.G g.S.Source.recorded old now) c.self.view_is
     (keeps_scrape g.row.N g.row.C g.row.H g.row.G g.S.Source.recorded c.self.inside.id c.self.inside.window c.self.inside.source c.scrape.new.source c.self.inside.journal
-        c.scrape.new.self c.self.inside.families.items scraped.0 c.self.invariant.kept.room.0 scraped.1 scraped.2)
+    c.scrape.new.self c.self.inside.families.items scraped.0 c.self.invariant.kept.room.0 scraped.1 scraped.2)
