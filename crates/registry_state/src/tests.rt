@@ -6,6 +6,7 @@ mod faults;
 mod handles;
 mod order;
 mod registry;
+mod tour;
 
 use metric_desc::{Desc, Kind};
 use metric_names::{HelpText, LabelName, LabelValue, MetricName};
