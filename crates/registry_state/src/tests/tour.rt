@@ -80,9 +80,7 @@ fn serve(service: &mut Service, alloc: Global) -> Result<(), Fail> {
 fn tour(rt: HostRuntime) -> Result<(), Fail> {
     let alloc = rt.alloc();
     let source = PlainSource::new(alloc)?;
-    let Ok(mut service) = Service::new(alloc, source, 7, 64) else {
-        return Err("no registry".into());
-    };
+    let mut service = Service::new(alloc, source, 7, 64).map_err(|not_made| not_made.fault)?;
     serve(&mut service, alloc)?;
     let text = render(&service.scrape()?)?;
     let expected = "# TYPE http_requests_total counter\n\
