@@ -7,7 +7,7 @@ use Rattle.metric_desc.specs.Desc.{Descriptor}
 use Rattle.expo_text.specs.Scraped.{Scraped}
 use Rattle.expo_text.specs.Text.{text}
 use Rattle.register_rule.specs.declared.view.Entry.{Entry as Answer}
-use Rattle.snapshot_scan.specs.Plain.{row_of, count_of, recorded_by}
+use Rattle.snapshot_scan.specs.Plain.{row_of, count_of, recorded_by, GivesRow}
 use Rattle.registry_state.specs.Journal.{Registered, scrapes, within}
 use Rattle.registry_state.specs.Replay.{Family, IsAcceptedChange, nothing}
 use Rattle.registry_state.specs.Changed.{changed, WasThere, WasMade, Keeps}
@@ -108,7 +108,7 @@ pub record IsScraped (old : State) (bytes : List ℕ) (new : State) : Type 0 whe
   pub last : new.registry.state.last ≡ Some answer
   pub shown : IsShown 64 8 new.registry.state.families answer scrape
   pub text_is : bytes ≡ text scrape
-  pub kept : Keeps 1 64 8 16 recorded_by old.registry new.registry
+  pub kept : Keeps 1 64 8 16 recorded_by GivesRow old.registry new.registry
   pub children : new.children.items ≡ old.children.items
   pub queue : new.queue.items ≡ old.queue.items
 

@@ -1,16 +1,14 @@
 -- What a registry keeps stays so, whatever its calls do to it.
 use Rattle.std.proofs.Common.{◌≡◌, ℕ, zero, suc, ◌-◌, ◌≤◌, List, [], ◌∷◌, ◌++◌, length, drop, refl, ap, sym, subst, ◌∙◌, arith}
-use Rattle.std.specs.Prelude.{Option, Some, Result, Ok, Err, OnOk, OnErr, IfErr}
+use Rattle.std.specs.Prelude.{Option, Some}
 use Rattle.std.proofs.lemmas.List.{append_assoc, append-nil}
 use Rattle.register_rule.specs.declared.view.Entry.{Entry as Answer}
 use Rattle.snapshot_scan.specs.Sources.{newest, Records}
 use Rattle.registry_state.specs.Journal.{Change, Entry, Changed, Scraped, scrapes, within}
 use Rattle.registry_state.specs.Replay.{Family, State, nothing, IsAcceptedChange, IsNext, after, Replays}
 use Rattle.registry_state.specs.Kept.{AreLast, IsKept}
-use Rattle.registry_state.specs.Faults.{IsWindow, Leaves}
-use Rattle.registry_state.specs.declared.fault.ScrapeFault.{ScrapeFault}
-use Rattle.registry_state.specs.declared.fault.ScrapeFault.TheVariants.{NoMemory, Contended}
-use Rattle.registry_state.proofs.Entries.{scrapes_change, scrapes_scrape, scrapes_within, few_within, newest_behind, newest_scrape, newest_change, newest_within}
+use Rattle.registry_state.specs.Faults.{IsWindow}
+use Rattle.registry_state.proofs.Entries.{scrapes_change, scrapes_scrape, scrapes_within, few_within, newest_behind, newest_change, newest_within}
 use Rattle.registry_state.proofs.Replayed.{parts_of_replay, replays_change, replays_scrape, replays_within}
 
 -- no answers are the last of any
@@ -30,11 +28,6 @@ last_drop zero kept recorded last = last
 last_drop (suc k) [] recorded last = last
 last_drop (suc k) (a ∷ kept) recorded last =
     last_drop k kept recorded (record { older = last.older ++ a ∷ []; is = last.is ∙ sym (append_assoc last.older (a ∷ []) kept) })
-
-leaves_recorded : (n : ℕ) (recorded recorded' : List Answer) (quit quit' : ℕ) (fault : ScrapeFault)
-    → Leaves n recorded recorded' quit quit' fault → recorded' ≡ recorded
-leaves_recorded n recorded recorded' quit quit' NoMemory leaves = leaves.0
-leaves_recorded n recorded recorded' quit quit' (Contended fault) leaves = leaves.0
 
 module _ (n c h g : ℕ) where
   -- an answer that the source recorded is accepted by the journal
@@ -94,14 +87,7 @@ module _ (n c h g : ℕ) where
             (last_drop (length (scrapes (journal ++ Scraped answer ∷ [])) - window) (scrapes (journal ++ Scraped answer ∷ [])) recorded' last);
       }
 
-  -- a refused scrape
-  pub kept_refused : (recorded recorded' : List Answer) (quit quit' : ℕ) (journal : List Entry) (window : ℕ) (state : State) (fault : ScrapeFault)
-      → Leaves n recorded recorded' quit quit' fault → IsKept n c h g recorded journal window state
-      → IsKept n c h g recorded' journal window state
-  kept_refused recorded recorded' quit quit' journal window state fault leaves kept =
-      subst (λ (l : List Answer). IsKept n c h g l journal window state) (sym (leaves_recorded n recorded recorded' quit quit' fault leaves)) kept
-
-  -- the same three where the state has the newest scrape that is kept: a change
+  -- the same where the state has the newest scrape that is kept: a change
   pub keeps_at_change : (recorded : List Answer) (journal : List Entry) (window : ℕ) (families : List Family) (change : Change)
       → IsKept n c h g recorded journal window (record { families = families; last = newest (scrapes journal) })
       → IsAcceptedChange n c h g families change
@@ -120,19 +106,3 @@ module _ (n c h g : ℕ) where
       subst (λ (last : Option Answer). IsKept n c h g recorded (within window journal) window (record { families = families; last = last }))
       (sym (newest_within window journal room.0))
       (kept_window recorded journal old window (record { families = families; last = newest (scrapes journal) }) kept room)
-
-  -- a call that scrapes, or refuses: the last scrape is the newest that is kept
-  pub keeps_at_scrape : (recorded recorded' : List Answer) (quit quit' : ℕ) (journal journal' : List Entry) (window : ℕ) (families : List Family)
-      (r : Result (Unit {0}) ScrapeFault)
-      → OnOk r ((answer : Answer) × Records n c h g recorded recorded' answer × (journal' ≡ within window (journal ++ Scraped answer ∷ [])))
-      → OnErr r (journal' ≡ journal) → IfErr r (Leaves n recorded recorded' quit quit')
-      → IsKept n c h g recorded journal window (record { families = families; last = newest (scrapes journal) })
-      → IsKept n c h g recorded' journal' window (record { families = families; last = newest (scrapes journal') })
-  keeps_at_scrape recorded recorded' quit quit' journal journal' window families (Ok u) scraped same leaves kept =
-      subst (λ (l : List Entry). IsKept n c h g recorded' l window (record { families = families; last = newest (scrapes l) })) (sym scraped.2)
-      (subst (λ (last : Option Answer). IsKept n c h g recorded' (within window (journal ++ Scraped scraped.0 ∷ [])) window (record { families = families; last = last }))
-      (sym (newest_scrape window journal scraped.0 kept.room.0))
-      (kept_scrape recorded recorded' journal window (record { families = families; last = newest (scrapes journal) }) scraped.0 kept scraped.1))
-  keeps_at_scrape recorded recorded' quit quit' journal journal' window families (Err fault) scraped same leaves kept =
-      subst (λ (l : List Entry). IsKept n c h g recorded' l window (record { families = families; last = newest (scrapes l) })) (sym same)
-      (kept_refused recorded recorded' quit quit' journal window (record { families = families; last = newest (scrapes journal) }) fault leaves kept)

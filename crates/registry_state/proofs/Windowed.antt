@@ -85,14 +85,15 @@ seen_window {S} id window' source journal journal' families some same =
     ap with_journal same ∙ ap with_last (newest_within window' journal some)
 
 -- what contracts see of a registry that has scraped
-pub keeps_scrape : {S : Type 0} (n c h g : ℕ) (recorded : S → List Answer) (id window : ℕ) (source source' : S) (journal journal' : List Entry) (families : List Family)
-    (answer : Answer) → 1 ≤ window → Records n c h g (recorded source) (recorded source') answer → journal' ≡ within window (journal ++ Scraped answer ∷ [])
-    → Keeps n c h g recorded
+pub keeps_scrape : {S : Type 0} (n c h g : ℕ) (recorded : S → List Answer) (gave : S → S → Answer → Type 0) (id window : ℕ) (source source' : S) (journal journal' : List Entry) (families : List Family)
+    (answer : Answer) → 1 ≤ window → Records n c h g (recorded source) (recorded source') answer → gave source source' answer
+    → journal' ≡ within window (journal ++ Scraped answer ∷ []) → Keeps n c h g recorded gave
     (record { id = id; window = window; source = source; journal = journal; state = record { families = families; last = newest (scrapes journal) } })
     (record { id = id; window = window; source = source'; journal = journal'; state = record { families = families; last = newest (scrapes journal') } })
-keeps_scrape n c h g recorded id window source source' journal journal' families answer some records same = record {
+keeps_scrape n c h g recorded gave id window source source' journal journal' families answer some records given same = record {
   answer = answer;
   once = records;
+  given = given;
   journal = same;
   state = ap (λ (last : Option Answer). record { families = families; last = last }) (newest_after window journal journal' answer some same);
   id = refl;

@@ -47,10 +47,12 @@ module _ {S : Type 0} (c h g : ℕ) (old new : Registry S) (family : ℕ) (value
   abbrev pub IsGiven : Type 0
   IsGiven = WasThere ⊎ WasMade
 
--- one scan of the source was recorded, and stands last in the journal, from which the oldest scrape went only if they were too many
-pub record Keeps {S : Type 0} (n c h g : ℕ) (recorded : S → List Answer) (old new : Registry S) : Type 0 where
+-- one scan of the source was recorded, which the source gave, and it stands last in the journal, from which the oldest scrape went only
+-- if they were too many
+pub record Keeps {S : Type 0} (n c h g : ℕ) (recorded : S → List Answer) (gave : S → S → Answer → Type 0) (old new : Registry S) : Type 0 where
   pub answer : Answer
   pub once : Records n c h g (recorded old.source) (recorded new.source) answer
+  pub given : gave old.source new.source answer
   pub journal : new.journal ≡ within old.window (old.journal ++ Scraped answer ∷ [])
   pub state : new.state ≡ record { families = old.state.families; last = Some answer }
   pub id : new.id ≡ old.id

@@ -3,6 +3,7 @@ use Rattle.std.specs.Prelude.{◌≡◌, ◌≢◌, ℕ, ◌+◌, ◌<◌, ◌�
 use Rattle.metric_desc.specs.Desc.{Descriptor, Clash}
 use Rattle.metric_desc.specs.declared.kind.Kind.{Kind}
 use Rattle.register_rule.specs.declared.view.Entry.{Entry as Answer}
+use Rattle.snapshot_scan.specs.declared.contended.Contended.{Contended}
 use Rattle.registry_state.specs.Replay.{Family, IsApart, IsNew, IsFree, slots}
 use Rattle.registry_state.specs.declared.fault.NewFault.{NewFault}
 use Rattle.registry_state.specs.declared.fault.NewFault.TheVariants as New
@@ -51,12 +52,13 @@ IsChildFault c h g families family values (Child.Full kind) =
 IsChildFault c h g families family values Child.NoMemory =
     IsSomeAnd (slice_get families family) (λ (it : Family). IsWanted it values × HasSlot c h g families it.desc.kind)
 
--- what a refused scrape leaves of a source of n workers: it recorded nothing, and gave up a scan exactly where it was contended,
--- where some worker's number rose
-abbrev pub Leaves : (n : ℕ) → (recorded recorded' : List Answer) → (quit quit' : ℕ) → ScrapeFault → Type 0
-Leaves n recorded recorded' quit quit' Scrape.NoMemory = (recorded' ≡ recorded) × (quit' ≡ quit)
-Leaves n recorded recorded' quit quit' (Scrape.Contended fault) =
-    (recorded' ≡ recorded) × (quit' ≡ quit + 1) × (fault.worker < n) × (fault.first < fault.last)
+-- what a refused scrape leaves of a source of n workers: all as it was, where nothing was scanned; and where a scan was given up, it
+-- recorded nothing, some worker's number rose, and the source gave it up
+module _ {S : Type 0} (n : ℕ) (recorded : S → List Answer) (quit : S → ℕ) (gave_up : S → S → Contended → Type 0) where
+  abbrev pub Leaves : (old new : S) → ScrapeFault → Type 0
+  Leaves old new Scrape.NoMemory = new ≡ old
+  Leaves old new (Scrape.Contended fault) =
+      (recorded new ≡ recorded old) × (quit new ≡ quit old + 1) × (fault.worker < n) × (fault.first < fault.last) × gave_up old new fault
 
 abbrev pub new_number : NewFault → ℕ
 new_number New.BadWindow = 31

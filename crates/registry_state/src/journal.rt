@@ -94,9 +94,9 @@ impl<const N: usize, const C: usize, const H: usize, const G: usize> Journal<N, 
     ) -> Result<(), ScrapeFault>
         requires { 1 ≤ window }
         ensures scraped { OnOk result ((answer : Answer) × Records N C H G (S.recorded source.old) (S.recorded source.new) answer
-            × (self.new ≡ within window (self.old ++ Scraped answer ∷ []))) }
+            × S.gave source.old source.new answer × (self.new ≡ within window (self.old ++ Scraped answer ∷ []))) }
         ensures kept { OnOk result (S.quit source.new ≡ S.quit source.old) }
-        ensures fault { IfErr result (Leaves N (S.recorded source.old) (S.recorded source.new) (S.quit source.old) (S.quit source.new)) }
+        ensures fault { IfErr result (Leaves N S.recorded S.quit S.gave_up source.old source.new) }
         ensures unchanged { OnErr result (self.new ≡ self.old) }
     {
         let mut snapshot = Snapshot::new(*self.notes.allocator())?;

@@ -28,10 +28,10 @@ impl<
     ///
     /// 6 [`ScrapeFault::NoMemory`]: nothing was scanned. 14 [`ScrapeFault::Contended`]: the scan was given up. Nothing is kept then.
     pub fn scrape(&mut self) -> Result<Scrape, ScrapeFault>
-        ensures kept { OnOk result (Keeps N C H G S.recorded self.old self.new) }
+        ensures kept { OnOk result (Keeps N C H G S.recorded S.gave self.old self.new) }
         ensures quit { OnOk result (S.quit self.new.source ≡ S.quit self.old.source) }
         ensures shown { IfOk result (λ scrape. IsSomeAnd self.new.state.last (λ answer. IsShown C H self.new.state.families answer scrape)) }
-        ensures fault { IfErr result (Leaves N (S.recorded self.old.source) (S.recorded self.new.source) (S.quit self.old.source) (S.quit self.new.source)) }
+        ensures fault { IfErr result (Leaves N S.recorded S.quit S.gave_up self.old.source self.new.source) }
         ensures unchanged { OnErr result ((self.new.journal ≡ self.old.journal) × (self.new.state ≡ self.old.state) × (self.new.id ≡ self.old.id) × (self.new.window ≡ self.old.window)) }
     {
         let alloc = *self.families.allocator();

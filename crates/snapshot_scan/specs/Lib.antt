@@ -7,6 +7,8 @@ pub mod Core
 pub mod Memories
 pub mod Snapshots
 pub mod Readers
+pub mod Answered
+pub mod Scanners
 pub mod Lent
 pub mod Order
 pub mod Sources

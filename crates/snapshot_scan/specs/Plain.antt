@@ -1,5 +1,5 @@
 -- What a clause reads of a plain source, and why it refuses.
-use Rattle.std.specs.Prelude.{◌≡◌, ℕ, ◌+◌, ◌<◌, List, slice_index}
+use Rattle.std.specs.Prelude.{◌≡◌, ℕ, ◌+◌, ◌<◌, List, [], ◌∷◌, slice_index}
 use Rattle.ledger_core.specs.OpFault.{IsOpFault}
 use Rattle.ledger_core.specs.Row.{Accepts, Adds}
 use Rattle.ledger_core.specs.declared.op.Op.{Op}
@@ -24,6 +24,13 @@ module _ {N C H G : ℕ} where
   -- how many of its scans were given up: none ever is
   abbrev pub quit_by : PlainSource N C H G → ℕ
   quit_by s = 0
+
+  -- from s to s' one scan was made, which gave this answer: the count and the row, which stay as they were
+  pub record GivesRow (s s' : PlainSource N C H G) (a : Entry) : Type 0 where
+    pub vector : a.vector ≡ count_of s ∷ []
+    pub totals : a.totals ≡ row_of s
+    pub count : count_of s' ≡ count_of s
+    pub row : row_of s' ≡ row_of s
 
 -- from one row and count to the next a list was applied
 pub record IsApplied (c h g : ℕ) (row : List ℕ) (count : ℕ) (ops : List Op) (row' : List ℕ) (count' : ℕ) : Type 0 where

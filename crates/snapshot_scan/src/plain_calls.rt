@@ -4,7 +4,7 @@ ghost use Rattle.ledger_core.specs.Ops.{width};
 ghost use Rattle.ledger_core.specs.Limits.{AreSlots};
 ghost use Rattle.snapshot_scan.specs.Snapshots.{entry_of};
 ghost use Rattle.snapshot_scan.specs.Sources.{Records};
-ghost use Rattle.snapshot_scan.specs.Plain.{row_of, count_of, recorded_by, quit_by, IsApplied, IsPlainFault};
+ghost use Rattle.snapshot_scan.specs.Plain.{row_of, count_of, recorded_by, quit_by, GivesRow, IsApplied, IsPlainFault};
 
 use crate::contended::Contended;
 use crate::plain::PlainSource;
@@ -83,17 +83,20 @@ impl<const N: usize, const C: usize, const H: usize, const G: usize> Source<N, C
 
     ghost quit = { λ s. quit_by s };
 
+    ghost gave = { λ s t a. GivesRow s t a };
+
+    ghost gave_up = { λ _ _ _. ⊥ };
+
     /// A scan, which is never given up: [`PlainSource::take`].
     fn scan(&mut self, out: &mut Snapshot<N, C, H, G>) -> Result<(), Contended>
         ensures recorded { OnOk result (Records N C H G (recorded_by self.old) (recorded_by self.new) (entry_of out.new)) }
+        ensures gave { OnOk result (GivesRow self.old self.new (entry_of out.new)) }
         ensures kept { OnOk result (quit_by self.new ≡ quit_by self.old) }
         ensures given_up { OnErr result ((recorded_by self.new ≡ recorded_by self.old) × (quit_by self.new ≡ quit_by self.old + 1)) }
+        ensures why { IfErr result (λ _. ⊥) }
         ensures rose { IfErr result (λ e. (e.worker < N) × (e.first < e.last)) }
         ensures unchanged { OnErr result (out.new ≡ out.old) }
         ensures never { IsOk result }
-        ensures vector { out.new.vector ≡ count_of self.old ∷ [] }
-        ensures totals { out.new.totals ≡ row_of self.old }
-        ensures same { (row_of self.new ≡ row_of self.old) × (count_of self.new ≡ count_of self.old) }
     {
         self.take(out);
         Ok(())

@@ -1,9 +1,10 @@
 //! A board and a reader of it, as a source of snapshots.
 ghost use Rattle.std.specs.Prelude.{◌≡◌, ◌+◌, ◌<◌, IfErr, OnOk, OnErr};
-ghost use Rattle.snapshot_scan.specs.Contention.{IsContended};
+ghost use Rattle.segment_layout.specs.Layout.{IsGeometry};
 ghost use Rattle.snapshot_scan.specs.Snapshots.{entry_of};
 ghost use Rattle.snapshot_scan.specs.Sources.{Records};
 ghost use Rattle.snapshot_scan.specs.Readers.{IsReaderOf, scan_by};
+ghost use Rattle.snapshot_scan.specs.Answered.{HasAnswered, HasGivenUp};
 
 use crate::contended::Contended;
 use crate::reader::Reader;
@@ -23,6 +24,7 @@ impl<'a, const N: usize, const C: usize, const H: usize, const G: usize> Scanner
     /// The scans of this reader of this board.
     pub fn new(board: &'a Board<N, C, H, G>, reader: Reader<N, C, H, G>) -> Scanner<'a, N, C, H, G>
         requires { IsReaderOf board.now reader }
+        ensures geometry { IsGeometry N C H G }
         ensures board { result.board.now ≡ board.now }
         ensures reader { result.reader ≡ reader.entry }
     {
@@ -45,13 +47,17 @@ impl<'a, const N: usize, const C: usize, const H: usize, const G: usize> Source<
 
     ghost quit = { λ s. (scan_by s.reader).quit };
 
+    ghost gave = { λ s t a. (t.board.now ≡ s.board.now) × HasAnswered s.reader t.reader a };
+
+    ghost gave_up = { λ s t e. (t.board.now ≡ s.board.now) × HasGivenUp s.reader t.reader e };
+
     /// The reader's scan.
     fn scan(&mut self, out: &mut Snapshot<N, C, H, G>) -> Result<(), Contended>
-        ensures board { self.new.board.now ≡ self.old.board.now }
         ensures recorded { OnOk result (Records N C H G (scan_by self.old.reader).recorded (scan_by self.new.reader).recorded (entry_of out.new)) }
+        ensures gave { OnOk result ((self.new.board.now ≡ self.old.board.now) × HasAnswered self.old.reader self.new.reader (entry_of out.new)) }
         ensures kept { OnOk result ((scan_by self.new.reader).quit ≡ (scan_by self.old.reader).quit) }
         ensures given_up { OnErr result (((scan_by self.new.reader).recorded ≡ (scan_by self.old.reader).recorded) × ((scan_by self.new.reader).quit ≡ (scan_by self.old.reader).quit + 1)) }
-        ensures contended { IfErr result (IsContended N (scan_by self.old.reader) (scan_by self.new.reader)) }
+        ensures why { IfErr result (λ e. (self.new.board.now ≡ self.old.board.now) × HasGivenUp self.old.reader self.new.reader e) }
         ensures rose { IfErr result (λ e. (e.worker < N) × (e.first < e.last)) }
         ensures unchanged { OnErr result (out.new ≡ out.old) }
     {

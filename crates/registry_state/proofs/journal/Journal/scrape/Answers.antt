@@ -33,6 +33,7 @@ returns-clause-scraped g c =
     let all : List (Taken × ℕ) = c.self.inside.kept.items ++ (c.scan.new.out, length cs) ∷ [] in (
       entry_of c.scan.new.out,
       search rules,
+      search rules,
       ap (λ kept. merged cs 0 kept) (kept_is g c)
           ∙ ap (λ n. merged cs 0 (drop (length (c.self.inside.kept.items ++ (c.scan.new.out, n) ∷ []) - c.args.window) (c.self.inside.kept.items ++ (c.scan.new.out, n) ∷ []))) e
           ∙ merged_within cs c.args.window all (noted_scrape (length cs) 0 c.self.inside.kept.items c.scan.new.out noted)
