@@ -1,6 +1,7 @@
 #!/bin/sh
 # All tests. Everything is proved and tried from nothing, and beside that, on a copy of the sources, the example script and
-# tests run with each allocation refused in turn. The last line is 'N passed, 0 failed'.
+# tests run with each allocation refused in turn. Then the built program's exit statuses are looked at. The last line is
+# 'N passed, 0 failed'.
 set -eu
 cd "$(dirname "$0")"
 work=$(mktemp -d)
@@ -18,4 +19,5 @@ cat "$work/growth"
 if [ -e "$work/failed" ]; then
     exit 1
 fi
+./exit-status.sh crates/metrics_run/out/metrics_run
 tail -n 1 "$work/ci"
