@@ -1,0 +1,5 @@
+pub mod Jobs
+pub mod Faults
+pub mod Works
+pub mod Ends
+pub mod Pledges

@@ -1,0 +1,22 @@
+//! Gates: what the threads of a pool wait for before each job.
+
+/// What the threads of a pool ask before each job, and tell after it.
+pub trait Gate {
+    /// Whether the worker at this place may do its next job.
+    fn open(&self, worker: usize) -> bool;
+
+    /// The worker at this place has done a job.
+    fn done(&self, worker: usize);
+}
+
+/// A gate that is always open.
+#[derive(Clone, Copy, Debug, PartialEq, Eq)]
+pub struct Open;
+
+impl Gate for Open {
+    fn open(&self, _worker: usize) -> bool {
+        true
+    }
+
+    fn done(&self, _worker: usize) {}
+}

@@ -1,0 +1,17 @@
+//! A pool of threads: one for each worker, which does its list of jobs in order and hands the worker back.
+#![tactic(auto)]
+
+mod fault;
+mod gate;
+mod job;
+mod promise;
+mod run;
+mod starting;
+#[cfg(test)]
+mod tests;
+mod thread_work;
+
+pub use fault::PoolFault;
+pub use gate::{Gate, Open};
+pub use job::{Job, JobOp};
+pub use run::run_pool;

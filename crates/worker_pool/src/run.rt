@@ -1,0 +1,58 @@
+//! A pool of threads.
+ghost use Rattle.std.specs.Prelude.{◌≡◌, length, IfOk, IfErr, vec_len, All};
+ghost use Rattle.snapshot_update.specs.Workers.{IsWorkerOf};
+ghost use Rattle.worker_pool.specs.Ends.{DidAll, IsPoolFault};
+
+use crate::fault::PoolFault;
+use crate::gate::Gate;
+use crate::job::Job;
+use crate::starting::run_in;
+use register_rule::Board;
+use snapshot_update::Worker;
+use std::alloc::Global;
+use std::sync::Wait;
+use std::thread;
+use std::thread::Threads;
+
+/// Runs one thread for each worker, which does the list of jobs at the worker's place, in order: each job is one version of the
+/// worker's. It hands the workers back in their old order. All threads are joined before it answers.
+///
+/// Before each job the worker asks the gate, by its place, at most 10,000,000 times, and lets other threads run between two
+/// askings. After each job it tells the gate. A worker that meets a fault stops there, and the others go on. Where the system
+/// gives no thread for a worker, those after it are not begun either.
+///
+/// # Errors
+///
+/// The first that is there in this order, and of one kind the one of the least line or worker: the number of a worker's
+/// refusal (16, 15, 11, 12), [`PoolFault::Refused`]; 29 [`PoolFault::GateShut`]; 30 [`PoolFault::NoThread`]. 6
+/// [`PoolFault::NoMemory`] comes before the first thread, so that no job was done then. The workers are gone.
+pub fn run_pool<
+    R: Threads + Wait,
+    P: Gate + Sync,
+    const N: usize,
+    const C: usize,
+    const H: usize,
+    const G: usize,
+>(
+    rt: &R,
+    alloc: Global,
+    board: &Board<N, C, H, G>,
+    workers: Vec<Worker<N, C, H, G>>,
+    jobs: &[Vec<Job>],
+    gate: &P,
+) -> Result<Vec<Worker<N, C, H, G>>, PoolFault>
+    requires lists { length jobs.now ≡ vec_len workers }
+    requires own { All (IsWorkerOf board.now) workers.items }
+    ensures did { IfOk result (λ v. DidAll board.now jobs.now workers.entry.items v.items) }
+    ensures own { IfOk result (λ v. All (IsWorkerOf board.now) v.items) }
+    ensures fault { IfErr result (IsPoolFault board.now jobs.now workers.entry.items) }
+{
+    thread::scope(
+        thread::scope_env(),
+        rt,
+        |scope| -> Result<Vec<Worker<N, C, H, G>>, PoolFault>
+            requires { (length jobs.now ≡ vec_len workers) × All (IsWorkerOf board.now) workers.items }
+            ensures { IfOk result (λ v. DidAll board.entry.now jobs.entry.now workers.items v.items × All (IsWorkerOf board.entry.now) v.items) × IfErr result (IsPoolFault board.entry.now jobs.entry.now workers.items) }
+        { run_in(rt, scope, alloc, board, workers, jobs, gate) },
+    )
+}

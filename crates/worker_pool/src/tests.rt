@@ -1,0 +1,6 @@
+mod counting;
+mod crew;
+mod faults;
+mod gates;
+mod meeting;
+mod refusing;

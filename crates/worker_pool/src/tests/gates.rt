@@ -1,0 +1,153 @@
+//! Gates for tests.
+use crate::Gate;
+use std::sync::atomic::{AtomicU64, Ordering};
+use std::thread::yield_now;
+
+/// A gate at which the workers at the places 0 and 1 wait for each other. Whoever has asked so often whether the other one is
+/// there, in vain, shuts it for good.
+#[derive(Drop)]
+pub(super) struct Meeting {
+    first: Place,
+    second: Place,
+    shut: AtomicU64,
+    turns: u32,
+}
+
+/// A worker's place at a meeting.
+#[derive(Drop)]
+struct Place {
+    noted: AtomicU64,
+    told: AtomicU64,
+}
+
+impl Place {
+    fn new() -> Place {
+        Place {
+            noted: AtomicU64::new(0),
+            told: AtomicU64::new(0),
+        }
+    }
+
+    fn found(&self) -> (bool, u64) {
+        (
+            self.noted.load(Ordering::SeqCst) == 1,
+            self.told.load(Ordering::SeqCst),
+        )
+    }
+}
+
+impl Meeting {
+    pub(super) fn new(turns: u32) -> Meeting {
+        Meeting {
+            first: Place::new(),
+            second: Place::new(),
+            shut: AtomicU64::new(0),
+            turns,
+        }
+    }
+
+    fn of(&self, worker: usize) -> &Place {
+        if worker == 0 {
+            &self.first
+        } else {
+            &self.second
+        }
+    }
+
+    /// Whether it is shut for good.
+    pub(super) fn is_shut(&self) -> bool {
+        self.shut.load(Ordering::SeqCst) == 1
+    }
+
+    /// Whether each of the two was noted, and how often each told that it had done a job.
+    pub(super) fn found(&self) -> ((bool, u64), (bool, u64)) {
+        (self.first.found(), self.second.found())
+    }
+}
+
+impl Gate for Meeting {
+    fn open(&self, worker: usize) -> bool {
+        if self.is_shut() {
+            return false;
+        }
+        self.of(worker).noted.store(1, Ordering::SeqCst);
+        let other = self.of(1 - worker % 2);
+        for _ in 0..self.turns {
+            if other.noted.load(Ordering::SeqCst) == 1 {
+                return !self.is_shut();
+            }
+            yield_now();
+        }
+        self.shut.store(1, Ordering::SeqCst);
+        false
+    }
+
+    fn done(&self, worker: usize) {
+        self.of(worker).told.fetch_add(1, Ordering::SeqCst);
+    }
+}
+
+/// A gate that is shut for the workers from this place on. It counts what it is told.
+#[derive(Drop)]
+pub(super) struct ShutFrom {
+    place: usize,
+    told: AtomicU64,
+}
+
+impl ShutFrom {
+    pub(super) fn new(place: usize) -> ShutFrom {
+        ShutFrom {
+            place,
+            told: AtomicU64::new(0),
+        }
+    }
+
+    /// How many jobs it was told of.
+    pub(super) fn told(&self) -> u64 {
+        self.told.load(Ordering::SeqCst)
+    }
+}
+
+impl Gate for ShutFrom {
+    fn open(&self, worker: usize) -> bool {
+        worker < self.place
+    }
+
+    fn done(&self, _worker: usize) {
+        self.told.fetch_add(1, Ordering::SeqCst);
+    }
+}
+
+/// A gate that opens for a worker's next job at each second asking.
+#[derive(Drop)]
+pub(super) struct EachSecond {
+    asked: AtomicU64,
+    told: AtomicU64,
+}
+
+impl EachSecond {
+    pub(super) fn new() -> EachSecond {
+        EachSecond {
+            asked: AtomicU64::new(0),
+            told: AtomicU64::new(0),
+        }
+    }
+
+    /// How often it was asked, and how many jobs it was told of.
+    pub(super) fn found(&self) -> (u64, u64) {
+        (
+            self.asked.load(Ordering::SeqCst),
+            self.told.load(Ordering::SeqCst),
+        )
+    }
+}
+
+impl Gate for EachSecond {
+    fn open(&self, _worker: usize) -> bool {
+        self.asked.fetch_add(1, Ordering::SeqCst) % 2 == 1
+    }
+
+    fn done(&self, _worker: usize) {
+        self.told.fetch_add(1, Ordering::SeqCst);
+    }
+}
