@@ -4,3 +4,4 @@ pub mod Places
 pub mod Joined
 pub mod Pledging
 pub mod Ending
+pub mod Fresh

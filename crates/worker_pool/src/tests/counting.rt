@@ -1,5 +1,5 @@
 //! What workers have counted when a pool hands them back.
-use super::crew::{Crew, ID, counter, finds, gauge, inc, new_crew, runs};
+use super::crew::{Crew, ID, counter, finds, gauge, new_crew, runs};
 use super::gates::EachSecond;
 use crate::{Job, JobOp, Open};
 use bucket_math::Bounds;
@@ -10,24 +10,27 @@ use std::alloc::{AllocError, Global};
 use std::process::Abort;
 use std::test::Fail;
 
-/// Jobs of all kinds, in ten rounds. In a round: 3 to the counter 0, 1 to the counter 1, the values 5, 1, 6 and 11, the gauge
-/// up by 5, then down by 2.
-fn all_kinds(alloc: Global, hist: Histogram) -> Result<Vec<Job>, AllocError> {
-    let round = [
-        JobOp::Inc(counter(0), 3),
-        JobOp::Observe(hist, 5),
-        JobOp::Observe(hist, 1),
-        JobOp::Up(gauge(), 5),
-        JobOp::Observe(hist, 6),
-        JobOp::Inc(counter(1), 1),
-        JobOp::Down(gauge(), 2),
-        JobOp::Observe(hist, 11),
-    ];
+/// A job of a round of eight: 3 to the counter 0, 1 to the counter 1, the values 5, 1, 6 and 11, the gauge up by 5, then down
+/// by 2.
+fn of_round(k: u64, hist: &Histogram) -> JobOp {
+    match k {
+        0 => JobOp::Inc(counter(0), 3),
+        1 => JobOp::Observe(*hist, 5),
+        2 => JobOp::Observe(*hist, 1),
+        3 => JobOp::Up(gauge(), 5),
+        4 => JobOp::Observe(*hist, 6),
+        5 => JobOp::Inc(counter(1), 1),
+        6 => JobOp::Down(gauge(), 2),
+        _ => JobOp::Observe(*hist, 11),
+    }
+}
+
+/// Jobs of all kinds, in ten rounds.
+fn all_kinds(alloc: Global, hist: &Histogram) -> Result<Vec<Job>, AllocError> {
     let mut jobs = Vec::new(alloc);
-    for line in 0..10u64 {
-        for what in &round {
-            jobs.push(Job { line, what: *what })?;
-        }
+    for line in 0..80u64 {
+        let what = of_round(line % 8, hist);
+        jobs.push(Job { line, what })?;
     }
     Ok(jobs)
 }
@@ -73,10 +76,10 @@ fn four_workers_do_jobs_of_all_kinds(rt: HostRuntime) -> Result<(), Fail> {
         bounds,
     };
     let jobs = [
-        all_kinds(alloc, hist)?,
-        all_kinds(alloc, hist)?,
-        all_kinds(alloc, hist)?,
-        all_kinds(alloc, hist)?,
+        all_kinds(alloc, &hist)?,
+        all_kinds(alloc, &hist)?,
+        all_kinds(alloc, &hist)?,
+        all_kinds(alloc, &hist)?,
     ];
     let workers = runs(&rt, alloc, &board, workers, &jobs, &Open)?;
     stand_in_order(&rt, workers.as_slice());
@@ -93,9 +96,19 @@ fn four_workers_do_jobs_of_all_kinds(rt: HostRuntime) -> Result<(), Fail> {
 fn increments(alloc: Global, many: u64) -> Result<Vec<Job>, AllocError> {
     let mut jobs = Vec::new(alloc);
     for line in 0..many {
-        jobs.push(inc(line, 0, 1))?;
+        let what = JobOp::Inc(counter(0), 1);
+        jobs.push(Job { line, what })?;
     }
     Ok(jobs)
+}
+
+/// The lists of so many workers, with a hundred increments in each.
+fn hundreds(alloc: Global, workers: u64) -> Result<Vec<Vec<Job>>, AllocError> {
+    let mut lists = Vec::new(alloc);
+    for _k in 0..workers {
+        lists.push(increments(alloc, 100)?)?;
+    }
+    Ok(lists)
 }
 
 #[test]
@@ -132,10 +145,7 @@ fn thirty_two_workers(rt: HostRuntime) -> Result<(), Fail> {
         mut reader,
         mut out,
     } = new_crew::<32, 1, 0, 0>(alloc)?;
-    let mut jobs = Vec::new(alloc);
-    for _k in 0..32u64 {
-        jobs.push(increments(alloc, 100)?)?;
-    }
+    let jobs = hundreds(alloc, 32)?;
     let workers = runs(&rt, alloc, &board, workers, jobs.as_slice(), &Open)?;
     assert_eq!(rt; workers.len(), 32);
     finds(&rt, &board, &mut reader, &mut out, &[100; 32]);

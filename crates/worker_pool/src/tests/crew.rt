@@ -53,7 +53,9 @@ fn new_seats<const N: usize, const C: usize, const H: usize, const G: usize>(
         work,
         mut read,
     } = Board::new(alloc, ID, 1)?;
-    let read = read.pop().ok_or("no reader")?;
+    let Some(read) = read.pop() else {
+        unreachable!()
+    };
     Ok(Seats { board, work, read })
 }
 
