@@ -1,4 +1,4 @@
-ghost use Rattle.std.specs.Prelude.{OnOk};
+ghost use Rattle.std.specs.Prelude.{ℕ, take, OnErr, OnOk};
 ghost use Rattle.std.specs.Io.KnownBytes.{Appends};
 
 use std::io::Write;
@@ -7,9 +7,10 @@ use std::io::Write;
 #[derive(Clone, Copy, Debug, PartialEq, Eq)]
 pub struct Broken;
 
-/// Writes all the bytes, or says that a write failed or took none.
+/// Writes all the bytes, or says that a write failed or took none. Then the first of the bytes are written, and nothing else.
 pub fn send<W: Write>(writer: &mut W, bytes: &[u8]) -> Result<(), Broken>
-    ensures { OnOk result (Appends (W.contents writer.old) (W.contents writer.new) bytes.now) }
+    ensures sent { OnOk result (Appends (W.contents writer.old) (W.contents writer.new) bytes.now) }
+    ensures front { OnErr result ((sent : ℕ) × Appends (W.contents writer.old) (W.contents writer.new) (take sent bytes.now)) }
 {
     let mut sent = 0;
     while sent < bytes.len() {
