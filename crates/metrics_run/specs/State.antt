@@ -1,5 +1,5 @@
 -- What a script has made, before and after a line.
-use Rattle.std.specs.Prelude.{◌≡◌, ◌≢◌, ◌⊎◌, ℕ, List, [], ◌∷◌, ◌++◌, length, replicate, slice_get, option_and_then, Option, Some, None, All, IsSomeAnd}
+use Rattle.std.specs.Prelude.{◌≡◌, ◌≢◌, ◌⊎◌, ℕ, List, [], ◌∷◌, ◌++◌, length, replicate, slice_get, option_and_then, Option, Some, None, Ok, All, IsSomeAnd}
 use Rattle.bucket_math.specs.Bounds.{place_of}
 use Rattle.ledger_core.specs.Ops.{width}
 use Rattle.ledger_core.specs.declared.op.Op.{Op}
@@ -19,6 +19,7 @@ use Rattle.registry_state.specs.declared.handle.Handle.{Handle}
 use Rattle.script_lines.specs.declared.line.Counting.{Counting}
 use Rattle.script_lines.specs.declared.line.Counting.TheVariants.{Inc, Obs, Up, Down}
 use Rattle.metrics_run.specs.Parts.{AreRead, AreValuesRefused}
+use Rattle.metrics_run.specs.Queue.{Ran}
 use Rattle.metrics_run.specs.declared.line_fault.LineFault.{LineFault}
 use Rattle.metrics_run.specs.declared.line_fault.LineFault.TheVariants as fault
 use Rattle.metrics_run.specs.declared.state.State.{State}
@@ -100,6 +101,12 @@ pub record IsQueued (old : State) (line : ℕ) (count : Count) (new : State) : T
 abbrev pub IsQueueRefusal : State → Count → LineFault → Type 0
 IsQueueRefusal old count refusal =
     ((refusal ≡ fault.NoSuchChild) × (op_in old.children.items count ≡ None)) ⊎ ((refusal ≡ fault.NoMemory) × (op_in old.children.items count ≢ None))
+
+-- all that waited was applied, and nothing waits
+pub record IsGone (old new : State) : Type 0 where
+  pub ran : Ran old.queue.items old.registry new.registry (Ok tt)
+  pub emptied : new.queue.items ≡ []
+  pub children : new.children.items ≡ old.children.items
 
 -- a scrape was made and kept, and this is its text
 pub record IsScraped (old : State) (bytes : List ℕ) (new : State) : Type 0 where

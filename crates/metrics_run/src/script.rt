@@ -2,11 +2,11 @@
 ghost use Rattle.std.specs.Prelude.{◌≡◌, ℕ, List, IfOk, OnOk};
 ghost use Rattle.std.specs.Io.KnownBytes.{Appends};
 ghost use Rattle.metrics_run.specs.LineFault.{number_of};
-ghost use Rattle.script_lines.specs.Language.{IsLine};
+ghost use Rattle.script_lines.specs.Language.{IsLine, Saying};
 ghost use Rattle.script_lines.specs.Line.{saying_of};
 ghost use Rattle.metrics_run.specs.Printed.{kept_line, refused_line};
 ghost use Rattle.metrics_run.specs.Status.{status_of};
-ghost use Rattle.metrics_run.specs.Done.{IsDone};
+ghost use Rattle.metrics_run.specs.Done.{IsDone, IsStepped};
 
 use crate::line_fault::LineFault;
 use crate::parts::{Parts, counter_of, gauge_of, histogram_of};
@@ -116,13 +116,19 @@ fn act(state: &mut State, number: u64, line: Line<'_>) -> Result<(), LineFault>
     }
 }
 
-/// Does what a line says. `number` is the line's own, from 1.
-fn step<W: Write>(state: &mut State, writer: &mut W, number: u64, text: &str) -> Result<(), Stop> {
+/// Does what a line says, and writes what it prints. `number` is the line's own, from 1.
+fn step<W: Write>(state: &mut State, writer: &mut W, number: u64, text: &str) -> Result<(), Stop>
+    ensures { OnOk result ((saying : Saying) × (printed : List ℕ) × IsLine text.now saying × IsStepped state.old number saying printed state.new
+        × Appends (W.contents writer.old) (W.contents writer.new) printed) }
+{
     let Some(line) = read_line(text) else {
         return Err(stop_at(number, LineFault::BadLine));
     };
     match line {
-        Line::Go => state.go().map_err(Stop::Refused),
+        Line::Go => match state.go() {
+            Ok(()) => Ok(()),
+            Err(refused) => Err(Stop::Refused(refused)),
+        },
         Line::Scrape => match state.scrape() {
             Ok(text) => Ok(send(writer, &text)?),
             Err(fault) => Err(stop_at(number, fault)),
@@ -131,7 +137,10 @@ fn step<W: Write>(state: &mut State, writer: &mut W, number: u64, text: &str) ->
             Ok(kept) => Ok(tell_kept(writer, kept)?),
             Err(fault) => Err(stop_at(number, fault)),
         },
-        line => act(state, number, line).map_err(|fault| stop_at(number, fault)),
+        line => match act(state, number, line) {
+            Ok(()) => Ok(()),
+            Err(fault) => Err(stop_at(number, fault)),
+        },
     }
 }
 
