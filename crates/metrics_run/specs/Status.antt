@@ -1,5 +1,11 @@
--- The exit statuses of the program.
-use Rattle.std.specs.Prelude.{ℕ}
+-- How a script ends, and the exit statuses of the program.
+use Rattle.std.specs.Prelude.{◌≡◌, ⊤, ℕ, List, Option, Result, Err, IsOk}
+use Rattle.std.specs.Io.KnownBytes.{Appends, Keeps}
+use Rattle.metrics_run.specs.LineFault.{number_of}
+use Rattle.metrics_run.specs.Printed.{refused_line}
+use Rattle.metrics_run.specs.declared.queue.Refused.{Refused as Refusal}
+use Rattle.metrics_run.specs.declared.script.Stop.{Stop}
+use Rattle.metrics_run.specs.declared.script.Stop.TheVariants as stop
 use Rattle.metrics_run.specs.declared.script.ScriptEnd.{ScriptEnd}
 use Rattle.metrics_run.specs.declared.script.ScriptEnd.TheVariants.{Done, Refused, Broken}
 
@@ -8,3 +14,12 @@ abbrev pub status_of : ScriptEnd → ℕ
 status_of Done = 0
 status_of (Refused line number) = 1
 status_of Broken = 3
+
+-- a script that ran so ends so, and writes this beside what its lines printed: nothing after its last line, and the line that tells
+-- the refusal, with the number of its cause, after a refused line
+abbrev pub IsEnd : (ran : Result Unit Stop) → (before after : Option (List ℕ)) → ScriptEnd → Type 0
+IsEnd ran before after Done = IsOk ran × Keeps before after
+IsEnd ran before after (Refused line number) =
+    (refusal : Refusal) × (ran ≡ Err (stop.Refused refusal)) × (line ≡ refusal.line) × (number ≡ number_of refusal.fault)
+    × Appends before after (refused_line line number)
+IsEnd ran before after Broken = ⊤

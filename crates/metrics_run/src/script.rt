@@ -5,7 +5,7 @@ ghost use Rattle.metrics_run.specs.LineFault.{number_of};
 ghost use Rattle.script_lines.specs.Language.{IsLine, Saying};
 ghost use Rattle.script_lines.specs.Line.{saying_of};
 ghost use Rattle.metrics_run.specs.Printed.{kept_line, refused_line};
-ghost use Rattle.metrics_run.specs.Status.{status_of};
+ghost use Rattle.metrics_run.specs.Status.{status_of, IsEnd};
 ghost use Rattle.metrics_run.specs.Done.{IsDone, IsStepped};
 
 use crate::line_fault::LineFault;
@@ -189,7 +189,10 @@ fn tell_refused<W: Write>(writer: &mut W, refused: Refused) -> Result<ScriptEnd,
     Ok(ScriptEnd::Refused { line, number })
 }
 
-fn ended<W: Write>(writer: &mut W, ran: Result<(), Stop>) -> ScriptEnd {
+/// Tells a refusal, and lets all that was written go.
+fn ended<W: Write>(writer: &mut W, ran: Result<(), Stop>) -> ScriptEnd
+    ensures { IsEnd ran (W.contents writer.old) (W.contents writer.new) result }
+{
     let end = match ran {
         Ok(()) => Ok(ScriptEnd::Done),
         Err(Stop::Refused(refused)) => tell_refused(writer, refused),
