@@ -21,14 +21,19 @@ mod tests;
 
 const USAGE: &str = "usage: metrics_run script | metrics_run serve PORT COUNT";
 
-/// Whether the arguments are the one word `script`.
-fn asks_script(rt: &(impl Env + AllocGlobal)) -> bool {
-    let Ok(mut words) = env::args(rt) else {
-        return false;
-    };
+/// Whether the words are the program's name and `script`.
+fn is_script(mut words: env::Args) -> bool {
     let _program = words.next();
     let is_script = words.next().is_some_and(|word| word.as_str() == "script");
     is_script && words.next().is_none()
+}
+
+/// Whether the arguments are the one word `script`.
+fn asks_script(rt: &(impl Env + AllocGlobal)) -> bool {
+    match env::args(rt) {
+        Ok(words) => is_script(words),
+        Err(_) => false,
+    }
 }
 
 fn main(rt: HostRuntime) -> ExitCode {

@@ -1,2 +1,3 @@
 mod scripts;
+mod steps;
 mod streams;
