@@ -1,4 +1,4 @@
-use crate::{ChildFault, NewFault, RegisterFault, ScrapeFault};
+use crate::{BadWindow, ChildFault, NewFault, RegisterFault, ScrapeFault};
 use metric_desc::Kind;
 use snapshot_scan::Contended;
 use std::test::Fail;
@@ -37,5 +37,42 @@ fn texts(rt: HostRuntime) -> Result<(), Fail> {
     assert_eq!(rt; window.as_str(), "a registry keeps 1 to 1,024 scrapes");
     let memory = format!(in alloc; "{}", ScrapeFault::NoMemory)?;
     assert_eq!(rt; memory.as_str(), "out of memory");
+    Ok(())
+}
+
+/// Each refusal that carries nothing to be told has a text of its own.
+#[test]
+fn fixed_texts(rt: HostRuntime) -> Result<(), Fail> {
+    let alloc = rt.alloc();
+    let many = format!(in alloc; "{}", RegisterFault::TooManyFamilies)?;
+    assert_eq!(rt; many.as_str(), "128 families are there");
+    let absent = format!(in alloc; "{}", ChildFault::NoSuchFamily)?;
+    assert_eq!(rt; absent.as_str(), "there is no such family");
+    let fault = ChildFault::Full { kind: Kind::Gauge };
+    let full = format!(in alloc; "{fault}")?;
+    assert_eq!(rt; full.as_str(), "every slot of this kind is used");
+    let window = format!(in alloc; "{BadWindow}")?;
+    assert_eq!(rt; window.as_str(), "a registry keeps 1 to 1,024 scrapes");
+    let contended = ScrapeFault::Contended(Contended {
+        worker: 1,
+        first: 2,
+        last: 3,
+    });
+    let given_up = format!(in alloc; "{contended}")?;
+    assert_eq!(rt; given_up.as_str(), "a number rose in each try of the scan");
+    Ok(())
+}
+
+#[test]
+fn want_of_memory(rt: HostRuntime) -> Result<(), Fail> {
+    let alloc = rt.alloc();
+    let texts = [
+        format!(in alloc; "{}", NewFault::NoMemory)?,
+        format!(in alloc; "{}", RegisterFault::NoMemory)?,
+        format!(in alloc; "{}", ChildFault::NoMemory)?,
+    ];
+    for text in &texts {
+        assert_eq!(rt; text.as_str(), "out of memory");
+    }
     Ok(())
 }
