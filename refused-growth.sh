@@ -2,8 +2,8 @@
 # Runs the example script with the Nth allocation refused, for each N, and compares what is printed and the status.
 # The program makes 24 allocations: 4 for its arguments, 5 before the first line, and 5, 3, 1 and 6 at the lines 1, 2, 3 and 6.
 # Then runs the tests of expo_text, expo_reader, register_rule, snapshot_core, snapshot_scan, snapshot_update, chain_law,
-# registry_state and worker_pool with each test's Nth allocation refused: a test may then end for want of memory, but none may see another
-# answer in its place. A label's name is read with the 13th or the 15th allocation of some tests of expo_reader. A board of 2 workers makes
+# registry_state and worker_pool with each test's Nth allocation refused: a test may then end for want of memory, but none may
+# see another answer in its place. A label's name is read with the 13th or the 15th allocation of some tests of expo_reader. A board of 2 workers makes
 # 5 allocations, a reader of it 9, and a worker 15; the tests of snapshot_update make a snapshot or two before that, of 2
 # allocations each. The test each_growth of snapshot_core makes 3 for its list of events and 21 in its run, which has a
 # publish and two answers. The test one_snapshot_has_a_history of chain_law makes 47 for a snapshot and the list that has it,

@@ -118,8 +118,8 @@ pub(super) fn new_crew<const N: usize, const C: usize, const H: usize, const G: 
     ensures workers { IfOk result (λ c. All (IsWorkerOf c.board) c.workers.items) }
     ensures reader { IfOk result (λ c. IsReaderOf c.board c.reader) }
 {
-    let out = Snapshot::new(alloc)?;
     let Seats { board, work, read } = new_seats::<N, C, H, G>(alloc)?;
+    let out = Snapshot::new(alloc)?;
     let workers = workers(alloc, &board, work)?;
     let reader = reader(alloc, &board, read)?;
     Ok(Crew {
