@@ -75,7 +75,7 @@ fn observes<const N: usize, const C: usize, const H: usize, const G: usize>(
 }
 
 /// This list, so many times, each as one version. It gives their nanoseconds.
-fn applies<const N: usize, const C: usize, const H: usize, const G: usize>(
+pub fn applies<const N: usize, const C: usize, const H: usize, const G: usize>(
     clock: &impl Clock,
     board: &Board<N, C, H, G>,
     worker: &mut Worker<N, C, H, G>,

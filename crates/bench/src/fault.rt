@@ -4,6 +4,8 @@ use expo_text::WriteFailed;
 use metric_desc::{HistogramFault, LabelsFault};
 use metric_names::{HelpTextFault, LabelNameFault, LabelValueFault, MetricNameFault};
 use register_rule::BoardFault;
+use registry_state::{ChildFault, NewFault, RegisterFault, ScrapeFault};
+use snapshot_scan::PlainFault;
 use snapshot_update::{ApplyFault, CountFault};
 use std::alloc::AllocError;
 use std::io;
@@ -54,6 +56,24 @@ pub enum Fault {
     /// The families are not those of a scrape.
     #[error("no scrape")]
     Scrape,
+    /// A plain source refused a list.
+    #[error("{0}")]
+    Plain(#[from] PlainFault),
+    /// There is no registry.
+    #[error("{0}")]
+    New(#[from] NewFault),
+    /// A registry refused a family.
+    #[error("{0}")]
+    Register(#[from] RegisterFault),
+    /// A registry refused a child.
+    #[error("{0}")]
+    Child(#[from] ChildFault),
+    /// A registry gave no scrape.
+    #[error("{0}")]
+    Scraped(#[from] ScrapeFault),
+    /// A registry's journal has other entries than were made.
+    #[error("another journal")]
+    Journal,
     /// The writer in memory failed.
     #[error("{0}")]
     Write(#[from] WriteFailed),

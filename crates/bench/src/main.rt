@@ -16,14 +16,19 @@ mod busy;
 mod clock;
 mod counts;
 mod fault;
+mod filling;
 mod floors;
 mod geometry;
+mod makings;
 mod measured;
 mod numbers;
+mod operations;
 mod plain;
 mod plan;
 mod print;
+mod registries;
 mod scans;
+mod scrapes;
 mod service;
 mod setup;
 #[cfg(test)]
@@ -58,23 +63,31 @@ fn asked(rt: &(impl Env + AllocGlobal)) -> Option<Plan> {
     Plan::of(count)
 }
 
-/// Measures the texts of two scrapes: of 64 counters and 8 histograms of 10 bounds, and of 256 and 32 of 24.
-fn measure_texts(rt: &(impl Clock + Print + AllocGlobal), plan: Plan) -> Result<(), Fault> {
-    let small = Service {
-        counters: 8,
-        histograms: 1,
-        bounds: 10,
-    };
-    let large = Service {
-        counters: 32,
-        histograms: 4,
-        bounds: 24,
-    };
-    texts::measure(rt, plan, small)?;
-    texts::measure(rt, plan, large)
+/// Families of 64 counters and 8 histograms of 10 bounds.
+const SMALL: Service = Service {
+    counters: 8,
+    histograms: 1,
+    bounds: 10,
+};
+
+/// Families of 256 counters and 32 histograms of 24 bounds.
+const LARGE: Service = Service {
+    counters: 32,
+    histograms: 4,
+    bounds: 24,
+};
+
+/// Measures the registries of two services, each over a source of one thread and over a board, and registrations.
+fn measure_registries(rt: &(impl Clock + Print + AllocGlobal), plan: Plan) -> Result<(), Fault> {
+    registries::measure_plain::<64, 8>(rt, plan, SMALL)?;
+    registries::measure_board::<4, 64, 8>(rt, plan, SMALL)?;
+    registries::measure_plain::<256, 32>(rt, plan, LARGE)?;
+    registries::measure_board::<16, 256, 32>(rt, plan, LARGE)?;
+    registries::measure_windows::<64, 8>(rt, plan, SMALL)?;
+    makings::measure(rt, plan)
 }
 
-/// Measures three geometries, and the texts of two scrapes.
+/// Measures three geometries, the texts of two scrapes, and registries.
 fn measure_all(
     rt: &(impl Threads + Clock + Print + AllocGlobal + Sync),
     plan: Plan,
@@ -82,9 +95,11 @@ fn measure_all(
     measure::<4, 64, 8, 0>(rt, plan)?;
     measure::<16, 256, 32, 0>(rt, plan)?;
     measure::<32, 256, 32, 64>(rt, plan)?;
-    measure_texts(rt, plan)?;
+    texts::measure(rt, plan, SMALL)?;
+    texts::measure(rt, plan, LARGE)?;
+    measure_registries(rt, plan)?;
     if !plan.shown {
-        println!(rt; "measured 3 geometries and 2 texts")?;
+        println!(rt; "measured 3 geometries, 2 texts and 2 registries")?;
     }
     Ok(())
 }

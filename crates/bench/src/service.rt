@@ -55,8 +55,8 @@ pub struct Service {
     ghost few_bounds: { bounds ≤ 24 },
 }
 
-/// The values of a child's labels.
-fn values(alloc: Global, child: u64) -> Result<Arc<Vec<LabelValue>>, Fault> {
+/// The values of the labels of the child of this number.
+pub fn values(alloc: Global, child: u64) -> Result<Arc<Vec<LabelValue>>, Fault> {
     let value = format!(in alloc; "/api/v1/{child}")?;
     let mut values = Vec::new(alloc);
     values.push(LabelValue::read(alloc, value.as_str())?)?;
@@ -94,7 +94,7 @@ fn named(alloc: Global, name: &str, help: &str) -> Result<(MetricName, HelpText)
 }
 
 /// The descriptor of the family of counters at a place.
-fn counter_desc(alloc: Global, family: u64) -> Result<Desc, Fault>
+pub fn counter_desc(alloc: Global, family: u64) -> Result<Desc, Fault>
     ensures kind { IfOk result (λ desc. (desc.kind ≡ Kind.Counter) × (desc.bounds ≡ [])) }
     ensures labels { IfOk result (λ desc. length desc.labels ≡ 1) }
 {
@@ -105,7 +105,7 @@ fn counter_desc(alloc: Global, family: u64) -> Result<Desc, Fault>
 }
 
 /// The descriptor of the family of histograms at a place.
-fn histogram_desc(alloc: Global, family: u64, bounds: usize) -> Result<Desc, Fault>
+pub fn histogram_desc(alloc: Global, family: u64, bounds: usize) -> Result<Desc, Fault>
     requires { bounds ≤ 24 }
     ensures kind { IfOk result (λ desc. (desc.kind ≡ Kind.Histogram) × (length desc.bounds ≡ bounds)) }
     ensures labels { IfOk result (λ desc. length desc.labels ≡ 1) }
