@@ -2,13 +2,15 @@
 # Runs the example script with the Nth allocation refused, for each N, and compares what is printed and the status.
 # The program makes 24 allocations: 4 for its arguments, 5 before the first line, and 5, 3, 1 and 6 at the lines 1, 2, 3 and 6.
 # Then runs the tests of expo_text, expo_reader, register_rule, snapshot_core, snapshot_scan, snapshot_update, chain_law,
-# registry_state and worker_pool with each test's Nth allocation refused: a test may then end for want of memory, but none may
-# see another answer in its place. A label's name is read with the 13th or the 15th allocation of some tests of expo_reader. A board of 2 workers makes
-# 5 allocations, a reader of it 9, and a worker 15; the tests of snapshot_update make a snapshot or two before that, of 2
-# allocations each. The test each_growth of snapshot_core makes 3 for its list of events and 21 in its run, which has a
-# publish and two answers. The test one_snapshot_has_a_history of chain_law makes 47 for a snapshot and the list that has it,
-# and the next one in history_of. In worker_pool a test of two workers with a job each makes 49 for its crew and its jobs, and
-# the pool the next two, for the threads and for the workers that it hands back; threads make none.
+# registry_state, worker_pool and metric_registry with each test's Nth allocation refused: a test may then end for want of
+# memory, but none may see another answer in its place. A label's name is read with the 13th or the 15th allocation of some
+# tests of expo_reader. A board of 2 workers makes 5 allocations, a reader of it 9, and a worker 15; the tests of
+# snapshot_update make a snapshot or two before that, of 2 allocations each. The test each_growth of snapshot_core makes 3 for
+# its list of events and 21 in its run, which has a publish and two answers. The test one_snapshot_has_a_history of chain_law
+# makes 47 for a snapshot and the list that has it, and the next one in history_of. In worker_pool a test of two workers with a
+# job each makes 49 for its crew and its jobs, and the pool the next two, for the threads and for the workers that it hands
+# back; threads make none. The test each_growth of metric_registry makes its registry, a family, a child and a scrape with the
+# allocations from the 52nd to the 65th.
 #
 # A build refuses one allocation of the process, whose number is fixed. So that one build of a crate serves for every N, its
 # build refuses the LASTth, and the program and each test first make LAST - N allocations that they give back: the Nth of
@@ -118,6 +120,7 @@ prepare_tests snapshot_update $(seq 1 24)
 prepare_tests chain_law $(seq 1 4) $(seq 44 49)
 prepare_tests registry_state $(seq 1 32)
 prepare_tests worker_pool $(seq 48 52)
+prepare_tests metric_registry $(seq 45 66)
 
 # Half of the processors: the rest are for the proofs beside this.
 {

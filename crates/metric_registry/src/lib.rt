@@ -1,0 +1,13 @@
+//! A registry behind a lock, over a board on which workers count without one.
+//!
+//! Any thread registers families, makes children and scrapes; each call waits for the lock, makes one call on what stands
+//! behind it, and hands its answer on. Workers never meet the lock.
+#![tactic(auto)]
+
+mod making;
+mod registry;
+#[cfg(test)]
+mod tests;
+
+pub use making::NotMade;
+pub use registry::Registry;

@@ -1,0 +1,4 @@
+mod calls;
+mod crew;
+mod growth;
+mod hands_on;
