@@ -1,6 +1,8 @@
 #!/bin/sh
-# Runs the example script with the Nth allocation refused, for each N, and compares what is printed and the status.
-# The program makes 24 allocations: 4 for its arguments, 5 before the first line, and 5, 3, 1 and 6 at the lines 1, 2, 3 and 6.
+# Runs two scripts with the Nth allocation refused, for each N, and compares what is printed and the status. With the first, which
+# is the program's stored input, it makes 135 allocations: 4 for its arguments, 114 for the board, its crew and the registry before
+# the first line, and 5, 3, 1, 2 and 6 at the lines 1, 2, 3, 5 and 6. Of the second, whose lines are refused at the ninth, it prints
+# a beginning that ends after a whole line, and then the refusal for want of memory, or all.
 # Then runs the tests of expo_text, expo_reader, register_rule, snapshot_core, snapshot_scan, snapshot_update, chain_law,
 # registry_state, worker_pool and metric_registry with each test's Nth allocation refused: a test may then end for want of
 # memory, but none may see another answer in its place. A label's name is read with the 13th or the 15th allocation of some
@@ -34,31 +36,56 @@ cd "$work/crates"
 # What the program ends with where its Nth allocation is refused: its status, and the line that tells why.
 expected() {
     case $1 in
-    1 | 2 | 3 | 4) echo "2 usage: metrics_run script | metrics_run serve PORT COUNT" ;;
-    5 | 6 | 7 | 8 | 9) echo "1 refused 0 6" ;;
-    10 | 11 | 12 | 13 | 14) echo "1 refused 1 6" ;;
-    15 | 16 | 17) echo "1 refused 2 6" ;;
-    18) echo "1 refused 3 6" ;;
-    19 | 20 | 21 | 22 | 23 | 24) echo "1 refused 6 6" ;;
+    [1-4]) echo "2 usage: metrics_run script | metrics_run serve PORT COUNT" ;;
+    [5-9] | [1-9][0-9] | 10[0-9] | 11[0-8]) echo "1 refused 0 6" ;;
+    119 | 12[0-3]) echo "1 refused 1 6" ;;
+    12[4-6]) echo "1 refused 2 6" ;;
+    127) echo "1 refused 3 6" ;;
+    12[89]) echo "1 refused 5 6" ;;
+    13[0-5]) echo "1 refused 6 6" ;;
     *) echo "0 # TYPE a counter" ;;
     esac
 }
 
-# The program's input is a letter and the script: at the letter a nothing is spent, at b one allocation, and so on.
+# The second script, and how many allocations of it are tried.
+program_last=150
+cat >"$work/example" <<'END'
+histogram h zone 10,20 Waiting\s\sroom
+child h a\sb
+obs 0 0 10
+obs 1 0 11
+obs 2 0 99
+go
+scrape
+settle
+inc 0 0 1
+END
+
+# The last line of what the second script prints is a refusal for want of memory, and what stands before it a beginning of the
+# ample output; or it is that output.
+as_expected() {
+    refusal=$(tail -n 1 "$1")
+    head -n -1 "$1" >"$work/front"
+    head -n "$(wc -l <"$work/front")" "$work/ample" >"$work/beginning"
+    cmp -s "$1" "$work/ample" || { echo "$refusal" | grep -qE '^refused [0-9] 6$' && cmp -s "$work/front" "$work/beginning"; }
+}
+
+# The program's input is three digits and the script: so many allocations are spent first.
 prepare_program() {
     sed -i 's/^fn main(rt: HostRuntime).*{$/&\n    spend(\&rt);/' metrics_run/src/main.rt
     cat >>metrics_run/src/main.rt <<'END'
 
 fn spend(rt: &(impl Input + AllocGlobal)) {
-    let mut letter = [b'a'];
-    let _ = io::Read::read(&mut rt.reader(), &mut letter);
-    for _ in b'a'..letter[0] {
+    let mut digits = [b'0'; 3];
+    let _ = io::Read::read(&mut rt.reader(), &mut digits);
+    for _ in 0..digits.iter().fold(0u32, |n, digit| n % 100 * 10 + (*digit % 16) as u32) {
         let _spent = Box::new(rt.alloc(), 0u8);
     }
 }
 END
-    for n in $(seq 1 25); do
-        { echo yxwvutsrqponmlkjihgfedcba | cut -c "$n" | tr -d '\n'; cat metrics_run/stdin; } >"$work/scripts/$n"
+    for n in $(seq 1 "$program_last"); do
+        { printf %03d "$((program_last - n))"; cat metrics_run/stdin; } >"$work/scripts/$n"
+        { printf %03d "$((program_last - n))"; cat "$work/example"; } >"$work/scripts/example-$n"
     done
 }
 
@@ -124,14 +151,14 @@ prepare_tests metric_registry $(seq 45 66)
 
 # Half of the processors: the rest are for the proofs beside this.
 {
-    echo "metrics_run --fail-alloc 25 --cases $work/scripts -- script"
+    echo "metrics_run --fail-alloc $program_last --cases $work/scripts -- script"
     while read -r crate last _; do
         echo "$crate --test --seconds 3000 --fail-alloc $last"
     done <"$work/crates_of_tests"
 } | xargs -P "$((($(nproc) + 1) / 2))" -L 1 sh -c 'cd "$1"; shift; rt try "$@" >"$0/${PWD##*/}" 2>&1 || true' "$work/logs"
 
 log=$work/logs/metrics_run
-for n in $(seq 1 25); do
+for n in $(seq 1 "$program_last"); do
     run=$(sed -n "/^== $n\$/,/^case=$n /p" "$log")
     status=$(echo "$run" | sed -n 's/^case=.* run=ended status=\([0-9]*\) .*/\1/p')
     got="$status $(echo "$run" | grep -E '^(usage|refused|# TYPE)' || true)"
@@ -141,7 +168,20 @@ for n in $(seq 1 25); do
         exit 1
     fi
 done
-echo "each of 24 allocations refused in turn: as expected"
+sed -n '/^# HELP h /,/^h_count/p' "$log" | head -n 7 >"$work/ample"
+{
+    echo 'settled 1 1 1 0'
+    echo 'refused 9 28'
+} >>"$work/ample"
+for n in $(seq 5 "$program_last"); do
+    sed -n "/^== example-$n\$/,/^case=example-$n /p" "$log" | grep -vE '^(==|allocations:|case=)' >"$work/got" || true
+    if ! as_expected "$work/got"; then
+        echo "allocation $n refused at the second script: got"
+        cat "$work/got"
+        exit 1
+    fi
+done
+echo "each of 135 and of 149 allocations of two scripts refused in turn: as expected"
 
 # What want of memory is called: an error that the test gives back, or what it was met with by an `expect`.
 memory='^ +(error|room|runs|it runs): (NoMemory|AllocError|AllocFailed \{ \.\. \}|Kind\(OutOfMemory\))$'

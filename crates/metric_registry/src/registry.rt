@@ -1,5 +1,7 @@
 //! The lock.
+ghost use Rattle.std.specs.Prelude.{OnErr, OnOk};
 ghost use Rattle.registry_state.specs.Kept.{IsKept};
+ghost use Rattle.registry_state.specs.Faults.{IsWindow};
 ghost use Rattle.snapshot_scan.specs.Scanners.{recorded_in};
 
 use expo_text::Scrape;
@@ -71,7 +73,10 @@ impl<'a, const N: usize, const C: usize, const H: usize, const G: usize> Registr
     /// # Errors
     ///
     /// 31 [`BadWindow`] unless `window` is 1 to 1,024. Nothing has changed then.
-    pub fn set_window<R: Wait>(&self, rt: &R, window: usize) -> Result<usize, BadWindow> {
+    pub fn set_window<R: Wait>(&self, rt: &R, window: usize) -> Result<usize, BadWindow>
+        ensures window { OnOk result (IsWindow window) }
+        ensures refused { OnErr result (¬ (IsWindow window)) }
+    {
         self.state.lock(rt).set_window(window)
     }
 

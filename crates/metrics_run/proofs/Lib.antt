@@ -1,4 +1,7 @@
 pub mod Sent
-pub mod Waiting
 pub mod Reading
-pub mod Given
+pub mod Four
+pub mod Settled
+pub mod Pushed
+pub mod Crew
+pub mod Gathered

@@ -2,6 +2,7 @@ pub mod LineFault
 pub mod Parts
 pub mod Printed
 pub mod Status
-pub mod Queue
+pub mod Jobs
+pub mod Children
 pub mod State
 pub mod Done

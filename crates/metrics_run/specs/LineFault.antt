@@ -7,9 +7,9 @@ use Rattle.metric_names.specs.LabelValue as value
 use Rattle.metric_desc.specs.Labels as labels
 use Rattle.metric_desc.specs.Histogram as histogram
 use Rattle.registry_state.specs.Faults.{register_number, child_number, scrape_number}
-use Rattle.snapshot_scan.specs.PlainNumber.{plain_number}
+use Rattle.worker_pool.specs.Faults.{pool_number}
 use Rattle.metrics_run.specs.declared.line_fault.LineFault.{LineFault}
-use Rattle.metrics_run.specs.declared.line_fault.LineFault.TheVariants.{BadLine, Name, Label, Help, Labels, Histogram, Value, Register, NoSuchFamily, Child, NoSuchChild, Op, Scrape, Window, NoMemory}
+use Rattle.metrics_run.specs.declared.line_fault.LineFault.TheVariants.{BadLine, Name, Label, Help, Labels, Histogram, Value, Register, NoSuchFamily, Child, NoSuchChild, Pool, Scrape, Window, NoMemory}
 
 -- the number of each fault
 abbrev pub number_of : LineFault → ℕ
@@ -24,7 +24,7 @@ number_of (Register fault) = register_number fault
 number_of NoSuchFamily = 20
 number_of (Child fault) = child_number fault
 number_of NoSuchChild = 28
-number_of (Op fault) = plain_number fault
+number_of (Pool fault) = pool_number fault
 number_of (Scrape fault) = scrape_number fault
 number_of (Window fault) = 31
 number_of NoMemory = 6

@@ -3,7 +3,7 @@ use Rattle.std.specs.Prelude.{◌≡◌, ⊤, ℕ, List, Option, Result, Err, Is
 use Rattle.std.specs.Io.KnownBytes.{Appends, Keeps}
 use Rattle.metrics_run.specs.LineFault.{number_of}
 use Rattle.metrics_run.specs.Printed.{refused_line}
-use Rattle.metrics_run.specs.declared.queue.Refused.{Refused as Refusal}
+use Rattle.metrics_run.specs.declared.refused.Refused.{Refused as Refusal}
 use Rattle.metrics_run.specs.declared.script.Stop.{Stop}
 use Rattle.metrics_run.specs.declared.script.Stop.TheVariants as stop
 use Rattle.metrics_run.specs.declared.script.ScriptEnd.{ScriptEnd}

@@ -6,9 +6,9 @@ use ledger_core::OpFault;
 use metric_desc::{HistogramFault, LabelsFault};
 use metric_names::{HelpTextFault, LabelNameFault, LabelValueFault, MetricNameFault, NoMemory};
 use registry_state::{BadWindow, ChildFault, RegisterFault, ScrapeFault};
-use snapshot_scan::PlainFault;
 use std::alloc::{AllocError, AllocFailed};
 use thiserror::Error;
+use worker_pool::PoolFault;
 
 /// Why a script's line is refused.
 #[derive(Clone, Copy, Debug, PartialEq, Eq, Error)]
@@ -46,9 +46,9 @@ pub enum LineFault {
     /// Refusal 28: no child of that number, or one of another kind.
     #[error("there is no child of that number and kind")]
     NoSuchChild,
-    /// Refusals 12 and 15 of an operation.
+    /// Refusals 12, 15, 30 and 6 of a `go`.
     #[error(transparent)]
-    Op(PlainFault),
+    Pool(PoolFault),
     /// Refusals 6 and 14 of a scrape.
     #[error(transparent)]
     Scrape(ScrapeFault),
@@ -77,7 +77,7 @@ impl LineFault {
             LineFault::NoSuchFamily => 20,
             LineFault::Child(fault) => fault.number(),
             LineFault::NoSuchChild => 28,
-            LineFault::Op(fault) => fault.number(),
+            LineFault::Pool(fault) => fault.number(),
             LineFault::Scrape(fault) => fault.number(),
             LineFault::Window(fault) => fault.number(),
             LineFault::NoMemory => 6,

@@ -4,9 +4,13 @@
 //! standard output failed.
 #![tactic(auto)]
 
+mod board;
+mod calls;
+mod children;
+mod jobs;
 mod line_fault;
 mod parts;
-mod queue;
+mod refused;
 mod script;
 mod send;
 mod state;
@@ -41,7 +45,7 @@ fn main(rt: HostRuntime) -> ExitCode {
         let _ = eprintln!(rt; "{USAGE}");
         return ExitCode::from(2);
     }
-    let end = run_script(rt.alloc(), rt.reader(), io::writer(&rt));
+    let end = run_script(&rt, rt.alloc(), rt.reader(), io::writer(&rt));
     if end == ScriptEnd::Broken {
         let _ = eprintln!(rt; "fault");
     }

@@ -1,22 +1,28 @@
 //! Scripts are run.
-ghost use Rattle.std.specs.Prelude.{◌≡◌, ℕ, List, IfOk, OnOk};
+ghost use Rattle.std.specs.Prelude.{◌≡◌, ℕ, List, [], ◌∷◌, map, All, IfOk, OnOk};
 ghost use Rattle.std.specs.Io.KnownBytes.{Appends};
 ghost use Rattle.metrics_run.specs.LineFault.{number_of};
 ghost use Rattle.script_lines.specs.Language.{IsLine, Saying};
 ghost use Rattle.script_lines.specs.Line.{saying_of};
-ghost use Rattle.metrics_run.specs.Printed.{kept_line, refused_line};
+ghost use Rattle.metrics_run.specs.Printed.{kept_line, settled_line, refused_line};
 ghost use Rattle.metrics_run.specs.Status.{status_of, IsEnd};
+ghost use Rattle.snapshot_scan.specs.Readers.{IsReaderOf};
+ghost use Rattle.snapshot_update.specs.Workers.{index_of, IsWorkerOf};
+ghost use Rattle.metrics_run.specs.State.{IsReady};
 ghost use Rattle.metrics_run.specs.Done.{IsDone, IsStepped};
 
+use crate::board::{Board, Crew, new_board};
 use crate::line_fault::LineFault;
 use crate::parts::{Parts, counter_of, gauge_of, histogram_of};
-use crate::queue::Refused;
+use crate::refused::Refused;
 use crate::send::{Broken, send};
 use crate::state::{Count, State};
-use metric_desc::Desc;
+use metric_names::NoMemory;
 use script_lines::{Line, Lines, Next, read_line};
 use std::alloc::Global;
 use std::io::{Read, Write};
+use std::sync::Wait;
+use std::thread::Threads;
 
 /// The most lines of a script.
 pub const MAX_LINES: u64 = 1_000_000;
@@ -69,21 +75,23 @@ fn stop_at(line: u64, fault: LineFault) -> Stop {
     Stop::Refused(Refused { line, fault })
 }
 
-/// Does what a line says that prints nothing. `number` is the line's own, from 1.
-fn act(state: &mut State, number: u64, line: Line<'_>) -> Result<(), LineFault>
-    requires { (text : List ℕ) × IsLine text (saying_of line) }
-    ensures { OnOk result (IsDone state.old number (saying_of line.entry) state.new) }
+/// Does what a line says that prints nothing and counts nothing. `number` is the line's own, from 1.
+fn act(state: &mut State<'_>, rt: &impl Wait, number: u64, line: Line<'_>) -> Result<(), LineFault>
+    requires line { (text : List ℕ) × IsLine text (saying_of line) }
+    requires ready { IsReady state.old }
+    ensures ready { OnOk result (IsReady state.new) }
+    ensures done { OnOk result (IsDone state.old number (saying_of line.entry) state.new) }
 {
     let alloc = state.alloc;
     match line {
         Line::Counter { name, labels, help } => {
             match counter_of(alloc, Parts { name, labels, help }) {
-                Ok(desc) => state.register(desc),
+                Ok(desc) => state.register(rt, desc),
                 Err(fault) => Err(fault),
             }
         }
         Line::Gauge { name, labels, help } => match gauge_of(alloc, Parts { name, labels, help }) {
-            Ok(desc) => state.register(desc),
+            Ok(desc) => state.register(rt, desc),
             Err(fault) => Err(fault),
         },
         Line::Histogram {
@@ -92,10 +100,10 @@ fn act(state: &mut State, number: u64, line: Line<'_>) -> Result<(), LineFault>
             bounds,
             help,
         } => match histogram_of(alloc, Parts { name, labels, help }, bounds) {
-            Ok(desc) => state.register(desc),
+            Ok(desc) => state.register(rt, desc),
             Err(fault) => Err(fault),
         },
-        Line::Child { name, values } => state.child(name, values),
+        Line::Child { name, values } => state.child(rt, name, values),
         Line::Count {
             what,
             worker,
@@ -117,44 +125,60 @@ fn act(state: &mut State, number: u64, line: Line<'_>) -> Result<(), LineFault>
 }
 
 /// Does what a line says, and writes what it prints. `number` is the line's own, from 1.
-fn step<W: Write>(state: &mut State, writer: &mut W, number: u64, text: &str) -> Result<(), Stop>
-    ensures { OnOk result ((saying : Saying) × (printed : List ℕ) × IsLine text.now saying × IsStepped state.old number saying printed state.new
+fn step<R: Threads + Wait, W: Write>(
+    rt: &R,
+    state: &mut State<'_>,
+    writer: &mut W,
+    number: u64,
+    text: &str,
+) -> Result<(), Stop>
+    requires ready { IsReady state.old }
+    ensures ready { OnOk result (IsReady state.new) }
+    ensures stepped { OnOk result ((saying : Saying) × (printed : List ℕ) × IsLine text.now saying × IsStepped state.old number saying printed state.new
         × Appends (W.contents writer.old) (W.contents writer.new) printed) }
 {
     let Some(line) = read_line(text) else {
         return Err(stop_at(number, LineFault::BadLine));
     };
     match line {
-        Line::Go => match state.go() {
+        Line::Go => match state.go(rt, number) {
             Ok(()) => Ok(()),
             Err(refused) => Err(Stop::Refused(refused)),
         },
-        Line::Scrape => match state.scrape() {
+        Line::Scrape => match state.scrape(rt) {
             Ok(text) => Ok(send(writer, &text)?),
             Err(fault) => Err(stop_at(number, fault)),
         },
-        Line::Window { size } => match state.set_window(size) {
+        Line::Settle => {
+            state.settle();
+            Ok(tell_settled(writer, state.settled.vector())?)
+        }
+        Line::Window { size } => match state.set_window(rt, size) {
             Ok(kept) => Ok(tell_kept(writer, kept)?),
             Err(fault) => Err(stop_at(number, fault)),
         },
-        line => match act(state, number, line) {
+        line => match act(state, rt, number, line) {
             Ok(()) => Ok(()),
             Err(fault) => Err(stop_at(number, fault)),
         },
     }
 }
 
-fn run_lines<R: Read + Drop, W: Write>(
-    state: &mut State,
+/// Reads the lines and does what they say, up to the first that is refused.
+fn run_lines<T: Threads + Wait, R: Read + Drop, W: Write>(
+    rt: &T,
+    state: &mut State<'_>,
     lines: &mut Lines<R>,
     writer: &mut W,
-) -> Result<(), Stop> {
+) -> Result<(), Stop>
+    requires { IsReady state.old }
+{
     for number in 1..=MAX_LINES {
         match lines.next()? {
             Next::End => return Ok(()),
             Next::TooLong => return Err(stop_at(number, LineFault::BadLine)),
             Next::Line => match std::str::from_utf8(lines.bytes()) {
-                Ok(text) => step(state, writer, number, text)?,
+                Ok(text) => step(rt, state, writer, number, text)?,
                 Err(_) => return Err(stop_at(number, LineFault::BadLine)),
             },
         }
@@ -171,6 +195,18 @@ fn tell_kept<W: Write>(writer: &mut W, kept: usize) -> Result<(), Broken>
     let mut digits = itoa::Buffer::new();
     send(writer, b"kept ")?;
     send(writer, digits.format(kept).as_bytes())?;
+    send(writer, b"\n")
+}
+
+fn tell_settled<W: Write>(writer: &mut W, vector: &[u64]) -> Result<(), Broken>
+    ensures { OnOk result (Appends (W.contents writer.old) (W.contents writer.new) (settled_line vector.now)) }
+{
+    let mut digits = itoa::Buffer::new();
+    send(writer, b"settled")?;
+    for number in vector {
+        send(writer, b" ")?;
+        send(writer, digits.format(*number).as_bytes())?;
+    }
     send(writer, b"\n")
 }
 
@@ -204,14 +240,26 @@ fn ended<W: Write>(writer: &mut W, ran: Result<(), Stop>) -> ScriptEnd
     }
 }
 
-fn start<R: Read + Drop>(alloc: Global, reader: R) -> Option<(State, Lines<R>)> {
-    let Ok(lines) = Lines::new(alloc, reader) else {
-        return None;
+/// Runs a script over a board on which nothing was counted.
+fn run_over<T: Threads + Wait, R: Read + Drop, W: Write>(
+    rt: &T,
+    alloc: Global,
+    board: &Board,
+    crew: Crew,
+    reader: R,
+    writer: &mut W,
+) -> Result<(), Stop>
+    requires workers { All (IsWorkerOf board.now) crew.workers.items }
+    requires all { map index_of crew.workers.items ≡ 0 ∷ 1 ∷ 2 ∷ 3 ∷ [] }
+    requires readers { IsReaderOf board.now crew.scraper × IsReaderOf board.now crew.settler }
+{
+    let Ok(mut lines) = Lines::new(alloc, reader) else {
+        return Err(stop_at(0, LineFault::NoMemory));
     };
-    let Ok(state) = State::new(alloc) else {
-        return None;
-    };
-    Some((state, lines))
+    match State::new(alloc, board, crew) {
+        Ok(mut state) => run_lines(rt, &mut state, &mut lines, writer),
+        Err(NoMemory) => Err(stop_at(0, LineFault::NoMemory)),
+    }
 }
 
 /// Runs a script: reads its lines, registers, counts, and writes the text of each scrape.
@@ -219,14 +267,15 @@ fn start<R: Read + Drop>(alloc: Global, reader: R) -> Option<(State, Lines<R>)> 
 /// A line is at most 4,096 bytes of UTF-8 without its line feed, which the last may lack, and at most 1,000,000
 /// lines are read. The lines are those of [`script_lines::Line`]. A refused line ends the script, after
 /// `refused LINE NUMBER` was written.
-pub fn run_script<R: Read + Drop, W: Write + Drop>(
+pub fn run_script<T: Threads + Wait, R: Read + Drop, W: Write + Drop>(
+    rt: &T,
     alloc: Global,
     reader: R,
     mut writer: W,
 ) -> ScriptEnd {
-    let ran = match start(alloc, reader) {
-        Some((mut state, mut lines)) => run_lines(&mut state, &mut lines, &mut writer),
-        None => Err(stop_at(0, LineFault::NoMemory)),
+    let ran = match new_board(alloc) {
+        Ok((board, crew)) => run_over(rt, alloc, &board, crew, reader, &mut writer),
+        Err(NoMemory) => Err(stop_at(0, LineFault::NoMemory)),
     };
     ended(&mut writer, ran)
 }

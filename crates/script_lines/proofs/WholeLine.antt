@@ -6,7 +6,7 @@ use Rattle.std.specs.Option.{option_map_or}
 use Rattle.std.proofs.Math.Dec.{eqb-suc-zero}
 use Rattle.std.proofs.lemmas.Bool.{eqb-true}
 use Rattle.std.proofs.lemmas.Slice.Eq.{bytes_eq-Decides}
-use Rattle.script_lines.specs.Language.{Saying, Nothing, Counter, Gauge, Histogram, Child, Count, Go, Scrape, Window, IsLine, word_of}
+use Rattle.script_lines.specs.Language.{Saying, Nothing, Counter, Gauge, Histogram, Child, Count, Go, Scrape, Settle, Window, IsLine, word_of}
 use Rattle.script_lines.specs.declared.line.Counting.TheVariants.{Inc, Obs, Up, Down}
 use Rattle.script_lines.specs.declared.word.Word.{Word}
 use Rattle.script_lines.specs.declared.word.Word.TheVariants as word
@@ -96,9 +96,13 @@ alone_says text s h =
     (λ no.
     ⊎_elim
     (λ yes. subst (IsLine text) yes.1 ((bytes_eq-Decides text (codes "scrape")).0 yes.0))
+    (λ other.
+    ⊎_elim
+    (λ yes. subst (IsLine text) yes.1 ((bytes_eq-Decides text (codes "settle")).0 yes.0))
     (λ none. absurd (cc (none.1)))
-    (first_or_next (bytes_eq text (codes "scrape")) Scrape s None no.1))
-    (first_or_next (bytes_eq text (codes "go")) Go s (cond (bytes_eq text (codes "scrape")) (Some Scrape) None) h)
+    (first_or_next (bytes_eq text (codes "settle")) Settle s None other.1))
+    (first_or_next (bytes_eq text (codes "scrape")) Scrape s (cond (bytes_eq text (codes "settle")) (Some Settle) None) no.1))
+    (first_or_next (bytes_eq text (codes "go")) Go s (cond (bytes_eq text (codes "scrape")) (Some Scrape) (cond (bytes_eq text (codes "settle")) (Some Settle) None)) h)
 
 passed_over : (text : List ℕ) → (is_empty text || eqb (get_or text 0 0) 35) ≡ true → IsLine text Nothing
 passed_over [] h = inl refl
@@ -152,6 +156,10 @@ scrape_found : (text : List ℕ) → text ≡ codes "scrape" → line_of text �
 unfolding line_of cut_of alone_in
 scrape_found text is = ap line_of is
 
+settle_found : (text : List ℕ) → text ≡ codes "settle" → line_of text ≡ Some Settle
+unfolding line_of cut_of alone_in
+settle_found text is = ap line_of is
+
 pub line_found : (text : List ℕ) (s : Saying) → IsLine text s → line_of text ≡ Some s
 unfolding after_word
 line_found text Nothing is = nothing_found text is
@@ -201,5 +209,6 @@ line_found text (Count what worker child by times) is =
     ap line_of found.1 ∙ worded_line (word.Count what) found.0 ∙ count_found what found.0 worker child by times found.2
 line_found text Go is = go_found text is
 line_found text Scrape is = scrape_found text is
+line_found text Settle is = settle_found text is
 line_found text (Window size) is =
     ap line_of is.1 ∙ worded_line word.Window (decimal size) ∙ ap (option_map Window) (number_found (decimal size) size is.0 refl)

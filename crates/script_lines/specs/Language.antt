@@ -104,6 +104,7 @@ pub data Saying : Type 0 where
   Count : (what : Counting) (worker child by times : ℕ) → Saying
   Go : Saying
   Scrape : Saying
+  Settle : Saying
   Window : (size : ℕ) → Saying
 
 -- a text is a line that says this
@@ -124,4 +125,5 @@ IsLine text (Count what worker child by times) =
     ⊎ (text ≡ join_with_byte blank (word_of what ∷ decimal worker ∷ decimal child ∷ decimal by ∷ decimal times ∷ [])))
 IsLine text Go = text ≡ codes "go"
 IsLine text Scrape = text ≡ codes "scrape"
+IsLine text Settle = text ≡ codes "settle"
 IsLine text (Window size) = (size < 2 ^ 64) × (text ≡ join_with_byte blank (codes "window" ∷ decimal size ∷ []))

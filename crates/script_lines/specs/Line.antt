@@ -2,7 +2,7 @@
 use Rattle.script_lines.specs.Language.{Saying}
 use Rattle.script_lines.specs.Language as language
 use Rattle.script_lines.specs.declared.line.Line.{Line}
-use Rattle.script_lines.specs.declared.line.Line.TheVariants.{Nothing, Counter, Gauge, Histogram, Child, Count, Go, Scrape, Window}
+use Rattle.script_lines.specs.declared.line.Line.TheVariants.{Nothing, Counter, Gauge, Histogram, Child, Count, Go, Scrape, Settle, Window}
 
 -- what a line says
 abbrev pub saying_of : Line → Saying
@@ -14,4 +14,5 @@ saying_of (Child name values) = language.Child name.now values.now
 saying_of (Count what worker child by times) = language.Count what worker child by times
 saying_of Go = language.Go
 saying_of Scrape = language.Scrape
+saying_of Settle = language.Settle
 saying_of (Window size) = language.Window size

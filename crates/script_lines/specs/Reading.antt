@@ -3,7 +3,7 @@ use Rattle.std.specs.Prelude.{ℕ, ◌^◌, Bool, true, false, not, ◌&&◌, �
 use Rattle.std.specs.Option.{option_map_or}
 use Rattle.std.specs.List.{slice_split, list_all}
 use Rattle.std.specs.Str.Parse.{digits_value}
-use Rattle.script_lines.specs.Language.{Saying, Nothing, Counter, Gauge, Histogram, Child, Count, Go, Scrape, Window, blank, comma, hash, backslash}
+use Rattle.script_lines.specs.Language.{Saying, Nothing, Counter, Gauge, Histogram, Child, Count, Go, Scrape, Settle, Window, blank, comma, hash, backslash}
 use Rattle.script_lines.specs.declared.line.Counting.{Counting}
 use Rattle.script_lines.specs.declared.line.Counting.TheVariants.{Inc, Obs, Up, Down}
 use Rattle.script_lines.specs.declared.word.Word.{Word}
@@ -127,7 +127,9 @@ after_word word.Window text = option_map Window (number_of text)
 
 -- a line of one word
 unfoldable pub alone_in : List ℕ → Option Saying
-alone_in text = if bytes_eq text (codes "go") then Some Go else if bytes_eq text (codes "scrape") then Some Scrape else None
+alone_in text =
+    if bytes_eq text (codes "go") then Some Go else if bytes_eq text (codes "scrape") then Some Scrape
+    else if bytes_eq text (codes "settle") then Some Settle else None
 
 abbrev pub worded_of : (first text : List ℕ) → Option Saying
 worded_of first text = do

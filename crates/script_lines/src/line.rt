@@ -71,6 +71,8 @@ pub enum Line<'a> {
     Go,
     /// `scrape`.
     Scrape,
+    /// `settle`.
+    Settle,
     /// `window SIZE`.
     Window {
         size: u64,
@@ -211,6 +213,8 @@ fn read_alone(text: &str) -> Option<Line<'_>>
         Some(Line::Go)
     } else if text == "scrape" {
         Some(Line::Scrape)
+    } else if text == "settle" {
+        Some(Line::Settle)
     } else {
         None
     }

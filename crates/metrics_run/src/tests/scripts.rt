@@ -1,19 +1,27 @@
 use crate::script::{ScriptEnd, run_script};
 use std::alloc::Global;
 use std::process::Abort;
+use std::sync::Wait;
 use std::test::Fail;
+use std::thread::Threads;
 
 /// Runs the script and compares what it wrote and how it ended.
-fn expect(rt: &impl Abort, alloc: Global, script: &[u8], output: &str, end: ScriptEnd) {
+fn expect(
+    rt: &(impl Abort + Threads + Wait),
+    alloc: Global,
+    script: &[u8],
+    output: &str,
+    end: ScriptEnd,
+) {
     let mut written = Vec::new(alloc);
-    let ended = run_script(alloc, script, &mut written);
+    let ended = run_script(rt, alloc, script, &mut written);
     assert_eq!(rt; written.as_slice(), output.as_bytes(), "{output}");
     assert_eq!(rt; ended, end, "{output}");
 }
 
 /// Runs a script that ends in a refusal without a scrape.
 fn expect_refused(
-    rt: &impl Abort,
+    rt: &(impl Abort + Threads + Wait),
     alloc: Global,
     script: &str,
     output: &str,
@@ -134,7 +142,7 @@ fn refusals(rt: HostRuntime) {
         ),
         ("window 0\n", "refused 1 31\n", 1, 31),
         ("window 1025\n", "refused 1 31\n", 1, 31),
-        ("settle\n", "refused 1 27\n", 1, 27),
+        ("settle 0\n", "refused 1 27\n", 1, 27),
         ("inc 4 0 1\n", "refused 1 27\n", 1, 27),
         ("inc 0 0 1 0\n", "refused 1 27\n", 1, 27),
         ("inc 0 0 1 100001\n", "refused 1 27\n", 1, 27),
@@ -151,10 +159,18 @@ fn refusals(rt: HostRuntime) {
 #[test]
 fn operations_that_are_refused(rt: HostRuntime) {
     let alloc = rt.alloc();
-    // Worker 3 fails first in the file and worker 0 first in time; both stop there, and worker 1 does not.
+    // Each worker has a word of its own.
     let full =
-        "counter a -\nchild a\ninc 3 0 281474976710655\ninc 0 0 281474976710655\ninc 1 0 1\ngo\nscrape\n";
-    expect_refused(&rt, alloc, full, "refused 3 12\n", 3, 12);
+        b"counter a -\nchild a\ninc 3 0 281474976710655\ninc 0 0 281474976710655\ninc 1 0 1\ngo\nscrape\n";
+    let output = "# TYPE a counter\na 562949953421311\n";
+    expect(&rt, alloc, full, output, ScriptEnd::Done);
+    // Workers 3 and 0 are refused, each one's second line; the lesser line is told, whichever came first in time.
+    let two =
+        "counter a -\nchild a\ninc 3 0 281474976710655\ninc 0 0 281474976710655\ninc 3 0 1\ninc 0 0 1\ninc 1 0 1\ngo\nscrape\n";
+    expect_refused(&rt, alloc, two, "refused 5 12\n", 5, 12);
+    let other =
+        "counter a -\nchild a\ninc 3 0 281474976710655\ninc 0 0 281474976710655\ninc 0 0 1\ninc 3 0 1\ngo\n";
+    expect_refused(&rt, alloc, other, "refused 5 12\n", 5, 12);
     let later = "counter a -\nchild a\ninc 0 0 281474976710655\ninc 0 0 1\ninc 0 0 0\ngo\n";
     expect_refused(&rt, alloc, later, "refused 4 12\n", 4, 12);
     let largest = "counter a -\nchild a\ninc 0 0 18446744073709551615\ngo\n";
@@ -192,7 +208,13 @@ fn long_names_and_values(rt: HostRuntime) -> Result<(), Fail> {
 }
 
 /// Expects that the first line is refused with this number, or nothing where it is 0.
-fn ends_at_1(rt: &impl Abort, alloc: Global, script: &[u8], output: &str, number: u8) {
+fn ends_at_1(
+    rt: &(impl Abort + Threads + Wait),
+    alloc: Global,
+    script: &[u8],
+    output: &str,
+    number: u8,
+) {
     if number == 0 {
         expect(rt, alloc, script, "", ScriptEnd::Done);
     } else {
@@ -206,14 +228,14 @@ fn ends_at_1(rt: &impl Abort, alloc: Global, script: &[u8], output: &str, number
     }
 }
 
-/// A histogram with a label and a help with blanks, counted by three workers; `settle` is no line.
+/// A histogram with a label and a help with blanks, counted by three workers.
 #[test]
 fn waiting_room(rt: HostRuntime) {
     let script =
         "histogram h zone 10,20 Waiting\\s\\sroom\nchild h a\\sb\nobs 0 0 10\nobs 1 0 11\nobs 2 0 99\ngo\nscrape\nsettle\ninc 0 0 1\n";
     let output =
-        "# HELP h Waiting  room\n# TYPE h histogram\nh_bucket{zone=\"a b\",le=\"10\"} 1\nh_bucket{zone=\"a b\",le=\"20\"} 2\nh_bucket{zone=\"a b\",le=\"+Inf\"} 3\nh_sum{zone=\"a b\"} 120\nh_count{zone=\"a b\"} 3\nrefused 8 27\n";
-    expect_refused(&rt, rt.alloc(), script, output, 8, 27);
+        "# HELP h Waiting  room\n# TYPE h histogram\nh_bucket{zone=\"a b\",le=\"10\"} 1\nh_bucket{zone=\"a b\",le=\"20\"} 2\nh_bucket{zone=\"a b\",le=\"+Inf\"} 3\nh_sum{zone=\"a b\"} 120\nh_count{zone=\"a b\"} 3\nsettled 1 1 1 0\nrefused 9 28\n";
+    expect_refused(&rt, rt.alloc(), script, output, 9, 28);
 }
 
 /// A gauge may fall below zero.
@@ -236,6 +258,32 @@ fn gauges(rt: HostRuntime) {
         "# TYPE g gauge\ng 15\n# TYPE g gauge\ng 0\n",
         ScriptEnd::Done,
     );
+}
+
+/// How often each worker has counted: once for each operation, whatever it was, and however often it is asked.
+#[test]
+fn settled(rt: HostRuntime) {
+    let alloc = rt.alloc();
+    let done = ScriptEnd::Done;
+    expect(
+        &rt,
+        alloc,
+        b"settle\nsettle\n",
+        "settled 0 0 0 0\nsettled 0 0 0 0\n",
+        done,
+    );
+    let stored = b"counter a -\nchild a\ninc 0 0 5\ninc 0 0 2\ngo\nscrape\nsettle\n";
+    let output = "# TYPE a counter\na 7\nsettled 2 0 0 0\n";
+    expect(&rt, alloc, stored, output, done);
+    let gauge = b"gauge g -\nchild g\nup 0 0 5\ndown 1 0 7\ngo\nscrape\nsettle\n";
+    let output = "# TYPE g gauge\ng -2\nsettled 1 1 0 0\n";
+    expect(&rt, alloc, gauge, output, done);
+    // What waits is not counted yet, and what was counted stays.
+    let again =
+        b"counter a -\nchild a\ninc 3 0 1 12\nsettle\ngo\nsettle\nsettle\ninc 2 0 0\ninc 3 0 9\ngo\nsettle\ngo\nsettle\nscrape\n";
+    let output =
+        "settled 0 0 0 0\nsettled 0 0 0 12\nsettled 0 0 0 12\nsettled 0 0 1 13\nsettled 0 0 1 13\n# TYPE a counter\na 21\n";
+    expect(&rt, alloc, again, output, done);
 }
 
 /// Each operation is done as often as its line says, once for each `go` that follows it first.

@@ -3,12 +3,14 @@ use crate::is_script;
 use crate::script::{ScriptEnd, run_script};
 use std::alloc::Global;
 use std::process::Abort;
+use std::sync::Wait;
 use std::test::Fail;
+use std::thread::Threads;
 
 /// Runs the script to its end and compares what it wrote.
-fn writes(rt: &impl Abort, alloc: Global, script: &[u8], output: &str) {
+fn writes(rt: &(impl Abort + Threads + Wait), alloc: Global, script: &[u8], output: &str) {
     let mut written = Vec::new(alloc);
-    let ended = run_script(alloc, script, &mut written);
+    let ended = run_script(rt, alloc, script, &mut written);
     assert_eq!(rt; written.as_slice(), output.as_bytes());
     assert_eq!(rt; ended, ScriptEnd::Done);
 }
@@ -61,7 +63,7 @@ fn a_long_text(rt: HostRuntime) -> Result<(), Fail> {
     }
     script.extend_from_slice(b"scrape")?;
     let mut written = Vec::new(alloc);
-    let ended = run_script(alloc, script.as_slice(), &mut written);
+    let ended = run_script(&rt, alloc, script.as_slice(), &mut written);
     assert_eq!(rt; ended, ScriptEnd::Done);
     assert!(rt; written.len() > 10_000);
     assert!(rt; written == output);
@@ -74,7 +76,7 @@ fn carriage_returns(rt: HostRuntime) {
     let alloc = rt.alloc();
     for script in ["go\r\n", "window 3\r\n", "\r\n"] {
         let mut written = Vec::new(alloc);
-        let ended = run_script(alloc, script.as_bytes(), &mut written);
+        let ended = run_script(&rt, alloc, script.as_bytes(), &mut written);
         let refused = ScriptEnd::Refused {
             line: 1,
             number: 27,

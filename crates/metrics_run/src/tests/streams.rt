@@ -95,6 +95,7 @@ fn one_byte_at_a_time(rt: HostRuntime) -> Result<(), Fail> {
         takes_nothing: false,
     };
     let end = run_script(
+        &rt,
         alloc,
         Drops {
             bytes: SCRIPT,
@@ -107,6 +108,7 @@ fn one_byte_at_a_time(rt: HostRuntime) -> Result<(), Fail> {
     let longer = vec![in alloc; b'#'; 4097]?;
     let mut written = Vec::new(alloc);
     let end = run_script(
+        &rt,
         alloc,
         Drops {
             bytes: &longer,
@@ -130,6 +132,7 @@ fn failing_reader(rt: HostRuntime) {
     for len in 0..SCRIPT.len() {
         let mut written = Vec::new(alloc);
         let end = run_script(
+            &rt,
             alloc,
             Drops {
                 bytes: &SCRIPT[..len],
@@ -156,7 +159,7 @@ fn failing_writer(rt: HostRuntime) -> Result<(), Fail> {
                     calls,
                     takes_nothing,
                 };
-                let end = run_script(alloc, script, &mut writer);
+                let end = run_script(&rt, alloc, script, &mut writer);
                 assert_eq!(rt; end, ScriptEnd::Broken, "{len}");
                 assert_eq!(rt; writer.kept.as_slice(), &output[..len], "{len}");
             }
@@ -170,6 +173,7 @@ fn a_million_lines(rt: HostRuntime) {
     let alloc = rt.alloc();
     let mut written = Vec::new(alloc);
     let end = run_script(
+        &rt,
         alloc,
         Comments {
             left: 2 * MAX_LINES,
@@ -178,7 +182,7 @@ fn a_million_lines(rt: HostRuntime) {
     );
     assert_eq!(rt; end, ScriptEnd::Done);
     assert_eq!(rt; written.len(), 0);
-    let end = run_script(alloc, Comments { left: u64::MAX }, &mut written);
+    let end = run_script(&rt, alloc, Comments { left: u64::MAX }, &mut written);
     assert_eq!(rt;
         end,
         ScriptEnd::Refused {

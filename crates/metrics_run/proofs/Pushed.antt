@@ -1,0 +1,20 @@
+-- A value behind a list, once more.
+use Rattle.std.proofs.Common.{◌≡◌, ℕ, ◌+◌, List, [], ◌∷◌, ◌++◌, Result, Ok, Err, OnOk, replicate, ap, ◌∙◌, append_assoc}
+use Rattle.std.specs.Prelude.{if◌then◌else◌, is_ok, IsOk}
+use Rattle.std.proofs.lemmas.List.{replicate-append-replicate}
+
+module _ {E : Type 0} where
+  pub pushed_more : {X : Type 0} (r : Result Unit E) (xs pushed start : List X) (v : X) (k : ℕ) → IsOk r → pushed ≡ (if is_ok r then xs ++ v ∷ [] else xs)
+      → xs ≡ start ++ replicate k v → pushed ≡ start ++ replicate (k + 1) v
+  pushed_more (Ok e) xs pushed start v k ok is before =
+      is ∙ ap (λ l. l ++ v ∷ []) before ∙ append_assoc start (replicate k v) (v ∷ []) ∙ ap (λ l. start ++ l) (replicate-append-replicate k 1 v)
+  pushed_more (Err e) xs pushed start v k ok is before = absurd (cc (ok))
+
+  pub one_longer : (r : Result Unit E) (m n : ℕ) → IsOk r → n ≡ (if is_ok r then m + 1 else m) → n ≡ m + 1
+  one_longer (Ok e) m n ok is = is
+  one_longer (Err e) m n ok is = absurd (cc (ok))
+
+  -- what holds whatever the answer was
+  pub on_ok : {X : Type 0} {P : Type 0} (r : Result X E) → P → OnOk r P
+  on_ok (Ok x) p = p
+  on_ok (Err e) p = tt

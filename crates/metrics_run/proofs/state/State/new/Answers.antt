@@ -1,0 +1,10 @@
+use Rattle.std.proofs.Common.{◌≡◌, ℕ, [], refl, replicate, ap, ◌∙◌, rules}
+use Rattle.metrics_run.specs.Jobs.{lists_in}
+use Rattle.metrics_run.proofs.Crew.{none_left}
+use Rattle.metrics_run.proofs.state.State.new.Goals as goal
+
+pub returns-in-Ok-clause-fresh : goal.returns-in-Ok-clause-fresh
+returns-in-Ok-clause-fresh c =
+    let lists = c.in_ok-queue.ensures in
+    let empty : lists_in c.in_ok-queue.queue.items ≡ replicate 4 [] = none_left c.in_ok-queue.queue.items lists.none ∙ ap (λ (n : ℕ). replicate n []) lists.all in
+    record { board_is = refl; workers_are = refl; children = search rules; queue = empty }

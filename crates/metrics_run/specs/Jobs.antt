@@ -1,0 +1,37 @@
+-- The jobs that wait for `go`.
+use Rattle.std.specs.Prelude.{ℕ, List, map, replicate, ◌++◌, slice_index_or, slice_set, Option, Some, None, []}
+use Rattle.std.specs.declared.vec.Vec.{Vec}
+use Rattle.std.specs.declared.alloc.Global.{Global}
+use Rattle.registry_state.specs.declared.handle.Handle.{Handle}
+use Rattle.script_lines.specs.declared.line.Counting.{Counting}
+use Rattle.script_lines.specs.declared.line.Counting.TheVariants.{Inc, Obs, Up, Down}
+use Rattle.worker_pool.specs.declared.job.Job.{Job}
+use Rattle.worker_pool.specs.declared.job.JobOp.{JobOp}
+use Rattle.worker_pool.specs.declared.job.JobOp.TheVariants as job
+
+-- what counts `by` in a child of this handle, if its kind is that
+abbrev pub job_for : Counting → (by : ℕ) → Handle → Option JobOp
+job_for Inc by (Handle.Counter counter) = Some (job.Inc counter by)
+job_for Inc by (Handle.Histogram histogram) = None
+job_for Inc by (Handle.Gauge gauge) = None
+job_for Obs by (Handle.Counter counter) = None
+job_for Obs by (Handle.Histogram histogram) = Some (job.Observe histogram by)
+job_for Obs by (Handle.Gauge gauge) = None
+job_for Up by (Handle.Counter counter) = None
+job_for Up by (Handle.Histogram histogram) = None
+job_for Up by (Handle.Gauge gauge) = Some (job.Up gauge by)
+job_for Down by (Handle.Counter counter) = None
+job_for Down by (Handle.Histogram histogram) = None
+job_for Down by (Handle.Gauge gauge) = Some (job.Down gauge by)
+
+-- the jobs of a worker's list
+abbrev pub jobs_in : Vec Job Global → List Job
+jobs_in list = list.items
+
+-- the jobs of all workers
+abbrev pub lists_in : List (Vec Job Global) → List (List Job)
+lists_in lists = map jobs_in lists
+
+-- with this job behind the list of a worker, so many times
+abbrev pub with_jobs : (worker : ℕ) → Job → (times : ℕ) → List (List Job) → List (List Job)
+with_jobs worker job times lists = slice_set lists worker (slice_index_or lists worker [] ++ replicate times job)

@@ -1,0 +1,218 @@
+//! What the lines of a script do.
+ghost use Rattle.std.specs.Prelude.{◌≡◌, ◌<◌, ◌≤◌, ◌⊎◌, ℕ, List, [], ◌∷◌, map, length, All, IfErr, IfOk, OnErr, OnOk};
+ghost use Rattle.snapshot_scan.specs.Readers.{IsReaderOf};
+ghost use Rattle.snapshot_update.specs.Workers.{index_of, IsWorkerOf};
+ghost use Rattle.worker_pool.specs.Ends.{IsPoolFault};
+ghost use Rattle.registry_state.specs.Faults.{IsWindow};
+ghost use Rattle.script_lines.specs.Language.{AreValues};
+ghost use Rattle.metrics_run.specs.LineFault.{number_of};
+ghost use Rattle.metrics_run.specs.State.{IsReady, IsFresh, IsSame, IsNumbered, IsChildRefusal, IsRegisterRefusal, IsQueued, IsQueueRefusal, IsGone, IsGoRefusal, IsText, IsSettled};
+
+use crate::board::{Board, Crew, Registry, Snapshot};
+use crate::children::has_number;
+use crate::jobs::{add_times, drop_jobs, job_of};
+use crate::line_fault::LineFault;
+use crate::parts::read_values;
+use crate::refused::Refused;
+use crate::state::{Count, State};
+use chain_law::settle;
+use expo_text::render;
+use metric_desc::Desc;
+use metric_names::NoMemory;
+use registry_state::BadWindow;
+use std::alloc::Global;
+use std::mem;
+use std::sync::Wait;
+use std::thread::Threads;
+use worker_pool::{Job, Open, PoolFault, run_pool};
+
+/// How many scrapes a script's registry keeps at first.
+const WINDOW: usize = 64;
+
+/// How many workers there are.
+const WORKERS: usize = 4;
+
+/// The line and the fault by which a `go` is refused: the line of the job that was refused, or its own.
+fn told(line: u64, fault: PoolFault) -> Refused
+    ensures { IsGoRefusal line fault result }
+{
+    let line = match fault {
+        PoolFault::Refused { line, .. } => line,
+        _ => line,
+    };
+    Refused {
+        line,
+        fault: LineFault::Pool(fault),
+    }
+}
+
+/// An empty list of jobs for each worker.
+fn no_jobs(alloc: Global) -> Result<Vec<Vec<Job>>, NoMemory>
+    ensures all { IfOk result (λ v. length v.items ≡ 4) }
+    ensures none { IfOk result (λ v. All (λ list. list.items ≡ []) v.items) }
+{
+    let mut lists = Vec::with_capacity(alloc, WORKERS)?;
+    for _worker in 0..WORKERS {
+        lists.push(Vec::new(alloc))?;
+    }
+    Ok(lists)
+}
+
+impl<'a> State<'a> {
+    /// Nothing yet.
+    pub(crate) fn new(alloc: Global, board: &'a Board, crew: Crew) -> Result<State<'a>, NoMemory>
+        requires workers { All (IsWorkerOf board.now) crew.workers.items }
+        requires all { map index_of crew.workers.items ≡ 0 ∷ 1 ∷ 2 ∷ 3 ∷ [] }
+        requires readers { IsReaderOf board.now crew.scraper × IsReaderOf board.now crew.settler }
+        ensures ready { IfOk result IsReady }
+        ensures fresh { IfOk result (IsFresh board.now crew.workers.items) }
+    {
+        let Crew {
+            workers,
+            scraper,
+            settler,
+        } = crew;
+        let settled = Snapshot::new(alloc)?;
+        let queue = no_jobs(alloc)?;
+        match Registry::new(alloc, board, scraper, WINDOW) {
+            Ok(registry) => Ok(State {
+                alloc,
+                board,
+                registry,
+                workers,
+                settler,
+                settled,
+                children: Vec::new(alloc),
+                queue,
+            }),
+            Err(_) => Err(NoMemory),
+        }
+    }
+
+    /// Registers the family that a line says.
+    pub(crate) fn register(&self, rt: &impl Wait, desc: Desc) -> Result<(), LineFault>
+        ensures fault { IfErr result IsRegisterRefusal }
+    {
+        match self.registry.register(rt, desc) {
+            Ok(_) => Ok(()),
+            Err(fault) => Err(LineFault::Register(fault)),
+        }
+    }
+
+    /// Makes a child, or finds it. A new one gets the next number.
+    pub(crate) fn child(
+        &mut self,
+        rt: &impl Wait,
+        name: &str,
+        values: &str,
+    ) -> Result<(), LineFault>
+        requires { (words : List (List ℕ)) × AreValues values.now words }
+        ensures numbered { OnOk result (IsNumbered self.old self.new) }
+        ensures fault { IfErr result (IsChildRefusal values.now) }
+        ensures unchanged { OnErr result (IsSame self.old self.new) }
+    {
+        let values = match read_values(self.alloc, values) {
+            Ok(values) => values,
+            Err(fault) => return Err(fault),
+        };
+        let Some(family) = self.registry.family(rt, name) else {
+            return Err(LineFault::NoSuchFamily);
+        };
+        if self.children.reserve(1).is_err() {
+            return Err(LineFault::NoMemory);
+        }
+        let handle = match self.registry.child(rt, family, &values) {
+            Ok(handle) => handle,
+            Err(fault) => return Err(LineFault::Child(fault)),
+        };
+        if has_number(&self.children, &handle) {
+            return Ok(());
+        }
+        // The room was made above.
+        let _ = self.children.push(handle);
+        Ok(())
+    }
+
+    /// Queues what a line counts, as often as it says.
+    pub(crate) fn enqueue(&mut self, line: u64, count: Count) -> Result<(), LineFault>
+        requires worker { count.worker < 4 }
+        requires ready { IsReady self.old }
+        ensures ready { IsReady self.new }
+        ensures queued { OnOk result (IsQueued self.old line count self.new) }
+        ensures fault { IfErr result (IsQueueRefusal self.old count) }
+        ensures unchanged { OnErr result (IsSame self.old self.new) }
+    {
+        let Ok(number) = usize::try_from(count.child) else {
+            return Err(LineFault::NoSuchChild);
+        };
+        let Some(handle) = self.children.get(number) else {
+            return Err(LineFault::NoSuchChild);
+        };
+        let Some(what) = job_of(handle, count.what, count.by) else {
+            return Err(LineFault::NoSuchChild);
+        };
+        let job = Job { line, what };
+        match add_times(&mut self.queue[count.worker], &job, count.times) {
+            Ok(()) => Ok(()),
+            Err(NoMemory) => Err(LineFault::NoMemory),
+        }
+    }
+
+    /// Runs all jobs that wait, each worker's on a thread of its own, and drops them. `line` is that of the `go`.
+    pub(crate) fn go<R: Threads + Wait>(&mut self, rt: &R, line: u64) -> Result<(), Refused>
+        requires ready { IsReady self.old }
+        ensures ready { OnOk result (IsReady self.new) }
+        ensures gone { OnOk result (IsGone self.old self.new) }
+        ensures fault { IfErr result (λ refused. (fault : PoolFault) × IsGoRefusal line fault refused × IsPoolFault self.old.board.now self.old.queue.items self.old.workers.items fault) }
+    {
+        let workers = mem::replace(&mut self.workers, Vec::new(self.alloc));
+        match run_pool(rt, self.alloc, self.board, workers, &self.queue, &Open) {
+            Ok(workers) => {
+                self.workers = workers;
+                drop_jobs(&mut self.queue);
+                Ok(())
+            }
+            Err(fault) => Err(told(line, fault)),
+        }
+    }
+
+    /// Makes a scrape, and gives its text. The lock is free while the text is made.
+    pub(crate) fn scrape(&self, rt: &impl Wait) -> Result<Vec<u8>, LineFault>
+        ensures text { IfOk result (λ bytes. IsText bytes.items) }
+        ensures fault { IfErr result (λ fault. (number_of fault ≡ 6) ⊎ (number_of fault ≡ 14)) }
+    {
+        let scrape = self.registry.scrape(rt).map_err(LineFault::Scrape)?;
+        Ok(render(&scrape)?)
+    }
+
+    /// Looks how often each worker has counted, and keeps that in `settled`.
+    pub(crate) fn settle(&mut self)
+        requires ready { IsReady self.old }
+        ensures ready { IsReady self.new }
+        ensures settled { IsSettled self.old self.new }
+    {
+        let Ok(()) = settle(
+            self.board,
+            &mut self.settler,
+            &mut self.workers,
+            &mut self.settled,
+        ) else {
+            unreachable!()
+        };
+        // A look at the numbers tells the proof how many there are.
+        let _numbers = self.settled.vector();
+    }
+
+    /// Keeps so many scrapes from now on, and tells how many are kept.
+    pub(crate) fn set_window(&self, rt: &impl Wait, size: u64) -> Result<usize, LineFault>
+        ensures window { OnOk result (IsWindow size) }
+        ensures fault { IfErr result (λ fault. (number_of fault ≡ 31) × (¬ (IsWindow size))) }
+    {
+        let Ok(window) = usize::try_from(size) else {
+            return Err(LineFault::Window(BadWindow));
+        };
+        self.registry
+            .set_window(rt, window)
+            .map_err(LineFault::Window)
+    }
+}
