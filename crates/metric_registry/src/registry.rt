@@ -1,8 +1,9 @@
 //! The lock.
-ghost use Rattle.std.specs.Prelude.{OnErr, OnOk};
+ghost use Rattle.std.specs.Prelude.{◌≤◌, IfErr, IfOk, OnErr, OnOk};
 ghost use Rattle.registry_state.specs.Kept.{IsKept};
 ghost use Rattle.registry_state.specs.Faults.{IsWindow};
 ghost use Rattle.snapshot_scan.specs.Scanners.{recorded_in};
+ghost use Rattle.metric_registry.specs.Behind.{WasRegistered, WasNotRegistered, WasSought, WasGiven, WasNotGiven, WasScraped, WasNotScraped};
 
 use expo_text::Scrape;
 use metric_desc::Desc;
@@ -33,13 +34,23 @@ impl<'a, const N: usize, const C: usize, const H: usize, const G: usize> Registr
     ///
     /// 19 [`RegisterFault::Clash`] with the least family that has a sample's name in common; 23
     /// [`RegisterFault::TooManyFamilies`] where 128 are there; 6 [`RegisterFault::NoMemory`]. Nothing has changed then.
-    pub fn register<R: Wait>(&self, rt: &R, desc: Desc) -> Result<FamilyId, RegisterFault> {
-        self.state.lock(rt).register(desc)
+    pub fn register<R: Wait>(&self, rt: &R, desc: Desc) -> Result<FamilyId, RegisterFault>
+        ensures registered { IfOk result (WasRegistered N C H G desc) }
+        ensures fault { IfErr result (WasNotRegistered N C H G desc) }
+    {
+        let mut state = self.state.lock(rt);
+        // A look into the journal tells the proof what the lock keeps; so in the calls below.
+        let _ = state.journal();
+        state.register(desc)
     }
 
     /// The family of this name, if there is one: [`RegistryState::family`] behind the lock.
-    pub fn family<R: Wait>(&self, rt: &R, name: &str) -> Option<FamilyId> {
-        self.state.lock(rt).family(name)
+    pub fn family<R: Wait>(&self, rt: &R, name: &str) -> Option<FamilyId>
+        ensures { WasSought N C H G name.now result }
+    {
+        let state = self.state.lock(rt);
+        let _ = state.journal();
+        state.family(name)
     }
 
     /// The handle of the child of these label values, which is made where there is none: [`RegistryState::child`] behind the
@@ -54,8 +65,13 @@ impl<'a, const N: usize, const C: usize, const H: usize, const G: usize> Registr
         rt: &R,
         family: FamilyId,
         values: &[LabelValue],
-    ) -> Result<Handle, ChildFault> {
-        self.state.lock(rt).child(family, values)
+    ) -> Result<Handle, ChildFault>
+        ensures given { IfOk result (WasGiven N C H G family values.now) }
+        ensures fault { IfErr result (WasNotGiven N C H G family values.now) }
+    {
+        let mut state = self.state.lock(rt);
+        let _ = state.journal();
+        state.child(family, values)
     }
 
     /// Scans the board, keeps the answer, and gives all families with their numbers in it: [`RegistryState::scrape`] behind the
@@ -64,8 +80,13 @@ impl<'a, const N: usize, const C: usize, const H: usize, const G: usize> Registr
     /// # Errors
     ///
     /// 6 [`ScrapeFault::NoMemory`]: nothing was scanned. 14 [`ScrapeFault::Contended`]: the scan was given up. Nothing is kept then.
-    pub fn scrape<R: Wait>(&self, rt: &R) -> Result<Scrape, ScrapeFault> {
-        self.state.lock(rt).scrape()
+    pub fn scrape<R: Wait>(&self, rt: &R) -> Result<Scrape, ScrapeFault>
+        ensures scraped { IfOk result (WasScraped N C H G) }
+        ensures fault { IfErr result (WasNotScraped N C H G) }
+    {
+        let mut state = self.state.lock(rt);
+        let _ = state.journal();
+        state.scrape()
     }
 
     /// Keeps `window` scrapes from now on, and answers how many are kept: [`RegistryState::set_window`] behind the lock.
@@ -75,9 +96,13 @@ impl<'a, const N: usize, const C: usize, const H: usize, const G: usize> Registr
     /// 31 [`BadWindow`] unless `window` is 1 to 1,024. Nothing has changed then.
     pub fn set_window<R: Wait>(&self, rt: &R, window: usize) -> Result<usize, BadWindow>
         ensures window { OnOk result (IsWindow window) }
+        ensures few { IfOk result (λ kept. kept ≤ window) }
         ensures refused { OnErr result (¬ (IsWindow window)) }
     {
-        self.state.lock(rt).set_window(window)
+        let mut state = self.state.lock(rt);
+        let kept = state.set_window(window);
+        let _ = state.journal();
+        kept
     }
 
     /// What stood behind the lock.

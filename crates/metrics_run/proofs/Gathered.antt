@@ -2,6 +2,7 @@
 use Rattle.std.proofs.Common.{◌≡◌, ℕ, zero, suc, ◌<◌, List, [], ◌∷◌, length, map, refl, sym, ap, subst, ◌∙◌, arith}
 use mathlib.Core.Option.{some, some-injective, some-ne-none}
 use lib.ListN.{get_elem?}
+use Rattle.snapshot_scan.proofs.Words.{at_map}
 use Rattle.snapshot_scan.specs.Snapshots.{Taken}
 use Rattle.snapshot_update.specs.declared.worker.Worker.{Worker}
 use Rattle.snapshot_update.specs.Workers.{index_of, lists_of}
@@ -9,11 +10,6 @@ use Rattle.chain_law.specs.Settled.{HasIndex, IsSettled}
 
 abbrev four : List ℕ
 four = 0 ∷ 1 ∷ 2 ∷ 3 ∷ []
-
-of_map : {X Y : Type 0} (f : X → Y) (xs : List X) (p : ℕ) (x : X) → get_elem? xs p ≡ some x → get_elem? (map f xs) p ≡ some (f x)
-of_map f [] p x at = absurd (some-ne-none x (sym at))
-of_map f (y ∷ ys) zero x at = ap (λ z. some (f z)) (some-injective y x at)
-of_map f (y ∷ ys) (suc p) x at = of_map f ys p x at
 
 from_map : {X Y : Type 0} (f : X → Y) (xs : List X) (p : ℕ) (y : Y) → get_elem? (map f xs) p ≡ some y → (x : X) × (get_elem? xs p ≡ some x) × (f x ≡ y)
 from_map f [] p y at = absurd (some-ne-none y (sym at))
@@ -59,5 +55,5 @@ module _ {N C H G : ℕ} where
   -- the numbers of a settled snapshot, worker by worker
   pub settled_numbers : (ws : List (Worker N C H G)) (out : Taken) → map index_of ws ≡ four → length out.vector ≡ length ws → IsSettled ws out → out.vector ≡ map count_of ws
   settled_numbers ws out all long settled = in_order ws out.vector long (λ p w at.
-      let index : index_of w ≡ p = place_is p (index_of w) (subst (λ (l : List ℕ). get_elem? l p ≡ some (index_of w)) all (of_map index_of ws p w at)) in
+      let index : index_of w ≡ p = place_is p (index_of w) (subst (λ (l : List ℕ). get_elem? l p ≡ some (index_of w)) all (at_map index_of ws p w at)) in
       subst (λ (i : ℕ). get_elem? out.vector i ≡ some (count_of w)) index (settled.vector p w at))

@@ -14,7 +14,7 @@ module _ {E : Type 0} where
   one_longer (Ok e) m n ok is = is
   one_longer (Err e) m n ok is = absurd (cc (ok))
 
-  -- what holds whatever the answer was
-  pub on_ok : {X : Type 0} {P : Type 0} (r : Result X E) → P → OnOk r P
-  on_ok (Ok x) p = p
-  on_ok (Err e) p = tt
+  -- what follows, where the answer was Ok, from what holds then
+  pub on_ok_from : {X : Type 0} {P Q : Type 0} (r : Result X E) → (Q → P) → OnOk r Q → OnOk r P
+  on_ok_from (Ok x) f q = f q
+  on_ok_from (Err e) f q = tt

@@ -2,18 +2,22 @@
 use Rattle.std.specs.Prelude.{◌≡◌, ◌≢◌, ◌⊎◌, ℕ, List, [], ◌∷◌, ◌++◌, map, length, replicate, slice_get, option_and_then, Option, Some, None, All}
 use Rattle.expo_text.specs.Scraped.{Scraped}
 use Rattle.expo_text.specs.Text.{text}
+use Rattle.metric_desc.specs.Desc.{Descriptor}
+use Rattle.metric_registry.specs.Behind.{WasRegistered, WasNotRegistered, WasSought, WasGiven, WasNotGiven, WasScraped, WasNotScraped}
 use Rattle.register_rule.specs.declared.board.Board.{Board}
 use Rattle.snapshot_scan.specs.Readers.{IsReaderOf}
 use Rattle.snapshot_update.specs.declared.worker.Worker.{Worker}
 use Rattle.snapshot_update.specs.Workers.{index_of, lists_of, IsWorkerOf}
 use Rattle.registry_state.specs.declared.fault.RegisterFault.{RegisterFault}
 use Rattle.registry_state.specs.declared.fault.ChildFault.{ChildFault}
+use Rattle.registry_state.specs.declared.fault.ScrapeFault.{ScrapeFault}
+use Rattle.registry_state.specs.declared.handle.FamilyId.{FamilyId}
 use Rattle.registry_state.specs.declared.handle.Handle.{Handle}
 use Rattle.worker_pool.specs.declared.fault.PoolFault.{PoolFault}
 use Rattle.worker_pool.specs.declared.fault.PoolFault.TheVariants as pool
 use Rattle.worker_pool.specs.declared.job.JobOp.{JobOp}
 use Rattle.worker_pool.specs.Ends.{DidAll}
-use Rattle.metrics_run.specs.Parts.{AreValuesRefused}
+use Rattle.metrics_run.specs.Parts.{AreRead, AreValuesRefused}
 use Rattle.metrics_run.specs.Children.{HasOne}
 use Rattle.metrics_run.specs.Jobs.{job_for, lists_in, with_jobs}
 use Rattle.metrics_run.specs.declared.line_fault.LineFault.{LineFault}
@@ -36,32 +40,58 @@ pub record IsFresh (board : Board 4 64 8 16) (workers : List (Worker 4 64 8 16))
   pub children : state.children.items ≡ []
   pub queue : lists_in state.queue.items ≡ replicate 4 []
 
--- nothing has changed
+-- nothing has changed but what stands behind the lock
 pub record IsSame (old new : State) : Type 0 where
   pub board : new.board.now ≡ old.board.now
+  pub registry : new.registry ≡ old.registry
   pub workers : new.workers.items ≡ old.workers.items
   pub settler : new.settler ≡ old.settler
   pub children : new.children.items ≡ old.children.items
   pub queue : lists_in new.queue.items ≡ lists_in old.queue.items
 
--- why a family is not registered
-abbrev pub IsRegisterRefusal : LineFault → Type 0
-IsRegisterRefusal refusal = (wrong : RegisterFault) × (refusal ≡ fault.Register wrong)
+-- the registry has taken a family of this descriptor
+abbrev pub IsRegistered : Descriptor → Type 0
+IsRegistered desc = (family : FamilyId) × WasRegistered 4 64 8 16 desc family
 
--- a child that has a number was found, or one that had none gets the next
-pub record IsNumbered (old new : State) : Type 0 where
+-- why a family is not registered
+abbrev pub IsRegisterRefusal : Descriptor → LineFault → Type 0
+IsRegisterRefusal desc refusal = (wrong : RegisterFault) × (refusal ≡ fault.Register wrong) × WasNotRegistered 4 64 8 16 desc wrong
+
+-- the registry has a family of this name, whose child of these values, as they are written, has this handle
+pub record IsFound (name values : List ℕ) (handle : Handle) : Type 0 where
+  pub family : FamilyId
+  pub sought : WasSought 4 64 8 16 name (Some family)
+  pub read : List (List ℕ)
+  pub are_read : AreRead values read
+  pub given : WasGiven 4 64 8 16 family read handle
+
+-- the child that the registry gave has a number, or had none and gets the next
+pub record IsNumbered (name values : List ℕ) (old new : State) : Type 0 where
   pub handle : Handle
+  pub found : IsFound name values handle
   pub numbered : (HasOne old.children.items handle × (new.children.items ≡ old.children.items))
       ⊎ ((¬ (HasOne old.children.items handle)) × (new.children.items ≡ old.children.items ++ handle ∷ []))
   pub board : new.board.now ≡ old.board.now
+  pub registry : new.registry ≡ old.registry
   pub workers : new.workers.items ≡ old.workers.items
   pub settler : new.settler ≡ old.settler
   pub queue : lists_in new.queue.items ≡ lists_in old.queue.items
 
--- why there is no child: the values are refused, or there is no family of that name, or there was no room, or the family refuses them
-abbrev pub IsChildRefusal : (values : List ℕ) → LineFault → Type 0
-IsChildRefusal values refusal =
-    AreValuesRefused values refusal ⊎ (refusal ≡ fault.NoSuchFamily) ⊎ ((wrong : ChildFault) × (refusal ≡ fault.Child wrong))
+-- the registry has a family of this name, which has no child of these values, as they are written
+pub record IsNotFound (name values : List ℕ) (wrong : ChildFault) : Type 0 where
+  pub family : FamilyId
+  pub sought : WasSought 4 64 8 16 name (Some family)
+  pub read : List (List ℕ)
+  pub are_read : AreRead values read
+  pub refused : WasNotGiven 4 64 8 16 family read wrong
+
+-- why there is no child: the values are refused, or there was no room; or they are good, and there is no family of that name, or it
+-- refuses them
+abbrev pub IsChildRefusal : (name values : List ℕ) → LineFault → Type 0
+IsChildRefusal name values refusal =
+    AreValuesRefused values refusal
+    ⊎ ((refusal ≡ fault.NoSuchFamily) × ((read : List (List ℕ)) × AreRead values read) × WasSought 4 64 8 16 name None)
+    ⊎ ((wrong : ChildFault) × (refusal ≡ fault.Child wrong) × IsNotFound name values wrong)
 
 -- what a line counts, if there is such a child
 abbrev pub job_in : List Handle → Count → Option JobOp
@@ -73,6 +103,7 @@ pub record IsQueued (old : State) (line : ℕ) (count : Count) (new : State) : T
   pub counts : job_in old.children.items count ≡ Some what
   pub queue : lists_in new.queue.items ≡ with_jobs count.worker (record { line = line; what = what }) count.times (lists_in old.queue.items)
   pub board : new.board.now ≡ old.board.now
+  pub registry : new.registry ≡ old.registry
   pub workers : new.workers.items ≡ old.workers.items
   pub settler : new.settler ≡ old.settler
   pub children : new.children.items ≡ old.children.items
@@ -87,6 +118,7 @@ pub record IsGone (old new : State) : Type 0 where
   pub did : DidAll old.board.now old.queue.items old.workers.items new.workers.items
   pub emptied : lists_in new.queue.items ≡ replicate 4 []
   pub board : new.board.now ≡ old.board.now
+  pub registry : new.registry ≡ old.registry
   pub settler : new.settler ≡ old.settler
   pub children : new.children.items ≡ old.children.items
 
@@ -101,9 +133,14 @@ told_at line pool.NoMemory = line
 abbrev pub IsGoRefusal : (line : ℕ) → PoolFault → Refused → Type 0
 IsGoRefusal line wrong refused = refused ≡ record { line = told_at line wrong; fault = fault.Pool wrong }
 
--- it is the text of a scrape
+-- it is the text of a scrape that the registry made
 abbrev pub IsText : List ℕ → Type 0
-IsText bytes = (scrape : Scraped) × (bytes ≡ text scrape)
+IsText bytes = (scrape : Scraped) × WasScraped 4 64 8 16 scrape × (bytes ≡ text scrape)
+
+-- why there is no text: the registry made no scrape, or there was no room for it
+abbrev pub IsScrapeRefusal : LineFault → Type 0
+IsScrapeRefusal refusal =
+    ((wrong : ScrapeFault) × (refusal ≡ fault.Scrape wrong) × WasNotScraped 4 64 8 16 wrong) ⊎ (refusal ≡ fault.NoMemory)
 
 -- how often each worker has published was found, worker by worker
 pub record IsSettled (old new : State) : Type 0 where
@@ -111,5 +148,6 @@ pub record IsSettled (old new : State) : Type 0 where
   pub index : map index_of new.workers.items ≡ map index_of old.workers.items
   pub lists : map lists_of new.workers.items ≡ map lists_of old.workers.items
   pub board : new.board.now ≡ old.board.now
+  pub registry : new.registry ≡ old.registry
   pub children : new.children.items ≡ old.children.items
   pub queue : lists_in new.queue.items ≡ lists_in old.queue.items

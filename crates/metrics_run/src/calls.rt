@@ -6,7 +6,7 @@ ghost use Rattle.worker_pool.specs.Ends.{IsPoolFault};
 ghost use Rattle.registry_state.specs.Faults.{IsWindow};
 ghost use Rattle.script_lines.specs.Language.{AreValues};
 ghost use Rattle.metrics_run.specs.LineFault.{number_of};
-ghost use Rattle.metrics_run.specs.State.{IsReady, IsFresh, IsSame, IsNumbered, IsChildRefusal, IsRegisterRefusal, IsQueued, IsQueueRefusal, IsGone, IsGoRefusal, IsText, IsSettled};
+ghost use Rattle.metrics_run.specs.State.{IsReady, IsFresh, IsSame, IsRegistered, IsRegisterRefusal, IsNumbered, IsChildRefusal, IsQueued, IsQueueRefusal, IsGone, IsGoRefusal, IsText, IsScrapeRefusal, IsSettled};
 
 use crate::board::{Board, Crew, Registry, Snapshot};
 use crate::children::has_number;
@@ -91,7 +91,8 @@ impl<'a> State<'a> {
 
     /// Registers the family that a line says.
     pub(crate) fn register(&self, rt: &impl Wait, desc: Desc) -> Result<(), LineFault>
-        ensures fault { IfErr result IsRegisterRefusal }
+        ensures registered { OnOk result (IsRegistered desc) }
+        ensures fault { IfErr result (IsRegisterRefusal desc) }
     {
         match self.registry.register(rt, desc) {
             Ok(_) => Ok(()),
@@ -107,8 +108,8 @@ impl<'a> State<'a> {
         values: &str,
     ) -> Result<(), LineFault>
         requires { (words : List (List ℕ)) × AreValues values.now words }
-        ensures numbered { OnOk result (IsNumbered self.old self.new) }
-        ensures fault { IfErr result (IsChildRefusal values.now) }
+        ensures numbered { OnOk result (IsNumbered name.now values.now self.old self.new) }
+        ensures fault { IfErr result (IsChildRefusal name.now values.now) }
         ensures unchanged { OnErr result (IsSame self.old self.new) }
     {
         let values = match read_values(self.alloc, values) {
@@ -179,9 +180,12 @@ impl<'a> State<'a> {
     /// Makes a scrape, and gives its text. The lock is free while the text is made.
     pub(crate) fn scrape(&self, rt: &impl Wait) -> Result<Vec<u8>, LineFault>
         ensures text { IfOk result (λ bytes. IsText bytes.items) }
-        ensures fault { IfErr result (λ fault. (number_of fault ≡ 6) ⊎ (number_of fault ≡ 14)) }
+        ensures fault { IfErr result IsScrapeRefusal }
     {
-        let scrape = self.registry.scrape(rt).map_err(LineFault::Scrape)?;
+        let scrape = match self.registry.scrape(rt) {
+            Ok(scrape) => scrape,
+            Err(fault) => return Err(LineFault::Scrape(fault)),
+        };
         Ok(render(&scrape)?)
     }
 
@@ -206,6 +210,7 @@ impl<'a> State<'a> {
     /// Keeps so many scrapes from now on, and tells how many are kept.
     pub(crate) fn set_window(&self, rt: &impl Wait, size: u64) -> Result<usize, LineFault>
         ensures window { OnOk result (IsWindow size) }
+        ensures few { IfOk result (λ kept. kept ≤ size) }
         ensures fault { IfErr result (λ fault. (number_of fault ≡ 31) × (¬ (IsWindow size))) }
     {
         let Ok(window) = usize::try_from(size) else {

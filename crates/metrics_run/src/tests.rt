@@ -1,3 +1,4 @@
+mod at_once;
 mod scripts;
 mod steps;
 mod streams;

@@ -25,6 +25,7 @@ returns-in-Ok-add_times-clause-queued c =
       queue = map-set jobs_in queue place new
           ∙ ap (slice_set (lists_in queue) place) (c.in-Ok-add_times.ensures.added ∙ ap (λ (l : List Job). l ++ replicate c.args.count.times job) was);
       board = refl;
+      registry = refl;
       workers = refl;
       settler = refl;
       children = refl;
@@ -42,6 +43,7 @@ returns-in-Err-clause-unchanged c =
     let list = c.index_mut.result.now in
     record {
       board = refl;
+      registry = refl;
       workers = refl;
       settler = refl;
       children = refl;

@@ -33,6 +33,7 @@ returns-in-Ok-clause-gone g c =
       did = subst (λ queue. DidAll self.board.now queue self.workers.items c.in-Ok.workers.items) c.deref.ensures.value did;
       emptied = ap lists_in (with_items_is self.queue c.drop_jobs.new.lists (c.drop_jobs.ensures.all ∙ c.deref_mut.ensures.len)) ∙ empty;
       board = refl;
+      registry = refl;
       settler = refl;
       children = refl;
     }

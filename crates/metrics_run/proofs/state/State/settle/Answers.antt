@@ -26,6 +26,7 @@ returns-clause-settled c =
       index = ap (map index_of) items ∙ index ∙ ap (map index_of) value;
       lists = ap (map lists_of) items ∙ lists ∙ ap (map lists_of) value;
       board = refl;
+      registry = refl;
       children = refl;
       queue = refl;
     }
