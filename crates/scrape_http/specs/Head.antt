@@ -1,0 +1,35 @@
+-- What the head of a request asks for (RFC 9112, sections 3 and 3.2; RFC 9110, section 9).
+use Rattle.std.specs.Prelude.{ℕ, ◌==◌, nat_lt, Bool, ◌||◌, ◌&&◌, not, List, count_by, codes, if◌then◌else◌, Option, Some, None, bytes_eq}
+use Rattle.std.specs.Str.{str_eq_ignore_ascii_case}
+use Rattle.httparse.specs.Grammar.{RequestHead, Field}
+use Rattle.scrape_http.specs.declared.status.Status.{Status}
+use Rattle.scrape_http.specs.declared.status.Status.TheVariants.{BadRequest, NotFound, MethodNotAllowed}
+use Rattle.scrape_http.specs.declared.request.Asked.{Asked}
+use Rattle.scrape_http.specs.Target.{path_of}
+
+-- the name of a Host field, in any case
+abbrev pub is_host : List ℕ → Bool
+is_host name = str_eq_ignore_ascii_case name (codes "Host")
+
+-- how many Host fields there are
+abbrev pub hosts : RequestHead → ℕ
+hosts head = count_by (λ (field : Field). is_host field.name) head.fields
+
+-- a method by which metrics are read; methods have a case
+abbrev pub is_get_or_head : List ℕ → Bool
+is_get_or_head method = bytes_eq method (codes "GET") || bytes_eq method (codes "HEAD")
+
+-- why a request is refused, if it is, by the first of these: several Host fields, or none in HTTP/1.1; another path; another method
+abbrev pub refusal_by : (hosts minor : ℕ) → (target method : List ℕ) → Option Status
+refusal_by hosts minor target method =
+    if nat_lt 1 hosts || (minor == 1 && hosts == 0) then Some BadRequest
+    else (if not (bytes_eq (path_of target) (codes "/metrics")) then Some NotFound
+    else (if not (is_get_or_head method) then Some MethodNotAllowed
+    else None))
+
+-- what a whole head asks for: a scrape, where it is not refused; and that the body is sent, unless it is a HEAD
+abbrev pub asked_of : RequestHead → Asked
+asked_of head = record {
+  refusal = refusal_by (hosts head) head.minor head.target head.method;
+  body = not (bytes_eq head.method (codes "HEAD"));
+}

@@ -1,0 +1,74 @@
+-- The bytes of replies (RFC 9112, sections 4 and 9.6; RFC 9110, sections 8.3, 8.6 and 10.2.1; the exposition format's page).
+use Rattle.std.specs.Prelude.{◌≡◌, ℕ, ◌<◌, Bool, true, List, [], ◌++◌, length, codes, decimal, if◌then◌else◌, Option, Some, None, Result, Ok, Err}
+use Rattle.httparse.specs.Ascii.{crlf_bytes}
+use Rattle.expo_text.specs.Scraped.{Scraped}
+use Rattle.expo_text.specs.Text.{text}
+use Rattle.scrape_http.specs.declared.source.NoScrape.{NoScrape}
+use Rattle.scrape_http.specs.declared.status.Status.{Status}
+use Rattle.scrape_http.specs.declared.status.Status.TheVariants.{Success, MethodNotAllowed, Unavailable}
+use Rattle.scrape_http.specs.declared.request.Asked.{Asked}
+use Rattle.scrape_http.specs.Status.{code_of, phrase_of}
+use Rattle.scrape_http.specs.Asks.{Asks}
+
+-- a reply: its status, and all its bytes
+pub record Reply : Type 0 where
+  pub status : Status
+  pub bytes : List ℕ
+
+-- a line, with its end
+abbrev pub line : List ℕ → List ℕ
+line words = words ++ crlf_bytes
+
+abbrev pub status_line : Status → List ℕ
+status_line status = line (codes "HTTP/1.1 " ++ decimal (code_of status) ++ codes " " ++ phrase_of status)
+
+-- the methods that there are, after one that is not
+abbrev pub allow_line : Status → List ℕ
+allow_line MethodNotAllowed = line (codes "Allow: GET, HEAD")
+allow_line _ = []
+
+-- the type of the body
+abbrev pub type_of : Status → List ℕ
+type_of Success = codes "text/plain; version=0.0.4; charset=utf-8"
+type_of _ = codes "text/plain; charset=utf-8"
+
+-- the head of a reply whose body has so many bytes
+abbrev pub head_of : Status → (len : ℕ) → List ℕ
+head_of status len =
+    status_line status
+    ++ allow_line status
+    ++ line (codes "Content-Type: " ++ type_of status)
+    ++ line (codes "Content-Length: " ++ decimal len)
+    ++ line (codes "Connection: close")
+    ++ line []
+
+-- a head with the length of the body, and the body where it is sent
+abbrev pub reply_of : Status → (body : List ℕ) → (sent : Bool) → Reply
+reply_of status body sent = record { status = status; bytes = head_of status (length body) ++ (if sent then body else []) }
+
+-- the body of a refusal is its phrase and a line feed
+abbrev pub refused : Status → (sent : Bool) → Reply
+refused status sent = reply_of status (phrase_of status ++ codes "\n") sent
+
+-- what a source answered: a scrape, or why there is none
+abbrev pub Outcome : Type 0
+Outcome = Result Scraped NoScrape
+
+-- the text of a scrape; where there is none, the service is unavailable
+abbrev pub scraped : Outcome → (sent : Bool) → Reply
+scraped (Ok scrape) sent = reply_of Success (text scrape) sent
+scraped (Err _) sent = refused Unavailable sent
+
+-- The reply to what is asked for: a refusal, for which no source is asked, or else what the source answered.
+abbrev pub Replies : (refusal : Option Status) → (sent : Bool) → Option Outcome → Reply → Type 0
+Replies (Some status) sent None reply = reply ≡ refused status sent
+Replies (Some status) sent (Some outcome) reply = ⊥
+Replies None sent None reply = ⊥
+Replies None sent (Some outcome) reply = reply ≡ scraped outcome sent
+
+-- The reply to the bytes of a connection, of which no more come where they have ended, and to what the source answered, where it
+-- was asked: none to no byte, and else the reply to what the bytes ask for.
+abbrev pub IsReply : List ℕ → (ended : Bool) → Option Outcome → Option Reply → Type 0
+IsReply bytes ended outcome None = (bytes ≡ []) × (ended ≡ true) × (outcome ≡ None)
+IsReply bytes ended outcome (Some reply) =
+    (0 < length bytes) × (asked : Asked) × Asks bytes ended asked × Replies asked.refusal asked.body outcome reply

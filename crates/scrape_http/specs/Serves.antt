@@ -1,0 +1,88 @@
+-- What serving one request does to the ends of a connection and to the source.
+use Rattle.std.specs.Prelude.{◌≡◌, ℕ, ◌-◌, ◌<◌, ◌≤◌, Bool, true, false, List, [], ◌++◌, length, take, Option, Some, None, Result, Ok, Err}
+use Rattle.std.specs.Io.KnownBytes.{Consumes, Appends, Keeps, IsAtEnd}
+use Rattle.scrape_http.specs.declared.fault.WireFault.{WireFault}
+use Rattle.scrape_http.specs.declared.fault.WireFault.TheVariants.{ReadFailed, WriteFailed, EndBeforeHead}
+use Rattle.scrape_http.specs.declared.request.Asked.{Asked}
+use Rattle.scrape_http.specs.declared.serve.Served.{Served}
+use Rattle.scrape_http.specs.Asks.{Asks, IsOpen}
+use Rattle.scrape_http.specs.Reply.{Reply, Outcome, IsReply}
+
+-- the numbers of the refusals
+abbrev pub number_of : WireFault → ℕ
+number_of ReadFailed = 24
+number_of (WriteFailed sent) = 25
+number_of EndBeforeHead = 26
+
+abbrev pub is_read_failed : {A : Type 0} → Result A WireFault → Bool
+is_read_failed (Ok _) = false
+is_read_failed (Err ReadFailed) = true
+is_read_failed (Err (WriteFailed sent)) = false
+is_read_failed (Err EndBeforeHead) = false
+
+abbrev pub is_write_failed : {A : Type 0} → Result A WireFault → Bool
+is_write_failed (Ok _) = false
+is_write_failed (Err ReadFailed) = false
+is_write_failed (Err (WriteFailed sent)) = true
+is_write_failed (Err EndBeforeHead) = false
+
+-- the bytes that a reader has left, or that a writer holds, where those are known
+abbrev pub Known : Type 0
+Known = Option (List ℕ)
+
+-- what was read before the last read, if anything was, said nothing yet
+abbrev pub NoneBefore : (bytes : List ℕ) → (latest : ℕ) → Type 0
+NoneBefore bytes latest = latest < length bytes → IsOpen (take (length bytes - latest) bytes)
+
+-- The bytes that a reader gave, at most 8,192, ask for this, and would, whatever came after them; no read was made once they did.
+pub record IsHeard (input input_then : Known) (ended : Bool) (latest : ℕ) (asked : Asked) : Type 0 where
+  pub bytes : List ℕ
+  pub consumed : Consumes input input_then bytes
+  pub some : 0 < length bytes
+  pub few : length bytes ≤ 8192
+  pub end : ended ≡ true → IsAtEnd input_then
+  pub needed : NoneBefore bytes latest
+  pub asks : (more : List ℕ) → (ended ≡ true → more ≡ []) → Asks (bytes ++ more) ended asked
+
+-- what reading a request came to
+abbrev pub Hears : (input input_then : Known) → (ended : Bool) → (latest : ℕ) → Result Asked WireFault → Type 0
+Hears input input_then ended latest (Ok asked) = IsHeard input input_then ended latest asked
+Hears input input_then ended latest (Err EndBeforeHead) = (ended ≡ true) × Consumes input input_then [] × IsAtEnd input_then
+Hears input input_then ended latest (Err ReadFailed) = Unit {0}
+Hears input input_then ended latest (Err (WriteFailed sent)) = ⊥
+
+-- the source answered, where it was asked, and is as it was, where it was not
+abbrev pub Answers : {S : Type 0} → (S → S → Outcome → Type 0) → S → S → Option Outcome → Type 0
+Answers gave source source_then None = source_then ≡ source
+Answers gave source source_then (Some outcome) = gave source source_then outcome
+
+-- What the writer took: after Ok all bytes of the reply, and the answer tells its status and how many they are; after 25 so many of
+-- its first bytes as the fault tells; and where there is no reply, nothing, and the answer is 26.
+abbrev pub Sends : (output output_then : Known) → Option Reply → Result Served WireFault → Type 0
+Sends output output_then (Some reply) (Ok served) =
+    (served.status ≡ reply.status) × (served.sent ≡ length reply.bytes) × Appends output output_then reply.bytes
+Sends output output_then (Some reply) (Err (WriteFailed sent)) =
+    (sent ≤ length reply.bytes) × Appends output output_then (take sent reply.bytes)
+Sends output output_then None (Err EndBeforeHead) = Keeps output output_then
+Sends output output_then _ _ = ⊥
+
+-- What is written is the reply to the bytes that were read, at most 8,192, and to what the source answered. It would be the same,
+-- whatever came after them, and no read was made once it was known.
+pub record IsServed
+    {S : Type 0} (gave : S → S → Outcome → Type 0) (source source_then : S)
+    (input input_then output output_then : Known) (ended : Bool) (latest : ℕ) (result : Result Served WireFault) : Type 0 where
+  pub bytes : List ℕ
+  pub consumed : Consumes input input_then bytes
+  pub few : length bytes ≤ 8192
+  pub end : ended ≡ true → IsAtEnd input_then
+  pub needed : NoneBefore bytes latest
+  pub outcome : Option Outcome
+  pub answers : Answers gave source source_then outcome
+  pub reply : Option Reply
+  pub is_reply : (more : List ℕ) → (ended ≡ true → more ≡ []) → IsReply (bytes ++ more) ended outcome reply
+  pub sends : Sends output output_then reply result
+
+-- where a read failed, nothing is written, and the source is not asked
+pub record IsUnserved {S : Type 0} (source source_then : S) (output output_then : Known) : Type 0 where
+  pub writer : Keeps output output_then
+  pub same : source_then ≡ source

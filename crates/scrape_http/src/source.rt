@@ -1,0 +1,29 @@
+//! Where a server gets its scrapes.
+ghost use Rattle.std.specs.Prelude.{Result};
+ghost use Rattle.expo_text.specs.Scraped.{Scraped};
+ghost use Rattle.scrape_http.specs.declared.source.NoScrape.{NoScrape};
+
+use expo_text::Scrape;
+
+/// Why a source has no scrape to give.
+#[derive(Clone, Copy, Debug, PartialEq, Eq)]
+pub enum NoScrape {
+    /// The scan was given up: some worker's number rose in each try, and nobody lent its view.
+    Contended,
+    /// A growth was refused.
+    NoMemory,
+}
+
+/// Where a server gets its scrapes. Each source names, for contracts alone, what one scrape does to it (`gave`).
+pub trait ScrapeFrom {
+    // What a scrape says of the source before it, the source after it, and its answer.
+    ghost gave: { Self → Self → Result Scraped NoScrape → Type 0 };
+
+    /// Makes a scrape.
+    ///
+    /// # Errors
+    ///
+    /// [`NoScrape`], which a server answers with 503.
+    fn scrape(&mut self) -> Result<Scrape, NoScrape>
+        ensures { gave self.old self.new result };
+}

@@ -1,0 +1,4 @@
+mod ends;
+mod failing;
+mod heads;
+mod replies;
