@@ -65,11 +65,11 @@ fn two_count<const N: usize, const C: usize, const H: usize, const G: usize>(
 
 /// Four workers.
 #[derive(Drop)]
-struct Four<const N: usize, const C: usize, const H: usize, const G: usize> {
-    a: Worker<N, C, H, G>,
-    b: Worker<N, C, H, G>,
-    c: Worker<N, C, H, G>,
-    d: Worker<N, C, H, G>,
+pub struct Four<const N: usize, const C: usize, const H: usize, const G: usize> {
+    pub a: Worker<N, C, H, G>,
+    pub b: Worker<N, C, H, G>,
+    pub c: Worker<N, C, H, G>,
+    pub d: Worker<N, C, H, G>,
 }
 
 /// Four workers count at once. It gives how often the first two and the last two have then published.
@@ -99,6 +99,21 @@ fn four_count<const N: usize, const C: usize, const H: usize, const G: usize>(
     Ok((left?, right?))
 }
 
+/// Four workers count at once. It gives the nanoseconds until all have ended.
+pub fn timed_count<const N: usize, const C: usize, const H: usize, const G: usize>(
+    rt: &(impl Threads + Clock + Sync),
+    board: &Board<N, C, H, G>,
+    four: Four<N, C, H, G>,
+    rounds: u64,
+) -> Result<u64, Fault>
+    requires left { IsWorkerOf board.now four.a × IsWorkerOf board.now four.b }
+    requires right { IsWorkerOf board.now four.c × IsWorkerOf board.now four.d }
+{
+    let start = Instant::now(rt)?;
+    let _published = four_count(rt, board, four, rounds)?;
+    nanos_since(rt, start)
+}
+
 /// The last of these workers.
 fn last<const N: usize, const C: usize, const H: usize, const G: usize>(
     board: &Board<N, C, H, G>,
@@ -119,7 +134,7 @@ fn last<const N: usize, const C: usize, const H: usize, const G: usize>(
 }
 
 /// The last four of these workers.
-fn last_four<const N: usize, const C: usize, const H: usize, const G: usize>(
+pub fn last_four<const N: usize, const C: usize, const H: usize, const G: usize>(
     board: &Board<N, C, H, G>,
     mut workers: Vec<Worker<N, C, H, G>>,
 ) -> Four<N, C, H, G>
@@ -208,9 +223,8 @@ pub fn measure<const N: usize, const C: usize, const H: usize, const G: usize>(
     let four = last_four(board, workers);
     let rounds = plan.one_in(100);
     let floor = four_plain(rt, N, rounds)?;
-    let start = Instant::now(rt)?;
-    let _published = four_count(rt, board, four, rounds)?;
+    let taken = timed_count(rt, board, four, rounds)?;
     let mut measured = Measured::new(rounds);
-    measured.note(nanos_since(rt, start)?, floor);
+    measured.note(taken, floor);
     line::<N, C, H, G>(rt, plan, "busy_4", measured)
 }

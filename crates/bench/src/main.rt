@@ -12,6 +12,7 @@
 //! arguments; 1 where something failed.
 #![tactic(auto)]
 
+mod beside;
 mod busy;
 mod clock;
 mod counts;
@@ -19,6 +20,7 @@ mod fault;
 mod filling;
 mod floors;
 mod geometry;
+mod locked;
 mod makings;
 mod measured;
 mod numbers;
@@ -44,6 +46,7 @@ use service::Service;
 use std::env;
 use std::process::ExitCode;
 use std::rt::Env;
+use std::sync::Wait;
 use std::thread::Threads;
 use std::time::Clock;
 
@@ -87,9 +90,9 @@ fn measure_registries(rt: &(impl Clock + Print + AllocGlobal), plan: Plan) -> Re
     makings::measure(rt, plan)
 }
 
-/// Measures three geometries, the texts of two scrapes, and registries.
+/// Measures three geometries, the texts of two scrapes, registries, and a registry behind its lock.
 fn measure_all(
-    rt: &(impl Threads + Clock + Print + AllocGlobal + Sync),
+    rt: &(impl Threads + Wait + Clock + Print + AllocGlobal + Sync),
     plan: Plan,
 ) -> Result<(), Fault> {
     measure::<4, 64, 8, 0>(rt, plan)?;
@@ -98,6 +101,7 @@ fn measure_all(
     texts::measure(rt, plan, SMALL)?;
     texts::measure(rt, plan, LARGE)?;
     measure_registries(rt, plan)?;
+    locked::measure::<4, 64, 8>(rt, plan, SMALL)?;
     if !plan.shown {
         println!(rt; "measured 3 geometries, 2 texts and 2 registries")?;
     }

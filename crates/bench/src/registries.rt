@@ -20,7 +20,7 @@ use std::alloc::Global;
 use std::time::Clock;
 
 /// How many scrapes a registry keeps.
-const WINDOW: usize = 64;
+pub const WINDOW: usize = 64;
 
 /// A registry of a service, which keeps as many scrapes as its window is.
 fn full<
@@ -66,7 +66,7 @@ fn plain<const C: usize, const H: usize>(
 }
 
 /// A board with its workers and a reader, in which all of a service was counted by a worker.
-fn counted<const N: usize, const C: usize, const H: usize>(
+pub fn counted<const N: usize, const C: usize, const H: usize>(
     rt: &(impl Clock + AllocGlobal),
     service: Service,
 ) -> Result<Crew<N, C, H, 0>, Fault>

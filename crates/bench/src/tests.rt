@@ -1,7 +1,10 @@
+use crate::beside::Beside;
+use crate::locked::{full, scrapes_beside};
 use crate::numbers::number;
 use crate::plan::Plan;
 use crate::print::{Tenths, in_tenths};
 use crate::service::{Service, scrape_of};
+use crate::setup::{Crew, new_crew};
 use crate::text_floors::plain_of;
 use expo_text::render;
 use std::alloc::Global;
@@ -101,5 +104,25 @@ fn formats_a_number_for_each_line(rt: HostRuntime) -> Result<(), Fail> {
     };
     assert_eq!(rt; lines_of(rt.alloc(), small)?, 9 * 2 + 64 + 8 * 13);
     assert_eq!(rt; lines_of(rt.alloc(), large)?, 36 * 2 + 256 + 32 * 27);
+    Ok(())
+}
+
+/// The journal has an entry of each of 9 families and 72 children, and of each of 64 kept scrapes. No call beside a scrape adds
+/// any.
+#[test]
+fn scrapes_beside_each_call(rt: HostRuntime) -> Result<(), Fail> {
+    let service = Service {
+        counters: 8,
+        histograms: 1,
+        bounds: 10,
+    };
+    let Crew { board, reader, .. } = new_crew::<4, 64, 8, 0>(rt.alloc())?;
+    let registry = full(&rt, &board, reader, service)?;
+    for beside in [Beside::Scrape, Beside::Child, Beside::Clash] {
+        scrapes_beside(&rt, &registry, service, beside, 100)?;
+    }
+    let state = registry.into_state();
+    assert_eq!(rt; state.journal().len(), 9 + 72 + 64);
+    assert_eq!(rt; state.kept().len(), 64);
     Ok(())
 }
