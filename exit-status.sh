@@ -1,6 +1,6 @@
 #!/bin/sh
 # Runs the built program $1 and compares its exit status and what it writes: 0 at a script's end, 1 after a refused line, 2 for
-# other arguments, 3 where standard input or standard output fails.
+# other arguments, 3 where standard input or standard output fails. Where there is no room for threads, a go is refused by 30.
 set -eu
 work=$(mktemp -d)
 trap 'rm -rf "$work"' EXIT
@@ -28,6 +28,8 @@ expect "1 refused 5 19 " "$program" script <"$work/refused"
 expect "$usage" "$program" <"$work/script"
 expect "$usage" "$program" scripts <"$work/script"
 expect "$usage" "$program" script script <"$work/script"
+# With 6 MB of addresses there is no room for the threads' stacks.
+expect "1 refused 4 30 " sh -c 'ulimit -v 6000 && exec "$0" script' "$program" <"$work/script"
 expect "3  fault" "$program" script </
 expect "3  fault" sh -c '"$0" script >/dev/full' "$program" <"$work/script"
 echo "exit statuses 0, 1, 2 and 3: as expected"

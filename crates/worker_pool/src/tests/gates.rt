@@ -87,10 +87,11 @@ impl Gate for Meeting {
     }
 }
 
-/// A gate that is shut for the workers from this place on. It counts what it is told.
+/// A gate that is shut for the workers from this place on. It counts how often it is asked in vain, and what it is told.
 #[derive(Drop)]
 pub(super) struct ShutFrom {
     place: usize,
+    asked: AtomicU64,
     told: AtomicU64,
 }
 
@@ -98,8 +99,14 @@ impl ShutFrom {
     pub(super) fn new(place: usize) -> ShutFrom {
         ShutFrom {
             place,
+            asked: AtomicU64::new(0),
             told: AtomicU64::new(0),
         }
+    }
+
+    /// How often it was asked in vain.
+    pub(super) fn asked(&self) -> u64 {
+        self.asked.load(Ordering::SeqCst)
     }
 
     /// How many jobs it was told of.
@@ -110,7 +117,11 @@ impl ShutFrom {
 
 impl Gate for ShutFrom {
     fn open(&self, worker: usize) -> bool {
-        worker < self.place
+        if worker < self.place {
+            return true;
+        }
+        self.asked.fetch_add(1, Ordering::SeqCst);
+        false
     }
 
     fn done(&self, _worker: usize) {
@@ -145,6 +156,35 @@ impl EachSecond {
 impl Gate for EachSecond {
     fn open(&self, _worker: usize) -> bool {
         self.asked.fetch_add(1, Ordering::SeqCst) % 2 == 1
+    }
+
+    fn done(&self, _worker: usize) {
+        self.told.fetch_add(1, Ordering::SeqCst);
+    }
+}
+
+/// A gate that shuts for good when it is told of a job.
+#[derive(Drop)]
+pub(super) struct ShutsBehind {
+    told: AtomicU64,
+}
+
+impl ShutsBehind {
+    pub(super) fn new() -> ShutsBehind {
+        ShutsBehind {
+            told: AtomicU64::new(0),
+        }
+    }
+
+    /// How many jobs it was told of.
+    pub(super) fn told(&self) -> u64 {
+        self.told.load(Ordering::SeqCst)
+    }
+}
+
+impl Gate for ShutsBehind {
+    fn open(&self, _worker: usize) -> bool {
+        self.told() == 0
     }
 
     fn done(&self, _worker: usize) {

@@ -1,6 +1,6 @@
 //! Jobs that are refused, and gates that stay shut.
 use super::crew::{Crew, ID, finds, inc, is_refused, new_crew, runs};
-use super::gates::ShutFrom;
+use super::gates::{ShutFrom, ShutsBehind};
 use crate::{Job, JobOp, Open, PoolFault};
 use ledger_core::Counter;
 use std::alloc::Global;
@@ -158,6 +158,7 @@ fn a_shut_gate_lets_no_job_through(rt: HostRuntime) -> Result<(), Fail> {
     let found = runs(&rt, alloc, &board, workers, &jobs, &gate);
     is_refused(&rt, found, PoolFault::GateShut { worker: 2 })?;
     assert_eq!(rt; gate.told(), 3);
+    assert_eq!(rt; gate.asked(), 20_000_000);
     finds(&rt, &board, &mut reader, &mut out, &[0, 0, 1, 2]);
     assert_eq!(rt; out.counter(0), 12);
     Ok(())
@@ -188,6 +189,25 @@ fn a_refused_job_is_told_before_a_shut_gate(rt: HostRuntime) -> Result<(), Fail>
     )?;
     assert_eq!(rt; gate.told(), 1);
     finds(&rt, &board, &mut reader, &mut out, &[0, 1]);
+    assert_eq!(rt; out.counter(0), 5);
+    Ok(())
+}
+
+#[test]
+fn a_gate_shuts_behind_a_job(rt: HostRuntime) -> Result<(), Fail> {
+    let alloc = rt.alloc();
+    let Crew {
+        board,
+        workers,
+        mut reader,
+        mut out,
+    } = new_crew::<1, 1, 0, 0>(alloc)?;
+    let jobs = [vec![in alloc; inc(1, 0, 5), inc(2, 0, 7)]?];
+    let gate = ShutsBehind::new();
+    let found = runs(&rt, alloc, &board, workers, &jobs, &gate);
+    is_refused(&rt, found, PoolFault::GateShut { worker: 0 })?;
+    assert_eq!(rt; gate.told(), 1);
+    finds(&rt, &board, &mut reader, &mut out, &[1]);
     assert_eq!(rt; out.counter(0), 5);
     Ok(())
 }
