@@ -108,7 +108,13 @@ fn refusals_are_handed_on(rt: HostRuntime) -> Result<(), Fail> {
     let Pair { board, reader, .. } = make_pair(alloc)?;
     let registry = registry(alloc, &board, reader)?;
     let handed = handles(&rt, alloc, &registry)?;
+    for _ in 0..3 {
+        let _scrape = registry.scrape(&rt)?;
+    }
     refuses(&rt, alloc, &registry)?;
+    // The window is what it was, and so are the kept scrapes.
+    let _scrape = registry.scrape(&rt)?;
+    assert_eq!(rt; registry.set_window(&rt, 64), Ok(4));
     let again = registry.family(&rt, "c").ok_or("no family")?;
     assert_eq!(rt; registry.child(&rt, again, &[])?, Handle::Counter(handed.0));
     assert_eq!(rt;
@@ -119,7 +125,7 @@ fn refusals_are_handed_on(rt: HostRuntime) -> Result<(), Fail> {
         }
     );
     let state = registry.into_state();
-    assert_eq!(rt; (state.kept().len(), state.journal().len()), (0, 7));
+    assert_eq!(rt; (state.kept().len(), state.journal().len()), (4, 11));
     Ok(())
 }
 

@@ -4,7 +4,7 @@ ghost use Rattle.snapshot_update.specs.Workers.{IsWorkerOf};
 
 use super::crew::{ID, Pair, desc, make_pair};
 use crate::Registry;
-use expo_text::{Number, Scrape};
+use expo_text::{Number, Scrape, render};
 use ledger_core::Counter;
 use metric_desc::{Desc, Kind};
 use register_rule::Board;
@@ -17,6 +17,10 @@ use std::sync::Wait;
 use std::test::Fail;
 use std::thread::{Threads, join};
 use thiserror::Error;
+
+/// The text of all families, when both workers have counted 500 times on each counter.
+const ALL: &[u8] =
+    b"# TYPE a counter\na 1000\n# TYPE b counter\nb 1000\n# TYPE c counter\nc 1000\n# TYPE d counter\nd 1000\n";
 
 /// A registry of a board of two workers.
 type Two<'a> = Registry<'a, 2, 4, 1, 1>;
@@ -287,8 +291,12 @@ fn registry_hands_on(rt: HostRuntime) -> Result<(), Fail> {
         second,
         reader,
     } = make_pair(alloc)?;
-    let registry = Registry::new(alloc, &board, reader, 64).map_err(|not_made| not_made.fault)?;
-    let (one, other) = all_at_once(&rt, alloc, &board, &registry, first, second)?;
+    let registry = Registry::new(alloc, &board, reader, 65).map_err(|not_made| not_made.fault)?;
+    let (mut one, other) = all_at_once(&rt, alloc, &board, &registry, first, second)?;
+    // The last scrape is the first thread's, and shows all families with all that was counted.
+    let last = registry.scrape(&rt)?;
+    assert_eq!(rt; render(&last)?.as_slice(), ALL);
+    one.scrapes.push(last)?;
     let mut state = registry.into_state();
     all_stand(&rt, alloc, &mut state, one.counted.as_slice())?;
     all_stand(&rt, alloc, &mut state, other.counted.as_slice())?;
