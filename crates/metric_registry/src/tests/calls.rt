@@ -167,3 +167,16 @@ fn a_window_that_is_none(rt: HostRuntime) -> Result<(), Fail> {
     assert_eq!(rt; one.into_state().kept().len(), 1);
     Ok(())
 }
+
+/// A window of any size is the window that was asked for: 1,000 scrapes are not the most.
+#[test]
+fn a_window_of_1024(rt: HostRuntime) -> Result<(), Fail> {
+    let alloc = rt.alloc();
+    let Pair { board, reader, .. } = make_pair(alloc)?;
+    let registry = Two::new(alloc, &board, reader, 1_024).map_err(|not_made| not_made.fault)?;
+    for _ in 0..1_001 {
+        let _scrape = registry.scrape(&rt)?;
+    }
+    assert_eq!(rt; registry.into_state().kept().len(), 1_001);
+    Ok(())
+}

@@ -138,3 +138,13 @@ fn one_after_the_other(rt: HostRuntime) -> Result<(), Fail> {
     assert_eq!(rt; source.asked, 3);
     Ok(())
 }
+
+/// No read is made once the input has ended: the next one would fail.
+#[test]
+fn no_read_behind_the_end(rt: HostRuntime) -> Result<(), Fail> {
+    let seen = see(rt.alloc(), b"GET /", ALL, 2, Gives::Counter)?;
+    served(&rt, &seen, Status::BadRequest, BAD);
+    let seen = see(rt.alloc(), b"", ALL, 1, Gives::Counter)?;
+    assert_eq!(rt; seen.answer, Err(WireFault::EndBeforeHead));
+    Ok(())
+}

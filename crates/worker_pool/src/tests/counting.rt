@@ -1,6 +1,6 @@
 //! What workers have counted when a pool hands them back.
 use super::crew::{Crew, ID, counter, finds, gauge, new_crew, runs};
-use super::gates::EachSecond;
+use super::gates::OpensEach;
 use crate::{Job, JobOp, Open};
 use bucket_math::Bounds;
 use ledger_core::Histogram;
@@ -197,7 +197,7 @@ fn a_gate_is_asked_until_it_opens(rt: HostRuntime) -> Result<(), Fail> {
         mut out,
     } = new_crew::<2, 1, 0, 0>(alloc)?;
     let _second = workers.pop();
-    let gate = EachSecond::new();
+    let gate = OpensEach::new(2);
     let jobs = [increments(alloc, 3)?];
     let workers = runs(&rt, alloc, &board, workers, &jobs, &gate)?;
     assert_eq!(rt; workers.len(), 1);

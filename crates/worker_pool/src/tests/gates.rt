@@ -129,16 +129,18 @@ impl Gate for ShutFrom {
     }
 }
 
-/// A gate that opens for a worker's next job at each second asking.
+/// A gate that opens for a worker's next job at the last of each so many askings.
 #[derive(Drop)]
-pub(super) struct EachSecond {
+pub(super) struct OpensEach {
+    turns: u64,
     asked: AtomicU64,
     told: AtomicU64,
 }
 
-impl EachSecond {
-    pub(super) fn new() -> EachSecond {
-        EachSecond {
+impl OpensEach {
+    pub(super) fn new(turns: u64) -> OpensEach {
+        OpensEach {
+            turns,
             asked: AtomicU64::new(0),
             told: AtomicU64::new(0),
         }
@@ -153,9 +155,10 @@ impl EachSecond {
     }
 }
 
-impl Gate for EachSecond {
+impl Gate for OpensEach {
     fn open(&self, _worker: usize) -> bool {
-        self.asked.fetch_add(1, Ordering::SeqCst) % 2 == 1
+        let asked = self.asked.fetch_add(1, Ordering::SeqCst);
+        asked.checked_rem(self.turns) == Some(self.turns.wrapping_sub(1))
     }
 
     fn done(&self, _worker: usize) {
@@ -189,5 +192,68 @@ impl Gate for ShutsBehind {
 
     fn done(&self, _worker: usize) {
         self.told.fetch_add(1, Ordering::SeqCst);
+    }
+}
+
+/// How often a worker asked, and how many jobs it told of.
+#[derive(Drop)]
+struct Count {
+    asked: AtomicU64,
+    told: AtomicU64,
+}
+
+impl Count {
+    fn new() -> Count {
+        Count {
+            asked: AtomicU64::new(0),
+            told: AtomicU64::new(0),
+        }
+    }
+
+    fn found(&self) -> (u64, u64) {
+        (
+            self.asked.load(Ordering::SeqCst),
+            self.told.load(Ordering::SeqCst),
+        )
+    }
+}
+
+/// An open gate, which counts for the worker at the place 0 and for the others apart.
+#[derive(Drop)]
+pub(super) struct Tally {
+    first: Count,
+    others: Count,
+}
+
+impl Tally {
+    pub(super) fn new() -> Tally {
+        Tally {
+            first: Count::new(),
+            others: Count::new(),
+        }
+    }
+
+    fn of(&self, worker: usize) -> &Count {
+        if worker == 0 {
+            &self.first
+        } else {
+            &self.others
+        }
+    }
+
+    /// How often the first worker and the others asked, and how many jobs they told of.
+    pub(super) fn found(&self) -> ((u64, u64), (u64, u64)) {
+        (self.first.found(), self.others.found())
+    }
+}
+
+impl Gate for Tally {
+    fn open(&self, worker: usize) -> bool {
+        self.of(worker).asked.fetch_add(1, Ordering::SeqCst);
+        true
+    }
+
+    fn done(&self, worker: usize) {
+        self.of(worker).told.fetch_add(1, Ordering::SeqCst);
     }
 }
