@@ -1,7 +1,5 @@
-pub mod Sent
+pub mod Words
 pub mod Reading
-pub mod Four
 pub mod Settled
 pub mod Pushed
 pub mod Crew
-pub mod Gathered

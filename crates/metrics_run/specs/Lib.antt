@@ -6,3 +6,4 @@ pub mod Jobs
 pub mod Children
 pub mod State
 pub mod Done
+pub mod Arguments

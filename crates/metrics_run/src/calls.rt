@@ -8,7 +8,6 @@ ghost use Rattle.script_lines.specs.Language.{AreValues};
 ghost use Rattle.metrics_run.specs.LineFault.{number_of};
 ghost use Rattle.metrics_run.specs.State.{IsReady, IsFresh, IsSame, IsRegistered, IsRegisterRefusal, IsNumbered, IsChildRefusal, IsQueued, IsQueueRefusal, IsGone, IsGoRefusal, IsText, IsScrapeRefusal, IsSettled};
 
-use crate::board::{Board, Crew, Registry, Snapshot};
 use crate::children::has_number;
 use crate::jobs::{add_times, drop_jobs, job_of};
 use crate::line_fault::LineFault;
@@ -19,6 +18,7 @@ use chain_law::settle;
 use expo_text::render;
 use metric_desc::Desc;
 use metric_names::NoMemory;
+use program_parts::{Board, Crew, Registry, Snapshot};
 use registry_state::BadWindow;
 use std::alloc::Global;
 use std::mem;

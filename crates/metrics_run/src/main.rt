@@ -1,10 +1,11 @@
-//! The program: `metrics_run script` reads script lines from standard input, counts, and prints scrapes.
+//! The program: `metrics_run script` reads script lines from standard input, counts, and prints scrapes; `metrics_run serve PORT
+//! COUNT` answers so many connections on 127.0.0.1, with its own metrics.
 //!
-//! Exit status 0 at the script's end; 1 after a refused line; 2 for other arguments; 3 where standard input or
-//! standard output failed.
+//! Exit status 0 at the end; 1 after a refused line, or without memory for a server; 2 for other arguments; 3 where standard input,
+//! standard output or a socket failed.
 #![tactic(auto)]
 
-mod board;
+mod arguments;
 mod calls;
 mod children;
 mod jobs;
@@ -12,12 +13,18 @@ mod line_fault;
 mod parts;
 mod refused;
 mod script;
-mod send;
 mod state;
 
+use arguments::{Asked, read_serve};
+use metrics_serve::{ServeEnd, serve_on};
 use script::{ScriptEnd, run_script};
+use std::alloc::Global;
+use std::io::Write;
+use std::net::{Ipv4Addr, Net, TcpListener, TcpStream};
 use std::process::ExitCode;
 use std::rt::Env;
+use std::sync::Wait;
+use std::thread::Threads;
 use std::{env, io};
 
 #[cfg(test)]
@@ -25,29 +32,57 @@ mod tests;
 
 const USAGE: &str = "usage: metrics_run script | metrics_run serve PORT COUNT";
 
-/// Whether the words are the program's name and `script`.
-fn is_script(mut words: env::Args) -> bool {
+/// What the words ask for, if they do: the program's name, and then those of a script or of a server.
+fn read_asked(mut words: env::Args) -> Option<Asked> {
     let _program = words.next();
-    let is_script = words.next().is_some_and(|word| word.as_str() == "script");
-    is_script && words.next().is_none()
+    let asked = match words.next()?.as_str() {
+        "script" => Asked::Script,
+        "serve" => {
+            let (port, count) = (words.next()?, words.next()?);
+            let (port, count) = read_serve(port.as_str(), count.as_str())?;
+            Asked::Serve { port, count }
+        }
+        _ => return None,
+    };
+    if words.next().is_some() {
+        return None;
+    }
+    Some(asked)
 }
 
-/// Whether the arguments are the one word `script`.
-fn asks_script(rt: &(impl Env + AllocGlobal)) -> bool {
-    match env::args(rt) {
-        Ok(words) => is_script(words),
-        Err(_) => false,
+/// What the arguments ask for, if they do.
+fn asked(rt: &(impl Env + AllocGlobal)) -> Option<Asked> {
+    read_asked(env::args(rt).ok()?)
+}
+
+/// Listens at a port of 127.0.0.1, and serves.
+fn serve<T, W: Write>(rt: &T, alloc: Global, port: u16, count: u64, writer: &mut W) -> ServeEnd
+where
+    T: Net<Listener = TcpListener, Stream = TcpStream> + Threads + Wait + Sync,
+{
+    match TcpListener::bind(rt, (Ipv4Addr::LOCALHOST, port)) {
+        Ok(listener) => serve_on(rt, alloc, listener, count, writer),
+        Err(_) => ServeEnd::Broken,
     }
 }
 
 fn main(rt: HostRuntime) -> ExitCode {
-    if !asks_script(&rt) {
-        let _ = eprintln!(rt; "{USAGE}");
-        return ExitCode::from(2);
-    }
-    let end = run_script(&rt, rt.alloc(), rt.reader(), io::writer(&rt));
-    if end == ScriptEnd::Broken {
+    let (is_broken, status) = match asked(&rt) {
+        Some(Asked::Script) => {
+            let end = run_script(&rt, rt.alloc(), rt.reader(), io::writer(&rt));
+            (end == ScriptEnd::Broken, end.status())
+        }
+        Some(Asked::Serve { port, count }) => {
+            let end = serve(&rt, rt.alloc(), port, count, &mut io::writer(&rt));
+            (end == ServeEnd::Broken, end.status())
+        }
+        None => {
+            let _ = eprintln!(rt; "{USAGE}");
+            return ExitCode::from(2);
+        }
+    };
+    if is_broken {
         let _ = eprintln!(rt; "fault");
     }
-    ExitCode::from(end.status())
+    ExitCode::from(status)
 }

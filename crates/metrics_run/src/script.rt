@@ -11,13 +11,12 @@ ghost use Rattle.snapshot_update.specs.Workers.{index_of, IsWorkerOf};
 ghost use Rattle.metrics_run.specs.State.{IsReady};
 ghost use Rattle.metrics_run.specs.Done.{IsDone, IsStepped};
 
-use crate::board::{Board, Crew, new_board};
 use crate::line_fault::LineFault;
 use crate::parts::{Parts, counter_of, gauge_of, histogram_of};
 use crate::refused::Refused;
-use crate::send::{Broken, send};
 use crate::state::{Count, State};
 use metric_names::NoMemory;
+use program_parts::{Board, Broken, Crew, new_board, send};
 use script_lines::{Line, Lines, Next, read_line};
 use std::alloc::Global;
 use std::io::{Read, Write};

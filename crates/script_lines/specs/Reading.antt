@@ -1,4 +1,4 @@
--- How a line is read, from its front to its end. What a line is stands in Language; private functions alone cite this.
+-- How a line is read, from its front to its end. What a line is stands in Language; of the public functions read_number alone cites this.
 use Rattle.std.specs.Prelude.{ℕ, ◌^◌, Bool, true, false, not, ◌&&◌, ◌||◌, ◌==◌, nat_lt, nat_le, is_some, bytes_eq, if◌then◌else◌, List, [], ◌∷◌, length, slice_index, codes, decimal, Option, Some, None, option_map, option_and_then}
 use Rattle.std.specs.Option.{option_map_or}
 use Rattle.std.specs.List.{slice_split, list_all}

@@ -12,6 +12,7 @@ mod writing;
 pub use line::{Counting, Line, MOST_TIMES, WORKERS, read_line};
 pub use lines::{Broken, Lines, MAX_LINE_BYTES, Next};
 pub use list::{bounds_of, labels_of, values_of};
+pub use number::read_number;
 pub use writing::unescape;
 
 #[cfg(test)]

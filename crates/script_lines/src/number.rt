@@ -4,7 +4,7 @@ ghost use Rattle.script_lines.specs.Reading.{number_of};
 use itoa::Buffer;
 
 /// Reads a number: decimal digits without a leading zero but `0` itself, at most the greatest `u64`.
-pub(crate) fn read_number(text: &str) -> Option<u64>
+pub fn read_number(text: &str) -> Option<u64>
     ensures { result ≡ number_of text.now }
 {
     let Ok(number) = text.parse::<u64>() else {

@@ -3,13 +3,13 @@ ghost use Rattle.std.specs.Prelude.{◌≡◌, length, All, IfOk};
 ghost use Rattle.snapshot_scan.specs.Readers.{IsReaderOf};
 ghost use Rattle.snapshot_update.specs.Workers.{IsWorkerOf};
 
-use crate::board::{Board, Crew, Reader, Registry, Snapshot, Worker, new_board};
 use crate::jobs::add_times;
 use chain_law::{NotAll, settle};
 use expo_text::{Number, Scrape};
 use ledger_core::Counter;
 use metric_desc::Desc;
 use metric_names::{HelpText, MetricName};
+use program_parts::{Board, Crew, Reader, Registry, Snapshot, Worker, new_board};
 use registry_state::{Handle, ScrapeFault};
 use std::alloc::Global;
 use std::process::Abort;

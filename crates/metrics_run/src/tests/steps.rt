@@ -1,5 +1,6 @@
 //! What stands between lines: what waits, what is kept, and texts of more bytes than a line has.
-use crate::is_script;
+use crate::arguments::Asked;
+use crate::read_asked;
 use crate::script::{ScriptEnd, run_script};
 use std::alloc::Global;
 use std::process::Abort;
@@ -90,26 +91,44 @@ fn carriage_returns(rt: HostRuntime) {
     }
 }
 
-/// The arguments of the program: its name, and one word.
+/// The arguments of the program: its name, and `script` or `serve` with a port and a count.
 #[test]
 fn arguments(rt: HostRuntime) -> Result<(), Fail> {
     let alloc = rt.alloc();
-    let lists: [(&[&str], bool); 8] = [
-        (&["metrics_run", "script"], true),
-        (&["script", "script"], true),
-        (&[], false),
-        (&["metrics_run"], false),
-        (&["script"], false),
-        (&["metrics_run", "Script"], false),
-        (&["metrics_run", "serve", "0", "1"], false),
-        (&["metrics_run", "script", ""], false),
+    let lists: [(&[&str], Option<Asked>); 18] = [
+        (&["metrics_run", "script"], Some(Asked::Script)),
+        (&["script", "script"], Some(Asked::Script)),
+        (&[], None),
+        (&["metrics_run"], None),
+        (&["script"], None),
+        (&["metrics_run", "Script"], None),
+        (&["metrics_run", "script", ""], None),
+        (&["metrics_run", "serve", "0", "1"], serve(0, 1)),
+        (
+            &["metrics_run", "serve", "65535", "1000000"],
+            serve(65_535, 1_000_000),
+        ),
+        (&["metrics_run", "serve", "65536", "1"], None),
+        (&["metrics_run", "serve", "0", "0"], None),
+        (&["metrics_run", "serve", "0", "1000001"], None),
+        (&["metrics_run", "serve", "00", "1"], None),
+        (&["metrics_run", "serve", "0", "+1"], None),
+        (&["metrics_run", "serve", "-1", "1"], None),
+        (&["metrics_run", "serve", "0"], None),
+        (&["metrics_run", "serve"], None),
+        (&["metrics_run", "serve", "0", "1", "1"], None),
     ];
     for (words, expected) in lists {
         let mut all = Vec::new(alloc);
         for word in words {
             all.push(String::from_str(alloc, word)?)?;
         }
-        assert_eq!(rt; is_script(all.into_iter()), expected, "{words:?}");
+        assert_eq!(rt; read_asked(all.into_iter()), expected, "{words:?}");
     }
     Ok(())
+}
+
+/// A server at this port, of so many connections.
+fn serve(port: u16, count: u64) -> Option<Asked> {
+    Some(Asked::Serve { port, count })
 }

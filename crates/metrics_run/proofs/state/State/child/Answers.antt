@@ -1,4 +1,4 @@
-use Rattle.std.proofs.Common.{◌≡◌, List, ℕ, refl, inr, sym, subst, rules}
+use Rattle.std.proofs.Common.{List, ℕ, refl, inr, subst, rules}
 use Rattle.metric_registry.specs.Behind.{WasGiven, WasNotGiven}
 use Rattle.metrics_run.proofs.state.State.child.Goals as goal
 

@@ -1,0 +1,81 @@
+-- Replies that a worker has counted.
+use Rattle.std.proofs.Common.{◌≡◌, ℕ, Option, List, [], ◌∷◌, ◌++◌, All, Result, Ok, Err, OnOk, OnErr, map, refl, sym, ap, ap₂, ◌∙◌, append-nil, append_assoc, arith}
+use Rattle.std.proofs.KnownBytes.{Appends-trans}
+use Rattle.std.proofs.lemmas.List.{map-append}
+use Rattle.std.specs.Io.KnownBytes.{Appends}
+use Rattle.program_parts.specs.declared.sending.Broken.{Broken}
+use Rattle.std.proofs.lemmas.List.Elements.{All-nil, All-cons}
+use Rattle.ledger_core.specs.declared.op.Op.{Op}
+use Rattle.register_rule.specs.declared.board.Board.{Board}
+use Rattle.register_rule.specs.declared.view.Member.{Member}
+use Rattle.scrape_http.specs.declared.serve.Served.{Served}
+use Rattle.snapshot_update.specs.declared.faults.ApplyFault.{ApplyFault}
+use Rattle.snapshot_update.specs.declared.worker.Worker.{Worker}
+use Rattle.snapshot_update.specs.Workers.{index_of, lists_of, member_of, ops_in, IsWorkerOf}
+use Rattle.metrics_serve.specs.declared.metrics.Metrics.{Metrics}
+use Rattle.metrics_serve.specs.declared.threads.Four.{Four}
+use Rattle.metrics_serve.specs.Counted.{CountsOne, AreFour, AreNew, AreReplies, HasCounted, HaveCounted, IsNew, all_of, list_for}
+use Rattle.metrics_serve.specs.Printed.{Prints, listening_line, served_line}
+use Rattle.metrics_serve.specs.declared.serve.ServeEnd.TheVariants.{Done}
+
+module _ (b : Board 4 64 8 16) (m : Metrics) where
+  -- no reply yet
+  pub none_yet : (w : Worker 4 64 8 16) → IsWorkerOf b w → HasCounted b m w w
+  none_yet w own = record { own = own; index = refl; replies = []; lists = sym (append-nil (lists_of w)) }
+
+  -- none at all
+  pub none_counted : (w : Worker 4 64 8 16) → IsWorkerOf b w → CountsOne b m w w
+  none_counted w own = record {
+    counted = record { own = own; index = refl; replies = []; lists = sym (append-nil (lists_of w)) };
+    once = omega arith;
+  }
+
+  -- a reply was counted, or the worker refused it and is as it was
+  pub applied : (w v : Worker 4 64 8 16) (served : Served) (ops : List Op) (r : Result Unit ApplyFault) → IsWorkerOf b v → index_of v ≡ index_of w
+      → ops ≡ list_for m served → OnOk r (lists_of v ≡ lists_of w ++ ops ∷ []) → OnErr r (member_of v ≡ member_of w) → CountsOne b m w v
+  applied w v served ops (Ok done) own index is lists same = record {
+    counted = record { own = own; index = index; replies = served ∷ []; lists = lists ∙ ap (λ (o : List Op). lists_of w ++ o ∷ []) is };
+    once = omega arith;
+  }
+  applied w v served ops (Err fault) own index is lists same = record {
+    counted = record {
+      own = own;
+      index = index;
+      replies = [];
+      lists = ap (λ (x : Member). map ops_in x.work.made) same ∙ sym (append-nil (lists_of w));
+    };
+    once = omega arith;
+  }
+
+  -- some replies, and then some more
+  pub counted_more : (w v u : Worker 4 64 8 16) → HasCounted b m w v → HasCounted b m v u → HasCounted b m w u
+  counted_more w v u first second =
+      let more : map (list_for m) (first.replies ++ second.replies) ≡ map (list_for m) first.replies ++ map (list_for m) second.replies = map-append (list_for m) first.replies second.replies in
+      record {
+        own = second.own;
+        index = second.index ∙ first.index;
+        replies = first.replies ++ second.replies;
+        lists = second.lists ∙ ap (λ (l : List (List Op)). l ++ map (list_for m) second.replies) first.lists
+            ∙ append_assoc (lists_of w) (map (list_for m) first.replies) (map (list_for m) second.replies)
+            ∙ ap (λ (l : List (List Op)). lists_of w ++ l) (sym more);
+      }
+
+  -- the four workers are there again, in their order
+  pub back_again : (was four : Four) → AreNew b was → HaveCounted b m was four → AreFour b four
+  back_again was four new counted =
+      let P = IsWorkerOf b in
+      let index : (i : ℕ) (w v : Worker 4 64 8 16) → IsNew b i w → HasCounted b m w v → index_of v ≡ i = λ i w v is has. has.index ∙ is.index_is in
+      record {
+        own = All-cons P four.a (four.b ∷ four.c ∷ four.d ∷ []) counted.0.own (All-cons P four.b (four.c ∷ four.d ∷ []) counted.1.own
+            (All-cons P four.c (four.d ∷ []) counted.2.own (All-cons P four.d [] counted.3.own (All-nil P))));
+        index = ap₂ (λ (i : ℕ) (is : List ℕ). i ∷ is) (index 0 was.a four.a new.0 counted.0)
+            (ap₂ (λ (i : ℕ) (is : List ℕ). i ∷ is) (index 1 was.b four.b new.1 counted.1)
+            (ap₂ (λ (i : ℕ) (is : List ℕ). i ∷ is) (index 2 was.c four.c new.2 counted.2)
+            (ap (λ (i : ℕ). i ∷ []) (index 3 was.d four.d new.3 counted.3))));
+      }
+
+-- the port, and then the replies
+pub printed : (a b c : Option (List ℕ)) (port replies : ℕ) (r : Result Unit Broken) → AreReplies replies → Appends a b (listening_line port)
+    → OnOk r (Appends b c (served_line replies)) → OnOk r (Prints a c Done)
+printed a b c port replies (Ok done) are before after = (port, replies, are, Appends-trans a b c (listening_line port) (served_line replies) before after)
+printed a b c port replies (Err broken) are before after = tt

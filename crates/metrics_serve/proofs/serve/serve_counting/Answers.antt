@@ -1,0 +1,19 @@
+use Rattle.metrics_serve.proofs.Counting.{back_again}
+use Rattle.metrics_serve.proofs.serve.serve_counting.Goals as goal
+
+pub settle_four-requires-clause-four : goal.settle_four-requires-clause-four
+settle_four-requires-clause-four g c =
+    back_again c.args.board.now c.args.service.metrics c.args.workers c.in-Some.four c.requires.new c.in-Some.ensures
+
+pub returns : goal.returns
+returns g c = record {
+  board = c.args.board.now;
+  metrics = c.args.service.metrics;
+  was = c.args.workers;
+  four = c.in-Some.four;
+  new = c.requires.new;
+  counted = c.in-Some.ensures;
+  out = c.settle_four.new.out;
+  settled = c.settle_four.ensures;
+  total = c.replies.ensures;
+}

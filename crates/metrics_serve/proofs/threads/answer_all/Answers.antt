@@ -1,0 +1,9 @@
+use Rattle.metrics_serve.proofs.Counting.{counted_more}
+use Rattle.metrics_serve.proofs.threads.answer_all.Goals as goal
+
+pub answer-requires : goal.answer-requires
+answer-requires g c = c.loop-stream.invariant.own
+
+pub loop-stream-preserved : goal.loop-stream-preserved
+loop-stream-preserved g c =
+    counted_more c.args.board.now c.args.metrics.now c.args.worker c.loop-stream.worker c.answer.new.worker c.loop-stream.invariant c.answer.ensures.counted

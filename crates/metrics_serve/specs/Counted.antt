@@ -1,0 +1,99 @@
+-- What the server counts of itself.
+use Rattle.std.specs.Prelude.{◌≡◌, ℕ, ◌+◌, ◌<◌, ◌≤◌, List, [], ◌∷◌, ◌++◌, map, length, slice_index, All}
+use Rattle.bucket_math.specs.Bounds.{place_of}
+use Rattle.ledger_core.specs.declared.handles.Counter.{Counter}
+use Rattle.ledger_core.specs.declared.op.Op.{Op}
+use Rattle.ledger_core.specs.declared.op.Op.TheVariants.{Inc, Observe}
+use Rattle.register_rule.specs.declared.board.Board.{Board}
+use Rattle.scrape_http.specs.declared.serve.Served.{Served}
+use Rattle.scrape_http.specs.declared.status.Status.{Status}
+use Rattle.scrape_http.specs.declared.status.Status.TheVariants.{Success, BadRequest, NotFound, MethodNotAllowed, TooLarge, Unavailable}
+use Rattle.snapshot_update.specs.declared.worker.Worker.{Worker}
+use Rattle.snapshot_update.specs.Workers.{index_of, lists_of, IsWorkerOf}
+use Rattle.chain_law.specs.Settled.{IsSettled}
+use Rattle.snapshot_scan.specs.Snapshots.{Taken}
+use Rattle.metrics_serve.specs.declared.metrics.Metrics.{Metrics}
+use Rattle.metrics_serve.specs.declared.threads.Four.{Four}
+
+-- the counter of the replies of a status
+abbrev pub counter_for : Metrics → Status → Counter
+counter_for m Success = m.success
+counter_for m BadRequest = m.bad_request
+counter_for m NotFound = m.not_found
+counter_for m MethodNotAllowed = m.method_not_allowed
+counter_for m TooLarge = m.too_large
+counter_for m Unavailable = m.unavailable
+
+-- the list that counts a reply: 1 of its status, and its bytes
+abbrev pub list_for : Metrics → Served → List Op
+list_for m served =
+    Inc (counter_for m served.status).slot 1
+    ∷ Observe m.bytes.slot (place_of m.bytes.bounds served.sent) served.sent
+    ∷ []
+
+-- the counter is one of the board's
+abbrev pub IsInside : Counter → Type 0
+IsInside counter = counter.slot < 64
+
+-- all six are
+pub record AreInside (m : Metrics) : Type 0 where
+  pub success : IsInside m.success
+  pub bad_request : IsInside m.bad_request
+  pub not_found : IsInside m.not_found
+  pub method_not_allowed : IsInside m.method_not_allowed
+  pub too_large : IsInside m.too_large
+  pub unavailable : IsInside m.unavailable
+
+-- the replies of all statuses, by these totals
+abbrev pub replies_in : Metrics → List ℕ → ℕ
+replies_in m totals =
+    slice_index totals m.success.slot + slice_index totals m.bad_request.slot + slice_index totals m.not_found.slot
+    + slice_index totals m.method_not_allowed.slot + slice_index totals m.too_large.slot + slice_index totals m.unavailable.slot
+
+-- from w to v this worker of the board counted these replies, each as one list, and nothing else
+pub record HasCounted (b : Board 4 64 8 16) (m : Metrics) (w v : Worker 4 64 8 16) : Type 0 where
+  pub own : IsWorkerOf b v
+  pub index : index_of v ≡ index_of w
+  pub replies : List Served
+  pub lists : lists_of v ≡ lists_of w ++ map (list_for m) replies
+
+-- from w to v it counted one reply at most
+pub record CountsOne (b : Board 4 64 8 16) (m : Metrics) (w v : Worker 4 64 8 16) : Type 0 where
+  pub counted : HasCounted b m w v
+  pub once : length counted.replies ≤ 1
+
+-- this is the worker of this index, at home, and it has published nothing
+pub record IsNew (b : Board 4 64 8 16) (index : ℕ) (w : Worker 4 64 8 16) : Type 0 where
+  pub own : IsWorkerOf b w
+  pub index_is : index_of w ≡ index
+  pub lists : lists_of w ≡ []
+
+-- these are the four workers of a new board, in order
+abbrev pub AreNew : Board 4 64 8 16 → Four → Type 0
+AreNew b four = IsNew b 0 four.a × IsNew b 1 four.b × IsNew b 2 four.c × IsNew b 3 four.d
+
+-- each of the four has counted replies, and nothing else
+abbrev pub HaveCounted : Board 4 64 8 16 → Metrics → (was four : Four) → Type 0
+HaveCounted b m was four = HasCounted b m was.a four.a × HasCounted b m was.b four.b × HasCounted b m was.c four.c × HasCounted b m was.d four.d
+
+-- the four workers, in order
+abbrev pub all_of : Four → List (Worker 4 64 8 16)
+all_of four = four.a ∷ four.b ∷ four.c ∷ four.d ∷ []
+
+-- they are those of the board, at home, and their order is that of their indexes
+pub record AreFour (b : Board 4 64 8 16) (four : Four) : Type 0 where
+  pub own : All (IsWorkerOf b) (all_of four)
+  pub index : map index_of (all_of four) ≡ 0 ∷ 1 ∷ 2 ∷ 3 ∷ []
+
+-- So many replies were counted: it is the total of the counters of all statuses over four workers of a new board, each of which has
+-- counted replies, and nothing else.
+pub record AreReplies (replies : ℕ) : Type 0 where
+  pub board : Board 4 64 8 16
+  pub metrics : Metrics
+  pub was : Four
+  pub four : Four
+  pub new : AreNew board was
+  pub counted : HaveCounted board metrics was four
+  pub out : Taken
+  pub settled : IsSettled (all_of four) out
+  pub total : replies ≡ replies_in metrics out.totals

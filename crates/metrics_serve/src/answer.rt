@@ -1,0 +1,32 @@
+//! One connection.
+ghost use Rattle.metrics_serve.specs.Counted.{CountsOne};
+ghost use Rattle.snapshot_update.specs.Workers.{IsWorkerOf};
+
+use crate::metrics::Metrics;
+use program_parts::{Board, Worker};
+use scrape_http::{ScrapeFrom, serve_one};
+use scrape_server::close_in_stages;
+use std::net::TcpStream;
+use watched::Watched;
+
+/// Answers one request, and counts the reply as one version, before the connection ends. A request that ends in a fault is not
+/// counted.
+pub(crate) fn answer<S: ScrapeFrom>(
+    board: &Board,
+    metrics: &Metrics,
+    source: &mut S,
+    worker: &mut Worker,
+    stream: &TcpStream,
+)
+    requires { IsWorkerOf board.now worker.old }
+    ensures { CountsOne board.now metrics.now worker.old worker.new }
+{
+    let mut reader = Watched::new(stream);
+    let mut writer = Watched::new(stream);
+    let Ok(served) = serve_one(&mut reader, &mut writer, source) else {
+        return;
+    };
+    // Were a word of the row near its limit, the reply would not be counted.
+    let _ = worker.apply(board, &metrics.list(served));
+    let _ = close_in_stages(stream);
+}

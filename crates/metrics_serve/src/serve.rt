@@ -1,0 +1,252 @@
+//! The server.
+ghost use Rattle.std.specs.Prelude.{◌≡◌, [], ◌∷◌, map, replicate, All, OnOk, IfSome};
+ghost use Rattle.std.specs.Io.KnownBytes.{Appends};
+ghost use Rattle.chain_law.specs.Settled.{IsSettled};
+ghost use Rattle.snapshot_scan.specs.Readers.{IsReaderOf};
+ghost use Rattle.snapshot_update.specs.Workers.{index_of, lists_of, IsWorkerOf};
+ghost use Rattle.metrics_serve.specs.Counted.{AreFour, AreInside, AreNew, AreReplies, HaveCounted, all_of};
+ghost use Rattle.metrics_serve.specs.Printed.{Prints, listening_line, served_line, status_of};
+
+use crate::metrics::Metrics;
+use crate::threads::{Four, Queues, Shared, serve_in_threads};
+use chain_law::settle;
+use program_parts::{Board, Broken, Crew, Reader, Registry, Snapshot, Worker, new_board, send};
+use scrape_server::FromRegistry;
+use std::alloc::Global;
+use std::io::Write;
+use std::net::TcpListener;
+use std::sync::Wait;
+use std::thread::Threads;
+
+/// How many scrapes the registry of a server keeps.
+const WINDOW: usize = 64;
+
+/// How a server ended.
+#[derive(Clone, Copy, Debug, PartialEq, Eq)]
+pub enum ServeEnd {
+    /// After its last connection.
+    Done,
+    /// The listener or the writer failed, or a thread could not be started.
+    Broken,
+    /// There was no memory before the first connection, which was written as `refused 0 6`.
+    NoMemory,
+}
+
+impl ServeEnd {
+    /// The exit status of the program.
+    pub fn status(self) -> u8
+        ensures { result ≡ status_of self }
+    {
+        match self {
+            ServeEnd::Done => 0,
+            ServeEnd::Broken => 3,
+            ServeEnd::NoMemory => 1,
+        }
+    }
+}
+
+/// What a server needs beside its board and its workers. All its memory is taken before the first connection.
+#[derive(Drop)]
+struct Service<'b> {
+    registry: Registry<'b>,
+    metrics: Metrics,
+    queues: Queues,
+    settled: Snapshot,
+}
+
+impl<'b> Service<'b> {
+    /// A registry with the server's metrics, and empty queues. There is none for want of memory alone.
+    fn new(rt: &impl Wait, alloc: Global, board: &'b Board, scraper: Reader) -> Option<Service<'b>>
+        requires { IsReaderOf board.now scraper }
+        ensures { IfSome result (λ s. AreInside s.metrics) }
+    {
+        let Ok(registry) = Registry::new(alloc, board, scraper, WINDOW) else {
+            return None;
+        };
+        let metrics = Metrics::new(rt, alloc, &registry).ok()?;
+        Some(Service {
+            registry,
+            metrics,
+            queues: Queues::new(alloc)?,
+            settled: Snapshot::new(alloc).ok()?,
+        })
+    }
+}
+
+/// Writes the line that tells the port, and lets it go.
+fn tell_port<W: Write>(writer: &mut W, port: u16) -> Result<(), Broken>
+    ensures { OnOk result (Appends (W.contents writer.old) (W.contents writer.new) (listening_line port)) }
+{
+    let mut digits = itoa::Buffer::new();
+    send(writer, b"listening ")?;
+    send(writer, digits.format(port).as_bytes())?;
+    send(writer, b"\n")?;
+    writer.flush().map_err(|_| Broken)
+}
+
+/// Writes the line that tells the replies, and lets it go.
+fn tell_served<W: Write>(writer: &mut W, replies: u64) -> Result<(), Broken>
+    ensures { OnOk result (Appends (W.contents writer.old) (W.contents writer.new) (served_line replies)) }
+{
+    let mut digits = itoa::Buffer::new();
+    send(writer, b"served ")?;
+    send(writer, digits.format(replies).as_bytes())?;
+    send(writer, b"\n")?;
+    writer.flush().map_err(|_| Broken)
+}
+
+/// Writes that there was no memory, and lets it go.
+fn tell_no_memory<W: Write>(writer: &mut W) -> ServeEnd
+    ensures { Prints (W.contents writer.old) (W.contents writer.new) result }
+{
+    match (send(writer, b"refused 0 6\n"), writer.flush()) {
+        (Ok(()), Ok(())) => ServeEnd::NoMemory,
+        _ => ServeEnd::Broken,
+    }
+}
+
+/// The four workers of a new board, in their order.
+fn to_four(board: &Board, mut workers: Vec<Worker>) -> Four
+    requires own { All (IsWorkerOf board.now) workers.items }
+    requires all { map index_of workers.items ≡ 0 ∷ 1 ∷ 2 ∷ 3 ∷ [] }
+    requires new { map lists_of workers.items ≡ replicate 4 [] }
+    ensures { AreNew board.now result }
+{
+    let (Some(d), Some(c), Some(b), Some(a)) = (
+        workers.pop(),
+        workers.pop(),
+        workers.pop(),
+        workers.pop(),
+    ) else {
+        unreachable!()
+    };
+    Four { a, b, c, d }
+}
+
+/// Gathers the four workers, for exact totals.
+fn settle_four(board: &Board, settler: &mut Reader, four: Four, out: &mut Snapshot)
+    requires four { AreFour board.now four }
+    requires settler { IsReaderOf board.now settler.old }
+    ensures { IsSettled (all_of four) out.new }
+{
+    let mut workers = [four.a, four.b, four.c, four.d];
+    let Ok(()) = settle(board, settler, &mut workers, out) else {
+        unreachable!()
+    };
+}
+
+/// Answers so many connections, and tells how many replies were counted, by all workers together. None where a thread could not be
+/// started or the listener has failed.
+fn serve_counting<T: Threads + Wait + Sync>(
+    rt: &T,
+    board: &Board,
+    workers: Four,
+    settler: &mut Reader,
+    service: Service<'_>,
+    listener: &TcpListener,
+    count: u64,
+) -> Option<u64>
+    requires new { AreNew board.now workers }
+    requires settler { IsReaderOf board.now settler.old }
+    requires inside { AreInside service.metrics }
+    ensures { IfSome result AreReplies }
+{
+    let Service {
+        registry,
+        metrics,
+        queues,
+        mut settled,
+    } = service;
+    let shared = Shared {
+        rt,
+        board,
+        metrics: &metrics,
+    };
+    let source = FromRegistry {
+        rt,
+        registry: &registry,
+    };
+    let sources = (source, source, source, source);
+    let Some(four) = serve_in_threads(shared, sources, workers, queues, listener, count) else {
+        return None;
+    };
+    settle_four(board, settler, four, &mut settled);
+    Some(metrics.replies(&settled))
+}
+
+/// Serves on a new board, and writes what is printed.
+fn serve_over<T: Threads + Wait + Sync, W: Write>(
+    rt: &T,
+    board: &Board,
+    workers: Four,
+    settler: &mut Reader,
+    service: Service<'_>,
+    listener: &TcpListener,
+    count: u64,
+    writer: &mut W,
+) -> Result<(), Broken>
+    requires new { AreNew board.now workers }
+    requires settler { IsReaderOf board.now settler.old }
+    requires inside { AreInside service.metrics }
+    ensures { OnOk result (Prints (W.contents writer.old) (W.contents writer.new) ServeEnd.Done) }
+{
+    let Ok(address) = listener.local_addr() else {
+        return Err(Broken);
+    };
+    let Ok(()) = tell_port(writer, address.port()) else {
+        return Err(Broken);
+    };
+    match serve_counting(rt, board, workers, settler, service, listener, count) {
+        Some(replies) => tell_served(writer, replies),
+        None => Err(Broken),
+    }
+}
+
+/// Accepts so many connections, and answers each by `serve_one`: the k-th, from 0, by thread k mod 4. It first writes `listening P`
+/// with the port of the listener, and after the last connection `served K`, where K is how many replies were counted.
+///
+/// The board is that of a script. The server counts its own replies: `scrape_requests_total`, by their `code`, and
+/// `scrape_reply_bytes`. A request that ends in 24, 25 or 26 is not counted, and does not end the server. Up to 200 connections wait
+/// for each thread; where a thread has as many, no more are accepted until it gets on. There are no timeouts: a client that sends
+/// nothing, or does not read, keeps its thread.
+///
+/// # Errors
+///
+/// [`ServeEnd::NoMemory`] comes before the first connection, after `refused 0 6` was written; later want of memory is that of a
+/// scrape, which is replied as 503. [`ServeEnd::Broken`] where the listener or the writer fails, or a thread cannot be started; then
+/// all threads have ended.
+pub fn serve_on<T: Threads + Wait + Sync, W: Write>(
+    rt: &T,
+    alloc: Global,
+    listener: TcpListener,
+    count: u64,
+    writer: &mut W,
+) -> ServeEnd
+    ensures { Prints (W.contents writer.old) (W.contents writer.new) result }
+{
+    let Ok((board, crew)) = new_board(alloc) else {
+        return tell_no_memory(writer);
+    };
+    let Crew {
+        workers,
+        scraper,
+        mut settler,
+    } = crew;
+    let workers = to_four(&board, workers);
+    let Some(service) = Service::new(rt, alloc, &board, scraper) else {
+        return tell_no_memory(writer);
+    };
+    match serve_over(
+        rt,
+        &board,
+        workers,
+        &mut settler,
+        service,
+        &listener,
+        count,
+        writer,
+    ) {
+        Ok(()) => ServeEnd::Done,
+        Err(Broken) => ServeEnd::Broken,
+    }
+}

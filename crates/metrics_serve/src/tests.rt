@@ -1,0 +1,4 @@
+mod clients;
+mod endings;
+mod hostile;
+mod replies;

@@ -1,0 +1,3 @@
+pub mod Sent
+pub mod Four
+pub mod Gathered

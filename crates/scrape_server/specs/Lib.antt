@@ -1,0 +1,2 @@
+pub mod Scrapes
+pub mod Stream

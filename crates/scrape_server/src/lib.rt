@@ -1,0 +1,16 @@
+//! What a server of scrapes needs beside [`scrape_http`]: registries as its sources, and connections that end in stages.
+//!
+//! [`FromRegistry`] is a registry behind its lock, which any number of threads may serve from. [`FromState`] is a registry that is
+//! lent, by one thread at a time; [`serve_state`] says of it which scrape was sent. [`serve_stream`] serves one connection whole.
+#![tactic(auto)]
+
+mod fault;
+mod registry;
+mod state;
+mod stream;
+#[cfg(test)]
+mod tests;
+
+pub use registry::FromRegistry;
+pub use state::{FromState, serve_state};
+pub use stream::{close_in_stages, serve_stream};
