@@ -19,5 +19,5 @@ cat "$work/growth"
 if [ -e "$work/failed" ]; then
     exit 1
 fi
-./exit-status.sh crates/metrics_run/out/metrics_run
+./exit-status.sh crates/metrics_run/out/metrics_run crates/example_service/out/example_service
 tail -n 1 "$work/ci"
