@@ -1,8 +1,8 @@
 -- Replies that a worker has counted.
 use Rattle.std.proofs.Common.{◌≡◌, ℕ, Option, List, [], ◌∷◌, ◌++◌, All, Result, Ok, Err, OnOk, OnErr, map, refl, sym, ap, ap₂, ◌∙◌, append-nil, append_assoc, arith}
-use Rattle.std.proofs.KnownBytes.{Appends-trans}
+use Rattle.std.proofs.KnownBytes.{Appends-kept, Appends-trans}
 use Rattle.std.proofs.lemmas.List.{map-append}
-use Rattle.std.specs.Io.KnownBytes.{Appends}
+use Rattle.std.specs.Io.KnownBytes.{Appends, Keeps}
 use Rattle.program_parts.specs.declared.sending.Broken.{Broken}
 use Rattle.std.proofs.lemmas.List.Elements.{All-nil, All-cons}
 use Rattle.ledger_core.specs.declared.op.Op.{Op}
@@ -79,3 +79,10 @@ pub printed : (a b c : Option (List ℕ)) (port replies : ℕ) (r : Result Unit 
     → OnOk r (Appends b c (served_line replies)) → OnOk r (Prints a c Done)
 printed a b c port replies (Ok done) are before after = (port, replies, are, Appends-trans a b c (listening_line port) (served_line replies) before after)
 printed a b c port replies (Err broken) are before after = tt
+
+-- three parts of a line were written, and let go
+pub told : (a b c d e : Option (List ℕ)) (xs ys zs : List ℕ) (r : Result Unit Broken) → Appends a b xs → Appends b c ys → Appends c d zs → Keeps d e
+    → OnOk r (Appends a e (xs ++ ys ++ zs))
+told a b c d e xs ys zs (Ok done) first second third kept =
+    Appends-kept a d e (xs ++ ys ++ zs) (Appends-trans a c d (xs ++ ys) zs (Appends-trans a b c xs ys first second) third) kept
+told a b c d e xs ys zs (Err broken) first second third kept = tt
