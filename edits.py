@@ -64,34 +64,40 @@ def owner_of(lines, start):
     """What a function's path has between its module and its name: nothing, a type, or a type and the trait by whose impl it has it."""
     if not lines[start - 1].startswith(" "):
         return []
-    first = next((it for it in reversed(range(start)) if lines[it][:1] not in ("", " ", "}", "{")), 0)
+    first = next((it for it in reversed(range(start)) if lines[it][:1] not in ("", " ", "}", "{", ">")), 0)
     head = " ".join(lines[first:start])
     head = re.sub(r"\bFrom<(\w+)>", r"From\1", head[: head.index("{")])
     while re.search(r"<[^<>]*>", head):
         head = re.sub(r"<[^<>]*>", "", head)
+    head = re.sub(r"\s+", " ", head) + " "
     of = re.match(r"impl (?:(?:\w+::)*(\w+) for )?(?:\w+::)*(\w+) ", head)
     return [of[2] + (of[1] or "")] if of else []
 
 
 def path_of(file, lines, start):
-    """The function's path below its crate. Its proof stands in the folder of that name."""
+    """The function's path, as far as it says which one it is: with its module, or with its type, whose module may be another."""
     module = [it for it in file[len("src/") : -len(".rt")].split("/") if it not in ("main", "lib", "mod")]
-    return [*module, *owner_of(lines, start), re.search(r"\bfn (\w+)", lines[start - 1])[1]]
+    return [*(owner_of(lines, start) or module), re.search(r"\bfn (\w+)", lines[start - 1])[1]]
 
 
-def proofs_of(file, text):
-    """The functions of a source by the folders of their proofs."""
-    lines = text.split("\n")
-    return {"/".join(path_of(file, lines, span[0])): span for span in functions(text)}
+def proved_in(file, text, folder):
+    """The function of the source whose proof stands in the folder."""
+    lines, at = text.split("\n"), folder.split("/")
+    for span in functions(text):
+        path = path_of(file, lines, span[0])
+        if at == path or owner_of(lines, span[0]) and at[-2:] == path:
+            return span
+    return None
 
 
-def only(crate, functions):
-    """The flags of a check of these functions."""
+def checked(crate, texts, edited, kept):
+    """Checks an edited copy: these functions, or all of the crate where it has several of such a name."""
     words = []
-    for file, start, _, _ in dict.fromkeys(functions):
+    for file, start, _, _ in dict.fromkeys(edited):
         with open(f"{crate.folder}/{file}", encoding="utf-8") as it:
-            words += ["--only", "::".join([crate.name, *path_of(file, it.read().split("\n"), start)])]
-    return words
+            words += ["--only", "::".join(path_of(file, it.read().split("\n"), start))]
+    ran = rt.checked(crate, texts, [*FLAGS, *words], kept)
+    return ran if ran.returncode != 2 else rt.checked(crate, texts, FLAGS, kept)
 
 
 def within(spans, line):
@@ -174,15 +180,12 @@ def not_proved(ran, texts):
 
 def refused_in(crate, batch, texts, kept):
     """The edits of the batch of whose functions the prover said that a goal is not proved."""
-    ran = rt.checked(crate, texts, [*FLAGS, *only(crate, [it.function for it in batch])], kept)
-    sources = {file: (functions(text), proofs_of(file, text)) for file, text in texts.items()}
-    refused = {}
+    ran, refused = checked(crate, texts, [it.function for it in batch], kept), {}
     for line in not_proved(ran, texts) or []:
         goal, proof = NOT_PROVED.match(line), None if TAKEN_AWAY.match(line) else WRONG_PROOF.match(line)
         for edit in batch:
             file, *span = edit.function
-            spans, proofs = sources[file]
-            here = goal and goal[1] == file and within(spans, int(goal[2])) or proof and proofs.get(proof[1])
+            here = goal and goal[1] == file and within(functions(texts[file]), int(goal[2])) or proof and proved_in(file, texts[file], proof[1])
             if here == tuple(span):
                 refused.setdefault(edit, line)
     return refused
@@ -192,7 +195,7 @@ def refused_alone(crate, edit, kept):
     """Whether the prover refuses the edit, and what to say: from a check of the one function that it edits, where there is one."""
     if edit.function:
         texts = edit.applied(crate, {})
-        lines = not_proved(rt.checked(crate, texts, [*FLAGS, *only(crate, [edit.function])], kept), texts)
+        lines = not_proved(checked(crate, texts, [edit.function], kept), texts)
         told = [it for it in lines or [] if ERROR.match(it)]
         first = next((it for it in told if not TAKEN_AWAY.match(it)), "")
         if first:
@@ -217,7 +220,7 @@ def tried(crate, paths):
         answers |= {it: refused_alone(crate, it, kept) for it in edits if it not in answers}
         # what was refused says something only where all is proved without an edit, over what was kept
         edited = [it.function for it in edits]
-        is_sound = not rt.checked(crate, {}, FLAGS if None in edited else [*FLAGS, *only(crate, edited)], kept).returncode
+        is_sound = not checked(crate, {}, [] if None in edited else edited, kept).returncode
     # from nothing, where it was not refused so
     return [answers[it] if is_sound and answers[it][0] else rt.must_fail(crate, it.path, FLAGS) for it in edits]
 
