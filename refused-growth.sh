@@ -4,15 +4,16 @@
 # the first line, and 5, 3, 1, 2 and 6 at the lines 1, 2, 3, 5 and 6. Of the second, whose lines are refused at the ninth, it prints
 # a beginning that ends after a whole line, and then the refusal for want of memory, or all.
 # Then runs the tests of expo_text, expo_reader, register_rule, snapshot_core, snapshot_scan, snapshot_update, chain_law,
-# registry_state, worker_pool and metric_registry with each test's Nth allocation refused: a test may then end for want of
-# memory, but none may see another answer in its place. A label's name is read with the 13th or the 15th allocation of some
+# registry_state, worker_pool, metric_registry and metrics_serve with each test's Nth allocation refused: a test may then end for
+# want of memory, but none may see another answer in its place. A label's name is read with the 13th or the 15th allocation of some
 # tests of expo_reader. A board of 2 workers makes 5 allocations, a reader of it 9, and a worker 15; the tests of
 # snapshot_update make a snapshot or two before that, of 2 allocations each. The test each_growth of snapshot_core makes 3 for
 # its list of events and 21 in its run, which has a publish and two answers. The test one_snapshot_has_a_history of chain_law
 # makes 47 for a snapshot and the list that has it, and the next one in history_of. In worker_pool a test of two workers with a
 # job each makes 49 for its crew and its jobs, and the pool the next two, for the threads and for the workers that it hands
 # back; threads make none. The test each_growth of metric_registry makes its registry, a family, a child and a scrape with the
-# allocations from the 52nd to the 65th.
+# allocations from the 52nd to the 65th. Of metrics_serve it is the test no_memory alone, whose server has no client: its
+# first allocation is for what is written, and the next 160 are all that the server makes, before its first connection.
 #
 # A build refuses one allocation of the process, whose number is fixed. So that one build of a crate serves for every N, its
 # build refuses the LASTth, and the program and each test first make LAST - N allocations that they give back: the Nth of
@@ -105,7 +106,7 @@ prepare_tests() {
                 split($2, word, "(")
                 names[++count] = word[1]
                 heads[count] = substr($0, length("fn " word[1]) + 1)
-                sub(/rt: HostRuntime/, "rt: impl std::process::Abort + AllocGlobal + std::thread::Threads + std::sync::Wait + Sync + Drop")
+                sub(/rt: HostRuntime/, "rt: impl std::process::Abort + AllocGlobal + std::thread::Threads + std::sync::Wait + std::net::Net<Listener = std::net::TcpListener, Stream = std::net::TcpStream> + Sync + Drop")
             }
             { print }
             END {
@@ -137,6 +138,10 @@ fn one_is_refused(rt: HostRuntime) {
 END
 }
 
+# Of the tests of metrics_serve, the one whose server has no client.
+(cd metrics_serve/src/tests && rm clients.rt endings.rt hostile.rt replies.rt)
+echo 'mod memory;' >metrics_serve/src/tests.rt
+
 prepare_program
 prepare_tests expo_text $(seq 1 14)
 prepare_tests expo_reader $(seq 1 16)
@@ -148,6 +153,7 @@ prepare_tests chain_law $(seq 1 4) $(seq 44 49)
 prepare_tests registry_state $(seq 1 32)
 prepare_tests worker_pool $(seq 48 52)
 prepare_tests metric_registry $(seq 45 66)
+prepare_tests metrics_serve $(seq 1 170)
 
 # Half of the processors: the rest are for the proofs beside this.
 {
@@ -195,6 +201,10 @@ while read -r crate _ tests numbers; do
         ! grep -q '^test spent::one_is_refused \.\.\. ok$' "$log" || [ "$failed" != "$wanting" ]; then
         echo "an allocation of a test of $crate refused: another answer came in place of want of memory, or not all tests ran"
         cat "$log"
+        exit 1
+    fi
+    if [ "$crate" = metrics_serve ] && [ "$failed" != 161 ]; then
+        echo "a server without a client: want of memory was met at $failed allocations, expected at 161"
         exit 1
     fi
     echo "the allocations $numbers of every test of $crate refused in turn: no other answer came in its place"

@@ -1,4 +1,5 @@
 mod clients;
 mod endings;
 mod hostile;
+mod memory;
 mod replies;

@@ -40,6 +40,21 @@ pub(crate) fn ask<T: Net<Listener = TcpListener, Stream = TcpStream>>(
     read_all(alloc, &stream)
 }
 
+/// Sends a request byte by byte, each in a piece of its own, and reads the reply.
+pub(crate) fn ask_by_bytes<T: Net<Listener = TcpListener, Stream = TcpStream>>(
+    rt: &T,
+    alloc: Global,
+    port: u16,
+    request: &[u8],
+) -> io::Result<Vec<u8>> {
+    let stream = connect(rt, port)?;
+    stream.set_nodelay(true)?;
+    for byte in request {
+        (&stream).write_all(&[*byte])?;
+    }
+    read_all(alloc, &stream)
+}
+
 /// Connects, and closes without a byte. It returns when the server has closed too.
 pub(crate) fn say_nothing<T: Net<Listener = TcpListener, Stream = TcpStream>>(
     rt: &T,

@@ -1,7 +1,6 @@
 //! How a server ends where something fails.
 use super::clients::{lines, serve};
 use crate::{ServeEnd, serve_on};
-use metric_names::NoMemory;
 use std::io;
 use std::io::{ErrorKind, Write};
 use std::net::{Ipv4Addr, TcpListener};
@@ -82,22 +81,4 @@ fn a_listener_that_fails(rt: HostRuntime) -> Result<(), Fail> {
     assert!(rt; served.written.starts_with(b"listening "));
     assert!(rt; served.written.ends_with(b"\n"));
     Ok(())
-}
-
-#[test]
-fn no_memory(rt: HostRuntime) -> Result<(), Fail> {
-    let alloc = rt.alloc();
-    let mut written = Vec::with_capacity(alloc, 64)?;
-    let listener = TcpListener::bind(&rt, (Ipv4Addr::LOCALHOST, 0))?;
-    match serve_on(&rt, alloc, listener, 0, &mut written) {
-        ServeEnd::NoMemory => {
-            assert_eq!(rt; written.as_slice(), b"refused 0 6\n".as_slice());
-            Err(NoMemory.into())
-        }
-        end => {
-            assert_eq!(rt; end, ServeEnd::Done);
-            assert!(rt; written.ends_with(b"served 0\n"));
-            Ok(())
-        }
-    }
 }

@@ -3,7 +3,7 @@ use super::clients::{ask, connect, lines, read_all, serve};
 use crate::ServeEnd;
 use std::alloc::Global;
 use std::io;
-use std::io::Write;
+use std::io::{Read, Write};
 use std::net::{Ipv4Addr, Net, Shutdown, TcpListener, TcpStream};
 use std::test::Fail;
 use std::thread::join;
@@ -131,6 +131,39 @@ fn clients_that_send_much(rt: HostRuntime) -> Result<(), Fail> {
     assert!(rt; posted.starts_with(b"HTTP/1.1 405 Method Not Allowed\r\n"));
     assert!(rt; posted.ends_with(b"\r\n\r\nMethod Not Allowed\n"));
     assert!(rt; long.ends_with(b"\r\n\r\nRequest Header Fields Too Large\n"));
+    assert_eq!(rt; served.end, ServeEnd::Done);
+    assert_eq!(rt; served.written, lines(alloc, port, 2)?);
+    Ok(())
+}
+
+/// One client reads a part of its reply and closes while the rest waits, which resets the connection. Then comes a good one.
+fn one_resets<T: Net<Listener = TcpListener, Stream = TcpStream>>(
+    rt: &T,
+    alloc: Global,
+    port: u16,
+) -> io::Result<Vec<u8>> {
+    let stream = connect(rt, port)?;
+    (&stream).write_all(GET)?;
+    let mut front = [0; 100];
+    (&stream).read_exact(&mut front)?;
+    drop(stream);
+    ask(rt, alloc, port, GET)
+}
+
+#[test]
+fn a_client_that_resets(rt: HostRuntime) -> Result<(), Fail> {
+    let alloc = rt.alloc();
+    let listener = TcpListener::bind(&rt, (Ipv4Addr::LOCALHOST, 0))?;
+    let port = listener.local_addr()?.port();
+    let (served, good) = join(
+        &rt,
+        || serve(&rt, alloc, listener, 2),
+        || one_resets(&rt, alloc, port),
+    );
+    let good = good?;
+    assert!(rt; good.starts_with(b"HTTP/1.1 200 OK\r\n"));
+    assert!(rt; good.ends_with(b"scrape_requests_total{code=\"503\"} 0\n"));
+    // The first reply was sent whole, and counts.
     assert_eq!(rt; served.end, ServeEnd::Done);
     assert_eq!(rt; served.written, lines(alloc, port, 2)?);
     Ok(())

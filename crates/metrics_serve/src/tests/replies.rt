@@ -1,5 +1,5 @@
 //! Replies over loopback.
-use super::clients::{ask, lines, say_nothing, serve};
+use super::clients::{ask, ask_by_bytes, lines, say_nothing, serve};
 use crate::ServeEnd;
 use std::net::{Ipv4Addr, TcpListener};
 use std::test::Fail;
@@ -62,6 +62,41 @@ fn the_first_reply(rt: HostRuntime) -> Result<(), Fail> {
     assert_eq!(rt; reply?.as_slice(), FIRST);
     assert_eq!(rt; served.end, ServeEnd::Done);
     assert_eq!(rt; served.written, lines(alloc, port, 1)?);
+    Ok(())
+}
+
+/// What a scraper of Prometheus sends.
+const USUAL: &[u8] = b"GET /metrics HTTP/1.1\r
+Host: 127.0.0.1:9898\r
+User-Agent: Prometheus/2.53.0\r
+Accept: text/plain;version=0.0.4;q=1,*/*;q=0.1\r
+Accept-Encoding: gzip\r
+X-Prometheus-Scrape-Timeout-Seconds: 10\r
+\r
+";
+
+#[test]
+fn the_usual_scrape(rt: HostRuntime) -> Result<(), Fail> {
+    let alloc = rt.alloc();
+    // First in one piece, and then byte by byte, each at a new server.
+    for by_bytes in [false, true] {
+        let listener = TcpListener::bind(&rt, (Ipv4Addr::LOCALHOST, 0))?;
+        let port = listener.local_addr()?.port();
+        let (served, reply) = join(
+            &rt,
+            || serve(&rt, alloc, listener, 1),
+            || {
+                if by_bytes {
+                    ask_by_bytes(&rt, alloc, port, USUAL)
+                } else {
+                    ask(&rt, alloc, port, USUAL)
+                }
+            },
+        );
+        assert_eq!(rt; reply?.as_slice(), FIRST, "by bytes: {by_bytes}");
+        assert_eq!(rt; served.end, ServeEnd::Done);
+        assert_eq!(rt; served.written, lines(alloc, port, 1)?);
+    }
     Ok(())
 }
 
