@@ -1,1 +1,3 @@
 mod Counting
+mod Six
+mod Totals

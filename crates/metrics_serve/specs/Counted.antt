@@ -31,18 +31,14 @@ list_for m served =
     ∷ Observe m.bytes.slot (place_of m.bytes.bounds served.sent) served.sent
     ∷ []
 
--- the counter is one of the board's
-abbrev pub IsInside : Counter → Type 0
-IsInside counter = counter.slot < 64
-
--- all six are
-pub record AreInside (m : Metrics) : Type 0 where
-  pub success : IsInside m.success
-  pub bad_request : IsInside m.bad_request
-  pub not_found : IsInside m.not_found
-  pub method_not_allowed : IsInside m.method_not_allowed
-  pub too_large : IsInside m.too_large
-  pub unavailable : IsInside m.unavailable
+-- the counters of the six statuses are six of the board's 64, in this order: so no two of them are one
+pub record AreSix (m : Metrics) : Type 0 where
+  pub bad_request : m.success.slot < m.bad_request.slot
+  pub not_found : m.bad_request.slot < m.not_found.slot
+  pub method_not_allowed : m.not_found.slot < m.method_not_allowed.slot
+  pub too_large : m.method_not_allowed.slot < m.too_large.slot
+  pub unavailable : m.too_large.slot < m.unavailable.slot
+  pub last : m.unavailable.slot < 64
 
 -- the replies of all statuses, by these totals
 abbrev pub replies_in : Metrics → List ℕ → ℕ
@@ -76,6 +72,10 @@ AreNew b four = IsNew b 0 four.a × IsNew b 1 four.b × IsNew b 2 four.c × IsNe
 abbrev pub HaveCounted : Board 4 64 8 16 → Metrics → (was four : Four) → Type 0
 HaveCounted b m was four = HasCounted b m was.a four.a × HasCounted b m was.b four.b × HasCounted b m was.c four.c × HasCounted b m was.d four.d
 
+-- how many replies these are, of all four
+abbrev pub number_of : {b : Board 4 64 8 16} {m : Metrics} {was four : Four} → HaveCounted b m was four → ℕ
+number_of counted = length counted.0.replies + length counted.1.replies + length counted.2.replies + length counted.3.replies
+
 -- the four workers, in order
 abbrev pub all_of : Four → List (Worker 4 64 8 16)
 all_of four = four.a ∷ four.b ∷ four.c ∷ four.d ∷ []
@@ -85,8 +85,8 @@ pub record AreFour (b : Board 4 64 8 16) (four : Four) : Type 0 where
   pub own : All (IsWorkerOf b) (all_of four)
   pub index : map index_of (all_of four) ≡ 0 ∷ 1 ∷ 2 ∷ 3 ∷ []
 
--- So many replies were counted: it is the total of the counters of all statuses over four workers of a new board, each of which has
--- counted replies, and nothing else.
+-- So many replies were counted: each of the four workers of a new board has counted replies, and nothing else, and these are so many
+-- together; and that is the total of the counters of all statuses, of which no two are one.
 pub record AreReplies (replies : ℕ) : Type 0 where
   pub board : Board 4 64 8 16
   pub metrics : Metrics
@@ -94,6 +94,8 @@ pub record AreReplies (replies : ℕ) : Type 0 where
   pub four : Four
   pub new : AreNew board was
   pub counted : HaveCounted board metrics was four
+  pub number : replies ≡ number_of counted
+  pub six : AreSix metrics
   pub out : Taken
   pub settled : IsSettled (all_of four) out
   pub total : replies ≡ replies_in metrics out.totals

@@ -1,6 +1,6 @@
 //! What the server counts of itself.
-ghost use Rattle.std.specs.Prelude.{◌≡◌, ◌<◌, IfOk, IfSome};
-ghost use Rattle.metrics_serve.specs.Counted.{AreInside, IsInside, counter_for, list_for, replies_in};
+ghost use Rattle.std.specs.Prelude.{◌≡◌, ◌↔◌, IfOk, IfSome, IsTrue};
+ghost use Rattle.metrics_serve.specs.Counted.{AreSix, counter_for, list_for, replies_in};
 
 use ledger_core::{Counter, Histogram, Op};
 use metric_desc::Desc;
@@ -40,19 +40,17 @@ fn bytes_desc(alloc: Global) -> Option<Desc> {
     Desc::histogram(name, help, Vec::new(alloc), &[100, 1_000, 10_000]).ok()
 }
 
-/// The counter of replies of this code. Its slot is one of the board's; that is looked at once more, for the sums of totals.
+/// The counter of replies of this code.
 fn counter_of(
     rt: &impl Wait,
     alloc: Global,
     registry: &Registry<'_>,
     family: FamilyId,
     code: &str,
-) -> Option<Counter>
-    ensures { IfSome result IsInside }
-{
+) -> Option<Counter> {
     let value = [LabelValue::read(alloc, code).ok()?];
     match registry.child(rt, family, &value) {
-        Ok(Handle::Counter(counter)) if counter.slot < 64 => Some(counter),
+        Ok(Handle::Counter(counter)) => Some(counter),
         _ => None,
     }
 }
@@ -68,10 +66,10 @@ fn histogram_of(rt: &impl Wait, alloc: Global, registry: &Registry<'_>) -> Optio
 
 /// Registers both families, and makes their children.
 fn registered(rt: &impl Wait, alloc: Global, registry: &Registry<'_>) -> Option<Metrics>
-    ensures { IfSome result AreInside }
+    ensures { IfSome result AreSix }
 {
     let family = registry.register(rt, replies_desc(alloc)?).ok()?;
-    Some(Metrics {
+    let metrics = Metrics {
         success: counter_of(rt, alloc, registry, family, "200")?,
         bad_request: counter_of(rt, alloc, registry, family, "400")?,
         not_found: counter_of(rt, alloc, registry, family, "404")?,
@@ -79,7 +77,9 @@ fn registered(rt: &impl Wait, alloc: Global, registry: &Registry<'_>) -> Option<
         too_large: counter_of(rt, alloc, registry, family, "431")?,
         unavailable: counter_of(rt, alloc, registry, family, "503")?,
         bytes: histogram_of(rt, alloc, registry)?,
-    })
+    };
+    // They are, since each is given the least free slot; it is looked at once more, for the sum of their totals.
+    metrics.are_six().then_some(metrics)
 }
 
 impl Metrics {
@@ -89,12 +89,24 @@ impl Metrics {
         alloc: Global,
         registry: &Registry<'_>,
     ) -> Result<Metrics, NoMemory>
-        ensures { IfOk result AreInside }
+        ensures { IfOk result AreSix }
     {
         match registered(rt, alloc, registry) {
             Some(metrics) => Ok(metrics),
             None => Err(NoMemory),
         }
+    }
+
+    /// Whether the six counters are different ones of the board's, in the order of their statuses.
+    fn are_six(&self) -> bool
+        ensures { IsTrue result ↔ AreSix self.now }
+    {
+        self.success.slot < self.bad_request.slot
+            && self.bad_request.slot < self.not_found.slot
+            && self.not_found.slot < self.method_not_allowed.slot
+            && self.method_not_allowed.slot < self.too_large.slot
+            && self.too_large.slot < self.unavailable.slot
+            && self.unavailable.slot < 64
     }
 
     /// The counter of the replies of this status.
@@ -131,7 +143,7 @@ impl Metrics {
 
     /// How many replies there were, of all statuses.
     pub(crate) fn replies(&self, settled: &Snapshot) -> u64
-        requires { AreInside self.now }
+        requires { AreSix self.now }
         ensures { result ≡ replies_in self.now settled.now.totals }
     {
         settled.counter(self.success.slot)

@@ -4,7 +4,7 @@ ghost use Rattle.std.specs.Io.KnownBytes.{Appends};
 ghost use Rattle.chain_law.specs.Settled.{IsSettled};
 ghost use Rattle.snapshot_scan.specs.Readers.{IsReaderOf};
 ghost use Rattle.snapshot_update.specs.Workers.{index_of, lists_of, IsWorkerOf};
-ghost use Rattle.metrics_serve.specs.Counted.{AreFour, AreInside, AreNew, AreReplies, HaveCounted, all_of};
+ghost use Rattle.metrics_serve.specs.Counted.{AreFour, AreNew, AreReplies, AreSix, HaveCounted, all_of};
 ghost use Rattle.metrics_serve.specs.Printed.{Prints, listening_line, served_line, status_of};
 
 use crate::metrics::Metrics;
@@ -58,7 +58,7 @@ impl<'b> Service<'b> {
     /// A registry with the server's metrics, and empty queues. There is none for want of memory alone.
     fn new(rt: &impl Wait, alloc: Global, board: &'b Board, scraper: Reader) -> Option<Service<'b>>
         requires { IsReaderOf board.now scraper }
-        ensures { IfSome result (λ s. AreInside s.metrics) }
+        ensures { IfSome result (λ s. AreSix s.metrics) }
     {
         let Ok(registry) = Registry::new(alloc, board, scraper, WINDOW) else {
             return None;
@@ -148,7 +148,7 @@ fn serve_counting<T: Threads + Wait + Sync>(
 ) -> Option<u64>
     requires new { AreNew board.now workers }
     requires settler { IsReaderOf board.now settler.old }
-    requires inside { AreInside service.metrics }
+    requires six { AreSix service.metrics }
     ensures { IfSome result AreReplies }
 {
     let Service {
@@ -187,7 +187,7 @@ fn serve_over<T: Threads + Wait + Sync, W: Write>(
 ) -> Result<(), Broken>
     requires new { AreNew board.now workers }
     requires settler { IsReaderOf board.now settler.old }
-    requires inside { AreInside service.metrics }
+    requires six { AreSix service.metrics }
     ensures { OnOk result (Prints (W.contents writer.old) (W.contents writer.new) ServeEnd.Done) }
 {
     let Ok(address) = listener.local_addr() else {

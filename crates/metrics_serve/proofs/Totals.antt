@@ -1,0 +1,78 @@
+-- The six counters have together counted each reply once.
+use Rattle.std.proofs.Common.{◌≡◌, ℕ, ◌+◌, ◌<◌, List, [], ◌∷◌, ◌++◌, length, map, slice_index, refl, ap, ◌∙◌, arith}
+use Rattle.ledger_core.specs.declared.op.Op.{Op}
+use Rattle.ledger_core.specs.Ops.{only, sum_ops}
+use Rattle.bucket_math.specs.Bounds.{place_of}
+use Rattle.register_rule.specs.declared.board.Board.{Board}
+use Rattle.register_rule.proofs.Words.{read_at}
+use Rattle.scrape_http.specs.declared.serve.Served.{Served}
+use Rattle.scrape_http.specs.declared.status.Status.{Status}
+use Rattle.scrape_http.specs.declared.status.Status.TheVariants.{Success, BadRequest, NotFound, MethodNotAllowed, TooLarge, Unavailable}
+use Rattle.snapshot_scan.specs.Snapshots.{Taken}
+use Rattle.snapshot_update.specs.declared.worker.Worker.{Worker}
+use Rattle.snapshot_update.specs.Workers.{lists_of}
+use Rattle.chain_law.specs.Made.{joined, made_all}
+use Rattle.chain_law.specs.Settled.{IsSettled}
+use Rattle.metrics_serve.specs.declared.metrics.Metrics.{Metrics}
+use Rattle.metrics_serve.specs.declared.threads.Four.{Four}
+use Rattle.metrics_serve.specs.Counted.{AreNew, AreSix, HasCounted, HaveCounted, IsNew, all_of, counter_for, list_for, number_of, replies_in}
+use Rattle.metrics_serve.proofs.Six.{of_six, six_same, six_both, six_list, one_a, one_b, one_c, one_d, one_e, one_f}
+
+module _ (m : Metrics) (are : AreSix m) where
+  -- the sum over the counters of all statuses
+  abbrev all : (ℕ → ℕ) → ℕ
+  all g =
+      g m.success.slot + g m.bad_request.slot + g m.not_found.slot + g m.method_not_allowed.slot + g m.too_large.slot
+      + g m.unavailable.slot
+
+  one : (status : Status) → all (only (counter_for m status).slot 1) ≡ 1
+  one Success = one_a _ _ _ _ _ _ are.bad_request are.not_found are.method_not_allowed are.too_large are.unavailable are.last
+  one BadRequest = one_b _ _ _ _ _ _ are.bad_request are.not_found are.method_not_allowed are.too_large are.unavailable are.last
+  one NotFound = one_c _ _ _ _ _ _ are.bad_request are.not_found are.method_not_allowed are.too_large are.unavailable are.last
+  one MethodNotAllowed = one_d _ _ _ _ _ _ are.bad_request are.not_found are.method_not_allowed are.too_large are.unavailable are.last
+  one TooLarge = one_e _ _ _ _ _ _ are.bad_request are.not_found are.method_not_allowed are.too_large are.unavailable are.last
+  one Unavailable = one_f _ _ _ _ _ _ are.bad_request are.not_found are.method_not_allowed are.too_large are.unavailable are.last
+
+  of_list : (served : Served) → all (sum_ops 64 8 (list_for m served)) ≡ 1
+  of_list served =
+      six_list _ _ _ _ _ _ are.bad_request are.not_found are.method_not_allowed are.too_large are.unavailable are.last (counter_for m served.status).slot
+      m.bytes.slot (place_of m.bytes.bounds served.sent) served.sent (one served.status)
+
+  both : (xs ys : List Op) → all (sum_ops 64 8 (xs ++ ys)) ≡ all (sum_ops 64 8 xs) + all (sum_ops 64 8 ys)
+  both xs ys = six_both _ _ _ _ _ _ are.bad_request are.not_found are.method_not_allowed are.too_large are.unavailable are.last xs ys
+
+  of_replies : (replies : List Served) → all (sum_ops 64 8 (joined (map (list_for m) replies))) ≡ length replies
+  of_replies [] = refl
+  of_replies (served ∷ replies) =
+      let e = both (list_for m served) (joined (map (list_for m) replies)) in
+      let first = of_list served in
+      let later = of_replies replies in
+      omega (arith, e, first, later)
+
+  module _ (b : Board 4 64 8 16) where
+    of_worker : (i : ℕ) (w v : Worker 4 64 8 16) → IsNew b i w → (counted : HasCounted b m w v) → all (sum_ops 64 8 (joined (lists_of v))) ≡ length counted.replies
+    of_worker i w v new counted =
+        let lists : lists_of v ≡ map (list_for m) counted.replies = counted.lists ∙ ap (λ (l : List (List Op)). l ++ map (list_for m) counted.replies) new.lists in
+        ap (λ (l : List (List Op)). all (sum_ops 64 8 (joined l))) lists ∙ of_replies counted.replies
+
+    of_four : (was four : Four) → AreNew b was → (counted : HaveCounted b m was four) → all (sum_ops 64 8 (made_all (all_of four))) ≡ number_of counted
+    of_four was four new counted =
+        let of_a = of_worker 0 was.a four.a new.0 counted.0 in
+        let of_b = of_worker 1 was.b four.b new.1 counted.1 in
+        let of_c = of_worker 2 was.c four.c new.2 counted.2 in
+        let of_d = of_worker 3 was.d four.d new.3 counted.3 in
+        let from_a = both (joined (lists_of four.a)) (made_all (four.b ∷ four.c ∷ four.d ∷ [])) in
+        let from_b = both (joined (lists_of four.b)) (made_all (four.c ∷ four.d ∷ [])) in
+        let from_c = both (joined (lists_of four.c)) (made_all (four.d ∷ [])) in
+        let from_d = both (joined (lists_of four.d)) [] in
+        omega (arith, of_a, of_b, of_c, of_d, from_a, from_b, from_c, from_d)
+
+    -- the total of all statuses is how many replies were counted
+    pub all_counted : (was four : Four) → AreNew b was → (counted : HaveCounted b m was four) → (out : Taken) → IsSettled (all_of four) out
+        → replies_in m out.totals ≡ number_of counted
+    all_counted was four new counted out settled =
+        let read : (k : ℕ) → k < 64 → slice_index out.totals k ≡ sum_ops 64 8 (made_all (all_of four)) k =
+        λ k inside. read_at out.totals k _ 0 (settled.totals k (omega arith)) in
+        six_same _ _ _ _ _ _ are.bad_request are.not_found are.method_not_allowed are.too_large are.unavailable are.last (slice_index out.totals)
+        (sum_ops 64 8 (made_all (all_of four))) read
+        ∙ of_four was four new counted
