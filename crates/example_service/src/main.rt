@@ -47,7 +47,8 @@ const READERS: usize = 1;
 /// How many scrapes the registry keeps.
 const WINDOW: usize = 64;
 
-/// How long a client may keep the service waiting, in seconds.
+/// How long each read of a request and each write of a reply may take, in seconds. A client that sends a byte at a time keeps the
+/// service for longer: behind a proxy it cannot.
 const PATIENCE: u64 = 5;
 
 /// The port and how many connections are answered.

@@ -2,7 +2,7 @@
 //! COUNT` answers so many connections on 127.0.0.1, with its own metrics.
 //!
 //! Exit status 0 at the end; 1 after a refused line, or without memory for a server; 2 for other arguments; 3 where standard input,
-//! standard output or a socket failed.
+//! standard output or a socket failed, or a server's thread could not be started.
 #![tactic(auto)]
 
 mod arguments;

@@ -1,5 +1,5 @@
 -- Replies that a worker has counted.
-use Rattle.std.proofs.Common.{◌≡◌, ℕ, Option, List, [], ◌∷◌, ◌++◌, All, Result, Ok, Err, OnOk, OnErr, map, refl, sym, ap, ap₂, ◌∙◌, append-nil, append_assoc, arith}
+use Rattle.std.proofs.Common.{◌≡◌, ℕ, Option, List, [], ◌∷◌, ◌++◌, Result, Ok, Err, OnOk, OnErr, IfErr, map, refl, sym, subst, ap, ap₂, ◌∙◌, append-nil, append_assoc, inl, inr}
 use Rattle.std.proofs.KnownBytes.{Appends-kept, Appends-trans}
 use Rattle.std.proofs.lemmas.List.{map-append}
 use Rattle.std.specs.Io.KnownBytes.{Appends, Keeps}
@@ -8,13 +8,14 @@ use Rattle.std.proofs.lemmas.List.Elements.{All-nil, All-cons}
 use Rattle.ledger_core.specs.declared.op.Op.{Op}
 use Rattle.register_rule.specs.declared.board.Board.{Board}
 use Rattle.register_rule.specs.declared.view.Member.{Member}
+use Rattle.scrape_http.specs.declared.fault.WireFault.{WireFault}
 use Rattle.scrape_http.specs.declared.serve.Served.{Served}
 use Rattle.snapshot_update.specs.declared.faults.ApplyFault.{ApplyFault}
 use Rattle.snapshot_update.specs.declared.worker.Worker.{Worker}
-use Rattle.snapshot_update.specs.Workers.{index_of, lists_of, member_of, ops_in, IsWorkerOf}
+use Rattle.snapshot_update.specs.Workers.{index_of, lists_of, member_of, ops_in, IsApplyFault, IsWorkerOf}
 use Rattle.metrics_serve.specs.declared.metrics.Metrics.{Metrics}
 use Rattle.metrics_serve.specs.declared.threads.Four.{Four}
-use Rattle.metrics_serve.specs.Counted.{CountsOne, AreFour, AreNew, AreReplies, HasCounted, HaveCounted, IsNew, all_of, list_for}
+use Rattle.metrics_serve.specs.Counted.{AreFour, AreNew, AreReplies, HasCounted, HaveCounted, IsNew, WasCounted, list_for}
 use Rattle.metrics_serve.specs.Printed.{Prints, listening_line, served_line}
 use Rattle.metrics_serve.specs.declared.serve.ServeEnd.TheVariants.{Done}
 
@@ -23,29 +24,43 @@ module _ (b : Board 4 64 8 16) (m : Metrics) where
   pub none_yet : (w : Worker 4 64 8 16) → IsWorkerOf b w → HasCounted b m w w
   none_yet w own = record { own = own; index = refl; replies = []; lists = sym (append-nil (lists_of w)) }
 
-  -- none at all
-  pub none_counted : (w : Worker 4 64 8 16) → IsWorkerOf b w → CountsOne b m w w
-  none_counted w own = record {
-    counted = record { own = own; index = refl; replies = []; lists = sym (append-nil (lists_of w)) };
-    once = omega arith;
-  }
-
   -- a reply was counted, or the worker refused it and is as it was
   pub applied : (w v : Worker 4 64 8 16) (served : Served) (ops : List Op) (r : Result Unit ApplyFault) → IsWorkerOf b v → index_of v ≡ index_of w
-      → ops ≡ list_for m served → OnOk r (lists_of v ≡ lists_of w ++ ops ∷ []) → OnErr r (member_of v ≡ member_of w) → CountsOne b m w v
-  applied w v served ops (Ok done) own index is lists same = record {
-    counted = record { own = own; index = index; replies = served ∷ []; lists = lists ∙ ap (λ (o : List Op). lists_of w ++ o ∷ []) is };
-    once = omega arith;
+      → ops ≡ list_for m served → OnOk r (lists_of v ≡ lists_of w ++ ops ∷ []) → IfErr r (IsApplyFault 64 8 16 (member_of w) ops)
+      → OnErr r (member_of v ≡ member_of w) → WasCounted b m w v (Ok served)
+  applied w v served ops (Ok done) own index is lists why same = record {
+    own = own;
+    index = index;
+    reply = inl (lists ∙ ap (λ (o : List Op). lists_of w ++ o ∷ []) is);
+    fault = tt;
   }
-  applied w v served ops (Err fault) own index is lists same = record {
-    counted = record {
-      own = own;
-      index = index;
-      replies = [];
-      lists = ap (λ (x : Member). map ops_in x.work.made) same ∙ sym (append-nil (lists_of w));
-    };
-    once = omega arith;
+  applied w v served ops (Err fault) own index is lists why same = record {
+    own = own;
+    index = index;
+    reply = inr (same, (fault, subst (λ (o : List Op). IsApplyFault 64 8 16 (member_of w) o fault) is why));
+    fault = tt;
   }
+
+  -- there was a fault, and nothing was counted
+  pub not_served : (w : Worker 4 64 8 16) (fault : WireFault) → IsWorkerOf b w → WasCounted b m w w (Err fault)
+  not_served w fault own = record { own = own; index = refl; reply = tt; fault = refl }
+
+  -- as it is, it has counted nothing more
+  unchanged : (w v : Worker 4 64 8 16) → IsWorkerOf b v → index_of v ≡ index_of w → member_of v ≡ member_of w → HasCounted b m w v
+  unchanged w v own index same = record {
+    own = own;
+    index = index;
+    replies = [];
+    lists = ap (λ (x : Member). map ops_in x.work.made) same ∙ sym (append-nil (lists_of w));
+  }
+
+  -- one request more: one reply or none
+  pub one_more : (w v : Worker 4 64 8 16) (r : Result Served WireFault) → WasCounted b m w v r → HasCounted b m w v
+  one_more w v (Ok served) was = elim was.reply [
+    | inl lists ↦ record { own = was.own; index = was.index; replies = served ∷ []; lists = lists }
+    | inr none ↦ unchanged w v was.own was.index none.0
+  ]
+  one_more w v (Err fault) was = unchanged w v was.own was.index was.fault
 
   -- some replies, and then some more
   pub counted_more : (w v u : Worker 4 64 8 16) → HasCounted b m w v → HasCounted b m v u → HasCounted b m w u

@@ -16,7 +16,7 @@ use Rattle.chain_law.specs.Settled.{IsSettled}
 use Rattle.metrics_serve.specs.declared.metrics.Metrics.{Metrics}
 use Rattle.metrics_serve.specs.declared.threads.Four.{Four}
 use Rattle.metrics_serve.specs.Counted.{AreNew, AreSix, HasCounted, HaveCounted, IsNew, all_of, counter_for, list_for, number_of, replies_in}
-use Rattle.metrics_serve.proofs.Six.{of_six, six_same, six_both, six_list, one_a, one_b, one_c, one_d, one_e, one_f}
+use Rattle.metrics_serve.proofs.Six.{six_same, six_both, six_list, one_a, one_b, one_c, one_d, one_e, one_f}
 
 module _ (m : Metrics) (are : AreSix m) where
   -- the sum over the counters of all statuses

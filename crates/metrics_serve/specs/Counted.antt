@@ -1,15 +1,17 @@
 -- What the server counts of itself.
-use Rattle.std.specs.Prelude.{◌≡◌, ℕ, ◌+◌, ◌<◌, ◌≤◌, List, [], ◌∷◌, ◌++◌, map, length, slice_index, All}
+use Rattle.std.specs.Prelude.{◌≡◌, ◌⊎◌, ℕ, ◌+◌, ◌<◌, List, [], ◌∷◌, ◌++◌, map, length, slice_index, All, Result, IfOk, OnErr}
 use Rattle.bucket_math.specs.Bounds.{place_of}
 use Rattle.ledger_core.specs.declared.handles.Counter.{Counter}
 use Rattle.ledger_core.specs.declared.op.Op.{Op}
 use Rattle.ledger_core.specs.declared.op.Op.TheVariants.{Inc, Observe}
 use Rattle.register_rule.specs.declared.board.Board.{Board}
+use Rattle.scrape_http.specs.declared.fault.WireFault.{WireFault}
 use Rattle.scrape_http.specs.declared.serve.Served.{Served}
 use Rattle.scrape_http.specs.declared.status.Status.{Status}
 use Rattle.scrape_http.specs.declared.status.Status.TheVariants.{Success, BadRequest, NotFound, MethodNotAllowed, TooLarge, Unavailable}
+use Rattle.snapshot_update.specs.declared.faults.ApplyFault.{ApplyFault}
 use Rattle.snapshot_update.specs.declared.worker.Worker.{Worker}
-use Rattle.snapshot_update.specs.Workers.{index_of, lists_of, IsWorkerOf}
+use Rattle.snapshot_update.specs.Workers.{index_of, lists_of, member_of, IsApplyFault, IsWorkerOf}
 use Rattle.chain_law.specs.Settled.{IsSettled}
 use Rattle.snapshot_scan.specs.Snapshots.{Taken}
 use Rattle.metrics_serve.specs.declared.metrics.Metrics.{Metrics}
@@ -53,10 +55,14 @@ pub record HasCounted (b : Board 4 64 8 16) (m : Metrics) (w v : Worker 4 64 8 1
   pub replies : List Served
   pub lists : lists_of v ≡ lists_of w ++ map (list_for m) replies
 
--- from w to v it counted one reply at most
-pub record CountsOne (b : Board 4 64 8 16) (m : Metrics) (w v : Worker 4 64 8 16) : Type 0 where
-  pub counted : HasCounted b m w v
-  pub once : length counted.replies ≤ 1
+-- From w to v the worker counted what came of one request: a reply by its one list, or not at all where the worker refuses that list;
+-- and a fault not at all.
+pub record WasCounted (b : Board 4 64 8 16) (m : Metrics) (w v : Worker 4 64 8 16) (result : Result Served WireFault) : Type 0 where
+  pub own : IsWorkerOf b v
+  pub index : index_of v ≡ index_of w
+  pub reply : IfOk result (λ served. (lists_of v ≡ lists_of w ++ list_for m served ∷ []) ⊎ ((member_of v ≡ member_of w)
+      × ((why : ApplyFault) × IsApplyFault 64 8 16 (member_of w) (list_for m served) why)))
+  pub fault : OnErr result (member_of v ≡ member_of w)
 
 -- this is the worker of this index, at home, and it has published nothing
 pub record IsNew (b : Board 4 64 8 16) (index : ℕ) (w : Worker 4 64 8 16) : Type 0 where

@@ -1,10 +1,11 @@
 //! One connection.
-ghost use Rattle.metrics_serve.specs.Counted.{CountsOne};
 ghost use Rattle.snapshot_update.specs.Workers.{IsWorkerOf};
+ghost use Rattle.scrape_server.specs.Stream.{WasServed};
+ghost use Rattle.metrics_serve.specs.Counted.{WasCounted};
 
 use crate::metrics::Metrics;
 use program_parts::{Board, Worker};
-use scrape_http::{ScrapeFrom, serve_one};
+use scrape_http::{ScrapeFrom, Served, WireFault, serve_one};
 use scrape_server::close_in_stages;
 use std::net::TcpStream;
 use watched::Watched;
@@ -17,16 +18,20 @@ pub(crate) fn answer<S: ScrapeFrom>(
     source: &mut S,
     worker: &mut Worker,
     stream: &TcpStream,
-)
+) -> Result<Served, WireFault>
     requires { IsWorkerOf board.now worker.old }
-    ensures { CountsOne board.now metrics.now worker.old worker.new }
+    ensures served { WasServed S.gave source.old source.new result }
+    ensures counted { WasCounted board.now metrics.now worker.old worker.new result }
 {
     let mut reader = Watched::new(stream);
     let mut writer = Watched::new(stream);
-    let Ok(served) = serve_one(&mut reader, &mut writer, source) else {
-        return;
-    };
-    // Were a word of the row near its limit, the reply would not be counted.
-    let _ = worker.apply(board, &metrics.list(served));
-    let _ = close_in_stages(stream);
+    match serve_one(&mut reader, &mut writer, source) {
+        Ok(served) => {
+            // Were a word of the row near its limit, the reply would not be counted.
+            let _ = worker.apply(board, &metrics.list(served));
+            let _ = close_in_stages(stream);
+            Ok(served)
+        }
+        Err(fault) => Err(fault),
+    }
 }

@@ -1,4 +1,5 @@
 mod clients;
+mod counts;
 mod endings;
 mod hostile;
 mod memory;

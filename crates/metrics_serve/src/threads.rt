@@ -96,7 +96,7 @@ fn answer_all<T: Wait, S: ScrapeFrom + Drop>(
     ensures { HasCounted board.now metrics.now worker result }
 {
     for stream in connections.iter(rt) {
-        answer(board, metrics, &mut source, &mut worker, &stream);
+        let _ = answer(board, metrics, &mut source, &mut worker, &stream);
     }
     worker
 }

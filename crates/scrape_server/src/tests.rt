@@ -1,6 +1,8 @@
 //! A registry of one thread is served.
 ghost use Rattle.std.specs.Prelude.{◌≡◌, false};
 
+mod behind;
+
 use crate::serve_state;
 use ledger_core::Op;
 use metric_desc::Desc;

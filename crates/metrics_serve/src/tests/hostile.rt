@@ -11,9 +11,10 @@ use std::thread::join;
 const GET: &[u8] = b"GET /metrics HTTP/1.1\r\nHost: h\r\n\r\n";
 
 /// What clients in a row were replied.
-type Replies = io::Result<(Vec<u8>, Vec<u8>, Vec<u8>)>;
+type Replies = io::Result<[Vec<u8>; 4]>;
 
-/// One client connects and says nothing until three others were served.
+/// One client connects and says nothing until all others were served. Another one waits for the same thread, and keeps nobody else from
+/// being served.
 fn one_is_silent<T: Net<Listener = TcpListener, Stream = TcpStream>>(
     rt: &T,
     alloc: Global,
@@ -23,8 +24,11 @@ fn one_is_silent<T: Net<Listener = TcpListener, Stream = TcpStream>>(
     let first = ask(rt, alloc, port, GET)?;
     let second = ask(rt, alloc, port, b"GET /other HTTP/1.0\r\n\r\n")?;
     let third = ask(rt, alloc, port, GET)?;
+    let waits = connect(rt, port)?;
+    let last = ask(rt, alloc, port, GET)?;
     silent.shutdown(Shutdown::Both)?;
-    Ok((first, second, third))
+    waits.shutdown(Shutdown::Both)?;
+    Ok([first, second, third, last])
 }
 
 #[test]
@@ -34,15 +38,16 @@ fn a_client_that_says_nothing(rt: HostRuntime) -> Result<(), Fail> {
     let port = listener.local_addr()?.port();
     let (served, replies) = join(
         &rt,
-        || serve(&rt, alloc, listener, 4),
+        || serve(&rt, alloc, listener, 6),
         || one_is_silent(&rt, alloc, port),
     );
-    let (first, second, third) = replies?;
+    let [first, second, third, last] = replies?;
     assert!(rt; first.starts_with(b"HTTP/1.1 200 OK\r\n"));
     assert!(rt; second.starts_with(b"HTTP/1.1 404 Not Found\r\n"));
     assert!(rt; third.starts_with(b"HTTP/1.1 200 OK\r\n"));
+    assert!(rt; last.starts_with(b"HTTP/1.1 200 OK\r\n"));
     assert_eq!(rt; served.end, ServeEnd::Done);
-    assert_eq!(rt; served.written, lines(alloc, port, 3)?);
+    assert_eq!(rt; served.written, lines(alloc, port, 4)?);
     Ok(())
 }
 
