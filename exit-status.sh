@@ -1,7 +1,7 @@
 #!/bin/sh
 # Runs the built program $1 and compares its exit status and what it writes: 0 at a script's end, 1 after a refused line, 2 for
 # other arguments, 3 where standard input or standard output fails. Where there is no room for threads, a go is refused by 30.
-# Then looks at the arguments of the example of a service, $2.
+# Then looks at the arguments of the example of a service, $2, and at both as servers.
 set -eu
 work=$(mktemp -d)
 trap 'rm -rf "$work"' EXIT
@@ -43,3 +43,4 @@ expect "2  usage: example_service PORT REPLIES" "$service"
 expect "2  usage: example_service PORT REPLIES" "$service" 0
 expect "2  usage: example_service PORT REPLIES" "$service" 0 0 0
 echo "exit statuses 0, 1, 2 and 3: as expected"
+python3 "$(dirname "$0")/servers.py" "$program" "$service" "$(dirname "$0")/crates/example_service/stdout"
