@@ -12,7 +12,28 @@ use std::time::Duration;
 
 const GET: &[u8] = b"GET /metrics HTTP/1.1\r\nHost: h\r\n\r\n";
 
-/// A reply of each status but 503, and how many bytes they have; then a scrape.
+const NO_HOST: &[u8] = b"GET /metrics HTTP/1.1\r\n\r\n";
+
+const OTHER: &[u8] = b"GET / HTTP/1.0\r\n\r\n";
+
+const POST: &[u8] = b"POST /metrics HTTP/1.0\r\n\r\n";
+
+/// Asks so often, and tells how many bytes the replies have.
+fn ask_often<T: Net<Listener = TcpListener, Stream = TcpStream>>(
+    rt: &T,
+    alloc: Global,
+    port: u16,
+    request: &[u8],
+    times: u64,
+) -> io::Result<usize> {
+    let mut bytes = 0usize;
+    for _ in 0..times {
+        bytes = bytes.saturating_add(ask(rt, alloc, port, request)?.len());
+    }
+    Ok(bytes)
+}
+
+/// Replies of each status but 503, and how many bytes they have; then a scrape.
 fn each_status<T: Net<Listener = TcpListener, Stream = TcpStream>>(
     rt: &T,
     alloc: Global,
@@ -21,16 +42,15 @@ fn each_status<T: Net<Listener = TcpListener, Stream = TcpStream>>(
     let mut long = Vec::new(alloc);
     long.extend_from_slice(b"GET /metrics HTTP/1.1\r\nHost: h\r\nX: ")?;
     long.resize(9_000, b'x')?;
-    let mut sent = ask(rt, alloc, port, GET)?.len();
-    sent += ask(rt, alloc, port, b"GET /metrics HTTP/1.1\r\n\r\n")?.len();
-    for _ in 0..2 {
-        sent += ask(rt, alloc, port, b"GET / HTTP/1.0\r\n\r\n")?.len();
-    }
-    for _ in 0..3 {
-        sent += ask(rt, alloc, port, b"POST /metrics HTTP/1.0\r\n\r\n")?.len();
-    }
-    for _ in 0..4 {
-        sent += ask(rt, alloc, port, &long)?.len();
+    let mut sent = 0usize;
+    for (request, times) in [
+        (GET, 1),
+        (NO_HOST, 1),
+        (OTHER, 2),
+        (POST, 3),
+        (long.as_slice(), 4),
+    ] {
+        sent = sent.saturating_add(ask_often(rt, alloc, port, request, times)?);
     }
     Ok((sent, ask(rt, alloc, port, GET)?))
 }
@@ -101,6 +121,15 @@ fn the_port_is_told_first(rt: HostRuntime) -> Result<(), Fail> {
     Ok(())
 }
 
+/// Sends five pieces, each of which is taken.
+fn sends_five<T: Clock>(rt: &T, mut stream: &TcpStream) -> io::Result<()> {
+    for _ in 0..5 {
+        sleep(rt, Duration::from_millis(10));
+        stream.write_all(&[b'x'; 4_096])?;
+    }
+    Ok(())
+}
+
 /// Asks, reads the reply, and sends on: five pieces, which are taken, and then up to 4,000 more, of which one is not.
 fn sends_on<T: Net<Listener = TcpListener, Stream = TcpStream> + Clock>(
     rt: &T,
@@ -108,15 +137,11 @@ fn sends_on<T: Net<Listener = TcpListener, Stream = TcpStream> + Clock>(
     port: u16,
 ) -> io::Result<bool> {
     let stream = connect(rt, port)?;
-    (&stream).write_all(b"POST /metrics HTTP/1.0\r\n\r\n")?;
+    (&stream).write_all(POST)?;
     read_all(alloc, &stream)?;
-    let piece = [b'x'; 4_096];
-    for _ in 0..5 {
-        sleep(rt, Duration::from_millis(10));
-        (&stream).write_all(&piece)?;
-    }
+    sends_five(rt, &stream)?;
     for _ in 0..4_000 {
-        if (&stream).write_all(&piece).is_err() {
+        if (&stream).write_all(&[b'x'; 4_096]).is_err() {
             return Ok(true);
         }
     }
