@@ -139,7 +139,7 @@ END
 }
 
 # Of the tests of metrics_serve, the one whose server has no client.
-(cd metrics_serve/src/tests && rm clients.rt endings.rt hostile.rt replies.rt)
+(cd metrics_serve/src/tests && find . -type f ! -name memory.rt -delete)
 echo 'mod memory;' >metrics_serve/src/tests.rt
 
 prepare_program
