@@ -70,6 +70,12 @@ def the_port_is_the_one_asked_for():
     check(ended(server) == (b"served 1\n", b"", 0), "one connection")
 
 
+def there_is_no_room_for_threads():
+    server = start("sh", "-c", 'ulimit -v 6000 && exec "$0" serve 0 1', PROGRAM)
+    port_told(server.stdout)
+    check(ended(server) == (b"", b"fault\n", 3), "no room for the threads' stacks")
+
+
 def the_example_serves():
     server = start(SERVICE, "0", "3")
     port = port_told(server.stderr)
@@ -85,5 +91,6 @@ def the_example_serves():
 
 the_program_serves()
 the_port_is_the_one_asked_for()
+there_is_no_room_for_threads()
 the_example_serves()
 print("servers: ports, addresses, replies, what is printed and statuses: as expected")
