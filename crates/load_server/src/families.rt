@@ -1,5 +1,7 @@
 //! The families of the registry that is served, and what was counted.
+ghost use Rattle.std.specs.Prelude.{◌≡◌, ◌+◌, ◌*◌, ◌≤◌, length, OnOk};
 ghost use Rattle.snapshot_update.specs.Workers.{IsWorkerOf};
+ghost use Rattle.load_server.specs.Sizes.{bounds_of, counters_of, histograms_of, published_by};
 
 use anyhow::{Result, bail};
 use ledger_core::Histogram;
@@ -56,16 +58,20 @@ pub(crate) enum Size {
 }
 
 impl Size {
-    /// How many families of counters it has.
-    fn counters(self) -> u64 {
+    /// How many families of counters it has, of eight children each.
+    fn counters(self) -> u64
+        ensures { 8 * result ≡ counters_of self }
+    {
         match self {
             Size::Small => 8,
             Size::Large => 32,
         }
     }
 
-    /// How many families of histograms it has.
-    fn histograms(self) -> u64 {
+    /// How many families of histograms it has, of eight children each.
+    fn histograms(self) -> u64
+        ensures { 8 * result ≡ histograms_of self }
+    {
         match self {
             Size::Small => 1,
             Size::Large => 4,
@@ -73,7 +79,9 @@ impl Size {
     }
 
     /// The bounds of its histograms.
-    fn bounds(self) -> &'static [u64] {
+    fn bounds(self) -> &'static [u64]
+        ensures { length result.now ≡ bounds_of self }
+    {
         match self {
             Size::Small => &BOUNDS[..10],
             Size::Large => &BOUNDS,
@@ -119,7 +127,8 @@ fn add_counters<const C: usize, const H: usize>(
     family: u64,
 ) -> Result<()>
     requires { IsWorkerOf board.now worker.old }
-    ensures { IsWorkerOf board.now worker.new }
+    ensures own { IsWorkerOf board.now worker.new }
+    ensures counted { OnOk result (published_by worker.new ≡ published_by worker.old + 8) }
 {
     let id = registry.register(rt, counter_desc(rt.alloc(), family)?)?;
     for child in 0..CHILDREN {
@@ -135,7 +144,24 @@ fn add_counters<const C: usize, const H: usize>(
     Ok(())
 }
 
-/// Observes each bound once.
+/// Observes a value [`TIMES`] times.
+fn observe_often<const C: usize, const H: usize>(
+    board: &Board<4, C, H, 0>,
+    worker: &mut Worker<4, C, H, 0>,
+    histogram: &Histogram,
+    value: u64,
+) -> Result<()>
+    requires { IsWorkerOf board.now worker.old }
+    ensures own { IsWorkerOf board.now worker.new }
+    ensures counted { OnOk result (published_by worker.new ≡ published_by worker.old + 1000) }
+{
+    for _time in 0..TIMES {
+        worker.observe(board, histogram, value)?;
+    }
+    Ok(())
+}
+
+/// Observes each bound [`TIMES`] times.
 fn observe_bounds<const C: usize, const H: usize>(
     board: &Board<4, C, H, 0>,
     worker: &mut Worker<4, C, H, 0>,
@@ -143,26 +169,11 @@ fn observe_bounds<const C: usize, const H: usize>(
     bounds: &[u64],
 ) -> Result<()>
     requires { IsWorkerOf board.now worker.old }
-    ensures { IsWorkerOf board.now worker.new }
+    ensures own { IsWorkerOf board.now worker.new }
+    ensures counted { OnOk result (published_by worker.new ≡ published_by worker.old + 1000 * length bounds.now) }
 {
     for bound in bounds {
-        worker.observe(board, histogram, *bound)?;
-    }
-    Ok(())
-}
-
-/// Observes each bound [`TIMES`] times.
-fn observe_often<const C: usize, const H: usize>(
-    board: &Board<4, C, H, 0>,
-    worker: &mut Worker<4, C, H, 0>,
-    histogram: &Histogram,
-    bounds: &[u64],
-) -> Result<()>
-    requires { IsWorkerOf board.now worker.old }
-    ensures { IsWorkerOf board.now worker.new }
-{
-    for _time in 0..TIMES {
-        observe_bounds(board, worker, histogram, bounds)?;
+        observe_often(board, worker, histogram, *bound)?;
     }
     Ok(())
 }
@@ -177,7 +188,8 @@ fn add_histograms<const C: usize, const H: usize>(
     bounds: &[u64],
 ) -> Result<()>
     requires { IsWorkerOf board.now worker.old }
-    ensures { IsWorkerOf board.now worker.new }
+    ensures own { IsWorkerOf board.now worker.new }
+    ensures counted { OnOk result (published_by worker.old ≤ published_by worker.new) }
 {
     let id = registry.register(rt, histogram_desc(rt.alloc(), family, bounds)?)?;
     for child in 0..CHILDREN {
@@ -185,7 +197,7 @@ fn add_histograms<const C: usize, const H: usize>(
         else {
             bail!("no histogram")
         };
-        observe_often(board, worker, &histogram, bounds)?;
+        observe_bounds(board, worker, &histogram, bounds)?;
     }
     Ok(())
 }
@@ -199,7 +211,8 @@ fn all_counters<const C: usize, const H: usize>(
     size: Size,
 ) -> Result<()>
     requires { IsWorkerOf board.now worker.old }
-    ensures { IsWorkerOf board.now worker.new }
+    ensures own { IsWorkerOf board.now worker.new }
+    ensures counted { OnOk result (published_by worker.new ≡ published_by worker.old + counters_of size) }
 {
     for family in 0..size.counters() {
         add_counters(rt, board, registry, worker, family)?;
@@ -207,7 +220,7 @@ fn all_counters<const C: usize, const H: usize>(
     Ok(())
 }
 
-/// Registers all families, and counts in each of their children.
+/// Registers all families, and counts in each of their children: each counter was raised at least.
 pub(crate) fn fill<const C: usize, const H: usize>(
     rt: &(impl Wait + AllocGlobal),
     board: &Board<4, C, H, 0>,
@@ -216,6 +229,7 @@ pub(crate) fn fill<const C: usize, const H: usize>(
     size: Size,
 ) -> Result<()>
     requires { IsWorkerOf board.now worker.old }
+    ensures { OnOk result (published_by worker.old + counters_of size ≤ published_by worker.new) }
 {
     all_counters(rt, board, registry, worker, size)?;
     for family in 0..size.histograms() {

@@ -1,6 +1,10 @@
+use Rattle.std.proofs.Common.{◌≡◌, ◌+◌}
 use Rattle.snapshot_update.specs.Workers.{IsWorkerOf}
+use Rattle.load_server.specs.Sizes.{published_by}
 use Rattle.load_server.proofs.families.add_counters.Given as goal
 
--- the worker is the board's
 abbrev pub invariant-loop-child : goal.invariant-loop-child
-invariant-loop-child g l = IsWorkerOf l.board l.worker
+invariant-loop-child g l = record {
+  own : IsWorkerOf l.board l.worker;
+  counted : published_by l.worker ≡ published_by l.fn.worker + l.child;
+}

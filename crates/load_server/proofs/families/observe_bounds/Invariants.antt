@@ -1,6 +1,10 @@
+use Rattle.std.proofs.Common.{◌≡◌, ◌+◌, ◌*◌}
 use Rattle.snapshot_update.specs.Workers.{IsWorkerOf}
+use Rattle.load_server.specs.Sizes.{published_by}
 use Rattle.load_server.proofs.families.observe_bounds.Given as goal
 
--- the worker is the board's
 abbrev pub invariant-loop-bound : goal.invariant-loop-bound
-invariant-loop-bound g l = IsWorkerOf l.board l.worker
+invariant-loop-bound g l = record {
+  own : IsWorkerOf l.board l.worker;
+  counted : published_by l.worker ≡ published_by l.fn.worker + 1000 * l.bound-index;
+}
