@@ -1,5 +1,5 @@
 -- Replies that a worker has counted.
-use Rattle.std.proofs.Common.{◌≡◌, ℕ, Option, List, [], ◌∷◌, ◌++◌, Result, Ok, Err, OnOk, OnErr, IfErr, map, refl, sym, subst, ap, ap₂, ◌∙◌, append-nil, append_assoc, inl, inr}
+use Rattle.std.proofs.Common.{◌≡◌, ℕ, ◌<◌, Option, List, [], ◌∷◌, ◌++◌, Result, Ok, Err, OnOk, OnErr, IfErr, map, refl, sym, subst, ap, ap₂, ◌∙◌, append-nil, append_assoc, inl, inr}
 use Rattle.std.proofs.KnownBytes.{Appends-kept, Appends-trans}
 use Rattle.std.proofs.lemmas.List.{map-append}
 use Rattle.std.specs.Io.KnownBytes.{Appends, Keeps}
@@ -90,10 +90,11 @@ module _ (b : Board 4 64 8 16) (m : Metrics) where
       }
 
 -- the port, and then the replies
-pub printed : (a b c : Option (List ℕ)) (port replies : ℕ) (r : Result Unit Broken) → AreReplies replies → Appends a b (listening_line port)
+pub printed : (a b c : Option (List ℕ)) (port replies : ℕ) (r : Result Unit Broken) → port < 65536 → AreReplies replies → Appends a b (listening_line port)
     → OnOk r (Appends b c (served_line replies)) → OnOk r (Prints a c Done)
-printed a b c port replies (Ok done) are before after = (port, replies, are, Appends-trans a b c (listening_line port) (served_line replies) before after)
-printed a b c port replies (Err broken) are before after = tt
+printed a b c port replies (Ok done) small are before after =
+    (port, replies, small, are, Appends-trans a b c (listening_line port) (served_line replies) before after)
+printed a b c port replies (Err broken) small are before after = tt
 
 -- three parts of a line were written, and let go
 pub told : (a b c d e : Option (List ℕ)) (xs ys zs : List ℕ) (r : Result Unit Broken) → Appends a b xs → Appends b c ys → Appends c d zs → Keeps d e

@@ -1,5 +1,5 @@
 -- What the server prints.
-use Rattle.std.specs.Prelude.{ℕ, List, ◌++◌, codes, decimal, Option, ⊤}
+use Rattle.std.specs.Prelude.{ℕ, ◌<◌, List, ◌++◌, codes, decimal, Option, ⊤}
 use Rattle.std.specs.Io.KnownBytes.{Appends}
 use Rattle.metrics_serve.specs.Counted.{AreReplies}
 use Rattle.metrics_serve.specs.declared.serve.ServeEnd.{ServeEnd}
@@ -15,7 +15,7 @@ served_line replies = codes "served " ++ decimal replies ++ codes "\n"
 
 -- what a server prints that ends so: its port, and at the end its replies; or that there was no memory, before it listens to anybody
 abbrev pub Prints : (before after : Option (List ℕ)) → ServeEnd → Type 0
-Prints before after Done = (port replies : ℕ) × AreReplies replies × Appends before after (listening_line port ++ served_line replies)
+Prints before after Done = (port replies : ℕ) × (port < 65536) × AreReplies replies × Appends before after (listening_line port ++ served_line replies)
 Prints before after NoMemory = Appends before after (codes "refused 0 6\n")
 Prints before after Broken = ⊤
 

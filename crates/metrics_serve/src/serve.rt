@@ -1,5 +1,5 @@
 //! The server.
-ghost use Rattle.std.specs.Prelude.{◌≡◌, [], ◌∷◌, map, replicate, All, OnOk, IfSome};
+ghost use Rattle.std.specs.Prelude.{◌≡◌, ◌<◌, [], ◌∷◌, map, replicate, All, OnOk, IfSome};
 ghost use Rattle.std.specs.Io.KnownBytes.{Appends};
 ghost use Rattle.chain_law.specs.Settled.{IsSettled};
 ghost use Rattle.snapshot_scan.specs.Readers.{IsReaderOf};
@@ -75,7 +75,8 @@ impl<'b> Service<'b> {
 
 /// Writes the line that tells the port, and lets it go.
 fn tell_port<W: Write>(writer: &mut W, port: u16) -> Result<(), Broken>
-    ensures { OnOk result (Appends (W.contents writer.old) (W.contents writer.new) (listening_line port)) }
+    ensures line { OnOk result (Appends (W.contents writer.old) (W.contents writer.new) (listening_line port)) }
+    ensures range { port < 65536 }
 {
     let mut digits = itoa::Buffer::new();
     send(writer, b"listening ")?;
