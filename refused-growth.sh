@@ -139,21 +139,21 @@ END
 }
 
 # Of the tests of metrics_serve, the one whose server has no client.
-(cd metrics_serve/src/tests && find . -type f ! -name memory.rt -delete)
-echo 'mod memory;' >metrics_serve/src/tests.rt
+(cd metrics_serve_tests/src/tests && find . -type f ! -name memory.rt -delete)
+echo 'mod memory;' >metrics_serve_tests/src/tests.rt
 
 prepare_program
-prepare_tests expo_text $(seq 1 14)
-prepare_tests expo_reader $(seq 1 16)
-prepare_tests register_rule $(seq 1 5)
+prepare_tests expo_text_tests $(seq 1 14)
+prepare_tests expo_reader_tests $(seq 1 16)
+prepare_tests register_rule_tests $(seq 1 5)
 prepare_tests snapshot_core $(seq 1 24)
-prepare_tests snapshot_scan $(seq 1 16)
+prepare_tests snapshot_scan_tests $(seq 1 16)
 prepare_tests snapshot_update $(seq 1 24)
 prepare_tests chain_law $(seq 1 4) $(seq 44 49)
 prepare_tests registry_state $(seq 1 32)
 prepare_tests worker_pool $(seq 48 52)
-prepare_tests metric_registry $(seq 45 66)
-prepare_tests metrics_serve $(seq 1 170)
+prepare_tests metric_registry_tests $(seq 45 66)
+prepare_tests metrics_serve_tests $(seq 1 170)
 
 # Half of the processors: the rest are for the proofs beside this.
 {
@@ -203,7 +203,7 @@ while read -r crate _ tests numbers; do
         cat "$log"
         exit 1
     fi
-    if [ "$crate" = metrics_serve ] && [ "$failed" != 161 ]; then
+    if [ "$crate" = metrics_serve_tests ] && [ "$failed" != 161 ]; then
         echo "a server without a client: want of memory was met at $failed allocations, expected at 161"
         exit 1
     fi

@@ -12,6 +12,8 @@
 //! arguments; 1 where something failed.
 #![tactic(auto)]
 
+#[cfg(test)]
+mod asserts;
 mod beside;
 mod busy;
 mod clock;

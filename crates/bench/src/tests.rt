@@ -1,3 +1,4 @@
+use crate::asserts::same;
 use crate::beside::Beside;
 use crate::locked::{full, scrapes_beside};
 use crate::numbers::number;
@@ -20,43 +21,43 @@ fn prints_one_decimal(rt: HostRuntime) -> Result<(), Fail> {
         (10_000, "1000.0"),
     ] {
         let printed = format!(in rt.alloc(); "{}", Tenths(number))?;
-        assert_eq!(rt; printed.as_str(), text);
+        same(&rt, &printed.as_str(), &text);
     }
     Ok(())
 }
 
 #[test]
 fn takes_the_nearest_tenth(rt: HostRuntime) {
-    assert_eq!(rt; in_tenths(0, 3), Tenths(0));
-    assert_eq!(rt; in_tenths(10, 3), Tenths(33));
-    assert_eq!(rt; in_tenths(2, 3), Tenths(7));
-    assert_eq!(rt; in_tenths(1, 20), Tenths(1));
-    assert_eq!(rt; in_tenths(1, 21), Tenths(0));
-    assert_eq!(rt; in_tenths(91, 2), Tenths(455));
-    assert_eq!(rt; in_tenths(u64::MAX, u64::MAX), Tenths(10));
+    same(&rt, &in_tenths(0, 3), &Tenths(0));
+    same(&rt, &in_tenths(10, 3), &Tenths(33));
+    same(&rt, &in_tenths(2, 3), &Tenths(7));
+    same(&rt, &in_tenths(1, 20), &Tenths(1));
+    same(&rt, &in_tenths(1, 21), &Tenths(0));
+    same(&rt, &in_tenths(91, 2), &Tenths(455));
+    same(&rt, &in_tenths(u64::MAX, u64::MAX), &Tenths(10));
 }
 
 #[test]
 fn plans(rt: HostRuntime) -> Result<(), Fail> {
     let none = Plan::of(0).ok_or("no plan of 0")?;
-    assert_eq!(rt; (none.rounds, none.shown), (1, false));
-    assert_eq!(rt; none.one_in(100), 1);
+    same(&rt, &(none.rounds, none.shown), &(1, false));
+    same(&rt, &none.one_in(100), &1);
     let many = Plan::of(1_000_000_000).ok_or("no plan of 10^9")?;
-    assert_eq!(rt; (many.rounds, many.shown), (1_000_000_000, true));
-    assert_eq!(rt; many.one_in(100), 10_000_000);
+    same(&rt, &(many.rounds, many.shown), &(1_000_000_000, true));
+    same(&rt, &many.one_in(100), &10_000_000);
     assert!(rt; Plan::of(1_000_000_001).is_none());
     Ok(())
 }
 
 #[test]
 fn numbers_of_4_to_9_digits(rt: HostRuntime) {
-    assert_eq!(rt; number(0), 1_009);
-    assert_eq!(rt; number(1), 11_440);
-    assert_eq!(rt; number(2), 108_171);
-    assert_eq!(rt; number(3), 1_111_918);
-    assert_eq!(rt; number(4), 11_337_931);
-    assert_eq!(rt; number(5), 116_403_492);
-    assert_eq!(rt; number(256), 10_097_063);
+    same(&rt, &number(0), &1_009);
+    same(&rt, &number(1), &11_440);
+    same(&rt, &number(2), &108_171);
+    same(&rt, &number(3), &1_111_918);
+    same(&rt, &number(4), &11_337_931);
+    same(&rt, &number(5), &116_403_492);
+    same(&rt, &number(256), &10_097_063);
 }
 
 /// The text of a service's scrape.
@@ -102,8 +103,12 @@ fn formats_a_number_for_each_line(rt: HostRuntime) -> Result<(), Fail> {
         histograms: 4,
         bounds: 24,
     };
-    assert_eq!(rt; lines_of(rt.alloc(), small)?, 9 * 2 + 64 + 8 * 13);
-    assert_eq!(rt; lines_of(rt.alloc(), large)?, 36 * 2 + 256 + 32 * 27);
+    same(&rt, &lines_of(rt.alloc(), small)?, &(9 * 2 + 64 + 8 * 13));
+    same(
+        &rt,
+        &lines_of(rt.alloc(), large)?,
+        &(36 * 2 + 256 + 32 * 27),
+    );
     Ok(())
 }
 
@@ -122,7 +127,7 @@ fn scrapes_beside_each_call(rt: HostRuntime) -> Result<(), Fail> {
         scrapes_beside(&rt, &registry, service, beside, 100)?;
     }
     let state = registry.into_state();
-    assert_eq!(rt; state.journal().len(), 9 + 72 + 64);
-    assert_eq!(rt; state.kept().len(), 64);
+    same(&rt, &state.journal().len(), &(9 + 72 + 64));
+    same(&rt, &state.kept().len(), &64);
     Ok(())
 }

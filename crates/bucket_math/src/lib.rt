@@ -3,6 +3,8 @@
 //! Source: Prometheus documentation, "Metric types", "Histogram": buckets are cumulative, and a bound is inclusive.
 #![tactic(auto)]
 
+#[cfg(test)]
+mod asserts;
 mod bounds;
 mod buckets;
 

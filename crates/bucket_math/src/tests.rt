@@ -1,3 +1,4 @@
+use crate::asserts::same;
 use crate::{BUCKETS, BadBounds, Bounds, MAX_BOUND, cumulate};
 use std::test::Fail;
 
@@ -8,8 +9,8 @@ fn places(rt: HostRuntime) -> Result<(), Fail> {
         assert_eq!(rt; bounds.place(value), place, "of {value}");
     }
     let none = Bounds::from_slice(&[])?;
-    assert_eq!(rt; none.place(0), 0);
-    assert_eq!(rt; none.place(u64::MAX), 0);
+    same(&rt, &none.place(0), &0);
+    same(&rt, &none.place(u64::MAX), &0);
     Ok(())
 }
 
@@ -28,7 +29,7 @@ fn refuses_bad_bounds(rt: HostRuntime) {
             Some(BadBounds { at }),
             "{bounds:?}"
         );
-        assert_eq!(rt; BadBounds { at }.number(), 10);
+        same(&rt, &BadBounds { at }.number(), &10);
     }
 }
 
@@ -44,8 +45,8 @@ fn gives_bounds_back(rt: HostRuntime) -> Result<(), Fail> {
     ];
     for bounds in accepted {
         let made = Bounds::from_slice(bounds)?;
-        assert_eq!(rt; made.as_slice(), bounds);
-        assert_eq!(rt; made, Bounds::from_slice(made.as_slice())?);
+        same(&rt, &made.as_slice(), &bounds);
+        same(&rt, &made, &Bounds::from_slice(made.as_slice())?);
     }
     Ok(())
 }
@@ -59,9 +60,9 @@ fn cumulates(rt: HostRuntime) {
     let mut two = [3; BUCKETS];
     two[0] = 1;
     two[1] = 2;
-    assert_eq!(rt; cumulate(&buckets, 2), two);
-    assert_eq!(rt; cumulate(&buckets, 0), [3; BUCKETS]);
-    assert_eq!(rt; cumulate(&buckets, 24)[24], 3);
+    same(&rt, &cumulate(&buckets, 2), &two);
+    same(&rt, &cumulate(&buckets, 0), &[3; BUCKETS]);
+    same(&rt, &cumulate(&buckets, 24)[24], &3);
 }
 
 /// The bounds 0, 1, 2 and so on.

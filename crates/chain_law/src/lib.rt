@@ -2,6 +2,8 @@
 //! history of publishes through snapshots that rise.
 #![tactic(auto)]
 
+#[cfg(test)]
+mod asserts;
 mod gathering;
 mod history;
 mod not_all;

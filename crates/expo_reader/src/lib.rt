@@ -17,6 +17,3 @@ mod unescape;
 
 pub use found::{Found, FoundLabel, FoundSample, Word};
 pub use read::read_text;
-
-#[cfg(test)]
-mod tests;

@@ -23,6 +23,3 @@ pub use page::render;
 pub use scrape::{ChildScrape, FamilyScrape, Scrape};
 pub use sending::{WriteFailed, send, write_after, write_to};
 pub use tally::text_len;
-
-#[cfg(test)]
-mod tests;

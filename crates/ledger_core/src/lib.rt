@@ -23,4 +23,6 @@ pub use row::{MAX_WORD, Row};
 pub use totals::{GaugeTotals, HistTotals};
 
 #[cfg(test)]
+mod asserts;
+#[cfg(test)]
 mod tests;

@@ -1,3 +1,4 @@
+use crate::asserts::same;
 use crate::{GaugeTotals, HistTotals, MAX_WORD, Op, OpFault, Row};
 use std::process::Abort;
 use std::test::Fail;
@@ -5,9 +6,9 @@ use std::test::Fail;
 /// A list that a new row of two counters, a histogram and a gauge refuses, and that leaves it as it was.
 fn refused(rt: &impl Abort, ops: &[Op], fault: OpFault, number: u8) {
     let mut row = Row::<2, 1, 1>::new();
-    assert_eq!(rt; row.try_apply(ops), Err(fault));
-    assert_eq!(rt; fault.number(), number);
-    assert_eq!(rt; (row.counter(0), row.counter(1)), (0, 0));
+    same(rt, &row.try_apply(ops), &Err(fault));
+    same(rt, &fault.number(), &number);
+    same(rt, &(row.counter(0), row.counter(1)), &(0, 0));
     let fill = [
         Op::Inc {
             counter: 0,
@@ -31,7 +32,7 @@ fn refused(rt: &impl Abort, ops: &[Op], fault: OpFault, number: u8) {
             by: MAX_WORD,
         },
     ];
-    assert_eq!(rt; row.try_apply(&fill), Ok(()));
+    same(rt, &row.try_apply(&fill), &Ok(()));
 }
 
 #[test]
@@ -146,19 +147,21 @@ fn refuses_what_is_too_large(rt: HostRuntime) {
 #[test]
 fn a_counter_stops_at_its_limit(rt: HostRuntime) {
     let mut row = Row::<2, 1, 1>::new();
-    assert_eq!(rt; row.counter(0), 0);
-    assert_eq!(rt;
-        row.try_apply(&[Op::Inc {
+    same(&rt, &row.counter(0), &0);
+    same(
+        &rt,
+        &row.try_apply(&[Op::Inc {
             counter: 0,
-            by: 281_474_976_710_655
+            by: 281_474_976_710_655,
         }]),
-        Ok(())
+        &Ok(()),
     );
-    assert_eq!(rt;
-        row.try_apply(&[Op::Inc { counter: 0, by: 1 }]),
-        Err(OpFault::TooLarge { at: 0 })
+    same(
+        &rt,
+        &row.try_apply(&[Op::Inc { counter: 0, by: 1 }]),
+        &Err(OpFault::TooLarge { at: 0 }),
     );
-    assert_eq!(rt; row.counter(0), 281_474_976_710_655);
+    same(&rt, &row.counter(0), &281_474_976_710_655);
 }
 
 #[test]
@@ -176,8 +179,8 @@ fn adds_a_mixed_list(rt: HostRuntime) {
         Op::Down { gauge: 0, by: 5 },
         Op::Inc { counter: 1, by: 2 },
     ];
-    assert_eq!(rt; row.try_apply(&ops), Ok(()));
-    assert_eq!(rt; (row.counter(0), row.counter(1)), (3, 42));
+    same(&rt, &row.try_apply(&ops), &Ok(()));
+    same(&rt, &(row.counter(0), row.counter(1)), &(3, 42));
 }
 
 #[test]
@@ -202,7 +205,7 @@ fn reads_totals(rt: HostRuntime) {
         Op::Up { gauge: 0, by: 5 },
         Op::Down { gauge: 0, by: 7 },
     ];
-    assert_eq!(rt; row.try_apply(&ops), Ok(()));
+    same(&rt, &row.try_apply(&ops), &Ok(()));
     let mut buckets = [0; 25];
     buckets[0] = 1;
     buckets[1] = 1;
@@ -217,22 +220,23 @@ fn reads_totals(rt: HostRuntime) {
         sum: 0,
         count: 0,
     };
-    assert_eq!(rt; row.hist(1), seen);
-    assert_eq!(rt; row.hist(0), unseen);
-    assert_eq!(rt; row.gauge(0), GaugeTotals { up: 5, down: 7 });
-    assert_eq!(rt; row.counter(0), 0);
+    same(&rt, &row.hist(1), &seen);
+    same(&rt, &row.hist(0), &unseen);
+    same(&rt, &row.gauge(0), &GaugeTotals { up: 5, down: 7 });
+    same(&rt, &row.counter(0), &0);
 }
 
 #[test]
 fn the_empty_list_adds_nothing(rt: HostRuntime) {
     let mut row = Row::<1, 0, 0>::new();
-    assert_eq!(rt; row.try_apply(&[]), Ok(()));
-    assert_eq!(rt; row.counter(0), 0);
+    same(&rt, &row.try_apply(&[]), &Ok(()));
+    same(&rt, &row.counter(0), &0);
     let mut none = Row::<0, 0, 0>::new();
-    assert_eq!(rt; none.try_apply(&[]), Ok(()));
-    assert_eq!(rt;
-        none.try_apply(&[Op::Inc { counter: 0, by: 1 }]),
-        Err(OpFault::OutOfGeometry { at: 0 })
+    same(&rt, &none.try_apply(&[]), &Ok(()));
+    same(
+        &rt,
+        &none.try_apply(&[Op::Inc { counter: 0, by: 1 }]),
+        &Err(OpFault::OutOfGeometry { at: 0 }),
     );
 }
 
@@ -240,10 +244,15 @@ fn the_empty_list_adds_nothing(rt: HostRuntime) {
 fn faults_name_their_place(rt: HostRuntime) -> Result<(), Fail> {
     let outside = format!(in rt.alloc(); "{}", OpFault::OutOfGeometry { at: 3 })?;
     let large = format!(in rt.alloc(); "{}", OpFault::TooLarge { at: 0 })?;
-    assert_eq!(rt; outside.as_str(), "the operation at 3 is outside the row");
-    assert_eq!(rt;
-        large.as_str(),
-        "the operation at 0 would take a word past 2^48 - 1"
+    same(
+        &rt,
+        &outside.as_str(),
+        &"the operation at 3 is outside the row",
+    );
+    same(
+        &rt,
+        &large.as_str(),
+        &"the operation at 0 would take a word past 2^48 - 1",
     );
     Ok(())
 }
@@ -261,19 +270,27 @@ fn words_stand_in_their_order(rt: HostRuntime) {
         Op::Up { gauge: 0, by: 2 },
         Op::Down { gauge: 0, by: 9 },
     ];
-    assert_eq!(rt; row.try_apply(&ops), Ok(()));
-    assert_eq!(rt; (row.word_at(0), row.word_at(1)), (0, 5));
-    assert_eq!(rt; (row.word_at(2), row.word_at(5)), (0, 1));
-    assert_eq!(rt; (row.word_at(27), row.word_at(28)), (7, 1));
-    assert_eq!(rt; (row.word_at(29), row.word_at(30)), (2, 9));
+    same(&rt, &row.try_apply(&ops), &Ok(()));
+    same(&rt, &(row.word_at(0), row.word_at(1)), &(0, 5));
+    same(&rt, &(row.word_at(2), row.word_at(5)), &(0, 1));
+    same(&rt, &(row.word_at(27), row.word_at(28)), &(7, 1));
+    same(&rt, &(row.word_at(29), row.word_at(30)), &(2, 9));
 }
 
 #[test]
 fn a_copy_is_equal_and_apart(rt: HostRuntime) {
     let mut row = Row::<2, 1, 1>::new();
-    assert_eq!(rt; row.try_apply(&[Op::Inc { counter: 0, by: 5 }]), Ok(()));
+    same(
+        &rt,
+        &row.try_apply(&[Op::Inc { counter: 0, by: 5 }]),
+        &Ok(()),
+    );
     let copy = row.copy();
-    assert_eq!(rt; row.try_apply(&[Op::Inc { counter: 0, by: 1 }]), Ok(()));
-    assert_eq!(rt; (copy.counter(0), row.counter(0)), (5, 6));
-    assert_eq!(rt; (copy.len(), Row::<0, 0, 0>::new().len()), (31, 0));
+    same(
+        &rt,
+        &row.try_apply(&[Op::Inc { counter: 0, by: 1 }]),
+        &Ok(()),
+    );
+    same(&rt, &(copy.counter(0), row.counter(0)), &(5, 6));
+    same(&rt, &(copy.len(), Row::<0, 0, 0>::new().len()), &(31, 0));
 }

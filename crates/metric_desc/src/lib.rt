@@ -12,6 +12,3 @@ pub use histogram::HistogramFault;
 pub use kind::Kind;
 pub use labels::{LabelsFault, MAX_LABELS};
 pub use names::clashes;
-
-#[cfg(test)]
-mod tests;

@@ -4,6 +4,8 @@
 //! The grammars are those of the Prometheus documentation, "Data model" and "Exposition formats".
 #![tactic(auto)]
 
+#[cfg(test)]
+mod asserts;
 mod help_text;
 mod label_name;
 mod label_value;

@@ -1,3 +1,4 @@
+use crate::asserts::same;
 use crate::{
     HelpText, HelpTextFault, LabelName, LabelNameFault, LabelValue, LabelValueFault, MetricName,
     MetricNameFault, NoMemory,
@@ -8,7 +9,7 @@ use std::test::Fail;
 fn metric_names(rt: HostRuntime) -> Result<(), Fail> {
     let alloc = rt.alloc();
     for text in ["a", "_", ":", "Z9", "http_requests_total", "a:b_0"] {
-        assert_eq!(rt; MetricName::read(alloc, text)?.as_str(), text);
+        same(&rt, &MetricName::read(alloc, text)?.as_str(), &text);
     }
     let refused = [
         ("", MetricNameFault::Empty, 1),
@@ -20,10 +21,10 @@ fn metric_names(rt: HostRuntime) -> Result<(), Fail> {
     ];
     for (text, fault, number) in refused {
         assert_eq!(rt; MetricName::read(alloc, text).err(), Some(fault), "{text}");
-        assert_eq!(rt; fault.number(), number);
+        same(&rt, &fault.number(), &number);
     }
-    assert_eq!(rt; MetricNameFault::NoMemory.number(), 6);
-    assert_eq!(rt; NoMemory.number(), 6);
+    same(&rt, &MetricNameFault::NoMemory.number(), &6);
+    same(&rt, &NoMemory.number(), &6);
     Ok(())
 }
 
@@ -32,23 +33,30 @@ fn long_names(rt: HostRuntime) -> Result<(), Fail> {
     let alloc = rt.alloc();
     let longest = String::from_utf8(vec![in alloc; b'a'; 128]?)?;
     let longer = String::from_utf8(vec![in alloc; b'-'; 129]?)?;
-    assert_eq!(rt;
-        MetricName::read(alloc, longest.as_str())?.as_str(),
-        longest.as_str()
+    same(
+        &rt,
+        &MetricName::read(alloc, longest.as_str())?.as_str(),
+        &longest.as_str(),
     );
-    assert_eq!(rt;
-        LabelName::read(alloc, longest.as_str())?.as_str(),
-        longest.as_str()
+    same(
+        &rt,
+        &LabelName::read(alloc, longest.as_str())?.as_str(),
+        &longest.as_str(),
     );
     let metric = MetricNameFault::TooLong { limit: 128 };
-    assert_eq!(rt;
-        MetricName::read(alloc, longer.as_str()).err(),
-        Some(metric)
+    same(
+        &rt,
+        &MetricName::read(alloc, longer.as_str()).err(),
+        &Some(metric),
     );
-    assert_eq!(rt; metric.number(), 3);
+    same(&rt, &metric.number(), &3);
     let label = LabelNameFault::TooLong { limit: 128 };
-    assert_eq!(rt; LabelName::read(alloc, longer.as_str()).err(), Some(label));
-    assert_eq!(rt; label.number(), 3);
+    same(
+        &rt,
+        &LabelName::read(alloc, longer.as_str()).err(),
+        &Some(label),
+    );
+    same(&rt, &label.number(), &3);
     Ok(())
 }
 
@@ -56,7 +64,7 @@ fn long_names(rt: HostRuntime) -> Result<(), Fail> {
 fn label_names(rt: HostRuntime) -> Result<(), Fail> {
     let alloc = rt.alloc();
     for text in ["a", "_", "_a", "le", "method", "a__b"] {
-        assert_eq!(rt; LabelName::read(alloc, text)?.as_str(), text);
+        same(&rt, &LabelName::read(alloc, text)?.as_str(), &text);
     }
     let refused = [
         ("", LabelNameFault::Empty, 1),
@@ -67,9 +75,9 @@ fn label_names(rt: HostRuntime) -> Result<(), Fail> {
     ];
     for (text, fault, number) in refused {
         assert_eq!(rt; LabelName::read(alloc, text).err(), Some(fault), "{text}");
-        assert_eq!(rt; fault.number(), number);
+        same(&rt, &fault.number(), &number);
     }
-    assert_eq!(rt; LabelNameFault::NoMemory.number(), 6);
+    same(&rt, &LabelNameFault::NoMemory.number(), &6);
     Ok(())
 }
 
@@ -77,7 +85,7 @@ fn label_names(rt: HostRuntime) -> Result<(), Fail> {
 fn help_texts(rt: HostRuntime) -> Result<(), Fail> {
     let alloc = rt.alloc();
     for text in ["", "x", "a\\b\nc", "Größe in \"Byte\".", "\nx\n"] {
-        assert_eq!(rt; HelpText::read(alloc, text)?.as_str(), text);
+        same(&rt, &HelpText::read(alloc, text)?.as_str(), &text);
     }
     for text in [" x", "x ", "\tx", "x\t", " ", "\t"] {
         assert_eq!(rt;
@@ -88,15 +96,20 @@ fn help_texts(rt: HostRuntime) -> Result<(), Fail> {
     }
     let longest = String::from_utf8(vec![in alloc; b'a'; 1024]?)?;
     let longer = String::from_utf8(vec![in alloc; b' '; 1025]?)?;
-    assert_eq!(rt;
-        HelpText::read(alloc, longest.as_str())?.as_str(),
-        longest.as_str()
+    same(
+        &rt,
+        &HelpText::read(alloc, longest.as_str())?.as_str(),
+        &longest.as_str(),
     );
     let fault = HelpTextFault::TooLong { limit: 1024 };
-    assert_eq!(rt; HelpText::read(alloc, longer.as_str()).err(), Some(fault));
-    assert_eq!(rt; fault.number(), 3);
-    assert_eq!(rt; HelpTextFault::EdgeBlank.number(), 5);
-    assert_eq!(rt; HelpTextFault::NoMemory.number(), 6);
+    same(
+        &rt,
+        &HelpText::read(alloc, longer.as_str()).err(),
+        &Some(fault),
+    );
+    same(&rt, &fault.number(), &3);
+    same(&rt, &HelpTextFault::EdgeBlank.number(), &5);
+    same(&rt, &HelpTextFault::NoMemory.number(), &6);
     Ok(())
 }
 
@@ -104,28 +117,45 @@ fn help_texts(rt: HostRuntime) -> Result<(), Fail> {
 fn label_values(rt: HostRuntime) -> Result<(), Fail> {
     let alloc = rt.alloc();
     for text in ["", " ", "a b", "\"\n\\"] {
-        assert_eq!(rt; LabelValue::read(alloc, text)?.as_str(), text);
+        same(&rt, &LabelValue::read(alloc, text)?.as_str(), &text);
     }
     let longest = String::from_utf8(vec![in alloc; b'\n'; 256]?)?;
     let longer = String::from_utf8(vec![in alloc; b'a'; 257]?)?;
-    assert_eq!(rt;
-        LabelValue::read(alloc, longest.as_str())?.as_str(),
-        longest.as_str()
+    same(
+        &rt,
+        &LabelValue::read(alloc, longest.as_str())?.as_str(),
+        &longest.as_str(),
     );
     let fault = LabelValueFault::TooLong { limit: 256 };
-    assert_eq!(rt; LabelValue::read(alloc, longer.as_str()).err(), Some(fault));
-    assert_eq!(rt; fault.number(), 3);
-    assert_eq!(rt; LabelValueFault::NoMemory.number(), 6);
+    same(
+        &rt,
+        &LabelValue::read(alloc, longer.as_str()).err(),
+        &Some(fault),
+    );
+    same(&rt, &fault.number(), &3);
+    same(&rt, &LabelValueFault::NoMemory.number(), &6);
     Ok(())
 }
 
 #[test]
 fn copies(rt: HostRuntime) -> Result<(), Fail> {
     let alloc = rt.alloc();
-    assert_eq!(rt; MetricName::read(alloc, "a:b")?.copy()?.as_str(), "a:b");
-    assert_eq!(rt; LabelName::read(alloc, "a_b")?.copy()?.as_str(), "a_b");
-    assert_eq!(rt; HelpText::read(alloc, "a b")?.copy()?.as_str(), "a b");
-    assert_eq!(rt; LabelValue::read(alloc, "a b ")?.copy()?.as_str(), "a b ");
+    same(
+        &rt,
+        &MetricName::read(alloc, "a:b")?.copy()?.as_str(),
+        &"a:b",
+    );
+    same(
+        &rt,
+        &LabelName::read(alloc, "a_b")?.copy()?.as_str(),
+        &"a_b",
+    );
+    same(&rt, &HelpText::read(alloc, "a b")?.copy()?.as_str(), &"a b");
+    same(
+        &rt,
+        &LabelValue::read(alloc, "a b ")?.copy()?.as_str(),
+        &"a b ",
+    );
     Ok(())
 }
 
@@ -134,24 +164,24 @@ fn copies(rt: HostRuntime) -> Result<(), Fail> {
 fn longest_copies(rt: HostRuntime) -> Result<(), Fail> {
     let alloc = rt.alloc();
     let text = "Z:9_abcd".repeat(alloc, 16)?;
-    assert_eq!(rt; text.len(), 128);
+    same(&rt, &text.len(), &128);
     let metric = MetricName::read(alloc, text.as_str())?;
-    assert_eq!(rt; metric.as_str(), text.as_str());
-    assert_eq!(rt; metric.copy()?.as_str(), text.as_str());
+    same(&rt, &metric.as_str(), &text.as_str());
+    same(&rt, &metric.copy()?.as_str(), &text.as_str());
     let text = "Z_9_abcd".repeat(alloc, 16)?;
-    assert_eq!(rt; text.len(), 128);
+    same(&rt, &text.len(), &128);
     let label = LabelName::read(alloc, text.as_str())?;
-    assert_eq!(rt; label.as_str(), text.as_str());
-    assert_eq!(rt; label.copy()?.as_str(), text.as_str());
+    same(&rt, &label.as_str(), &text.as_str());
+    same(&rt, &label.copy()?.as_str(), &text.as_str());
     let text = "\\\n\"é xy".repeat(alloc, 128)?;
-    assert_eq!(rt; text.len(), 1024);
+    same(&rt, &text.len(), &1024);
     let help = HelpText::read(alloc, text.as_str())?;
-    assert_eq!(rt; help.as_str(), text.as_str());
-    assert_eq!(rt; help.copy()?.as_str(), text.as_str());
+    same(&rt, &help.as_str(), &text.as_str());
+    same(&rt, &help.copy()?.as_str(), &text.as_str());
     let text = "\"\n\\ é\tx".repeat(alloc, 32)?;
-    assert_eq!(rt; text.len(), 256);
+    same(&rt, &text.len(), &256);
     let value = LabelValue::read(alloc, text.as_str())?;
-    assert_eq!(rt; value.as_str(), text.as_str());
-    assert_eq!(rt; value.copy()?.as_str(), text.as_str());
+    same(&rt, &value.as_str(), &text.as_str());
+    same(&rt, &value.copy()?.as_str(), &text.as_str());
     Ok(())
 }

@@ -6,8 +6,6 @@
 
 mod making;
 mod registry;
-#[cfg(test)]
-mod tests;
 
 pub use making::NotMade;
 pub use registry::Registry;

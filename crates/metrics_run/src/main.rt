@@ -6,6 +6,8 @@
 #![tactic(auto)]
 
 mod arguments;
+#[cfg(test)]
+mod asserts;
 mod calls;
 mod children;
 mod jobs;

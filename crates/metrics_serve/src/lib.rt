@@ -5,8 +5,6 @@
 mod answer;
 mod metrics;
 mod serve;
-#[cfg(test)]
-mod tests;
 mod threads;
 
 pub use serve::{ServeEnd, serve_on};

@@ -20,8 +20,6 @@ mod moves;
 mod scans;
 mod seats;
 mod steps;
-#[cfg(test)]
-mod tests;
 mod view;
 
 pub use board::{Board, Parts};

@@ -1,3 +1,4 @@
+use crate::asserts::same;
 use crate::fault::ScrapeFault;
 use crate::journal::Journal;
 use crate::note::Note;
@@ -34,7 +35,7 @@ fn keeps(
     assert_eq!(rt; kept.len(), expected.len());
     for (number, (lists, total)) in expected.iter().enumerate() {
         kept.read(number, &mut out);
-        assert_eq!(rt; (out.vector()[0], out.counter(0)), (*lists, *total));
+        same(rt, &(out.vector()[0], out.counter(0)), &(*lists, *total));
     }
     Ok(())
 }
@@ -69,9 +70,9 @@ fn made(alloc: Global, value: &str, slot: usize) -> Result<Note, Fail> {
 fn nothing(rt: HostRuntime) -> Result<(), Fail> {
     let alloc = rt.alloc();
     let journal = Plain::new(alloc, 2)?;
-    assert_eq!(rt; journal.len(), 0);
+    same(&rt, &journal.len(), &0);
     keeps(&rt, alloc, &journal, &[])?;
-    assert_eq!(rt; newest(&journal), None);
+    same(&rt, &newest(&journal), &None);
     Ok(())
 }
 
@@ -88,16 +89,16 @@ fn the_newest_scrapes_are_kept(rt: HostRuntime) -> Result<(), Fail> {
     add(&mut source, 4)?;
     journal.scrape(&mut source, 2)?;
     keeps(&rt, alloc, &journal, &[(1, 3), (2, 7)])?;
-    assert_eq!(rt; newest(&journal), Some((2, 7)));
+    same(&rt, &newest(&journal), &Some((2, 7)));
     journal.scrape(&mut source, 2)?;
     keeps(&rt, alloc, &journal, &[(2, 7), (2, 7)])?;
     add(&mut source, 5)?;
     journal.scrape(&mut source, 2)?;
     keeps(&rt, alloc, &journal, &[(2, 7), (3, 12)])?;
-    assert_eq!(rt; newest(&journal), Some((3, 12)));
+    same(&rt, &newest(&journal), &Some((3, 12)));
     journal.scrape(&mut source, 2)?;
     keeps(&rt, alloc, &journal, &[(3, 12), (3, 12)])?;
-    assert_eq!(rt; journal.len(), 2);
+    same(&rt, &journal.len(), &2);
     Ok(())
 }
 
@@ -109,7 +110,7 @@ fn a_window_of_one(rt: HostRuntime) -> Result<(), Fail> {
     for by in [3, 4, 5] {
         add(&mut source, by)?;
         journal.scrape(&mut source, 1)?;
-        assert_eq!(rt; journal.len(), 1);
+        same(&rt, &journal.len(), &1);
     }
     keeps(&rt, alloc, &journal, &[(3, 12)])?;
     Ok(())
@@ -121,17 +122,17 @@ fn all_changes_are_kept(rt: HostRuntime) -> Result<(), Fail> {
     let mut source = PlainSource::new(alloc)?;
     let mut journal = Plain::new(alloc, 1)?;
     journal.note(registered(alloc, "a")?)?;
-    assert_eq!(rt; journal.len(), 1);
+    same(&rt, &journal.len(), &1);
     journal.scrape(&mut source, 1)?;
     journal.note(made(alloc, "get", 0)?)?;
-    assert_eq!(rt; journal.len(), 3);
+    same(&rt, &journal.len(), &3);
     add(&mut source, 3)?;
     journal.scrape(&mut source, 1)?;
-    assert_eq!(rt; journal.len(), 3);
+    same(&rt, &journal.len(), &3);
     journal.note(registered(alloc, "b")?)?;
-    assert_eq!(rt; journal.len(), 4);
+    same(&rt, &journal.len(), &4);
     keeps(&rt, alloc, &journal, &[(1, 3)])?;
-    assert_eq!(rt; newest(&journal), Some((1, 3)));
+    same(&rt, &newest(&journal), &Some((1, 3)));
     Ok(())
 }
 
@@ -151,11 +152,11 @@ fn trimmed(rt: HostRuntime) -> Result<(), Fail> {
     keeps(&rt, alloc, &journal, &[(1, 3), (2, 7), (3, 12)])?;
     journal.trim(1);
     keeps(&rt, alloc, &journal, &[(3, 12)])?;
-    assert_eq!(rt; journal.len(), 2);
+    same(&rt, &journal.len(), &2);
     journal.trim(0);
     keeps(&rt, alloc, &journal, &[])?;
-    assert_eq!(rt; newest(&journal), None);
-    assert_eq!(rt; journal.len(), 1);
+    same(&rt, &newest(&journal), &None);
+    same(&rt, &journal.len(), &1);
     journal.scrape(&mut source, 3)?;
     keeps(&rt, alloc, &journal, &[(3, 12)])?;
     Ok(())
@@ -168,16 +169,16 @@ fn a_refused_growth_changes_nothing(rt: HostRuntime) -> Result<(), Fail> {
     let mut source = PlainSource::new(alloc)?;
     let mut journal = Plain::new(alloc, 1)?;
     if journal.note(registered(alloc, "a")?) == Err(NoMemory) {
-        assert_eq!(rt; journal.len(), 0);
+        same(&rt, &journal.len(), &0);
         journal.note(registered(alloc, "a")?)?;
     }
     add(&mut source, 3)?;
     for entry in 2..6 {
         if journal.scrape(&mut source, 5) == Err(ScrapeFault::NoMemory) {
-            assert_eq!(rt; journal.len(), entry - 1);
+            same(&rt, &journal.len(), &(entry - 1));
             journal.scrape(&mut source, 5)?;
         }
-        assert_eq!(rt; journal.len(), entry);
+        same(&rt, &journal.len(), &entry);
     }
     keeps(&rt, alloc, &journal, &[(1, 3), (1, 3), (1, 3), (1, 3)])?;
     Ok(())
@@ -190,6 +191,6 @@ fn numbers(rt: HostRuntime) {
         first: 4,
         last: 6,
     };
-    assert_eq!(rt; ScrapeFault::NoMemory.number(), 6);
-    assert_eq!(rt; ScrapeFault::Contended(contended).number(), 14);
+    same(&rt, &ScrapeFault::NoMemory.number(), &6);
+    same(&rt, &ScrapeFault::Contended(contended).number(), &14);
 }

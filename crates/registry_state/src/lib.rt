@@ -2,6 +2,8 @@
 //! gives and keeps.
 #![tactic(auto)]
 
+#[cfg(test)]
+mod asserts;
 mod children;
 mod family;
 mod fault;

@@ -15,8 +15,6 @@ mod short_text;
 mod source;
 mod status;
 mod target;
-#[cfg(test)]
-mod tests;
 
 pub use fault::WireFault;
 pub use serve::{Served, serve_one};

@@ -4,6 +4,8 @@
 //! lent, by one thread at a time; [`serve_state`] says of it which scrape was sent. [`serve_stream`] serves one connection whole.
 #![tactic(auto)]
 
+#[cfg(test)]
+mod asserts;
 mod fault;
 mod registry;
 mod state;

@@ -3,6 +3,7 @@ ghost use Rattle.std.specs.Prelude.{◌≡◌, false};
 
 mod behind;
 
+use crate::asserts::same;
 use crate::serve_state;
 use ledger_core::Op;
 use metric_desc::Desc;
@@ -47,14 +48,15 @@ fn gets(
     let mut reader = Watched::new(request);
     let mut writer = Watched::new(Vec::with_capacity(alloc, 256)?);
     let served = serve_state(&mut reader, &mut writer, service)?;
-    assert_eq!(rt;
-        served,
-        Served {
+    same(
+        rt,
+        &served,
+        &Served {
             status,
-            sent: reply.len()
-        }
+            sent: reply.len(),
+        },
     );
-    assert_eq!(rt; writer.into_inner().as_slice(), reply);
+    same(rt, &writer.into_inner().as_slice(), &reply);
     Ok(())
 }
 
@@ -81,10 +83,10 @@ fn a_registry_of_one_thread(rt: HostRuntime) -> Result<(), Fail> {
     let mut service = service(alloc)?;
     let get = b"GET /metrics HTTP/1.0\r\n\r\n";
     gets(&rt, alloc, &mut service, get, Status::Success, OK)?;
-    assert_eq!(rt; service.kept().len(), 1);
+    same(&rt, &service.kept().len(), &1);
     let other = b"GET / HTTP/1.0\r\n\r\n";
     gets(&rt, alloc, &mut service, other, Status::NotFound, NOT_FOUND)?;
-    assert_eq!(rt; service.kept().len(), 1);
+    same(&rt, &service.kept().len(), &1);
     // A HEAD has a scrape made and kept as well.
     let head = b"HEAD /metrics HTTP/1.0\r\n\r\n";
     gets(
@@ -96,6 +98,6 @@ fn a_registry_of_one_thread(rt: HostRuntime) -> Result<(), Fail> {
         &OK[..OK.len() - 21],
     )?;
     gets(&rt, alloc, &mut service, get, Status::Success, OK)?;
-    assert_eq!(rt; service.kept().len(), 2);
+    same(&rt, &service.kept().len(), &2);
     Ok(())
 }

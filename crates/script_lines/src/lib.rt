@@ -14,6 +14,3 @@ pub use lines::{Broken, Lines, MAX_LINE_BYTES, Next};
 pub use list::{bounds_of, labels_of, values_of};
 pub use number::read_number;
 pub use writing::unescape;
-
-#[cfg(test)]
-mod tests;

@@ -9,6 +9,8 @@
 //! The layout is this project's own.
 #![tactic(auto)]
 
+#[cfg(test)]
+mod asserts;
 mod part;
 mod place;
 

@@ -1,44 +1,45 @@
+use crate::asserts::same;
 use crate::{Item, Part, buffer_words, item_at, place_of, segment_words, words_needed};
 
 #[test]
 fn words_of_two_workers(rt: HostRuntime) {
-    assert_eq!(rt; buffer_words(2, 3, 1, 0), 63);
-    assert_eq!(rt; segment_words(2, 3, 1, 0), 127);
-    assert_eq!(rt; words_needed(2, 3, 1, 0), 254);
-    assert_eq!(rt; buffer_words(2, 3, 1, 1), 67);
-    assert_eq!(rt; segment_words(2, 3, 1, 1), 135);
-    assert_eq!(rt; words_needed(2, 3, 1, 1), 270);
+    same(&rt, &buffer_words(2, 3, 1, 0), &63);
+    same(&rt, &segment_words(2, 3, 1, 0), &127);
+    same(&rt, &words_needed(2, 3, 1, 0), &254);
+    same(&rt, &buffer_words(2, 3, 1, 1), &67);
+    same(&rt, &segment_words(2, 3, 1, 1), &135);
+    same(&rt, &words_needed(2, 3, 1, 1), &270);
 }
 
 #[test]
 fn words_of_the_most_counters_and_histograms(rt: HostRuntime) {
-    assert_eq!(rt; buffer_words(16, 256, 32, 0), 2257);
-    assert_eq!(rt; segment_words(16, 256, 32, 0), 4515);
-    assert_eq!(rt; words_needed(16, 256, 32, 0), 72_240);
-    assert_eq!(rt; buffer_words(32, 256, 32, 0), 2273);
-    assert_eq!(rt; segment_words(32, 256, 32, 0), 4547);
-    assert_eq!(rt; words_needed(32, 256, 32, 0), 145_504);
+    same(&rt, &buffer_words(16, 256, 32, 0), &2257);
+    same(&rt, &segment_words(16, 256, 32, 0), &4515);
+    same(&rt, &words_needed(16, 256, 32, 0), &72_240);
+    same(&rt, &buffer_words(32, 256, 32, 0), &2273);
+    same(&rt, &segment_words(32, 256, 32, 0), &4547);
+    same(&rt, &words_needed(32, 256, 32, 0), &145_504);
 }
 
 #[test]
 fn words_of_the_largest_board(rt: HostRuntime) {
-    assert_eq!(rt; buffer_words(32, 256, 32, 64), 2529);
-    assert_eq!(rt; segment_words(32, 256, 32, 64), 5059);
-    assert_eq!(rt; words_needed(32, 256, 32, 64), 161_888);
+    same(&rt, &buffer_words(32, 256, 32, 64), &2529);
+    same(&rt, &segment_words(32, 256, 32, 64), &5059);
+    same(&rt, &words_needed(32, 256, 32, 64), &161_888);
 }
 
 #[test]
 fn the_smallest_board(rt: HostRuntime) {
-    assert_eq!(rt; buffer_words(1, 0, 0, 0), 2);
-    assert_eq!(rt; segment_words(1, 0, 0, 0), 5);
-    assert_eq!(rt; words_needed(1, 0, 0, 0), 5);
+    same(&rt, &buffer_words(1, 0, 0, 0), &2);
+    same(&rt, &segment_words(1, 0, 0, 0), &5);
+    same(&rt, &words_needed(1, 0, 0, 0), &5);
     let flag = Part::Flag { buffer: 1 };
     let vector = Part::Vector {
         buffer: 1,
         worker: 0,
     };
-    assert_eq!(rt; place_of(1, 0, 0, 0, 0, flag), 3);
-    assert_eq!(rt; place_of(1, 0, 0, 0, 0, vector), 4);
+    same(&rt, &place_of(1, 0, 0, 0, 0, flag), &3);
+    same(&rt, &place_of(1, 0, 0, 0, 0, vector), &4);
 }
 
 #[test]
@@ -53,11 +54,11 @@ fn places_of_the_second_segment(rt: HostRuntime) {
         buffer: 1,
         word: 29,
     };
-    assert_eq!(rt; place_of(2, 3, 1, 0, 1, Part::Number), 127);
-    assert_eq!(rt; place_of(2, 3, 1, 0, 1, row), 191);
-    assert_eq!(rt; place_of(2, 3, 1, 0, 1, flag), 221);
-    assert_eq!(rt; place_of(2, 3, 1, 0, 1, vector), 223);
-    assert_eq!(rt; place_of(2, 3, 1, 0, 1, lent), 253);
+    same(&rt, &place_of(2, 3, 1, 0, 1, Part::Number), &127);
+    same(&rt, &place_of(2, 3, 1, 0, 1, row), &191);
+    same(&rt, &place_of(2, 3, 1, 0, 1, flag), &221);
+    same(&rt, &place_of(2, 3, 1, 0, 1, vector), &223);
+    same(&rt, &place_of(2, 3, 1, 0, 1, lent), &253);
 }
 
 #[test]
@@ -65,10 +66,10 @@ fn items_of_a_buffer(rt: HostRuntime) {
     let row = Item::Row { word: 29 };
     let vector = Item::Vector { worker: 1 };
     let lent = Item::Lent { word: 29 };
-    assert_eq!(rt; item_at(2, 3, 1, 0, row), 29);
-    assert_eq!(rt; item_at(2, 3, 1, 0, Item::Flag), 30);
-    assert_eq!(rt; item_at(2, 3, 1, 0, vector), 32);
-    assert_eq!(rt; item_at(2, 3, 1, 0, lent), 62);
+    same(&rt, &item_at(2, 3, 1, 0, row), &29);
+    same(&rt, &item_at(2, 3, 1, 0, Item::Flag), &30);
+    same(&rt, &item_at(2, 3, 1, 0, vector), &32);
+    same(&rt, &item_at(2, 3, 1, 0, lent), &62);
 }
 
 /// The ups of the gauge are word 30 of the row, and its downs word 31.
@@ -82,8 +83,8 @@ fn places_of_a_gauge(rt: HostRuntime) {
         buffer: 0,
         word: 31,
     };
-    assert_eq!(rt; place_of(2, 3, 1, 1, 0, ups), 31);
-    assert_eq!(rt; place_of(2, 3, 1, 1, 0, downs), 32);
-    assert_eq!(rt; place_of(2, 3, 1, 1, 1, ups), 166);
-    assert_eq!(rt; place_of(2, 3, 1, 1, 1, downs), 167);
+    same(&rt, &place_of(2, 3, 1, 1, 0, ups), &31);
+    same(&rt, &place_of(2, 3, 1, 1, 0, downs), &32);
+    same(&rt, &place_of(2, 3, 1, 1, 1, ups), &166);
+    same(&rt, &place_of(2, 3, 1, 1, 1, downs), &167);
 }

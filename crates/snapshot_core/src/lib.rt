@@ -7,6 +7,8 @@
 #![tactic(auto)]
 
 mod actor;
+#[cfg(test)]
+mod asserts;
 mod event;
 mod machine;
 mod next;

@@ -1,4 +1,5 @@
 // Traces made by hand, of rows of one counter: `is_outcome` says true of the right ones, and false of the others.
+use crate::asserts::same;
 use crate::outcome::is_outcome;
 use crate::run_fault::RunFault;
 use crate::test_events::events_of;
@@ -341,8 +342,8 @@ fn wrong_number_of_workers(rt: HostRuntime) {
     let trace = trace_of(alloc, &rt, &[], &[]);
     for n in [0, 33] {
         let fault = is_outcome::<1, 0, 0>(alloc, n, &[], &trace).expect_err(&rt, "refused");
-        assert_eq!(rt; fault, RunFault::Geometry);
-        assert_eq!(rt; fault.number(), 13);
+        same(&rt, &fault, &RunFault::Geometry);
+        same(&rt, &fault.number(), &13);
     }
 }
 

@@ -1,4 +1,5 @@
 // Runs of rows of 2 counters, 1 histogram and 1 gauge.
+use crate::asserts::same;
 use crate::event::Event;
 use crate::run_fault::RunFault;
 use crate::runs::run;
@@ -42,9 +43,9 @@ fn expect_answer(rt: &impl Abort, trace: &Trace, k: usize, want: Want, vector: &
 #[test]
 fn second_try(rt: HostRuntime) {
     let t = traced(rt.alloc(), &rt, 2, "bssBSSSSSssssss", 2, 5);
-    assert_eq!(rt; t.answers.len(), 2);
+    same(&rt, &t.answers.len(), &2);
     assert_eq!(rt; t.publishes.len(), 1);
-    assert_eq!(rt; t.publishes[0].at, 8);
+    same(&rt, &t.publishes[0].at, &8);
     expect_answer(
         &rt,
         &t,
@@ -78,12 +79,12 @@ fn second_try(rt: HostRuntime) {
 #[test]
 fn lent(rt: HostRuntime) {
     let t = traced(rt.alloc(), &rt, 1, "bsBSSSsBSSSsBSSSsBSSSs", 1, 1);
-    assert_eq!(rt; t.answers.len(), 5);
+    same(&rt, &t.answers.len(), &5);
     assert_eq!(rt; t.publishes.len(), 4);
-    assert_eq!(rt; t.publishes[0].at, 5);
-    assert_eq!(rt; t.publishes[1].at, 10);
-    assert_eq!(rt; t.publishes[2].at, 15);
-    assert_eq!(rt; t.publishes[3].at, 20);
+    same(&rt, &t.publishes[0].at, &5);
+    same(&rt, &t.publishes[1].at, &10);
+    same(&rt, &t.publishes[2].at, &15);
+    same(&rt, &t.publishes[3].at, &20);
     expect_answer(
         &rt,
         &t,
@@ -125,7 +126,7 @@ fn two_workers(rt: HostRuntime) {
         2,
         1,
     );
-    assert_eq!(rt; t.answers.len(), 4);
+    same(&rt, &t.answers.len(), &4);
     expect_answer(
         &rt,
         &t,
@@ -145,7 +146,7 @@ fn two_workers(rt: HostRuntime) {
 #[test]
 fn gave_up(rt: HostRuntime) {
     let t = traced(rt.alloc(), &rt, 1, "btststs", 1, 1);
-    assert_eq!(rt; t.answers.len(), 1);
+    same(&rt, &t.answers.len(), &1);
     expect_answer(
         &rt,
         &t,
@@ -232,7 +233,7 @@ fn all_words(rt: HostRuntime) {
     }
     let t = run::<2, 1, 1>(alloc, 2, events.as_slice()).expect(&rt, "runs");
     assert_eq!(rt; t.publishes.len(), 1);
-    assert_eq!(rt; t.publishes[0].ops.len(), 2);
+    same(&rt, &t.publishes[0].ops.len(), &2);
     expect_answer(
         &rt,
         &t,
@@ -249,11 +250,11 @@ fn all_words(rt: HostRuntime) {
     );
     let totals = &t.answers.get(1).expect(&rt, "an answer").totals;
     assert_eq!(rt; totals.len(), 31);
-    assert_eq!(rt; totals[5], 1);
-    assert_eq!(rt; totals[27], 7);
-    assert_eq!(rt; totals[28], 1);
-    assert_eq!(rt; totals[29], 9);
-    assert_eq!(rt; totals[30], 0);
+    same(&rt, &totals[5], &1);
+    same(&rt, &totals[27], &7);
+    same(&rt, &totals[28], &1);
+    same(&rt, &totals[29], &9);
+    same(&rt, &totals[30], &0);
 }
 
 #[test]
@@ -262,8 +263,8 @@ fn out_of_range(rt: HostRuntime) {
         let fault = run::<2, 1, 1>(rt.alloc(), n, &[])
             .map(|_| ())
             .expect_err(&rt, "refused");
-        assert_eq!(rt; fault, RunFault::Geometry);
-        assert_eq!(rt; fault.number(), 13);
+        same(&rt, &fault, &RunFault::Geometry);
+        same(&rt, &fault.number(), &13);
     }
 }
 
@@ -275,13 +276,13 @@ fn each_growth(rt: HostRuntime) {
     let events = events_of(alloc, &rt, "BSSSbss", 1, 1);
     match run::<1, 0, 0>(alloc, 1, events.as_slice()) {
         Ok(t) => {
-            assert_eq!(rt; t.publishes.len(), 1);
-            assert_eq!(rt; t.answers.len(), 2);
+            same(&rt, &t.publishes.len(), &1);
+            same(&rt, &t.answers.len(), &2);
             let scan = t.answers.get(1).expect(&rt, "an answer");
-            assert_eq!(rt; scan.actor, 1);
+            same(&rt, &scan.actor, &1);
             assert!(rt; scan.vector.as_slice() == [1].as_slice());
             assert!(rt; scan.totals.as_slice() == [1].as_slice());
         }
-        Err(fault) => assert_eq!(rt; fault.number(), 6),
+        Err(fault) => same(&rt, &fault.number(), &6),
     }
 }

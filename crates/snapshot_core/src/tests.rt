@@ -1,6 +1,7 @@
 ghost use Rattle.std.specs.Prelude.{◌≡◌, length, MatchOption};
 ghost use Rattle.snapshot_core.specs.Told.{workers_of};
 
+use crate::asserts::same;
 use crate::{Next, ScanState};
 
 // Each tells a read that the scan wants, and no other.
@@ -45,33 +46,34 @@ fn one_worker() -> ScanState
 #[test]
 fn an_asked_worker_lends(rt: HostRuntime) {
     let mut state = one_worker();
-    assert_eq!(rt; state.next(), Next::Ask(0));
+    same(&rt, &state.next(), &Next::Ask(0));
     asked(&mut state, Some(&[1]));
-    assert_eq!(rt; state.next(), Next::Lent(0));
+    same(&rt, &state.next(), &Next::Lent(0));
 }
 
 #[test]
 fn a_vector_below_the_floor_is_not_lent(rt: HostRuntime) {
     let mut state = one_worker();
     asked(&mut state, Some(&[0]));
-    assert_eq!(rt; state.next(), Next::First(0));
+    same(&rt, &state.next(), &Next::First(0));
 }
 
 #[test]
 fn a_scan_gives_up(rt: HostRuntime) {
     let mut state = one_worker();
     asked(&mut state, None);
-    assert_eq!(rt; state.next(), Next::First(0));
+    same(&rt, &state.next(), &Next::First(0));
     first(&mut state, 5, true);
     second(&mut state, 6);
     asked(&mut state, None);
-    assert_eq!(rt;
-        state.next(),
-        Next::GaveUp {
+    same(
+        &rt,
+        &state.next(),
+        &Next::GaveUp {
             worker: 0,
             first: 5,
-            last: 6
-        }
+            last: 6,
+        },
     );
 }
 
@@ -82,7 +84,7 @@ fn a_clean_try_ends_directly(rt: HostRuntime) {
     first(&mut state, 4, true);
     second(&mut state, 3);
     second(&mut state, 4);
-    assert_eq!(rt; state.next(), Next::Direct);
+    same(&rt, &state.next(), &Next::Direct);
 }
 
 #[test]
@@ -92,12 +94,12 @@ fn a_torn_read_fails_its_try(rt: HostRuntime) {
     first(&mut state, 4, true);
     second(&mut state, 3);
     second(&mut state, 4);
-    assert_eq!(rt; state.next(), Next::First(0));
+    same(&rt, &state.next(), &Next::First(0));
 }
 
 #[test]
 fn a_scan_of_the_most_workers(rt: HostRuntime) {
-    assert_eq!(rt; ScanState::new(32).next(), Next::First(0));
+    same(&rt, &ScanState::new(32).next(), &Next::First(0));
 }
 
 #[test]
@@ -115,9 +117,9 @@ fn workers_are_asked_in_rising_order(rt: HostRuntime) {
     second(&mut state, 3);
     second(&mut state, 0);
     second(&mut state, 4);
-    assert_eq!(rt; state.next(), Next::Ask(0));
+    same(&rt, &state.next(), &Next::Ask(0));
     asked(&mut state, None);
-    assert_eq!(rt; state.next(), Next::Ask(2));
+    same(&rt, &state.next(), &Next::Ask(2));
     asked(&mut state, None);
-    assert_eq!(rt; state.next(), Next::First(0));
+    same(&rt, &state.next(), &Next::First(0));
 }

@@ -33,11 +33,7 @@ mod remembering;
 mod scanner;
 mod scans;
 mod snapshot;
-#[cfg(test)]
-mod snapshot_tests;
 mod source;
-#[cfg(test)]
-mod tests;
 
 pub use contended::Contended;
 pub use ending::Ended;

@@ -125,8 +125,9 @@ impl<const N: usize, const C: usize, const H: usize, const G: usize> Snapshot<N,
         self.set(&other.vector, &other.totals);
     }
 
-    /// Makes this the snapshot of other numbers and totals. It takes no memory.
-    pub(crate) fn set(&mut self, vector: &[u64], totals: &[u64])
+    /// Makes this the snapshot of other numbers and totals, as a [`Source`](crate::Source) of one's own does where it answers: how often
+    /// each of the `N` workers has published, and the totals of all words of a row, each below 2^53. It takes no memory.
+    pub fn set(&mut self, vector: &[u64], totals: &[u64])
         requires all { length vector.now ≡ N }
         requires wide { length totals.now ≡ width C H G }
         requires low { AreLow (width C H G) totals.now }

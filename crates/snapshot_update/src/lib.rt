@@ -5,6 +5,8 @@
 #![tactic(auto)]
 
 mod applying;
+#[cfg(test)]
+mod asserts;
 mod changes;
 mod counting;
 mod faults;

@@ -10,6 +10,7 @@ mod threads;
 mod touching;
 mod working;
 
+use crate::asserts::same;
 use crate::changes::Changes;
 use register_rule::{Board, Parts, ReadSeat, WorkSeat};
 use std::alloc::Global;
@@ -40,14 +41,14 @@ fn lists_what_is_noted(rt: HostRuntime) -> Result<(), Fail> {
     changes.note(7);
     changes.note(3);
     changes.note(7);
-    assert_eq!(rt; changes.as_slice(), [7, 3, 7].as_slice());
+    same(&rt, &changes.as_slice(), &[7, 3, 7].as_slice());
     changes.note_all();
     assert!(rt; changes.is_all());
     changes.note(5);
     assert!(rt; changes.is_all());
     changes.clear();
     assert!(rt; !changes.is_all());
-    assert_eq!(rt; changes.as_slice().len(), 0);
+    same(&rt, &changes.as_slice().len(), &0);
     Ok(())
 }
 
@@ -59,7 +60,7 @@ fn lists_256_items(rt: HostRuntime) -> Result<(), Fail> {
         changes.note(item);
     }
     assert!(rt; !changes.is_all());
-    assert_eq!(rt; changes.as_slice().len(), 256);
+    same(&rt, &changes.as_slice().len(), &256);
     changes.note(255);
     assert!(rt; !changes.is_all());
     changes.note(256);

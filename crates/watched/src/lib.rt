@@ -2,6 +2,8 @@
 //! `Write` speak.
 #![tactic(auto)]
 
+#[cfg(test)]
+mod asserts;
 mod watched;
 
 pub use watched::Watched;

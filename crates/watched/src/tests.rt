@@ -4,6 +4,7 @@ ghost use Rattle.std.specs.Prelude.{◌≡◌, ℕ, ◌<◌, ◌≤◌, ◌++◌
 ghost use Rattle.std.specs.Io.KnownBytes.{Appends};
 
 use crate::Watched;
+use crate::asserts::same;
 use std::io::{self, Error, ErrorKind, Read, Write};
 use std::test::Fail;
 
@@ -81,19 +82,19 @@ fn reader_ends(rt: HostRuntime) -> Result<(), Fail> {
     let text: &[u8] = b"abc";
     let mut from = Watched::new(text);
     let mut buf = [0; 2];
-    assert_eq!(rt; from.read(&mut [])?, 0);
+    same(&rt, &from.read(&mut [])?, &0);
     assert!(rt; !from.ended(), "no room");
-    assert_eq!(rt; from.latest(), 0);
-    assert_eq!(rt; from.read(&mut buf)?, 2);
-    assert_eq!(rt; from.latest(), 2);
-    assert_eq!(rt; from.read(&mut buf)?, 1);
-    assert_eq!(rt; from.latest(), 1);
+    same(&rt, &from.latest(), &0);
+    same(&rt, &from.read(&mut buf)?, &2);
+    same(&rt, &from.latest(), &2);
+    same(&rt, &from.read(&mut buf)?, &1);
+    same(&rt, &from.latest(), &1);
     assert!(rt; !from.ended(), "a short read");
-    assert_eq!(rt; from.read(&mut [])?, 0);
+    same(&rt, &from.read(&mut [])?, &0);
     assert!(rt; !from.ended(), "nothing left, and no room");
-    assert_eq!(rt; from.read(&mut buf)?, 0);
+    same(&rt, &from.read(&mut buf)?, &0);
     assert!(rt; from.ended() && !from.failed());
-    assert_eq!(rt; from.read(&mut [])?, 0);
+    same(&rt, &from.read(&mut [])?, &0);
     assert!(rt; from.ended(), "for good");
     Ok(())
 }
@@ -136,9 +137,9 @@ fn flush_fails(rt: HostRuntime) {
 #[test]
 fn full_writer(rt: HostRuntime) -> Result<(), Fail> {
     let mut to = Watched::new(Full);
-    assert_eq!(rt; to.write(b"")?, 0);
+    same(&rt, &to.write(b"")?, &0);
     assert!(rt; !to.failed() && to.flushed(), "no byte was taken");
-    assert_eq!(rt; to.write(b"a")?, 0);
+    same(&rt, &to.write(b"a")?, &0);
     assert!(rt; to.failed() && !to.ended());
     assert!(rt; !send_once(&mut to, b"a"));
     Ok(())
@@ -152,11 +153,11 @@ fn bytes_pass_unchanged(rt: HostRuntime) -> Result<(), Fail> {
     to.flush()?;
     assert!(rt; !to.failed());
     let written = to.into_inner();
-    assert_eq!(rt; written.as_slice(), b"abcd".as_slice());
+    same(&rt, &written.as_slice(), &b"abcd".as_slice());
     let mut from = Watched::new(written.as_slice());
     let mut back = Vec::new(rt.alloc());
-    assert_eq!(rt; from.read_to_end(&mut back)?, 4);
-    assert_eq!(rt; back.as_slice(), b"abcd".as_slice());
+    same(&rt, &from.read_to_end(&mut back)?, &4);
+    same(&rt, &back.as_slice(), &b"abcd".as_slice());
     assert!(rt; from.ended() && !from.failed());
     Ok(())
 }
@@ -168,6 +169,6 @@ fn lent_writer(rt: HostRuntime) -> Result<(), Fail> {
     assert!(rt; send_once(&mut to, b"ab"));
     to.write_all(b"cd")?;
     assert!(rt; !to.failed());
-    assert_eq!(rt; all.as_slice(), b"abcd".as_slice());
+    same(&rt, &all.as_slice(), &b"abcd".as_slice());
     Ok(())
 }

@@ -1,6 +1,8 @@
 //! A pool of threads: one for each worker, which does its list of jobs in order and hands the worker back.
 #![tactic(auto)]
 
+#[cfg(test)]
+mod asserts;
 mod fault;
 mod gate;
 mod job;

@@ -1,6 +1,7 @@
 //! Examples of docs/MEETINGS.md, line by line.
 
 use super::crew::{Crew, Readers, counter, make_crew};
+use crate::asserts::same;
 use crate::{NotAll, settle};
 use snapshot_scan::Snapshot;
 use std::test::Fail;
@@ -17,8 +18,8 @@ fn a_meeting(rt: HostRuntime) -> Result<(), Fail> {
     let counted = worker.inc(&board, &counter(), 5);
     worker.meet(&board, &mut reader);
     let scanned = reader.scan(&board, &mut out);
-    assert_eq!(rt; counted.is_ok() && scanned.is_ok(), true);
-    assert_eq!(rt; out.counter(0), 5);
+    same(&rt, &(counted.is_ok() && scanned.is_ok()), &true);
+    same(&rt, &out.counter(0), &5);
     Ok(())
 }
 
@@ -36,12 +37,12 @@ fn exact_totals(rt: HostRuntime) -> Result<(), Fail> {
         ..
     } = readers;
     let mut out = Snapshot::new(rt.alloc())?;
-    assert_eq!(rt; second.inc(&board, &counter(), 5), Ok(()));
+    same(&rt, &second.inc(&board, &counter(), 5), &Ok(()));
     let mut workers = [first, second, third, fourth];
     let settled = settle(&board, &mut reader, &mut workers, &mut out);
     if let Err(NotAll { missing }) = settled {
         panic!(rt; "worker {missing} is not here");
     }
-    assert_eq!(rt; out.counter(0), 5);
+    same(&rt, &out.counter(0), &5);
     Ok(())
 }

@@ -3,6 +3,7 @@ ghost use Rattle.std.specs.Prelude.{◌≡◌};
 ghost use Rattle.snapshot_update.specs.Workers.{IsWorkerOf};
 
 use super::crew::{Pair, counter, make_pair};
+use crate::asserts::same;
 use crate::history::{add_turns, rises};
 use crate::{ChainFault, Turn, history_of};
 use register_rule::Board;
@@ -18,7 +19,7 @@ fn count(rt: &impl Abort, board: &Board<2, 1, 0, 0>, worker: &mut Worker<2, 1, 0
     ensures own { IsWorkerOf board.now worker.new }
 {
     for _k in 0..times {
-        assert_eq!(rt; worker.inc(board, &counter(), 1), Ok(()));
+        same(rt, &worker.inc(board, &counter(), 1), &Ok(()));
     }
 }
 
@@ -37,8 +38,8 @@ fn snapshot(
     count(rt, &board, &mut first, numbers.0);
     count(rt, &board, &mut second, numbers.1);
     let mut out = Snapshot::new(alloc)?;
-    assert_eq!(rt; reader.scan(&board, &mut out), Ok(()));
-    assert_eq!(rt; out.vector(), [numbers.0, numbers.1].as_slice());
+    same(rt, &reader.scan(&board, &mut out), &Ok(()));
+    same(rt, &out.vector(), &[numbers.0, numbers.1].as_slice());
     Ok(out)
 }
 
@@ -69,9 +70,9 @@ fn has_history(
 ) -> Result<(), Fail> {
     let taken = snapshots(rt, alloc, numbers)?;
     let found = history_of(alloc, taken.as_slice())?;
-    assert_eq!(rt; found.as_slice(), turns);
+    same(rt, &found.as_slice(), &turns);
     let again = history_of(alloc, taken.as_slice())?;
-    assert_eq!(rt; again.as_slice(), turns);
+    same(rt, &again.as_slice(), &turns);
     Ok(())
 }
 
@@ -85,7 +86,7 @@ fn has_none(
 ) -> Result<(), Fail> {
     let taken = snapshots(rt, alloc, numbers)?;
     let found = history_of(alloc, taken.as_slice());
-    assert_eq!(rt; found.err(), Some(ChainFault::NotChain { a, b }));
+    same(rt, &found.err(), &Some(ChainFault::NotChain { a, b }));
     Ok(())
 }
 
@@ -124,8 +125,8 @@ fn what_falls_has_no_history(rt: HostRuntime) -> Result<(), Fail> {
 
 #[test]
 fn refusals_have_numbers(rt: HostRuntime) -> Result<(), Fail> {
-    assert_eq!(rt; ChainFault::NotChain { a: 0, b: 1 }.number(), 17);
-    assert_eq!(rt; ChainFault::NoMemory.number(), 6);
+    same(&rt, &ChainFault::NotChain { a: 0, b: 1 }.number(), &17);
+    same(&rt, &ChainFault::NoMemory.number(), &6);
     Ok(())
 }
 
@@ -134,11 +135,12 @@ fn the_greatest_numbers_have_turns(rt: HostRuntime) -> Result<(), Fail> {
     let most = u64::MAX;
     let mut turns = Vec::new(rt.alloc());
     add_turns(&[0, 1, most], &[most, most, most], &mut turns)?;
-    assert_eq!(rt;
-        turns.as_slice(),
-        [turn(0, most), turn(1, most - 1)].as_slice()
+    same(
+        &rt,
+        &turns.as_slice(),
+        &[turn(0, most), turn(1, most - 1)].as_slice(),
     );
-    assert_eq!(rt; rises(&[most, 0], &[most, 0]), true);
-    assert_eq!(rt; rises(&[0, most], &[most, most - 1]), false);
+    same(&rt, &rises(&[most, 0], &[most, 0]), &true);
+    same(&rt, &rises(&[0, most], &[most, most - 1]), &false);
     Ok(())
 }

@@ -7,6 +7,7 @@ ghost use Rattle.snapshot_update.specs.Workers.{IsWorkerOf};
 
 use super::crew::{Crew, Readers, make_crew};
 use super::settling::two_count;
+use crate::asserts::same;
 use crate::history::rises;
 use crate::{ChainFault, history_of, settle};
 use register_rule::Board;
@@ -182,9 +183,9 @@ fn end_equal(
 {
     let mut settled = Snapshot::new(alloc)?;
     let mut scanned = Snapshot::new(alloc)?;
-    assert_eq!(rt; settle(board, one, workers, &mut settled), Ok(()));
-    assert_eq!(rt; settled.vector(), ALL.as_slice());
-    assert_eq!(rt; settled.counter(0), 40_000);
+    same(rt, &settle(board, one, workers, &mut settled), &Ok(()));
+    same(rt, &settled.vector(), &ALL.as_slice());
+    same(rt, &settled.counter(0), &40_000);
     let Ok(()) = settle(board, one, workers, &mut settled) else {
         panic!(rt; "not all settle");
     };
@@ -192,7 +193,7 @@ fn end_equal(
         panic!(rt; "the scan was refused");
     };
     let found = order(board, &settled, one, &scanned, other);
-    assert_eq!(rt; found, Ordering::Equal);
+    same(rt, &found, &Ordering::Equal);
     Ok((settled, scanned))
 }
 
@@ -205,7 +206,7 @@ fn ends_so(
 ) -> Result<(), Fail> {
     assert!(rt; taken.len() > 0);
     taken.push(last)?;
-    assert_eq!(rt; counts(alloc, taken.as_slice())?, ALL);
+    same(rt, &counts(alloc, taken.as_slice())?, &ALL);
     Ok(())
 }
 

@@ -4,6 +4,7 @@ ghost use Rattle.snapshot_scan.specs.Readers.{IsReaderOf};
 ghost use Rattle.snapshot_update.specs.Workers.{IsWorkerOf};
 
 use super::crew::{Crew, counter, make_crew};
+use crate::asserts::same;
 use crate::{NotAll, settle};
 use register_rule::Board;
 use snapshot_scan::{Reader, Snapshot};
@@ -22,7 +23,7 @@ fn count_often(
     ensures own { IsWorkerOf board.now result }
 {
     for _k in 0..10_000u64 {
-        assert_eq!(rt; worker.inc(board, &counter(), 1), Ok(()));
+        same(rt, &worker.inc(board, &counter(), 1), &Ok(()));
     }
     worker
 }
@@ -55,10 +56,10 @@ fn nobody_settles(rt: HostRuntime) -> Result<(), Fail> {
     let (board, _crew, mut readers) = make_crew(rt.alloc())?;
     let mut out = Snapshot::new(rt.alloc())?;
     let found = settle(&board, &mut readers.left, &mut [], &mut out);
-    assert_eq!(rt; found, Err(NotAll { missing: 0 }));
+    same(&rt, &found, &Err(NotAll { missing: 0 }));
     let again = settle(&board, &mut readers.left, &mut [], &mut out);
-    assert_eq!(rt; again, found);
-    assert_eq!(rt; NotAll { missing: 0 }.number(), 18);
+    same(&rt, &again, &found);
+    same(&rt, &NotAll { missing: 0 }.number(), &18);
     Ok(())
 }
 
@@ -68,7 +69,7 @@ fn count_each(rt: &impl Abort, board: &Board<4, 1, 0, 0>, workers: &mut [Worker<
     ensures own { All (IsWorkerOf board.now) workers.new }
 {
     for k in 0..workers.len() {
-        assert_eq!(rt; workers[k].inc(board, &counter(), 1), Ok(()));
+        same(rt, &workers[k].inc(board, &counter(), 1), &Ok(()));
     }
 }
 
@@ -85,11 +86,11 @@ fn do_not_settle(
     ensures own { IsReaderOf board.now reader.new × All (IsWorkerOf board.now) workers.new }
 {
     let found = settle(board, reader, workers, out);
-    assert_eq!(rt; found, Err(NotAll { missing }));
-    assert_eq!(rt; out.vector(), [0, 0, 0, 0].as_slice());
+    same(rt, &found, &Err(NotAll { missing }));
+    same(rt, &out.vector(), &[0, 0, 0, 0].as_slice());
     count_each(rt, board, workers);
     let again = settle(board, reader, workers, out);
-    assert_eq!(rt; again, found);
+    same(rt, &again, &found);
 }
 
 #[test]
@@ -99,8 +100,8 @@ fn some_workers_do_not_settle(rt: HostRuntime) -> Result<(), Fail> {
     let Crew { a, b, c, d } = crew;
     do_not_settle(&rt, &board, &mut readers.left, &mut [d, a, b], &mut out, 2);
     do_not_settle(&rt, &board, &mut readers.left, &mut [c], &mut out, 0);
-    assert_eq!(rt; readers.left.scan(&board, &mut out), Ok(()));
-    assert_eq!(rt; out.vector(), [1, 1, 1, 1].as_slice());
+    same(&rt, &readers.left.scan(&board, &mut out), &Ok(()));
+    same(&rt, &out.vector(), &[1, 1, 1, 1].as_slice());
     Ok(())
 }
 
@@ -115,16 +116,24 @@ fn settle_twice(
     requires own { IsReaderOf board.now reader.old × All (IsWorkerOf board.now) workers.old }
     ensures own { IsReaderOf board.now reader.new × All (IsWorkerOf board.now) workers.new }
 {
-    assert_eq!(rt; settle(board, reader, workers, out), Ok(()));
-    assert_eq!(rt; out.vector(), [10_000, 10_000, 10_000, 10_000].as_slice());
-    assert_eq!(rt; out.counter(0), 40_000);
+    same(rt, &settle(board, reader, workers, out), &Ok(()));
+    same(
+        rt,
+        &out.vector(),
+        &[10_000, 10_000, 10_000, 10_000].as_slice(),
+    );
+    same(rt, &out.counter(0), &40_000);
     assert!(rt; workers.len() == 4 && workers[0].index() == 2 && workers[3].index() == 1);
     count_each(rt, board, workers);
-    assert_eq!(rt; settle(board, reader, workers, out), Ok(()));
-    assert_eq!(rt; out.vector(), [10_001, 10_001, 10_001, 10_001].as_slice());
-    assert_eq!(rt; out.counter(0), 40_004);
-    assert_eq!(rt; settle(board, reader, workers, out), Ok(()));
-    assert_eq!(rt; out.counter(0), 40_004);
+    same(rt, &settle(board, reader, workers, out), &Ok(()));
+    same(
+        rt,
+        &out.vector(),
+        &[10_001, 10_001, 10_001, 10_001].as_slice(),
+    );
+    same(rt, &out.counter(0), &40_004);
+    same(rt, &settle(board, reader, workers, out), &Ok(()));
+    same(rt, &out.counter(0), &40_004);
 }
 
 #[test]

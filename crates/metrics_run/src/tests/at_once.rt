@@ -3,6 +3,7 @@ ghost use Rattle.std.specs.Prelude.{◌≡◌, length, All, IfOk};
 ghost use Rattle.snapshot_scan.specs.Readers.{IsReaderOf};
 ghost use Rattle.snapshot_update.specs.Workers.{IsWorkerOf};
 
+use crate::asserts::same;
 use crate::jobs::add_times;
 use chain_law::{NotAll, settle};
 use expo_text::{Number, Scrape};
@@ -75,7 +76,7 @@ fn scrape_often(rt: &(impl Wait + Abort), registry: &Registry<'_>) -> Result<boo
         match registry.scrape(rt) {
             Ok(scrape) => {
                 let sum = rises(rt, scrape.vector(), &mut before);
-                assert_eq!(rt; counted_in(&scrape), Some(sum));
+                same(rt, &counted_in(&scrape), &Some(sum));
                 if sum == 4 * TIMES {
                     return Ok(true);
                 }
@@ -123,14 +124,15 @@ fn all_settle(
     requires { IsReaderOf board.now settler.old × All (IsWorkerOf board.now) workers.old }
 {
     assert_eq!(rt; workers.len(), 4);
-    assert_eq!(rt; settle(board, settler, workers, out), Ok(()));
-    assert_eq!(rt; out.vector(), ALL.as_slice());
-    assert_eq!(rt; out.counter(0), 4 * TIMES);
-    assert_eq!(rt;
-        settle(board, settler, &mut workers[..2], out),
-        Err(NotAll { missing: 2 })
+    same(rt, &settle(board, settler, workers, out), &Ok(()));
+    same(rt, &out.vector(), &ALL.as_slice());
+    same(rt, &out.counter(0), &(4 * TIMES));
+    same(
+        rt,
+        &settle(board, settler, &mut workers[..2], out),
+        &Err(NotAll { missing: 2 }),
     );
-    assert_eq!(rt; out.vector(), ALL.as_slice());
+    same(rt, &out.vector(), &ALL.as_slice());
 }
 
 #[test]
@@ -151,7 +153,7 @@ fn scrapes_while_a_pool_counts(rt: HostRuntime) -> Result<(), Fail> {
         list(alloc, counter)?,
         list(alloc, counter)?,
     ];
-    assert_eq!(rt; jobs.len(), workers.len());
+    same(&rt, &jobs.len(), &workers.len());
     let (counted, scraped) = count_and_scrape(&rt, alloc, &board, &registry, workers, &jobs);
     scraped?;
     let mut workers = counted?;

@@ -1,3 +1,4 @@
+use crate::asserts::same;
 use crate::script::{ScriptEnd, run_script};
 use std::alloc::Global;
 use std::process::Abort;
@@ -358,16 +359,17 @@ fn all_slots_used(rt: HostRuntime) -> Result<(), Fail> {
 
 #[test]
 fn statuses(rt: HostRuntime) {
-    assert_eq!(rt; ScriptEnd::Done.status(), 0);
-    assert_eq!(rt;
-        ScriptEnd::Refused {
+    same(&rt, &ScriptEnd::Done.status(), &0);
+    same(
+        &rt,
+        &ScriptEnd::Refused {
             line: 3,
-            number: 12
+            number: 12,
         }
         .status(),
-        1
+        &1,
     );
-    assert_eq!(rt; ScriptEnd::Broken.status(), 3);
+    same(&rt, &ScriptEnd::Broken.status(), &3);
 }
 
 #[test]

@@ -1,5 +1,6 @@
 //! What stands between lines: what waits, what is kept, and texts of more bytes than a line has.
 use crate::arguments::Asked;
+use crate::asserts::same;
 use crate::read_asked;
 use crate::script::{ScriptEnd, run_script};
 use std::alloc::Global;
@@ -12,8 +13,8 @@ use std::thread::Threads;
 fn writes(rt: &(impl Abort + Threads + Wait), alloc: Global, script: &[u8], output: &str) {
     let mut written = Vec::new(alloc);
     let ended = run_script(rt, alloc, script, &mut written);
-    assert_eq!(rt; written.as_slice(), output.as_bytes());
-    assert_eq!(rt; ended, ScriptEnd::Done);
+    same(rt, &written.as_slice(), &output.as_bytes());
+    same(rt, &ended, &ScriptEnd::Done);
 }
 
 /// What waits is counted once, by the next `go`, whatever lines stand between. What no `go` follows is dropped, and it is not
@@ -65,7 +66,7 @@ fn a_long_text(rt: HostRuntime) -> Result<(), Fail> {
     script.extend_from_slice(b"scrape")?;
     let mut written = Vec::new(alloc);
     let ended = run_script(&rt, alloc, script.as_slice(), &mut written);
-    assert_eq!(rt; ended, ScriptEnd::Done);
+    same(&rt, &ended, &ScriptEnd::Done);
     assert!(rt; written.len() > 10_000);
     assert!(rt; written == output);
     Ok(())

@@ -1,3 +1,4 @@
+use crate::asserts::same;
 use crate::script::{MAX_LINES, ScriptEnd, run_script};
 use std::io;
 use std::io::{ErrorKind, Read, Write};
@@ -103,8 +104,8 @@ fn one_byte_at_a_time(rt: HostRuntime) -> Result<(), Fail> {
         },
         &mut writer,
     );
-    assert_eq!(rt; end, ScriptEnd::Done);
-    assert_eq!(rt; writer.kept.as_slice(), OUTPUT);
+    same(&rt, &end, &ScriptEnd::Done);
+    same(&rt, &writer.kept.as_slice(), &OUTPUT);
     let longer = vec![in alloc; b'#'; 4097]?;
     let mut written = Vec::new(alloc);
     let end = run_script(
@@ -116,12 +117,13 @@ fn one_byte_at_a_time(rt: HostRuntime) -> Result<(), Fail> {
         },
         &mut written,
     );
-    assert_eq!(rt;
-        end,
-        ScriptEnd::Refused {
+    same(
+        &rt,
+        &end,
+        &ScriptEnd::Refused {
             line: 1,
-            number: 27
-        }
+            number: 27,
+        },
     );
     Ok(())
 }
@@ -186,15 +188,20 @@ fn a_million_lines(rt: HostRuntime) {
         },
         &mut written,
     );
-    assert_eq!(rt; end, ScriptEnd::Done);
-    assert_eq!(rt; written.len(), 0);
+    same(&rt, &end, &ScriptEnd::Done);
+    same(&rt, &written.len(), &0);
     let end = run_script(&rt, alloc, Comments { left: u64::MAX }, &mut written);
-    assert_eq!(rt;
-        end,
-        ScriptEnd::Refused {
+    same(
+        &rt,
+        &end,
+        &ScriptEnd::Refused {
             line: 1_000_001,
-            number: 27
-        }
+            number: 27,
+        },
     );
-    assert_eq!(rt; written.as_slice(), b"refused 1000001 27\n".as_slice());
+    same(
+        &rt,
+        &written.as_slice(),
+        &b"refused 1000001 27\n".as_slice(),
+    );
 }

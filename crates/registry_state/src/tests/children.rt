@@ -1,4 +1,5 @@
 //! Children by a registry's calls, over a row of two counters, a histogram and a gauge.
+use crate::asserts::same;
 use crate::tests::registry::{Plain, registry};
 use crate::tests::{BOUNDS, desc, labelled, values};
 use crate::{ChildFault, FamilyId, Handle};
@@ -35,7 +36,7 @@ fn child(
     if let Ok(handle) = registry.child(family, &values) {
         return Ok(handle);
     }
-    assert_eq!(rt; registry.journal().len(), before);
+    same(rt, &registry.journal().len(), &before);
     Ok(registry.child(family, &values)?)
 }
 
@@ -55,8 +56,8 @@ fn refused(
 ) -> Result<(), Fail> {
     let values = values(alloc, texts)?;
     let before = registry.journal().len();
-    assert_eq!(rt; registry.child(family, &values), Err(fault));
-    assert_eq!(rt; registry.journal().len(), before);
+    same(rt, &registry.child(family, &values), &Err(fault));
+    same(rt, &registry.journal().len(), &before);
     Ok(())
 }
 
@@ -76,15 +77,15 @@ fn each_kind(rt: &impl Abort, registry: &mut Plain, alloc: Global) -> Result<(),
         registry: 7,
         slot: 0,
     });
-    assert_eq!(rt; child(rt, registry, gauges, alloc, &[])?, gauge);
+    same(rt, &child(rt, registry, gauges, alloc, &[])?, &gauge);
     let hist = Handle::Histogram(Histogram {
         registry: 7,
         slot: 0,
         bounds: Bounds::from_slice(&BOUNDS)?,
     });
-    assert_eq!(rt; child(rt, registry, hists, alloc, &[])?, hist);
-    assert_eq!(rt; child(rt, registry, counters, alloc, &[])?, counter(0));
-    assert_eq!(rt; registry.journal().len(), 6);
+    same(rt, &child(rt, registry, hists, alloc, &[])?, &hist);
+    same(rt, &child(rt, registry, counters, alloc, &[])?, &counter(0));
+    same(rt, &registry.journal().len(), &6);
     Ok(())
 }
 
@@ -99,9 +100,13 @@ fn found_again(rt: HostRuntime) -> Result<(), Fail> {
 fn twice(rt: &impl Abort, registry: &mut Plain, alloc: Global) -> Result<(), Fail> {
     let books = shelves(registry, alloc, "books")?;
     for (text, slot) in [("b", 0), ("b", 0), ("a", 1), ("b", 0), ("a", 1)] {
-        assert_eq!(rt; child(rt, registry, books, alloc, &[text])?, counter(slot));
+        same(
+            rt,
+            &child(rt, registry, books, alloc, &[text])?,
+            &counter(slot),
+        );
     }
-    assert_eq!(rt; registry.journal().len(), 3);
+    same(rt, &registry.journal().len(), &3);
     Ok(())
 }
 
@@ -117,8 +122,8 @@ fn full(rt: &impl Abort, registry: &mut Plain, alloc: Global) -> Result<(), Fail
     let books = shelves(registry, alloc, "books")?;
     let maps = shelves(registry, alloc, "maps")?;
     let gauges = family(registry, alloc, Kind::Gauge, "g")?;
-    assert_eq!(rt; child(rt, registry, books, alloc, &["a"])?, counter(0));
-    assert_eq!(rt; child(rt, registry, maps, alloc, &["a"])?, counter(1));
+    same(rt, &child(rt, registry, books, alloc, &["a"])?, &counter(0));
+    same(rt, &child(rt, registry, maps, alloc, &["a"])?, &counter(1));
     let fault = ChildFault::Full {
         kind: Kind::Counter,
     };
@@ -128,11 +133,11 @@ fn full(rt: &impl Abort, registry: &mut Plain, alloc: Global) -> Result<(), Fail
         registry: 7,
         slot: 0,
     });
-    assert_eq!(rt; child(rt, registry, gauges, alloc, &[])?, gauge);
+    same(rt, &child(rt, registry, gauges, alloc, &[])?, &gauge);
     let gauges = family(registry, alloc, Kind::Gauge, "more")?;
     let fault = ChildFault::Full { kind: Kind::Gauge };
     refused(rt, registry, gauges, alloc, &[], fault)?;
-    assert_eq!(rt; child(rt, registry, maps, alloc, &["a"])?, counter(1));
+    same(rt, &child(rt, registry, maps, alloc, &["a"])?, &counter(1));
     Ok(())
 }
 
@@ -158,8 +163,8 @@ fn none(rt: &impl Abort, registry: &mut Plain, alloc: Global) -> Result<(), Fail
         let fault = ChildFault::LabelCount { want, got };
         refused(rt, registry, family, alloc, texts, fault)?;
     }
-    assert_eq!(rt; child(rt, registry, books, alloc, &["a"])?, counter(0));
-    assert_eq!(rt; child(rt, registry, hits, alloc, &[])?, counter(1));
+    same(rt, &child(rt, registry, books, alloc, &["a"])?, &counter(0));
+    same(rt, &child(rt, registry, hits, alloc, &[])?, &counter(1));
     let fault = ChildFault::LabelCount { want: 0, got: 1 };
     refused(rt, registry, hits, alloc, &["a"], fault)
 }

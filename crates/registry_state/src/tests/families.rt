@@ -2,6 +2,7 @@ ghost use Rattle.std.specs.Prelude.{AllPairs, OnOk};
 ghost use Rattle.registry_state.specs.Held.{IsChildBefore};
 
 use crate::RegisterFault;
+use crate::asserts::same;
 use crate::family::{Child, Family, compare, may_register, place_of, put_child};
 use crate::tests::{desc, values};
 use metric_desc::Kind;
@@ -25,18 +26,20 @@ fn clashes(rt: HostRuntime) -> Result<(), Fail> {
     families.push(family(alloc, Kind::Histogram, "h")?)?;
     families.push(family(alloc, Kind::Gauge, "h_sum_of")?)?;
     let same = may_register(&families, &desc(alloc, Kind::Gauge, "a")?);
-    assert_eq!(rt; same, Err(RegisterFault::Clash { with: 0 }));
+    same(&rt, &same, &Err(RegisterFault::Clash { with: 0 }));
     let count = may_register(&families, &desc(alloc, Kind::Counter, "h_count")?);
-    assert_eq!(rt; count, Err(RegisterFault::Clash { with: 1 }));
+    same(&rt, &count, &Err(RegisterFault::Clash { with: 1 }));
     let least = may_register(&families, &desc(alloc, Kind::Histogram, "h")?);
-    assert_eq!(rt; least, Err(RegisterFault::Clash { with: 1 }));
-    assert_eq!(rt;
-        may_register(&families, &desc(alloc, Kind::Histogram, "a_b")?),
-        Ok(())
+    same(&rt, &least, &Err(RegisterFault::Clash { with: 1 }));
+    same(
+        &rt,
+        &may_register(&families, &desc(alloc, Kind::Histogram, "a_b")?),
+        &Ok(()),
     );
-    assert_eq!(rt;
-        may_register(&families, &desc(alloc, Kind::Counter, "h_counts")?),
-        Ok(())
+    same(
+        &rt,
+        &may_register(&families, &desc(alloc, Kind::Counter, "h_counts")?),
+        &Ok(()),
     );
     Ok(())
 }
@@ -49,15 +52,16 @@ fn at_most_128(rt: HostRuntime) -> Result<(), Fail> {
         let name = format!(in alloc; "m{number}")?;
         families.push(family(alloc, Kind::Counter, &name)?)?;
     }
-    assert_eq!(rt;
-        may_register(&families, &desc(alloc, Kind::Counter, "last")?),
-        Ok(())
+    same(
+        &rt,
+        &may_register(&families, &desc(alloc, Kind::Counter, "last")?),
+        &Ok(()),
     );
     families.push(family(alloc, Kind::Counter, "last")?)?;
     let more = may_register(&families, &desc(alloc, Kind::Counter, "more")?);
-    assert_eq!(rt; more, Err(RegisterFault::TooManyFamilies));
+    same(&rt, &more, &Err(RegisterFault::TooManyFamilies));
     let again = may_register(&families, &desc(alloc, Kind::Counter, "m126")?);
-    assert_eq!(rt; again, Err(RegisterFault::Clash { with: 126 }));
+    same(&rt, &again, &Err(RegisterFault::Clash { with: 126 }));
     Ok(())
 }
 
@@ -65,28 +69,37 @@ fn at_most_128(rt: HostRuntime) -> Result<(), Fail> {
 fn values_in_order(rt: HostRuntime) -> Result<(), Fail> {
     let alloc = rt.alloc();
     let first = values(alloc, &["a", "b"])?;
-    assert_eq!(rt;
-        compare(&first, &values(alloc, &["a", "b"])?),
-        Ordering::Equal
+    same(
+        &rt,
+        &compare(&first, &values(alloc, &["a", "b"])?),
+        &Ordering::Equal,
     );
-    assert_eq!(rt;
-        compare(&first, &values(alloc, &["a", "ba"])?),
-        Ordering::Less
+    same(
+        &rt,
+        &compare(&first, &values(alloc, &["a", "ba"])?),
+        &Ordering::Less,
     );
-    assert_eq!(rt;
-        compare(&first, &values(alloc, &["a", ""])?),
-        Ordering::Greater
+    same(
+        &rt,
+        &compare(&first, &values(alloc, &["a", ""])?),
+        &Ordering::Greater,
     );
-    assert_eq!(rt;
-        compare(&first, &values(alloc, &["\u{e9}", ""])?),
-        Ordering::Less
+    same(
+        &rt,
+        &compare(&first, &values(alloc, &["\u{e9}", ""])?),
+        &Ordering::Less,
     );
-    assert_eq!(rt;
-        compare(&first, &values(alloc, &["B", "b"])?),
-        Ordering::Greater
+    same(
+        &rt,
+        &compare(&first, &values(alloc, &["B", "b"])?),
+        &Ordering::Greater,
     );
-    assert_eq!(rt; compare(&first, &values(alloc, &["a"])?), Ordering::Greater);
-    assert_eq!(rt; compare(&values(alloc, &[])?, &first), Ordering::Less);
+    same(
+        &rt,
+        &compare(&first, &values(alloc, &["a"])?),
+        &Ordering::Greater,
+    );
+    same(&rt, &compare(&values(alloc, &[])?, &first), &Ordering::Less);
     Ok(())
 }
 
@@ -114,16 +127,16 @@ fn put(
 fn children_in_order(rt: HostRuntime) -> Result<(), Fail> {
     let alloc = rt.alloc();
     let mut children = Vec::new(alloc);
-    assert_eq!(rt; put(alloc, &mut children, "m", 0)?, Err(0));
-    assert_eq!(rt; put(alloc, &mut children, "z", 1)?, Err(1));
-    assert_eq!(rt; put(alloc, &mut children, "", 2)?, Err(0));
-    assert_eq!(rt; put(alloc, &mut children, "ma", 3)?, Err(2));
-    assert_eq!(rt; put(alloc, &mut children, "m", 4)?, Ok(1));
-    assert_eq!(rt; put(alloc, &mut children, "z", 4)?, Ok(3));
+    same(&rt, &put(alloc, &mut children, "m", 0)?, &Err(0));
+    same(&rt, &put(alloc, &mut children, "z", 1)?, &Err(1));
+    same(&rt, &put(alloc, &mut children, "", 2)?, &Err(0));
+    same(&rt, &put(alloc, &mut children, "ma", 3)?, &Err(2));
+    same(&rt, &put(alloc, &mut children, "m", 4)?, &Ok(1));
+    same(&rt, &put(alloc, &mut children, "z", 4)?, &Ok(3));
     let slots: [usize; 4] = [2, 0, 3, 1];
-    assert_eq!(rt; children.len(), 4);
+    same(&rt, &children.len(), &4);
     for (child, slot) in children.iter().zip(slots.iter()) {
-        assert_eq!(rt; child.slot, *slot);
+        same(&rt, &child.slot, &*slot);
     }
     Ok(())
 }

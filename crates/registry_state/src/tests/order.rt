@@ -2,6 +2,7 @@ ghost use Rattle.std.specs.Prelude.{OnOk};
 ghost use Rattle.registry_state.specs.Held.{IsOrder};
 
 use crate::RegisterFault;
+use crate::asserts::same;
 use crate::family::{Family, may_register};
 use crate::ordering::place_of_name;
 use crate::tests::desc;
@@ -41,14 +42,34 @@ fn by_name(rt: HostRuntime) -> Result<(), Fail> {
     let alloc = rt.alloc();
     let mut families = Vec::new(alloc);
     let mut order = Vec::new(alloc);
-    assert_eq!(rt; register(alloc, &mut families, &mut order, "b")?, Ok(()));
-    assert_eq!(rt; register(alloc, &mut families, &mut order, "a")?, Ok(()));
-    assert_eq!(rt; register(alloc, &mut families, &mut order, "c")?, Ok(()));
-    assert_eq!(rt; register(alloc, &mut families, &mut order, "a:b")?, Ok(()));
-    assert_eq!(rt; register(alloc, &mut families, &mut order, "B")?, Ok(()));
+    same(
+        &rt,
+        &register(alloc, &mut families, &mut order, "b")?,
+        &Ok(()),
+    );
+    same(
+        &rt,
+        &register(alloc, &mut families, &mut order, "a")?,
+        &Ok(()),
+    );
+    same(
+        &rt,
+        &register(alloc, &mut families, &mut order, "c")?,
+        &Ok(()),
+    );
+    same(
+        &rt,
+        &register(alloc, &mut families, &mut order, "a:b")?,
+        &Ok(()),
+    );
+    same(
+        &rt,
+        &register(alloc, &mut families, &mut order, "B")?,
+        &Ok(()),
+    );
     let again = register(alloc, &mut families, &mut order, "c")?;
-    assert_eq!(rt; again, Err(RegisterFault::Clash { with: 2 }));
-    assert_eq!(rt; families.len(), 5);
-    assert_eq!(rt; order.as_slice(), [4, 1, 3, 0, 2].as_slice());
+    same(&rt, &again, &Err(RegisterFault::Clash { with: 2 }));
+    same(&rt, &families.len(), &5);
+    same(&rt, &order.as_slice(), &[4, 1, 3, 0, 2].as_slice());
     Ok(())
 }

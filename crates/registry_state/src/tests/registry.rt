@@ -1,4 +1,5 @@
 //! A registry by its calls, over a row of one thread.
+use crate::asserts::same;
 use crate::tests::{desc, labelled, values};
 use crate::{BadWindow, FamilyId, Handle, NewFault, RegisterFault, RegistryState, ScrapeFault};
 use expo_text::{Scrape, render};
@@ -39,7 +40,7 @@ fn slot(
 /// Expects this text of a scrape.
 fn prints(rt: &impl Abort, registry: &mut Plain, expected: &str) -> Result<(), Fail> {
     let text = render(&registry.scrape()?)?;
-    assert_eq!(rt; text.as_slice(), expected.as_bytes());
+    same(rt, &text.as_slice(), &expected.as_bytes());
     Ok(())
 }
 
@@ -62,7 +63,11 @@ fn one_counter(rt: HostRuntime) -> Result<(), Fail> {
     }])?;
     prints(&rt, &mut registry, "# TYPE a counter\na 7\n")?;
     prints(&rt, &mut registry, "# TYPE a counter\na 7\n")?;
-    assert_eq!(rt; (registry.kept().len(), registry.journal().len()), (5, 7));
+    same(
+        &rt,
+        &(registry.kept().len(), registry.journal().len()),
+        &(5, 7),
+    );
     Ok(())
 }
 
@@ -109,7 +114,7 @@ fn families_in_order(rt: HostRuntime) -> Result<(), Fail> {
         (Kind::Counter, "a"),
     ] {
         let family = registry.register(desc(alloc, kind, name)?)?;
-        assert_eq!(rt; slot(&mut registry, alloc, family, &[])?, 0);
+        same(&rt, &slot(&mut registry, alloc, family, &[])?, &0);
     }
     registry.apply(&[
         Op::Up { gauge: 0, by: 5 },
@@ -132,19 +137,24 @@ fn families_in_order(rt: HostRuntime) -> Result<(), Fail> {
 /// The family of this number is named, and nothing has changed.
 fn clashes(rt: &impl Abort, registry: &mut Plain, desc: Desc, with: usize) {
     let before = registry.journal().len();
-    assert_eq!(rt; registry.register(desc), Err(RegisterFault::Clash { with }));
-    assert_eq!(rt; registry.journal().len(), before);
+    same(
+        rt,
+        &registry.register(desc),
+        &Err(RegisterFault::Clash { with }),
+    );
+    same(rt, &registry.journal().len(), &before);
 }
 
 #[test]
 fn names_in_common(rt: HostRuntime) -> Result<(), Fail> {
     let alloc = rt.alloc();
     let mut registry = registry(alloc, 64)?;
-    assert_eq!(rt;
-        registry
+    same(
+        &rt,
+        &registry
             .register(desc(alloc, Kind::Histogram, "x")?)?
             .number(),
-        0
+        &0,
     );
     clashes(
         &rt,
@@ -152,23 +162,26 @@ fn names_in_common(rt: HostRuntime) -> Result<(), Fail> {
         desc(alloc, Kind::Counter, "x_count")?,
         0,
     );
-    assert_eq!(rt;
-        registry
+    same(
+        &rt,
+        &registry
             .register(desc(alloc, Kind::Counter, "y_sum")?)?
             .number(),
-        1
+        &1,
     );
-    assert_eq!(rt;
-        registry
+    same(
+        &rt,
+        &registry
             .register(desc(alloc, Kind::Gauge, "y_count")?)?
             .number(),
-        2
+        &2,
     );
     clashes(&rt, &mut registry, desc(alloc, Kind::Histogram, "y")?, 1);
     clashes(&rt, &mut registry, desc(alloc, Kind::Gauge, "y_count")?, 2);
-    assert_eq!(rt;
-        registry.register(desc(alloc, Kind::Gauge, "z")?)?.number(),
-        3
+    same(
+        &rt,
+        &registry.register(desc(alloc, Kind::Gauge, "z")?)?.number(),
+        &3,
     );
     Ok(())
 }
@@ -180,15 +193,16 @@ fn the_129th_family(rt: HostRuntime) -> Result<(), Fail> {
     for number in 0..128usize {
         let name = format!(in alloc; "f{number}")?;
         let family = registry.register(desc(alloc, Kind::Counter, name.as_str())?)?;
-        assert_eq!(rt; family.number(), number);
+        same(&rt, &family.number(), &number);
     }
     clashes(&rt, &mut registry, desc(alloc, Kind::Counter, "f127")?, 127);
     let more = desc(alloc, Kind::Counter, "more")?;
-    assert_eq!(rt;
-        registry.register(more),
-        Err(RegisterFault::TooManyFamilies)
+    same(
+        &rt,
+        &registry.register(more),
+        &Err(RegisterFault::TooManyFamilies),
     );
-    assert_eq!(rt; registry.journal().len(), 128);
+    same(&rt, &registry.journal().len(), &128);
     Ok(())
 }
 
@@ -197,17 +211,21 @@ fn the_65th_scrape(rt: HostRuntime) -> Result<(), Fail> {
     let alloc = rt.alloc();
     let mut registry = registry(alloc, 64)?;
     let family = registry.register(desc(alloc, Kind::Counter, "a")?)?;
-    assert_eq!(rt; slot(&mut registry, alloc, family, &[])?, 0);
+    same(&rt, &slot(&mut registry, alloc, family, &[])?, &0);
     for _ in 0..65 {
         let _scrape = registry.scrape()?;
         registry.apply(&[Op::Inc { counter: 0, by: 1 }])?;
     }
-    assert_eq!(rt; (registry.kept().len(), registry.journal().len()), (64, 66));
+    same(
+        &rt,
+        &(registry.kept().len(), registry.journal().len()),
+        &(64, 66),
+    );
     let mut out = Snapshot::new(alloc)?;
     registry.kept().read(0, &mut out);
-    assert_eq!(rt; out.counter(0), 1);
+    same(&rt, &out.counter(0), &1);
     registry.kept().read(63, &mut out);
-    assert_eq!(rt; out.counter(0), 64);
+    same(&rt, &out.counter(0), &64);
     Ok(())
 }
 
@@ -219,15 +237,23 @@ fn windows(rt: HostRuntime) -> Result<(), Fail> {
     for _ in 0..70 {
         let _scrape = registry.scrape()?;
     }
-    assert_eq!(rt; registry.set_window(3), Ok(3));
+    same(&rt, &registry.set_window(3), &Ok(3));
     let _scrape = registry.scrape()?;
-    assert_eq!(rt; (registry.kept().len(), registry.journal().len()), (3, 4));
-    assert_eq!(rt; registry.set_window(1_024), Ok(3));
-    assert_eq!(rt; registry.set_window(0), Err(BadWindow));
-    assert_eq!(rt; registry.set_window(1_025), Err(BadWindow));
-    assert_eq!(rt; BadWindow.number(), 31);
+    same(
+        &rt,
+        &(registry.kept().len(), registry.journal().len()),
+        &(3, 4),
+    );
+    same(&rt, &registry.set_window(1_024), &Ok(3));
+    same(&rt, &registry.set_window(0), &Err(BadWindow));
+    same(&rt, &registry.set_window(1_025), &Err(BadWindow));
+    same(&rt, &BadWindow.number(), &31);
     let _scrape = registry.scrape()?;
-    assert_eq!(rt; (registry.kept().len(), registry.journal().len()), (4, 5));
+    same(
+        &rt,
+        &(registry.kept().len(), registry.journal().len()),
+        &(4, 5),
+    );
     Ok(())
 }
 
@@ -241,7 +267,7 @@ fn sources_come_back(rt: HostRuntime) -> Result<(), Fail> {
         match Plain::new(alloc, source, 7, window) {
             Ok(_registry) => return Ok(assert!(rt; false)),
             Err(not_made) => {
-                assert_eq!(rt; not_made.fault, NewFault::BadWindow);
+                same(&rt, &not_made.fault, &NewFault::BadWindow);
                 source = not_made.source;
             }
         }
@@ -251,7 +277,7 @@ fn sources_come_back(rt: HostRuntime) -> Result<(), Fail> {
     let mut source = registry.into_source();
     let mut out = Snapshot::new(alloc)?;
     source.take(&mut out);
-    assert_eq!(rt; (out.counter(1), out.vector()[0]), (11, 2));
+    same(&rt, &(out.counter(1), out.vector()[0]), &(11, 2));
     Ok(())
 }
 
@@ -265,7 +291,7 @@ fn registered(
     let before = registry.journal().len();
     match registry.register(first) {
         Err(RegisterFault::NoMemory) => {
-            assert_eq!(rt; registry.journal().len(), before);
+            same(rt, &registry.journal().len(), &before);
             Ok(registry.register(again)?)
         }
         answer => Ok(answer?),
@@ -277,7 +303,11 @@ fn scraped(rt: &impl Abort, registry: &mut Plain) -> Result<Scrape, Fail> {
     let before = (registry.kept().len(), registry.journal().len());
     match registry.scrape() {
         Err(ScrapeFault::NoMemory) => {
-            assert_eq!(rt; (registry.kept().len(), registry.journal().len()), before);
+            same(
+                rt,
+                &(registry.kept().len(), registry.journal().len()),
+                &before,
+            );
             Ok(registry.scrape()?)
         }
         answer => Ok(answer?),
@@ -293,13 +323,18 @@ fn each_growth(rt: HostRuntime) -> Result<(), Fail> {
         desc(alloc, Kind::Counter, "a")?,
     );
     let family = registered(&rt, &mut registry, first, again)?;
-    assert_eq!(rt; (family.number(), registry.journal().len()), (0, 1));
+    same(&rt, &(family.number(), registry.journal().len()), &(0, 1));
     let _slot = slot(&mut registry, alloc, family, &[])?;
     let scrape = scraped(&rt, &mut registry)?;
-    assert_eq!(rt; (registry.kept().len(), registry.journal().len()), (1, 3));
-    assert_eq!(rt;
-        render(&scrape)?.as_slice(),
-        b"# TYPE a counter\na 0\n".as_slice()
+    same(
+        &rt,
+        &(registry.kept().len(), registry.journal().len()),
+        &(1, 3),
+    );
+    same(
+        &rt,
+        &render(&scrape)?.as_slice(),
+        &b"# TYPE a counter\na 0\n".as_slice(),
     );
     Ok(())
 }

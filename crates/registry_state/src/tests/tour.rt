@@ -1,4 +1,5 @@
 //! A tour for the author of a service: families, children, operations, a scrape and its text.
+use crate::asserts::same;
 use crate::{FamilyId, Handle, RegistryState};
 use expo_text::render;
 use ledger_core::{Counter, Histogram, Op};
@@ -93,6 +94,6 @@ fn tour(rt: HostRuntime) -> Result<(), Fail> {
          request_size_bytes_bucket{le=\"+Inf\"} 3\n\
          request_size_bytes_sum 55\n\
          request_size_bytes_count 3\n";
-    assert_eq!(rt; text.as_slice(), expected.as_bytes());
+    same(&rt, &text.as_slice(), &expected.as_bytes());
     Ok(())
 }

@@ -2,6 +2,7 @@
 ghost use Rattle.std.specs.Prelude.{IfOk};
 ghost use Rattle.snapshot_scan.specs.Readers.{IsReaderOf};
 
+use crate::asserts::same;
 use crate::{FromRegistry, serve_stream};
 use metric_desc::Desc;
 use metric_names::{HelpText, MetricName};
@@ -115,15 +116,15 @@ fn a_registry_behind_its_lock(rt: HostRuntime) -> Result<(), Fail> {
         || ask_both(&rt, alloc, port),
     );
     let (scraped, refused) = replies?;
-    assert_eq!(rt; scraped.as_slice(), ZERO);
+    same(&rt, &scraped.as_slice(), &ZERO);
     assert!(rt; refused.starts_with(b"HTTP/1.1 431 Request Header Fields Too Large\r\n"));
     assert!(rt; refused.ends_with(b"\r\n\r\nRequest Header Fields Too Large\n"));
     let (first, second) = served?;
     let (status, sent) = (Status::Success, scraped.len());
-    assert_eq!(rt; first?, Served { status, sent });
+    same(&rt, &first?, &Served { status, sent });
     let (status, sent) = (Status::TooLarge, refused.len());
-    assert_eq!(rt; second?, Served { status, sent });
+    same(&rt, &second?, &Served { status, sent });
     // One scrape was made, and kept.
-    assert_eq!(rt; registry.into_state().kept().len(), 1);
+    same(&rt, &registry.into_state().kept().len(), &1);
     Ok(())
 }

@@ -4,6 +4,7 @@ ghost use Rattle.snapshot_update.specs.Workers.{IsWorkerOf};
 use super::crew::{gauge, make_pair};
 use super::working::often;
 use crate::Worker;
+use crate::asserts::same;
 use register_rule::Board;
 use snapshot_scan::Snapshot;
 use std::process::Abort;
@@ -60,7 +61,7 @@ fn compares_all_after_a_scan(
     requires own { IsWorkerOf board.now worker.old }
     ensures own { IsWorkerOf board.now worker.new }
 {
-    assert_eq!(rt; worker.scan(board, out), Ok(()));
+    same(rt, &worker.scan(board, out), &Ok(()));
     assert!(rt; !compares_few(worker));
 }
 

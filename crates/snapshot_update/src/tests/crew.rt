@@ -9,6 +9,7 @@ ghost use Rattle.snapshot_scan.specs.Readers.{IsReaderOf};
 ghost use Rattle.snapshot_update.specs.Workers.{IsWorkerOf};
 
 use crate::Worker;
+use crate::asserts::same;
 use ledger_core::{Counter, Gauge};
 use register_rule::{Board, Parts, ReadSeat, WorkSeat};
 use snapshot_scan::{Reader, Snapshot};
@@ -300,7 +301,7 @@ pub(super) fn inc<const N: usize, const C: usize, const H: usize, const G: usize
     requires own { IsWorkerOf board.now worker.old }
     ensures own { IsWorkerOf board.now worker.new }
 {
-    assert_eq!(rt; worker.inc(board, &counter(slot), by), Ok(()));
+    same(rt, &worker.inc(board, &counter(slot), by), &Ok(()));
 }
 
 /// A reader's scan is not refused, and finds this vector.
@@ -314,8 +315,8 @@ pub(super) fn finds<const N: usize, const C: usize, const H: usize, const G: usi
     requires own { IsReaderOf board.now reader.old }
     ensures own { IsReaderOf board.now reader.new }
 {
-    assert_eq!(rt; reader.scan(board, out), Ok(()));
-    assert_eq!(rt; out.vector(), vector);
+    same(rt, &reader.scan(board, out), &Ok(()));
+    same(rt, &out.vector(), &vector);
 }
 
 /// A worker's scan is not refused, and finds this vector.
@@ -329,8 +330,8 @@ pub(super) fn finds_itself<const N: usize, const C: usize, const H: usize, const
     requires own { IsWorkerOf board.now worker.old }
     ensures own { IsWorkerOf board.now worker.new }
 {
-    assert_eq!(rt; worker.scan(board, out), Ok(()));
-    assert_eq!(rt; out.vector(), vector);
+    same(rt, &worker.scan(board, out), &Ok(()));
+    same(rt, &out.vector(), &vector);
 }
 
 /// A counter of the boards.

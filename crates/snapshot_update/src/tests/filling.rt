@@ -1,6 +1,7 @@
 ghost use Rattle.register_rule.specs.Seats.{HasReader};
 
 use super::one_worker;
+use crate::asserts::same;
 use crate::changes::Changes;
 use crate::fills::{fill_all, fill_known};
 use crate::version::Version;
@@ -36,11 +37,11 @@ fn fills_a_buffer(rt: HostRuntime) -> Result<(), Fail> {
         &mut recent,
         &version,
     );
-    assert_eq!(rt; hidden.as_slice(), [5, 1, 9, 8].as_slice());
+    same(&rt, &hidden.as_slice(), &[5, 1, 9, 8].as_slice());
     assert!(rt; !recent.is_all());
-    assert_eq!(rt; recent.as_slice(), [1, 3].as_slice());
+    same(&rt, &recent.as_slice(), &[1, 3].as_slice());
     let words = hidden_words(&board, &mut reader);
-    assert_eq!(rt; words.as_slice(), [5, 1, 9, 8].as_slice());
+    same(&rt, &words.as_slice(), &[5, 1, 9, 8].as_slice());
     Ok(())
 }
 
@@ -70,8 +71,8 @@ fn fills_what_is_listed(rt: HostRuntime) -> Result<(), Fail> {
         &touched,
         &version,
     );
-    assert_eq!(rt; hidden.as_slice(), [5, 1, 9, 8].as_slice());
+    same(&rt, &hidden.as_slice(), &[5, 1, 9, 8].as_slice());
     let words = hidden_words(&board, &mut reader);
-    assert_eq!(rt; words.as_slice(), [5, 1, 9, 8].as_slice());
+    same(&rt, &words.as_slice(), &[5, 1, 9, 8].as_slice());
     Ok(())
 }

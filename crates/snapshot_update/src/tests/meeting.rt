@@ -7,6 +7,7 @@ ghost use Rattle.snapshot_update.specs.Workers.{IsWorkerOf};
 
 use super::crew::{counter, finds, finds_itself, inc, one_of_four, two_and_two, two_of_four};
 use crate::Worker;
+use crate::asserts::same;
 use register_rule::Board;
 use snapshot_scan::{Reader, Snapshot, order};
 use std::cmp::Ordering;
@@ -15,7 +16,7 @@ use std::test::Fail;
 
 /// The counter is this.
 fn has_counter(rt: &impl Abort, out: &Snapshot<4, 1, 1, 0>, sum: u64) {
-    assert_eq!(rt; out.counter(0), sum);
+    same(rt, &out.counter(0), &sum);
 }
 
 /// A worker counts and meets a reader, which meets another worker.
@@ -54,7 +55,7 @@ fn count_on(
     first.meet(board, reader);
     inc(rt, board, first, 0, 4);
     inc(rt, board, second, 0, 5);
-    assert_eq!(rt; (first.number(), second.number()), (2, 1));
+    same(rt, &(first.number(), second.number()), &(2, 1));
     finds(rt, board, reader, out, &[2, 1, 0, 0]);
     has_counter(rt, out, 12);
 }
@@ -103,7 +104,7 @@ fn counts_and_is_lent(
     inc(rt, board, worker, 0, 3);
     worker.lend_to(board, reader);
     worker.take_back(board, reader);
-    assert_eq!(rt; (worker.index(), worker.number()), (0, number));
+    same(rt, &(worker.index(), worker.number()), &(0, number));
     finds(rt, board, reader, out, &[number, 0, 0, 0]);
 }
 
@@ -143,16 +144,16 @@ fn counts_while_another_is_lent(
     ensures own { IsWorkerOf board.now lent.new × IsWorkerOf board.now other.new × IsReaderOf board.now reader.new }
 {
     lent.lend_to(board, reader);
-    assert_eq!(rt; other.inc(board, &counter(0), 5), Ok(()));
+    same(rt, &other.inc(board, &counter(0), 5), &Ok(()));
     other.meet(board, reader);
-    assert_eq!(rt; reader.scan(board, out), Ok(()));
+    same(rt, &reader.scan(board, out), &Ok(()));
     lent.take_back(board, reader);
 }
 
 /// The vector and the counter are these.
 fn has_found(rt: &impl Abort, out: &Snapshot<4, 1, 1, 0>, vector: &[u64], sum: u64) {
-    assert_eq!(rt; out.vector(), vector);
-    assert_eq!(rt; out.counter(0), sum);
+    same(rt, &out.vector(), &vector);
+    same(rt, &out.counter(0), &sum);
 }
 
 /// Each of two workers counts while the other one is lent.
@@ -222,7 +223,7 @@ fn compare_as(
     ensures alone { IsAlone left.new × IsAlone right.new }
     ensures recorded { HasRecorded left.new (entry_of one.now) × HasRecorded right.new (entry_of other.now) }
 {
-    assert_eq!(rt; order(board, one, left, other, right), expected);
+    same(rt, &order(board, one, left, other, right), &expected);
 }
 
 /// The right reader scans after a count that the left one has not scanned.
@@ -266,7 +267,7 @@ fn left_goes_ahead(
 {
     inc(rt, board, second, 0, 3);
     scan(rt, board, left, one);
-    assert_eq!(rt; one.vector(), [1, 2, 0, 0].as_slice());
+    same(rt, &one.vector(), &[1, 2, 0, 0].as_slice());
     compare_as(rt, board, one, left, other, right, Ordering::Greater);
     compare_as(rt, board, one, left, other, right, Ordering::Greater);
     scan(rt, board, right, other);

@@ -3,6 +3,7 @@ ghost use Rattle.snapshot_update.specs.Workers.{IsWorkerOf};
 
 use super::crew::{ID, counter, finds, gauge, inc, make_pair};
 use super::working::{applies, has_counters};
+use crate::asserts::same;
 use crate::{ApplyFault, CountFault, Worker};
 use bucket_math::Bounds;
 use ledger_core::{Counter, Gauge, Histogram, Op, OpFault};
@@ -31,8 +32,8 @@ fn is_full(rt: &impl Abort, board: &Board<2, 2, 1, 1>, worker: &mut Worker<2, 2,
     ensures own { IsWorkerOf board.now worker.new }
 {
     let fault = worker.inc(board, &counter(0), 1);
-    assert_eq!(rt; fault, Err(refused(OpFault::TooLarge { at: 0 })));
-    assert_eq!(rt; worker.number(), 1);
+    same(rt, &fault, &Err(refused(OpFault::TooLarge { at: 0 })));
+    same(rt, &worker.number(), &1);
 }
 
 /// The counter 0 gets the greatest value of a word, and stays at it.
@@ -73,8 +74,12 @@ fn is_refused(
     requires own { IsWorkerOf board.now worker.old }
     ensures own { IsWorkerOf board.now worker.new }
 {
-    assert_eq!(rt; worker.apply(board, ops), Err(ApplyFault::Refused(fault)));
-    assert_eq!(rt; worker.number(), 0);
+    same(
+        rt,
+        &worker.apply(board, ops),
+        &Err(ApplyFault::Refused(fault)),
+    );
+    same(rt, &worker.number(), &0);
 }
 
 /// Lists of which one operation is refused.
@@ -125,19 +130,19 @@ fn nothing_of_a_refused_list_is_applied(rt: HostRuntime) -> Result<(), Fail> {
 /// No row has the slot.
 fn is_outside(rt: &impl Abort, found: Result<(), CountFault>) {
     let fault = refused(OpFault::OutOfGeometry { at: 0 });
-    assert_eq!(rt; found, Err(fault));
+    same(rt, &found, &Err(fault));
 }
 
 /// The handle is of another registry.
 fn is_of_another(rt: &impl Abort, found: Result<(), CountFault>) {
-    assert_eq!(rt; found, Err(CountFault::WrongRegistry));
+    same(rt, &found, &Err(CountFault::WrongRegistry));
 }
 
 /// The worker has published so often.
 fn has_number(rt: &impl Abort, board: &Board<2, 2, 1, 1>, worker: &Worker<2, 2, 1, 1>, number: u64)
     requires own { IsWorkerOf board.now worker.now }
 {
-    assert_eq!(rt; worker.number(), number);
+    same(rt, &worker.number(), &number);
 }
 
 /// Handles of slots that no row has.
@@ -215,13 +220,13 @@ fn handles_of_another_registry(rt: HostRuntime) -> Result<(), Fail> {
 fn faults_have_numbers(rt: HostRuntime) {
     let outside = OpFault::OutOfGeometry { at: 3 };
     let large = OpFault::TooLarge { at: 4 };
-    assert_eq!(rt; ApplyFault::Exhausted.number(), 15);
-    assert_eq!(rt; ApplyFault::Refused(outside).number(), 11);
-    assert_eq!(rt; ApplyFault::Refused(large).number(), 12);
-    assert_eq!(rt; CountFault::WrongRegistry.number(), 16);
-    assert_eq!(rt; CountFault::Apply(ApplyFault::Exhausted).number(), 15);
-    assert_eq!(rt; refused(outside).number(), 11);
-    assert_eq!(rt; refused(large).number(), 12);
+    same(&rt, &ApplyFault::Exhausted.number(), &15);
+    same(&rt, &ApplyFault::Refused(outside).number(), &11);
+    same(&rt, &ApplyFault::Refused(large).number(), &12);
+    same(&rt, &CountFault::WrongRegistry.number(), &16);
+    same(&rt, &CountFault::Apply(ApplyFault::Exhausted).number(), &15);
+    same(&rt, &refused(outside).number(), &11);
+    same(&rt, &refused(large).number(), &12);
 }
 
 #[test]
@@ -234,12 +239,12 @@ fn no_room_for_a_worker(rt: HostRuntime) -> Result<(), Fail> {
     let seat = work.pop().ok_or("no worker")?;
     match crate::Worker::<2, 1, 0, 0>::new(rt.alloc(), seat) {
         Ok(worker) => {
-            assert_eq!(rt; worker.number(), 0);
+            same(&rt, &worker.number(), &0);
             Ok(())
         }
         Err(room) => {
-            assert_eq!(rt; room.number(), 6);
-            assert_eq!(rt; room.seat.worker(), 1);
+            same(&rt, &room.number(), &6);
+            same(&rt, &room.seat.worker(), &1);
             Err(AllocError.into())
         }
     }

@@ -5,6 +5,7 @@ ghost use Rattle.snapshot_update.specs.Workers.{IsWorkerOf};
 
 use super::crew::{ID, counter, four_seats, new_reader, new_worker};
 use crate::Worker;
+use crate::asserts::same;
 use bucket_math::Bounds;
 use ledger_core::{HistTotals, Histogram};
 use register_rule::Board;
@@ -24,8 +25,8 @@ fn count_often(
     requires own { IsWorkerOf board.now worker }
 {
     for k in 0..5_000u64 {
-        assert_eq!(rt; worker.inc(board, &counter(0), 2), Ok(()));
-        assert_eq!(rt; worker.observe(board, hist, k % 25), Ok(()));
+        same(rt, &worker.inc(board, &counter(0), 2), &Ok(()));
+        same(rt, &worker.observe(board, hist, k % 25), &Ok(()));
     }
     worker.number()
 }
@@ -87,11 +88,12 @@ fn of_one_moment(rt: &impl Abort, out: &Snapshot<4, 1, 1, 0>) -> (u64, u64) {
         counts = counts.wrapping_add(*number - *number / 2);
     }
     let totals = out.hist(0);
-    assert_eq!(rt;
-        (out.counter(0), totals.count),
-        (counts.wrapping_mul(2), observes)
+    same(
+        rt,
+        &(out.counter(0), totals.count),
+        &(counts.wrapping_mul(2), observes),
     );
-    assert_eq!(rt; in_buckets(&totals), totals.count);
+    same(rt, &in_buckets(&totals), &totals.count);
     (out.counter(0), totals.count)
 }
 
@@ -158,7 +160,7 @@ fn readers_beside_four_workers(rt: HostRuntime) -> Result<(), Fail> {
             )
         },
     );
-    assert_eq!(rt; numbers, ((10_000, 10_000), (10_000, 10_000)));
+    same(&rt, &numbers, &((10_000, 10_000), (10_000, 10_000)));
     is_whole(rt, board, &mut left, &mut out);
     is_whole(rt, board, &mut right, &mut out);
     Ok(())
@@ -173,11 +175,15 @@ fn is_whole(
 )
     requires own { IsReaderOf board.now reader.old }
 {
-    assert_eq!(rt; reader.scan(board, out), Ok(()));
-    assert_eq!(rt; out.vector(), [10_000, 10_000, 10_000, 10_000].as_slice());
-    assert_eq!(rt; of_one_moment(rt, out), (40_000, 20_000));
+    same(rt, &reader.scan(board, out), &Ok(()));
+    same(
+        rt,
+        &out.vector(),
+        &[10_000, 10_000, 10_000, 10_000].as_slice(),
+    );
+    same(rt, &of_one_moment(rt, out), &(40_000, 20_000));
     let totals = out.hist(0);
-    assert_eq!(rt; totals.sum, 240_000);
-    assert_eq!(rt; (totals.buckets[0], totals.buckets[1]), (4_800, 4_000));
-    assert_eq!(rt; (totals.buckets[2], totals.buckets[3]), (4_000, 7_200));
+    same(rt, &totals.sum, &240_000);
+    same(rt, &(totals.buckets[0], totals.buckets[1]), &(4_800, 4_000));
+    same(rt, &(totals.buckets[2], totals.buckets[3]), &(4_000, 7_200));
 }

@@ -4,6 +4,7 @@ ghost use Rattle.snapshot_update.specs.Workers.{IsWorkerOf};
 
 use super::crew::{ID, counter, finds, finds_itself, gauge, inc, make_pair, one_of_four};
 use crate::Worker;
+use crate::asserts::same;
 use bucket_math::Bounds;
 use ledger_core::{HistTotals, Histogram, Op};
 use register_rule::Board;
@@ -31,7 +32,7 @@ fn has_counted(
 )
     requires own { IsWorkerOf board.now worker.now }
 {
-    assert_eq!(rt; (out.counter(0), worker.number()), (sum, number));
+    same(rt, &(out.counter(0), worker.number()), &(sum, number));
 }
 
 /// A worker counts by turns with a reader's scans.
@@ -44,12 +45,12 @@ fn counts_and_is_found(
 )
     requires own { IsWorkerOf board.now worker.old × IsReaderOf board.now reader.old }
 {
-    assert_eq!(rt; worker.number(), 0);
+    same(rt, &worker.number(), &0);
     inc(rt, board, worker, 0, 3);
     finds(rt, board, reader, out, &[1, 0, 0, 0]);
     has_counted(rt, board, worker, out, 3, 1);
     inc(rt, board, worker, 0, 3);
-    assert_eq!(rt; reader.scan(board, out), Ok(()));
+    same(rt, &reader.scan(board, out), &Ok(()));
     finds(rt, board, reader, out, &[2, 0, 0, 0]);
     has_counted(rt, board, worker, out, 6, 2);
 }
@@ -63,20 +64,21 @@ fn a_reader_finds_what_is_counted(rt: HostRuntime) -> Result<(), Fail> {
 
 /// The counters, the gauge and the count of the histogram are zero.
 fn is_blank(rt: &impl Abort, out: &PairSnapshot) {
-    assert_eq!(rt;
-        (
+    same(
+        rt,
+        &(
             out.counter(0),
             out.counter(1),
             out.gauge(0),
-            out.hist(0).count
+            out.hist(0).count,
         ),
-        (0, 0, 0, 0)
+        &(0, 0, 0, 0),
     );
 }
 
 /// The counters are these.
 pub(super) fn has_counters(rt: &impl Abort, out: &PairSnapshot, first: u64, second: u64) {
-    assert_eq!(rt; (out.counter(0), out.counter(1)), (first, second));
+    same(rt, &(out.counter(0), out.counter(1)), &(first, second));
 }
 
 /// A worker's scans have its own updates and those of another worker, and so have the other worker's scans.
@@ -95,7 +97,7 @@ fn find_each_other(
     inc(rt, board, second, 1, 2);
     finds_itself(rt, board, first, out, &[1, 1]);
     has_counters(rt, out, 0, 7);
-    assert_eq!(rt; first.scan(board, out), Ok(()));
+    same(rt, &first.scan(board, out), &Ok(()));
     inc(rt, board, first, 1, 5);
     inc(rt, board, first, 0, 1);
     finds_itself(rt, board, second, out, &[3, 1]);
@@ -114,8 +116,8 @@ fn publishes_nothing(rt: &impl Abort, board: &PairBoard, worker: &mut PairWorker
     requires own { IsWorkerOf board.now worker.old }
     ensures own { IsWorkerOf board.now worker.new }
 {
-    assert_eq!(rt; worker.apply(board, &[]), Ok(()));
-    assert_eq!(rt; worker.number(), number);
+    same(rt, &worker.apply(board, &[]), &Ok(()));
+    same(rt, &worker.number(), &number);
 }
 
 /// A reader finds versions that count nothing.
@@ -128,9 +130,10 @@ fn finds_no_count(
     requires own { IsReaderOf board.now reader.old }
 {
     finds(rt, board, reader, out, &[2, 0]);
-    assert_eq!(rt;
-        (out.counter(0), out.hist(0).count, out.gauge(0)),
-        (0, 0, 0)
+    same(
+        rt,
+        &(out.counter(0), out.hist(0).count, out.gauge(0)),
+        &(0, 0, 0),
     );
 }
 
@@ -155,22 +158,23 @@ fn observes(
     requires own { IsWorkerOf board.now worker.old }
     ensures own { IsWorkerOf board.now worker.new }
 {
-    assert_eq!(rt; worker.observe(board, hist, value), Ok(()));
-    assert_eq!(rt; worker.observe(board, hist, next), Ok(()));
-    assert_eq!(rt; worker.number(), 2);
+    same(rt, &worker.observe(board, hist, value), &Ok(()));
+    same(rt, &worker.observe(board, hist, next), &Ok(()));
+    same(rt, &worker.number(), &2);
 }
 
 /// Four values, of which two lie in the second bucket.
 fn are_in_buckets(rt: &impl Abort, totals: &HistTotals) {
-    assert_eq!(rt; (totals.sum, totals.count), (62, 4));
-    assert_eq!(rt;
-        (
+    same(rt, &(totals.sum, totals.count), &(62, 4));
+    same(
+        rt,
+        &(
             totals.buckets[0],
             totals.buckets[1],
             totals.buckets[2],
-            totals.buckets[3]
+            totals.buckets[3],
         ),
-        (1, 2, 1, 0)
+        &(1, 2, 1, 0),
     );
 }
 
@@ -220,8 +224,8 @@ fn goes_up(rt: &impl Abort, board: &PairBoard, worker: &mut PairWorker, by: u64,
     requires own { IsWorkerOf board.now worker.old }
     ensures own { IsWorkerOf board.now worker.new }
 {
-    assert_eq!(rt; worker.up(board, &gauge(0), by), Ok(()));
-    assert_eq!(rt; worker.number(), number);
+    same(rt, &worker.up(board, &gauge(0), by), &Ok(()));
+    same(rt, &worker.number(), &number);
 }
 
 /// Lowers the gauge, and has then published so often.
@@ -229,13 +233,13 @@ fn goes_down(rt: &impl Abort, board: &PairBoard, worker: &mut PairWorker, by: u6
     requires own { IsWorkerOf board.now worker.old }
     ensures own { IsWorkerOf board.now worker.new }
 {
-    assert_eq!(rt; worker.down(board, &gauge(0), by), Ok(()));
-    assert_eq!(rt; worker.number(), number);
+    same(rt, &worker.down(board, &gauge(0), by), &Ok(()));
+    same(rt, &worker.number(), &number);
 }
 
 /// The gauge is at this level.
 fn has_level(rt: &impl Abort, out: &PairSnapshot, level: i64) {
-    assert_eq!(rt; out.gauge(0), level);
+    same(rt, &out.gauge(0), &level);
 }
 
 /// The gauge is raised and lowered by turns.
@@ -288,12 +292,12 @@ pub(super) fn applies(rt: &impl Abort, board: &PairBoard, worker: &mut PairWorke
     requires own { IsWorkerOf board.now worker.old }
     ensures own { IsWorkerOf board.now worker.new }
 {
-    assert_eq!(rt; worker.apply(board, ops), Ok(()));
+    same(rt, &worker.apply(board, ops), &Ok(()));
 }
 
 /// The counter and the gauge are these.
 fn has_both(rt: &impl Abort, out: &PairSnapshot, sum: u64, level: i64) {
-    assert_eq!(rt; (out.counter(0), out.gauge(0)), (sum, level));
+    same(rt, &(out.counter(0), out.gauge(0)), &(sum, level));
 }
 
 /// By turns 1 on the gauge and 2 on the counter, 150 times each.

@@ -2,6 +2,7 @@
 ghost use Rattle.std.specs.Prelude.{◌≤◌, IfOk};
 
 use crate::Watched;
+use crate::asserts::same;
 use std::io::{self, Error, ErrorKind, Read, Write};
 use std::process::Abort;
 
@@ -53,12 +54,12 @@ impl Write for Counting {
 
 // One call was made, with so many bytes, and it was answered so.
 fn expect_one(rt: &impl Abort, by: &Counting, given: usize, answer: io::Result<usize>) {
-    assert_eq!(rt; by.calls, 1);
-    assert_eq!(rt; by.given, given);
+    same(rt, &by.calls, &1);
+    same(rt, &by.given, &given);
     match answer {
-        Ok(count) => assert_eq!(rt; by.answer, Some(count)),
+        Ok(count) => same(rt, &by.answer, &Some(count)),
         Err(error) => {
-            assert_eq!(rt; error.kind(), ErrorKind::Interrupted);
+            same(rt, &error.kind(), &ErrorKind::Interrupted);
             assert!(rt; by.answer.is_none());
         }
     }

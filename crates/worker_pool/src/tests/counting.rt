@@ -1,6 +1,7 @@
 //! What workers have counted when a pool hands them back.
 use super::crew::{Crew, ID, counter, finds, gauge, new_crew, runs};
 use super::gates::OpensEach;
+use crate::asserts::same;
 use crate::{Job, JobOp, Open};
 use bucket_math::Bounds;
 use ledger_core::Histogram;
@@ -38,23 +39,23 @@ fn all_kinds(alloc: Global, hist: &Histogram) -> Result<Vec<Job>, AllocError> {
 /// The totals after so many workers have done ten rounds each.
 fn has_totals(rt: &impl Abort, out: &Snapshot<4, 2, 1, 1>, workers: u64, gauge: i64) {
     let totals = out.hist(0);
-    assert_eq!(rt; out.counter(0), workers.wrapping_mul(30));
-    assert_eq!(rt; out.counter(1), workers.wrapping_mul(10));
-    assert_eq!(rt; totals.count, workers.wrapping_mul(40));
-    assert_eq!(rt; totals.sum, workers.wrapping_mul(230));
-    assert_eq!(rt; totals.buckets[0], workers.wrapping_mul(20));
-    assert_eq!(rt; totals.buckets[1], workers.wrapping_mul(10));
-    assert_eq!(rt; totals.buckets[2], workers.wrapping_mul(10));
-    assert_eq!(rt; out.gauge_totals(0).up, workers.wrapping_mul(50));
-    assert_eq!(rt; out.gauge_totals(0).down, workers.wrapping_mul(20));
-    assert_eq!(rt; out.gauge(0), gauge);
+    same(rt, &out.counter(0), &workers.wrapping_mul(30));
+    same(rt, &out.counter(1), &workers.wrapping_mul(10));
+    same(rt, &totals.count, &workers.wrapping_mul(40));
+    same(rt, &totals.sum, &workers.wrapping_mul(230));
+    same(rt, &totals.buckets[0], &workers.wrapping_mul(20));
+    same(rt, &totals.buckets[1], &workers.wrapping_mul(10));
+    same(rt, &totals.buckets[2], &workers.wrapping_mul(10));
+    same(rt, &out.gauge_totals(0).up, &workers.wrapping_mul(50));
+    same(rt, &out.gauge_totals(0).down, &workers.wrapping_mul(20));
+    same(rt, &out.gauge(0), &gauge);
 }
 
 /// Four workers stand in the order in which a crew has them.
 fn stand_in_order(rt: &impl Abort, workers: &[Worker<4, 2, 1, 1>]) {
     assert_eq!(rt; workers.len(), 4);
     for k in 0..workers.len() {
-        assert_eq!(rt; k.wrapping_add(workers[k].index()), 3);
+        same(rt, &k.wrapping_add(workers[k].index()), &3);
     }
 }
 
@@ -128,11 +129,11 @@ fn each_worker_does_its_own_list(rt: HostRuntime) -> Result<(), Fail> {
     ];
     let workers = runs(&rt, alloc, &board, workers, &jobs, &Open)?;
     finds(&rt, &board, &mut reader, &mut out, &[1, 2, 0, 5]);
-    assert_eq!(rt; out.counter(0), 8);
+    same(&rt, &out.counter(0), &8);
     let workers = runs(&rt, alloc, &board, workers, &jobs, &Open)?;
     finds(&rt, &board, &mut reader, &mut out, &[2, 4, 0, 10]);
-    assert_eq!(rt; out.counter(0), 16);
-    assert_eq!(rt; workers.len(), 4);
+    same(&rt, &out.counter(0), &16);
+    same(&rt, &workers.len(), &4);
     Ok(())
 }
 
@@ -147,9 +148,9 @@ fn thirty_two_workers(rt: HostRuntime) -> Result<(), Fail> {
     } = new_crew::<32, 1, 0, 0>(alloc)?;
     let jobs = hundreds(alloc, 32)?;
     let workers = runs(&rt, alloc, &board, workers, jobs.as_slice(), &Open)?;
-    assert_eq!(rt; workers.len(), 32);
+    same(&rt, &workers.len(), &32);
     finds(&rt, &board, &mut reader, &mut out, &[100; 32]);
-    assert_eq!(rt; out.counter(0), 3_200);
+    same(&rt, &out.counter(0), &3_200);
     Ok(())
 }
 
@@ -163,9 +164,9 @@ fn no_workers(rt: HostRuntime) -> Result<(), Fail> {
         mut out,
     } = new_crew::<2, 1, 0, 0>(alloc)?;
     let none = runs(&rt, alloc, &board, Vec::new(alloc), &[], &Open)?;
-    assert_eq!(rt; none.len(), 0);
+    same(&rt, &none.len(), &0);
     let none = runs(&rt, alloc, &board, none, &[], &Open)?;
-    assert_eq!(rt; none.len(), 0);
+    same(&rt, &none.len(), &0);
     finds(&rt, &board, &mut reader, &mut out, &[0, 0]);
     Ok(())
 }
@@ -182,7 +183,7 @@ fn workers_with_no_jobs(rt: HostRuntime) -> Result<(), Fail> {
     let jobs = [Vec::new(alloc), Vec::new(alloc)];
     let workers = runs(&rt, alloc, &board, workers, &jobs, &Open)?;
     let workers = runs(&rt, alloc, &board, workers, &jobs, &Open)?;
-    assert_eq!(rt; workers.len(), 2);
+    same(&rt, &workers.len(), &2);
     finds(&rt, &board, &mut reader, &mut out, &[0, 0]);
     Ok(())
 }
@@ -200,8 +201,8 @@ fn a_gate_is_asked_until_it_opens(rt: HostRuntime) -> Result<(), Fail> {
     let gate = OpensEach::new(2);
     let jobs = [increments(alloc, 3)?];
     let workers = runs(&rt, alloc, &board, workers, &jobs, &gate)?;
-    assert_eq!(rt; workers.len(), 1);
-    assert_eq!(rt; gate.found(), (6, 3));
+    same(&rt, &workers.len(), &1);
+    same(&rt, &gate.found(), &(6, 3));
     finds(&rt, &board, &mut reader, &mut out, &[0, 3]);
     Ok(())
 }

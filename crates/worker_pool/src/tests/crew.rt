@@ -7,6 +7,7 @@ ghost use Rattle.register_rule.specs.Seats.{worker_of, reader_of, HasWorker, Has
 ghost use Rattle.snapshot_scan.specs.Readers.{IsReaderOf};
 ghost use Rattle.snapshot_update.specs.Workers.{IsWorkerOf};
 
+use crate::asserts::same;
 use crate::{Gate, Job, JobOp, PoolFault, run_pool};
 use ledger_core::{Counter, Gauge};
 use register_rule::{Board, Parts, ReadSeat, WorkSeat};
@@ -156,7 +157,7 @@ pub(super) fn is_refused<const N: usize, const C: usize, const H: usize, const G
         Ok(_) => Err("nothing was refused".into()),
         Err(PoolFault::NoMemory) => Err(PoolFault::NoMemory.into()),
         Err(other) => {
-            assert_eq!(rt; other, fault);
+            same(rt, &other, &fault);
             Ok(())
         }
     }
@@ -173,8 +174,8 @@ pub(super) fn finds<const N: usize, const C: usize, const H: usize, const G: usi
     requires own { IsReaderOf board.now reader.old }
     ensures own { IsReaderOf board.now reader.new }
 {
-    assert_eq!(rt; reader.scan(board, out), Ok(()));
-    assert_eq!(rt; out.vector(), vector);
+    same(rt, &reader.scan(board, out), &Ok(()));
+    same(rt, &out.vector(), &vector);
 }
 
 /// A counter of the boards.

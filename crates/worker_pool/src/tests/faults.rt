@@ -1,5 +1,6 @@
 //! The faults of a pool, without one.
 use crate::PoolFault;
+use crate::asserts::same;
 use std::process::Abort;
 
 const REFUSED: PoolFault = PoolFault::Refused {
@@ -13,8 +14,8 @@ const NO_THREAD: PoolFault = PoolFault::NoThread { worker: 0 };
 
 /// Of these two, in either order, the first one is told.
 fn is_first(rt: &impl Abort, first: PoolFault, other: PoolFault) {
-    assert_eq!(rt; first.first(other), first);
-    assert_eq!(rt; other.first(first), first);
+    same(rt, &first.first(other), &first);
+    same(rt, &other.first(first), &first);
 }
 
 #[test]
@@ -37,8 +38,8 @@ fn faults_have_an_order(rt: HostRuntime) {
 
 #[test]
 fn faults_have_numbers(rt: HostRuntime) {
-    assert_eq!(rt; REFUSED.number(), 12);
-    assert_eq!(rt; SHUT.number(), 29);
-    assert_eq!(rt; NO_THREAD.number(), 30);
-    assert_eq!(rt; PoolFault::NoMemory.number(), 6);
+    same(&rt, &REFUSED.number(), &12);
+    same(&rt, &SHUT.number(), &29);
+    same(&rt, &NO_THREAD.number(), &30);
+    same(&rt, &PoolFault::NoMemory.number(), &6);
 }

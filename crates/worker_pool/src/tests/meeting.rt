@@ -4,6 +4,7 @@ ghost use Rattle.snapshot_update.specs.Workers.{IsWorkerOf};
 
 use super::crew::{Crew, finds, inc, new_crew, runs};
 use super::gates::{Meeting, OpensEach, Tally};
+use crate::asserts::same;
 use crate::thread_work::work;
 use crate::{Job, Open, PoolFault};
 use register_rule::Board;
@@ -22,11 +23,11 @@ fn two_workers_at_once(rt: HostRuntime) -> Result<(), Fail> {
     let gate = Meeting::new(10_000_000);
     let jobs = [vec![in alloc; inc(1, 0, 3)]?, vec![in alloc; inc(2, 0, 4)]?];
     let workers = runs(&rt, alloc, &board, workers, &jobs, &gate)?;
-    assert_eq!(rt; workers.len(), 2);
+    same(&rt, &workers.len(), &2);
     assert!(&rt; !gate.is_shut());
-    assert_eq!(rt; gate.found(), ((true, 1), (true, 1)));
+    same(&rt, &gate.found(), &((true, 1), (true, 1)));
     finds(&rt, &board, &mut reader, &mut out, &[1, 1]);
-    assert_eq!(rt; out.counter(0), 7);
+    same(&rt, &out.counter(0), &7);
     Ok(())
 }
 
@@ -62,11 +63,11 @@ fn one_thread_does_not_get_on(rt: HostRuntime) -> Result<(), Fail> {
     let gate = Meeting::new(1_000);
     let jobs = [vec![in alloc; inc(1, 0, 3)]?, vec![in alloc; inc(2, 0, 4)]?];
     let fault = run_serially(&board, workers, &jobs, &gate);
-    assert_eq!(rt; fault, Some(PoolFault::GateShut { worker: 0 }));
+    same(&rt, &fault, &Some(PoolFault::GateShut { worker: 0 }));
     assert!(&rt; gate.is_shut());
-    assert_eq!(rt; gate.found(), ((true, 0), (false, 0)));
+    same(&rt, &gate.found(), &((true, 0), (false, 0)));
     finds(&rt, &board, &mut reader, &mut out, &[0, 0]);
-    assert_eq!(rt; out.counter(0), 0);
+    same(&rt, &out.counter(0), &0);
     Ok(())
 }
 
@@ -81,8 +82,8 @@ fn a_gate_hears_of_each_worker(rt: HostRuntime) -> Result<(), Fail> {
         vec![in alloc; inc(4, 0, 1)]?,
     ];
     let workers = runs(&rt, alloc, &board, workers, &jobs, &gate)?;
-    assert_eq!(rt; workers.len(), 2);
-    assert_eq!(rt; gate.found(), ((3, 3), (1, 1)));
+    same(&rt, &workers.len(), &2);
+    same(&rt, &gate.found(), &((3, 3), (1, 1)));
     Ok(())
 }
 
@@ -99,8 +100,8 @@ fn the_askings_begin_anew_with_each_job(rt: HostRuntime) -> Result<(), Fail> {
     let gate = OpensEach::new(6_000_000);
     let jobs = [vec![in alloc; inc(1, 0, 1), inc(2, 0, 1)]?];
     let workers = runs(&rt, alloc, &board, workers, &jobs, &gate)?;
-    assert_eq!(rt; workers.len(), 1);
-    assert_eq!(rt; gate.found(), (12_000_000, 2));
+    same(&rt, &workers.len(), &1);
+    same(&rt, &gate.found(), &(12_000_000, 2));
     Ok(())
 }
 

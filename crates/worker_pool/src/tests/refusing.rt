@@ -1,6 +1,7 @@
 //! Jobs that are refused, and gates that stay shut.
 use super::crew::{Crew, ID, finds, inc, is_refused, new_crew, runs};
 use super::gates::{ShutFrom, ShutsBehind};
+use crate::asserts::same;
 use crate::{Job, JobOp, Open, PoolFault};
 use ledger_core::Counter;
 use std::alloc::Global;
@@ -51,8 +52,8 @@ fn the_least_line_is_told(rt: HostRuntime) -> Result<(), Fail> {
         },
     )?;
     finds(&rt, &board, &mut reader, &mut out, &[3, 0, 2, 1]);
-    assert_eq!(rt; out.counter(0), MAX + 1);
-    assert_eq!(rt; out.counter(1), 10);
+    same(&rt, &out.counter(0), &(MAX + 1));
+    same(&rt, &out.counter(1), &10);
     Ok(())
 }
 
@@ -79,7 +80,7 @@ fn a_handle_of_another_registry(rt: HostRuntime) -> Result<(), Fail> {
         },
     )?;
     finds(&rt, &board, &mut reader, &mut out, &[3, 1]);
-    assert_eq!(rt; out.counter(0), 301);
+    same(&rt, &out.counter(0), &301);
     Ok(())
 }
 
@@ -106,7 +107,7 @@ fn no_row_has_the_slot(rt: HostRuntime) -> Result<(), Fail> {
         },
     )?;
     finds(&rt, &board, &mut reader, &mut out, &[1, 2]);
-    assert_eq!(rt; out.counter(0), 102);
+    same(&rt, &out.counter(0), &102);
     Ok(())
 }
 
@@ -135,7 +136,7 @@ fn a_word_does_not_overflow(rt: HostRuntime) -> Result<(), Fail> {
         },
     )?;
     finds(&rt, &board, &mut reader, &mut out, &[1, 2]);
-    assert_eq!(rt; out.counter(0), MAX + MAX);
+    same(&rt, &out.counter(0), &(MAX + MAX));
     Ok(())
 }
 
@@ -157,10 +158,10 @@ fn a_shut_gate_lets_no_job_through(rt: HostRuntime) -> Result<(), Fail> {
     let gate = ShutFrom::new(2);
     let found = runs(&rt, alloc, &board, workers, &jobs, &gate);
     is_refused(&rt, found, PoolFault::GateShut { worker: 2 })?;
-    assert_eq!(rt; gate.told(), 3);
-    assert_eq!(rt; gate.asked(), 20_000_000);
+    same(&rt, &gate.told(), &3);
+    same(&rt, &gate.asked(), &20_000_000);
     finds(&rt, &board, &mut reader, &mut out, &[0, 0, 1, 2]);
-    assert_eq!(rt; out.counter(0), 12);
+    same(&rt, &out.counter(0), &12);
     Ok(())
 }
 
@@ -187,9 +188,9 @@ fn a_refused_job_is_told_before_a_shut_gate(rt: HostRuntime) -> Result<(), Fail>
             number: 16,
         },
     )?;
-    assert_eq!(rt; gate.told(), 1);
+    same(&rt, &gate.told(), &1);
     finds(&rt, &board, &mut reader, &mut out, &[0, 1]);
-    assert_eq!(rt; out.counter(0), 5);
+    same(&rt, &out.counter(0), &5);
     Ok(())
 }
 
@@ -206,8 +207,8 @@ fn a_gate_shuts_behind_a_job(rt: HostRuntime) -> Result<(), Fail> {
     let gate = ShutsBehind::new();
     let found = runs(&rt, alloc, &board, workers, &jobs, &gate);
     is_refused(&rt, found, PoolFault::GateShut { worker: 0 })?;
-    assert_eq!(rt; gate.told(), 1);
+    same(&rt, &gate.told(), &1);
     finds(&rt, &board, &mut reader, &mut out, &[1]);
-    assert_eq!(rt; out.counter(0), 5);
+    same(&rt, &out.counter(0), &5);
     Ok(())
 }

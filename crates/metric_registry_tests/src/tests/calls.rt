@@ -1,0 +1,189 @@
+//! A registry by its calls, over a board.
+ghost use Rattle.snapshot_scan.specs.Readers.{IsReaderOf};
+
+use super::crew::{Pair, desc, make_pair};
+use crate::asserts::same;
+use expo_text::render;
+use ledger_core::{Counter, Gauge, Histogram};
+use metric_desc::Kind;
+use metric_names::LabelValue;
+use metric_registry::Registry;
+use register_rule::Board;
+use registry_state::{BadWindow, ChildFault, Handle, NewFault, RegisterFault};
+use snapshot_scan::Reader;
+use std::alloc::Global;
+use std::process::Abort;
+use std::sync::Wait;
+use std::test::Fail;
+
+/// A registry of a board of two workers.
+type Two<'a> = Registry<'a, 2, 4, 1, 1>;
+
+/// A registry that keeps 64 scrapes.
+fn registry<'a>(
+    alloc: Global,
+    board: &'a Board<2, 4, 1, 1>,
+    reader: Reader<2, 4, 1, 1>,
+) -> Result<Two<'a>, Fail>
+    requires { IsReaderOf board.now reader }
+{
+    Ok(Registry::new(alloc, board, reader, 64).map_err(|not_made| not_made.fault)?)
+}
+
+/// Expects this text of a scrape.
+fn prints(rt: &(impl Wait + Abort), registry: &Two<'_>, expected: &str) -> Result<(), Fail> {
+    let text = render(&registry.scrape(rt)?)?;
+    same(rt, &text.as_slice(), &expected.as_bytes());
+    Ok(())
+}
+
+/// The handles of a counter, a histogram and a gauge, of families `c`, `h` and `g`.
+fn handles(
+    rt: &impl Wait,
+    alloc: Global,
+    registry: &Two<'_>,
+) -> Result<(Counter, Histogram, Gauge), Fail> {
+    let counters = registry.register(rt, desc(alloc, Kind::Counter, "c", &[])?)?;
+    let hists = registry.register(rt, desc(alloc, Kind::Histogram, "h", &[])?)?;
+    let gauges = registry.register(rt, desc(alloc, Kind::Gauge, "g", &[])?)?;
+    let Handle::Counter(counter) = registry.child(rt, counters, &[])? else {
+        return Err("no counter".into());
+    };
+    let Handle::Histogram(hist) = registry.child(rt, hists, &[])? else {
+        return Err("no histogram".into());
+    };
+    let Handle::Gauge(gauge) = registry.child(rt, gauges, &[])? else {
+        return Err("no gauge".into());
+    };
+    Ok((counter, hist, gauge))
+}
+
+#[test]
+fn workers_count_by_its_handles(rt: HostRuntime) -> Result<(), Fail> {
+    let alloc = rt.alloc();
+    let Pair {
+        board,
+        mut first,
+        mut second,
+        reader,
+    } = make_pair(alloc)?;
+    let registry = registry(alloc, &board, reader)?;
+    prints(&rt, &registry, "")?;
+    let (counter, hist, gauge) = handles(&rt, alloc, &registry)?;
+    first.inc(&board, &counter, 5)?;
+    second.inc(&board, &counter, 2)?;
+    first.observe(&board, &hist, 11)?;
+    second.up(&board, &gauge, 5)?;
+    first.down(&board, &gauge, 7)?;
+    let expected = "# TYPE c counter\nc 7\n# TYPE g gauge\ng -2\n# TYPE h histogram\n\
+         h_bucket{le=\"10\"} 0\nh_bucket{le=\"20\"} 1\nh_bucket{le=\"+Inf\"} 1\nh_sum 11\nh_count 1\n";
+    prints(&rt, &registry, expected)?;
+    prints(&rt, &registry, expected)?;
+    let state = registry.into_state();
+    same(&rt, &(state.kept().len(), state.journal().len()), &(3, 9));
+    Ok(())
+}
+
+/// Expects these refusals of a registry with the families `c`, `h` and `g` without labels, one child each, and then twice of a
+/// fourth one.
+fn refuses(rt: &(impl Wait + Abort), alloc: Global, registry: &Two<'_>) -> Result<(), Fail> {
+    let clash = registry.register(rt, desc(alloc, Kind::Counter, "h_sum", &[])?);
+    same(rt, &clash, &Err(RegisterFault::Clash { with: 1 }));
+    let by_path = registry.register(rt, desc(alloc, Kind::Gauge, "d", &["path"])?)?;
+    same(rt, &by_path.number(), &3);
+    same(rt, &registry.family(rt, "d"), &Some(by_path));
+    same(rt, &registry.family(rt, "e"), &None);
+    let got = registry.child(rt, by_path, &[]);
+    same(rt, &got, &Err(ChildFault::LabelCount { want: 1, got: 0 }));
+    let value = [LabelValue::read(alloc, "/")?];
+    let full = registry.child(rt, by_path, &value);
+    same(rt, &full, &Err(ChildFault::Full { kind: Kind::Gauge }));
+    same(rt, &registry.set_window(rt, 0), &Err(BadWindow));
+    same(rt, &registry.set_window(rt, 1_025), &Err(BadWindow));
+    Ok(())
+}
+
+#[test]
+fn refusals_are_handed_on(rt: HostRuntime) -> Result<(), Fail> {
+    let alloc = rt.alloc();
+    let Pair { board, reader, .. } = make_pair(alloc)?;
+    let registry = registry(alloc, &board, reader)?;
+    let handed = handles(&rt, alloc, &registry)?;
+    for _ in 0..3 {
+        let _scrape = registry.scrape(&rt)?;
+    }
+    refuses(&rt, alloc, &registry)?;
+    // The window is what it was, and so are the kept scrapes.
+    let _scrape = registry.scrape(&rt)?;
+    same(&rt, &registry.set_window(&rt, 64), &Ok(4));
+    let again = registry.family(&rt, "c").ok_or("no family")?;
+    same(
+        &rt,
+        &registry.child(&rt, again, &[])?,
+        &Handle::Counter(handed.0),
+    );
+    same(
+        &rt,
+        &handed.0,
+        &Counter {
+            registry: 7,
+            slot: 0,
+        },
+    );
+    let state = registry.into_state();
+    same(&rt, &(state.kept().len(), state.journal().len()), &(4, 11));
+    Ok(())
+}
+
+#[test]
+fn the_window(rt: HostRuntime) -> Result<(), Fail> {
+    let alloc = rt.alloc();
+    let Pair { board, reader, .. } = make_pair(alloc)?;
+    let registry = registry(alloc, &board, reader)?;
+    for _ in 0..70 {
+        prints(&rt, &registry, "")?;
+    }
+    same(&rt, &registry.set_window(&rt, 1_024), &Ok(64));
+    same(&rt, &registry.set_window(&rt, 3), &Ok(3));
+    same(&rt, &registry.set_window(&rt, 1_024), &Ok(3));
+    prints(&rt, &registry, "")?;
+    same(&rt, &registry.set_window(&rt, 4), &Ok(4));
+    same(&rt, &registry.into_state().kept().len(), &4);
+    Ok(())
+}
+
+#[test]
+fn a_window_that_is_none(rt: HostRuntime) -> Result<(), Fail> {
+    let alloc = rt.alloc();
+    let Pair { board, reader, .. } = make_pair(alloc)?;
+    let Err(none) = Registry::new(alloc, &board, reader, 0) else {
+        return Err("a window of 0".into());
+    };
+    same(&rt, &none.fault, &NewFault::BadWindow);
+    let Err(over) = Registry::new(alloc, &board, none.reader, 1_025) else {
+        return Err("a window of 1,025".into());
+    };
+    same(
+        &rt,
+        &(over.fault, over.fault.number()),
+        &(NewFault::BadWindow, 31),
+    );
+    let one = Registry::new(alloc, &board, over.reader, 1).map_err(|not_made| not_made.fault)?;
+    prints(&rt, &one, "")?;
+    prints(&rt, &one, "")?;
+    same(&rt, &one.into_state().kept().len(), &1);
+    Ok(())
+}
+
+/// A window of any size is the window that was asked for: 1,000 scrapes are not the most.
+#[test]
+fn a_window_of_1024(rt: HostRuntime) -> Result<(), Fail> {
+    let alloc = rt.alloc();
+    let Pair { board, reader, .. } = make_pair(alloc)?;
+    let registry = Two::new(alloc, &board, reader, 1_024).map_err(|not_made| not_made.fault)?;
+    for _ in 0..1_001 {
+        let _scrape = registry.scrape(&rt)?;
+    }
+    same(&rt, &registry.into_state().kept().len(), &1_001);
+    Ok(())
+}
