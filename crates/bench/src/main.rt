@@ -3,10 +3,10 @@
 //! A line has a measurement's name, the geometry of its board as `N,C,H,G` for `N` workers and rows of `C` counters, `H`
 //! histograms and `G` gauges, the nanoseconds of one operation, and how many times that is what its floor takes. The floor
 //! of an operation is as many sequentially consistent loads and stores of plain atomic numbers as the operation makes,
-//! measured in the same run: [`floors`]. Both are made by turns, in ten batches each, of which the fastest ones count.
+//! measured in the same run: [`measurements::floors`]. Both are made by turns, in ten batches each, of which the fastest ones count.
 //!
 //! A line of a text has a measurement's name, how many counters and histograms its scrape has, the nanoseconds of one text, and
-//! how many times that is what each of two floors takes: as many bytes copied, and as many numbers formatted: [`text_floors`].
+//! how many times that is what each of two floors takes: as many bytes copied, and as many numbers formatted: [`measurements::text_floors`].
 //!
 //! `bench 0` makes each measurement once, and prints one line that is always the same. Exit status 0 at the end; 2 for other
 //! arguments; 1 where something failed.
@@ -14,37 +14,14 @@
 
 #[cfg(test)]
 mod asserts;
-mod beside;
-mod busy;
-mod clock;
-mod counts;
-mod fault;
-mod filling;
-mod floors;
-mod geometry;
-mod locked;
-mod makings;
-mod measured;
-mod numbers;
-mod operations;
-mod plain;
-mod plan;
-mod print;
-mod registries;
-mod scans;
-mod scrapes;
-mod service;
-mod setup;
 #[cfg(test)]
 mod tests;
-mod text_batches;
-mod text_floors;
-mod texts;
 
-use fault::Fault;
-use geometry::measure;
-use plan::Plan;
-use service::Service;
+use measurements::fault::Fault;
+use measurements::geometry::measure;
+use measurements::plan::Plan;
+use measurements::service::Service;
+use measurements::{locked, makings, registries, texts};
 use std::env;
 use std::process::ExitCode;
 use std::rt::Env;

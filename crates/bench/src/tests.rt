@@ -1,13 +1,13 @@
 use crate::asserts::same;
-use crate::beside::Beside;
-use crate::locked::{full, scrapes_beside};
-use crate::numbers::number;
-use crate::plan::Plan;
-use crate::print::{Tenths, in_tenths};
-use crate::service::{Service, scrape_of};
-use crate::setup::{Crew, new_crew};
-use crate::text_floors::plain_of;
 use expo_text::render;
+use measurements::beside::Beside;
+use measurements::locked::{full, scrapes_beside};
+use measurements::numbers::number;
+use measurements::plan::Plan;
+use measurements::print::{Tenths, in_tenths};
+use measurements::service::{Service, scrape_of};
+use measurements::setup::{Crew, new_crew};
+use measurements::text_floors::plain_of;
 use std::alloc::Global;
 use std::test::Fail;
 

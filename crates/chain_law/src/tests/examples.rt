@@ -1,25 +1,38 @@
 //! Examples of docs/MEETINGS.md, line by line.
+ghost use Rattle.snapshot_scan.specs.Readers.{IsReaderOf};
+ghost use Rattle.snapshot_update.specs.Workers.{IsWorkerOf};
 
 use super::crew::{Crew, Readers, counter, make_crew};
 use crate::asserts::same;
 use crate::{NotAll, settle};
-use snapshot_scan::Snapshot;
+use register_rule::Board;
+use snapshot_scan::{Reader, Snapshot};
+use snapshot_update::Worker;
+use std::process::Abort;
 use std::test::Fail;
+
+/// Counts, meets and scans: the scan has what was counted.
+fn meet_and_scan(
+    rt: &impl Abort,
+    board: &Board<4, 1, 0, 0>,
+    worker: &mut Worker<4, 1, 0, 0>,
+    reader: &mut Reader<4, 1, 0, 0>,
+    out: &mut Snapshot<4, 1, 0, 0>,
+)
+    requires own { IsWorkerOf board.now worker.old × IsReaderOf board.now reader.old }
+{
+    let counted = worker.inc(board, &counter(), 5);
+    worker.meet(board, reader);
+    let scanned = reader.scan(board, out);
+    assert!(rt; counted.is_ok() && scanned.is_ok());
+    same(rt, &out.counter(0), &5);
+}
 
 #[test]
 fn a_meeting(rt: HostRuntime) -> Result<(), Fail> {
-    let (board, crew, readers) = make_crew(rt.alloc())?;
-    let Crew { a: mut worker, .. } = crew;
-    let Readers {
-        left: mut reader,
-        ..
-    } = readers;
+    let (board, mut crew, mut readers) = make_crew(rt.alloc())?;
     let mut out = Snapshot::new(rt.alloc())?;
-    let counted = worker.inc(&board, &counter(), 5);
-    worker.meet(&board, &mut reader);
-    let scanned = reader.scan(&board, &mut out);
-    same(&rt, &(counted.is_ok() && scanned.is_ok()), &true);
-    same(&rt, &out.counter(0), &5);
+    meet_and_scan(&rt, &board, &mut crew.a, &mut readers.left, &mut out);
     Ok(())
 }
 

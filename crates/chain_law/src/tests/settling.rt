@@ -55,10 +55,7 @@ pub(super) fn two_count(
 fn nobody_settles(rt: HostRuntime) -> Result<(), Fail> {
     let (board, _crew, mut readers) = make_crew(rt.alloc())?;
     let mut out = Snapshot::new(rt.alloc())?;
-    let found = settle(&board, &mut readers.left, &mut [], &mut out);
-    same(&rt, &found, &Err(NotAll { missing: 0 }));
-    let again = settle(&board, &mut readers.left, &mut [], &mut out);
-    same(&rt, &again, &found);
+    do_not_settle(&rt, &board, &mut readers.left, &mut [], &mut out, 0);
     same(&rt, &NotAll { missing: 0 }.number(), &18);
     Ok(())
 }

@@ -1,5 +1,6 @@
 //! A registry by its calls, over a board.
 ghost use Rattle.snapshot_scan.specs.Readers.{IsReaderOf};
+ghost use Rattle.snapshot_update.specs.Workers.{IsWorkerOf};
 
 use super::crew::{Pair, desc, make_pair};
 use crate::asserts::same;
@@ -11,6 +12,7 @@ use metric_registry::Registry;
 use register_rule::Board;
 use registry_state::{BadWindow, ChildFault, Handle, NewFault, RegisterFault};
 use snapshot_scan::Reader;
+use snapshot_update::Worker;
 use std::alloc::Global;
 use std::process::Abort;
 use std::sync::Wait;
@@ -58,6 +60,24 @@ fn handles(
     Ok((counter, hist, gauge))
 }
 
+/// Counts by turns, by each of the handles.
+fn count_by_turns(
+    board: &Board<2, 4, 1, 1>,
+    first: &mut Worker<2, 4, 1, 1>,
+    second: &mut Worker<2, 4, 1, 1>,
+    handles: (Counter, Histogram, Gauge),
+) -> Result<(), Fail>
+    requires own { IsWorkerOf board.now first.old × IsWorkerOf board.now second.old }
+{
+    let (counter, hist, gauge) = handles;
+    first.inc(board, &counter, 5)?;
+    second.inc(board, &counter, 2)?;
+    first.observe(board, &hist, 11)?;
+    second.up(board, &gauge, 5)?;
+    first.down(board, &gauge, 7)?;
+    Ok(())
+}
+
 #[test]
 fn workers_count_by_its_handles(rt: HostRuntime) -> Result<(), Fail> {
     let alloc = rt.alloc();
@@ -69,12 +89,8 @@ fn workers_count_by_its_handles(rt: HostRuntime) -> Result<(), Fail> {
     } = make_pair(alloc)?;
     let registry = registry(alloc, &board, reader)?;
     prints(&rt, &registry, "")?;
-    let (counter, hist, gauge) = handles(&rt, alloc, &registry)?;
-    first.inc(&board, &counter, 5)?;
-    second.inc(&board, &counter, 2)?;
-    first.observe(&board, &hist, 11)?;
-    second.up(&board, &gauge, 5)?;
-    first.down(&board, &gauge, 7)?;
+    let handles = handles(&rt, alloc, &registry)?;
+    count_by_turns(&board, &mut first, &mut second, handles)?;
     let expected = "# TYPE c counter\nc 7\n# TYPE g gauge\ng -2\n# TYPE h histogram\n\
          h_bucket{le=\"10\"} 0\nh_bucket{le=\"20\"} 1\nh_bucket{le=\"+Inf\"} 1\nh_sum 11\nh_count 1\n";
     prints(&rt, &registry, expected)?;

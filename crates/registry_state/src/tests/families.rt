@@ -25,8 +25,8 @@ fn clashes(rt: HostRuntime) -> Result<(), Fail> {
     families.push(family(alloc, Kind::Counter, "a")?)?;
     families.push(family(alloc, Kind::Histogram, "h")?)?;
     families.push(family(alloc, Kind::Gauge, "h_sum_of")?)?;
-    let same = may_register(&families, &desc(alloc, Kind::Gauge, "a")?);
-    same(&rt, &same, &Err(RegisterFault::Clash { with: 0 }));
+    let again = may_register(&families, &desc(alloc, Kind::Gauge, "a")?);
+    same(&rt, &again, &Err(RegisterFault::Clash { with: 0 }));
     let count = may_register(&families, &desc(alloc, Kind::Counter, "h_count")?);
     same(&rt, &count, &Err(RegisterFault::Clash { with: 1 }));
     let least = may_register(&families, &desc(alloc, Kind::Histogram, "h")?);
