@@ -153,7 +153,7 @@ fn scrapes_while_a_pool_counts(rt: HostRuntime) -> Result<(), Fail> {
         list(alloc, counter)?,
         list(alloc, counter)?,
     ];
-    same(&rt, &jobs.len(), &workers.len());
+    assert_eq!(rt; jobs.len(), workers.len());
     let (counted, scraped) = count_and_scrape(&rt, alloc, &board, &registry, workers, &jobs);
     scraped?;
     let mut workers = counted?;

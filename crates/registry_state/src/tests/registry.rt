@@ -216,11 +216,7 @@ fn the_65th_scrape(rt: HostRuntime) -> Result<(), Fail> {
         let _scrape = registry.scrape()?;
         registry.apply(&[Op::Inc { counter: 0, by: 1 }])?;
     }
-    same(
-        &rt,
-        &(registry.kept().len(), registry.journal().len()),
-        &(64, 66),
-    );
+    assert_eq!(rt; (registry.kept().len(), registry.journal().len()), (64, 66));
     let mut out = Snapshot::new(alloc)?;
     registry.kept().read(0, &mut out);
     same(&rt, &out.counter(0), &1);
