@@ -1,5 +1,5 @@
 -- The six counters have together counted each reply once.
-use Rattle.std.proofs.Common.{◌≡◌, ℕ, ◌+◌, ◌<◌, List, [], ◌∷◌, ◌++◌, length, map, slice_index, refl, ap, ◌∙◌, arith}
+use Rattle.std.proofs.Common.{◌≡◌, ◌⊎◌, ℕ, ◌+◌, ◌<◌, List, [], ◌∷◌, ◌++◌, length, map, slice_index, refl, ap, ◌∙◌, inl, inr, arith}
 use Rattle.ledger_core.specs.declared.op.Op.{Op}
 use Rattle.ledger_core.specs.Ops.{only, sum_ops}
 use Rattle.bucket_math.specs.Bounds.{place_of}
@@ -16,7 +16,7 @@ use Rattle.chain_law.specs.Settled.{IsSettled}
 use Rattle.metrics_serve.specs.declared.metrics.Metrics.{Metrics}
 use Rattle.metrics_serve.specs.declared.threads.Four.{Four}
 use Rattle.metrics_serve.specs.Counted.{AreNew, AreSix, HasCounted, HaveCounted, IsNew, all_of, counter_for, list_for, number_of, replies_in}
-use Rattle.metrics_serve.proofs.Six.{six_same, six_both, six_list, one_a, one_b, one_c, one_d, one_e, one_f}
+use Rattle.metrics_serve.proofs.Six.{one_of_six, six_same, six_both, six_list}
 
 module _ (m : Metrics) (are : AreSix m) where
   -- the sum over the counters of all statuses
@@ -25,13 +25,19 @@ module _ (m : Metrics) (are : AreSix m) where
       g m.success.slot + g m.bad_request.slot + g m.not_found.slot + g m.method_not_allowed.slot + g m.too_large.slot
       + g m.unavailable.slot
 
+  one_of : (slot : ℕ)
+      → (slot ≡ m.success.slot) ⊎ (slot ≡ m.bad_request.slot) ⊎ (slot ≡ m.not_found.slot) ⊎ (slot ≡ m.method_not_allowed.slot) ⊎ (slot ≡ m.too_large.slot)
+          ⊎ (slot ≡ m.unavailable.slot)
+      → all (only slot 1) ≡ 1
+  one_of = one_of_six _ _ _ _ _ _ are.bad_request are.not_found are.method_not_allowed are.too_large are.unavailable are.last
+
   one : (status : Status) → all (only (counter_for m status).slot 1) ≡ 1
-  one Success = one_a _ _ _ _ _ _ are.bad_request are.not_found are.method_not_allowed are.too_large are.unavailable are.last
-  one BadRequest = one_b _ _ _ _ _ _ are.bad_request are.not_found are.method_not_allowed are.too_large are.unavailable are.last
-  one NotFound = one_c _ _ _ _ _ _ are.bad_request are.not_found are.method_not_allowed are.too_large are.unavailable are.last
-  one MethodNotAllowed = one_d _ _ _ _ _ _ are.bad_request are.not_found are.method_not_allowed are.too_large are.unavailable are.last
-  one TooLarge = one_e _ _ _ _ _ _ are.bad_request are.not_found are.method_not_allowed are.too_large are.unavailable are.last
-  one Unavailable = one_f _ _ _ _ _ _ are.bad_request are.not_found are.method_not_allowed are.too_large are.unavailable are.last
+  one Success = one_of _ (inl refl)
+  one BadRequest = one_of _ (inr (inl refl))
+  one NotFound = one_of _ (inr (inr (inl refl)))
+  one MethodNotAllowed = one_of _ (inr (inr (inr (inl refl))))
+  one TooLarge = one_of _ (inr (inr (inr (inr (inl refl)))))
+  one Unavailable = one_of _ (inr (inr (inr (inr (inr refl)))))
 
   of_list : (served : Served) → all (sum_ops 64 8 (list_for m served)) ≡ 1
   of_list served =
