@@ -1,9 +1,6 @@
 -- Replies that a worker has counted.
-use Rattle.std.proofs.Common.{◌≡◌, ℕ, ◌<◌, Option, List, [], ◌∷◌, ◌++◌, Result, Ok, Err, OnOk, OnErr, IfErr, map, refl, sym, subst, ap, ap₂, ◌∙◌, append-nil, append_assoc, inl, inr}
-use Rattle.std.proofs.KnownBytes.{Appends-kept, Appends-trans}
+use Rattle.std.proofs.Common.{◌≡◌, ℕ, List, [], ◌∷◌, ◌++◌, Result, Ok, Err, OnOk, OnErr, IfErr, map, refl, sym, subst, ap, ap₂, ◌∙◌, append-nil, append_assoc, inl, inr}
 use Rattle.std.proofs.lemmas.List.{map-append}
-use Rattle.std.specs.Io.KnownBytes.{Appends, Keeps}
-use Rattle.program_parts.specs.declared.sending.Broken.{Broken}
 use Rattle.std.proofs.lemmas.List.Elements.{All-nil, All-cons}
 use Rattle.ledger_core.specs.declared.op.Op.{Op}
 use Rattle.register_rule.specs.declared.board.Board.{Board}
@@ -15,9 +12,7 @@ use Rattle.snapshot_update.specs.declared.worker.Worker.{Worker}
 use Rattle.snapshot_update.specs.Workers.{index_of, lists_of, member_of, ops_in, IsApplyFault, IsWorkerOf}
 use Rattle.metrics_serve.specs.declared.metrics.Metrics.{Metrics}
 use Rattle.metrics_serve.specs.declared.threads.Four.{Four}
-use Rattle.metrics_serve.specs.Counted.{AreFour, AreNew, AreReplies, HasCounted, HaveCounted, IsNew, WasCounted, list_for}
-use Rattle.metrics_serve.specs.Printed.{Prints, listening_line, served_line}
-use Rattle.metrics_serve.specs.declared.serve.ServeEnd.TheVariants.{Done}
+use Rattle.metrics_serve.specs.Counted.{AreFour, AreNew, HasCounted, HaveCounted, IsNew, WasCounted, list_for}
 
 module _ (b : Board 4 64 8 16) (m : Metrics) where
   -- no reply yet
@@ -88,17 +83,3 @@ module _ (b : Board 4 64 8 16) (m : Metrics) where
             (ap₂ (λ (i : ℕ) (is : List ℕ). i ∷ is) (index 2 was.c four.c new.2 counted.2)
             (ap (λ (i : ℕ). i ∷ []) (index 3 was.d four.d new.3 counted.3))));
       }
-
--- the port, and then the replies
-pub printed : (a b c : Option (List ℕ)) (port replies : ℕ) (r : Result Unit Broken) → port < 65536 → AreReplies replies → Appends a b (listening_line port)
-    → OnOk r (Appends b c (served_line replies)) → OnOk r (Prints a c Done)
-printed a b c port replies (Ok done) small are before after =
-    (port, replies, small, are, Appends-trans a b c (listening_line port) (served_line replies) before after)
-printed a b c port replies (Err broken) small are before after = tt
-
--- three parts of a line were written, and let go
-pub told : (a b c d e : Option (List ℕ)) (xs ys zs : List ℕ) (r : Result Unit Broken) → Appends a b xs → Appends b c ys → Appends c d zs → Keeps d e
-    → OnOk r (Appends a e (xs ++ ys ++ zs))
-told a b c d e xs ys zs (Ok done) first second third kept =
-    Appends-kept a d e (xs ++ ys ++ zs) (Appends-trans a c d (xs ++ ys) zs (Appends-trans a b c xs ys first second) third) kept
-told a b c d e xs ys zs (Err broken) first second third kept = tt

@@ -1,11 +1,11 @@
 //! The server.
-ghost use Rattle.std.specs.Prelude.{◌≡◌, ◌<◌, [], ◌∷◌, map, replicate, All, OnOk, IfSome};
+ghost use Rattle.std.specs.Prelude.{◌≡◌, [], ◌∷◌, ◌++◌, codes, decimal, map, replicate, All, OnErr, OnOk, IfSome};
 ghost use Rattle.std.specs.Io.KnownBytes.{Appends};
 ghost use Rattle.chain_law.specs.Settled.{IsSettled};
 ghost use Rattle.snapshot_scan.specs.Readers.{IsReaderOf};
 ghost use Rattle.snapshot_update.specs.Workers.{index_of, lists_of, IsWorkerOf};
 ghost use Rattle.metrics_serve.specs.Counted.{AreFour, AreNew, AreReplies, AreSix, HaveCounted, all_of};
-ghost use Rattle.metrics_serve.specs.Printed.{Prints, listening_line, served_line, status_of};
+ghost use Rattle.metrics_serve.specs.Printed.{Begins, Prints, status_of};
 
 use crate::metrics::Metrics;
 use crate::threads::{Four, Queues, Shared, serve_in_threads};
@@ -73,25 +73,14 @@ impl<'b> Service<'b> {
     }
 }
 
-/// Writes the line that tells the port, and lets it go.
-fn tell_port<W: Write>(writer: &mut W, port: u16) -> Result<(), Broken>
-    ensures line { OnOk result (Appends (W.contents writer.old) (W.contents writer.new) (listening_line port)) }
-    ensures range { port < 65536 }
+/// Writes a word, a number and a line feed, and lets them go. Where that fails, a beginning of them is written, and nothing else.
+fn tell<W: Write>(writer: &mut W, word: &[u8], number: u64) -> Result<(), Broken>
+    ensures told { OnOk result (Appends (W.contents writer.old) (W.contents writer.new) (word.now ++ decimal number ++ codes "\n")) }
+    ensures front { OnErr result (Begins (W.contents writer.old) (W.contents writer.new) (word.now ++ decimal number ++ codes "\n")) }
 {
     let mut digits = itoa::Buffer::new();
-    send(writer, b"listening ")?;
-    send(writer, digits.format(port).as_bytes())?;
-    send(writer, b"\n")?;
-    writer.flush().map_err(|_| Broken)
-}
-
-/// Writes the line that tells the replies, and lets it go.
-fn tell_served<W: Write>(writer: &mut W, replies: u64) -> Result<(), Broken>
-    ensures { OnOk result (Appends (W.contents writer.old) (W.contents writer.new) (served_line replies)) }
-{
-    let mut digits = itoa::Buffer::new();
-    send(writer, b"served ")?;
-    send(writer, digits.format(replies).as_bytes())?;
+    send(writer, word)?;
+    send(writer, digits.format(number).as_bytes())?;
     send(writer, b"\n")?;
     writer.flush().map_err(|_| Broken)
 }
@@ -189,16 +178,15 @@ fn serve_over<T: Threads + Wait + Sync, W: Write>(
     requires new { AreNew board.now workers }
     requires settler { IsReaderOf board.now settler.old }
     requires six { AreSix service.metrics }
-    ensures { OnOk result (Prints (W.contents writer.old) (W.contents writer.new) ServeEnd.Done) }
+    ensures done { OnOk result (Prints (W.contents writer.old) (W.contents writer.new) ServeEnd.Done) }
+    ensures broken { OnErr result (Prints (W.contents writer.old) (W.contents writer.new) ServeEnd.Broken) }
 {
     let Ok(address) = listener.local_addr() else {
         return Err(Broken);
     };
-    let Ok(()) = tell_port(writer, address.port()) else {
-        return Err(Broken);
-    };
+    tell(writer, b"listening ", u64::from(address.port()))?;
     match serve_counting(rt, board, workers, settler, service, listener, count) {
-        Some(replies) => tell_served(writer, replies),
+        Some(replies) => tell(writer, b"served ", replies),
         None => Err(Broken),
     }
 }
