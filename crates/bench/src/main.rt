@@ -45,27 +45,13 @@ fn asked(rt: &(impl Env + AllocGlobal)) -> Option<Plan> {
     Plan::of(count)
 }
 
-/// Families of 64 counters and 8 histograms of 10 bounds.
-const SMALL: Service = Service {
-    counters: 8,
-    histograms: 1,
-    bounds: 10,
-};
-
-/// Families of 256 counters and 32 histograms of 24 bounds.
-const LARGE: Service = Service {
-    counters: 32,
-    histograms: 4,
-    bounds: 24,
-};
-
 /// Measures the registries of two services, each over a source of one thread and over a board, and registrations.
 fn measure_registries(rt: &(impl Clock + Print + AllocGlobal), plan: Plan) -> Result<(), Fault> {
-    registries::measure_plain::<64, 8>(rt, plan, SMALL)?;
-    registries::measure_board::<4, 64, 8>(rt, plan, SMALL)?;
-    registries::measure_plain::<256, 32>(rt, plan, LARGE)?;
-    registries::measure_board::<16, 256, 32>(rt, plan, LARGE)?;
-    registries::measure_windows::<64, 8>(rt, plan, SMALL)?;
+    registries::measure_plain::<64, 8>(rt, plan, Service::small())?;
+    registries::measure_board::<4, 64, 8>(rt, plan, Service::small())?;
+    registries::measure_plain::<256, 32>(rt, plan, Service::large())?;
+    registries::measure_board::<16, 256, 32>(rt, plan, Service::large())?;
+    registries::measure_windows::<64, 8>(rt, plan, Service::small())?;
     makings::measure(rt, plan)
 }
 
@@ -77,10 +63,10 @@ fn measure_all(
     measure::<4, 64, 8, 0>(rt, plan)?;
     measure::<16, 256, 32, 0>(rt, plan)?;
     measure::<32, 256, 32, 64>(rt, plan)?;
-    texts::measure(rt, plan, SMALL)?;
-    texts::measure(rt, plan, LARGE)?;
+    texts::measure(rt, plan, Service::small())?;
+    texts::measure(rt, plan, Service::large())?;
     measure_registries(rt, plan)?;
-    locked::measure::<4, 64, 8>(rt, plan, SMALL)?;
+    locked::measure::<4, 64, 8>(rt, plan, Service::small())?;
     if !plan.shown {
         println!(rt; "measured 3 geometries, 2 texts and 2 registries")?;
     }

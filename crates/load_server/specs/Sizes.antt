@@ -1,7 +1,5 @@
 -- How large the registry is that is served.
-use Rattle.std.specs.Prelude.{ℕ, length}
-use Rattle.snapshot_update.specs.declared.worker.Worker.{Worker}
-use Rattle.snapshot_update.specs.Workers.{lists_of}
+use Rattle.std.specs.Prelude.{ℕ}
 use Rattle.load_server.specs.declared.families.Size.{Size}
 use Rattle.load_server.specs.declared.families.Size.TheVariants.{Small, Large}
 
@@ -19,7 +17,3 @@ histograms_of Large = 32
 abbrev pub bounds_of : Size → ℕ
 bounds_of Small = 10
 bounds_of Large = 24
-
--- how often a worker has published
-abbrev pub published_by : {C H : ℕ} → Worker 4 C H 0 → ℕ
-published_by w = length (lists_of w)

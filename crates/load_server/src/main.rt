@@ -5,22 +5,15 @@
 //! With the port 0 the system chooses one; standard error tells which. Exit status 0 at the end, 2 for other arguments, 3 after a failure.
 #![tactic(auto)]
 
-ghost use Rattle.std.specs.Prelude.{IfOk};
-ghost use Rattle.segment_layout.specs.Layout.{IsGeometry};
-ghost use Rattle.snapshot_scan.specs.Readers.{IsReaderOf};
-ghost use Rattle.snapshot_update.specs.Workers.{IsWorkerOf};
-
 mod families;
 
-use anyhow::{Result, bail};
+use anyhow::Result;
 use expo_text::text_len;
 use families::{Size, fill};
+use measurements::registries::WINDOW;
+use measurements::setup::{Crew, new_crew};
 use metric_registry::Registry;
-use register_rule::{Board, Parts};
 use scrape_server::{FromRegistry, serve_stream};
-use snapshot_scan::Reader;
-use snapshot_update::Worker;
-use std::alloc::Global;
 use std::net::{Ipv4Addr, Net, TcpListener};
 use std::process::ExitCode;
 use std::rt::Env;
@@ -29,15 +22,6 @@ use std::thread::Threads;
 use std::{env, thread};
 
 const USAGE: &str = "usage: load_server PORT REPLIES 64|256";
-
-/// The id of the board and its handles.
-const ID: u64 = 1;
-
-/// How many readers the board has: that of the registry.
-const READERS: usize = 1;
-
-/// How many scrapes the registry keeps.
-const WINDOW: usize = 64;
 
 /// The size of this name.
 fn size_of(word: &str) -> Option<Size> {
@@ -94,37 +78,6 @@ fn serve<const C: usize, const H: usize>(
     })
 }
 
-/// A board, one of its workers, and the reader by which its registry scrapes.
-#[derive(Drop)]
-struct Crew<const C: usize, const H: usize> {
-    board: Board<4, C, H, 0>,
-    worker: Worker<4, C, H, 0>,
-    reader: Reader<4, C, H, 0>,
-}
-
-/// A new board of four workers, its last worker and its reader.
-fn new_crew<const C: usize, const H: usize>(alloc: Global) -> Result<Crew<C, H>>
-    ensures worker { IfOk result (λ c. IsWorkerOf c.board c.worker) }
-    ensures reader { IfOk result (λ c. IsReaderOf c.board c.reader) }
-{
-    let Parts {
-        board,
-        mut work,
-        mut read,
-    } = Board::<4, C, H, 0>::new(alloc, ID, READERS)?;
-    let (Some(worker), Some(reader)) = (work.pop(), read.pop()) else {
-        unreachable!()
-    };
-    let (Ok(worker), Ok(reader)) = (Worker::new(alloc, worker), Reader::new(alloc, reader)) else {
-        bail!("no memory")
-    };
-    Ok(Crew {
-        board,
-        worker,
-        reader,
-    })
-}
-
 /// Fills a registry of this size over a new board, and serves it.
 fn run<const C: usize, const H: usize>(
     rt: &(impl Threads + Wait + Print + AllocGlobal + Sync),
@@ -134,9 +87,13 @@ fn run<const C: usize, const H: usize>(
 ) -> Result<()> {
     let Crew {
         board,
-        mut worker,
+        mut workers,
         reader,
-    } = new_crew::<C, H>(rt.alloc())?;
+        ..
+    } = new_crew::<4, C, H, 0>(rt.alloc())?;
+    let Some(mut worker) = workers.pop() else {
+        unreachable!()
+    };
     let registry = Registry::new(rt.alloc(), &board, reader, WINDOW).map_err(|no| no.fault)?;
     fill(rt, &board, &registry, &mut worker, size)?;
     serve(rt, &registry, listener, replies)?;

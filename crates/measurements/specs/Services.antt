@@ -1,8 +1,13 @@
--- The scrapes whose texts are measured.
-use Rattle.std.specs.Prelude.{◌≡◌, ℕ, List, ◌++◌, length, All}
+-- The services that are measured, and the scrapes whose texts are.
+use Rattle.std.specs.Prelude.{◌≡◌, ℕ, ◌*◌, List, ◌++◌, length, All}
 use Rattle.metric_desc.specs.declared.kind.Kind.{Kind}
 use Rattle.metric_desc.specs.declared.kind.Kind.TheVariants.{Counter, Histogram}
 use Rattle.expo_text.specs.Scraped.{Family}
+
+-- so many families of eight children each have c counters, and so many others h histograms, of b bounds each
+pub record IsSized (c h b counters histograms bounds : ℕ) : Type 0 where
+  pub many : (8 * counters ≡ c) × (8 * histograms ≡ h)
+  pub bounds_are : bounds ≡ b
 
 -- a family of eight children, of a kind, with one label and b bounds
 pub record IsFamilyOf (k : Kind) (b : ℕ) (family : Family) : Type 0 where

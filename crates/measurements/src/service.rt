@@ -1,6 +1,6 @@
 //! A scrape such as that of a service: families of counters, and then families of histograms, of eight children each.
 ghost use Rattle.std.specs.Prelude.{◌≡◌, ◌<◌, ◌≤◌, [], length, IfOk, IfSome, All};
-ghost use Rattle.measurements.specs.Services.{IsFamilyOf, IsService};
+ghost use Rattle.measurements.specs.Services.{IsFamilyOf, IsService, IsSized};
 
 use crate::fault::Fault;
 use crate::numbers::shown;
@@ -14,7 +14,7 @@ use std::sync::Arc;
 pub const CHILDREN: u64 = 8;
 
 /// The bounds, of which a histogram has the first ones.
-const BOUNDS: [u64; 24] = [
+pub const BOUNDS: [u64; 24] = [
     5,
     10,
     25,
@@ -53,6 +53,30 @@ pub struct Service {
     ghost few_counters: { counters ≤ 100 },
     ghost few_histograms: { histograms ≤ 100 },
     ghost few_bounds: { bounds ≤ 24 },
+}
+
+impl Service {
+    /// 64 counters, and 8 histograms of 10 bounds.
+    pub fn small() -> Service
+        ensures { IsSized 64 8 10 result.counters result.histograms result.bounds }
+    {
+        Service {
+            counters: 8,
+            histograms: 1,
+            bounds: 10,
+        }
+    }
+
+    /// 256 counters, and 32 histograms of 24 bounds.
+    pub fn large() -> Service
+        ensures { IsSized 256 32 24 result.counters result.histograms result.bounds }
+    {
+        Service {
+            counters: 32,
+            histograms: 4,
+            bounds: 24,
+        }
+    }
 }
 
 /// The values of the labels of the child of this number.

@@ -1,6 +1,6 @@
 use Rattle.std.proofs.Common.{◌≡◌, ◌+◌, ◌*◌}
 use Rattle.snapshot_update.specs.Workers.{IsWorkerOf}
-use Rattle.load_server.specs.Sizes.{published_by}
+use Rattle.measurements.specs.Made.{published_by}
 use Rattle.load_server.proofs.families.observe_bounds.Given as goal
 
 abbrev pub invariant-loop-bound : goal.invariant-loop-bound

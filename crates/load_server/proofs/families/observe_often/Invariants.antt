@@ -1,6 +1,6 @@
 use Rattle.std.proofs.Common.{◌≡◌, ◌+◌}
 use Rattle.snapshot_update.specs.Workers.{IsWorkerOf}
-use Rattle.load_server.specs.Sizes.{published_by}
+use Rattle.measurements.specs.Made.{published_by}
 use Rattle.load_server.proofs.families.observe_often.Given as goal
 
 abbrev pub invariant-loop-time : goal.invariant-loop-time
