@@ -7,9 +7,7 @@ ghost use Rattle.load_server.specs.Sizes.{bounds_of, counters_of, histograms_of}
 
 use anyhow::{Result, bail};
 use ledger_core::Histogram;
-use measurements::service::{
-    BOUNDS, CHILDREN, Service, counter_desc, histogram_desc, values,
-};
+use measurements::service::{BOUNDS, CHILDREN, Service, counter_desc, histogram_desc, values};
 use metric_registry::Registry;
 use register_rule::Board;
 use registry_state::Handle;
@@ -31,9 +29,7 @@ pub(crate) enum Size {
 impl Size {
     /// Its families, which are those that `bench` measures.
     fn service(self) -> Service
-        ensures {
-            IsSized (counters_of self) (histograms_of self) (bounds_of self) result.counters result.histograms result.bounds
-        }
+        ensures { IsSized (counters_of self) (histograms_of self) (bounds_of self) result.counters result.histograms result.bounds }
     {
         match self {
             Size::Small => Service::small(),

@@ -1,5 +1,5 @@
 -- Bytes that are printed, or a beginning of them.
-use Rattle.std.proofs.Common.{◌≡◌, ℕ, Option, List, [], ◌++◌, take, drop, Result, Ok, Err, OnErr, OnOk, inl, inr, ◌<◌, refl, sym, ap, ◌∙◌, append-nil, append_assoc, take-append-drop}
+use Rattle.std.proofs.Common.{ℕ, Option, List, [], ◌++◌, take, drop, Result, Ok, Err, OnErr, OnOk, inl, inr, ◌<◌, refl, sym, ap, ◌∙◌, append-nil, append_assoc, take-append-drop}
 use Rattle.std.proofs.KnownBytes.{Appends-kept, Appends-nil, Appends-trans}
 use Rattle.std.specs.Io.KnownBytes.{Appends, Keeps}
 use Rattle.program_parts.specs.declared.sending.Broken.{Broken}

@@ -27,7 +27,7 @@ module _ (m : Metrics) (are : AreSix m) where
 
   one_of : (slot : ℕ)
       → (slot ≡ m.success.slot) ⊎ (slot ≡ m.bad_request.slot) ⊎ (slot ≡ m.not_found.slot) ⊎ (slot ≡ m.method_not_allowed.slot) ⊎ (slot ≡ m.too_large.slot)
-          ⊎ (slot ≡ m.unavailable.slot)
+      ⊎ (slot ≡ m.unavailable.slot)
       → all (only slot 1) ≡ 1
   one_of = one_of_six _ _ _ _ _ _ are.bad_request are.not_found are.method_not_allowed are.too_large are.unavailable are.last
 

@@ -27,7 +27,7 @@ Prints before after Done = (port replies : ℕ) × (port < 65536) × AreReplies 
 Prints before after NoMemory = Appends before after (codes "refused 0 6\n")
 Prints before after Broken =
     ((port : ℕ) × (port < 65536) × (Begins before after (listening_line port)
-        ⊎ ((replies : ℕ) × AreReplies replies × Begins before after (listening_line port ++ served_line replies))))
+    ⊎ ((replies : ℕ) × AreReplies replies × Begins before after (listening_line port ++ served_line replies))))
     ⊎ Begins before after (codes "refused 0 6\n")
 
 -- the exit status of the program

@@ -1,4 +1,4 @@
-use Rattle.std.specs.Prelude.{ℕ, List, ◌++◌, [], ◌∷◌, decimal}
+use Rattle.std.specs.Prelude.{◌++◌, [], ◌∷◌, decimal}
 use Rattle.std.proofs.KnownBytes.{Appends-trans}
 use Rattle.std.proofs.Common.{◌≡◌, subst, ◌∙◌}
 use Rattle.std.specs.Io.KnownBytes.{Appends}

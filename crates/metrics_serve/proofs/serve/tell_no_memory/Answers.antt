@@ -1,6 +1,6 @@
 use Rattle.std.proofs.Common.{inr}
 use Rattle.std.proofs.KnownBytes.{Appends-kept}
-use Rattle.metrics_serve.proofs.Printing.{begun, begun_kept, begun_whole}
+use Rattle.metrics_serve.proofs.Printing.{begun, begun_kept}
 use Rattle.metrics_serve.proofs.serve.tell_no_memory.Goals as goal
 
 pub returns-in-Ok-Ok : goal.returns-in-Ok-Ok
