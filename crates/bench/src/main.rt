@@ -3,86 +3,110 @@
 //! A line has a measurement's name, the geometry of its board as `N,C,H,G` for `N` workers and rows of `C` counters, `H`
 //! histograms and `G` gauges, the nanoseconds of one operation, and how many times that is what its floor takes. The floor
 //! of an operation is as many sequentially consistent loads and stores of plain atomic numbers as the operation makes,
-//! measured in the same run: [`measurements::floors`]. Both are made by turns, in ten batches each, of which the fastest ones count.
+//! measured in the same run. Both are made by turns, in ten batches each, of which the fastest ones count.
 //!
 //! A line of a text has a measurement's name, how many counters and histograms its scrape has, the nanoseconds of one text, and
-//! how many times that is what each of two floors takes: as many bytes copied, and as many numbers formatted: [`measurements::text_floors`].
+//! how many times that is what each of two floors takes: as many bytes copied, and as many numbers formatted: [`texts`].
 //!
-//! `bench 0` makes each measurement once, and prints one line that is always the same. Exit status 0 at the end; 2 for other
-//! arguments; 1 where something failed.
+//! `bench 0` makes each measurement a few times, and prints one line that is always the same.
+//!
+//! `bench serve PORT REPLIES SIZE` serves a registry of 64 counters and 8 histograms, SIZE `small`, or of 256 and 32, `large`, on 127.0.0.1
+//! by four threads, each of which answers so many connections. Standard error tells the port, which the system chooses where PORT is 0;
+//! at the end it prints how many bytes the text of a scrape has.
+//!
+//! Exit status 0 at the end; 2 for other arguments; 1 where something failed.
 #![tactic(auto)]
 
-#[cfg(test)]
-mod asserts;
-#[cfg(test)]
-mod tests;
+mod boards;
+mod locked;
+mod measuring;
+mod registries;
+mod texts;
 
-use measurements::fault::Fault;
-use measurements::geometry::measure;
-use measurements::plan::Plan;
-use measurements::service::Service;
-use measurements::{locked, makings, registries, texts};
+use anyhow::Result;
+use locked::serve;
+use measuring::{Lines, Rt};
+use registries::{LARGE, SMALL};
 use std::env;
+use std::net::{Ipv4Addr, Net, TcpListener, TcpStream};
 use std::process::ExitCode;
 use std::rt::Env;
 use std::sync::Wait;
 use std::thread::Threads;
-use std::time::Clock;
 
-const USAGE: &str = "usage: bench ROUNDS, a number of at most 1000000000";
+const USAGE: &str =
+    "usage: bench ROUNDS, at most 1000000000, or bench serve PORT REPLIES small|large";
 
-/// The one argument, as a plan.
-fn asked(rt: &(impl Env + AllocGlobal)) -> Option<Plan> {
-    let Ok(mut words) = env::args(rt) else {
-        return None;
-    };
-    let _program = words.next();
-    let word = words.next()?;
-    if words.next().is_some() {
-        return None;
-    }
-    let count = word.as_str().parse::<u64>().ok()?;
-    Plan::of(count)
-}
-
-/// Measures the registries of two services, each over a source of one thread and over a board, and registrations.
-fn measure_registries(rt: &(impl Clock + Print + AllocGlobal), plan: Plan) -> Result<(), Fault> {
-    registries::measure_plain::<64, 8>(rt, plan, Service::small())?;
-    registries::measure_board::<4, 64, 8>(rt, plan, Service::small())?;
-    registries::measure_plain::<256, 32>(rt, plan, Service::large())?;
-    registries::measure_board::<16, 256, 32>(rt, plan, Service::large())?;
-    registries::measure_windows::<64, 8>(rt, plan, Service::small())?;
-    makings::measure(rt, plan)
-}
+/// The most rounds that can be asked for.
+const MOST: u64 = 1_000_000_000;
 
 /// Measures three geometries, the texts of two scrapes, registries, and a registry behind its lock.
-fn measure_all(
-    rt: &(impl Threads + Wait + Clock + Print + AllocGlobal + Sync),
-    plan: Plan,
-) -> Result<(), Fault> {
-    measure::<4, 64, 8, 0>(rt, plan)?;
-    measure::<16, 256, 32, 0>(rt, plan)?;
-    measure::<32, 256, 32, 64>(rt, plan)?;
-    texts::measure(rt, plan, Service::small())?;
-    texts::measure(rt, plan, Service::large())?;
-    measure_registries(rt, plan)?;
-    locked::measure::<4, 64, 8>(rt, plan, Service::small())?;
-    if !plan.shown {
+fn measure_all(rt: &(impl Rt + Threads + Wait + Sync), rounds: u64) -> Result<()> {
+    let on = |of| Lines { rt, rounds, of };
+    on("4,64,8,0").board::<4, 64, 8, 0>(280)?;
+    on("16,256,32,0").board::<16, 256, 32, 0>(1_120)?;
+    on("32,256,32,64").board::<32, 256, 32, 64>(1_248)?;
+    on("64,8").texts_of::<64, 8>(SMALL)?;
+    on("256,32").texts_of::<256, 32>(LARGE)?;
+    on("1,64,8,0").alone::<64, 8>(SMALL)?;
+    on("4,64,8,0").shared::<4, 64, 8>(SMALL)?;
+    on("1,256,32,0").alone::<256, 32>(LARGE)?;
+    on("16,256,32,0").shared::<16, 256, 32>(LARGE)?;
+    on("1,64,8,0").windows::<64, 8>(SMALL)?;
+    on("1,256,0,0").makings()?;
+    on("4,64,8,0").locked::<4, 64, 8>(SMALL)?;
+    if rounds == 0 {
         println!(rt; "measured 3 geometries, 2 texts and 2 registries")?;
     }
     Ok(())
 }
 
-fn main(rt: HostRuntime) -> ExitCode {
-    let Some(plan) = asked(&rt) else {
-        let _ = eprintln!(rt; "{USAGE}");
-        return ExitCode::from(2);
+/// Listens at a port of 127.0.0.1, and tells which one it is.
+fn listen(
+    rt: &(impl Net<Listener = TcpListener, Stream = TcpStream> + Eprint),
+    port: u16,
+) -> Result<TcpListener> {
+    let listener = TcpListener::bind(rt, (Ipv4Addr::LOCALHOST, port))?;
+    eprintln!(rt; "listening {}", listener.local_addr()?.port())?;
+    Ok(listener)
+}
+
+/// Measurements of so many rounds; or so many replies by each thread, at a port, of a small service or else of a large one.
+fn asked(rt: &(impl Env + AllocGlobal)) -> Option<(u64, Option<(u16, bool)>)> {
+    let mut words = env::args(rt).ok()?;
+    let _program = words.next();
+    let first = words.next()?;
+    let Some(port) = words.next() else {
+        let rounds = first.as_str().parse::<u64>().ok()?;
+        return (rounds <= MOST).then_some((rounds, None));
     };
-    match measure_all(&rt, plan) {
-        Ok(()) => ExitCode::SUCCESS,
-        Err(fault) => {
-            let _ = eprintln!(rt; "{fault}");
-            ExitCode::from(1)
-        }
+    let port = port.as_str().parse::<u16>().ok()?;
+    let replies = words.next()?.as_str().parse::<u64>().ok()?;
+    let size = words.next()?;
+    match (first.as_str(), size.as_str(), words.next()) {
+        ("serve", "small", None) => Some((replies, Some((port, true)))),
+        ("serve", "large", None) => Some((replies, Some((port, false)))),
+        _ => None,
     }
+}
+
+fn main(rt: HostRuntime) -> ExitCode {
+    let done = match asked(&rt) {
+        Some((rounds, None)) => measure_all(&rt, rounds),
+        Some((replies, Some((port, true)))) => {
+            listen(&rt, port).and_then(|at| serve::<64, 8>(&rt, &at, replies, SMALL))
+        }
+        Some((replies, Some((port, false)))) => {
+            listen(&rt, port).and_then(|at| serve::<256, 32>(&rt, &at, replies, LARGE))
+        }
+        None => {
+            let _ = eprintln!(rt; "{USAGE}");
+            return ExitCode::from(2);
+        }
+    };
+    if let Err(fault) = done {
+        let _ = eprintln!(rt; "{fault}");
+        return ExitCode::from(1);
+    }
+    ExitCode::SUCCESS
 }

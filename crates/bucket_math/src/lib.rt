@@ -3,13 +3,8 @@
 //! Source: Prometheus documentation, "Metric types", "Histogram": buckets are cumulative, and a bound is inclusive.
 #![tactic(auto)]
 
-#[cfg(test)]
-mod asserts;
 mod bounds;
 mod buckets;
 
 pub use bounds::{BadBounds, Bounds, MAX_BOUND, MAX_BOUNDS};
 pub use buckets::{BUCKETS, cumulate};
-
-#[cfg(test)]
-mod tests;

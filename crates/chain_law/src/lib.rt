@@ -2,8 +2,6 @@
 //! history of publishes through snapshots that rise.
 #![tactic(auto)]
 
-#[cfg(test)]
-mod asserts;
 mod gathering;
 mod history;
 mod not_all;
@@ -14,6 +12,3 @@ pub use history::history_of;
 pub use not_all::NotAll;
 pub use settling::settle;
 pub use turns::{ChainFault, Turn};
-
-#[cfg(test)]
-mod tests;

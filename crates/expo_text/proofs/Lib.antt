@@ -37,3 +37,4 @@ pub mod ReadingLaw
 pub mod Elements
 pub mod Compared
 pub mod Sent
+mod Examples

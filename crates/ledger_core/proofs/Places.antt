@@ -25,19 +25,11 @@ module _ (c h g : ℕ) (counters : List ℕ) (hists gauges : List (List ℕ)) (s
   pub length-words : length (words counters hists gauges) ≡ width c h g
   length-words = length-append (counters ++ concat hists) (concat gauges) ∙ ap₂ ◌+◌ length-front length-gauges
 
-  pub counter-lt : (i : ℕ) → i < c → i < length (words counters hists gauges)
-  counter-lt i hi = rw length-words (omega arith)
-
   pub hist-lt : (i j : ℕ) → i < h → j < 27 → c + 27 * i + j < length (words counters hists gauges)
   hist-lt i j hi hj = let p = place-lt 27 i j h hi hj in rw length-words (omega arith)
 
   pub gauge-lt : (i j : ℕ) → i < g → j < 2 → c + 27 * h + 2 * i + j < length (words counters hists gauges)
   gauge-lt i j hi hj = let p = place-lt 2 i j g hi hj in rw length-words (omega arith)
-
-  pub read_counter : (i : ℕ) → i < c → get_or (words counters hists gauges) i 0 ≡ get_or counters i 0
-  read_counter i hi =
-      get_or_append_left (counters ++ concat hists) (concat gauges) 0 i (rw length-front (omega arith))
-      ∙ get_or_append_left counters (concat hists) 0 i (rw shape.all_counters hi)
 
   pub read_hist : (i j : ℕ) → i < h → j < 27 → get_or (words counters hists gauges) (c + 27 * i + j) 0 ≡ get_or (get_or hists i []) j 0
   read_hist i j hi hj =

@@ -21,8 +21,3 @@ pub use op::Op;
 pub use op_fault::OpFault;
 pub use row::{MAX_WORD, Row};
 pub use totals::{GaugeTotals, HistTotals};
-
-#[cfg(test)]
-mod asserts;
-#[cfg(test)]
-mod tests;

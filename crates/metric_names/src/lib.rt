@@ -4,8 +4,6 @@
 //! The grammars are those of the Prometheus documentation, "Data model" and "Exposition formats".
 #![tactic(auto)]
 
-#[cfg(test)]
-mod asserts;
 mod help_text;
 mod label_name;
 mod label_value;
@@ -18,6 +16,3 @@ pub use label_name::{LabelName, LabelNameFault};
 pub use label_value::{LabelValue, LabelValueFault};
 pub use metric_name::{MetricName, MetricNameFault};
 pub use no_memory::NoMemory;
-
-#[cfg(test)]
-mod tests;

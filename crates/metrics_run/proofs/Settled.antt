@@ -6,7 +6,7 @@ use Rattle.std.proofs.KnownBytes.{Appends-trans}
 use Rattle.std.proofs.lemmas.List.{take_more, take_all}
 use Rattle.std.proofs.lemmas.Grind.{flat_map-append}
 use Rattle.metrics_run.specs.Printed.{after_blank, settled_line}
-use Rattle.program_parts.specs.declared.sending.Broken.{Broken}
+use Rattle.metrics_serve.specs.declared.sending.Broken.{Broken}
 
 -- the line's front, with the first numbers
 abbrev pub front : List ℕ → List ℕ

@@ -18,7 +18,7 @@ use chain_law::settle;
 use expo_text::render;
 use metric_desc::Desc;
 use metric_names::NoMemory;
-use program_parts::{Board, Crew, Registry, Snapshot};
+use metrics_serve::{Board, Registry, Snapshot, Staff};
 use registry_state::BadWindow;
 use std::alloc::Global;
 use std::mem;
@@ -60,18 +60,18 @@ fn no_jobs(alloc: Global) -> Result<Vec<Vec<Job>>, NoMemory>
 
 impl<'a> State<'a> {
     /// Nothing yet.
-    pub(crate) fn new(alloc: Global, board: &'a Board, crew: Crew) -> Result<State<'a>, NoMemory>
-        requires workers { All (IsWorkerOf board.now) crew.workers.items }
-        requires all { map index_of crew.workers.items ≡ 0 ∷ 1 ∷ 2 ∷ 3 ∷ [] }
-        requires readers { IsReaderOf board.now crew.scraper × IsReaderOf board.now crew.settler }
+    pub(crate) fn new(alloc: Global, board: &'a Board, staff: Staff) -> Result<State<'a>, NoMemory>
+        requires workers { All (IsWorkerOf board.now) staff.workers.items }
+        requires all { map index_of staff.workers.items ≡ 0 ∷ 1 ∷ 2 ∷ 3 ∷ [] }
+        requires readers { IsReaderOf board.now staff.scraper × IsReaderOf board.now staff.settler }
         ensures ready { IfOk result IsReady }
-        ensures fresh { IfOk result (IsFresh board.now crew.workers.items) }
+        ensures fresh { IfOk result (IsFresh board.now staff.workers.items) }
     {
-        let Crew {
+        let Staff {
             workers,
             scraper,
             settler,
-        } = crew;
+        } = staff;
         let settled = Snapshot::new(alloc)?;
         let queue = no_jobs(alloc)?;
         match Registry::new(alloc, board, scraper, WINDOW) {

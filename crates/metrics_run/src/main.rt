@@ -6,8 +6,6 @@
 #![tactic(auto)]
 
 mod arguments;
-#[cfg(test)]
-mod asserts;
 mod calls;
 mod children;
 mod jobs;
@@ -28,9 +26,6 @@ use std::rt::Env;
 use std::sync::Wait;
 use std::thread::Threads;
 use std::{env, io};
-
-#[cfg(test)]
-mod tests;
 
 const USAGE: &str = "usage: metrics_run script | metrics_run serve PORT COUNT";
 

@@ -16,7 +16,7 @@ use crate::parts::{Parts, counter_of, gauge_of, histogram_of};
 use crate::refused::Refused;
 use crate::state::{Count, State};
 use metric_names::NoMemory;
-use program_parts::{Board, Broken, Crew, new_board, send};
+use metrics_serve::{Board, Broken, Staff, new_board, send};
 use script_lines::{Line, Lines, Next, read_line};
 use std::alloc::Global;
 use std::io::{Read, Write};
@@ -244,18 +244,18 @@ fn run_over<T: Threads + Wait, R: Read + Drop, W: Write>(
     rt: &T,
     alloc: Global,
     board: &Board,
-    crew: Crew,
+    staff: Staff,
     reader: R,
     writer: &mut W,
 ) -> Result<(), Stop>
-    requires workers { All (IsWorkerOf board.now) crew.workers.items }
-    requires all { map index_of crew.workers.items ≡ 0 ∷ 1 ∷ 2 ∷ 3 ∷ [] }
-    requires readers { IsReaderOf board.now crew.scraper × IsReaderOf board.now crew.settler }
+    requires workers { All (IsWorkerOf board.now) staff.workers.items }
+    requires all { map index_of staff.workers.items ≡ 0 ∷ 1 ∷ 2 ∷ 3 ∷ [] }
+    requires readers { IsReaderOf board.now staff.scraper × IsReaderOf board.now staff.settler }
 {
     let Ok(mut lines) = Lines::new(alloc, reader) else {
         return Err(stop_at(0, LineFault::NoMemory));
     };
-    match State::new(alloc, board, crew) {
+    match State::new(alloc, board, staff) {
         Ok(mut state) => run_lines(rt, &mut state, &mut lines, writer),
         Err(NoMemory) => Err(stop_at(0, LineFault::NoMemory)),
     }
@@ -273,7 +273,7 @@ pub fn run_script<T: Threads + Wait, R: Read + Drop, W: Write + Drop>(
     mut writer: W,
 ) -> ScriptEnd {
     let ran = match new_board(alloc) {
-        Ok((board, crew)) => run_over(rt, alloc, &board, crew, reader, &mut writer),
+        Ok((board, staff)) => run_over(rt, alloc, &board, staff, reader, &mut writer),
         Err(NoMemory) => Err(stop_at(0, LineFault::NoMemory)),
     };
     ended(&mut writer, ran)

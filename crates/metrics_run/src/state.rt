@@ -1,5 +1,5 @@
 //! What a script has made so far.
-use program_parts::{Board, Reader, Registry, Snapshot, Worker};
+use metrics_serve::{Board, Reader, Registry, Snapshot, Worker};
 use registry_state::Handle;
 use script_lines::Counting;
 use std::alloc::Global;

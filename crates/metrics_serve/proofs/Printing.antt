@@ -2,7 +2,7 @@
 use Rattle.std.proofs.Common.{ℕ, Option, List, [], ◌++◌, take, drop, Result, Ok, Err, OnErr, OnOk, inl, inr, ◌<◌, refl, sym, ap, ◌∙◌, append-nil, append_assoc, take-append-drop}
 use Rattle.std.proofs.KnownBytes.{Appends-kept, Appends-nil, Appends-trans}
 use Rattle.std.specs.Io.KnownBytes.{Appends, Keeps}
-use Rattle.program_parts.specs.declared.sending.Broken.{Broken}
+use Rattle.metrics_serve.specs.declared.sending.Broken.{Broken}
 use Rattle.metrics_serve.specs.Counted.{AreReplies}
 use Rattle.metrics_serve.specs.Printed.{Begins, Prints, listening_line, served_line}
 use Rattle.metrics_serve.specs.declared.serve.ServeEnd.TheVariants.{Done, Broken as BrokenOff}

@@ -3,8 +3,8 @@ ghost use Rattle.snapshot_update.specs.Workers.{IsWorkerOf};
 ghost use Rattle.scrape_server.specs.Stream.{WasServed};
 ghost use Rattle.metrics_serve.specs.Counted.{WasCounted};
 
+use crate::board::{Board, Worker};
 use crate::metrics::Metrics;
-use program_parts::{Board, Worker};
 use scrape_http::{ScrapeFrom, Served, WireFault, serve_one};
 use scrape_server::close_in_stages;
 use std::net::TcpStream;

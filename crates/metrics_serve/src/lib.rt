@@ -3,8 +3,12 @@
 #![tactic(auto)]
 
 mod answer;
+mod board;
 mod metrics;
+mod sending;
 mod serve;
 mod threads;
 
+pub use board::{Board, Reader, Registry, Snapshot, Staff, Worker, new_board};
+pub use sending::{Broken, send};
 pub use serve::{ServeEnd, serve_on};

@@ -2,10 +2,10 @@
 ghost use Rattle.std.specs.Prelude.{◌≡◌, ◌↔◌, IfOk, IfSome, IsTrue};
 ghost use Rattle.metrics_serve.specs.Counted.{AreSix, counter_for, list_for, replies_in};
 
+use crate::board::{Registry, Snapshot};
 use ledger_core::{Counter, Histogram, Op};
 use metric_desc::Desc;
 use metric_names::{HelpText, LabelName, LabelValue, MetricName, NoMemory};
-use program_parts::{Registry, Snapshot};
 use registry_state::{FamilyId, Handle};
 use scrape_http::{Served, Status};
 use std::alloc::Global;

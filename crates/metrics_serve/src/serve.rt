@@ -7,10 +7,11 @@ ghost use Rattle.snapshot_update.specs.Workers.{index_of, lists_of, IsWorkerOf};
 ghost use Rattle.metrics_serve.specs.Counted.{AreFour, AreNew, AreReplies, AreSix, HaveCounted, all_of};
 ghost use Rattle.metrics_serve.specs.Printed.{Begins, Prints, status_of};
 
+use crate::board::{Board, Reader, Registry, Snapshot, Staff, Worker, new_board};
 use crate::metrics::Metrics;
+use crate::sending::{Broken, send};
 use crate::threads::{Four, Queues, Shared, serve_in_threads};
 use chain_law::settle;
-use program_parts::{Board, Broken, Crew, Reader, Registry, Snapshot, Worker, new_board, send};
 use scrape_server::FromRegistry;
 use std::alloc::Global;
 use std::io::Write;
@@ -213,14 +214,14 @@ pub fn serve_on<T: Threads + Wait + Sync, W: Write>(
 ) -> ServeEnd
     ensures { Prints (W.contents writer.old) (W.contents writer.new) result }
 {
-    let Ok((board, crew)) = new_board(alloc) else {
+    let Ok((board, staff)) = new_board(alloc) else {
         return tell_no_memory(writer);
     };
-    let Crew {
+    let Staff {
         workers,
         scraper,
         mut settler,
-    } = crew;
+    } = staff;
     let workers = to_four(&board, workers);
     let Some(service) = Service::new(rt, alloc, &board, scraper) else {
         return tell_no_memory(writer);

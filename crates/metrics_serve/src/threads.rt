@@ -4,9 +4,9 @@ ghost use Rattle.snapshot_update.specs.Workers.{IsWorkerOf};
 ghost use Rattle.metrics_serve.specs.Counted.{AreNew, HasCounted, HaveCounted};
 
 use crate::answer::answer;
+use crate::board::{Board, Worker};
 use crate::metrics::Metrics;
 use crossbeam_channel::{Receiver, Sender, bounded};
-use program_parts::{Board, Worker};
 use scrape_http::ScrapeFrom;
 use std::alloc::{AllocError, Global};
 use std::net::{TcpListener, TcpStream};

@@ -8,10 +8,6 @@ pub mod Looks
 pub mod Pairs
 pub mod Keeping
 pub mod Publish
-pub mod Adding
-pub mod Lending
-pub mod Meeting
 pub mod Seating
 pub mod Start
-pub mod Placed
 pub mod Picking

@@ -2,15 +2,11 @@
 //! gives and keeps.
 #![tactic(auto)]
 
-#[cfg(test)]
-mod asserts;
 mod children;
 mod family;
 mod fault;
 mod handle;
 mod journal;
-#[cfg(test)]
-mod journal_tests;
 mod kept;
 mod note;
 mod ordering;
@@ -26,6 +22,3 @@ pub use handle::{FamilyId, Handle};
 pub use journal::Journal;
 pub use kept::Kept;
 pub use registry::{NotMade, RegistryState};
-
-#[cfg(test)]
-mod tests;

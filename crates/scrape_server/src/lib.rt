@@ -4,14 +4,10 @@
 //! lent, by one thread at a time; [`serve_state`] says of it which scrape was sent. [`serve_stream`] serves one connection whole.
 #![tactic(auto)]
 
-#[cfg(test)]
-mod asserts;
 mod fault;
 mod registry;
 mod state;
 mod stream;
-#[cfg(test)]
-mod tests;
 
 pub use registry::FromRegistry;
 pub use state::{FromState, serve_state};

@@ -9,13 +9,8 @@
 //! The layout is this project's own.
 #![tactic(auto)]
 
-#[cfg(test)]
-mod asserts;
 mod part;
 mod place;
 
 pub use part::{Item, Part};
 pub use place::{buffer_words, item_at, place_of, segment_words, words_needed};
-
-#[cfg(test)]
-mod tests;

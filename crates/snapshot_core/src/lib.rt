@@ -7,30 +7,18 @@
 #![tactic(auto)]
 
 mod actor;
-#[cfg(test)]
-mod asserts;
 mod event;
 mod machine;
 mod next;
 mod outcome;
-#[cfg(test)]
-mod outcome_tests;
 mod reading;
 mod run_fault;
-#[cfg(test)]
-mod run_tests;
 mod runs;
 mod scan;
 mod scan_state;
 mod taking;
-#[cfg(test)]
-mod test_events;
-#[cfg(test)]
-mod tests;
 mod trace;
 mod words;
-#[cfg(test)]
-mod wrong_tests;
 
 pub use event::Event;
 pub use next::Next;

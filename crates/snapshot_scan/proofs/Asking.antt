@@ -196,8 +196,3 @@ pub due_here : (p : ℕ) (base found : List ℕ) → p < length base → p < len
 due_here p base found hb hf h = let e : suc p ≡ p + 1 = omega arith in
     (λ z. due_from p (drop-cons base p 0 hb z) (drop-cons found p 0 hf z)) ∙ (ap (λ (b : Bool). cond b (p ∷ due_from (suc p) (drop (suc p) base) (drop (suc p) found)) (due_from (suc p) (drop (suc p) base) (drop (suc p) found))) (le-leb _ _ h)
     ∙ ap (λ (k : ℕ). p ∷ due_from k (drop k base) (drop k found)) e)
-
-pub due_other : (p : ℕ) (base found : List ℕ) → p < length base → p < length found → get_or found p 0 < get_or base p 0 + 2 → due_from p (drop p base) (drop p found) ≡ due_from (p + 1) (drop (p + 1) base) (drop (p + 1) found)
-due_other p base found hb hf h = let e : suc p ≡ p + 1 = omega arith in
-    (λ z. due_from p (drop-cons base p 0 hb z) (drop-cons found p 0 hf z)) ∙ (ap (λ (b : Bool). cond b (p ∷ due_from (suc p) (drop (suc p) base) (drop (suc p) found)) (due_from (suc p) (drop (suc p) base) (drop (suc p) found))) (lt-leb _ _ h)
-    ∙ ap (λ (k : ℕ). due_from k (drop k base) (drop k found)) e)

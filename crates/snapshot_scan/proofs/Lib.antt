@@ -10,7 +10,6 @@ pub mod Arriving
 pub mod Totals
 pub mod LastEntry
 pub mod OwnRow
-pub mod Lends
 pub mod Standing
 pub mod Gathered
 pub mod Comparing

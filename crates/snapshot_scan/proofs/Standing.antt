@@ -30,9 +30,6 @@ pub stands_behind : (i k : ℕ) (m m0 : Member) (ms : List Member) → m0.who �
 stands_behind i k m m0 ms is (zero, e, w) = absurd (no_worker i k m0.who is (ap (λ (x : Member). x.who) (some-injective m0 m e) ∙ w))
 stands_behind i k m m0 ms is (suc p, e, w) = (p, e, w)
 
-pub seen_alone : (k : ℕ) (m0 : Member) → m0.who ≡ Reader k → HasSeen (m0 ∷ [])
-seen_alone k m0 is i m s = let b = stands_behind i k m m0 [] is s in absurd (nothing b.0 m b.1)
-
 pub sees_same : (u : List ℕ) → SeesMore u u
 sees_same u i x e = (x, e, omega arith)
 

@@ -86,9 +86,6 @@ module _ (n c h g : ℕ) (few : n ≤ 32) (ms : List Member) (ruled : AreRuled n
       let low = sum_low c h g n ruled.made ruled.legal k lt 0 a.vector (omega (arith, numbers_long)) in
       omega (arith, e, low, numbers_long, few)
 
-  pub total_low : (k x : ℕ) → get_elem? a.totals k ≡ some x → k < width c h g → x < 9007199254740992
-  total_low k x e lt = subst (λ (z : ℕ). z < 9007199254740992) (read_at a.totals k x 0 e) (totals_low k lt)
-
   -- and of each histogram the buckets add up to the count
   pub totals_legal : IsLegal c h (slice_index a.totals)
   totals_legal = legal_within c h g (row_sum (sum_ops c h) ruled.made 0 a.vector) (slice_index a.totals) sum_at

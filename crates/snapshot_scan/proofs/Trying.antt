@@ -135,9 +135,6 @@ pub record AreTries (n : ℕ) (floor base first last : List ℕ) (tries : List T
   pub each : (q : ℕ) (t : Tried) → get_elem? tries q ≡ some t → FailedTry n floor base t
   pub ends : (before : List Tried) × (final : Tried) × (tries ≡ before ++ final ∷ []) × (final.first ≡ first) × (final.second ≡ last)
 
-pub stood_starts : (gs : List Kept) (c : Scan) → IsIdle c gs → c ≡ stood [] gs [] [] c
-stood_starts gs c idle = λ z. record c { opened = sym (append-nil c.opened) z; confirmed = sym (append-nil c.confirmed) z; asked = sym (append-nil c.asked) z; kept = idle.kept z; now = idle.rest z }
-
 -- a scan is not given up while somebody is to be asked, or before its last try
 given_not : (n : ℕ) (c : Scan) → (length c.now.due == 0 && c.now.failed == n + 2) ≡ false → gives_up n c ≡ c
 given_not n c t = ap (λ (b : Bool). cond b (record c { quit = c.quit + 1; now = at_rest }) c) t

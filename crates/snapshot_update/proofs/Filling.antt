@@ -19,16 +19,6 @@ pub record SoFar (n : ℕ) (changed : Changed) (old new : List ℕ) : Type 0 whe
 only_one : (x j : ℕ) → Contains (x ∷ []) j → x ≡ j
 only_one x j h = let lt = h.1 in let zero : h.0 ≡ 0 = omega (arith, lt) in subst (λ (k : ℕ). get_or (x ∷ []) k j ≡ j) zero h.2
 
-pub so_far_none : (changed : Changed) (old new : List ℕ) → changed.all ≡ false → changed.items ≡ [] → SoFar 0 changed old new
-so_far_none changed old new all items =
-    let nothing : (j : ℕ) → ¬ (Contains changed.items j) = λ j h. none_listed j (subst (λ (l : List ℕ). Contains l j) items h) in record {
-      differ = λ _ j lt. absurd (omega arith);
-      inside = λ j h. absurd (nothing j h);
-      listed = λ j h. absurd (nothing j h);
-      longer = let e = ap length items in omega arith;
-      fits = λ _. all;
-    }
-
 -- an item at which they are the same
 pub so_far_same : (n : ℕ) (changed : Changed) (old new : List ℕ) → get_or old n 0 ≡ get_or new n 0 → SoFar n changed old new → SoFar (n + 1) changed old new
 so_far_same n changed old new e is = record {

@@ -39,10 +39,6 @@ answer_long n c h g memory GaveUp = (memory.sizes.2, memory.sizes.1)
 answer_long n c h g memory Lent = let long = memory.sizes.4 in let a = length-drop 1 memory.lent.items in let b = length-drop (1 + n) memory.lent.items in
     (length_take (drop 1 memory.lent.items) n (omega (arith, a, long)), length_take (drop (1 + n) memory.lent.items) (width c h g) (omega (arith, b, long)))
 
--- the row of a remembered version has w words, and there are n of them
-pub row_wide : (n c h g : ℕ) (memory : Memory n c h g) (i : ℕ) (v : Version) → get_elem? (rows_of memory) i ≡ some v → length v.row ≡ width c h g
-row_wide n c h g memory i v at = let t = from_rows memory.kept.items i v at in ap (λ (x : Version). length x.row) (sym t.2) ∙ (memory.wide i t.0 t.1).row
-
 pub rows_many : (n c h g : ℕ) (memory : Memory n c h g) → length (rows_of memory) ≡ n
 rows_many n c h g memory = go memory.kept.items ∙ memory.sizes.0
   where

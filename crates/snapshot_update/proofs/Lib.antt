@@ -1,7 +1,6 @@
 pub mod Noted
 pub mod Touching
 pub mod Filling
-pub mod Listed
 pub mod Giving
 pub mod Shifted
 pub mod VersionWords
@@ -9,3 +8,4 @@ pub mod Fitting
 pub mod FirstFit
 pub mod ScannedFit
 pub mod Lending
+pub mod Seating

@@ -11,9 +11,6 @@ pub record NotesFirst (shift q : ℕ) (items : List ℕ) (old new : Changed) : T
   pub notes : new.all ≡ false → (k : ℕ) → k < q → Contains new.items (get_or items k 0 + shift)
   pub others : (j : ℕ) → Contains new.items j → Contains old.items j ⊎ ((k : ℕ) × (k < q) × (j ≡ get_or items k 0 + shift))
 
-pub notes_none : (shift : ℕ) (items : List ℕ) (c : Changed) → NotesFirst shift 0 items c c
-notes_none shift items c = record { listed = λ h. h; keeps = λ _ j h. h; notes = λ _ k lt. absurd (omega (arith, lt)); others = λ j h. inl h }
-
 pub notes_next : (shift q : ℕ) (items : List ℕ) (old mid new : Changed) → NotesFirst shift q items old mid → Notes (get_or items q 0 + shift) mid new → NotesFirst shift (q + 1) items old new
 notes_next shift q items old mid new a b = record {
   listed = λ h. a.listed (b.listed h);

@@ -59,16 +59,6 @@ touches_three w a b c x y z old one two new la lb lc na nb nc =
 abbrev pub none : Changed
 none = record { all = false; items = [] }
 
-pub touches_none : (c h w : ℕ) (new : Changed) → new.all ≡ false → new.items ≡ [] → Touches 0 w (sum_ops c h []) none new
-touches_none c h w new all items = record {
-  listed = λ _ _. false;
-  keeps = λ _ j h. subst (λ (l : List ℕ). Contains l j) (sym items) h;
-  rises = λ _ k _ _. 0;
-  inside = λ j h. inl (subst (λ (l : List ℕ). Contains l j) items h);
-  longer = let e = ap length items in omega arith;
-  fits = λ _ _. all;
-}
-
 -- one operation more
 pub touches_more : (c h w : ℕ) (now new : Changed) (ops : List Op) (i : ℕ) (d : Op) → i < length ops
     → Touches (3 * i) w (sum_ops c h (take i ops)) none now → Touches 3 w (part c h (get_or ops i d)) now new

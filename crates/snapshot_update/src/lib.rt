@@ -5,10 +5,9 @@
 #![tactic(auto)]
 
 mod applying;
-#[cfg(test)]
-mod asserts;
 mod changes;
 mod counting;
+mod crew;
 mod faults;
 mod fills;
 mod images;
@@ -16,13 +15,12 @@ mod listing;
 mod meeting;
 mod next_fill;
 mod scanning;
-#[cfg(test)]
-mod tests;
 mod touched;
 mod update;
 mod version;
 mod words;
 mod worker;
 
+pub use crew::Crew;
 pub use faults::{ApplyFault, CountFault};
 pub use worker::Worker;

@@ -2,11 +2,6 @@
 //! `Write` speak.
 #![tactic(auto)]
 
-#[cfg(test)]
-mod asserts;
 mod watched;
 
 pub use watched::Watched;
-
-#[cfg(test)]
-mod tests;

@@ -146,9 +146,3 @@ module _ {N C H G : ℕ} where
     kept = record { all = refl; each = λ i h end at here. absurd (some-ne-none h (sym at)) };
     gathers = gathers_none N C H G already;
   }
-
-  -- all threads are joined
-  pub all_joined : (already : Option PoolFault) (hs : List (Handle N C H G)) (done : List (Worker N C H G)) (fault : Option PoolFault)
-      → HaveJoined already hs [] done fault → (ends : List (End N C H G)) × HaveKept hs ends × Gathers already ends done fault
-  all_joined already hs done fault was =
-      (was.ends, subst (λ (l : List (Handle N C H G)). HaveKept l was.ends) (sym (was.split ∙ append-nil was.before)) was.kept, was.gathers)

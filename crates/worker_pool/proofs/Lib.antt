@@ -4,4 +4,3 @@ pub mod Places
 pub mod Joined
 pub mod Pledging
 pub mod Ending
-pub mod Fresh

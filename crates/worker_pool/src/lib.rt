@@ -1,16 +1,12 @@
 //! A pool of threads: one for each worker, which does its list of jobs in order and hands the worker back.
 #![tactic(auto)]
 
-#[cfg(test)]
-mod asserts;
 mod fault;
 mod gate;
 mod job;
 mod promise;
 mod run;
 mod starting;
-#[cfg(test)]
-mod tests;
 mod thread_work;
 
 pub use fault::PoolFault;

@@ -1,4 +1,4 @@
-use Rattle.program_parts.proofs.Gathered.{has_all}
+use Rattle.metrics_serve.proofs.Gathered.{has_all}
 use Rattle.metrics_serve.specs.Counted.{all_of}
 use Rattle.metrics_serve.proofs.serve.settle_four.Goals as goal
 

@@ -1,5 +1,5 @@
 use Rattle.snapshot_update.specs.Workers.{index_of, lists_of, IsWorkerOf}
-use Rattle.program_parts.proofs.Four.{all_four, of_four}
+use Rattle.metrics_serve.proofs.Four.{all_four, of_four}
 use Rattle.metrics_serve.proofs.serve.to_four.Goals as goal
 
 pub returns : goal.returns

@@ -1,0 +1,53 @@
+"""The exit statuses of the programs as they are built, and the first lines of what they write."""
+from started import check, run
+
+SCRIPT = b"counter a -\nchild a\ninc 0 0 7\ngo\nscrape\n"
+REFUSED = b"\n# a comment\ncounter a -\n\ncounter a -\ncounter b -\n"
+USAGE = (2, "", "usage: metrics_run script | metrics_run serve PORT COUNT")
+SERVICE_USAGE = (2, "", "usage: example_service PORT REPLIES")
+BENCH_USAGE = (2, "", "usage: bench ROUNDS, at most 1000000000, or bench serve PORT REPLIES small|large")
+# With so many kilobytes of addresses there is no room for a thread's stack.
+SMALL = "ulimit -v 6000 && "
+
+
+def found(words, given):
+    """The status, and the first lines of standard output and of standard error."""
+    out, err, status = run(*words, given=given)
+    return status, *(it.decode().partition("\n")[0] for it in (out, err))
+
+
+def shell(line, program):
+    """The program, as `$0`, in a line of the shell."""
+    return ("sh", "-c", line, program)
+
+
+def table(program, service, bench):
+    """Words, standard input, and what is wanted; of a port that the system chooses nothing."""
+    yield (program, "script"), SCRIPT, (0, "# TYPE a counter", "")
+    yield (program, "script"), b"", (0, "", "")
+    yield (program, "script"), REFUSED, (1, "refused 5 19", "")
+    for words in ["", "scripts", "script script", "serve", "serve 0", "serve 0 0", "serve 0 1000001", "serve 65536 1"]:
+        yield (program, *words.split()), SCRIPT, USAGE
+    for words in ["serve 00 1", "serve 0 01", "serve -1 1", "serve 0 1 1", "serve x 1"]:
+        yield (program, *words.split()), b"", USAGE
+    yield shell(SMALL + 'exec "$0" script', program), SCRIPT, (1, "refused 4 30", "")
+    yield shell('exec "$0" script </', program), b"", (3, "", "fault")
+    yield shell('exec "$0" script >/dev/full', program), SCRIPT, (3, "", "fault")
+    yield shell('exec "$0" serve 0 1 >/dev/full', program), b"", (3, "", "fault")
+    for words in ["", "0", "0 0 0"]:
+        yield (service, *words.split()), b"", SERVICE_USAGE
+    for words in ["", "1000000001", "0 0", "serve 0 0 64"]:
+        yield (bench, *words.split()), b"", BENCH_USAGE
+    yield (bench, "serve", "0", "0", "small"), b"", (0, "10008 bytes", None)
+    yield (bench, "serve", "0", "0", "large"), b"", (0, "69896 bytes", None)
+
+
+def check_all(program, service, bench):
+    """Returns how many runs were as they should be."""
+    rows = list(table(program, service, bench))
+    for words, given, wanted in rows:
+        got = found(words, given)
+        if wanted[2] is None:
+            got = (*got[:2], None)
+        check(got == wanted, f"{' '.join(str(it) for it in words)}: got {got}, expected {wanted}")
+    return len(rows)

@@ -1,0 +1,287 @@
+"""Tests and scripts with each of their allocations refused in turn.
+
+`rt try --fail-alloc N` refuses the Nth allocation of a process, and builds once for one N. So that one build serves for each, it refuses
+the LASTth, and a run for N first makes LAST - N allocations that it gives back. A run whose refused allocation is still to come at its
+end tells so: then nothing was refused in it. The runs of a test or of a script go up from N = 1 until one tells that. (Later forms of
+the toolchain have `--fail-alloc 1..`, which does the same with no copy of the sources: then this file goes.)
+
+The tests are those of the modules `growth`, whose names begin with `growth_`. Each of them calls again what was refused, so a run passes,
+or ends with an error that says that there was no memory, where that came while it was being prepared.
+"""
+import os
+import pathlib
+import re
+import shutil
+import tempfile
+from concurrent.futures import ThreadPoolExecutor
+
+from started import Failed, check, run
+
+ROOT = pathlib.Path(__file__).resolve().parent.parent
+# The runs of a test, and of a script, go up in these steps, each of which is a build.
+STEPS = [48, 400]
+SCRIPT_STEPS = [160, 400]
+LAST = STEPS[-1]
+MINUTES = 20 * 60
+
+MEMORY = re.compile(r"^\s+(error|room): .*\b(NoMemory|AllocError|AllocFailed|OutOfMemory)\b")
+NONE_REFUSED = "no allocation was refused"
+
+RUNTIME = (
+    "impl std::process::Abort + AllocGlobal + std::thread::Threads + std::sync::Wait + Input + Print + std::io::Eprint + std::rt::Env"
+    " + std::net::Net<Listener = std::net::TcpListener, Stream = std::net::TcpStream> + Sync + Drop"
+)
+
+SPENT = f"""
+pub(crate) fn spend(alloc: std::alloc::Global, count: usize) {{
+    for _ in 0..count {{
+        let _spent = Box::new(alloc, 0u8);
+    }}
+}}
+
+/// Whether the allocation that is refused is still to come.
+pub(crate) fn is_to_come(alloc: std::alloc::Global) -> bool {{
+    let mut refused = false;
+    for _ in 0..{LAST}usize {{
+        refused |= Box::new(alloc, 0u8).is_err();
+    }}
+    refused
+}}
+"""
+
+
+def copy_sources(room):
+    """A copy of what `rt try` reads, to be changed."""
+    for name in ("HANDLES", "crates.txt"):
+        shutil.copy(ROOT / name, room)
+    for crate in (ROOT / "crates").iterdir():
+        for part in ("src", "specs", "proofs"):
+            if (crate / part).is_dir():
+                shutil.copytree(crate / part, room / "crates" / crate.name / part)
+
+
+def growth_of(crate):
+    """The crate's module of tests of growths, if it has one."""
+    return next((it for it in (crate / "src/growth.rt", crate / "src/tests/growth.rt") if it.is_file()), None)
+
+
+def libraries(crate):
+    """The repository's libraries that a crate lists."""
+    for line in (ROOT / "crates.txt").read_text().splitlines():
+        name, _, below = line.partition(":")
+        if name == crate:
+            return [it for it in below.split() if (ROOT / "crates" / it).is_dir()]
+    raise Failed(f"crates.txt does not list {crate}")
+
+
+def calls_that_take_memory(crate):
+    """How many public calls of the libraries of a crate are handed the allocator, or can answer that there was no memory."""
+    sources = [path.read_text() for it in libraries(crate) for path in (ROOT / "crates" / it / "src").rglob("*.rt")]
+    faults = [name for text in sources for name in re.findall(r"\benum (\w+) \{[^}]*\bNoMemory\b", text)]
+    tells = re.compile(rf"\balloc: Global\b|->[^{{;]*\b({'|'.join(['NoMemory', 'NoRoom', 'AllocError', *faults])})\b", re.S)
+    heads = [it for text in sources for it in re.findall(r"\bpub fn \w+.*?(?=\n\s*(?:requires|ensures|\{)|\{)", text, re.S)]
+    return sum(bool(tells.search(it)) for it in heads)
+
+
+def with_runs(text, numbers):
+    """A module of tests in which each test of growths has become one for each of its numbers."""
+    heads = re.compile(r"#\[test\]\nfn (growth_\w+)\(rt: HostRuntime\) -> Result<\(\), Fail> \{\n")
+    tests = heads.findall(text)
+    check(len(tests) == text.count("#[test]"), "each test of a module growth has the head `fn growth_..(rt: HostRuntime) -> Result<(), Fail>`")
+    text = heads.sub(rf"fn \1(rt: {RUNTIME}) -> Result<(), Fail> {{\n", text)
+    for test in tests:
+        for number in numbers.get(test, ()) if numbers is not None else ():
+            text += f"""
+#[test]
+fn {test}_at_{number}(rt: HostRuntime) -> Result<(), Fail> {{
+    let alloc = rt.alloc();
+    crate::spent::spend(alloc, {LAST - number});
+    {test}(rt)?;
+    if crate::spent::is_to_come(alloc) {{
+        return Err("{NONE_REFUSED}".into());
+    }}
+    Ok(())
+}}
+"""
+    return tests, text
+
+
+def remove_other_tests(crate, growth):
+    """Removes the modules that have tests, all but that of growths."""
+    for path in [*crate.rglob("*.rt")]:
+        if path == growth or "#[test]" not in path.read_text():
+            continue
+        above = [path.parent / "lib.rt", path.parent.with_suffix(".rt")]
+        for module in (it for it in above if it.is_file()):
+            module.write_text(re.sub(rf"(#\[cfg\(test\)\]\n)?mod {path.stem};\n", "", module.read_text()))
+        path.unlink()
+
+
+def outcomes(said):
+    """What a run of tests said: of each test whether it passed, met a refusal, or met none."""
+    found, lines = {}, said.splitlines()
+    for at, line in enumerate(lines):
+        test = re.match(r"test (?:\w+::)*(growth_\w+)_at_(\d+) \.\.\. (\w+)", line)
+        if not test:
+            continue
+        why = next(iter(lines[at + 1 :]), "")
+        if test[3] == "ok":
+            end = "refused"
+        elif NONE_REFUSED in why:
+            end = "none"
+        elif MEMORY.match(why):
+            end = "refused"
+        else:
+            end = f"{line}{why}"
+        found[test[1], int(test[2])] = end
+    return found
+
+
+def tried(folder, *words):
+    """What `rt try` says on both streams."""
+    out, err, _ = run("rt", "try", *words, seconds=MINUTES, cwd=folder)
+    return out.decode(errors="replace"), err.decode(errors="replace")
+
+
+def check_tests(name):
+    """Runs the tests of growths of a crate. Returns how many runs met a refusal."""
+    refused, low = 0, 0
+    left = None
+    for high in STEPS:
+        with tempfile.TemporaryDirectory() as room:
+            room = pathlib.Path(room)
+            copy_sources(room)
+            crate = room / "crates" / name
+            growth = growth_of(crate)
+            tests, _ = with_runs(growth.read_text(), None)
+            check(tests, f"{name} has tests of growths")
+            left = tests if left is None else left
+            numbers = {it: range(low + 1, high + 1) for it in left}
+            remove_other_tests(crate, growth)
+            growth.write_text(with_runs(growth.read_text(), numbers)[1])
+            (crate / "src/spent.rt").write_text(SPENT)
+            with open(crate / "src/lib.rt", "a", encoding="utf-8") as it:
+                it.write("\n#[cfg(test)]\nmod spent;\n")
+            said = "".join(tried(crate, "--test", "--seconds", "3000", "--fail-alloc", str(LAST)))
+        found = outcomes(said)
+        for test in left:
+            for number in numbers[test]:
+                end = found.get((test, number))
+                check(end in ("refused", "none"), f"{name}: allocation {number} refused: {end or said[-2000:]}")
+            ends = [found[test, number] for number in numbers[test]]
+            first = ends.index("none") if "none" in ends else len(ends)
+            check("refused" not in ends[first:], f"{name}: {test} meets a refusal after a run that met none")
+            refused += first
+        left = [it for it in left if found[it, high] != "none"]
+        low = high
+        if not left:
+            wanted = calls_that_take_memory(name)
+            check(refused >= wanted, f"{name}: {refused} allocations were refused, and its libraries have {wanted} calls that take memory")
+            return refused
+    raise Failed(f"{name}: {', '.join(left)}: more than {LAST} allocations: raise STEPS")
+
+
+def with_number(text):
+    """The program, which is told by the first three bytes of its input at which allocation of its own one is refused."""
+    head = "fn main(rt: HostRuntime) -> ExitCode {\n"
+    check(text.count(head) == 1, "the program's main has its head")
+    return text.replace(head, f"fn whole(rt: {RUNTIME}) -> ExitCode {{\n") + f"""
+mod spent;
+
+fn main(rt: HostRuntime) -> ExitCode {{
+    let alloc = rt.alloc();
+    let mut digits = [b'0'; 3];
+    let _ = io::Read::read(&mut rt.reader(), &mut digits);
+    let number = digits.iter().fold(0u32, |n, digit| n % 100 * 10 + (*digit % 16) as u32);
+    spent::spend(alloc, number as usize);
+    let code = whole(rt);
+    if spent::is_to_come(alloc) {{
+        return ExitCode::from(99);
+    }}
+    code
+}}
+"""
+
+
+def cases(out, err):
+    """Of each case its output and its status."""
+    outputs = dict(re.findall(r"^== (\S+)\n((?:(?!== ).*\n)*)", out, re.M))
+    statuses = re.findall(r"^case=(\S+) run=ended status=(\d+)", err, re.M)
+    return {name: (outputs.get(name, ""), int(status)) for name, status in statuses}
+
+
+def check_script(program, name, script, found):
+    """The runs of a script whose first allocation, second and so on was refused. Returns how many met a refusal, or none where each did.
+
+    A refusal is told at a line, after all that the lines before it print, and as 6; the lines rise with the allocations. Before the
+    first line it is told as line 0, and where the words of the command line want memory, they are as no words."""
+    lines = script.splitlines(True)
+    ample = [run(program, "script", given="".join(lines[:count]).encode())[0].decode() for count in range(len(lines))]
+    whole, _, whole_status = run(program, "script", given=script.encode())
+    latest, refused = -1, 0
+    for n, (output, status) in sorted(found.items()):
+        told = re.search(r"^refused (\d+) 6\n\Z", output, re.M)
+        if status == 99:
+            check(output == whole.decode(), f"{name}: run {n} met no refusal: {output}")
+            check(all(found[it][1] == 99 for it in found if it > n), f"{name}: after run {n}, which met none, one meets a refusal")
+            check(latest > 0 and refused > len(lines), f"{name}: {refused} allocations were refused, the last one told at line {latest}")
+            return refused
+        refused += 1
+        if told and status == 1:
+            line = int(told[1])
+            check(line >= latest, f"{name}: allocation {n} is told at line {line}, after one at line {latest}")
+            check(output == f"{ample[max(line - 1, 0)]}refused {line} 6\n", f"{name}: allocation {n} refused: {output}")
+            latest = line
+        elif not (status == 2 and latest < 0 and output == ""):
+            check((output, status) == (whole.decode(), whole_status), f"{name}: allocation {n} refused: {status} {output}")
+    return None
+
+
+def run_cases(scripts, numbers):
+    """Of each script the output and the status of its runs with these allocations refused."""
+    with tempfile.TemporaryDirectory() as room:
+        room = pathlib.Path(room)
+        copy_sources(room)
+        main = room / "crates/metrics_run/src/main.rt"
+        main.write_text(with_number(main.read_text()))
+        (room / "crates/metrics_run/src/spent.rt").write_text(SPENT)
+        (room / "scripts").mkdir()
+        for name, script in scripts.items():
+            for n in numbers:
+                (room / "scripts" / f"{name}-{n}").write_text(f"{LAST - n:03}{script}")
+        found = cases(*tried(main.parent.parent, "--fail-alloc", str(LAST), "--cases", str(room / "scripts"), "--", "script"))
+    for name in scripts:
+        for n in numbers:
+            check(f"{name}-{n}" in found, f"{name}: allocation {n} refused: the program did not end")
+    return {name: {n: found[f"{name}-{n}"] for n in numbers} for name in scripts}
+
+
+def check_scripts(program):
+    """Runs the scripts of the folder refused_memory by the program. Returns how many runs met a refusal."""
+    left = {it.name: it.read_text() for it in sorted((ROOT / "checks/refused_memory").iterdir())}
+    check(left, "there are scripts")
+    found, low, refused = {name: {} for name in left}, 0, 0
+    for high in SCRIPT_STEPS:
+        for name, more in run_cases(left, range(low + 1, high + 1)).items():
+            found[name].update(more)
+            count = check_script(program, name, left[name], found[name])
+            if count is not None:
+                refused += count
+                left = {it: left[it] for it in left if it != name}
+        low = high
+        if not left:
+            return refused
+    raise Failed(f"{', '.join(left)}: more than {low} allocations: raise SCRIPT_STEPS")
+
+
+def check_all(program):
+    """Returns how many runs met a refusal, and prints so of each crate."""
+    names = sorted(it.name for it in (ROOT / "crates").iterdir() if growth_of(it))
+    check(names, "some crate has tests of growths")
+    with ThreadPoolExecutor(max(1, min(3, os.cpu_count() - 1))) as pool:
+        tests = [(it, pool.submit(check_tests, it)) for it in names]
+        script = pool.submit(check_scripts, program)
+        refused = [(name, it.result()) for name, it in [*tests, ("metrics_run script", script)]]
+    for name, count in refused:
+        print(f"refused memory: {name}: {count} allocations refused in turn", flush=True)
+    return sum(count for _, count in refused)

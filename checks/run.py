@@ -1,0 +1,54 @@
+"""What the toolchain's gate cannot do, on the programs that `rt ci` has built. The last line is 'N passed, M failed'."""
+import pathlib
+import re
+import sys
+import time
+
+import exit_statuses
+import refused_memory
+import servers
+from started import Failed, check, run
+
+ROOT = pathlib.Path(__file__).resolve().parent.parent
+
+
+def built(name):
+    program = ROOT / "crates" / name / "out" / name
+    check(program.is_file(), f"rt ci has built {name}")
+    return program
+
+
+def script_cases(program):
+    """Runs scripts.py, and returns how many cases were as they should be."""
+    out, err, status = run(sys.executable, "-B", ROOT / "checks/scripts.py", program, seconds=600)
+    told = re.search(r"^scripts: (\d+) cases, of which 0 ", out.decode(), re.M)
+    check(status == 0 and told, (out + err).decode()[-2000:])
+    return int(told[1])
+
+
+def main():
+    program, service, bench = built("metrics_run"), built("example_service"), built("bench")
+    printed = ROOT / "crates/example_service/stdout"
+    checks = [
+        ("exit statuses", lambda: exit_statuses.check_all(program, service, bench)),
+        ("scripts", lambda: script_cases(program)),
+        ("servers", lambda: servers.check_all(program, service, printed)),
+        ("refused memory", lambda: refused_memory.check_all(program)),
+    ]
+    passed, failed = 0, 0
+    for name, it in checks:
+        since = time.monotonic()
+        try:
+            count = it()
+            check(count > 0, "something was checked")
+            passed += count
+            print(f"{name}: {count} as expected, in {time.monotonic() - since:.0f} s", flush=True)
+        except Failed as why:
+            failed += 1
+            print(f"{name}: FAILED: {why}", flush=True)
+    print(f"{passed} passed, {failed} failed")
+    return 1 if failed else 0
+
+
+if __name__ == "__main__":
+    sys.exit(main())

@@ -1,0 +1,91 @@
+//! Jobs of workers, and the pool that does them.
+ghost use Rattle.std.specs.Prelude.{◌≡◌, IfOk, All};
+ghost use Rattle.segment_layout.specs.Layout.{IsGeometry};
+ghost use Rattle.snapshot_scan.specs.Readers.{IsReaderOf};
+ghost use Rattle.snapshot_update.specs.Workers.{IsWorkerOf};
+
+use crate::crew::{ID, counter, last_reader};
+use register_rule::Board;
+use snapshot_scan::{Reader, Snapshot};
+use snapshot_update::{Crew, Worker};
+use std::alloc::{AllocError, Global};
+use std::process::Abort;
+use std::sync::Wait;
+use std::test::Fail;
+use std::thread::Threads;
+use worker_pool::{Gate, Job, JobOp, PoolFault, run_pool};
+
+/// A job of this line, which adds so much to a counter.
+pub(crate) fn job(line: u64, slot: usize, by: u64) -> Job {
+    Job {
+        line,
+        what: JobOp::Inc(counter(slot), by),
+    }
+}
+
+/// A worker's list: so many increments of the counter 0.
+pub(crate) fn increments(alloc: Global, many: u64) -> Result<Vec<Job>, AllocError> {
+    let mut jobs = Vec::new(alloc);
+    for line in 0..many {
+        let what = JobOp::Inc(counter(0), 1);
+        jobs.push(Job { line, what })?;
+    }
+    Ok(jobs)
+}
+
+/// What the pool answers, with the workers that it hands back.
+pub(crate) fn runs<P: Gate + Sync, const N: usize, const C: usize, const H: usize, const G: usize>(
+    rt: &(impl Threads + Wait + Abort),
+    alloc: Global,
+    board: &Board<N, C, H, G>,
+    workers: Vec<Worker<N, C, H, G>>,
+    jobs: &[Vec<Job>],
+    gate: &P,
+) -> Result<Vec<Worker<N, C, H, G>>, PoolFault>
+    requires own { All (IsWorkerOf board.now) workers.items }
+    ensures own { IfOk result (λ v. All (IsWorkerOf board.now) v.items) }
+{
+    assert_eq!(rt; jobs.len(), workers.len());
+    run_pool(rt, alloc, board, workers, jobs, gate)
+}
+
+/// A board with its workers, a reader, and what its scans find.
+#[derive(Drop)]
+pub(crate) struct Team<const N: usize, const C: usize, const H: usize, const G: usize> {
+    pub(crate) board: Board<N, C, H, G>,
+    pub(crate) workers: Vec<Worker<N, C, H, G>>,
+    pub(crate) reader: Reader<N, C, H, G>,
+    pub(crate) out: Snapshot<N, C, H, G>,
+}
+
+/// Nobody has made a step.
+pub(crate) fn make_team<const N: usize, const C: usize, const H: usize, const G: usize>(
+    alloc: Global,
+) -> Result<Team<N, C, H, G>, Fail>
+    requires geometry { IsGeometry N C H G }
+    ensures workers { IfOk result (λ t. All (IsWorkerOf t.board) t.workers.items) }
+    ensures reader { IfOk result (λ t. IsReaderOf t.board t.reader) }
+{
+    let Crew {
+        board,
+        workers,
+        mut readers,
+    } = Crew::<N, C, H, G>::new(alloc, ID, 1)?;
+    let reader = last_reader(&board, &mut readers)?;
+    let out = Snapshot::new(alloc)?;
+    Ok(Team {
+        board,
+        workers,
+        reader,
+        out,
+    })
+}
+
+/// The lists of so many workers, of so many increments each.
+pub(crate) fn lists(alloc: Global, workers: usize, many: u64) -> Result<Vec<Vec<Job>>, AllocError> {
+    let mut lists = Vec::new(alloc);
+    for _ in 0..workers {
+        lists.push(increments(alloc, many)?)?;
+    }
+    Ok(lists)
+}

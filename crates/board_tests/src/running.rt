@@ -1,0 +1,266 @@
+//! Readers that scan while workers count.
+ghost use Rattle.std.specs.Prelude.{◌≡◌, IfOk, All};
+ghost use Rattle.snapshot_scan.specs.Order.{HasRecorded, IsAlone};
+ghost use Rattle.snapshot_scan.specs.Readers.{IsReaderOf};
+ghost use Rattle.snapshot_scan.specs.Snapshots.{entry_of};
+ghost use Rattle.snapshot_update.specs.Workers.{IsWorkerOf};
+
+use crate::asserts::same;
+use crate::crew::{ID, last_reader};
+use crate::jobs::{lists, runs};
+use chain_law::{ChainFault, history_of, settle};
+use register_rule::Board;
+use snapshot_scan::{Reader, Snapshot, order};
+use snapshot_update::{Crew, Worker};
+use std::alloc::{AllocError, Global};
+use std::cmp::Ordering;
+use std::process::Abort;
+use std::test::Fail;
+use std::thread::{Threads, join};
+use worker_pool::{Open, PoolFault};
+
+/// A reader to which nobody is lent, and what its scans gave it.
+#[derive(Drop)]
+struct Watch {
+    reader: Reader<4, 1, 0, 0>,
+    taken: Vec<Snapshot<4, 1, 0, 0>>,
+
+    ghost alone: { IsAlone reader },
+}
+
+/// Scans once more, and keeps what it is given.
+fn scan_once(alloc: Global, board: &Board<4, 1, 0, 0>, watch: &mut Watch) -> Result<(), AllocError>
+    requires own { IsReaderOf board.now watch.old.reader }
+    requires recorded { All (λ s. HasRecorded watch.old.reader (entry_of s)) watch.old.taken.items }
+    ensures own { IsReaderOf board.now watch.new.reader }
+    ensures recorded { All (λ s. HasRecorded watch.new.reader (entry_of s)) watch.new.taken.items }
+{
+    let mut out = Snapshot::new(alloc)?;
+    let Ok(()) = watch.reader.scan(board, &mut out) else {
+        return Ok(());
+    };
+    watch.taken.push(out)?;
+    Ok(())
+}
+
+/// Scans 10,000 times, and keeps what it is given.
+fn scan_often(
+    alloc: Global,
+    board: &Board<4, 1, 0, 0>,
+    reader: Reader<4, 1, 0, 0>,
+) -> Result<Watch, AllocError>
+    requires own { IsReaderOf board.now reader × IsAlone reader }
+    ensures own { IfOk result (λ w. IsReaderOf board.now w.reader) }
+    ensures recorded { IfOk result (λ w. All (λ s. HasRecorded w.reader (entry_of s)) w.taken.items) }
+{
+    let taken = Vec::new(alloc);
+    let mut watch = Watch { reader, taken };
+    for _k in 0..10_000u64 {
+        scan_once(alloc, board, &mut watch)?;
+    }
+    Ok(watch)
+}
+
+/// Two readers at once.
+fn two_scan(
+    rt: &(impl Threads + Abort + Sync),
+    alloc: Global,
+    board: &Board<4, 1, 0, 0>,
+    left: Reader<4, 1, 0, 0>,
+    right: Reader<4, 1, 0, 0>,
+) -> (Result<Watch, AllocError>, Result<Watch, AllocError>)
+    requires left { IsReaderOf board.now left × IsAlone left }
+    requires right { IsReaderOf board.now right × IsAlone right }
+    ensures left { IfOk result.0 (λ w. IsReaderOf board.now w.reader × All (λ s. HasRecorded w.reader (entry_of s)) w.taken.items) }
+    ensures right { IfOk result.1 (λ w. IsReaderOf board.now w.reader × All (λ s. HasRecorded w.reader (entry_of s)) w.taken.items) }
+{
+    join(
+        rt,
+        || -> Result<Watch, AllocError>
+            requires { IsReaderOf board.now left × IsAlone left }
+            ensures { IfOk result (λ w. IsReaderOf board.entry.now w.reader × All (λ s. HasRecorded w.reader (entry_of s)) w.taken.items) }
+        { scan_often(alloc, board, left) },
+        || -> Result<Watch, AllocError>
+            requires { IsReaderOf board.now right × IsAlone right }
+            ensures { IfOk result (λ w. IsReaderOf board.entry.now w.reader × All (λ s. HasRecorded w.reader (entry_of s)) w.taken.items) }
+        { scan_often(alloc, board, right) },
+    )
+}
+
+/// Whether two vectors compare so, place by place.
+fn compare_so(one: &[u64], other: &[u64], found: Ordering) -> bool {
+    let (mut below, mut above) = (false, false);
+    for (x, y) in one.iter().zip(other) {
+        below = below || x < y;
+        above = above || y < x;
+    }
+    match found {
+        Ordering::Less => below && !above,
+        Ordering::Equal => !below && !above,
+        Ordering::Greater => above && !below,
+    }
+}
+
+/// Any two snapshots of these readers compare, as their vectors do: from the least ones on, the next one of the reader whose
+/// snapshot is less.
+fn all_compare(
+    rt: &impl Abort,
+    board: &Board<4, 1, 0, 0>,
+    one: &mut Reader<4, 1, 0, 0>,
+    ones: &[Snapshot<4, 1, 0, 0>],
+    other: &mut Reader<4, 1, 0, 0>,
+    others: &[Snapshot<4, 1, 0, 0>],
+)
+    requires own { IsReaderOf board.now one.old × IsReaderOf board.now other.old }
+    requires alone { IsAlone one.old × IsAlone other.old }
+    requires recorded_one { All (λ s. HasRecorded one.old (entry_of s)) ones.now }
+    requires recorded_other { All (λ s. HasRecorded other.old (entry_of s)) others.now }
+    ensures own { IsReaderOf board.now one.new × IsReaderOf board.now other.new }
+    ensures alone { IsAlone one.new × IsAlone other.new }
+{
+    let mut i = 0usize;
+    let mut j = 0usize;
+    while i < ones.len() && j < others.len() {
+        let found = order(board, &ones[i], one, &others[j], other);
+        let (left, right) = (ones[i].vector(), others[j].vector());
+        assert!(rt;
+            compare_so(left, right, found),
+            "{left:?} {found:?} {right:?}"
+        );
+        if found == Ordering::Greater {
+            j += 1;
+        } else {
+            i += 1;
+        }
+    }
+}
+
+/// How often each worker published in the history that passes through these snapshots.
+fn counts(alloc: Global, taken: &[Snapshot<4, 1, 0, 0>]) -> Result<[u64; 4], ChainFault> {
+    let turns = history_of(alloc, taken)?;
+    let mut counted = [0u64; 4];
+    for k in 0..turns.len() {
+        if let Some(number) = counted.get_mut(turns[k].worker) {
+            *number = number.wrapping_add(turns[k].by);
+        }
+    }
+    Ok(counted)
+}
+
+/// The numbers of all workers in the end.
+const ALL: [u64; 4] = [10_000, 10_000, 10_000, 10_000];
+
+/// All workers settle with one reader, and the other one scans once more: both have all numbers and the exact totals, and so
+/// they are equal.
+fn end_equal(
+    rt: &impl Abort,
+    alloc: Global,
+    board: &Board<4, 1, 0, 0>,
+    workers: &mut [Worker<4, 1, 0, 0>],
+    one: &mut Reader<4, 1, 0, 0>,
+    other: &mut Reader<4, 1, 0, 0>,
+) -> Result<(Snapshot<4, 1, 0, 0>, Snapshot<4, 1, 0, 0>), Fail>
+    requires own { IsReaderOf board.now one.old × IsReaderOf board.now other.old }
+    requires alone { IsAlone other.old }
+    requires workers { All (IsWorkerOf board.now) workers.old }
+{
+    let mut settled = Snapshot::new(alloc)?;
+    let mut scanned = Snapshot::new(alloc)?;
+    let Ok(()) = settle(board, one, workers, &mut settled) else {
+        return Err("not all settle".into());
+    };
+    let Ok(()) = other.scan(board, &mut scanned) else {
+        return Err("the last scan was refused".into());
+    };
+    let found = order(board, &settled, one, &scanned, other);
+    same(rt, &found, &Ordering::Equal);
+    same(rt, &settled.vector(), &ALL.as_slice());
+    same(rt, &settled.counter(0), &40_000);
+    Ok((settled, scanned))
+}
+
+/// Each of these is of one moment: the counter is how often all workers had published, since each version adds 1.
+fn are_of_one_moment(rt: &impl Abort, taken: &[Snapshot<4, 1, 0, 0>]) {
+    for k in 0..taken.len() {
+        let mut all = 0u64;
+        for number in taken[k].vector() {
+            all = all.wrapping_add(*number);
+        }
+        same(rt, &taken[k].counter(0), &all);
+    }
+}
+
+/// The history through what a reader was given, which is something, to the last snapshot.
+fn ends_so(
+    rt: &impl Abort,
+    alloc: Global,
+    mut taken: Vec<Snapshot<4, 1, 0, 0>>,
+    last: Snapshot<4, 1, 0, 0>,
+) -> Result<(), Fail> {
+    same(rt, &taken.is_empty(), &false);
+    taken.push(last)?;
+    are_of_one_moment(rt, taken.as_slice());
+    same(rt, &counts(alloc, taken.as_slice())?, &ALL);
+    Ok(())
+}
+
+/// What two readers were given, and the end.
+fn end_well(
+    rt: &impl Abort,
+    alloc: Global,
+    board: &Board<4, 1, 0, 0>,
+    mut workers: Vec<Worker<4, 1, 0, 0>>,
+    left: Watch,
+    right: Watch,
+) -> Result<(), Fail>
+    requires workers { All (IsWorkerOf board.now) workers.items }
+    requires left { IsReaderOf board.now left.reader × All (λ s. HasRecorded left.reader (entry_of s)) left.taken.items }
+    requires right { IsReaderOf board.now right.reader × All (λ s. HasRecorded right.reader (entry_of s)) right.taken.items }
+{
+    let Watch {
+        reader: mut one,
+        taken: ones,
+    } = left;
+    let Watch {
+        reader: mut other,
+        taken: others,
+    } = right;
+    all_compare(
+        rt,
+        board,
+        &mut one,
+        ones.as_slice(),
+        &mut other,
+        others.as_slice(),
+    );
+    let workers = workers.as_mut_slice();
+    let (settled, scanned) = end_equal(rt, alloc, board, workers, &mut one, &mut other)?;
+    ends_so(rt, alloc, ones, settled)?;
+    ends_so(rt, alloc, others, scanned)
+}
+
+#[test]
+fn readers_scan_while_workers_count(rt: HostRuntime) -> Result<(), Fail> {
+    let alloc = rt.alloc();
+    let Crew {
+        board,
+        workers,
+        mut readers,
+    } = Crew::<4, 1, 0, 0>::new(alloc, ID, 2)?;
+    let right = last_reader(&board, &mut readers)?;
+    let left = last_reader(&board, &mut readers)?;
+    let jobs = lists(alloc, 4, 10_000)?;
+    let (board, rt, jobs) = (&board, &rt, jobs.as_slice());
+    let (workers, (left, right)) = join(
+        rt,
+        || -> Result<Vec<Worker<4, 1, 0, 0>>, PoolFault>
+            requires { All (IsWorkerOf board.now) workers.items }
+            ensures { IfOk result (λ v. All (IsWorkerOf board.entry.now) v.items) }
+        { runs(rt, alloc, board, workers, jobs, &Open) },
+        || -> (Result<Watch, AllocError>, Result<Watch, AllocError>)
+            requires { IsReaderOf board.now left × IsAlone left × IsReaderOf board.now right × IsAlone right }
+            ensures { IfOk result.0 (λ w. IsReaderOf board.entry.now w.reader × All (λ s. HasRecorded w.reader (entry_of s)) w.taken.items) × IfOk result.1 (λ w. IsReaderOf board.entry.now w.reader × All (λ s. HasRecorded w.reader (entry_of s)) w.taken.items) }
+        { two_scan(rt, alloc, board, left, right) },
+    );
+    end_well(rt, alloc, board, workers?, left?, right?)
+}

@@ -1,5 +1,0 @@
-mod crew;
-mod examples;
-mod history;
-mod running;
-mod settling;

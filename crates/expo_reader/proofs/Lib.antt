@@ -1,5 +1,0 @@
-pub mod ReadSoFar
-pub mod Filtered
-pub mod Checked
-pub mod Others
-pub mod Bounds

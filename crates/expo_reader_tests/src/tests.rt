@@ -1,5 +1,0 @@
-mod accepted;
-mod format;
-mod limits;
-mod reading;
-mod rows;

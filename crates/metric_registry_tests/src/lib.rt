@@ -1,7 +1,0 @@
-//! The tests of metric_registry, which are proved apart from it: a crate with tests is proved twice.
-#![tactic(auto)]
-
-#[cfg(test)]
-mod asserts;
-#[cfg(test)]
-mod tests;

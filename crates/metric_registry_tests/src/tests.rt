@@ -1,4 +1,0 @@
-mod calls;
-mod crew;
-mod growth;
-mod hands_on;

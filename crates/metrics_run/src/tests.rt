@@ -1,4 +1,0 @@
-mod at_once;
-mod scripts;
-mod steps;
-mod streams;

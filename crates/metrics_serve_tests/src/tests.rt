@@ -1,6 +1,0 @@
-mod clients;
-mod counts;
-mod endings;
-mod hostile;
-mod memory;
-mod replies;

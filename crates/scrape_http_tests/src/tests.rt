@@ -1,4 +1,0 @@
-mod ends;
-mod failing;
-mod heads;
-mod replies;

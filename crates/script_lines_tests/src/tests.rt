@@ -1,3 +1,0 @@
-mod cuts;
-mod lines;
-mod parts;

@@ -1,0 +1,87 @@
+//! Registries of one thread, and what is registered.
+use crate::asserts::same;
+use crate::crew::ID;
+use expo_text::render;
+use ledger_core::{Counter, Gauge};
+use metric_desc::{Desc, Kind};
+use metric_names::{HelpText, LabelName, LabelValue, MetricName};
+use registry_state::{Handle, RegistryState};
+use snapshot_scan::PlainSource;
+use std::alloc::Global;
+use std::process::Abort;
+use std::test::Fail;
+
+/// A source of one thread, of a counter, a histogram and a gauge.
+pub(crate) type Source = PlainSource<1, 1, 1, 1>;
+
+/// A registry of it.
+pub(crate) type Plain = RegistryState<Source, 1, 1, 1, 1>;
+
+/// A registry that keeps so many scrapes.
+pub(crate) fn plain(alloc: Global, window: usize) -> Result<Plain, Fail> {
+    let source = Source::new(alloc)?;
+    Ok(Plain::new(alloc, source, ID, window).map_err(|not_made| not_made.fault)?)
+}
+
+/// The handle of the first counter.
+pub(crate) fn first_counter() -> Handle {
+    let (registry, slot) = (ID, 0);
+    Handle::Counter(Counter { registry, slot })
+}
+
+/// The handle of the first gauge.
+pub(crate) fn first_gauge() -> Handle {
+    let (registry, slot) = (ID, 0);
+    Handle::Gauge(Gauge { registry, slot })
+}
+
+/// A descriptor of this kind and name, with these labels and no help. The bounds of a histogram are 10 and 20.
+pub(crate) fn desc(alloc: Global, kind: Kind, name: &str, labels: &[&str]) -> Result<Desc, Fail> {
+    let name = MetricName::read(alloc, name)?;
+    let help = HelpText::empty(alloc);
+    let mut names = Vec::new(alloc);
+    for label in labels {
+        names.push(LabelName::read(alloc, label)?)?;
+    }
+    Ok(match kind {
+        Kind::Counter => Desc::counter(name, help, names)?,
+        Kind::Histogram => Desc::histogram(name, help, names, &[10, 20])?,
+        Kind::Gauge => Desc::gauge(name, help, names)?,
+    })
+}
+
+/// Label values of these texts.
+pub(crate) fn values(alloc: Global, texts: &[&str]) -> Result<Vec<LabelValue>, Fail> {
+    let mut values = Vec::new(alloc);
+    for text in texts {
+        values.push(LabelValue::read(alloc, text)?)?;
+    }
+    Ok(values)
+}
+
+/// Registers a family without labels, and makes its one child.
+pub(crate) fn made(
+    registry: &mut Plain,
+    alloc: Global,
+    kind: Kind,
+    name: &str,
+) -> Result<Handle, Fail> {
+    let family = registry.register(desc(alloc, kind, name, &[])?)?;
+    Ok(registry.child(family, &[])?)
+}
+
+/// Makes a scrape, whose text is this.
+pub(crate) fn prints(rt: &impl Abort, registry: &mut Plain, expected: &str) -> Result<(), Fail> {
+    let text = render(&registry.scrape()?)?;
+    same(rt, &text.as_slice(), &expected.as_bytes());
+    Ok(())
+}
+
+/// Expects so many kept scrapes, and so many entries of the journal.
+pub(crate) fn holds(rt: &impl Abort, registry: &Plain, kept: usize, entries: usize) {
+    same(
+        rt,
+        &(registry.kept().len(), registry.journal().len()),
+        &(kept, entries),
+    );
+}

@@ -1,0 +1,12 @@
+mod clients;
+mod ends;
+mod failing;
+mod hands_on;
+mod lines;
+mod pool;
+mod registry;
+mod replies;
+mod server;
+mod state;
+mod stream;
+mod tour;

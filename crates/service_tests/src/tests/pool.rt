@@ -1,0 +1,180 @@
+//! A pool counts, while scrapes are made of a registry.
+ghost use Rattle.std.specs.Prelude.{◌≡◌, length, All, IfOk};
+ghost use Rattle.snapshot_scan.specs.Readers.{IsReaderOf};
+ghost use Rattle.snapshot_update.specs.Workers.{IsWorkerOf};
+
+use crate::asserts::same;
+use crate::crew::last_reader;
+use crate::helpers::desc;
+use chain_law::{NotAll, settle};
+use expo_text::{Number, Scrape};
+use ledger_core::Counter;
+use metric_desc::Kind;
+use register_rule::Board;
+use registry_state::{Handle, ScrapeFault};
+use snapshot_scan::{Reader, Snapshot};
+use snapshot_update::{Crew, Worker};
+use std::alloc::Global;
+use std::process::Abort;
+use std::sync::Wait;
+use std::test::Fail;
+use std::thread::{Threads, join};
+use worker_pool::{Job, JobOp, Open, PoolFault, run_pool};
+
+/// A board of four workers, whose row is one counter.
+type Four = Board<4, 1, 0, 0>;
+
+/// Its workers.
+type Workers = Vec<Worker<4, 1, 0, 0>>;
+
+/// A registry of it.
+type Registry<'a> = metric_registry::Registry<'a, 4, 1, 0, 0>;
+
+/// How often each worker counts 1.
+const TIMES: u64 = 10_000;
+
+/// The numbers of all workers in the end.
+const ALL: [u64; 4] = [TIMES, TIMES, TIMES, TIMES];
+
+/// A family `a` of counters, and its one child.
+fn one_counter(rt: &impl Wait, alloc: Global, registry: &Registry<'_>) -> Result<Counter, Fail> {
+    let family = registry.register(rt, desc(alloc, Kind::Counter, "a", &[])?)?;
+    match registry.child(rt, family, &[])? {
+        Handle::Counter(counter) => Ok(counter),
+        _ => Err("no counter".into()),
+    }
+}
+
+/// A worker's list of jobs.
+fn list(alloc: Global, counter: Counter) -> Result<Vec<Job>, Fail> {
+    let mut jobs = Vec::new(alloc);
+    for _ in 0..TIMES {
+        jobs.push(Job {
+            line: 1,
+            what: JobOp::Inc(counter, 1),
+        })?;
+    }
+    Ok(jobs)
+}
+
+/// What a scrape shows of the counter.
+fn counted_in(scrape: &Scrape) -> Option<u64> {
+    let family = scrape.families().first()?;
+    match family.children.as_slice().first()?.number {
+        Number::Counter(total) => Some(total),
+        _ => None,
+    }
+}
+
+/// No worker's number is below the one before it. The numbers are kept, and their sum is given.
+fn rises(rt: &impl Abort, vector: &[u64], before: &mut [u64; 4]) -> u64 {
+    assert_eq!(rt; vector.len(), 4);
+    let mut sum = 0u64;
+    for (worker, number) in before.iter_mut().enumerate() {
+        assert!(rt;
+            *number <= vector[worker],
+            "{number} and then {}",
+            vector[worker]
+        );
+        *number = vector[worker];
+        sum = sum.wrapping_add(*number);
+    }
+    sum
+}
+
+/// Scrapes until all is counted, at most 100,000 times. Each scrape is of one moment: since each version counts 1, its counter is
+/// the sum of its vector. It tells how many scrapes there were, and whether all was seen.
+fn scrape_often(
+    rt: &(impl Wait + Abort),
+    registry: &Registry<'_>,
+) -> Result<(u64, bool), ScrapeFault> {
+    let mut before = [0u64; 4];
+    let mut scrapes = 0u64;
+    for _scrape in 0..100_000u32 {
+        match registry.scrape(rt) {
+            Ok(scrape) => {
+                scrapes = scrapes.saturating_add(1);
+                let sum = rises(rt, scrape.vector(), &mut before);
+                same(rt, &counted_in(&scrape), &Some(sum));
+                if sum == 4 * TIMES {
+                    return Ok((scrapes, true));
+                }
+            }
+            Err(ScrapeFault::Contended(_)) => {}
+            Err(fault) => return Err(fault),
+        }
+    }
+    Ok((scrapes, false))
+}
+
+/// What the pool answered, and how many scrapes there were meanwhile.
+type Ended = (Result<Workers, PoolFault>, Result<(u64, bool), ScrapeFault>);
+
+/// The pool runs all jobs, while scrapes are made.
+fn count_and_scrape(
+    rt: &(impl Threads + Wait + Abort + Sync),
+    alloc: Global,
+    board: &Four,
+    registry: &Registry<'_>,
+    workers: Workers,
+    jobs: &[Vec<Job>],
+) -> Ended
+    requires { (length jobs.now ≡ length workers.items) × All (IsWorkerOf board.now) workers.items }
+    ensures { IfOk result.0 (λ v. All (IsWorkerOf board.now) v.items) }
+{
+    join(
+        rt,
+        || -> Result<Workers, PoolFault>
+            requires { (length jobs.now ≡ length workers.items) × All (IsWorkerOf board.now) workers.items }
+            ensures { IfOk result (λ v. All (IsWorkerOf board.entry.now) v.items) }
+        { run_pool(rt, alloc, board, workers, jobs, &Open) },
+        || -> Result<(u64, bool), ScrapeFault> { scrape_often(rt, registry) },
+    )
+}
+
+/// All workers settle: all is counted. Without the third one they do not.
+fn all_settle(
+    rt: &impl Abort,
+    board: &Four,
+    settler: &mut Reader<4, 1, 0, 0>,
+    workers: &mut [Worker<4, 1, 0, 0>],
+    out: &mut Snapshot<4, 1, 0, 0>,
+)
+    requires { IsReaderOf board.now settler.old × All (IsWorkerOf board.now) workers.old }
+{
+    assert_eq!(rt; workers.len(), 4);
+    same(rt, &settle(board, settler, workers, out), &Ok(()));
+    same(rt, &out.vector(), &ALL.as_slice());
+    same(rt, &out.counter(0), &(4 * TIMES));
+    let without = settle(board, settler, &mut workers[..2], out);
+    same(rt, &without, &Err(NotAll { missing: 2 }));
+    same(rt, &out.vector(), &ALL.as_slice());
+}
+
+#[test]
+fn scrapes_while_a_pool_counts(rt: HostRuntime) -> Result<(), Fail> {
+    let alloc = rt.alloc();
+    let Crew {
+        board,
+        workers,
+        mut readers,
+    } = Crew::new(alloc, 1, 2)?;
+    let mut settler = last_reader(&board, &mut readers)?;
+    let scraper = last_reader(&board, &mut readers)?;
+    let mut out = Snapshot::new(alloc)?;
+    let registry = Registry::new(alloc, &board, scraper, 64).map_err(|not_made| not_made.fault)?;
+    let counter = one_counter(&rt, alloc, &registry)?;
+    let jobs = [
+        list(alloc, counter)?,
+        list(alloc, counter)?,
+        list(alloc, counter)?,
+        list(alloc, counter)?,
+    ];
+    assert_eq!(rt; jobs.len(), workers.len());
+    let (counted, scraped) = count_and_scrape(&rt, alloc, &board, &registry, workers, &jobs);
+    assert!(rt; scraped?.0 > 0, "no scrape was made");
+    let mut workers = counted?;
+    all_settle(&rt, &board, &mut settler, &mut workers, &mut out);
+    same(&rt, &scrape_often(&rt, &registry)?, &(1, true));
+    Ok(())
+}

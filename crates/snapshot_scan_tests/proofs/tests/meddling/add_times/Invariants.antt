@@ -1,5 +1,0 @@
-use Rattle.register_rule.specs.Seats.{HasWorker}
-use Rattle.snapshot_scan_tests.proofs.tests.meddling.add_times.Given as goal
-
-abbrev pub invariant-loop-k : goal.invariant-loop-k
-invariant-loop-k g l = HasWorker l.board l.adder.seat

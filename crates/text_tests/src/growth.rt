@@ -1,0 +1,109 @@
+//! Calls whose growth is refused: the same call again answers as it would have. checks/refused_memory.py runs these with each allocation
+//! refused in turn.
+use crate::asserts::same;
+use crate::made::{Family, desc, scrape};
+use crate::texts::COUNTER;
+use expo_text::render;
+use metric_desc::{Desc, Kind};
+use metric_names::{
+    HelpText, HelpTextFault, LabelName, LabelNameFault, LabelValue, LabelValueFault, MetricName,
+    MetricNameFault, NoMemory,
+};
+use std::alloc::Global;
+use std::test::Fail;
+
+/// What a call answers, which was made once more where there was no memory.
+fn again<T: Drop>(first: Result<T, NoMemory>, second: Result<T, NoMemory>) -> Result<T, NoMemory> {
+    match first {
+        Err(NoMemory) => second,
+        answer => answer,
+    }
+}
+
+fn name(alloc: Global) -> Result<MetricName, MetricNameFault> {
+    match MetricName::read(alloc, "a_name") {
+        Err(MetricNameFault::NoMemory) => MetricName::read(alloc, "a_name"),
+        answer => answer,
+    }
+}
+
+fn label(alloc: Global) -> Result<LabelName, LabelNameFault> {
+    match LabelName::read(alloc, "l") {
+        Err(LabelNameFault::NoMemory) => LabelName::read(alloc, "l"),
+        answer => answer,
+    }
+}
+
+fn help(alloc: Global) -> Result<HelpText, HelpTextFault> {
+    match HelpText::read(alloc, "A help.") {
+        Err(HelpTextFault::NoMemory) => HelpText::read(alloc, "A help."),
+        answer => answer,
+    }
+}
+
+fn value(alloc: Global) -> Result<LabelValue, LabelValueFault> {
+    match LabelValue::read(alloc, "v") {
+        Err(LabelValueFault::NoMemory) => LabelValue::read(alloc, "v"),
+        answer => answer,
+    }
+}
+
+#[test]
+fn growth_of_names(rt: HostRuntime) -> Result<(), Fail> {
+    let it = name(rt.alloc())?;
+    let copy = again(it.copy(), it.copy())?;
+    same(&rt, &copy.as_str(), &"a_name");
+    let it = label(rt.alloc())?;
+    let copy = again(it.copy(), it.copy())?;
+    same(&rt, &copy.as_str(), &"l");
+    Ok(())
+}
+
+#[test]
+fn growth_of_texts(rt: HostRuntime) -> Result<(), Fail> {
+    let it = help(rt.alloc())?;
+    let copy = again(it.copy(), it.copy())?;
+    same(&rt, &copy.as_str(), &"A help.");
+    let it = value(rt.alloc())?;
+    let copy = again(it.copy(), it.copy())?;
+    same(&rt, &copy.as_str(), &"v");
+    Ok(())
+}
+
+/// A histogram with a help and a label.
+fn histogram(alloc: Global) -> Result<Desc, Fail> {
+    let (kind, help, labels) = (Kind::Histogram, "A help.", &["l"]);
+    let written = Family {
+        kind,
+        help,
+        labels,
+        ..COUNTER
+    };
+    desc(alloc, &written)
+}
+
+#[test]
+fn growth_of_a_descriptor(rt: HostRuntime) -> Result<(), Fail> {
+    let it = histogram(rt.alloc())?;
+    let copy = again(it.copy(), it.copy())?;
+    same(
+        &rt,
+        &(copy.help().as_str(), copy.labels().len()),
+        &("A help.", 1),
+    );
+    let names = again(copy.names(), copy.names())?;
+    same(&rt, &names.len(), &4);
+    Ok(())
+}
+
+#[test]
+fn growth_of_a_text(rt: HostRuntime) -> Result<(), Fail> {
+    let scrape = scrape(rt.alloc(), &[COUNTER])?.ok_or("no scrape")?;
+    let text = again(render(&scrape), render(&scrape))?;
+    same(
+        &rt,
+        &text.as_slice(),
+        &b"# TYPE a counter\na 0\n".as_slice(),
+    );
+    Ok(())
+}

@@ -1,6 +1,0 @@
-mod counting;
-mod crew;
-mod faults;
-mod gates;
-mod meeting;
-mod refusing;
