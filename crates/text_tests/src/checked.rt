@@ -1,6 +1,5 @@
 //! Families that are those of a scrape, and families with one fault each.
-use crate::made::{Family, alone, children, scrape};
-use crate::texts::COUNTER;
+use crate::made::{COUNTER, Family, alone, children, scrape};
 use expo_text::Number;
 use ledger_core::{GaugeTotals, HistTotals};
 use metric_desc::Kind;

@@ -1,8 +1,7 @@
 //! Descriptors: at their limits, which are refused, and which clash.
 use crate::asserts::same;
 use crate::limits::GREATEST_BOUNDS;
-use crate::made::{Family, desc, labels};
-use crate::texts::COUNTER;
+use crate::made::{COUNTER, Family, desc, labels};
 use bucket_math::BadBounds;
 use metric_desc::{Desc, HistogramFault, Kind, LabelsFault, clashes};
 use metric_names::{HelpText, MetricName};

@@ -1,8 +1,7 @@
 //! Calls whose growth is refused: the same call again answers as it would have. checks/refused_memory.py runs these with each allocation
 //! refused in turn.
 use crate::asserts::same;
-use crate::made::{Family, desc, scrape};
-use crate::texts::COUNTER;
+use crate::made::{COUNTER, Family, desc, scrape};
 use expo_text::render;
 use metric_desc::{Desc, Kind};
 use metric_names::{

@@ -1,8 +1,7 @@
 //! Scrapes at their limits: 128 families of 256 children, and a family whose names, texts and bounds are as long and as many as they may be.
 //! And one family and one child too many.
 use crate::asserts::same;
-use crate::made::{Family, children, family_of};
-use crate::texts::COUNTER;
+use crate::made::{COUNTER, Family, children, family_of};
 use expo_text::{ChildScrape, FamilyScrape, Number, Scrape, render, text_len};
 use ledger_core::HistTotals;
 use metric_desc::Desc;

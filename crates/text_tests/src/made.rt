@@ -17,6 +17,16 @@ pub struct Family<'a> {
     pub children: &'a [(&'a [&'a str], Number)],
 }
 
+/// A counter without help and labels.
+pub const COUNTER: Family = Family {
+    kind: Kind::Counter,
+    name: "a",
+    help: "",
+    labels: &[],
+    bounds: &[],
+    children: &[(&[], Number::Counter(0))],
+};
+
 /// These label names.
 pub fn labels(alloc: Global, texts: &[&str]) -> Result<Vec<LabelName>, Fail> {
     let mut labels = Vec::new(alloc);

@@ -2,8 +2,7 @@
 ghost use Rattle.std.specs.Prelude.{◌≡◌, false, IfOk};
 
 use crate::asserts::same;
-use crate::made::{Family, alone, children, scrape};
-use crate::texts::COUNTER;
+use crate::made::{COUNTER, Family, alone, children, scrape};
 use expo_text::{Number, Scrape, WriteFailed, send, write_after, write_to};
 use std::alloc::Global;
 use std::io::{self, Error, ErrorKind, Write};

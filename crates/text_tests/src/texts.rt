@@ -1,6 +1,6 @@
 //! The text of scrapes, byte for byte.
 use crate::asserts::same;
-use crate::made::{Family, scrape};
+use crate::made::{COUNTER, Family, scrape};
 use expo_text::{Number, Scrape, render, text_len};
 use ledger_core::{GaugeTotals, HistTotals};
 use metric_desc::Kind;
@@ -31,16 +31,6 @@ fn expect(
     same(rt, &text.len(), &len);
     prints(rt, &scrape, text)
 }
-
-/// A counter without help and labels.
-pub const COUNTER: Family = Family {
-    kind: Kind::Counter,
-    name: "a",
-    help: "",
-    labels: &[],
-    bounds: &[],
-    children: &[(&[], Number::Counter(0))],
-};
 
 #[test]
 fn counters(rt: HostRuntime) -> Result<(), Fail> {
