@@ -51,10 +51,19 @@ impl Model for FamilyScrape {
 /// Children stand in strict order of their label values, compared one by one in byte order, at most 256 of a family.
 /// Each has as many values as its family has labels and a number of its family's kind, and the count of a histogram is
 /// the sum of its buckets. Contracts see it as a `Scraped`, the record of its vector and its families.
-#[derive(Debug, Drop)]
+#[derive(Debug)]
 pub struct Scrape {
     vector: Vec<u64>,
     families: Vec<FamilyScrape>,
+}
+
+impl Drop for Scrape {
+    fn drop(self) {
+        let Scrape {
+            vector: _,
+            families: _,
+        } = self;
+    }
 }
 
 impl Model for Scrape {

@@ -18,12 +18,23 @@ use std::marker::Model;
 /// of a histogram its bounds.
 ///
 /// Contracts see it as a `Descriptor`, the record of these.
-#[derive(Debug, Drop)]
+#[derive(Debug)]
 pub struct Desc {
     name: MetricName,
     help: HelpText,
     labels: Vec<LabelName>,
     shape: Shape,
+}
+
+impl Drop for Desc {
+    fn drop(self) {
+        let Desc {
+            name: _,
+            help: _,
+            labels: _,
+            shape: _,
+        } = self;
+    }
 }
 
 impl Model for Desc {

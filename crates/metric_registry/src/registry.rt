@@ -22,9 +22,15 @@ use std::sync::{Mutex, Wait};
 ///
 /// Whatever the calls were, whenever the lock is free its journal replays to its families, and its kept scrapes are at most the
 /// window and the last that its reader recorded: that is what [`Registry::into_state`] promises.
-#[derive(Drop)]
 pub struct Registry<'a, const N: usize, const C: usize, const H: usize, const G: usize> {
     pub(crate) state: Mutex<RegistryState<Scanner<'a, N, C, H, G>, N, C, H, G>>,
+}
+
+impl<'a, const N: usize, const C: usize, const H: usize, const G: usize> Drop
+    for Registry<'a, N, C, H, G> {
+    fn drop(self) {
+        let Registry { state: _ } = self;
+    }
 }
 
 impl<'a, const N: usize, const C: usize, const H: usize, const G: usize> Registry<'a, N, C, H, G> {

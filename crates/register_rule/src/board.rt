@@ -45,12 +45,17 @@ impl Split<View> for Brand {
 
 /// The words that all workers and readers share: `N` segments, 1 to 32, of rows of `C` counters, at most 256, `H`
 /// histograms, at most 32, and `G` gauges, at most 64. A row has `C + 27 * H + 2 * G` words of at most 2^48 - 1.
-#[derive(Drop)]
 pub struct Board<const N: usize, const C: usize, const H: usize, const G: usize> {
     pub(crate) table: Table<(), View, Key, Law<N, C, H, G>, Global>,
     pub(crate) id: u64,
     ghost sized: { IsGeometry N C H G × (table.shared.table_id.words ≡ words N (width C H G)) },
     ghost named: { table.shared.key.id ≡ id },
+}
+
+impl<const N: usize, const C: usize, const H: usize, const G: usize> Drop for Board<N, C, H, G> {
+    fn drop(self) {
+        let Board { table: _, id: _ } = self;
+    }
 }
 
 /// A board, and a seat of its own for each worker and each reader, in their order.

@@ -21,19 +21,6 @@ impl WorkSeat {
     {
         self.number
     }
-
-    /// The seat as a bundle of this one worker.
-    pub fn into_bundle(self) -> Bundle
-        ensures same { result ≡ work_bundle self }
-        ensures one { members_of result ≡ worker_of self ∷ [] }
-    {
-        let WorkSeat {
-            bundle,
-            worker: _,
-            number: _,
-        } = self;
-        bundle
-    }
 }
 
 impl ReadSeat {
@@ -42,15 +29,6 @@ impl ReadSeat {
         ensures { (reader_of self.now).who ≡ Reader result }
     {
         self.reader
-    }
-
-    /// The seat as a bundle of this one reader.
-    pub fn into_bundle(self) -> Bundle
-        ensures same { result ≡ read_bundle self }
-        ensures one { members_of result ≡ reader_of self ∷ [] }
-    {
-        let ReadSeat { bundle, reader: _ } = self;
-        bundle
     }
 }
 

@@ -8,7 +8,6 @@ use crate::kept::Kept;
 
 /// What the scans of one seat work with and remember: of each segment the row that was confirmed last, the sums of these
 /// rows, the numbers of both collects, and the words that a worker lends. It grows no more once it is made.
-#[derive(Drop)]
 pub struct Memory<const N: usize, const C: usize, const H: usize, const G: usize> {
     pub(crate) kept: Vec<Kept>,
     pub(crate) totals: Vec<u64>,
@@ -19,4 +18,16 @@ pub struct Memory<const N: usize, const C: usize, const H: usize, const G: usize
     ghost sizes: { (length kept.items ≡ N) × (length totals.items ≡ width C H G) × (length opened.items ≡ N) × (length found.items ≡ N) × (length lent.items ≡ 1 + N + width C H G) },
     ghost wide: { AreWide (width C H G) kept.items },
     ghost sums: { AreTotals (width C H G) kept.items totals.items },
+}
+
+impl<const N: usize, const C: usize, const H: usize, const G: usize> Drop for Memory<N, C, H, G> {
+    fn drop(self) {
+        let Memory {
+            kept: _,
+            totals: _,
+            opened: _,
+            found: _,
+            lent: _,
+        } = self;
+    }
 }

@@ -13,7 +13,6 @@ use std::alloc::Global;
 
 /// A source of one thread: one worker (`N` is 1), which has applied `count` lists of operations to its row. It is never
 /// contended.
-#[derive(Drop)]
 pub struct PlainSource<const N: usize, const C: usize, const H: usize, const G: usize> {
     pub(crate) table: Table<(), Recordings, (), NoLaw, Global>,
     pub(crate) seat: Seat<(), Recordings>,
@@ -25,4 +24,16 @@ pub struct PlainSource<const N: usize, const C: usize, const H: usize, const G: 
     ghost wide: { length row ≡ width C H G },
     ghost legal: { IsLegal C H (slice_index row) },
     ghost below: { ForSome (newest seat.me.0.entries) (λ a. Rises N (width C H G) a (record { vector = count ∷ []; totals = row })) },
+}
+
+impl<const N: usize, const C: usize, const H: usize, const G: usize> Drop
+    for PlainSource<N, C, H, G> {
+    fn drop(self) {
+        let PlainSource {
+            table: _,
+            seat: _,
+            row: _,
+            count: _,
+        } = self;
+    }
 }

@@ -12,7 +12,6 @@ use register_rule::Bundle;
 
 /// What a scraper scans with: a reader's seat, and what its scans remember. Workers that are lent to it are members of its
 /// seat, behind the reader itself.
-#[derive(Drop)]
 pub struct Reader<const N: usize, const C: usize, const H: usize, const G: usize> {
     pub(crate) bundle: Bundle,
     pub(crate) index: usize,
@@ -22,4 +21,14 @@ pub struct Reader<const N: usize, const C: usize, const H: usize, const G: usize
     ghost ready: { IsReady (scan_in bundle) memory },
     ghost lent: { AreWorkers (behind (members_of bundle)) },
     ghost seen: { HasSeen (members_of bundle) },
+}
+
+impl<const N: usize, const C: usize, const H: usize, const G: usize> Drop for Reader<N, C, H, G> {
+    fn drop(self) {
+        let Reader {
+            bundle: _,
+            index: _,
+            memory: _,
+        } = self;
+    }
 }

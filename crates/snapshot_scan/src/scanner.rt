@@ -13,11 +13,20 @@ use crate::source::Source;
 use register_rule::Board;
 
 /// A board and a reader of it: its scans are those of the reader.
-#[derive(Drop)]
 pub struct Scanner<'a, const N: usize, const C: usize, const H: usize, const G: usize> {
     board: &'a Board<N, C, H, G>,
     reader: Reader<N, C, H, G>,
     ghost own: { IsReaderOf board.now reader },
+}
+
+impl<'a, const N: usize, const C: usize, const H: usize, const G: usize> Drop
+    for Scanner<'a, N, C, H, G> {
+    fn drop(self) {
+        let Scanner {
+            board: _,
+            reader: _,
+        } = self;
+    }
 }
 
 impl<'a, const N: usize, const C: usize, const H: usize, const G: usize> Scanner<'a, N, C, H, G> {

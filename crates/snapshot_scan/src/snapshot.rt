@@ -23,10 +23,18 @@ const GAUGE_WORDS: usize = 2;
 /// histograms and `G` gauges over all workers, `C + 27 * H + 2 * G` words in the order of a row, each below 2^53.
 ///
 /// Contracts see it as these two lists.
-#[derive(Drop)]
 pub struct Snapshot<const N: usize, const C: usize, const H: usize, const G: usize> {
     pub(crate) vector: Vec<u64>,
     pub(crate) totals: Vec<u64>,
+}
+
+impl<const N: usize, const C: usize, const H: usize, const G: usize> Drop for Snapshot<N, C, H, G> {
+    fn drop(self) {
+        let Snapshot {
+            vector: _,
+            totals: _,
+        } = self;
+    }
 }
 
 impl<const N: usize, const C: usize, const H: usize, const G: usize> Model

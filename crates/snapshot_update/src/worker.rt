@@ -12,7 +12,6 @@ use snapshot_scan::Memory;
 
 /// What a thread counts with: a worker's seat, its row, what its scans remember, and what it knows of its buffers. While the
 /// worker is lent to a reader, it has no seat.
-#[derive(Drop)]
 pub struct Worker<const N: usize, const C: usize, const H: usize, const G: usize> {
     pub(crate) seat: Option<WorkSeat>,
     pub(crate) index: usize,
@@ -24,4 +23,17 @@ pub struct Worker<const N: usize, const C: usize, const H: usize, const G: usize
     ghost inside: { index < N },
     ghost holds: { ForSome seat (λ s. HoldsFor N C H G index number row.value memory images.hidden.items images.shown.items images.recent images.late images.own (index_of s) (worker_of s)) },
     ghost seen: { ForSome seat (λ s. HasSeenOwn index (worker_of s)) },
+}
+
+impl<const N: usize, const C: usize, const H: usize, const G: usize> Drop for Worker<N, C, H, G> {
+    fn drop(self) {
+        let Worker {
+            seat: _,
+            index: _,
+            number: _,
+            row: _,
+            memory: _,
+            images: _,
+        } = self;
+    }
 }
