@@ -1,5 +1,5 @@
 -- Bytes that are printed, or a beginning of them.
-use Rattle.std.proofs.Common.{ℕ, Option, List, [], ◌++◌, take, drop, Result, Ok, Err, OnErr, OnOk, inl, inr, ◌<◌, refl, sym, ap, ◌∙◌, append-nil, append_assoc, take-append-drop}
+use Rattle.std.proofs.Common.{ℕ, Option, List, [], ◌++◌, take, drop, Result, Ok, Err, OnErr, inl, inr, ◌<◌, refl, sym, ap, ◌∙◌, append-nil, append_assoc, take-append-drop}
 use Rattle.std.proofs.KnownBytes.{Appends-kept, Appends-nil, Appends-trans}
 use Rattle.std.specs.Io.KnownBytes.{Appends, Keeps}
 use Rattle.metrics_serve.specs.declared.sending.Broken.{Broken}
@@ -57,10 +57,8 @@ on_err (Err broken) P p = p
 
 -- the port, and then the replies or a beginning of their line
 module _ (a b c : Option (List ℕ)) (port replies : ℕ) (small : port < 65536) (are : AreReplies replies) (before : Appends a b (listening_line port)) where
-  pub printed : (r : Result Unit Broken) → OnOk r (Appends b c (served_line replies)) → OnOk r (Prints a c Done)
-  printed (Ok done) after = (port, replies, small, are, Appends-trans a b c (listening_line port) (served_line replies) before after)
-  printed (Err broken) after = tt
+  pub printed : Appends b c (served_line replies) → Prints a c Done
+  printed after = (port, replies, small, are, Appends-trans a b c (listening_line port) (served_line replies) before after)
 
-  pub printed_begun : (r : Result Unit Broken) → OnErr r (Begins b c (served_line replies)) → OnErr r (Prints a c BrokenOff)
-  printed_begun (Ok done) after = tt
-  printed_begun (Err broken) after = inl (port, small, inr (replies, are, begun_after a b c (listening_line port) (served_line replies) before after))
+  pub printed_begun : Begins b c (served_line replies) → Prints a c BrokenOff
+  printed_begun after = inl (port, small, inr (replies, are, begun_after a b c (listening_line port) (served_line replies) before after))

@@ -1,17 +1,18 @@
 //! The server.
-ghost use Rattle.std.specs.Prelude.{◌≡◌, [], ◌∷◌, ◌++◌, codes, decimal, map, replicate, All, OnErr, OnOk, IfSome};
+ghost use Rattle.std.specs.Prelude.{◌≡◌, [], ◌∷◌, ◌++◌, codes, decimal, map, replicate, ◌<◌, All, OnErr, OnOk, IfOk, IfSome};
 ghost use Rattle.std.specs.Io.KnownBytes.{Appends};
 ghost use Rattle.chain_law.specs.Settled.{IsSettled};
 ghost use Rattle.snapshot_scan.specs.Readers.{IsReaderOf};
 ghost use Rattle.snapshot_update.specs.Workers.{index_of, lists_of, IsWorkerOf};
 ghost use Rattle.metrics_serve.specs.Counted.{AreFour, AreNew, AreReplies, AreSix, HaveCounted, all_of};
-ghost use Rattle.metrics_serve.specs.Printed.{Begins, Prints, status_of};
+ghost use Rattle.metrics_serve.specs.Printed.{Begins, Prints, listening_line, status_of};
 
 use crate::board::{Board, Reader, Registry, Snapshot, Staff, Worker, new_board};
 use crate::metrics::Metrics;
 use crate::sending::{Broken, send};
 use crate::threads::{Four, Queues, Shared, serve_in_threads};
 use chain_law::settle;
+use metric_names::NoMemory;
 use scrape_server::FromRegistry;
 use std::alloc::Global;
 use std::io::Write;
@@ -165,30 +166,50 @@ fn serve_counting<T: Threads + Wait + Sync>(
     Some(metrics.replies(&settled))
 }
 
-/// Serves on a new board, and writes what is printed.
-fn serve_over<T: Threads + Wait + Sync, W: Write>(
+/// Writes the line that tells the port of the listener, and lets it go.
+fn tell_port<W: Write>(listener: &TcpListener, writer: &mut W) -> Result<u16, Broken>
+    ensures told { IfOk result (λ p. (p < 65536) × Appends (W.contents writer.old) (W.contents writer.new) (listening_line p)) }
+    ensures front { OnErr result (Prints (W.contents writer.old) (W.contents writer.new) ServeEnd.Broken) }
+{
+    let port = listener.local_addr().map_err(|_| Broken)?.port();
+    tell(writer, b"listening ", u64::from(port))?;
+    Ok(port)
+}
+
+/// Serves on a new board by who works on it, and writes what is printed.
+fn serve_by<T: Threads + Wait + Sync, W: Write>(
     rt: &T,
+    alloc: Global,
     board: &Board,
-    workers: Four,
-    settler: &mut Reader,
-    service: Service<'_>,
+    staff: Staff,
     listener: &TcpListener,
     count: u64,
     writer: &mut W,
-) -> Result<(), Broken>
-    requires new { AreNew board.now workers }
-    requires settler { IsReaderOf board.now settler.old }
-    requires six { AreSix service.metrics }
-    ensures done { OnOk result (Prints (W.contents writer.old) (W.contents writer.new) ServeEnd.Done) }
-    ensures broken { OnErr result (Prints (W.contents writer.old) (W.contents writer.new) ServeEnd.Broken) }
+) -> ServeEnd
+    requires own { All (IsWorkerOf board.now) staff.workers.items }
+    requires all { map index_of staff.workers.items ≡ 0 ∷ 1 ∷ 2 ∷ 3 ∷ [] }
+    requires new { map lists_of staff.workers.items ≡ replicate 4 [] }
+    requires readers { IsReaderOf board.now staff.scraper × IsReaderOf board.now staff.settler }
+    ensures { Prints (W.contents writer.old) (W.contents writer.new) result }
 {
-    let Ok(address) = listener.local_addr() else {
-        return Err(Broken);
+    let Staff {
+        workers,
+        scraper,
+        mut settler,
+    } = staff;
+    let four = to_four(board, workers);
+    let Some(service) = Service::new(rt, alloc, board, scraper) else {
+        return tell_no_memory(writer);
     };
-    tell(writer, b"listening ", u64::from(address.port()))?;
-    match serve_counting(rt, board, workers, settler, service, listener, count) {
-        Some(replies) => tell(writer, b"served ", replies),
-        None => Err(Broken),
+    let Ok(_port) = tell_port(listener, writer) else {
+        return ServeEnd::Broken;
+    };
+    match serve_counting(rt, board, four, &mut settler, service, listener, count) {
+        Some(replies) => match tell(writer, b"served ", replies) {
+            Ok(()) => ServeEnd::Done,
+            Err(Broken) => ServeEnd::Broken,
+        },
+        None => ServeEnd::Broken,
     }
 }
 
@@ -214,29 +235,8 @@ pub fn serve_on<T: Threads + Wait + Sync, W: Write>(
 ) -> ServeEnd
     ensures { Prints (W.contents writer.old) (W.contents writer.new) result }
 {
-    let Ok((board, staff)) = new_board(alloc) else {
-        return tell_no_memory(writer);
-    };
-    let Staff {
-        workers,
-        scraper,
-        mut settler,
-    } = staff;
-    let workers = to_four(&board, workers);
-    let Some(service) = Service::new(rt, alloc, &board, scraper) else {
-        return tell_no_memory(writer);
-    };
-    match serve_over(
-        rt,
-        &board,
-        workers,
-        &mut settler,
-        service,
-        &listener,
-        count,
-        writer,
-    ) {
-        Ok(()) => ServeEnd::Done,
-        Err(Broken) => ServeEnd::Broken,
+    match new_board(alloc) {
+        Ok((board, staff)) => serve_by(rt, alloc, &board, staff, &listener, count, writer),
+        Err(NoMemory) => tell_no_memory(writer),
     }
 }
