@@ -11,7 +11,7 @@ ghost use Rattle.snapshot_update.specs.Workers.{IsWorkerOf};
 use crate::asserts::same;
 use ledger_core::{Counter, Gauge};
 use register_rule::{Board, Parts, ReadSeat, WorkSeat};
-use snapshot_scan::{Reader, Snapshot};
+use snapshot_scan::{Contended, Reader, Snapshot};
 use snapshot_update::Worker;
 use std::alloc::{AllocError, Global};
 use std::process::Abort;
@@ -70,33 +70,14 @@ pub(crate) fn inc<const N: usize, const C: usize, const H: usize, const G: usize
     same(rt, &worker.inc(board, &counter(slot), by), &Ok(()));
 }
 
-/// A reader's scan is not refused, and finds this vector.
+/// A scan is not refused, and finds this vector.
 pub(crate) fn finds<const N: usize, const C: usize, const H: usize, const G: usize>(
     rt: &impl Abort,
-    board: &Board<N, C, H, G>,
-    reader: &mut Reader<N, C, H, G>,
-    out: &mut Snapshot<N, C, H, G>,
+    scan: Result<(), Contended>,
+    out: &Snapshot<N, C, H, G>,
     vector: &[u64],
-)
-    requires own { IsReaderOf board.now reader.old }
-    ensures own { IsReaderOf board.now reader.new }
-{
-    same(rt, &reader.scan(board, out), &Ok(()));
-    same(rt, &out.vector(), &vector);
-}
-
-/// A worker's scan is not refused, and finds this vector.
-pub(crate) fn finds_itself<const N: usize, const C: usize, const H: usize, const G: usize>(
-    rt: &impl Abort,
-    board: &Board<N, C, H, G>,
-    worker: &mut Worker<N, C, H, G>,
-    out: &mut Snapshot<N, C, H, G>,
-    vector: &[u64],
-)
-    requires own { IsWorkerOf board.now worker.old }
-    ensures own { IsWorkerOf board.now worker.new }
-{
-    same(rt, &worker.scan(board, out), &Ok(()));
+) {
+    same(rt, &scan, &Ok(()));
     same(rt, &out.vector(), &vector);
 }
 

@@ -9,7 +9,7 @@ ghost use Rattle.snapshot_update.specs.Workers.{IsWorkerOf};
 
 use crate::asserts::same;
 use crate::crew::{ID, finds, inc, new_reader, new_worker, one_seat, snapshots};
-use crate::jobs::{Team, job, make_team, runs};
+use crate::jobs::{job, listed, team_after};
 use chain_law::{ChainFault, Turn, history_of};
 use ledger_core::Op;
 use register_rule::{Board, BoardFault, ReadSeat, WorkSeat};
@@ -123,7 +123,7 @@ fn growth_seats(rt: HostRuntime) -> Result<(), Fail> {
     let mut reader = reader_at_last(&rt, rt.alloc(), &board, read)?;
     let mut out = Snapshot::new(rt.alloc())?;
     inc(&rt, &board, &mut worker, 0, 5);
-    finds(&rt, &board, &mut reader, &mut out, &[1]);
+    finds(&rt, reader.scan(&board, &mut out), &out, &[1]);
     same(&rt, &out.counter(0), &5);
     Ok(())
 }
@@ -181,25 +181,20 @@ fn growth_history(rt: HostRuntime) -> Result<(), Fail> {
     Ok(())
 }
 
-/// Two workers, which have made no step, do a job each.
+/// Two workers, which have made no step, do a job each, or none where the pool wants memory.
 fn pool_of_two(rt: &(impl Threads + Wait + Abort), alloc: Global) -> Result<bool, Fail> {
-    let Team {
-        board,
-        workers,
-        mut reader,
-        mut out,
-    } = make_team::<2, 1, 0, 0>(alloc)?;
-    let jobs = [vec![in alloc; job(1, 0, 3)]?, vec![in alloc; job(2, 0, 4)]?];
-    match runs(rt, alloc, &board, workers, &jobs, &Open) {
-        Ok(_) => finds(rt, &board, &mut reader, &mut out, &[1, 1]),
-        Err(PoolFault::NoMemory) => {
-            finds(rt, &board, &mut reader, &mut out, &[0, 0]);
-            return Ok(false);
-        }
-        Err(fault) => return Err(fault.into()),
+    let jobs = listed(alloc, &[&[job(1, 0, 3)], &[job(2, 0, 4)]])?;
+    let (mut it, fault) = team_after::<_, 2, 1, 0, 0>(rt, alloc, jobs, &Open)?;
+    let scan = it.reader.scan(&it.board, &mut it.out);
+    match fault {
+        None => finds(rt, scan, &it.out, &[1, 1]),
+        Some(PoolFault::NoMemory) => finds(rt, scan, &it.out, &[0, 0]),
+        Some(fault) => return Err(fault.into()),
     }
-    same(rt, &out.counter(0), &7);
-    Ok(true)
+    if fault.is_none() {
+        same(rt, &it.out.counter(0), &7);
+    }
+    Ok(fault.is_none())
 }
 
 /// Where a pool wants memory, nothing was done, and the workers are gone. Another crew is handed in then.

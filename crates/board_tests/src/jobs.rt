@@ -33,22 +33,6 @@ pub(crate) fn increments(alloc: Global, many: u64) -> Result<Vec<Job>, AllocErro
     Ok(jobs)
 }
 
-/// What the pool answers, with the workers that it hands back.
-pub(crate) fn runs<P: Gate + Sync, const N: usize, const C: usize, const H: usize, const G: usize>(
-    rt: &(impl Threads + Wait + Abort),
-    alloc: Global,
-    board: &Board<N, C, H, G>,
-    workers: Vec<Worker<N, C, H, G>>,
-    jobs: &[Vec<Job>],
-    gate: &P,
-) -> Result<Vec<Worker<N, C, H, G>>, PoolFault>
-    requires own { All (IsWorkerOf board.now) workers.items }
-    ensures own { IfOk result (λ v. All (IsWorkerOf board.now) v.items) }
-{
-    assert_eq!(rt; jobs.len(), workers.len());
-    run_pool(rt, alloc, board, workers, jobs, gate)
-}
-
 /// A board with its workers, a reader, and what its scans find.
 #[derive(Drop)]
 pub(crate) struct Team<const N: usize, const C: usize, const H: usize, const G: usize> {
@@ -81,6 +65,72 @@ pub(crate) fn make_team<const N: usize, const C: usize, const H: usize, const G:
     })
 }
 
+/// What the pool answers, with the workers that it hands back.
+pub(crate) fn runs<P: Gate + Sync, const N: usize, const C: usize, const H: usize, const G: usize>(
+    rt: &(impl Threads + Wait + Abort),
+    alloc: Global,
+    board: &Board<N, C, H, G>,
+    workers: Vec<Worker<N, C, H, G>>,
+    jobs: &[Vec<Job>],
+    gate: &P,
+) -> Result<Vec<Worker<N, C, H, G>>, PoolFault>
+    requires own { All (IsWorkerOf board.now) workers.items }
+    ensures own { IfOk result (λ v. All (IsWorkerOf board.now) v.items) }
+{
+    assert_eq!(rt; jobs.len(), workers.len());
+    run_pool(rt, alloc, board, workers, jobs, gate)
+}
+
+/// What a pool leaves of a team, and the fault that it tells: then the workers are gone.
+pub(crate) fn ran<P: Gate + Sync, const N: usize, const C: usize, const H: usize, const G: usize>(
+    rt: &(impl Threads + Wait + Abort),
+    alloc: Global,
+    team: Team<N, C, H, G>,
+    jobs: &[Vec<Job>],
+    gate: &P,
+) -> (Team<N, C, H, G>, Option<PoolFault>)
+    requires own { All (IsWorkerOf team.board) team.workers.items × IsReaderOf team.board team.reader }
+    ensures own { All (IsWorkerOf result.0.board) result.0.workers.items × IsReaderOf result.0.board result.0.reader }
+{
+    let Team {
+        board,
+        workers,
+        reader,
+        out,
+    } = team;
+    let (workers, fault) = match runs(rt, alloc, &board, workers, jobs, gate) {
+        Ok(workers) => (workers, None),
+        Err(fault) => (Vec::new(alloc), Some(fault)),
+    };
+    let team = Team {
+        board,
+        workers,
+        reader,
+        out,
+    };
+    (team, fault)
+}
+
+/// A team whose workers have done these jobs in a pool, with the fault that the pool tells.
+pub(crate) fn team_after<
+    P: Gate + Sync,
+    const N: usize,
+    const C: usize,
+    const H: usize,
+    const G: usize,
+>(
+    rt: &(impl Threads + Wait + Abort),
+    alloc: Global,
+    jobs: Vec<Vec<Job>>,
+    gate: &P,
+) -> Result<(Team<N, C, H, G>, Option<PoolFault>), Fail>
+    requires geometry { IsGeometry N C H G }
+    ensures own { IfOk result (λ r. All (IsWorkerOf r.0.board) r.0.workers.items × IsReaderOf r.0.board r.0.reader) }
+{
+    let team = make_team(alloc)?;
+    Ok(ran(rt, alloc, team, jobs.as_slice(), gate))
+}
+
 /// The lists of so many workers, of so many increments each.
 pub(crate) fn lists(alloc: Global, workers: usize, many: u64) -> Result<Vec<Vec<Job>>, AllocError> {
     let mut lists = Vec::new(alloc);
@@ -88,4 +138,13 @@ pub(crate) fn lists(alloc: Global, workers: usize, many: u64) -> Result<Vec<Vec<
         lists.push(increments(alloc, many)?)?;
     }
     Ok(lists)
+}
+
+/// These lists, a worker's each.
+pub(crate) fn listed(alloc: Global, lists: &[&[Job]]) -> Result<Vec<Vec<Job>>, AllocError> {
+    let mut listed = Vec::new(alloc);
+    for list in lists {
+        listed.push(Vec::from_slice(alloc, list)?)?;
+    }
+    Ok(listed)
 }

@@ -15,9 +15,10 @@ use snapshot_update::{Crew, Worker};
 use std::alloc::{AllocError, Global};
 use std::cmp::Ordering;
 use std::process::Abort;
+use std::sync::Wait;
 use std::test::Fail;
 use std::thread::{Threads, join};
-use worker_pool::{Open, PoolFault};
+use worker_pool::{Job, Open, PoolFault};
 
 /// A reader to which nobody is lent, and what its scans gave it.
 #[derive(Drop)]
@@ -68,7 +69,7 @@ fn two_scan(
     board: &Board<4, 1, 0, 0>,
     left: Reader<4, 1, 0, 0>,
     right: Reader<4, 1, 0, 0>,
-) -> (Result<Watch, AllocError>, Result<Watch, AllocError>)
+) -> Watches
     requires left { IsReaderOf board.now left × IsAlone left }
     requires right { IsReaderOf board.now right × IsAlone right }
     ensures left { IfOk result.0 (λ w. IsReaderOf board.now w.reader × All (λ s. HasRecorded w.reader (entry_of s)) w.taken.items) }
@@ -209,11 +210,11 @@ fn end_well(
     rt: &impl Abort,
     alloc: Global,
     board: &Board<4, 1, 0, 0>,
-    mut workers: Vec<Worker<4, 1, 0, 0>>,
+    workers: &mut [Worker<4, 1, 0, 0>],
     left: Watch,
     right: Watch,
 ) -> Result<(), Fail>
-    requires workers { All (IsWorkerOf board.now) workers.items }
+    requires workers { All (IsWorkerOf board.now) workers.old }
     requires left { IsReaderOf board.now left.reader × All (λ s. HasRecorded left.reader (entry_of s)) left.taken.items }
     requires right { IsReaderOf board.now right.reader × All (λ s. HasRecorded right.reader (entry_of s)) right.taken.items }
 {
@@ -233,10 +234,42 @@ fn end_well(
         &mut other,
         others.as_slice(),
     );
-    let workers = workers.as_mut_slice();
     let (settled, scanned) = end_equal(rt, alloc, board, workers, &mut one, &mut other)?;
     ends_so(rt, alloc, ones, settled)?;
     ends_so(rt, alloc, others, scanned)
+}
+
+/// What two readers were given.
+type Watches = (Result<Watch, AllocError>, Result<Watch, AllocError>);
+
+/// The workers count by a pool while two readers scan.
+fn all_at_once(
+    rt: &(impl Threads + Wait + Abort + Sync),
+    alloc: Global,
+    board: &Board<4, 1, 0, 0>,
+    workers: Vec<Worker<4, 1, 0, 0>>,
+    jobs: &[Vec<Job>],
+    left: Reader<4, 1, 0, 0>,
+    right: Reader<4, 1, 0, 0>,
+) -> (Result<Vec<Worker<4, 1, 0, 0>>, PoolFault>, Watches)
+    requires workers { All (IsWorkerOf board.now) workers.items }
+    requires left { IsReaderOf board.now left × IsAlone left }
+    requires right { IsReaderOf board.now right × IsAlone right }
+    ensures workers { IfOk result.0 (λ v. All (IsWorkerOf board.now) v.items) }
+    ensures left { IfOk result.1.0 (λ w. IsReaderOf board.now w.reader × All (λ s. HasRecorded w.reader (entry_of s)) w.taken.items) }
+    ensures right { IfOk result.1.1 (λ w. IsReaderOf board.now w.reader × All (λ s. HasRecorded w.reader (entry_of s)) w.taken.items) }
+{
+    join(
+        rt,
+        || -> Result<Vec<Worker<4, 1, 0, 0>>, PoolFault>
+            requires { All (IsWorkerOf board.now) workers.items }
+            ensures { IfOk result (λ v. All (IsWorkerOf board.entry.now) v.items) }
+        { runs(rt, alloc, board, workers, jobs, &Open) },
+        || -> Watches
+            requires { IsReaderOf board.now left × IsAlone left × IsReaderOf board.now right × IsAlone right }
+            ensures { IfOk result.0 (λ w. IsReaderOf board.entry.now w.reader × All (λ s. HasRecorded w.reader (entry_of s)) w.taken.items) × IfOk result.1 (λ w. IsReaderOf board.entry.now w.reader × All (λ s. HasRecorded w.reader (entry_of s)) w.taken.items) }
+        { two_scan(rt, alloc, board, left, right) },
+    )
 }
 
 #[test]
@@ -250,17 +283,15 @@ fn readers_scan_while_workers_count(rt: HostRuntime) -> Result<(), Fail> {
     let right = last_reader(&board, &mut readers)?;
     let left = last_reader(&board, &mut readers)?;
     let jobs = lists(alloc, 4, 10_000)?;
-    let (board, rt, jobs) = (&board, &rt, jobs.as_slice());
-    let (workers, (left, right)) = join(
-        rt,
-        || -> Result<Vec<Worker<4, 1, 0, 0>>, PoolFault>
-            requires { All (IsWorkerOf board.now) workers.items }
-            ensures { IfOk result (λ v. All (IsWorkerOf board.entry.now) v.items) }
-        { runs(rt, alloc, board, workers, jobs, &Open) },
-        || -> (Result<Watch, AllocError>, Result<Watch, AllocError>)
-            requires { IsReaderOf board.now left × IsAlone left × IsReaderOf board.now right × IsAlone right }
-            ensures { IfOk result.0 (λ w. IsReaderOf board.entry.now w.reader × All (λ s. HasRecorded w.reader (entry_of s)) w.taken.items) × IfOk result.1 (λ w. IsReaderOf board.entry.now w.reader × All (λ s. HasRecorded w.reader (entry_of s)) w.taken.items) }
-        { two_scan(rt, alloc, board, left, right) },
+    let (workers, (left, right)) = all_at_once(
+        &rt,
+        alloc,
+        &board,
+        workers,
+        jobs.as_slice(),
+        left,
+        right,
     );
-    end_well(rt, alloc, board, workers?, left?, right?)
+    let mut workers = workers?;
+    end_well(&rt, alloc, &board, workers.as_mut_slice(), left?, right?)
 }

@@ -93,26 +93,21 @@ fn direct_in_the_second_try(rt: HostRuntime) -> Result<(), Fail> {
     answers(&rt, &trace, 1, (2, 0, 14, 2), How::Direct, &[1, 0], &[5])
 }
 
-/// The reader makes 5 reads. With the asked worker's read torn, it goes on to 7.
+/// The updates of the only worker make scans of their own, and the reader makes 5 reads. With the asked worker's read torn, it goes
+/// on to 7.
 #[test]
 fn lent_by_the_only_worker(rt: HostRuntime) -> Result<(), Fail> {
     let trace = traced(rt.alloc(), 1, "bsBSSSsBSSSsBSSSsBSSSs", 1)?;
     same(&rt, &trace.answers.len(), &5);
     publishes(&rt, &trace, 4, 20)?;
+    for (k, begin, number) in [(0, 2, 0), (1, 7, 1), (2, 12, 2), (3, 17, 3)] {
+        let turn = (0, begin, begin + 2, 1);
+        answers(&rt, &trace, k, turn, How::Direct, &[number], &[number])?;
+    }
     let lent = How::Lent { from: 0 };
     answers(&rt, &trace, 4, (1, 0, 21, 2), lent, &[3], &[3])?;
     let torn = traced(rt.alloc(), 1, "bsBSSSsBSSSsBSSSsBSSStss", 1)?;
     answers(&rt, &torn, 4, (1, 0, 23, 3), How::Direct, &[4], &[4])
-}
-
-/// The updates of the only worker make scans of their own.
-#[test]
-fn scans_of_updates(rt: HostRuntime) -> Result<(), Fail> {
-    let trace = traced(rt.alloc(), 1, "bsBSSSsBSSSsBSSSsBSSSs", 1)?;
-    answers(&rt, &trace, 0, (0, 2, 4, 1), How::Direct, &[0], &[0])?;
-    answers(&rt, &trace, 1, (0, 7, 9, 1), How::Direct, &[1], &[1])?;
-    answers(&rt, &trace, 2, (0, 12, 14, 1), How::Direct, &[2], &[2])?;
-    answers(&rt, &trace, 3, (0, 17, 19, 1), How::Direct, &[3], &[3])
 }
 
 #[test]
@@ -154,13 +149,15 @@ fn torn_reads(rt: HostRuntime) -> Result<(), Fail> {
 
 #[test]
 fn workers_out_of_range(rt: HostRuntime) {
-    let none = run::<1, 0, 0>(rt.alloc(), 0, &[]);
-    same(&rt, &none.map(|_| ()), &Err(RunFault::Geometry));
-    let many = run::<1, 0, 0>(rt.alloc(), 33, &[]);
-    same(&rt, &many.map(|_| ()), &Err(RunFault::Geometry));
+    for (workers, fault) in [
+        (0, Some(RunFault::Geometry)),
+        (32, None),
+        (33, Some(RunFault::Geometry)),
+    ] {
+        let found = run::<1, 0, 0>(rt.alloc(), workers, &[]);
+        same(&rt, &(workers, found.err()), &(workers, fault));
+    }
     same(&rt, &RunFault::Geometry.number(), &13);
-    let most = run::<1, 0, 0>(rt.alloc(), 32, &[]);
-    same(&rt, &most.map(|_| ()), &Ok(()));
 }
 
 /// An answer of a scan of two workers in its first or second try.

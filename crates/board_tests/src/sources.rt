@@ -10,7 +10,6 @@ use ledger_core::{MAX_WORD, Op, OpFault};
 use register_rule::Board;
 use snapshot_scan::{Contended, PlainFault, PlainSource, Reader, Scanner, Snapshot, Source};
 use snapshot_update::Worker;
-use std::alloc::Global;
 use std::process::Abort;
 use std::test::Fail;
 
@@ -67,23 +66,21 @@ fn a_plain_source_refuses(rt: HostRuntime) -> Result<(), Fail> {
 /// A worker counts, and is found through a source, and then by the reader that it gives back.
 fn is_found(
     rt: &impl Abort,
-    alloc: Global,
     board: &Board<1, 1, 0, 0>,
-    mut worker: Worker<1, 1, 0, 0>,
+    worker: &mut Worker<1, 1, 0, 0>,
     reader: Reader<1, 1, 0, 0>,
-) -> Result<(), Fail>
-    requires own { IsWorkerOf board.now worker × IsReaderOf board.now reader }
+    out: &mut Snapshot<1, 1, 0, 0>,
+)
+    requires own { IsWorkerOf board.now worker.old × IsReaderOf board.now reader }
 {
-    let mut out = Snapshot::new(alloc)?;
     let mut scanner = Scanner::new(board, reader);
-    inc(rt, board, &mut worker, 0, 5);
-    same(rt, &scanner.scan(&mut out), &Ok(()));
+    inc(rt, board, worker, 0, 5);
+    same(rt, &scanner.scan(out), &Ok(()));
     let mut reader = scanner.into_reader();
-    inc(rt, board, &mut worker, 0, 6);
-    finds(rt, board, &mut reader, &mut out, &[2]);
+    inc(rt, board, worker, 0, 6);
+    finds(rt, reader.scan(board, out), out, &[2]);
     let mut scanner = Scanner::new(board, reader);
-    same(rt, &scans(&mut scanner, &mut out), &Ok((2, 11)));
-    Ok(())
+    same(rt, &scans(&mut scanner, out), &Ok((2, 11)));
 }
 
 #[test]
@@ -92,10 +89,11 @@ fn a_board_with_a_reader(rt: HostRuntime) -> Result<(), Fail> {
         board,
         mut workers,
         reader,
-        ..
+        mut out,
     } = make_team::<1, 1, 0, 0>(rt.alloc())?;
-    let worker = last_worker(&board, &mut workers)?;
-    is_found(&rt, rt.alloc(), &board, worker, reader)
+    let mut worker = last_worker(&board, &mut workers)?;
+    is_found(&rt, &board, &mut worker, reader, &mut out);
+    Ok(())
 }
 
 #[test]
