@@ -1,10 +1,10 @@
 //! Updates and scans of a board: of one worker, while nobody else publishes, and of four at once.
-ghost use Rattle.std.specs.Prelude.{All};
+ghost use Rattle.std.specs.Prelude.{◌<◌, All, IfOk};
 ghost use Rattle.std.proofs.Props.{props};
 ghost use Rattle.snapshot_scan.specs.Readers.{IsReaderOf};
 ghost use Rattle.snapshot_update.specs.Workers.{IsWorkerOf};
 
-use crate::measuring::{Floor, Lines, Rt, Times, four_updates, nanos_since, timed, timed_each};
+use crate::measuring::{Floor, Lines, Rt, four_updates, nanos_since, timed, timed_each};
 use crate::registries::{ID, bounds};
 use anyhow::{Context, Result, bail};
 use bucket_math::Bounds;
@@ -24,6 +24,13 @@ const FIRST: Counter = Counter {
 
 /// How many operations a list has.
 const LIST: usize = 100;
+
+/// The scans where workers have published, and how many have.
+const MOVES: [(&str, usize); 3] = [
+    ("scan_moved_1", 1),
+    ("scan_moved_4", 4),
+    ("scan_moved_16", 16),
+];
 
 /// What counts: a worker, whose board is known.
 pub trait Counts {
@@ -72,35 +79,17 @@ pub fn with_board<'a, const N: usize, const C: usize, const H: usize, const G: u
     Ok(made)
 }
 
-/// The scans of the last of these readers.
-pub fn scanner<'a, const N: usize, const C: usize, const H: usize, const G: usize>(
-    board: &'a Board<N, C, H, G>,
+/// The last of these readers.
+pub fn reader<const N: usize, const C: usize, const H: usize, const G: usize>(
+    board: &Board<N, C, H, G>,
     mut readers: Vec<Reader<N, C, H, G>>,
-) -> Result<Scanner<'a, N, C, H, G>>
+) -> Result<Reader<N, C, H, G>>
     requires { All (IsReaderOf board.now) readers.items }
+    ensures { IfOk result (IsReaderOf board.now) }
 {
     match readers.pop() {
-        Some(reader) => Ok(Scanner::new(board, reader)),
+        Some(reader) => Ok(reader),
         None => bail!("no reader"),
-    }
-}
-
-/// What is scanned: a source, whose snapshot is let go.
-pub trait Scans {
-    fn scan(&mut self) -> Option<()>;
-}
-
-/// A source with the snapshot that it scans to.
-#[derive(Drop)]
-pub struct Scanning<S, const N: usize, const C: usize, const H: usize, const G: usize> {
-    pub source: S,
-    pub out: Snapshot<N, C, H, G>,
-}
-
-impl<S: Source<N, C, H, G>, const N: usize, const C: usize, const H: usize, const G: usize> Scans
-    for Scanning<S, N, C, H, G> {
-    fn scan(&mut self) -> Option<()> {
-        self.source.scan(&mut self.out).ok()
     }
 }
 
@@ -145,96 +134,114 @@ pub fn four_count<W: Counts + Send + Drop>(
 }
 
 impl<R: Rt> Lines<'_, R> {
-    /// Updates of one worker. A buffer is two versions old when it is filled, so that where all counters are taken in turn, two words
-    /// of the row and two totals differ from it.
-    fn updates(&self, worker: &mut impl Counts, all: usize, counters: usize) -> Result<()> {
-        let alloc = self.rt.alloc();
-        let one = Floor::new(alloc, all, 3, 0)?;
-        let floor = |k| one.update(k);
-        self.measure("inc_one_counter", 10, floor, |_| worker.inc(&FIRST, 1))?;
-        let two = Floor::new(alloc, all, 5, 0)?;
-        let floor = |k| two.update(k);
+    /// Updates of one of so many workers, beside a floor that stores so many words.
+    fn update<F: FnMut(u64) -> Option<()>>(
+        &self,
+        name: &str,
+        part: u64,
+        all: usize,
+        words: usize,
+        operation: F,
+    ) -> Result<()>
+        requires part { 0 < part }
+        requires operation { (state : F) (x : _) → F.pre state x }
+    {
+        let floor = Floor::new(self.rt.alloc(), all, words, 0)?;
+        self.measure(name, part, |k| floor.update(k), operation)
+    }
+
+    /// Increments by one worker. A buffer is two versions old when it is filled, so that where all counters are taken in turn, two
+    /// words of the row and two totals differ from it.
+    fn increments(&self, worker: &mut impl Counts, all: usize, counters: usize) -> Result<()> {
+        self.update("inc_one_counter", 10, all, 3, |_| worker.inc(&FIRST, 1))?;
         let mut next = FIRST;
-        self.measure("inc_in_turn", 10, floor, |_| {
+        self.update("inc_in_turn", 10, all, 5, |_| {
             worker.inc(&next, 1)?;
             next.slot = next.slot.wrapping_add(1);
             if next.slot >= counters {
                 next.slot = 0;
             }
             Some(())
-        })?;
-        Ok(())
+        })
     }
 
     /// Values of a histogram, and lists, of which a word and a total of each counter differ.
     fn lists(&self, worker: &mut impl Counts, all: usize, counters: usize) -> Result<()> {
-        let alloc = self.rt.alloc();
-        let bounds = Bounds::from_slice(&bounds(alloc, 10)?)?;
-        let (registry, slot) = (ID, 0);
         let hist = Histogram {
-            registry,
-            slot,
-            bounds,
+            registry: ID,
+            slot: 0,
+            bounds: Bounds::from_slice(&bounds(self.rt.alloc(), 10)?)?,
         };
-        let three = Floor::new(alloc, all, 7, 0)?;
-        let floor = |k| three.update(k);
-        self.measure("observe", 10, floor, |_| worker.observe(&hist, 7))?;
-        let ops = list(alloc, counters)?;
-        let many = Floor::new(alloc, all, 2 * counters.min(LIST) + 1, 0)?;
-        let floor = |k| many.update(k);
-        self.measure("apply_100", 100, floor, |_| worker.apply(&ops))
+        self.update("observe", 10, all, 7, |_| worker.observe(&hist, 7))?;
+        let ops = list(self.rt.alloc(), counters)?;
+        let words = 2 * counters.min(LIST) + 1;
+        self.update("apply_100", 100, all, words, |_| worker.apply(&ops))
     }
 
     /// Scans of a board of rows of so many words: where nobody publishes, and where the first workers have published before each.
-    fn scans(
+    fn scans<S: Source<N, C, H, G>, const N: usize, const C: usize, const H: usize, const G: usize>(
         &self,
         workers: &mut [impl Counts],
-        scans: &mut impl Scans,
+        source: &mut S,
         words: usize,
     ) -> Result<()> {
-        let (rt, all) = (self.rt, workers.len());
-        let copied = words.saturating_add(all);
-        let mut floor = Floor::new(rt.alloc(), all, 0, copied)?;
-        self.measure("scan_quiet", 10, |_| floor.scan(), |_| scans.scan())?;
-        let moves = [
-            ("scan_moved_1", 1),
-            ("scan_moved_4", 4),
-            ("scan_moved_16", 16),
-        ];
-        for (name, moved) in moves {
-            let mut floor = Floor::new(rt.alloc(), all, words.saturating_mul(moved), copied)?;
-            if let Some(moving) = workers.get_mut(..moved) {
-                self.batches(name, 1_000, |rounds| {
-                    let floor = timed(rt, rounds, &mut |_| floor.scan())?;
-                    let make = &mut |_| publish(moving);
-                    let taken = timed_each(rt, rounds, make, &mut |()| scans.scan())?;
-                    Ok(Times(taken, floor, None))
-                })?;
-            }
+        let (rt, copied) = (self.rt, words.saturating_add(N));
+        let out = &mut Snapshot::new(rt.alloc())?;
+        let floor = &mut Floor::new(rt.alloc(), N, 0, copied)?;
+        self.measure(
+            "scan_quiet",
+            10,
+            |_| floor.scan(),
+            |_| source.scan(out).ok(),
+        )?;
+        for (name, moved) in MOVES {
+            let Some(moving) = workers.get_mut(..moved) else {
+                break;
+            };
+            let floor = &mut Floor::new(rt.alloc(), N, words.saturating_mul(moved), copied)?;
+            let least = |rounds| timed(rt, rounds, &mut |_| floor.scan());
+            self.batches(name, 1_000, least, |rounds| {
+                let make = &mut |_| publish(moving);
+                timed_each(rt, rounds, make, &mut |()| source.scan(out).ok())
+            })?;
         }
         Ok(())
     }
 }
 
 impl<R: Rt + Threads + Sync> Lines<'_, R> {
-    /// A board of rows of so many words. `busy_4` has one batch: a worker whose scan meets numbers that move reads rows and tries
-    /// again.
+    /// Updates and scans of rows of so many words by these. `busy_4` has one batch: a worker whose scan meets numbers that move
+    /// reads rows and tries again.
+    fn crew<const N: usize, const C: usize, const H: usize, const G: usize>(
+        &self,
+        mut workers: Vec<Counting<'_, N, C, H, G>>,
+        source: &mut Scanner<'_, N, C, H, G>,
+        words: usize,
+    ) -> Result<()> {
+        let first = workers.first_mut().context("no worker")?;
+        self.increments(first, N, C)?;
+        self.lists(first, N, C)?;
+        self.scans(&mut workers, source, words)?;
+        let rounds = self.one_in(100);
+        let floor = four_updates(self.rt, N, rounds)?;
+        self.line(
+            "busy_4",
+            rounds,
+            four_count(self.rt, workers, rounds)?,
+            floor,
+            None,
+        )
+    }
+
+    /// A new board of rows of so many words.
     pub fn board<const N: usize, const C: usize, const H: usize, const G: usize>(
         &self,
         words: usize,
     ) -> Result<()> {
-        let rt = self.rt;
-        let crew = Crew::<N, C, H, G>::new(rt.alloc(), ID, 1)?;
+        let crew = Crew::<N, C, H, G>::new(self.rt.alloc(), ID, 1)?;
         let (board, workers, readers) = (crew.board, crew.workers, crew.readers);
-        let source = scanner(&board, readers)?;
-        let out = Snapshot::new(rt.alloc())?;
-        let mut workers = with_board(rt.alloc(), &board, workers)?;
-        self.updates(workers.first_mut().context("no worker")?, N, C)?;
-        self.lists(workers.first_mut().context("no worker")?, N, C)?;
-        self.scans(&mut workers, &mut Scanning { source, out }, words)?;
-        let rounds = self.one_in(100);
-        let floor = four_updates(rt, N, rounds)?;
-        let taken = four_count(rt, workers, rounds)?;
-        self.line("busy_4", rounds, Times(taken, floor, None))
+        let workers = with_board(self.rt.alloc(), &board, workers)?;
+        let mut source = Scanner::new(&board, reader(&board, readers)?);
+        self.crew(workers, &mut source, words)
     }
 }

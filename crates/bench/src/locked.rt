@@ -1,9 +1,8 @@
 //! A registry behind its lock, of which two threads ask at once, workers that count while it scrapes, and a server for a load tool.
-ghost use Rattle.std.specs.Prelude.{All};
 ghost use Rattle.snapshot_scan.specs.Readers.{IsReaderOf};
 
-use crate::boards::{Counting, four_count, with_board};
-use crate::measuring::{Lines, Rt, Times, nanos_since};
+use crate::boards::{Counting, four_count, reader, with_board};
+use crate::measuring::{Lines, Rt, nanos_since};
 use crate::registries::{ID, Registers, Service, WINDOW, count_by, prepare, values};
 use anyhow::{Context, Result, bail};
 use expo_text::{Scrape, text_len};
@@ -16,21 +15,15 @@ use scrape_server::{FromRegistry, serve_stream};
 use snapshot_scan::Reader;
 use snapshot_update::Crew;
 use std::alloc::Global;
-use std::net::TcpListener;
+use std::net::{Ipv4Addr, Net, TcpListener, TcpStream};
 use std::sync::Wait;
 use std::sync::atomic::{AtomicBool, Ordering};
 use std::thread::{Threads, join, map_indices, yield_now};
 use std::time::{Clock, Instant};
 
-/// A registry behind its lock, and the runtime that waits for it.
-#[derive(Drop)]
-pub struct Behind<'a, 'b, R, const N: usize, const C: usize, const H: usize>(
-    &'a R,
-    &'a Registry<'b, N, C, H, 0>,
-);
-
+// A registry behind its lock, after the runtime that waits for it.
 impl<R: Wait, const N: usize, const C: usize, const H: usize> Registers
-    for Behind<'_, '_, R, N, C, H> {
+    for (&R, &Registry<'_, N, C, H, 0>) {
     fn add(&mut self, desc: Desc) -> Option<FamilyId> {
         self.1.register(self.0, desc).ok()
     }
@@ -44,27 +37,18 @@ impl<R: Wait, const N: usize, const C: usize, const H: usize> Registers
     }
 }
 
-/// A registry over the scans of the last of these readers of a board.
-pub fn with_reader<'a, const N: usize, const C: usize, const H: usize>(
-    alloc: Global,
-    board: &'a Board<N, C, H, 0>,
-    mut readers: Vec<Reader<N, C, H, 0>>,
-) -> Result<Registry<'a, N, C, H, 0>>
-    requires { All (IsReaderOf board.now) readers.items }
-{
-    match readers.pop() {
-        Some(reader) => Ok(Registry::new(alloc, board, reader, WINDOW).map_err(|no| no.fault)?),
-        None => bail!("no reader"),
-    }
-}
-
-/// Registers a service with a registry, and makes as many scrapes as it keeps.
-fn prepare_behind<const N: usize, const C: usize, const H: usize>(
+/// A registry of a service over the scans of a reader of a board, which keeps as many scrapes as its window is.
+fn prepared<'a, const N: usize, const C: usize, const H: usize>(
     rt: &(impl Wait + AllocGlobal),
-    registry: &Registry<'_, N, C, H, 0>,
+    board: &'a Board<N, C, H, 0>,
+    reader: Reader<N, C, H, 0>,
     service: Service,
-) -> Result<()> {
-    prepare(rt.alloc(), &mut Behind(rt, registry), service, WINDOW)
+) -> Result<Registry<'a, N, C, H, 0>>
+    requires { IsReaderOf board.now reader }
+{
+    let made = Registry::new(rt.alloc(), board, reader, WINDOW).map_err(|no| no.fault)?;
+    prepare(rt.alloc(), &mut (rt, &made), service, WINDOW)?;
+    Ok(made)
 }
 
 /// The nanoseconds of so many scrapes, which are let go.
@@ -78,23 +62,6 @@ fn scrapes<const N: usize, const C: usize, const H: usize>(
         let _scrape = registry.scrape(rt)?;
     }
     nanos_since(rt, start)
-}
-
-/// What two threads tell each other: the one beside has been answered once, or has failed; the measured one has ended.
-#[derive(Drop)]
-struct Signal {
-    begun: AtomicBool,
-    ended: AtomicBool,
-}
-
-impl Signal {
-    /// Neither of the two.
-    fn new() -> Signal {
-        Signal {
-            begun: AtomicBool::new(false),
-            ended: AtomicBool::new(false),
-        }
-    }
 }
 
 /// Waits until the flag stands.
@@ -141,101 +108,66 @@ fn ask<const N: usize, const C: usize, const H: usize>(
     }
 }
 
-impl<R: Wait, const N: usize, const C: usize, const H: usize> Behind<'_, '_, R, N, C, H> {
-    /// Answers so many connections.
-    fn answer_all(&self, listener: &TcpListener, replies: u64) -> Result<()> {
-        let (rt, registry) = (self.0, self.1);
-        let mut scrapes = FromRegistry { rt, registry };
-        for _reply in 0..replies {
-            let (stream, _peer) = listener.accept()?;
-            // What goes wrong with one connection does not end the service.
-            let _ = serve_stream(&stream, &mut scrapes);
-        }
-        Ok(())
-    }
-}
-
-/// The thread beside: asks until the measured thread has ended. That one waits no longer where this one has failed.
+/// The thread beside: it asks until the measured thread has ended, and tells that one once it has been answered or has failed.
 fn ask_on<const N: usize, const C: usize, const H: usize>(
     rt: &(impl Wait + AllocGlobal),
     registry: &Registry<'_, N, C, H, 0>,
     beside: &Beside,
-    signal: &Signal,
+    (begun, ended): (&AtomicBool, &AtomicBool),
 ) -> Result<()> {
     for _ in rt.forever() {
         let asked = ask(rt, registry, beside);
-        signal.begun.store(true, Ordering::SeqCst);
+        begun.store(true, Ordering::SeqCst);
         asked?;
-        if signal.ended.load(Ordering::SeqCst) {
+        if ended.load(Ordering::SeqCst) {
             break;
         }
     }
     Ok(())
 }
 
-/// [`scrapes`], once another thread has asked, which goes on in a loop meanwhile.
-fn asked_scrapes<const N: usize, const C: usize, const H: usize>(
+/// [`four_count`] of these workers, or [`scrapes`] where there are none, once another thread has asked, which goes on in a loop
+/// meanwhile.
+fn asked<const N: usize, const C: usize, const H: usize>(
     rt: &(impl Threads + Wait + Clock + AllocGlobal + Sync),
     registry: &Registry<'_, N, C, H, 0>,
     beside: &Beside,
+    workers: Option<Vec<Counting<'_, N, C, H, 0>>>,
     rounds: u64,
 ) -> Result<u64> {
-    let made = Signal::new();
-    let signal = &made;
+    let (begun, ended) = &(AtomicBool::new(false), AtomicBool::new(false));
+    let measured = || {
+        await_flag(rt, begun);
+        let taken = match workers {
+            Some(workers) => four_count(rt, workers, rounds),
+            None => scrapes(rt, registry, rounds),
+        };
+        ended.store(true, Ordering::SeqCst);
+        taken
+    };
     let (taken, asked) = join(
         rt,
-        || {
-            await_flag(rt, &signal.begun);
-            let taken = scrapes(rt, registry, rounds);
-            signal.ended.store(true, Ordering::SeqCst);
-            taken
-        },
-        || ask_on(rt, registry, beside, signal),
+        measured,
+        || ask_on(rt, registry, beside, (begun, ended)),
     );
     asked?;
     taken
 }
 
-/// [`four_count`], once another thread has scraped, which goes on in a loop meanwhile.
-fn scraped_counts<const N: usize, const C: usize, const H: usize>(
-    rt: &(impl Threads + Wait + Clock + AllocGlobal + Sync),
-    registry: &Registry<'_, N, C, H, 0>,
-    workers: Vec<Counting<'_, N, C, H, 0>>,
-    rounds: u64,
-) -> Result<u64> {
-    let made = Signal::new();
-    let signal = &made;
-    let (taken, asked) = join(
-        rt,
-        || {
-            await_flag(rt, &signal.begun);
-            let taken = four_count(rt, workers, rounds);
-            signal.ended.store(true, Ordering::SeqCst);
-            taken
-        },
-        || ask_on(rt, registry, &Beside::Scrape, signal),
-    );
-    asked?;
-    taken
-}
-
-/// The nanoseconds until four workers of a new board have counted at once. One more thread scrapes if `is_scraped` says so.
+/// The nanoseconds until four workers of a new board have counted at once. One more thread scrapes such a service if there is one.
 fn counts<const N: usize, const C: usize, const H: usize>(
     rt: &(impl Rt + Threads + Wait + Sync),
-    service: Service,
-    is_scraped: bool,
+    scraped: Option<Service>,
     rounds: u64,
 ) -> Result<u64> {
-    let alloc = rt.alloc();
-    let crew = Crew::<N, C, H, 0>::new(alloc, ID, 1)?;
+    let crew = Crew::<N, C, H, 0>::new(rt.alloc(), ID, 1)?;
     let (board, workers, readers) = (crew.board, crew.workers, crew.readers);
-    let workers = with_board(alloc, &board, workers)?;
-    if !is_scraped {
+    let workers = with_board(rt.alloc(), &board, workers)?;
+    let Some(service) = scraped else {
         return four_count(rt, workers, rounds);
-    }
-    let registry = with_reader(alloc, &board, readers)?;
-    prepare_behind(rt, &registry, service)?;
-    scraped_counts(rt, &registry, workers, rounds)
+    };
+    let registry = &prepared(rt, &board, reader(&board, readers)?, service)?;
+    asked(rt, registry, &Beside::Scrape, Some(workers), rounds)
 }
 
 impl<R: Rt + Threads + Wait + Sync> Lines<'_, R> {
@@ -253,57 +185,86 @@ impl<R: Rt + Threads + Wait + Sync> Lines<'_, R> {
             ("scrape_behind_child", &child),
             ("scrape_behind_register", &Beside::Clash(service)),
         ] {
-            self.batches(name, 1_000, |n| {
-                let floor = scrapes(rt, registry, n)?;
-                let taken = asked_scrapes(rt, registry, beside, n)?;
-                Ok(Times(taken, floor, None))
-            })?;
+            let alone = |rounds| scrapes(rt, registry, rounds);
+            let batch = |rounds| asked(rt, registry, beside, None, rounds);
+            self.batches(name, 1_000, alone, batch)?;
         }
         Ok(())
     }
 
-    /// A registry behind its lock, and workers that count while it scrapes or does not.
+    /// Four workers that count, while another thread scrapes or does not, and a registry behind its lock.
     pub fn locked<const N: usize, const C: usize, const H: usize>(
         &self,
         service: Service,
     ) -> Result<()> {
-        self.batches("busy_4_scraped", 10, |rounds| {
-            let floor = counts::<N, C, H>(self.rt, service, false, rounds)?;
-            Ok(Times(
-                counts::<N, C, H>(self.rt, service, true, rounds)?,
-                floor,
-                None,
-            ))
-        })?;
-        let alloc = self.rt.alloc();
-        let crew = Crew::<N, C, H, 0>::new(alloc, ID, 1)?;
+        let rt = self.rt;
+        let alone = |rounds| counts::<N, C, H>(rt, None, rounds);
+        let scraped = |rounds| counts::<N, C, H>(rt, Some(service), rounds);
+        self.batches("busy_4_scraped", 10, alone, scraped)?;
+        let crew = Crew::<N, C, H, 0>::new(rt.alloc(), ID, 1)?;
         let (board, workers, readers) = (crew.board, crew.workers, crew.readers);
-        count_by(alloc, &board, workers, service)?;
-        let registry = with_reader(alloc, &board, readers)?;
-        prepare_behind(self.rt, &registry, service)?;
-        self.behind(&registry, service)
+        count_by(
+            rt.alloc(),
+            &mut with_board(rt.alloc(), &board, workers)?,
+            service,
+        )?;
+        let registry = &prepared(rt, &board, reader(&board, readers)?, service)?;
+        self.behind(registry, service)
     }
 }
 
-/// Answers so many connections by each of four threads from a registry of this service over a new board. At the end it
-/// prints how many bytes the text of a scrape has.
-pub fn serve<const C: usize, const H: usize>(
-    rt: &(impl Rt + Threads + Wait + Sync),
+/// Answers so many connections.
+fn answer<const N: usize, const C: usize, const H: usize>(
+    mut scrapes: FromRegistry<'_, '_, impl Wait, N, C, H, 0>,
     listener: &TcpListener,
+    replies: u64,
+) -> Result<()> {
+    for _reply in 0..replies {
+        let (stream, _peer) = listener.accept()?;
+        // What goes wrong with one connection does not end the service.
+        let _ = serve_stream(&stream, &mut scrapes);
+    }
+    Ok(())
+}
+
+/// Answers so many connections to a port of 127.0.0.1 by each of four threads, from a registry of this service over a new board. At
+/// the start it tells which port it is, and at the end it prints how many bytes the text of a scrape has.
+pub fn serve<const C: usize, const H: usize>(
+    rt: &(impl Rt
+        + Threads
+        + Wait
+        + Sync
+        + Eprint
+        + Net<Listener = TcpListener, Stream = TcpStream>),
+    port: u16,
     replies: u64,
     service: Service,
 ) -> Result<()> {
-    let alloc = rt.alloc();
-    let crew = Crew::<4, C, H, 0>::new(alloc, ID, 1)?;
+    let listener = &TcpListener::bind(rt, (Ipv4Addr::LOCALHOST, port))?;
+    eprintln!(rt; "listening {}", listener.local_addr()?.port())?;
+    let crew = Crew::<4, C, H, 0>::new(rt.alloc(), ID, 1)?;
     let (board, workers, readers) = (crew.board, crew.workers, crew.readers);
-    let made = with_reader(alloc, &board, readers)?;
-    let registry = &made;
-    service.register(alloc, &mut Behind(rt, registry))?;
-    count_by(alloc, &board, workers, service)?;
-    let answer = &|_| Behind(rt, registry).answer_all(listener, replies);
-    for answered in map_indices(rt, alloc, 4, answer)? {
+    count_by(
+        rt.alloc(),
+        &mut with_board(rt.alloc(), &board, workers)?,
+        service,
+    )?;
+    let registry = &prepared(rt, &board, reader(&board, readers)?, service)?;
+    answer_four(rt, registry, listener, replies)
+}
+
+/// Answers so many connections by each of four threads, and then prints how many bytes the text of a scrape has.
+fn answer_four<const N: usize, const C: usize, const H: usize>(
+    rt: &(impl Rt + Threads + Wait + Sync),
+    registry: &Registry<'_, N, C, H, 0>,
+    listener: &TcpListener,
+    replies: u64,
+) -> Result<()> {
+    let source = FromRegistry { rt, registry };
+    let answers = map_indices(rt, rt.alloc(), 4, &|_| answer(source, listener, replies))?;
+    for answered in answers {
         answered?;
     }
-    println!(rt; "{} bytes", text_len(&made.scrape(rt)?))?;
+    println!(rt; "{} bytes", text_len(&registry.scrape(rt)?))?;
     Ok(())
 }

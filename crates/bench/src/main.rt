@@ -28,7 +28,6 @@ use locked::serve;
 use measuring::{Lines, Rt};
 use registries::{LARGE, SMALL};
 use std::env;
-use std::net::{Ipv4Addr, Net, TcpListener, TcpStream};
 use std::process::ExitCode;
 use std::rt::Env;
 use std::sync::Wait;
@@ -40,65 +39,67 @@ const USAGE: &str =
 /// The most rounds that can be asked for.
 const MOST: u64 = 1_000_000_000;
 
-/// Measures three geometries, the texts of two scrapes, registries, and a registry behind its lock.
+/// Measures three geometries, and the texts of two scrapes.
+fn measure_boards<R: Rt + Threads + Sync>(lines: &mut Lines<'_, R>) -> Result<()> {
+    lines.on("4,64,8,0").board::<4, 64, 8, 0>(280)?;
+    lines.on("16,256,32,0").board::<16, 256, 32, 0>(1_120)?;
+    lines.on("32,256,32,64").board::<32, 256, 32, 64>(1_248)?;
+    lines.on("64,8").texts_of::<64, 8>(SMALL)?;
+    lines.on("256,32").texts_of::<256, 32>(LARGE)
+}
+
+/// Measures registries.
+fn measure_registries(lines: &mut Lines<'_, impl Rt>) -> Result<()> {
+    lines.on("1,64,8,0").alone::<64, 8>(SMALL)?;
+    lines.on("4,64,8,0").shared::<4, 64, 8>(SMALL)?;
+    lines.on("1,256,32,0").alone::<256, 32>(LARGE)?;
+    lines.on("16,256,32,0").shared::<16, 256, 32>(LARGE)?;
+    lines.on("1,64,8,0").windows::<64, 8>(SMALL)?;
+    lines.on("1,256,0,0").makings()
+}
+
+/// Measures boards, texts, registries, and a registry behind its lock.
 fn measure_all(rt: &(impl Rt + Threads + Wait + Sync), rounds: u64) -> Result<()> {
-    let on = |of| Lines { rt, rounds, of };
-    on("4,64,8,0").board::<4, 64, 8, 0>(280)?;
-    on("16,256,32,0").board::<16, 256, 32, 0>(1_120)?;
-    on("32,256,32,64").board::<32, 256, 32, 64>(1_248)?;
-    on("64,8").texts_of::<64, 8>(SMALL)?;
-    on("256,32").texts_of::<256, 32>(LARGE)?;
-    on("1,64,8,0").alone::<64, 8>(SMALL)?;
-    on("4,64,8,0").shared::<4, 64, 8>(SMALL)?;
-    on("1,256,32,0").alone::<256, 32>(LARGE)?;
-    on("16,256,32,0").shared::<16, 256, 32>(LARGE)?;
-    on("1,64,8,0").windows::<64, 8>(SMALL)?;
-    on("1,256,0,0").makings()?;
-    on("4,64,8,0").locked::<4, 64, 8>(SMALL)?;
+    let mut lines = Lines { rt, rounds, of: "" };
+    measure_boards(&mut lines)?;
+    measure_registries(&mut lines)?;
+    lines.on("4,64,8,0").locked::<4, 64, 8>(SMALL)?;
     if rounds == 0 {
         println!(rt; "measured 3 geometries, 2 texts and 2 registries")?;
     }
     Ok(())
 }
 
-/// Listens at a port of 127.0.0.1, and tells which one it is.
-fn listen(
-    rt: &(impl Net<Listener = TcpListener, Stream = TcpStream> + Eprint),
-    port: u16,
-) -> Result<TcpListener> {
-    let listener = TcpListener::bind(rt, (Ipv4Addr::LOCALHOST, port))?;
-    eprintln!(rt; "listening {}", listener.local_addr()?.port())?;
-    Ok(listener)
-}
-
 /// Measurements of so many rounds; or so many replies by each thread, at a port, of a small service or else of a large one.
-fn asked(rt: &(impl Env + AllocGlobal)) -> Option<(u64, Option<(u16, bool)>)> {
-    let mut words = env::args(rt).ok()?;
-    let _program = words.next();
-    let first = words.next()?;
-    let Some(port) = words.next() else {
-        let rounds = first.as_str().parse::<u64>().ok()?;
-        return (rounds <= MOST).then_some((rounds, None));
-    };
-    let port = port.as_str().parse::<u16>().ok()?;
-    let replies = words.next()?.as_str().parse::<u64>().ok()?;
-    let size = words.next()?;
-    match (first.as_str(), size.as_str(), words.next()) {
-        ("serve", "small", None) => Some((replies, Some((port, true)))),
-        ("serve", "large", None) => Some((replies, Some((port, false)))),
+fn read(words: &[String]) -> Option<(u64, Option<(u16, bool)>)> {
+    match words {
+        [_, rounds] => {
+            let rounds = rounds.as_str().parse().ok()?;
+            (rounds <= MOST).then_some((rounds, None))
+        }
+        [_, serve, port, replies, size] if serve.as_str() == "serve" => {
+            let (port, replies) = (port.as_str().parse().ok()?, replies.as_str().parse().ok()?);
+            match size.as_str() {
+                "small" => Some((replies, Some((port, true)))),
+                "large" => Some((replies, Some((port, false)))),
+                _ => None,
+            }
+        }
         _ => None,
     }
+}
+
+/// [`read`] of the arguments.
+fn asked(rt: &(impl Env + AllocGlobal)) -> Option<(u64, Option<(u16, bool)>)> {
+    let words = env::args(rt).ok()?.collect::<Vec<String>>(rt.alloc()).ok()?;
+    read(&words)
 }
 
 fn main(rt: HostRuntime) -> ExitCode {
     let done = match asked(&rt) {
         Some((rounds, None)) => measure_all(&rt, rounds),
-        Some((replies, Some((port, true)))) => {
-            listen(&rt, port).and_then(|at| serve::<64, 8>(&rt, &at, replies, SMALL))
-        }
-        Some((replies, Some((port, false)))) => {
-            listen(&rt, port).and_then(|at| serve::<256, 32>(&rt, &at, replies, LARGE))
-        }
+        Some((replies, Some((port, true)))) => serve::<64, 8>(&rt, port, replies, SMALL),
+        Some((replies, Some((port, false)))) => serve::<256, 32>(&rt, port, replies, LARGE),
         None => {
             let _ = eprintln!(rt; "{USAGE}");
             return ExitCode::from(2);

@@ -6,7 +6,7 @@
 ghost use Rattle.std.specs.Prelude.{◌≡◌, ◌+◌, ◌*◌, ◌/◌, ◌<◌, length, min, max};
 
 use anyhow::{Context, Result, bail};
-use std::alloc::{AllocError, Global};
+use std::alloc::Global;
 use std::fmt;
 use std::fmt::{Display, Formatter, Write};
 use std::sync::atomic::{AtomicU64, Ordering};
@@ -70,10 +70,6 @@ pub fn timed_each<T: Drop, U: Drop, M: FnMut(u64) -> Option<T>, F: FnMut(T) -> O
     Ok(taken.saturating_sub(nothing))
 }
 
-/// The nanoseconds of a batch of operations, of its floor, and of the second floor that texts alone have.
-#[derive(Clone, Copy)]
-pub struct Times(pub u64, pub u64, pub Option<u64>);
-
 /// A number in tenths. It is printed with one decimal.
 #[derive(Clone, Copy)]
 struct Tenths(u64);
@@ -102,7 +98,13 @@ pub struct Lines<'a, R> {
     pub of: &'a str,
 }
 
-impl<R: Rt> Lines<'_, R> {
+impl<'a, R: Rt> Lines<'a, R> {
+    /// From here on the second column is this.
+    pub fn on(&mut self, of: &'a str) -> &Self {
+        self.of = of;
+        self
+    }
+
     /// One in so many rounds, and at least one.
     pub fn one_in(&self, part: u64) -> u64
         requires { 0 < part }
@@ -128,78 +130,67 @@ impl<R: Rt> Lines<'_, R> {
             least = least.min(timed(self.rt, rounds, &mut floor)?);
             taken = taken.min(timed(self.rt, rounds, &mut operation)?);
         }
-        self.line(name, rounds, Times(taken, least, None))
+        self.line(name, rounds, taken, least, None)
     }
 
-    /// Measures ten batches of as many rounds as `part` says, and prints the line.
-    pub fn batches<F: FnMut(u64) -> Result<Times>>(
+    /// Measures ten batches of as many rounds as `part` says by their nanoseconds, and as many of the floor, and prints the line.
+    pub fn batches<O: FnMut(u64) -> Result<u64>, F: FnMut(u64) -> Result<u64>>(
         &self,
         name: &str,
         part: u64,
+        mut floor: O,
         mut batch: F,
     ) -> Result<()>
         requires part { 0 < part }
+        requires floor { O.IsAlwaysCallable floor }
         requires batch { F.IsAlwaysCallable batch }
     {
         let rounds = self.one_in(part);
-        let Times(mut taken, mut floor, mut second) = batch(rounds)?;
-        for _batch in 1..10 {
-            let next = batch(rounds)?;
-            taken = taken.min(next.0);
-            floor = floor.min(next.1);
-            second = second.min(next.2);
+        let (mut least, mut taken) = (u64::MAX, u64::MAX);
+        for _batch in 0..10 {
+            least = least.min(floor(rounds)?);
+            taken = taken.min(batch(rounds)?);
         }
-        self.line(name, rounds, Times(taken, floor, second))
+        self.line(name, rounds, taken, least, None)
     }
 
-    /// Prints the line of a measurement.
-    pub fn line(&self, name: &str, rounds: u64, least: Times) -> Result<()> {
-        let Times(taken, floor, second) = least;
-        let (of, each, ratio) = (self.of, in_tenths(taken, rounds), in_tenths(taken, floor));
-        match second.map(|second| in_tenths(taken, second)) {
+    /// Prints the line of a measurement, whose floor is `least`. A text has a second floor.
+    pub fn line(
+        &self,
+        name: &str,
+        rounds: u64,
+        taken: u64,
+        least: u64,
+        second: Option<u64>,
+    ) -> Result<()> {
+        let (of, each, ratio) = (self.of, in_tenths(taken, rounds), in_tenths(taken, least));
+        match second {
             _ if self.rounds == 0 => {}
             None => println!(self.rt; "{name} {of} {each} {ratio}")?,
-            Some(second) => println!(self.rt; "{name} {of} {each} {ratio} {second}")?,
+            Some(second) => {
+                println!(self.rt; "{name} {of} {each} {ratio} {}", in_tenths(taken, second))?
+            }
         }
         Ok(())
     }
 }
 
-/// Two words of 8 bytes, which nobody reads; and so on.
-type Two = (u64, u64);
-
-type Four = (Two, Two);
-
-type Eight = (Four, Four);
-
 /// A number 128 bytes from the next one, as the numbers of a board's segments stand in cache lines of their own.
 #[derive(Drop)]
 struct Number {
     word: AtomicU64,
-    rest: (u64, Two, Four, Eight),
+    rest: [u64; 15],
 }
 
-/// So many numbers, all 0.
-fn numbers(alloc: Global, count: usize) -> Result<Vec<Number>, AllocError> {
-    let two = (0, 0);
-    let four = (two, two);
-    let mut made = Vec::new(alloc);
-    for _number in 0..count {
-        made.push(Number {
-            word: AtomicU64::new(0),
-            rest: (0, two, four, (four, four)),
-        })?;
+impl Number {
+    /// 0.
+    fn new() -> Number {
+        let word = AtomicU64::new(0);
+        Number {
+            word,
+            rest: [0; 15],
+        }
     }
-    Ok(made)
-}
-
-/// So many words side by side, all 0.
-fn words(alloc: Global, count: usize) -> Result<Vec<AtomicU64>, AllocError> {
-    let mut made = Vec::new(alloc);
-    for _word in 0..count {
-        made.push(AtomicU64::new(0))?;
-    }
-    Ok(made)
 }
 
 /// Loads each number once. It gives their wrapping sum.
@@ -225,8 +216,8 @@ impl Floor {
     /// The numbers of so many workers, and so many words. So many words of plain memory are copied besides.
     pub fn new(alloc: Global, workers: usize, count: usize, copied: usize) -> Result<Floor> {
         Ok(Floor {
-            numbers: numbers(alloc, workers)?,
-            words: words(alloc, count)?,
+            numbers: (0..workers).map(|_| Number::new()).collect(alloc)?,
+            words: (0..count).map(|_| AtomicU64::new(0)).collect(alloc)?,
             from: vec![in alloc; 1u64; copied]?,
             to: vec![in alloc; 0u64; copied]?,
         })

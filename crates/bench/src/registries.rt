@@ -5,8 +5,8 @@ ghost use Rattle.segment_layout.specs.Layout.{IsGeometry};
 ghost use Rattle.snapshot_scan.specs.Readers.{IsReaderOf};
 ghost use Rattle.snapshot_update.specs.Workers.{IsWorkerOf};
 
-use crate::boards::{Counts, Scanning, Scans, scanner, with_board};
-use crate::measuring::{Lines, Rt, Times, keep, timed_each};
+use crate::boards::{Counts, reader, with_board};
+use crate::measuring::{Lines, Rt, keep, timed_each};
 use anyhow::{Context, Result};
 use expo_text::{Scrape, render};
 use ledger_core::Op;
@@ -205,9 +205,6 @@ impl<S: Source<N, C, H, 0>, const N: usize, const C: usize, const H: usize> Regi
 /// A source of one thread.
 type Plain<const C: usize, const H: usize> = PlainSource<1, C, H, 0>;
 
-/// A registry over a source of one thread.
-type Alone<const C: usize, const H: usize> = RegistryState<Plain<C, H>, 1, C, H, 0>;
-
 /// A source of one thread, in which all of a service was counted.
 fn plain<const C: usize, const H: usize>(alloc: Global, service: Service) -> Result<Plain<C, H>>
     requires { IsGeometry 1 C H 0 }
@@ -232,58 +229,66 @@ fn full<S: Source<N, C, H, 0> + Drop, const N: usize, const C: usize, const H: u
     Ok(registry)
 }
 
-/// A registry over a source of one thread, in which all of a service was counted.
-fn alone<const C: usize, const H: usize>(
-    alloc: Global,
-    service: Service,
-    window: usize,
-) -> Result<Alone<C, H>>
-    requires { IsGeometry 1 C H 0 }
-{
-    full(alloc, plain::<C, H>(alloc, service)?, service, window)
-}
-
-/// Counts all of a service by the last of these workers.
-pub fn count_by<const N: usize, const C: usize, const H: usize>(
-    alloc: Global,
-    board: &Board<N, C, H, 0>,
-    workers: Vec<Worker<N, C, H, 0>>,
-    service: Service,
-) -> Result<()>
-    requires { All (IsWorkerOf board.now) workers.items }
-{
-    let mut workers = with_board(alloc, board, workers)?;
+/// Counts all of a service by the first of these workers.
+pub fn count_by(alloc: Global, workers: &mut [impl Counts], service: Service) -> Result<()> {
     let worker = workers.first_mut().context("no worker")?;
     service.count(alloc, |ops| worker.apply(ops))
 }
 
-/// A registry of 256 counters with so many families.
-fn with_families(alloc: Global, count: u64) -> Result<Alone<256, 0>> {
-    let made = RegistryState::new(alloc, PlainSource::new(alloc)?, ID, 1);
-    let mut registry = made.map_err(|not_made| not_made.fault)?;
-    for family in 0..count {
-        let added = registry.add(counter_desc(alloc, family)?);
-        let _family = added.context("no family")?;
-    }
-    Ok(registry)
+/// The scans of a board's reader, after its first worker has counted all of a service.
+fn counted<'a, const N: usize, const C: usize, const H: usize>(
+    alloc: Global,
+    board: &'a Board<N, C, H, 0>,
+    workers: Vec<Worker<N, C, H, 0>>,
+    readers: Vec<Reader<N, C, H, 0>>,
+    service: Service,
+) -> Result<Scanner<'a, N, C, H, 0>>
+    requires workers { All (IsWorkerOf board.now) workers.items }
+    requires readers { All (IsReaderOf board.now) readers.items }
+{
+    count_by(alloc, &mut with_board(alloc, board, workers)?, service)?;
+    Ok(Scanner::new(board, reader(board, readers)?))
 }
 
-/// A registry of 256 counters with one family of so many children.
-fn with_children(alloc: Global, count: u64) -> Result<(Alone<256, 0>, FamilyId)> {
-    let mut registry = with_families(alloc, 0)?;
-    let family = registry.add(counter_desc(alloc, 0)?).context("no family")?;
-    make_children(alloc, &mut registry, family, count)?;
-    Ok((registry, family))
+/// A registry of 256 counters.
+type Counters = RegistryState<PlainSource<1, 256, 0, 0>, 1, 256, 0, 0>;
+
+/// A registry of 256 counters with so many families, of which the last has so many children, and that one.
+fn with_families(alloc: Global, count: u64, children: u64) -> Result<(Counters, Option<FamilyId>)> {
+    let made = RegistryState::new(alloc, PlainSource::new(alloc)?, ID, 1);
+    let mut registry = made.map_err(|not_made| not_made.fault)?;
+    let last = add_families(alloc, &mut registry, count)?;
+    if let Some(family) = last {
+        make_children(alloc, &mut registry, family, children)?;
+    }
+    Ok((registry, last))
+}
+
+/// Registers so many families of counters. It gives the last one.
+fn add_families(
+    alloc: Global,
+    registry: &mut impl Registers,
+    count: u64,
+) -> Result<Option<FamilyId>> {
+    let mut last = None;
+    for family in 0..count {
+        last = Some(
+            registry
+                .add(counter_desc(alloc, family)?)
+                .context("no family")?,
+        );
+    }
+    Ok(last)
 }
 
 /// The nanoseconds of so many registrations of a family where so many are there, each in a registry of its own.
 fn registrations(rt: &impl Rt, there: u64, rounds: u64) -> Result<u64> {
     let alloc = rt.alloc();
     let make = &mut |_| Some((
-        with_families(alloc, there).ok()?,
+        with_families(alloc, there, 0).ok()?.0,
         counter_desc(alloc, there).ok()?,
     ));
-    let add = &mut |(mut registry, desc): (Alone<256, 0>, Desc)| {
+    let add = &mut |(mut registry, desc): (Counters, Desc)| {
         let _family = registry.add(desc)?;
         Some(registry)
     };
@@ -294,8 +299,11 @@ fn registrations(rt: &impl Rt, there: u64, rounds: u64) -> Result<u64> {
 fn new_children(rt: &impl Rt, there: u64, rounds: u64) -> Result<u64> {
     let alloc = rt.alloc();
     let values = values(alloc, there)?;
-    let make = &mut |_| with_children(alloc, there).ok();
-    let find = &mut |(mut registry, family): (Alone<256, 0>, FamilyId)| {
+    let make = &mut |_| {
+        let (registry, family) = with_families(alloc, 1, there).ok()?;
+        Some((registry, family?))
+    };
+    let find = &mut |(mut registry, family): (Counters, FamilyId)| {
         let _handle = registry.find(family, &values)?;
         Some(registry)
     };
@@ -308,26 +316,26 @@ fn find_once(registry: &mut impl Registers, family: FamilyId, values: &[LabelVal
     Some(())
 }
 
-/// The scans of a reader of a board, on which all of a service was counted.
-fn counted<'a, const N: usize, const C: usize, const H: usize>(
-    alloc: Global,
-    board: &'a Board<N, C, H, 0>,
-    workers: Vec<Worker<N, C, H, 0>>,
-    readers: Vec<Reader<N, C, H, 0>>,
-    service: Service,
-) -> Result<Scanner<'a, N, C, H, 0>>
-    requires workers { All (IsWorkerOf board.now) workers.items }
-    requires readers { All (IsReaderOf board.now) readers.items }
-{
-    count_by(alloc, board, workers, service)?;
-    scanner(board, readers)
-}
-
 impl<R: Rt> Lines<'_, R> {
-    /// Scrapes of a registry, beside scans of a source that is equal to its own.
-    fn scrapes(&self, registry: &mut impl Registers, beside: &mut impl Scans) -> Result<()> {
-        let floor = |_| beside.scan();
+    /// Scrapes of a registry over a source, beside scans of another source that is equal to it.
+    fn scrapes<S: Source<N, C, H, 0> + Drop, const N: usize, const C: usize, const H: usize>(
+        &self,
+        source: S,
+        mut equal: S,
+        service: Service,
+    ) -> Result<()>
+        requires { IsGeometry N C H 0 }
+    {
+        let alloc = self.rt.alloc();
+        let registry = &mut full(alloc, source, service, WINDOW)?;
+        let out = &mut Snapshot::new(alloc)?;
+        let floor = |_| equal.scan(out).ok();
         self.measure("scrape", 1_000, floor, |_| scrape_once(registry))?;
+        self.gathers(registry)
+    }
+
+    /// Texts of a registry's scrapes, beside texts of one scrape.
+    fn gathers(&self, registry: &mut impl Registers) -> Result<()> {
         let (scrape, kept) = (registry.show().context("no scrape")?, AtomicU64::new(0));
         let floor = |_| keep(&kept, render(&scrape).ok()?.len());
         let gather = |_| keep(&kept, render(&registry.show()?).ok()?.len());
@@ -338,10 +346,8 @@ impl<R: Rt> Lines<'_, R> {
     pub fn alone<const C: usize, const H: usize>(&self, service: Service) -> Result<()>
         requires { IsGeometry 1 C H 0 }
     {
-        let alloc = self.rt.alloc();
-        let mut registry = alone::<C, H>(alloc, service, WINDOW)?;
-        let (source, out) = (plain::<C, H>(alloc, service)?, Snapshot::new(alloc)?);
-        self.scrapes(&mut registry, &mut Scanning { source, out })
+        let source = plain::<C, H>(self.rt.alloc(), service)?;
+        self.scrapes(source, plain::<C, H>(self.rt.alloc(), service)?, service)
     }
 
     /// A registry over a board.
@@ -350,54 +356,62 @@ impl<R: Rt> Lines<'_, R> {
         service: Service,
     ) -> Result<()> {
         let alloc = self.rt.alloc();
-        let (crew, other) = (Crew::new(alloc, ID, 1)?, Crew::new(alloc, ID, 1)?);
-        let (board, beside): (Board<N, C, H, 0>, Board<N, C, H, 0>) = (crew.board, other.board);
-        let source = counted(alloc, &board, crew.workers, crew.readers, service)?;
-        let mut registry = full(alloc, source, service, WINDOW)?;
-        let source = counted(alloc, &beside, other.workers, other.readers, service)?;
-        let out = Snapshot::new(alloc)?;
-        self.scrapes(&mut registry, &mut Scanning { source, out })
+        let one = Crew::<N, C, H, 0>::new(alloc, ID, 1)?;
+        let two = Crew::<N, C, H, 0>::new(alloc, ID, 1)?;
+        let (board, equal) = (one.board, two.board);
+        let source = counted(alloc, &board, one.workers, one.readers, service)?;
+        let other = counted(alloc, &equal, two.workers, two.readers, service)?;
+        self.scrapes(source, other, service)
     }
 
     /// Scrapes of registries that keep 1,024 scrapes and a single one.
     pub fn windows<const C: usize, const H: usize>(&self, service: Service) -> Result<()>
         requires { IsGeometry 1 C H 0 }
     {
-        let mut wide = alone::<C, H>(self.rt.alloc(), service, 1_024)?;
-        let mut narrow = alone::<C, H>(self.rt.alloc(), service, 1)?;
-        let floor = |_| scrape_once(&mut narrow);
-        self.measure(
-            "scrape_keeping_1024",
-            1_000,
-            floor,
-            |_| scrape_once(&mut wide),
-        )
+        let alloc = self.rt.alloc();
+        let wide = &mut full(alloc, plain::<C, H>(alloc, service)?, service, 1_024)?;
+        let narrow = &mut full(alloc, plain::<C, H>(alloc, service)?, service, 1)?;
+        let floor = |_| scrape_once(narrow);
+        self.measure("scrape_keeping_1024", 1_000, floor, |_| scrape_once(wide))
     }
 
     /// Texts of a service's scrape.
     pub fn texts_of<const C: usize, const H: usize>(&self, service: Service) -> Result<()>
         requires { IsGeometry 1 C H 0 }
     {
-        let mut registry = alone::<C, H>(self.rt.alloc(), service, 1)?;
+        let alloc = self.rt.alloc();
+        let mut registry = full(alloc, plain::<C, H>(alloc, service)?, service, 1)?;
         self.texts(&registry.show().context("no scrape")?)
     }
 
     /// Registrations and children. Where the family is the 128th, 127 are there; where the child is the 256th, 255.
     pub fn makings(&self) -> Result<()> {
-        let (rt, alloc) = (self.rt, self.rt.alloc());
-        self.batches("register_128th", 10_000, |rounds| {
-            let floor = registrations(rt, 0, rounds)?;
-            Ok(Times(registrations(rt, 127, rounds)?, floor, None))
-        })?;
-        self.batches("child_256th", 10_000, |rounds| {
-            let floor = new_children(rt, 0, rounds)?;
-            Ok(Times(new_children(rt, 255, rounds)?, floor, None))
-        })?;
-        let values = values(alloc, 0)?;
-        let (mut few, one) = with_children(alloc, 1)?;
-        let (mut many, all) = with_children(alloc, 256)?;
-        let floor = |_| find_once(&mut few, one, &values);
-        let find = |_| find_once(&mut many, all, &values);
-        self.measure("child_of_256", 10, floor, find)
+        let rt = self.rt;
+        let first = |rounds| registrations(rt, 0, rounds);
+        self.batches(
+            "register_128th",
+            10_000,
+            first,
+            |rounds| registrations(rt, 127, rounds),
+        )?;
+        let first = |rounds| new_children(rt, 0, rounds);
+        self.batches(
+            "child_256th",
+            10_000,
+            first,
+            |rounds| new_children(rt, 255, rounds),
+        )?;
+        self.children()
+    }
+
+    /// Children that are there.
+    fn children(&self) -> Result<()> {
+        let alloc = self.rt.alloc();
+        let values = &values(alloc, 0)?;
+        let (few, one) = &mut with_families(alloc, 1, 1)?;
+        let (many, all) = &mut with_families(alloc, 1, 256)?;
+        let (one, all) = (one.context("no family")?, all.context("no family")?);
+        let floor = |_| find_once(few, one, values);
+        self.measure("child_of_256", 10, floor, |_| find_once(many, all, values))
     }
 }

@@ -2,7 +2,7 @@
 //! as the text has lines.
 ghost use Rattle.std.specs.Prelude.{◌≡◌, ◌<◌, length};
 
-use crate::measuring::{Lines, Rt, Times, keep, timed};
+use crate::measuring::{Lines, Rt, keep, timed};
 use anyhow::Result;
 use expo_text::{Scrape, render, text_len, write_to};
 use itoa::Buffer;
@@ -75,6 +75,15 @@ impl Plain {
         digits
     }
 
+    /// The nanoseconds of so many copies of the text, each to new memory if `is_new` says so.
+    fn copies(&mut self, rt: &impl Rt, rounds: u64, is_new: bool) -> Result<u64> {
+        let alloc = rt.alloc();
+        if is_new {
+            return timed(rt, rounds, &mut |_| self.copy_fresh(alloc));
+        }
+        timed(rt, rounds, &mut |_| self.copy())
+    }
+
     /// Copies the text to memory that is there.
     fn copy(&mut self) -> Option<()> {
         copy_pieces(&self.bytes, &mut self.to, self.piece);
@@ -97,29 +106,40 @@ fn write_once(scrape: &Scrape, memory: &mut Vec<u8>) -> Option<usize> {
 }
 
 impl<R: Rt> Lines<'_, R> {
+    /// A text that is made so often, beside copies, each to new memory if `is_new` says so, and beside its numbers.
+    fn text<F: FnMut(u64) -> Option<()>>(
+        &self,
+        name: &str,
+        plain: &mut Plain,
+        is_new: bool,
+        make: &mut F,
+    ) -> Result<()>
+        requires { (state : F) (x : _) → F.pre state x }
+    {
+        let (rt, rounds, kept) = (self.rt, self.one_in(1_000), AtomicU64::new(0));
+        let (mut taken, mut floor, mut second) = (u64::MAX, u64::MAX, u64::MAX);
+        for _batch in 0..10 {
+            floor = floor.min(plain.copies(rt, rounds, is_new)?);
+            second = second.min(timed(rt, rounds, &mut |_| keep(&kept, plain.format()))?);
+            taken = taken.min(timed(rt, rounds, make)?);
+        }
+        self.line(name, rounds, taken, floor, Some(second))
+    }
+
     /// Texts of a scrape.
     pub fn texts(&self, scrape: &Scrape) -> Result<()> {
-        let (rt, alloc, kept) = (self.rt, self.rt.alloc(), AtomicU64::new(0));
-        let mut plain = Plain::of(alloc, render(scrape)?)?;
-        self.batches("render", 1_000, |rounds| {
-            let floor = timed(rt, rounds, &mut |_| plain.copy_fresh(alloc))?;
-            let second = timed(rt, rounds, &mut |_| keep(&kept, plain.format()))?;
-            let taken = timed(rt, rounds, &mut |_| keep(&kept, render(scrape).ok()?.len()))?;
-            Ok(Times(taken, floor, Some(second)))
-        })?;
-        self.batches("text_len", 1_000, |rounds| {
-            let floor = timed(rt, rounds, &mut |_| plain.copy())?;
-            let second = timed(rt, rounds, &mut |_| keep(&kept, plain.format()))?;
-            let taken = timed(rt, rounds, &mut |_| keep(&kept, text_len(scrape)))?;
-            Ok(Times(taken, floor, Some(second)))
-        })?;
+        let (alloc, kept) = (self.rt.alloc(), AtomicU64::new(0));
+        let plain = &mut Plain::of(alloc, render(scrape)?)?;
+        let make = &mut |_| keep(&kept, render(scrape).ok()?.len());
+        self.text("render", plain, true, make)?;
+        self.text(
+            "text_len",
+            plain,
+            false,
+            &mut |_| keep(&kept, text_len(scrape)),
+        )?;
         let mut memory = Vec::with_capacity(alloc, text_len(scrape))?;
-        self.batches("write_to", 1_000, |rounds| {
-            let floor = timed(rt, rounds, &mut |_| plain.copy())?;
-            let second = timed(rt, rounds, &mut |_| keep(&kept, plain.format()))?;
-            let write = &mut |_| keep(&kept, write_once(scrape, &mut memory)?);
-            let taken = timed(rt, rounds, write)?;
-            Ok(Times(taken, floor, Some(second)))
-        })
+        let make = &mut |_| keep(&kept, write_once(scrape, &mut memory)?);
+        self.text("write_to", plain, false, make)
     }
 }
