@@ -1,16 +1,34 @@
-//! Boards with their crews, taken apart.
+//! Boards with their crews, and registries of them.
 ghost use Rattle.std.specs.Prelude.{All, IfOk};
 ghost use Rattle.snapshot_scan.specs.Readers.{IsReaderOf};
 ghost use Rattle.snapshot_update.specs.Workers.{IsWorkerOf};
 
+use crate::asserts::same;
+use metric_registry::Registry;
 use register_rule::Board;
 use snapshot_scan::Reader;
 use snapshot_update::{Crew, Worker};
 use std::alloc::Global;
+use std::process::Abort;
 use std::test::Fail;
 
 /// The id of the boards.
 pub(crate) const ID: u64 = 7;
+
+/// A board of two workers, of four counters, a histogram and a gauge.
+pub(crate) type TwoBoard = Board<2, 4, 1, 1>;
+
+/// One of its workers.
+pub(crate) type TwoWorker = Worker<2, 4, 1, 1>;
+
+/// One of its readers.
+pub(crate) type TwoReader = Reader<2, 4, 1, 1>;
+
+/// It with its workers and readers.
+pub(crate) type TwoCrew = Crew<2, 4, 1, 1>;
+
+/// A registry of it.
+pub(crate) type Two<'a> = Registry<'a, 2, 4, 1, 1>;
 
 /// Takes the last reader.
 pub(crate) fn last_reader<const N: usize, const C: usize, const H: usize, const G: usize>(
@@ -25,7 +43,7 @@ pub(crate) fn last_reader<const N: usize, const C: usize, const H: usize, const 
 }
 
 /// Takes the last worker.
-fn last_worker<const N: usize, const C: usize, const H: usize, const G: usize>(
+pub(crate) fn last_worker<const N: usize, const C: usize, const H: usize, const G: usize>(
     board: &Board<N, C, H, G>,
     workers: &mut Vec<Worker<N, C, H, G>>,
 ) -> Result<Worker<N, C, H, G>, Fail>
@@ -36,32 +54,29 @@ fn last_worker<const N: usize, const C: usize, const H: usize, const G: usize>(
     Ok(workers.pop().ok_or("no worker")?)
 }
 
-/// A board of two workers, of four counters, a histogram and a gauge, and a reader.
-#[derive(Drop)]
-pub(crate) struct Pair {
-    pub(crate) board: Board<2, 4, 1, 1>,
-    pub(crate) first: Worker<2, 4, 1, 1>,
-    pub(crate) second: Worker<2, 4, 1, 1>,
-    pub(crate) reader: Reader<2, 4, 1, 1>,
+/// A registry that keeps so many scrapes, by the last reader.
+pub(crate) fn registry_of<'a, const N: usize, const C: usize, const H: usize, const G: usize>(
+    alloc: Global,
+    board: &'a Board<N, C, H, G>,
+    readers: &mut Vec<Reader<N, C, H, G>>,
+    window: usize,
+) -> Result<Registry<'a, N, C, H, G>, Fail>
+    requires own { All (IsReaderOf board.now) readers.old.items }
+    ensures others { All (IsReaderOf board.now) readers.new.items }
+{
+    let reader = last_reader(board, readers)?;
+    match Registry::new(alloc, board, reader, window) {
+        Ok(registry) => Ok(registry),
+        Err(none) => Err(none.fault.into()),
+    }
 }
 
-/// A new board of two workers.
-pub(crate) fn make_pair(alloc: Global) -> Result<Pair, Fail>
-    ensures workers { IfOk result (λ p. IsWorkerOf p.board p.first × IsWorkerOf p.board p.second) }
-    ensures reader { IfOk result (λ p. IsReaderOf p.board p.reader) }
-{
-    let Crew {
-        board,
-        mut workers,
-        mut readers,
-    } = Crew::new(alloc, ID, 1)?;
-    let second = last_worker(&board, &mut workers)?;
-    let first = last_worker(&board, &mut workers)?;
-    let reader = last_reader(&board, &mut readers)?;
-    Ok(Pair {
-        board,
-        first,
-        second,
-        reader,
-    })
+/// What stood behind the lock in the end: so many kept scrapes, and so many entries of the journal.
+pub(crate) fn ends_with(rt: &impl Abort, registry: Two<'_>, kept: usize, entries: usize) {
+    let state = registry.into_state();
+    same(
+        rt,
+        &(state.kept().len(), state.journal().len()),
+        &(kept, entries),
+    );
 }

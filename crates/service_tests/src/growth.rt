@@ -4,20 +4,18 @@ ghost use Rattle.std.specs.Prelude.{◌≡◌, false};
 ghost use Rattle.snapshot_scan.specs.Readers.{IsReaderOf};
 
 use crate::asserts::same;
-use crate::crew::{ID, Pair, make_pair};
+use crate::crew::{ID, Two, TwoBoard, TwoCrew, TwoReader, ends_with, last_reader};
 use crate::helpers::{Plain, Source, desc, first_counter, first_gauge, values};
 use expo_text::{Scrape, render};
 use ledger_core::Op;
 use metric_desc::{Desc, Kind};
 use metric_names::{LabelValue, NoMemory};
-use metric_registry::Registry;
 use metrics_serve::{ServeEnd, serve_on};
-use register_rule::Board;
 use registry_state::{ChildFault, FamilyId, Handle, NewFault, RegisterFault, ScrapeFault};
 use scrape_http::Status;
 use scrape_server::serve_state;
 use script_lines::{Line, Lines, Next, bounds_of, labels_of, read_line, unescape, values_of};
-use snapshot_scan::{Reader, Snapshot};
+use snapshot_scan::Snapshot;
 use std::alloc::Global;
 use std::io::{self, Write};
 use std::net::{Ipv4Addr, TcpListener};
@@ -26,15 +24,14 @@ use std::sync::Wait;
 use std::test::Fail;
 use watched::Watched;
 
-/// What is seen of a registry of one thread: how many entries its journal has, its families `a` and `b`, the child of `a`, and each
-/// kept scrape's number of lists and counter.
-#[derive(Clone, Copy, Debug, PartialEq, Eq)]
-struct Seen {
-    entries: usize,
-    families: (Option<FamilyId>, Option<FamilyId>),
-    kept: usize,
-    scrapes: [(u64, u64); 4],
-}
+/// What is seen of a registry of one thread: how many entries its journal has, its families `a` and `b`, how many scrapes are kept, and
+/// each one's number of lists and counter.
+type Seen = (
+    usize,
+    (Option<FamilyId>, Option<FamilyId>),
+    usize,
+    [(u64, u64); 4],
+);
 
 /// What is seen of a registry. It takes no memory.
 fn view(registry: &Plain, out: &mut Snapshot<1, 1, 1, 1>) -> Seen {
@@ -46,40 +43,52 @@ fn view(registry: &Plain, out: &mut Snapshot<1, 1, 1, 1>) -> Seen {
             *scrape = (out.vector()[0], out.counter(0));
         }
     }
-    Seen {
-        entries: registry.journal().len(),
-        families: (registry.family("a"), registry.family("b")),
-        kept: kept.len(),
-        scrapes,
-    }
+    let families = (registry.family("a"), registry.family("b"));
+    (registry.journal().len(), families, kept.len(), scrapes)
 }
 
 /// A registry that keeps two scrapes.
-fn new_state(rt: &impl Abort, alloc: Global, source: Source) -> Result<Plain, Fail> {
-    match Plain::new(alloc, source, ID, 2) {
+fn new_state(rt: &impl Abort, alloc: Global) -> Result<Plain, Fail> {
+    match Plain::new(alloc, Source::new(alloc)?, ID, 2) {
         Ok(registry) => Ok(registry),
         Err(none) => {
             same(rt, &none.fault, &NewFault::NoMemory);
-            Ok(Plain::new(alloc, none.source, ID, 2).map_err(|not_made| not_made.fault)?)
+            match Plain::new(alloc, none.source, ID, 2) {
+                Ok(registry) => Ok(registry),
+                Err(none) => Err(none.fault.into()),
+            }
         }
     }
 }
 
-/// Registers a family of one of two equal descriptors.
+/// A family to be: its kind, its name and its labels.
+#[derive(Clone, Copy)]
+struct Named {
+    kind: Kind,
+    name: &'static str,
+    labels: &'static [&'static str],
+}
+
+/// Its descriptor.
+fn desc_of(alloc: Global, named: Named) -> Result<Desc, Fail> {
+    desc(alloc, named.kind, named.name, named.labels)
+}
+
+/// Registers a family.
 fn register_in(
     rt: &impl Abort,
+    alloc: Global,
     registry: &mut Plain,
     out: &mut Snapshot<1, 1, 1, 1>,
-    descs: (Desc, Desc),
+    named: Named,
 ) -> Result<FamilyId, Fail> {
     let before = view(registry, out);
-    match registry.register(descs.0) {
-        Err(RegisterFault::NoMemory) => {
-            same(rt, &view(registry, out), &before);
-            Ok(registry.register(descs.1)?)
-        }
-        answer => Ok(answer?),
+    let answer = registry.register(desc_of(alloc, named)?);
+    if answer != Err(RegisterFault::NoMemory) {
+        return Ok(answer?);
     }
+    same(rt, &view(registry, out), &before);
+    Ok(registry.register(desc_of(alloc, named)?)?)
 }
 
 /// Makes a child.
@@ -91,13 +100,12 @@ fn child_in(
     values: &[LabelValue],
 ) -> Result<Handle, Fail> {
     let before = view(registry, out);
-    match registry.child(family, values) {
-        Err(ChildFault::NoMemory) => {
-            same(rt, &view(registry, out), &before);
-            Ok(registry.child(family, values)?)
-        }
-        answer => Ok(answer?),
+    let answer = registry.child(family, values);
+    if answer != Err(ChildFault::NoMemory) {
+        return Ok(answer?);
     }
+    same(rt, &view(registry, out), &before);
+    Ok(registry.child(family, values)?)
 }
 
 /// Makes a scrape, and its text, which is this.
@@ -108,31 +116,39 @@ fn scrape_in(
     expected: &str,
 ) -> Result<(), Fail> {
     let before = view(registry, out);
-    let scrape = match registry.scrape() {
+    match registry.scrape() {
+        Ok(scrape) => prints(rt, &scrape, expected),
         Err(ScrapeFault::NoMemory) => {
             same(rt, &view(registry, out), &before);
-            registry.scrape()?
+            prints(rt, &registry.scrape()?, expected)
         }
-        answer => answer?,
-    };
-    prints(rt, &scrape, expected)
+        Err(fault) => Err(fault.into()),
+    }
 }
 
 /// The text of a scrape is this.
 fn prints(rt: &impl Abort, scrape: &Scrape, expected: &str) -> Result<(), Fail> {
     let text = match render(scrape) {
+        Ok(text) => text,
         Err(NoMemory) => render(scrape)?,
-        answer => answer?,
     };
     same(rt, &text.as_slice(), &expected.as_bytes());
     Ok(())
 }
 
-/// Two equal descriptors.
-fn twice(alloc: Global, kind: Kind, name: &str, labels: &[&str]) -> Result<(Desc, Desc), Fail> {
-    let first = desc(alloc, kind, name, labels)?;
-    Ok((first, desc(alloc, kind, name, labels)?))
-}
+/// A family of counters by a label.
+const A: Named = Named {
+    kind: Kind::Counter,
+    name: "a",
+    labels: &["l"],
+};
+
+/// A family of gauges.
+const B: Named = Named {
+    kind: Kind::Gauge,
+    name: "b",
+    labels: &[],
+};
 
 /// A family of counters with a child, which counts 5.
 fn grow_counter(
@@ -141,11 +157,9 @@ fn grow_counter(
     registry: &mut Plain,
     out: &mut Snapshot<1, 1, 1, 1>,
 ) -> Result<FamilyId, Fail> {
-    let descs = twice(alloc, Kind::Counter, "a", &["l"])?;
-    let values = values(alloc, &["x"])?;
-    let family = register_in(rt, registry, out, descs)?;
+    let family = register_in(rt, alloc, registry, out, A)?;
     scrape_in(rt, registry, out, "")?;
-    let handle = child_in(rt, registry, out, family, &values)?;
+    let handle = child_in(rt, registry, out, family, &values(alloc, &["x"])?)?;
     same(rt, &handle, &first_counter());
     registry.apply(&[Op::Inc { counter: 0, by: 5 }])?;
     scrape_in(rt, registry, out, "# TYPE a counter\na{l=\"x\"} 5\n")?;
@@ -159,8 +173,7 @@ fn grow_gauge(
     registry: &mut Plain,
     out: &mut Snapshot<1, 1, 1, 1>,
 ) -> Result<FamilyId, Fail> {
-    let descs = twice(alloc, Kind::Gauge, "b", &[])?;
-    let family = register_in(rt, registry, out, descs)?;
+    let family = register_in(rt, alloc, registry, out, B)?;
     let handle = child_in(rt, registry, out, family, &[])?;
     same(rt, &handle, &first_gauge());
     registry.apply(&[Op::Down { gauge: 0, by: 2 }])?;
@@ -169,112 +182,145 @@ fn grow_gauge(
     Ok(family)
 }
 
-/// A registry of one thread. The window of two holds, and the least free slots are used, whatever was refused before.
-#[test]
-fn growth_state(rt: HostRuntime) -> Result<(), Fail> {
-    let alloc = rt.alloc();
-    let mut out = Snapshot::new(alloc)?;
-    let mut registry = new_state(&rt, alloc, Source::new(alloc)?)?;
-    let a = grow_counter(&rt, alloc, &mut registry, &mut out)?;
-    let b = grow_gauge(&rt, alloc, &mut registry, &mut out)?;
-    let seen = Seen {
-        entries: 6,
-        families: (Some(a), Some(b)),
-        kept: 2,
-        scrapes: [(1, 5), (2, 5), (0, 0), (0, 0)],
-    };
-    same(&rt, &view(&registry, &mut out), &seen);
+/// Two families of a registry, what is counted, and what is seen in the end.
+fn grow(
+    rt: &impl Abort,
+    alloc: Global,
+    registry: &mut Plain,
+    out: &mut Snapshot<1, 1, 1, 1>,
+) -> Result<(), Fail> {
+    let a = grow_counter(rt, alloc, registry, out)?;
+    let b = grow_gauge(rt, alloc, registry, out)?;
+    let seen = (6, (Some(a), Some(b)), 2, [(1, 5), (2, 5), (0, 0), (0, 0)]);
+    same(rt, &view(registry, out), &seen);
     Ok(())
 }
 
-/// A registry of a board of two workers.
-type Two<'a> = Registry<'a, 2, 4, 1, 1>;
+/// A registry of one thread. The window of two holds, and the least free slots are used, whatever was refused before.
+#[test]
+fn growth_state(rt: HostRuntime) -> Result<(), Fail> {
+    let mut out = Snapshot::new(rt.alloc())?;
+    let mut registry = new_state(&rt, rt.alloc())?;
+    grow(&rt, rt.alloc(), &mut registry, &mut out)
+}
 
 /// A registry behind its lock, that keeps two scrapes.
 fn new_registry<'a>(
     rt: &impl Abort,
     alloc: Global,
-    board: &'a Board<2, 4, 1, 1>,
-    reader: Reader<2, 4, 1, 1>,
+    board: &'a TwoBoard,
+    reader: TwoReader,
 ) -> Result<Two<'a>, Fail>
     requires { IsReaderOf board.now reader }
 {
-    match Registry::new(alloc, board, reader, 2) {
+    match Two::new(alloc, board, reader, 2) {
         Ok(registry) => Ok(registry),
         Err(none) => {
             same(rt, &none.fault, &NewFault::NoMemory);
-            Ok(Registry::new(alloc, board, none.reader, 2).map_err(|not_made| not_made.fault)?)
+            match Two::new(alloc, board, none.reader, 2) {
+                Ok(registry) => Ok(registry),
+                Err(none) => Err(none.fault.into()),
+            }
         }
+    }
+}
+
+/// A family of gauges by a label.
+const G: Named = Named {
+    kind: Kind::Gauge,
+    name: "g",
+    labels: &["a"],
+};
+
+/// Registers the gauge behind the lock.
+fn register_behind(
+    rt: &(impl Wait + Abort),
+    alloc: Global,
+    registry: &Two<'_>,
+) -> Result<FamilyId, Fail> {
+    let answer = registry.register(rt, desc_of(alloc, G)?);
+    if answer != Err(RegisterFault::NoMemory) {
+        return Ok(answer?);
+    }
+    same(rt, &registry.family(rt, "g"), &None);
+    Ok(registry.register(rt, desc_of(alloc, G)?)?)
+}
+
+/// Makes its child.
+fn child_behind(
+    rt: &impl Wait,
+    registry: &Two<'_>,
+    family: FamilyId,
+    values: &[LabelValue],
+) -> Result<Handle, Fail> {
+    let answer = registry.child(rt, family, values);
+    if answer != Err(ChildFault::NoMemory) {
+        return Ok(answer?);
+    }
+    Ok(registry.child(rt, family, values)?)
+}
+
+/// Makes a scrape, which shows it.
+fn scrape_behind(rt: &(impl Wait + Abort), registry: &Two<'_>) -> Result<(), Fail> {
+    let expected = "# TYPE g gauge\ng{a=\"b\"} 0\n";
+    match registry.scrape(rt) {
+        Ok(scrape) => prints(rt, &scrape, expected),
+        Err(ScrapeFault::NoMemory) => prints(rt, &registry.scrape(rt)?, expected),
+        Err(fault) => Err(fault.into()),
     }
 }
 
 /// Registers a gauge, makes its child, and scrapes twice.
 fn use_registry(
     rt: &(impl Wait + Abort),
+    alloc: Global,
     registry: &Two<'_>,
-    descs: (Desc, Desc),
-    values: &[LabelValue],
 ) -> Result<(), Fail> {
-    let family = match registry.register(rt, descs.0) {
-        Err(RegisterFault::NoMemory) => {
-            same(rt, &registry.family(rt, "g"), &None);
-            registry.register(rt, descs.1)?
-        }
-        answer => answer?,
-    };
+    let family = register_behind(rt, alloc, registry)?;
     same(rt, &family.number(), &0);
-    let handle = match registry.child(rt, family, values) {
-        Err(ChildFault::NoMemory) => registry.child(rt, family, values)?,
-        answer => answer?,
-    };
+    let handle = child_behind(rt, registry, family, &values(alloc, &["b"])?)?;
     same(rt, &handle, &first_gauge());
-    for _ in 0..2 {
-        let scrape = match registry.scrape(rt) {
-            Err(ScrapeFault::NoMemory) => registry.scrape(rt)?,
-            answer => answer?,
-        };
-        prints(rt, &scrape, "# TYPE g gauge\ng{a=\"b\"} 0\n")?;
-    }
-    Ok(())
+    scrape_behind(rt, registry)?;
+    scrape_behind(rt, registry)
 }
 
 /// A registry behind its lock: its journal has what was answered, and nothing of what was refused.
 #[test]
 fn growth_registry(rt: HostRuntime) -> Result<(), Fail> {
-    let alloc = rt.alloc();
-    let Pair { board, reader, .. } = make_pair(alloc)?;
-    let descs = twice(alloc, Kind::Gauge, "g", &["a"])?;
-    let values = values(alloc, &["b"])?;
-    let registry = new_registry(&rt, alloc, &board, reader)?;
-    use_registry(&rt, &registry, descs, &values)?;
-    let state = registry.into_state();
-    same(&rt, &(state.kept().len(), state.journal().len()), &(2, 4));
+    let mut crew = TwoCrew::new(rt.alloc(), ID, 1)?;
+    let reader = last_reader(&crew.board, &mut crew.readers)?;
+    let registry = new_registry(&rt, rt.alloc(), &crew.board, reader)?;
+    use_registry(&rt, rt.alloc(), &registry)?;
+    ends_with(&rt, registry, 2, 4);
     Ok(())
+}
+
+/// The status of a request that is served from the registry, and how many bytes were sent.
+fn asked(registry: &mut Plain, alloc: Global) -> Result<(Status, usize), Fail> {
+    let mut reader = Watched::new(b"GET /metrics HTTP/1.0\r\n\r\n".as_slice());
+    let mut taken = Watched::new(Vec::with_capacity(alloc, 512)?);
+    let served = serve_state(&mut reader, &mut taken, registry)?;
+    Ok((served.status, served.sent))
 }
 
 /// A request that is served from a registry of one thread: the reply is 503 where its scrape wants memory, and nothing else takes any.
 #[test]
 fn growth_reply(rt: HostRuntime) -> Result<(), Fail> {
-    let alloc = rt.alloc();
-    let mut taken = Watched::new(Vec::with_capacity(alloc, 512)?);
-    let mut registry = new_state(&rt, alloc, Source::new(alloc)?)?;
-    registry.register(desc(alloc, Kind::Counter, "a", &[])?)?;
-    let mut reader = Watched::new(b"GET /metrics HTTP/1.0\r\n\r\n".as_slice());
-    let served = serve_state(&mut reader, &mut taken, &mut registry)?;
-    let (kept, sent) = match served.status {
+    let mut registry = new_state(&rt, rt.alloc())?;
+    registry.register(desc_of(rt.alloc(), A)?)?;
+    let (status, first) = asked(&mut registry, rt.alloc())?;
+    let (kept, sent) = match status {
         Status::Unavailable => (0, 136),
         _ => (1, 113),
     };
-    same(&rt, &(registry.kept().len(), served.sent), &(kept, sent));
-    let mut reader = Watched::new(b"GET /metrics HTTP/1.0\r\n\r\n".as_slice());
-    let mut again = Watched::new(Vec::with_capacity(alloc, 512)?);
-    let served = serve_state(&mut reader, &mut again, &mut registry)?;
+    same(&rt, &(registry.kept().len(), first), &(kept, sent));
+    let (status, second) = asked(&mut registry, rt.alloc())?;
     // Where the first one was replied, the second one may want memory.
-    let then = match (kept, served.status) {
+    let then = match (kept, status) {
         (1, Status::Unavailable) => (1, 136),
         _ => (kept + 1, 113),
     };
-    same(&rt, &(registry.kept().len(), served.sent), &then);
+    same(&rt, &(registry.kept().len(), second), &then);
     Ok(())
 }
 
@@ -282,35 +328,53 @@ fn growth_reply(rt: HostRuntime) -> Result<(), Fail> {
 #[test]
 fn growth_lines(rt: HostRuntime) -> Result<(), Fail> {
     let alloc = rt.alloc();
-    let text = "histogram h a,b 10,20 two\\swords";
-    let Some(
-        Line::Histogram {
-            labels,
-            bounds,
-            help,
-            ..
-        },
-    ) = read_line(text)
-    else {
+    growth_of_labels(&rt, alloc)?;
+    growth_of_bounds(&rt, alloc)?;
+    growth_of_help(&rt, alloc)?;
+    growth_of_values(&rt, alloc)?;
+    growth_of_lines(&rt, alloc)
+}
+
+/// A family's line.
+const FAMILY: &str = "histogram h a,b 10,20 two\\swords";
+
+/// Its labels.
+fn growth_of_labels(rt: &impl Abort, alloc: Global) -> Result<(), Fail> {
+    let Some(Line::Histogram { labels, .. }) = read_line(FAMILY) else {
         return Err("no histogram".into());
     };
     let labels = match labels_of(alloc, labels) {
+        Ok(labels) => labels,
         Err(NoMemory) => labels_of(alloc, labels)?,
-        answer => answer?,
     };
-    same(&rt, &labels.as_slice(), &["a", "b"].as_slice());
+    same(rt, &labels.as_slice(), &["a", "b"].as_slice());
+    Ok(())
+}
+
+/// Its bounds.
+fn growth_of_bounds(rt: &impl Abort, alloc: Global) -> Result<(), Fail> {
+    let Some(Line::Histogram { bounds, .. }) = read_line(FAMILY) else {
+        return Err("no histogram".into());
+    };
     let bounds = match bounds_of(alloc, bounds) {
+        Ok(bounds) => bounds,
         Err(NoMemory) => bounds_of(alloc, bounds)?,
-        answer => answer?,
     };
-    same(&rt, &bounds.as_slice(), &[10, 20].as_slice());
+    same(rt, &bounds.as_slice(), &[10, 20].as_slice());
+    Ok(())
+}
+
+/// Its help.
+fn growth_of_help(rt: &impl Abort, alloc: Global) -> Result<(), Fail> {
+    let Some(Line::Histogram { help, .. }) = read_line(FAMILY) else {
+        return Err("no histogram".into());
+    };
     let help = match unescape(alloc, help) {
+        Ok(help) => help,
         Err(NoMemory) => unescape(alloc, help)?,
-        answer => answer?,
     };
-    same(&rt, &help.as_str(), &"two words");
-    growth_of_values(&rt, alloc)?;
-    growth_of_lines(&rt, alloc)
+    same(rt, &help.as_str(), &"two words");
+    Ok(())
 }
 
 /// The values of a child.
@@ -319,8 +383,8 @@ fn growth_of_values(rt: &impl Abort, alloc: Global) -> Result<(), Fail> {
         return Err("no child".into());
     };
     let values = match values_of(alloc, values) {
+        Ok(values) => values,
         Err(NoMemory) => values_of(alloc, values)?,
-        answer => answer?,
     };
     same(rt, &values.as_slice(), &["x", "y"].as_slice());
     Ok(())
@@ -329,8 +393,8 @@ fn growth_of_values(rt: &impl Abort, alloc: Global) -> Result<(), Fail> {
 /// Two lines.
 fn growth_of_lines(rt: &impl Abort, alloc: Global) -> Result<(), Fail> {
     let mut lines = match Lines::new(alloc, b"go\nscrape".as_slice()) {
+        Ok(lines) => lines,
         Err(NoMemory) => Lines::new(alloc, b"go\nscrape".as_slice())?,
-        answer => answer?,
     };
     same(rt, &lines.next()?, &Next::Line);
     same(rt, &lines.bytes(), &b"go".as_slice());

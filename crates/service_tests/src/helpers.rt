@@ -19,8 +19,10 @@ pub(crate) type Plain = RegistryState<Source, 1, 1, 1, 1>;
 
 /// A registry that keeps so many scrapes.
 pub(crate) fn plain(alloc: Global, window: usize) -> Result<Plain, Fail> {
-    let source = Source::new(alloc)?;
-    Ok(Plain::new(alloc, source, ID, window).map_err(|not_made| not_made.fault)?)
+    match Plain::new(alloc, Source::new(alloc)?, ID, window) {
+        Ok(registry) => Ok(registry),
+        Err(none) => Err(none.fault.into()),
+    }
 }
 
 /// The handle of the first counter.

@@ -132,20 +132,31 @@ pub(super) fn unserved(rt: &impl Abort, seen: &Seen, fault: WireFault, number: u
     same(rt, &(seen.written.len(), seen.kept), &(0, 0));
 }
 
-/// Each request gets this reply, whether it comes at once or byte by byte; a scrape is made for 200 alone, and once.
+/// A request that comes so many bytes a read gets this reply; a scrape is made for 200 alone, and once.
+fn gets(
+    rt: &(impl Abort + AllocGlobal),
+    request: &[u8],
+    step: usize,
+    status: Status,
+    reply: &[u8],
+) -> Result<(), Fail> {
+    let seen = see(rt.alloc(), request, step, ALL)?;
+    served(rt, &seen, status, reply);
+    let kept = if status == Status::Success { 1 } else { 0 };
+    same(rt, &seen.kept, &kept);
+    Ok(())
+}
+
+/// Each request gets this reply, whether it comes at once or byte by byte.
 pub(super) fn get(
     rt: &(impl Abort + AllocGlobal),
     requests: &[&[u8]],
     status: Status,
     reply: &[u8],
 ) -> Result<(), Fail> {
-    let kept = if status == Status::Success { 1 } else { 0 };
     for request in requests {
-        for step in [ALL, 1] {
-            let seen = see(rt.alloc(), request, step, ALL)?;
-            served(rt, &seen, status, reply);
-            same(rt, &seen.kept, &kept);
-        }
+        gets(rt, request, ALL, status, reply)?;
+        gets(rt, request, 1, status, reply)?;
     }
     Ok(())
 }

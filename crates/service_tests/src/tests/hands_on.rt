@@ -2,16 +2,14 @@
 ghost use Rattle.snapshot_update.specs.Workers.{IsWorkerOf};
 
 use crate::asserts::same;
-use crate::crew::{ID, Pair, make_pair};
+use crate::crew::{ID, Two, TwoBoard, TwoCrew, TwoWorker, last_worker, registry_of};
 use crate::helpers::desc;
 use expo_text::{Number, Scrape, render};
 use ledger_core::Counter;
 use metric_desc::{Desc, Kind};
-use metric_registry::Registry;
-use register_rule::Board;
 use registry_state::{FamilyId, Handle, RegisterFault, RegistryState, ScrapeFault};
 use snapshot_scan::{Scanner, Snapshot};
-use snapshot_update::{CountFault, Worker};
+use snapshot_update::CountFault;
 use std::alloc::Global;
 use std::process::Abort;
 use std::sync::Wait;
@@ -22,21 +20,13 @@ use std::thread::{Threads, join};
 const ALL: &[u8] =
     b"# TYPE a counter\na 1000\n# TYPE b counter\nb 1000\n# TYPE c counter\nc 1000\n# TYPE d counter\nd 1000\n";
 
-/// A registry of a board of two workers.
-type Two<'a> = Registry<'a, 2, 4, 1, 1>;
-
-/// What stands behind its lock.
+/// What stands behind the lock of a registry.
 type State<'a> = RegistryState<Scanner<'a, 2, 4, 1, 1>, 2, 4, 1, 1>;
 
-/// A family that a thread registered, and its one child.
-#[derive(Drop)]
-struct Counted {
-    name: &'static str,
-    family: FamilyId,
-    counter: Counter,
-}
+/// The name of a family that a thread registered, its number, and its one child.
+type Counted = (&'static str, FamilyId, Counter);
 
-/// A family's name, and its descriptor.
+/// The name of a family to be, and its descriptor.
 type Named = (&'static str, Desc);
 
 /// What a thread was given.
@@ -60,7 +50,11 @@ fn scrape_often(
 ) -> Result<(), Refusal> {
     for _ in 0..8 {
         match registry.scrape(rt) {
-            Ok(scrape) => scrapes.push(scrape).map_err(|_| NO_MEMORY)?,
+            Ok(scrape) => {
+                if scrapes.push(scrape).is_err() {
+                    return Err(NO_MEMORY);
+                }
+            }
             Err(ScrapeFault::Contended(_)) => {}
             Err(fault) => return Err(fault.number()),
         }
@@ -69,48 +63,53 @@ fn scrape_often(
 }
 
 /// Registers a family, and makes its child.
-fn make(
-    rt: &impl Wait,
-    registry: &Two<'_>,
-    name: &'static str,
-    desc: Desc,
-) -> Result<Counted, Refusal> {
-    let family = registry.register(rt, desc).map_err(|fault| fault.number())?;
+fn make(rt: &impl Wait, registry: &Two<'_>, named: Named) -> Result<Counted, Refusal> {
+    let (name, desc) = named;
+    let family = match registry.register(rt, desc) {
+        Ok(family) => family,
+        Err(fault) => return Err(fault.number()),
+    };
     match registry.child(rt, family, &[]) {
-        Ok(Handle::Counter(counter)) => Ok(Counted {
-            name,
-            family,
-            counter,
-        }),
+        Ok(Handle::Counter(counter)) => Ok((name, family, counter)),
         Ok(_) => Err(0),
         Err(fault) => Err(fault.number()),
     }
 }
 
-/// Registers two families, makes a child of each, and scrapes before and after that.
+/// Registers a family and makes its child, and scrapes before and after that.
+fn ask_once(
+    rt: &impl Wait,
+    registry: &Two<'_>,
+    named: Named,
+    given: &mut Given,
+) -> Result<(), Refusal> {
+    scrape_often(rt, registry, &mut given.scrapes)?;
+    let made = make(rt, registry, named)?;
+    if given.counted.push(made).is_err() {
+        return Err(NO_MEMORY);
+    }
+    scrape_often(rt, registry, &mut given.scrapes)
+}
+
+/// Asks for two families.
 fn ask(
     rt: &impl Wait,
     alloc: Global,
     registry: &Two<'_>,
-    first: Named,
-    second: Named,
+    names: (Named, Named),
 ) -> Result<Given, Refusal> {
-    let mut counted = Vec::new(alloc);
-    let mut scrapes = Vec::new(alloc);
-    for (name, desc) in [first, second] {
-        scrape_often(rt, registry, &mut scrapes)?;
-        let made = make(rt, registry, name, desc)?;
-        counted.push(made).map_err(|_| NO_MEMORY)?;
-        scrape_often(rt, registry, &mut scrapes)?;
-    }
-    Ok(Given { counted, scrapes })
+    let mut given = Given {
+        counted: Vec::new(alloc),
+        scrapes: Vec::new(alloc),
+    };
+    let (first, second) = names;
+    ask_once(rt, registry, first, &mut given)?;
+    ask_once(rt, registry, second, &mut given)?;
+    Ok(given)
 }
 
 /// Counts 500 times on each counter.
-fn count(
-    board: &Board<2, 4, 1, 1>,
-    mut worker: Worker<2, 4, 1, 1>,
-) -> Result<Worker<2, 4, 1, 1>, CountFault>
+fn count(board: &TwoBoard, mut worker: TwoWorker) -> Result<(), CountFault>
     requires { IsWorkerOf board.now worker }
 {
     for k in 0..2_000usize {
@@ -120,30 +119,93 @@ fn count(
         };
         worker.inc(board, &counter, 1)?;
     }
-    Ok(worker)
+    Ok(())
 }
 
-/// Two workers at once.
-fn two_count(
-    rt: &(impl Threads + Sync),
-    board: &Board<2, 4, 1, 1>,
-    first: Worker<2, 4, 1, 1>,
-    second: Worker<2, 4, 1, 1>,
-) -> Result<(), CountFault>
-    requires { IsWorkerOf board.now first × IsWorkerOf board.now second }
+/// How a worker ended, and what the thread beside it was given.
+type Side = (Result<(), CountFault>, Result<Given, Refusal>);
+
+/// A worker counts, while another thread asks.
+fn count_and_ask(
+    rt: &(impl Threads + Wait + Sync),
+    alloc: Global,
+    board: &TwoBoard,
+    registry: &Two<'_>,
+    worker: TwoWorker,
+    names: (Named, Named),
+) -> Side
+    requires { IsWorkerOf board.now worker }
 {
-    let (first, second) = join(
+    join(
         rt,
-        || -> Result<Worker<2, 4, 1, 1>, CountFault>
+        || -> Result<(), CountFault>
+            requires { IsWorkerOf board.now worker }
+        { count(board, worker) },
+        || -> Result<Given, Refusal> { ask(rt, alloc, registry, names) },
+    )
+}
+
+/// The names of two families with their descriptors of counters.
+fn named(
+    alloc: Global,
+    first: &'static str,
+    second: &'static str,
+) -> Result<(Named, Named), Fail> {
+    let one = desc(alloc, Kind::Counter, first, &[])?;
+    Ok((
+        (first, one),
+        (second, desc(alloc, Kind::Counter, second, &[])?),
+    ))
+}
+
+/// Two workers and two threads that ask, at once.
+fn two_sides(
+    rt: &(impl Threads + Wait + Sync),
+    alloc: Global,
+    board: &TwoBoard,
+    registry: &Two<'_>,
+    workers: (TwoWorker, TwoWorker),
+    names: ((Named, Named), (Named, Named)),
+) -> (Side, Side)
+    requires { IsWorkerOf board.now workers.0 × IsWorkerOf board.now workers.1 }
+{
+    let (first, second) = workers;
+    let (one, other) = names;
+    join(
+        rt,
+        || -> Side
             requires { IsWorkerOf board.now first }
-        { count(board, first) },
-        || -> Result<Worker<2, 4, 1, 1>, CountFault>
+        { count_and_ask(rt, alloc, board, registry, first, one) },
+        || -> Side
             requires { IsWorkerOf board.now second }
-        { count(board, second) },
-    );
-    let _first = first?;
-    let _second = second?;
-    Ok(())
+        { count_and_ask(rt, alloc, board, registry, second, other) },
+    )
+}
+
+/// What the thread was given: a scrape at least. All was counted beside it.
+fn taken_from(rt: &impl Abort, side: Side) -> Result<Given, Fail> {
+    let (counted, given) = side;
+    same(rt, &counted, &Ok(()));
+    let given = given?;
+    same(rt, &given.scrapes.is_empty(), &false);
+    Ok(given)
+}
+
+/// What each of the threads was given.
+fn all_at_once(
+    rt: &(impl Abort + Threads + Wait + Sync),
+    alloc: Global,
+    board: &TwoBoard,
+    registry: &Two<'_>,
+    workers: (TwoWorker, TwoWorker),
+) -> Result<(Given, Given), Fail>
+    requires { IsWorkerOf board.now workers.0 × IsWorkerOf board.now workers.1 }
+{
+    let one = named(alloc, "a", "c")?;
+    let names = (one, named(alloc, "b", "d")?);
+    let (one, other) = two_sides(rt, alloc, board, registry, workers, names);
+    let one = taken_from(rt, one)?;
+    Ok((one, taken_from(rt, other)?))
 }
 
 /// What was registered and made stands in the journal: asked for again, a child gives its handle, and a descriptor is refused for
@@ -155,14 +217,14 @@ fn all_stand(
     counted: &[Counted],
 ) -> Result<(), Fail> {
     let before = state.journal().len();
-    for it in counted {
-        let again = state.register(desc(alloc, Kind::Counter, it.name, &[])?);
-        let with = it.family.number();
+    for (name, family, counter) in counted {
+        let again = state.register(desc(alloc, Kind::Counter, name, &[])?);
+        let with = family.number();
         same(rt, &again, &Err(RegisterFault::Clash { with }));
-        same(rt, &state.family(it.name), &Some(it.family));
-        let handle = state.child(it.family, &[])?;
-        same(rt, &handle, &Handle::Counter(it.counter));
-        same(rt, &it.counter.registry, &ID);
+        same(rt, &state.family(name), &Some(*family));
+        let handle = state.child(*family, &[])?;
+        same(rt, &handle, &Handle::Counter(*counter));
+        same(rt, &counter.registry, &ID);
     }
     same(rt, &state.journal().len(), &before);
     Ok(())
@@ -171,8 +233,8 @@ fn all_stand(
 /// The slot of the counter of this name.
 fn slot_of(counted: &[Counted], name: &str) -> Option<usize> {
     for it in counted {
-        if it.name == name {
-            return Some(it.counter.slot);
+        if it.0 == name {
+            return Some(it.2.slot);
         }
     }
     None
@@ -181,12 +243,15 @@ fn slot_of(counted: &[Counted], name: &str) -> Option<usize> {
 /// Each number of the scrape is that of its slot in the snapshot.
 fn is_shown(
     rt: &impl Abort,
-    counted: &[Counted],
+    one: &Given,
+    other: &Given,
     scrape: &Scrape,
     kept: &Snapshot<2, 4, 1, 1>,
 ) -> Result<(), Fail> {
     for family in scrape.families() {
-        let slot = slot_of(counted, family.desc.name().as_str()).ok_or("no such family")?;
+        let name = family.desc.name().as_str();
+        let slot = slot_of(&one.counted, name).or(slot_of(&other.counted, name));
+        let slot = slot.ok_or("no such family")?;
         for child in family.children.as_slice() {
             assert!(rt; slot < 4, "slot {slot}");
             same(rt, &child.number, &Number::Counter(kept.counter(slot)));
@@ -199,19 +264,17 @@ fn is_shown(
 /// thread whose next one is the kept one.
 fn all_kept(
     rt: &impl Abort,
-    alloc: Global,
     state: &State<'_>,
-    counted: &[Counted],
-    one: &[Scrape],
-    other: &[Scrape],
+    snapshot: &mut Snapshot<2, 4, 1, 1>,
+    one: &Given,
+    other: &Given,
 ) -> Result<(), Fail> {
     let kept = state.kept();
-    same(rt, &kept.len(), &(one.len() + other.len()));
-    let mut snapshot = Snapshot::new(alloc)?;
+    same(rt, &kept.len(), &(one.scrapes.len() + other.scrapes.len()));
     let (mut i, mut j) = (0usize, 0usize);
     for k in 0..kept.len() {
-        kept.read(k, &mut snapshot);
-        let scrape = match (one.get(i), other.get(j)) {
+        kept.read(k, snapshot);
+        let scrape = match (one.scrapes.get(i), other.scrapes.get(j)) {
             (Some(scrape), _) if scrape.vector() == snapshot.vector() => {
                 i += 1;
                 scrape
@@ -223,83 +286,56 @@ fn all_kept(
             _ => return Err("more was kept than was given".into()),
         };
         same(rt, &scrape.vector(), &snapshot.vector());
-        is_shown(rt, counted, scrape, &snapshot)?;
+        is_shown(rt, one, other, scrape, snapshot)?;
     }
     Ok(())
 }
 
-/// A descriptor of counters of this name.
-fn named(alloc: Global, name: &'static str) -> Result<Named, Fail> {
-    Ok((name, desc(alloc, Kind::Counter, name, &[])?))
-}
-
-/// Two threads at once, each of which asks for two families.
-fn two_ask(
-    rt: &(impl Threads + Wait + Sync),
-    alloc: Global,
+/// The last scrape is the first thread's, and shows all families with all that was counted.
+fn scrape_last(
+    rt: &(impl Abort + Wait),
     registry: &Two<'_>,
-    names: (Named, Named, Named, Named),
-) -> (Result<Given, Refusal>, Result<Given, Refusal>) {
-    let (a, b, c, d) = names;
-    join(
-        rt,
-        || -> Result<Given, Refusal> { ask(rt, alloc, registry, a, c) },
-        || -> Result<Given, Refusal> { ask(rt, alloc, registry, b, d) },
-    )
+    scrapes: &mut Vec<Scrape>,
+) -> Result<(), Fail> {
+    let last = registry.scrape(rt)?;
+    same(rt, &render(&last)?.as_slice(), &ALL);
+    Ok(scrapes.push(last)?)
 }
 
-/// Two workers and two threads that ask, at once. Each of these is given a scrape at least.
-fn all_at_once(
+/// All that was given stands behind the lock.
+fn stands(
+    rt: &impl Abort,
+    alloc: Global,
+    state: &mut State<'_>,
+    one: &Given,
+    other: &Given,
+) -> Result<(), Fail> {
+    all_stand(rt, alloc, state, &one.counted)?;
+    all_stand(rt, alloc, state, &other.counted)?;
+    let mut snapshot = Snapshot::new(alloc)?;
+    all_kept(rt, state, &mut snapshot, one, other)
+}
+
+/// Threads use a registry, of which nothing is left but what stood behind its lock.
+fn hands_on(
     rt: &(impl Abort + Threads + Wait + Sync),
     alloc: Global,
-    board: &Board<2, 4, 1, 1>,
-    registry: &Two<'_>,
-    first: Worker<2, 4, 1, 1>,
-    second: Worker<2, 4, 1, 1>,
-) -> Result<(Given, Given), Fail>
-    requires { IsWorkerOf board.now first × IsWorkerOf board.now second }
+    board: &TwoBoard,
+    registry: Two<'_>,
+    workers: (TwoWorker, TwoWorker),
+) -> Result<(), Fail>
+    requires { IsWorkerOf board.now workers.0 × IsWorkerOf board.now workers.1 }
 {
-    let (a, b) = (named(alloc, "a")?, named(alloc, "b")?);
-    let (c, d) = (named(alloc, "c")?, named(alloc, "d")?);
-    let names = (a, b, c, d);
-    let (counted, asked) = join(
-        rt,
-        || -> Result<(), CountFault>
-            requires { IsWorkerOf board.now first × IsWorkerOf board.now second }
-        { two_count(rt, board, first, second) },
-        || -> (Result<Given, Refusal>, Result<Given, Refusal>) {
-            two_ask(rt, alloc, registry, names)
-        },
-    );
-    counted?;
-    let (one, other) = (asked.0?, asked.1?);
-    let none = (one.scrapes.is_empty(), other.scrapes.is_empty());
-    same(rt, &none, &(false, false));
-    Ok((one, other))
+    let (mut one, other) = all_at_once(rt, alloc, board, &registry, workers)?;
+    scrape_last(rt, &registry, &mut one.scrapes)?;
+    stands(rt, alloc, &mut registry.into_state(), &one, &other)
 }
 
 #[test]
 fn registry_hands_on(rt: HostRuntime) -> Result<(), Fail> {
-    let alloc = rt.alloc();
-    let Pair {
-        board,
-        first,
-        second,
-        reader,
-    } = make_pair(alloc)?;
-    let registry = Registry::new(alloc, &board, reader, 65).map_err(|not_made| not_made.fault)?;
-    let (mut one, other) = all_at_once(&rt, alloc, &board, &registry, first, second)?;
-    // The last scrape is the first thread's, and shows all families with all that was counted.
-    let last = registry.scrape(&rt)?;
-    same(&rt, &render(&last)?.as_slice(), &ALL);
-    one.scrapes.push(last)?;
-    let mut state = registry.into_state();
-    all_stand(&rt, alloc, &mut state, one.counted.as_slice())?;
-    all_stand(&rt, alloc, &mut state, other.counted.as_slice())?;
-    let mut counted = one.counted;
-    for it in other.counted {
-        counted.push(it)?;
-    }
-    let (one, other) = (one.scrapes.as_slice(), other.scrapes.as_slice());
-    all_kept(&rt, alloc, &state, counted.as_slice(), one, other)
+    let mut crew = TwoCrew::new(rt.alloc(), ID, 1)?;
+    let registry = registry_of(rt.alloc(), &crew.board, &mut crew.readers, 65)?;
+    let second = last_worker(&crew.board, &mut crew.workers)?;
+    let first = last_worker(&crew.board, &mut crew.workers)?;
+    hands_on(&rt, rt.alloc(), &crew.board, registry, (first, second))
 }

@@ -4,7 +4,7 @@ ghost use Rattle.snapshot_scan.specs.Readers.{IsReaderOf};
 ghost use Rattle.snapshot_update.specs.Workers.{IsWorkerOf};
 
 use crate::asserts::same;
-use crate::crew::last_reader;
+use crate::crew::{last_reader, registry_of};
 use crate::helpers::desc;
 use chain_law::{NotAll, settle};
 use expo_text::{Number, Scrape};
@@ -14,7 +14,7 @@ use register_rule::Board;
 use registry_state::{Handle, ScrapeFault};
 use snapshot_scan::{Reader, Snapshot};
 use snapshot_update::{Crew, Worker};
-use std::alloc::Global;
+use std::alloc::{AllocError, Global};
 use std::process::Abort;
 use std::sync::Wait;
 use std::test::Fail;
@@ -46,13 +46,22 @@ fn one_counter(rt: &impl Wait, alloc: Global, registry: &Registry<'_>) -> Result
 }
 
 /// A worker's list of jobs.
-fn list(alloc: Global, counter: Counter) -> Result<Vec<Job>, Fail> {
+fn list(alloc: Global, counter: Counter) -> Result<Vec<Job>, AllocError> {
     let mut jobs = Vec::new(alloc);
     for _ in 0..TIMES {
         jobs.push(Job {
             line: 1,
             what: JobOp::Inc(counter, 1),
         })?;
+    }
+    Ok(jobs)
+}
+
+/// Those of all workers.
+fn lists(alloc: Global, counter: Counter) -> Result<Vec<Vec<Job>>, AllocError> {
+    let mut jobs = Vec::new(alloc);
+    for _ in 0..4 {
+        jobs.push(list(alloc, counter)?)?;
     }
     Ok(jobs)
 }
@@ -151,30 +160,64 @@ fn all_settle(
     same(rt, &out.vector(), &ALL.as_slice());
 }
 
+/// The same, by the last reader.
+fn settle_by_last(
+    rt: &impl Abort,
+    alloc: Global,
+    board: &Four,
+    readers: &mut Vec<Reader<4, 1, 0, 0>>,
+    workers: &mut [Worker<4, 1, 0, 0>],
+) -> Result<(), Fail>
+    requires { All (IsReaderOf board.now) readers.old.items × All (IsWorkerOf board.now) workers.old }
+{
+    let mut settler = last_reader(board, readers)?;
+    let mut out = Snapshot::new(alloc)?;
+    all_settle(rt, board, &mut settler, workers, &mut out);
+    Ok(())
+}
+
+/// All workers, when the pool has run all jobs. Meanwhile some scrape was made.
+fn counted(
+    rt: &(impl Threads + Wait + Abort + Sync),
+    alloc: Global,
+    board: &Four,
+    registry: &Registry<'_>,
+    workers: Workers,
+    jobs: &[Vec<Job>],
+) -> Result<Workers, Fail>
+    requires { All (IsWorkerOf board.now) workers.items }
+    ensures { IfOk result (λ v. All (IsWorkerOf board.now) v.items) }
+{
+    assert_eq!(rt; jobs.len(), workers.len());
+    let (counted, scraped) = count_and_scrape(rt, alloc, board, registry, workers, jobs);
+    assert!(rt; scraped?.0 > 0, "no scrape was made");
+    Ok(counted?)
+}
+
+/// Scrapes while the pool counts, and when all was counted.
+fn count_then_settle(
+    rt: &(impl Threads + Wait + Abort + Sync),
+    alloc: Global,
+    board: &Four,
+    workers: Workers,
+    readers: &mut Vec<Reader<4, 1, 0, 0>>,
+) -> Result<(), Fail>
+    requires { All (IsReaderOf board.now) readers.old.items × All (IsWorkerOf board.now) workers.items }
+{
+    let registry = registry_of(alloc, board, readers, 64)?;
+    let jobs = lists(alloc, one_counter(rt, alloc, &registry)?)?;
+    let mut workers = counted(rt, alloc, board, &registry, workers, &jobs)?;
+    settle_by_last(rt, alloc, board, readers, &mut workers)?;
+    same(rt, &scrape_often(rt, &registry)?, &(1, true));
+    Ok(())
+}
+
 #[test]
 fn scrapes_while_a_pool_counts(rt: HostRuntime) -> Result<(), Fail> {
-    let alloc = rt.alloc();
     let Crew {
         board,
         workers,
         mut readers,
-    } = Crew::new(alloc, 1, 2)?;
-    let mut settler = last_reader(&board, &mut readers)?;
-    let scraper = last_reader(&board, &mut readers)?;
-    let mut out = Snapshot::new(alloc)?;
-    let registry = Registry::new(alloc, &board, scraper, 64).map_err(|not_made| not_made.fault)?;
-    let counter = one_counter(&rt, alloc, &registry)?;
-    let jobs = [
-        list(alloc, counter)?,
-        list(alloc, counter)?,
-        list(alloc, counter)?,
-        list(alloc, counter)?,
-    ];
-    assert_eq!(rt; jobs.len(), workers.len());
-    let (counted, scraped) = count_and_scrape(&rt, alloc, &board, &registry, workers, &jobs);
-    assert!(rt; scraped?.0 > 0, "no scrape was made");
-    let mut workers = counted?;
-    all_settle(&rt, &board, &mut settler, &mut workers, &mut out);
-    same(&rt, &scrape_often(&rt, &registry)?, &(1, true));
-    Ok(())
+    } = Crew::new(rt.alloc(), 1, 2)?;
+    count_then_settle(&rt, rt.alloc(), &board, workers, &mut readers)
 }

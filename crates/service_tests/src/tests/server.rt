@@ -64,11 +64,8 @@ fn opened(steps: &[Step]) -> u64 {
 }
 
 /// What a server prints that has counted so many replies.
-fn lines(alloc: Global, port: u16, replies: u64) -> io::Result<Vec<u8>> {
-    let mut bytes = Vec::new(alloc);
-    writeln!(bytes, "listening {port}")?;
-    writeln!(bytes, "served {replies}")?;
-    Ok(bytes)
+fn lines(alloc: Global, port: u16, replies: u64) -> Result<String, Fail> {
+    Ok(format!(in alloc; "listening {port}\nserved {replies}\n")?)
 }
 
 /// How a server ended that serves so many connections, and what it wrote.
@@ -81,6 +78,20 @@ fn serve<T: Threads + Wait + Sync>(
     let mut written = Vec::new(alloc);
     let end = serve_on(rt, alloc, listener, count, &mut written);
     (end, written)
+}
+
+/// The server ended well, and counted so many replies.
+fn is_done(
+    rt: &impl Abort,
+    alloc: Global,
+    served: &(ServeEnd, Vec<u8>),
+    port: u16,
+    replies: u64,
+) -> Result<(), Fail> {
+    same(rt, &served.0, &ServeEnd::Done);
+    let printed = lines(alloc, port, replies)?;
+    same(rt, &served.1.as_slice(), &printed.as_bytes());
+    Ok(())
 }
 
 /// Serves the connections of these steps to the end, counts so many replies, and gives those that the clients read.
@@ -97,161 +108,205 @@ where
         || play(rt, alloc, port, steps),
     );
     let got = got?;
-    same(rt, &served.0, &ServeEnd::Done);
-    same(rt, &served.1, &lines(alloc, port, replies)?);
+    is_done(rt, alloc, &served, port, replies)?;
     Ok(got)
+}
+
+/// Serves the connections of these steps. So many replies are counted, and those that the clients read begin so.
+fn serves<T>(
+    rt: &T,
+    alloc: Global,
+    steps: &[Step],
+    replies: u64,
+    fronts: &[&[u8]],
+) -> Result<(), Fail>
+where
+    T: Abort + Threads + Wait + Sync + Net<Listener = TcpListener, Stream = TcpStream>,
+{
+    let got = replies_to(rt, alloc, steps, replies)?;
+    begin(rt, &got, fronts);
+    Ok(())
+}
+
+/// The same of replies that are these, one behind the other.
+fn serves_whole<T>(
+    rt: &T,
+    alloc: Global,
+    steps: &[Step],
+    fronts: &[&[u8]],
+    whole: &[u8],
+) -> Result<(), Fail>
+where
+    T: Abort + Threads + Wait + Sync + Net<Listener = TcpListener, Stream = TcpStream>,
+{
+    let got = replies_to(rt, alloc, steps, fronts.len() as u64)?;
+    begin(rt, &got, fronts);
+    same(rt, &got.concat(alloc)?.as_slice(), &whole);
+    Ok(())
 }
 
 #[test]
 fn the_first_reply(rt: HostRuntime) -> Result<(), Fail> {
     same(&rt, &FIRST.len(), &707);
-    let replies = replies_to(&rt, rt.alloc(), &[Step::Ask(USUAL)], 1)?;
-    begin(&rt, &replies, &[FIRST]);
-    same(&rt, &replies.concat(rt.alloc())?.as_slice(), &FIRST);
-    Ok(())
+    serves_whole(&rt, rt.alloc(), &[Step::Ask(USUAL)], &[FIRST], FIRST)
 }
+
+const FOUR: [Step; 6] = [
+    Step::Ask(OTHER),
+    Step::Open,
+    Step::End(1),
+    Step::Read(1),
+    Step::Ask(b"POST /metrics HTTP/1.1\r\nHost: h\r\n\r\n"),
+    Step::Ask(GET),
+];
 
 /// A connection without a byte is not counted.
 #[test]
 fn four_connections(rt: HostRuntime) -> Result<(), Fail> {
-    let steps = [
-        Step::Ask(OTHER),
-        Step::Open,
-        Step::End(1),
-        Step::Read(1),
-        Step::Ask(b"POST /metrics HTTP/1.1\r\nHost: h\r\n\r\n"),
-        Step::Ask(GET),
-    ];
-    let replies = replies_to(&rt, rt.alloc(), &steps, 3)?;
-    begin(&rt, &replies, &[MISSING, b"", WRONG, OK]);
-    Ok(())
+    serves(&rt, rt.alloc(), &FOUR, 3, &[MISSING, b"", WRONG, OK])
+}
+
+const OF_EACH_STATUS: [Step; 11] = [
+    Step::Ask(GET),
+    Step::Ask(b"GET /metrics HTTP/1.1\r\n\r\n"),
+    Step::Ask(OTHER),
+    Step::Ask(OTHER),
+    Step::Ask(POST),
+    Step::Ask(POST),
+    Step::Ask(POST),
+    Step::Open,
+    Step::Fill(7, OPEN_HEAD, 9_000),
+    Step::Read(7),
+    Step::Ask(GET),
+];
+
+/// What the last scrape ends in, behind the sum of the bytes.
+const COUNTS: &str = "scrape_reply_bytes_count 8
+# HELP scrape_requests_total Replies by status.
+# TYPE scrape_requests_total counter
+scrape_requests_total{code=\"200\"} 1
+scrape_requests_total{code=\"400\"} 1
+scrape_requests_total{code=\"404\"} 2
+scrape_requests_total{code=\"405\"} 3
+scrape_requests_total{code=\"431\"} 1
+scrape_requests_total{code=\"503\"} 0
+";
+
+/// How many bytes the replies have.
+fn bytes_of(replies: &[Vec<u8>]) -> usize {
+    let mut bytes = 0usize;
+    for reply in replies {
+        bytes = bytes.saturating_add(reply.len());
+    }
+    bytes
 }
 
 /// Replies of each status but 503, and then a scrape: what was counted by the threads of all of them.
 #[test]
 fn a_scrape_shows_the_replies_before_it(rt: HostRuntime) -> Result<(), Fail> {
-    let alloc = rt.alloc();
-    let steps = [
-        Step::Ask(GET),
-        Step::Ask(b"GET /metrics HTTP/1.1\r\n\r\n"),
-        Step::Ask(OTHER),
-        Step::Ask(OTHER),
-        Step::Ask(POST),
-        Step::Ask(POST),
-        Step::Ask(POST),
-        Step::Open,
-        Step::Fill(7, OPEN_HEAD, 9_000),
-        Step::Read(7),
-        Step::Ask(GET),
-    ];
-    let mut replies = replies_to(&rt, alloc, &steps, 9)?;
-    let last = replies.pop().ok_or("no reply")?;
+    let replies = replies_to(&rt, rt.alloc(), &OF_EACH_STATUS, 9)?;
+    let (last, before) = replies.split_last().ok_or("no reply")?;
     begin(
         &rt,
-        &replies,
+        before,
         &[OK, BAD, MISSING, MISSING, WRONG, WRONG, WRONG, LARGE],
     );
-    let mut sent = 0usize;
-    for reply in &replies {
-        sent = sent.saturating_add(reply.len());
-    }
-    let mut wanted = Vec::new(alloc);
-    writeln!(wanted, "scrape_reply_bytes_sum {sent}")?;
-    writeln!(wanted, "scrape_reply_bytes_count 8")?;
-    writeln!(wanted, "# HELP scrape_requests_total Replies by status.")?;
-    writeln!(wanted, "# TYPE scrape_requests_total counter")?;
-    for (code, replies) in [(200, 1), (400, 1), (404, 2), (405, 3), (431, 1), (503, 0)] {
-        writeln!(wanted, "scrape_requests_total{{code=\"{code}\"}} {replies}")?;
-    }
+    let sent = bytes_of(before);
+    let wanted = format!(in rt.alloc(); "scrape_reply_bytes_sum {sent}\n{COUNTS}")?;
     let shown = last.len().saturating_sub(wanted.len());
-    same(&rt, &last.get(shown..), &Some(wanted.as_slice()));
+    same(&rt, &last.get(shown..), &Some(wanted.as_bytes()));
     Ok(())
 }
+
+const QUIET: [Step; 8] = [
+    Step::Open,
+    Step::Ask(GET),
+    Step::Ask(OTHER),
+    Step::Ask(GET),
+    Step::Open,
+    Step::Ask(GET),
+    Step::End(0),
+    Step::End(4),
+];
 
 /// A client that says nothing until all others were served keeps nobody from being served, but those of its own thread.
 #[test]
 fn a_client_that_says_nothing(rt: HostRuntime) -> Result<(), Fail> {
-    let steps = [
-        Step::Open,
-        Step::Ask(GET),
-        Step::Ask(OTHER),
-        Step::Ask(GET),
-        Step::Open,
-        Step::Ask(GET),
-        Step::End(0),
-        Step::End(4),
-    ];
-    let replies = replies_to(&rt, rt.alloc(), &steps, 4)?;
-    begin(&rt, &replies, &[OK, MISSING, OK, OK]);
-    Ok(())
+    serves(&rt, rt.alloc(), &QUIET, 4, &[OK, MISSING, OK, OK])
 }
+
+const LEAVING: [Step; 8] = [
+    Step::Open,
+    Step::Send(0, b"GET /metrics HTTP/1.1\r\nHo"),
+    Step::End(0),
+    Step::Read(0),
+    Step::Open,
+    Step::Send(1, GET),
+    Step::Leave(1),
+    Step::Ask(GET),
+];
 
 /// A client that sends half a head, one that goes away within its reply, which resets the connection, and then a good one. The second
 /// reply was sent whole, and counts.
 #[test]
 fn clients_that_leave(rt: HostRuntime) -> Result<(), Fail> {
-    let steps = [
-        Step::Open,
-        Step::Send(0, b"GET /metrics HTTP/1.1\r\nHo"),
-        Step::End(0),
-        Step::Read(0),
-        Step::Open,
-        Step::Send(1, GET),
-        Step::Leave(1),
-        Step::Ask(GET),
-    ];
-    let replies = replies_to(&rt, rt.alloc(), &steps, 3)?;
-    begin(&rt, &replies, &[BAD, OK]);
-    Ok(())
+    serves(&rt, rt.alloc(), &LEAVING, 3, &[BAD, OK])
 }
+
+const SENDING_MUCH: [Step; 6] = [
+    Step::Open,
+    Step::Fill(
+        0,
+        b"POST /metrics HTTP/1.1\r\nHost: h\r\nContent-Length: 100000\r\n\r\n",
+        100_000,
+    ),
+    Step::Read(0),
+    Step::Open,
+    Step::Fill(1, OPEN_HEAD, 9_000),
+    Step::Read(1),
+];
+
+/// The replies to these.
+const TO_MUCH: &[u8] = b"HTTP/1.1 405 Method Not Allowed\r
+Allow: GET, HEAD\r
+Content-Type: text/plain; charset=utf-8\r
+Content-Length: 19\r
+Connection: close\r
+\r
+Method Not Allowed
+HTTP/1.1 431 Request Header Fields Too Large\r
+Content-Type: text/plain; charset=utf-8\r
+Content-Length: 32\r
+Connection: close\r
+\r
+Request Header Fields Too Large
+";
 
 /// A request with a body of 100,000 bytes, which nobody reads, and a head of over 9,000: both clients get their replies whole.
 #[test]
 fn clients_that_send_much(rt: HostRuntime) -> Result<(), Fail> {
-    let steps = [
-        Step::Open,
-        Step::Fill(
-            0,
-            b"POST /metrics HTTP/1.1\r\nHost: h\r\nContent-Length: 100000\r\n\r\n",
-            100_000,
-        ),
-        Step::Read(0),
-        Step::Open,
-        Step::Fill(1, OPEN_HEAD, 9_000),
-        Step::Read(1),
-    ];
-    let replies = replies_to(&rt, rt.alloc(), &steps, 2)?;
-    begin(&rt, &replies, &[WRONG, LARGE]);
-    let ends = (
-        replies
-            .first()
-            .is_some_and(|it| it.ends_with(b"\n\r\nMethod Not Allowed\n")),
-        replies.last().is_some_and(|it| it.ends_with(b"\n\r\nRequest Header Fields Too Large\n")),
-    );
-    same(&rt, &ends, &(true, true));
-    Ok(())
+    serves_whole(&rt, rt.alloc(), &SENDING_MUCH, &[WRONG, LARGE], TO_MUCH)
 }
+
+const STAYING: [Step; 11] = [
+    Step::Open,
+    Step::Send(0, GET),
+    Step::Read(0),
+    Step::Open,
+    Step::Send(1, POST),
+    Step::Read(1),
+    Step::Flood(1),
+    Step::Ask(GET),
+    Step::Ask(GET),
+    Step::Ask(GET),
+    Step::Ask(GET),
+];
 
 /// A client that keeps its connection after the reply, and one that sends on for as long as it is read, are let go: the next one of their
 /// thread is served.
 #[test]
 fn clients_that_stay(rt: HostRuntime) -> Result<(), Fail> {
-    let steps = [
-        Step::Open,
-        Step::Send(0, GET),
-        Step::Read(0),
-        Step::Open,
-        Step::Send(1, POST),
-        Step::Read(1),
-        Step::Flood(1),
-        Step::Ask(GET),
-        Step::Ask(GET),
-        Step::Ask(GET),
-        Step::Ask(GET),
-    ];
-    let replies = replies_to(&rt, rt.alloc(), &steps, 6)?;
-    begin(&rt, &replies, &[OK, WRONG, OK, OK, OK, OK]);
-    Ok(())
+    serves(&rt, rt.alloc(), &STAYING, 6, &[OK, WRONG, OK, OK, OK, OK])
 }
 
 /// Takes all that is written, but at one call, where it fails or takes nothing.
@@ -292,23 +347,31 @@ impl Write for Fails {
     }
 }
 
+/// After so many calls of its writer the server ends.
+fn ends_after<T>(rt: &T, alloc: Global, calls: u64) -> Result<(), Fail>
+where
+    T: Abort + Threads + Wait + Sync + Net<Listener = TcpListener, Stream = TcpStream>,
+{
+    let listener = TcpListener::bind(rt, (Ipv4Addr::LOCALHOST, 0))?;
+    let printed = lines(alloc, listener.local_addr()?.port(), 0)?;
+    let mut writer = Fails {
+        kept: Vec::new(alloc),
+        calls,
+        takes_nothing: calls % 2 == 0,
+    };
+    let end = serve_on(rt, alloc, listener, 0, &mut writer);
+    let status = if calls < 8 { 3 } else { 0 };
+    assert_eq!(rt; end.status(), status, "at call {calls}");
+    let kept = writer.kept.as_slice();
+    assert_eq!(rt; printed.as_bytes().get(..kept.len()), Some(kept), "at call {calls}");
+    Ok(())
+}
+
 /// Three writes and a flush are for the port, and as many for the replies.
 #[test]
 fn a_writer_that_fails(rt: HostRuntime) -> Result<(), Fail> {
-    let alloc = rt.alloc();
     for calls in 0..9u64 {
-        let listener = TcpListener::bind(&rt, (Ipv4Addr::LOCALHOST, 0))?;
-        let printed = lines(alloc, listener.local_addr()?.port(), 0)?;
-        let mut writer = Fails {
-            kept: Vec::new(alloc),
-            calls,
-            takes_nothing: calls % 2 == 0,
-        };
-        let end = serve_on(&rt, alloc, listener, 0, &mut writer);
-        let status = if calls < 8 { 3 } else { 0 };
-        assert_eq!(rt; end.status(), status, "at call {calls}");
-        let kept = writer.kept.as_slice();
-        assert_eq!(rt; printed.get(..kept.len()), Some(kept), "at call {calls}");
+        ends_after(&rt, rt.alloc(), calls)?;
     }
     Ok(())
 }

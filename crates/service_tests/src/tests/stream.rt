@@ -2,10 +2,9 @@
 use super::clients::{Step, begin, play};
 use super::ends::OK_A;
 use crate::asserts::same;
-use crate::crew::{Pair, make_pair};
+use crate::crew::{ID, Two, TwoCrew, ends_with, registry_of};
 use crate::helpers::desc;
 use metric_desc::Kind;
-use metric_registry::Registry;
 use scrape_http::{Served, Status, WireFault};
 use scrape_server::{FromRegistry, serve_stream};
 use std::alloc::Global;
@@ -16,50 +15,45 @@ use std::sync::Wait;
 use std::test::Fail;
 use std::thread::{Threads, join};
 
-/// What two connections were served.
-type Both = io::Result<(Result<Served, WireFault>, Result<Served, WireFault>)>;
+/// What a connection was served.
+type One = Result<Served, WireFault>;
+
+/// A scrape, and a head of over 9,000 bytes.
+const STEPS: [Step; 4] = [
+    Step::Ask(b"GET /metrics HTTP/1.1\r\nHost: h\r\n\r\n"),
+    Step::Open,
+    Step::Fill(1, b"GET /metrics HTTP/1.1\r\nHost: h\r\nX: ", 9_000),
+    Step::Read(1),
+];
 
 /// Registers the counter `a`, and makes its child.
-fn register(
-    rt: &impl Wait,
-    alloc: Global,
-    registry: &Registry<'_, 2, 4, 1, 1>,
-) -> Result<(), Fail> {
+fn register(rt: &impl Wait, alloc: Global, registry: &Two<'_>) -> Result<(), Fail> {
     let family = registry.register(rt, desc(alloc, Kind::Counter, "a", &[])?)?;
     registry.child(rt, family, &[])?;
     Ok(())
 }
 
-/// Serves two connections.
-fn serve_two(rt: &impl Wait, registry: &Registry<'_, 2, 4, 1, 1>, listener: &TcpListener) -> Both {
-    let mut source = FromRegistry { rt, registry };
+/// Serves a connection.
+fn serve_next(rt: &impl Wait, registry: &Two<'_>, listener: &TcpListener) -> io::Result<One> {
     let (stream, _peer) = listener.accept()?;
-    let first = serve_stream(&stream, &mut source);
-    drop(stream);
-    let (stream, _peer) = listener.accept()?;
-    Ok((first, serve_stream(&stream, &mut source)))
+    Ok(serve_stream(&stream, &mut FromRegistry { rt, registry }))
 }
 
-/// The replies to a scrape, and to a head of over 9,000 bytes.
-fn ask_two<T: Net<Listener = TcpListener, Stream = TcpStream>>(
-    rt: &T,
-    alloc: Global,
-    port: u16,
-) -> io::Result<Vec<Vec<u8>>> {
-    let steps = [
-        Step::Ask(b"GET /metrics HTTP/1.1\r\nHost: h\r\n\r\n"),
-        Step::Open,
-        Step::Fill(1, b"GET /metrics HTTP/1.1\r\nHost: h\r\nX: ", 9_000),
-        Step::Read(1),
-    ];
-    play(rt, alloc, port, &steps)
+/// Serves two connections.
+fn serve_two(
+    rt: &impl Wait,
+    registry: &Two<'_>,
+    listener: &TcpListener,
+) -> io::Result<(One, One)> {
+    let first = serve_next(rt, registry, listener)?;
+    Ok((first, serve_next(rt, registry, listener)?))
 }
 
 /// Serves the two that ask, and gives the replies that they read.
 fn serve_while_asked<T>(
     rt: &T,
     alloc: Global,
-    registry: &Registry<'_, 2, 4, 1, 1>,
+    registry: &Two<'_>,
 ) -> Result<Vec<Vec<u8>>, Fail>
 where
     T: Abort + Threads + Wait + Sync + Net<Listener = TcpListener, Stream = TcpStream>,
@@ -69,26 +63,38 @@ where
     let (served, replies) = join(
         rt,
         || serve_two(rt, registry, &listener),
-        || ask_two(rt, alloc, port),
+        || play(rt, alloc, port, &STEPS),
     );
-    let (first, second) = served?;
-    let (status, sent) = (Status::Success, OK_A.len());
-    same(rt, &first, &Ok(Served { status, sent }));
-    let (status, sent) = (Status::TooLarge, 160);
-    same(rt, &second, &Ok(Served { status, sent }));
+    are_served(rt, served?);
     Ok(replies?)
+}
+
+/// The reply to a scrape was sent, and the one to a large head.
+fn are_served(rt: &impl Abort, served: (One, One)) {
+    let (status, sent) = (Status::Success, OK_A.len());
+    same(rt, &served.0, &Ok(Served { status, sent }));
+    let (status, sent) = (Status::TooLarge, 160);
+    same(rt, &served.1, &Ok(Served { status, sent }));
+}
+
+/// Both clients read their replies.
+fn asks_two<T>(rt: &T, alloc: Global, registry: &Two<'_>) -> Result<(), Fail>
+where
+    T: Abort + Threads + Wait + Sync + Net<Listener = TcpListener, Stream = TcpStream>,
+{
+    register(rt, alloc, registry)?;
+    let replies = serve_while_asked(rt, alloc, registry)?;
+    let large = b"HTTP/1.1 431 Request Header Fields Too Large\r\n".as_slice();
+    begin(rt, &replies, &[OK_A, large]);
+    Ok(())
 }
 
 /// A scrape, which is kept, and a head of over 9,000 bytes, for which none is made.
 #[test]
 fn two_connections(rt: HostRuntime) -> Result<(), Fail> {
-    let alloc = rt.alloc();
-    let Pair { board, reader, .. } = make_pair(alloc)?;
-    let registry = Registry::new(alloc, &board, reader, 4).map_err(|no| no.fault)?;
-    register(&rt, alloc, &registry)?;
-    let replies = serve_while_asked(&rt, alloc, &registry)?;
-    let large = b"HTTP/1.1 431 Request Header Fields Too Large\r\n".as_slice();
-    begin(&rt, &replies, &[OK_A, large]);
-    same(&rt, &registry.into_state().kept().len(), &1);
+    let mut crew = TwoCrew::new(rt.alloc(), ID, 1)?;
+    let registry = registry_of(rt.alloc(), &crew.board, &mut crew.readers, 4)?;
+    asks_two(&rt, rt.alloc(), &registry)?;
+    ends_with(&rt, registry, 1, 3);
     Ok(())
 }
