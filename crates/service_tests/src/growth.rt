@@ -271,11 +271,7 @@ fn scrape_behind(rt: &(impl Wait + Abort), registry: &Two<'_>) -> Result<(), Fai
 }
 
 /// Registers a gauge, makes its child, and scrapes twice.
-fn use_registry(
-    rt: &(impl Wait + Abort),
-    alloc: Global,
-    registry: &Two<'_>,
-) -> Result<(), Fail> {
+fn use_registry(rt: &(impl Wait + Abort), alloc: Global, registry: &Two<'_>) -> Result<(), Fail> {
     let family = register_behind(rt, alloc, registry)?;
     same(rt, &family.number(), &0);
     let handle = child_behind(rt, registry, family, &values(alloc, &["b"])?)?;

@@ -146,11 +146,7 @@ fn count_and_ask(
 }
 
 /// The names of two families with their descriptors of counters.
-fn named(
-    alloc: Global,
-    first: &'static str,
-    second: &'static str,
-) -> Result<(Named, Named), Fail> {
+fn named(alloc: Global, first: &'static str, second: &'static str) -> Result<(Named, Named), Fail> {
     let one = desc(alloc, Kind::Counter, first, &[])?;
     Ok((
         (first, one),

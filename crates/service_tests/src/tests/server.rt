@@ -363,7 +363,11 @@ where
     let status = if calls < 8 { 3 } else { 0 };
     assert_eq!(rt; end.status(), status, "at call {calls}");
     let kept = writer.kept.as_slice();
-    assert_eq!(rt; printed.as_bytes().get(..kept.len()), Some(kept), "at call {calls}");
+    assert_eq!(rt;
+        printed.as_bytes().get(..kept.len()),
+        Some(kept),
+        "at call {calls}"
+    );
     Ok(())
 }
 

@@ -17,27 +17,28 @@ use std::test::Fail;
 /// Adds one to the counter.
 const INC: Op = Op::Inc { counter: 0, by: 1 };
 
-#[test]
-fn one_counter(rt: HostRuntime) -> Result<(), Fail> {
-    let alloc = rt.alloc();
-    let mut registry = plain(alloc, 64)?;
-    prints(&rt, &mut registry, "")?;
+/// A counter without help is shown when its child is made, and with all that was counted.
+fn shows_a_counter(rt: &impl Abort, alloc: Global, registry: &mut Plain) -> Result<(), Fail> {
+    prints(rt, registry, "")?;
     let family = registry.register(desc(alloc, Kind::Counter, "a", &[])?)?;
-    prints(&rt, &mut registry, "")?;
+    prints(rt, registry, "")?;
     registry.child(family, &[])?;
-    prints(&rt, &mut registry, "# TYPE a counter\na 0\n")?;
+    prints(rt, registry, "# TYPE a counter\na 0\n")?;
     registry.apply(&[Op::Inc { counter: 0, by: 5 }])?;
     registry.apply(&[Op::Inc { counter: 0, by: 2 }])?;
-    prints(&rt, &mut registry, "# TYPE a counter\na 7\n")?;
-    holds(&rt, &registry, 4, 6);
+    prints(rt, registry, "# TYPE a counter\na 7\n")?;
+    holds(rt, registry, 4, 6);
     Ok(())
 }
 
-/// Families are shown in the order of their names, whichever was registered first. Each kind has slots of its own.
 #[test]
-fn one_of_each_kind(rt: HostRuntime) -> Result<(), Fail> {
-    let alloc = rt.alloc();
-    let mut registry = plain(alloc, 64)?;
+fn one_counter(rt: HostRuntime) -> Result<(), Fail> {
+    let mut registry = plain(rt.alloc(), 64)?;
+    shows_a_counter(&rt, rt.alloc(), &mut registry)
+}
+
+/// A histogram, a gauge and a counter.
+fn shows_each_kind(rt: &impl Abort, alloc: Global, registry: &mut Plain) -> Result<(), Fail> {
     let bounds = Bounds::from_slice(&[10, 20])?;
     let (registry_id, slot) = (ID, 0);
     let hist = Histogram {
@@ -45,12 +46,12 @@ fn one_of_each_kind(rt: HostRuntime) -> Result<(), Fail> {
         slot,
         bounds,
     };
-    let handle = made(&mut registry, alloc, Kind::Histogram, "h")?;
-    same(&rt, &handle, &Handle::Histogram(hist));
-    let handle = made(&mut registry, alloc, Kind::Gauge, "g")?;
-    same(&rt, &handle, &first_gauge());
-    let handle = made(&mut registry, alloc, Kind::Counter, "a")?;
-    same(&rt, &handle, &first_counter());
+    let handle = made(registry, alloc, Kind::Histogram, "h")?;
+    same(rt, &handle, &Handle::Histogram(hist));
+    let handle = made(registry, alloc, Kind::Gauge, "g")?;
+    same(rt, &handle, &first_gauge());
+    let handle = made(registry, alloc, Kind::Counter, "a")?;
+    same(rt, &handle, &first_counter());
     registry.apply(&[
         Op::Up { gauge: 0, by: 5 },
         Op::Down { gauge: 0, by: 7 },
@@ -62,11 +63,18 @@ fn one_of_each_kind(rt: HostRuntime) -> Result<(), Fail> {
         INC,
     ])?;
     prints(
-        &rt,
-        &mut registry,
+        rt,
+        registry,
         "# TYPE a counter\na 1\n# TYPE g gauge\ng -2\n# TYPE h histogram\nh_bucket{le=\"10\"} 0\n\
          h_bucket{le=\"20\"} 1\nh_bucket{le=\"+Inf\"} 1\nh_sum 11\nh_count 1\n",
     )
+}
+
+/// Families are shown in the order of their names, whichever was registered first. Each kind has slots of its own.
+#[test]
+fn one_of_each_kind(rt: HostRuntime) -> Result<(), Fail> {
+    let mut registry = plain(rt.alloc(), 64)?;
+    shows_each_kind(&rt, rt.alloc(), &mut registry)
 }
 
 /// The descriptor is refused for this family, and nothing has changed.
@@ -77,41 +85,59 @@ fn clashes(rt: &impl Abort, registry: &mut Plain, desc: Desc, with: usize) {
     same(rt, &registry.journal().len(), &before);
 }
 
-/// A sample's name belongs to one family, whichever was registered first; of several the least is told.
-#[test]
-fn shared_names(rt: HostRuntime) -> Result<(), Fail> {
-    let alloc = rt.alloc();
-    let mut registry = plain(alloc, 1)?;
+/// A histogram first, and then counters first.
+fn refuses_shared_names(rt: &impl Abort, alloc: Global, registry: &mut Plain) -> Result<(), Fail> {
     let family = registry.register(desc(alloc, Kind::Histogram, "x", &[])?)?;
-    same(&rt, &family.number(), &0);
+    same(rt, &family.number(), &0);
     let of_count = desc(alloc, Kind::Counter, "x_count", &[])?;
-    clashes(&rt, &mut registry, of_count, 0);
+    clashes(rt, registry, of_count, 0);
     registry.register(desc(alloc, Kind::Counter, "y_count", &[])?)?;
     registry.register(desc(alloc, Kind::Counter, "y_sum", &[])?)?;
     let of_y = desc(alloc, Kind::Histogram, "y", &[])?;
-    clashes(&rt, &mut registry, of_y, 1);
-    same(&rt, &RegisterFault::Clash { with: 1 }.number(), &19);
-    prints(&rt, &mut registry, "")?;
-    holds(&rt, &registry, 1, 4);
+    clashes(rt, registry, of_y, 1);
+    same(rt, &RegisterFault::Clash { with: 1 }.number(), &19);
+    prints(rt, registry, "")?;
+    holds(rt, registry, 1, 4);
+    Ok(())
+}
+
+/// A sample's name belongs to one family, whichever was registered first; of several the least is told.
+#[test]
+fn shared_names(rt: HostRuntime) -> Result<(), Fail> {
+    let mut registry = plain(rt.alloc(), 1)?;
+    refuses_shared_names(&rt, rt.alloc(), &mut registry)
+}
+
+/// Registers the family of this number.
+fn register_next(
+    rt: &impl Abort,
+    alloc: Global,
+    registry: &mut Plain,
+    number: usize,
+) -> Result<(), Fail> {
+    let name = format!(in alloc; "f{number}")?;
+    let family = registry.register(desc(alloc, Kind::Counter, name.as_str(), &[])?)?;
+    same(rt, &family.number(), &number);
+    Ok(())
+}
+
+/// Registers 128 families, and no other.
+fn is_full(rt: &impl Abort, alloc: Global, registry: &mut Plain) -> Result<(), Fail> {
+    for number in 0..128usize {
+        register_next(rt, alloc, registry, number)?;
+    }
+    clashes(rt, registry, desc(alloc, Kind::Gauge, "f127", &[])?, 127);
+    let more = registry.register(desc(alloc, Kind::Counter, "more", &[])?);
+    same(rt, &more, &Err(RegisterFault::TooManyFamilies));
+    same(rt, &RegisterFault::TooManyFamilies.number(), &23);
+    same(rt, &registry.journal().len(), &128);
     Ok(())
 }
 
 #[test]
 fn the_129th_family(rt: HostRuntime) -> Result<(), Fail> {
-    let alloc = rt.alloc();
-    let mut registry = plain(alloc, 1)?;
-    for number in 0..128usize {
-        let name = format!(in alloc; "f{number}")?;
-        let family = registry.register(desc(alloc, Kind::Counter, name.as_str(), &[])?)?;
-        same(&rt, &family.number(), &number);
-    }
-    let again = desc(alloc, Kind::Gauge, "f127", &[])?;
-    clashes(&rt, &mut registry, again, 127);
-    let more = registry.register(desc(alloc, Kind::Counter, "more", &[])?);
-    same(&rt, &more, &Err(RegisterFault::TooManyFamilies));
-    same(&rt, &RegisterFault::TooManyFamilies.number(), &23);
-    same(&rt, &registry.journal().len(), &128);
-    Ok(())
+    let mut registry = plain(rt.alloc(), 1)?;
+    is_full(&rt, rt.alloc(), &mut registry)
 }
 
 /// There is no child of these values, for this reason, and nothing has changed.
@@ -131,91 +157,129 @@ fn refused(
     Ok(())
 }
 
-/// A second child of counters finds no slot, and the first one is found again. A child that is refused takes no slot.
-#[test]
-fn every_slot_used(rt: HostRuntime) -> Result<(), Fail> {
-    let alloc = rt.alloc();
-    let mut registry = plain(alloc, 1)?;
+/// Children, each refused for one reason, and one that is made.
+fn uses_every_slot(rt: &impl Abort, alloc: Global, registry: &mut Plain) -> Result<(), Fail> {
     let elsewhere = plain(alloc, 1)?.register(desc(alloc, Kind::Gauge, "g", &[])?)?;
     let absent = (ChildFault::NoSuchFamily, 20);
-    refused(&rt, &mut registry, elsewhere, alloc, &[], absent)?;
+    refused(rt, registry, elsewhere, alloc, &[], absent)?;
     let family = registry.register(desc(alloc, Kind::Counter, "a", &["l"])?)?;
     let (want, got) = (1, 2);
     let count = (ChildFault::LabelCount { want, got }, 21);
-    refused(&rt, &mut registry, family, alloc, &["x", "y"], count)?;
+    refused(rt, registry, family, alloc, &["x", "y"], count)?;
     let values = values(alloc, &["x"])?;
     let first = registry.child(family, &values)?;
-    same(&rt, &first, &first_counter());
+    same(rt, &first, &first_counter());
     let kind = Kind::Counter;
     let full = (ChildFault::Full { kind }, 22);
-    refused(&rt, &mut registry, family, alloc, &["y"], full)?;
-    same(&rt, &registry.child(family, &values)?, &first);
-    same(&rt, &registry.family("a"), &Some(family));
-    same(&rt, &registry.family("b"), &None);
-    same(&rt, &registry.journal().len(), &2);
+    refused(rt, registry, family, alloc, &["y"], full)?;
+    same(rt, &registry.child(family, &values)?, &first);
+    same(rt, &registry.family("a"), &Some(family));
+    same(rt, &registry.family("b"), &None);
+    same(rt, &registry.journal().len(), &2);
+    Ok(())
+}
+
+/// A second child of counters finds no slot, and the first one is found again. A child that is refused takes no slot.
+#[test]
+fn every_slot_used(rt: HostRuntime) -> Result<(), Fail> {
+    let mut registry = plain(rt.alloc(), 1)?;
+    uses_every_slot(&rt, rt.alloc(), &mut registry)
+}
+
+/// The counter of this kept scrape.
+fn kept_counter(registry: &Plain, number: usize, out: &mut Snapshot<1, 1, 1, 1>) -> Option<u64> {
+    let kept = registry.kept();
+    if number < kept.len() {
+        kept.read(number, out);
+        return Some(out.counter(0));
+    }
+    None
+}
+
+/// Makes 65 scrapes, and counts 1 after each.
+fn scrape_and_count(registry: &mut Plain) -> Result<(), Fail> {
+    for _ in 0..65 {
+        let _scrape = registry.scrape()?;
+        registry.apply(&[INC])?;
+    }
     Ok(())
 }
 
 /// Of 65 scrapes the newest 64 are kept, and the entries before them.
 #[test]
 fn the_65th_scrape(rt: HostRuntime) -> Result<(), Fail> {
-    let alloc = rt.alloc();
-    let mut registry = plain(alloc, 64)?;
-    made(&mut registry, alloc, Kind::Counter, "a")?;
-    for _ in 0..65 {
+    let mut out = Snapshot::new(rt.alloc())?;
+    let mut registry = plain(rt.alloc(), 64)?;
+    made(&mut registry, rt.alloc(), Kind::Counter, "a")?;
+    scrape_and_count(&mut registry)?;
+    holds(&rt, &registry, 64, 66);
+    same(&rt, &kept_counter(&registry, 0, &mut out), &Some(1));
+    same(&rt, &kept_counter(&registry, 63, &mut out), &Some(64));
+    Ok(())
+}
+
+/// Makes 70 scrapes, then other windows, and a scrape in each that is one.
+fn moves_windows(rt: &impl Abort, registry: &mut Plain) -> Result<(), Fail> {
+    for _ in 0..70 {
         let _scrape = registry.scrape()?;
-        registry.apply(&[INC])?;
     }
-    assert_eq!(rt; (registry.kept().len(), registry.journal().len()), (64, 66));
-    let mut out = Snapshot::new(alloc)?;
-    registry.kept().read(0, &mut out);
-    same(&rt, &out.counter(0), &1);
-    registry.kept().read(63, &mut out);
-    same(&rt, &out.counter(0), &64);
+    same(rt, &registry.set_window(3), &Ok(3));
+    prints(rt, registry, "# TYPE a counter\na 0\n")?;
+    holds(rt, registry, 3, 5);
+    same(rt, &registry.set_window(1_024), &Ok(3));
+    same(rt, &registry.set_window(0), &Err(BadWindow));
+    same(rt, &registry.set_window(1_025), &Err(BadWindow));
+    same(rt, &BadWindow.number(), &31);
+    prints(rt, registry, "# TYPE a counter\na 0\n")?;
+    holds(rt, registry, 4, 6);
     Ok(())
 }
 
 /// A smaller window drops the oldest scrapes, and holds for the scrapes that follow, until it is larger again.
 #[test]
 fn windows(rt: HostRuntime) -> Result<(), Fail> {
-    let alloc = rt.alloc();
-    let mut registry = plain(alloc, 64)?;
-    made(&mut registry, alloc, Kind::Counter, "a")?;
-    for _ in 0..70 {
-        let _scrape = registry.scrape()?;
+    let mut registry = plain(rt.alloc(), 64)?;
+    made(&mut registry, rt.alloc(), Kind::Counter, "a")?;
+    moves_windows(&rt, &mut registry)
+}
+
+/// A registry of this window is refused, and gives the source back.
+fn refused_window(
+    rt: &impl Abort,
+    alloc: Global,
+    source: Source,
+    window: usize,
+) -> Result<Source, Fail> {
+    match Plain::new(alloc, source, ID, window) {
+        Ok(_registry) => Err("a window of any size".into()),
+        Err(none) => {
+            same(rt, &none.fault, &NewFault::BadWindow);
+            Ok(none.source)
+        }
     }
-    same(&rt, &registry.set_window(3), &Ok(3));
-    prints(&rt, &mut registry, "# TYPE a counter\na 0\n")?;
-    holds(&rt, &registry, 3, 5);
-    same(&rt, &registry.set_window(1_024), &Ok(3));
-    same(&rt, &registry.set_window(0), &Err(BadWindow));
-    same(&rt, &registry.set_window(1_025), &Err(BadWindow));
-    same(&rt, &BadWindow.number(), &31);
-    prints(&rt, &mut registry, "# TYPE a counter\na 0\n")?;
-    holds(&rt, &registry, 4, 6);
-    Ok(())
+}
+
+/// A registry with the greatest window counts 1, and gives the source back at its end.
+fn counted_by_registry(alloc: Global, source: Source) -> Result<Source, Fail> {
+    match Plain::new(alloc, source, ID, 1_024) {
+        Ok(mut registry) => {
+            registry.apply(&[INC])?;
+            Ok(registry.into_source())
+        }
+        Err(none) => Err(none.fault.into()),
+    }
 }
 
 /// A window that is refused gives the source back as it was, and so does a registry at its end.
 #[test]
 fn sources_come_back(rt: HostRuntime) -> Result<(), Fail> {
-    let alloc = rt.alloc();
-    let mut source = Source::new(alloc)?;
+    let mut out = Snapshot::new(rt.alloc())?;
+    let mut source = Source::new(rt.alloc())?;
     source.apply(&[INC, INC])?;
-    for window in [0, 1_025] {
-        match Plain::new(alloc, source, ID, window) {
-            Ok(_registry) => return Err("a window of any size".into()),
-            Err(not_made) => {
-                same(&rt, &not_made.fault, &NewFault::BadWindow);
-                source = not_made.source;
-            }
-        }
-    }
+    let source = refused_window(&rt, rt.alloc(), source, 0)?;
+    let source = refused_window(&rt, rt.alloc(), source, 1_025)?;
     same(&rt, &NewFault::BadWindow.number(), &31);
-    let mut registry = Plain::new(alloc, source, ID, 1_024).map_err(|not_made| not_made.fault)?;
-    registry.apply(&[INC])?;
-    let mut source = registry.into_source();
-    let mut out = Snapshot::new(alloc)?;
+    let mut source = counted_by_registry(rt.alloc(), source)?;
     source.take(&mut out);
     same(&rt, &out.counter(0), &3);
     same(&rt, &out.vector(), &[2].as_slice());

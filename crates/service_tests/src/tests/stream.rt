@@ -40,21 +40,13 @@ fn serve_next(rt: &impl Wait, registry: &Two<'_>, listener: &TcpListener) -> io:
 }
 
 /// Serves two connections.
-fn serve_two(
-    rt: &impl Wait,
-    registry: &Two<'_>,
-    listener: &TcpListener,
-) -> io::Result<(One, One)> {
+fn serve_two(rt: &impl Wait, registry: &Two<'_>, listener: &TcpListener) -> io::Result<(One, One)> {
     let first = serve_next(rt, registry, listener)?;
     Ok((first, serve_next(rt, registry, listener)?))
 }
 
 /// Serves the two that ask, and gives the replies that they read.
-fn serve_while_asked<T>(
-    rt: &T,
-    alloc: Global,
-    registry: &Two<'_>,
-) -> Result<Vec<Vec<u8>>, Fail>
+fn serve_while_asked<T>(rt: &T, alloc: Global, registry: &Two<'_>) -> Result<Vec<Vec<u8>>, Fail>
 where
     T: Abort + Threads + Wait + Sync + Net<Listener = TcpListener, Stream = TcpStream>,
 {

@@ -77,23 +77,27 @@ fn serve(service: &mut Service, alloc: Global) -> Result<(), Fail> {
     Ok(())
 }
 
+/// What the scrape is in the end.
+const SHOWN: &str = "# TYPE http_requests_total counter\n\
+     http_requests_total{code=\"200\"} 3\n\
+     http_requests_total{code=\"500\"} 1\n\
+     # HELP request_size_bytes The size of a request.\n\
+     # TYPE request_size_bytes histogram\n\
+     request_size_bytes_bucket{le=\"10\"} 1\n\
+     request_size_bytes_bucket{le=\"20\"} 2\n\
+     request_size_bytes_bucket{le=\"+Inf\"} 3\n\
+     request_size_bytes_sum 55\n\
+     request_size_bytes_count 3\n";
+
 #[test]
 fn tour(rt: HostRuntime) -> Result<(), Fail> {
-    let alloc = rt.alloc();
-    let source = PlainSource::new(alloc)?;
-    let mut service = Service::new(alloc, source, 7, 64).map_err(|not_made| not_made.fault)?;
-    serve(&mut service, alloc)?;
+    let source = PlainSource::new(rt.alloc())?;
+    let mut service = match Service::new(rt.alloc(), source, 7, 64) {
+        Ok(service) => service,
+        Err(none) => return Err(none.fault.into()),
+    };
+    serve(&mut service, rt.alloc())?;
     let text = render(&service.scrape()?)?;
-    let expected = "# TYPE http_requests_total counter\n\
-         http_requests_total{code=\"200\"} 3\n\
-         http_requests_total{code=\"500\"} 1\n\
-         # HELP request_size_bytes The size of a request.\n\
-         # TYPE request_size_bytes histogram\n\
-         request_size_bytes_bucket{le=\"10\"} 1\n\
-         request_size_bytes_bucket{le=\"20\"} 2\n\
-         request_size_bytes_bucket{le=\"+Inf\"} 3\n\
-         request_size_bytes_sum 55\n\
-         request_size_bytes_count 3\n";
-    same(&rt, &text.as_slice(), &expected.as_bytes());
+    same(&rt, &text.as_slice(), &SHOWN.as_bytes());
     Ok(())
 }
