@@ -93,6 +93,25 @@ pub fn reader<const N: usize, const C: usize, const H: usize, const G: usize>(
     }
 }
 
+/// What is scanned: a source, whose snapshot is let go.
+pub trait Scans {
+    fn scan(&mut self) -> Option<()>;
+}
+
+/// A source with the snapshot that it scans to.
+#[derive(Drop)]
+pub struct Scanning<S, const N: usize, const C: usize, const H: usize, const G: usize> {
+    pub source: S,
+    pub out: Snapshot<N, C, H, G>,
+}
+
+impl<S: Source<N, C, H, G>, const N: usize, const C: usize, const H: usize, const G: usize> Scans
+    for Scanning<S, N, C, H, G> {
+    fn scan(&mut self) -> Option<()> {
+        self.source.scan(&mut self.out).ok()
+    }
+}
+
 /// A list of [`LIST`] increments by 1, of so many counters in turn.
 fn list(alloc: Global, counters: usize) -> Result<Vec<Op>> {
     let mut ops = Vec::new(alloc);
@@ -179,30 +198,25 @@ impl<R: Rt> Lines<'_, R> {
     }
 
     /// Scans of a board of rows of so many words: where nobody publishes, and where the first workers have published before each.
-    fn scans<S: Source<N, C, H, G>, const N: usize, const C: usize, const H: usize, const G: usize>(
+    fn scans(
         &self,
         workers: &mut [impl Counts],
-        source: &mut S,
+        scans: &mut impl Scans,
         words: usize,
     ) -> Result<()> {
-        let (rt, copied) = (self.rt, words.saturating_add(N));
-        let out = &mut Snapshot::new(rt.alloc())?;
-        let floor = &mut Floor::new(rt.alloc(), N, 0, copied)?;
-        self.measure(
-            "scan_quiet",
-            10,
-            |_| floor.scan(),
-            |_| source.scan(out).ok(),
-        )?;
+        let (rt, all) = (self.rt, workers.len());
+        let copied = words.saturating_add(all);
+        let floor = &mut Floor::new(rt.alloc(), all, 0, copied)?;
+        self.measure("scan_quiet", 10, |_| floor.scan(), |_| scans.scan())?;
         for (name, moved) in MOVES {
             let Some(moving) = workers.get_mut(..moved) else {
                 break;
             };
-            let floor = &mut Floor::new(rt.alloc(), N, words.saturating_mul(moved), copied)?;
+            let floor = &mut Floor::new(rt.alloc(), all, words.saturating_mul(moved), copied)?;
             let least = |rounds| timed(rt, rounds, &mut |_| floor.scan());
             self.batches(name, 1_000, least, |rounds| {
                 let make = &mut |_| publish(moving);
-                timed_each(rt, rounds, make, &mut |()| source.scan(out).ok())
+                timed_each(rt, rounds, make, &mut |()| scans.scan())
             })?;
         }
         Ok(())
@@ -215,22 +229,17 @@ impl<R: Rt + Threads + Sync> Lines<'_, R> {
     fn crew<const N: usize, const C: usize, const H: usize, const G: usize>(
         &self,
         mut workers: Vec<Counting<'_, N, C, H, G>>,
-        source: &mut Scanner<'_, N, C, H, G>,
+        scans: &mut impl Scans,
         words: usize,
     ) -> Result<()> {
         let first = workers.first_mut().context("no worker")?;
         self.increments(first, N, C)?;
         self.lists(first, N, C)?;
-        self.scans(&mut workers, source, words)?;
+        self.scans(&mut workers, scans, words)?;
         let rounds = self.one_in(100);
         let floor = four_updates(self.rt, N, rounds)?;
-        self.line(
-            "busy_4",
-            rounds,
-            four_count(self.rt, workers, rounds)?,
-            floor,
-            None,
-        )
+        let taken = four_count(self.rt, workers, rounds)?;
+        self.line("busy_4", rounds, taken, floor, None)
     }
 
     /// A new board of rows of so many words.
@@ -241,7 +250,8 @@ impl<R: Rt + Threads + Sync> Lines<'_, R> {
         let crew = Crew::<N, C, H, G>::new(self.rt.alloc(), ID, 1)?;
         let (board, workers, readers) = (crew.board, crew.workers, crew.readers);
         let workers = with_board(self.rt.alloc(), &board, workers)?;
-        let mut source = Scanner::new(&board, reader(&board, readers)?);
-        self.crew(workers, &mut source, words)
+        let source = Scanner::new(&board, reader(&board, readers)?);
+        let out = Snapshot::new(self.rt.alloc())?;
+        self.crew(workers, &mut Scanning { source, out }, words)
     }
 }

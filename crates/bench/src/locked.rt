@@ -128,11 +128,11 @@ fn ask_on<const N: usize, const C: usize, const H: usize>(
 
 /// [`four_count`] of these workers, or [`scrapes`] where there are none, once another thread has asked, which goes on in a loop
 /// meanwhile.
-fn asked<const N: usize, const C: usize, const H: usize>(
+fn asked<'a, const N: usize, const C: usize, const H: usize>(
     rt: &(impl Threads + Wait + Clock + AllocGlobal + Sync),
-    registry: &Registry<'_, N, C, H, 0>,
+    registry: &Registry<'a, N, C, H, 0>,
     beside: &Beside,
-    workers: Option<Vec<Counting<'_, N, C, H, 0>>>,
+    workers: Option<Vec<Counting<'a, N, C, H, 0>>>,
     rounds: u64,
 ) -> Result<u64> {
     let (begun, ended) = &(AtomicBool::new(false), AtomicBool::new(false));
@@ -171,6 +171,22 @@ fn counts<const N: usize, const C: usize, const H: usize>(
 }
 
 impl<R: Rt + Threads + Wait + Sync> Lines<'_, R> {
+    /// Scrapes of a registry while another thread asks, and with nobody beside them.
+    fn beside<const N: usize, const C: usize, const H: usize>(
+        &self,
+        name: &str,
+        registry: &Registry<'_, N, C, H, 0>,
+        beside: &Beside,
+    ) -> Result<()> {
+        let rounds = self.one_in(1_000);
+        let (mut least, mut taken) = (u64::MAX, u64::MAX);
+        for _batch in 0..10 {
+            least = least.min(scrapes(self.rt, registry, rounds)?);
+            taken = taken.min(asked(self.rt, registry, beside, None, rounds)?);
+        }
+        self.line(name, rounds, taken, least, None)
+    }
+
     /// Scrapes of a registry while another thread calls it. The floor is the same loop with nobody beside it.
     fn behind<const N: usize, const C: usize, const H: usize>(
         &self,
@@ -185,9 +201,7 @@ impl<R: Rt + Threads + Wait + Sync> Lines<'_, R> {
             ("scrape_behind_child", &child),
             ("scrape_behind_register", &Beside::Clash(service)),
         ] {
-            let alone = |rounds| scrapes(rt, registry, rounds);
-            let batch = |rounds| asked(rt, registry, beside, None, rounds);
-            self.batches(name, 1_000, alone, batch)?;
+            self.beside(name, registry, beside)?;
         }
         Ok(())
     }

@@ -5,7 +5,7 @@ ghost use Rattle.segment_layout.specs.Layout.{IsGeometry};
 ghost use Rattle.snapshot_scan.specs.Readers.{IsReaderOf};
 ghost use Rattle.snapshot_update.specs.Workers.{IsWorkerOf};
 
-use crate::boards::{Counts, reader, with_board};
+use crate::boards::{Counts, Scanning, Scans, reader, with_board};
 use crate::measuring::{Lines, Rt, keep, timed_each};
 use anyhow::{Context, Result};
 use expo_text::{Scrape, render};
@@ -317,19 +317,9 @@ fn find_once(registry: &mut impl Registers, family: FamilyId, values: &[LabelVal
 }
 
 impl<R: Rt> Lines<'_, R> {
-    /// Scrapes of a registry over a source, beside scans of another source that is equal to it.
-    fn scrapes<S: Source<N, C, H, 0> + Drop, const N: usize, const C: usize, const H: usize>(
-        &self,
-        source: S,
-        mut equal: S,
-        service: Service,
-    ) -> Result<()>
-        requires { IsGeometry N C H 0 }
-    {
-        let alloc = self.rt.alloc();
-        let registry = &mut full(alloc, source, service, WINDOW)?;
-        let out = &mut Snapshot::new(alloc)?;
-        let floor = |_| equal.scan(out).ok();
+    /// Scrapes of a registry, beside scans of a source that is equal to its own.
+    fn scrapes(&self, registry: &mut impl Registers, beside: &mut impl Scans) -> Result<()> {
+        let floor = |_| beside.scan();
         self.measure("scrape", 1_000, floor, |_| scrape_once(registry))?;
         self.gathers(registry)
     }
@@ -346,8 +336,10 @@ impl<R: Rt> Lines<'_, R> {
     pub fn alone<const C: usize, const H: usize>(&self, service: Service) -> Result<()>
         requires { IsGeometry 1 C H 0 }
     {
-        let source = plain::<C, H>(self.rt.alloc(), service)?;
-        self.scrapes(source, plain::<C, H>(self.rt.alloc(), service)?, service)
+        let alloc = self.rt.alloc();
+        let mut registry = full(alloc, plain::<C, H>(alloc, service)?, service, WINDOW)?;
+        let (source, out) = (plain::<C, H>(alloc, service)?, Snapshot::new(alloc)?);
+        self.scrapes(&mut registry, &mut Scanning { source, out })
     }
 
     /// A registry over a board.
@@ -360,8 +352,10 @@ impl<R: Rt> Lines<'_, R> {
         let two = Crew::<N, C, H, 0>::new(alloc, ID, 1)?;
         let (board, equal) = (one.board, two.board);
         let source = counted(alloc, &board, one.workers, one.readers, service)?;
-        let other = counted(alloc, &equal, two.workers, two.readers, service)?;
-        self.scrapes(source, other, service)
+        let mut registry = full(alloc, source, service, WINDOW)?;
+        let source = counted(alloc, &equal, two.workers, two.readers, service)?;
+        let out = Snapshot::new(alloc)?;
+        self.scrapes(&mut registry, &mut Scanning { source, out })
     }
 
     /// Scrapes of registries that keep 1,024 scrapes and a single one.
