@@ -1,0 +1,5 @@
+mod Again
+mod Mapping
+mod Reading
+mod Seating
+mod Spacing

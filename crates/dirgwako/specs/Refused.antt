@@ -1,0 +1,32 @@
+-- The numbers of refusals.
+use Rattle.std.specs.Prelude.{ℕ}
+use Rattle.metric_names.specs.MetricName as name
+use Rattle.metric_names.specs.HelpText as help
+use Rattle.metric_names.specs.LabelName as label
+use Rattle.metric_names.specs.LabelValue as value
+use Rattle.metric_desc.specs.Labels as labels
+use Rattle.metric_desc.specs.Histogram as histogram
+use Rattle.registry_state.specs.Faults as state
+use Rattle.dirgwako.specs.declared.fault.FamilyRefusal.{FamilyRefusal}
+use Rattle.dirgwako.specs.declared.fault.FamilyRefusal.TheVariants as family
+use Rattle.dirgwako.specs.declared.fault.ChildRefusal.{ChildRefusal}
+use Rattle.dirgwako.specs.declared.fault.ChildRefusal.TheVariants as child
+use Rattle.dirgwako.specs.declared.fault.MetricRefusal.{MetricRefusal}
+use Rattle.dirgwako.specs.declared.fault.MetricRefusal.TheVariants as metric
+
+abbrev pub family_number : FamilyRefusal → ℕ
+family_number (family.Name fault) = name.number_of fault
+family_number (family.Help fault) = help.number_of fault
+family_number (family.Label _ fault) = label.number_of fault
+family_number (family.Labels fault) = labels.number_of fault
+family_number (family.Histogram fault) = histogram.number_of fault
+family_number (family.Register fault) = state.register_number fault
+
+abbrev pub child_number : ChildRefusal → ℕ
+child_number (child.Value _ fault) = value.number_of fault
+child_number (child.Child fault) = state.child_number fault
+child_number child.OtherKind = 28
+
+abbrev pub metric_number : MetricRefusal → ℕ
+metric_number (metric.Family fault) = family_number fault
+metric_number (metric.Child _ fault) = child_number fault

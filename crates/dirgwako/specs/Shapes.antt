@@ -1,0 +1,16 @@
+-- A family's kind, and the bounds of a histogram.
+use Rattle.std.specs.Prelude.{ℕ, List, []}
+use Rattle.metric_desc.specs.declared.kind.Kind.{Kind}
+use Rattle.metric_desc.specs.declared.kind.Kind.TheVariants as Kinds
+use Rattle.dirgwako.specs.declared.family.Shape.{Shape}
+use Rattle.dirgwako.specs.declared.family.Shape.TheVariants.{Counter, Gauge, Histogram}
+
+abbrev pub kind_of : Shape → Kind
+kind_of Counter = Kinds.Counter
+kind_of Gauge = Kinds.Gauge
+kind_of (Histogram bounds) = Kinds.Histogram
+
+abbrev pub bounds_of : Shape → List ℕ
+bounds_of Counter = []
+bounds_of Gauge = []
+bounds_of (Histogram bounds) = bounds.now

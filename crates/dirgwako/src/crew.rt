@@ -1,0 +1,129 @@
+//! A board and all who work on it.
+ghost use Rattle.std.specs.Prelude.{◌≡◌, [], map, length, replicate, IfOk, IfErr, OnOk, All};
+ghost use Rattle.std.specs.List.{range_with_len};
+ghost use Rattle.register_rule.specs.Faults.{IsBoard, IsBoardFault};
+ghost use Rattle.register_rule.specs.Seats.{board_id};
+ghost use Rattle.registry_state.specs.Faults.{IsWindow};
+ghost use Rattle.snapshot_scan.specs.Readers.{IsReaderOf};
+ghost use Rattle.snapshot_scan.specs.Scanners.{reader_in};
+ghost use Rattle.dirgwako.specs.Scanning.{ScansOn, IsFront};
+ghost use Rattle.snapshot_update.specs.Workers.{index_of, lists_of, IsWorkerOf};
+ghost use Rattle.std.proofs.Props.{props};
+
+use crate::opened::{OpenFault, Opened};
+use crate::recorder::Recorder;
+use metric_registry::Registry;
+use register_rule::{Board, BoardFault};
+use registry_state::NewFault;
+use snapshot_scan::{Reader, Scanner};
+use snapshot_update::Worker;
+use std::alloc::{AllocError, Global};
+use std::mem::replace;
+
+/// A new board with all who work on it. [`Crew::open`] hands them out.
+pub struct Crew<const N: usize, const C: usize, const H: usize, const G: usize> {
+    alloc: Global,
+    board: Board<N, C, H, G>,
+    workers: Vec<Worker<N, C, H, G>>,
+    readers: Vec<Reader<N, C, H, G>>,
+    ghost workers_own: { All (IsWorkerOf board) workers.items } by { Prim.hlevel props },
+    ghost readers_own: { All (IsReaderOf board) readers.items } by { Prim.hlevel props },
+}
+
+impl<const N: usize, const C: usize, const H: usize, const G: usize> Drop for Crew<N, C, H, G> {
+    fn drop(self) {
+        let Crew {
+            alloc: _,
+            board: _,
+            workers: _,
+            readers: _,
+        } = self;
+    }
+}
+
+impl<const N: usize, const C: usize, const H: usize, const G: usize> Crew<N, C, H, G> {
+    ghost use Rattle.dirgwako.specs.Crews.{board_of, workers_of, readers_of, IsOpenFault};
+    ghost use Rattle.dirgwako.specs.Recorders.{worker_in, IsOn};
+
+    /// A new board of this id, on which nothing was counted, with its `N` workers and `readers` readers. All memory that counting and
+    /// scanning need is taken here.
+    ///
+    /// # Errors
+    ///
+    /// 13 [`BoardFault::Geometry`], unless `N` is 1 to 32, `C` at most 256, `H` at most 32, `G` at most 64 and `readers` 1 to 4; then 6
+    /// [`BoardFault::NoMemory`].
+    pub fn new(alloc: Global, id: u64, readers: usize) -> Result<Crew<N, C, H, G>, BoardFault>
+        ensures id { IfOk result (λ c. board_id (board_of c) ≡ id) }
+        ensures geometry { IfOk result (λ _. IsBoard N C H G readers) }
+        ensures all { IfOk result (λ c. map index_of (workers_of c) ≡ range_with_len 0 N) }
+        ensures new { IfOk result (λ c. map lists_of (workers_of c) ≡ replicate N []) }
+        ensures readers { IfOk result (λ c. length (readers_of c) ≡ readers) }
+        ensures fault { IfErr result (IsBoardFault N C H G readers) }
+    {
+        match snapshot_update::Crew::new(alloc, id, readers) {
+            Ok(made) => Ok(Crew {
+                alloc,
+                board: made.board,
+                workers: made.workers,
+                readers: made.readers,
+            }),
+            Err(fault) => Err(fault),
+        }
+    }
+
+    /// Hands all out: a registry that keeps `window` scrapes and scrapes by the last reader, a recorder for each worker, and a
+    /// scanner for each other reader.
+    ///
+    /// # Errors
+    ///
+    /// 32 [`OpenFault::Opened`]; then [`OpenFault::Registry`]: 31 unless `window` is 1 to 1,024, and 6. After 31 or 6 nothing is handed
+    /// out, and the crew is spent.
+    pub fn open<'a>(&'a mut self, window: usize) -> Result<Opened<'a, N, C, H, G>, OpenFault>
+        ensures boards { IfOk result (λ o. All (IsOn (board_of self.old)) o.recorders.items) }
+        ensures workers { IfOk result (λ o. map worker_in o.recorders.items ≡ workers_of self.old) }
+        ensures scanners { IfOk result (λ o. All (ScansOn (board_of self.old)) o.scanners.items) }
+        ensures readers { IfOk result (λ o. IsFront (map reader_in o.scanners.items) (readers_of self.old)) }
+        ensures window { OnOk result (IsWindow window) }
+        ensures fault { IfErr result (IsOpenFault self.old window) }
+    {
+        let alloc = self.alloc;
+        let workers = replace(&mut self.workers, Vec::new(alloc));
+        let mut readers = replace(&mut self.readers, Vec::new(alloc));
+        let Some(reader) = readers.pop() else {
+            return Err(OpenFault::Opened);
+        };
+        let board: &'a Board<N, C, H, G> = &self.board;
+        let registry = match Registry::new(alloc, board, reader, window) {
+            Ok(registry) => registry,
+            Err(no) => return Err(OpenFault::Registry(no.fault)),
+        };
+        let Ok(recorders) = Recorder::all(alloc, board, workers) else {
+            return Err(OpenFault::Registry(NewFault::NoMemory));
+        };
+        match all_scanners(alloc, board, readers) {
+            Ok(scanners) => Ok(Opened {
+                registry,
+                recorders,
+                scanners,
+            }),
+            Err(_) => Err(OpenFault::Registry(NewFault::NoMemory)),
+        }
+    }
+}
+
+/// The scanners of these readers of a board, in order.
+fn all_scanners<'a, const N: usize, const C: usize, const H: usize, const G: usize>(
+    alloc: Global,
+    board: &'a Board<N, C, H, G>,
+    readers: Vec<Reader<N, C, H, G>>,
+) -> Result<Vec<Scanner<'a, N, C, H, G>>, AllocError>
+    requires { All (IsReaderOf board.now) readers.items }
+    ensures boards { IfOk result (λ v. All (ScansOn board.now) v.items) }
+    ensures readers { IfOk result (λ v. map reader_in v.items ≡ readers.entry.items) }
+{
+    let mut scanners = Vec::with_capacity(alloc, readers.len())?;
+    for reader in readers {
+        scanners.push(Scanner::new(board, reader))?;
+    }
+    Ok(scanners)
+}

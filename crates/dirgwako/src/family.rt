@@ -1,0 +1,35 @@
+//! Families, by which their kind is known.
+ghost use Rattle.std.specs.Prelude.{◌≡◌, []};
+ghost use Rattle.dirgwako.specs.Shapes.{kind_of, bounds_of};
+
+use metric_desc::{Desc, Kind};
+use registry_state::FamilyId;
+
+/// A family of counters of a registry.
+#[derive(Clone, Copy, Debug, PartialEq, Eq)]
+pub struct CounterFamily {
+    /// The family.
+    pub id: FamilyId,
+}
+
+/// A family of gauges of a registry.
+#[derive(Clone, Copy, Debug, PartialEq, Eq)]
+pub struct GaugeFamily {
+    /// The family.
+    pub id: FamilyId,
+}
+
+/// A family of histograms of a registry.
+#[derive(Clone, Copy, Debug, PartialEq, Eq)]
+pub struct HistogramFamily {
+    /// The family.
+    pub id: FamilyId,
+}
+
+/// A family's kind, and the bounds of a histogram.
+#[derive(Clone, Copy)]
+pub(crate) enum Shape<'a> {
+    Counter,
+    Gauge,
+    Histogram(&'a [u64]),
+}

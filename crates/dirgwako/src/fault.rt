@@ -1,0 +1,100 @@
+//! Why metrics are refused that are registered by plain texts.
+ghost use Rattle.std.specs.Prelude.{◌≡◌};
+ghost use Rattle.dirgwako.specs.Refused.{family_number, child_number, metric_number};
+
+use metric_desc::{HistogramFault, LabelsFault};
+use metric_names::{HelpTextFault, LabelNameFault, LabelValueFault, MetricNameFault};
+use registry_state::{ChildFault, FamilyId, RegisterFault};
+use thiserror::Error;
+
+/// Why a family is not registered. Nothing has changed then.
+#[derive(Clone, Copy, Debug, PartialEq, Eq, Error)]
+pub enum FamilyRefusal {
+    /// Refusals 1, 2, 3 and 6 of the name.
+    #[error(transparent)]
+    Name(MetricNameFault),
+    /// Refusals 3, 5 and 6 of the help.
+    #[error(transparent)]
+    Help(HelpTextFault),
+    /// Refusals 1 to 4 and 6 of the label's name at the place `at`, from 0.
+    #[error("label {at}: {fault}")]
+    Label { at: usize, fault: LabelNameFault },
+    /// Refusals 9 and 7 of the labels of a counter or a gauge.
+    #[error(transparent)]
+    Labels(LabelsFault),
+    /// Refusals 9, 7, 8 and 10 of the labels and the bounds of a histogram.
+    #[error(transparent)]
+    Histogram(HistogramFault),
+    /// Refusals 19, 23 and 6 of the registry.
+    #[error(transparent)]
+    Register(RegisterFault),
+}
+
+impl FamilyRefusal {
+    /// The refusal's number.
+    pub fn number(&self) -> u8
+        ensures { result ≡ family_number self.now }
+    {
+        match self {
+            FamilyRefusal::Name(fault) => fault.number(),
+            FamilyRefusal::Help(fault) => fault.number(),
+            FamilyRefusal::Label { at: _, fault } => fault.number(),
+            FamilyRefusal::Labels(fault) => fault.number(),
+            FamilyRefusal::Histogram(fault) => fault.number(),
+            FamilyRefusal::Register(fault) => fault.number(),
+        }
+    }
+}
+
+/// Why there is no handle of a family for some label values. Nothing has changed then.
+#[derive(Clone, Copy, Debug, PartialEq, Eq, Error)]
+pub enum ChildRefusal {
+    /// Refusals 3 and 6 of the label value at the place `at`, from 0.
+    #[error("value {at}: {fault}")]
+    Value { at: usize, fault: LabelValueFault },
+    /// Refusals 20, 21, 22 and 6 of the registry.
+    #[error(transparent)]
+    Child(ChildFault),
+    /// Refusal 28: the family is one of another registry, and there of another kind.
+    #[error("the family is of another kind")]
+    OtherKind,
+}
+
+impl ChildRefusal {
+    /// The refusal's number.
+    pub fn number(&self) -> u8
+        ensures { result ≡ child_number self.now }
+    {
+        match self {
+            ChildRefusal::Value { at: _, fault } => fault.number(),
+            ChildRefusal::Child(fault) => fault.number(),
+            ChildRefusal::OtherKind => 28,
+        }
+    }
+}
+
+/// Why there is no metric without labels.
+#[derive(Clone, Copy, Debug, PartialEq, Eq, Error)]
+pub enum MetricRefusal {
+    /// Its family is not registered, and nothing has changed.
+    #[error(transparent)]
+    Family(FamilyRefusal),
+    /// Its family is registered, which stands from now on without a child: there is no slot for one (22), or no memory (6).
+    #[error("{fault}")]
+    Child {
+        family: FamilyId,
+        fault: ChildRefusal,
+    },
+}
+
+impl MetricRefusal {
+    /// The refusal's number.
+    pub fn number(&self) -> u8
+        ensures { result ≡ metric_number self.now }
+    {
+        match self {
+            MetricRefusal::Family(fault) => fault.number(),
+            MetricRefusal::Child { family: _, fault } => fault.number(),
+        }
+    }
+}

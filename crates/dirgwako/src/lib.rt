@@ -1,0 +1,45 @@
+//! All that the author of a service needs, in one library: a crew for a board, recorders that threads count with, a registry whose metrics
+//! are registered by plain texts, bounds by rule, and a server of scrapes.
+#![tactic(auto)]
+
+mod asking;
+mod bounds;
+mod change;
+mod crew;
+mod family;
+mod fault;
+mod listening;
+mod listing;
+mod opened;
+mod printing;
+mod recorder;
+mod registers;
+mod registrar;
+mod runtime;
+mod serving;
+mod texts;
+
+pub use bounds::{exponential, linear};
+pub use bucket_math::{BadBounds, Bounds};
+pub use change::{Change, down, inc, observe, up};
+pub use crew::Crew;
+pub use expo_text::{Scrape, render};
+pub use family::{CounterFamily, GaugeFamily, HistogramFamily};
+pub use fault::{ChildRefusal, FamilyRefusal, MetricRefusal};
+pub use ledger_core::{Counter, Gauge, Histogram, Op, OpFault};
+pub use listening::{listen, listen_aloud, port_of};
+pub use metric_desc::{Desc, HistogramFault, Kind, LabelsFault};
+pub use metric_names::{HelpTextFault, LabelNameFault, LabelValueFault, MetricNameFault};
+pub use metric_registry::Registry;
+pub use opened::{OpenFault, Opened};
+pub use printing::{PrintFault, print_scrape};
+pub use recorder::Recorder;
+pub use register_rule::{Board, BoardFault};
+pub use registers::{Behind, Registers};
+pub use registrar::Registrar;
+pub use registry_state::{BadWindow, ChildFault, FamilyId, NewFault, RegisterFault, ScrapeFault};
+pub use runtime::ServiceRuntime;
+pub use scrape_server::{FromRegistry, serve_stream};
+pub use serving::{Answered, serve, serve_forever};
+pub use snapshot_scan::{Contended, Reader, Scanner, Snapshot};
+pub use snapshot_update::{ApplyFault, CountFault, Worker};

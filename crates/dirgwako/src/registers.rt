@@ -1,0 +1,64 @@
+//! What registers families and gives children.
+ghost use Rattle.std.specs.Prelude.{◌≡◌, ℕ, List, Result};
+ghost use Rattle.metric_desc.specs.Desc.{Descriptor};
+ghost use Rattle.registry_state.specs.declared.fault.ChildFault.{ChildFault};
+ghost use Rattle.registry_state.specs.declared.fault.RegisterFault.{RegisterFault};
+ghost use Rattle.registry_state.specs.declared.handle.FamilyId.{FamilyId};
+ghost use Rattle.registry_state.specs.declared.handle.Handle.{Handle};
+ghost use Rattle.dirgwako.specs.Lock.{RegistersBehind, GivesBehind};
+
+use metric_desc::Desc;
+use metric_names::LabelValue;
+use metric_registry::Registry;
+use registry_state::{ChildFault, FamilyId, Handle, RegisterFault};
+use std::sync::Wait;
+
+/// What registers families and gives their children. Each names, for contracts alone, what one such call does to it (`registered`,
+/// `gave`), so that a contract tells which calls were made, with what, and in which order.
+pub trait Registers {
+    // What one registration says of what was there before it, what is there after it, the descriptor, and the answer.
+    ghost registered: { Self → Self → Descriptor → Result FamilyId RegisterFault → Type 0 };
+
+    // What asking for one child says of what was there before it, what is there after it, the family, the label values, and the answer.
+    ghost gave: { Self → Self → FamilyId → List (List ℕ) → Result Handle ChildFault → Type 0 };
+
+    /// Registers a family, without children.
+    ///
+    /// # Errors
+    ///
+    /// 19, 23 and 6: [`RegisterFault`].
+    fn register(&mut self, desc: Desc) -> Result<FamilyId, RegisterFault>
+        ensures { registered self.old self.new desc result };
+
+    /// The child of these label values, which is made where there is none.
+    ///
+    /// # Errors
+    ///
+    /// 20, 21, 22 and 6: [`ChildFault`].
+    fn child(&mut self, family: FamilyId, values: &[LabelValue]) -> Result<Handle, ChildFault>
+        ensures { gave self.old self.new family values.now result };
+}
+
+/// A registry behind its lock, and the runtime that waits for it.
+#[derive(Drop)]
+pub struct Behind<'a, 'b, R: Wait, const N: usize, const C: usize, const H: usize, const G: usize> {
+    /// The runtime.
+    pub rt: &'a R,
+    /// The registry.
+    pub registry: &'a Registry<'b, N, C, H, G>,
+}
+
+impl<R: Wait, const N: usize, const C: usize, const H: usize, const G: usize> Registers
+    for Behind<'_, '_, R, N, C, H, G> {
+    ghost registered = { λ before after desc answer. (after ≡ before) × RegistersBehind N C H G desc answer };
+
+    ghost gave = { λ before after family values answer. (after ≡ before) × GivesBehind N C H G family values answer };
+
+    fn register(&mut self, desc: Desc) -> Result<FamilyId, RegisterFault> {
+        self.registry.register(self.rt, desc)
+    }
+
+    fn child(&mut self, family: FamilyId, values: &[LabelValue]) -> Result<Handle, ChildFault> {
+        self.registry.child(self.rt, family, values)
+    }
+}

@@ -1,0 +1,265 @@
+//! Metrics are registered by plain texts.
+ghost use Rattle.std.specs.Prelude.{◌≡◌, [], Result, IfErr, IfOk};
+ghost use Rattle.metric_desc.specs.declared.kind.Kind.TheVariants as Kinds;
+ghost use Rattle.registry_state.specs.declared.handle.Handle.TheVariants as Handles;
+ghost use Rattle.dirgwako.specs.Registering.{AsksFamily, AsksChild, AsksMetric, family_of};
+ghost use Rattle.dirgwako.specs.Texts.{texts_of};
+
+use crate::asking::{ask_family, ask_handle};
+use crate::family::{CounterFamily, GaugeFamily, HistogramFamily, Shape};
+use crate::fault::{ChildRefusal, FamilyRefusal, MetricRefusal};
+use crate::registers::{Behind, Registers};
+use ledger_core::{Counter, Gauge, Histogram};
+use metric_registry::Registry;
+use registry_state::Handle;
+use std::alloc::Global;
+use std::sync::Wait;
+
+/// Registers metrics by plain texts. [`Registrar::new`] makes one of a registry.
+///
+/// All numbers are whole, so a name tells its unit: `job_bytes`, `answer_milliseconds`.
+#[derive(Drop)]
+pub struct Registrar<S> {
+    /// What registers them.
+    pub at: S,
+    alloc: Global,
+}
+
+impl<
+    'a,
+    'b,
+    R: Wait + AllocGlobal,
+    const N: usize,
+    const C: usize,
+    const H: usize,
+    const G: usize,
+> Registrar<Behind<'a, 'b, R, N, C, H, G>> {
+    /// That of a registry.
+    pub fn new(
+        rt: &'a R,
+        registry: &'a Registry<'b, N, C, H, G>,
+    ) -> Registrar<Behind<'a, 'b, R, N, C, H, G>>
+        ensures { result.at.registry ≡ registry.entry }
+    {
+        Registrar {
+            at: Behind { rt, registry },
+            alloc: rt.alloc(),
+        }
+    }
+}
+
+impl<S: Registers> Registrar<S> {
+    /// That of whatever registers families.
+    pub fn of(alloc: Global, at: S) -> Registrar<S>
+        ensures { result.at ≡ at }
+    {
+        Registrar { at, alloc }
+    }
+
+    /// A family of counters with labels. [`Registrar::counter_of`] gives its children.
+    ///
+    /// # Errors
+    ///
+    /// The first that is so: [`FamilyRefusal::Name`], 1, 3, 2, 6; [`FamilyRefusal::Help`], 3, 5, 6; [`FamilyRefusal::Label`] with the
+    /// label's place, 1, 3, 2, 4, 6; [`FamilyRefusal::Labels`], 9, 7; [`FamilyRefusal::Register`], 19, 23, 6. Nothing has changed
+    /// then.
+    pub fn counter_family(
+        &mut self,
+        name: &str,
+        help: &str,
+        labels: &[&str],
+    ) -> Result<CounterFamily, FamilyRefusal>
+        ensures made { IfOk result (λ family. AsksFamily S.registered self.old.at self.new.at (family_of Kinds.Counter name.now help.now labels.now []) (Result.Ok family.id)) }
+        ensures fault { IfErr result (λ fault. AsksFamily S.registered self.old.at self.new.at (family_of Kinds.Counter name.now help.now labels.now []) (Result.Err fault)) }
+    {
+        match ask_family(&mut self.at, self.alloc, Shape::Counter, name, help, labels) {
+            Ok(id) => Ok(CounterFamily { id }),
+            Err(fault) => Err(fault),
+        }
+    }
+
+    /// The counter of these label values, which is made where there is none. A thread that counts is given it, and asks no more.
+    ///
+    /// # Errors
+    ///
+    /// The first that is so: [`ChildRefusal::Value`] with the value's place, 3, 6; [`ChildRefusal::Child`], 20, 21, 22, 6;
+    /// [`ChildRefusal::OtherKind`], 28, of a family of another registry.
+    pub fn counter_of(
+        &mut self,
+        family: &CounterFamily,
+        values: &[&str],
+    ) -> Result<Counter, ChildRefusal>
+        ensures given { IfOk result (λ handle. AsksChild S.gave self.old.at self.new.at family.now.id (texts_of values.now) Kinds.Counter (Result.Ok (Handles.Counter handle))) }
+        ensures fault { IfErr result (λ fault. AsksChild S.gave self.old.at self.new.at family.now.id (texts_of values.now) Kinds.Counter (Result.Err fault)) }
+    {
+        match ask_handle(&mut self.at, self.alloc, family.id, values) {
+            Ok(Handle::Counter(handle)) => Ok(handle),
+            Ok(_) => Err(ChildRefusal::OtherKind),
+            Err(fault) => Err(fault),
+        }
+    }
+
+    /// A counter without labels.
+    ///
+    /// # Errors
+    ///
+    /// [`MetricRefusal::Family`], as [`Registrar::counter_family`] of no labels; then [`MetricRefusal::Child`], 22 or 6: the family stands,
+    /// without a child.
+    pub fn counter(&mut self, name: &str, help: &str) -> Result<Counter, MetricRefusal>
+        ensures made { IfOk result (λ handle. AsksMetric S.registered S.gave self.old.at self.new.at (family_of Kinds.Counter name.now help.now [] []) (Result.Ok (Handles.Counter handle))) }
+        ensures fault { IfErr result (λ fault. AsksMetric S.registered S.gave self.old.at self.new.at (family_of Kinds.Counter name.now help.now [] []) (Result.Err fault)) }
+    {
+        let family = match self.counter_family(name, help, &[]) {
+            Ok(family) => family,
+            Err(fault) => return Err(MetricRefusal::Family(fault)),
+        };
+        match self.counter_of(&family, &[]) {
+            Ok(handle) => Ok(handle),
+            Err(fault) => Err(MetricRefusal::Child {
+                family: family.id,
+                fault,
+            }),
+        }
+    }
+
+    /// A family of gauges with labels. [`Registrar::gauge_of`] gives its children.
+    ///
+    /// # Errors
+    ///
+    /// The first that is so: [`FamilyRefusal::Name`], 1, 3, 2, 6; [`FamilyRefusal::Help`], 3, 5, 6; [`FamilyRefusal::Label`] with the
+    /// label's place, 1, 3, 2, 4, 6; [`FamilyRefusal::Labels`], 9, 7; [`FamilyRefusal::Register`], 19, 23, 6. Nothing has changed
+    /// then.
+    pub fn gauge_family(
+        &mut self,
+        name: &str,
+        help: &str,
+        labels: &[&str],
+    ) -> Result<GaugeFamily, FamilyRefusal>
+        ensures made { IfOk result (λ family. AsksFamily S.registered self.old.at self.new.at (family_of Kinds.Gauge name.now help.now labels.now []) (Result.Ok family.id)) }
+        ensures fault { IfErr result (λ fault. AsksFamily S.registered self.old.at self.new.at (family_of Kinds.Gauge name.now help.now labels.now []) (Result.Err fault)) }
+    {
+        match ask_family(&mut self.at, self.alloc, Shape::Gauge, name, help, labels) {
+            Ok(id) => Ok(GaugeFamily { id }),
+            Err(fault) => Err(fault),
+        }
+    }
+
+    /// The gauge of these label values, which is made where there is none. A thread that counts is given it, and asks no more.
+    ///
+    /// # Errors
+    ///
+    /// The first that is so: [`ChildRefusal::Value`] with the value's place, 3, 6; [`ChildRefusal::Child`], 20, 21, 22, 6;
+    /// [`ChildRefusal::OtherKind`], 28, of a family of another registry.
+    pub fn gauge_of(&mut self, family: &GaugeFamily, values: &[&str]) -> Result<Gauge, ChildRefusal>
+        ensures given { IfOk result (λ handle. AsksChild S.gave self.old.at self.new.at family.now.id (texts_of values.now) Kinds.Gauge (Result.Ok (Handles.Gauge handle))) }
+        ensures fault { IfErr result (λ fault. AsksChild S.gave self.old.at self.new.at family.now.id (texts_of values.now) Kinds.Gauge (Result.Err fault)) }
+    {
+        match ask_handle(&mut self.at, self.alloc, family.id, values) {
+            Ok(Handle::Gauge(handle)) => Ok(handle),
+            Ok(_) => Err(ChildRefusal::OtherKind),
+            Err(fault) => Err(fault),
+        }
+    }
+
+    /// A gauge without labels.
+    ///
+    /// # Errors
+    ///
+    /// [`MetricRefusal::Family`], as [`Registrar::gauge_family`] of no labels; then [`MetricRefusal::Child`], 22 or 6: the family stands,
+    /// without a child.
+    pub fn gauge(&mut self, name: &str, help: &str) -> Result<Gauge, MetricRefusal>
+        ensures made { IfOk result (λ handle. AsksMetric S.registered S.gave self.old.at self.new.at (family_of Kinds.Gauge name.now help.now [] []) (Result.Ok (Handles.Gauge handle))) }
+        ensures fault { IfErr result (λ fault. AsksMetric S.registered S.gave self.old.at self.new.at (family_of Kinds.Gauge name.now help.now [] []) (Result.Err fault)) }
+    {
+        let family = match self.gauge_family(name, help, &[]) {
+            Ok(family) => family,
+            Err(fault) => return Err(MetricRefusal::Family(fault)),
+        };
+        match self.gauge_of(&family, &[]) {
+            Ok(handle) => Ok(handle),
+            Err(fault) => Err(MetricRefusal::Child {
+                family: family.id,
+                fault,
+            }),
+        }
+    }
+
+    /// A family of histograms with labels with these bounds: at most 24, rising, none over 2^48 - 1. [`Registrar::histogram_of`] gives its children.
+    ///
+    /// # Errors
+    ///
+    /// The first that is so: [`FamilyRefusal::Name`], 1, 3, 2, 6; [`FamilyRefusal::Help`], 3, 5, 6; [`FamilyRefusal::Label`] with the
+    /// label's place, 1, 3, 2, 4, 6; [`FamilyRefusal::Histogram`], 9, 7, 8, 10; [`FamilyRefusal::Register`], 19, 23, 6. Nothing has changed
+    /// then.
+    pub fn histogram_family(
+        &mut self,
+        name: &str,
+        help: &str,
+        labels: &[&str],
+        bounds: &[u64],
+    ) -> Result<HistogramFamily, FamilyRefusal>
+        ensures made { IfOk result (λ family. AsksFamily S.registered self.old.at self.new.at (family_of Kinds.Histogram name.now help.now labels.now bounds.now) (Result.Ok family.id)) }
+        ensures fault { IfErr result (λ fault. AsksFamily S.registered self.old.at self.new.at (family_of Kinds.Histogram name.now help.now labels.now bounds.now) (Result.Err fault)) }
+    {
+        match ask_family(
+            &mut self.at,
+            self.alloc,
+            Shape::Histogram(bounds),
+            name,
+            help,
+            labels,
+        ) {
+            Ok(id) => Ok(HistogramFamily { id }),
+            Err(fault) => Err(fault),
+        }
+    }
+
+    /// The histogram of these label values, which is made where there is none. A thread that counts is given it, and asks no more.
+    ///
+    /// # Errors
+    ///
+    /// The first that is so: [`ChildRefusal::Value`] with the value's place, 3, 6; [`ChildRefusal::Child`], 20, 21, 22, 6;
+    /// [`ChildRefusal::OtherKind`], 28, of a family of another registry.
+    pub fn histogram_of(
+        &mut self,
+        family: &HistogramFamily,
+        values: &[&str],
+    ) -> Result<Histogram, ChildRefusal>
+        ensures given { IfOk result (λ handle. AsksChild S.gave self.old.at self.new.at family.now.id (texts_of values.now) Kinds.Histogram (Result.Ok (Handles.Histogram handle))) }
+        ensures fault { IfErr result (λ fault. AsksChild S.gave self.old.at self.new.at family.now.id (texts_of values.now) Kinds.Histogram (Result.Err fault)) }
+    {
+        match ask_handle(&mut self.at, self.alloc, family.id, values) {
+            Ok(Handle::Histogram(handle)) => Ok(handle),
+            Ok(_) => Err(ChildRefusal::OtherKind),
+            Err(fault) => Err(fault),
+        }
+    }
+
+    /// A histogram without labels with these bounds: at most 24, rising, none over 2^48 - 1.
+    ///
+    /// # Errors
+    ///
+    /// [`MetricRefusal::Family`], as [`Registrar::histogram_family`] of no labels; then [`MetricRefusal::Child`], 22 or 6: the family stands,
+    /// without a child.
+    pub fn histogram(
+        &mut self,
+        name: &str,
+        help: &str,
+        bounds: &[u64],
+    ) -> Result<Histogram, MetricRefusal>
+        ensures made { IfOk result (λ handle. AsksMetric S.registered S.gave self.old.at self.new.at (family_of Kinds.Histogram name.now help.now [] bounds.now) (Result.Ok (Handles.Histogram handle))) }
+        ensures fault { IfErr result (λ fault. AsksMetric S.registered S.gave self.old.at self.new.at (family_of Kinds.Histogram name.now help.now [] bounds.now) (Result.Err fault)) }
+    {
+        let family = match self.histogram_family(name, help, &[], bounds) {
+            Ok(family) => family,
+            Err(fault) => return Err(MetricRefusal::Family(fault)),
+        };
+        match self.histogram_of(&family, &[]) {
+            Ok(handle) => Ok(handle),
+            Err(fault) => Err(MetricRefusal::Child {
+                family: family.id,
+                fault,
+            }),
+        }
+    }
+}

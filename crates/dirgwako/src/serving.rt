@@ -1,0 +1,124 @@
+//! Connections are accepted and served, one after the other.
+ghost use Rattle.std.specs.Prelude.{◌≡◌, ◌+◌, IfOk, IsErr};
+ghost use Rattle.dirgwako.specs.Patience.{AsksAgain};
+
+use expo_text::Scrape;
+use metric_registry::Registry;
+use scrape_http::{NoScrape, ScrapeFrom};
+use scrape_server::{FromRegistry, serve_stream};
+use std::io;
+use std::net::{TcpListener, TcpStream};
+use std::sync::Wait;
+use std::time::Duration;
+
+/// How often a scrape that is given up is asked for again.
+const AGAIN: usize = 3;
+
+/// How often in a row a listener may fail before its server gives up.
+const TRIES: usize = 64;
+
+/// What became of connections.
+#[derive(Clone, Copy, Debug, PartialEq, Eq)]
+pub struct Answered {
+    /// So many were replied to, whatever the status was.
+    pub replies: u64,
+    /// So many were not: the client went away, was silent for too long, or sent no byte.
+    pub faults: u64,
+}
+
+/// A source of scrapes that asks another one up to three times more where a scan was given up.
+#[derive(Drop)]
+struct Patient<S> {
+    source: S,
+}
+
+impl<S: ScrapeFrom> ScrapeFrom for Patient<S> {
+    ghost gave = { λ before after answer. AsksAgain S.gave 3 before.source after.source answer };
+
+    fn scrape(&mut self) -> Result<Scrape, NoScrape> {
+        for _again in 0..AGAIN {
+            match self.source.scrape() {
+                Err(NoScrape::Contended) => {}
+                Err(NoScrape::NoMemory) => return Err(NoScrape::NoMemory),
+                Ok(scrape) => return Ok(scrape),
+            }
+        }
+        self.source.scrape()
+    }
+}
+
+/// The next connection. Where a client went away before it was accepted, the listener tells that as a failure of its own, so one that
+/// fails is asked again.
+fn accept(listener: &TcpListener) -> io::Result<TcpStream> {
+    for _try in 1..TRIES {
+        if let Ok((stream, _peer)) = listener.accept() {
+            return Ok(stream);
+        }
+    }
+    let (stream, _peer) = listener.accept()?;
+    Ok(stream)
+}
+
+/// Answers one connection, and tells whether it was replied to. Each read of its request and each write of its reply may take as long
+/// as `patience`.
+fn answer<R: Wait, const N: usize, const C: usize, const H: usize, const G: usize>(
+    rt: &R,
+    stream: &TcpStream,
+    registry: &Registry<'_, N, C, H, G>,
+    patience: Duration,
+) -> bool {
+    let patience = Some(patience);
+    if stream.set_read_timeout(patience).is_err() || stream.set_write_timeout(patience).is_err() {
+        return false;
+    }
+    let source = FromRegistry { rt, registry };
+    serve_stream(stream, &mut Patient { source }).is_ok()
+}
+
+/// Answers so many connections, one after the other, by [`serve_stream`]: scrapes of this registry. What goes wrong with one of them
+/// does not end the others. Each read of a request and each write of a reply may take as long as `patience`, which is not 0. A client
+/// that sends a byte at a time keeps the server for longer. A scrape that was given up is asked for up to three times more; then the
+/// reply is 503.
+///
+/// # Errors
+///
+/// The listener's, where it has failed 64 times in a row.
+pub fn serve<R: Wait, const N: usize, const C: usize, const H: usize, const G: usize>(
+    rt: &R,
+    listener: &TcpListener,
+    registry: &Registry<'_, N, C, H, G>,
+    patience: Duration,
+    connections: u64,
+) -> io::Result<Answered>
+    ensures { IfOk result (λ answered. answered.replies + answered.faults ≡ connections) }
+{
+    let mut replies = 0;
+    for _connection in 0..connections {
+        let stream = accept(listener)?;
+        if answer(rt, &stream, registry, patience) {
+            replies += 1;
+        }
+    }
+    let faults = connections - replies;
+    Ok(Answered { replies, faults })
+}
+
+/// Answers connections for ever, as [`serve`].
+///
+/// # Errors
+///
+/// It ends where the listener has failed 64 times in a row, with its error.
+pub fn serve_forever<R: Wait, const N: usize, const C: usize, const H: usize, const G: usize>(
+    rt: &R,
+    listener: &TcpListener,
+    registry: &Registry<'_, N, C, H, G>,
+    patience: Duration,
+) -> io::Result<()>
+    ensures { IsErr result }
+{
+    for _connection in rt.forever() {
+        let stream = accept(listener)?;
+        let _ = answer(rt, &stream, registry, patience);
+    }
+    unreachable!()
+}
