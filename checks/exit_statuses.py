@@ -4,7 +4,7 @@ from started import check, run
 SCRIPT = b"counter a -\nchild a\ninc 0 0 7\ngo\nscrape\n"
 REFUSED = b"\n# a comment\ncounter a -\n\ncounter a -\ncounter b -\n"
 USAGE = (2, "", "usage: metrics_run script | metrics_run serve PORT COUNT")
-SERVICE_USAGE = (2, "", "usage: example_service PORT REPLIES")
+SERVICE_USAGE = (1, "", "Error: usage: example_service PORT REPLIES")
 BENCH_USAGE = (2, "", "usage: bench ROUNDS, at most 1000000000, or bench serve PORT REPLIES small|large")
 # With so many kilobytes of addresses there is no room for a thread's stack.
 SMALL = "ulimit -v 6000 && "

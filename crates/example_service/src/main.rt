@@ -20,7 +20,7 @@ type Recorder<'a> = dirgwako::Recorder<'a, 2, 8, 1, 1>;
 #[derive(Clone, Copy)]
 struct Jobs {
     ok: Counter,
-    failed: Counter,
+    bad: Counter,
     bytes: Histogram,
     open: Gauge,
 }
@@ -31,7 +31,7 @@ fn register(rt: &impl ServiceRuntime, registry: &Registry<'_, 2, 8, 1, 1>) -> Re
     let total = metrics.counter_family("jobs_total", "Jobs by their result.", &["result"])?;
     Ok(Jobs {
         ok: metrics.counter_of(&total, &["ok"])?,
-        failed: metrics.counter_of(&total, &["failed"])?,
+        bad: metrics.counter_of(&total, &["failed"])?,
         bytes: metrics.histogram("job_bytes", "Bytes of each job.", &[100, 250, 500])?,
         open: metrics.gauge("jobs_open", "Jobs that are being done.")?,
     })
@@ -42,8 +42,7 @@ fn do_jobs(recorder: &mut Recorder<'_>, jobs: &Jobs) -> Result<()> {
     for bytes in 1..=1_000 {
         recorder.up(&jobs.open, 1)?;
         // Here a service does the job, of which each tenth fails.
-        let failed = bytes % 10 == 0;
-        let end = if failed { &jobs.failed } else { &jobs.ok };
+        let end = if bytes % 10 == 0 { &jobs.bad } else { &jobs.ok };
         recorder.publish(&[
             observe(&jobs.bytes, bytes),
             inc(end, 1),
@@ -84,7 +83,8 @@ fn work(
 fn asked(rt: &(impl Env + AllocGlobal)) -> Option<(u16, u64)> {
     let mut words = env::args(rt).ok()?.skip(1);
     let (port, replies) = (words.next()?, words.next()?);
-    Some((port.as_str().parse().ok()?, replies.as_str().parse().ok()?))
+    let asked = (port.as_str().parse().ok()?, replies.as_str().parse().ok()?);
+    words.next().is_none().then_some(asked)
 }
 
 fn main(rt: HostRuntime) -> Result<()> {
