@@ -1,5 +1,5 @@
 -- What a clause reads of a crew.
-use Rattle.std.specs.Prelude.{◌≡◌, ℕ, ◌⊎◌, List, [], All}
+use Rattle.std.specs.Prelude.{◌≡◌, ℕ, List, []}
 use Rattle.register_rule.specs.declared.board.Board.{Board}
 use Rattle.registry_state.specs.Faults.{IsNewFault, new_number}
 use Rattle.snapshot_scan.specs.declared.reader.Reader.{Reader}

@@ -1,4 +1,4 @@
-use Rattle.std.proofs.Common.{rules, ◌<◌, length, arith}
+use Rattle.std.proofs.Common.{rules, ◌<◌, length}
 use Rattle.dirgwako.specs.Changes.{op_in}
 use Rattle.dirgwako.proofs.Mapping.{more_set}
 use Rattle.dirgwako.proofs.listing.ops_of.Goals as goal

@@ -1,0 +1,31 @@
+//! An endpoint: scrapes over HTTP, on a port of 127.0.0.1 that the system chooses.
+use anyhow::{Context, Result};
+use dirgwako::{Crew, Opened, Registrar, ServiceRuntime, listen_aloud, serve};
+use std::net::{Net, TcpListener, TcpStream};
+use std::time::Duration;
+
+pub fn run<R>(rt: &R, connections: u64) -> Result<()>
+where
+    R: ServiceRuntime + Net<Listener = TcpListener, Stream = TcpStream> + Eprint,
+{
+    let mut crew = Crew::<1, 1, 0, 0>::new(rt.alloc(), 4, 1)?;
+    let Opened {
+        registry,
+        mut recorders,
+        ..
+    } = crew.open(64)?;
+    let visits = Registrar::new(rt, &registry).counter("visits_total", "Visits so far.")?;
+    recorders
+        .first_mut()
+        .context("no recorder")?
+        .inc(&visits, 3)?;
+    let listener = listen_aloud(rt, 0)?;
+    serve(
+        rt,
+        &listener,
+        &registry,
+        Duration::from_secs(5),
+        connections,
+    )?;
+    Ok(())
+}

@@ -1,0 +1,16 @@
+//! A tutorial in four steps, each of which is a file: [`counter`], [`labels`], [`threads`] and [`endpoint`]. The program runs them in order.
+#![tactic(auto)]
+
+mod counter;
+mod endpoint;
+mod labels;
+mod threads;
+
+use anyhow::Result;
+
+fn main(rt: HostRuntime) -> Result<()> {
+    counter::run(&rt)?;
+    labels::run(&rt)?;
+    threads::run(&rt)?;
+    endpoint::run(&rt, 0)
+}
