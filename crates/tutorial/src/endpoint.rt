@@ -20,12 +20,7 @@ where
         .context("no recorder")?
         .inc(&visits, 3)?;
     let listener = listen_aloud(rt, 0)?;
-    serve(
-        rt,
-        &listener,
-        &registry,
-        Duration::from_secs(5),
-        connections,
-    )?;
+    let patience = Duration::from_secs(5);
+    serve(rt, &listener, &registry, patience, connections)?;
     Ok(())
 }

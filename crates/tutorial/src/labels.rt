@@ -1,7 +1,7 @@
-//! A family of counters with a label, and a histogram.
+//! A family of counters with a label, and a histogram. Each list is one version: no scrape sees an answer without its bytes.
 use anyhow::{Context, Result};
 use dirgwako::{
-    Crew, Opened, Recorder, Registrar, Registry, ServiceRuntime, inc, linear, observe, print_scrape,
+    Crew, Opened, Recorder, Registrar, Registry, ServiceRuntime, inc, observe, print_scrape,
 };
 
 fn count(
@@ -13,9 +13,7 @@ fn count(
     let answers = metrics.counter_family("answers_total", "Answers by code.", &["code"])?;
     let found = metrics.counter_of(&answers, &["200"])?;
     let missing = metrics.counter_of(&answers, &["404"])?;
-    let bounds = linear(10, 10, 3)?;
-    let size = metrics.histogram("answer_bytes", "Bytes of each answer.", bounds.as_slice())?;
-    // Each of these lists is one version: no scrape sees an answer without its bytes.
+    let size = metrics.histogram("answer_bytes", "Bytes of each answer.", &[10, 20, 30])?;
     recorder.publish(&[inc(&found, 1), observe(&size, 25)])?;
     recorder.publish(&[inc(&missing, 1), observe(&size, 0)])?;
     Ok(print_scrape(rt, registry)?)

@@ -19,14 +19,10 @@ pub fn run(rt: &impl ServiceRuntime) -> Result<()> {
         ..
     } = crew.open(1)?;
     let visits = Registrar::new(rt, &registry).counter("visits_total", "Visits so far.")?;
-    for_each_mut(
-        rt,
-        &mut recorders,
-        2,
-        &|_thread, recorder| {
-            // A recorder refuses nothing here: the handle is its board's, and the number stays below 2^48.
-            let _ = count(recorder, &visits);
-        },
-    );
+    let each = &|_thread: usize, recorder: &mut Recorder<'_, 2, 1, 0, 0>| {
+        // Nothing is refused here: the handle is the board's own.
+        let _ = count(recorder, &visits);
+    };
+    for_each_mut(rt, &mut recorders, 2, each);
     Ok(print_scrape(rt, &registry)?)
 }
