@@ -46,7 +46,7 @@ impl<const N: usize, const C: usize, const H: usize, const G: usize> Crew<N, C, 
     ghost use Rattle.dirgwako.specs.Recorders.{worker_in, IsOn};
 
     /// A new board of this id, on which nothing was counted, with its `N` workers and `readers` readers. All memory that counting and
-    /// scanning need is taken here.
+    /// scanning need is taken here. Boards of one program have different ids: by them a handle of another board is told.
     ///
     /// # Errors
     ///

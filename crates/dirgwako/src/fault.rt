@@ -46,7 +46,8 @@ impl FamilyRefusal {
     }
 }
 
-/// Why there is no handle of a family for some label values. Nothing has changed then.
+/// Why there is no handle of a family for some label values. Nothing has changed then, but that after 28 the child stands in the other
+/// family.
 #[derive(Clone, Copy, Debug, PartialEq, Eq, Error)]
 pub enum ChildRefusal {
     /// Refusals 3 and 6 of the label value at the place `at`, from 0.
@@ -55,7 +56,8 @@ pub enum ChildRefusal {
     /// Refusals 20, 21, 22 and 6 of the registry.
     #[error(transparent)]
     Child(ChildFault),
-    /// Refusal 28: the family is one of another registry, and there of another kind.
+    /// Refusal 28: the registry's family of this number is of another kind. That a family is one of another registry is not seen where
+    /// the kinds agree.
     #[error("the family is of another kind")]
     OtherKind,
 }

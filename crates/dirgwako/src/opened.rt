@@ -24,7 +24,7 @@ pub enum OpenFault {
     /// Refusal 32: it was opened before.
     #[error("the crew was opened before")]
     Opened,
-    /// Refusals 31 and 6 of the registry, and of the memory for the recorders.
+    /// Refusals 31 and 6 of the registry, and 6 of the recorders and scanners.
     #[error(transparent)]
     Registry(NewFault),
 }

@@ -83,7 +83,7 @@ impl<S: Registers> Registrar<S> {
     /// # Errors
     ///
     /// The first that is so: [`ChildRefusal::Value`] with the value's place, 3, 6; [`ChildRefusal::Child`], 20, 21, 22, 6;
-    /// [`ChildRefusal::OtherKind`], 28, of a family of another registry.
+    /// [`ChildRefusal::OtherKind`], 28, of a family of another registry, where that number is one of another kind.
     pub fn counter_of(
         &mut self,
         family: &CounterFamily,
@@ -149,7 +149,7 @@ impl<S: Registers> Registrar<S> {
     /// # Errors
     ///
     /// The first that is so: [`ChildRefusal::Value`] with the value's place, 3, 6; [`ChildRefusal::Child`], 20, 21, 22, 6;
-    /// [`ChildRefusal::OtherKind`], 28, of a family of another registry.
+    /// [`ChildRefusal::OtherKind`], 28, of a family of another registry, where that number is one of another kind.
     pub fn gauge_of(&mut self, family: &GaugeFamily, values: &[&str]) -> Result<Gauge, ChildRefusal>
         ensures given { IfOk result (λ handle. AsksChild S.gave self.old.at self.new.at family.now.id (texts_of values.now) Kinds.Gauge (Result.Ok (Handles.Gauge handle))) }
         ensures fault { IfErr result (λ fault. AsksChild S.gave self.old.at self.new.at family.now.id (texts_of values.now) Kinds.Gauge (Result.Err fault)) }
@@ -219,7 +219,7 @@ impl<S: Registers> Registrar<S> {
     /// # Errors
     ///
     /// The first that is so: [`ChildRefusal::Value`] with the value's place, 3, 6; [`ChildRefusal::Child`], 20, 21, 22, 6;
-    /// [`ChildRefusal::OtherKind`], 28, of a family of another registry.
+    /// [`ChildRefusal::OtherKind`], 28, of a family of another registry, where that number is one of another kind.
     pub fn histogram_of(
         &mut self,
         family: &HistogramFamily,

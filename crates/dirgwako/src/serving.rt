@@ -22,7 +22,7 @@ const TRIES: usize = 64;
 pub struct Answered {
     /// So many were replied to, whatever the status was.
     pub replies: u64,
-    /// So many were not: the client went away, was silent for too long, or sent no byte.
+    /// So many were not: the client went away, was silent for too long, or sent no byte, or the time limits could not be set.
     pub faults: u64,
 }
 

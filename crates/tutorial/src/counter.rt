@@ -3,7 +3,7 @@ use anyhow::{Context, Result};
 use dirgwako::{Crew, Opened, Registrar, ServiceRuntime, print_scrape};
 
 pub fn run(rt: &impl ServiceRuntime) -> Result<()> {
-    // One thread counts; there is one counter. The board's number is 1, it has one reader, and one scrape is kept.
+    // One thread counts; there is one counter. The board's id is 1, it has one reader, and one scrape is kept.
     let mut crew = Crew::<1, 1, 0, 0>::new(rt.alloc(), 1, 1)?;
     let Opened {
         registry,
