@@ -6,9 +6,11 @@ ghost use Rattle.snapshot_scan.specs.Snapshots.{entry_of};
 ghost use Rattle.snapshot_update.specs.Workers.{IsWorkerOf};
 
 use crate::asserts::same;
-use crate::crew::{ID, last_reader};
-use crate::jobs::{lists, runs};
+use crate::crew::{ID, counter, last_reader};
+use crate::jobs::runs;
+use bucket_math::Bounds;
 use chain_law::{ChainFault, history_of, settle};
+use ledger_core::Histogram;
 use register_rule::Board;
 use snapshot_scan::{Reader, Snapshot, order};
 use snapshot_update::{Crew, Worker};
@@ -18,19 +20,19 @@ use std::process::Abort;
 use std::sync::Wait;
 use std::test::Fail;
 use std::thread::{Threads, join};
-use worker_pool::{Job, Open, PoolFault};
+use worker_pool::{Job, JobOp, Open, PoolFault};
 
 /// A reader to which nobody is lent, and what its scans gave it.
 #[derive(Drop)]
 struct Watch {
-    reader: Reader<4, 1, 0, 0>,
-    taken: Vec<Snapshot<4, 1, 0, 0>>,
+    reader: Reader<4, 1, 1, 0>,
+    taken: Vec<Snapshot<4, 1, 1, 0>>,
 
     ghost alone: { IsAlone reader },
 }
 
 /// Scans once more, and keeps what it is given.
-fn scan_once(alloc: Global, board: &Board<4, 1, 0, 0>, watch: &mut Watch) -> Result<(), AllocError>
+fn scan_once(alloc: Global, board: &Board<4, 1, 1, 0>, watch: &mut Watch) -> Result<(), AllocError>
     requires own { IsReaderOf board.now watch.old.reader }
     requires recorded { All (λ s. HasRecorded watch.old.reader (entry_of s)) watch.old.taken.items }
     ensures own { IsReaderOf board.now watch.new.reader }
@@ -47,8 +49,8 @@ fn scan_once(alloc: Global, board: &Board<4, 1, 0, 0>, watch: &mut Watch) -> Res
 /// Scans 10,000 times, and keeps what it is given.
 fn scan_often(
     alloc: Global,
-    board: &Board<4, 1, 0, 0>,
-    reader: Reader<4, 1, 0, 0>,
+    board: &Board<4, 1, 1, 0>,
+    reader: Reader<4, 1, 1, 0>,
 ) -> Result<Watch, AllocError>
     requires own { IsReaderOf board.now reader × IsAlone reader }
     ensures own { IfOk result (λ w. IsReaderOf board.now w.reader) }
@@ -66,9 +68,9 @@ fn scan_often(
 fn two_scan(
     rt: &(impl Threads + Abort + Sync),
     alloc: Global,
-    board: &Board<4, 1, 0, 0>,
-    left: Reader<4, 1, 0, 0>,
-    right: Reader<4, 1, 0, 0>,
+    board: &Board<4, 1, 1, 0>,
+    left: Reader<4, 1, 1, 0>,
+    right: Reader<4, 1, 1, 0>,
 ) -> Watches
     requires left { IsReaderOf board.now left × IsAlone left }
     requires right { IsReaderOf board.now right × IsAlone right }
@@ -106,11 +108,11 @@ fn compare_so(one: &[u64], other: &[u64], found: Ordering) -> bool {
 /// snapshot is less.
 fn all_compare(
     rt: &impl Abort,
-    board: &Board<4, 1, 0, 0>,
-    one: &mut Reader<4, 1, 0, 0>,
-    ones: &[Snapshot<4, 1, 0, 0>],
-    other: &mut Reader<4, 1, 0, 0>,
-    others: &[Snapshot<4, 1, 0, 0>],
+    board: &Board<4, 1, 1, 0>,
+    one: &mut Reader<4, 1, 1, 0>,
+    ones: &[Snapshot<4, 1, 1, 0>],
+    other: &mut Reader<4, 1, 1, 0>,
+    others: &[Snapshot<4, 1, 1, 0>],
 )
     requires own { IsReaderOf board.now one.old × IsReaderOf board.now other.old }
     requires alone { IsAlone one.old × IsAlone other.old }
@@ -137,7 +139,7 @@ fn all_compare(
 }
 
 /// How often each worker published in the history that passes through these snapshots.
-fn counts(alloc: Global, taken: &[Snapshot<4, 1, 0, 0>]) -> Result<[u64; 4], ChainFault> {
+fn counts(alloc: Global, taken: &[Snapshot<4, 1, 1, 0>]) -> Result<[u64; 4], ChainFault> {
     let turns = history_of(alloc, taken)?;
     let mut counted = [0u64; 4];
     for k in 0..turns.len() {
@@ -156,11 +158,11 @@ const ALL: [u64; 4] = [10_000, 10_000, 10_000, 10_000];
 fn end_equal(
     rt: &impl Abort,
     alloc: Global,
-    board: &Board<4, 1, 0, 0>,
-    workers: &mut [Worker<4, 1, 0, 0>],
-    one: &mut Reader<4, 1, 0, 0>,
-    other: &mut Reader<4, 1, 0, 0>,
-) -> Result<(Snapshot<4, 1, 0, 0>, Snapshot<4, 1, 0, 0>), Fail>
+    board: &Board<4, 1, 1, 0>,
+    workers: &mut [Worker<4, 1, 1, 0>],
+    one: &mut Reader<4, 1, 1, 0>,
+    other: &mut Reader<4, 1, 1, 0>,
+) -> Result<(Snapshot<4, 1, 1, 0>, Snapshot<4, 1, 1, 0>), Fail>
     requires own { IsReaderOf board.now one.old × IsReaderOf board.now other.old }
     requires alone { IsAlone other.old }
     requires workers { All (IsWorkerOf board.now) workers.old }
@@ -176,18 +178,34 @@ fn end_equal(
     let found = order(board, &settled, one, &scanned, other);
     same(rt, &found, &Ordering::Equal);
     same(rt, &settled.vector(), &ALL.as_slice());
-    same(rt, &settled.counter(0), &40_000);
+    same(rt, &found_in(&settled), &(20_000, 20_000, 20_000));
     Ok((settled, scanned))
 }
 
-/// Each of these is of one moment: the counter is how often all workers had published, since each version adds 1.
-fn are_of_one_moment(rt: &impl Abort, taken: &[Snapshot<4, 1, 0, 0>]) {
+/// The counter, the histogram's count, and what its buckets add up to.
+fn found_in(out: &Snapshot<4, 1, 1, 0>) -> (u64, u64, u64) {
+    let totals = out.hist(0);
+    let mut all = 0u64;
+    for bucket in &totals.buckets {
+        all = all.wrapping_add(*bucket);
+    }
+    (out.counter(0), totals.count, all)
+}
+
+/// The same, by how often each worker had published: it counts 1 first and observes a value then, by turns.
+fn told_by(vector: &[u64]) -> (u64, u64, u64) {
+    let (mut counts, mut observes) = (0u64, 0u64);
+    for number in vector {
+        observes = observes.wrapping_add(*number / 2);
+        counts = counts.wrapping_add(*number - *number / 2);
+    }
+    (counts, observes, observes)
+}
+
+/// Each of these is of one moment.
+fn are_of_one_moment(rt: &impl Abort, taken: &[Snapshot<4, 1, 1, 0>]) {
     for k in 0..taken.len() {
-        let mut all = 0u64;
-        for number in taken[k].vector() {
-            all = all.wrapping_add(*number);
-        }
-        same(rt, &taken[k].counter(0), &all);
+        same(rt, &found_in(&taken[k]), &told_by(taken[k].vector()));
     }
 }
 
@@ -195,8 +213,8 @@ fn are_of_one_moment(rt: &impl Abort, taken: &[Snapshot<4, 1, 0, 0>]) {
 fn ends_so(
     rt: &impl Abort,
     alloc: Global,
-    mut taken: Vec<Snapshot<4, 1, 0, 0>>,
-    last: Snapshot<4, 1, 0, 0>,
+    mut taken: Vec<Snapshot<4, 1, 1, 0>>,
+    last: Snapshot<4, 1, 1, 0>,
 ) -> Result<(), Fail> {
     same(rt, &taken.is_empty(), &false);
     taken.push(last)?;
@@ -209,8 +227,8 @@ fn ends_so(
 fn end_well(
     rt: &impl Abort,
     alloc: Global,
-    board: &Board<4, 1, 0, 0>,
-    workers: &mut [Worker<4, 1, 0, 0>],
+    board: &Board<4, 1, 1, 0>,
+    workers: &mut [Worker<4, 1, 1, 0>],
     left: Watch,
     right: Watch,
 ) -> Result<(), Fail>
@@ -246,12 +264,12 @@ type Watches = (Result<Watch, AllocError>, Result<Watch, AllocError>);
 fn all_at_once(
     rt: &(impl Threads + Wait + Abort + Sync),
     alloc: Global,
-    board: &Board<4, 1, 0, 0>,
-    workers: Vec<Worker<4, 1, 0, 0>>,
+    board: &Board<4, 1, 1, 0>,
+    workers: Vec<Worker<4, 1, 1, 0>>,
     jobs: &[Vec<Job>],
-    left: Reader<4, 1, 0, 0>,
-    right: Reader<4, 1, 0, 0>,
-) -> (Result<Vec<Worker<4, 1, 0, 0>>, PoolFault>, Watches)
+    left: Reader<4, 1, 1, 0>,
+    right: Reader<4, 1, 1, 0>,
+) -> (Result<Vec<Worker<4, 1, 1, 0>>, PoolFault>, Watches)
     requires workers { All (IsWorkerOf board.now) workers.items }
     requires left { IsReaderOf board.now left × IsAlone left }
     requires right { IsReaderOf board.now right × IsAlone right }
@@ -261,7 +279,7 @@ fn all_at_once(
 {
     join(
         rt,
-        || -> Result<Vec<Worker<4, 1, 0, 0>>, PoolFault>
+        || -> Result<Vec<Worker<4, 1, 1, 0>>, PoolFault>
             requires { All (IsWorkerOf board.now) workers.items }
             ensures { IfOk result (λ v. All (IsWorkerOf board.entry.now) v.items) }
         { runs(rt, alloc, board, workers, jobs, &Open) },
@@ -272,6 +290,39 @@ fn all_at_once(
     )
 }
 
+/// An increment at even lines, a value under 25 at odd ones.
+fn turn(hist: &Histogram, line: u64) -> JobOp {
+    if line % 2 == 0 {
+        JobOp::Inc(counter(0), 1)
+    } else {
+        JobOp::Observe(*hist, line % 25)
+    }
+}
+
+/// A worker's list: 5,000 increments and 5,000 values, by turns.
+fn by_turns(alloc: Global, hist: &Histogram) -> Result<Vec<Job>, AllocError> {
+    let mut jobs = Vec::new(alloc);
+    for line in 0..10_000 {
+        let what = turn(hist, line);
+        jobs.push(Job { line, what })?;
+    }
+    Ok(jobs)
+}
+
+/// The lists of four workers.
+fn all_by_turns(alloc: Global, bounds: Bounds) -> Result<Vec<Vec<Job>>, AllocError> {
+    let hist = Histogram {
+        registry: ID,
+        slot: 0,
+        bounds,
+    };
+    let mut lists = Vec::new(alloc);
+    for _worker in 0..4 {
+        lists.push(by_turns(alloc, &hist)?)?;
+    }
+    Ok(lists)
+}
+
 #[test]
 fn readers_scan_while_workers_count(rt: HostRuntime) -> Result<(), Fail> {
     let alloc = rt.alloc();
@@ -279,10 +330,13 @@ fn readers_scan_while_workers_count(rt: HostRuntime) -> Result<(), Fail> {
         board,
         workers,
         mut readers,
-    } = Crew::<4, 1, 0, 0>::new(alloc, ID, 2)?;
+    } = Crew::<4, 1, 1, 0>::new(alloc, ID, 2)?;
     let right = last_reader(&board, &mut readers)?;
     let left = last_reader(&board, &mut readers)?;
-    let jobs = lists(alloc, 4, 10_000)?;
+    let Ok(bounds) = Bounds::from_slice(&[5, 10, 15]) else {
+        return Err("bad bounds".into());
+    };
+    let jobs = all_by_turns(alloc, bounds)?;
     let (workers, (left, right)) = all_at_once(
         &rt,
         alloc,

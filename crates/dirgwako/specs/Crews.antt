@@ -1,5 +1,5 @@
 -- What a clause reads of a crew.
-use Rattle.std.specs.Prelude.{◌≡◌, ℕ, List, []}
+use Rattle.std.specs.Prelude.{◌≡◌, ◌≢◌, ℕ, List, []}
 use Rattle.register_rule.specs.declared.board.Board.{Board}
 use Rattle.registry_state.specs.Faults.{IsNewFault, new_number}
 use Rattle.snapshot_scan.specs.declared.reader.Reader.{Reader}
@@ -24,7 +24,7 @@ module _ {N C H G : ℕ} where
   -- why a crew is not opened
   abbrev pub IsOpenFault : Crew N C H G → (window : ℕ) → OpenFault → Type 0
   IsOpenFault c window Opened = readers_of c ≡ []
-  IsOpenFault c window (Registry fault) = IsNewFault window fault
+  IsOpenFault c window (Registry fault) = (readers_of c ≢ []) × IsNewFault window fault
 
 -- the number of each fault
 abbrev pub open_number : OpenFault → ℕ

@@ -76,8 +76,8 @@ impl<const N: usize, const C: usize, const H: usize, const G: usize> Crew<N, C, 
     ///
     /// # Errors
     ///
-    /// 32 [`OpenFault::Opened`]; then [`OpenFault::Registry`]: 31 unless `window` is 1 to 1,024, and 6. After 31 or 6 nothing is handed
-    /// out, and the crew is spent.
+    /// 32 [`OpenFault::Opened`]; then [`OpenFault::Registry`]: 31 unless `window` is 1 to 1,024, after which the crew may be opened still,
+    /// and 6, after which it is spent.
     pub fn open<'a>(&'a mut self, window: usize) -> Result<Opened<'a, N, C, H, G>, OpenFault>
         ensures boards { IfOk result (λ o. All (IsOn (board_of self.old)) o.recorders.items) }
         ensures workers { IfOk result (λ o. map worker_in o.recorders.items ≡ workers_of self.old) }
@@ -86,6 +86,12 @@ impl<const N: usize, const C: usize, const H: usize, const G: usize> Crew<N, C, 
         ensures window { OnOk result (IsWindow window) }
         ensures fault { IfErr result (IsOpenFault self.old window) }
     {
+        if self.readers.is_empty() {
+            return Err(OpenFault::Opened);
+        }
+        if !(1..=1_024).contains(&window) {
+            return Err(OpenFault::Registry(NewFault::BadWindow));
+        }
         let alloc = self.alloc;
         let workers = replace(&mut self.workers, Vec::new(alloc));
         let mut readers = replace(&mut self.readers, Vec::new(alloc));

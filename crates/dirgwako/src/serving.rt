@@ -1,21 +1,26 @@
 //! Connections are accepted and served, one after the other.
 ghost use Rattle.std.specs.Prelude.{◌≡◌, ◌+◌, IfOk, IsErr};
+ghost use Rattle.std.specs.Duration.{as_nanos};
 ghost use Rattle.dirgwako.specs.Patience.{AsksAgain};
 
 use expo_text::Scrape;
 use metric_registry::Registry;
 use scrape_http::{NoScrape, ScrapeFrom};
 use scrape_server::{FromRegistry, serve_stream};
-use std::io;
+use std::io::{self, ErrorKind};
 use std::net::{TcpListener, TcpStream};
 use std::sync::Wait;
-use std::time::Duration;
+use std::thread::sleep;
+use std::time::{Clock, Duration};
 
 /// How often a scrape that is given up is asked for again.
 const AGAIN: usize = 3;
 
 /// How often in a row a listener may fail before its server gives up.
 const TRIES: usize = 64;
+
+/// How long a server waits after its listener has failed, in milliseconds.
+const PAUSE: u64 = 100;
 
 /// What became of connections.
 #[derive(Clone, Copy, Debug, PartialEq, Eq)]
@@ -47,13 +52,14 @@ impl<S: ScrapeFrom> ScrapeFrom for Patient<S> {
     }
 }
 
-/// The next connection. Where a client went away before it was accepted, the listener tells that as a failure of its own, so one that
-/// fails is asked again.
-fn accept(listener: &TcpListener) -> io::Result<TcpStream> {
+/// The next connection. Where a client went away before it was accepted, or the system has no file left for a moment, the listener tells
+/// that as a failure of its own, so one that fails is asked again a little later.
+fn accept(clock: &impl Clock, listener: &TcpListener) -> io::Result<TcpStream> {
     for _try in 1..TRIES {
         if let Ok((stream, _peer)) = listener.accept() {
             return Ok(stream);
         }
+        sleep(clock, Duration::from_millis(PAUSE));
     }
     let (stream, _peer) = listener.accept()?;
     Ok(stream)
@@ -82,19 +88,23 @@ fn answer<R: Wait, const N: usize, const C: usize, const H: usize, const G: usiz
 ///
 /// # Errors
 ///
-/// The listener's, where it has failed 64 times in a row.
-pub fn serve<R: Wait, const N: usize, const C: usize, const H: usize, const G: usize>(
+/// `InvalidInput` where `patience` is 0. The listener's, where it has failed 64 times in a row, a tenth of a second apart.
+pub fn serve<R: Wait + Clock, const N: usize, const C: usize, const H: usize, const G: usize>(
     rt: &R,
     listener: &TcpListener,
     registry: &Registry<'_, N, C, H, G>,
     patience: Duration,
     connections: u64,
 ) -> io::Result<Answered>
-    ensures { IfOk result (λ answered. answered.replies + answered.faults ≡ connections) }
+    ensures all { IfOk result (λ answered. answered.replies + answered.faults ≡ connections) }
+    ensures patient { as_nanos patience ≡ 0 → IsErr result }
 {
+    if patience.is_zero() {
+        return Err(ErrorKind::InvalidInput.into());
+    }
     let mut replies = 0;
     for _connection in 0..connections {
-        let stream = accept(listener)?;
+        let stream = accept(rt, listener)?;
         if answer(rt, &stream, registry, patience) {
             replies += 1;
         }
@@ -107,8 +117,14 @@ pub fn serve<R: Wait, const N: usize, const C: usize, const H: usize, const G: u
 ///
 /// # Errors
 ///
-/// It ends where the listener has failed 64 times in a row, with its error.
-pub fn serve_forever<R: Wait, const N: usize, const C: usize, const H: usize, const G: usize>(
+/// As [`serve`]: it ends with nothing else.
+pub fn serve_forever<
+    R: Wait + Clock,
+    const N: usize,
+    const C: usize,
+    const H: usize,
+    const G: usize,
+>(
     rt: &R,
     listener: &TcpListener,
     registry: &Registry<'_, N, C, H, G>,
@@ -116,8 +132,11 @@ pub fn serve_forever<R: Wait, const N: usize, const C: usize, const H: usize, co
 ) -> io::Result<()>
     ensures { IsErr result }
 {
+    if patience.is_zero() {
+        return Err(ErrorKind::InvalidInput.into());
+    }
     for _connection in rt.forever() {
-        let stream = accept(listener)?;
+        let stream = accept(rt, listener)?;
         let _ = answer(rt, &stream, registry, patience);
     }
     unreachable!()
