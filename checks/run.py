@@ -5,6 +5,7 @@ import sys
 import time
 
 import exit_statuses
+import pages
 import refused_memory
 import servers
 from started import Failed, check, run
@@ -30,6 +31,7 @@ def main():
     program, service, bench = built("metrics_run"), built("example_service"), built("bench")
     printed = ROOT / "crates/example_service/stdout"
     checks = [
+        ("pages", lambda: pages.check_all(ROOT)),
         ("exit statuses", lambda: exit_statuses.check_all(program, service, bench)),
         ("scripts", lambda: script_cases(program)),
         ("servers", lambda: servers.check_all(program, service, printed)),

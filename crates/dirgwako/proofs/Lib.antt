@@ -1,4 +1,5 @@
 mod Again
+mod Answering
 mod Mapping
 mod Reading
 mod Seating

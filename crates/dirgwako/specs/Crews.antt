@@ -1,11 +1,15 @@
 -- What a clause reads of a crew.
-use Rattle.std.specs.Prelude.{◌≡◌, ◌≢◌, ℕ, List, []}
+use Rattle.std.specs.Prelude.{◌≡◌, ◌≢◌, ℕ, List, [], Vec}
+use Rattle.std.specs.declared.alloc.Global.{Global}
 use Rattle.register_rule.specs.declared.board.Board.{Board}
+use Rattle.metric_registry.specs.declared.registry.Registry.{Registry as Behind}
 use Rattle.registry_state.specs.Faults.{IsNewFault, new_number}
 use Rattle.snapshot_scan.specs.declared.reader.Reader.{Reader}
+use Rattle.snapshot_scan.specs.declared.scanner.Scanner.{Scanner}
 use Rattle.snapshot_update.specs.declared.worker.Worker.{Worker}
 use Rattle.dirgwako.specs.declared.crew.Crew.{Crew}
 use Rattle.dirgwako.specs.declared.opened.OpenFault.{OpenFault}
+use Rattle.dirgwako.specs.declared.recorder.Recorder.{Recorder}
 use Rattle.dirgwako.specs.declared.opened.OpenFault.TheVariants.{Opened, Registry}
 
 module _ {N C H G : ℕ} where
@@ -20,6 +24,13 @@ module _ {N C H G : ℕ} where
   -- its readers that are not handed out, in order
   abbrev pub readers_of : Crew N C H G → List (Reader N C H G)
   readers_of c = c.readers.items
+
+  -- what an open crew hands out beside the registry: the recorders, in order, and the scanners
+  abbrev pub recorders_in : Behind N C H G × Vec (Recorder N C H G) Global × Vec (Scanner N C H G) Global → List (Recorder N C H G)
+  recorders_in o = o.1.items
+
+  abbrev pub scanners_in : Behind N C H G × Vec (Recorder N C H G) Global × Vec (Scanner N C H G) Global → List (Scanner N C H G)
+  scanners_in o = o.2.items
 
   -- why a crew is not opened
   abbrev pub IsOpenFault : Crew N C H G → (window : ℕ) → OpenFault → Type 0

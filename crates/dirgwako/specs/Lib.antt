@@ -1,7 +1,10 @@
+pub mod Alone
+pub mod Answering
 pub mod Changes
 pub mod Crews
 pub mod Lock
 pub mod Patience
+pub mod Printing
 pub mod Recorders
 pub mod Refused
 pub mod Registering
@@ -31,3 +34,4 @@ pub use Rattle.snapshot_update.specs.Updated
 pub use Rattle.registry_state.specs.Changed
 pub use Rattle.registry_state.specs.Faults
 pub use Rattle.metric_registry.specs.Behind
+pub use Rattle.metric_registry.specs.Names

@@ -23,6 +23,7 @@ family_number (family.Histogram fault) = histogram.number_of fault
 family_number (family.Register fault) = state.register_number fault
 
 abbrev pub child_number : ChildRefusal → ℕ
+child_number child.OtherRegistry = 20
 child_number (child.Value _ fault) = value.number_of fault
 child_number (child.Child fault) = state.child_number fault
 child_number child.OtherKind = 28

@@ -56,24 +56,25 @@ IsOther Kinds.Histogram (Handle.Histogram _) = ⊥
 IsOther Kinds.Gauge (Handle.Gauge _) = ⊥
 IsOther kind handle = Unit {0}
 
-module _ {S : Type 0} (gave : S → S → FamilyId → List (List ℕ) → Result Handle ChildFault → Type 0) (old new : S) (id : FamilyId) (values : List (List ℕ)) where
-  -- What is done and answered where a child is asked for: it is asked for once, with just these values; or some value is none, and
-  -- nothing is done.
+module _ {S : Type 0} (id_in : S → ℕ) (gave : S → S → FamilyId → List (List ℕ) → Result Handle ChildFault → Type 0) (old new : S) (registry : ℕ) (id : FamilyId) (values : List (List ℕ)) where
+  -- What is done and answered where a child is asked for: it is asked for once, with just these values; or the family is of a registry
+  -- of another id, or else some value is none, and nothing is done.
   abbrev pub AsksHandle : Result Handle ChildRefusal → Type 0
-  AsksHandle (Ok handle) = All IsLabelValue values × gave old new id values (Ok handle)
-  AsksHandle (Err (child.Value at fault)) = IsBadValue values at fault × (new ≡ old)
-  AsksHandle (Err (child.Child fault)) = All IsLabelValue values × gave old new id values (Err fault)
+  AsksHandle (Ok handle) = (registry ≡ id_in old) × All IsLabelValue values × gave old new id values (Ok handle)
+  AsksHandle (Err child.OtherRegistry) = (registry ≢ id_in old) × (new ≡ old)
+  AsksHandle (Err (child.Value at fault)) = (registry ≡ id_in old) × IsBadValue values at fault × (new ≡ old)
+  AsksHandle (Err (child.Child fault)) = (registry ≡ id_in old) × All IsLabelValue values × gave old new id values (Err fault)
   AsksHandle (Err child.OtherKind) = ⊥
 
   -- the same, of a child of a family of this kind
   abbrev pub AsksChild : Kind → Result Handle ChildRefusal → Type 0
-  AsksChild kind (Err child.OtherKind) = All IsLabelValue values × ((handle : Handle) × gave old new id values (Ok handle) × IsOther kind handle)
+  AsksChild kind (Err child.OtherKind) = (registry ≡ id_in old) × All IsLabelValue values × ((handle : Handle) × gave old new id values (Ok handle) × IsOther kind handle)
   AsksChild kind answer = AsksHandle answer
 
-module _ {S : Type 0} (registered : S → S → Descriptor → Result FamilyId RegisterFault → Type 0) (gave : S → S → FamilyId → List (List ℕ) → Result Handle ChildFault → Type 0) (old new : S) (desc : Descriptor) where
+module _ {S : Type 0} (id_in : S → ℕ) (registered : S → S → Descriptor → Result FamilyId RegisterFault → Type 0) (gave : S → S → FamilyId → List (List ℕ) → Result Handle ChildFault → Type 0) (old new : S) (desc : Descriptor) where
   -- What is done and answered where a metric without labels is asked for: its family is registered, and then its one child is asked for.
   -- Where that is refused, the family stands, and is told.
   abbrev pub AsksMetric : Result Handle MetricRefusal → Type 0
-  AsksMetric (Ok handle) = (mid : S) × (id : FamilyId) × AsksFamily registered old mid desc (Ok id) × AsksChild gave mid new id [] desc.kind (Ok handle)
+  AsksMetric (Ok handle) = (mid : S) × (id : FamilyId) × AsksFamily registered old mid desc (Ok id) × AsksChild id_in gave mid new (id_in mid) id [] desc.kind (Ok handle)
   AsksMetric (Err (metric.Family fault)) = AsksFamily registered old new desc (Err fault)
-  AsksMetric (Err (metric.Child id fault)) = (mid : S) × AsksFamily registered old mid desc (Ok id) × AsksChild gave mid new id [] desc.kind (Err fault)
+  AsksMetric (Err (metric.Child id fault)) = (mid : S) × AsksFamily registered old mid desc (Ok id) × AsksChild id_in gave mid new (id_in mid) id [] desc.kind (Err fault)

@@ -96,15 +96,19 @@ pub(crate) fn ask_family<S: Registers>(
     }
 }
 
-/// The handle of a child by plain texts.
+/// The handle of a child by plain texts, of a family of the registry of this id.
 pub(crate) fn ask_handle<S: Registers>(
     at: &mut S,
     alloc: Global,
+    registry: u64,
     family: FamilyId,
     values: &[&str],
 ) -> Result<Handle, ChildRefusal>
-    ensures { AsksHandle S.gave at.old at.new family (texts_of values.now) result }
+    ensures { AsksHandle S.id_in S.gave at.old at.new registry family (texts_of values.now) result }
 {
+    if registry != at.id() {
+        return Err(ChildRefusal::OtherRegistry);
+    }
     match read_values(alloc, values) {
         Ok(read) => at.child(family, &read).map_err(ChildRefusal::Child),
         Err(bad) => Err(ChildRefusal::Value {

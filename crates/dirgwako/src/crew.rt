@@ -3,6 +3,7 @@ ghost use Rattle.std.specs.Prelude.{◌≡◌, [], map, length, replicate, IfOk,
 ghost use Rattle.std.specs.List.{range_with_len};
 ghost use Rattle.register_rule.specs.Faults.{IsBoard, IsBoardFault};
 ghost use Rattle.register_rule.specs.Seats.{board_id};
+ghost use Rattle.metric_registry.specs.Names.{id_of};
 ghost use Rattle.registry_state.specs.Faults.{IsWindow};
 ghost use Rattle.snapshot_scan.specs.Readers.{IsReaderOf};
 ghost use Rattle.snapshot_scan.specs.Scanners.{reader_in};
@@ -10,7 +11,7 @@ ghost use Rattle.dirgwako.specs.Scanning.{ScansOn, IsFront};
 ghost use Rattle.snapshot_update.specs.Workers.{index_of, lists_of, IsWorkerOf};
 ghost use Rattle.std.proofs.Props.{props};
 
-use crate::opened::{OpenFault, Opened};
+use crate::opened::OpenFault;
 use crate::recorder::Recorder;
 use metric_registry::Registry;
 use register_rule::{Board, BoardFault};
@@ -42,7 +43,7 @@ impl<const N: usize, const C: usize, const H: usize, const G: usize> Drop for Cr
 }
 
 impl<const N: usize, const C: usize, const H: usize, const G: usize> Crew<N, C, H, G> {
-    ghost use Rattle.dirgwako.specs.Crews.{board_of, workers_of, readers_of, IsOpenFault};
+    ghost use Rattle.dirgwako.specs.Crews.{board_of, workers_of, readers_of, recorders_in, scanners_in, IsOpenFault};
     ghost use Rattle.dirgwako.specs.Recorders.{worker_in, IsOn};
 
     /// A new board of this id, on which nothing was counted, with its `N` workers and `readers` readers. All memory that counting and
@@ -71,18 +72,30 @@ impl<const N: usize, const C: usize, const H: usize, const G: usize> Crew<N, C, 
         }
     }
 
-    /// Hands all out: a registry that keeps `window` scrapes and scrapes by the last reader, a recorder for each worker, and a
-    /// scanner for each other reader.
+    /// Hands all out: `let (registry, mut recorders, scanners) = crew.open(64)?`. The registry keeps `window` scrapes, and scrapes by the
+    /// last reader. There is a recorder for each of the `N` workers, in order, one for each thread that counts, and a scanner for each
+    /// other reader, in order, which scans the board for itself.
     ///
     /// # Errors
     ///
     /// 32 [`OpenFault::Opened`]; then [`OpenFault::Registry`]: 31 unless `window` is 1 to 1,024, after which the crew may be opened still,
     /// and 6, after which it is spent.
-    pub fn open<'a>(&'a mut self, window: usize) -> Result<Opened<'a, N, C, H, G>, OpenFault>
-        ensures boards { IfOk result (λ o. All (IsOn (board_of self.old)) o.recorders.items) }
-        ensures workers { IfOk result (λ o. map worker_in o.recorders.items ≡ workers_of self.old) }
-        ensures scanners { IfOk result (λ o. All (ScansOn (board_of self.old)) o.scanners.items) }
-        ensures readers { IfOk result (λ o. IsFront (map reader_in o.scanners.items) (readers_of self.old)) }
+    pub fn open<'a>(
+        &'a mut self,
+        window: usize,
+    ) -> Result<
+        (
+            Registry<'a, N, C, H, G>,
+            Vec<Recorder<'a, N, C, H, G>>,
+            Vec<Scanner<'a, N, C, H, G>>,
+        ),
+        OpenFault,
+    >
+        ensures id { IfOk result (λ o. id_of o.0 ≡ board_id (board_of self.old)) }
+        ensures boards { IfOk result (λ o. All (IsOn (board_of self.old)) (recorders_in o)) }
+        ensures workers { IfOk result (λ o. map worker_in (recorders_in o) ≡ workers_of self.old) }
+        ensures scanners { IfOk result (λ o. All (ScansOn (board_of self.old)) (scanners_in o)) }
+        ensures readers { IfOk result (λ o. IsFront (map reader_in (scanners_in o)) (readers_of self.old)) }
         ensures window { OnOk result (IsWindow window) }
         ensures fault { IfErr result (IsOpenFault self.old window) }
     {
@@ -107,11 +120,7 @@ impl<const N: usize, const C: usize, const H: usize, const G: usize> Crew<N, C, 
             return Err(OpenFault::Registry(NewFault::NoMemory));
         };
         match all_scanners(alloc, board, readers) {
-            Ok(scanners) => Ok(Opened {
-                registry,
-                recorders,
-                scanners,
-            }),
+            Ok(scanners) => Ok((registry, recorders, scanners)),
             Err(_) => Err(OpenFault::Registry(NewFault::NoMemory)),
         }
     }

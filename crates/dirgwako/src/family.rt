@@ -8,21 +8,27 @@ use registry_state::FamilyId;
 /// A family of counters of a registry.
 #[derive(Clone, Copy, Debug, PartialEq, Eq)]
 pub struct CounterFamily {
-    /// The family.
+    /// The id of its registry.
+    pub registry: u64,
+    /// Which of the registry's families it is.
     pub id: FamilyId,
 }
 
 /// A family of gauges of a registry.
 #[derive(Clone, Copy, Debug, PartialEq, Eq)]
 pub struct GaugeFamily {
-    /// The family.
+    /// The id of its registry.
+    pub registry: u64,
+    /// Which of the registry's families it is.
     pub id: FamilyId,
 }
 
 /// A family of histograms of a registry.
 #[derive(Clone, Copy, Debug, PartialEq, Eq)]
 pub struct HistogramFamily {
-    /// The family.
+    /// The id of its registry.
+    pub registry: u64,
+    /// Which of the registry's families it is.
     pub id: FamilyId,
 }
 

@@ -50,14 +50,17 @@ impl FamilyRefusal {
 /// family.
 #[derive(Clone, Copy, Debug, PartialEq, Eq, Error)]
 pub enum ChildRefusal {
+    /// Refusal 20: the family is of a registry of another id.
+    #[error("the family is of another registry")]
+    OtherRegistry,
     /// Refusals 3 and 6 of the label value at the place `at`, from 0.
     #[error("value {at}: {fault}")]
     Value { at: usize, fault: LabelValueFault },
     /// Refusals 20, 21, 22 and 6 of the registry.
     #[error(transparent)]
     Child(ChildFault),
-    /// Refusal 28: the registry's family of this number is of another kind. That a family is one of another registry is not seen where
-    /// the kinds agree.
+    /// Refusal 28: the registry's family of this number is of another kind. So a family is told that is of another registry of the same
+    /// id, where the kinds differ.
     #[error("the family is of another kind")]
     OtherKind,
 }
@@ -68,6 +71,7 @@ impl ChildRefusal {
         ensures { result ≡ child_number self.now }
     {
         match self {
+            ChildRefusal::OtherRegistry => 20,
             ChildRefusal::Value { at: _, fault } => fault.number(),
             ChildRefusal::Child(fault) => fault.number(),
             ChildRefusal::OtherKind => 28,

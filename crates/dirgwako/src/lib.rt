@@ -5,12 +5,14 @@
 mod asking;
 mod bounds;
 mod change;
+mod connection;
 mod crew;
 mod family;
 mod fault;
 mod listening;
 mod listing;
 mod opened;
+mod patience;
 mod printing;
 mod recorder;
 mod registers;
@@ -29,17 +31,22 @@ pub use fault::{ChildRefusal, FamilyRefusal, MetricRefusal};
 pub use ledger_core::{Counter, Gauge, Histogram, Op, OpFault};
 pub use listening::{listen, listen_aloud, port_of};
 pub use metric_desc::{Desc, HistogramFault, Kind, LabelsFault};
-pub use metric_names::{HelpTextFault, LabelNameFault, LabelValueFault, MetricNameFault};
+pub use metric_names::{
+    HelpTextFault, LabelNameFault, LabelValue, LabelValueFault, MetricNameFault,
+};
 pub use metric_registry::Registry;
-pub use opened::{OpenFault, Opened};
-pub use printing::{PrintFault, print_scrape};
+pub use opened::OpenFault;
+pub use printing::{PrintFault, TextFault, print_scrape, scrape_text};
 pub use recorder::Recorder;
 pub use register_rule::{Board, BoardFault};
 pub use registers::{Behind, Registers};
 pub use registrar::Registrar;
-pub use registry_state::{BadWindow, ChildFault, FamilyId, NewFault, RegisterFault, ScrapeFault};
+pub use registry_state::{
+    BadWindow, ChildFault, FamilyId, Handle, NewFault, RegisterFault, RegistryState, ScrapeFault,
+};
 pub use runtime::ServiceRuntime;
+pub use scrape_http::{NoScrape, ScrapeFrom, Served, Status, WireFault, serve_one};
 pub use scrape_server::{FromRegistry, serve_stream};
 pub use serving::{Answered, serve, serve_forever};
-pub use snapshot_scan::{Contended, Reader, Scanner, Snapshot};
+pub use snapshot_scan::{Contended, PlainSource, Reader, Scanner, Snapshot, Source};
 pub use snapshot_update::{ApplyFault, CountFault, Worker};

@@ -1,32 +1,97 @@
-//! Scrapes are printed.
+//! The text of a scrape, by itself and printed.
+ghost use Rattle.std.specs.Prelude.{◌≡◌, ◌⊎◌, IfErr, IfOk, Ok, Err};
+ghost use Rattle.expo_text.specs.Scraped.{Scraped};
+ghost use Rattle.scrape_http.specs.declared.source.NoScrape.TheVariants as none;
+ghost use Rattle.dirgwako.specs.Patience.{AsksAgain};
+ghost use Rattle.dirgwako.specs.Printing.{IsText, IsTextFault, text_number, print_number};
 
+use crate::patience::scrape_again;
 use expo_text::render;
-use metric_names::NoMemory;
 use metric_registry::Registry;
-use registry_state::ScrapeFault;
-use std::io;
+use scrape_http::{NoScrape, ScrapeFrom};
+use scrape_server::FromRegistry;
 use std::sync::Wait;
 use thiserror::Error;
 
-/// Why a scrape is not printed, or not whole.
-#[derive(Debug, Drop, Error)]
-pub enum PrintFault {
-    /// Refusals 6 and 14: there is no scrape.
-    #[error(transparent)]
-    Scrape(ScrapeFault),
-    /// Refusal 6: there is no memory for its text.
+/// Why there is no text.
+#[derive(Clone, Copy, Debug, PartialEq, Eq, Error)]
+pub enum TextFault {
+    /// Refusal 6: there is no memory, for the scrape or for its text.
     #[error("out of memory")]
     NoMemory,
+    /// Refusal 14: four scans were given up, one after the other.
+    #[error("the scan was given up")]
+    Contended,
+}
+
+impl TextFault {
+    /// The refusal's number.
+    pub fn number(&self) -> u8
+        ensures { result ≡ text_number self.now }
+    {
+        match self {
+            TextFault::NoMemory => 6,
+            TextFault::Contended => 14,
+        }
+    }
+}
+
+/// Why a scrape is not printed, or not whole.
+#[derive(Clone, Copy, Debug, PartialEq, Eq, Error)]
+pub enum PrintFault {
+    /// There is no text.
+    #[error(transparent)]
+    Text(TextFault),
     /// Standard output failed.
     #[error("standard output failed")]
     Output,
 }
 
-/// Scrapes a registry, and prints the text of the scrape on standard output: [`Registry::scrape`], [`render`].
+impl PrintFault {
+    /// The refusal's number; of standard output's failure there is none.
+    pub fn number(&self) -> Option<u8>
+        ensures { result ≡ print_number self.now }
+    {
+        match self {
+            PrintFault::Text(fault) => Some(fault.number()),
+            PrintFault::Output => None,
+        }
+    }
+}
+
+/// The text of a source's scrape.
+fn text_from<S: ScrapeFrom>(source: &mut S) -> Result<Vec<u8>, TextFault>
+    ensures text { IfOk result (λ bytes. IsText S.gave source.old source.new bytes.items) }
+    ensures fault { IfErr result (IsTextFault S.gave source.old source.new) }
+{
+    match scrape_again(source) {
+        Ok(scrape) => match render(&scrape) {
+            Ok(text) => Ok(text),
+            Err(_) => Err(TextFault::NoMemory),
+        },
+        Err(NoScrape::NoMemory) => Err(TextFault::NoMemory),
+        Err(NoScrape::Contended) => Err(TextFault::Contended),
+    }
+}
+
+/// Scrapes a registry, and gives the text of the scrape, in the text exposition format 0.0.4: [`Registry::scrape`], [`render`]. A scrape
+/// that was given up is asked for up to three times more.
 ///
 /// # Errors
 ///
-/// [`PrintFault`].
+/// 6 [`TextFault::NoMemory`]; 14 [`TextFault::Contended`].
+pub fn scrape_text<R: Wait, const N: usize, const C: usize, const H: usize, const G: usize>(
+    rt: &R,
+    registry: &Registry<'_, N, C, H, G>,
+) -> Result<Vec<u8>, TextFault> {
+    text_from(&mut FromRegistry { rt, registry })
+}
+
+/// Prints [`scrape_text`] on standard output.
+///
+/// # Errors
+///
+/// [`PrintFault::Text`], 6 and 14; [`PrintFault::Output`].
 pub fn print_scrape<
     R: Wait + Print,
     const N: usize,
@@ -34,12 +99,9 @@ pub fn print_scrape<
     const H: usize,
     const G: usize,
 >(rt: &R, registry: &Registry<'_, N, C, H, G>) -> Result<(), PrintFault> {
-    let scrape = match registry.scrape(rt) {
-        Ok(scrape) => scrape,
-        Err(fault) => return Err(PrintFault::Scrape(fault)),
-    };
-    let Ok(text) = render(&scrape) else {
-        return Err(PrintFault::NoMemory);
+    let text = match scrape_text(rt, registry) {
+        Ok(text) => text,
+        Err(fault) => return Err(PrintFault::Text(fault)),
     };
     match rt.write_all(&text) {
         Ok(()) => Ok(()),

@@ -1,26 +1,36 @@
-//! What registers families and gives children.
+//! What registers families and gives children: a registry behind its lock, and one that is nobody else's.
 ghost use Rattle.std.specs.Prelude.{◌≡◌, ℕ, List, Result};
 ghost use Rattle.metric_desc.specs.Desc.{Descriptor};
 ghost use Rattle.registry_state.specs.declared.fault.ChildFault.{ChildFault};
 ghost use Rattle.registry_state.specs.declared.fault.RegisterFault.{RegisterFault};
 ghost use Rattle.registry_state.specs.declared.handle.FamilyId.{FamilyId};
 ghost use Rattle.registry_state.specs.declared.handle.Handle.{Handle};
+ghost use Rattle.metric_registry.specs.Names.{id_of};
 ghost use Rattle.dirgwako.specs.Lock.{RegistersBehind, GivesBehind};
+ghost use Rattle.dirgwako.specs.Alone.{RegistersAlone, GivesAlone};
 
 use metric_desc::Desc;
 use metric_names::LabelValue;
 use metric_registry::Registry;
-use registry_state::{ChildFault, FamilyId, Handle, RegisterFault};
+use registry_state::{ChildFault, FamilyId, Handle, RegisterFault, RegistryState};
+use snapshot_scan::Source;
 use std::sync::Wait;
 
-/// What registers families and gives their children. Each names, for contracts alone, what one such call does to it (`registered`,
-/// `gave`), so that a contract tells which calls were made, with what, and in which order.
+/// What registers families and gives their children. Each names, for contracts alone, its id (`id_in`) and what one such call does to it
+/// (`registered`, `gave`), so that a contract tells which calls were made, with what, and in which order.
 pub trait Registers {
+    // The id that its handles have.
+    ghost id_in: { Self → ℕ };
+
     // What one registration says of what was there before it, what is there after it, the descriptor, and the answer.
     ghost registered: { Self → Self → Descriptor → Result FamilyId RegisterFault → Type 0 };
 
     // What asking for one child says of what was there before it, what is there after it, the family, the label values, and the answer.
     ghost gave: { Self → Self → FamilyId → List (List ℕ) → Result Handle ChildFault → Type 0 };
+
+    /// The id that its handles have.
+    fn id(&self) -> u64
+        ensures { result ≡ id_in self.now };
 
     /// Registers a family, without children.
     ///
@@ -50,9 +60,15 @@ pub struct Behind<'a, 'b, R: Wait, const N: usize, const C: usize, const H: usiz
 
 impl<R: Wait, const N: usize, const C: usize, const H: usize, const G: usize> Registers
     for Behind<'_, '_, R, N, C, H, G> {
+    ghost id_in = { λ behind. id_of behind.registry.now };
+
     ghost registered = { λ before after desc answer. (after ≡ before) × RegistersBehind N C H G desc answer };
 
     ghost gave = { λ before after family values answer. (after ≡ before) × GivesBehind N C H G family values answer };
+
+    fn id(&self) -> u64 {
+        self.registry.id()
+    }
 
     fn register(&mut self, desc: Desc) -> Result<FamilyId, RegisterFault> {
         self.registry.register(self.rt, desc)
@@ -60,5 +76,32 @@ impl<R: Wait, const N: usize, const C: usize, const H: usize, const G: usize> Re
 
     fn child(&mut self, family: FamilyId, values: &[LabelValue]) -> Result<Handle, ChildFault> {
         self.registry.child(self.rt, family, values)
+    }
+}
+
+// A registry that is nobody else's: what a call does to it is known.
+impl<
+    S: Source<N, C, H, G>,
+    const N: usize,
+    const C: usize,
+    const H: usize,
+    const G: usize,
+> Registers for RegistryState<S, N, C, H, G> {
+    ghost id_in = { λ registry. registry.id };
+
+    ghost registered = { RegistersAlone N C H G };
+
+    ghost gave = { GivesAlone C H G };
+
+    fn id(&self) -> u64 {
+        RegistryState::id(self)
+    }
+
+    fn register(&mut self, desc: Desc) -> Result<FamilyId, RegisterFault> {
+        RegistryState::register(self, desc)
+    }
+
+    fn child(&mut self, family: FamilyId, values: &[LabelValue]) -> Result<Handle, ChildFault> {
+        RegistryState::child(self, family, values)
     }
 }

@@ -1,20 +1,19 @@
-//! Connections are accepted and served, one after the other.
-ghost use Rattle.std.specs.Prelude.{◌≡◌, ◌+◌, IfOk, IsErr};
+//! Connections are accepted and answered, one after the other.
+ghost use Rattle.std.specs.Prelude.{◌≡◌, ◌+◌, ◌<◌, ◌≤◌, ℕ, Option, IfOk, OnErr, IsErr};
 ghost use Rattle.std.specs.Duration.{as_nanos};
-ghost use Rattle.dirgwako.specs.Patience.{AsksAgain};
+ghost use Rattle.scrape_http.specs.declared.serve.Served.{Served};
+ghost use Rattle.dirgwako.specs.Answering.{Answers, AreAnswered, IsBroken};
 
-use expo_text::Scrape;
+use crate::connection::answer;
+use crate::patience::Patient;
 use metric_registry::Registry;
-use scrape_http::{NoScrape, ScrapeFrom};
-use scrape_server::{FromRegistry, serve_stream};
+use scrape_http::{ScrapeFrom, Served};
+use scrape_server::FromRegistry;
 use std::io::{self, ErrorKind};
 use std::net::{TcpListener, TcpStream};
 use std::sync::Wait;
 use std::thread::sleep;
 use std::time::{Clock, Duration};
-
-/// How often a scrape that is given up is asked for again.
-const AGAIN: usize = 3;
 
 /// How often in a row a listener may fail before its server gives up.
 const TRIES: usize = 64;
@@ -27,28 +26,41 @@ const PAUSE: u64 = 100;
 pub struct Answered {
     /// So many were replied to, whatever the status was.
     pub replies: u64,
-    /// So many were not: the client went away, was silent for too long, or sent no byte, or the time limits could not be set.
+    /// So many were not: the client went away, sent no byte, or took longer than the patience.
     pub faults: u64,
 }
 
-/// A source of scrapes that asks another one up to three times more where a scan was given up.
-#[derive(Drop)]
-struct Patient<S> {
-    source: S,
+/// Where connections come from, each of which is answered. Each names, for contracts alone, what answering one does to it.
+trait Connections {
+    // What one connection says of what was there before it, what is there after it, and the reply, if there was one.
+    ghost answered: { Self → Self → Option Served → Type 0 };
+
+    // What is there where no connection came.
+    ghost failed: { Self → Self → Type 0 };
+
+    /// The next connection is answered.
+    fn answer_next(&mut self) -> io::Result<Option<Served>>
+        ensures answered { IfOk result (answered self.old self.new) }
+        ensures failed { OnErr result (failed self.old self.new) };
 }
 
-impl<S: ScrapeFrom> ScrapeFrom for Patient<S> {
-    ghost gave = { λ before after answer. AsksAgain S.gave 3 before.source after.source answer };
+/// A listener, with the source of the scrapes that its connections are answered with.
+#[derive(Drop)]
+struct Listening<'a, R, S> {
+    clock: &'a R,
+    listener: &'a TcpListener,
+    source: Patient<S>,
+    patience: Duration,
+}
 
-    fn scrape(&mut self) -> Result<Scrape, NoScrape> {
-        for _again in 0..AGAIN {
-            match self.source.scrape() {
-                Err(NoScrape::Contended) => {}
-                Err(NoScrape::NoMemory) => return Err(NoScrape::NoMemory),
-                Ok(scrape) => return Ok(scrape),
-            }
-        }
-        self.source.scrape()
+impl<R: Clock, S: ScrapeFrom> Connections for Listening<'_, R, S> {
+    ghost answered = { λ before after reply. Answers S.gave before.source.source after.source.source reply };
+
+    ghost failed = { λ before after. after.source ≡ before.source };
+
+    fn answer_next(&mut self) -> io::Result<Option<Served>> {
+        let stream = accept(self.clock, self.listener)?;
+        Ok(answer(self.clock, &stream, self.patience, &mut self.source))
     }
 }
 
@@ -65,26 +77,36 @@ fn accept(clock: &impl Clock, listener: &TcpListener) -> io::Result<TcpStream> {
     Ok(stream)
 }
 
-/// Answers one connection, and tells whether it was replied to. Each read of its request and each write of its reply may take as long
-/// as `patience`.
-fn answer<R: Wait, const N: usize, const C: usize, const H: usize, const G: usize>(
-    rt: &R,
-    stream: &TcpStream,
-    registry: &Registry<'_, N, C, H, G>,
-    patience: Duration,
-) -> bool {
-    let patience = Some(patience);
-    if stream.set_read_timeout(patience).is_err() || stream.set_write_timeout(patience).is_err() {
-        return false;
+/// Answers so many connections, and tells how many were replied to.
+fn answer_all<T: Connections>(at: &mut T, connections: u64) -> io::Result<u64>
+    ensures all { IfOk result (λ replies. AreAnswered T.answered connections replies at.old at.new) }
+    ensures few { IfOk result (λ replies. replies ≤ connections) }
+    ensures broken { OnErr result ((met : ℕ) × (met < connections) × IsBroken T.answered T.failed met at.old at.new) }
+{
+    let mut replies = 0;
+    for _connection in 0..connections {
+        if at.answer_next()?.is_some() {
+            replies += 1;
+        }
     }
-    let source = FromRegistry { rt, registry };
-    serve_stream(stream, &mut Patient { source }).is_ok()
+    Ok(replies)
 }
 
-/// Answers so many connections, one after the other, by [`serve_stream`]: scrapes of this registry. What goes wrong with one of them
-/// does not end the others. Each read of a request and each write of a reply may take as long as `patience`, which is not 0. A client
-/// that sends a byte at a time keeps the server for longer. A scrape that was given up is asked for up to three times more; then the
-/// reply is 503.
+/// Answers connections for ever, or until none comes.
+fn answer_forever<R: Wait, T: Connections>(rt: &R, at: &mut T) -> io::Result<()>
+    ensures ends { IsErr result }
+    ensures broken { (met : ℕ) × IsBroken T.answered T.failed met at.old at.new }
+{
+    for _connection in rt.forever() {
+        let _ = at.answer_next()?;
+    }
+    unreachable!()
+}
+
+/// Answers so many connections, one after the other, with scrapes of this registry: [`scrape_http::serve_one`]. What goes wrong with one
+/// of them does not end the others. Each may take as long as `patience`, which is not 0: from when it is accepted until its request is
+/// read and its reply written, so that no client holds the server for longer, and the client has up to 20 seconds more to end its
+/// side. A scrape that was given up is asked for up to three times more; then the reply is 503.
 ///
 /// # Errors
 ///
@@ -102,13 +124,16 @@ pub fn serve<R: Wait + Clock, const N: usize, const C: usize, const H: usize, co
     if patience.is_zero() {
         return Err(ErrorKind::InvalidInput.into());
     }
-    let mut replies = 0;
-    for _connection in 0..connections {
-        let stream = accept(rt, listener)?;
-        if answer(rt, &stream, registry, patience) {
-            replies += 1;
-        }
-    }
+    let source = FromRegistry { rt, registry };
+    let replies = answer_all(
+        &mut Listening {
+            clock: rt,
+            listener,
+            source: Patient { source },
+            patience,
+        },
+        connections,
+    )?;
     let faults = connections - replies;
     Ok(Answered { replies, faults })
 }
@@ -135,9 +160,14 @@ pub fn serve_forever<
     if patience.is_zero() {
         return Err(ErrorKind::InvalidInput.into());
     }
-    for _connection in rt.forever() {
-        let stream = accept(rt, listener)?;
-        let _ = answer(rt, &stream, registry, patience);
-    }
-    unreachable!()
+    let source = FromRegistry { rt, registry };
+    answer_forever(
+        rt,
+        &mut Listening {
+            clock: rt,
+            listener,
+            source: Patient { source },
+            patience,
+        },
+    )
 }

@@ -4,8 +4,8 @@
 
 use anyhow::{Context, Result};
 use dirgwako::{
-    Counter, Crew, Gauge, Histogram, Opened, Registrar, Registry, ServiceRuntime, down, inc,
-    listen_aloud, observe, print_scrape, serve,
+    Counter, Crew, Gauge, Histogram, Registrar, Registry, ServiceRuntime, down, inc, listen_aloud,
+    observe, print_scrape, serve,
 };
 use std::env;
 use std::net::TcpListener;
@@ -91,10 +91,6 @@ fn main(rt: HostRuntime) -> Result<()> {
     let (port, replies) = asked(&rt).context("usage: example_service PORT REPLIES")?;
     let listener = listen_aloud(&rt, port)?;
     let mut crew = Crew::<2, 8, 1, 1>::new(rt.alloc(), 1, 1)?;
-    let Opened {
-        registry,
-        mut recorders,
-        ..
-    } = crew.open(64)?;
+    let (registry, mut recorders, _) = crew.open(64)?;
     work(&rt, &listener, replies, &registry, &mut recorders)
 }

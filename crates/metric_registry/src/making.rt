@@ -1,5 +1,6 @@
 //! Registries are made.
-ghost use Rattle.std.specs.Prelude.{◌≡◌, IfErr, OnOk};
+ghost use Rattle.std.specs.Prelude.{◌≡◌, IfErr, IfOk, OnOk};
+ghost use Rattle.register_rule.specs.Seats.{board_id};
 ghost use Rattle.registry_state.specs.Faults.{IsWindow, IsNewFault};
 ghost use Rattle.snapshot_scan.specs.Readers.{IsReaderOf};
 
@@ -20,6 +21,8 @@ pub struct NotMade<const N: usize, const C: usize, const H: usize, const G: usiz
 }
 
 impl<'a, const N: usize, const C: usize, const H: usize, const G: usize> Registry<'a, N, C, H, G> {
+    ghost use Rattle.metric_registry.specs.Names.{id_of};
+
     /// A registry of this board, with an empty journal and without families, that scans with this reader and keeps `window`
     /// scrapes. Its handles have the board's id.
     ///
@@ -33,12 +36,14 @@ impl<'a, const N: usize, const C: usize, const H: usize, const G: usize> Registr
         window: usize,
     ) -> Result<Registry<'a, N, C, H, G>, NotMade<N, C, H, G>>
         requires own { IsReaderOf board.now reader }
+        ensures id { IfOk result (λ r. id_of r ≡ board_id board.now) }
         ensures window { OnOk result (IsWindow window) }
         ensures fault { IfErr result (λ e. IsNewFault window e.fault) }
         ensures back { IfErr result (λ e. e.reader ≡ reader.entry) }
     {
         match RegistryState::new(alloc, Scanner::new(board, reader), board.id(), window) {
             Ok(state) => Ok(Registry {
+                id: board.id(),
                 state: Mutex::new(state),
             }),
             Err(not_made) => Err(NotMade {

@@ -1,5 +1,5 @@
 //! The lock.
-ghost use Rattle.std.specs.Prelude.{◌≤◌, IfErr, IfOk, OnErr, OnOk};
+ghost use Rattle.std.specs.Prelude.{◌≡◌, ◌≤◌, IfErr, IfOk, OnErr, OnOk};
 ghost use Rattle.registry_state.specs.Kept.{IsKept};
 ghost use Rattle.registry_state.specs.Faults.{IsWindow};
 ghost use Rattle.snapshot_scan.specs.Scanners.{recorded_in};
@@ -23,17 +23,27 @@ use std::sync::{Mutex, Wait};
 /// Whatever the calls were, whenever the lock is free its journal replays to its families, and its kept scrapes are at most the
 /// window and the last that its reader recorded: that is what [`Registry::into_state`] promises.
 pub struct Registry<'a, const N: usize, const C: usize, const H: usize, const G: usize> {
+    pub(crate) id: u64,
     pub(crate) state: Mutex<RegistryState<Scanner<'a, N, C, H, G>, N, C, H, G>>,
 }
 
 impl<'a, const N: usize, const C: usize, const H: usize, const G: usize> Drop
     for Registry<'a, N, C, H, G> {
     fn drop(self) {
-        let Registry { state: _ } = self;
+        let Registry { id: _, state: _ } = self;
     }
 }
 
 impl<'a, const N: usize, const C: usize, const H: usize, const G: usize> Registry<'a, N, C, H, G> {
+    ghost use Rattle.metric_registry.specs.Names.{id_of};
+
+    /// The id of its board, which its handles have. It does not wait for the lock.
+    pub fn id(&self) -> u64
+        ensures { result ≡ id_of self.now }
+    {
+        self.id
+    }
+
     /// Registers a family of this descriptor, without children: [`RegistryState::register`] behind the lock.
     ///
     /// # Errors
@@ -115,7 +125,7 @@ impl<'a, const N: usize, const C: usize, const H: usize, const G: usize> Registr
     pub fn into_state(self) -> RegistryState<Scanner<'a, N, C, H, G>, N, C, H, G>
         ensures kept { IsKept N C H G (recorded_in result.source) result.journal result.window result.state }
     {
-        let Registry { state } = self;
+        let Registry { id: _, state } = self;
         let state = state.into_inner();
         // A look into the journal tells the proof what the state keeps.
         let _ = state.journal();

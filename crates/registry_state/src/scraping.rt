@@ -82,6 +82,13 @@ impl<
         Ok(self.journal.kept().len())
     }
 
+    /// The id that its handles have.
+    pub fn id(&self) -> u64
+        ensures { result ≡ self.now.id }
+    {
+        self.id
+    }
+
     /// The source.
     pub fn into_source(self) -> S
         ensures source { result ≡ self.source }

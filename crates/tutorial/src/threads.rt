@@ -1,6 +1,6 @@
 //! Two threads count on one counter, each with a recorder of its own, without a lock.
 use anyhow::Result;
-use dirgwako::{Counter, Crew, Opened, Recorder, Registrar, ServiceRuntime, print_scrape};
+use dirgwako::{Counter, Crew, Recorder, Registrar, ServiceRuntime, print_scrape};
 use std::thread::for_each_mut;
 
 /// The loop of a thread.
@@ -13,11 +13,7 @@ fn count(recorder: &mut Recorder<'_, 2, 1, 0, 0>, visits: &Counter) -> Result<()
 
 pub fn run(rt: &impl ServiceRuntime) -> Result<()> {
     let mut crew = Crew::<2, 1, 0, 0>::new(rt.alloc(), 3, 1)?;
-    let Opened {
-        registry,
-        mut recorders,
-        ..
-    } = crew.open(1)?;
+    let (registry, mut recorders, _) = crew.open(1)?;
     let visits = Registrar::new(rt, &registry).counter("visits_total", "Visits so far.")?;
     let each = &|_thread: usize, recorder: &mut Recorder<'_, 2, 1, 0, 0>| {
         // Nothing is refused here: the handle is the board's own.

@@ -1,0 +1,47 @@
+"""The pages: the README shows each step of the tutorial word for word, each link of a page leads to a file, and a page of calls names no
+call that its crate does not have."""
+import re
+
+from started import check
+
+STEPS = ("counter", "labels", "threads", "endpoint")
+MOST = 230
+
+
+def shown(root):
+    """How many steps of the tutorial the README shows."""
+    readme = (root / "README.md").read_text()
+    check(len(readme.splitlines()) <= MOST, f"the README has at most {MOST} lines")
+    blocks = re.findall(r"^```rust\n(.*?)^```$", readme, re.M | re.S)
+    for step in STEPS:
+        check((root / f"crates/tutorial/src/{step}.rt").read_text() in blocks, f"the README shows {step}.rt word for word")
+    return len(STEPS)
+
+
+def links(root):
+    """How many links to files of the repository the pages have."""
+    count = 0
+    for page in [root / "README.md", *root.glob("docs/*.md"), *root.glob("crates/*/*.md"), *root.glob("checks/*.md")]:
+        for target in re.findall(r"\]\(([^)#\s]+)[^)]*\)", page.read_text()):
+            if not target.startswith("http"):
+                check((page.parent / target).exists(), f"{page.relative_to(root)}: {target} is there")
+                count += 1
+    return count
+
+
+def calls(root):
+    """How many calls the pages of calls name, each of which stands in the sources of some crate."""
+    sources = "\n".join(file.read_text() for file in root.glob("crates/*/src/**/*.rt"))
+    there = set(re.findall(r"\bfn (\w+)", sources))
+    count = 0
+    for page in root.glob("crates/*/CALLING.md"):
+        listed = page.read_text().split("\n## ")[0]
+        for path in re.findall(r"^fn ([\w:<>, ]+?)(?:<[^(]*>)?\(", listed, re.M):
+            name = path.split("::")[-1]
+            check(name in there, f"{page.relative_to(root)}: {path} is a call")
+            count += 1
+    return count
+
+
+def check_all(root):
+    return shown(root) + links(root) + calls(root)

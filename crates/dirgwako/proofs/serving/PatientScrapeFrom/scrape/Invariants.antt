@@ -1,9 +1,0 @@
-use Rattle.std.proofs.Common.{◌-◌}
-use Rattle.std.specs.Prelude.{Result}
-use Rattle.expo_text.specs.Scraped.{Scraped}
-use Rattle.scrape_http.specs.declared.source.NoScrape.{NoScrape}
-use Rattle.dirgwako.specs.Patience.{AsksAgain}
-use Rattle.dirgwako.proofs.serving.PatientScrapeFrom.scrape.Given as goal
-
-abbrev pub invariant-loop-again : goal.invariant-loop-again
-invariant-loop-again g l = (after : g.row.S.Denot) (answer : Result Scraped NoScrape) → AsksAgain g.S.ScrapeFrom.gave (3 - l._again) l.self.source after answer → AsksAgain g.S.ScrapeFrom.gave 3 l.initial.self.source after answer

@@ -1,0 +1,30 @@
+-- The text of a scrape that is asked for again where a scan was given up, and why there is none.
+use Rattle.std.specs.Prelude.{◌≡◌, ℕ, ◌⊎◌, List, Option, Some, None, Result, Ok, Err}
+use Rattle.expo_text.specs.Scraped.{Scraped}
+use Rattle.expo_text.specs.Text.{text}
+use Rattle.scrape_http.specs.declared.source.NoScrape.{NoScrape}
+use Rattle.scrape_http.specs.declared.source.NoScrape.TheVariants as none
+use Rattle.dirgwako.specs.Patience.{AsksAgain}
+use Rattle.dirgwako.specs.declared.printing.TextFault.{TextFault}
+use Rattle.dirgwako.specs.declared.printing.TextFault.TheVariants.{NoMemory, Contended}
+use Rattle.dirgwako.specs.declared.printing.PrintFault.{PrintFault}
+use Rattle.dirgwako.specs.declared.printing.PrintFault.TheVariants.{Text, Output}
+
+-- the number of each fault
+abbrev pub text_number : TextFault → ℕ
+text_number NoMemory = 6
+text_number Contended = 14
+
+abbrev pub print_number : PrintFault → Option ℕ
+print_number (Text fault) = Some (text_number fault)
+print_number Output = None
+
+module _ {S : Type 0} (gave : S → S → Result Scraped NoScrape → Type 0) (before after : S) where
+  -- these bytes are the text of the scrape that the source gave
+  abbrev pub IsText : List ℕ → Type 0
+  IsText bytes = (scrape : Scraped) × AsksAgain gave 3 before after (Ok scrape) × (bytes ≡ text scrape)
+
+  -- the source has no scrape, or there is no memory for the text of the one that it gave
+  abbrev pub IsTextFault : TextFault → Type 0
+  IsTextFault Contended = AsksAgain gave 3 before after (Err none.Contended)
+  IsTextFault NoMemory = AsksAgain gave 3 before after (Err none.NoMemory) ⊎ ((scrape : Scraped) × AsksAgain gave 3 before after (Ok scrape))
