@@ -24,23 +24,20 @@ mod registries;
 mod texts;
 
 use anyhow::Result;
+use dirgwako::ServiceRuntime;
 use locked::serve;
-use measuring::{Lines, Rt};
+use measuring::Lines;
 use registries::{LARGE, SMALL};
 use std::env;
+use std::net::{Net, TcpListener, TcpStream};
 use std::process::ExitCode;
 use std::rt::Env;
-use std::sync::Wait;
-use std::thread::Threads;
 
 const USAGE: &str =
     "usage: bench ROUNDS, at most 1000000000, or bench serve PORT REPLIES small|large";
 
-/// The most rounds that can be asked for.
-const MOST: u64 = 1_000_000_000;
-
 /// Measures three geometries, and the texts of two scrapes.
-fn measure_boards<R: Rt + Threads + Sync>(lines: &mut Lines<'_, R>) -> Result<()> {
+fn measure_boards(lines: &mut Lines<'_, impl ServiceRuntime>) -> Result<()> {
     lines.on("4,64,8,0").board::<4, 64, 8, 0>(280)?;
     lines.on("16,256,32,0").board::<16, 256, 32, 0>(1_120)?;
     lines.on("32,256,32,64").board::<32, 256, 32, 64>(1_248)?;
@@ -49,7 +46,7 @@ fn measure_boards<R: Rt + Threads + Sync>(lines: &mut Lines<'_, R>) -> Result<()
 }
 
 /// Measures registries.
-fn measure_registries(lines: &mut Lines<'_, impl Rt>) -> Result<()> {
+fn measure_registries(lines: &mut Lines<'_, impl ServiceRuntime>) -> Result<()> {
     lines.on("1,64,8,0").alone::<64, 8>(SMALL)?;
     lines.on("4,64,8,0").shared::<4, 64, 8>(SMALL)?;
     lines.on("1,256,32,0").alone::<256, 32>(LARGE)?;
@@ -59,7 +56,7 @@ fn measure_registries(lines: &mut Lines<'_, impl Rt>) -> Result<()> {
 }
 
 /// Measures boards, texts, registries, and a registry behind its lock.
-fn measure_all(rt: &(impl Rt + Threads + Wait + Sync), rounds: u64) -> Result<()> {
+fn measure_all(rt: &impl ServiceRuntime, rounds: u64) -> Result<()> {
     let mut lines = Lines { rt, rounds, of: "" };
     measure_boards(&mut lines)?;
     measure_registries(&mut lines)?;
@@ -70,18 +67,21 @@ fn measure_all(rt: &(impl Rt + Threads + Wait + Sync), rounds: u64) -> Result<()
     Ok(())
 }
 
-/// Measurements of so many rounds; or so many replies by each thread, at a port, of a small service or else of a large one.
-fn read(words: &[String]) -> Option<(u64, Option<(u16, bool)>)> {
+/// Measures so many rounds, or serves so many replies by each thread at a port, as the arguments say; nothing if they say neither.
+fn run(
+    rt: &(impl ServiceRuntime + Eprint + Net<Listener = TcpListener, Stream = TcpStream>),
+    words: &[String],
+) -> Option<Result<()>> {
     match words {
         [_, rounds] => {
             let rounds = rounds.as_str().parse().ok()?;
-            (rounds <= MOST).then_some((rounds, None))
+            (rounds <= 1_000_000_000).then(|| measure_all(rt, rounds))
         }
-        [_, serve, port, replies, size] if serve.as_str() == "serve" => {
+        [_, word, port, replies, size] if word.as_str() == "serve" => {
             let (port, replies) = (port.as_str().parse().ok()?, replies.as_str().parse().ok()?);
             match size.as_str() {
-                "small" => Some((replies, Some((port, true)))),
-                "large" => Some((replies, Some((port, false)))),
+                "small" => Some(serve::<64, 8>(rt, port, replies, SMALL)),
+                "large" => Some(serve::<256, 32>(rt, port, replies, LARGE)),
                 _ => None,
             }
         }
@@ -89,25 +89,22 @@ fn read(words: &[String]) -> Option<(u64, Option<(u16, bool)>)> {
     }
 }
 
-/// [`read`] of the arguments.
-fn asked(rt: &(impl Env + AllocGlobal)) -> Option<(u64, Option<(u16, bool)>)> {
-    let words = env::args(rt).ok()?.collect::<Vec<String>>(rt.alloc()).ok()?;
-    read(&words)
+/// The arguments.
+fn arguments(rt: &(impl Env + AllocGlobal)) -> Option<Vec<String>> {
+    env::args(rt).ok()?.collect(rt.alloc()).ok()
 }
 
 fn main(rt: HostRuntime) -> ExitCode {
-    let done = match asked(&rt) {
-        Some((rounds, None)) => measure_all(&rt, rounds),
-        Some((replies, Some((port, true)))) => serve::<64, 8>(&rt, port, replies, SMALL),
-        Some((replies, Some((port, false)))) => serve::<256, 32>(&rt, port, replies, LARGE),
+    let words = arguments(&rt).unwrap_or(Vec::new(rt.alloc()));
+    match run(&rt, &words) {
+        Some(Ok(())) => ExitCode::SUCCESS,
+        Some(Err(fault)) => {
+            let _ = eprintln!(rt; "{fault}");
+            ExitCode::from(1)
+        }
         None => {
             let _ = eprintln!(rt; "{USAGE}");
-            return ExitCode::from(2);
+            ExitCode::from(2)
         }
-    };
-    if let Err(fault) = done {
-        let _ = eprintln!(rt; "{fault}");
-        return ExitCode::from(1);
     }
-    ExitCode::SUCCESS
 }

@@ -6,17 +6,13 @@
 ghost use Rattle.std.specs.Prelude.{◌≡◌, ◌+◌, ◌*◌, ◌/◌, ◌<◌, length, min, max};
 
 use anyhow::{Context, Result, bail};
+use dirgwako::ServiceRuntime;
 use std::alloc::Global;
 use std::fmt;
 use std::fmt::{Display, Formatter, Write};
 use std::sync::atomic::{AtomicU64, Ordering};
-use std::thread::{Threads, map_indices};
+use std::thread::map_indices;
 use std::time::{Clock, Instant};
-
-/// What each measurement uses of the system.
-pub trait Rt: Clock + Print + AllocGlobal {}
-
-impl<R: Clock + Print + AllocGlobal> Rt for R {}
 
 /// No measurement takes more nanoseconds: 31 years.
 const LONGEST: u64 = 1_000_000_000_000_000_000;
@@ -98,7 +94,7 @@ pub struct Lines<'a, R> {
     pub of: &'a str,
 }
 
-impl<'a, R: Rt> Lines<'a, R> {
+impl<'a, R: ServiceRuntime> Lines<'a, R> {
     /// From here on the second column is this.
     pub fn on(&mut self, of: &'a str) -> &Self {
         self.of = of;
@@ -124,13 +120,10 @@ impl<'a, R: Rt> Lines<'a, R> {
         requires floor { (state : F) (x : _) → F.pre state x }
         requires operation { (state : O) (x : _) → O.pre state x }
     {
-        let rounds = self.one_in(part);
-        let (mut least, mut taken) = (u64::MAX, u64::MAX);
-        for _batch in 0..10 {
-            least = least.min(timed(self.rt, rounds, &mut floor)?);
-            taken = taken.min(timed(self.rt, rounds, &mut operation)?);
-        }
-        self.line(name, rounds, taken, least, None)
+        let rt = self.rt;
+        let least = |rounds| timed(rt, rounds, &mut floor);
+        let taken = |rounds| timed(rt, rounds, &mut operation);
+        self.batches(name, part, least, taken)
     }
 
     /// Measures ten batches of as many rounds as `part` says by their nanoseconds, and as many of the floor, and prints the line.
@@ -182,17 +175,6 @@ struct Number {
     rest: [u64; 15],
 }
 
-impl Number {
-    /// 0.
-    fn new() -> Number {
-        let word = AtomicU64::new(0);
-        Number {
-            word,
-            rest: [0; 15],
-        }
-    }
-}
-
 /// Loads each number once. It gives their wrapping sum.
 fn load(numbers: &[Number]) -> u64 {
     let mut sum = 0u64;
@@ -215,8 +197,12 @@ pub struct Floor {
 impl Floor {
     /// The numbers of so many workers, and so many words. So many words of plain memory are copied besides.
     pub fn new(alloc: Global, workers: usize, count: usize, copied: usize) -> Result<Floor> {
+        let number = |_| Number {
+            word: AtomicU64::new(0),
+            rest: [0; 15],
+        };
         Ok(Floor {
-            numbers: (0..workers).map(|_| Number::new()).collect(alloc)?,
+            numbers: (0..workers).map(number).collect(alloc)?,
             words: (0..count).map(|_| AtomicU64::new(0)).collect(alloc)?,
             from: vec![in alloc; 1u64; copied]?,
             to: vec![in alloc; 0u64; copied]?,
@@ -254,24 +240,18 @@ fn update(numbers: &[Number], words: &[AtomicU64], own: &Number, number: u64) ->
     sum
 }
 
-/// So many rounds of [`update`]. It gives the wrapping sum of what was loaded.
-fn updates(numbers: &[Number], words: &[AtomicU64], own: &Number, rounds: u64) -> u64 {
-    let mut sum = 0u64;
-    for number in 0..rounds {
-        sum = sum.wrapping_add(update(numbers, words, own, number));
-    }
-    sum
-}
-
 /// The nanoseconds of so many rounds of the floor of one counter's increment by each of four threads at once: all load the
 /// numbers of `workers` workers, and each stores one of them and three words of its own.
-pub fn four_updates(rt: &(impl Rt + Threads + Sync), workers: usize, rounds: u64) -> Result<u64> {
+pub fn four_updates(rt: &impl ServiceRuntime, workers: usize, rounds: u64) -> Result<u64> {
     let alloc = rt.alloc();
     let shared = &Floor::new(alloc, workers, 12, 0)?;
     let (numbers, words) = (&shared.numbers, &shared.words);
     let update_often = &|own| -> Option<u64> {
-        let words = words.chunks(3).nth(own)?;
-        Some(updates(numbers, words, numbers.get(own)?, rounds))
+        let (words, own, mut sum) = (words.chunks(3).nth(own)?, numbers.get(own)?, 0u64);
+        for number in 0..rounds {
+            sum = sum.wrapping_add(update(numbers, words, own, number));
+        }
+        Some(sum)
     };
     let start = Instant::now(rt)?;
     let _each = map_indices(rt, alloc, 4, update_often)?;

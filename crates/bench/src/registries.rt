@@ -1,22 +1,18 @@
 //! The services that are measured and served, and registries of them: families of counters, and then families of histograms, of eight
 //! children each.
-ghost use Rattle.std.specs.Prelude.{All};
 ghost use Rattle.segment_layout.specs.Layout.{IsGeometry};
-ghost use Rattle.snapshot_scan.specs.Readers.{IsReaderOf};
-ghost use Rattle.snapshot_update.specs.Workers.{IsWorkerOf};
 
-use crate::boards::{Counts, Scanning, Scans, reader, with_board};
-use crate::measuring::{Lines, Rt, keep, timed_each};
+use crate::locked::filled;
+use crate::measuring::{Lines, keep, timed_each};
 use anyhow::{Context, Result};
-use expo_text::{Scrape, render};
-use ledger_core::Op;
-use metric_desc::Desc;
+use dirgwako::{Crew, Desc, FamilyId, Op, Registers, ServiceRuntime, Snapshot, render};
 use metric_names::{HelpText, LabelName, LabelValue, MetricName};
-use register_rule::Board;
-use registry_state::{FamilyId, Handle, RegistryState};
-use snapshot_scan::{PlainSource, Reader, Scanner, Snapshot, Source};
-use snapshot_update::{Crew, Worker};
+use registry_state::RegistryState;
+use scrape_http::ScrapeFrom;
+use scrape_server::FromState;
+use snapshot_scan::{PlainSource, Source};
 use std::alloc::Global;
+use std::array;
 use std::sync::atomic::AtomicU64;
 
 /// The id of all boards and registries.
@@ -26,25 +22,22 @@ pub const ID: u64 = 7;
 pub const WINDOW: usize = 64;
 
 /// How many children each family has.
-const CHILDREN: u64 = 8;
+const CHILDREN: usize = 8;
 
 /// How often each bound of a histogram is observed.
-const TIMES: u64 = 1_000;
+const TIMES: usize = 1_000;
 
-/// The first ones of the bounds 5, 10, 25, 50, 100, 250 and so on.
-pub fn bounds(alloc: Global, count: usize) -> Result<Vec<u64>> {
-    let mut bounds = Vec::new(alloc);
-    let (mut five, mut ten, mut next) = (5u64, 10u64, 25u64);
-    for _bound in 0..count {
-        bounds.push(five)?;
-        (five, ten, next) = (ten, next, five.saturating_mul(10));
-    }
-    Ok(bounds)
+/// The bound at a place: they are 5, 10, 25, 50, 100, 250 and so on, of which each histogram has the first ones.
+fn bound(place: usize) -> u64 {
+    (0..place / 3).fold(
+        [5, 10, 25][place % 3],
+        |bound: u64, _| bound.saturating_mul(10),
+    )
 }
 
 /// How many families of counters a service has, how many of histograms, and how many bounds each histogram has.
 #[derive(Clone, Copy)]
-pub struct Service(u64, u64, usize);
+pub struct Service(usize, usize, usize);
 
 /// 64 counters, and 8 histograms of 10 bounds.
 pub const SMALL: Service = Service(8, 1, 10);
@@ -60,8 +53,7 @@ impl Service {
                 None => counter_desc(alloc, place)?,
                 Some(place) => histogram_desc(alloc, place, self.2)?,
             };
-            let family = registry.add(desc).context("no family")?;
-            make_children(alloc, registry, family, CHILDREN)?;
+            add(alloc, registry, desc, CHILDREN)?;
         }
         Ok(())
     }
@@ -71,46 +63,36 @@ impl Service {
         histogram_desc(alloc, self.1.saturating_sub(1), self.2)
     }
 
-    /// An increment of each counter.
-    fn increments(self, alloc: Global) -> Result<Vec<Op>> {
-        let mut ops = Vec::new(alloc);
-        for slot in 0..CHILDREN.saturating_mul(self.0) {
-            let by = 10_007 * (slot / CHILDREN % 32) + 1_009 * (slot % CHILDREN + 1);
-            let counter = slot as usize;
-            ops.push(Op::Inc { counter, by })?;
-        }
-        Ok(ops)
+    /// One of the changes that are counted: an increment of each counter, and then observations of each bound of each histogram.
+    fn change(self, at: usize) -> Op {
+        let counters = self.0.saturating_mul(CHILDREN);
+        let Some(at) = at.checked_sub(counters) else {
+            let by = 10_007 * (at / CHILDREN % 32) + 1_009 * (at % CHILDREN + 1);
+            let by = by as u64;
+            return Op::Inc { counter: at, by };
+        };
+        let (hists, bounds) = (self.1.saturating_mul(CHILDREN).max(1), self.2.max(1));
+        let (hist, place) = (at / bounds % hists, at % bounds);
+        let value = bound(place);
+        Op::Observe { hist, place, value }
     }
 
-    /// An observation of each bound of each histogram.
-    fn observations(self, alloc: Global) -> Result<Vec<Op>> {
-        let bounds = bounds(alloc, self.2)?;
-        let mut ops = Vec::new(alloc);
-        for at in 0..CHILDREN.saturating_mul(self.1).saturating_mul(24) as usize {
-            let (hist, place) = (at / 24, at % 24);
-            if let Some(value) = bounds.get(place) {
-                let value = *value;
-                ops.push(Op::Observe { hist, place, value })?;
-            }
-        }
-        Ok(ops)
-    }
-
-    /// Raises each counter by `apply`, which publishes a list, and observes each bound of each histogram [`TIMES`] times.
-    pub fn count<F: FnMut(&[Op]) -> Option<()>>(self, alloc: Global, mut apply: F) -> Result<()>
+    /// Raises each counter, and observes each bound of each histogram [`TIMES`] times: lists of changes, which `publish` publishes.
+    pub fn count<F: FnMut([Op; CHILDREN]) -> Option<()>>(self, mut publish: F) -> Result<()>
         requires { (state : F) (x : _) → F.pre state x }
     {
-        apply(&self.increments(alloc)?).context("not counted")?;
-        let ops = self.observations(alloc)?;
-        for _time in 0..TIMES {
-            apply(&ops).context("not counted")?;
+        let observed = self.1.saturating_mul(self.2).saturating_mul(TIMES);
+        for list in 0..self.0.saturating_add(observed) {
+            let first = list.saturating_mul(CHILDREN);
+            let ops = array::from_fn(|place| self.change(first.saturating_add(place)));
+            publish(ops).context("not counted")?;
         }
         Ok(())
     }
 }
 
 /// The values of the labels of the child of this number.
-pub fn values(alloc: Global, child: u64) -> Result<Vec<LabelValue>> {
+pub fn values(alloc: Global, child: usize) -> Result<Vec<LabelValue>> {
     let value = format!(in alloc; "/api/v1/{child}")?;
     let mut values = Vec::new(alloc);
     values.push(LabelValue::read(alloc, value.as_str())?)?;
@@ -126,209 +108,129 @@ fn named(alloc: Global, name: &str, help: &str) -> Result<(MetricName, HelpText,
 }
 
 /// The descriptor of the family of counters at a place.
-fn counter_desc(alloc: Global, family: u64) -> Result<Desc> {
+fn counter_desc(alloc: Global, family: usize) -> Result<Desc> {
     let name = format!(in alloc; "requests_{family:02}_total")?;
     let help = format!(in alloc; "Requests answered so far by service part {family:02}.")?;
     let (name, help, labels) = named(alloc, name.as_str(), help.as_str())?;
     Ok(Desc::counter(name, help, labels)?)
 }
 
-/// The descriptor of the family of histograms at a place.
-fn histogram_desc(alloc: Global, family: u64, count: usize) -> Result<Desc> {
+/// The descriptor of the family of histograms at a place, which have so many bounds.
+fn histogram_desc(alloc: Global, family: usize, bounds: usize) -> Result<Desc> {
     let name = format!(in alloc; "response_{family:02}_micros")?;
     let help = format!(in alloc; "Microseconds taken by answers of part {family:02}.")?;
     let (name, help, labels) = named(alloc, name.as_str(), help.as_str())?;
-    Ok(Desc::histogram(name, help, labels, &bounds(alloc, count)?)?)
+    let bounds = (0..bounds).map(bound).collect::<Vec<u64>>(alloc)?;
+    Ok(Desc::histogram(name, help, labels, &bounds)?)
 }
 
-/// A registry, whatever its source, lent or behind its lock.
-pub trait Registers {
-    /// Registers a family.
-    fn add(&mut self, desc: Desc) -> Option<FamilyId>;
-
-    /// The child of these values.
-    fn find(&mut self, family: FamilyId, values: &[LabelValue]) -> Option<Handle>;
-
-    /// A scrape.
-    fn show(&mut self) -> Option<Scrape>;
-}
-
-/// Makes the first `count` children of a family.
-fn make_children(
-    alloc: Global,
-    registry: &mut impl Registers,
-    family: FamilyId,
-    count: u64,
-) -> Result<()> {
+/// Registers a family, and makes its first `count` children.
+fn add(alloc: Global, registry: &mut impl Registers, desc: Desc, count: usize) -> Result<FamilyId> {
+    let family = registry.register(desc)?;
     for child in 0..count {
-        let handle = registry.find(family, &values(alloc, child)?);
-        let _handle = handle.context("no child")?;
+        let _handle = registry.child(family, &values(alloc, child)?)?;
     }
-    Ok(())
+    Ok(family)
 }
 
 /// A scrape, which is let go.
-fn scrape_once(registry: &mut impl Registers) -> Option<()> {
-    let _scrape = registry.show()?;
+fn scrape_once(source: &mut impl ScrapeFrom) -> Option<()> {
+    let _scrape = source.scrape().ok()?;
     Some(())
 }
 
-/// Registers a service with a registry, and makes as many scrapes as it keeps.
-pub fn prepare(
-    alloc: Global,
-    registry: &mut impl Registers,
-    service: Service,
-    window: usize,
-) -> Result<()> {
-    service.register(alloc, registry)?;
-    for _scrape in 0..window {
-        scrape_once(registry).context("no scrape")?;
-    }
-    Ok(())
-}
+/// A registry over a source of one thread.
+type Plain<const C: usize, const H: usize> = RegistryState<PlainSource<1, C, H, 0>, 1, C, H, 0>;
 
-impl<S: Source<N, C, H, 0>, const N: usize, const C: usize, const H: usize> Registers
-    for RegistryState<S, N, C, H, 0> {
-    fn add(&mut self, desc: Desc) -> Option<FamilyId> {
-        self.register(desc).ok()
-    }
-
-    fn find(&mut self, family: FamilyId, values: &[LabelValue]) -> Option<Handle> {
-        self.child(family, values).ok()
-    }
-
-    fn show(&mut self) -> Option<Scrape> {
-        self.scrape().ok()
-    }
-}
-
-/// A source of one thread.
-type Plain<const C: usize, const H: usize> = PlainSource<1, C, H, 0>;
-
-/// A source of one thread, in which all of a service was counted.
-fn plain<const C: usize, const H: usize>(alloc: Global, service: Service) -> Result<Plain<C, H>>
+/// A registry without families, which keeps as many scrapes as its window is.
+fn empty<const C: usize, const H: usize>(alloc: Global, window: usize) -> Result<Plain<C, H>>
     requires { IsGeometry 1 C H 0 }
 {
-    let mut source: Plain<C, H> = PlainSource::new(alloc)?;
-    service.count(alloc, |ops| source.apply(ops).ok())?;
-    Ok(source)
+    let made = RegistryState::new(alloc, PlainSource::new(alloc)?, ID, window);
+    Ok(made.map_err(|not_made| not_made.fault)?)
 }
 
-/// A registry over a source, which keeps as many scrapes as its window is.
-fn full<S: Source<N, C, H, 0> + Drop, const N: usize, const C: usize, const H: usize>(
+/// A registry of a service, which has made as many scrapes as its window is, after all of the service was counted.
+fn plain<const C: usize, const H: usize>(
     alloc: Global,
-    source: S,
     service: Service,
     window: usize,
-) -> Result<RegistryState<S, N, C, H, 0>>
-    requires { IsGeometry N C H 0 }
+) -> Result<Plain<C, H>>
+    requires { IsGeometry 1 C H 0 }
 {
-    let made = RegistryState::new(alloc, source, ID, window);
-    let mut registry = made.map_err(|not_made| not_made.fault)?;
-    prepare(alloc, &mut registry, service, window)?;
+    let mut registry = empty::<C, H>(alloc, window)?;
+    service.count(|ops| registry.apply(&ops).ok())?;
+    service.register(alloc, &mut registry)?;
+    for _scrape in 0..window {
+        let _scrape = registry.scrape()?;
+    }
     Ok(registry)
 }
 
-/// Counts all of a service by the first of these workers.
-pub fn count_by(alloc: Global, workers: &mut [impl Counts], service: Service) -> Result<()> {
-    let worker = workers.first_mut().context("no worker")?;
-    service.count(alloc, |ops| worker.apply(ops))
-}
-
-/// The scans of a board's reader, after its first worker has counted all of a service.
-fn counted<'a, const N: usize, const C: usize, const H: usize>(
-    alloc: Global,
-    board: &'a Board<N, C, H, 0>,
-    workers: Vec<Worker<N, C, H, 0>>,
-    readers: Vec<Reader<N, C, H, 0>>,
-    service: Service,
-) -> Result<Scanner<'a, N, C, H, 0>>
-    requires workers { All (IsWorkerOf board.now) workers.items }
-    requires readers { All (IsReaderOf board.now) readers.items }
-{
-    count_by(alloc, &mut with_board(alloc, board, workers)?, service)?;
-    Ok(Scanner::new(board, reader(board, readers)?))
-}
-
 /// A registry of 256 counters.
-type Counters = RegistryState<PlainSource<1, 256, 0, 0>, 1, 256, 0, 0>;
+type Counters = Plain<256, 0>;
 
-/// A registry of 256 counters with so many families, of which the last has so many children, and that one.
-fn with_families(alloc: Global, count: u64, children: u64) -> Result<(Counters, Option<FamilyId>)> {
-    let made = RegistryState::new(alloc, PlainSource::new(alloc)?, ID, 1);
-    let mut registry = made.map_err(|not_made| not_made.fault)?;
-    let last = add_families(alloc, &mut registry, count)?;
-    if let Some(family) = last {
-        make_children(alloc, &mut registry, family, children)?;
+/// A registry with so many families, of which each has so many children, and the last one.
+fn with_families(
+    alloc: Global,
+    families: usize,
+    children: usize,
+) -> Result<(Counters, Option<FamilyId>)> {
+    let (mut registry, mut last) = (empty(alloc, 1)?, None);
+    for family in 0..families {
+        last = Some(add(alloc, &mut registry, counter_desc(alloc, family)?, children)?);
     }
     Ok((registry, last))
 }
 
-/// Registers so many families of counters. It gives the last one.
-fn add_families(
-    alloc: Global,
-    registry: &mut impl Registers,
-    count: u64,
-) -> Result<Option<FamilyId>> {
-    let mut last = None;
-    for family in 0..count {
-        last = Some(
-            registry
-                .add(counter_desc(alloc, family)?)
-                .context("no family")?,
-        );
-    }
-    Ok(last)
-}
-
 /// The nanoseconds of so many registrations of a family where so many are there, each in a registry of its own.
-fn registrations(rt: &impl Rt, there: u64, rounds: u64) -> Result<u64> {
+fn registrations(rt: &impl ServiceRuntime, there: usize, rounds: u64) -> Result<u64> {
     let alloc = rt.alloc();
-    let make = &mut |_| Some((
-        with_families(alloc, there, 0).ok()?.0,
-        counter_desc(alloc, there).ok()?,
-    ));
-    let add = &mut |(mut registry, desc): (Counters, Desc)| {
-        let _family = registry.add(desc)?;
+    let make = &mut |_| {
+        let (registry, _last) = with_families(alloc, there, 0).ok()?;
+        Some((registry, counter_desc(alloc, there).ok()?))
+    };
+    let register = &mut |(mut registry, desc): (Counters, Desc)| {
+        let _family = registry.register(desc).ok()?;
         Some(registry)
     };
-    timed_each(rt, rounds, make, add)
+    timed_each(rt, rounds, make, register)
+}
+
+/// Asks for a child of a family.
+fn find_once(made: &mut (Counters, Option<FamilyId>), values: &[LabelValue]) -> Option<()> {
+    let _handle = made.0.child(made.1?, values).ok()?;
+    Some(())
 }
 
 /// The nanoseconds of so many new children of a family where so many are there, each in a registry of its own.
-fn new_children(rt: &impl Rt, there: u64, rounds: u64) -> Result<u64> {
+fn new_children(rt: &impl ServiceRuntime, there: usize, rounds: u64) -> Result<u64> {
     let alloc = rt.alloc();
     let values = values(alloc, there)?;
-    let make = &mut |_| {
-        let (registry, family) = with_families(alloc, 1, there).ok()?;
-        Some((registry, family?))
-    };
-    let find = &mut |(mut registry, family): (Counters, FamilyId)| {
-        let _handle = registry.find(family, &values)?;
-        Some(registry)
+    let make = &mut |_| with_families(alloc, 1, there).ok();
+    let find = &mut |mut made: (Counters, Option<FamilyId>)| {
+        find_once(&mut made, &values)?;
+        Some(made)
     };
     timed_each(rt, rounds, make, find)
 }
 
-/// Finds a child that is there.
-fn find_once(registry: &mut impl Registers, family: FamilyId, values: &[LabelValue]) -> Option<()> {
-    let _handle = registry.find(family, values)?;
-    Some(())
-}
-
-impl<R: Rt> Lines<'_, R> {
-    /// Scrapes of a registry, beside scans of a source that is equal to its own.
-    fn scrapes(&self, registry: &mut impl Registers, beside: &mut impl Scans) -> Result<()> {
-        let floor = |_| beside.scan();
-        self.measure("scrape", 1_000, floor, |_| scrape_once(registry))?;
-        self.gathers(registry)
-    }
-
-    /// Texts of a registry's scrapes, beside texts of one scrape.
-    fn gathers(&self, registry: &mut impl Registers) -> Result<()> {
-        let (scrape, kept) = (registry.show().context("no scrape")?, AtomicU64::new(0));
+impl<R: ServiceRuntime> Lines<'_, R> {
+    /// Scrapes of a registry, and their texts, beside scans of a source that is equal to its own, and texts of one scrape.
+    fn scrapes<F: FnMut(u64) -> Option<()>>(
+        &self,
+        registry: &mut impl ScrapeFrom,
+        scan: F,
+    ) -> Result<()>
+        requires { (state : F) (x : _) → F.pre state x }
+    {
+        self.measure("scrape", 1_000, scan, |_| scrape_once(registry))?;
+        let (scrape, kept) = (
+            registry.scrape().ok().context("no scrape")?,
+            AtomicU64::new(0),
+        );
         let floor = |_| keep(&kept, render(&scrape).ok()?.len());
-        let gather = |_| keep(&kept, render(&registry.show()?).ok()?.len());
+        let gather = |_| keep(&kept, render(&registry.scrape().ok()?).ok()?.len());
         self.measure("gather", 1_000, floor, gather)
     }
 
@@ -337,9 +239,10 @@ impl<R: Rt> Lines<'_, R> {
         requires { IsGeometry 1 C H 0 }
     {
         let alloc = self.rt.alloc();
-        let mut registry = full(alloc, plain::<C, H>(alloc, service)?, service, WINDOW)?;
-        let (source, out) = (plain::<C, H>(alloc, service)?, Snapshot::new(alloc)?);
-        self.scrapes(&mut registry, &mut Scanning { source, out })
+        let state = &mut plain::<C, H>(alloc, service, WINDOW)?;
+        let mut source = plain::<C, H>(alloc, service, WINDOW)?.into_source();
+        let mut out = Snapshot::new(alloc)?;
+        self.scrapes(&mut FromState { state }, |_| source.scan(&mut out).ok())
     }
 
     /// A registry over a board.
@@ -347,15 +250,14 @@ impl<R: Rt> Lines<'_, R> {
         &self,
         service: Service,
     ) -> Result<()> {
-        let alloc = self.rt.alloc();
-        let one = Crew::<N, C, H, 0>::new(alloc, ID, 1)?;
-        let two = Crew::<N, C, H, 0>::new(alloc, ID, 1)?;
-        let (board, equal) = (one.board, two.board);
-        let source = counted(alloc, &board, one.workers, one.readers, service)?;
-        let mut registry = full(alloc, source, service, WINDOW)?;
-        let source = counted(alloc, &equal, two.workers, two.readers, service)?;
-        let out = Snapshot::new(alloc)?;
-        self.scrapes(&mut registry, &mut Scanning { source, out })
+        let (rt, alloc) = (self.rt, self.rt.alloc());
+        let mut crew = Crew::<N, C, H, 0>::new(alloc, ID, 1)?;
+        let state = &mut filled(rt, &mut crew, service)?.0.into_state();
+        let mut equal = Crew::<N, C, H, 0>::new(alloc, ID, 1)?;
+        let equal = filled(rt, &mut equal, service)?.0;
+        let mut source = equal.into_state().into_source();
+        let mut out = Snapshot::new(alloc)?;
+        self.scrapes(&mut FromState { state }, |_| source.scan(&mut out).ok())
     }
 
     /// Scrapes of registries that keep 1,024 scrapes and a single one.
@@ -363,49 +265,32 @@ impl<R: Rt> Lines<'_, R> {
         requires { IsGeometry 1 C H 0 }
     {
         let alloc = self.rt.alloc();
-        let wide = &mut full(alloc, plain::<C, H>(alloc, service)?, service, 1_024)?;
-        let narrow = &mut full(alloc, plain::<C, H>(alloc, service)?, service, 1)?;
-        let floor = |_| scrape_once(narrow);
-        self.measure("scrape_keeping_1024", 1_000, floor, |_| scrape_once(wide))
+        let state = &mut plain::<C, H>(alloc, service, 1_024)?;
+        let mut wide = FromState { state };
+        let state = &mut plain::<C, H>(alloc, service, 1)?;
+        let mut narrow = FromState { state };
+        let (floor, scrape) = (|_| scrape_once(&mut narrow), |_| scrape_once(&mut wide));
+        self.measure("scrape_keeping_1024", 1_000, floor, scrape)
     }
 
     /// Texts of a service's scrape.
     pub fn texts_of<const C: usize, const H: usize>(&self, service: Service) -> Result<()>
         requires { IsGeometry 1 C H 0 }
     {
-        let alloc = self.rt.alloc();
-        let mut registry = full(alloc, plain::<C, H>(alloc, service)?, service, 1)?;
-        self.texts(&registry.show().context("no scrape")?)
+        let mut registry = plain::<C, H>(self.rt.alloc(), service, 1)?;
+        self.texts(&registry.scrape()?)
     }
 
     /// Registrations and children. Where the family is the 128th, 127 are there; where the child is the 256th, 255.
     pub fn makings(&self) -> Result<()> {
-        let rt = self.rt;
-        let first = |rounds| registrations(rt, 0, rounds);
-        self.batches(
-            "register_128th",
-            10_000,
-            first,
-            |rounds| registrations(rt, 127, rounds),
-        )?;
-        let first = |rounds| new_children(rt, 0, rounds);
-        self.batches(
-            "child_256th",
-            10_000,
-            first,
-            |rounds| new_children(rt, 255, rounds),
-        )?;
-        self.children()
-    }
-
-    /// Children that are there.
-    fn children(&self) -> Result<()> {
-        let alloc = self.rt.alloc();
-        let values = &values(alloc, 0)?;
-        let (few, one) = &mut with_families(alloc, 1, 1)?;
-        let (many, all) = &mut with_families(alloc, 1, 256)?;
-        let (one, all) = (one.context("no family")?, all.context("no family")?);
-        let floor = |_| find_once(few, one, values);
-        self.measure("child_of_256", 10, floor, |_| find_once(many, all, values))
+        let (rt, alloc) = (self.rt, self.rt.alloc());
+        let (first, last) = (|n| registrations(rt, 0, n), |n| registrations(rt, 127, n));
+        self.batches("register_128th", 10_000, first, last)?;
+        let (first, last) = (|n| new_children(rt, 0, n), |n| new_children(rt, 255, n));
+        self.batches("child_256th", 10_000, first, last)?;
+        let (values, one) = (&values(alloc, 0)?, &mut with_families(alloc, 1, 1)?);
+        let all = &mut with_families(alloc, 1, 256)?;
+        let floor = |_| find_once(one, values);
+        self.measure("child_of_256", 10, floor, |_| find_once(all, values))
     }
 }

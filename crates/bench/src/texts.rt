@@ -2,8 +2,9 @@
 //! as the text has lines.
 ghost use Rattle.std.specs.Prelude.{◌≡◌, ◌<◌, length};
 
-use crate::measuring::{Lines, Rt, keep, timed};
+use crate::measuring::{Lines, keep, timed};
 use anyhow::Result;
+use dirgwako::ServiceRuntime;
 use expo_text::{Scrape, render, text_len, write_to};
 use itoa::Buffer;
 use std::alloc::Global;
@@ -75,25 +76,14 @@ impl Plain {
         digits
     }
 
-    /// The nanoseconds of so many copies of the text, each to new memory if `is_new` says so.
-    fn copies(&mut self, rt: &impl Rt, rounds: u64, is_new: bool) -> Result<u64> {
-        let alloc = rt.alloc();
+    /// Copies the text to memory that is there, or that is made for it if `is_new` says so.
+    fn copy(&mut self, alloc: Global, is_new: bool) -> Option<()> {
         if is_new {
-            return timed(rt, rounds, &mut |_| self.copy_fresh(alloc));
+            let mut to = vec![in alloc; 0u8; self.bytes.len()].ok()?;
+            copy_pieces(&self.bytes, &mut to, self.piece);
+        } else {
+            copy_pieces(&self.bytes, &mut self.to, self.piece);
         }
-        timed(rt, rounds, &mut |_| self.copy())
-    }
-
-    /// Copies the text to memory that is there.
-    fn copy(&mut self) -> Option<()> {
-        copy_pieces(&self.bytes, &mut self.to, self.piece);
-        Some(())
-    }
-
-    /// Copies the text to memory that is made for it.
-    fn copy_fresh(&self, alloc: Global) -> Option<()> {
-        let mut to = vec![in alloc; 0u8; self.bytes.len()].ok()?;
-        copy_pieces(&self.bytes, &mut to, self.piece);
         Some(())
     }
 }
@@ -105,7 +95,7 @@ fn write_once(scrape: &Scrape, memory: &mut Vec<u8>) -> Option<usize> {
     Some(memory.len())
 }
 
-impl<R: Rt> Lines<'_, R> {
+impl<R: ServiceRuntime> Lines<'_, R> {
     /// A text that is made so often, beside copies, each to new memory if `is_new` says so, and beside its numbers.
     fn text<F: FnMut(u64) -> Option<()>>(
         &self,
@@ -119,7 +109,7 @@ impl<R: Rt> Lines<'_, R> {
         let (rt, rounds, kept) = (self.rt, self.one_in(1_000), AtomicU64::new(0));
         let (mut taken, mut floor, mut second) = (u64::MAX, u64::MAX, u64::MAX);
         for _batch in 0..10 {
-            floor = floor.min(plain.copies(rt, rounds, is_new)?);
+            floor = floor.min(timed(rt, rounds, &mut |_| plain.copy(rt.alloc(), is_new))?);
             second = second.min(timed(rt, rounds, &mut |_| keep(&kept, plain.format()))?);
             taken = taken.min(timed(rt, rounds, make)?);
         }
@@ -132,12 +122,8 @@ impl<R: Rt> Lines<'_, R> {
         let plain = &mut Plain::of(alloc, render(scrape)?)?;
         let make = &mut |_| keep(&kept, render(scrape).ok()?.len());
         self.text("render", plain, true, make)?;
-        self.text(
-            "text_len",
-            plain,
-            false,
-            &mut |_| keep(&kept, text_len(scrape)),
-        )?;
+        let make = &mut |_| keep(&kept, text_len(scrape));
+        self.text("text_len", plain, false, make)?;
         let mut memory = Vec::with_capacity(alloc, text_len(scrape))?;
         let make = &mut |_| keep(&kept, write_once(scrape, &mut memory)?);
         self.text("write_to", plain, false, make)
