@@ -96,7 +96,25 @@ def the_example_serves(_program, service, printed):
     expect(it, (printed.read_bytes(), b"", 0))
 
 
-ALL = [the_program_serves, the_port_is_the_one_asked_for, there_is_no_room_for_threads, the_example_serves]
+def the_example_is_at_the_port_asked_for(_program, service, printed):
+    with socket.create_server(("127.0.0.1", 0)) as other:
+        port = other.getsockname()[1]
+        out, err, status = outcome(server(service, port, "1"), given=None)
+        check((out, status) == (b"", 1), f"a taken port ends the example: {out}, {status}")
+        check(b"in use" in err and b"listening" not in err, f"it says that the port is taken, and not {err}")
+    it = server(service, port, "1")
+    check(port_told(it.stderr) == port, "the port is told")
+    check(ask(port).startswith(OK), "a scrape is replied at the port")
+    expect(it, (printed.read_bytes(), b"", 0))
+
+
+ALL = [
+    the_program_serves,
+    the_port_is_the_one_asked_for,
+    there_is_no_room_for_threads,
+    the_example_serves,
+    the_example_is_at_the_port_asked_for,
+]
 
 
 def check_all(program, service, printed):
