@@ -3,6 +3,8 @@
 ghost use Rattle.std.specs.Prelude.{◌≡◌, false};
 ghost use Rattle.snapshot_scan.specs.Readers.{IsReaderOf};
 
+mod front;
+
 use crate::asserts::same;
 use crate::crew::{ID, Two, TwoBoard, TwoCrew, TwoReader, ends_with, last_reader};
 use crate::helpers::{Plain, Source, desc, first_counter, first_gauge, values};
@@ -417,6 +419,12 @@ impl Write for LetGo {
         self.flushed = self.written.len();
         Ok(())
     }
+}
+
+/// The library for services: a crew, a family with a child, a metric without labels, and a scrape's text.
+#[test]
+fn growth_front(rt: HostRuntime) -> Result<(), Fail> {
+    front::use_team(&rt)
 }
 
 /// A server without a client: want of memory is told before it listens to anybody.

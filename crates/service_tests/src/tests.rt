@@ -1,6 +1,7 @@
 mod clients;
 mod ends;
 mod failing;
+mod front;
 mod hands_on;
 mod lines;
 mod pool;

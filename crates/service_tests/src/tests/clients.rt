@@ -21,6 +21,8 @@ pub(super) enum Step {
     Flood(usize),
     /// Ends its writing side.
     End(usize),
+    /// Closes.
+    Close(usize),
     /// Reads 100 bytes, and closes. What is unread by then resets the connection.
     Leave(usize),
     /// Reads to the end: the next reply.
@@ -30,7 +32,7 @@ pub(super) enum Step {
 }
 
 /// Connects to a port of this machine.
-fn connect<T: Net<Listener = TcpListener, Stream = TcpStream>>(
+pub(super) fn connect<T: Net<Listener = TcpListener, Stream = TcpStream>>(
     rt: &T,
     port: u16,
 ) -> io::Result<TcpStream> {
@@ -156,6 +158,10 @@ impl Clients {
             Step::Fill(number, bytes, more) => fill(alloc, self.stream(number)?, bytes, more),
             Step::Flood(number) => flood(self.stream(number)?),
             Step::End(number) => self.stream(number)?.shutdown(Shutdown::Write),
+            Step::Close(number) => {
+                self.close(number);
+                Ok(())
+            }
             Step::Leave(number) => {
                 read_front(self.stream(number)?)?;
                 self.close(number);

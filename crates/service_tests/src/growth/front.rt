@@ -1,0 +1,136 @@
+//! The library for services: its calls that take memory.
+use crate::asserts::same;
+use crate::crew::ID;
+use dirgwako::{
+    BoardFault, Counter, CounterFamily, Crew, FamilyRefusal, Gauge, GaugeFamily, MetricRefusal,
+    NewFault, OpenFault, Registers, Registrar, Registry, scrape_text,
+};
+use std::alloc::Global;
+use std::process::Abort;
+use std::sync::Wait;
+use std::test::Fail;
+
+/// A crew of one worker, of two counters and a gauge.
+type Team = Crew<1, 2, 0, 1>;
+
+/// A new crew.
+fn new_team(rt: &impl Abort, alloc: Global) -> Result<Team, Fail> {
+    match Team::new(alloc, ID, 1) {
+        Ok(team) => Ok(team),
+        Err(fault) => {
+            same(rt, &fault, &BoardFault::NoMemory);
+            Ok(Team::new(alloc, ID, 1)?)
+        }
+    }
+}
+
+/// Registers a family of counters by two labels.
+fn register<S: Registers>(metrics: &mut Registrar<S>) -> Result<CounterFamily, FamilyRefusal> {
+    metrics.counter_family("c", "A help.", &["a", "b"])
+}
+
+/// The same, and again where there was no memory: nothing stands of what was refused.
+fn family<S: Registers>(
+    rt: &impl Abort,
+    metrics: &mut Registrar<S>,
+) -> Result<CounterFamily, Fail> {
+    match register(metrics) {
+        Ok(family) => Ok(family),
+        Err(fault) => {
+            same(rt, &fault.number(), &6);
+            Ok(register(metrics)?)
+        }
+    }
+}
+
+/// The child of the family.
+fn child<S: Registers>(
+    rt: &impl Abort,
+    metrics: &mut Registrar<S>,
+    family: &CounterFamily,
+) -> Result<Counter, Fail> {
+    match metrics.counter_of(family, &["x", "y"]) {
+        Ok(counter) => Ok(counter),
+        Err(fault) => {
+            same(rt, &fault.number(), &6);
+            Ok(metrics.counter_of(family, &["x", "y"])?)
+        }
+    }
+}
+
+/// A gauge without labels. Where there was no memory for its child, the family stands, and gives the child then.
+fn gauge<S: Registers>(rt: &impl Abort, metrics: &mut Registrar<S>) -> Result<Gauge, Fail> {
+    match metrics.gauge("g", "") {
+        Ok(gauge) => Ok(gauge),
+        Err(MetricRefusal::Family(fault)) => {
+            same(rt, &fault.number(), &6);
+            Ok(metrics.gauge("g", "")?)
+        }
+        Err(MetricRefusal::Child { family, fault }) => {
+            same(rt, &fault.number(), &6);
+            Ok(metrics.gauge_of(
+                &GaugeFamily {
+                    registry: ID,
+                    id: family,
+                },
+                &[],
+            )?)
+        }
+    }
+}
+
+/// What a scrape shows in the end.
+const SHOWN: &str =
+    "# HELP c A help.\n# TYPE c counter\nc{a=\"x\",b=\"y\"} 0\n# TYPE g gauge\ng 0\n";
+
+/// The text of a scrape.
+fn prints(rt: &(impl Abort + Wait), registry: &Registry<'_, 1, 2, 0, 1>) -> Result<(), Fail> {
+    let text = match scrape_text(rt, registry) {
+        Ok(text) => text,
+        Err(fault) => {
+            same(rt, &fault.number(), &6);
+            scrape_text(rt, registry)?
+        }
+    };
+    same(rt, &text.as_slice(), &SHOWN.as_bytes());
+    Ok(())
+}
+
+/// Registers, makes children, and scrapes.
+fn use_registry(
+    rt: &(impl Abort + Wait + AllocGlobal),
+    registry: &Registry<'_, 1, 2, 0, 1>,
+) -> Result<(), Fail> {
+    let mut metrics = Registrar::new(rt, registry);
+    let family = family(rt, &mut metrics)?;
+    let counter = child(rt, &mut metrics, &family)?;
+    let gauge = gauge(rt, &mut metrics)?;
+    same(rt, &(counter.slot, gauge.slot), &(0, 0));
+    prints(rt, registry)
+}
+
+/// Opens a crew and uses its registry, and tells whether it was opened. One that was not is spent.
+fn is_used(rt: &(impl Abort + Wait + AllocGlobal), team: &mut Team) -> Result<bool, Fail> {
+    match team.open(2) {
+        Ok((registry, _, _)) => {
+            use_registry(rt, &registry)?;
+            Ok(true)
+        }
+        Err(fault) => {
+            same(rt, &fault, &OpenFault::Registry(NewFault::NoMemory));
+            Ok(false)
+        }
+    }
+}
+
+/// A crew, and another one where it is spent.
+pub(super) fn use_team(rt: &(impl Abort + Wait + AllocGlobal)) -> Result<(), Fail> {
+    let mut team = new_team(rt, rt.alloc())?;
+    if is_used(rt, &mut team)? {
+        return Ok(());
+    }
+    same(rt, &team.open(2).err(), &Some(OpenFault::Opened));
+    let mut team = new_team(rt, rt.alloc())?;
+    same(rt, &is_used(rt, &mut team)?, &true);
+    Ok(())
+}

@@ -1,0 +1,243 @@
+//! Metrics that are refused: which text it was, at which place, and by which number.
+use super::{Team, prints};
+use crate::asserts::same;
+use crate::crew::ID;
+use dirgwako::{
+    BadBounds, ChildFault, ChildRefusal, CounterFamily, FamilyRefusal, HelpTextFault,
+    HistogramFault, Kind, LabelNameFault, LabelValueFault, LabelsFault, MetricNameFault,
+    MetricRefusal, RegisterFault, Registers, Registrar,
+};
+use std::process::Abort;
+use std::sync::Wait;
+use std::test::Fail;
+
+/// A family was refused so, by this number.
+fn is_refused(rt: &impl Abort, got: Option<FamilyRefusal>, fault: FamilyRefusal, number: u8) {
+    same(rt, &got, &Some(fault));
+    same(rt, &fault.number(), &number);
+}
+
+/// Names and helps; the name is read first.
+fn refuses_texts<S: Registers>(
+    rt: &(impl Abort + AllocGlobal),
+    metrics: &mut Registrar<S>,
+) -> Result<(), Fail> {
+    let name = "a".repeat(rt.alloc(), 129)?;
+    let help = "a".repeat(rt.alloc(), 1_025)?;
+    let long_name = FamilyRefusal::Name(MetricNameFault::TooLong { limit: 128 });
+    let long_help = FamilyRefusal::Help(HelpTextFault::TooLong { limit: 1_024 });
+    let bad = FamilyRefusal::Name(MetricNameFault::BadByte { at: 1 });
+    for (name, help, fault, number) in [
+        ("", " x", FamilyRefusal::Name(MetricNameFault::Empty), 1),
+        ("a-b", "", bad, 2),
+        (name.as_str(), "", long_name, 3),
+        ("a", help.as_str(), long_help, 3),
+        ("a", " x", FamilyRefusal::Help(HelpTextFault::EdgeBlank), 5),
+    ] {
+        let got = metrics.counter_family(name, help, &["-"]).err();
+        is_refused(rt, got, fault, number);
+    }
+    Ok(())
+}
+
+/// Labels one by one, from the first on.
+fn refuses_a_label<S: Registers>(
+    rt: &(impl Abort + AllocGlobal),
+    metrics: &mut Registrar<S>,
+) -> Result<(), Fail> {
+    let long = "l".repeat(rt.alloc(), 129)?;
+    for (labels, at, fault, number) in [
+        (["", "-"], 0, LabelNameFault::Empty, 1),
+        (["a", "b:c"], 1, LabelNameFault::BadByte { at: 1 }, 2),
+        (
+            ["a", long.as_str()],
+            1,
+            LabelNameFault::TooLong { limit: 128 },
+            3,
+        ),
+        (["a", "__b"], 1, LabelNameFault::Reserved, 4),
+    ] {
+        let got = metrics.gauge_family("g", "", &labels).err();
+        is_refused(rt, got, FamilyRefusal::Label { at, fault }, number);
+    }
+    Ok(())
+}
+
+/// Nine labels.
+const NINE: [&str; 9] = ["a", "b", "c", "d", "e", "f", "g", "h", "i"];
+
+/// Labels together, of a gauge and a histogram, and bounds.
+fn refuses_shapes<S: Registers>(rt: &impl Abort, metrics: &mut Registrar<S>) {
+    let many = LabelsFault::TooManyLabels;
+    let got = metrics.gauge_family("g", "", &NINE).err();
+    is_refused(rt, got, FamilyRefusal::Labels(many), 9);
+    let twice = LabelsFault::DuplicateLabel { at: 2 };
+    let got = metrics.counter_family("c", "", &["a", "b", "a"]).err();
+    is_refused(rt, got, FamilyRefusal::Labels(twice), 7);
+    for (labels, bounds, fault, number) in [
+        (NINE.as_slice(), [1, 1, 2], HistogramFault::Labels(many), 9),
+        (
+            ["a", "le"].as_slice(),
+            [1, 1, 2],
+            HistogramFault::LeOnHistogram,
+            8,
+        ),
+        (
+            ["a"].as_slice(),
+            [1, 1, 2],
+            HistogramFault::Bounds(BadBounds { at: 1 }),
+            10,
+        ),
+        (
+            ["a"].as_slice(),
+            [1, 2, 281_474_976_710_656],
+            HistogramFault::Bounds(BadBounds { at: 2 }),
+            10,
+        ),
+    ] {
+        let got = metrics.histogram_family("h", "", labels, &bounds).err();
+        is_refused(rt, got, FamilyRefusal::Histogram(fault), number);
+    }
+}
+
+/// The names of samples of a histogram are its own.
+fn refuses_shared_names<S: Registers>(
+    rt: &impl Abort,
+    metrics: &mut Registrar<S>,
+) -> Result<(), Fail> {
+    metrics.gauge_family("le", "", &["le"])?;
+    let family = metrics.histogram_family("h", "", &[], &[])?;
+    same(rt, &family.id.number(), &1);
+    let clash = FamilyRefusal::Register(RegisterFault::Clash { with: 1 });
+    for name in ["h", "h_bucket", "h_sum", "h_count"] {
+        is_refused(rt, metrics.counter_family(name, "", &[]).err(), clash, 19);
+    }
+    let got = metrics.histogram("h", "", &[]).err();
+    same(rt, &got, &Some(MetricRefusal::Family(clash)));
+    Ok(())
+}
+
+/// No other family was registered by what was refused, and 126 more are.
+fn fills_up<S: Registers>(
+    rt: &(impl Abort + AllocGlobal),
+    metrics: &mut Registrar<S>,
+) -> Result<(), Fail> {
+    for number in 2..128usize {
+        let name = format!(in rt.alloc(); "f{number}")?;
+        let family = metrics.counter_family(name.as_str(), "", &[])?;
+        same(rt, &family.id.number(), &number);
+    }
+    let full = FamilyRefusal::Register(RegisterFault::TooManyFamilies);
+    is_refused(rt, metrics.gauge_family("f128", "", &[]).err(), full, 23);
+    Ok(())
+}
+
+#[test]
+fn families(rt: HostRuntime) -> Result<(), Fail> {
+    let mut team = Team::new(rt.alloc(), ID, 1)?;
+    let (registry, _, _) = team.open(64)?;
+    let mut metrics = Registrar::new(&rt, &registry);
+    refuses_texts(&rt, &mut metrics)?;
+    refuses_a_label(&rt, &mut metrics)?;
+    refuses_shapes(&rt, &mut metrics);
+    refuses_shared_names(&rt, &mut metrics)?;
+    fills_up(&rt, &mut metrics)
+}
+
+/// These label values are refused so, by this number.
+fn refuses_values<S: Registers>(
+    rt: &impl Abort,
+    metrics: &mut Registrar<S>,
+    family: &CounterFamily,
+    values: &[&str],
+    fault: ChildRefusal,
+    number: u8,
+) {
+    same(rt, &metrics.counter_of(family, values).err(), &Some(fault));
+    same(rt, &fault.number(), &number);
+}
+
+/// Label values of a family of two labels, and one child more than there are slots.
+fn refuses_children<S: Registers>(
+    rt: &(impl Abort + AllocGlobal),
+    metrics: &mut Registrar<S>,
+) -> Result<(), Fail> {
+    let family = &metrics.counter_family("c", "", &["a", "b"])?;
+    let long = "x".repeat(rt.alloc(), 257)?;
+    let (at, fault) = (1, LabelValueFault::TooLong { limit: 256 });
+    let value = ChildRefusal::Value { at, fault };
+    refuses_values(rt, metrics, family, &["", long.as_str()], value, 3);
+    let (want, got) = (2, 1);
+    let count = ChildRefusal::Child(ChildFault::LabelCount { want, got });
+    refuses_values(rt, metrics, family, &["x"], count, 21);
+    for value in ["1", "2", "3", "4"] {
+        metrics.counter_of(family, &["x", value])?;
+    }
+    refuses_values(rt, metrics, family, &["x", "5"], FULL, 22);
+    Ok(())
+}
+
+/// Every counter is used.
+const FULL: ChildRefusal = ChildRefusal::Child(ChildFault::Full {
+    kind: Kind::Counter,
+});
+
+/// A metric without labels for which there is no slot: its family stands, and its name is taken.
+fn refuses_a_metric<S: Registers>(rt: &impl Abort, metrics: &mut Registrar<S>) -> Result<(), Fail> {
+    let Err(MetricRefusal::Child { family, fault }) = metrics.counter("d", "") else {
+        return Err("no refusal of a child".into());
+    };
+    same(rt, &(family.number(), fault), &(1, FULL));
+    same(rt, &MetricRefusal::Child { family, fault }.number(), &22);
+    let clash = MetricRefusal::Family(FamilyRefusal::Register(RegisterFault::Clash { with: 1 }));
+    same(rt, &metrics.counter("d", "").err(), &Some(clash));
+    same(rt, &clash.number(), &19);
+    metrics.gauge("g", "")?;
+    Ok(())
+}
+
+/// What a scrape shows of them.
+const CHILDREN: &str = "# TYPE c counter\nc{a=\"x\",b=\"1\"} 0\nc{a=\"x\",b=\"2\"} 0\n\
+     c{a=\"x\",b=\"3\"} 0\nc{a=\"x\",b=\"4\"} 0\n# TYPE g gauge\ng 0\n";
+
+#[test]
+fn children(rt: HostRuntime) -> Result<(), Fail> {
+    let mut team = Team::new(rt.alloc(), ID, 1)?;
+    let (registry, _, _) = team.open(64)?;
+    let mut metrics = Registrar::new(&rt, &registry);
+    refuses_children(&rt, &mut metrics)?;
+    refuses_a_metric(&rt, &mut metrics)?;
+    prints(&rt, &registry, CHILDREN)
+}
+
+/// A registry of a board of this id, whose families are one of gauges and one of counters, is asked by a family of counters.
+fn asks_another(
+    rt: &(impl Wait + Abort + AllocGlobal),
+    family: &CounterFamily,
+    id: u64,
+    refusal: (ChildRefusal, u8),
+    shown: &str,
+) -> Result<(), Fail> {
+    let mut team = Team::new(rt.alloc(), id, 1)?;
+    let (registry, _, _) = team.open(1)?;
+    let mut metrics = Registrar::new(rt, &registry);
+    metrics.gauge_family("g", "", &[])?;
+    metrics.counter_family("k", "", &[])?;
+    let (fault, number) = refusal;
+    refuses_values(rt, &mut metrics, family, &[], fault, number);
+    prints(rt, &registry, shown)
+}
+
+/// A family of another board is refused before anything is done, also where the kinds agree. Boards of one id are not told apart, so there it is taken for the other
+/// one of its number, whose child is made then.
+#[test]
+fn a_family_of_another_board(rt: HostRuntime) -> Result<(), Fail> {
+    let mut team = Team::new(rt.alloc(), ID, 1)?;
+    let (registry, _, _) = team.open(1)?;
+    let mut metrics = Registrar::new(&rt, &registry);
+    let first = metrics.counter_family("c", "", &[])?;
+    let second = metrics.counter_family("d", "", &[])?;
+    let shown = "# TYPE g gauge\ng 0\n";
+    asks_another(&rt, &first, ID, (ChildRefusal::OtherKind, 28), shown)?;
+    asks_another(&rt, &second, ID + 1, (ChildRefusal::OtherRegistry, 20), "")
+}

@@ -1,0 +1,127 @@
+//! Families with labels of each kind, what is counted, and what a scrape prints, which is written here by the format's rules: families by
+//! their names, children by their label values, a histogram's buckets with those below them.
+use super::{Counts, Names, Team, prints};
+use crate::asserts::same;
+use crate::crew::ID;
+use crate::helpers::{self, plain};
+use dirgwako::{
+    CountFault, Counter, Gauge, Histogram, PrintFault, Registers, Registrar, TextFault, down, inc,
+    linear, observe, up,
+};
+use std::process::Abort;
+use std::sync::Wait;
+use std::test::Fail;
+
+/// Two counters by their result. A child that is asked for again is the same one.
+fn counters<S: Registers>(
+    rt: &impl Abort,
+    metrics: &mut Registrar<S>,
+) -> Result<(Counter, Counter), Fail> {
+    let family = metrics.counter_family("jobs_total", "Jobs by their\nresult.", &["result"])?;
+    let ok = metrics.counter_of(&family, &["ok"])?;
+    let bad = metrics.counter_of(&family, &["\"bad\""])?;
+    same(rt, &metrics.counter_of(&family, &["ok"])?, &ok);
+    Ok((ok, bad))
+}
+
+/// A gauge by two labels.
+fn gauge<S: Registers>(rt: &impl Abort, metrics: &mut Registrar<S>) -> Result<Gauge, Fail> {
+    let family = metrics.gauge_family("depth", "", &["queue", "host"])?;
+    let gauge = metrics.gauge_of(&family, &["in", ""])?;
+    same(rt, &metrics.gauge_of(&family, &["in", ""])?, &gauge);
+    Ok(gauge)
+}
+
+/// A histogram by a label, with the bounds 100 and 250.
+fn histogram<S: Registers>(rt: &impl Abort, metrics: &mut Registrar<S>) -> Result<Histogram, Fail> {
+    let bounds = linear(100, 150, 2)?;
+    let family = metrics.histogram_family("bytes", "Bytes.", &["path"], bounds.as_slice())?;
+    let hist = metrics.histogram_of(&family, &["/"])?;
+    same(rt, &metrics.histogram_of(&family, &["/"])?, &hist);
+    Ok(hist)
+}
+
+/// What is counted by.
+type Handles = ((Counter, Counter), Histogram, Gauge);
+
+/// All families, not in the order of their names.
+fn register(rt: &(impl Wait + Abort + AllocGlobal), registry: &Names<'_>) -> Result<Handles, Fail> {
+    let mut metrics = Registrar::new(rt, registry);
+    let counters = counters(rt, &mut metrics)?;
+    let hist = histogram(rt, &mut metrics)?;
+    metrics.histogram("z", "No bound.", &[])?;
+    Ok((counters, hist, gauge(rt, &mut metrics)?))
+}
+
+/// Values at and beside the bounds, and a gauge that falls below zero. Several changes are one version, and none are one too.
+fn count(rt: &impl Abort, recorder: &mut Counts<'_>, handles: Handles) -> Result<(), CountFault> {
+    let ((ok, bad), hist, gauge) = handles;
+    recorder.inc(&ok, 281_474_976_710_654)?;
+    recorder.observe(&hist, 100)?;
+    recorder.up(&gauge, 3)?;
+    recorder.down(&gauge, 1)?;
+    same(rt, &recorder.number(), &4);
+    let values = [
+        observe(&hist, 101),
+        observe(&hist, 250),
+        observe(&hist, 251),
+    ];
+    recorder.publish(&values)?;
+    recorder.publish(&[inc(&ok, 1), inc(&bad, 2), up(&gauge, 1), down(&gauge, 10)])?;
+    recorder.publish(&[])?;
+    Ok(())
+}
+
+/// What a scrape shows then.
+const SHOWN: &str = r#"# HELP bytes Bytes.
+# TYPE bytes histogram
+bytes_bucket{path="/",le="100"} 1
+bytes_bucket{path="/",le="250"} 3
+bytes_bucket{path="/",le="+Inf"} 4
+bytes_sum{path="/"} 702
+bytes_count{path="/"} 4
+# TYPE depth gauge
+depth{queue="in",host=""} -7
+# HELP jobs_total Jobs by their\nresult.
+# TYPE jobs_total counter
+jobs_total{result="\"bad\""} 2
+jobs_total{result="ok"} 281474976710655
+# HELP z No bound.
+# TYPE z histogram
+z_bucket{le="+Inf"} 0
+z_sum 0
+z_count 0
+"#;
+
+#[test]
+fn metrics_of_each_kind(rt: HostRuntime) -> Result<(), Fail> {
+    let mut team = Team::new(rt.alloc(), ID, 1)?;
+    let (registry, mut recorders, _) = team.open(64)?;
+    let handles = register(&rt, &registry)?;
+    let mut recorder = recorders.pop().ok_or("no recorder")?;
+    count(&rt, &mut recorder, handles)?;
+    prints(&rt, &registry, SHOWN)?;
+    let worker = recorder.into_worker();
+    same(&rt, &(worker.index(), worker.number()), &(1, 7));
+    Ok(())
+}
+
+/// Metrics of a registry of one thread, which has no lock.
+#[test]
+fn a_registry_without_a_lock(rt: HostRuntime) -> Result<(), Fail> {
+    let mut metrics = Registrar::of(rt.alloc(), plain(rt.alloc(), 8)?);
+    let family = metrics.counter_family("c", "", &["l"])?;
+    let (registry, slot) = (ID, 0);
+    let counter = metrics.counter_of(&family, &["x"])?;
+    same(&rt, &counter, &Counter { registry, slot });
+    helpers::prints(&rt, &mut metrics.at, "# TYPE c counter\nc{l=\"x\"} 0\n")
+}
+
+/// The numbers of refusals that no test can reach.
+#[test]
+fn no_text(rt: HostRuntime) {
+    let (none, given_up) = (TextFault::NoMemory, TextFault::Contended);
+    same(&rt, &(none.number(), given_up.number()), &(6, 14));
+    same(&rt, &PrintFault::Text(given_up).number(), &Some(14));
+    same(&rt, &PrintFault::Output.number(), &None);
+}
