@@ -23,8 +23,8 @@ pub struct NotMade<const N: usize, const C: usize, const H: usize, const G: usiz
 impl<'a, const N: usize, const C: usize, const H: usize, const G: usize> Registry<'a, N, C, H, G> {
     ghost use Rattle.metric_registry.specs.Names.{id_of};
 
-    /// A registry of this board, with an empty journal and without families, that scans with this reader and keeps `window`
-    /// scrapes. Its handles have the board's id.
+    /// A registry of this board, with an empty journal and without families, that scans with this reader, which has to be of this board, and
+    /// keeps `window` scrapes. Its handles have the board's id.
     ///
     /// # Errors
     ///

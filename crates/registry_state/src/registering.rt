@@ -38,7 +38,7 @@ impl<
     const G: usize,
 > RegistryState<S, N, C, H, G> {
     /// A registry of this id, with an empty journal and without families, that keeps `window` scrapes. Room for them is made
-    /// here.
+    /// here. It asks for `N` from 1 to 32, and at most 256, 32 and 64 for `C`, `H` and `G`.
     ///
     /// # Errors
     ///

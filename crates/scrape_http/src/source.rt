@@ -5,12 +5,12 @@ ghost use Rattle.scrape_http.specs.declared.source.NoScrape.{NoScrape};
 
 use expo_text::Scrape;
 
-/// Why a source has no scrape to give.
+/// Why a source has no scrape to give. A server replies 503 to both.
 #[derive(Clone, Copy, Debug, PartialEq, Eq)]
 pub enum NoScrape {
-    /// The scan was given up: some worker's number rose in each try, and nobody lent its view.
+    /// Refusal 14: the scan was given up: some worker's number rose in each try, and nobody lent its view.
     Contended,
-    /// A growth was refused.
+    /// Refusal 6: a growth was refused.
     NoMemory,
 }
 

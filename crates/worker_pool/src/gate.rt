@@ -1,6 +1,6 @@
 //! Gates: what the threads of a pool wait for before each job.
 
-/// What the threads of a pool ask before each job, and tell after it.
+/// What the threads of a pool ask before each job, and tell after it. A worker is named by its place in the pool's list, from 0.
 pub trait Gate {
     /// Whether the worker at this place may do its next job.
     fn open(&self, worker: usize) -> bool;

@@ -24,7 +24,9 @@ pub enum JobOp {
 /// A job: what is to be counted, and the line that asked for it, by which a refusal is told.
 #[derive(Clone, Copy, Debug, PartialEq, Eq)]
 pub struct Job {
+    /// The line that asked for it.
     pub line: u64,
+    /// What is counted.
     pub what: JobOp,
 }
 
