@@ -4,31 +4,41 @@ ghost use Rattle.std.proofs.Props.{props};
 ghost use Rattle.snapshot_update.specs.Workers.{IsWorkerOf};
 
 use crate::measuring::{Floor, Lines, four_updates, nanos_since, timed, timed_each};
-use crate::registries::ID;
+use crate::registries::{CHILDREN, ID};
 use anyhow::{Context, Result};
 use dirgwako::{
-    Board, Bounds, Counter, Crew, Histogram, Op, Recorder, ServiceRuntime, Snapshot, Worker,
+    Board, Bounds, Change, Counter, Crew, Histogram, Op, Recorder, ServiceRuntime, Snapshot, Worker,
 };
 use snapshot_scan::Source;
 use std::array;
 use std::thread::{Threads, map_vec};
 use std::time::{Clock, Instant};
 
-/// The first counter.
-const FIRST: Counter = Counter {
-    registry: ID,
-    slot: 0,
-};
+/// What counts: a recorder, whatever its board.
+pub trait Counts {
+    fn raise(&mut self, slot: usize) -> Option<()>;
 
-/// How many operations a list has.
-const LIST: usize = 100;
+    fn watch(&mut self, hist: &Histogram, value: u64) -> Option<()>;
 
-/// The scans where workers have published, and how many have.
-const MOVES: [(&str, usize); 3] = [
-    ("scan_moved_1", 1),
-    ("scan_moved_4", 4),
-    ("scan_moved_16", 16),
-];
+    fn apply(&mut self, ops: [Op; CHILDREN]) -> Option<()>;
+}
+
+impl<const N: usize, const C: usize, const H: usize, const G: usize> Counts
+    for Recorder<'_, N, C, H, G> {
+    fn raise(&mut self, slot: usize) -> Option<()> {
+        let registry = ID;
+        self.inc(&Counter { registry, slot }, 1).ok()
+    }
+
+    fn watch(&mut self, hist: &Histogram, value: u64) -> Option<()> {
+        self.observe(hist, value).ok()
+    }
+
+    fn apply(&mut self, ops: [Op; CHILDREN]) -> Option<()> {
+        let registry = ID;
+        self.publish(&ops.map(|op| Change { registry, op })).ok()
+    }
+}
 
 /// A worker with its board, which publishes lists of any length.
 #[derive(Drop)]
@@ -45,27 +55,35 @@ impl<const N: usize, const C: usize, const H: usize, const G: usize> Lists<'_, N
     }
 }
 
+/// Each of these publishes one version.
+fn publish(workers: &mut [impl Counts]) -> Option<()> {
+    for worker in workers {
+        worker.raise(0)?;
+    }
+    Some(())
+}
+
 /// So many increments of the first counter.
-fn count<const N: usize, const C: usize, const H: usize, const G: usize>(
-    recorder: &mut Recorder<'_, N, C, H, G>,
-    rounds: u64,
-) -> Option<()> {
+fn raise_often(worker: &mut impl Counts, rounds: u64) -> Option<()> {
     for _round in 0..rounds {
-        recorder.inc(&FIRST, 1).ok()?;
+        worker.raise(0)?;
     }
     Some(())
 }
 
 /// The first four count at once, each on a thread of its own. It gives the nanoseconds until all have ended.
-pub fn four_count<const N: usize, const C: usize, const H: usize, const G: usize>(
+pub fn four_count<W: Counts + Send + Drop>(
     rt: &(impl Threads + Clock + Sync),
-    mut recorders: Vec<Recorder<'_, N, C, H, G>>,
+    mut workers: Vec<W>,
     rounds: u64,
 ) -> Result<u64> {
-    recorders.truncate(4);
-    let count_often = &|mut recorder: Recorder<N, C, H, G>| count(&mut recorder, rounds);
+    workers.truncate(4);
     let start = Instant::now(rt)?;
-    for counted in map_vec(rt, recorders, count_often)? {
+    for counted in map_vec(
+        rt,
+        workers,
+        &|mut worker: W| raise_often(&mut worker, rounds),
+    )? {
         counted.context("a worker refused")?;
     }
     nanos_since(rt, start)
@@ -88,74 +106,67 @@ impl<R: ServiceRuntime> Lines<'_, R> {
         self.measure(name, part, |k| floor.update(k), operation)
     }
 
-    /// Updates by one worker. A buffer is two versions old when it is filled, so that where all counters are taken in turn, two words
-    /// of the row and two totals differ from it.
-    fn updates<const N: usize, const C: usize, const H: usize, const G: usize>(
-        &self,
-        recorder: &mut Recorder<'_, N, C, H, G>,
-    ) -> Result<()> {
+    /// Updates by one of so many workers. A buffer is two versions old when it is filled, so that where all counters are taken in
+    /// turn, two words of the row and two totals differ from it.
+    fn updates(&self, worker: &mut impl Counts, all: usize, counters: usize) -> Result<()> {
+        self.update("inc_one_counter", 10, all, 3, |_| worker.raise(0))?;
+        let counters = counters.max(1);
         self.update(
-            "inc_one_counter",
+            "inc_in_turn",
             10,
-            N,
-            3,
-            |_| recorder.inc(&FIRST, 1).ok(),
+            all,
+            5,
+            |k| worker.raise(k as usize % counters),
         )?;
-        self.update("inc_in_turn", 10, N, 5, |round| {
-            let (registry, slot) = (ID, round as usize % C.max(1));
-            recorder.inc(&Counter { registry, slot }, 1).ok()
-        })?;
         let hist = Histogram {
             registry: ID,
             slot: 0,
             bounds: Bounds::from_slice(&[5, 10, 25, 50, 100, 250, 500, 1_000, 2_500, 5_000])?,
         };
-        self.update("observe", 10, N, 7, |_| recorder.observe(&hist, 7).ok())
+        self.update("observe", 10, all, 7, |_| worker.watch(&hist, 7))
     }
 
-    /// Lists of increments by 1 of all counters in turn, by a worker of a new board, of which a word and a total of each counter
+    /// Lists of 100 increments by 1 of all counters in turn, by a worker of a new board, of which a word and a total of each counter
     /// differ.
     fn lists<const N: usize, const C: usize, const H: usize, const G: usize>(&self) -> Result<()> {
         let alloc = self.rt.alloc();
         let crew = snapshot_update::Crew::<N, C, H, G>::new(alloc, ID, 1)?;
-        let (board, mut workers) = (&crew.board, crew.workers);
-        let worker = workers.pop().context("no worker")?;
+        let (board, mut workers) = (crew.board, crew.workers);
+        let (board, worker) = (&board, workers.pop().context("no worker")?);
         let mut lists = Lists { board, worker };
-        let ops: [Op; LIST] = array::from_fn(|place| {
+        let ops: [Op; 100] = array::from_fn(|place| {
             let (counter, by) = (place % C.max(1), 1);
             Op::Inc { counter, by }
         });
-        let words = 2 * C.min(LIST) + 1;
+        let words = 2 * C.min(100) + 1;
         self.update("apply_100", 100, N, words, |_| lists.apply(&ops))
     }
 
     /// Scans of a board of rows of so many words: where nobody publishes, and where the first workers have published before each.
-    fn scans<
-        F: FnMut(u64) -> Option<()>,
-        const N: usize,
-        const C: usize,
-        const H: usize,
-        const G: usize,
-    >(&self, recorders: &mut [Recorder<'_, N, C, H, G>], mut scan: F, words: usize) -> Result<()>
+    fn scans<F: FnMut(u64) -> Option<()>>(
+        &self,
+        workers: &mut [impl Counts],
+        mut scan: F,
+        words: usize,
+    ) -> Result<()>
         requires { (state : F) (x : _) → F.pre state x }
     {
-        let (rt, all) = (self.rt, recorders.len());
+        let (rt, all) = (self.rt, workers.len());
         let copied = words.saturating_add(all);
         let floor = &mut Floor::new(rt.alloc(), all, 0, copied)?;
         self.measure("scan_quiet", 10, |_| floor.scan(), |_| scan(0))?;
-        for (name, moved) in MOVES {
-            let Some(moving) = recorders.get_mut(..moved) else {
+        for (name, moved) in [
+            ("scan_moved_1", 1),
+            ("scan_moved_4", 4),
+            ("scan_moved_16", 16),
+        ] {
+            let Some(moving) = workers.get_mut(..moved) else {
                 break;
             };
             let floor = &mut Floor::new(rt.alloc(), all, words.saturating_mul(moved), copied)?;
             let least = |rounds| timed(rt, rounds, &mut |_| floor.scan());
             self.batches(name, 1_000, least, |rounds| {
-                let make = &mut |_| {
-                    for recorder in moving.iter_mut() {
-                        recorder.inc(&FIRST, 1).ok()?;
-                    }
-                    Some(())
-                };
+                let make = &mut |_| publish(moving);
                 timed_each(rt, rounds, make, &mut |()| scan(0))
             })?;
         }
@@ -170,7 +181,7 @@ impl<R: ServiceRuntime> Lines<'_, R> {
     ) -> Result<()> {
         let mut crew = Crew::<N, C, H, G>::new(self.rt.alloc(), ID, 1)?;
         let (registry, mut recorders, _) = crew.open(1)?;
-        self.updates(recorders.first_mut().context("no worker")?)?;
+        self.updates(recorders.first_mut().context("no worker")?, N, C)?;
         self.lists::<N, C, H, G>()?;
         let mut source = registry.into_state().into_source();
         let mut out = Snapshot::new(self.rt.alloc())?;

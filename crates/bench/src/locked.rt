@@ -1,19 +1,30 @@
 //! A registry behind its lock, of which two threads ask at once, workers that count while it scrapes, and a server for a load tool.
 
-use crate::boards::four_count;
-use crate::measuring::{Lines, nanos_since};
-use crate::registries::{ID, Service, WINDOW, values};
+use crate::boards::{Counts, four_count};
+use crate::measuring::{Lines, timed};
+use crate::registries::{ID, Service, WINDOW, count_by, values};
 use anyhow::{Context, Result, bail};
 use dirgwako::{
-    Behind, Change, Crew, FromRegistry, Recorder, RegisterFault, Registry, ScrapeFault,
-    ServiceRuntime, listen_aloud, serve_stream,
+    Behind, Crew, FromRegistry, Recorder, RegisterFault, Registry, ScrapeFault, ServiceRuntime,
+    listen_aloud, serve_stream,
 };
 use expo_text::text_len;
 use std::net::{Net, TcpListener, TcpStream};
 use std::sync::Wait;
 use std::sync::atomic::{AtomicBool, Ordering};
 use std::thread::{join, map_indices, yield_now};
-use std::time::{Clock, Instant};
+use std::time::Clock;
+
+/// Asks for a scrape. One that is given up counts too: workers may publish meanwhile.
+fn ask_scrape<const N: usize, const C: usize, const H: usize>(
+    rt: &impl Wait,
+    registry: &Registry<'_, N, C, H, 0>,
+) -> Result<()> {
+    match registry.scrape(rt) {
+        Ok(_) | Err(ScrapeFault::Contended(_)) => Ok(()),
+        Err(fault) => Err(fault.into()),
+    }
+}
 
 /// The nanoseconds of so many scrapes, which are let go.
 fn scrapes<const N: usize, const C: usize, const H: usize>(
@@ -21,11 +32,7 @@ fn scrapes<const N: usize, const C: usize, const H: usize>(
     registry: &Registry<'_, N, C, H, 0>,
     rounds: u64,
 ) -> Result<u64> {
-    let start = Instant::now(rt)?;
-    for _round in 0..rounds {
-        let _scrape = registry.scrape(rt)?;
-    }
-    nanos_since(rt, start)
+    timed(rt, rounds, &mut |_| ask_scrape(rt, registry).ok())
 }
 
 /// A new board's registry of a service, which keeps as many scrapes as its window is, after all of the service was counted; and the
@@ -35,18 +42,12 @@ pub fn filled<'a, const N: usize, const C: usize, const H: usize>(
     crew: &'a mut Crew<N, C, H, 0>,
     service: Service,
 ) -> Result<(Registry<'a, N, C, H, 0>, Vec<Recorder<'a, N, C, H, 0>>)> {
-    let (registry, mut recorders, _) = crew.open(WINDOW)?;
-    let first = recorders.first_mut().context("no worker")?;
-    service.count(|ops| first
-        .publish(&ops.map(|op| Change { registry: ID, op }))
-        .ok())?;
-    let at = &mut Behind {
-        rt,
-        registry: &registry,
-    };
-    service.register(rt.alloc(), at)?;
-    let _nanos = scrapes(rt, &registry, WINDOW as u64)?;
-    Ok((registry, recorders))
+    let (made, mut recorders, _) = crew.open(WINDOW)?;
+    count_by(recorders.first_mut().context("no worker")?, service)?;
+    let registry = &made;
+    service.register(rt.alloc(), &mut Behind { rt, registry })?;
+    let _nanos = scrapes(rt, registry, WINDOW as u64)?;
+    Ok((made, recorders))
 }
 
 /// Waits until the flag stands.
@@ -59,27 +60,8 @@ fn await_flag(rt: &impl Wait, flag: &AtomicBool) {
     }
 }
 
-/// The thread beside: it asks until the measured thread has ended, and tells that one once it has been answered or has failed.
-fn ask_on<F: Fn() -> Result<()>>(
-    rt: &impl Wait,
-    ask: &F,
-    begun: &AtomicBool,
-    ended: &AtomicBool,
-) -> Result<()>
-    requires { F.IsAlwaysCallable ask.now }
-{
-    for _ in rt.forever() {
-        let asked = ask();
-        begun.store(true, Ordering::SeqCst);
-        asked?;
-        if ended.load(Ordering::SeqCst) {
-            break;
-        }
-    }
-    Ok(())
-}
-
-/// What is measured once another thread has asked, which goes on in a loop meanwhile.
+/// What is measured once another thread has asked, which asks on until the measured thread has ended. It tells that one once it has
+/// been answered or has failed.
 fn asked<M: FnOnce() -> Result<u64> + Send, F: Fn() -> Result<()> + Sync>(
     rt: &impl ServiceRuntime,
     measure: M,
@@ -95,20 +77,33 @@ fn asked<M: FnOnce() -> Result<u64> + Send, F: Fn() -> Result<()> + Sync>(
         ended.store(true, Ordering::SeqCst);
         taken
     };
-    let (taken, asked) = join(rt, measured, || ask_on(rt, ask, begun, ended));
+    let ask_on = || -> Result<()>
+        requires { F.IsAlwaysCallable ask.now }
+    {
+        for _ in rt.forever() {
+            let asked = ask();
+            begun.store(true, Ordering::SeqCst);
+            asked?;
+            if ended.load(Ordering::SeqCst) {
+                break;
+            }
+        }
+        Ok(())
+    };
+    let (taken, asked) = join(rt, measured, ask_on);
     asked?;
     taken
 }
 
-/// Asks for a scrape. One that is given up counts too: workers may publish meanwhile.
-fn ask_scrape<const N: usize, const C: usize, const H: usize>(
-    rt: &impl Wait,
+/// [`four_count`] of these, while another thread scrapes a registry.
+fn count_beside<W: Counts + Send + Drop, const N: usize, const C: usize, const H: usize>(
+    rt: &impl ServiceRuntime,
+    workers: Vec<W>,
     registry: &Registry<'_, N, C, H, 0>,
-) -> Result<()> {
-    match registry.scrape(rt) {
-        Ok(_) | Err(ScrapeFault::Contended(_)) => Ok(()),
-        Err(fault) => Err(fault.into()),
-    }
+    rounds: u64,
+) -> Result<u64> {
+    let ask = &|| ask_scrape(rt, registry);
+    asked(rt, || four_count(rt, workers, rounds), ask)
 }
 
 /// The nanoseconds until four workers of a new board have counted at once, while one more thread scrapes it if so.
@@ -120,11 +115,10 @@ fn counts<const N: usize, const C: usize, const H: usize>(
 ) -> Result<u64> {
     let mut crew = Crew::<N, C, H, 0>::new(rt.alloc(), ID, 1)?;
     let (registry, recorders) = filled(rt, &mut crew, service)?;
-    if !is_scraped {
-        return four_count(rt, recorders, rounds);
+    match is_scraped {
+        true => count_beside(rt, recorders, &registry, rounds),
+        false => four_count(rt, recorders, rounds),
     }
-    let ask = &|| ask_scrape(rt, &registry);
-    asked(rt, || four_count(rt, recorders, rounds), ask)
 }
 
 impl<R: ServiceRuntime> Lines<'_, R> {
@@ -137,10 +131,13 @@ impl<R: ServiceRuntime> Lines<'_, R> {
     ) -> Result<()>
         requires { F.IsAlwaysCallable ask }
     {
-        let rt = self.rt;
-        let alone = |rounds| scrapes(rt, registry, rounds);
-        let beside = |rounds| asked(rt, || scrapes(rt, registry, rounds), &ask);
-        self.batches(name, 1_000, alone, beside)
+        let (rt, rounds) = (self.rt, self.one_in(1_000));
+        let (mut least, mut taken) = (u64::MAX, u64::MAX);
+        for _batch in 0..10 {
+            least = least.min(scrapes(rt, registry, rounds)?);
+            taken = taken.min(asked(rt, || scrapes(rt, registry, rounds), &ask)?);
+        }
+        self.line(name, rounds, taken, least, None)
     }
 
     /// Four workers that count, while another thread scrapes or does not, and a registry behind its lock. The family that is registered

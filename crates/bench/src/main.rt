@@ -69,10 +69,10 @@ fn measure_all(rt: &impl ServiceRuntime, rounds: u64) -> Result<()> {
 
 /// Measures so many rounds, or serves so many replies by each thread at a port, as the arguments say; nothing if they say neither.
 fn run(
-    rt: &(impl ServiceRuntime + Eprint + Net<Listener = TcpListener, Stream = TcpStream>),
-    words: &[String],
+    rt: &(impl ServiceRuntime + Eprint + Env + Net<Listener = TcpListener, Stream = TcpStream>),
 ) -> Option<Result<()>> {
-    match words {
+    let words = env::args(rt).ok()?.collect::<Vec<String>>(rt.alloc()).ok()?;
+    match words.as_slice() {
         [_, rounds] => {
             let rounds = rounds.as_str().parse().ok()?;
             (rounds <= 1_000_000_000).then(|| measure_all(rt, rounds))
@@ -89,14 +89,8 @@ fn run(
     }
 }
 
-/// The arguments.
-fn arguments(rt: &(impl Env + AllocGlobal)) -> Option<Vec<String>> {
-    env::args(rt).ok()?.collect(rt.alloc()).ok()
-}
-
 fn main(rt: HostRuntime) -> ExitCode {
-    let words = arguments(&rt).unwrap_or(Vec::new(rt.alloc()));
-    match run(&rt, &words) {
+    match run(&rt) {
         Some(Ok(())) => ExitCode::SUCCESS,
         Some(Err(fault)) => {
             let _ = eprintln!(rt; "{fault}");

@@ -120,10 +120,13 @@ impl<'a, R: ServiceRuntime> Lines<'a, R> {
         requires floor { (state : F) (x : _) → F.pre state x }
         requires operation { (state : O) (x : _) → O.pre state x }
     {
-        let rt = self.rt;
-        let least = |rounds| timed(rt, rounds, &mut floor);
-        let taken = |rounds| timed(rt, rounds, &mut operation);
-        self.batches(name, part, least, taken)
+        let rounds = self.one_in(part);
+        let (mut least, mut taken) = (u64::MAX, u64::MAX);
+        for _batch in 0..10 {
+            least = least.min(timed(self.rt, rounds, &mut floor)?);
+            taken = taken.min(timed(self.rt, rounds, &mut operation)?);
+        }
+        self.line(name, rounds, taken, least, None)
     }
 
     /// Measures ten batches of as many rounds as `part` says by their nanoseconds, and as many of the floor, and prints the line.
@@ -170,16 +173,13 @@ impl<'a, R: ServiceRuntime> Lines<'a, R> {
 
 /// A number 128 bytes from the next one, as the numbers of a board's segments stand in cache lines of their own.
 #[derive(Drop)]
-struct Number {
-    word: AtomicU64,
-    rest: [u64; 15],
-}
+struct Number(AtomicU64, [u64; 15]);
 
 /// Loads each number once. It gives their wrapping sum.
 fn load(numbers: &[Number]) -> u64 {
     let mut sum = 0u64;
     for number in numbers {
-        sum = sum.wrapping_add(number.word.load(Ordering::SeqCst));
+        sum = sum.wrapping_add(number.0.load(Ordering::SeqCst));
     }
     sum
 }
@@ -197,10 +197,7 @@ pub struct Floor {
 impl Floor {
     /// The numbers of so many workers, and so many words. So many words of plain memory are copied besides.
     pub fn new(alloc: Global, workers: usize, count: usize, copied: usize) -> Result<Floor> {
-        let number = |_| Number {
-            word: AtomicU64::new(0),
-            rest: [0; 15],
-        };
+        let number = |_| Number(AtomicU64::new(0), [0; 15]);
         Ok(Floor {
             numbers: (0..workers).map(number).collect(alloc)?,
             words: (0..count).map(|_| AtomicU64::new(0)).collect(alloc)?,
@@ -236,7 +233,7 @@ fn update(numbers: &[Number], words: &[AtomicU64], own: &Number, number: u64) ->
     for word in words {
         word.store(number, Ordering::SeqCst);
     }
-    own.word.store(number, Ordering::SeqCst);
+    own.0.store(number, Ordering::SeqCst);
     sum
 }
 

@@ -2,6 +2,7 @@
 //! children each.
 ghost use Rattle.segment_layout.specs.Layout.{IsGeometry};
 
+use crate::boards::Counts;
 use crate::locked::filled;
 use crate::measuring::{Lines, keep, timed_each};
 use anyhow::{Context, Result};
@@ -22,7 +23,7 @@ pub const ID: u64 = 7;
 pub const WINDOW: usize = 64;
 
 /// How many children each family has.
-const CHILDREN: usize = 8;
+pub const CHILDREN: usize = 8;
 
 /// How often each bound of a histogram is observed.
 const TIMES: usize = 1_000;
@@ -91,6 +92,11 @@ impl Service {
     }
 }
 
+/// Counts all of a service.
+pub fn count_by(worker: &mut impl Counts, service: Service) -> Result<()> {
+    service.count(|ops| worker.apply(ops))
+}
+
 /// The values of the labels of the child of this number.
 pub fn values(alloc: Global, child: usize) -> Result<Vec<LabelValue>> {
     let value = format!(in alloc; "/api/v1/{child}")?;
@@ -133,12 +139,6 @@ fn add(alloc: Global, registry: &mut impl Registers, desc: Desc, count: usize) -
     Ok(family)
 }
 
-/// A scrape, which is let go.
-fn scrape_once(source: &mut impl ScrapeFrom) -> Option<()> {
-    let _scrape = source.scrape().ok()?;
-    Some(())
-}
-
 /// A registry over a source of one thread.
 type Plain<const C: usize, const H: usize> = RegistryState<PlainSource<1, C, H, 0>, 1, C, H, 0>;
 
@@ -167,15 +167,11 @@ fn plain<const C: usize, const H: usize>(
     Ok(registry)
 }
 
-/// A registry of 256 counters.
-type Counters = Plain<256, 0>;
+/// A registry of 256 counters, and its last family.
+type Made = (Plain<256, 0>, Option<FamilyId>);
 
-/// A registry with so many families, of which each has so many children, and the last one.
-fn with_families(
-    alloc: Global,
-    families: usize,
-    children: usize,
-) -> Result<(Counters, Option<FamilyId>)> {
+/// A registry with so many families, of which each has so many children.
+fn with_families(alloc: Global, families: usize, children: usize) -> Result<Made> {
     let (mut registry, mut last) = (empty(alloc, 1)?, None);
     for family in 0..families {
         last = Some(add(alloc, &mut registry, counter_desc(alloc, family)?, children)?);
@@ -190,7 +186,7 @@ fn registrations(rt: &impl ServiceRuntime, there: usize, rounds: u64) -> Result<
         let (registry, _last) = with_families(alloc, there, 0).ok()?;
         Some((registry, counter_desc(alloc, there).ok()?))
     };
-    let register = &mut |(mut registry, desc): (Counters, Desc)| {
+    let register = &mut |(mut registry, desc): (Plain<256, 0>, Desc)| {
         let _family = registry.register(desc).ok()?;
         Some(registry)
     };
@@ -198,7 +194,7 @@ fn registrations(rt: &impl ServiceRuntime, there: usize, rounds: u64) -> Result<
 }
 
 /// Asks for a child of a family.
-fn find_once(made: &mut (Counters, Option<FamilyId>), values: &[LabelValue]) -> Option<()> {
+fn find_once(made: &mut Made, values: &[LabelValue]) -> Option<()> {
     let _handle = made.0.child(made.1?, values).ok()?;
     Some(())
 }
@@ -208,7 +204,7 @@ fn new_children(rt: &impl ServiceRuntime, there: usize, rounds: u64) -> Result<u
     let alloc = rt.alloc();
     let values = values(alloc, there)?;
     let make = &mut |_| with_families(alloc, 1, there).ok();
-    let find = &mut |mut made: (Counters, Option<FamilyId>)| {
+    let find = &mut |mut made: Made| {
         find_once(&mut made, &values)?;
         Some(made)
     };
@@ -224,7 +220,10 @@ impl<R: ServiceRuntime> Lines<'_, R> {
     ) -> Result<()>
         requires { (state : F) (x : _) → F.pre state x }
     {
-        self.measure("scrape", 1_000, scan, |_| scrape_once(registry))?;
+        self.measure("scrape", 1_000, scan, |_| {
+            let _scrape = registry.scrape().ok()?;
+            Some(())
+        })?;
         let (scrape, kept) = (
             registry.scrape().ok().context("no scrape")?,
             AtomicU64::new(0),
@@ -265,12 +264,16 @@ impl<R: ServiceRuntime> Lines<'_, R> {
         requires { IsGeometry 1 C H 0 }
     {
         let alloc = self.rt.alloc();
-        let state = &mut plain::<C, H>(alloc, service, 1_024)?;
-        let mut wide = FromState { state };
-        let state = &mut plain::<C, H>(alloc, service, 1)?;
-        let mut narrow = FromState { state };
-        let (floor, scrape) = (|_| scrape_once(&mut narrow), |_| scrape_once(&mut wide));
-        self.measure("scrape_keeping_1024", 1_000, floor, scrape)
+        let wide = &mut plain::<C, H>(alloc, service, 1_024)?;
+        let narrow = &mut plain::<C, H>(alloc, service, 1)?;
+        let floor = |_| {
+            let _scrape = narrow.scrape().ok()?;
+            Some(())
+        };
+        self.measure("scrape_keeping_1024", 1_000, floor, |_| {
+            let _scrape = wide.scrape().ok()?;
+            Some(())
+        })
     }
 
     /// Texts of a service's scrape.
