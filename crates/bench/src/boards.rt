@@ -5,7 +5,7 @@ ghost use Rattle.snapshot_update.specs.Workers.{IsWorkerOf};
 
 use crate::measuring::{Floor, Lines, four_updates, nanos_since, timed, timed_each};
 use crate::registries::{CHILDREN, ID};
-use anyhow::{Context, Result};
+use anyhow::{Context, Result, bail};
 use dirgwako::{
     Board, Bounds, Change, Counter, Crew, Histogram, Op, Recorder, ServiceRuntime, Snapshot, Worker,
 };
@@ -110,14 +110,8 @@ impl<R: ServiceRuntime> Lines<'_, R> {
     /// turn, two words of the row and two totals differ from it.
     fn updates(&self, worker: &mut impl Counts, all: usize, counters: usize) -> Result<()> {
         self.update("inc_one_counter", 10, all, 3, |_| worker.raise(0))?;
-        let counters = counters.max(1);
-        self.update(
-            "inc_in_turn",
-            10,
-            all,
-            5,
-            |k| worker.raise(k as usize % counters),
-        )?;
+        let in_turn = |round| worker.raise(round as usize % counters.max(1));
+        self.update("inc_in_turn", 10, all, 5, in_turn)?;
         let hist = Histogram {
             registry: ID,
             slot: 0,
@@ -131,8 +125,11 @@ impl<R: ServiceRuntime> Lines<'_, R> {
     fn lists<const N: usize, const C: usize, const H: usize, const G: usize>(&self) -> Result<()> {
         let alloc = self.rt.alloc();
         let crew = snapshot_update::Crew::<N, C, H, G>::new(alloc, ID, 1)?;
-        let (board, mut workers) = (crew.board, crew.workers);
-        let (board, worker) = (&board, workers.pop().context("no worker")?);
+        let (made, mut workers) = (crew.board, crew.workers);
+        let board = &made;
+        let Some(worker) = workers.pop() else {
+            bail!("no worker")
+        };
         let mut lists = Lists { board, worker };
         let ops: [Op; 100] = array::from_fn(|place| {
             let (counter, by) = (place % C.max(1), 1);
@@ -155,20 +152,20 @@ impl<R: ServiceRuntime> Lines<'_, R> {
         let copied = words.saturating_add(all);
         let floor = &mut Floor::new(rt.alloc(), all, 0, copied)?;
         self.measure("scan_quiet", 10, |_| floor.scan(), |_| scan(0))?;
-        for (name, moved) in [
-            ("scan_moved_1", 1),
-            ("scan_moved_4", 4),
-            ("scan_moved_16", 16),
-        ] {
+        for moved in [1, 4, 16] {
+            let name = format!(in rt.alloc(); "scan_moved_{moved}")?;
             let Some(moving) = workers.get_mut(..moved) else {
                 break;
             };
             let floor = &mut Floor::new(rt.alloc(), all, words.saturating_mul(moved), copied)?;
             let least = |rounds| timed(rt, rounds, &mut |_| floor.scan());
-            self.batches(name, 1_000, least, |rounds| {
+            let batch = |rounds|
+                requires { (state : F) (x : _) → F.pre state x }
+            {
                 let make = &mut |_| publish(moving);
                 timed_each(rt, rounds, make, &mut |()| scan(0))
-            })?;
+            };
+            self.batches(name.as_str(), 1_000, least, batch)?;
         }
         Ok(())
     }

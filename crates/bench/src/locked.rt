@@ -1,7 +1,7 @@
 //! A registry behind its lock, of which two threads ask at once, workers that count while it scrapes, and a server for a load tool.
 
 use crate::boards::{Counts, four_count};
-use crate::measuring::{Lines, timed};
+use crate::measuring::{Lines, nanos_since};
 use crate::registries::{ID, Service, WINDOW, count_by, values};
 use anyhow::{Context, Result, bail};
 use dirgwako::{
@@ -13,7 +13,7 @@ use std::net::{Net, TcpListener, TcpStream};
 use std::sync::Wait;
 use std::sync::atomic::{AtomicBool, Ordering};
 use std::thread::{join, map_indices, yield_now};
-use std::time::Clock;
+use std::time::{Clock, Instant};
 
 /// Asks for a scrape. One that is given up counts too: workers may publish meanwhile.
 fn ask_scrape<const N: usize, const C: usize, const H: usize>(
@@ -32,7 +32,11 @@ fn scrapes<const N: usize, const C: usize, const H: usize>(
     registry: &Registry<'_, N, C, H, 0>,
     rounds: u64,
 ) -> Result<u64> {
-    timed(rt, rounds, &mut |_| ask_scrape(rt, registry).ok())
+    let start = Instant::now(rt)?;
+    for _round in 0..rounds {
+        let _scrape = registry.scrape(rt)?;
+    }
+    nanos_since(rt, start)
 }
 
 /// A new board's registry of a service, which keeps as many scrapes as its window is, after all of the service was counted; and the
@@ -60,8 +64,7 @@ fn await_flag(rt: &impl Wait, flag: &AtomicBool) {
     }
 }
 
-/// What is measured once another thread has asked, which asks on until the measured thread has ended. It tells that one once it has
-/// been answered or has failed.
+/// What is measured while another thread asks in a loop, once that one has been answered or has failed.
 fn asked<M: FnOnce() -> Result<u64> + Send, F: Fn() -> Result<()> + Sync>(
     rt: &impl ServiceRuntime,
     measure: M,
@@ -95,15 +98,16 @@ fn asked<M: FnOnce() -> Result<u64> + Send, F: Fn() -> Result<()> + Sync>(
     taken
 }
 
-/// [`four_count`] of these, while another thread scrapes a registry.
-fn count_beside<W: Counts + Send + Drop, const N: usize, const C: usize, const H: usize>(
+/// [`four_count`] of these, while another thread asks.
+fn count_beside<W: Counts + Send + Drop, F: Fn() -> Result<()> + Sync>(
     rt: &impl ServiceRuntime,
     workers: Vec<W>,
-    registry: &Registry<'_, N, C, H, 0>,
     rounds: u64,
-) -> Result<u64> {
-    let ask = &|| ask_scrape(rt, registry);
-    asked(rt, || four_count(rt, workers, rounds), ask)
+    ask: F,
+) -> Result<u64>
+    requires { F.IsAlwaysCallable ask }
+{
+    asked(rt, || four_count(rt, workers, rounds), &ask)
 }
 
 /// The nanoseconds until four workers of a new board have counted at once, while one more thread scrapes it if so.
@@ -114,9 +118,10 @@ fn counts<const N: usize, const C: usize, const H: usize>(
     rounds: u64,
 ) -> Result<u64> {
     let mut crew = Crew::<N, C, H, 0>::new(rt.alloc(), ID, 1)?;
-    let (registry, recorders) = filled(rt, &mut crew, service)?;
+    let (made, recorders) = filled(rt, &mut crew, service)?;
+    let registry = &made;
     match is_scraped {
-        true => count_beside(rt, recorders, &registry, rounds),
+        true => count_beside(rt, recorders, rounds, || ask_scrape(rt, registry)),
         false => four_count(rt, recorders, rounds),
     }
 }
