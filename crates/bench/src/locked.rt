@@ -15,17 +15,6 @@ use std::sync::atomic::{AtomicBool, Ordering};
 use std::thread::{join, map_indices, yield_now};
 use std::time::{Clock, Instant};
 
-/// Asks for a scrape. One that is given up counts too: workers may publish meanwhile.
-fn ask_scrape<const N: usize, const C: usize, const H: usize>(
-    rt: &impl Wait,
-    registry: &Registry<'_, N, C, H, 0>,
-) -> Result<()> {
-    match registry.scrape(rt) {
-        Ok(_) | Err(ScrapeFault::Contended(_)) => Ok(()),
-        Err(fault) => Err(fault.into()),
-    }
-}
-
 /// The nanoseconds of so many scrapes, which are let go.
 fn scrapes<const N: usize, const C: usize, const H: usize>(
     rt: &(impl Wait + Clock),
@@ -120,10 +109,14 @@ fn counts<const N: usize, const C: usize, const H: usize>(
     let mut crew = Crew::<N, C, H, 0>::new(rt.alloc(), ID, 1)?;
     let (made, recorders) = filled(rt, &mut crew, service)?;
     let registry = &made;
-    match is_scraped {
-        true => count_beside(rt, recorders, rounds, || ask_scrape(rt, registry)),
-        false => four_count(rt, recorders, rounds),
+    if !is_scraped {
+        return four_count(rt, recorders, rounds);
     }
+    // A scrape that is given up counts too, since the workers publish meanwhile.
+    count_beside(rt, recorders, rounds, || match registry.scrape(rt) {
+        Ok(_) | Err(ScrapeFault::Contended(_)) => Ok(()),
+        Err(fault) => Err(fault.into()),
+    })
 }
 
 impl<R: ServiceRuntime> Lines<'_, R> {
@@ -145,20 +138,18 @@ impl<R: ServiceRuntime> Lines<'_, R> {
         self.line(name, rounds, taken, least, None)
     }
 
-    /// Four workers that count, while another thread scrapes or does not, and a registry behind its lock. The family that is registered
-    /// beside its scrapes has the samples' names of its last one, and is refused.
-    pub fn locked<const N: usize, const C: usize, const H: usize>(
+    /// Scrapes of a registry of a service while another thread calls it. The family that is registered beside them has the samples'
+    /// names of its last one, and is refused.
+    fn behind<const N: usize, const C: usize, const H: usize>(
         &self,
+        registry: &Registry<'_, N, C, H, 0>,
         service: Service,
     ) -> Result<()> {
         let (rt, alloc) = (self.rt, self.rt.alloc());
-        let alone = |rounds| counts::<N, C, H>(rt, service, false, rounds);
-        let scraped = |rounds| counts::<N, C, H>(rt, service, true, rounds);
-        self.batches("busy_4_scraped", 10, alone, scraped)?;
-        let mut crew = Crew::<N, C, H, 0>::new(alloc, ID, 1)?;
-        let registry = &filled(rt, &mut crew, service)?.0;
-        let ask = || ask_scrape(rt, registry);
-        self.beside("scrape_behind_scrape", registry, ask)?;
+        self.beside("scrape_behind_scrape", registry, || {
+            let _scrape = registry.scrape(rt)?;
+            Ok(())
+        })?;
         let family = registry.family(rt, "requests_00_total").context("none")?;
         let values = values(alloc, 7)?;
         self.beside("scrape_behind_child", registry, || {
@@ -172,6 +163,19 @@ impl<R: ServiceRuntime> Lines<'_, R> {
                 Err(fault) => Err(fault.into()),
             }
         })
+    }
+
+    /// Four workers that count, while another thread scrapes or does not, and a registry behind its lock.
+    pub fn locked<const N: usize, const C: usize, const H: usize>(
+        &self,
+        service: Service,
+    ) -> Result<()> {
+        let rt = self.rt;
+        let alone = |rounds| counts::<N, C, H>(rt, service, false, rounds);
+        let scraped = |rounds| counts::<N, C, H>(rt, service, true, rounds);
+        self.batches("busy_4_scraped", 10, alone, scraped)?;
+        let mut crew = Crew::<N, C, H, 0>::new(rt.alloc(), ID, 1)?;
+        self.behind(&filled(rt, &mut crew, service)?.0, service)
     }
 }
 
