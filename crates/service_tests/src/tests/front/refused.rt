@@ -228,8 +228,8 @@ fn asks_another(
     prints(rt, &registry, shown)
 }
 
-/// A family of another board is refused before anything is done, also where the kinds agree. Boards of one id are not told apart, so there it is taken for the other
-/// one of its number, whose child is made then.
+/// A family of another board is refused before anything is done, also where the kinds agree. Boards of one id are not told apart: there it
+/// is taken for the family of its number, whose child is made then.
 #[test]
 fn a_family_of_another_board(rt: HostRuntime) -> Result<(), Fail> {
     let mut team = Team::new(rt.alloc(), ID, 1)?;
