@@ -6,7 +6,7 @@ use Rattle.scrape_http.specs.Asks.{Asks, Refuses}
 use Rattle.scrape_http.specs.Head.{is_get_or_head, refusal_by, hosts}
 use Rattle.scrape_http.specs.Target.{path_of}
 use Rattle.scrape_http.specs.Reply.{Outcome, Reply, IsReply, Replies, refused, scraped}
-use Rattle.scrape_http.specs.Serves.{Known, IsServed, IsUnserved, Sends, is_read_failed, Answers as Outcomes}
+use Rattle.scrape_http.specs.Serves.{Known, IsServed, IsUnserved, Sends, is_read_failed, is_write_failed, Answers as Outcomes}
 use Rattle.scrape_http.specs.declared.fault.WireFault.{WireFault}
 use Rattle.scrape_http.specs.declared.fault.WireFault.TheVariants.{ReadFailed, WriteFailed, EndBeforeHead}
 use Rattle.scrape_http.specs.declared.serve.Served.{Served}
@@ -99,6 +99,22 @@ module _ {P S : Type 0} (source : P → S) (gave : S → S → Outcome → Type 
   not_served before after input input_then output output_then ended failed latest ReadFailed is served none = inl (ap source (none is).same)
   not_served before after input input_then output output_then ended failed latest (WriteFailed sent) is served none = by_asking before after (served is).outcome (served is).answers
   not_served before after input input_then output output_then ended failed latest EndBeforeHead is served none = by_asking before after (served is).outcome (served is).answers
+
+no_bytes : (bytes : List ℕ) (ended : Bool) (outcome : Option Outcome) (reply : Option Reply) (output output_then : Known)
+    → IsReply bytes ended outcome reply → Sends output output_then reply (Err EndBeforeHead) → ended ≡ true
+no_bytes bytes ended outcome None output output_then is sends = is.1
+no_bytes bytes ended outcome (Some reply) output output_then is sends = absurd sends
+
+-- why there was no reply
+pub no_reply : {P : Type 0} (gave : P → P → Outcome → Type 0) (before after : P) (input input_then output output_then : Known) (ended read_failed write_failed : Bool) (latest : ℕ) (fault : WireFault)
+    → read_failed ≡ is_read_failed {A = Served} (Err fault) → write_failed ≡ is_write_failed {A = Served} (Err fault)
+    → (read_failed ≡ false → IsServed gave before after input input_then output output_then ended latest (Err fault))
+    → (read_failed ≡ true) ⊎ ((write_failed ≡ true) ⊎ (ended ≡ true))
+no_reply gave before after input input_then output output_then ended read_failed write_failed latest ReadFailed read write served = inl read
+no_reply gave before after input input_then output output_then ended read_failed write_failed latest (WriteFailed sent) read write served = inr (inl write)
+no_reply gave before after input input_then output output_then ended read_failed write_failed latest EndBeforeHead read write served =
+    let is = served read in
+    inr (inr (no_bytes (is.bytes ++ []) ended is.outcome is.reply output output_then (is.is_reply [] (λ _. refl)) is.sends))
 
 -- one connection more, which was replied to or not
 pub one_more : {S : Type 0} (answered : S → S → Option Served → Type 0) (met replies : ℕ) (before mid after : S) (reply : Option Served)

@@ -1,5 +1,7 @@
 //! One connection is answered, within the time that it may take.
+ghost use Rattle.std.specs.Prelude.{◌≡◌, ◌⊎◌, true, false, Ok, IfSome, IsNone, IsSome};
 ghost use Rattle.scrape_http.specs.Serves.{IsServed};
+ghost use Rattle.dirgwako.specs.Patience.{AsksAgain};
 ghost use Rattle.dirgwako.specs.Answering.{Answers};
 
 use crate::patience::Patient;
@@ -10,18 +12,15 @@ use std::net::TcpStream;
 use std::time::{Clock, Duration, Instant};
 use watched::Watched;
 
-/// No read and no write is given less time, in milliseconds.
-const LEAST: u64 = 1;
-
 /// A connection, of which all reads and writes together end with its time.
 #[derive(Drop)]
-pub(crate) struct Timed<'a, R> {
-    pub(crate) clock: &'a R,
-    pub(crate) stream: &'a TcpStream,
+struct Timed<'a, R> {
+    clock: &'a R,
+    stream: &'a TcpStream,
     /// When it began.
-    pub(crate) start: Instant,
+    start: Instant,
     /// How long it may take.
-    pub(crate) patience: Duration,
+    patience: Duration,
 }
 
 impl<R: Clock> Timed<'_, R> {
@@ -30,7 +29,7 @@ impl<R: Clock> Timed<'_, R> {
         let left = self
             .patience
             .saturating_sub(self.start.elapsed(self.clock)?);
-        if left < Duration::from_millis(LEAST) {
+        if left.is_zero() {
             return Err(ErrorKind::TimedOut.into());
         }
         Ok(left)
@@ -57,18 +56,24 @@ impl<R: Clock> Write for Timed<'_, R> {
     }
 }
 
-/// Reads a request from one end and writes its reply to the other, of a source that is asked again where a scan was given up. It tells
-/// the reply, or None after a fault.
-pub(crate) fn reply<I: Read + Drop, O: Write + Drop, S: ScrapeFrom>(
-    input: I,
-    output: O,
+/// Reads a request from one end and writes its reply to the other, of a source that is asked again where a scan was given up:
+/// [`serve_one`]. It tells the reply, or None where a read or a write failed, or the input ended.
+fn reply<I: Read, O: Write, S: ScrapeFrom>(
+    reader: &mut Watched<I>,
+    writer: &mut Watched<O>,
     source: &mut Patient<S>,
 ) -> Option<Served>
-    ensures { Answers S.gave source.old.source source.new.source result }
+    requires reader_going { reader.old.failed ≡ false }
+    requires reader_unended { reader.old.ended ≡ false }
+    requires writer_going { writer.old.failed ≡ false }
+    ensures answers { Answers S.gave source.old.source source.new.source result }
+    ensures whole { IfSome result (λ served. IsServed (λ before after answer. AsksAgain S.gave 3 before.source after.source answer) source.old source.new
+        (I.remaining reader.old.inner) (I.remaining reader.new.inner)
+        (O.contents writer.old.inner) (O.contents writer.new.inner) reader.new.ended reader.new.latest (Ok served)) }
+    ensures flushed { IsSome result → writer.new.flushed ≡ true }
+    ensures fault { IsNone result → (reader.new.failed ≡ true) ⊎ ((writer.new.failed ≡ true) ⊎ (reader.new.ended ≡ true)) }
 {
-    let mut reader = Watched::new(input);
-    let mut writer = Watched::new(output);
-    match serve_one(&mut reader, &mut writer, source) {
+    match serve_one(reader, writer, source) {
         Ok(served) => Some(served),
         Err(_) => None,
     }
@@ -87,19 +92,19 @@ pub(crate) fn answer<R: Clock, S: ScrapeFrom>(
     let Ok(start) = Instant::now(clock) else {
         return None;
     };
-    let input = Timed {
+    let mut reader = Watched::new(Timed {
         clock,
         stream,
         start,
         patience,
-    };
-    let output = Timed {
+    });
+    let mut writer = Watched::new(Timed {
         clock,
         stream,
         start,
         patience,
-    };
-    let served = reply(input, output, source)?;
+    });
+    let served = reply(&mut reader, &mut writer, source)?;
     // The reply is sent; that the client went away before the end is no fault of the service.
     let _ = close_in_stages(stream);
     Some(served)

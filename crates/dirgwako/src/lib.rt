@@ -20,6 +20,7 @@ mod registrar;
 mod runtime;
 mod serving;
 mod texts;
+mod totals;
 
 pub use bounds::{exponential, linear};
 pub use bucket_math::{BadBounds, Bounds};
@@ -28,7 +29,7 @@ pub use crew::Crew;
 pub use expo_text::{Scrape, render};
 pub use family::{CounterFamily, GaugeFamily, HistogramFamily};
 pub use fault::{ChildRefusal, FamilyRefusal, MetricRefusal};
-pub use ledger_core::{Counter, Gauge, Histogram, Op, OpFault};
+pub use ledger_core::{Counter, Gauge, HistTotals, Histogram, Op, OpFault};
 pub use listening::{listen, listen_aloud, port_of};
 pub use metric_desc::{Desc, HistogramFault, Kind, LabelsFault};
 pub use metric_names::{
@@ -50,3 +51,4 @@ pub use scrape_server::{FromRegistry, serve_stream};
 pub use serving::{Answered, serve, serve_forever};
 pub use snapshot_scan::{Contended, PlainSource, Reader, Scanner, Snapshot, Source};
 pub use snapshot_update::{ApplyFault, CountFault, Worker};
+pub use totals::{counter_total, gauge_value, histogram_totals};

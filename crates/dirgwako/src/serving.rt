@@ -1,5 +1,5 @@
 //! Connections are accepted and answered, one after the other.
-ghost use Rattle.std.specs.Prelude.{◌≡◌, ◌+◌, ◌<◌, ◌≤◌, ℕ, Option, IfOk, OnErr, IsErr};
+ghost use Rattle.std.specs.Prelude.{◌≡◌, ◌+◌, ◌<◌, ℕ, Option, IfOk, OnErr, IsErr};
 ghost use Rattle.std.specs.Duration.{as_nanos};
 ghost use Rattle.scrape_http.specs.declared.serve.Served.{Served};
 ghost use Rattle.dirgwako.specs.Answering.{Answers, AreAnswered, IsBroken};
@@ -77,10 +77,10 @@ fn accept(clock: &impl Clock, listener: &TcpListener) -> io::Result<TcpStream> {
     Ok(stream)
 }
 
-/// Answers so many connections, and tells how many were replied to.
-fn answer_all<T: Connections>(at: &mut T, connections: u64) -> io::Result<u64>
-    ensures all { IfOk result (λ replies. AreAnswered T.answered connections replies at.old at.new) }
-    ensures few { IfOk result (λ replies. replies ≤ connections) }
+/// Answers so many connections, and tells how many were replied to, and how many were not.
+fn answer_all<T: Connections>(at: &mut T, connections: u64) -> io::Result<Answered>
+    ensures replied { IfOk result (λ answered. AreAnswered T.answered connections answered.replies at.old at.new) }
+    ensures all { IfOk result (λ answered. answered.replies + answered.faults ≡ connections) }
     ensures broken { OnErr result ((met : ℕ) × (met < connections) × IsBroken T.answered T.failed met at.old at.new) }
 {
     let mut replies = 0;
@@ -89,7 +89,8 @@ fn answer_all<T: Connections>(at: &mut T, connections: u64) -> io::Result<u64>
             replies += 1;
         }
     }
-    Ok(replies)
+    let faults = connections - replies;
+    Ok(Answered { replies, faults })
 }
 
 /// Answers connections for ever, or until none comes.
@@ -125,7 +126,7 @@ pub fn serve<R: Wait + Clock, const N: usize, const C: usize, const H: usize, co
         return Err(ErrorKind::InvalidInput.into());
     }
     let source = FromRegistry { rt, registry };
-    let replies = answer_all(
+    answer_all(
         &mut Listening {
             clock: rt,
             listener,
@@ -133,9 +134,7 @@ pub fn serve<R: Wait + Clock, const N: usize, const C: usize, const H: usize, co
             patience,
         },
         connections,
-    )?;
-    let faults = connections - replies;
-    Ok(Answered { replies, faults })
+    )
 }
 
 /// Answers connections for ever, as [`serve`].

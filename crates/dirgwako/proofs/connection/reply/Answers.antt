@@ -1,11 +1,15 @@
 use Rattle.dirgwako.specs.declared.patience.Patient.{Patient}
-use Rattle.dirgwako.proofs.Answering.{replied, not_served}
+use Rattle.dirgwako.proofs.Answering.{replied, not_served, no_reply}
 use Rattle.dirgwako.proofs.connection.reply.Goals as goal
 
-pub returns-in-Ok : goal.returns-in-Ok
-returns-in-Ok g c =
+pub returns-in-Ok-clause-answers : goal.returns-in-Ok-clause-answers
+returns-in-Ok-clause-answers g c =
     replied (λ (p : Patient g.row.S.Denot). p.source) g.S.ScrapeFrom.gave _ _ _ _ _ _ _ _ _ (c.in-Ok.ensures.served c.in-Ok.ensures.read_failed)
 
-pub returns : goal.returns
-returns g c =
+pub returns-in-Err-clause-answers : goal.returns-in-Err-clause-answers
+returns-in-Err-clause-answers g c =
     not_served (λ (p : Patient g.row.S.Denot). p.source) g.S.ScrapeFrom.gave _ _ _ _ _ _ _ _ _ _ c.in-Err.ensures.read_failed c.in-Err.ensures.served c.in-Err.ensures.unserved
+
+pub returns-in-Err-clause-fault : goal.returns-in-Err-clause-fault
+returns-in-Err-clause-fault g c = λ _.
+    no_reply _ _ _ _ _ _ _ _ _ _ _ _ c.in-Err.ensures.read_failed c.in-Err.ensures.write_failed c.in-Err.ensures.served

@@ -3,11 +3,12 @@ use super::Team;
 use crate::asserts::same;
 use crate::crew::ID;
 use dirgwako::{
-    BoardFault, CountFault, Counter, Crew, NewFault, OpenFault, Recorder, Registrar, Scanner,
-    Snapshot, Source, scrape_text,
+    BoardFault, CountFault, Counter, Crew, NewFault, OpenFault, Recorder, Registrar, Registry, Scanner,
+    Snapshot, Source, counter_total, scrape_text,
 };
 use std::alloc::Global;
 use std::process::Abort;
+use std::sync::Wait;
 use std::test::Fail;
 
 /// No crew of this geometry.
@@ -65,17 +66,18 @@ fn count<const N: usize, const C: usize, const H: usize, const G: usize>(
     Ok(())
 }
 
-/// Each scanner finds so much.
+/// Each scanner finds so much of this counter.
 fn scan(
     rt: &impl Abort,
     alloc: Global,
     scanners: &mut [Scanner<'_, 32, 256, 32, 64>],
+    counter: Counter,
     found: u64,
 ) -> Result<(), Fail> {
     let mut out = Snapshot::new(alloc)?;
     for scanner in scanners.iter_mut() {
         scanner.scan(&mut out)?;
-        same(rt, &out.counter(0), &found);
+        same(rt, &counter_total(&out, &counter), &Some(found));
     }
     Ok(())
 }
@@ -87,13 +89,21 @@ fn the_greatest_crew(rt: HostRuntime) -> Result<(), Fail> {
     same(&rt, &(recorders.len(), scanners.len()), &(32, 3));
     let counter = Registrar::new(&rt, &registry).counter("a", "")?;
     count(&rt, &mut recorders, &counter)?;
-    scan(&rt, rt.alloc(), &mut scanners, 32)
+    scan(&rt, rt.alloc(), &mut scanners, counter, 32)
+}
+
+/// A registry keeps the last two of its scrapes.
+fn keeps_two<R: Abort + Wait>(rt: &R, registry: Registry<'_, 1, 1, 0, 0>) -> Result<(), Fail> {
+    registry.scrape(rt)?;
+    registry.scrape(rt)?;
+    same(rt, &registry.into_state().kept().len(), &2);
+    Ok(())
 }
 
 #[test]
 fn the_least_crew(rt: HostRuntime) -> Result<(), Fail> {
     let mut crew = Crew::<1, 1, 0, 0>::new(rt.alloc(), 0, 1)?;
-    let (registry, mut recorders, scanners) = crew.open(1)?;
+    let (registry, mut recorders, scanners) = crew.open(2)?;
     same(&rt, &(recorders.len(), scanners.len()), &(1, 0));
     let counter = Registrar::new(&rt, &registry).counter("a", "")?;
     count(&rt, &mut recorders, &counter)?;
@@ -103,5 +113,5 @@ fn the_least_crew(rt: HostRuntime) -> Result<(), Fail> {
         &text.as_slice(),
         &b"# TYPE a counter\na 1\n".as_slice(),
     );
-    Ok(())
+    keeps_two(&rt, registry)
 }
