@@ -9,6 +9,7 @@ use dirgwako::{
     listen_aloud, serve_stream,
 };
 use expo_text::text_len;
+use scrape_http::ScrapeFrom;
 use std::net::{Net, TcpListener, TcpStream};
 use std::sync::Wait;
 use std::sync::atomic::{AtomicBool, Ordering};
@@ -16,16 +17,12 @@ use std::thread::{join, map_indices, yield_now};
 use std::time::{Clock, Instant};
 
 /// The nanoseconds of so many scrapes, which are let go.
-fn scrapes<const N: usize, const C: usize, const H: usize>(
-    rt: &(impl Wait + Clock),
-    registry: &Registry<'_, N, C, H, 0>,
-    rounds: u64,
-) -> Result<u64> {
-    let start = Instant::now(rt)?;
+fn scrapes(clock: &impl Clock, source: &mut impl ScrapeFrom, rounds: u64) -> Result<u64> {
+    let start = Instant::now(clock)?;
     for _round in 0..rounds {
-        let _scrape = registry.scrape(rt)?;
+        let _scrape = source.scrape().ok().context("no scrape")?;
     }
-    nanos_since(rt, start)
+    nanos_since(clock, start)
 }
 
 /// A new board's registry of a service, which keeps as many scrapes as its window is, after all of the service was counted; and the
@@ -39,7 +36,7 @@ pub fn filled<'a, const N: usize, const C: usize, const H: usize>(
     count_by(recorders.first_mut().context("no worker")?, service)?;
     let registry = &made;
     service.register(rt.alloc(), &mut Behind { rt, registry })?;
-    let _nanos = scrapes(rt, registry, WINDOW as u64)?;
+    let _nanos = scrapes(rt, &mut FromRegistry { rt, registry }, WINDOW as u64)?;
     Ok((made, recorders))
 }
 
@@ -120,11 +117,11 @@ fn counts<const N: usize, const C: usize, const H: usize>(
 }
 
 impl<R: ServiceRuntime> Lines<'_, R> {
-    /// Scrapes of a registry while another thread calls it. The floor is the same loop with nobody beside it.
-    fn beside<F: Fn() -> Result<()> + Sync, const N: usize, const C: usize, const H: usize>(
+    /// Scrapes of a source while another thread asks. The floor is the same loop with nobody beside it.
+    fn beside<S: ScrapeFrom + Send, F: Fn() -> Result<()> + Sync>(
         &self,
         name: &str,
-        registry: &Registry<'_, N, C, H, 0>,
+        source: &mut S,
         ask: F,
     ) -> Result<()>
         requires { F.IsAlwaysCallable ask }
@@ -132,8 +129,8 @@ impl<R: ServiceRuntime> Lines<'_, R> {
         let (rt, rounds) = (self.rt, self.one_in(1_000));
         let (mut least, mut taken) = (u64::MAX, u64::MAX);
         for _batch in 0..10 {
-            least = least.min(scrapes(rt, registry, rounds)?);
-            taken = taken.min(asked(rt, || scrapes(rt, registry, rounds), &ask)?);
+            least = least.min(scrapes(rt, source, rounds)?);
+            taken = taken.min(asked(rt, || scrapes(rt, source, rounds), &ask)?);
         }
         self.line(name, rounds, taken, least, None)
     }
@@ -146,17 +143,18 @@ impl<R: ServiceRuntime> Lines<'_, R> {
         service: Service,
     ) -> Result<()> {
         let (rt, alloc) = (self.rt, self.rt.alloc());
-        self.beside("scrape_behind_scrape", registry, || {
+        let source = &mut FromRegistry { rt, registry };
+        self.beside("scrape_behind_scrape", source, || {
             let _scrape = registry.scrape(rt)?;
             Ok(())
         })?;
         let family = registry.family(rt, "requests_00_total").context("none")?;
         let values = values(alloc, 7)?;
-        self.beside("scrape_behind_child", registry, || {
+        self.beside("scrape_behind_child", source, || {
             let _handle = registry.child(rt, family, &values)?;
             Ok(())
         })?;
-        self.beside("scrape_behind_register", registry, || {
+        self.beside("scrape_behind_register", source, || {
             match registry.register(rt, service.last(alloc)?) {
                 Ok(_) => bail!("a family twice"),
                 Err(RegisterFault::Clash { .. }) => Ok(()),
