@@ -25,8 +25,7 @@ fn scrapes(clock: &impl Clock, source: &mut impl ScrapeFrom, rounds: u64) -> Res
     nanos_since(clock, start)
 }
 
-/// A new board's registry of a service, which keeps as many scrapes as its window is, after all of the service was counted; and the
-/// board's workers, of which the first has counted it.
+/// A new board's registry of a service that was counted, which has made as many scrapes as it keeps, and the board's recorders.
 pub fn filled<'a, const N: usize, const C: usize, const H: usize>(
     rt: &impl ServiceRuntime,
     crew: &'a mut Crew<N, C, H, 0>,
@@ -135,8 +134,7 @@ impl<R: ServiceRuntime> Lines<'_, R> {
         self.line(name, rounds, taken, least, None)
     }
 
-    /// Scrapes of a registry of a service while another thread calls it. The family that is registered beside them has the samples'
-    /// names of its last one, and is refused.
+    /// Scrapes of a service's registry while another thread calls it. The family that it registers clashes with the last one.
     fn behind<const N: usize, const C: usize, const H: usize>(
         &self,
         registry: &Registry<'_, N, C, H, 0>,
