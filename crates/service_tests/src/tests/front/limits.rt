@@ -3,8 +3,8 @@ use super::Team;
 use crate::asserts::same;
 use crate::crew::ID;
 use dirgwako::{
-    BoardFault, CountFault, Counter, Crew, NewFault, OpenFault, Recorder, Registrar, Registry, Scanner,
-    Snapshot, Source, counter_total, scrape_text,
+    BoardFault, CountFault, Counter, Crew, NewFault, OpenFault, Recorder, Registrar, Registry,
+    Scanner, Snapshot, Source, counter_total, scrape_text,
 };
 use std::alloc::Global;
 use std::process::Abort;
