@@ -27,6 +27,7 @@ pub use Rattle.metric_desc.specs.Histogram
 pub use Rattle.segment_layout.specs.Layout
 pub use Rattle.register_rule.specs.Seats
 pub use Rattle.register_rule.specs.Sums
+pub use Rattle.snapshot_scan.specs.Order
 pub use Rattle.snapshot_scan.specs.Readers
 pub use Rattle.snapshot_scan.specs.Scanners
 pub use Rattle.snapshot_update.specs.Workers

@@ -5,6 +5,7 @@ ghost use Rattle.register_rule.specs.Faults.{IsBoard, IsBoardFault};
 ghost use Rattle.register_rule.specs.Seats.{board_id};
 ghost use Rattle.metric_registry.specs.Names.{id_of};
 ghost use Rattle.registry_state.specs.Faults.{IsWindow};
+ghost use Rattle.snapshot_scan.specs.Order.{IsAlone};
 ghost use Rattle.snapshot_scan.specs.Readers.{IsReaderOf};
 ghost use Rattle.snapshot_scan.specs.Scanners.{reader_in};
 ghost use Rattle.dirgwako.specs.Scanning.{ScansOn, IsFront};
@@ -58,6 +59,7 @@ impl<const N: usize, const C: usize, const H: usize, const G: usize> Crew<N, C, 
         ensures geometry { IfOk result (λ _. IsBoard N C H G readers) }
         ensures all { IfOk result (λ c. map index_of (workers_of c) ≡ range_with_len 0 N) }
         ensures new { IfOk result (λ c. map lists_of (workers_of c) ≡ replicate N []) }
+        ensures alone { IfOk result (λ c. All IsAlone (readers_of c)) }
         ensures readers { IfOk result (λ c. length (readers_of c) ≡ readers) }
         ensures fault { IfErr result (IsBoardFault N C H G readers) }
     {
