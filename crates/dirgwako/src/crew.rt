@@ -1,5 +1,5 @@
 //! A board and all who work on it.
-ghost use Rattle.std.specs.Prelude.{◌≡◌, [], map, length, replicate, IfOk, IfErr, OnOk, All};
+ghost use Rattle.std.specs.Prelude.{◌≡◌, [], ◌∷◌, ◌++◌, map, length, replicate, IfOk, IfErr, OnOk, OnErr, All};
 ghost use Rattle.std.specs.List.{range_with_len};
 ghost use Rattle.register_rule.specs.Faults.{IsBoard, IsBoardFault};
 ghost use Rattle.register_rule.specs.Seats.{board_id};
@@ -74,6 +74,41 @@ impl<const N: usize, const C: usize, const H: usize, const G: usize> Crew<N, C, 
         }
     }
 
+    /// Takes out the workers, the readers but the last, and the last. Where that is refused nothing is taken.
+    fn take(
+        &mut self,
+        window: usize,
+    ) -> Result<
+        (
+            Vec<Worker<N, C, H, G>>,
+            Vec<Reader<N, C, H, G>>,
+            Reader<N, C, H, G>,
+        ),
+        OpenFault,
+    >
+        ensures board { board_of self.new ≡ board_of self.old }
+        ensures workers { IfOk result (λ t. t.0.items ≡ workers_of self.old) }
+        ensures readers { IfOk result (λ t. readers_of self.old ≡ t.1.items ++ t.2 ∷ []) }
+        ensures own { IfOk result (λ t. All (IsWorkerOf (board_of self.old)) t.0.items × All (IsReaderOf (board_of self.old)) t.1.items × IsReaderOf (board_of self.old) t.2) }
+        ensures spent { OnOk result (readers_of self.new ≡ []) }
+        ensures kept { OnErr result ((workers_of self.new ≡ workers_of self.old) × (readers_of self.new ≡ readers_of self.old)) }
+        ensures window { OnOk result (IsWindow window) }
+        ensures fault { IfErr result (IsOpenFault self.old window) }
+    {
+        if self.readers.is_empty() {
+            return Err(OpenFault::Opened);
+        }
+        if !(1..=1_024).contains(&window) {
+            return Err(OpenFault::Registry(NewFault::BadWindow));
+        }
+        let Some(last) = self.readers.pop() else {
+            return Err(OpenFault::Opened);
+        };
+        let readers = replace(&mut self.readers, Vec::new(self.alloc));
+        let workers = replace(&mut self.workers, Vec::new(self.alloc));
+        Ok((workers, readers, last))
+    }
+
     /// Hands all out: `let (registry, mut recorders, scanners) = crew.open(64)?`. The registry keeps `window` scrapes, and scrapes by the
     /// last reader. There is a recorder for each of the `N` workers, in order, one for each thread that counts, and a scanner for each
     /// other reader, in order, which scans the board for itself.
@@ -101,18 +136,8 @@ impl<const N: usize, const C: usize, const H: usize, const G: usize> Crew<N, C, 
         ensures window { OnOk result (IsWindow window) }
         ensures fault { IfErr result (IsOpenFault self.old window) }
     {
-        if self.readers.is_empty() {
-            return Err(OpenFault::Opened);
-        }
-        if !(1..=1_024).contains(&window) {
-            return Err(OpenFault::Registry(NewFault::BadWindow));
-        }
+        let (workers, readers, reader) = self.take(window)?;
         let alloc = self.alloc;
-        let workers = replace(&mut self.workers, Vec::new(alloc));
-        let mut readers = replace(&mut self.readers, Vec::new(alloc));
-        let Some(reader) = readers.pop() else {
-            return Err(OpenFault::Opened);
-        };
         let board: &'a Board<N, C, H, G> = &self.board;
         let registry = match Registry::new(alloc, board, reader, window) {
             Ok(registry) => registry,
