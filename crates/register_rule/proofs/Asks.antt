@@ -14,11 +14,13 @@ use Rattle.register_rule.specs.declared.view.Scan.{Scan}
 use Rattle.register_rule.specs.History.{count, IsCut, Below}
 use Rattle.register_rule.specs.Sums.{row_sum, last_lent, flag_of}
 use Rattle.register_rule.specs.Shown.{Shows}
+use Rattle.register_rule.specs.Loads.{AreOrdered}
 use Rattle.register_rule.specs.Scans.{opened_at, AreLoads, HasMoved, IsLook, Doomed, IsEntry, IsAsked, IsSound}
 use Rattle.register_rule.specs.Steps.{upper, at_rest, answered, gives_up, begun, is_next, after_ask, rest, lent_in, is_lender, asked_of, answers, ask_ends, after_end_ask}
 use Rattle.register_rule.proofs.Words.{there, read_at, from_replicate, each_push}
 use Rattle.register_rule.proofs.Moments.{length_tab}
 use Rattle.register_rule.proofs.Upper.{length_upper, upper_from, upper_of}
+use Rattle.register_rule.proofs.Ordering.{rest_ordered}
 use Rattle.register_rule.proofs.Growth.{below_upper}
 
 -- k words of a list from its word j on
@@ -42,12 +44,13 @@ nothing_lent n x l c = record c { asked = c.asked ++ asked_of x l ∷ []; now = 
 module _ (n w : ℕ) (adds : List Op → ℕ → ℕ) (made : ℕ → List Made) (h : List ℕ) where
   -- nothing changes but the loads that opened a place, the workers that were asked, how many scans were given up, and the
   -- try in progress
-  pub with_now : (c : Scan) (loads : List (ℕ × ℕ)) (asks : List Asked) (quit' : ℕ) (t : Progress) → AreLoads n w adds made loads → ((q : ℕ) (e : Asked) → get_elem? asks q ≡ some e → IsAsked n w adds made e)
+  pub with_now : (c : Scan) (loads : List (ℕ × ℕ)) (asks : List Asked) (quit' : ℕ) (t : Progress) → AreLoads n w adds made loads → AreOrdered loads c.confirmed c.before t.looks → ((q : ℕ) (e : Asked) → get_elem? asks q ≡ some e → IsAsked n w adds made e)
       → ((q : ℕ) (l : Look) → get_elem? t.looks q ≡ some l → IsLook n w adds made 0 l × (l.place ≡ q)) → ((q : ℕ) (l : Look) → get_elem? t.asks q ≡ some l → IsLook n w adds made w l)
       → (length t.looks ≡ n → Doomed n w adds made t.looks ⊎ IsCut n h (map opened_at t.looks)) → IsSound n w adds made h c → IsSound n w adds made h (record c { opened = loads; asked = asks; quit = quit'; now = t })
-  with_now c loads asks quit' t opened' asked' looks' asks' whole' ok = record {
+  with_now c loads asks quit' t opened' ordered' asked' looks' asks' whole' ok = record {
     opened = opened';
     confirmed = ok.confirmed;
+    ordered = ordered';
     asked = asked';
     recorded = ok.recorded;
     seen = ok.seen;
@@ -62,7 +65,7 @@ module _ (n w : ℕ) (adds : List Op → ℕ → ℕ) (made : ℕ → List Made)
   -- a scan gives up
   pub scan_gives : (c : Scan) → 0 < n → IsSound n w adds made h c → IsSound n w adds made h (gives_up n c)
   scan_gives c some_n ok = cond_both (length c.now.due == 0 && c.now.failed == n + 2) (record c { quit = c.quit + 1; now = at_rest }) c (IsSound n w adds made h)
-      (λ _. with_now c c.opened c.asked (c.quit + 1) at_rest ok.opened ok.asked (λ q l e. absurd (some-ne-none l (sym e))) (λ q l e. absurd (some-ne-none l (sym e))) (λ none. absurd (let z : 0 ≡ n = none in omega arith)) ok)
+      (λ _. with_now c c.opened c.asked (c.quit + 1) at_rest ok.opened (rest_ordered c.opened c.confirmed c.before c.now.looks ok.ordered) ok.asked (λ q l e. absurd (some-ne-none l (sym e))) (λ q l e. absurd (some-ne-none l (sym e))) (λ none. absurd (let z : 0 ≡ n = none in omega arith)) ok)
       (λ _. ok)
 
   -- a scan ends with an answer
@@ -70,6 +73,7 @@ module _ (n w : ℕ) (adds : List Op → ℕ → ℕ) (made : ℕ → List Made)
   scan_answered c a some_n wide answer ok = let same : length c.seen ≡ length a.vector = ok.seen_wide ∙ sym wide in record {
     opened = ok.opened;
     confirmed = ok.confirmed;
+    ordered = rest_ordered c.opened c.confirmed c.before c.now.looks ok.ordered;
     asked = ok.asked;
     recorded = each_push (λ (y : Entry). IsEntry n w adds made h y × Below y.vector (upper c.seen a.vector)) c.recorded a
         (λ q x t. ((ok.recorded q x t).0, below_upper x.vector c.seen a.vector same (ok.recorded q x t).1))
@@ -89,7 +93,7 @@ module _ (n w : ℕ) (adds : List Op → ℕ → ℕ) (made : ℕ → List Made)
   -- the opening load of a worker that is asked
   pub ask_right : (c : Scan) (i x : ℕ) → i < n → x ≡ length (made i) → IsSound n w adds made h c → IsSound n w adds made h (after_ask i x c)
   ask_right c i x inside is ok = cond_both (is_next i c.now.due) (record c.now { asks = begun i x [] ∷ [] }) c.now (λ (t : Progress). IsSound n w adds made h (record c { now = t }))
-      (λ _. with_now c c.opened c.asked c.quit (record c.now { asks = begun i x [] ∷ [] }) ok.opened ok.asked ok.looks
+      (λ _. with_now c c.opened c.asked c.quit (record c.now { asks = begun i x [] ∷ [] }) ok.opened ok.ordered ok.asked ok.looks
       (λ q l e. subst (IsLook n w adds made w) (from_replicate 1 _ q l e) record { inside = inside; old = omega (arith, is); risen = inl refl; right = λ k y e'. absurd (some-ne-none y (sym e')) })
       ok.whole ok)
       (λ _. ok)
@@ -151,6 +155,6 @@ module _ (n w : ℕ) (adds : List Op → ℕ → ℕ) (made : ℕ → List Made)
       by_asks (l ∷ ls) each = cond_both (l.place == i) (answers n w x l c) c (IsSound n w adds made h)
           (λ same. let at : l.place ≡ i = eqb-true _ _ same in let asked' = each_push (IsAsked n w adds made) c.asked (asked_of x l) ok.asked (asked_right i x l at is (each 0 l refl)) in
           cond_both (is_lender n w x c.now.floor l) (answered (lent_in n w l.words) (once_asked n x l c)) (gives_up n (nothing_lent n x l c)) (IsSound n w adds made h)
-          (λ hit. let t = lent_right i x c.now.floor l at is lent (each 0 l refl) hit in scan_answered (once_asked n x l c) (lent_in n w l.words) some_n t.1 t.0 (with_now c c.opened (c.asked ++ asked_of x l ∷ []) c.quit c.now ok.opened asked' ok.looks ok.asks ok.whole ok))
-          (λ _. scan_gives (nothing_lent n x l c) some_n (with_now c c.opened (c.asked ++ asked_of x l ∷ []) c.quit (record c.now { due = rest c.now.due; asks = [] }) ok.opened asked' ok.looks (λ q l e. absurd (some-ne-none l (sym e))) ok.whole ok)))
+          (λ hit. let t = lent_right i x c.now.floor l at is lent (each 0 l refl) hit in scan_answered (once_asked n x l c) (lent_in n w l.words) some_n t.1 t.0 (with_now c c.opened (c.asked ++ asked_of x l ∷ []) c.quit c.now ok.opened ok.ordered asked' ok.looks ok.asks ok.whole ok))
+          (λ _. scan_gives (nothing_lent n x l c) some_n (with_now c c.opened (c.asked ++ asked_of x l ∷ []) c.quit (record c.now { due = rest c.now.due; asks = [] }) ok.opened ok.ordered asked' ok.looks (λ q l e. absurd (some-ne-none l (sym e))) ok.whole ok)))
           (λ _. ok)

@@ -85,6 +85,7 @@ module _ (n w : ℕ) (adds : List Op → ℕ → ℕ) where
   scan_grows made made' h more c grows ok = record {
     opened = loads_grow made made' grows c.opened ok.opened;
     confirmed = loads_grow made made' grows c.confirmed ok.confirmed;
+    ordered = ok.ordered;
     asked = λ q e at. asked_grows made made' grows e (ok.asked q e at);
     recorded = λ q a e. (answer_grows made made' h more a grows (ok.recorded q a e).0, (ok.recorded q a e).1);
     seen = low_grows made made' grows c.seen ok.seen;
@@ -103,6 +104,7 @@ module _ (n w : ℕ) (adds : List Op → ℕ → ℕ) where
     scan_published i v c inside version new len is most ok = record {
       opened = ok.opened;
       confirmed = ok.confirmed;
+      ordered = ok.ordered;
       asked = ok.asked;
       recorded = λ q a e. (
         (ok.recorded q a e).0,
@@ -131,6 +133,7 @@ module _ (n w : ℕ) (adds : List Op → ℕ → ℕ) where
     scan_raised c v low wide ok = let same : length c.seen ≡ length v = ok.seen_wide ∙ sym wide in record {
       opened = ok.opened;
       confirmed = ok.confirmed;
+      ordered = ok.ordered;
       asked = ok.asked;
       recorded = λ q a e. ((ok.recorded q a e).0, below_upper a.vector c.seen v same (ok.recorded q a e).1);
       seen = λ i s e. ⊎_elim (ok.seen i s) (low i s) (upper_from c.seen v i s e);

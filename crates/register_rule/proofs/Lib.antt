@@ -2,6 +2,7 @@ pub mod Words
 pub mod Moments
 pub mod Upper
 pub mod Growth
+pub mod Ordering
 pub mod Finds
 pub mod Asks
 pub mod Looks

@@ -19,12 +19,14 @@ use Rattle.register_rule.specs.declared.load.Load.TheVariants.{Open, Read, Confi
 use Rattle.register_rule.specs.History.{tab, count, numbers_after, IsCut}
 use Rattle.register_rule.specs.Sums.{total, row_sum, last_lent}
 use Rattle.register_rule.specs.Shown.{Shows}
+use Rattle.register_rule.specs.Loads.{IsTried, AreOrdered}
 use Rattle.register_rule.specs.Scans.{opened_at, AreLoads, HasMoved, IsLook, Doomed, IsVersion, IsEntry, IsSound}
 use Rattle.register_rule.specs.Steps.{every, answered, gives_up, words_kept, begun, unsure, opens_next, after_open, noted, after_read, settled, remembered, confirmed_at, clean, are_clean, sum_words, entry_of, with_base, failed_once_more, ended, after_confirm, is_lender, lent_in, answers, ask_ends, after}
 use Rattle.register_rule.proofs.Words.{at_below, there, from_map, last_is, each_of, each_push}
 use Rattle.register_rule.proofs.Moments.{tab_at}
 use Rattle.register_rule.proofs.Finds.{Finds}
 use Rattle.register_rule.proofs.Upper.{upper_at}
+use Rattle.register_rule.proofs.Ordering.{rest_ordered, map_ordered, open_ordered, begin_ordered, confirm_ordered}
 use Rattle.register_rule.proofs.Asks.{once_asked, nothing_lent, with_now, scan_gives, scan_answered, ask_right, end_ask_right}
 
 every_at : {A : Type 0} (p : A → Bool) (xs : List A) → every p xs ≡ true → (q : ℕ) (x : A) → get_elem? xs q ≡ some x → p x ≡ true
@@ -57,6 +59,10 @@ module _ (n w : ℕ) (adds : List Op → ℕ → ℕ) (made : ℕ → List Made)
   -- one more load, of the place i
   loads_more : (xs : List (ℕ × ℕ)) (i x : ℕ) → i < n → x ≡ length (made i) → AreLoads n w adds made xs → AreLoads n w adds made (xs ++ (i, x) ∷ [])
   loads_more xs i x inside is ok = each_push (λ (z : ℕ × ℕ). (z.0 < n) × (z.1 ≤ length (made z.0))) xs (i, x) ok (inside, omega (arith, is))
+
+  -- no load of this place found more
+  topmost : (xs : List (ℕ × ℕ)) (i x : ℕ) → x ≡ length (made i) → AreLoads n w adds made xs → (q : ℕ) (y : ℕ × ℕ) → get_elem? xs q ≡ some y → y.0 ≡ i → y.1 ≤ x
+  topmost xs i x is ok q y e at = let h = (ok q y e).1 in let same = ap (λ (z : ℕ). length (made z)) at in omega (arith, is, h, same)
 
   -- of places of which none is confirmed, one has moved, or all stand at their numbers
   moved_or : (ls : List Look) → ((q : ℕ) (l : Look) → get_elem? ls q ≡ some l → (l.number ≤ length (made l.place)) × (l.sure ≡ false))
@@ -105,26 +111,38 @@ module _ (n w : ℕ) (adds : List Op → ℕ → ℕ) (made : ℕ → List Made)
       (last_is c.now.looks _ l q e) in
       let none : (q : ℕ) (l : Look) → get_elem? (c.now.looks ++ new ∷ []) q ≡ some l → (l.number ≤ length (made l.place)) × (l.sure ≡ false) =
       λ q l e. ((looks' q l e).0.old, each_push (λ (y : Look). y.sure ≡ false) c.now.looks new (λ q y z. not-true y.sure (every_at unsure c.now.looks free q y z)) refl q l e) in
-      with_now n w adds made h c (c.opened ++ (i, x) ∷ []) c.asked c.quit (record c.now { looks = c.now.looks ++ new ∷ [] }) (loads_more c.opened i x inside is ok.opened) ok.asked looks' ok.asks
+      with_now n w adds made h c (c.opened ++ (i, x) ∷ []) c.asked c.quit (record c.now { looks = c.now.looks ++ new ∷ [] }) (loads_more c.opened i x inside is ok.opened)
+      (begin_ordered c.opened c.confirmed c.before c.now.looks i x (topmost c.opened i x is ok.opened) (topmost c.confirmed i x is ok.confirmed) ok.ordered new refl refl refl refl) ok.asked looks' ok.asks
       (λ len. ⊎_elim (λ (d : Doomed n w adds made (c.now.looks ++ new ∷ [])). inl d) (λ all. inr (moment_now _ len looks' all)) (moved_or (c.now.looks ++ new ∷ []) none)) ok)
-      (λ _. with_now n w adds made h c (c.opened ++ (i, x) ∷ []) c.asked c.quit c.now (loads_more c.opened i x inside is ok.opened) ok.asked ok.looks ok.asks ok.whole ok)
+      (λ _. with_now n w adds made h c (c.opened ++ (i, x) ∷ []) c.asked c.quit c.now (loads_more c.opened i x inside is ok.opened)
+      (open_ordered c.opened c.confirmed c.before c.now.looks i x (topmost c.opened i x is ok.opened) (topmost c.confirmed i x is ok.confirmed) ok.ordered) ok.asked ok.looks ok.asks ok.whole ok)
 
   -- a load that changes looks one by one, and no place or number
-  scan_maps : (c : Scan) (f g : Look → Look) → ((l : Look) → (f l).number ≡ l.number) → ((l : Look) → (f l).place ≡ l.place) → ((l : Look) → IsLook n w adds made 0 l → IsLook n w adds made 0 (f l))
+  scan_maps : (c : Scan) (f g : Look → Look) (found : List (ℕ × ℕ)) (marks : List ℕ) → AreLoads n w adds made found → AreOrdered c.opened found marks (map f c.now.looks) → ((l : Look) → (f l).number ≡ l.number) → ((l : Look) → (f l).place ≡ l.place) → ((l : Look) → IsLook n w adds made 0 l → IsLook n w adds made 0 (f l))
       → ((l : Look) → IsLook n w adds made w l → IsLook n w adds made w (g l)) → ((l : Look) → HasMoved n w adds made l → (f l).sure ≡ false)
-      → IsSound n w adds made h c → IsSound n w adds made h (record c { now = record c.now { looks = map f c.now.looks; asks = map g c.now.asks } })
-  scan_maps c f g number place look look' sure ok = with_now n w adds made h c c.opened c.asked c.quit (record c.now { looks = map f c.now.looks; asks = map g c.now.asks }) ok.opened ok.asked
-      (λ q l e. let t = from_map f c.now.looks q l e in subst (λ (z : Look). IsLook n w adds made 0 z × (z.place ≡ q)) t.2 (look t.0 (ok.looks q t.0 t.1).0, place t.0 ∙ (ok.looks q t.0 t.1).1))
-      (λ q l e. let t = from_map g c.now.asks q l e in subst (IsLook n w adds made w) t.2 (look' t.0 (ok.asks q t.0 t.1)))
-      (λ len. ⊎_elim
-      (λ (d : Doomed n w adds made c.now.looks). inl (d.0, f d.1, at_map f c.now.looks d.0 d.1 d.2, (sure d.1 d.3, subst (λ (z : ℕ × ℕ). z.0 < length (made z.1)) (λ k. (sym (number d.1) k, sym (place d.1) k)) d.3.1)))
-      (λ (p : IsCut n h (map opened_at c.now.looks)). inr (subst (IsCut n h) (sym (map_same f number c.now.looks)) p))
-      (ok.whole (sym (length-map c.now.looks f) ∙ len)))
-      ok
+      → IsSound n w adds made h c → IsSound n w adds made h (record c { confirmed = found; before = marks; now = record c.now { looks = map f c.now.looks; asks = map g c.now.asks } })
+  scan_maps c f g found marks confirmed' ordered' number place look look' sure ok = record {
+    opened = ok.opened;
+    confirmed = confirmed';
+    ordered = ordered';
+    asked = ok.asked;
+    recorded = ok.recorded;
+    seen = ok.seen;
+    seen_wide = ok.seen_wide;
+    kept = ok.kept;
+    kept_wide = ok.kept_wide;
+    looks = (λ q l e. let t = from_map f c.now.looks q l e in subst (λ (z : Look). IsLook n w adds made 0 z × (z.place ≡ q)) t.2 (look t.0 (ok.looks q t.0 t.1).0, place t.0 ∙ (ok.looks q t.0 t.1).1));
+    asks = (λ q l e. let t = from_map g c.now.asks q l e in subst (IsLook n w adds made w) t.2 (look' t.0 (ok.asks q t.0 t.1)));
+    whole = (λ len. ⊎_elim
+        (λ (d : Doomed n w adds made c.now.looks). inl (d.0, f d.1, at_map f c.now.looks d.0 d.1 d.2, (sure d.1 d.3, subst (λ (z : ℕ × ℕ). z.0 < length (made z.1)) (λ k. (sym (number d.1) k, sym (place d.1) k)) d.3.1)))
+        (λ (p : IsCut n h (map opened_at c.now.looks)). inr (subst (IsCut n h) (sym (map_same f number c.now.looks)) p))
+        (ok.whole (sym (length-map c.now.looks f) ∙ len)));
+  }
 
   -- the load of a word, which is right as long as the number of the segment is s
   after_read_right : (c : Scan) (i s k x : ℕ) → (s ≡ length (made i) → Shows n w adds (made i) k x) → IsSound n w adds made h c → IsSound n w adds made h (after_read w i s k x c)
-  after_read_right c i s k x right ok = scan_maps c (noted 0 i s k x) (noted w i s k x)
+  after_read_right c i s k x right ok = scan_maps c (noted 0 i s k x) (noted w i s k x) c.confirmed c.before ok.confirmed
+      (map_ordered c.opened c.confirmed c.before c.now.looks (noted 0 i s k x) (λ l t. cond_both (test 0 l) (record l { words = l.words ++ x ∷ [] }) l (IsTried c.opened c.confirmed c.before) (λ _. t) (λ _. t)) ok.ordered)
       (λ l. cond_both (test 0 l) _ _ (λ (y : Look). y.number ≡ l.number) (λ _. refl) (λ _. refl))
       (λ l. cond_both (test 0 l) _ _ (λ (y : Look). y.place ≡ l.place) (λ _. refl) (λ _. refl))
       (λ l ok'. cond_both (test 0 l) (record l { words = l.words ++ x ∷ [] }) l (IsLook n w adds made 0) (λ hit. notes 0 l ok' hit) (λ _. ok'))
@@ -176,7 +194,8 @@ module _ (n w : ℕ) (adds : List Op → ℕ → ℕ) (made : ℕ → List Made)
 
   -- a confirming load, but for the end of the try
   confirmed_right : (c : Scan) (i x : ℕ) → i < n → x ≡ length (made i) → IsSound n w adds made h c → IsSound n w adds made h (confirmed_at w i x c)
-  confirmed_right c i x inside is ok = let m = scan_maps c (settled i x) (λ l. l)
+  confirmed_right c i x inside is ok = let m = scan_maps c (settled i x) (λ l. l) (c.confirmed ++ (i, x) ∷ []) (c.before ++ length c.opened ∷ []) (loads_more c.confirmed i x inside is ok.confirmed)
+      (confirm_ordered c.opened c.confirmed c.before c.now.looks i x (topmost c.opened i x is ok.opened) (topmost c.confirmed i x is ok.confirmed) ok.ordered)
       (λ l. cond_both (l.place == i) _ _ (λ (y : Look). y.number ≡ l.number) (λ _. refl) (λ _. refl))
       (λ l. cond_both (l.place == i) _ _ (λ (y : Look). y.place ≡ l.place) (λ _. refl) (λ _. refl))
       (λ l ok'. cond_both (l.place == i) (record l { sure = l.sure || l.number == x; found = x }) l (IsLook n w adds made 0)
@@ -191,7 +210,8 @@ module _ (n w : ℕ) (adds : List Op → ℕ → ℕ) (made : ℕ → List Made)
       (λ l moved. cond_both (l.place == i) (record l { sure = l.sure || l.number == x; found = x }) l (λ (y : Look). y.sure ≡ false) (λ same. off l same moved) (λ _. moved.0))
       ok in record {
         opened = m.opened;
-        confirmed = loads_more c.confirmed i x inside is ok.confirmed;
+        confirmed = m.confirmed;
+        ordered = m.ordered;
         asked = m.asked;
         recorded = m.recorded;
         seen = m.seen;
@@ -251,7 +271,7 @@ module _ (n w : ℕ) (adds : List Op → ℕ → ℕ) (made : ℕ → List Made)
   ended_right c some_n ok = cond_both (are_clean n w c.now.looks) (answered (entry_of w c.now.looks) c) (gives_up n (record c { now = failed_once_more (with_base c.now) })) (IsSound n w adds made h)
       (λ hit. let t = clean_right c ok hit in scan_answered n w adds made h c (entry_of w c.now.looks) some_n t.1 t.0 ok)
       (λ _. scan_gives n w adds made h (record c { now = failed_once_more (with_base c.now) }) some_n
-      (with_now n w adds made h c c.opened c.asked c.quit (failed_once_more (with_base c.now)) ok.opened ok.asked (λ q l e. absurd (some-ne-none l (sym e)))
+      (with_now n w adds made h c c.opened c.asked c.quit (failed_once_more (with_base c.now)) ok.opened (rest_ordered c.opened c.confirmed c.before c.now.looks ok.ordered) ok.asked (λ q l e. absurd (some-ne-none l (sym e)))
       (cond_both (c.now.failed == 0) (record c.now { floor = _; base = _ }) c.now (λ (t : Progress). (q : ℕ) (l : Look) → get_elem? t.asks q ≡ some l → IsLook n w adds made w l) (λ _. ok.asks) (λ _. ok.asks))
       (λ none. absurd (let z : 0 ≡ n = none in omega arith)) ok))
 

@@ -22,6 +22,7 @@ use Rattle.register_rule.specs.Rule.{IsMember, Rule, AreApart}
 use Rattle.register_rule.specs.Members.{fresh_scan, new_worker, new_reader, workers_from, readers_from, everyone, first_of, same_who, picked, without}
 use Rattle.register_rule.specs.Told.{Keeps}
 use Rattle.register_rule.proofs.Words.{there, from_replicate, from_both}
+use Rattle.register_rule.proofs.Ordering.{none_ordered}
 use Rattle.register_rule.proofs.Pairs.{compares}
 use Rattle.register_rule.proofs.Seating.{picked_is, without_is, both_apart}
 
@@ -73,6 +74,7 @@ new_scan_is : (n w : ℕ) (adds : List Op → ℕ → ℕ) → 0 < n → IsSound
 new_scan_is n w adds some_n = record {
   opened = λ q x e. absurd (some-ne-none x (sym e));
   confirmed = λ q x e. absurd (some-ne-none x (sym e));
+  ordered = none_ordered;
   asked = λ q x e. absurd (some-ne-none x (sym e));
   recorded = λ q a e. absurd (some-ne-none a (sym e));
   seen = λ i x e. let z : 0 ≡ x = from_replicate n 0 i x e in let goal : x ≤ 0 = omega arith in goal;

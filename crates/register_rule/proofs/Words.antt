@@ -7,8 +7,9 @@ use Rattle.std.proofs.lemmas.List.{get_or_default}
 use Rattle.std.proofs.lemmas.List.Elements.{All-replicate}
 use Rattle.std.proofs.lemmas.Nat.{mul-add-lt, same_from_place}
 use Rattle.atomic_table.proofs.Lists.{at_index, at_snoc}
-use Rattle.segment_layout.specs.Layout.{span}
-use Rattle.register_rule.specs.Words.{item_of, seg}
+use Rattle.segment_layout.specs.declared.part.Item.TheVariants.{Row as RowItem, Flag as FlagItem, Vector as VectorItem, Lent as LentItem}
+use Rattle.segment_layout.specs.Layout.{depth, span}
+use Rattle.register_rule.specs.Words.{item_of, seg, IsPlaceOf}
 
 -- an item of a version is within the segment
 pub item_lt : (b s k : ℕ) → k < b → item_of b s k < span b
@@ -21,6 +22,13 @@ same_item b s v k j hk hj e = same_from_place (v % 2) j (s % 2) k b hj hk (omega
 -- no item of the hidden buffer is one of the shown buffer
 pub items_apart : (b s k j : ℕ) → k < b → j < b → item_of b (suc s) k ≢ item_of b s j
 items_apart b s k j hk hj e = let t = (same_item b s (suc s) j k hj hk e).0 in absurd (omega arith)
+
+-- an item of a version stands where its part does
+pub place_is : (n w i s k at : ℕ) → at ≡ i * span (depth n w) + item_of (depth n w) s k → IsPlaceOf n w i s k at
+place_is n w i s k at e (RowItem word) is = e ∙ ap (λ (z : ℕ). i * span (depth n w) + item_of (depth n w) s z) is
+place_is n w i s k at e FlagItem is = e ∙ ap (λ (z : ℕ). i * span (depth n w) + item_of (depth n w) s z) is
+place_is n w i s k at e (VectorItem worker) is = e ∙ ap (λ (z : ℕ). i * span (depth n w) + item_of (depth n w) s z) is
+place_is n w i s k at e (LentItem word) is = e ∙ ap (λ (z : ℕ). i * span (depth n w) + item_of (depth n w) s z) is
 
 -- reading after a write
 pub seg_here : (b : ℕ) (ws : List ℕ) (i x v at : ℕ) → at ≡ i * span b + x → at < length ws → seg b (set ws at v) i x ≡ v

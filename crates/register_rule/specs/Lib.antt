@@ -2,6 +2,7 @@ pub mod Words
 pub mod History
 pub mod Sums
 pub mod Shown
+pub mod Loads
 pub mod Scans
 pub mod Rule
 pub mod Steps

@@ -15,7 +15,7 @@ group ms = record { members = ms }
 
 -- a member that has made no step: n workers, rows of w words, buffers of b words
 abbrev pub fresh_scan : (n w : ℕ) → Scan
-fresh_scan n w = record { opened = []; confirmed = []; asked = []; recorded = []; quit = 0; seen = replicate n 0; kept = replicate n (record { number = 0; row = replicate w 0 }); now = at_rest }
+fresh_scan n w = record { opened = []; confirmed = []; before = []; asked = []; recorded = []; quit = 0; seen = replicate n 0; kept = replicate n (record { number = 0; row = replicate w 0 }); now = at_rest }
 
 abbrev pub new_worker : (n w b i : ℕ) → Member
 new_worker n w b i = record { who = Worker i; work = record { made = []; hidden = replicate b 0; shown = replicate b 0 }; scan = fresh_scan n w }

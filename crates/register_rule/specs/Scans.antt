@@ -13,6 +13,7 @@ use Rattle.register_rule.specs.declared.view.Scan.{Scan}
 use Rattle.register_rule.specs.History.{IsCut, Below}
 use Rattle.register_rule.specs.Sums.{total, row_sum}
 use Rattle.register_rule.specs.Shown.{Shows}
+use Rattle.register_rule.specs.Loads.{AreOrdered}
 
 abbrev pub opened_at : Look → ℕ
 opened_at l = l.number
@@ -63,6 +64,8 @@ module _ (n w : ℕ) (adds : List Op → ℕ → ℕ) (made : ℕ → List Made)
   pub record IsSound (history : List ℕ) (c : Scan) : Type 0 where
     pub opened : AreLoads c.opened
     pub confirmed : AreLoads c.confirmed
+    -- a confirming load is not below the opening loads of its place before it
+    pub ordered : AreOrdered c.opened c.confirmed c.before c.now.looks
     pub asked : (q : ℕ) (e : Asked) → get_elem? c.asked q ≡ some e → IsAsked e
     pub recorded : (q : ℕ) (a : Entry) → get_elem? c.recorded q ≡ some a → IsEntry history a × Below a.vector c.seen
     pub seen : AtMost c.seen

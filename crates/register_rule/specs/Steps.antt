@@ -77,6 +77,7 @@ remembered w i (l ∷ ls) kept = cond (l.place == i && l.sure && length l.words 
 abbrev pub confirmed_at : (w i s : ℕ) → Scan → Scan
 confirmed_at w i s c = record c {
   confirmed = c.confirmed ++ (i, s) ∷ [];
+  before = c.before ++ length c.opened ∷ [];
   kept = remembered w i (map (settled i s) c.now.looks) c.kept;
   now = record c.now { looks = map (settled i s) c.now.looks };
 }

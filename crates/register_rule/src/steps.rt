@@ -5,7 +5,7 @@ ghost use Rattle.ledger_core.specs.Ops.{width, sum_ops};
 ghost use Rattle.ledger_core.specs.Row.{Accepts};
 ghost use Rattle.segment_layout.specs.Layout.{depth, span, words};
 ghost use Rattle.register_rule.specs.declared.view.Member.{Member};
-ghost use Rattle.register_rule.specs.Words.{item_of};
+ghost use Rattle.register_rule.specs.Words.{item_of, IsPlaceOf};
 ghost use Rattle.register_rule.specs.Sums.{total};
 ghost use Rattle.register_rule.specs.Steps.{after};
 ghost use Rattle.register_rule.specs.Members.{filled, published, picked, without, met};
@@ -41,7 +41,8 @@ impl<const N: usize, const C: usize, const H: usize, const G: usize> Board<N, C,
     #[inline]
     fn item_at(&self, segment: usize, version: u64, item: usize) -> usize
         requires { (segment < N) × (item < depth N (width C H G)) }
-        ensures { (result ≡ segment * span (depth N (width C H G)) + item_of (depth N (width C H G)) version item) × (result < self.now.table.shared.table_id.words) }
+        ensures place { (result ≡ segment * span (depth N (width C H G)) + item_of (depth N (width C H G)) version item) × (result < self.now.table.shared.table_id.words) }
+        ensures part { IsPlaceOf N (width C H G) segment version item result }
     {
         self.number_at(segment) + 1 + (version % 2) as usize * buffer_words(N, C, H, G) + item
     }

@@ -85,6 +85,8 @@ pub struct Scan {
     pub opened: LinkedList<(usize, u64)>,
     /// All confirming loads of collects: place and number.
     pub confirmed: LinkedList<(usize, u64)>,
+    /// For each of these, how many of the opening loads were made before it.
+    pub before: LinkedList<u64>,
     /// All workers asked.
     pub asked: LinkedList<Asked>,
     /// The answers of the scans that were not given up.
