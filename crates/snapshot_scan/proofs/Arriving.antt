@@ -14,9 +14,9 @@ use Rattle.snapshot_scan.specs.declared.kept.Kept.{Kept}
 use Rattle.snapshot_scan.specs.Memory.{opening, settling, pairs}
 use Rattle.snapshot_scan.specs.Asking.{Refuses, Lends, due_from, worker_of, asked_too}
 use Rattle.snapshot_scan.specs.Contention.{IsFirstMoved}
-use Rattle.snapshot_scan.specs.Scanned.{Tried, all_opened, all_confirmed, all_asked}
+use Rattle.snapshot_scan.specs.Scanned.{Tried, all_opened, all_confirmed, all_before, all_asked}
 use Rattle.snapshot_scan.specs.Core.{CameTo, AnswersBy, core_reads}
-use Rattle.snapshot_scan.proofs.Trying.{AreTries, stood, asking, given_last, opened_snoc, confirmed_snoc, asked_snoc, count_snoc}
+use Rattle.snapshot_scan.proofs.Trying.{AreTries, stood, asking, given_last, opened_snoc, confirmed_snoc, before_snoc, asked_snoc, count_snoc}
 use Rattle.snapshot_scan.proofs.Coming.{AllFail, HeadIs, comes_direct, comes_lent, comes_gave_up}
 
 -- the first try is clean
@@ -31,6 +31,7 @@ came_first n w opened found gs c a long same is = record {
     loads = record {
       opened = ap (λ z. c.opened ++ z) (sym (append-nil (pairs 0 opened)));
       confirmed = ap (λ z. c.confirmed ++ pairs 0 z) (sym same) ∙ ap (λ z. c.confirmed ++ z) (sym (append-nil (pairs 0 opened)));
+      before = ap (λ (z : List ℕ). c.before ++ map (λ _. length (c.opened ++ pairs 0 opened)) z) (sym same) ∙ ap (λ z. c.before ++ z) (sym (append-nil (map (λ _. length (c.opened ++ pairs 0 opened)) opened)));
       asked = sym (append-nil c.asked);
     };
     comes = comes_direct n w [] [] [] (λ q t e. absurd (some-ne-none t (sym e))) tt opened long (omega arith);
@@ -56,6 +57,8 @@ module _ (n w : ℕ) (floor base first last : List ℕ) (tries : List Tried) (tr
       loads = record {
         opened = one_more (all_opened tries) (pairs 0 opened) (all_opened (tries ++ t ∷ [])) c.opened (opened_snoc tries t);
         confirmed = ap (λ z. (c.confirmed ++ all_confirmed tries) ++ pairs 0 z) (sym same) ∙ one_more (all_confirmed tries) (pairs 0 opened) (all_confirmed (tries ++ t ∷ [])) c.confirmed (confirmed_snoc tries t);
+        before = ap (λ (z : List ℕ). (c.before ++ all_before c.opened tries) ++ map (λ _. length ((c.opened ++ all_opened tries) ++ pairs 0 opened)) z) (sym same)
+            ∙ one_more (all_before c.opened tries) (map (λ _. length ((c.opened ++ all_opened tries) ++ pairs 0 opened)) opened) (all_before c.opened (tries ++ t ∷ [])) c.before (before_snoc c.opened tries t);
         asked = ap (λ z. c.asked ++ z) (sym (asked_snoc tries t ∙ append-nil (all_asked tries)));
       };
       comes = comes_direct n w floor base tries tried.each head_is opened long few;
@@ -77,6 +80,7 @@ module _ (n w : ℕ) (floor base first last : List ℕ) (tries : List Tried) (tr
           loads = record {
             opened = one_more (all_opened tries) (pairs 0 opened) (all_opened (tries ++ t ∷ [])) c.opened (opened_snoc tries t);
             confirmed = one_more (all_confirmed tries) (pairs 0 found) (all_confirmed (tries ++ t ∷ [])) c.confirmed (confirmed_snoc tries t);
+            before = one_more (all_before c.opened tries) (map (λ _. length ((c.opened ++ all_opened tries) ++ pairs 0 opened)) found) (all_before c.opened (tries ++ t ∷ [])) c.before (before_snoc c.opened tries t);
             asked = append_assoc (c.asked ++ all_asked tries) es (e ∷ []) ∙ one_more (all_asked tries) (es ++ e ∷ []) (all_asked (tries ++ t ∷ [])) c.asked (asked_snoc tries t);
           };
           comes = comes_lent n w floor base tries tried.each head_is t tried.head tried.others es e more tried.all few long deep rose refl due refuse lends.same lends.all lends.flag lends.above;
@@ -88,7 +92,7 @@ module _ (n w : ℕ) (floor base first last : List ℕ) (tries : List Tried) (tr
   came_up count e moved = subst (λ (x : Scan). CameTo n w c x (GaveUp e.worker e.first e.last)) (sym (given_last n (stood tries gs0 floor base c) refl count)) (record {
     before = tried.ends.0;
     last = tried.ends.1;
-    loads = record { opened = ap (λ z. c.opened ++ all_opened z) tried.ends.2; confirmed = ap (λ z. c.confirmed ++ all_confirmed z) tried.ends.2; asked = ap (λ z. c.asked ++ all_asked z) tried.ends.2 };
+    loads = record { opened = ap (λ z. c.opened ++ all_opened z) tried.ends.2; confirmed = ap (λ z. c.confirmed ++ all_confirmed z) tried.ends.2; before = ap (λ z. c.before ++ all_before c.opened z) tried.ends.2; asked = ap (λ z. c.asked ++ all_asked z) tried.ends.2 };
     comes = subst (λ (ts : List Tried). Comes n (core_reads n w ts) (GaveUp e.worker e.first e.last)) tried.ends.2 (go tried.ends.0 tried.ends.1 tried.ends.2 tried.ends.3 tried.ends.4);
   })
     where

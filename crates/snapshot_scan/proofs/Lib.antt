@@ -14,3 +14,4 @@ pub mod Standing
 pub mod Gathered
 pub mod Comparing
 pub mod Sourced
+pub mod Publishing

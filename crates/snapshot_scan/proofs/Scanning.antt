@@ -139,6 +139,7 @@ module _ (n : ℕ) (floor base first last : List ℕ) (tries : List Tried) (trie
     count = count;
     opened = refl;
     confirmed = refl;
+    before = refl;
     asked = refl;
     above = above;
     each = λ q t at. subst (λ (f : List ℕ). FailedTry n f tried.head.second t) (sym tried.is_floor) (subst (λ (b : List ℕ). FailedTry n floor b t) (sym tried.is_base) (tried.each q t at));
@@ -189,6 +190,7 @@ first_starts n w opened found gs c few long deep none =
     ∙ (λ z. record c {
       opened = c.opened ++ sym (append-nil (pairs 0 opened)) z;
       confirmed = c.confirmed ++ sym (append-nil (pairs 0 found)) z;
+      before = c.before ++ sym (append-nil (map (λ _. length (c.opened ++ pairs 0 opened)) found)) z;
       asked = c.asked ++ [];
       kept = map version_of gs;
       now = record { failed = ap (λ (t : ℕ). t + 1) (ap (λ (u : _). u.failed) none) z; floor = opened; base = found; looks = []; due = []; asks = [] };

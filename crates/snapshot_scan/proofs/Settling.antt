@@ -1,6 +1,6 @@
 -- The second collect of a try, place by place.
 use Rattle.std.proofs.Common.{◌≡◌, ◌≢◌, ℕ, zero, suc, ◌+◌, ◌*◌, ◌<◌, ◌≤◌, Bool, true, false, cond, ◌&&◌, ◌||◌, ◌==◌, List, [], ◌∷◌, ◌++◌, length, map, set, slice_index, sym, refl, ap, ◌∙◌, arith, eq-eqb, ne_eqb, append_assoc}
-use Rattle.std.proofs.lemmas.List.{append-nil}
+use Rattle.std.proofs.lemmas.List.{append-nil, map_push}
 use mathlib.Core.Option.{some, some-injective, some-ne-none}
 use lib.ListN.{get_elem?}
 use Rattle.register_rule.specs.declared.view.Look.{Look}
@@ -100,12 +100,14 @@ confirms_more w s o opened pre gs g g' c at there wide same version =
     let looks : map (settled i s) (looks_of 0 opened pre gs) ≡ looks_of 0 opened (pre ++ s ∷ []) gs' = settle_looks i s 0 o opened pre gs g g' e at there same in
     let loads : (c.confirmed ++ pairs 0 pre) ++ (i, s) ∷ [] ≡ c.confirmed ++ pairs 0 (pre ++ s ∷ []) =
     append_assoc c.confirmed (pairs 0 pre) ((i, s) ∷ []) ∙ ap (λ z. c.confirmed ++ z) (ap (λ (z : ℕ). pairs 0 pre ++ (z, s) ∷ []) e ∙ sym (pairs_snoc 0 pre s)) in
+    let marks : (c.before ++ map (λ _. length c.opened) pre) ++ length c.opened ∷ [] ≡ c.before ++ map (λ _. length c.opened) (pre ++ s ∷ []) =
+    append_assoc c.before (map (λ _. length c.opened) pre) (length c.opened ∷ []) ∙ ap (λ z. c.before ++ z) (sym (map_push (λ _. length c.opened) pre s)) in
     let kept : remembered w i (map (settled i s) (looks_of 0 opened pre gs)) (map version_of gs) ≡ map version_of gs' =
     ap (λ (z : List Look). remembered w i z (map version_of gs)) looks
     ∙ (remembered_at w i s 0 o opened pre gs' g' (map version_of gs) e at (set_at gs i g' g there) (ap (λ (z : List ℕ). length z) same ∙ wide)
     ∙ (ap (λ (z : List ℕ). cond (o == s) (set (map version_of gs) i (record { number = o; row = z })) (map version_of gs)) same
     ∙ go (o == s) version)) in
-    λ z. record c { confirmed = loads z; kept = kept z; now = record c.now { looks = looks z } }
+    λ z. record c { confirmed = loads z; before = marks z; kept = kept z; now = record c.now { looks = looks z } }
   where
     go : (b : Bool) → version_of g' ≡ cond b (record { number = o; row = words_of o g }) (version_of g)
         → cond b (set (map version_of gs) (length pre) (record { number = o; row = words_of o g })) (map version_of gs) ≡ map version_of (set gs (length pre) g')
@@ -135,4 +137,4 @@ words_wide w o g wide = go (g.number == o)
     go false = wide.fresh
 
 pub settling_starts : (opened : List ℕ) (gs : List Kept) (c : Scan) → c.kept ≡ map version_of gs → c.now.looks ≡ looks_of 0 opened [] gs → c ≡ settling opened [] gs c
-settling_starts opened gs c kept looks = λ z. record c { confirmed = sym (append-nil c.confirmed) z; kept = kept z; now = record c.now { looks = looks z } }
+settling_starts opened gs c kept looks = λ z. record c { confirmed = sym (append-nil c.confirmed) z; before = sym (append-nil c.before) z; kept = kept z; now = record c.now { looks = looks z } }

@@ -18,8 +18,9 @@ use Rattle.register_rule.specs.Seats.{HasMember}
 use Rattle.register_rule.specs.Steps.{upper}
 use Rattle.register_rule.specs.Sums.{total, row_sum}
 use Rattle.register_rule.specs.Told.{AreRuled}
-use Rattle.register_rule.proofs.Words.{read_at}
+use Rattle.register_rule.proofs.Words.{at_below, read_at}
 use Rattle.snapshot_scan.specs.Shape.{scan_of}
+use Rattle.snapshot_scan.specs.Moments.{AreMoments}
 use Rattle.snapshot_scan.specs.Scanned.{IsAnswered}
 use Rattle.snapshot_scan.specs.Contention.{IsContended}
 use Rattle.snapshot_scan.specs.declared.contended.Contended.{Contended}
@@ -129,6 +130,15 @@ module _ (n c h g : ℕ) (few : n ≤ 32) (ms : List Member) (ruled : AreRuled n
       | inr le ↦ let z = beyond b.vector i (omega (arith, b_long, le)) in omega (arith, z)
     ]
 
+    -- the answer is not below it
+    pub is_above : Below b.vector a.vector
+    is_above i x y ex ey =
+        let lt = at_below b.vector i x ex in
+        let le = number_rises i (omega (arith, lt, b_long)) in
+        let p = read_at b.vector i x 0 ex in
+        let q = read_at a.vector i y 0 ey in
+        omega (arith, le, p, q)
+
     total_rises : (k : ℕ) → k < width c h g → slice_index b.totals k ≤ slice_index a.totals k
     total_rises k lt =
         let x = sum_at n c h g few ms ruled 0 q t.0 b sits still k lt in
@@ -136,8 +146,8 @@ module _ (n c h g : ℕ) (few : n ≤ 32) (ms : List Member) (ruled : AreRuled n
         let le = sum_front (sum_ops c h) ruled.made 0 b.vector a.vector k (b_long ∙ sym a_long) number_rises_at in
         omega (arith, x, y, le)
 
-  pub scan_records : length a.totals ≡ width c h g → Records n c h g before.recorded (scan_of ms).recorded a
-  scan_records wide = record {
+  pub scan_records : length a.totals ≡ width c h g → AreMoments n c h g (scan_of ms).recorded → Records n c h g before.recorded (scan_of ms).recorded a
+  scan_records wide moments = record {
     recorded = answered.recorded;
     whole = record {
       numbers = a_long;
@@ -145,6 +155,7 @@ module _ (n c h g : ℕ) (few : n ≤ 32) (ms : List Member) (ruled : AreRuled n
       legal = totals_legal n c h g few ms ruled 0 (length before.recorded) t.0 a sits here;
     };
     rises = λ b e. let at = newest_at before.recorded b e in record { numbers = number_rises b at.0 at.1; totals = total_rises b at.0 at.1 };
+    moments = moments;
   }
 
 -- a plain source: one worker, whose row is all there is
@@ -174,10 +185,10 @@ has_member (m ∷ ms) lt = (m, ms, refl)
 
 -- a scan's answer, told by its result
 pub scan_tells : {T E : Type 0} (n c h g : ℕ) (few : n ≤ 32) (ms : List Member) → AreRuled n (width c h g) (sum_ops c h) (Accepts c h g) ms → HasMember ms
-    → (before : Scan) (a : Entry) → length a.totals ≡ width c h g → (answer : Result T E) → OnOk answer (IsAnswered n before (scan_of ms) a)
+    → AreMoments n c h g (scan_of ms).recorded → (before : Scan) (a : Entry) → length a.totals ≡ width c h g → (answer : Result T E) → OnOk answer (IsAnswered n before (scan_of ms) a)
     → OnOk answer (Records n c h g before.recorded (scan_of ms).recorded a)
-scan_tells n c h g few ms ruled t before a wide (Ok x) answered = scan_records n c h g few ms ruled t before a answered wide
-scan_tells n c h g few ms ruled t before a wide (Err e) answered = tt
+scan_tells n c h g few ms ruled t moments before a wide (Ok x) answered = scan_records n c h g few ms ruled t before a answered wide moments
+scan_tells n c h g few ms ruled t moments before a wide (Err e) answered = tt
 
 -- and a scan that was given up names a worker whose number rose
 pub contended_rose : {T : Type 0} (n : ℕ) (before after : Scan) (answer : Result T Contended) → IfErr answer (IsContended n before after)

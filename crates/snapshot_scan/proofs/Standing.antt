@@ -9,6 +9,7 @@ use Rattle.register_rule.specs.declared.view.Who.TheVariants.{Worker, Reader}
 use Rattle.register_rule.specs.declared.view.Scan.{Scan}
 use Rattle.register_rule.specs.Members.{first_of, reach, greatest, raised, raised_by, met, without, same_who}
 use Rattle.register_rule.specs.History.{Below}
+use Rattle.register_rule.specs.Seats.{HasMember}
 use Rattle.register_rule.specs.Steps.{upper}
 use Rattle.register_rule.proofs.Seating.{from_without}
 use Rattle.register_rule.proofs.Upper.{upper_at}
@@ -29,6 +30,11 @@ nothing p x e = some-ne-none x (sym e)
 pub stands_behind : (i k : ℕ) (m m0 : Member) (ms : List Member) → m0.who ≡ Reader k → Stands i m (m0 ∷ ms) → Stands i m ms
 stands_behind i k m m0 ms is (zero, e, w) = absurd (no_worker i k m0.who is (ap (λ (x : Member). x.who) (some-injective m0 m e) ∙ w))
 stands_behind i k m m0 ms is (suc p, e, w) = (p, e, w)
+
+-- who stands behind a reader stands there after its scan
+pub stands_scanned : (i k : ℕ) (c : Scan) (m : Member) (ms ms' : List Member) → (first_of ms).who ≡ Reader k → ms' ≡ with_scan c ms → Stands i m ms → Stands i m ms'
+stands_scanned i k c m [] ms' first same (p, e, is) = absurd (some-ne-none m (sym e))
+stands_scanned i k c m (m0 ∷ ms) ms' first same s = let b = stands_behind i k m m0 ms first s in (suc b.0, ap (λ (l : List Member). get_elem? l (suc b.0)) same ∙ b.1, b.2)
 
 pub sees_same : (u : List ℕ) → SeesMore u u
 sees_same u i x e = (x, e, omega arith)
@@ -151,6 +157,10 @@ workers_left i k m0 ms is all = subst (λ (l : List Member). AreWorkers (behind 
 pub scanned_seen : (k : ℕ) (ms ms' : List Member) → 0 < length ms → (first_of ms).who ≡ Reader k → ms' ≡ with_scan (scan_of ms') ms → SeesMore (scan_of ms).seen (scan_of ms').seen → HasSeen ms → HasSeen ms'
 scanned_seen k [] ms' lt is e more h = absurd (omega (arith, lt))
 scanned_seen k (m0 ∷ ms) ms' lt is e more h = subst HasSeen (sym e) (seen_scanned k (scan_of ms') m0 ms is more h)
+
+pub scanned_member : (c : Scan) (ms ms' : List Member) → 0 < length ms → ms' ≡ with_scan c ms → HasMember ms'
+scanned_member c [] ms' lt e = absurd (omega (arith, lt))
+scanned_member c (m0 ∷ ms) ms' lt e = (record m0 { scan = c }, ms, e)
 
 pub scanned_workers : (c : Scan) (ms ms' : List Member) → ms' ≡ with_scan c ms → AreWorkers (behind ms) → AreWorkers (behind ms')
 scanned_workers c [] ms' e all = subst (λ (l : List Member). AreWorkers (behind l)) (sym e) all

@@ -19,7 +19,7 @@ use Rattle.register_rule.specs.Steps.{every, begun, settled, clean, are_clean, s
 use Rattle.snapshot_scan.specs.declared.kept.Kept.{Kept}
 use Rattle.snapshot_scan.specs.Memory.{version_of, AreWide, AreTotals, words_of, looks_of, pairs, opening, settling, sum_rows}
 use Rattle.snapshot_scan.specs.Asking.{refused, refused_all, due_from, worker_of}
-use Rattle.snapshot_scan.specs.Scanned.{Tried, all_opened, all_confirmed, all_asked, FailedTry, IsIdle}
+use Rattle.snapshot_scan.specs.Scanned.{Tried, all_opened, all_confirmed, all_before, all_asked, FailedTry, IsIdle}
 use Rattle.snapshot_scan.proofs.Opening.{looks_long}
 use Rattle.snapshot_scan.proofs.Settling.{settled_here, words_wide}
 
@@ -120,6 +120,7 @@ abbrev pub stood : List Tried → List Kept → (floor base : List ℕ) → Scan
 stood tries gs floor base c = record c {
   opened = c.opened ++ all_opened tries;
   confirmed = c.confirmed ++ all_confirmed tries;
+  before = c.before ++ all_before c.opened tries;
   asked = c.asked ++ all_asked tries;
   kept = map version_of gs;
   now = record { failed = length tries; floor = floor; base = base; looks = []; due = []; asks = [] };
@@ -153,6 +154,7 @@ abbrev pub asking : (opened found : List ℕ) → List Kept → (floor base : Li
 asking opened found gs floor base es workers d = record d {
   opened = d.opened ++ pairs 0 opened;
   confirmed = d.confirmed ++ pairs 0 found;
+  before = d.before ++ map (λ _. length (d.opened ++ pairs 0 opened)) found;
   asked = d.asked ++ es;
   kept = map version_of gs;
   now = record { failed = d.now.failed + 1; floor = floor; base = base; looks = []; due = workers; asks = [] };
@@ -176,6 +178,7 @@ module _ (n w : ℕ) (opened found : List ℕ) (gs gs' : List Kept) (few : lengt
       ∙ (λ z. record d {
         opened = d.opened ++ pairs 0 opened;
         confirmed = d.confirmed ++ pairs 0 found;
+        before = d.before ++ map (λ _. length (d.opened ++ pairs 0 opened)) found;
         asked = sym (append-nil d.asked) z;
         kept = map version_of gs;
         now = record { failed = d.now.failed + 1; floor = d.now.floor; base = d.now.base; looks = []; due = due z; asks = none z };
@@ -192,6 +195,7 @@ module _ (n w : ℕ) (opened found : List ℕ) (gs gs' : List Kept) (few : lengt
       ∙ (λ z. record d {
         opened = d.opened ++ pairs 0 opened;
         confirmed = d.confirmed ++ pairs 0 found;
+        before = d.before ++ map (λ _. length (d.opened ++ pairs 0 opened)) found;
         asked = sym (append-nil d.asked) z;
         kept = map version_of gs;
         now = record { failed = ap (λ (u : Progress). u.failed + 1) (sym none) z; floor = numbers_are 0 opened found gs (omega (arith, few, long)) z; base = founds_are 0 opened found gs (long ∙ sym few) (deep ∙ sym few) z; looks = []; due = due z; asks = [] };
@@ -223,6 +227,14 @@ pub confirmed_snoc : (ts : List Tried) (t : Tried) → all_confirmed (ts ++ t �
 confirmed_snoc [] t = append-nil (pairs 0 t.second)
 confirmed_snoc (x ∷ ts) t = ap (λ z. pairs 0 x.second ++ z) (confirmed_snoc ts t) ∙ sym (append_assoc (pairs 0 x.second) (all_confirmed ts) (pairs 0 t.second))
 
+pub before_snoc : (o : List (ℕ × ℕ)) (ts : List Tried) (t : Tried) → all_before o (ts ++ t ∷ []) ≡ all_before o ts ++ map (λ _. length ((o ++ all_opened ts) ++ pairs 0 t.first)) t.second
+before_snoc o [] t = append-nil (map (λ _. length (o ++ pairs 0 t.first)) t.second) ∙ ap (λ (z : List (ℕ × ℕ)). map (λ _. length (z ++ pairs 0 t.first)) t.second) (sym (append-nil o))
+before_snoc o (x ∷ ts) t =
+    let here : List ℕ = map (λ _. length (o ++ pairs 0 x.first)) x.second in
+    let later : List ℕ = all_before (o ++ pairs 0 x.first) ts in
+    ap (λ z. here ++ z) (before_snoc (o ++ pairs 0 x.first) ts t ∙ ap (λ (z : List (ℕ × ℕ)). later ++ map (λ _. length (z ++ pairs 0 t.first)) t.second) (append_assoc o (pairs 0 x.first) (all_opened ts)))
+    ∙ sym (append_assoc here later (map (λ _. length ((o ++ (pairs 0 x.first ++ all_opened ts)) ++ pairs 0 t.first)) t.second))
+
 pub asked_snoc : (ts : List Tried) (t : Tried) → all_asked (ts ++ t ∷ []) ≡ all_asked ts ++ t.asks
 asked_snoc [] t = append-nil t.asks
 asked_snoc (x ∷ ts) t = ap (λ z. x.asks ++ z) (asked_snoc ts t) ∙ sym (append_assoc x.asks (all_asked ts) t.asks)
@@ -238,9 +250,11 @@ stood_more tries gs0 gs floor0 base0 floor base opened found es c =
     let t : Tried = record { first = opened; second = found; asks = es } in
     let a : (c.opened ++ all_opened tries) ++ pairs 0 opened ≡ c.opened ++ all_opened (tries ++ t ∷ []) = append_assoc c.opened (all_opened tries) (pairs 0 opened) ∙ ap (λ z. c.opened ++ z) (sym (opened_snoc tries t)) in
     let b : (c.confirmed ++ all_confirmed tries) ++ pairs 0 found ≡ c.confirmed ++ all_confirmed (tries ++ t ∷ []) = append_assoc c.confirmed (all_confirmed tries) (pairs 0 found) ∙ ap (λ z. c.confirmed ++ z) (sym (confirmed_snoc tries t)) in
+    let m : (c.before ++ all_before c.opened tries) ++ map (λ _. length ((c.opened ++ all_opened tries) ++ pairs 0 opened)) found ≡ c.before ++ all_before c.opened (tries ++ t ∷ []) =
+    append_assoc c.before (all_before c.opened tries) (map (λ _. length ((c.opened ++ all_opened tries) ++ pairs 0 opened)) found) ∙ ap (λ z. c.before ++ z) (sym (before_snoc c.opened tries t)) in
     let e : (c.asked ++ all_asked tries) ++ es ≡ c.asked ++ all_asked (tries ++ t ∷ []) = append_assoc c.asked (all_asked tries) es ∙ ap (λ z. c.asked ++ z) (sym (asked_snoc tries t)) in
     let k : length tries + 1 ≡ length (tries ++ t ∷ []) = sym (count_snoc tries t) in
-    λ z. record c { opened = a z; confirmed = b z; asked = e z; kept = map version_of gs; now = record { failed = k z; floor = floor; base = base; looks = []; due = []; asks = [] } }
+    λ z. record c { opened = a z; confirmed = b z; before = m z; asked = e z; kept = map version_of gs; now = record { failed = k z; floor = floor; base = base; looks = []; due = []; asks = [] } }
 
 -- where two lists of numbers differ and the second is at no place below the first, it is above it somewhere
 pub rose_some : (opened found : List ℕ) → length opened ≡ length found → ((q : ℕ) → q < length opened → slice_index opened q ≤ slice_index found q) → opened ≢ found → (q : ℕ) × (q < length opened) × (slice_index opened q < slice_index found q)

@@ -9,7 +9,7 @@ use Rattle.snapshot_core.specs.declared.next.Next.TheVariants.{Direct, Lent}
 use Rattle.register_rule.specs.Steps.{lent_in}
 use Rattle.snapshot_core.specs.Tries.{View, Read, Try, reads_of}
 use Rattle.snapshot_core.specs.Next.{Comes}
-use Rattle.snapshot_scan.specs.Scanned.{Tried, all_opened, all_confirmed, all_asked}
+use Rattle.snapshot_scan.specs.Scanned.{Tried, all_opened, all_confirmed, all_before, all_asked}
 
 -- a load of a number of the place i is a read that is not torn: a row that was overwritten while it was read is found by the
 -- number alone. Loads of running threads have no event, and 0 stands for it
@@ -40,6 +40,7 @@ core_reads n w tries = reads_of (map (core_try n w) tries)
 pub record AreLoadsOf (c c' : Scan) (tries : List Tried) : Type 0 where
   pub opened : c'.opened ≡ c.opened ++ all_opened tries
   pub confirmed : c'.confirmed ≡ c.confirmed ++ all_confirmed tries
+  pub before : c'.before ≡ c.before ++ all_before c.opened tries
   pub asked : c'.asked ≡ c.asked ++ all_asked tries
 
 -- and what the core says of such reads is that this comes next; `last` is the try in which the scan ended

@@ -31,6 +31,10 @@ behind (m ∷ ms) = ms
 abbrev pub AreWorkers : List Member → Type 0
 AreWorkers ms = (p k : ℕ) (m : Member) → get_elem? ms p ≡ some m → m.who ≢ Reader k
 
+-- each worker that stood among the first stands among the second, as it was
+abbrev pub StayLent : (old new : List Member) → Type 0
+StayLent old new = (i : ℕ) (m : Member) → Stands i m old → Stands i m new
+
 -- one worker alone, which has seen its own number
 abbrev pub IsWorkerAlone : List Member → Type 0
 IsWorkerAlone ms = (i : ℕ) × (m : Member) × (ms ≡ m ∷ []) × (m.who ≡ Worker i) × (get_elem? m.scan.seen i ≡ some (length m.work.made))

@@ -14,3 +14,4 @@ pub mod Order
 pub mod Sources
 pub mod PlainNumber
 pub mod Plain
+pub mod Moments

@@ -65,7 +65,7 @@ opening opened gs c = record c { opened = c.opened ++ pairs 0 opened; now = reco
 
 -- and confirmed those
 abbrev pub settling : (opened found : List ℕ) → List Kept → Scan → Scan
-settling opened found gs c = record c { confirmed = c.confirmed ++ pairs 0 found; kept = map version_of gs; now = record c.now { looks = looks_of 0 opened found gs } }
+settling opened found gs c = record c { confirmed = c.confirmed ++ pairs 0 found; before = c.before ++ map (λ _. length c.opened) found; kept = map version_of gs; now = record c.now { looks = looks_of 0 opened found gs } }
 
 -- the word k of all rows together
 abbrev pub sum_rows : (k : ℕ) → List Kept → ℕ

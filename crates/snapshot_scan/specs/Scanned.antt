@@ -26,6 +26,11 @@ abbrev pub all_confirmed : List Tried → List (ℕ × ℕ)
 all_confirmed [] = []
 all_confirmed (t ∷ ts) = pairs 0 t.second ++ all_confirmed ts
 
+-- how many opening loads were made before each of their confirming loads, where these were made before the tries
+abbrev pub all_before : List (ℕ × ℕ) → List Tried → List ℕ
+all_before opened [] = []
+all_before opened (t ∷ ts) = map (λ _. length (opened ++ pairs 0 t.first)) t.second ++ all_before (opened ++ pairs 0 t.first) ts
+
 abbrev pub all_asked : List Tried → List Asked
 all_asked [] = []
 all_asked (t ∷ ts) = t.asks ++ all_asked ts
@@ -88,6 +93,7 @@ pub record IsGivenUp (n : ℕ) (c c' : Scan) (first last : List ℕ) : Type 0 wh
   pub count : length tries ≡ n + 2
   pub opened : c'.opened ≡ c.opened ++ all_opened tries
   pub confirmed : c'.confirmed ≡ c.confirmed ++ all_confirmed tries
+  pub before : c'.before ≡ c.before ++ all_before c.opened tries
   pub asked : c'.asked ≡ c.asked ++ all_asked tries
   pub each : (q : ℕ) (t : Tried) → get_elem? tries q ≡ some t → FailedTry n head.first head.second t
   pub above : (q : ℕ) (t : Tried) → get_elem? tries q ≡ some t → Below c.seen t.first

@@ -4,6 +4,7 @@ use Rattle.std.specs.Option.{ForSome}
 use Rattle.ledger_core.specs.Ops.{width}
 use Rattle.ledger_core.specs.Legal.{IsLegal}
 use Rattle.register_rule.specs.declared.view.Entry.{Entry}
+use Rattle.snapshot_scan.specs.Moments.{AreMoments}
 
 -- the last of these answers, if there is one
 abbrev pub newest : List Entry → Option Entry
@@ -23,8 +24,10 @@ pub record IsWhole (n c h g : ℕ) (a : Entry) : Type 0 where
   pub totals : length a.totals ≡ width c h g
   pub legal : IsLegal c h (slice_index a.totals)
 
--- a scan recorded one answer more, this one, which is whole and not below the one before it
+-- a scan recorded one answer more, this one, which is whole and not below the one before it; all that is recorded are moments of one
+-- history of publishes
 pub record Records (n c h g : ℕ) (before after : List Entry) (a : Entry) : Type 0 where
   pub recorded : after ≡ before ++ a ∷ []
   pub whole : IsWhole n c h g a
   pub rises : ForSome (newest before) (λ b. Rises n (width c h g) b a)
+  pub moments : AreMoments n c h g after

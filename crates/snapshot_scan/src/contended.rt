@@ -1,8 +1,11 @@
 ghost use Rattle.std.specs.Prelude.{◌≡◌, ℕ, ◌<◌, ◌≤◌, length, slice_index};
 ghost use Rattle.snapshot_scan.specs.Contention.{IsFirstMoved};
 
+use thiserror::Error;
+
 /// Refusal 14: in each of `N` + 2 tries some worker's number rose, and no worker lent its view.
-#[derive(Clone, Copy, Debug, PartialEq, Eq)]
+#[derive(Clone, Copy, Debug, PartialEq, Eq, Error)]
+#[error("a scan was given up: the number of worker {worker} rose from {first} to {last}")]
 pub struct Contended {
     /// The least worker whose number rose in the last try.
     pub worker: usize,

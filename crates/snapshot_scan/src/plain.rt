@@ -4,6 +4,7 @@ ghost use Rattle.std.specs.Option.{ForSome};
 ghost use Rattle.ledger_core.specs.Ops.{width};
 ghost use Rattle.ledger_core.specs.Legal.{IsLegal};
 ghost use Rattle.ledger_core.specs.Limits.{AreSlots};
+ghost use Rattle.snapshot_scan.specs.Moments.{ComeTo};
 ghost use Rattle.snapshot_scan.specs.Sources.{newest, Rises};
 
 use crate::recording::{NoLaw, Recordings};
@@ -23,6 +24,7 @@ pub struct PlainSource<const N: usize, const C: usize, const H: usize, const G: 
     ghost slots: { AreSlots C H G },
     ghost wide: { length row ≡ width C H G },
     ghost legal: { IsLegal C H (slice_index row) },
+    ghost comes_to: { ∥ ComeTo N C H G count row seat.me.0.entries ∥₁ },
     ghost below: { ForSome (newest seat.me.0.entries) (λ a. Rises N (width C H G) a (record { vector = count ∷ []; totals = row })) },
 }
 

@@ -5,6 +5,7 @@ ghost use Rattle.register_rule.specs.Members.{first_of};
 ghost use Rattle.register_rule.specs.Seats.{members_of};
 ghost use Rattle.snapshot_scan.specs.Shape.{scan_in};
 ghost use Rattle.snapshot_scan.specs.Memories.{IsReady};
+ghost use Rattle.snapshot_scan.specs.Moments.{AreMoments};
 ghost use Rattle.snapshot_scan.specs.Lent.{AreWorkers, behind, HasSeen};
 
 use crate::memory::Memory;
@@ -21,6 +22,7 @@ pub struct Reader<const N: usize, const C: usize, const H: usize, const G: usize
     ghost ready: { IsReady (scan_in bundle) memory },
     ghost lent: { AreWorkers (behind (members_of bundle)) },
     ghost seen: { HasSeen (members_of bundle) },
+    pub ghost moments: { AreMoments N C H G (scan_in bundle).recorded },
 }
 
 impl<const N: usize, const C: usize, const H: usize, const G: usize> Drop for Reader<N, C, H, G> {

@@ -12,7 +12,7 @@ ghost use Rattle.snapshot_scan.specs.Scanned.{IsAnswered};
 ghost use Rattle.snapshot_scan.specs.Contention.{IsContended};
 ghost use Rattle.snapshot_scan.specs.Core.{CameTo, AnswersBy};
 ghost use Rattle.snapshot_scan.specs.Snapshots.{entry_of};
-ghost use Rattle.snapshot_scan.specs.Lent.{HasNumbers, AllStand};
+ghost use Rattle.snapshot_scan.specs.Lent.{AllStand, HasNumbers, StayLent};
 ghost use Rattle.register_rule.specs.declared.view.Entry.{Entry};
 ghost use Rattle.snapshot_scan.specs.Order.{HasRecorded, IsAlone};
 ghost use Rattle.snapshot_scan.specs.Readers.{bundle_of, members_with, scan_by, index_of, IsReaderOf};
@@ -56,8 +56,8 @@ impl<const N: usize, const C: usize, const H: usize, const G: usize> Reader<N, C
     /// After Ok `out` is the last entry of what the reader has recorded, and all segments at one moment. By the board's rule its
     /// vector is comparable with every one that any scan of this board records; this call tells so of the reader's own alone.
     ///
-    /// A worker that is lent to the reader cannot publish: the vector has its number, and the totals all that it has counted.
-    /// A scan for which all workers are lent is always Ok.
+    /// A worker that is lent to the reader cannot publish: the vector has its number, and the totals all that it has counted; and it stays
+    /// lent. A scan for which all workers are lent is always Ok.
     ///
     /// # Errors
     ///
@@ -77,6 +77,7 @@ impl<const N: usize, const C: usize, const H: usize, const G: usize> Reader<N, C
         ensures found { OnOk result (HasRecorded self.new (entry_of out.new)) }
         ensures still { (a : Entry) → HasRecorded self.old a → HasRecorded self.new a }
         ensures alone { IsAlone self.old → IsAlone self.new }
+        ensures stay { StayLent (members_with self.old) (members_with self.new) }
         ensures lent { OnOk result (HasNumbers (members_with self.old) out.new.vector) }
         ensures gathered { AllStand N (members_with self.old) → IsOk result }
         ensures answers { OnOk result (AnswersBy N (width C H G) (scan_by self.old) (scan_by self.new) (entry_of out.new)) }

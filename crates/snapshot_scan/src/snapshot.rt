@@ -72,7 +72,7 @@ impl<const N: usize, const C: usize, const H: usize, const G: usize> Snapshot<N,
         self.vector.as_slice()
     }
 
-    /// The total of a counter.
+    /// The total of a counter. Asks that the slot is below `C`.
     pub fn counter(&self, slot: usize) -> u64
         requires { slot < C }
         ensures total { result ≡ slice_index self.now.totals slot }
@@ -81,7 +81,7 @@ impl<const N: usize, const C: usize, const H: usize, const G: usize> Snapshot<N,
         self.totals[slot]
     }
 
-    /// The totals of a histogram.
+    /// The totals of a histogram: its 25 buckets, each with its own values alone, its sum and its count. Asks that the slot is below `H`.
     pub fn hist(&self, slot: usize) -> HistTotals
         requires { slot < H }
         ensures buckets { result.buckets ≡ take 25 (drop (C + 27 * slot) self.now.totals) }
@@ -101,7 +101,7 @@ impl<const N: usize, const C: usize, const H: usize, const G: usize> Snapshot<N,
         }
     }
 
-    /// The totals of a gauge: its ups and its downs.
+    /// The totals of a gauge: its ups and its downs. Asks that the slot is below `G`.
     pub fn gauge_totals(&self, slot: usize) -> GaugeTotals
         requires { slot < G }
         ensures up { result.up ≡ slice_index self.now.totals (C + 27 * H + 2 * slot) }
@@ -116,7 +116,7 @@ impl<const N: usize, const C: usize, const H: usize, const G: usize> Snapshot<N,
         }
     }
 
-    /// The value of a gauge: its ups less its downs.
+    /// The value of a gauge: its ups less its downs. Asks that the slot is below `G`.
     pub fn gauge(&self, slot: usize) -> i64
         requires { slot < G }
         ensures { result ≡ pos (slice_index self.now.totals (C + 27 * H + 2 * slot)) -ℤ pos (slice_index self.now.totals (C + 27 * H + 2 * slot + 1)) }

@@ -1,8 +1,11 @@
+use Rattle.std.proofs.Common.{arith}
 use Rattle.ledger_core.specs.Ops.{width, sum_ops}
 use Rattle.ledger_core.specs.Row.{Accepts}
 use Rattle.register_rule.specs.Seats.{members_of}
 use Rattle.snapshot_scan.specs.Snapshots.{entry_of}
-use Rattle.snapshot_scan.proofs.Standing.{scanned_seen, scanned_workers, behind_scanned}
+use Rattle.snapshot_scan.proofs.Standing.{scanned_seen, scanned_workers, behind_scanned, scanned_member, stands_scanned}
+use Rattle.snapshot_scan.specs.Shape.{scan_of}
+use Rattle.snapshot_scan.proofs.Publishing.{moments_more}
 use Rattle.snapshot_scan.proofs.Gathered.{sees_on, lent_numbers, gathers, found_last, found_still}
 use Rattle.snapshot_scan.proofs.reader.Reader.scan.Goals as goal
 
@@ -12,6 +15,14 @@ invariant_of-self-clause-lent g c = let r = c.args.self.now in scanned_workers _
 pub invariant_of-self-clause-seen : goal.invariant_of-self-clause-seen
 invariant_of-self-clause-seen g c = let r = c.args.self.now in let s = c.scan_to in
     scanned_seen r.index (members_of r.bundle) (members_of s.new.seat) r.leads r.is s.ensures.others (sees_on g.row.N _ _ (entry_of s.new.out) s.result s.ensures.answered s.ensures.contended) r.seen
+
+pub invariant_of-self-clause-moments : goal.invariant_of-self-clause-moments
+invariant_of-self-clause-moments g c =
+    let r = c.args.self.now in
+    let s = c.scan_to in
+    let geometry = r.memory.geometry in
+    moments_more g.row.N g.row.C g.row.H g.row.G (omega (arith, geometry)) (members_of s.new.seat) s.ensures.ruled (scanned_member (scan_of (members_of s.new.seat)) (members_of r.bundle) (members_of s.new.seat) r.leads s.ensures.others)
+    (scan_of (members_of r.bundle)) (entry_of s.new.out) s.result s.ensures.answered s.ensures.contended r.moments
 
 pub returns-clause-lent : goal.returns-clause-lent
 returns-clause-lent g c = let r = c.args.self.now in let s = c.scan_to in
@@ -31,3 +42,7 @@ returns-clause-alone g c = λ alone. behind_scanned _ (members_of c.args.self.no
 
 pub returns-clause-still : goal.returns-clause-still
 returns-clause-still g c = let s = c.scan_to in found_still g.row.N _ _ (entry_of s.new.out) s.result s.ensures.answered s.ensures.contended
+
+pub returns-clause-stay : goal.returns-clause-stay
+returns-clause-stay g c = let r = c.args.self.now in let s = c.scan_to in
+    λ i m stood. stands_scanned i r.index (scan_of (members_of s.new.seat)) m (members_of r.bundle) (members_of s.new.seat) r.is s.ensures.others stood
