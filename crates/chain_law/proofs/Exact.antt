@@ -26,11 +26,15 @@ use Rattle.snapshot_scan.specs.Shape.{with_scan}
 use Rattle.snapshot_scan.specs.Snapshots.{Taken, entry_of}
 use Rattle.snapshot_scan.proofs.LastEntry.{at_end}
 use Rattle.snapshot_scan.proofs.Words.{at_map}
+use Rattle.snapshot_scan.proofs.Publishing.{ops_of, whose_moments}
+use Rattle.snapshot_scan.proofs.Sourced.{has_member}
+use Rattle.std.proofs.Math.Logic.{∥∥₁_map}
 use Rattle.snapshot_update.specs.declared.worker.Worker.{Worker}
 use Rattle.snapshot_update.specs.Workers.{index_of, member_of, lists_of, ops_in}
-use Rattle.snapshot_update.proofs.Lending.{one_picked, apart_at, stands_scanned, lent_scanned}
+use Rattle.snapshot_scan.proofs.Standing.{stands_scanned}
+use Rattle.snapshot_update.proofs.Lending.{one_picked, apart_at, lent_scanned}
 use Rattle.chain_law.specs.Lent.{AreLentFrom, IsLentFrom, AreDistinct, AreLent, IsBackFrom, AreBackFrom, HaveLeft}
-use Rattle.chain_law.specs.Settled.{HasIndex, IsSettled, AreSame}
+use Rattle.chain_law.specs.Settled.{HasIndex, IsSettled, AreSame, AreMomentsOf, made_of}
 use Rattle.register_rule.proofs.Words.{there, at_below}
 use Rattle.chain_law.proofs.Sums.{sums, AreOnce, in_any_order}
 use Rattle.chain_law.proofs.Totals.{all_sum, rows_sum}
@@ -111,6 +115,9 @@ module _ {N C H G : ℕ} (place : ℕ) (vs ws us : List (Worker N C H G)) (r1 r2
         lists = same_lists lists_of vs us (many ∙ long) (λ p v u at now. let t = three p v u at now in
             let is : member_of u ≡ t.2.0.member = same_member (index_of t.0) (member_of u) t.2.0.member (members_with r2) ruled.apart t.2.1.stood (stands p v t.0 t.2.0).1 in
             ap (λ (m : Member). map ops_in m.work.made) is ∙ ap (map ops_in) t.2.0.made);
+        made = same_lists made_of vs us (many ∙ long) (λ p v u at now. let t = three p v u at now in
+            let is : member_of u ≡ t.2.0.member = same_member (index_of t.0) (member_of u) t.2.0.member (members_with r2) ruled.apart t.2.1.stood (stands p v t.0 t.2.0).1 in
+            ap (λ (m : Member). m.work.made) is ∙ t.2.0.made);
       }
         where
           three : (p : ℕ) (v u : Worker N C H G) → get_elem? vs p ≡ some v → get_elem? us p ≡ some u → (w : Worker N C H G) × (get_elem? ws p ≡ some w) × (IsLentFrom (place + p) v w r1 × IsBackFrom w u r2)
@@ -149,6 +156,16 @@ module _ {N C H G : ℕ} (place : ℕ) (vs ws us : List (Worker N C H G)) (r1 r2
           let h = at_below vs p v at in let w = get_or ws p v in let e = there ws p v (omega (arith, h, long)) in let l = lent p v w h at e in
           let o = owned p v w l in let low = o.0 in let i = l.index in
           (omega (arith, low, i), ap ruled.made (sym l.index) ∙ (sym o.1 ∙ l.made))
+
+      -- all that the reader recorded are moments of the history of what they published
+      pub moments_of : AreMomentsOf vs (scan_by r2).recorded
+      moments_of = ∥∥₁_map (whose_moments N C H G (let geometry = r2.memory.geometry in omega (arith, geometry)) (members_with r2) ruled (has_member (members_with r2) r2.leads) r2.moments)
+          (λ (history, accepted, along, lists). record {
+            history = history;
+            accepted = accepted;
+            along = along;
+            lists = λ p v at. let is = made_is p v at in lists (index_of v) is.0 ∙ ap (map ops_of) is.1;
+          })
 
       sound : IsSound N (width C H G) (sum_ops C H) ruled.made ruled.history (scan_by r2)
       sound = ruled.scans 0 (first_of (members_with r2)) (first_at (members_with r2) r2.leads)

@@ -8,3 +8,4 @@ pub mod Vectors
 pub mod Pieces
 pub mod Histories
 pub mod Recorded
+pub mod Later

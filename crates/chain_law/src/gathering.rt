@@ -28,8 +28,8 @@ fn present<const N: usize, const C: usize, const H: usize, const G: usize>(
     }
 }
 
-/// The least worker that is none of these.
-pub(crate) fn missing<const N: usize, const C: usize, const H: usize, const G: usize>(
+/// The least worker that is none of these, if one is missing.
+pub fn missing<const N: usize, const C: usize, const H: usize, const G: usize>(
     workers: &[Worker<N, C, H, G>],
 ) -> Option<usize>
     requires geometry { IsGeometry N C H G }

@@ -8,6 +8,7 @@ mod not_all;
 mod settling;
 mod turns;
 
+pub use gathering::missing;
 pub use history::history_of;
 pub use not_all::NotAll;
 pub use settling::settle;

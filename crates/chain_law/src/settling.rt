@@ -6,7 +6,7 @@ ghost use Rattle.snapshot_scan.specs.Order.{HasRecorded, IsAlone};
 ghost use Rattle.snapshot_scan.specs.Readers.{scan_by, index_of as reader_index, IsReaderOf};
 ghost use Rattle.snapshot_scan.specs.Snapshots.{entry_of};
 ghost use Rattle.snapshot_update.specs.Workers.{IsWorkerOf};
-ghost use Rattle.chain_law.specs.Settled.{HasIndex, IsSettled, IsMissing, AreSame};
+ghost use Rattle.chain_law.specs.Settled.{HasIndex, IsSettled, IsMissing, AreSame, AreMomentsOf};
 
 use crate::gathering::{lend_all, missing, take_all};
 use crate::not_all::NotAll;
@@ -40,6 +40,7 @@ pub fn settle<const N: usize, const C: usize, const H: usize, const G: usize>(
     ensures quit { (scan_by reader.new).quit ≡ (scan_by reader.old).quit }
     ensures seen { OnOk result (SeesMore out.new.vector (scan_by reader.new).seen) }
     ensures settled { OnOk result (IsSettled workers.old out.new) }
+    ensures moments { OnOk result (AreMomentsOf workers.old (scan_by reader.new).recorded) }
     ensures all { OnOk result ((i : ℕ) → i < N → HasIndex workers.old i) }
     ensures alone { OnOk result (IsAlone reader.new) }
     ensures missing { IfErr result (λ e. IsMissing workers.old e.missing) }

@@ -17,7 +17,7 @@ use Rattle.snapshot_scan.specs.declared.reader.Reader.{Reader as reader}
 use Rattle.snapshot_scan.specs.Lent.{Stands}
 use Rattle.snapshot_scan.specs.Readers.{members_with}
 use Rattle.snapshot_scan.specs.Shape.{with_scan}
-use Rattle.snapshot_scan.proofs.Standing.{stands_behind}
+use Rattle.snapshot_scan.proofs.Standing.{stands_behind, stands_scanned}
 use Rattle.snapshot_scan.proofs.Words.{front_at, at_map}
 use Rattle.snapshot_update.specs.declared.worker.Worker.{Worker as worker}
 use Rattle.snapshot_update.specs.Lending.{IsLentAs}
@@ -133,10 +133,6 @@ met_at ms ws p m e = at_map (raised (greatest (ms ++ ws))) (ms ++ ws) p m (front
 
 pub stands_met : (i : ℕ) (m : Member) (ms ws ms' : List Member) → ms' ≡ met (ms ++ ws) → Stands i m ms → Stands i (raised (greatest (ms ++ ws)) m) ms'
 stands_met i m ms ws ms' joins (p, e, is) = (p, ap (λ (l : List Member). get_elem? l p) joins ∙ met_at ms ws p m e, is)
-
-pub stands_scanned : (i k : ℕ) (c : Scan) (m : Member) (ms ms' : List Member) → (first_of ms).who ≡ Reader k → ms' ≡ with_scan c ms → Stands i m ms → Stands i m ms'
-stands_scanned i k c m [] ms' first same (p, e, is) = absurd (some-ne-none m (sym e))
-stands_scanned i k c m (m0 ∷ ms) ms' first same s = let b = stands_behind i k m m0 ms first s in (suc b.0, ap (λ (l : List Member). get_elem? l (suc b.0)) same ∙ b.1, b.2)
 
 stays_in : (i j p : ℕ) (m : Member) (ms : List Member) → i ≢ j → get_elem? ms p ≡ some m → m.who ≡ Worker i → (q : ℕ) × (get_elem? (without (Worker j) ms) q ≡ some m)
 stays_in i j p m [] other e is = absurd (some-ne-none m (sym e))

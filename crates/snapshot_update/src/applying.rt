@@ -70,7 +70,7 @@ impl<const N: usize, const C: usize, const H: usize, const G: usize> Worker<N, C
         ensures accepted { OnOk result (Accepts C H G (total (sum_ops C H) (member_of self.old).work.made) ops.now) }
         ensures room { OnOk result (length (member_of self.old).work.made < 18446744073709551615) }
         ensures fault { IfErr result (IsApplyFault C H G (member_of self.old) ops.now) }
-        ensures unchanged { OnErr result (member_of self.new ≡ member_of self.old) }
+        ensures unchanged { OnErr result (self.new ≡ self.old) }
     {
         if self.number == u64::MAX {
             return Err(ApplyFault::Exhausted);

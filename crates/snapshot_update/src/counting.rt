@@ -37,7 +37,7 @@ impl<const N: usize, const C: usize, const H: usize, const G: usize> Worker<N, C
         ensures index { index_of self.new ≡ index_of self.old }
         ensures counted { OnOk result (IsCounted (board_id board.now) counter.now.registry (Inc counter.now.slot by) self.old self.new) }
         ensures fault { IfErr result (IsCountFault C H G (board_id board.now) counter.now.registry (Inc counter.now.slot by) (member_of self.old)) }
-        ensures unchanged { OnErr result (member_of self.new ≡ member_of self.old) }
+        ensures unchanged { OnErr result (self.new ≡ self.old) }
     {
         self.count(
             board,
@@ -65,7 +65,7 @@ impl<const N: usize, const C: usize, const H: usize, const G: usize> Worker<N, C
         ensures index { index_of self.new ≡ index_of self.old }
         ensures counted { OnOk result (IsCounted (board_id board.now) hist.now.registry (Observe hist.now.slot (place_of hist.now.bounds value) value) self.old self.new) }
         ensures fault { IfErr result (IsCountFault C H G (board_id board.now) hist.now.registry (Observe hist.now.slot (place_of hist.now.bounds value) value) (member_of self.old)) }
-        ensures unchanged { OnErr result (member_of self.new ≡ member_of self.old) }
+        ensures unchanged { OnErr result (self.new ≡ self.old) }
     {
         let place = hist.bounds.place(value);
         self.count(
@@ -95,7 +95,7 @@ impl<const N: usize, const C: usize, const H: usize, const G: usize> Worker<N, C
         ensures index { index_of self.new ≡ index_of self.old }
         ensures counted { OnOk result (IsCounted (board_id board.now) gauge.now.registry (Up gauge.now.slot by) self.old self.new) }
         ensures fault { IfErr result (IsCountFault C H G (board_id board.now) gauge.now.registry (Up gauge.now.slot by) (member_of self.old)) }
-        ensures unchanged { OnErr result (member_of self.new ≡ member_of self.old) }
+        ensures unchanged { OnErr result (self.new ≡ self.old) }
     {
         self.count(
             board,
@@ -123,7 +123,7 @@ impl<const N: usize, const C: usize, const H: usize, const G: usize> Worker<N, C
         ensures index { index_of self.new ≡ index_of self.old }
         ensures counted { OnOk result (IsCounted (board_id board.now) gauge.now.registry (Down gauge.now.slot by) self.old self.new) }
         ensures fault { IfErr result (IsCountFault C H G (board_id board.now) gauge.now.registry (Down gauge.now.slot by) (member_of self.old)) }
-        ensures unchanged { OnErr result (member_of self.new ≡ member_of self.old) }
+        ensures unchanged { OnErr result (self.new ≡ self.old) }
     {
         self.count(
             board,
@@ -177,7 +177,7 @@ impl<const N: usize, const C: usize, const H: usize, const G: usize> Worker<N, C
         ensures index { index_of self.new ≡ index_of self.old }
         ensures counted { OnOk result (IsCounted (board_id board.now) registry op self.old self.new) }
         ensures fault { IfErr result (IsCountFault C H G (board_id board.now) registry op (member_of self.old)) }
-        ensures unchanged { OnErr result (member_of self.new ≡ member_of self.old) }
+        ensures unchanged { OnErr result (self.new ≡ self.old) }
     {
         if registry != board.id() {
             return Err(CountFault::WrongRegistry);

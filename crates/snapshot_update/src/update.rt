@@ -151,7 +151,7 @@ pub(crate) fn update<const N: usize, const C: usize, const H: usize, const G: us
     ensures accepted { OnOk result (Accepts C H G (total (sum_ops C H) (worker_of seat.old).work.made) ops.now) }
     ensures own_row { OnOk result (images.new.own ≡ true) }
     ensures fault { IfErr result (IsOpFault C H G (total (sum_ops C H) (worker_of seat.old).work.made) ops.now) }
-    ensures unchanged { OnErr result (worker_of seat.new ≡ worker_of seat.old) }
+    ensures unchanged { OnErr result ((seat.new ≡ seat.old) × (row.new ≡ row.old) × (memory.new ≡ memory.old) × (images.new ≡ images.old)) }
 {
     row.try_apply(ops)?;
     let ended = scan_own(board, seat, memory);

@@ -7,7 +7,8 @@ use Rattle.snapshot_scan.specs.Lent.{SeesMore}
 use Rattle.snapshot_scan.specs.Order.{HasRecorded}
 use Rattle.snapshot_scan.specs.Readers.{members_with, scan_by}
 use Rattle.snapshot_scan.proofs.Standing.{sees_right}
-use Rattle.chain_law.proofs.Exact.{all_stand, still_lent, are_distinct, are_same, is_settled, nobody_behind}
+use Rattle.chain_law.proofs.Exact.{all_stand, still_lent, are_distinct, are_same, is_settled, moments_of, nobody_behind}
+use Rattle.chain_law.specs.Settled.{AreMomentsOf}
 use Rattle.chain_law.proofs.settling.settle.Goals as goal
 
 pub unreachable-requires : goal.unreachable-requires
@@ -44,6 +45,12 @@ pub returns-clause-settled : goal.returns-clause-settled
 returns-clause-settled g c =
     let place = length (members_with c.args.reader.now) in let vs = c.args.workers.now in let ws = c.lend_all.new.workers in let r1 = c.lend_all.new.reader in let r2 = c.scan.new.self in
     is_settled place vs ws ws r1 r2 c.lend_all.auto.workers c.lend_all.ensures.lent c.scan.ensures.others c.scan.ensures.ruled c.args.reader.now.leads c.scan.new.out c.in-Ok.ensures.answered c.in-Ok.ensures.lent c.in_default.ensures.none
+
+pub returns-clause-moments : goal.returns-clause-moments
+returns-clause-moments g c =
+    let place = length (members_with c.args.reader.now) in let vs = c.args.workers.now in let ws = c.lend_all.new.workers in let r1 = c.lend_all.new.reader in let r2 = c.scan.new.self in
+    subst (λ (x : Scan). AreMomentsOf vs x.recorded) (sym c.take_all.ensures.scan)
+    (moments_of place vs ws ws r1 r2 c.lend_all.auto.workers c.lend_all.ensures.lent c.scan.ensures.others c.scan.ensures.ruled c.args.reader.now.leads c.scan.new.out c.in-Ok.ensures.answered c.in-Ok.ensures.lent c.in_default.ensures.none)
 
 pub returns-clause-alone : goal.returns-clause-alone
 returns-clause-alone g c =
