@@ -1,4 +1,6 @@
 //! Gates for tests.
+ghost use Rattle.std.specs.Prelude.{false};
+
 use std::sync::atomic::{AtomicU64, Ordering};
 use std::thread::yield_now;
 use worker_pool::Gate;
@@ -66,6 +68,10 @@ impl Meeting {
 }
 
 impl Gate for Meeting {
+    ghost ALWAYS_OPEN = { false };
+
+    const ALWAYS_OPEN: bool = false;
+
     fn open(&self, worker: usize) -> bool {
         if self.is_shut() {
             return false;
@@ -112,6 +118,10 @@ impl ShutsBehind {
 }
 
 impl Gate for ShutsBehind {
+    ghost ALWAYS_OPEN = { false };
+
+    const ALWAYS_OPEN: bool = false;
+
     fn open(&self, _worker: usize) -> bool {
         self.asked.fetch_add(1, Ordering::SeqCst);
         self.told.load(Ordering::SeqCst) == 0

@@ -2,5 +2,8 @@ pub mod Ordered
 pub mod Working
 pub mod Places
 pub mod Joined
+pub mod Least
+pub mod Gathered
 pub mod Pledging
 pub mod Ending
+pub mod Opened

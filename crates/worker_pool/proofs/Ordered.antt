@@ -42,3 +42,32 @@ before_both (NoThread a) (NoThread b) (NoThread c) x y = omega (arith, x, y)
 before_both (NoThread a) (NoThread b) NoMemory x y = tt
 before_both (NoThread a) NoMemory h x y = absurd y
 before_both NoMemory g h x y = absurd x
+
+-- what comes before f comes before all that do not come before f
+pub still_before : (h f g : PoolFault) → ComesBefore h f → ¬ (ComesBefore g f) → ComesBefore h g
+still_before (Refused a m) (Refused c o) (Refused b n) x late = omega (arith, x, late)
+still_before (Refused a m) (GateShut c) (Refused b n) x late = absurd (late tt)
+still_before (Refused a m) (NoThread c) (Refused b n) x late = absurd (late tt)
+still_before (Refused a m) NoMemory (Refused b n) x late = absurd (late tt)
+still_before (Refused a m) f (GateShut b) x late = tt
+still_before (Refused a m) f (NoThread b) x late = tt
+still_before (Refused a m) f NoMemory x late = tt
+still_before (GateShut a) (Refused c o) g x late = absurd x
+still_before (GateShut a) (GateShut c) (Refused b n) x late = absurd (late tt)
+still_before (GateShut a) (GateShut c) (GateShut b) x late = omega (arith, x, late)
+still_before (GateShut a) (NoThread c) (Refused b n) x late = absurd (late tt)
+still_before (GateShut a) (NoThread c) (GateShut b) x late = absurd (late tt)
+still_before (GateShut a) NoMemory (Refused b n) x late = absurd (late tt)
+still_before (GateShut a) NoMemory (GateShut b) x late = absurd (late tt)
+still_before (GateShut a) f (NoThread b) x late = tt
+still_before (GateShut a) f NoMemory x late = tt
+still_before (NoThread a) (Refused c o) g x late = absurd x
+still_before (NoThread a) (GateShut c) g x late = absurd x
+still_before (NoThread a) (NoThread c) (Refused b n) x late = absurd (late tt)
+still_before (NoThread a) (NoThread c) (GateShut b) x late = absurd (late tt)
+still_before (NoThread a) (NoThread c) (NoThread b) x late = omega (arith, x, late)
+still_before (NoThread a) NoMemory (Refused b n) x late = absurd (late tt)
+still_before (NoThread a) NoMemory (GateShut b) x late = absurd (late tt)
+still_before (NoThread a) NoMemory (NoThread b) x late = absurd (late tt)
+still_before (NoThread a) f NoMemory x late = tt
+still_before NoMemory f g x late = absurd x

@@ -1,5 +1,5 @@
 -- Items of lists, by their places.
-use Rattle.std.proofs.Common.{◌≡◌, ℕ, zero, suc, ◌+◌, List, [], ◌∷◌, ◌++◌, length, take, drop, sym, ap, subst, arith}
+use Rattle.std.proofs.Common.{◌≡◌, ℕ, zero, suc, ◌+◌, List, [], ◌∷◌, ◌++◌, length, take, drop, refl, sym, ap, subst, arith}
 use mathlib.Core.Option.{some, some-injective, some-ne-none}
 use lib.ListN.{get_elem?}
 
@@ -24,3 +24,14 @@ module _ {A : Type 0} where
   -- one more item of the beginning of a list
   pub take_next : (k : ℕ) (xs : List A) (x : A) → get_elem? xs k ≡ some x → take (k + 1) xs ≡ take k xs ++ x ∷ []
   take_next k xs x e = let h : suc k ≡ k + 1 = omega arith in subst (λ (j : ℕ). take j xs ≡ take k xs ++ x ∷ []) h (taken_then k xs x e)
+
+  -- what stands in a list stands there still when the list grows
+  pub stays : (xs : List A) (y : A) (k : ℕ) (x : A) → get_elem? xs k ≡ some x → get_elem? (xs ++ y ∷ []) k ≡ some x
+  stays [] y k x e = absurd (some-ne-none x (sym e))
+  stays (z ∷ zs) y zero x e = e
+  stays (z ∷ zs) y (suc k) x e = stays zs y k x e
+
+  -- what a list grew by stands behind all that was there
+  pub at_end : (xs : List A) (x : A) → get_elem? (xs ++ x ∷ []) (length xs) ≡ some x
+  at_end [] x = refl
+  at_end (y ∷ ys) x = at_end ys x

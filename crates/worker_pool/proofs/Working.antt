@@ -1,5 +1,5 @@
 -- One more job is done.
-use Rattle.std.proofs.Common.{◌≡◌, ℕ, ◌+◌, List, [], ◌∷◌, ◌++◌, take, map, All, sym, ap, ◌∙◌, subst, append_assoc}
+use Rattle.std.proofs.Common.{refl, Bool, true, false, ◌≡◌, ℕ, ◌+◌, List, [], ◌∷◌, ◌++◌, take, map, All, sym, ap, ◌∙◌, subst, append_assoc}
 use mathlib.Core.Option.{some}
 use lib.ListN.{get_elem?}
 use Rattle.std.proofs.lemmas.List.{map-append}
@@ -26,3 +26,8 @@ module _ {N C H G : ℕ} (b : Board N C H G) (jobs : List Job) (w u v : Worker N
             ∙ ap (λ (l : List (List Op)). lists_of w ++ l) (sym (ap (map list_of_job) next ∙ map-append list_of_job (take k jobs) (job ∷ [])))));
         handles = subst (All (λ (j : Job). registry_of j.what ≡ board_id b)) (sym next) (All-push (λ (j : Job). registry_of j.what ≡ board_id b) (take k jobs) job did.handles counted.of_it);
       }
+
+-- what is never false where the gate is always open was false, so it is not
+pub not_always : (always result : Bool) → (always ≡ true → result ≡ true) → result ≡ false → always ≡ false
+not_always true result opens shut = absurd (let e : result ≡ true = opens refl in cc)
+not_always false result opens shut = refl

@@ -1,5 +1,5 @@
 -- The numbers of the faults of a pool, and which one is told.
-use Rattle.std.specs.Prelude.{ℕ, ◌<◌, ⊤}
+use Rattle.std.specs.Prelude.{◌≡◌, ◌⊎◌, ℕ, ◌<◌, ⊤, Option, Some, None}
 use Rattle.worker_pool.specs.declared.fault.PoolFault.{PoolFault}
 use Rattle.worker_pool.specs.declared.fault.PoolFault.TheVariants.{Refused, GateShut, NoThread, NoMemory}
 
@@ -21,3 +21,16 @@ ComesBefore (NoThread worker) (NoThread other) = worker < other
 ComesBefore NoMemory _ = ⊥
 ComesBefore _ NoMemory = ⊤
 ComesBefore _ _ = ⊥
+
+-- of a fault that may be known and another one, of a worker after its own, this one is told
+abbrev pub IsEarlier : (known : Option PoolFault) → (other told : PoolFault) → Type 0
+IsEarlier None other told = told ≡ other
+IsEarlier (Some f) other told = (ComesBefore other f × (told ≡ other)) ⊎ (¬ (ComesBefore other f) × (told ≡ f))
+
+-- of the faults that were met, each at the place of its worker, this one is told: none comes before it, and it comes before each
+-- that was met at a lesser place. So of two refusals of one line that of the lesser worker is told
+pub record IsLeast (Met : (place : ℕ) → PoolFault → Type 0) (f : PoolFault) : Type 0 where
+  pub place : ℕ
+  pub met : Met place f
+  pub first : (i : ℕ) (g : PoolFault) → Met i g → ¬ (ComesBefore g f)
+  pub least : (i : ℕ) (g : PoolFault) → Met i g → i < place → ComesBefore f g

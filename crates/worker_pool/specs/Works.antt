@@ -1,5 +1,5 @@
 -- How the work of one worker ends.
-use Rattle.std.specs.Prelude.{◌≡◌, ◌++◌, ◌<◌, List, length, map, take, ℕ, All, Result, Ok, Err}
+use Rattle.std.specs.Prelude.{◌≡◌, ◌++◌, ◌<◌, List, length, map, take, ℕ, All, Result, Ok, Err, Bool, false}
 use mathlib.Core.Option.{some}
 use lib.ListN.{get_elem?}
 use Rattle.register_rule.specs.declared.board.Board.{Board}
@@ -41,10 +41,11 @@ module _ {N C H G : ℕ} where
     pub v : Worker N C H G
     pub did : Did b (take k jobs) w v
 
-  -- how the work of the worker at this place, on its thread, ends: it did all its jobs, or was refused one, or was shut out
-  abbrev pub IsWorkEnd : Board N C H G → (place : ℕ) → List Job → Worker N C H G → Result (Worker N C H G) PoolFault → Type 0
-  IsWorkEnd b place jobs w (Ok v) = Did b jobs w v
-  IsWorkEnd b place jobs w (Err (Refused line number)) = WasRefused b jobs w line number
-  IsWorkEnd b place jobs w (Err (GateShut worker)) = (worker ≡ place) × WasShutOut b jobs w
-  IsWorkEnd b place jobs w (Err (NoThread worker)) = ⊥
-  IsWorkEnd b place jobs w (Err NoMemory) = ⊥
+  -- how the work of the worker at this place, on its thread, ends: it did all its jobs, or was refused one, or was shut
+  -- out, by a gate that is not always open
+  abbrev pub IsWorkEnd : (always_open : Bool) → Board N C H G → (place : ℕ) → List Job → Worker N C H G → Result (Worker N C H G) PoolFault → Type 0
+  IsWorkEnd always_open b place jobs w (Ok v) = Did b jobs w v
+  IsWorkEnd always_open b place jobs w (Err (Refused line number)) = WasRefused b jobs w line number
+  IsWorkEnd always_open b place jobs w (Err (GateShut worker)) = (worker ≡ place) × (always_open ≡ false) × WasShutOut b jobs w
+  IsWorkEnd always_open b place jobs w (Err (NoThread worker)) = ⊥
+  IsWorkEnd always_open b place jobs w (Err NoMemory) = ⊥

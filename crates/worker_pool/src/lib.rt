@@ -4,6 +4,7 @@
 mod fault;
 mod gate;
 mod job;
+mod outcome;
 mod promise;
 mod run;
 mod starting;

@@ -1,6 +1,7 @@
 //! A pool of threads.
-ghost use Rattle.std.specs.Prelude.{◌≡◌, length, IfOk, IfErr, vec_len, All};
+ghost use Rattle.std.specs.Prelude.{◌≡◌, ◌≢◌, true, length, IfOk, IfErr, vec_len, All};
 ghost use Rattle.snapshot_update.specs.Workers.{IsWorkerOf};
+ghost use Rattle.worker_pool.specs.Faults.{pool_number};
 ghost use Rattle.worker_pool.specs.Ends.{DidAll, IsPoolFault};
 
 use crate::fault::PoolFault;
@@ -23,9 +24,10 @@ use std::thread::Threads;
 ///
 /// # Errors
 ///
-/// The first that is there in this order, and of one kind the one of the least line or worker: the number of a worker's
-/// refusal (16, 15, 11, 12), [`PoolFault::Refused`]; 29 [`PoolFault::GateShut`]; 30 [`PoolFault::NoThread`]. 6
-/// [`PoolFault::NoMemory`] comes before the first thread, so that no job was done then. The workers are gone.
+/// The first that is there in this order, of one kind the one of the least line or worker, and of two refusals of one line that of
+/// the lesser worker: the number of a worker's refusal (16, 15, 11, 12), [`PoolFault::Refused`]; 29 [`PoolFault::GateShut`], which
+/// does not come behind a gate that is always open; 30 [`PoolFault::NoThread`]. 6 [`PoolFault::NoMemory`] comes before the first
+/// thread, so that no job was done then. The workers are gone.
 pub fn run_pool<
     R: Threads + Wait,
     P: Gate + Sync,
@@ -45,14 +47,15 @@ pub fn run_pool<
     requires own { All (IsWorkerOf board.now) workers.items }
     ensures did { IfOk result (λ v. DidAll board.now jobs.now workers.entry.items v.items) }
     ensures own { IfOk result (λ v. All (IsWorkerOf board.now) v.items) }
-    ensures fault { IfErr result (IsPoolFault board.now jobs.now workers.entry.items) }
+    ensures fault { IfErr result (IsPoolFault P.ALWAYS_OPEN board.now jobs.now workers.entry.items) }
+    ensures opened { P.ALWAYS_OPEN ≡ true → IfErr result (λ f. pool_number f ≢ 29) }
 {
     thread::scope(
         thread::scope_env(),
         rt,
         |scope| -> Result<Vec<Worker<N, C, H, G>>, PoolFault>
             requires { (length jobs.now ≡ vec_len workers) × All (IsWorkerOf board.now) workers.items }
-            ensures { IfOk result (λ v. DidAll board.entry.now jobs.entry.now workers.items v.items × All (IsWorkerOf board.entry.now) v.items) × IfErr result (IsPoolFault board.entry.now jobs.entry.now workers.items) }
+            ensures { IfOk result (λ v. DidAll board.entry.now jobs.entry.now workers.items v.items × All (IsWorkerOf board.entry.now) v.items) × IfErr result (IsPoolFault P.ALWAYS_OPEN board.entry.now jobs.entry.now workers.items) × (P.ALWAYS_OPEN ≡ true → IfErr result (λ f. pool_number f ≢ 29)) }
         { run_in(rt, scope, alloc, board, workers, jobs, gate) },
     )
 }

@@ -1,14 +1,15 @@
 //! Starting the threads of a pool, and joining them.
-ghost use Rattle.std.specs.Prelude.{◌≡◌, ◌<◌, ◌≤◌, length, map, List, Ok, IfOk, IfErr, IfNone, IfSome, vec_len, vec_capacity, All, Result};
+ghost use Rattle.std.specs.Prelude.{◌≡◌, ◌≢◌, true, ◌≤◌, length, IfOk, IfErr, vec_len, vec_capacity, All};
 ghost use Rattle.snapshot_update.specs.Workers.{IsWorkerOf};
-ghost use Rattle.worker_pool.specs.declared.fault.PoolFault.TheVariants.{NoThread};
+ghost use Rattle.worker_pool.specs.Faults.{pool_number};
 ghost use Rattle.worker_pool.specs.Ends.{DidAll, IsPoolFault};
 ghost use Rattle.worker_pool.specs.Works.{IsWorkEnd};
-ghost use Rattle.worker_pool.specs.Pledges.{ArePledged, HaveKept, IsLeast};
+ghost use Rattle.worker_pool.specs.Pledges.{ArePledged, HaveKept};
 
 use crate::fault::PoolFault;
 use crate::gate::Gate;
 use crate::job::Job;
+use crate::outcome::outcome;
 use crate::promise::Does;
 use crate::thread_work::work;
 use register_rule::Board;
@@ -23,7 +24,7 @@ type Thread<'s, const N: usize, const C: usize, const H: usize, const G: usize> 
     Does<'s, N, C, H, G>,
 >;
 
-/// Starts a thread for each worker. Where the system gives none, it starts no more and answers [`PoolFault::NoThread`].
+/// Starts a thread for each worker. Where the system gives none, it starts no more.
 fn start_all<
     's,
     E: 's,
@@ -39,13 +40,12 @@ fn start_all<
     jobs: &'s [Vec<Job>],
     gate: &'s P,
     threads: &mut Vec<Thread<'s, N, C, H, G>>,
-) -> Option<PoolFault>
+)
     requires lists { length jobs.now ≡ vec_len workers }
     requires own { All (IsWorkerOf board.now) workers.items }
     requires room { (vec_len threads.old ≡ 0) × (vec_len workers ≤ vec_capacity threads.old) }
-    ensures pledged { ArePledged board.now jobs.now workers.entry.items threads.new.items }
-    ensures all { IfNone result (length threads.new.items ≡ length workers.entry.items) }
-    ensures fewer { IfSome result (λ f. (length threads.new.items < length workers.entry.items) × (f ≡ NoThread (length threads.new.items))) }
+    ensures pledged { ArePledged P.ALWAYS_OPEN board.now jobs.now workers.entry.items threads.new.items }
+    ensures few { length threads.new.items ≤ length workers.entry.items }
 {
     let mut place = 0;
     for worker in workers {
@@ -54,57 +54,41 @@ fn start_all<
             board,
             place,
             jobs: list,
+            always_open: P::ALWAYS_OPEN,
             was: Snapshot::of(&worker),
         };
         let started = scope.spawn_with(
             promise,
             move || -> Result<Worker<N, C, H, G>, PoolFault>
                 requires { IsWorkerOf board.now worker }
-                ensures { IsWorkEnd board.entry.now place list.entry.now worker result }
+                ensures { IsWorkEnd P.ALWAYS_OPEN board.entry.now place list.entry.now worker result }
             { work(board, worker, place, list, gate) },
         );
         let Ok(thread) = started else {
-            return Some(PoolFault::NoThread { worker: place });
+            return;
         };
         let Ok(()) = threads.push(thread) else {
             unreachable!()
         };
         place += 1;
     }
-    None
 }
 
-/// Joins all threads, and gives the workers, if all of them handed theirs back and there is no fault already. Else it gives
-/// the first fault.
+/// Joins all threads, and gives their results in the order of the threads.
 fn join_all<'s, R: Threads, const N: usize, const C: usize, const H: usize, const G: usize>(
     rt: &R,
     threads: Vec<Thread<'s, N, C, H, G>>,
-    mut done: Vec<Worker<N, C, H, G>>,
-    mut fault: Option<PoolFault>,
-) -> Result<Vec<Worker<N, C, H, G>>, PoolFault>
-    requires room { (vec_len done ≡ 0) × (vec_len threads ≤ vec_capacity done) }
-    ensures all { IfOk result (λ v. (fault ≡ None) × HaveKept threads.entry.items (map Ok v.items)) }
-    ensures told { IfErr result (λ f. (ends : List (Result _ _)) × HaveKept threads.entry.items ends × IsLeast fault ends f) }
+    mut ends: Vec<Result<Worker<N, C, H, G>, PoolFault>>,
+) -> Vec<Result<Worker<N, C, H, G>, PoolFault>>
+    requires room { (vec_len ends ≡ 0) × (vec_len threads ≤ vec_capacity ends) }
+    ensures { HaveKept threads.entry.items result.items }
 {
     for thread in threads {
-        match thread.join(rt) {
-            Ok(worker) => {
-                let Ok(()) = done.push(worker) else {
-                    unreachable!()
-                };
-            }
-            Err(other) => {
-                fault = Some(match fault {
-                    Some(known) => known.first(other),
-                    None => other,
-                });
-            }
-        }
+        let Ok(()) = ends.push(thread.join(rt)) else {
+            unreachable!()
+        };
     }
-    match fault {
-        None => Ok(done),
-        Some(fault) => Err(fault),
-    }
+    ends
 }
 
 /// Starts a thread for each worker, joins them all, and gives the workers back. Room is taken before the first thread.
@@ -130,17 +114,23 @@ pub(crate) fn run_in<
     requires own { All (IsWorkerOf board.now) workers.items }
     ensures did { IfOk result (λ v. DidAll board.now jobs.now workers.entry.items v.items) }
     ensures own { IfOk result (λ v. All (IsWorkerOf board.now) v.items) }
-    ensures fault { IfErr result (IsPoolFault board.now jobs.now workers.entry.items) }
+    ensures fault { IfErr result (IsPoolFault P.ALWAYS_OPEN board.now jobs.now workers.entry.items) }
+    ensures opened { P.ALWAYS_OPEN ≡ true → IfErr result (λ f. pool_number f ≢ 29) }
 {
     if workers.is_empty() {
         return Ok(workers);
     }
-    let Ok(mut threads) = Vec::with_capacity(alloc, workers.len()) else {
+    let many = workers.len();
+    let Ok(mut threads) = Vec::with_capacity(alloc, many) else {
         return Err(PoolFault::NoMemory);
     };
-    let Ok(done) = Vec::with_capacity(alloc, workers.len()) else {
+    let Ok(ends) = Vec::with_capacity(alloc, many) else {
         return Err(PoolFault::NoMemory);
     };
-    let fault = start_all(scope, board, workers, jobs, gate, &mut threads);
-    join_all(rt, threads, done, fault)
+    let Ok(done) = Vec::with_capacity(alloc, many) else {
+        return Err(PoolFault::NoMemory);
+    };
+    start_all(scope, board, workers, jobs, gate, &mut threads);
+    let ends = join_all(rt, threads, ends);
+    outcome(ends, many, done)
 }

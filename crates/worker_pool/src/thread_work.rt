@@ -1,5 +1,5 @@
 //! What one thread of a pool does.
-ghost use Rattle.std.specs.Prelude.{◌≡◌};
+ghost use Rattle.std.specs.Prelude.{◌≡◌, true};
 ghost use Rattle.snapshot_update.specs.Workers.{IsWorkerOf};
 ghost use Rattle.worker_pool.specs.Works.{IsWorkEnd};
 
@@ -14,7 +14,9 @@ use std::thread::yield_now;
 const MOST_ASKS: u32 = 10_000_000;
 
 /// Whether the gate opens for the worker at this place.
-fn opens<P: Gate>(gate: &P, place: usize) -> bool {
+fn opens<P: Gate>(gate: &P, place: usize) -> bool
+    ensures { P.ALWAYS_OPEN ≡ true → result ≡ true }
+{
     for _ in 0..MOST_ASKS {
         if gate.open(place) {
             return true;
@@ -33,7 +35,7 @@ pub(crate) fn work<P: Gate, const N: usize, const C: usize, const H: usize, cons
     gate: &P,
 ) -> Result<Worker<N, C, H, G>, PoolFault>
     requires own { IsWorkerOf board.now worker }
-    ensures { IsWorkEnd board.now place jobs.now worker.entry result }
+    ensures { IsWorkEnd P.ALWAYS_OPEN board.now place jobs.now worker.entry result }
 {
     for job in jobs {
         if !opens(gate, place) {

@@ -22,11 +22,12 @@ loop-worker-preserved g c =
       count = omega (arith, shorter, count);
       many = search rules;
       room = search rules;
-      pledged = subst (λ (l : List (Handle g.row.N g.row.C g.row.H g.row.G)). ArePledged c.args.board.now lists ws l) (sym pushed.items)
-          (pledged_more c.args.board.now lists ws c.loop-worker.threads.items c.in-Ok.thread place c.index-jobs-place.result c.in-Some.worker inv.many
+      pledged = subst (λ (l : List (Handle g.row.N g.row.C g.row.H g.row.G)). ArePledged g.P.Gate.ALWAYS_OPEN c.args.board.now lists ws l) (sym pushed.items)
+          (pledged_more g.P.Gate.ALWAYS_OPEN c.args.board.now lists ws c.loop-worker.threads.items c.in-Ok.thread place c.index-jobs-place.result c.in-Some.worker inv.many
           (there lists place c.index-jobs-place.result lt ∙ ap some (sym c.index-jobs-place.is)) next.0
           (record {
             board = ap (λ (p : D). p.board.now) ok;
+            always_open_is = ap (λ (p : D). p.always_open) ok ∙ c.ALWAYS_OPEN.ensures;
             place_is = ap (λ (p : D). p.place) ok;
             jobs_are = ap (λ (p : D). p.jobs.now) ok ∙ c.as_slice-list.ensures.value;
             worker = ap (λ (p : D). p.was.value) ok ∙ c.of.ensures;

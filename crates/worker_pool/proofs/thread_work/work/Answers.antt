@@ -1,8 +1,13 @@
 use Rattle.std.proofs.Common.{rules, ◌<◌, length, sym, ap, refl, ◌∙◌}
 use mathlib.Core.Option.{some}
 use Rattle.register_rule.proofs.Words.{there}
-use Rattle.worker_pool.proofs.Working.{did_more}
+use Rattle.worker_pool.proofs.Working.{did_more, not_always}
 use Rattle.worker_pool.proofs.thread_work.work.Goals as goal
+
+pub returns-then-not-opens : goal.returns-then-not-opens
+returns-then-not-opens g c =
+    let lt : c.loop-job.job-index < length c.args.jobs.now = search rules in
+    (refl, not_always g.P.Gate.ALWAYS_OPEN c.opens.result c.opens.ensures (search rules), record { k = c.loop-job.job-index; more = lt; v = c.loop-job.worker; did = c.loop-job.invariant })
 
 pub returns-in-Err : goal.returns-in-Err
 returns-in-Err g c =

@@ -1,0 +1,5 @@
+use Rattle.std.proofs.Common.{◌≡◌, true}
+use Rattle.worker_pool.proofs.thread_work.opens.Given as goal
+
+abbrev pub invariant-loop : goal.invariant-loop
+invariant-loop g l = (g.P.Gate.ALWAYS_OPEN ≡ true → l.counter ≡ 0)
