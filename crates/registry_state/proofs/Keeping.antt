@@ -3,7 +3,9 @@ use Rattle.std.proofs.Common.{◌≡◌, ℕ, zero, suc, ◌-◌, ◌≤◌, Lis
 use Rattle.std.specs.Prelude.{Option, Some}
 use Rattle.std.proofs.lemmas.List.{append_assoc, append-nil}
 use Rattle.register_rule.specs.declared.view.Entry.{Entry as Answer}
+use Rattle.snapshot_scan.specs.Moments.{AreMoments}
 use Rattle.snapshot_scan.specs.Sources.{newest, Records}
+use Rattle.snapshot_scan.proofs.Publishing.{no_moments, moments_later}
 use Rattle.registry_state.specs.Journal.{Change, Entry, Changed, Scraped, scrapes, within}
 use Rattle.registry_state.specs.Replay.{Family, State, nothing, IsAcceptedChange, IsNext, after, Replays}
 use Rattle.registry_state.specs.Kept.{AreLast, IsKept}
@@ -29,6 +31,10 @@ last_drop (suc k) [] recorded last = last
 last_drop (suc k) (a ∷ kept) recorded last =
     last_drop k kept recorded (record { older = last.older ++ a ∷ []; is = last.is ∙ sym (append_assoc last.older (a ∷ []) kept) })
 
+-- the last of some moments are moments
+pub moments_last : (n c h g : ℕ) (kept recorded : List Answer) → AreLast kept recorded → AreMoments n c h g recorded → AreMoments n c h g kept
+moments_last n c h g kept recorded last moments = moments_later n c h g last.older kept (subst (AreMoments n c h g) last.is moments)
+
 module _ (n c h g : ℕ) where
   -- an answer that the source recorded is accepted by the journal
   pub next_recorded : (recorded recorded' : List Answer) (journal : List Entry) (state : State) (answer : Answer)
@@ -42,7 +48,7 @@ module _ (n c h g : ℕ) where
 
   -- nothing is kept at first
   pub kept_new : (recorded : List Answer) (window : ℕ) → IsWindow window → IsKept n c h g recorded [] window nothing
-  kept_new recorded window room = record { replays = refl; room = room; few = omega arith; newest = last_none recorded }
+  kept_new recorded window room = record { replays = refl; room = room; few = omega arith; newest = last_none recorded; moments = no_moments n c h g }
 
   -- a change
   pub kept_change : (recorded : List Answer) (journal : List Entry) (window : ℕ) (state : State) (change : Change)
@@ -55,6 +61,7 @@ module _ (n c h g : ℕ) where
         room = kept.room;
         few = subst (λ (l : List Answer). length l ≤ window) same kept.few;
         newest = subst (λ (l : List Answer). AreLast l recorded) same kept.newest;
+        moments = subst (AreMoments n c h g) same kept.moments;
       }
 
   -- another window, and the scrapes that are over it dropped
@@ -67,6 +74,9 @@ module _ (n c h g : ℕ) where
     few = few_within window journal;
     newest = subst (λ (l : List Answer). AreLast l recorded) (sym (scrapes_within window journal))
         (last_drop (length (scrapes journal) - window) (scrapes journal) recorded kept.newest);
+    moments = subst (AreMoments n c h g) (sym (scrapes_within window journal))
+        (moments_last n c h g (drop (length (scrapes journal) - window) (scrapes journal)) (scrapes journal)
+        (last_drop (length (scrapes journal) - window) (scrapes journal) (scrapes journal) (record { older = []; is = refl })) kept.moments);
   }
 
   -- a scrape
@@ -78,13 +88,16 @@ module _ (n c h g : ℕ) where
       let last : AreLast (scrapes (journal ++ Scraped answer ∷ [])) recorded' =
       subst (λ (l : List Answer). AreLast l recorded') (sym (scrapes_scrape journal answer))
       (subst (λ (l : List Answer). AreLast (scrapes journal ++ answer ∷ []) l) (sym records.recorded) (last_more (scrapes journal) recorded answer kept.newest)) in
+      let now : AreLast (scrapes (within window (journal ++ Scraped answer ∷ []))) recorded' =
+      subst (λ (l : List Answer). AreLast l recorded') (sym (scrapes_within window (journal ++ Scraped answer ∷ [])))
+      (last_drop (length (scrapes (journal ++ Scraped answer ∷ [])) - window) (scrapes (journal ++ Scraped answer ∷ [])) recorded' last) in
       record {
         replays = replays_within n c h g window (journal ++ Scraped answer ∷ []) (record { families = state.families; last = Some answer }) kept.room.0
             (replays_scrape n c h g journal state answer kept.replays next);
         room = kept.room;
         few = few_within window (journal ++ Scraped answer ∷ []);
-        newest = subst (λ (l : List Answer). AreLast l recorded') (sym (scrapes_within window (journal ++ Scraped answer ∷ [])))
-            (last_drop (length (scrapes (journal ++ Scraped answer ∷ [])) - window) (scrapes (journal ++ Scraped answer ∷ [])) recorded' last);
+        newest = now;
+        moments = moments_last n c h g (scrapes (within window (journal ++ Scraped answer ∷ []))) recorded' now records.moments;
       }
 
   -- the same where the state has the newest scrape that is kept: a change

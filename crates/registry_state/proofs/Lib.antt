@@ -11,3 +11,4 @@ pub mod Keeping
 pub mod Growing
 pub mod Windowed
 pub mod Making
+pub mod Inside

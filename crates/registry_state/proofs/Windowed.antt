@@ -3,6 +3,7 @@ use Rattle.std.proofs.Common.{◌≡◌, ℕ, ◌≤◌, List, [], ◌∷◌, �
 use Rattle.std.specs.Prelude.{Option, Some, None}
 use Rattle.metric_desc.specs.declared.kind.Kind.{Kind}
 use Rattle.register_rule.specs.declared.view.Entry.{Entry as Answer}
+use Rattle.snapshot_scan.specs.Moments.{AreMoments}
 use Rattle.snapshot_scan.specs.Sources.{newest, Records}
 use Rattle.registry_state.specs.Journal.{Entry, Scraped, scrapes, within}
 use Rattle.registry_state.specs.Replay.{Family, State}
@@ -87,14 +88,15 @@ seen_window {S} id window' source journal journal' families some same =
 -- what contracts see of a registry that has scraped
 pub keeps_scrape : {S : Type 0} (n c h g : ℕ) (recorded : S → List Answer) (gave : S → S → Answer → Type 0) (id window : ℕ) (source source' : S) (journal journal' : List Entry) (families : List Family)
     (answer : Answer) → 1 ≤ window → Records n c h g (recorded source) (recorded source') answer → gave source source' answer
-    → journal' ≡ within window (journal ++ Scraped answer ∷ []) → Keeps n c h g recorded gave
+    → journal' ≡ within window (journal ++ Scraped answer ∷ []) → AreMoments n c h g (scrapes journal') → Keeps n c h g recorded gave
     (record { id = id; window = window; source = source; journal = journal; state = record { families = families; last = newest (scrapes journal) } })
     (record { id = id; window = window; source = source'; journal = journal'; state = record { families = families; last = newest (scrapes journal') } })
-keeps_scrape n c h g recorded gave id window source source' journal journal' families answer some records given same = record {
+keeps_scrape n c h g recorded gave id window source source' journal journal' families answer some records given same moments = record {
   answer = answer;
   once = records;
   given = given;
   journal = same;
+  moments = moments;
   state = ap (λ (last : Option Answer). record { families = families; last = last }) (newest_after window journal journal' answer some same);
   id = refl;
   window = refl;

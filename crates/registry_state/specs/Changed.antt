@@ -3,8 +3,9 @@ use Rattle.std.specs.Prelude.{◌≡◌, ℕ, ◌<◌, ◌⊎◌, List, [], ◌�
 use Rattle.metric_desc.specs.Desc.{Descriptor}
 use Rattle.metric_desc.specs.declared.kind.Kind.{Kind}
 use Rattle.register_rule.specs.declared.view.Entry.{Entry as Answer}
+use Rattle.snapshot_scan.specs.Moments.{AreMoments}
 use Rattle.snapshot_scan.specs.Sources.{Records}
-use Rattle.registry_state.specs.Journal.{Change, Made, Changed, Scraped, within}
+use Rattle.registry_state.specs.Journal.{Change, Made, Changed, Scraped, scrapes, within}
 use Rattle.registry_state.specs.Replay.{Family, IsFree, MayMake, after}
 use Rattle.registry_state.specs.Kept.{Registry}
 use Rattle.registry_state.specs.declared.handle.Handle.{Handle}
@@ -28,6 +29,12 @@ IsHandle id desc slot (Handle.Counter counter) = (desc.kind ≡ Kind.Counter) ×
 IsHandle id desc slot (Handle.Histogram hist) = (desc.kind ≡ Kind.Histogram) × (hist.registry ≡ id) × (hist.slot ≡ slot) × (hist.bounds ≡ desc.bounds)
 IsHandle id desc slot (Handle.Gauge gauge) = (desc.kind ≡ Kind.Gauge) × (gauge.registry ≡ id) × (gauge.slot ≡ slot)
 
+-- its slot is one of a row of c counters, h histograms and g gauges
+abbrev pub IsInside : (c h g : ℕ) → Handle → Type 0
+IsInside c h g (Handle.Counter counter) = counter.slot < c
+IsInside c h g (Handle.Histogram hist) = hist.slot < h
+IsInside c h g (Handle.Gauge gauge) = gauge.slot < g
+
 module _ {S : Type 0} (c h g : ℕ) (old new : Registry S) (family : ℕ) (values : List (List ℕ)) (handle : Handle) where
   -- the child was there, and nothing changed
   pub record WasThere : Type 0 where
@@ -48,12 +55,13 @@ module _ {S : Type 0} (c h g : ℕ) (old new : Registry S) (family : ℕ) (value
   IsGiven = WasThere ⊎ WasMade
 
 -- one scan of the source was recorded, which the source gave, and it stands last in the journal, from which the oldest scrape went only
--- if they were too many
+-- if they were too many; all that are kept, with this one, are moments of one history of publishes
 pub record Keeps {S : Type 0} (n c h g : ℕ) (recorded : S → List Answer) (gave : S → S → Answer → Type 0) (old new : Registry S) : Type 0 where
   pub answer : Answer
   pub once : Records n c h g (recorded old.source) (recorded new.source) answer
   pub given : gave old.source new.source answer
   pub journal : new.journal ≡ within old.window (old.journal ++ Scraped answer ∷ [])
+  pub moments : AreMoments n c h g (scrapes new.journal)
   pub state : new.state ≡ record { families = old.state.families; last = Some answer }
   pub id : new.id ≡ old.id
   pub window : new.window ≡ old.window

@@ -4,7 +4,7 @@ ghost use Rattle.registry_state.specs.Journal.{Changed, Made};
 ghost use Rattle.registry_state.specs.Replay.{with_child};
 ghost use Rattle.registry_state.specs.Held.{IsPlaceOf};
 ghost use Rattle.registry_state.specs.Faults.{IsChildFault, IsWanted};
-ghost use Rattle.registry_state.specs.Changed.{IsGiven, WasMade};
+ghost use Rattle.registry_state.specs.Changed.{IsGiven, IsInside, WasMade};
 
 use crate::family::{Child, Family, place_of, put_child};
 use crate::fault::ChildFault;
@@ -75,6 +75,7 @@ impl<
     /// [`ChildFault::Full`] where every slot of the kind is used, and 6 [`ChildFault::NoMemory`]. Nothing has changed then.
     pub fn child(&mut self, family: FamilyId, values: &[LabelValue]) -> Result<Handle, ChildFault>
         ensures given { IfOk result (IsGiven C H G self.old self.new family.number values.now) }
+        ensures inside { IfOk result (IsInside C H G) }
         ensures fault { IfErr result (IsChildFault C H G self.old.state.families family.number values.now) }
         ensures unchanged { OnErr result (self.new ≡ self.old) }
     {
@@ -102,6 +103,7 @@ impl<
         requires wanted { IsSomeAnd (slice_get self.old.state.families number) (λ it. IsWanted it values.now) }
         requires place { IsSomeAnd (slice_get self.old.state.families number) (λ it. IsPlaceOf it.children values.now place) }
         ensures made { IfOk result (WasMade C H G self.old self.new number values.now) }
+        ensures inside { IfOk result (IsInside C H G) }
         ensures fault { IfErr result (IsChildFault C H G self.old.state.families number values.now) }
         ensures unchanged { OnErr result (self.new ≡ self.old) }
     {

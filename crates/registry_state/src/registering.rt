@@ -1,5 +1,5 @@
 //! Registries are made, and families are registered.
-ghost use Rattle.std.specs.Prelude.{◌≡◌, ◌≢◌, ◌↔◌, [], length, slice_get, All, IfErr, IfOk, IsSomeAnd, IsTrue, MatchOption, OnErr, OnOk};
+ghost use Rattle.std.specs.Prelude.{◌≡◌, ◌≢◌, ◌<◌, ◌↔◌, [], length, slice_get, All, IfErr, IfOk, IfSome, IsSomeAnd, IsTrue, MatchOption, OnErr, OnOk};
 ghost use Rattle.segment_layout.specs.Layout.{IsGeometry};
 ghost use Rattle.registry_state.specs.Journal.{Registered};
 ghost use Rattle.registry_state.specs.Replay.{nothing, IsAcceptedChange};
@@ -103,7 +103,8 @@ impl<
 
     /// The family of this name, if there is one.
     pub fn family(&self, name: &str) -> Option<FamilyId>
-        ensures { MatchOption result (All (λ it. it.desc.name ≢ name.now) self.now.state.families)
+        ensures few { IfSome result (λ family. family.number < 128) }
+        ensures found { MatchOption result (All (λ it. it.desc.name ≢ name.now) self.now.state.families)
             (λ family. IsSomeAnd (slice_get self.now.state.families family.number) (λ it. it.desc.name ≡ name.now)) }
     {
         match number_named(&self.families, name) {

@@ -95,4 +95,13 @@ impl<
     {
         self.source
     }
+
+    /// The source, and the journal.
+    pub fn into_parts(self) -> (S, Journal<N, C, H, G>)
+        ensures source { result.0 ≡ self.source }
+        ensures journal { result.1 ≡ self.journal }
+        ensures kept { IsKept N C H G (S.recorded self.source) self.journal self.window self.state }
+    {
+        (self.source, self.journal)
+    }
 }

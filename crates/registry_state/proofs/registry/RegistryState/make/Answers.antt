@@ -9,6 +9,7 @@ use Rattle.registry_state.specs.Held.{used_of}
 use Rattle.registry_state.specs.Faults.{IsChildFault, IsWanted}
 use Rattle.registry_state.specs.Changed.{IsHandle, WasMade}
 use Rattle.registry_state.specs.declared.fault.ChildFault.TheVariants.{Full, NoMemory}
+use Rattle.registry_state.proofs.Inside.{is_inside}
 use Rattle.registry_state.proofs.Making.{only_memory, is_full, is_no_memory, was_made, held_still, held_more}
 use Rattle.registry_state.proofs.registry.RegistryState.make.Goals as goal
 
@@ -104,3 +105,16 @@ returns-clause-made g c =
     subst (λ (old : Registry g.row.S.Denot). WasMade g.row.C g.row.H g.row.G old now c.args.number c.args.values.now c.of-handle.result) c.self.view_is
     (was_made g.row.C g.row.H g.row.G c.self.inside.families.items used c.self.invariant.held c.args.number c.args.values.now c.index.result.now c.kind-kind.result some c.index.ensures kind
     c.self.inside.id c.self.inside.window c.self.inside.source c.self.inside.journal _ _ c.of-slot.result c.of-handle.result room c.of-slot.ensures handle journal families)
+
+pub returns-clause-inside : goal.returns-clause-inside
+returns-clause-inside g c =
+    let used : Kind → ℕ = used_of c.self.inside.used.counters c.self.inside.used.hists c.self.inside.used.gauges in
+    let kind : c.kind-kind.result ≡ c.index.result.now.desc.kind =
+    c.kind-kind.ensures ∙ ap (λ (d : Descriptor). d.kind) (c.deref.ensures ∙ ap (λ (family : Family). family.desc) c.behind-self.view_is) in
+    let desc : c.deref-2.result.now ≡ c.index.result.now.desc = c.deref-2.ensures ∙ ap (λ (family : Family). family.desc) c.behind-self.view_is in
+    let handle : IsHandle c.self.inside.id c.index.result.now.desc c.of-slot.result c.of-handle.result =
+    subst (λ (d : Descriptor). IsHandle c.self.inside.id d c.of-slot.result c.of-handle.result) desc c.of-handle.ensures in
+    let low : c.of-slot.result < slots g.row.C g.row.H g.row.G c.kind-kind.result =
+    subst (λ n. c.of-slot.result < n) c.slots_of.ensures c.if-slot-slots_of.false in
+    is_inside g.row.C g.row.H g.row.G c.self.inside.id c.index.result.now.desc c.of-slot.result c.of-handle.result handle
+    (subst (λ (k : Kind). c.of-slot.result < slots g.row.C g.row.H g.row.G k) kind low)

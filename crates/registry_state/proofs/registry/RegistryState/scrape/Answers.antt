@@ -43,6 +43,7 @@ invariant_of-self-2 g c =
 pub returns-clause-kept : goal.returns-clause-kept
 returns-clause-kept g c =
     let scraped = c.in_ok-scrape.ensures.scraped in
+    let held = held_scrape _ _ _ _ _ _ _ _ _ _ c.self.invariant (g.S.Source.recorded c.scrape.new.source) c.scrape.new.self scraped.0 scraped.1 scraped.3 in
     let now : Registry g.row.S.Denot = record {
       id = c.self.inside.id;
       window = c.self.inside.window;
@@ -52,4 +53,4 @@ returns-clause-kept g c =
     } in
     subst (λ (old : Registry g.row.S.Denot). Keeps g.row.N g.row.C g.row.H g.row.G g.S.Source.recorded g.S.Source.gave old now) c.self.view_is
     (keeps_scrape g.row.N g.row.C g.row.H g.row.G g.S.Source.recorded g.S.Source.gave c.self.inside.id c.self.inside.window c.self.inside.source c.scrape.new.source c.self.inside.journal
-    c.scrape.new.self c.self.inside.families.items scraped.0 c.self.invariant.kept.room.0 scraped.1 scraped.2 scraped.3)
+    c.scrape.new.self c.self.inside.families.items scraped.0 c.self.invariant.kept.room.0 scraped.1 scraped.2 scraped.3 held.kept.moments)
