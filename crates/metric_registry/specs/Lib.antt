@@ -1,2 +1,2 @@
-pub mod Behind
+pub mod Naming
 pub mod Names

@@ -4,8 +4,13 @@
 //! behind it, and hands its answer on. Workers never meet the lock.
 #![tactic(auto)]
 
+mod locked;
 mod making;
+mod naming;
 mod registry;
+mod settling;
 
 pub use making::NotMade;
-pub use registry::Registry;
+pub use naming::{AnyBoard, Named};
+pub use registry::{Registry, RegistryOf};
+pub use settling::{NotSettled, settle_state};

@@ -1,11 +1,15 @@
 //! The lock.
-ghost use Rattle.std.specs.Prelude.{◌≡◌, ◌≤◌, IfErr, IfOk, OnErr, OnOk};
+ghost use Rattle.std.specs.Prelude.{◌≡◌, ℕ, ◌<◌, ◌≤◌, IfErr, IfOk, IfSome, OnErr, OnOk};
+ghost use Rattle.registry_state.specs.Changed.{IsInside};
 ghost use Rattle.registry_state.specs.Kept.{IsKept};
 ghost use Rattle.registry_state.specs.Faults.{IsWindow};
 ghost use Rattle.snapshot_scan.specs.Scanners.{recorded_in};
-ghost use Rattle.metric_registry.specs.Behind.{WasRegistered, WasNotRegistered, WasSought, WasGiven, WasNotGiven, WasScraped, WasNotScraped};
+ghost use Rattle.metric_registry.specs.Naming.{IsOf, HasId, BeginsWith, ShowsMoment, IsScrapeFault};
 
+use crate::locked::Locked;
+use crate::naming::{AnyBoard, Named};
 use expo_text::Scrape;
+use ledger_core::{Counter, Gauge, Histogram};
 use metric_desc::Desc;
 use metric_names::LabelValue;
 use registry_state::{
@@ -21,20 +25,62 @@ use std::sync::{Mutex, Wait};
 /// a scrape is made, the others wait for it. Workers count on the board meanwhile, and never wait.
 ///
 /// Whatever the calls were, whenever the lock is free its journal replays to its families, and its kept scrapes are at most the
-/// window and the last that its reader recorded: that is what [`Registry::into_state`] promises.
-pub struct Registry<'a, const N: usize, const C: usize, const H: usize, const G: usize> {
+/// window, the last that its reader recorded, and moments of one history of publishes: that is what [`RegistryOf::into_state`]
+/// promises, and [`RegistryOf::settle`] that this history is what its workers published. Which of its states a call under the lock
+/// meets no clause says, since others may have come between: docs/THREADS.md has what is left to tests.
+pub struct RegistryOf<
+    'a,
+    B: Named,
+    const N: usize,
+    const C: usize,
+    const H: usize,
+    const G: usize,
+> {
     pub(crate) id: u64,
-    pub(crate) state: Mutex<RegistryState<Scanner<'a, N, C, H, G>, N, C, H, G>>,
+    pub(crate) state: Mutex<Locked<'a, B, N, C, H, G>>,
 }
 
-impl<'a, const N: usize, const C: usize, const H: usize, const G: usize> Drop
-    for Registry<'a, N, C, H, G> {
-    fn drop(self) {
-        let Registry { id: _, state: _ } = self;
+/// The handle, of the registry of this id. It is of it already; but which registry stands behind a lock no proof knows.
+fn of_registry(registry: u64, handle: Handle) -> Handle
+    ensures id { HasId registry result }
+    ensures same { HasId registry handle → result ≡ handle }
+    ensures inside { (c h g : ℕ) → IsInside c h g handle → IsInside c h g result }
+{
+    match handle {
+        Handle::Counter(counter) => Handle::Counter(Counter {
+            registry,
+            ..counter
+        }),
+        Handle::Histogram(hist) => Handle::Histogram(Histogram { registry, ..hist }),
+        Handle::Gauge(gauge) => Handle::Gauge(Gauge { registry, ..gauge }),
     }
 }
 
-impl<'a, const N: usize, const C: usize, const H: usize, const G: usize> Registry<'a, N, C, H, G> {
+/// A registry of any board.
+pub type Registry<'a, const N: usize, const C: usize, const H: usize, const G: usize> = RegistryOf<
+    'a,
+    AnyBoard,
+    N,
+    C,
+    H,
+    G,
+>;
+
+impl<'a, B: Named, const N: usize, const C: usize, const H: usize, const G: usize> Drop
+    for RegistryOf<'a, B, N, C, H, G> {
+    fn drop(self) {
+        let RegistryOf { id: _, state: _ } = self;
+    }
+}
+
+impl<'a, B: Named, const N: usize, const C: usize, const H: usize, const G: usize> RegistryOf<
+    'a,
+    B,
+    N,
+    C,
+    H,
+    G,
+> {
     ghost use Rattle.metric_registry.specs.Names.{id_of};
 
     /// The id of its board, which its handles have. It does not wait for the lock.
@@ -51,22 +97,18 @@ impl<'a, const N: usize, const C: usize, const H: usize, const G: usize> Registr
     /// 19 [`RegisterFault::Clash`] with the least family that has a sample's name in common; 23
     /// [`RegisterFault::TooManyFamilies`] where 128 are there; 6 [`RegisterFault::NoMemory`]. Nothing has changed then.
     pub fn register<R: Wait>(&self, rt: &R, desc: Desc) -> Result<FamilyId, RegisterFault>
-        ensures registered { IfOk result (WasRegistered N C H G desc) }
-        ensures fault { IfErr result (WasNotRegistered N C H G desc) }
+        ensures few { IfOk result (λ family. family.number < 128) }
     {
-        let mut state = self.state.lock(rt);
-        // A look into the journal tells the proof what the lock keeps; so in the calls below.
-        let _ = state.journal();
-        state.register(desc)
+        let mut locked = self.state.lock(rt);
+        locked.state.register(desc)
     }
 
     /// The family of this name, if there is one: [`RegistryState::family`] behind the lock.
     pub fn family<R: Wait>(&self, rt: &R, name: &str) -> Option<FamilyId>
-        ensures { WasSought N C H G name.now result }
+        ensures few { IfSome result (λ family. family.number < 128) }
     {
-        let state = self.state.lock(rt);
-        let _ = state.journal();
-        state.family(name)
+        let locked = self.state.lock(rt);
+        locked.state.family(name)
     }
 
     /// The handle of the child of these label values, which is made where there is none: [`RegistryState::child`] behind the
@@ -82,12 +124,14 @@ impl<'a, const N: usize, const C: usize, const H: usize, const G: usize> Registr
         family: FamilyId,
         values: &[LabelValue],
     ) -> Result<Handle, ChildFault>
-        ensures given { IfOk result (WasGiven N C H G family values.now) }
-        ensures fault { IfErr result (WasNotGiven N C H G family values.now) }
+        ensures id { IfOk result (HasId (id_of self.now)) }
+        ensures inside { IfOk result (IsInside C H G) }
     {
-        let mut state = self.state.lock(rt);
-        let _ = state.journal();
-        state.child(family, values)
+        let mut locked = self.state.lock(rt);
+        match locked.state.child(family, values) {
+            Ok(handle) => Ok(of_registry(self.id, handle)),
+            Err(fault) => Err(fault),
+        }
     }
 
     /// Scans the board, keeps the answer, and gives all families with their numbers in it: [`RegistryState::scrape`] behind the
@@ -97,12 +141,13 @@ impl<'a, const N: usize, const C: usize, const H: usize, const G: usize> Registr
     ///
     /// 6 [`ScrapeFault::NoMemory`]: nothing was scanned. 14 [`ScrapeFault::Contended`]: the scan was given up. Nothing is kept then.
     pub fn scrape<R: Wait>(&self, rt: &R) -> Result<Scrape, ScrapeFault>
-        ensures scraped { IfOk result (WasScraped N C H G) }
-        ensures fault { IfErr result (WasNotScraped N C H G) }
+        ensures moment { IfOk result (ShowsMoment N C H G B.first) }
+        ensures fault { IfErr result (IsScrapeFault N) }
     {
-        let mut state = self.state.lock(rt);
-        let _ = state.journal();
-        state.scrape()
+        let mut locked = self.state.lock(rt);
+        // A look into the journal tells the proof that it replays.
+        let _ = locked.state.journal();
+        locked.state.scrape()
     }
 
     /// Keeps `window` scrapes from now on, and answers how many are kept: [`RegistryState::set_window`] behind the lock.
@@ -115,18 +160,20 @@ impl<'a, const N: usize, const C: usize, const H: usize, const G: usize> Registr
         ensures few { IfOk result (λ kept. kept ≤ window) }
         ensures refused { OnErr result (¬ (IsWindow window)) }
     {
-        let mut state = self.state.lock(rt);
-        let kept = state.set_window(window);
-        let _ = state.journal();
+        let mut locked = self.state.lock(rt);
+        let kept = locked.state.set_window(window);
+        let _ = locked.state.journal();
         kept
     }
 
     /// What stood behind the lock.
     pub fn into_state(self) -> RegistryState<Scanner<'a, N, C, H, G>, N, C, H, G>
+        ensures of { IsOf B.board result }
+        ensures begins { BeginsWith B.first result.journal }
         ensures kept { IsKept N C H G (recorded_in result.source) result.journal result.window result.state }
     {
-        let Registry { id: _, state } = self;
-        let state = state.into_inner();
+        let RegistryOf { id: _, state } = self;
+        let Locked { state, of: _ } = state.into_inner();
         // A look into the journal tells the proof what the state keeps.
         let _ = state.journal();
         state

@@ -9,7 +9,6 @@ use Rattle.registry_state.specs.Kept.{Registry}
 use Rattle.registry_state.specs.Shown.{IsShown}
 use Rattle.registry_state.specs.declared.fault.ScrapeFault.{ScrapeFault}
 use Rattle.registry_state.specs.declared.fault.ScrapeFault.TheVariants as fault
-use Rattle.metric_registry.specs.Behind.{WasScraped, WasNotScraped}
 use Rattle.scrape_http.specs.declared.source.NoScrape.{NoScrape}
 use Rattle.scrape_http.specs.declared.source.NoScrape.TheVariants as none
 
@@ -36,8 +35,3 @@ module _ {S : Type 0} (n c h g : ℕ) (recorded : S → List Answer) (quit : S �
   abbrev pub Scrapes : Result Scraped NoScrape → Type 0
   Scrapes (Ok scrape) = Shows scrape
   Scrapes (Err why) = ShowsNone why
-
--- what one scrape of a registry behind its lock answers
-abbrev pub ScrapesBehind : (n c h g : ℕ) → Result Scraped NoScrape → Type 0
-ScrapesBehind n c h g (Ok scrape) = WasScraped n c h g scrape
-ScrapesBehind n c h g (Err why) = (wrong : ScrapeFault) × (why ≡ no_scrape_of wrong) × WasNotScraped n c h g wrong

@@ -1,16 +1,8 @@
--- What serving one connection says, of which only the socket knows what it gave and took.
-use Rattle.std.specs.Prelude.{◌≡◌, ℕ, Bool, ◌⊎◌, Result, Err}
+-- What serving one connection does to the source of its scrape. What the socket gave and took no clause can name.
+use Rattle.std.specs.Prelude.{Option}
 use Rattle.scrape_http.specs.Reply.{Outcome}
-use Rattle.scrape_http.specs.Serves.{Known, IsServed}
-use Rattle.scrape_http.specs.declared.fault.WireFault.{WireFault}
-use Rattle.scrape_http.specs.declared.fault.WireFault.TheVariants.{ReadFailed}
-use Rattle.scrape_http.specs.declared.serve.Served.{Served}
+use Rattle.scrape_http.specs.Serves.{Answers}
 
-module _ {S : Type 0} (gave : S → S → Outcome → Type 0) (source source_then : S) where
-  -- a reply to some bytes, and to what the source answered where it was asked, is what `result` tells; or a read failed, and the source
-  -- is as it was
-  abbrev pub WasServed : Result Served WireFault → Type 0
-  WasServed result =
-      ((input input_then output output_then : Known) × (ended : Bool) × (latest : ℕ)
-      × IsServed gave source source_then input input_then output output_then ended latest result)
-      ⊎ ((result ≡ Err ReadFailed) × (source_then ≡ source))
+-- the source was asked for one scrape, or for none, and then it is as it was
+abbrev pub IsAskedOnce : {S : Type 0} (gave : S → S → Outcome → Type 0) (source source_then : S) → Type 0
+IsAskedOnce gave source source_then = (outcome : Option Outcome) × Answers gave source source_then outcome

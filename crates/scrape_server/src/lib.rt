@@ -10,5 +10,5 @@ mod state;
 mod stream;
 
 pub use registry::FromRegistry;
-pub use state::{FromState, serve_state};
+pub use state::{FromState, MakesScrapes, serve_state};
 pub use stream::{close_in_stages, serve_stream};

@@ -1,5 +1,7 @@
 //! Scrapes of a registry that is lent.
-ghost use Rattle.std.specs.Prelude.{◌≡◌, true, false, IsOk};
+ghost use Rattle.std.specs.Prelude.{◌≡◌, true, false, IsOk, Result};
+ghost use Rattle.expo_text.specs.Scraped.{Scraped};
+ghost use Rattle.scrape_http.specs.declared.source.NoScrape.{NoScrape};
 ghost use Rattle.scrape_http.specs.Serves.{IsServed, IsUnserved, is_read_failed, is_write_failed};
 ghost use Rattle.scrape_server.specs.Scrapes.{Scrapes};
 
@@ -9,24 +11,21 @@ use registry_state::RegistryState;
 use scrape_http::{NoScrape, ScrapeFrom, Served, WireFault, serve_one};
 use snapshot_scan::Source;
 use std::io::{Read, Write};
-use std::mem::size_of_val;
 use watched::Watched;
 
-/// No value is larger, in bytes.
-const LARGEST: usize = 0x3fff_ffff_ffff_ffff;
+/// What makes scrapes by itself: a registry without a lock, of any source of snapshots. It names, for contracts alone, what one scrape does
+/// to it (`made`).
+pub trait MakesScrapes {
+    // What a scrape says of what made it, before and after it, and of its answer.
+    ghost made: { Self → Self → Result Scraped NoScrape → Type 0 };
 
-/// A registry that is lent, as a source of scrapes.
-#[derive(Drop)]
-pub struct FromState<
-    'a,
-    S: Source<N, C, H, G>,
-    const N: usize,
-    const C: usize,
-    const H: usize,
-    const G: usize,
-> {
-    /// The registry.
-    pub state: &'a mut RegistryState<S, N, C, H, G>,
+    /// Makes a scrape.
+    ///
+    /// # Errors
+    ///
+    /// [`NoScrape`], 6 and 14.
+    fn scrape(&mut self) -> Result<Scrape, NoScrape>
+        ensures { made self.old self.new result };
 }
 
 impl<
@@ -35,19 +34,30 @@ impl<
     const C: usize,
     const H: usize,
     const G: usize,
-> ScrapeFrom for FromState<'_, S, N, C, H, G> {
-    ghost gave = { λ before after answer. (after.state.ghost_name ≡ before.state.ghost_name) × Scrapes N C H G S.recorded S.quit S.gave S.gave_up before.state.now after.state.now answer };
+> MakesScrapes for RegistryState<S, N, C, H, G> {
+    ghost made = { Scrapes N C H G S.recorded S.quit S.gave S.gave_up };
 
-    /// The registry's scrape.
     fn scrape(&mut self) -> Result<Scrape, NoScrape> {
-        // Of a source that is not known the proof does not know that it has room in memory, which all that is there has.
-        if size_of_val(&*self.state) > LARGEST {
-            return Err(NoScrape::NoMemory);
-        }
-        match self.state.scrape() {
+        match RegistryState::scrape(self) {
             Ok(scrape) => Ok(scrape),
             Err(fault) => Err(no_scrape(fault)),
         }
+    }
+}
+
+/// A registry that is lent, as a source of scrapes.
+#[derive(Drop)]
+pub struct FromState<'a, X: MakesScrapes> {
+    /// The registry.
+    pub state: &'a mut X,
+}
+
+impl<X: MakesScrapes> ScrapeFrom for FromState<'_, X> {
+    ghost gave = { λ before after answer. (after.state.ghost_name ≡ before.state.ghost_name) × X.made before.state.now after.state.now answer };
+
+    /// The registry's scrape.
+    fn scrape(&mut self) -> Result<Scrape, NoScrape> {
+        MakesScrapes::scrape(&mut *self.state)
     }
 }
 

@@ -1,5 +1,5 @@
 //! Connections.
-ghost use Rattle.scrape_server.specs.Stream.{WasServed};
+ghost use Rattle.scrape_server.specs.Stream.{IsAskedOnce};
 
 use scrape_http::{ScrapeFrom, Served, WireFault, serve_one};
 use std::io::{self, Read};
@@ -44,13 +44,14 @@ pub fn close_in_stages(stream: &TcpStream) -> io::Result<()> {
 }
 
 /// Serves one connection: reads a request, writes its reply by [`serve_one`], and ends the connection in stages by
-/// [`close_in_stages`]. After a fault of a read or a write there is nobody to wait for.
+/// [`close_in_stages`]. After a fault of a read or a write there is nobody to wait for. That the client is served is tested, and in no
+/// clause: what a socket gives and takes none can name.
 ///
 /// # Errors
 ///
 /// 24, 25 and 26 as [`serve_one`].
 pub fn serve_stream<S: ScrapeFrom>(stream: &TcpStream, source: &mut S) -> Result<Served, WireFault>
-    ensures { WasServed S.gave source.old source.new result }
+    ensures { IsAskedOnce S.gave source.old source.new }
 {
     let mut reader = Watched::new(stream);
     let mut writer = Watched::new(stream);

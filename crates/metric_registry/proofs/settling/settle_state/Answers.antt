@@ -1,0 +1,23 @@
+use Rattle.std.proofs.Common.{◌≡◌, List, [], ◌∷◌, ◌++◌, ap, sym, subst, ◌∙◌, append_assoc}
+use Rattle.register_rule.specs.declared.view.Entry.{Entry as Answer}
+use Rattle.snapshot_scan.specs.Readers.{scan_by}
+use Rattle.snapshot_scan.specs.Snapshots.{entry_of}
+use Rattle.snapshot_scan.specs.declared.reader.Reader.{Reader}
+use Rattle.snapshot_scan.specs.declared.scanner.Scanner.{Scanner}
+use Rattle.registry_state.specs.Journal.{Entry, scrapes}
+use Rattle.chain_law.specs.Settled.{AreMomentsOf}
+use Rattle.chain_law.proofs.Later.{moments_of_later}
+use Rattle.metric_registry.proofs.settling.settle_state.Goals as goal
+
+pub returns-clause-moments : goal.returns-clause-moments
+returns-clause-moments g c =
+    let state = c.args.state in
+    let last = c.into_parts-source.ensures.kept.newest in
+    let out = entry_of c.settle.new.out in
+    let before : (scan_by c.into_reader-reader.result).recorded ≡ last.older ++ scrapes state.journal =
+    ap (λ (r : Reader g.row.N g.row.C g.row.H g.row.G). (scan_by r).recorded) c.into_reader-reader.ensures.reader
+    ∙ (ap (λ (s : Scanner g.row.N g.row.C g.row.H g.row.G). (scan_by s.reader).recorded) c.into_parts-source.ensures.source ∙ last.is) in
+    let all : (scan_by c.settle.new.reader).recorded ≡ last.older ++ (scrapes state.journal ++ out ∷ []) =
+    c.in-Ok.ensures.recorded ∙ (ap (λ (l : List Answer). l ++ out ∷ []) before ∙ append_assoc last.older (scrapes state.journal) (out ∷ [])) in
+    subst (λ (j : List Entry). AreMomentsOf c.args.workers.now (scrapes j ++ out ∷ [])) (sym c.into_parts-source.ensures.journal)
+    (moments_of_later c.args.workers.now last.older (scrapes state.journal ++ out ∷ []) (subst (AreMomentsOf c.args.workers.now) all c.in-Ok.ensures.moments))
