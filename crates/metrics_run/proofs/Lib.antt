@@ -3,3 +3,5 @@ pub mod Reading
 pub mod Settled
 pub mod Pushed
 pub mod Crew
+pub mod Readying
+pub mod Running

@@ -1,5 +1,5 @@
 -- A value behind a list, once more.
-use Rattle.std.proofs.Common.{◌≡◌, ℕ, ◌+◌, List, [], ◌∷◌, ◌++◌, Result, Ok, Err, OnOk, replicate, ap, ◌∙◌, append_assoc}
+use Rattle.std.proofs.Common.{◌≡◌, ℕ, ◌+◌, List, [], ◌∷◌, ◌++◌, Result, Ok, Err, OnErr, OnOk, IfErr, replicate, ap, ◌∙◌, append_assoc}
 use Rattle.std.specs.Prelude.{if◌then◌else◌, is_ok, IsOk}
 use Rattle.std.proofs.lemmas.List.{replicate-append-replicate}
 
@@ -18,3 +18,17 @@ module _ {E : Type 0} where
   pub on_ok_from : {X : Type 0} {P Q : Type 0} (r : Result X E) → (Q → P) → OnOk r Q → OnOk r P
   on_ok_from (Ok x) f q = f q
   on_ok_from (Err e) f q = tt
+
+  -- what follows, where it was Err
+  pub on_err_from : {X : Type 0} {P Q : Type 0} (r : Result X E) → (Q → P) → OnErr r Q → OnErr r P
+  on_err_from (Ok x) f q = tt
+  on_err_from (Err e) f q = f q
+
+  pub if_err_from : {X : Type 0} {P Q : E → Type 0} (r : Result X E) → ((e : E) → Q e → P e) → IfErr r Q → IfErr r P
+  if_err_from (Ok x) f q = tt
+  if_err_from (Err e) f q = f e q
+
+  -- what is so in any case
+  pub on_err_end : {X : Type 0} (r : Result X E) (P : Type 0) → P → OnErr r P
+  on_err_end (Ok x) P p = tt
+  on_err_end (Err e) P p = p

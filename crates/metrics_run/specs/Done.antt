@@ -1,23 +1,22 @@
 -- What a line has done, and what it printed.
-use Rattle.std.specs.Prelude.{◌≡◌, ◌≤◌, ℕ, List, []}
+use Rattle.std.specs.Prelude.{◌≡◌, ℕ, List, []}
 use Rattle.metric_desc.specs.Desc.{Descriptor}
 use Rattle.metric_desc.specs.declared.kind.Kind.TheVariants as kind
-use Rattle.registry_state.specs.Faults.{IsWindow}
 use Rattle.script_lines.specs.Language.{Saying, Nothing, Counter, Gauge, Histogram, Child, Count, Go, Scrape, Settle, Window, AreBounds}
 use Rattle.metrics_run.specs.Parts.{IsDescribed}
 use Rattle.metrics_run.specs.Printed.{kept_line, settled_line}
-use Rattle.metrics_run.specs.State.{IsSame, IsRegistered, IsNumbered, IsQueued, IsGone, IsText, IsSettled}
+use Rattle.metrics_run.specs.State.{IsSame, IsRegistered, IsNumbered, IsQueued, IsGone, IsScraped, IsSettled, IsWindowed}
 use Rattle.metrics_run.specs.declared.state.State.{State}
 
 -- the line of this number, which prints nothing and counts nothing, was done
 abbrev pub IsDone : (old : State) (number : ℕ) → Saying → (new : State) → Type 0
 IsDone old number Nothing new = IsSame old new
 IsDone old number (Counter name labels help) new =
-    (desc : Descriptor) × IsDescribed kind.Counter name labels help (λ bounds. bounds ≡ []) desc × IsRegistered desc × IsSame old new
+    (desc : Descriptor) × IsDescribed kind.Counter name labels help (λ bounds. bounds ≡ []) desc × IsRegistered desc old new
 IsDone old number (Gauge name labels help) new =
-    (desc : Descriptor) × IsDescribed kind.Gauge name labels help (λ bounds. bounds ≡ []) desc × IsRegistered desc × IsSame old new
+    (desc : Descriptor) × IsDescribed kind.Gauge name labels help (λ bounds. bounds ≡ []) desc × IsRegistered desc old new
 IsDone old number (Histogram name labels bounds help) new =
-    (desc : Descriptor) × IsDescribed kind.Histogram name labels help (AreBounds bounds) desc × IsRegistered desc × IsSame old new
+    (desc : Descriptor) × IsDescribed kind.Histogram name labels help (AreBounds bounds) desc × IsRegistered desc old new
 IsDone old number (Child name values) new = IsNumbered name values old new
 IsDone old number (Count what worker child by times) new =
     IsQueued old number (record { what = what; worker = worker; child = child; by = by; times = times }) new
@@ -35,6 +34,6 @@ IsStepped old number (Histogram name labels bounds help) printed new = (printed 
 IsStepped old number (Child name values) printed new = (printed ≡ []) × IsDone old number (Child name values) new
 IsStepped old number (Count what worker child by times) printed new = (printed ≡ []) × IsDone old number (Count what worker child by times) new
 IsStepped old number Go printed new = (printed ≡ []) × IsGone old new
-IsStepped old number Scrape printed new = IsText printed × IsSame old new
+IsStepped old number Scrape printed new = IsScraped old printed new
 IsStepped old number Settle printed new = (printed ≡ settled_line new.settled.vector) × IsSettled old new
-IsStepped old number (Window size) printed new = (kept : ℕ) × (printed ≡ kept_line kept) × (kept ≤ size) × IsWindow size × IsSame old new
+IsStepped old number (Window size) printed new = (kept : ℕ) × (printed ≡ kept_line kept) × IsWindowed size kept old new

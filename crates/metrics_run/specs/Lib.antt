@@ -4,6 +4,9 @@ pub mod Printed
 pub mod Status
 pub mod Jobs
 pub mod Children
+pub mod Scans
 pub mod State
+pub mod Refusals
 pub mod Done
+pub mod Ran
 pub mod Arguments

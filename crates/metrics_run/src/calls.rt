@@ -1,12 +1,12 @@
 //! What the lines of a script do.
-ghost use Rattle.std.specs.Prelude.{◌≡◌, ◌<◌, ◌≤◌, ◌⊎◌, ℕ, List, [], ◌∷◌, map, length, All, IfErr, IfOk, OnErr, OnOk};
+ghost use Rattle.std.specs.Prelude.{◌≡◌, ◌≢◌, true, ◌<◌, ℕ, List, [], ◌∷◌, map, length, All, IfErr, IfOk, OnErr, OnOk};
 ghost use Rattle.snapshot_scan.specs.Readers.{IsReaderOf};
 ghost use Rattle.snapshot_update.specs.Workers.{index_of, IsWorkerOf};
 ghost use Rattle.worker_pool.specs.Ends.{IsPoolFault};
-ghost use Rattle.registry_state.specs.Faults.{IsWindow};
 ghost use Rattle.script_lines.specs.Language.{AreValues};
 ghost use Rattle.metrics_run.specs.LineFault.{number_of};
-ghost use Rattle.metrics_run.specs.State.{IsReady, IsFresh, IsSame, IsRegistered, IsRegisterRefusal, IsNumbered, IsChildRefusal, IsQueued, IsQueueRefusal, IsGone, IsGoRefusal, IsText, IsScrapeRefusal, IsSettled};
+ghost use Rattle.metrics_run.specs.State.{IsReady, IsFresh, IsSame, IsRegistered, IsNumbered, IsQueued, IsGone, IsScraped, IsSettled, IsWindowed};
+ghost use Rattle.metrics_run.specs.Refusals.{IsRegisterRefusal, IsChildRefusal, IsQueueRefusal, IsGoRefusal, IsLost, IsScrapeRefusal, IsWindowRefusal};
 
 use crate::children::has_number;
 use crate::jobs::{add_times, drop_jobs, job_of};
@@ -20,6 +20,7 @@ use metric_desc::Desc;
 use metric_names::NoMemory;
 use metrics_serve::{Board, Registry, Snapshot, Staff};
 use registry_state::BadWindow;
+use snapshot_scan::Scanner;
 use std::alloc::Global;
 use std::mem;
 use std::sync::Wait;
@@ -74,7 +75,7 @@ impl<'a> State<'a> {
         } = staff;
         let settled = Snapshot::new(alloc)?;
         let queue = no_jobs(alloc)?;
-        match Registry::new(alloc, board, scraper, WINDOW) {
+        match Registry::new(alloc, Scanner::new(board, scraper), board.id(), WINDOW) {
             Ok(registry) => Ok(State {
                 alloc,
                 board,
@@ -90,39 +91,35 @@ impl<'a> State<'a> {
     }
 
     /// Registers the family that a line says.
-    pub(crate) fn register(&self, rt: &impl Wait, desc: Desc) -> Result<(), LineFault>
-        ensures registered { OnOk result (IsRegistered desc) }
-        ensures fault { IfErr result (IsRegisterRefusal desc) }
+    pub(crate) fn register(&mut self, desc: Desc) -> Result<(), LineFault>
+        ensures registered { OnOk result (IsRegistered desc self.old self.new) }
+        ensures fault { IfErr result (IsRegisterRefusal self.old desc) }
+        ensures unchanged { OnErr result (IsSame self.old self.new) }
     {
-        match self.registry.register(rt, desc) {
+        match self.registry.register(desc) {
             Ok(_) => Ok(()),
             Err(fault) => Err(LineFault::Register(fault)),
         }
     }
 
     /// Makes a child, or finds it. A new one gets the next number.
-    pub(crate) fn child(
-        &mut self,
-        rt: &impl Wait,
-        name: &str,
-        values: &str,
-    ) -> Result<(), LineFault>
+    pub(crate) fn child(&mut self, name: &str, values: &str) -> Result<(), LineFault>
         requires { (words : List (List ℕ)) × AreValues values.now words }
         ensures numbered { OnOk result (IsNumbered name.now values.now self.old self.new) }
-        ensures fault { IfErr result (IsChildRefusal name.now values.now) }
+        ensures fault { IfErr result (IsChildRefusal self.old name.now values.now) }
         ensures unchanged { OnErr result (IsSame self.old self.new) }
     {
         let values = match read_values(self.alloc, values) {
             Ok(values) => values,
             Err(fault) => return Err(fault),
         };
-        let Some(family) = self.registry.family(rt, name) else {
+        let Some(family) = self.registry.family(name) else {
             return Err(LineFault::NoSuchFamily);
         };
         if self.children.reserve(1).is_err() {
             return Err(LineFault::NoMemory);
         }
-        let handle = match self.registry.child(rt, family, &values) {
+        let handle = match self.registry.child(family, &values) {
             Ok(handle) => handle,
             Err(fault) => return Err(LineFault::Child(fault)),
         };
@@ -164,7 +161,9 @@ impl<'a> State<'a> {
         requires ready { IsReady self.old }
         ensures ready { OnOk result (IsReady self.new) }
         ensures gone { OnOk result (IsGone self.old self.new) }
-        ensures fault { IfErr result (λ refused. (fault : PoolFault) × IsGoRefusal line fault refused × IsPoolFault self.old.board.now self.old.queue.items self.old.workers.items fault) }
+        ensures fault { IfErr result (λ refused. (fault : PoolFault) × IsGoRefusal line fault refused × IsPoolFault true self.old.board.now self.old.queue.items self.old.workers.items fault) }
+        ensures opened { IfErr result (λ refused. number_of refused.fault ≢ 29) }
+        ensures lost { OnErr result (IsLost self.old self.new) }
     {
         let workers = mem::replace(&mut self.workers, Vec::new(self.alloc));
         match run_pool(rt, self.alloc, self.board, workers, &self.queue, &Open) {
@@ -177,12 +176,14 @@ impl<'a> State<'a> {
         }
     }
 
-    /// Makes a scrape, and gives its text. The lock is free while the text is made.
-    pub(crate) fn scrape(&self, rt: &impl Wait) -> Result<Vec<u8>, LineFault>
-        ensures text { IfOk result (λ bytes. IsText bytes.items) }
-        ensures fault { IfErr result IsScrapeRefusal }
+    /// Makes a scrape, and gives its text.
+    pub(crate) fn scrape(&mut self) -> Result<Vec<u8>, LineFault>
+        requires ready { IsReady self.old }
+        ensures ready { OnOk result (IsReady self.new) }
+        ensures scraped { IfOk result (λ bytes. IsScraped self.old bytes.items self.new) }
+        ensures fault { IfErr result (λ fault. IsScrapeRefusal self.old fault self.new) }
     {
-        let scrape = match self.registry.scrape(rt) {
+        let scrape = match self.registry.scrape() {
             Ok(scrape) => scrape,
             Err(fault) => return Err(LineFault::Scrape(fault)),
         };
@@ -208,16 +209,17 @@ impl<'a> State<'a> {
     }
 
     /// Keeps so many scrapes from now on, and tells how many are kept.
-    pub(crate) fn set_window(&self, rt: &impl Wait, size: u64) -> Result<usize, LineFault>
-        ensures window { OnOk result (IsWindow size) }
-        ensures few { IfOk result (λ kept. kept ≤ size) }
-        ensures fault { IfErr result (λ fault. (number_of fault ≡ 31) × (¬ (IsWindow size))) }
+    pub(crate) fn set_window(&mut self, size: u64) -> Result<usize, LineFault>
+        ensures windowed { IfOk result (λ kept. IsWindowed size kept self.old self.new) }
+        ensures fault { IfErr result (IsWindowRefusal size) }
+        ensures unchanged { OnErr result (IsSame self.old self.new) }
     {
         let Ok(window) = usize::try_from(size) else {
             return Err(LineFault::Window(BadWindow));
         };
-        self.registry
-            .set_window(rt, window)
-            .map_err(LineFault::Window)
+        match self.registry.set_window(window) {
+            Ok(kept) => Ok(kept),
+            Err(fault) => Err(LineFault::Window(fault)),
+        }
     }
 }

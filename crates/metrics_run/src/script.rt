@@ -1,22 +1,31 @@
 //! Scripts are run.
-ghost use Rattle.std.specs.Prelude.{◌≡◌, ℕ, List, [], ◌∷◌, map, All, IfOk, OnOk};
-ghost use Rattle.std.specs.Io.KnownBytes.{Appends};
+ghost use Rattle.std.specs.Prelude.{◌≡◌, ℕ, List, [], ◌∷◌, ◌++◌, decimal, map, All, IfErr, IfOk, OnErr, OnOk};
+ghost use Rattle.std.specs.Io.KnownBytes.{Appends, IsAtEnd, Keeps};
+ghost use Rattle.chain_law.specs.Settled.{AreMomentsOf, IsSettled};
+ghost use Rattle.registry_state.specs.Journal.{scrapes};
+ghost use Rattle.snapshot_scan.specs.Snapshots.{entry_of};
 ghost use Rattle.metrics_run.specs.LineFault.{number_of};
-ghost use Rattle.script_lines.specs.Language.{IsLine, Saying};
+ghost use Rattle.script_lines.specs.Language.{IsLine};
 ghost use Rattle.script_lines.specs.Line.{saying_of};
-ghost use Rattle.metrics_run.specs.Printed.{kept_line, settled_line, refused_line};
+ghost use Rattle.script_lines.specs.Lines.{unread};
+ghost use Rattle.metrics_serve.specs.Printed.{Begins};
+ghost use Rattle.metrics_run.specs.Printed.{settled_line, refused_line};
 ghost use Rattle.metrics_run.specs.Status.{status_of, IsEnd};
 ghost use Rattle.snapshot_scan.specs.Readers.{IsReaderOf};
 ghost use Rattle.snapshot_update.specs.Workers.{index_of, IsWorkerOf};
-ghost use Rattle.metrics_run.specs.State.{IsReady};
-ghost use Rattle.metrics_run.specs.Done.{IsDone, IsStepped};
+ghost use Rattle.metrics_run.specs.State.{IsReady, IsSame};
+ghost use Rattle.metrics_run.specs.Refusals.{IsActRefusal};
+ghost use Rattle.metrics_run.specs.Done.{IsDone};
+ghost use Rattle.metrics_run.specs.Ran.{Known, IsLineStepped, StopsStep, HasRun, HasStopped};
 
 use crate::line_fault::LineFault;
 use crate::parts::{Parts, counter_of, gauge_of, histogram_of};
 use crate::refused::Refused;
 use crate::state::{Count, State};
 use metric_names::NoMemory;
-use metrics_serve::{Board, Broken, Staff, new_board, send};
+use metric_registry::settle_state;
+use metrics_serve::{Board, Broken, Snapshot, Staff, new_board, send};
+use registry_state::Journal;
 use script_lines::{Line, Lines, Next, read_line};
 use std::alloc::Global;
 use std::io::{Read, Write};
@@ -59,38 +68,52 @@ enum Stop {
 }
 
 impl From<Broken> for Stop {
+    ghost use Rattle.std.specs.Prelude.{◌≡◌};
+    ghost use Rattle.metrics_run.specs.declared.script.Stop.{Stop};
+
+    ghost from_gives = { λ _ stop. stop ≡ Stop.Broken };
+
     fn from(_broken: Broken) -> Stop {
         Stop::Broken
     }
 }
 
 impl From<script_lines::Broken> for Stop {
+    ghost use Rattle.std.specs.Prelude.{◌≡◌};
+    ghost use Rattle.metrics_run.specs.declared.script.Stop.{Stop};
+
+    ghost from_gives = { λ _ stop. stop ≡ Stop.Broken };
+
     fn from(_broken: script_lines::Broken) -> Stop {
         Stop::Broken
     }
 }
 
-fn stop_at(line: u64, fault: LineFault) -> Stop {
+fn stop_at(line: u64, fault: LineFault) -> Stop
+    ensures { result ≡ Stop.Refused (record { line = line; fault = fault }) }
+{
     Stop::Refused(Refused { line, fault })
 }
 
 /// Does what a line says that prints nothing and counts nothing. `number` is the line's own, from 1.
-fn act(state: &mut State<'_>, rt: &impl Wait, number: u64, line: Line<'_>) -> Result<(), LineFault>
+fn act(state: &mut State<'_>, number: u64, line: Line<'_>) -> Result<(), LineFault>
     requires line { (text : List ℕ) × IsLine text (saying_of line) }
     requires ready { IsReady state.old }
     ensures ready { OnOk result (IsReady state.new) }
     ensures done { OnOk result (IsDone state.old number (saying_of line.entry) state.new) }
+    ensures refused { IfErr result (IsActRefusal state.old (saying_of line.entry)) }
+    ensures unchanged { OnErr result (IsSame state.old state.new) }
 {
     let alloc = state.alloc;
     match line {
         Line::Counter { name, labels, help } => {
             match counter_of(alloc, Parts { name, labels, help }) {
-                Ok(desc) => state.register(rt, desc),
+                Ok(desc) => state.register(desc),
                 Err(fault) => Err(fault),
             }
         }
         Line::Gauge { name, labels, help } => match gauge_of(alloc, Parts { name, labels, help }) {
-            Ok(desc) => state.register(rt, desc),
+            Ok(desc) => state.register(desc),
             Err(fault) => Err(fault),
         },
         Line::Histogram {
@@ -99,10 +122,10 @@ fn act(state: &mut State<'_>, rt: &impl Wait, number: u64, line: Line<'_>) -> Re
             bounds,
             help,
         } => match histogram_of(alloc, Parts { name, labels, help }, bounds) {
-            Ok(desc) => state.register(rt, desc),
+            Ok(desc) => state.register(desc),
             Err(fault) => Err(fault),
         },
-        Line::Child { name, values } => state.child(rt, name, values),
+        Line::Child { name, values } => state.child(name, values),
         Line::Count {
             what,
             worker,
@@ -133,8 +156,8 @@ fn step<R: Threads + Wait, W: Write>(
 ) -> Result<(), Stop>
     requires ready { IsReady state.old }
     ensures ready { OnOk result (IsReady state.new) }
-    ensures stepped { OnOk result ((saying : Saying) × (printed : List ℕ) × IsLine text.now saying × IsStepped state.old number saying printed state.new
-        × Appends (W.contents writer.old) (W.contents writer.new) printed) }
+    ensures stepped { OnOk result ((printed : List ℕ) × IsLineStepped state.old number text.now printed state.new × Appends (W.contents writer.old) (W.contents writer.new) printed) }
+    ensures stopped { IfErr result (StopsStep state.old number text.now (W.contents writer.old) (W.contents writer.new) state.new) }
 {
     let Some(line) = read_line(text) else {
         return Err(stop_at(number, LineFault::BadLine));
@@ -144,7 +167,7 @@ fn step<R: Threads + Wait, W: Write>(
             Ok(()) => Ok(()),
             Err(refused) => Err(Stop::Refused(refused)),
         },
-        Line::Scrape => match state.scrape(rt) {
+        Line::Scrape => match state.scrape() {
             Ok(text) => Ok(send(writer, &text)?),
             Err(fault) => Err(stop_at(number, fault)),
         },
@@ -152,11 +175,11 @@ fn step<R: Threads + Wait, W: Write>(
             state.settle();
             Ok(tell_settled(writer, state.settled.vector())?)
         }
-        Line::Window { size } => match state.set_window(rt, size) {
-            Ok(kept) => Ok(tell_kept(writer, kept)?),
+        Line::Window { size } => match state.set_window(size) {
+            Ok(kept) => Ok(tell_number(writer, b"kept ", kept as u64, b"\n")?),
             Err(fault) => Err(stop_at(number, fault)),
         },
-        line => match act(state, rt, number, line) {
+        line => match act(state, number, line) {
             Ok(()) => Ok(()),
             Err(fault) => Err(stop_at(number, fault)),
         },
@@ -170,15 +193,20 @@ fn run_lines<T: Threads + Wait, R: Read + Drop, W: Write>(
     lines: &mut Lines<R>,
     writer: &mut W,
 ) -> Result<(), Stop>
-    requires { IsReady state.old }
+    requires ready { IsReady state.old }
+    ensures ready { OnOk result (IsReady state.new) }
+    ensures ran { OnOk result ((texts : List (List ℕ)) × (left : Known) × HasRun state.old (unread R.remaining lines.old) (W.contents writer.old) texts state.new left (W.contents writer.new)
+        × Keeps left (unread R.remaining lines.new)) }
+    ensures ended { OnOk result (IsAtEnd (unread R.remaining lines.new)) }
+    ensures stopped { IfErr result (HasStopped state.old (unread R.remaining lines.old) (W.contents writer.old) state.new (unread R.remaining lines.new) (W.contents writer.new)) }
 {
-    for number in 1..=MAX_LINES {
+    for done in 0..MAX_LINES {
         match lines.next()? {
             Next::End => return Ok(()),
-            Next::TooLong => return Err(stop_at(number, LineFault::BadLine)),
+            Next::TooLong => return Err(stop_at(done + 1, LineFault::BadLine)),
             Next::Line => match std::str::from_utf8(lines.bytes()) {
-                Ok(text) => step(rt, state, writer, number, text)?,
-                Err(_) => return Err(stop_at(number, LineFault::BadLine)),
+                Ok(text) => step(rt, state, writer, done + 1, text)?,
+                Err(_) => return Err(stop_at(done + 1, LineFault::BadLine)),
             },
         }
     }
@@ -188,23 +216,24 @@ fn run_lines<T: Threads + Wait, R: Read + Drop, W: Write>(
     }
 }
 
-fn tell_kept<W: Write>(writer: &mut W, kept: usize) -> Result<(), Broken>
-    ensures { OnOk result (Appends (W.contents writer.old) (W.contents writer.new) (kept_line kept)) }
+/// Writes a word, a number, and what follows it. Where that fails, a beginning of them is written, and nothing else.
+fn tell_number<W: Write>(writer: &mut W, word: &[u8], number: u64, end: &[u8]) -> Result<(), Broken>
+    ensures told { OnOk result (Appends (W.contents writer.old) (W.contents writer.new) (word.now ++ decimal number ++ end.now)) }
+    ensures front { OnErr result (Begins (W.contents writer.old) (W.contents writer.new) (word.now ++ decimal number ++ end.now)) }
 {
     let mut digits = itoa::Buffer::new();
-    send(writer, b"kept ")?;
-    send(writer, digits.format(kept).as_bytes())?;
-    send(writer, b"\n")
+    send(writer, word)?;
+    send(writer, digits.format(number).as_bytes())?;
+    send(writer, end)
 }
 
 fn tell_settled<W: Write>(writer: &mut W, vector: &[u64]) -> Result<(), Broken>
-    ensures { OnOk result (Appends (W.contents writer.old) (W.contents writer.new) (settled_line vector.now)) }
+    ensures told { OnOk result (Appends (W.contents writer.old) (W.contents writer.new) (settled_line vector.now)) }
+    ensures front { OnErr result (Begins (W.contents writer.old) (W.contents writer.new) (settled_line vector.now)) }
 {
-    let mut digits = itoa::Buffer::new();
     send(writer, b"settled")?;
     for number in vector {
-        send(writer, b" ")?;
-        send(writer, digits.format(*number).as_bytes())?;
+        tell_number(writer, b" ", *number, b"")?;
     }
     send(writer, b"\n")
 }
@@ -212,15 +241,12 @@ fn tell_settled<W: Write>(writer: &mut W, vector: &[u64]) -> Result<(), Broken>
 fn tell_refused<W: Write>(writer: &mut W, refused: Refused) -> Result<ScriptEnd, Broken>
     ensures end { IfOk result (λ end. end ≡ ScriptEnd.Refused refused.line (number_of refused.fault)) }
     ensures told { OnOk result (Appends (W.contents writer.old) (W.contents writer.new) (refused_line refused.line (number_of refused.fault))) }
+    ensures front { OnErr result (Begins (W.contents writer.old) (W.contents writer.new) (refused_line refused.line (number_of refused.fault))) }
 {
     let line = refused.line;
     let number = refused.fault.number();
-    let mut digits = itoa::Buffer::new();
-    send(writer, b"refused ")?;
-    send(writer, digits.format(line).as_bytes())?;
-    send(writer, b" ")?;
-    send(writer, digits.format(number).as_bytes())?;
-    send(writer, b"\n")?;
+    tell_number(writer, b"refused ", line, b" ")?;
+    tell_number(writer, b"", u64::from(number), b"\n")?;
     Ok(ScriptEnd::Refused { line, number })
 }
 
@@ -239,6 +265,27 @@ fn ended<W: Write>(writer: &mut W, ran: Result<(), Stop>) -> ScriptEnd
     }
 }
 
+/// The end of a script that ran to its last line: what its registry notes, and exact totals of all that its workers have counted. The
+/// scrapes that are kept, and these totals after them, are moments of the one history of what these workers published.
+fn end(state: State<'_>) -> (Journal<4, 64, 8, 16>, Snapshot)
+    requires { IsReady state }
+    ensures journal { result.0 ≡ state.entry.registry.journal }
+    ensures moments { AreMomentsOf state.entry.workers.items (scrapes result.0 ++ entry_of result.1 ∷ []) }
+    ensures totals { IsSettled state.entry.workers.items result.1 }
+{
+    let State {
+        board,
+        registry,
+        mut workers,
+        mut settled,
+        ..
+    } = state;
+    let Ok(journal) = settle_state(registry, board, &mut workers, &mut settled) else {
+        unreachable!()
+    };
+    (journal, settled)
+}
+
 /// Runs a script over a board on which nothing was counted.
 fn run_over<T: Threads + Wait, R: Read + Drop, W: Write>(
     rt: &T,
@@ -255,10 +302,12 @@ fn run_over<T: Threads + Wait, R: Read + Drop, W: Write>(
     let Ok(mut lines) = Lines::new(alloc, reader) else {
         return Err(stop_at(0, LineFault::NoMemory));
     };
-    match State::new(alloc, board, staff) {
-        Ok(mut state) => run_lines(rt, &mut state, &mut lines, writer),
-        Err(NoMemory) => Err(stop_at(0, LineFault::NoMemory)),
-    }
+    let Ok(mut state) = State::new(alloc, board, staff) else {
+        return Err(stop_at(0, LineFault::NoMemory));
+    };
+    run_lines(rt, &mut state, &mut lines, writer)?;
+    let _settled = end(state);
+    Ok(())
 }
 
 /// Runs a script: reads its lines, registers, counts, and writes the text of each scrape.

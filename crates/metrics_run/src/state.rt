@@ -5,7 +5,7 @@ use script_lines::Counting;
 use std::alloc::Global;
 use worker_pool::Job;
 
-/// What a script has made so far: its registry, behind a lock, the handles of its children by their numbers, and a list of jobs
+/// What a script has made so far: its registry, which nobody shares, the handles of its children by their numbers, and a list of jobs
 /// for each worker, which wait for `go`. The workers are at home here between two lines.
 #[derive(Drop)]
 pub(crate) struct State<'a> {

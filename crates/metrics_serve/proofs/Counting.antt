@@ -22,7 +22,7 @@ module _ (b : Board 4 64 8 16) (m : Metrics) where
   -- a reply was counted, or the worker refused it and is as it was
   pub applied : (w v : Worker 4 64 8 16) (served : Served) (ops : List Op) (r : Result Unit ApplyFault) → IsWorkerOf b v → index_of v ≡ index_of w
       → ops ≡ list_for m served → OnOk r (lists_of v ≡ lists_of w ++ ops ∷ []) → IfErr r (IsApplyFault 64 8 16 (member_of w) ops)
-      → OnErr r (member_of v ≡ member_of w) → WasCounted b m w v (Ok served)
+      → OnErr r (v ≡ w) → WasCounted b m w v (Ok served)
   applied w v served ops (Ok done) own index is lists why same = record {
     own = own;
     index = index;
@@ -32,7 +32,7 @@ module _ (b : Board 4 64 8 16) (m : Metrics) where
   applied w v served ops (Err fault) own index is lists why same = record {
     own = own;
     index = index;
-    reply = inr (same, (fault, subst (λ (o : List Op). IsApplyFault 64 8 16 (member_of w) o fault) is why));
+    reply = inr (ap member_of same, (fault, subst (λ (o : List Op). IsApplyFault 64 8 16 (member_of w) o fault) is why));
     fault = tt;
   }
 

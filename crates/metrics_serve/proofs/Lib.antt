@@ -1,7 +1,9 @@
 pub mod Gathered
+pub mod Printing
 mod Counting
 mod Four
-mod Printing
+mod Making
+mod Named
 mod Sent
 mod Six
 mod Totals

@@ -1,9 +1,8 @@
 -- Bytes that are printed, or a beginning of them.
-use Rattle.std.proofs.Common.{ℕ, Option, List, [], ◌++◌, take, drop, Result, Ok, Err, OnErr, inl, inr, ◌<◌, refl, sym, ap, ◌∙◌, append-nil, append_assoc, take-append-drop}
+use Rattle.std.proofs.Common.{ℕ, Option, List, [], ◌++◌, take, drop, Result, Ok, Err, OnErr, inl, ◌<◌, refl, sym, ap, ◌∙◌, append-nil, append_assoc, take-append-drop}
 use Rattle.std.proofs.KnownBytes.{Appends-kept, Appends-nil, Appends-trans}
 use Rattle.std.specs.Io.KnownBytes.{Appends, Keeps}
 use Rattle.metrics_serve.specs.declared.sending.Broken.{Broken}
-use Rattle.metrics_serve.specs.Counted.{AreReplies}
 use Rattle.metrics_serve.specs.Printed.{Begins, Prints, listening_line, served_line}
 use Rattle.metrics_serve.specs.declared.serve.ServeEnd.TheVariants.{Done, Broken as BrokenOff}
 
@@ -55,10 +54,18 @@ pub on_err : (r : Result Unit Broken) (P : Type 0) → P → OnErr r P
 on_err (Ok done) P p = tt
 on_err (Err broken) P p = p
 
+pub on_err_of : {X : Type 0} (r : Result X Broken) (P : Type 0) → P → OnErr r P
+on_err_of (Ok done) P p = tt
+on_err_of (Err broken) P p = p
+
 -- the port, and then the replies or a beginning of their line
-module _ (a b c : Option (List ℕ)) (port replies : ℕ) (small : port < 65536) (are : AreReplies replies) (before : Appends a b (listening_line port)) where
+module _ (a b c : Option (List ℕ)) (port replies : ℕ) (small : port < 65536) (before : Appends a b (listening_line port)) where
   pub printed : Appends b c (served_line replies) → Prints a c Done
-  printed after = (port, replies, small, are, Appends-trans a b c (listening_line port) (served_line replies) before after)
+  printed after = (port, replies, small, Appends-trans a b c (listening_line port) (served_line replies) before after)
 
   pub printed_begun : Begins b c (served_line replies) → Prints a c BrokenOff
-  printed_begun after = inl (port, small, inr (replies, are, begun_after a b c (listening_line port) (served_line replies) before after))
+  printed_begun after = inl (port, replies, small, begun_after a b c (listening_line port) (served_line replies) before after)
+
+-- no more than a beginning of the port's line
+pub broken_off : (a b : Option (List ℕ)) (port : ℕ) → port < 65536 → Begins a b (listening_line port) → Prints a b BrokenOff
+broken_off a b port small begins = inl (port, 0, small, begun_before a b (listening_line port) (served_line 0) begins)

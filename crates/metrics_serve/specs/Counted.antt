@@ -12,8 +12,12 @@ use Rattle.scrape_http.specs.declared.status.Status.TheVariants.{Success, BadReq
 use Rattle.snapshot_update.specs.declared.faults.ApplyFault.{ApplyFault}
 use Rattle.snapshot_update.specs.declared.worker.Worker.{Worker}
 use Rattle.snapshot_update.specs.Workers.{index_of, lists_of, member_of, IsApplyFault, IsWorkerOf}
-use Rattle.chain_law.specs.Settled.{IsSettled}
-use Rattle.snapshot_scan.specs.Snapshots.{Taken}
+use Rattle.chain_law.specs.Settled.{AreMomentsOf, IsSettled}
+use Rattle.snapshot_scan.specs.Snapshots.{Taken, entry_of}
+use Rattle.snapshot_scan.specs.declared.scanner.Scanner.{Scanner}
+use Rattle.registry_state.specs.Journal.{Entry, changes, scrapes}
+use Rattle.registry_state.specs.Kept.{Registry}
+use Rattle.metric_registry.specs.Naming.{BeginsWith}
 use Rattle.metrics_serve.specs.declared.metrics.Metrics.{Metrics}
 use Rattle.metrics_serve.specs.declared.threads.Four.{Four}
 
@@ -92,16 +96,16 @@ pub record AreFour (b : Board 4 64 8 16) (four : Four) : Type 0 where
   pub index : map index_of (all_of four) ≡ 0 ∷ 1 ∷ 2 ∷ 3 ∷ []
 
 -- So many replies were counted: each of the four workers of a new board has counted replies, and nothing else, and these are so many
--- together; and that is the total of the counters of all statuses, of which no two are one.
-pub record AreReplies (replies : ℕ) : Type 0 where
-  pub board : Board 4 64 8 16
-  pub metrics : Metrics
-  pub was : Four
+-- together; and that is the total of the counters of all statuses, of which no two are one, by a snapshot of all that the four have
+-- counted. The scrapes that the registry kept, and that snapshot after them, are moments of the one history of what they counted; and
+-- what was registered before the registry was served stands first in its journal.
+pub record AreReplies (b : Board 4 64 8 16) (m : Metrics) (first : Registry (Scanner 4 64 8 16)) (was : Four) (replies : ℕ) : Type 0 where
   pub four : Four
-  pub new : AreNew board was
-  pub counted : HaveCounted board metrics was four
+  pub counted : HaveCounted b m was four
   pub number : replies ≡ number_of counted
-  pub six : AreSix metrics
   pub out : Taken
   pub settled : IsSettled (all_of four) out
-  pub total : replies ≡ replies_in metrics out.totals
+  pub total : replies ≡ replies_in m out.totals
+  pub journal : List Entry
+  pub begins : BeginsWith (changes first.journal) journal
+  pub moments : AreMomentsOf (all_of four) (scrapes journal ++ entry_of out ∷ [])

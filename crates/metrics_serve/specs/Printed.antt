@@ -1,7 +1,6 @@
 -- What the server prints.
 use Rattle.std.specs.Prelude.{◌≡◌, ◌⊎◌, ℕ, ◌<◌, List, ◌++◌, codes, decimal, Option}
 use Rattle.std.specs.Io.KnownBytes.{Appends}
-use Rattle.metrics_serve.specs.Counted.{AreReplies}
 use Rattle.metrics_serve.specs.declared.serve.ServeEnd.{ServeEnd}
 use Rattle.metrics_serve.specs.declared.serve.ServeEnd.TheVariants.{Done, Broken, NoMemory}
 
@@ -20,14 +19,13 @@ pub record Begins (before after : Option (List ℕ)) (bytes : List ℕ) : Type 0
   pub parts : bytes ≡ front ++ back
   pub grown : Appends before after front
 
--- What a server prints that ends so: its port, and at the end its replies; or that there was no memory, before it listens to anybody. Where
--- it breaks off, it has printed a beginning of that.
+-- What a server prints that ends so: its port, and at the end a number of replies; or that there was no memory, before it listens to
+-- anybody. Where it breaks off, it has printed a beginning of that.
 abbrev pub Prints : (before after : Option (List ℕ)) → ServeEnd → Type 0
-Prints before after Done = (port replies : ℕ) × (port < 65536) × AreReplies replies × Appends before after (listening_line port ++ served_line replies)
+Prints before after Done = (port replies : ℕ) × (port < 65536) × Appends before after (listening_line port ++ served_line replies)
 Prints before after NoMemory = Appends before after (codes "refused 0 6\n")
 Prints before after Broken =
-    ((port : ℕ) × (port < 65536) × (Begins before after (listening_line port)
-    ⊎ ((replies : ℕ) × AreReplies replies × Begins before after (listening_line port ++ served_line replies))))
+    ((port replies : ℕ) × (port < 65536) × Begins before after (listening_line port ++ served_line replies))
     ⊎ Begins before after (codes "refused 0 6\n")
 
 -- the exit status of the program

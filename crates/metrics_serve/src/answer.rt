@@ -1,6 +1,6 @@
 //! One connection.
 ghost use Rattle.snapshot_update.specs.Workers.{IsWorkerOf};
-ghost use Rattle.scrape_server.specs.Stream.{WasServed};
+ghost use Rattle.scrape_server.specs.Stream.{IsAskedOnce};
 ghost use Rattle.metrics_serve.specs.Counted.{WasCounted};
 
 use crate::board::{Board, Worker};
@@ -20,7 +20,7 @@ pub(crate) fn answer<S: ScrapeFrom>(
     stream: &TcpStream,
 ) -> Result<Served, WireFault>
     requires { IsWorkerOf board.now worker.old }
-    ensures served { WasServed S.gave source.old source.new result }
+    ensures asked { IsAskedOnce S.gave source.old source.new }
     ensures counted { WasCounted board.now metrics.now worker.old worker.new result }
 {
     let mut reader = Watched::new(stream);

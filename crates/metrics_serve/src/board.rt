@@ -5,6 +5,8 @@ ghost use Rattle.snapshot_scan.specs.Readers.{IsReaderOf};
 ghost use Rattle.snapshot_update.specs.Workers.{index_of, lists_of, IsWorkerOf};
 
 use metric_names::NoMemory;
+use registry_state::RegistryState;
+use snapshot_scan::Scanner;
 use snapshot_update::Crew;
 use std::alloc::Global;
 
@@ -20,8 +22,8 @@ pub type Reader = snapshot_scan::Reader<4, 64, 8, 16>;
 /// What a reader of the program scans to.
 pub type Snapshot = snapshot_scan::Snapshot<4, 64, 8, 16>;
 
-/// The registry of the program.
-pub type Registry<'a> = metric_registry::Registry<'a, 4, 64, 8, 16>;
+/// The registry of the program, without a lock: that of a script, which is nobody else's, and that of a server before it is locked.
+pub type Registry<'a> = RegistryState<Scanner<'a, 4, 64, 8, 16>, 4, 64, 8, 16>;
 
 /// The id of the board.
 const ID: u64 = 1;

@@ -1,6 +1,11 @@
 //! What the server counts of itself.
-ghost use Rattle.std.specs.Prelude.{◌≡◌, ◌↔◌, IfOk, IfSome, IsTrue};
+ghost use Rattle.std.specs.Prelude.{◌≡◌, ◌<◌, [], ◌∷◌, IfOk, IfSome, All};
+ghost use Rattle.metric_desc.specs.declared.kind.Kind.TheVariants as kind;
+ghost use Rattle.registry_state.specs.Changed.{WasMade};
+ghost use Rattle.registry_state.specs.Replay.{nothing, IsNew};
+ghost use Rattle.registry_state.specs.declared.handle.Handle.TheVariants as handle;
 ghost use Rattle.metrics_serve.specs.Counted.{AreSix, counter_for, list_for, replies_in};
+ghost use Rattle.metrics_serve.specs.Made.{IsSameBoard};
 
 use crate::board::{Registry, Snapshot};
 use ledger_core::{Counter, Histogram, Op};
@@ -9,7 +14,6 @@ use metric_names::{HelpText, LabelName, LabelValue, MetricName, NoMemory};
 use registry_state::{FamilyId, Handle};
 use scrape_http::{Served, Status};
 use std::alloc::Global;
-use std::sync::Wait;
 
 /// The handles of the server's own metrics: the counters of `scrape_requests_total`, one for each status, and the histogram
 /// `scrape_reply_bytes`.
@@ -25,7 +29,9 @@ pub(crate) struct Metrics {
 }
 
 /// The family of replies, by their code. There is none for want of memory alone; so below.
-fn replies_desc(alloc: Global) -> Option<Desc> {
+fn replies_desc(alloc: Global) -> Option<Desc>
+    ensures { IfSome result (λ desc. desc.kind ≡ kind.Counter) }
+{
     let name = MetricName::read(alloc, "scrape_requests_total").ok()?;
     let help = HelpText::read(alloc, "Replies by status.").ok()?;
     let mut labels = Vec::new(alloc);
@@ -40,73 +46,66 @@ fn bytes_desc(alloc: Global) -> Option<Desc> {
     Desc::histogram(name, help, Vec::new(alloc), &[100, 1_000, 10_000]).ok()
 }
 
-/// The counter of replies of this code.
+/// The counter of replies of this code, of which there is none yet.
 fn counter_of(
-    rt: &impl Wait,
     alloc: Global,
-    registry: &Registry<'_>,
+    registry: &mut Registry<'_>,
     family: FamilyId,
     code: &str,
-) -> Option<Counter> {
+) -> Option<Counter>
+    requires new { All (λ it. IsNew it (code.now ∷ [])) registry.old.state.families }
+    ensures made { IfSome result (λ counter. WasMade 64 8 16 registry.old registry.new family.number (code.now ∷ []) (handle.Counter counter)) }
+    ensures inside { IfSome result (λ counter. counter.slot < 64) }
+{
     let value = [LabelValue::read(alloc, code).ok()?];
-    match registry.child(rt, family, &value) {
+    match registry.child(family, &value) {
         Ok(Handle::Counter(counter)) => Some(counter),
         _ => None,
     }
 }
 
 /// The histogram of the bytes of replies.
-fn histogram_of(rt: &impl Wait, alloc: Global, registry: &Registry<'_>) -> Option<Histogram> {
-    let family = registry.register(rt, bytes_desc(alloc)?).ok()?;
-    match registry.child(rt, family, &[]) {
+fn histogram_of(alloc: Global, registry: &mut Registry<'_>) -> Option<Histogram>
+    ensures same { IfSome result (λ _. IsSameBoard registry.old registry.new) }
+{
+    let family = registry.register(bytes_desc(alloc)?).ok()?;
+    match registry.child(family, &[]) {
         Ok(Handle::Histogram(histogram)) => Some(histogram),
         _ => None,
     }
 }
 
 /// Registers both families, and makes their children.
-fn registered(rt: &impl Wait, alloc: Global, registry: &Registry<'_>) -> Option<Metrics>
-    ensures { IfSome result AreSix }
+fn registered(alloc: Global, registry: &mut Registry<'_>) -> Option<Metrics>
+    requires nothing { registry.old.state ≡ nothing }
+    ensures six { IfSome result AreSix }
+    ensures same { IfSome result (λ _. IsSameBoard registry.old registry.new) }
 {
-    let family = registry.register(rt, replies_desc(alloc)?).ok()?;
-    let metrics = Metrics {
-        success: counter_of(rt, alloc, registry, family, "200")?,
-        bad_request: counter_of(rt, alloc, registry, family, "400")?,
-        not_found: counter_of(rt, alloc, registry, family, "404")?,
-        method_not_allowed: counter_of(rt, alloc, registry, family, "405")?,
-        too_large: counter_of(rt, alloc, registry, family, "431")?,
-        unavailable: counter_of(rt, alloc, registry, family, "503")?,
-        bytes: histogram_of(rt, alloc, registry)?,
+    let Ok(family) = registry.register(replies_desc(alloc)?) else {
+        return None;
     };
-    // They are, since each is given the least free slot; it is looked at once more, for the sum of their totals.
-    metrics.are_six().then_some(metrics)
+    Some(Metrics {
+        success: counter_of(alloc, registry, family, "200")?,
+        bad_request: counter_of(alloc, registry, family, "400")?,
+        not_found: counter_of(alloc, registry, family, "404")?,
+        method_not_allowed: counter_of(alloc, registry, family, "405")?,
+        too_large: counter_of(alloc, registry, family, "431")?,
+        unavailable: counter_of(alloc, registry, family, "503")?,
+        bytes: histogram_of(alloc, registry)?,
+    })
 }
 
 impl Metrics {
     /// Registers both families of a registry that has none, and makes their children.
-    pub(crate) fn new(
-        rt: &impl Wait,
-        alloc: Global,
-        registry: &Registry<'_>,
-    ) -> Result<Metrics, NoMemory>
-        ensures { IfOk result AreSix }
+    pub(crate) fn new(alloc: Global, registry: &mut Registry<'_>) -> Result<Metrics, NoMemory>
+        requires nothing { registry.old.state ≡ nothing }
+        ensures six { IfOk result AreSix }
+        ensures same { IfOk result (λ _. IsSameBoard registry.old registry.new) }
     {
-        match registered(rt, alloc, registry) {
+        match registered(alloc, registry) {
             Some(metrics) => Ok(metrics),
             None => Err(NoMemory),
         }
-    }
-
-    /// Whether the six counters are different ones of the board's, in the order of their statuses.
-    fn are_six(&self) -> bool
-        ensures { IsTrue result ↔ AreSix self.now }
-    {
-        self.success.slot < self.bad_request.slot
-            && self.bad_request.slot < self.not_found.slot
-            && self.not_found.slot < self.method_not_allowed.slot
-            && self.method_not_allowed.slot < self.too_large.slot
-            && self.too_large.slot < self.unavailable.slot
-            && self.unavailable.slot < 64
     }
 
     /// The counter of the replies of this status.

@@ -1,21 +1,25 @@
 //! The server.
-ghost use Rattle.std.specs.Prelude.{◌≡◌, [], ◌∷◌, ◌++◌, codes, decimal, map, replicate, ◌<◌, All, OnErr, OnOk, IfOk, IfSome};
+ghost use Rattle.std.specs.Prelude.{◌≡◌, [], ◌∷◌, ◌++◌, codes, decimal, map, replicate, ◌<◌, All, OnErr, OnOk, IfOk, IfSome, Some};
 ghost use Rattle.std.specs.Io.KnownBytes.{Appends};
-ghost use Rattle.chain_law.specs.Settled.{IsSettled};
 ghost use Rattle.snapshot_scan.specs.Readers.{IsReaderOf};
 ghost use Rattle.snapshot_update.specs.Workers.{index_of, lists_of, IsWorkerOf};
-ghost use Rattle.metrics_serve.specs.Counted.{AreFour, AreNew, AreReplies, AreSix, HaveCounted, all_of};
+ghost use Rattle.registry_state.specs.Journal.{changes};
+ghost use Rattle.metric_registry.specs.Naming.{name_of};
+ghost use Rattle.metrics_serve.specs.Counted.{AreNew, AreReplies};
+ghost use Rattle.metrics_serve.specs.Made.{IsServed};
 ghost use Rattle.metrics_serve.specs.Printed.{Begins, Prints, listening_line, status_of};
 
 use crate::board::{Board, Reader, Registry, Snapshot, Staff, Worker, new_board};
 use crate::metrics::Metrics;
 use crate::sending::{Broken, send};
 use crate::threads::{Four, Queues, Shared, serve_in_threads};
-use chain_law::settle;
 use metric_names::NoMemory;
+use metric_registry::{Named, RegistryOf};
 use scrape_server::FromRegistry;
+use snapshot_scan::Scanner;
 use std::alloc::Global;
 use std::io::Write;
+use std::marker::Brand;
 use std::net::TcpListener;
 use std::sync::Wait;
 use std::thread::Threads;
@@ -58,14 +62,17 @@ struct Service<'b> {
 
 impl<'b> Service<'b> {
     /// A registry with the server's metrics, and empty queues. There is none for want of memory alone.
-    fn new(rt: &impl Wait, alloc: Global, board: &'b Board, scraper: Reader) -> Option<Service<'b>>
+    fn new(alloc: Global, board: &'b Board, scraper: Reader) -> Option<Service<'b>>
         requires { IsReaderOf board.now scraper }
-        ensures { IfSome result (λ s. AreSix s.metrics) }
+        ensures { IfSome result (IsServed board.now) }
     {
-        let Ok(registry) = Registry::new(alloc, board, scraper, WINDOW) else {
+        let source = Scanner::new(board, scraper);
+        let Ok(mut registry) = Registry::new(alloc, source, board.id(), WINDOW) else {
             return None;
         };
-        let metrics = Metrics::new(rt, alloc, &registry).ok()?;
+        let Ok(metrics) = Metrics::new(alloc, &mut registry) else {
+            return None;
+        };
         Some(Service {
             registry,
             metrics,
@@ -115,33 +122,21 @@ fn to_four(board: &Board, mut workers: Vec<Worker>) -> Four
     Four { a, b, c, d }
 }
 
-/// Gathers the four workers, for exact totals.
-fn settle_four(board: &Board, settler: &mut Reader, four: Four, out: &mut Snapshot)
-    requires four { AreFour board.now four }
-    requires settler { IsReaderOf board.now settler.old }
-    ensures { IsSettled (all_of four) out.new }
-{
-    let mut workers = [four.a, four.b, four.c, four.d];
-    let Ok(()) = settle(board, settler, &mut workers, out) else {
-        unreachable!()
-    };
-}
-
 /// Answers so many connections, and tells how many replies were counted, by all workers together. None where a thread could not be
 /// started or the listener has failed.
-fn serve_counting<T: Threads + Wait + Sync>(
+fn serve_counting<B: Named + Send, T: Threads + Wait + Sync>(
     rt: &T,
     board: &Board,
     workers: Four,
-    settler: &mut Reader,
     service: Service<'_>,
     listener: &TcpListener,
     count: u64,
 ) -> Option<u64>
     requires new { AreNew board.now workers }
-    requires settler { IsReaderOf board.now settler.old }
-    requires six { AreSix service.metrics }
-    ensures { IfSome result AreReplies }
+    requires service { IsServed board.now service }
+    requires named { B.board ≡ Some (name_of board.now) }
+    requires first { B.first ≡ changes service.registry.journal }
+    ensures { IfSome result (AreReplies board.now service.entry.metrics service.entry.registry workers) }
 {
     let Service {
         registry,
@@ -149,6 +144,7 @@ fn serve_counting<T: Threads + Wait + Sync>(
         queues,
         mut settled,
     } = service;
+    let registry = RegistryOf::<B, 4, 64, 8, 16>::lock(registry);
     let shared = Shared {
         rt,
         board,
@@ -162,7 +158,10 @@ fn serve_counting<T: Threads + Wait + Sync>(
     let Some(four) = serve_in_threads(shared, sources, workers, queues, listener, count) else {
         return None;
     };
-    settle_four(board, settler, four, &mut settled);
+    let mut workers = [four.a, four.b, four.c, four.d];
+    let Ok(_journal) = registry.settle(board, &mut workers, &mut settled) else {
+        unreachable!()
+    };
     Some(metrics.replies(&settled))
 }
 
@@ -189,22 +188,22 @@ fn serve_by<T: Threads + Wait + Sync, W: Write>(
     requires own { All (IsWorkerOf board.now) staff.workers.items }
     requires all { map index_of staff.workers.items ≡ 0 ∷ 1 ∷ 2 ∷ 3 ∷ [] }
     requires new { map lists_of staff.workers.items ≡ replicate 4 [] }
-    requires readers { IsReaderOf board.now staff.scraper × IsReaderOf board.now staff.settler }
+    requires reader { IsReaderOf board.now staff.scraper }
     ensures { Prints (W.contents writer.old) (W.contents writer.new) result }
 {
     let Staff {
         workers,
         scraper,
-        mut settler,
+        ..
     } = staff;
     let four = to_four(board, workers);
-    let Some(service) = Service::new(rt, alloc, board, scraper) else {
+    let Some(service) = Service::new(alloc, board, scraper) else {
         return tell_no_memory(writer);
     };
     let Ok(_port) = tell_port(listener, writer) else {
         return ServeEnd::Broken;
     };
-    match serve_counting(rt, board, four, &mut settler, service, listener, count) {
+    match serve_counting::<Brand, T>(rt, board, four, service, listener, count) {
         Some(replies) => match tell(writer, b"served ", replies) {
             Ok(()) => ServeEnd::Done,
             Err(Broken) => ServeEnd::Broken,

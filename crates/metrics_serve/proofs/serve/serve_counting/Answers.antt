@@ -1,26 +1,53 @@
-use Rattle.std.proofs.Common.{◌∙◌}
+use Rattle.std.proofs.Common.{sym, subst, ap, ◌∙◌, List, arith}
+use Rattle.std.proofs.lemmas.Option.{same_Some}
+use Rattle.register_rule.specs.Seats.{board_id}
+use Rattle.registry_state.specs.Journal.{Change}
+use Rattle.std.specs.Prelude.{is_some}
+use Rattle.metric_registry.specs.Naming.{name_of, BeginsWith}
+use Rattle.metrics_serve.specs.Counted.{all_of}
 use Rattle.metrics_serve.proofs.Counting.{back_again}
+use Rattle.metrics_serve.proofs.Gathered.{has_all}
+use Rattle.metrics_serve.proofs.Named.{begins_itself}
 use Rattle.metrics_serve.proofs.Totals.{all_counted}
 use Rattle.metrics_serve.proofs.serve.serve_counting.Goals as goal
 
-pub settle_four-requires-clause-four : goal.settle_four-requires-clause-four
-settle_four-requires-clause-four g c =
-    back_again c.args.board.now c.args.service.metrics c.args.workers c.in-Some.four c.requires.new c.in-Some.ensures
+pub lock-registry-requires : goal.lock-registry-requires
+lock-registry-requires g c =
+    let served = c.requires.service in
+    let named = c.requires.named in
+    let scans = ap name_of served.scans in
+    let first = begins_itself g.B.Named.first c.args.service.registry.journal c.requires.first in
+    (omega arith, (omega arith, (omega arith, (((λ x e. scans ∙ same_Some _ x (sym named ∙ e)), served.id ∙ ap board_id (sym served.scans)), first))))
+
+pub settle-requires : goal.settle-requires
+settle-requires g c =
+    let named = c.requires.named in
+    let own = (back_again c.args.board.now c.args.service.metrics c.args.workers c.in-Some.four c.requires.new c.in-Some.ensures).own in (
+      omega arith,
+      (
+        omega arith,
+        (omega arith, (omega arith, (omega arith, (ap is_some named, ((λ x e. same_Some _ x (sym named ∙ e)), own))))),
+      ),
+    )
+
+pub unreachable-requires : goal.unreachable-requires
+unreachable-requires g c =
+    let four = back_again c.args.board.now c.args.service.metrics c.args.workers c.in-Some.four c.requires.new c.in-Some.ensures in
+    let missing = c.in_default-settle.ensures.missing in
+    missing.none (has_all (all_of c.in-Some.four) four.index _ missing.inside)
 
 pub returns : goal.returns
 returns g c = record {
-  board = c.args.board.now;
-  metrics = c.args.service.metrics;
-  was = c.args.workers;
   four = c.in-Some.four;
-  new = c.requires.new;
   counted = c.in-Some.ensures;
   number =
       c.replies.ensures
-      ∙ all_counted c.args.service.metrics c.requires.six c.args.board.now c.args.workers c.in-Some.four c.requires.new c.in-Some.ensures
-      c.settle_four.new.out c.settle_four.ensures;
-  six = c.requires.six;
-  out = c.settle_four.new.out;
-  settled = c.settle_four.ensures;
+      ∙ all_counted c.args.service.metrics c.requires.service.six c.args.board.now c.args.workers c.in-Some.four c.requires.new c.in-Some.ensures
+      c.settle.new.out c.in-Ok.ensures.settled;
+  out = c.settle.new.out;
+  settled = c.in-Ok.ensures.settled;
   total = c.replies.ensures;
+  journal = c.in-Ok._journal;
+  begins = subst (λ (first : List Change). BeginsWith first c.in-Ok._journal) c.requires.first c.in-Ok.ensures.begins;
+  moments = c.in-Ok.ensures.moments;
 }

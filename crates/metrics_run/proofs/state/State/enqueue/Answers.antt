@@ -42,10 +42,12 @@ pub returns-in-Err-clause-unchanged : goal.returns-in-Err-clause-unchanged
 returns-in-Err-clause-unchanged c =
     let list = c.index_mut.result.now in
     record {
-      board = refl;
+      beside = record {
+        board = refl;
+        workers = refl;
+        settler = refl;
+        children = refl;
+        queue = map-set_same jobs_in c.args.self.now.queue.items c.args.count.worker c.add_times.new.list list (c.in-Err.ensures.unchanged ∙ ap jobs_in c.index_mut.ensures.value);
+      };
       registry = refl;
-      workers = refl;
-      settler = refl;
-      children = refl;
-      queue = map-set_same jobs_in c.args.self.now.queue.items c.args.count.worker c.add_times.new.list list (c.in-Err.ensures.unchanged ∙ ap jobs_in c.index_mut.ensures.value);
     }

@@ -17,6 +17,9 @@ returns-in-Ok-clause-ready g c =
     record {
       workers = c.in-Ok.ensures.own;
       all = same_workers self.board.now c.deref.result.now self.workers.items c.in-Ok.workers.items few did ∙ ready.all;
+      scans = ready.scans;
+      scraper = ready.scraper;
+      id = ready.id;
       settler = ready.settler;
       lists = ap length (with_items_is self.queue c.drop_jobs.new.lists (c.drop_jobs.ensures.all ∙ c.deref_mut.ensures.len))
           ∙ c.drop_jobs.ensures.all ∙ ap length c.deref_mut.ensures.value ∙ ready.lists;
