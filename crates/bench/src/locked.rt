@@ -5,8 +5,8 @@ use crate::measuring::{Lines, nanos_since};
 use crate::registries::{ID, Service, WINDOW, count_by, values};
 use anyhow::{Context, Result, bail};
 use dirgwako::{
-    Behind, Crew, FromRegistry, Recorder, RegisterFault, Registry, ScrapeFault, ServiceRuntime,
-    listen_aloud, serve_stream,
+    AnyBoard, Behind, Crew, FromRegistry, Recorder, RegisterFault, Registry, ScrapeFault,
+    ServiceRuntime, listen_aloud, serve_stream,
 };
 use expo_text::text_len;
 use scrape_http::ScrapeFrom;
@@ -177,7 +177,7 @@ impl<R: ServiceRuntime> Lines<'_, R> {
 
 /// Answers so many connections.
 fn answer<const N: usize, const C: usize, const H: usize>(
-    mut scrapes: FromRegistry<'_, '_, impl Wait, N, C, H, 0>,
+    mut scrapes: FromRegistry<'_, '_, impl Wait, AnyBoard, N, C, H, 0>,
     listener: &TcpListener,
     replies: u64,
 ) -> Result<()> {

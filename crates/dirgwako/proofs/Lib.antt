@@ -4,3 +4,4 @@ mod Mapping
 mod Reading
 mod Seating
 mod Spacing
+pub mod Moment

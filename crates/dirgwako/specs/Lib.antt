@@ -1,8 +1,8 @@
 pub mod Alone
 pub mod Answering
 pub mod Changes
+pub mod Closing
 pub mod Crews
-pub mod Lock
 pub mod Patience
 pub mod Printing
 pub mod Recorders
@@ -34,5 +34,8 @@ pub use Rattle.snapshot_update.specs.Workers
 pub use Rattle.snapshot_update.specs.Updated
 pub use Rattle.registry_state.specs.Changed
 pub use Rattle.registry_state.specs.Faults
-pub use Rattle.metric_registry.specs.Behind
+pub use Rattle.snapshot_scan.specs.Moments
+pub use Rattle.registry_state.specs.Kept
+pub use Rattle.registry_state.specs.Shown
+pub use Rattle.metric_registry.specs.Naming
 pub use Rattle.metric_registry.specs.Names

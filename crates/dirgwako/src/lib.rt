@@ -5,6 +5,7 @@
 mod asking;
 mod bounds;
 mod change;
+mod closing;
 mod connection;
 mod crew;
 mod family;
@@ -25,6 +26,7 @@ mod totals;
 pub use bounds::{exponential, linear};
 pub use bucket_math::{BadBounds, Bounds};
 pub use change::{Change, down, inc, observe, up};
+pub use closing::{last_text, print_last};
 pub use crew::Crew;
 pub use expo_text::{Scrape, render};
 pub use family::{CounterFamily, GaugeFamily, HistogramFamily};
@@ -35,7 +37,7 @@ pub use metric_desc::{Desc, HistogramFault, Kind, LabelsFault};
 pub use metric_names::{
     HelpTextFault, LabelNameFault, LabelValue, LabelValueFault, MetricNameFault,
 };
-pub use metric_registry::Registry;
+pub use metric_registry::{AnyBoard, Named, Registry, RegistryOf};
 pub use opened::OpenFault;
 pub use printing::{PrintFault, TextFault, print_scrape, scrape_text};
 pub use recorder::Recorder;

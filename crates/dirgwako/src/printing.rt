@@ -3,7 +3,7 @@ ghost use Rattle.std.specs.Prelude.{◌≡◌, ◌⊎◌, IfErr, IfOk, Ok, Err};
 ghost use Rattle.expo_text.specs.Scraped.{Scraped};
 ghost use Rattle.scrape_http.specs.declared.source.NoScrape.TheVariants as none;
 ghost use Rattle.dirgwako.specs.Patience.{AsksAgain};
-ghost use Rattle.dirgwako.specs.Printing.{IsText, IsTextFault, text_number, print_number};
+ghost use Rattle.dirgwako.specs.Printing.{IsText, IsTextFault, IsMomentText, text_number, print_number};
 
 use crate::patience::scrape_again;
 use expo_text::render;
@@ -60,7 +60,7 @@ impl PrintFault {
 }
 
 /// The text of a source's scrape.
-fn text_from<S: ScrapeFrom>(source: &mut S) -> Result<Vec<u8>, TextFault>
+pub(crate) fn text_from<S: ScrapeFrom>(source: &mut S) -> Result<Vec<u8>, TextFault>
     ensures text { IfOk result (λ bytes. IsText S.gave source.old source.new bytes.items) }
     ensures fault { IfErr result (IsTextFault S.gave source.old source.new) }
 {
@@ -83,7 +83,9 @@ fn text_from<S: ScrapeFrom>(source: &mut S) -> Result<Vec<u8>, TextFault>
 pub fn scrape_text<R: Wait, const N: usize, const C: usize, const H: usize, const G: usize>(
     rt: &R,
     registry: &Registry<'_, N, C, H, G>,
-) -> Result<Vec<u8>, TextFault> {
+) -> Result<Vec<u8>, TextFault>
+    ensures { IfOk result (λ bytes. IsMomentText N C H G bytes.items) }
+{
     text_from(&mut FromRegistry { rt, registry })
 }
 
@@ -103,7 +105,12 @@ pub fn print_scrape<
         Ok(text) => text,
         Err(fault) => return Err(PrintFault::Text(fault)),
     };
-    match rt.write_all(&text) {
+    print_text(rt, &text)
+}
+
+/// Prints a text on standard output.
+pub(crate) fn print_text<R: Print>(rt: &R, text: &[u8]) -> Result<(), PrintFault> {
+    match rt.write_all(text) {
         Ok(()) => Ok(()),
         Err(_) => Err(PrintFault::Output),
     }

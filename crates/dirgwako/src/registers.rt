@@ -1,12 +1,13 @@
 //! What registers families and gives children: a registry behind its lock, and one that is nobody else's.
-ghost use Rattle.std.specs.Prelude.{◌≡◌, ℕ, List, Result};
+ghost use Rattle.std.specs.Prelude.{◌≡◌, ℕ, ◌<◌, List, Result, IfOk};
 ghost use Rattle.metric_desc.specs.Desc.{Descriptor};
 ghost use Rattle.registry_state.specs.declared.fault.ChildFault.{ChildFault};
 ghost use Rattle.registry_state.specs.declared.fault.RegisterFault.{RegisterFault};
 ghost use Rattle.registry_state.specs.declared.handle.FamilyId.{FamilyId};
 ghost use Rattle.registry_state.specs.declared.handle.Handle.{Handle};
 ghost use Rattle.metric_registry.specs.Names.{id_of};
-ghost use Rattle.dirgwako.specs.Lock.{RegistersBehind, GivesBehind};
+ghost use Rattle.metric_registry.specs.Naming.{HasId};
+ghost use Rattle.registry_state.specs.Changed.{IsInside};
 ghost use Rattle.dirgwako.specs.Alone.{RegistersAlone, GivesAlone};
 
 use metric_desc::Desc;
@@ -62,9 +63,9 @@ impl<R: Wait, const N: usize, const C: usize, const H: usize, const G: usize> Re
     for Behind<'_, '_, R, N, C, H, G> {
     ghost id_in = { λ behind. id_of behind.registry.now };
 
-    ghost registered = { λ before after desc answer. (after ≡ before) × RegistersBehind N C H G desc answer };
+    ghost registered = { λ before after desc answer. (after ≡ before) × IfOk answer (λ family. family.number < 128) };
 
-    ghost gave = { λ before after family values answer. (after ≡ before) × GivesBehind N C H G family values answer };
+    ghost gave = { λ before after family values answer. (after ≡ before) × IfOk answer (λ handle. HasId (id_of before.registry.now) handle × IsInside C H G handle) };
 
     fn id(&self) -> u64 {
         self.registry.id()

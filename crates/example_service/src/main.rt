@@ -5,7 +5,7 @@
 use anyhow::{Context, Result};
 use dirgwako::{
     Counter, Crew, Gauge, Histogram, Registrar, Registry, ServiceRuntime, down, inc, listen_aloud,
-    observe, print_scrape, serve,
+    observe, print_last, serve,
 };
 use std::env;
 use std::net::TcpListener;
@@ -60,7 +60,7 @@ fn do_all(rt: &impl ServiceRuntime, recorders: &mut [Recorder<'_>], jobs: &Jobs)
     one.and(other)
 }
 
-/// Does all jobs and answers connections meanwhile, with a patience of five seconds each, and then prints what was counted.
+/// Does all jobs and answers connections meanwhile, with a patience of five seconds each.
 fn work(
     rt: &impl ServiceRuntime,
     listener: &TcpListener,
@@ -76,7 +76,7 @@ fn work(
     );
     done?;
     served?;
-    Ok(print_scrape(rt, registry)?)
+    Ok(())
 }
 
 /// The port, and how many connections are answered.
@@ -92,5 +92,7 @@ fn main(rt: HostRuntime) -> Result<()> {
     let listener = listen_aloud(&rt, port)?;
     let mut crew = Crew::<2, 8, 1, 1>::new(rt.alloc(), 1, 1)?;
     let (registry, mut recorders, _) = crew.open(64)?;
-    work(&rt, &listener, replies, &registry, &mut recorders)
+    work(&rt, &listener, replies, &registry, &mut recorders)?;
+    // Nobody shares the registry any more.
+    Ok(print_last(&rt, registry)?)
 }

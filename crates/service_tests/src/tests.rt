@@ -8,6 +8,7 @@ mod pool;
 mod registry;
 mod replies;
 mod server;
+mod settled;
 mod state;
 mod stream;
 mod tour;

@@ -1,6 +1,6 @@
 //! One counter, counted and printed.
 use anyhow::{Context, Result};
-use dirgwako::{Crew, Registrar, ServiceRuntime, print_scrape};
+use dirgwako::{Crew, Registrar, ServiceRuntime, print_last};
 
 pub fn run(rt: &impl ServiceRuntime) -> Result<()> {
     // One thread counts; there is one counter. The board's id is 1, it has one reader, and one scrape is kept.
@@ -9,5 +9,5 @@ pub fn run(rt: &impl ServiceRuntime) -> Result<()> {
     let visits = Registrar::new(rt, &registry).counter("visits_total", "Visits so far.")?;
     let recorder = recorders.first_mut().context("no recorder")?;
     recorder.inc(&visits, 3)?;
-    Ok(print_scrape(rt, &registry)?)
+    Ok(print_last(rt, registry)?)
 }

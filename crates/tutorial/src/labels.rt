@@ -1,6 +1,6 @@
 //! A family of counters with a label, and a histogram. Each list is one version: no scrape sees an answer without its bytes.
 use anyhow::{Context, Result};
-use dirgwako::{Crew, Registrar, ServiceRuntime, inc, observe, print_scrape};
+use dirgwako::{Crew, Registrar, ServiceRuntime, inc, observe, print_last};
 
 pub fn run(rt: &impl ServiceRuntime) -> Result<()> {
     let mut crew = Crew::<1, 2, 1, 0>::new(rt.alloc(), 2, 1)?;
@@ -13,5 +13,5 @@ pub fn run(rt: &impl ServiceRuntime) -> Result<()> {
     let recorder = recorders.first_mut().context("no recorder")?;
     recorder.publish(&[inc(&found, 1), observe(&size, 25)])?;
     recorder.publish(&[inc(&missing, 1), observe(&size, 0)])?;
-    Ok(print_scrape(rt, &registry)?)
+    Ok(print_last(rt, registry)?)
 }

@@ -1,6 +1,6 @@
 //! Two threads count on one counter, each with a recorder of its own, without a lock.
 use anyhow::Result;
-use dirgwako::{Counter, Crew, Recorder, Registrar, ServiceRuntime, print_scrape};
+use dirgwako::{Counter, Crew, Recorder, Registrar, ServiceRuntime, print_last};
 use std::thread::for_each_mut;
 
 /// The loop of a thread.
@@ -20,5 +20,5 @@ pub fn run(rt: &impl ServiceRuntime) -> Result<()> {
         let _ = count(recorder, &visits);
     };
     for_each_mut(rt, &mut recorders, 2, each);
-    Ok(print_scrape(rt, &registry)?)
+    Ok(print_last(rt, registry)?)
 }

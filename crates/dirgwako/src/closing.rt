@@ -1,0 +1,68 @@
+//! A registry at its end.
+ghost use Rattle.std.specs.Prelude.{IfOk};
+ghost use Rattle.dirgwako.specs.Closing.{IsLastText};
+ghost use Rattle.dirgwako.specs.Printing.{IsText};
+
+use crate::printing::{PrintFault, TextFault, print_text, text_from};
+use expo_text::Scrape;
+use metric_registry::Registry;
+use registry_state::RegistryState;
+use scrape_http::{NoScrape, ScrapeFrom};
+use scrape_server::MakesScrapes;
+use snapshot_scan::Scanner;
+
+/// What makes scrapes, as a source of them that is owned.
+#[derive(Drop)]
+struct Owned<X: MakesScrapes> {
+    state: X,
+}
+
+impl<X: MakesScrapes> ScrapeFrom for Owned<X> {
+    ghost gave = { λ before after answer. X.made before.state after.state answer };
+
+    fn scrape(&mut self) -> Result<Scrape, NoScrape> {
+        self.state.scrape()
+    }
+}
+
+/// The text of a scrape of what makes scrapes, and that.
+fn text_of<X: MakesScrapes + Drop>(state: X) -> Result<(Vec<u8>, X), TextFault>
+    ensures { IfOk result (λ made. IsText X.made state made.1 made.0.items) }
+{
+    let mut owned = Owned { state };
+    let text = text_from(&mut owned)?;
+    let Owned { state } = owned;
+    Ok((text, state))
+}
+
+/// The text of a last scrape of a registry that no thread shares any more, and what stood behind its lock: its journal, the scrapes that
+/// it keeps, and its families. A scrape that was given up is asked for up to three times more.
+///
+/// # Errors
+///
+/// 6 [`TextFault::NoMemory`]; 14 [`TextFault::Contended`], while recorders still count. The registry is gone then.
+pub fn last_text<'a, const N: usize, const C: usize, const H: usize, const G: usize>(
+    registry: Registry<'a, N, C, H, G>,
+) -> Result<(Vec<u8>, RegistryState<Scanner<'a, N, C, H, G>, N, C, H, G>), TextFault>
+    ensures { IfOk result (λ last. IsLastText last.0.items last.1) }
+{
+    let (text, state) = text_of(registry.into_state())?;
+    // A look into the journal tells the proof what is kept.
+    let _ = state.journal();
+    Ok((text, state))
+}
+
+/// Prints [`last_text`] on standard output.
+///
+/// # Errors
+///
+/// [`PrintFault::Text`], 6 and 14; [`PrintFault::Output`].
+pub fn print_last<R: Print, const N: usize, const C: usize, const H: usize, const G: usize>(
+    rt: &R,
+    registry: Registry<'_, N, C, H, G>,
+) -> Result<(), PrintFault> {
+    match last_text(registry) {
+        Ok((text, _state)) => print_text(rt, &text),
+        Err(fault) => Err(PrintFault::Text(fault)),
+    }
+}
