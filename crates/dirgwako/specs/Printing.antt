@@ -1,8 +1,7 @@
 -- The text of a scrape that is asked for again where a scan was given up, and why there is none.
-use Rattle.std.specs.Prelude.{◌≡◌, ℕ, ◌⊎◌, List, [], Option, Some, None, Result, Ok, Err}
+use Rattle.std.specs.Prelude.{◌≡◌, ℕ, ◌⊎◌, List, Option, Some, None, Result, Ok, Err}
 use Rattle.expo_text.specs.Scraped.{Scraped}
 use Rattle.expo_text.specs.Text.{text}
-use Rattle.metric_registry.specs.Naming.{ShowsMoment}
 use Rattle.scrape_http.specs.declared.source.NoScrape.{NoScrape}
 use Rattle.scrape_http.specs.declared.source.NoScrape.TheVariants as none
 use Rattle.dirgwako.specs.Patience.{AsksAgain}
@@ -29,7 +28,3 @@ module _ {S : Type 0} (gave : S → S → Result Scraped NoScrape → Type 0) (b
   abbrev pub IsTextFault : TextFault → Type 0
   IsTextFault Contended = AsksAgain gave 3 before after (Err none.Contended)
   IsTextFault NoMemory = AsksAgain gave 3 before after (Err none.NoMemory) ⊎ ((scrape : Scraped) × AsksAgain gave 3 before after (Ok scrape))
-
--- these bytes are the text of a scrape that shows one moment of a history of publishes
-abbrev pub IsMomentText : (n c h g : ℕ) → List ℕ → Type 0
-IsMomentText n c h g bytes = (scrape : Scraped) × ShowsMoment n c h g [] scrape × (bytes ≡ text scrape)

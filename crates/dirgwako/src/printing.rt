@@ -3,7 +3,7 @@ ghost use Rattle.std.specs.Prelude.{◌≡◌, ◌⊎◌, IfErr, IfOk, Ok, Err};
 ghost use Rattle.expo_text.specs.Scraped.{Scraped};
 ghost use Rattle.scrape_http.specs.declared.source.NoScrape.TheVariants as none;
 ghost use Rattle.dirgwako.specs.Patience.{AsksAgain};
-ghost use Rattle.dirgwako.specs.Printing.{IsText, IsTextFault, IsMomentText, text_number, print_number};
+ghost use Rattle.dirgwako.specs.Printing.{IsText, IsTextFault, text_number, print_number};
 
 use crate::patience::scrape_again;
 use expo_text::render;
@@ -83,9 +83,7 @@ pub(crate) fn text_from<S: ScrapeFrom>(source: &mut S) -> Result<Vec<u8>, TextFa
 pub fn scrape_text<R: Wait, const N: usize, const C: usize, const H: usize, const G: usize>(
     rt: &R,
     registry: &Registry<'_, N, C, H, G>,
-) -> Result<Vec<u8>, TextFault>
-    ensures { IfOk result (λ bytes. IsMomentText N C H G bytes.items) }
-{
+) -> Result<Vec<u8>, TextFault> {
     text_from(&mut FromRegistry { rt, registry })
 }
 

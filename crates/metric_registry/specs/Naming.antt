@@ -52,7 +52,7 @@ pub record HasMoment (n c h g : ℕ) (first : List Change) (scrape : Scraped) : 
 abbrev pub ShowsMoment : (n c h g : ℕ) → (first : List Change) → Scraped → Type 0
 ShowsMoment n c h g first scrape = ∥ HasMoment n c h g first scrape ∥₁
 
--- what a refused scrape says of itself: a worker's number rose
+-- what a refused scrape says of itself: a worker that is there, and two numbers that rise
 abbrev pub IsScrapeFault : (n : ℕ) → ScrapeFault → Type 0
 IsScrapeFault n Scrape.NoMemory = Unit {0}
 IsScrapeFault n (Scrape.Contended fault) = (fault.worker < n) × (fault.first < fault.last)

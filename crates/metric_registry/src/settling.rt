@@ -1,11 +1,12 @@
 //! A registry at its end, with all workers.
-ghost use Rattle.std.specs.Prelude.{◌≡◌, [], ◌∷◌, ◌++◌, All, IfErr, IfOk, IsSome, OnErr, OnOk};
-ghost use Rattle.chain_law.specs.Settled.{AreMomentsOf, AreSame, IsMissing, IsSettled};
+ghost use Rattle.std.specs.Prelude.{◌≡◌, ℕ, ◌<◌, [], ◌∷◌, ◌++◌, All, IfErr, IfOk, IsSome, OnErr, OnOk};
+ghost use Rattle.chain_law.specs.Settled.{AreMomentsOf, AreSame, HasIndex, IsMissing, IsSettled};
 ghost use Rattle.snapshot_scan.specs.Readers.{IsReaderOf};
 ghost use Rattle.snapshot_scan.specs.Scanners.{reader_in};
 ghost use Rattle.snapshot_scan.specs.Snapshots.{entry_of};
 ghost use Rattle.snapshot_update.specs.Workers.{IsWorkerOf};
 ghost use Rattle.registry_state.specs.Journal.{scrapes};
+ghost use Rattle.registry_state.specs.Replay.{Replays, State as Held};
 ghost use Rattle.metric_registry.specs.Naming.{IsNamed, BeginsWith};
 
 use crate::naming::Named;
@@ -28,8 +29,8 @@ pub struct NotSettled<R> {
 /// The journal of a registry without a lock, and exact totals of all that these workers have published, to which all workers of the
 /// board are gathered: the registry scans this board, and these are workers of it.
 ///
-/// After Ok the kept scrapes of the journal, and `out` after them, are moments of the one history of what these workers published,
-/// in order; and each total of `out` is exactly the sum of all of it.
+/// After Ok all workers of the board are among these; the journal replays; its kept scrapes, and `out` after them, are moments of the one
+/// history of what these workers published, in order; and each total of `out` is exactly the sum of all of it.
 ///
 /// # Errors
 ///
@@ -45,7 +46,9 @@ pub fn settle_state<'a, const N: usize, const C: usize, const H: usize, const G:
     ensures own { All (IsWorkerOf board.now) workers.new }
     ensures same { AreSame workers.old workers.new }
     ensures journal { IfOk result (λ journal. journal ≡ state.entry.journal) }
+    ensures replays { IfOk result (λ journal. (it : Held) × Replays N C H G journal it) }
     ensures moments { IfOk result (λ journal. AreMomentsOf workers.old (scrapes journal ++ entry_of out.new ∷ [])) }
+    ensures all { OnOk result ((i : ℕ) → i < N → HasIndex workers.old i) }
     ensures settled { OnOk result (IsSettled workers.old out.new) }
     ensures missing { IfErr result (λ e. IsMissing workers.old e.fault.missing) }
     ensures unchanged { OnErr result ((workers.new ≡ workers.old) × (out.new ≡ out.old)) }
@@ -89,17 +92,19 @@ impl<'a, B: Named, const N: usize, const C: usize, const H: usize, const G: usiz
         requires own { All (IsWorkerOf board.now) workers.old }
         ensures own { All (IsWorkerOf board.now) workers.new }
         ensures same { AreSame workers.old workers.new }
+        ensures replays { IfOk result (λ journal. (it : Held) × Replays N C H G journal it) }
         ensures moments { IfOk result (λ journal. AreMomentsOf workers.old (scrapes journal ++ entry_of out.new ∷ [])) }
+        ensures all { OnOk result ((i : ℕ) → i < N → HasIndex workers.old i) }
         ensures begins { IfOk result (λ journal. BeginsWith B.first journal) }
         ensures settled { OnOk result (IsSettled workers.old out.new) }
         ensures missing { IfErr result (λ e. IsMissing workers.old e.fault.missing) }
         ensures unchanged { OnErr result ((workers.new ≡ workers.old) × (out.new ≡ out.old)) }
         ensures back { IfErr result (λ e. e.registry ≡ self.entry) }
     {
-        if let Some(missing) = missing(workers) {
+        if let Some(least) = missing(workers) {
             return Err(NotSettled {
                 registry: self,
-                fault: NotAll { missing },
+                fault: NotAll { missing: least },
             });
         }
         let Ok(journal) = settle_state(self.into_state(), board, workers, out) else {
