@@ -8,7 +8,6 @@ mod pool;
 mod registry;
 mod replies;
 mod server;
-mod settled;
 mod state;
 mod stream;
 mod tour;
