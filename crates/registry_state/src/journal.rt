@@ -1,6 +1,5 @@
 //! The journal of a registry.
-ghost use Rattle.std.specs.Prelude.{◌≡◌, ◌+◌, ◌-◌, ◌<◌, ◌≤◌, [], ◌∷◌, ◌++◌, None, Some, drop, length, IfErr, IfOk, MatchOption, OnErr, OnOk};
-ghost use Rattle.std.specs.VecDeque.{deque_capacity};
+ghost use Rattle.std.specs.Prelude.{◌≡◌, ◌+◌, ◌≤◌, [], ◌∷◌, ◌++◌, None, Some, length, IfErr, IfOk, MatchOption, OnErr, OnOk};
 ghost use Rattle.register_rule.specs.declared.view.Entry.{Entry as Answer};
 ghost use Rattle.segment_layout.specs.Layout.{IsGeometry};
 ghost use Rattle.snapshot_scan.specs.Snapshots.{entry_of};
@@ -10,12 +9,12 @@ ghost use Rattle.registry_state.specs.Journal.{Changed, Scraped, scrapes, within
 ghost use Rattle.registry_state.specs.Notes.{change_of};
 
 use crate::fault::ScrapeFault;
+use crate::history::History;
 use crate::kept::Kept;
 use crate::note::Note;
 use metric_names::NoMemory;
 use snapshot_scan::{Snapshot, Source};
 use std::alloc::{AllocError, Global};
-use std::collections::VecDeque;
 use std::marker::Model;
 
 /// The journal: what was registered, what was made and what was scraped, in order. All changes are kept, and the newest
@@ -25,7 +24,8 @@ use std::marker::Model;
 #[derive(Drop)]
 pub struct Journal<const N: usize, const C: usize, const H: usize, const G: usize> {
     notes: Vec<Note>,
-    kept: VecDeque<(Snapshot<N, C, H, G>, usize)>,
+    kept: History<N, C, H, G>,
+    scanned: Snapshot<N, C, H, G>,
 }
 
 impl<const N: usize, const C: usize, const H: usize, const G: usize> Model for Journal<N, C, H, G> {
@@ -38,9 +38,9 @@ impl<const N: usize, const C: usize, const H: usize, const G: usize> Model for J
     ghost use Rattle.registry_state.specs.Notes.{change_of};
     ghost use Rattle.registry_state.specs.Merged.{merged, AreNoted};
 
-    ghost view = { λ j. merged (map change_of j.notes.items) 0 j.kept.items };
+    ghost view = { λ j. merged (map change_of j.notes.items) 0 j.kept.scrapes };
 
-    ghost invariant = { λ j. IsGeometry N C H G × AreNoted (length j.notes.items) 0 j.kept.items };
+    ghost invariant = { λ j. IsGeometry N C H G × AreNoted (length j.notes.items) 0 j.kept.scrapes };
 }
 
 impl<const N: usize, const C: usize, const H: usize, const G: usize> Journal<N, C, H, G> {
@@ -53,10 +53,12 @@ impl<const N: usize, const C: usize, const H: usize, const G: usize> Journal<N, 
         requires { IsGeometry N C H G }
         ensures { IfOk result (λ journal. journal ≡ []) }
     {
-        let kept = VecDeque::with_capacity(alloc, window)?;
+        let kept = History::new(alloc, window)?;
+        let scanned = Snapshot::new(alloc)?;
         Ok(Journal {
             notes: Vec::new(alloc),
             kept,
+            scanned,
         })
     }
 
@@ -99,13 +101,12 @@ impl<const N: usize, const C: usize, const H: usize, const G: usize> Journal<N, 
         ensures fault { IfErr result (Leaves N S.recorded S.quit S.gave_up source.old source.new) }
         ensures unchanged { OnErr result (self.new ≡ self.old) }
     {
-        let mut snapshot = Snapshot::new(*self.notes.allocator())?;
-        make_room(&mut self.kept, window)?;
-        if let Err(fault) = source.scan(&mut snapshot) {
+        self.kept.make_room(window)?;
+        if let Err(fault) = source.scan(&mut self.scanned) {
             return Err(ScrapeFault::Contended(fault));
         }
         let before = self.notes.len();
-        keep(&mut self.kept, (snapshot, before), window);
+        self.kept.keep(&self.scanned, before, window);
         Ok(())
     }
 
@@ -113,17 +114,14 @@ impl<const N: usize, const C: usize, const H: usize, const G: usize> Journal<N, 
     pub(crate) fn trim(&mut self, window: usize)
         ensures { self.new ≡ within window self.old }
     {
-        drop_oldest(&mut self.kept, window);
+        self.kept.drop_oldest(window);
     }
 
     /// The newest scrape that is kept.
     pub(crate) fn newest(&self) -> Option<&Snapshot<N, C, H, G>>
         ensures { MatchOption result (newest (scrapes self.now) ≡ None) (λ snapshot. newest (scrapes self.now) ≡ Some (entry_of snapshot.now)) }
     {
-        match self.kept.back() {
-            Some((snapshot, _before)) => Some(snapshot),
-            None => None,
-        }
+        self.kept.newest()
     }
 
     /// The scrapes that are kept, from the oldest to the newest.
@@ -134,45 +132,4 @@ impl<const N: usize, const C: usize, const H: usize, const G: usize> Journal<N, 
             scrapes: &self.kept,
         }
     }
-}
-
-/// Makes room for one scrape more, unless there are `window` already.
-fn make_room<const N: usize, const C: usize, const H: usize, const G: usize>(
-    kept: &mut VecDeque<(Snapshot<N, C, H, G>, usize)>,
-    window: usize,
-) -> Result<(), AllocError>
-    ensures same { kept.new.items ≡ kept.old.items }
-    ensures room { OnOk result (length kept.new.items < window → length kept.new.items < deque_capacity kept.new) }
-{
-    if kept.len() < window {
-        kept.reserve(1)?;
-    }
-    Ok(())
-}
-
-/// Drops the oldest scrapes where they are more than `most`.
-fn drop_oldest<const N: usize, const C: usize, const H: usize, const G: usize>(
-    kept: &mut VecDeque<(Snapshot<N, C, H, G>, usize)>,
-    most: usize,
-)
-    ensures newest { kept.new.items ≡ drop (length kept.old.items - most) kept.old.items }
-    ensures room { deque_capacity kept.new ≡ deque_capacity kept.old }
-{
-    for _ in most..kept.len() {
-        let _oldest = kept.pop_front();
-    }
-}
-
-/// Adds a scrape, for which there is room, and drops the oldest where they are more than `window`.
-fn keep<const N: usize, const C: usize, const H: usize, const G: usize>(
-    kept: &mut VecDeque<(Snapshot<N, C, H, G>, usize)>,
-    scrape: (Snapshot<N, C, H, G>, usize),
-    window: usize,
-)
-    requires window { 1 ≤ window }
-    requires room { length kept.old.items < window → length kept.old.items < deque_capacity kept.old }
-    ensures { kept.new.items ≡ drop (length kept.old.items + 1 - window) (kept.old.items ++ scrape.entry ∷ []) }
-{
-    drop_oldest(kept, window - 1);
-    kept.push_back_reserved(scrape);
 }

@@ -2,8 +2,8 @@
 ghost use Rattle.std.specs.Prelude.{◌≡◌, ◌<◌, Some, length, slice_get};
 ghost use Rattle.snapshot_scan.specs.Snapshots.{entry_of};
 
+use crate::history::History;
 use snapshot_scan::Snapshot;
-use std::collections::VecDeque;
 use std::marker::Model;
 
 /// The scrapes that are kept, from the oldest to the newest.
@@ -11,7 +11,7 @@ use std::marker::Model;
 /// Contracts see it as their list.
 #[derive(Drop)]
 pub struct Kept<'a, const N: usize, const C: usize, const H: usize, const G: usize> {
-    pub(crate) scrapes: &'a VecDeque<(Snapshot<N, C, H, G>, usize)>,
+    pub(crate) scrapes: &'a History<N, C, H, G>,
 }
 
 impl<'a, const N: usize, const C: usize, const H: usize, const G: usize> Model
@@ -22,7 +22,7 @@ impl<'a, const N: usize, const C: usize, const H: usize, const G: usize> Model
 
     ghost Value = { List Answer };
 
-    ghost view = { λ k. answers_of k.scrapes.now.items };
+    ghost view = { λ k. answers_of k.scrapes.now.scrapes };
 }
 
 impl<'a, const N: usize, const C: usize, const H: usize, const G: usize> Kept<'a, N, C, H, G> {
@@ -38,7 +38,6 @@ impl<'a, const N: usize, const C: usize, const H: usize, const G: usize> Kept<'a
         requires { number < length self.now }
         ensures { slice_get self.now number ≡ Some (entry_of out.new) }
     {
-        let scrape = &self.scrapes[number];
-        out.copy_from(&scrape.0);
+        self.scrapes.read(number, out);
     }
 }

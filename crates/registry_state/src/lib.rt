@@ -6,8 +6,11 @@ mod children;
 mod family;
 mod fault;
 mod handle;
+mod history;
+mod increase;
 mod journal;
 mod kept;
+mod later;
 mod note;
 mod ordering;
 mod plain;
@@ -15,6 +18,8 @@ mod registering;
 mod registry;
 mod scraping;
 mod shown;
+#[cfg(test)]
+mod tests;
 mod used;
 
 pub use fault::{BadWindow, ChildFault, NewFault, RegisterFault, ScrapeFault};

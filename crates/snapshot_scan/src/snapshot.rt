@@ -1,5 +1,5 @@
 //! What a scan gives its caller.
-ghost use Rattle.std.specs.Prelude.{◌≡◌, ℕ, ◌+◌, ◌*◌, ◌<◌, ◌-ℤ◌, pos, length, take, drop, slice_index, replicate, sum, IfOk, All, ◌∷◌, []};
+ghost use Rattle.std.specs.Prelude.{◌≡◌, ℕ, ◌+◌, ◌*◌, ◌<◌, ◌-ℤ◌, pos, length, take, drop, slice_index, replicate, sum, slice_set, IfOk, All, ◌∷◌, []};
 ghost use Rattle.ledger_core.specs.Ops.{width};
 ghost use Rattle.ledger_core.specs.Legal.{IsLegal};
 ghost use Rattle.segment_layout.specs.Layout.{IsGeometry};
@@ -70,6 +70,15 @@ impl<const N: usize, const C: usize, const H: usize, const G: usize> Snapshot<N,
         ensures all { length result.now ≡ N }
     {
         self.vector.as_slice()
+    }
+
+    /// The totals of all words of a row, in their order.
+    pub fn totals(&self) -> &[u64]
+        ensures words { result.now ≡ self.now.totals }
+        ensures all { length result.now ≡ width C H G }
+        ensures low { AreLow (width C H G) result.now }
+    {
+        self.totals.as_slice()
     }
 
     /// The total of a counter. Asks that the slot is below `C`.
@@ -144,6 +153,24 @@ impl<const N: usize, const C: usize, const H: usize, const G: usize> Snapshot<N,
     {
         self.vector.as_mut_slice().copy_from_slice(vector);
         self.totals.as_mut_slice().copy_from_slice(totals);
+    }
+
+    /// Makes the number of a worker another one. Asks that the worker is below `N`. It takes no memory.
+    pub fn set_number(&mut self, worker: usize, number: u64)
+        requires { worker < N }
+        ensures { self.new ≡ record self.old { vector = slice_set self.old.vector worker number } }
+    {
+        self.vector[worker] = number;
+    }
+
+    /// Makes the total of a word of a row another one. Asks that the word is one of the row, and that the total is below 2^53. It
+    /// takes no memory.
+    pub fn set_total(&mut self, word: usize, total: u64)
+        requires word { word < width C H G }
+        requires low { total < 9007199254740992 }
+        ensures { self.new ≡ record self.old { totals = slice_set self.old.totals word total } }
+    {
+        self.totals[word] = total;
     }
 
     /// Makes this the snapshot of one worker, of this number and this row. It takes no memory.

@@ -1,23 +1,16 @@
-use Rattle.std.proofs.Common.{◌≡◌, ◌∙◌, ◌-◌, ◌<◌, refl, suc, sym, ap, arith, length, map}
-use Rattle.std.specs.VecDeque.{deque_len}
+use Rattle.std.proofs.Common.{◌≡◌, ◌∙◌, List, sym, subst, ap, map}
+use Rattle.std.specs.Prelude.{Some, None, MatchOption}
+use Rattle.register_rule.specs.declared.view.Entry.{Entry as Answer}
+use Rattle.snapshot_scan.specs.Snapshots.{entry_of}
 use Rattle.snapshot_scan.specs.Sources.{newest}
 use Rattle.registry_state.specs.Journal.{scrapes}
+use Rattle.registry_state.specs.Merged.{answers_of}
 use Rattle.registry_state.specs.Notes.{change_of}
-use Rattle.registry_state.proofs.Merging.{merged_scrapes, newest_kept, newest_none, none_left}
+use Rattle.registry_state.proofs.Merging.{merged_scrapes}
 use Rattle.registry_state.proofs.journal.Journal.newest.Goals as goal
 
-pub returns-in-Some : goal.returns-in-Some
-returns-in-Some g c =
-    let some : 0 < deque_len c.self.inside.kept = c.in-Some.ensures.variant.0 refl in
-    let all : deque_len c.self.inside.kept ≡ length c.self.inside.kept.items = c.self.inside.kept.ok.0 in
-    let last : suc (deque_len c.self.inside.kept - 1) ≡ length c.self.inside.kept.items = omega (arith, some, all) in
-    ap (λ journal. newest (scrapes journal)) (sym c.self.view_is)
-    ∙ ap newest (merged_scrapes (map change_of c.self.inside.notes.items) 0 c.self.inside.kept.items)
-    ∙ newest_kept c.self.inside.kept.items (deque_len c.self.inside.kept - 1) c.in-Some.field-0.now last c.in-Some.ensures.lookup
-
-pub returns-in-None : goal.returns-in-None
-returns-in-None g c =
-    let all : length c.self.inside.kept.items ≡ deque_len c.self.inside.kept = sym c.self.inside.kept.ok.0 in
-    ap (λ journal. newest (scrapes journal)) (sym c.self.view_is)
-    ∙ ap newest (merged_scrapes (map change_of c.self.inside.notes.items) 0 c.self.inside.kept.items)
-    ∙ newest_none c.self.inside.kept.items (all ∙ none_left (deque_len c.self.inside.kept) c.in-None.ensures.variant.1)
+pub returns : goal.returns
+returns g c =
+    let seen : answers_of c.self.inside.kept.scrapes ≡ scrapes c.args.self.now =
+    sym (merged_scrapes (map change_of c.self.inside.notes.items) 0 c.self.inside.kept.scrapes) ∙ ap scrapes c.self.view_is in
+    subst (λ (l : List Answer). MatchOption c.newest.result (newest l ≡ None) (λ snapshot. newest l ≡ Some (entry_of snapshot.now))) seen c.newest.ensures

@@ -11,7 +11,7 @@ invariant_of-self-2 g c = (c.self.invariant.0, rw (c.in_ok-push.ensures.items, l
 
 pub returns-clause-noted : goal.returns-clause-noted
 returns-clause-noted g c =
-    ap (λ items. merged (map change_of items) 0 c.self.inside.kept.items) c.in_ok-push.ensures.items
-    ∙ ap (λ cs. merged cs 0 c.self.inside.kept.items) (map-append change_of c.self.inside.notes.items (c.args.note ∷ []))
-    ∙ merged_change (map change_of c.self.inside.notes.items) 0 c.self.inside.kept.items (change_of c.args.note) (rw length-map c.self.invariant.1)
+    ap (λ items. merged (map change_of items) 0 c.self.inside.kept.scrapes) c.in_ok-push.ensures.items
+    ∙ ap (λ cs. merged cs 0 c.self.inside.kept.scrapes) (map-append change_of c.self.inside.notes.items (c.args.note ∷ []))
+    ∙ merged_change (map change_of c.self.inside.notes.items) 0 c.self.inside.kept.scrapes (change_of c.args.note) (rw length-map c.self.invariant.1)
     ∙ ap (λ journal. journal ++ Changed (change_of c.args.note) ∷ []) c.self.view_is
