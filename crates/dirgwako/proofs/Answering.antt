@@ -14,7 +14,7 @@ use Rattle.scrape_http.specs.declared.source.NoScrape.{NoScrape}
 use Rattle.scrape_http.specs.declared.status.Status.{Status}
 use Rattle.scrape_http.specs.declared.status.Status.TheVariants.{Success, BadRequest, NotFound, MethodNotAllowed, TooLarge, Unavailable}
 use Rattle.dirgwako.specs.Answering.{AnswersBy, AreAnswered, Shows, ShowsNone}
-use Rattle.dirgwako.specs.Patience.{AsksAgain}
+use Rattle.scrape_server.specs.Again.{AsksAgain}
 
 -- a status by which a request is refused
 abbrev IsRefusal : Option Status → Type 0

@@ -1,4 +1,3 @@
-mod Again
 mod Answering
 mod Mapping
 mod Reading

@@ -5,7 +5,7 @@ use Rattle.scrape_http.specs.declared.serve.Served.{Served}
 use Rattle.scrape_http.specs.declared.source.NoScrape.{NoScrape}
 use Rattle.scrape_http.specs.declared.status.Status.{Status}
 use Rattle.scrape_http.specs.declared.status.Status.TheVariants.{Success, Unavailable}
-use Rattle.dirgwako.specs.Patience.{AsksAgain}
+use Rattle.scrape_server.specs.Again.{AsksAgain}
 
 module _ {S : Type 0} (gave : S → S → Result Scraped NoScrape → Type 0) (before after : S) where
   -- the source was asked once, and again where a scan was given up, and answered by a scrape; or why it has none

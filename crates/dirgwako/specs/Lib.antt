@@ -3,7 +3,6 @@ pub mod Answering
 pub mod Changes
 pub mod Closing
 pub mod Crews
-pub mod Patience
 pub mod Printing
 pub mod Recorders
 pub mod Refused
@@ -38,4 +37,5 @@ pub use Rattle.snapshot_scan.specs.Moments
 pub use Rattle.registry_state.specs.Kept
 pub use Rattle.registry_state.specs.Shown
 pub use Rattle.metric_registry.specs.Naming
+pub use Rattle.scrape_server.specs.Again
 pub use Rattle.metric_registry.specs.Names

@@ -4,7 +4,7 @@ use Rattle.expo_text.specs.Scraped.{Scraped}
 use Rattle.expo_text.specs.Text.{text}
 use Rattle.scrape_http.specs.declared.source.NoScrape.{NoScrape}
 use Rattle.scrape_http.specs.declared.source.NoScrape.TheVariants as none
-use Rattle.dirgwako.specs.Patience.{AsksAgain}
+use Rattle.scrape_server.specs.Again.{AsksAgain}
 use Rattle.dirgwako.specs.declared.printing.TextFault.{TextFault}
 use Rattle.dirgwako.specs.declared.printing.TextFault.TheVariants.{NoMemory, Contended}
 use Rattle.dirgwako.specs.declared.printing.PrintFault.{PrintFault}

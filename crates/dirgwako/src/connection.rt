@@ -1,12 +1,11 @@
 //! One connection is answered, within the time that it may take.
 ghost use Rattle.std.specs.Prelude.{◌≡◌, ◌⊎◌, true, false, Ok, IfSome, IsNone, IsSome};
 ghost use Rattle.scrape_http.specs.Serves.{IsServed};
-ghost use Rattle.dirgwako.specs.Patience.{AsksAgain};
+ghost use Rattle.scrape_server.specs.Again.{AsksAgain};
 ghost use Rattle.dirgwako.specs.Answering.{Answers};
 
-use crate::patience::Patient;
 use scrape_http::{ScrapeFrom, Served, serve_one};
-use scrape_server::close_in_stages;
+use scrape_server::{AskedAgain, close_in_stages};
 use std::io::{ErrorKind, Read, Result, Write};
 use std::net::TcpStream;
 use std::time::{Clock, Duration, Instant};
@@ -61,7 +60,7 @@ impl<R: Clock> Write for Timed<'_, R> {
 fn reply<I: Read, O: Write, S: ScrapeFrom>(
     reader: &mut Watched<I>,
     writer: &mut Watched<O>,
-    source: &mut Patient<S>,
+    source: &mut AskedAgain<S>,
 ) -> Option<Served>
     requires reader_going { reader.old.failed ≡ false }
     requires reader_unended { reader.old.ended ≡ false }
@@ -85,7 +84,7 @@ pub(crate) fn answer<R: Clock, S: ScrapeFrom>(
     clock: &R,
     stream: &TcpStream,
     patience: Duration,
-    source: &mut Patient<S>,
+    source: &mut AskedAgain<S>,
 ) -> Option<Served>
     ensures { Answers S.gave source.old.source source.new.source result }
 {

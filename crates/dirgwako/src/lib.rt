@@ -13,7 +13,6 @@ mod fault;
 mod listening;
 mod listing;
 mod opened;
-mod patience;
 mod printing;
 mod recorder;
 mod registers;

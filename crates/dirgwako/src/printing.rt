@@ -2,14 +2,13 @@
 ghost use Rattle.std.specs.Prelude.{◌≡◌, ◌⊎◌, IfErr, IfOk, Ok, Err};
 ghost use Rattle.expo_text.specs.Scraped.{Scraped};
 ghost use Rattle.scrape_http.specs.declared.source.NoScrape.TheVariants as none;
-ghost use Rattle.dirgwako.specs.Patience.{AsksAgain};
+ghost use Rattle.scrape_server.specs.Again.{AsksAgain};
 ghost use Rattle.dirgwako.specs.Printing.{IsText, IsTextFault, text_number, print_number};
 
-use crate::patience::scrape_again;
 use expo_text::render;
 use metric_registry::Registry;
 use scrape_http::{NoScrape, ScrapeFrom};
-use scrape_server::FromRegistry;
+use scrape_server::{FromRegistry, scrape_again};
 use std::sync::Wait;
 use thiserror::Error;
 

@@ -5,10 +5,9 @@ ghost use Rattle.scrape_http.specs.declared.serve.Served.{Served};
 ghost use Rattle.dirgwako.specs.Answering.{Answers, AreAnswered, IsBroken};
 
 use crate::connection::answer;
-use crate::patience::Patient;
 use metric_registry::Registry;
 use scrape_http::{ScrapeFrom, Served};
-use scrape_server::FromRegistry;
+use scrape_server::{AskedAgain, FromRegistry};
 use std::io::{self, ErrorKind};
 use std::net::{TcpListener, TcpStream};
 use std::sync::Wait;
@@ -49,7 +48,7 @@ trait Connections {
 struct Listening<'a, R, S> {
     clock: &'a R,
     listener: &'a TcpListener,
-    source: Patient<S>,
+    source: AskedAgain<S>,
     patience: Duration,
 }
 
@@ -130,7 +129,7 @@ pub fn serve<R: Wait + Clock, const N: usize, const C: usize, const H: usize, co
         &mut Listening {
             clock: rt,
             listener,
-            source: Patient { source },
+            source: AskedAgain { source },
             patience,
         },
         connections,
@@ -165,7 +164,7 @@ pub fn serve_forever<
         &mut Listening {
             clock: rt,
             listener,
-            source: Patient { source },
+            source: AskedAgain { source },
             patience,
         },
     )

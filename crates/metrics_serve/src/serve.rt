@@ -15,7 +15,7 @@ use crate::sending::{Broken, send};
 use crate::threads::{Four, Queues, Shared, serve_in_threads};
 use metric_names::NoMemory;
 use metric_registry::{Named, RegistryOf};
-use scrape_server::FromRegistry;
+use scrape_server::{AskedAgain, FromRegistry};
 use snapshot_scan::Scanner;
 use std::alloc::Global;
 use std::io::Write;
@@ -154,7 +154,12 @@ fn serve_counting<B: Named + Send, T: Threads + Wait + Sync>(
         rt,
         registry: &registry,
     };
-    let sources = (source, source, source, source);
+    let sources = (
+        AskedAgain { source },
+        AskedAgain { source },
+        AskedAgain { source },
+        AskedAgain { source },
+    );
     let Some(four) = serve_in_threads(shared, sources, workers, queues, listener, count) else {
         return None;
     };

@@ -4,11 +4,13 @@
 //! lent, by one thread at a time; [`serve_state`] says of it which scrape was sent. [`serve_stream`] serves one connection whole.
 #![tactic(auto)]
 
+mod again;
 mod fault;
 mod registry;
 mod state;
 mod stream;
 
+pub use again::{AskedAgain, scrape_again};
 pub use registry::FromRegistry;
 pub use state::{FromState, MakesScrapes, serve_state};
 pub use stream::{close_in_stages, serve_stream};

@@ -1,6 +1,6 @@
 use Rattle.std.proofs.Common.{Err, inl, subst}
 use Rattle.scrape_http.specs.declared.source.NoScrape.{NoScrape}
-use Rattle.dirgwako.specs.Patience.{AsksAgain}
+use Rattle.scrape_server.specs.Again.{AsksAgain}
 use Rattle.dirgwako.proofs.printing.text_from.Goals as goal
 
 pub returns-in-Err-NoMemory-clause-fault : goal.returns-in-Err-NoMemory-clause-fault

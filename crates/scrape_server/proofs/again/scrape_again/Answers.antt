@@ -1,7 +1,7 @@
 use Rattle.std.proofs.Common.{◌≡◌, ◌-◌, ◌+◌, suc, Err, subst, arith}
 use Rattle.scrape_http.specs.declared.source.NoScrape.{NoScrape}
-use Rattle.dirgwako.proofs.Again.{again, at_last, at_once}
-use Rattle.dirgwako.proofs.patience.scrape_again.Goals as goal
+use Rattle.scrape_server.proofs.Again.{again, at_last, at_once}
+use Rattle.scrape_server.proofs.again.scrape_again.Goals as goal
 
 pub returns-in-Err-NoMemory : goal.returns-in-Err-NoMemory
 returns-in-Err-NoMemory g c =

@@ -1,5 +1,5 @@
-//! Scrapes that are asked for again.
-ghost use Rattle.dirgwako.specs.Patience.{AsksAgain};
+//! Scrapes that are asked for again where a scan was given up.
+ghost use Rattle.scrape_server.specs.Again.{AsksAgain};
 
 use expo_text::Scrape;
 use scrape_http::{NoScrape, ScrapeFrom};
@@ -7,8 +7,13 @@ use scrape_http::{NoScrape, ScrapeFrom};
 /// How often a scrape that is given up is asked for again.
 const AGAIN: usize = 3;
 
-/// A scrape of a source, which is asked up to three times more where a scan was given up.
-pub(crate) fn scrape_again<S: ScrapeFrom>(source: &mut S) -> Result<Scrape, NoScrape>
+/// A scrape of a source, which is asked up to three times more where a scan was given up: somebody who publishes without rest costs a
+/// scrape then and now, and seldom four in a row.
+///
+/// # Errors
+///
+/// [`NoScrape`], 6 and 14: of 14 there were four.
+pub fn scrape_again<S: ScrapeFrom>(source: &mut S) -> Result<Scrape, NoScrape>
     ensures { AsksAgain S.gave 3 source.old source.new result }
 {
     for _again in 0..AGAIN {
@@ -21,13 +26,14 @@ pub(crate) fn scrape_again<S: ScrapeFrom>(source: &mut S) -> Result<Scrape, NoSc
     source.scrape()
 }
 
-/// A source whose scrapes are those of [`scrape_again`].
+/// A source that is asked again where a scan was given up: [`scrape_again`].
 #[derive(Drop)]
-pub(crate) struct Patient<S> {
-    pub(crate) source: S,
+pub struct AskedAgain<S> {
+    /// What is asked.
+    pub source: S,
 }
 
-impl<S: ScrapeFrom> ScrapeFrom for Patient<S> {
+impl<S: ScrapeFrom> ScrapeFrom for AskedAgain<S> {
     ghost gave = { λ before after answer. AsksAgain S.gave 3 before.source after.source answer };
 
     fn scrape(&mut self) -> Result<Scrape, NoScrape> {

@@ -3,7 +3,7 @@ use Rattle.std.proofs.Common.{◌≡◌, ℕ, zero, suc, ◌⊎◌, Result, Err,
 use Rattle.expo_text.specs.Scraped.{Scraped}
 use Rattle.scrape_http.specs.declared.source.NoScrape.{NoScrape}
 use Rattle.scrape_http.specs.declared.source.NoScrape.TheVariants.{Contended}
-use Rattle.dirgwako.specs.Patience.{AsksAgain, IsDone}
+use Rattle.scrape_server.specs.Again.{AsksAgain, IsDone}
 
 module _ {S : Type 0} (gave : S → S → Result Scraped NoScrape → Type 0) where
   -- the first answer counts
