@@ -12,7 +12,7 @@ use Rattle.registry_state.specs.Replay.{State}
 use Rattle.registry_state.specs.Shown.{IsShown}
 use Rattle.dirgwako.specs.Closing.{IsLastText}
 use Rattle.dirgwako.specs.Printing.{IsText}
-use Rattle.scrape_server.proofs.Again.{at_end}
+use Rattle.scrape_server.proofs.Askings.{at_end}
 
 -- the text of what a registry has just kept
 module _ {N C H G : ℕ} (quit : Scanner N C H G → ℕ) (gave : Scanner N C H G → Scanner N C H G → Answer → Type 0) (gave_up : Scanner N C H G → Scanner N C H G → Contended → Type 0) where

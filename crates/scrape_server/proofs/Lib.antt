@@ -1,1 +1,1 @@
-pub mod Again
+pub mod Askings

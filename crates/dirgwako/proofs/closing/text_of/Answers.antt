@@ -1,5 +1,5 @@
 use Rattle.std.proofs.Common.{Ok}
-use Rattle.scrape_server.proofs.Again.{asks_within}
+use Rattle.scrape_server.proofs.Askings.{asks_within}
 use Rattle.dirgwako.proofs.closing.text_of.Goals as goal
 
 pub returns : goal.returns

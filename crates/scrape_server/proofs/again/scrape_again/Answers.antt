@@ -1,6 +1,6 @@
 use Rattle.std.proofs.Common.{◌≡◌, ◌-◌, ◌+◌, suc, Err, subst, arith}
 use Rattle.scrape_http.specs.declared.source.NoScrape.{NoScrape}
-use Rattle.scrape_server.proofs.Again.{again, at_last, at_once}
+use Rattle.scrape_server.proofs.Askings.{again, at_last, at_once}
 use Rattle.scrape_server.proofs.again.scrape_again.Goals as goal
 
 pub returns-in-Err-NoMemory : goal.returns-in-Err-NoMemory
