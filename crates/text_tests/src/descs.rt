@@ -1,23 +1,12 @@
 //! Descriptors: at their limits, which are refused, and which clash.
-use crate::asserts::same;
+use crate::asserts::{are_names, same};
 use crate::limits::GREATEST_BOUNDS;
 use crate::made::{COUNTER, Family, desc, labels};
 use bucket_math::BadBounds;
 use metric_desc::{Desc, HistogramFault, Kind, LabelsFault, clashes};
 use metric_names::{HelpText, MetricName};
 use std::alloc::Global;
-use std::process::Abort;
 use std::test::Fail;
-
-/// The names of the descriptor's samples.
-fn expect_names(rt: &impl Abort, desc: &Desc, expected: &[&str]) -> Result<(), Fail> {
-    let names = desc.names()?;
-    same(rt, &names.len(), &expected.len());
-    for (found, own) in names.iter().zip(expected) {
-        same(rt, &found.as_str(), &*own);
-    }
-    Ok(())
-}
 
 /// A histogram with a help of 1,024 bytes, 8 labels and 24 bounds is made and copied.
 #[test]
@@ -39,7 +28,13 @@ fn the_longest(rt: HostRuntime) -> Result<(), Fail> {
     );
     let bounds = copy.bounds().ok_or("no bounds")?;
     same(&rt, &bounds.as_slice(), &GREATEST_BOUNDS.as_slice());
-    expect_names(&rt, &copy, &["h", "h_bucket", "h_sum", "h_count"])
+    let names = copy.names()?;
+    are_names(
+        &rt,
+        names.as_slice(),
+        &["h", "h_bucket", "h_sum", "h_count"],
+    );
+    Ok(())
 }
 
 #[test]
@@ -48,7 +43,7 @@ fn counters_and_gauges(rt: HostRuntime) -> Result<(), Fail> {
         let made = desc(rt.alloc(), &Family { kind, ..COUNTER })?;
         same(&rt, &(made.kind(), made.name().as_str()), &(kind, "a"));
         same(&rt, &made.bounds().is_none(), &true);
-        expect_names(&rt, &made, &["a"])?;
+        are_names(&rt, made.names()?.as_slice(), &["a"]);
     }
     Ok(())
 }

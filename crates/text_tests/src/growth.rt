@@ -1,6 +1,6 @@
 //! Calls whose growth is refused: the same call again answers as it would have. checks/refused_memory.py runs these with each allocation
 //! refused in turn.
-use crate::asserts::same;
+use crate::asserts::{are_names, same};
 use crate::made::{COUNTER, Family, desc, scrape};
 use expo_text::render;
 use metric_desc::{Desc, Kind};
@@ -9,6 +9,7 @@ use metric_names::{
     MetricNameFault, NoMemory,
 };
 use std::alloc::Global;
+use std::process::Abort;
 use std::test::Fail;
 
 /// What a call answers, which was made once more where there was no memory.
@@ -69,29 +70,40 @@ fn growth_of_texts(rt: HostRuntime) -> Result<(), Fail> {
     Ok(())
 }
 
-/// A histogram with a help and a label.
+/// A histogram with a help, a label and two bounds.
 fn histogram(alloc: Global) -> Result<Desc, Fail> {
-    let (kind, help, labels) = (Kind::Histogram, "A help.", &["l"]);
     let written = Family {
-        kind,
-        help,
-        labels,
+        kind: Kind::Histogram,
+        help: "A help.",
+        labels: &["l"],
+        bounds: &[5, 10],
         ..COUNTER
     };
     desc(alloc, &written)
+}
+
+/// The descriptor is that one.
+fn is_histogram(rt: &impl Abort, it: &Desc) -> Result<(), Fail> {
+    let found = (it.kind(), it.name().as_str(), it.help().as_str());
+    same(rt, &found, &(Kind::Histogram, "a", "A help."));
+    let label = it.labels().first().ok_or("no label")?;
+    same(rt, &(it.labels().len(), label.as_str()), &(1, "l"));
+    let bounds = it.bounds().ok_or("no bounds")?;
+    same(rt, &bounds.as_slice(), &[5, 10].as_slice());
+    Ok(())
 }
 
 #[test]
 fn growth_of_a_descriptor(rt: HostRuntime) -> Result<(), Fail> {
     let it = histogram(rt.alloc())?;
     let copy = again(it.copy(), it.copy())?;
-    same(
-        &rt,
-        &(copy.help().as_str(), copy.labels().len()),
-        &("A help.", 1),
-    );
+    is_histogram(&rt, &copy)?;
     let names = again(copy.names(), copy.names())?;
-    same(&rt, &names.len(), &4);
+    are_names(
+        &rt,
+        names.as_slice(),
+        &["a", "a_bucket", "a_sum", "a_count"],
+    );
     Ok(())
 }
 
