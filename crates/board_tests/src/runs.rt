@@ -93,11 +93,29 @@ fn direct_in_the_second_try(rt: HostRuntime) -> Result<(), Fail> {
     answers(&rt, &trace, 1, (2, 0, 14, 2), How::Direct, &[1, 0], &[5])
 }
 
+/// How many reads of the reader stand in these events, from the Begin of this answer to its end.
+fn reads(text: &str, trace: &Trace, k: usize) -> Result<usize, Fail> {
+    let found = trace.answers.get(k).ok_or("no such answer")?;
+    let mut reads = 0usize;
+    for (at, letter) in text.bytes().enumerate() {
+        if found.begin <= at && at <= found.end && matches!(letter, b's' | b't') {
+            reads = reads.wrapping_add(1);
+        }
+    }
+    Ok(reads)
+}
+
+/// The run of a publish between the two numbers of each try of the reader.
+const LENT: &str = "bsBSSSsBSSSsBSSSsBSSSs";
+
+/// The same with the asked worker's read torn, and one more try.
+const LENT_TORN: &str = "bsBSSSsBSSSsBSSSsBSSStss";
+
 /// The updates of the only worker make scans of their own, and the reader makes 5 reads. With the asked worker's read torn, it goes
 /// on to 7.
 #[test]
 fn lent_by_the_only_worker(rt: HostRuntime) -> Result<(), Fail> {
-    let trace = traced(rt.alloc(), 1, "bsBSSSsBSSSsBSSSsBSSSs", 1)?;
+    let trace = traced(rt.alloc(), 1, LENT, 1)?;
     same(&rt, &trace.answers.len(), &5);
     publishes(&rt, &trace, 4, 20)?;
     for (k, begin, number) in [(0, 2, 0), (1, 7, 1), (2, 12, 2), (3, 17, 3)] {
@@ -106,8 +124,11 @@ fn lent_by_the_only_worker(rt: HostRuntime) -> Result<(), Fail> {
     }
     let lent = How::Lent { from: 0 };
     answers(&rt, &trace, 4, (1, 0, 21, 2), lent, &[3], &[3])?;
-    let torn = traced(rt.alloc(), 1, "bsBSSSsBSSSsBSSSsBSSStss", 1)?;
-    answers(&rt, &torn, 4, (1, 0, 23, 3), How::Direct, &[4], &[4])
+    same(&rt, &reads(LENT, &trace, 4)?, &5);
+    let torn = traced(rt.alloc(), 1, LENT_TORN, 1)?;
+    answers(&rt, &torn, 4, (1, 0, 23, 3), How::Direct, &[4], &[4])?;
+    same(&rt, &reads(LENT_TORN, &torn, 4)?, &7);
+    Ok(())
 }
 
 #[test]
