@@ -6,8 +6,8 @@ ghost use Rattle.snapshot_scan.specs.Snapshots.{entry_of};
 ghost use Rattle.snapshot_update.specs.Workers.{IsWorkerOf};
 
 use crate::asserts::same;
-use crate::crew::{ID, counter, last_reader};
-use crate::jobs::runs;
+use crate::crew::{ID, finds, last_reader};
+use crate::jobs::{increments, runs};
 use bucket_math::Bounds;
 use chain_law::{ChainFault, history_of, settle};
 use ledger_core::Histogram;
@@ -22,16 +22,17 @@ use std::test::Fail;
 use std::thread::{Threads, join};
 use worker_pool::{Job, JobOp, Open, PoolFault};
 
-/// A reader to which nobody is lent, and what its scans gave it.
+/// A reader to which nobody is lent, what its scans gave it, and how many were given up, each with a number that rose.
 #[derive(Drop)]
 struct Watch {
     reader: Reader<4, 1, 1, 0>,
     taken: Vec<Snapshot<4, 1, 1, 0>>,
+    given_up: usize,
 
     ghost alone: { IsAlone reader },
 }
 
-/// Scans once more, and keeps what it is given.
+/// Scans once more, and keeps what it is given, or counts that it was given up.
 fn scan_once(alloc: Global, board: &Board<4, 1, 1, 0>, watch: &mut Watch) -> Result<(), AllocError>
     requires own { IsReaderOf board.now watch.old.reader }
     requires recorded { All (λ s. HasRecorded watch.old.reader (entry_of s)) watch.old.taken.items }
@@ -39,14 +40,16 @@ fn scan_once(alloc: Global, board: &Board<4, 1, 1, 0>, watch: &mut Watch) -> Res
     ensures recorded { All (λ s. HasRecorded watch.new.reader (entry_of s)) watch.new.taken.items }
 {
     let mut out = Snapshot::new(alloc)?;
-    let Ok(()) = watch.reader.scan(board, &mut out) else {
+    if let Err(contended) = watch.reader.scan(board, &mut out) {
+        let rose = usize::from(contended.first < contended.last);
+        watch.given_up = watch.given_up.wrapping_add(rose);
         return Ok(());
-    };
+    }
     watch.taken.push(out)?;
     Ok(())
 }
 
-/// Scans 10,000 times, and keeps what it is given.
+/// Scans 1,000 times, one scan after the other.
 fn scan_often(
     alloc: Global,
     board: &Board<4, 1, 1, 0>,
@@ -56,9 +59,12 @@ fn scan_often(
     ensures own { IfOk result (λ w. IsReaderOf board.now w.reader) }
     ensures recorded { IfOk result (λ w. All (λ s. HasRecorded w.reader (entry_of s)) w.taken.items) }
 {
-    let taken = Vec::new(alloc);
-    let mut watch = Watch { reader, taken };
-    for _k in 0..10_000u64 {
+    let mut watch = Watch {
+        reader,
+        taken: Vec::new(alloc),
+        given_up: 0,
+    };
+    for _k in 0..1_000u64 {
         scan_once(alloc, board, &mut watch)?;
     }
     Ok(watch)
@@ -153,8 +159,43 @@ fn counts(alloc: Global, taken: &[Snapshot<4, 1, 1, 0>]) -> Result<[u64; 4], Cha
 /// The numbers of all workers in the end.
 const ALL: [u64; 4] = [10_000, 10_000, 10_000, 10_000];
 
-/// All workers settle with one reader, and the other one scans once more: both have all numbers and the exact totals, and so
-/// they are equal.
+/// What was counted: the counter, the histogram's count, what all its buckets add up to, and the first four of these.
+type Counted = (u64, u64, u64, [u64; 4]);
+
+/// What is counted in a snapshot.
+fn found_in(out: &Snapshot<4, 1, 1, 0>) -> Counted {
+    let totals = out.hist(0);
+    let mut all = 0u64;
+    for bucket in &totals.buckets {
+        all = all.wrapping_add(*bucket);
+    }
+    let [first, second, third, fourth, ..] = totals.buckets;
+    let buckets = [first, second, third, fourth];
+    (out.counter(0), totals.count, all, buckets)
+}
+
+/// The same, by how often each worker had published: two count 1 each time, and two observe values of the four buckets by turns.
+fn told_by(out: &Snapshot<4, 1, 1, 0>) -> Counted {
+    let numbers = out.vector();
+    let (third, fourth) = (numbers[2], numbers[3]);
+    let observed = third.wrapping_add(fourth);
+    let mut buckets = [0u64; 4];
+    for (bucket, turns) in buckets.iter_mut().zip([3u64, 2, 1, 0]) {
+        *bucket = (third.wrapping_add(turns) / 4).wrapping_add(fourth.wrapping_add(turns) / 4);
+    }
+    let counter = numbers[0].wrapping_add(numbers[1]);
+    (counter, observed, observed, buckets)
+}
+
+/// Each of these is of one moment.
+fn are_of_one_moment(rt: &impl Abort, taken: &[Snapshot<4, 1, 1, 0>]) {
+    for out in taken {
+        same(rt, &found_in(out), &told_by(out));
+    }
+}
+
+/// The two readers scan once more, and all workers settle with one of them: each has all numbers, so that they are equal, and the
+/// totals are exact.
 fn end_equal(
     rt: &impl Abort,
     alloc: Global,
@@ -167,8 +208,10 @@ fn end_equal(
     requires alone { IsAlone other.old }
     requires workers { All (IsWorkerOf board.now) workers.old }
 {
+    let mut last = Snapshot::new(alloc)?;
     let mut settled = Snapshot::new(alloc)?;
     let mut scanned = Snapshot::new(alloc)?;
+    finds(rt, one.scan(board, &mut last), &last, &ALL);
     let Ok(()) = settle(board, one, workers, &mut settled) else {
         return Err("not all settle".into());
     };
@@ -178,45 +221,26 @@ fn end_equal(
     let found = order(board, &settled, one, &scanned, other);
     same(rt, &found, &Ordering::Equal);
     same(rt, &settled.vector(), &ALL.as_slice());
-    same(rt, &found_in(&settled), &(20_000, 20_000, 20_000));
+    same(
+        rt,
+        &found_in(&settled),
+        &(20_000, 20_000, 20_000, [5_000; 4]),
+    );
+    same(rt, &settled.hist(0).sum, &180_000);
     Ok((settled, scanned))
 }
 
-/// The counter, the histogram's count, and what its buckets add up to.
-fn found_in(out: &Snapshot<4, 1, 1, 0>) -> (u64, u64, u64) {
-    let totals = out.hist(0);
-    let mut all = 0u64;
-    for bucket in &totals.buckets {
-        all = all.wrapping_add(*bucket);
-    }
-    (out.counter(0), totals.count, all)
-}
-
-/// The same, by how often each worker had published: it counts 1 first and observes a value then, by turns.
-fn told_by(vector: &[u64]) -> (u64, u64, u64) {
-    let (mut counts, mut observes) = (0u64, 0u64);
-    for number in vector {
-        observes = observes.wrapping_add(*number / 2);
-        counts = counts.wrapping_add(*number - *number / 2);
-    }
-    (counts, observes, observes)
-}
-
-/// Each of these is of one moment.
-fn are_of_one_moment(rt: &impl Abort, taken: &[Snapshot<4, 1, 1, 0>]) {
-    for k in 0..taken.len() {
-        same(rt, &found_in(&taken[k]), &told_by(taken[k].vector()));
-    }
-}
-
-/// The history through what a reader was given, which is something, to the last snapshot.
+/// What a reader was given, which is something, and then the last snapshot: each of its scans is accounted for, all are of one moment
+/// each, and one history passes through them.
 fn ends_so(
     rt: &impl Abort,
     alloc: Global,
     mut taken: Vec<Snapshot<4, 1, 1, 0>>,
+    given_up: usize,
     last: Snapshot<4, 1, 1, 0>,
 ) -> Result<(), Fail> {
     same(rt, &taken.is_empty(), &false);
+    same(rt, &taken.len().wrapping_add(given_up), &1_000);
     taken.push(last)?;
     are_of_one_moment(rt, taken.as_slice());
     same(rt, &counts(alloc, taken.as_slice())?, &ALL);
@@ -239,10 +263,12 @@ fn end_well(
     let Watch {
         reader: mut one,
         taken: ones,
+        given_up: of_one,
     } = left;
     let Watch {
         reader: mut other,
         taken: others,
+        given_up: of_other,
     } = right;
     all_compare(
         rt,
@@ -253,8 +279,8 @@ fn end_well(
         others.as_slice(),
     );
     let (settled, scanned) = end_equal(rt, alloc, board, workers, &mut one, &mut other)?;
-    ends_so(rt, alloc, ones, settled)?;
-    ends_so(rt, alloc, others, scanned)
+    ends_so(rt, alloc, ones, of_one, settled)?;
+    ends_so(rt, alloc, others, of_other, scanned)
 }
 
 /// What two readers were given.
@@ -290,36 +316,28 @@ fn all_at_once(
     )
 }
 
-/// An increment at even lines, a value under 25 at odd ones.
-fn turn(hist: &Histogram, line: u64) -> JobOp {
-    if line % 2 == 0 {
-        JobOp::Inc(counter(0), 1)
-    } else {
-        JobOp::Observe(*hist, line % 25)
-    }
-}
-
-/// A worker's list: 5,000 increments and 5,000 values, by turns.
-fn by_turns(alloc: Global, hist: &Histogram) -> Result<Vec<Job>, AllocError> {
+/// A worker's list: 10,000 values, of each of the four buckets by turns.
+fn values(alloc: Global, hist: &Histogram) -> Result<Vec<Job>, AllocError> {
     let mut jobs = Vec::new(alloc);
-    for line in 0..10_000 {
-        let what = turn(hist, line);
+    for line in 0..10_000u64 {
+        let what = JobOp::Observe(*hist, line % 4 * 6);
         jobs.push(Job { line, what })?;
     }
     Ok(jobs)
 }
 
-/// The lists of four workers.
-fn all_by_turns(alloc: Global, bounds: Bounds) -> Result<Vec<Vec<Job>>, AllocError> {
+/// The lists of four workers: two increment the counter 10,000 times each, and two observe 10,000 values each.
+fn two_and_two(alloc: Global, bounds: Bounds) -> Result<Vec<Vec<Job>>, AllocError> {
     let hist = Histogram {
         registry: ID,
         slot: 0,
         bounds,
     };
     let mut lists = Vec::new(alloc);
-    for _worker in 0..4 {
-        lists.push(by_turns(alloc, &hist)?)?;
-    }
+    lists.push(increments(alloc, 10_000)?)?;
+    lists.push(increments(alloc, 10_000)?)?;
+    lists.push(values(alloc, &hist)?)?;
+    lists.push(values(alloc, &hist)?)?;
     Ok(lists)
 }
 
@@ -336,7 +354,7 @@ fn readers_scan_while_workers_count(rt: HostRuntime) -> Result<(), Fail> {
     let Ok(bounds) = Bounds::from_slice(&[5, 10, 15]) else {
         return Err("bad bounds".into());
     };
-    let jobs = all_by_turns(alloc, bounds)?;
+    let jobs = two_and_two(alloc, bounds)?;
     let (workers, (left, right)) = all_at_once(
         &rt,
         alloc,
