@@ -1,35 +1,60 @@
-//! A reader's seat, and a worker that publishes between its loads.
+//! The seat of a reader or of a worker, and another worker that publishes between its loads.
 ghost use Rattle.std.specs.Prelude.{◌≡◌, IfOk};
 ghost use Rattle.segment_layout.specs.Layout.{depth};
 ghost use Rattle.register_rule.specs.Steps.{after};
 ghost use Rattle.register_rule.specs.Told.{IsLoad, IsTold};
 ghost use Rattle.register_rule.specs.Learned.{Learns};
 ghost use Rattle.register_rule.specs.Members.{fresh_scan};
-ghost use Rattle.register_rule.specs.Seats.{members_of, read_bundle, reader_of, MayScan, HasReader};
+ghost use Rattle.register_rule.specs.Seats.{members_of, reader_of, worker_of, MayScan, HasReader, HasWorker};
+ghost use Rattle.snapshot_scan.specs.Shape.{scan_in};
 ghost use Rattle.snapshot_update.specs.Workers.{IsWorkerOf};
 ghost use Rattle.board_tests.specs.Beside.{IsWorkerOf-prop};
 
 use crate::asserts::same;
-use crate::crew::{counter, inc, new_worker, one_seat};
-use register_rule::{Board, Load, ReadSeat, ScanSeat};
+use crate::crew::{ID, counter, finds, inc, new_worker, one_seat};
+use register_rule::{Board, Load, Parts, ReadSeat, ScanSeat, WorkSeat};
 use snapshot_scan::{Contended, Memory, Snapshot};
 use snapshot_update::Worker;
-use std::alloc::Global;
+use std::alloc::{AllocError, Global};
+use std::process::Abort;
 use std::test::Fail;
 
-/// A board of one worker, whose row is one counter, the worker, and a reader's seat.
-fn one_worker(alloc: Global) -> Result<(Board<1, 1, 0, 0>, Worker<1, 1, 0, 0>, ReadSeat), Fail>
-    ensures own { IfOk result (λ r. IsWorkerOf r.0 r.1 × HasReader r.0 r.2) }
-    ensures fresh { IfOk result (λ r. (reader_of r.2).scan ≡ fresh_scan 1 1) }
+/// A board of two workers, whose rows are one counter, the second worker, and the seat of the first one.
+fn with_first(alloc: Global) -> Result<(Board<2, 1, 0, 0>, Worker<2, 1, 0, 0>, WorkSeat), Fail>
+    ensures own { IfOk result (λ r. IsWorkerOf r.0 r.1 × HasWorker r.0 r.2) }
+    ensures fresh { IfOk result (λ r. (worker_of r.2).scan ≡ fresh_scan 2 1) }
 {
-    let (board, seat, reader) = one_seat(alloc)?;
-    let worker = new_worker(alloc, &board, seat, 0)?;
+    let Parts {
+        board,
+        mut work,
+        read: _,
+    } = Board::new(alloc, ID, 1)?;
+    let second = work.pop().ok_or("no worker")?;
+    let first = work.pop().ok_or("no worker")?;
+    let worker = new_worker(alloc, &board, second, 1)?;
+    Ok((board, worker, first))
+}
+
+/// Such a board, the second worker, and the seat of a reader.
+fn with_reader(alloc: Global) -> Result<(Board<2, 1, 0, 0>, Worker<2, 1, 0, 0>, ReadSeat), Fail>
+    ensures own { IfOk result (λ r. IsWorkerOf r.0 r.1 × HasReader r.0 r.2) }
+    ensures fresh { IfOk result (λ r. (reader_of r.2).scan ≡ fresh_scan 2 1) }
+{
+    let Parts {
+        board,
+        mut work,
+        mut read,
+    } = Board::new(alloc, ID, 1)?;
+    let second = work.pop().ok_or("no worker")?;
+    let reader = read.pop().ok_or("no reader")?;
+    let worker = new_worker(alloc, &board, second, 1)?;
     Ok((board, worker, reader))
 }
 
 #[test]
 fn a_seat_falls_behind(rt: HostRuntime) -> Result<(), Fail> {
-    let (board, mut worker, mut reader) = one_worker(rt.alloc())?;
+    let (board, seat, mut reader) = one_seat(rt.alloc())?;
+    let mut worker = new_worker(rt.alloc(), &board, seat, 0)?;
     inc(&rt, &board, &mut worker, 0, 5);
     same(&rt, &board.open(&mut reader, 0), &1);
     same(&rt, &board.read_word(&mut reader, 0, 1, 0), &5);
@@ -39,7 +64,7 @@ fn a_seat_falls_behind(rt: HostRuntime) -> Result<(), Fail> {
     Ok(())
 }
 
-/// Before which loads of a number the worker publishes.
+/// Before which loads of its number the second worker publishes.
 #[derive(Clone, Copy)]
 struct Plan {
     opens: bool,
@@ -48,59 +73,63 @@ struct Plan {
     ends: bool,
 }
 
-/// A reader's seat that scans while the worker publishes by plan, and adds 5 each time. The first load is left alone.
+/// A seat that scans while the second worker publishes by plan, and adds 5 each time. The first load is left alone.
 #[derive(Drop)]
-struct Beside<'a> {
-    board: &'a Board<1, 1, 0, 0>,
-    worker: Worker<1, 1, 0, 0>,
-    seat: ReadSeat,
+struct Beside<'a, S> {
+    board: &'a Board<2, 1, 0, 0>,
+    worker: Worker<2, 1, 0, 0>,
+    seat: S,
     plan: Plan,
-    begun: bool,
     ghost own: { IsWorkerOf board.now worker } by { IsWorkerOf-prop board.now worker },
 }
 
-/// Whether the worker publishes before this load, which is the first one or not.
+/// Whether the worker, which has published or not, publishes before this load.
 fn is_planned(plan: Plan, begun: bool, what: Load) -> bool {
     match what {
-        Load::Open { place: _ } => plan.opens && begun,
-        Load::Confirm { place: _ } => plan.confirms,
+        Load::Open { place } => place == 1 && plan.opens && begun,
+        Load::Confirm { place } => place == 1 && plan.confirms,
         Load::Ask { place: _ } => plan.asks,
         Load::EndAsk { place: _ } => plan.ends,
         _ => false,
     }
 }
 
-impl<'a> ScanSeat<1, 1, 0, 0> for Beside<'a> {
-    ghost bundle = { λ s. read_bundle s.seat };
+impl<'a, S: ScanSeat<2, 1, 0, 0>> ScanSeat<2, 1, 0, 0> for Beside<'a, S> {
+    ghost bundle = { λ s. S.bundle s.seat };
 
-    fn load(&mut self, board: &Board<1, 1, 0, 0>, what: Load) -> u64
-        requires own { MayScan board.now (read_bundle self.old.seat) }
-        requires inside { IsLoad 1 (depth 1 1) what }
-        ensures learns { Learns 1 1 0 0 (after 1 1 what result) (read_bundle self.old.seat) (read_bundle self.new.seat) }
-        ensures told { IsTold 1 what (members_of (read_bundle self.old.seat)) result }
+    fn load(&mut self, board: &Board<2, 1, 0, 0>, what: Load) -> u64
+        requires own { MayScan board.now (S.bundle self.old.seat) }
+        requires inside { IsLoad 2 (depth 2 1) what }
+        ensures learns { Learns 2 1 0 0 (after 2 1 what result) (S.bundle self.old.seat) (S.bundle self.new.seat) }
+        ensures told { IsTold 1 what (members_of (S.bundle self.old.seat)) result }
     {
-        if is_planned(self.plan, self.begun, what) {
+        if is_planned(self.plan, self.worker.number() > 0, what) {
             let _ = self.worker.inc(self.board, &counter(0), 5);
         }
-        self.begun = true;
         self.seat.load(board, what)
     }
 }
 
-/// What a scan finds while the worker publishes by plan: its answer, its number of the worker, and its total of the counter.
-fn scan_beside(alloc: Global, plan: Plan) -> Result<(Result<(), Contended>, u64, u64), Fail> {
-    let (board, worker, seat) = one_worker(alloc)?;
+/// What a scan of this seat answers while the second worker publishes by plan.
+fn scan_beside<S: ScanSeat<2, 1, 0, 0> + Drop>(
+    alloc: Global,
+    board: &Board<2, 1, 0, 0>,
+    worker: Worker<2, 1, 0, 0>,
+    seat: S,
+    plan: Plan,
+    out: &mut Snapshot<2, 1, 0, 0>,
+) -> Result<Result<(), Contended>, AllocError>
+    requires own { IsWorkerOf board.now worker × MayScan board.now (S.bundle seat) }
+    requires fresh { scan_in (S.bundle seat) ≡ fresh_scan 2 1 }
+{
     let mut memory = Memory::new(alloc)?;
-    let mut out = Snapshot::new(alloc)?;
     let mut beside = Beside {
-        board: &board,
+        board,
         worker,
         seat,
         plan,
-        begun: false,
     };
-    let found = memory.scan_to(&board, &mut beside, &mut out);
-    Ok((found, out.vector()[0], out.counter(0)))
+    Ok(memory.scan_to(board, &mut beside, out))
 }
 
 /// The numbers read are 0, 1 in the first try, 2, 3 in the second, and then 4, where the worker is asked.
@@ -112,13 +141,25 @@ fn a_running_worker_lends(rt: HostRuntime) -> Result<(), Fail> {
         asks: true,
         ends: false,
     };
-    same(&rt, &scan_beside(rt.alloc(), plan)?, &(Ok(()), 3, 15));
+    let (board, worker, seat) = with_reader(rt.alloc())?;
+    let mut out = Snapshot::new(rt.alloc())?;
+    let found = scan_beside(rt.alloc(), &board, worker, seat, plan, &mut out)?;
+    finds(&rt, found, &out, &[0, 3]);
+    same(&rt, &out.counter(0), &15);
     Ok(())
 }
 
-/// A number rises in each of three tries, and while the worker is asked.
-#[test]
-fn a_running_scan_gives_up(rt: HostRuntime) -> Result<(), Fail> {
+/// A scan of this seat is given up: a number rises in each of four tries, and while the worker is asked. The output stays as it was.
+fn gives_up<S: ScanSeat<2, 1, 0, 0> + Drop>(
+    rt: &impl Abort,
+    alloc: Global,
+    board: &Board<2, 1, 0, 0>,
+    worker: Worker<2, 1, 0, 0>,
+    seat: S,
+) -> Result<(), Fail>
+    requires own { IsWorkerOf board.now worker × MayScan board.now (S.bundle seat) }
+    requires fresh { scan_in (S.bundle seat) ≡ fresh_scan 2 1 }
+{
     let plan = Plan {
         opens: false,
         confirms: true,
@@ -126,15 +167,27 @@ fn a_running_scan_gives_up(rt: HostRuntime) -> Result<(), Fail> {
         ends: true,
     };
     let contended = Contended {
-        worker: 0,
-        first: 2,
-        last: 3,
+        worker: 1,
+        first: 4,
+        last: 5,
     };
-    same(
-        &rt,
-        &scan_beside(rt.alloc(), plan)?,
-        &(Err(contended), 0, 0),
-    );
-    same(&rt, &contended.number(), &14);
+    let mut out = Snapshot::new(alloc)?;
+    out.set(&[6, 7], &[8]);
+    let found = scan_beside(alloc, board, worker, seat, plan, &mut out)?;
+    same(rt, &found, &Err(contended));
+    same(rt, &out.vector(), &[6, 7].as_slice());
+    same(rt, &(contended.number(), out.counter(0)), &(14, 8));
     Ok(())
+}
+
+#[test]
+fn a_running_scan_gives_up(rt: HostRuntime) -> Result<(), Fail> {
+    let (board, worker, seat) = with_reader(rt.alloc())?;
+    gives_up(&rt, rt.alloc(), &board, worker, seat)
+}
+
+#[test]
+fn a_worker_gives_up_its_scan(rt: HostRuntime) -> Result<(), Fail> {
+    let (board, worker, seat) = with_first(rt.alloc())?;
+    gives_up(&rt, rt.alloc(), &board, worker, seat)
 }
