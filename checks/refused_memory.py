@@ -39,13 +39,14 @@ pub(crate) fn spend(alloc: std::alloc::Global, count: usize) {{
     }}
 }}
 
-/// Whether the allocation that is refused is still to come.
-pub(crate) fn is_to_come(alloc: std::alloc::Global) -> bool {{
-    let mut refused = false;
-    for _ in 0..{LAST}usize {{
-        refused |= Box::new(alloc, 0u8).is_err();
+/// How many allocations go before the one that is refused, if that is still to come.
+pub(crate) fn left(alloc: std::alloc::Global) -> Option<usize> {{
+    for made in 0..{LAST}usize {{
+        if Box::new(alloc, 0u8).is_err() {{
+            return Some(made);
+        }}
     }}
-    refused
+    None
 }}
 """
 
@@ -97,7 +98,7 @@ fn {test}_at_{number}(rt: HostRuntime) -> Result<(), Fail> {{
     let alloc = rt.alloc();
     crate::spent::spend(alloc, {LAST - number});
     {test}(rt)?;
-    if crate::spent::is_to_come(alloc) {{
+    if crate::spent::left(alloc).is_some() {{
         return Err("{NONE_REFUSED}".into());
     }}
     Ok(())
@@ -182,7 +183,8 @@ def check_tests(name):
 
 
 def with_number(text):
-    """The program, which is told by the first three bytes of its input at which allocation of its own one is refused."""
+    """The program, which is told by the first three bytes of its input how many allocations are made before its own. Where the refused one
+    is still to come at its end, it prints how many go before that."""
     head = "fn main(rt: HostRuntime) -> ExitCode {\n"
     check(text.count(head) == 1, "the program's main has its head")
     return text.replace(head, f"fn whole(rt: {RUNTIME}) -> ExitCode {{\n") + f"""
@@ -195,7 +197,8 @@ fn main(rt: HostRuntime) -> ExitCode {{
     let number = digits.iter().fold(0u32, |n, digit| n % 100 * 10 + (*digit % 16) as u32);
     spent::spend(alloc, number as usize);
     let code = whole(rt);
-    if spent::is_to_come(alloc) {{
+    if let Some(left) = spent::left(alloc) {{
+        let _ = std::println!(rt; "left {{left}}");
         return ExitCode::from(99);
     }}
     code
@@ -210,35 +213,46 @@ def cases(out, err):
     return {name: (outputs.get(name, ""), int(status)) for name, status in statuses}
 
 
-def check_script(program, name, script, found):
+def allocations(output, status, n):
+    """What a run printed in which the nth allocation was to be refused, and how many it made, if they were fewer."""
+    left = re.search(r"^left (\d+)\n\Z", output, re.M)
+    return (output[: left.start()], n - 1 - int(left[1])) if left and status == 99 else (output, None)
+
+
+def check_fronts(program, name, lines, found):
+    """The runs of each front of a script, in which no allocation was refused. Returns, of each, what it prints and how many it makes."""
+    fronts = []
+    for count in range(len(lines) + 1):
+        ample, _, _ = run(program, "script", given="".join(lines[:count]).encode())
+        output, made = allocations(*found[f"front-{count}"], LAST)
+        check(made is not None, f"{name}: {count} lines make more than {LAST - 1} allocations: raise SCRIPT_STEPS")
+        check(output == ample.decode(), f"{name}: {count} lines print {output}")
+        check(not fronts or made >= fronts[-1][1], f"{name}: {count} lines make {made} allocations, and fewer lines more")
+        fronts.append((output, made))
+    return fronts
+
+
+def check_script(name, fronts, found):
     """The runs of a script whose first allocation, second and so on was refused. Returns how many met a refusal, or none where each did.
 
-    A refusal is told at a line, after all that the lines before it print, and as 6; the lines rise with the allocations. Before the
-    first line it is told as line 0, and where the words of the command line want memory, they are as no words."""
-    lines = script.splitlines(True)
-    ample = [run(program, "script", given="".join(lines[:count]).encode())[0].decode() for count in range(len(lines))]
-    whole, _, whole_status = run(program, "script", given=script.encode())
-    latest, refused = -1, 0
-    for n, (output, status) in sorted(found.items()):
-        told = re.search(r"^refused (\d+) 6\n\Z", output, re.M)
-        if status == 99:
-            check(output == whole.decode(), f"{name}: run {n} met no refusal: {output}")
-            check(all(found[it][1] == 99 for it in found if it > n), f"{name}: after run {n}, which met none, one meets a refusal")
-            check(latest > 0 and refused > len(lines), f"{name}: {refused} allocations were refused, the last one told at line {latest}")
-            return refused
-        refused += 1
-        if told and status == 1:
-            line = int(told[1])
-            check(line >= latest, f"{name}: allocation {n} is told at line {line}, after one at line {latest}")
-            check(output == f"{ample[max(line - 1, 0)]}refused {line} 6\n", f"{name}: allocation {n} refused: {output}")
-            latest = line
-        elif not (status == 2 and latest < 0 and output == ""):
-            check((output, status) == (whole.decode(), whole_status), f"{name}: allocation {n} refused: {status} {output}")
-    return None
+    The nth allocation is made during the first line whose front makes so many, or before the first line, and is told at this line, as 6,
+    after all that the lines before it print."""
+    whole, most = fronts[-1]
+    for n in range(1, most + 1):
+        if n not in found:
+            return None
+        line = next(count for count, (_, made) in enumerate(fronts) if made >= n)
+        wanted = (f"{fronts[max(line - 1, 0)][0]}refused {line} 6\n", 1)
+        check(found[n] == wanted, f"{name}: allocation {n} refused, during line {line}: got {found[n]}, expected {wanted}")
+    beyond = [n for n in found if n > most]
+    for n in beyond:
+        check(allocations(*found[n], n) == (whole, most), f"{name}: {most} allocations are made, and run {n} met a refusal: {found[n]}")
+    check(most > fronts[0][1] and most > len(fronts), f"{name}: {most} allocations are made, {fronts[0][1]} of them before the first line")
+    return most if beyond else None
 
 
 def run_cases(scripts, numbers):
-    """Of each script the output and the status of its runs with these allocations refused."""
+    """Of each script the output and the status of its runs with these allocations refused, and of each of its fronts with none."""
     with tempfile.TemporaryDirectory() as room:
         room = pathlib.Path(room)
         copy_sources(room)
@@ -246,14 +260,18 @@ def run_cases(scripts, numbers):
         main.write_text(with_number(main.read_text()))
         (room / "crates/metrics_run/src/spent.rt").write_text(SPENT)
         (room / "scripts").mkdir()
+        cases_of = {}
         for name, script in scripts.items():
-            for n in numbers:
-                (room / "scripts" / f"{name}-{n}").write_text(f"{LAST - n:03}{script}")
+            lines = script.splitlines(True)
+            cases_of[name] = {f"front-{count}": (0, "".join(lines[:count])) for count in range(len(lines) + 1)}
+            cases_of[name].update({n: (LAST - n, script) for n in numbers})
+            for case, (spent, text) in cases_of[name].items():
+                (room / "scripts" / f"{name}-{case}").write_text(f"{spent:03}{text}")
         found = cases(*tried(main.parent.parent, "--fail-alloc", str(LAST), "--cases", str(room / "scripts"), "--", "script"))
-    for name in scripts:
-        for n in numbers:
-            check(f"{name}-{n}" in found, f"{name}: allocation {n} refused: the program did not end")
-    return {name: {n: found[f"{name}-{n}"] for n in numbers} for name in scripts}
+    for name, it in cases_of.items():
+        for case in it:
+            check(f"{name}-{case}" in found, f"{name}: the program did not end at {case}")
+    return {name: {case: found[f"{name}-{case}"] for case in it} for name, it in cases_of.items()}
 
 
 def check_scripts(program):
@@ -264,7 +282,8 @@ def check_scripts(program):
     for high in SCRIPT_STEPS:
         for name, more in run_cases(left, range(low + 1, high + 1)).items():
             found[name].update(more)
-            count = check_script(program, name, left[name], found[name])
+            fronts = check_fronts(program, name, left[name].splitlines(True), found[name])
+            count = check_script(name, fronts, {n: it for n, it in found[name].items() if isinstance(n, int)})
             if count is not None:
                 refused += count
                 left = {it: left[it] for it in left if it != name}

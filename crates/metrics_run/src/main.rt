@@ -1,8 +1,8 @@
 //! The program: `metrics_run script` reads script lines from standard input, counts, and prints scrapes; `metrics_run serve PORT
 //! COUNT` answers so many connections on 127.0.0.1, with its own metrics.
 //!
-//! Exit status 0 at the end; 1 after a refused line, or without memory for a server; 2 for other arguments; 3 where standard input,
-//! standard output or a socket failed, or a server's thread could not be started.
+//! Exit status 0 at the end; 1 after a refused line, or without memory for the arguments or a server; 2 for other arguments; 3 where
+//! standard input, standard output or a socket failed, or a server's thread could not be started.
 #![tactic(auto)]
 
 mod arguments;
@@ -16,10 +16,11 @@ mod script;
 mod state;
 
 use arguments::{Asked, read_serve};
+use metric_names::NoMemory;
 use metrics_serve::{ServeEnd, serve_on};
-use script::{ScriptEnd, run_script};
+use script::{ScriptEnd, refuse_all, run_script};
 use std::alloc::Global;
-use std::io::Write;
+use std::io::{ErrorKind, Write};
 use std::net::{Ipv4Addr, Net, TcpListener, TcpStream};
 use std::process::ExitCode;
 use std::rt::Env;
@@ -47,9 +48,15 @@ fn read_asked(mut words: env::Args) -> Option<Asked> {
     Some(asked)
 }
 
-/// What the arguments ask for, if they do.
-fn asked(rt: &(impl Env + AllocGlobal)) -> Option<Asked> {
-    read_asked(env::args(rt).ok()?)
+/// What the arguments ask for, if they do. An argument that is no text asks for nothing.
+///
+/// Refusal 6 [`NoMemory`], and no other.
+fn asked(rt: &(impl Env + AllocGlobal)) -> Result<Option<Asked>, NoMemory> {
+    match env::args(rt) {
+        Ok(words) => Ok(read_asked(words)),
+        Err(fault) if fault.kind() == ErrorKind::OutOfMemory => Err(NoMemory),
+        Err(_) => Ok(None),
+    }
 }
 
 /// Listens at a port of 127.0.0.1, and serves.
@@ -65,17 +72,21 @@ where
 
 fn main(rt: HostRuntime) -> ExitCode {
     let (is_broken, status) = match asked(&rt) {
-        Some(Asked::Script) => {
+        Ok(Some(Asked::Script)) => {
             let end = run_script(&rt, rt.alloc(), rt.reader(), io::writer(&rt));
             (end == ScriptEnd::Broken, end.status())
         }
-        Some(Asked::Serve { port, count }) => {
+        Ok(Some(Asked::Serve { port, count })) => {
             let end = serve(&rt, rt.alloc(), port, count, &mut io::writer(&rt));
             (end == ServeEnd::Broken, end.status())
         }
-        None => {
+        Ok(None) => {
             let _ = eprintln!(rt; "{USAGE}");
             return ExitCode::from(2);
+        }
+        Err(NoMemory) => {
+            let end = refuse_all(&mut io::writer(&rt));
+            (end == ScriptEnd::Broken, end.status())
         }
     };
     if is_broken {

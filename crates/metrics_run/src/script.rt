@@ -1,5 +1,5 @@
 //! Scripts are run.
-ghost use Rattle.std.specs.Prelude.{◌≡◌, ℕ, List, [], ◌∷◌, ◌++◌, decimal, map, All, IfErr, IfOk, OnErr, OnOk};
+ghost use Rattle.std.specs.Prelude.{◌≡◌, ℕ, List, [], ◌∷◌, ◌++◌, decimal, map, All, Err, IfErr, IfOk, OnErr, OnOk};
 ghost use Rattle.std.specs.Io.KnownBytes.{Appends, IsAtEnd, Keeps};
 ghost use Rattle.chain_law.specs.Settled.{AreMomentsOf, IsSettled};
 ghost use Rattle.registry_state.specs.Journal.{scrapes};
@@ -263,6 +263,13 @@ fn ended<W: Write>(writer: &mut W, ran: Result<(), Stop>) -> ScriptEnd
         (Ok(end), Ok(())) => end,
         _ => ScriptEnd::Broken,
     }
+}
+
+/// Tells want of memory before the first line.
+pub fn refuse_all<W: Write>(writer: &mut W) -> ScriptEnd
+    ensures { IsEnd (Err (Stop.Refused (record { line = 0; fault = LineFault.NoMemory }))) (W.contents writer.old) (W.contents writer.new) result }
+{
+    ended(writer, Err(stop_at(0, LineFault::NoMemory)))
 }
 
 /// The end of a script that ran to its last line: what its registry notes, and exact totals of all that its workers have counted. The

@@ -11,4 +11,6 @@ mod growth;
 #[cfg(test)]
 mod helpers;
 #[cfg(test)]
+mod seen;
+#[cfg(test)]
 mod tests;

@@ -1,4 +1,5 @@
 mod clients;
+mod contended;
 mod ends;
 mod failing;
 mod front;

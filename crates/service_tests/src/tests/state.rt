@@ -157,29 +157,43 @@ fn refused(
     Ok(())
 }
 
-/// Children, each refused for one reason, and one that is made.
-fn uses_every_slot(rt: &impl Abort, alloc: Global, registry: &mut Plain) -> Result<(), Fail> {
-    let elsewhere = plain(alloc, 1)?.register(desc(alloc, Kind::Gauge, "g", &[])?)?;
-    let absent = (ChildFault::NoSuchFamily, 20);
-    refused(rt, registry, elsewhere, alloc, &[], absent)?;
-    let family = registry.register(desc(alloc, Kind::Counter, "a", &["l"])?)?;
-    let (want, got) = (1, 2);
-    let count = (ChildFault::LabelCount { want, got }, 21);
-    refused(rt, registry, family, alloc, &["x", "y"], count)?;
+/// A second child of this kind finds no slot, and the first one is found again.
+fn uses_the_slot(
+    rt: &impl Abort,
+    registry: &mut Plain,
+    alloc: Global,
+    kind: Kind,
+    name: &str,
+) -> Result<Handle, Fail> {
+    let family = registry.register(desc(alloc, kind, name, &["l"])?)?;
     let values = values(alloc, &["x"])?;
     let first = registry.child(family, &values)?;
-    same(rt, &first, &first_counter());
-    let kind = Kind::Counter;
     let full = (ChildFault::Full { kind }, 22);
     refused(rt, registry, family, alloc, &["y"], full)?;
     same(rt, &registry.child(family, &values)?, &first);
+    Ok(first)
+}
+
+/// Children, each refused for one reason, and one of each kind that is made.
+fn uses_every_slot(rt: &impl Abort, alloc: Global, registry: &mut Plain) -> Result<(), Fail> {
+    let family = registry.register(desc(alloc, Kind::Counter, "a", &["l"])?)?;
+    let absent = (ChildFault::NoSuchFamily, 20);
+    refused(rt, &mut plain(alloc, 1)?, family, alloc, &["x"], absent)?;
+    let (want, got) = (1, 2);
+    let count = (ChildFault::LabelCount { want, got }, 21);
+    refused(rt, registry, family, alloc, &["x", "y"], count)?;
+    let counter = uses_the_slot(rt, registry, alloc, Kind::Counter, "c")?;
+    same(rt, &counter, &first_counter());
+    uses_the_slot(rt, registry, alloc, Kind::Histogram, "h")?;
+    let gauge = uses_the_slot(rt, registry, alloc, Kind::Gauge, "g")?;
+    same(rt, &gauge, &first_gauge());
     same(rt, &registry.family("a"), &Some(family));
     same(rt, &registry.family("b"), &None);
-    same(rt, &registry.journal().len(), &2);
+    same(rt, &registry.journal().len(), &7);
     Ok(())
 }
 
-/// A second child of counters finds no slot, and the first one is found again. A child that is refused takes no slot.
+/// A second child of each kind finds no slot. A child that is refused takes no slot.
 #[test]
 fn every_slot_used(rt: HostRuntime) -> Result<(), Fail> {
     let mut registry = plain(rt.alloc(), 1)?;

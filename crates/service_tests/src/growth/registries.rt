@@ -1,0 +1,363 @@
+//! A registry of one thread, and one behind its lock: their calls that take memory. Each that is refused leaves all as it was.
+ghost use Rattle.std.specs.Prelude.{All};
+ghost use Rattle.snapshot_scan.specs.Readers.{IsReaderOf};
+ghost use Rattle.snapshot_update.specs.Workers.{IsWorkerOf};
+
+use crate::asserts::same;
+use crate::crew::{ID, last_reader, last_worker};
+use crate::helpers::{Plain, Source, desc, first_counter, first_gauge};
+use crate::seen::{Look, Moment, Seen};
+use expo_text::{Scrape, render};
+use ledger_core::{Counter, Gauge, GaugeTotals, HistTotals, Op};
+use metric_desc::{Desc, Kind};
+use metric_names::NoMemory;
+use metric_registry::Registry;
+use register_rule::Board;
+use registry_state::{ChildFault, FamilyId, Handle, NewFault, RegisterFault, ScrapeFault};
+use snapshot_scan::Reader;
+use snapshot_update::{Crew, Worker};
+use std::alloc::Global;
+use std::process::Abort;
+use std::sync::Wait;
+use std::test::Fail;
+
+/// A registry that keeps two scrapes.
+pub(super) fn new_state(rt: &impl Abort, alloc: Global) -> Result<Plain, Fail> {
+    match Plain::new(alloc, Source::new(alloc)?, ID, 2) {
+        Ok(registry) => Ok(registry),
+        Err(none) => {
+            same(rt, &none.fault, &NewFault::NoMemory);
+            match Plain::new(alloc, none.source, ID, 2) {
+                Ok(registry) => Ok(registry),
+                Err(none) => Err(none.fault.into()),
+            }
+        }
+    }
+}
+
+/// A registry, shared or not.
+trait Grows {
+    /// Registers a family.
+    fn register(&mut self, desc: Desc) -> Result<FamilyId, RegisterFault>;
+
+    /// Makes the child of a family.
+    fn child(&mut self, family: FamilyId) -> Result<Handle, ChildFault>;
+
+    /// Makes a scrape.
+    fn scrape(&mut self) -> Result<Scrape, ScrapeFault>;
+
+    /// What is seen of it.
+    fn seen(&mut self) -> Seen;
+}
+
+/// One of one thread.
+#[derive(Drop)]
+struct Alone {
+    registry: Plain,
+    look: Look,
+}
+
+impl Grows for Alone {
+    fn register(&mut self, desc: Desc) -> Result<FamilyId, RegisterFault> {
+        self.registry.register(desc)
+    }
+
+    fn child(&mut self, family: FamilyId) -> Result<Handle, ChildFault> {
+        let made = self.registry.child(family, &self.look.values)?;
+        self.look.made = family.number().saturating_add(1);
+        Ok(made)
+    }
+
+    fn scrape(&mut self) -> Result<Scrape, ScrapeFault> {
+        self.registry.scrape()
+    }
+
+    fn seen(&mut self) -> Seen {
+        self.look.at(&mut self.registry)
+    }
+}
+
+/// A board whose row is a counter, a histogram and a gauge.
+type OneBoard = Board<1, 1, 1, 1>;
+
+/// One behind its lock, of which only families and children are seen.
+#[derive(Drop)]
+struct Shared<'r, 'b, T: Wait> {
+    rt: &'r T,
+    registry: &'r Registry<'b, 1, 1, 1, 1>,
+    look: &'r mut Look,
+}
+
+impl<T: Wait> Shared<'_, '_, T> {
+    /// The number of the family of this name, and its child, where that is one of those that were made.
+    fn family(&self, name: &str, child: usize) -> (Option<usize>, Option<Handle>) {
+        let Some(family) = self.registry.family(self.rt, name) else {
+            return (None, None);
+        };
+        if child >= self.look.made {
+            return (Some(family.number()), None);
+        }
+        let child = self.registry.child(self.rt, family, &self.look.values);
+        (Some(family.number()), child.ok())
+    }
+}
+
+impl<T: Wait> Grows for Shared<'_, '_, T> {
+    fn register(&mut self, desc: Desc) -> Result<FamilyId, RegisterFault> {
+        self.registry.register(self.rt, desc)
+    }
+
+    fn child(&mut self, family: FamilyId) -> Result<Handle, ChildFault> {
+        let made = self.registry.child(self.rt, family, &self.look.values)?;
+        self.look.made = family.number().saturating_add(1);
+        Ok(made)
+    }
+
+    fn scrape(&mut self) -> Result<Scrape, ScrapeFault> {
+        self.registry.scrape(self.rt)
+    }
+
+    fn seen(&mut self) -> Seen {
+        let (a, child_of_a) = self.family("a", 0);
+        let (b, child_of_b) = self.family("b", 1);
+        Seen {
+            families: [a, b],
+            children: [child_of_a, child_of_b],
+            entries: 0,
+            kept: 0,
+            scrapes: [None, None],
+        }
+    }
+}
+
+/// Registers a family by a label.
+fn register<G: Grows>(
+    rt: &impl Abort,
+    alloc: Global,
+    grown: &mut G,
+    kind: Kind,
+    name: &str,
+) -> Result<FamilyId, Fail> {
+    let before = grown.seen();
+    let answer = grown.register(desc(alloc, kind, name, &["l"])?);
+    if answer != Err(RegisterFault::NoMemory) {
+        return Ok(answer?);
+    }
+    same(rt, &grown.seen(), &before);
+    Ok(grown.register(desc(alloc, kind, name, &["l"])?)?)
+}
+
+/// Makes its child.
+fn child<G: Grows>(rt: &impl Abort, grown: &mut G, family: FamilyId) -> Result<Handle, Fail> {
+    let before = grown.seen();
+    let answer = grown.child(family);
+    if answer != Err(ChildFault::NoMemory) {
+        return Ok(answer?);
+    }
+    same(rt, &grown.seen(), &before);
+    Ok(grown.child(family)?)
+}
+
+/// The text of a scrape is this.
+fn prints<G: Grows>(
+    rt: &impl Abort,
+    grown: &mut G,
+    scrape: &Scrape,
+    expected: &str,
+) -> Result<(), Fail> {
+    let before = grown.seen();
+    let text = match render(scrape) {
+        Ok(text) => text,
+        Err(NoMemory) => {
+            same(rt, &grown.seen(), &before);
+            render(scrape)?
+        }
+    };
+    same(rt, &text.as_slice(), &expected.as_bytes());
+    Ok(())
+}
+
+/// Makes a scrape, and its text, which is this.
+fn scrape<G: Grows>(rt: &impl Abort, grown: &mut G, expected: &str) -> Result<(), Fail> {
+    let before = grown.seen();
+    match grown.scrape() {
+        Ok(scrape) => prints(rt, grown, &scrape, expected),
+        Err(ScrapeFault::NoMemory) => {
+            same(rt, &grown.seen(), &before);
+            let scrape = grown.scrape()?;
+            prints(rt, grown, &scrape, expected)
+        }
+        Err(fault) => Err(fault.into()),
+    }
+}
+
+/// What is counted when the first family has its child.
+const FIRST: [Op; 2] = [
+    Op::Inc { counter: 0, by: 5 },
+    Op::Observe {
+        hist: 0,
+        place: 1,
+        value: 11,
+    },
+];
+
+/// What is counted when the second one has.
+const SECOND: [Op; 2] = [
+    Op::Down { gauge: 0, by: 2 },
+    Op::Observe {
+        hist: 0,
+        place: 0,
+        value: 3,
+    },
+];
+
+/// A family of counters with a child, behind a scrape of nothing.
+fn grow_counter<G: Grows>(rt: &impl Abort, alloc: Global, grown: &mut G) -> Result<(), Fail> {
+    scrape(rt, grown, "")?;
+    let family = register(rt, alloc, grown, Kind::Counter, "a")?;
+    same(rt, &child(rt, grown, family)?, &first_counter());
+    Ok(())
+}
+
+/// A family of gauges with a child, behind a scrape of the counter.
+fn grow_gauge<G: Grows>(rt: &impl Abort, alloc: Global, grown: &mut G) -> Result<(), Fail> {
+    scrape(rt, grown, "# TYPE a counter\na{l=\"x\"} 5\n")?;
+    let family = register(rt, alloc, grown, Kind::Gauge, "b")?;
+    same(rt, &child(rt, grown, family)?, &first_gauge());
+    Ok(())
+}
+
+/// What the last scrape shows.
+const SHOWN: &str = "# TYPE a counter\na{l=\"x\"} 5\n# TYPE b gauge\nb{l=\"x\"} -2\n";
+
+/// The histogram in the first scrape that is kept.
+const ONE_VALUE: HistTotals = HistTotals {
+    buckets: [
+        0, 1, 0, 0, 0, 0, 0, 0, 0, 0, 0, 0, 0, 0, 0, 0, 0, 0, 0, 0, 0, 0, 0, 0, 0,
+    ],
+    sum: 11,
+    count: 1,
+};
+
+/// That in the last one.
+const TWO_VALUES: HistTotals = HistTotals {
+    buckets: [
+        1, 1, 0, 0, 0, 0, 0, 0, 0, 0, 0, 0, 0, 0, 0, 0, 0, 0, 0, 0, 0, 0, 0, 0, 0,
+    ],
+    sum: 14,
+    count: 2,
+};
+
+/// What is seen in the end, whatever was refused before: the last two of three scrapes, and four changes.
+const SEEN: Seen = Seen {
+    families: [Some(0), Some(1)],
+    children: [
+        Some(Handle::Counter(Counter {
+            registry: ID,
+            slot: 0,
+        })),
+        Some(Handle::Gauge(Gauge {
+            registry: ID,
+            slot: 0,
+        })),
+    ],
+    entries: 6,
+    kept: 2,
+    scrapes: [
+        Some(Moment {
+            lists: 1,
+            counter: 5,
+            hist: ONE_VALUE,
+            gauge: GaugeTotals { up: 0, down: 0 },
+        }),
+        Some(Moment {
+            lists: 2,
+            counter: 5,
+            hist: TWO_VALUES,
+            gauge: GaugeTotals { up: 0, down: 2 },
+        }),
+    ],
+};
+
+/// A registry of one thread grows.
+pub(super) fn grow_alone(rt: &impl Abort, alloc: Global) -> Result<(), Fail> {
+    let look = Look::new(alloc)?;
+    let registry = new_state(rt, alloc)?;
+    let mut grown = Alone { registry, look };
+    grow_counter(rt, alloc, &mut grown)?;
+    grown.registry.apply(&FIRST)?;
+    grow_gauge(rt, alloc, &mut grown)?;
+    grown.registry.apply(&SECOND)?;
+    scrape(rt, &mut grown, SHOWN)?;
+    same(rt, &grown.seen(), &SEEN);
+    Ok(())
+}
+
+/// A registry behind its lock, that keeps two scrapes.
+fn new_registry<'b>(
+    rt: &impl Abort,
+    alloc: Global,
+    board: &'b OneBoard,
+    reader: Reader<1, 1, 1, 1>,
+) -> Result<Registry<'b, 1, 1, 1, 1>, Fail>
+    requires { IsReaderOf board.now reader }
+{
+    match Registry::new(alloc, board, reader, 2) {
+        Ok(registry) => Ok(registry),
+        Err(none) => {
+            same(rt, &none.fault, &NewFault::NoMemory);
+            match Registry::new(alloc, board, none.reader, 2) {
+                Ok(registry) => Ok(registry),
+                Err(none) => Err(none.fault.into()),
+            }
+        }
+    }
+}
+
+/// It grows as one of one thread does, while a worker counts.
+fn grow_behind(
+    rt: &(impl Wait + Abort),
+    alloc: Global,
+    board: &OneBoard,
+    worker: &mut Worker<1, 1, 1, 1>,
+    grown: &mut Shared<'_, '_, impl Wait>,
+) -> Result<(), Fail>
+    requires { IsWorkerOf board.now worker.old }
+{
+    grow_counter(rt, alloc, grown)?;
+    worker.apply(board, &FIRST)?;
+    grow_gauge(rt, alloc, grown)?;
+    worker.apply(board, &SECOND)?;
+    scrape(rt, grown, SHOWN)
+}
+
+/// What stood behind the lock in the end is what one of one thread has.
+fn grow_over(
+    rt: &(impl Wait + Abort),
+    alloc: Global,
+    board: &OneBoard,
+    reader: Reader<1, 1, 1, 1>,
+    worker: &mut Worker<1, 1, 1, 1>,
+) -> Result<(), Fail>
+    requires reader { IsReaderOf board.now reader }
+    requires worker { IsWorkerOf board.now worker.old }
+{
+    let mut look = Look::new(alloc)?;
+    let registry = new_registry(rt, alloc, board, reader)?;
+    let mut grown = Shared {
+        rt,
+        registry: &registry,
+        look: &mut look,
+    };
+    grow_behind(rt, alloc, board, worker, &mut grown)?;
+    same(rt, &look.at(&mut registry.into_state()), &SEEN);
+    Ok(())
+}
+
+/// A registry behind its lock grows.
+pub(super) fn grow_shared(rt: &(impl Wait + Abort), alloc: Global) -> Result<(), Fail> {
+    let mut crew = Crew::<1, 1, 1, 1>::new(alloc, ID, 1)?;
+    let reader = last_reader(&crew.board, &mut crew.readers)?;
+    let mut worker = last_worker(&crew.board, &mut crew.workers)?;
+    grow_over(rt, alloc, &crew.board, reader, &mut worker)
+}

@@ -1,0 +1,158 @@
+//! A source that gives a scan up, as a registry and as a server of it meet that.
+ghost use Rattle.snapshot_scan.specs.Plain.{recorded_by};
+
+use super::ends::{ALL, USUAL, see_from, served};
+use super::failing::BUSY;
+use crate::asserts::same;
+use crate::helpers::{self, Over, desc, over, prints};
+use crate::seen::Look;
+use ledger_core::Op;
+use metric_desc::Kind;
+use registry_state::ScrapeFault;
+use scrape_http::Status;
+use snapshot_scan::{Contended, Snapshot, Source};
+use std::alloc::Global;
+use std::process::Abort;
+use std::test::Fail;
+
+/// A source of one thread, which counts a list before each scan. Behind so many scans it gives so many up.
+#[derive(Drop)]
+struct GivesUp {
+    plain: helpers::Source,
+    before: usize,
+    times: u64,
+    given_up: u64,
+}
+
+/// What it counts.
+const LIST: [Op; 3] = [
+    Op::Inc { counter: 0, by: 3 },
+    Op::Observe {
+        hist: 0,
+        place: 1,
+        value: 11,
+    },
+    Op::Down { gauge: 0, by: 2 },
+];
+
+/// What it says of a scan that it gives up.
+const RISEN: Contended = Contended {
+    worker: 0,
+    first: 1,
+    last: 2,
+};
+
+impl Source<1, 1, 1, 1> for GivesUp {
+    ghost recorded = { λ s. recorded_by s.plain };
+
+    ghost quit = { λ s. s.given_up };
+
+    ghost gave = { λ _ _ _. Unit {0} };
+
+    ghost gave_up = { λ _ _ _. Unit {0} };
+
+    fn scan(&mut self, out: &mut Snapshot<1, 1, 1, 1>) -> Result<(), Contended> {
+        if self.before == 0 && self.given_up < self.times {
+            self.given_up += 1;
+            return Err(RISEN);
+        }
+        self.before = self.before.saturating_sub(1);
+        let _ = self.plain.apply(&LIST);
+        self.plain.scan(out)
+    }
+}
+
+/// A registry over it that keeps two scrapes. Its families `a` and `b` have a child each.
+fn registry(
+    alloc: Global,
+    look: &mut Look,
+    before: usize,
+    times: u64,
+) -> Result<Over<GivesUp>, Fail> {
+    let source = GivesUp {
+        plain: helpers::Source::new(alloc)?,
+        before,
+        times,
+        given_up: 0,
+    };
+    let mut registry = over(alloc, source, 2)?;
+    let a = registry.register(desc(alloc, Kind::Counter, "a", &["l"])?)?;
+    registry.child(a, &look.values)?;
+    let b = registry.register(desc(alloc, Kind::Gauge, "b", &["l"])?)?;
+    registry.child(b, &look.values)?;
+    look.made = 2;
+    Ok(registry)
+}
+
+/// What the first scrape shows, and the next ones.
+const SHOWN: [&str; 4] = [
+    "# TYPE a counter\na{l=\"x\"} 3\n# TYPE b gauge\nb{l=\"x\"} -2\n",
+    "# TYPE a counter\na{l=\"x\"} 6\n# TYPE b gauge\nb{l=\"x\"} -4\n",
+    "# TYPE a counter\na{l=\"x\"} 9\n# TYPE b gauge\nb{l=\"x\"} -6\n",
+    "# TYPE a counter\na{l=\"x\"} 12\n# TYPE b gauge\nb{l=\"x\"} -8\n",
+];
+
+/// Scrapes show these.
+fn print_all(rt: &impl Abort, registry: &mut Over<GivesUp>, texts: &[&str]) -> Result<(), Fail> {
+    for text in texts {
+        prints(rt, registry, text)?;
+    }
+    Ok(())
+}
+
+/// The scrape of this number is given up: the registry is as it was, and the next scrapes show what they would have shown.
+fn gives_up_at(rt: &impl Abort, alloc: Global, at: usize) -> Result<(), Fail> {
+    let mut look = Look::new(alloc)?;
+    let mut registry = registry(alloc, &mut look, at, 1)?;
+    print_all(rt, &mut registry, SHOWN.get(..at).ok_or("no text")?)?;
+    let before = look.at(&mut registry);
+    let fault = ScrapeFault::Contended(RISEN);
+    same(rt, &registry.scrape().err(), &Some(fault));
+    same(rt, &fault.number(), &14);
+    same(rt, &look.at(&mut registry), &before);
+    print_all(rt, &mut registry, SHOWN.get(at..).ok_or("no text")?)?;
+    same(rt, &look.at(&mut registry).entries, &6);
+    same(rt, &registry.into_source().given_up, &1);
+    Ok(())
+}
+
+/// The first scrape is given up, or a later one: when there is room for it among those that are kept, and when there is none.
+#[test]
+fn a_scrape_is_given_up(rt: HostRuntime) -> Result<(), Fail> {
+    for at in 0..4 {
+        gives_up_at(&rt, rt.alloc(), at)?;
+    }
+    Ok(())
+}
+
+/// The reply to the first scrape.
+const OK: &[u8] =
+    b"HTTP/1.1 200 OK\r\nContent-Type: text/plain; version=0.0.4; charset=utf-8\r\nContent-Length: 55\r\nConnection: close\r\n\r\n# TYPE a counter\na{l=\"x\"} 3\n# TYPE b gauge\nb{l=\"x\"} -2\n";
+
+/// A request gets this reply, and then so many scrapes are kept.
+fn replies(
+    rt: &impl Abort,
+    alloc: Global,
+    registry: &mut Over<GivesUp>,
+    request: &[u8],
+    reply: (Status, &[u8]),
+    kept: usize,
+) -> Result<(), Fail> {
+    let seen = see_from(registry, alloc, request, ALL, ALL)?;
+    served(rt, &seen, reply.0, reply.1);
+    same(rt, &seen.kept, &kept);
+    Ok(())
+}
+
+/// Where the scan is given up, 503 is replied, to a HEAD by its head alone, and 200 to the next request.
+#[test]
+fn a_server_replies_503(rt: HostRuntime) -> Result<(), Fail> {
+    let alloc = rt.alloc();
+    let mut registry = registry(alloc, &mut Look::new(alloc)?, 0, 2)?;
+    let head = b"HEAD /metrics HTTP/1.0\r\n\r\n".as_slice();
+    let busy = Status::Unavailable;
+    same(&rt, &BUSY.len(), &136);
+    replies(&rt, alloc, &mut registry, USUAL, (busy, BUSY), 0)?;
+    replies(&rt, alloc, &mut registry, head, (busy, &BUSY[..116]), 0)?;
+    replies(&rt, alloc, &mut registry, USUAL, (Status::Success, OK), 1)
+}
