@@ -220,34 +220,39 @@ def allocations(output, status, n):
 
 
 def check_fronts(program, name, lines, found):
-    """The runs of each front of a script, in which no allocation was refused. Returns, of each, what it prints and how many it makes."""
+    """The runs of each front of a script, in which no allocation was refused. Returns, of each, what it prints, its status, and how many
+    allocations it makes."""
     fronts = []
     for count in range(len(lines) + 1):
-        ample, _, _ = run(program, "script", given="".join(lines[:count]).encode())
+        ample, _, status = run(program, "script", given="".join(lines[:count]).encode())
         output, made = allocations(*found[f"front-{count}"], LAST)
         check(made is not None, f"{name}: {count} lines make more than {LAST - 1} allocations: raise SCRIPT_STEPS")
         check(output == ample.decode(), f"{name}: {count} lines print {output}")
-        check(not fronts or made >= fronts[-1][1], f"{name}: {count} lines make {made} allocations, and fewer lines more")
-        fronts.append((output, made))
+        check(not fronts or made >= fronts[-1][2], f"{name}: {count} lines make {made} allocations, and fewer lines more")
+        fronts.append((output, status, made))
     return fronts
 
 
 def check_script(name, fronts, found):
     """The runs of a script whose first allocation, second and so on was refused. Returns how many met a refusal, or none where each did.
 
-    The nth allocation is made during the first line whose front makes so many, or before the first line, and is told at this line, as 6,
-    after all that the lines before it print."""
-    whole, most = fronts[-1]
+    The nth allocation is made during the first line whose front makes so many, or before the first line. It is told at this line, as 6,
+    after all that the lines before it print; or nothing has changed, as where room that was asked for ahead is asked for again. Of each
+    line that makes allocations one is told."""
+    (whole, status, most), told = fronts[-1], set()
     for n in range(1, most + 1):
         if n not in found:
             return None
-        line = next(count for count, (_, made) in enumerate(fronts) if made >= n)
-        wanted = (f"{fronts[max(line - 1, 0)][0]}refused {line} 6\n", 1)
-        check(found[n] == wanted, f"{name}: allocation {n} refused, during line {line}: got {found[n]}, expected {wanted}")
+        line = next(count for count, (_, _, made) in enumerate(fronts) if made >= n)
+        if found[n] != (whole, status):
+            wanted = (f"{fronts[max(line - 1, 0)][0]}refused {line} 6\n", 1)
+            check(found[n] == wanted, f"{name}: allocation {n} refused, during line {line}: got {found[n]}, expected {wanted}")
+            told.add(line)
     beyond = [n for n in found if n > most]
     for n in beyond:
         check(allocations(*found[n], n) == (whole, most), f"{name}: {most} allocations are made, and run {n} met a refusal: {found[n]}")
-    check(most > fronts[0][1] and most > len(fronts), f"{name}: {most} allocations are made, {fronts[0][1]} of them before the first line")
+    taking = {line for line, (_, _, made) in enumerate(fronts) if made > (fronts[line - 1][2] if line else 0)}
+    check(len(taking) > 1 and told == taking, f"{name}: the lines {sorted(taking)} make allocations, and refusals are told at {sorted(told)}")
     return most if beyond else None
 
 
