@@ -1,5 +1,4 @@
 //! A registry of one thread, and one behind its lock: their calls that take memory. Each that is refused leaves all as it was.
-ghost use Rattle.std.specs.Prelude.{All};
 ghost use Rattle.snapshot_scan.specs.Readers.{IsReaderOf};
 ghost use Rattle.snapshot_update.specs.Workers.{IsWorkerOf};
 

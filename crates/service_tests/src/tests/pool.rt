@@ -1,18 +1,17 @@
 //! A pool counts, while scrapes are made of a registry.
-ghost use Rattle.std.specs.Prelude.{◌≡◌, length, All, IfOk};
+ghost use Rattle.std.specs.Prelude.{◌≡◌, length, All};
 ghost use Rattle.snapshot_scan.specs.Readers.{IsReaderOf};
 ghost use Rattle.snapshot_update.specs.Workers.{IsWorkerOf};
 
 use crate::asserts::same;
-use crate::crew::{last_reader, registry_of};
+use crate::crew::registry_of;
 use crate::helpers::desc;
-use chain_law::{NotAll, settle};
 use expo_text::{Number, Scrape};
 use ledger_core::Counter;
 use metric_desc::Kind;
 use register_rule::Board;
 use registry_state::{Handle, ScrapeFault};
-use snapshot_scan::{Reader, Snapshot};
+use snapshot_scan::Reader;
 use snapshot_update::{Crew, Worker};
 use std::alloc::{AllocError, Global};
 use std::process::Abort;
@@ -32,9 +31,6 @@ type Registry<'a> = metric_registry::Registry<'a, 4, 1, 0, 0>;
 
 /// How often each worker counts 1.
 const TIMES: u64 = 10_000;
-
-/// The numbers of all workers in the end.
-const ALL: [u64; 4] = [TIMES, TIMES, TIMES, TIMES];
 
 /// A family `a` of counters, and its one child.
 fn one_counter(rt: &impl Wait, alloc: Global, registry: &Registry<'_>) -> Result<Counter, Fail> {
@@ -129,54 +125,17 @@ fn count_and_scrape(
     jobs: &[Vec<Job>],
 ) -> Ended
     requires { (length jobs.now ≡ length workers.items) × All (IsWorkerOf board.now) workers.items }
-    ensures { IfOk result.0 (λ v. All (IsWorkerOf board.now) v.items) }
 {
     join(
         rt,
         || -> Result<Workers, PoolFault>
             requires { (length jobs.now ≡ length workers.items) × All (IsWorkerOf board.now) workers.items }
-            ensures { IfOk result (λ v. All (IsWorkerOf board.entry.now) v.items) }
         { run_pool(rt, alloc, board, workers, jobs, &Open) },
         || -> Result<(u64, bool), ScrapeFault> { scrape_often(rt, registry) },
     )
 }
 
-/// All workers settle: all is counted. Without the third one they do not.
-fn all_settle(
-    rt: &impl Abort,
-    board: &Four,
-    settler: &mut Reader<4, 1, 0, 0>,
-    workers: &mut [Worker<4, 1, 0, 0>],
-    out: &mut Snapshot<4, 1, 0, 0>,
-)
-    requires { IsReaderOf board.now settler.old × All (IsWorkerOf board.now) workers.old }
-{
-    assert_eq!(rt; workers.len(), 4);
-    same(rt, &settle(board, settler, workers, out), &Ok(()));
-    same(rt, &out.vector(), &ALL.as_slice());
-    same(rt, &out.counter(0), &(4 * TIMES));
-    let without = settle(board, settler, &mut workers[..2], out);
-    same(rt, &without, &Err(NotAll { missing: 2 }));
-    same(rt, &out.vector(), &ALL.as_slice());
-}
-
-/// The same, by the last reader.
-fn settle_by_last(
-    rt: &impl Abort,
-    alloc: Global,
-    board: &Four,
-    readers: &mut Vec<Reader<4, 1, 0, 0>>,
-    workers: &mut [Worker<4, 1, 0, 0>],
-) -> Result<(), Fail>
-    requires { All (IsReaderOf board.now) readers.old.items × All (IsWorkerOf board.now) workers.old }
-{
-    let mut settler = last_reader(board, readers)?;
-    let mut out = Snapshot::new(alloc)?;
-    all_settle(rt, board, &mut settler, workers, &mut out);
-    Ok(())
-}
-
-/// All workers, when the pool has run all jobs. Meanwhile some scrape was made.
+/// The pool has run all jobs. Meanwhile some scrape was made.
 fn counted(
     rt: &(impl Threads + Wait + Abort + Sync),
     alloc: Global,
@@ -184,18 +143,18 @@ fn counted(
     registry: &Registry<'_>,
     workers: Workers,
     jobs: &[Vec<Job>],
-) -> Result<Workers, Fail>
+) -> Result<(), Fail>
     requires { All (IsWorkerOf board.now) workers.items }
-    ensures { IfOk result (λ v. All (IsWorkerOf board.now) v.items) }
 {
     assert_eq!(rt; jobs.len(), workers.len());
     let (counted, scraped) = count_and_scrape(rt, alloc, board, registry, workers, jobs);
     assert!(rt; scraped?.0 > 0, "no scrape was made");
-    Ok(counted?)
+    let _workers = counted?;
+    Ok(())
 }
 
 /// Scrapes while the pool counts, and when all was counted.
-fn count_then_settle(
+fn count_and_end(
     rt: &(impl Threads + Wait + Abort + Sync),
     alloc: Global,
     board: &Four,
@@ -206,8 +165,7 @@ fn count_then_settle(
 {
     let registry = registry_of(alloc, board, readers, 64)?;
     let jobs = lists(alloc, one_counter(rt, alloc, &registry)?)?;
-    let mut workers = counted(rt, alloc, board, &registry, workers, &jobs)?;
-    settle_by_last(rt, alloc, board, readers, &mut workers)?;
+    counted(rt, alloc, board, &registry, workers, &jobs)?;
     same(rt, &scrape_often(rt, &registry)?, &(1, true));
     Ok(())
 }
@@ -218,6 +176,6 @@ fn scrapes_while_a_pool_counts(rt: HostRuntime) -> Result<(), Fail> {
         board,
         workers,
         mut readers,
-    } = Crew::new(rt.alloc(), 1, 2)?;
-    count_then_settle(&rt, rt.alloc(), &board, workers, &mut readers)
+    } = Crew::new(rt.alloc(), 1, 1)?;
+    count_and_end(&rt, rt.alloc(), &board, workers, &mut readers)
 }

@@ -1,18 +1,13 @@
 //! A registry behind its lock by its calls, over a board of two workers.
-ghost use Rattle.std.specs.Prelude.{◌≡◌, All, IfOk};
-ghost use Rattle.snapshot_scan.specs.Readers.{IsReaderOf};
 ghost use Rattle.snapshot_update.specs.Workers.{IsWorkerOf};
 
 use crate::asserts::same;
-use crate::crew::{
-    ID, Two, TwoBoard, TwoCrew, TwoReader, TwoWorker, ends_with, last_reader, last_worker,
-    registry_of,
-};
+use crate::crew::{ID, Two, TwoBoard, TwoCrew, TwoWorker, ends_with, last_worker, registry_of};
 use crate::helpers::{desc, values};
 use expo_text::render;
 use ledger_core::{Counter, Gauge, Histogram};
 use metric_desc::Kind;
-use registry_state::{BadWindow, ChildFault, FamilyId, Handle, NewFault, RegisterFault};
+use registry_state::{BadWindow, ChildFault, FamilyId, Handle, RegisterFault};
 use snapshot_update::CountFault;
 use std::alloc::Global;
 use std::process::Abort;
@@ -189,54 +184,4 @@ fn the_window(rt: HostRuntime) -> Result<(), Fail> {
     windows(&rt, &registry)?;
     ends_with(&rt, registry, 4, 4);
     Ok(())
-}
-
-/// A registry of this window is refused, and gives the reader back.
-fn refused_window(
-    rt: &impl Abort,
-    alloc: Global,
-    board: &TwoBoard,
-    reader: TwoReader,
-    window: usize,
-) -> Result<TwoReader, Fail>
-    requires own { IsReaderOf board.now reader }
-    ensures own { IfOk result (IsReaderOf board.now) }
-{
-    match Two::new(alloc, board, reader, window) {
-        Ok(_registry) => Err("a window of any size".into()),
-        Err(none) => {
-            same(rt, &none.fault, &NewFault::BadWindow);
-            Ok(none.reader)
-        }
-    }
-}
-
-/// Of two scrapes a registry with a window of 1 keeps one.
-fn keeps_one(
-    rt: &(impl Wait + Abort),
-    alloc: Global,
-    board: &TwoBoard,
-    reader: TwoReader,
-) -> Result<(), Fail>
-    requires own { IsReaderOf board.now reader }
-{
-    match Two::new(alloc, board, reader, 1) {
-        Ok(registry) => {
-            prints(rt, &registry, "")?;
-            prints(rt, &registry, "")?;
-            ends_with(rt, registry, 1, 1);
-            Ok(())
-        }
-        Err(none) => Err(none.fault.into()),
-    }
-}
-
-/// A window that is refused gives the reader back, by which a registry is made then.
-#[test]
-fn a_window_that_is_none(rt: HostRuntime) -> Result<(), Fail> {
-    let mut crew = TwoCrew::new(rt.alloc(), ID, 1)?;
-    let reader = last_reader(&crew.board, &mut crew.readers)?;
-    let reader = refused_window(&rt, rt.alloc(), &crew.board, reader, 0)?;
-    let reader = refused_window(&rt, rt.alloc(), &crew.board, reader, 1_025)?;
-    keeps_one(&rt, rt.alloc(), &crew.board, reader)
 }

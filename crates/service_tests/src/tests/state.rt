@@ -1,13 +1,11 @@
 //! A registry by its calls, over a source of one thread.
 use crate::asserts::same;
 use crate::crew::ID;
-use crate::helpers::{
-    Plain, Source, desc, first_counter, first_gauge, holds, made, plain, prints, values,
-};
+use crate::helpers::{Plain, desc, first_counter, first_gauge, holds, made, plain, prints, values};
 use bucket_math::Bounds;
 use ledger_core::{Histogram, Op};
 use metric_desc::{Desc, Kind};
-use registry_state::{BadWindow, ChildFault, FamilyId, Handle, NewFault, RegisterFault};
+use registry_state::{ChildFault, FamilyId, Handle, RegisterFault};
 use scrape_http::WireFault;
 use snapshot_scan::Snapshot;
 use std::alloc::Global;
@@ -108,38 +106,6 @@ fn shared_names(rt: HostRuntime) -> Result<(), Fail> {
     refuses_shared_names(&rt, rt.alloc(), &mut registry)
 }
 
-/// Registers the family of this number.
-fn register_next(
-    rt: &impl Abort,
-    alloc: Global,
-    registry: &mut Plain,
-    number: usize,
-) -> Result<(), Fail> {
-    let name = format!(in alloc; "f{number}")?;
-    let family = registry.register(desc(alloc, Kind::Counter, name.as_str(), &[])?)?;
-    same(rt, &family.number(), &number);
-    Ok(())
-}
-
-/// Registers 128 families, and no other.
-fn is_full(rt: &impl Abort, alloc: Global, registry: &mut Plain) -> Result<(), Fail> {
-    for number in 0..128usize {
-        register_next(rt, alloc, registry, number)?;
-    }
-    clashes(rt, registry, desc(alloc, Kind::Gauge, "f127", &[])?, 127);
-    let more = registry.register(desc(alloc, Kind::Counter, "more", &[])?);
-    same(rt, &more, &Err(RegisterFault::TooManyFamilies));
-    same(rt, &RegisterFault::TooManyFamilies.number(), &23);
-    same(rt, &registry.journal().len(), &128);
-    Ok(())
-}
-
-#[test]
-fn the_129th_family(rt: HostRuntime) -> Result<(), Fail> {
-    let mut registry = plain(rt.alloc(), 1)?;
-    is_full(&rt, rt.alloc(), &mut registry)
-}
-
 /// There is no child of these values, for this reason, and nothing has changed.
 fn refused(
     rt: &impl Abort,
@@ -229,74 +195,6 @@ fn the_65th_scrape(rt: HostRuntime) -> Result<(), Fail> {
     holds(&rt, &registry, 64, 66);
     same(&rt, &kept_counter(&registry, 0, &mut out), &Some(1));
     same(&rt, &kept_counter(&registry, 63, &mut out), &Some(64));
-    Ok(())
-}
-
-/// Makes 70 scrapes, then other windows, and a scrape in each that is one.
-fn moves_windows(rt: &impl Abort, registry: &mut Plain) -> Result<(), Fail> {
-    for _ in 0..70 {
-        let _scrape = registry.scrape()?;
-    }
-    same(rt, &registry.set_window(3), &Ok(3));
-    prints(rt, registry, "# TYPE a counter\na 0\n")?;
-    holds(rt, registry, 3, 5);
-    same(rt, &registry.set_window(1_024), &Ok(3));
-    same(rt, &registry.set_window(0), &Err(BadWindow));
-    same(rt, &registry.set_window(1_025), &Err(BadWindow));
-    same(rt, &BadWindow.number(), &31);
-    prints(rt, registry, "# TYPE a counter\na 0\n")?;
-    holds(rt, registry, 4, 6);
-    Ok(())
-}
-
-/// A smaller window drops the oldest scrapes, and holds for the scrapes that follow, until it is larger again.
-#[test]
-fn windows(rt: HostRuntime) -> Result<(), Fail> {
-    let mut registry = plain(rt.alloc(), 64)?;
-    made(&mut registry, rt.alloc(), Kind::Counter, "a")?;
-    moves_windows(&rt, &mut registry)
-}
-
-/// A registry of this window is refused, and gives the source back.
-fn refused_window(
-    rt: &impl Abort,
-    alloc: Global,
-    source: Source,
-    window: usize,
-) -> Result<Source, Fail> {
-    match Plain::new(alloc, source, ID, window) {
-        Ok(_registry) => Err("a window of any size".into()),
-        Err(none) => {
-            same(rt, &none.fault, &NewFault::BadWindow);
-            Ok(none.source)
-        }
-    }
-}
-
-/// A registry with the greatest window counts 1, and gives the source back at its end.
-fn counted_by_registry(alloc: Global, source: Source) -> Result<Source, Fail> {
-    match Plain::new(alloc, source, ID, 1_024) {
-        Ok(mut registry) => {
-            registry.apply(&[INC])?;
-            Ok(registry.into_source())
-        }
-        Err(none) => Err(none.fault.into()),
-    }
-}
-
-/// A window that is refused gives the source back as it was, and so does a registry at its end.
-#[test]
-fn sources_come_back(rt: HostRuntime) -> Result<(), Fail> {
-    let mut out = Snapshot::new(rt.alloc())?;
-    let mut source = Source::new(rt.alloc())?;
-    source.apply(&[INC, INC])?;
-    let source = refused_window(&rt, rt.alloc(), source, 0)?;
-    let source = refused_window(&rt, rt.alloc(), source, 1_025)?;
-    same(&rt, &NewFault::BadWindow.number(), &31);
-    let mut source = counted_by_registry(rt.alloc(), source)?;
-    source.take(&mut out);
-    same(&rt, &out.counter(0), &3);
-    same(&rt, &out.vector(), &[2].as_slice());
     Ok(())
 }
 

@@ -3,7 +3,7 @@ use super::{Names, Team};
 use crate::asserts::same;
 use crate::crew::ID;
 use crate::tests::clients::{Step, connect, play};
-use crate::tests::ends::{BAD, MISSING, OK_A};
+use crate::tests::ends::{MISSING, OK_A};
 use dirgwako::{Answered, Registrar, listen, port_of, serve, serve_forever};
 use std::alloc::Global;
 use std::io::{self, Error, ErrorKind, Write};
