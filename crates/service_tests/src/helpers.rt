@@ -20,21 +20,12 @@ pub(crate) type Over<S> = RegistryState<S, 1, 1, 1, 1>;
 /// A registry of one thread.
 pub(crate) type Plain = Over<Source>;
 
-/// A registry over this source that keeps so many scrapes.
-pub(crate) fn over<S: snapshot_scan::Source<1, 1, 1, 1> + Drop>(
-    alloc: Global,
-    source: S,
-    window: usize,
-) -> Result<Over<S>, Fail> {
-    match RegistryState::new(alloc, source, ID, window) {
+/// A registry that keeps so many scrapes.
+pub(crate) fn plain(alloc: Global, window: usize) -> Result<Plain, Fail> {
+    match Plain::new(alloc, Source::new(alloc)?, ID, window) {
         Ok(registry) => Ok(registry),
         Err(none) => Err(none.fault.into()),
     }
-}
-
-/// A registry of one thread that keeps so many scrapes.
-pub(crate) fn plain(alloc: Global, window: usize) -> Result<Plain, Fail> {
-    over(alloc, Source::new(alloc)?, window)
 }
 
 /// The handle of the first counter.
@@ -85,11 +76,7 @@ pub(crate) fn made(
 }
 
 /// Makes a scrape, whose text is this.
-pub(crate) fn prints<S: snapshot_scan::Source<1, 1, 1, 1>>(
-    rt: &impl Abort,
-    registry: &mut Over<S>,
-    expected: &str,
-) -> Result<(), Fail> {
+pub(crate) fn prints(rt: &impl Abort, registry: &mut Plain, expected: &str) -> Result<(), Fail> {
     let text = render(&registry.scrape()?)?;
     same(rt, &text.as_slice(), &expected.as_bytes());
     Ok(())

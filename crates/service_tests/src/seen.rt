@@ -1,11 +1,51 @@
-//! All that is seen of a registry that nobody shares.
-use crate::helpers::{Over, values};
+//! All that is seen of a registry.
+use crate::helpers::{Over, Plain, values};
 use ledger_core::{GaugeTotals, HistTotals};
 use metric_names::LabelValue;
-use registry_state::Handle;
-use snapshot_scan::{Snapshot, Source};
+use registry_state::{FamilyId, Handle, Journal};
+use snapshot_scan::{Scanner, Snapshot};
 use std::alloc::Global;
 use std::test::Fail;
+
+/// A registry, as it is looked at. That takes no memory.
+pub(crate) trait Looked {
+    /// The family of this name.
+    fn family_named(&mut self, name: &str) -> Option<FamilyId>;
+
+    /// The child of these values, which was made.
+    fn child_found(&mut self, family: FamilyId, values: &[LabelValue]) -> Option<Handle>;
+
+    /// Its journal, unless that is behind a lock.
+    fn entries(&self) -> Option<&Journal<1, 1, 1, 1>>;
+}
+
+impl Looked for Plain {
+    fn family_named(&mut self, name: &str) -> Option<FamilyId> {
+        self.family(name)
+    }
+
+    fn child_found(&mut self, family: FamilyId, values: &[LabelValue]) -> Option<Handle> {
+        self.child(family, values).ok()
+    }
+
+    fn entries(&self) -> Option<&Journal<1, 1, 1, 1>> {
+        Some(self.journal())
+    }
+}
+
+impl Looked for Over<Scanner<'_, 1, 1, 1, 1>> {
+    fn family_named(&mut self, name: &str) -> Option<FamilyId> {
+        self.family(name)
+    }
+
+    fn child_found(&mut self, family: FamilyId, values: &[LabelValue]) -> Option<Handle> {
+        self.child(family, values).ok()
+    }
+
+    fn entries(&self) -> Option<&Journal<1, 1, 1, 1>> {
+        Some(self.journal())
+    }
+}
 
 /// A scrape that is kept, whole.
 #[derive(Clone, Copy, Debug, PartialEq, Eq)]
@@ -28,7 +68,7 @@ pub(crate) struct Seen {
 }
 
 /// What it takes to look at a registry: the label values of its children, how many of them were made, that of `a` first, and room for a
-/// scrape. To look takes no memory.
+/// scrape.
 #[derive(Drop)]
 pub(crate) struct Look {
     pub(crate) values: Vec<LabelValue>,
@@ -47,12 +87,8 @@ impl Look {
     }
 
     /// The kept scrape of this number.
-    fn moment<S: Source<1, 1, 1, 1>>(
-        &mut self,
-        registry: &Over<S>,
-        number: usize,
-    ) -> Option<Moment> {
-        let kept = registry.kept();
+    fn moment(&mut self, journal: &Journal<1, 1, 1, 1>, number: usize) -> Option<Moment> {
+        let kept = journal.kept();
         if number >= kept.len() {
             return None;
         }
@@ -66,34 +102,38 @@ impl Look {
     }
 
     /// The number of the family of this name, and its child, where that is one of those that were made.
-    fn family<S: Source<1, 1, 1, 1>>(
+    fn family<L: Looked>(
         &self,
-        registry: &mut Over<S>,
+        registry: &mut L,
         name: &str,
         child: usize,
     ) -> (Option<usize>, Option<Handle>) {
-        let Some(family) = registry.family(name) else {
+        let Some(family) = registry.family_named(name) else {
             return (None, None);
         };
         if child >= self.made {
             return (Some(family.number()), None);
         }
-        (
-            Some(family.number()),
-            registry.child(family, &self.values).ok(),
-        )
+        let found = registry.child_found(family, &self.values);
+        (Some(family.number()), found)
     }
 
     /// What is seen of a registry.
-    pub(crate) fn at<S: Source<1, 1, 1, 1>>(&mut self, registry: &mut Over<S>) -> Seen {
+    pub(crate) fn at<L: Looked>(&mut self, registry: &mut L) -> Seen {
         let (a, child_of_a) = self.family(registry, "a", 0);
         let (b, child_of_b) = self.family(registry, "b", 1);
-        Seen {
+        let mut seen = Seen {
             families: [a, b],
             children: [child_of_a, child_of_b],
-            entries: registry.journal().len(),
-            kept: registry.kept().len(),
-            scrapes: [self.moment(registry, 0), self.moment(registry, 1)],
+            entries: 0,
+            kept: 0,
+            scrapes: [None, None],
+        };
+        if let Some(journal) = registry.entries() {
+            seen.entries = journal.len();
+            seen.kept = journal.kept().len();
+            seen.scrapes = [self.moment(journal, 0), self.moment(journal, 1)];
         }
+        seen
     }
 }

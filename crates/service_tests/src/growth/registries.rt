@@ -5,14 +5,14 @@ ghost use Rattle.snapshot_update.specs.Workers.{IsWorkerOf};
 use crate::asserts::same;
 use crate::crew::{ID, last_reader, last_worker};
 use crate::helpers::{Plain, Source, desc, first_counter, first_gauge};
-use crate::seen::{Look, Moment, Seen};
+use crate::seen::{Look, Looked, Moment, Seen};
 use expo_text::{Scrape, render};
 use ledger_core::{Counter, Gauge, GaugeTotals, HistTotals, Op};
 use metric_desc::{Desc, Kind};
-use metric_names::NoMemory;
+use metric_names::{LabelValue, NoMemory};
 use metric_registry::Registry;
 use register_rule::Board;
-use registry_state::{ChildFault, FamilyId, Handle, NewFault, RegisterFault, ScrapeFault};
+use registry_state::{ChildFault, FamilyId, Handle, Journal, NewFault, RegisterFault, ScrapeFault};
 use snapshot_scan::Reader;
 use snapshot_update::{Crew, Worker};
 use std::alloc::Global;
@@ -35,69 +35,52 @@ pub(super) fn new_state(rt: &impl Abort, alloc: Global) -> Result<Plain, Fail> {
 }
 
 /// A registry, shared or not.
-trait Grows {
+trait Grows: Looked {
     /// Registers a family.
     fn register(&mut self, desc: Desc) -> Result<FamilyId, RegisterFault>;
 
     /// Makes the child of a family.
-    fn child(&mut self, family: FamilyId) -> Result<Handle, ChildFault>;
+    fn child(&mut self, family: FamilyId, values: &[LabelValue]) -> Result<Handle, ChildFault>;
 
     /// Makes a scrape.
     fn scrape(&mut self) -> Result<Scrape, ScrapeFault>;
-
-    /// What is seen of it.
-    fn seen(&mut self) -> Seen;
 }
 
-/// One of one thread.
-#[derive(Drop)]
-struct Alone {
-    registry: Plain,
-    look: Look,
-}
-
-impl Grows for Alone {
+impl Grows for Plain {
     fn register(&mut self, desc: Desc) -> Result<FamilyId, RegisterFault> {
-        self.registry.register(desc)
+        Plain::register(self, desc)
     }
 
-    fn child(&mut self, family: FamilyId) -> Result<Handle, ChildFault> {
-        let made = self.registry.child(family, &self.look.values)?;
-        self.look.made = family.number().saturating_add(1);
-        Ok(made)
+    fn child(&mut self, family: FamilyId, values: &[LabelValue]) -> Result<Handle, ChildFault> {
+        Plain::child(self, family, values)
     }
 
     fn scrape(&mut self) -> Result<Scrape, ScrapeFault> {
-        self.registry.scrape()
-    }
-
-    fn seen(&mut self) -> Seen {
-        self.look.at(&mut self.registry)
+        Plain::scrape(self)
     }
 }
 
 /// A board whose row is a counter, a histogram and a gauge.
 type OneBoard = Board<1, 1, 1, 1>;
 
-/// One behind its lock, of which only families and children are seen.
+/// A registry of it behind its lock, of which only families and children are seen.
 #[derive(Drop)]
 struct Shared<'r, 'b, T: Wait> {
     rt: &'r T,
     registry: &'r Registry<'b, 1, 1, 1, 1>,
-    look: &'r mut Look,
 }
 
-impl<T: Wait> Shared<'_, '_, T> {
-    /// The number of the family of this name, and its child, where that is one of those that were made.
-    fn family(&self, name: &str, child: usize) -> (Option<usize>, Option<Handle>) {
-        let Some(family) = self.registry.family(self.rt, name) else {
-            return (None, None);
-        };
-        if child >= self.look.made {
-            return (Some(family.number()), None);
-        }
-        let child = self.registry.child(self.rt, family, &self.look.values);
-        (Some(family.number()), child.ok())
+impl<T: Wait> Looked for Shared<'_, '_, T> {
+    fn family_named(&mut self, name: &str) -> Option<FamilyId> {
+        self.registry.family(self.rt, name)
+    }
+
+    fn child_found(&mut self, family: FamilyId, values: &[LabelValue]) -> Option<Handle> {
+        self.registry.child(self.rt, family, values).ok()
+    }
+
+    fn entries(&self) -> Option<&Journal<1, 1, 1, 1>> {
+        None
     }
 }
 
@@ -106,26 +89,12 @@ impl<T: Wait> Grows for Shared<'_, '_, T> {
         self.registry.register(self.rt, desc)
     }
 
-    fn child(&mut self, family: FamilyId) -> Result<Handle, ChildFault> {
-        let made = self.registry.child(self.rt, family, &self.look.values)?;
-        self.look.made = family.number().saturating_add(1);
-        Ok(made)
+    fn child(&mut self, family: FamilyId, values: &[LabelValue]) -> Result<Handle, ChildFault> {
+        self.registry.child(self.rt, family, values)
     }
 
     fn scrape(&mut self) -> Result<Scrape, ScrapeFault> {
         self.registry.scrape(self.rt)
-    }
-
-    fn seen(&mut self) -> Seen {
-        let (a, child_of_a) = self.family("a", 0);
-        let (b, child_of_b) = self.family("b", 1);
-        Seen {
-            families: [a, b],
-            children: [child_of_a, child_of_b],
-            entries: 0,
-            kept: 0,
-            scrapes: [None, None],
-        }
     }
 }
 
@@ -134,41 +103,48 @@ fn register<G: Grows>(
     rt: &impl Abort,
     alloc: Global,
     grown: &mut G,
+    look: &mut Look,
     kind: Kind,
     name: &str,
 ) -> Result<FamilyId, Fail> {
-    let before = grown.seen();
+    let before = look.at(grown);
     let answer = grown.register(desc(alloc, kind, name, &["l"])?);
     if answer != Err(RegisterFault::NoMemory) {
         return Ok(answer?);
     }
-    same(rt, &grown.seen(), &before);
+    same(rt, &look.at(grown), &before);
     Ok(grown.register(desc(alloc, kind, name, &["l"])?)?)
 }
 
 /// Makes its child.
-fn child<G: Grows>(rt: &impl Abort, grown: &mut G, family: FamilyId) -> Result<Handle, Fail> {
-    let before = grown.seen();
-    let answer = grown.child(family);
+fn child<G: Grows>(
+    rt: &impl Abort,
+    grown: &mut G,
+    look: &mut Look,
+    family: FamilyId,
+) -> Result<Handle, Fail> {
+    let before = look.at(grown);
+    let answer = grown.child(family, &look.values);
     if answer != Err(ChildFault::NoMemory) {
         return Ok(answer?);
     }
-    same(rt, &grown.seen(), &before);
-    Ok(grown.child(family)?)
+    same(rt, &look.at(grown), &before);
+    Ok(grown.child(family, &look.values)?)
 }
 
 /// The text of a scrape is this.
 fn prints<G: Grows>(
     rt: &impl Abort,
     grown: &mut G,
+    look: &mut Look,
     scrape: &Scrape,
     expected: &str,
 ) -> Result<(), Fail> {
-    let before = grown.seen();
+    let before = look.at(grown);
     let text = match render(scrape) {
         Ok(text) => text,
         Err(NoMemory) => {
-            same(rt, &grown.seen(), &before);
+            same(rt, &look.at(grown), &before);
             render(scrape)?
         }
     };
@@ -177,14 +153,19 @@ fn prints<G: Grows>(
 }
 
 /// Makes a scrape, and its text, which is this.
-fn scrape<G: Grows>(rt: &impl Abort, grown: &mut G, expected: &str) -> Result<(), Fail> {
-    let before = grown.seen();
+fn scrape<G: Grows>(
+    rt: &impl Abort,
+    grown: &mut G,
+    look: &mut Look,
+    expected: &str,
+) -> Result<(), Fail> {
+    let before = look.at(grown);
     match grown.scrape() {
-        Ok(scrape) => prints(rt, grown, &scrape, expected),
+        Ok(scrape) => prints(rt, grown, look, &scrape, expected),
         Err(ScrapeFault::NoMemory) => {
-            same(rt, &grown.seen(), &before);
+            same(rt, &look.at(grown), &before);
             let scrape = grown.scrape()?;
-            prints(rt, grown, &scrape, expected)
+            prints(rt, grown, look, &scrape, expected)
         }
         Err(fault) => Err(fault.into()),
     }
@@ -211,18 +192,30 @@ const SECOND: [Op; 2] = [
 ];
 
 /// A family of counters with a child, behind a scrape of nothing.
-fn grow_counter<G: Grows>(rt: &impl Abort, alloc: Global, grown: &mut G) -> Result<(), Fail> {
-    scrape(rt, grown, "")?;
-    let family = register(rt, alloc, grown, Kind::Counter, "a")?;
-    same(rt, &child(rt, grown, family)?, &first_counter());
+fn grow_counter<G: Grows>(
+    rt: &impl Abort,
+    alloc: Global,
+    grown: &mut G,
+    look: &mut Look,
+) -> Result<(), Fail> {
+    scrape(rt, grown, look, "")?;
+    let family = register(rt, alloc, grown, look, Kind::Counter, "a")?;
+    same(rt, &child(rt, grown, look, family)?, &first_counter());
+    look.made = 1;
     Ok(())
 }
 
 /// A family of gauges with a child, behind a scrape of the counter.
-fn grow_gauge<G: Grows>(rt: &impl Abort, alloc: Global, grown: &mut G) -> Result<(), Fail> {
-    scrape(rt, grown, "# TYPE a counter\na{l=\"x\"} 5\n")?;
-    let family = register(rt, alloc, grown, Kind::Gauge, "b")?;
-    same(rt, &child(rt, grown, family)?, &first_gauge());
+fn grow_gauge<G: Grows>(
+    rt: &impl Abort,
+    alloc: Global,
+    grown: &mut G,
+    look: &mut Look,
+) -> Result<(), Fail> {
+    scrape(rt, grown, look, "# TYPE a counter\na{l=\"x\"} 5\n")?;
+    let family = register(rt, alloc, grown, look, Kind::Gauge, "b")?;
+    same(rt, &child(rt, grown, look, family)?, &first_gauge());
+    look.made = 2;
     Ok(())
 }
 
@@ -280,15 +273,14 @@ const SEEN: Seen = Seen {
 
 /// A registry of one thread grows.
 pub(super) fn grow_alone(rt: &impl Abort, alloc: Global) -> Result<(), Fail> {
-    let look = Look::new(alloc)?;
-    let registry = new_state(rt, alloc)?;
-    let mut grown = Alone { registry, look };
-    grow_counter(rt, alloc, &mut grown)?;
-    grown.registry.apply(&FIRST)?;
-    grow_gauge(rt, alloc, &mut grown)?;
-    grown.registry.apply(&SECOND)?;
-    scrape(rt, &mut grown, SHOWN)?;
-    same(rt, &grown.seen(), &SEEN);
+    let mut look = Look::new(alloc)?;
+    let mut registry = new_state(rt, alloc)?;
+    grow_counter(rt, alloc, &mut registry, &mut look)?;
+    registry.apply(&FIRST)?;
+    grow_gauge(rt, alloc, &mut registry, &mut look)?;
+    registry.apply(&SECOND)?;
+    scrape(rt, &mut registry, &mut look, SHOWN)?;
+    same(rt, &look.at(&mut registry), &SEEN);
     Ok(())
 }
 
@@ -319,15 +311,17 @@ fn grow_behind(
     alloc: Global,
     board: &OneBoard,
     worker: &mut Worker<1, 1, 1, 1>,
-    grown: &mut Shared<'_, '_, impl Wait>,
+    registry: &Registry<'_, 1, 1, 1, 1>,
+    look: &mut Look,
 ) -> Result<(), Fail>
     requires { IsWorkerOf board.now worker.old }
 {
-    grow_counter(rt, alloc, grown)?;
+    let mut grown = Shared { rt, registry };
+    grow_counter(rt, alloc, &mut grown, look)?;
     worker.apply(board, &FIRST)?;
-    grow_gauge(rt, alloc, grown)?;
+    grow_gauge(rt, alloc, &mut grown, look)?;
     worker.apply(board, &SECOND)?;
-    scrape(rt, grown, SHOWN)
+    scrape(rt, &mut grown, look, SHOWN)
 }
 
 /// What stood behind the lock in the end is what one of one thread has.
@@ -343,12 +337,7 @@ fn grow_over(
 {
     let mut look = Look::new(alloc)?;
     let registry = new_registry(rt, alloc, board, reader)?;
-    let mut grown = Shared {
-        rt,
-        registry: &registry,
-        look: &mut look,
-    };
-    grow_behind(rt, alloc, board, worker, &mut grown)?;
+    grow_behind(rt, alloc, board, worker, &registry, &mut look)?;
     same(rt, &look.at(&mut registry.into_state()), &SEEN);
     Ok(())
 }

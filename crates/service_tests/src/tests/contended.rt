@@ -1,19 +1,24 @@
 //! A source that gives a scan up, as a registry and as a server of it meet that.
 ghost use Rattle.snapshot_scan.specs.Plain.{recorded_by};
 
-use super::ends::{ALL, USUAL, see_from, served};
+use super::ends::{Seen, USUAL, served, wide};
 use super::failing::BUSY;
 use crate::asserts::same;
-use crate::helpers::{self, Over, desc, over, prints};
-use crate::seen::Look;
+use crate::crew::ID;
+use crate::helpers::{self, Over, desc};
+use crate::seen::{Look, Looked};
+use expo_text::render;
 use ledger_core::Op;
 use metric_desc::Kind;
-use registry_state::ScrapeFault;
+use metric_names::LabelValue;
+use registry_state::{FamilyId, Handle, Journal, ScrapeFault};
 use scrape_http::Status;
+use scrape_server::serve_state;
 use snapshot_scan::{Contended, Snapshot, Source};
 use std::alloc::Global;
 use std::process::Abort;
 use std::test::Fail;
+use watched::Watched;
 
 /// A source of one thread, which counts a list before each scan. Behind so many scans it gives so many up.
 #[derive(Drop)]
@@ -62,7 +67,34 @@ impl Source<1, 1, 1, 1> for GivesUp {
     }
 }
 
-/// A registry over it that keeps two scrapes. Its families `a` and `b` have a child each.
+impl Looked for Over<GivesUp> {
+    fn family_named(&mut self, name: &str) -> Option<FamilyId> {
+        self.family(name)
+    }
+
+    fn child_found(&mut self, family: FamilyId, values: &[LabelValue]) -> Option<Handle> {
+        self.child(family, values).ok()
+    }
+
+    fn entries(&self) -> Option<&Journal<1, 1, 1, 1>> {
+        Some(self.journal())
+    }
+}
+
+/// Registers a family, and makes its child.
+fn made(
+    alloc: Global,
+    registry: &mut Over<GivesUp>,
+    kind: Kind,
+    name: &str,
+    values: &[LabelValue],
+) -> Result<(), Fail> {
+    let family = registry.register(desc(alloc, kind, name, &["l"])?)?;
+    registry.child(family, values)?;
+    Ok(())
+}
+
+/// A registry over such a source that keeps two scrapes. Its families `a` and `b` have a child each.
 fn registry(
     alloc: Global,
     look: &mut Look,
@@ -75,11 +107,12 @@ fn registry(
         times,
         given_up: 0,
     };
-    let mut registry = over(alloc, source, 2)?;
-    let a = registry.register(desc(alloc, Kind::Counter, "a", &["l"])?)?;
-    registry.child(a, &look.values)?;
-    let b = registry.register(desc(alloc, Kind::Gauge, "b", &["l"])?)?;
-    registry.child(b, &look.values)?;
+    let mut registry = match Over::<GivesUp>::new(alloc, source, ID, 2) {
+        Ok(registry) => registry,
+        Err(none) => return Err(none.fault.into()),
+    };
+    made(alloc, &mut registry, Kind::Counter, "a", &look.values)?;
+    made(alloc, &mut registry, Kind::Gauge, "b", &look.values)?;
     look.made = 2;
     Ok(registry)
 }
@@ -95,7 +128,8 @@ const SHOWN: [&str; 4] = [
 /// Scrapes show these.
 fn print_all(rt: &impl Abort, registry: &mut Over<GivesUp>, texts: &[&str]) -> Result<(), Fail> {
     for text in texts {
-        prints(rt, registry, text)?;
+        let shown = render(&registry.scrape()?)?;
+        same(rt, &shown.as_slice(), &text.as_bytes());
     }
     Ok(())
 }
@@ -134,11 +168,18 @@ fn replies(
     rt: &impl Abort,
     alloc: Global,
     registry: &mut Over<GivesUp>,
-    request: &[u8],
+    mut request: &[u8],
     reply: (Status, &[u8]),
     kept: usize,
 ) -> Result<(), Fail> {
-    let seen = see_from(registry, alloc, request, ALL, ALL)?;
+    let mut reader = Watched::new(&mut request);
+    let mut writer = wide(alloc)?;
+    let answer = serve_state(&mut reader, &mut writer, registry);
+    let seen = Seen {
+        answer,
+        written: writer.into_inner().taken,
+        kept: registry.kept().len(),
+    };
     served(rt, &seen, reply.0, reply.1);
     same(rt, &seen.kept, &kept);
     Ok(())

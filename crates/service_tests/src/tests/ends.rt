@@ -2,11 +2,10 @@
 ghost use Rattle.std.specs.Prelude.{◌≡◌, false, IfOk};
 
 use crate::asserts::same;
-use crate::helpers::{Over, Plain, made, plain};
+use crate::helpers::{Plain, made, plain};
 use metric_desc::Kind;
 use scrape_http::{Served, Status, WireFault};
 use scrape_server::serve_state;
-use snapshot_scan::Source;
 use std::alloc::{AllocError, Global};
 use std::io::{self, Error, ErrorKind, Read, Write};
 use std::process::Abort;
@@ -97,8 +96,8 @@ pub(super) struct Seen {
 
 /// Serves from this registry a request that comes so many bytes a read, of which the `reads`th, from 0, fails. The writer takes one byte
 /// a write.
-pub(super) fn see_from<S: Source<1, 1, 1, 1>>(
-    registry: &mut Over<S>,
+pub(super) fn see_from(
+    registry: &mut Plain,
     alloc: Global,
     bytes: &[u8],
     step: usize,
