@@ -36,25 +36,29 @@ fn asked(registry: &mut Plain, alloc: Global) -> Result<(Status, usize), Fail> {
     Ok((served.status, served.sent))
 }
 
+/// Two requests. Where the first one was replied, the second one may want memory.
+fn replies(rt: &impl Abort, registry: &mut Plain, alloc: Global) -> Result<(), Fail> {
+    let (status, first) = asked(registry, alloc)?;
+    let (kept, sent) = match status {
+        Status::Unavailable => (0, 136),
+        _ => (1, 113),
+    };
+    same(rt, &(registry.kept().len(), first), &(kept, sent));
+    let (status, second) = asked(registry, alloc)?;
+    let then = match (kept, status) {
+        (1, Status::Unavailable) => (1, 136),
+        _ => (kept + 1, 113),
+    };
+    same(rt, &(registry.kept().len(), second), &then);
+    Ok(())
+}
+
 /// A request that is served from a registry of one thread: the reply is 503 where its scrape wants memory, and nothing else takes any.
 #[test]
 fn growth_reply(rt: HostRuntime) -> Result<(), Fail> {
     let mut registry = registries::new_state(&rt, rt.alloc())?;
     registry.register(desc(rt.alloc(), Kind::Counter, "a", &["l"])?)?;
-    let (status, first) = asked(&mut registry, rt.alloc())?;
-    let (kept, sent) = match status {
-        Status::Unavailable => (0, 136),
-        _ => (1, 113),
-    };
-    same(&rt, &(registry.kept().len(), first), &(kept, sent));
-    let (status, second) = asked(&mut registry, rt.alloc())?;
-    // Where the first one was replied, the second one may want memory.
-    let then = match (kept, status) {
-        (1, Status::Unavailable) => (1, 136),
-        _ => (kept + 1, 113),
-    };
-    same(&rt, &(registry.kept().len(), second), &then);
-    Ok(())
+    replies(&rt, &mut registry, rt.alloc())
 }
 
 /// The parts of a line, and the lines of a reader.

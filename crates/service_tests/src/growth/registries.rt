@@ -271,17 +271,27 @@ const SEEN: Seen = Seen {
     ],
 };
 
-/// A registry of one thread grows.
+/// A registry of one thread grows, and counts.
+fn grow_and_count(
+    rt: &impl Abort,
+    alloc: Global,
+    registry: &mut Plain,
+    look: &mut Look,
+) -> Result<(), Fail> {
+    grow_counter(rt, alloc, registry, look)?;
+    registry.apply(&FIRST)?;
+    grow_gauge(rt, alloc, registry, look)?;
+    registry.apply(&SECOND)?;
+    scrape(rt, registry, look, SHOWN)?;
+    same(rt, &look.at(registry), &SEEN);
+    Ok(())
+}
+
+/// One of one thread.
 pub(super) fn grow_alone(rt: &impl Abort, alloc: Global) -> Result<(), Fail> {
     let mut look = Look::new(alloc)?;
     let mut registry = new_state(rt, alloc)?;
-    grow_counter(rt, alloc, &mut registry, &mut look)?;
-    registry.apply(&FIRST)?;
-    grow_gauge(rt, alloc, &mut registry, &mut look)?;
-    registry.apply(&SECOND)?;
-    scrape(rt, &mut registry, &mut look, SHOWN)?;
-    same(rt, &look.at(&mut registry), &SEEN);
-    Ok(())
+    grow_and_count(rt, alloc, &mut registry, &mut look)
 }
 
 /// A registry behind its lock, that keeps two scrapes.
@@ -325,6 +335,11 @@ fn grow_behind(
 }
 
 /// What stood behind the lock in the end is what one of one thread has.
+fn ends_so(rt: &impl Abort, registry: Registry<'_, 1, 1, 1, 1>, look: &mut Look) {
+    same(rt, &look.at(&mut registry.into_state()), &SEEN);
+}
+
+/// One of this board grows.
 fn grow_over(
     rt: &(impl Wait + Abort),
     alloc: Global,
@@ -338,7 +353,7 @@ fn grow_over(
     let mut look = Look::new(alloc)?;
     let registry = new_registry(rt, alloc, board, reader)?;
     grow_behind(rt, alloc, board, worker, &registry, &mut look)?;
-    same(rt, &look.at(&mut registry.into_state()), &SEEN);
+    ends_so(rt, registry, &mut look);
     Ok(())
 }
 

@@ -107,28 +107,55 @@ fn are_counted(rt: &impl Abort, first: &[u8], second: &[u8]) {
     }
 }
 
+/// The replies that both clients read.
+fn read_both(
+    rt: &impl Abort,
+    alloc: Global,
+    first: &TcpStream,
+    second: &TcpStream,
+) -> Result<(), Fail> {
+    let first = reply_to(alloc, first)?;
+    are_counted(rt, &first, &reply_to(alloc, second)?);
+    Ok(())
+}
+
+/// What the server wrote was let go. It has replied twice, or there was no memory before it listened.
+fn has_ended(rt: &impl Abort, end: ServeEnd, writer: &LetGo) -> Result<(), NoMemory> {
+    same(rt, &writer.flushed, &writer.written.len());
+    if end == ServeEnd::NoMemory {
+        same(rt, &end.status(), &1);
+        same(rt, &writer.written.as_slice(), &b"refused 0 6\n".as_slice());
+        return Err(NoMemory);
+    }
+    same(rt, &end, &ServeEnd::Done);
+    ends_in(rt, &writer.written, b"served 2\n");
+    Ok(())
+}
+
+/// Serves so many connections by this listener.
+fn serve_to_end<T: Abort + Threads + Wait + Sync>(
+    rt: &T,
+    alloc: Global,
+    listener: TcpListener,
+    count: u64,
+) -> Result<(), Fail> {
+    let mut writer = LetGo {
+        written: Vec::with_capacity(alloc, 64)?,
+        flushed: 0,
+    };
+    let end = serve_on(rt, alloc, listener, count, &mut writer);
+    has_ended(rt, end, &writer)?;
+    Ok(())
+}
+
 /// Serves the five connections.
 pub(super) fn serve<T>(rt: &T, alloc: Global) -> Result<(), Fail>
 where
     T: Abort + Threads + Wait + Sync + Net<Listener = TcpListener, Stream = TcpStream>,
 {
-    let mut writer = LetGo {
-        written: Vec::with_capacity(alloc, 64)?,
-        flushed: 0,
-    };
     let listener = TcpListener::bind(rt, (Ipv4Addr::LOCALHOST, 0))?;
     let port = listener.local_addr()?.port();
     let (first, second) = send_all(rt, port)?;
-    let end = serve_on(rt, alloc, listener, 5, &mut writer);
-    same(rt, &writer.flushed, &writer.written.len());
-    if end == ServeEnd::NoMemory {
-        same(rt, &end.status(), &1);
-        same(rt, &writer.written.as_slice(), &b"refused 0 6\n".as_slice());
-        return Err(NoMemory.into());
-    }
-    same(rt, &end, &ServeEnd::Done);
-    ends_in(rt, &writer.written, b"served 2\n");
-    let first = reply_to(alloc, &first)?;
-    are_counted(rt, &first, &reply_to(alloc, &second)?);
-    Ok(())
+    serve_to_end(rt, alloc, listener, 5)?;
+    read_both(rt, alloc, &first, &second)
 }

@@ -9,7 +9,7 @@ use std::process::Abort;
 const CLIENTS: usize = 16;
 
 /// What clients do, one after the other. Their connections have the numbers from 0, in the order in which they are opened.
-#[derive(Clone, Copy, Debug)]
+#[derive(Clone, Copy)]
 pub(super) enum Step {
     /// Opens a connection.
     Open,

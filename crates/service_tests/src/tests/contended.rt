@@ -81,7 +81,7 @@ impl Looked for Over<GivesUp> {
     }
 }
 
-/// Registers a family, and makes its child.
+/// Registers a family by a label, and makes its child.
 fn made(
     alloc: Global,
     registry: &mut Over<GivesUp>,
@@ -94,27 +94,26 @@ fn made(
     Ok(())
 }
 
-/// A registry over such a source that keeps two scrapes. Its families `a` and `b` have a child each.
-fn registry(
-    alloc: Global,
-    look: &mut Look,
-    before: usize,
-    times: u64,
-) -> Result<Over<GivesUp>, Fail> {
+/// The families `a` and `b` with a child each.
+fn made_both(alloc: Global, registry: &mut Over<GivesUp>, look: &mut Look) -> Result<(), Fail> {
+    made(alloc, registry, Kind::Counter, "a", &look.values)?;
+    made(alloc, registry, Kind::Gauge, "b", &look.values)?;
+    look.made = 2;
+    Ok(())
+}
+
+/// A registry over such a source that keeps two scrapes.
+fn registry(alloc: Global, before: usize, times: u64) -> Result<Over<GivesUp>, Fail> {
     let source = GivesUp {
         plain: helpers::Source::new(alloc)?,
         before,
         times,
         given_up: 0,
     };
-    let mut registry = match Over::<GivesUp>::new(alloc, source, ID, 2) {
-        Ok(registry) => registry,
-        Err(none) => return Err(none.fault.into()),
-    };
-    made(alloc, &mut registry, Kind::Counter, "a", &look.values)?;
-    made(alloc, &mut registry, Kind::Gauge, "b", &look.values)?;
-    look.made = 2;
-    Ok(registry)
+    match Over::<GivesUp>::new(alloc, source, ID, 2) {
+        Ok(registry) => Ok(registry),
+        Err(none) => Err(none.fault.into()),
+    }
 }
 
 /// What the first scrape shows, and the next ones.
@@ -135,17 +134,29 @@ fn print_all(rt: &impl Abort, registry: &mut Over<GivesUp>, texts: &[&str]) -> R
 }
 
 /// The scrape of this number is given up: the registry is as it was, and the next scrapes show what they would have shown.
-fn gives_up_at(rt: &impl Abort, alloc: Global, at: usize) -> Result<(), Fail> {
-    let mut look = Look::new(alloc)?;
-    let mut registry = registry(alloc, &mut look, at, 1)?;
-    print_all(rt, &mut registry, SHOWN.get(..at).ok_or("no text")?)?;
-    let before = look.at(&mut registry);
+fn gives_up_at(
+    rt: &impl Abort,
+    registry: &mut Over<GivesUp>,
+    look: &mut Look,
+    at: usize,
+) -> Result<(), Fail> {
+    print_all(rt, registry, SHOWN.get(..at).ok_or("no text")?)?;
+    let before = look.at(registry);
     let fault = ScrapeFault::Contended(RISEN);
     same(rt, &registry.scrape().err(), &Some(fault));
     same(rt, &fault.number(), &14);
-    same(rt, &look.at(&mut registry), &before);
-    print_all(rt, &mut registry, SHOWN.get(at..).ok_or("no text")?)?;
-    same(rt, &look.at(&mut registry).entries, &6);
+    same(rt, &look.at(registry), &before);
+    print_all(rt, registry, SHOWN.get(at..).ok_or("no text")?)?;
+    same(rt, &look.at(registry).entries, &6);
+    Ok(())
+}
+
+/// Of all scans one was given up.
+fn gives_up_once(rt: &impl Abort, alloc: Global, at: usize) -> Result<(), Fail> {
+    let mut look = Look::new(alloc)?;
+    let mut registry = registry(alloc, at, 1)?;
+    made_both(alloc, &mut registry, &mut look)?;
+    gives_up_at(rt, &mut registry, &mut look, at)?;
     same(rt, &registry.into_source().given_up, &1);
     Ok(())
 }
@@ -154,7 +165,7 @@ fn gives_up_at(rt: &impl Abort, alloc: Global, at: usize) -> Result<(), Fail> {
 #[test]
 fn a_scrape_is_given_up(rt: HostRuntime) -> Result<(), Fail> {
     for at in 0..4 {
-        gives_up_at(&rt, rt.alloc(), at)?;
+        gives_up_once(&rt, rt.alloc(), at)?;
     }
     Ok(())
 }
@@ -185,15 +196,24 @@ fn replies(
     Ok(())
 }
 
+/// A request whose scan is given up, a HEAD likewise, and one more.
+fn replies_in_turn(
+    rt: &impl Abort,
+    alloc: Global,
+    registry: &mut Over<GivesUp>,
+) -> Result<(), Fail> {
+    let head = b"HEAD /metrics HTTP/1.0\r\n\r\n".as_slice();
+    let busy = Status::Unavailable;
+    replies(rt, alloc, registry, USUAL, (busy, BUSY), 0)?;
+    replies(rt, alloc, registry, head, (busy, &BUSY[..116]), 0)?;
+    replies(rt, alloc, registry, USUAL, (Status::Success, OK), 1)
+}
+
 /// Where the scan is given up, 503 is replied, to a HEAD by its head alone, and 200 to the next request.
 #[test]
 fn a_server_replies_503(rt: HostRuntime) -> Result<(), Fail> {
-    let alloc = rt.alloc();
-    let mut registry = registry(alloc, &mut Look::new(alloc)?, 0, 2)?;
-    let head = b"HEAD /metrics HTTP/1.0\r\n\r\n".as_slice();
-    let busy = Status::Unavailable;
     same(&rt, &BUSY.len(), &136);
-    replies(&rt, alloc, &mut registry, USUAL, (busy, BUSY), 0)?;
-    replies(&rt, alloc, &mut registry, head, (busy, &BUSY[..116]), 0)?;
-    replies(&rt, alloc, &mut registry, USUAL, (Status::Success, OK), 1)
+    let mut registry = registry(rt.alloc(), 0, 2)?;
+    made_both(rt.alloc(), &mut registry, &mut Look::new(rt.alloc())?)?;
+    replies_in_turn(&rt, rt.alloc(), &mut registry)
 }
