@@ -7,7 +7,7 @@ ghost use Rattle.register_rule.specs.Seats.{worker_of, reader_of, HasWorker, Has
 ghost use Rattle.snapshot_scan.specs.Readers.{IsReaderOf};
 ghost use Rattle.snapshot_update.specs.Workers.{IsWorkerOf};
 
-use crate::asserts::same;
+use crate::asserts::{once_more, same};
 use crate::crew::{ID, finds, inc, new_reader, new_worker, one_seat, snapshots};
 use crate::jobs::{job, listed, team_after};
 use chain_law::{ChainFault, Turn, history_of};
@@ -26,11 +26,10 @@ use worker_pool::{Open, PoolFault};
 #[test]
 fn growth_board(rt: HostRuntime) -> Result<(), Fail> {
     let first = Board::<2, 1, 0, 0>::new(rt.alloc(), ID, 2);
-    let made = match first {
-        Err(BoardFault::NoMemory) => Board::new(rt.alloc(), ID, 2),
-        first => first,
+    let parts = match first {
+        Err(BoardFault::NoMemory) => once_more(Board::new(rt.alloc(), ID, 2))?,
+        first => first?,
     };
-    let parts = made?;
     same(&rt, &parts.board.id(), &ID);
     same(&rt, &(parts.work.len(), parts.read.len()), &(2, 2));
     Ok(())
@@ -39,11 +38,10 @@ fn growth_board(rt: HostRuntime) -> Result<(), Fail> {
 #[test]
 fn growth_crew(rt: HostRuntime) -> Result<(), Fail> {
     let first = Crew::<2, 1, 0, 0>::new(rt.alloc(), ID, 2);
-    let made = match first {
-        Err(BoardFault::NoMemory) => Crew::new(rt.alloc(), ID, 2),
-        first => first,
+    let crew = match first {
+        Err(BoardFault::NoMemory) => once_more(Crew::new(rt.alloc(), ID, 2))?,
+        first => first?,
     };
-    let crew = made?;
     same(&rt, &crew.board.id(), &ID);
     same(&rt, &(crew.workers.len(), crew.readers.len()), &(2, 2));
     Ok(())
@@ -53,7 +51,7 @@ fn growth_crew(rt: HostRuntime) -> Result<(), Fail> {
 fn growth_snapshot(rt: HostRuntime) -> Result<(), Fail> {
     let out = match Snapshot::<2, 3, 1, 1>::new(rt.alloc()) {
         Ok(out) => out,
-        Err(AllocError) => Snapshot::new(rt.alloc())?,
+        Err(AllocError) => once_more(Snapshot::new(rt.alloc()))?,
     };
     same(&rt, &out.vector(), &[0, 0].as_slice());
     same(&rt, &(out.counter(2), out.gauge(0)), &(0, 0));
@@ -64,7 +62,7 @@ fn growth_snapshot(rt: HostRuntime) -> Result<(), Fail> {
 fn growth_source(rt: HostRuntime) -> Result<(), Fail> {
     let mut source = match PlainSource::<1, 1, 0, 0>::new(rt.alloc()) {
         Ok(source) => source,
-        Err(AllocError) => PlainSource::new(rt.alloc())?,
+        Err(AllocError) => once_more(PlainSource::new(rt.alloc()))?,
     };
     let mut out = Snapshot::new(rt.alloc())?;
     let ops = [Op::Inc { counter: 0, by: 3 }];
@@ -90,7 +88,10 @@ fn worker_at_last(
         Err(refused) => {
             same(rt, &refused.number(), &6);
             let NoRoom { seat } = refused;
-            Ok(new_worker(alloc, board, seat, 0)?)
+            let Ok(worker) = new_worker(alloc, board, seat, 0) else {
+                return Err("refused when it was asked once more".into());
+            };
+            Ok(worker)
         }
     }
 }
@@ -111,7 +112,10 @@ fn reader_at_last(
         Err(refused) => {
             same(rt, &refused.number(), &6);
             let NoRoom { seat } = refused;
-            Ok(new_reader(alloc, board, seat)?)
+            let Ok(reader) = new_reader(alloc, board, seat) else {
+                return Err("refused when it was asked once more".into());
+            };
+            Ok(reader)
         }
     }
 }
@@ -162,7 +166,7 @@ fn growth_run(rt: HostRuntime) -> Result<(), Fail> {
     let list = events(rt.alloc())?;
     let first = run::<1, 0, 0>(rt.alloc(), 1, list.as_slice());
     let trace = match first {
-        Err(RunFault::NoMemory) => run::<1, 0, 0>(rt.alloc(), 1, list.as_slice())?,
+        Err(RunFault::NoMemory) => once_more(run::<1, 0, 0>(rt.alloc(), 1, list.as_slice()))?,
         first => first?,
     };
     is_whole(&rt, &trace)
@@ -173,7 +177,7 @@ fn growth_history(rt: HostRuntime) -> Result<(), Fail> {
     let taken = snapshots(rt.alloc(), &[[2, 0], [2, 3]])?;
     let first = history_of(rt.alloc(), taken.as_slice());
     let found = match first {
-        Err(ChainFault::NoMemory) => history_of(rt.alloc(), taken.as_slice())?,
+        Err(ChainFault::NoMemory) => once_more(history_of(rt.alloc(), taken.as_slice()))?,
         first => first?,
     };
     let turns = [Turn { worker: 0, by: 2 }, Turn { worker: 1, by: 3 }];

@@ -8,6 +8,7 @@ use crate::board::{Board, Worker};
 use crate::metrics::Metrics;
 use crossbeam_channel::{Receiver, Sender, bounded};
 use scrape_http::ScrapeFrom;
+use scrape_server::AskedAgain;
 use std::alloc::{AllocError, Global};
 use std::net::{TcpListener, TcpStream};
 use std::snapshot::Snapshot;
@@ -179,11 +180,12 @@ fn serve_all<'s, E: 's, T: Threads + Wait + Sync, S: ScrapeFrom + Send + Drop + 
     Some(four)
 }
 
-/// Has four threads answer so many connections, which end before it returns. None where a thread could not be started or the listener
+/// Has four threads answer so many connections, which end before it returns, each from a source that is asked again where a scan was
+/// given up. None where a thread could not be started or the listener
 /// has failed: what was answered by then is counted.
 pub(crate) fn serve_in_threads<T: Threads + Wait + Sync, S: ScrapeFrom + Send + Drop>(
     shared: Shared<'_, T>,
-    sources: (S, S, S, S),
+    sources: (AskedAgain<S>, AskedAgain<S>, AskedAgain<S>, AskedAgain<S>),
     workers: Four,
     queues: Queues,
     listener: &TcpListener,

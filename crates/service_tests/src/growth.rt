@@ -4,7 +4,7 @@ mod front;
 mod registries;
 mod server;
 
-use crate::asserts::same;
+use crate::asserts::{once_more, same};
 use crate::helpers::{Plain, desc};
 use metric_desc::Kind;
 use metric_names::NoMemory;
@@ -82,7 +82,7 @@ fn growth_of_labels(rt: &impl Abort, alloc: Global) -> Result<(), Fail> {
     };
     let labels = match labels_of(alloc, labels) {
         Ok(labels) => labels,
-        Err(NoMemory) => labels_of(alloc, labels)?,
+        Err(NoMemory) => once_more(labels_of(alloc, labels))?,
     };
     same(rt, &labels.as_slice(), &["a", "b"].as_slice());
     Ok(())
@@ -95,7 +95,7 @@ fn growth_of_bounds(rt: &impl Abort, alloc: Global) -> Result<(), Fail> {
     };
     let bounds = match bounds_of(alloc, bounds) {
         Ok(bounds) => bounds,
-        Err(NoMemory) => bounds_of(alloc, bounds)?,
+        Err(NoMemory) => once_more(bounds_of(alloc, bounds))?,
     };
     same(rt, &bounds.as_slice(), &[10, 20].as_slice());
     Ok(())
@@ -108,7 +108,7 @@ fn growth_of_help(rt: &impl Abort, alloc: Global) -> Result<(), Fail> {
     };
     let help = match unescape(alloc, help) {
         Ok(help) => help,
-        Err(NoMemory) => unescape(alloc, help)?,
+        Err(NoMemory) => once_more(unescape(alloc, help))?,
     };
     same(rt, &help.as_str(), &"two words");
     Ok(())
@@ -121,7 +121,7 @@ fn growth_of_values(rt: &impl Abort, alloc: Global) -> Result<(), Fail> {
     };
     let values = match values_of(alloc, values) {
         Ok(values) => values,
-        Err(NoMemory) => values_of(alloc, values)?,
+        Err(NoMemory) => once_more(values_of(alloc, values))?,
     };
     same(rt, &values.as_slice(), &["x", "y"].as_slice());
     Ok(())
@@ -131,7 +131,7 @@ fn growth_of_values(rt: &impl Abort, alloc: Global) -> Result<(), Fail> {
 fn growth_of_lines(rt: &impl Abort, alloc: Global) -> Result<(), Fail> {
     let mut lines = match Lines::new(alloc, b"go\nscrape".as_slice()) {
         Ok(lines) => lines,
-        Err(NoMemory) => Lines::new(alloc, b"go\nscrape".as_slice())?,
+        Err(NoMemory) => once_more(Lines::new(alloc, b"go\nscrape".as_slice()))?,
     };
     same(rt, &lines.next()?, &Next::Line);
     same(rt, &lines.bytes(), &b"go".as_slice());

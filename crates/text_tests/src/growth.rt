@@ -1,6 +1,6 @@
 //! Calls whose growth is refused: the same call again answers as it would have. checks/refused_memory.py runs these with each allocation
 //! refused in turn.
-use crate::asserts::{are_names, same};
+use crate::asserts::{are_names, once_more, same};
 use crate::made::{COUNTER, Family, desc, scrape};
 use expo_text::render;
 use metric_desc::{Desc, Kind};
@@ -13,38 +13,38 @@ use std::process::Abort;
 use std::test::Fail;
 
 /// What a call answers, which was made once more where there was no memory.
-fn again<T: Drop>(first: Result<T, NoMemory>, second: Result<T, NoMemory>) -> Result<T, NoMemory> {
+fn again<T: Drop>(first: Result<T, NoMemory>, second: Result<T, NoMemory>) -> Result<T, Fail> {
     match first {
-        Err(NoMemory) => second,
-        answer => answer,
+        Err(NoMemory) => once_more(second),
+        Ok(found) => Ok(found),
     }
 }
 
-fn name(alloc: Global) -> Result<MetricName, MetricNameFault> {
+fn name(alloc: Global) -> Result<MetricName, Fail> {
     match MetricName::read(alloc, "a_name") {
-        Err(MetricNameFault::NoMemory) => MetricName::read(alloc, "a_name"),
-        answer => answer,
+        Err(MetricNameFault::NoMemory) => once_more(MetricName::read(alloc, "a_name")),
+        answer => Ok(answer?),
     }
 }
 
-fn label(alloc: Global) -> Result<LabelName, LabelNameFault> {
+fn label(alloc: Global) -> Result<LabelName, Fail> {
     match LabelName::read(alloc, "l") {
-        Err(LabelNameFault::NoMemory) => LabelName::read(alloc, "l"),
-        answer => answer,
+        Err(LabelNameFault::NoMemory) => once_more(LabelName::read(alloc, "l")),
+        answer => Ok(answer?),
     }
 }
 
-fn help(alloc: Global) -> Result<HelpText, HelpTextFault> {
+fn help(alloc: Global) -> Result<HelpText, Fail> {
     match HelpText::read(alloc, "A help.") {
-        Err(HelpTextFault::NoMemory) => HelpText::read(alloc, "A help."),
-        answer => answer,
+        Err(HelpTextFault::NoMemory) => once_more(HelpText::read(alloc, "A help.")),
+        answer => Ok(answer?),
     }
 }
 
-fn value(alloc: Global) -> Result<LabelValue, LabelValueFault> {
+fn value(alloc: Global) -> Result<LabelValue, Fail> {
     match LabelValue::read(alloc, "v") {
-        Err(LabelValueFault::NoMemory) => LabelValue::read(alloc, "v"),
-        answer => answer,
+        Err(LabelValueFault::NoMemory) => once_more(LabelValue::read(alloc, "v")),
+        answer => Ok(answer?),
     }
 }
 

@@ -1,5 +1,5 @@
 //! The library for services: its calls that take memory.
-use crate::asserts::same;
+use crate::asserts::{once_more, same};
 use crate::crew::ID;
 use dirgwako::{
     BoardFault, Counter, CounterFamily, Crew, FamilyRefusal, Gauge, GaugeFamily, MetricRefusal,
@@ -19,7 +19,7 @@ fn new_team(rt: &impl Abort, alloc: Global) -> Result<Team, Fail> {
         Ok(team) => Ok(team),
         Err(fault) => {
             same(rt, &fault, &BoardFault::NoMemory);
-            Ok(Team::new(alloc, ID, 1)?)
+            once_more(Team::new(alloc, ID, 1))
         }
     }
 }
@@ -38,7 +38,7 @@ fn family<S: Registers>(
         Ok(family) => Ok(family),
         Err(fault) => {
             same(rt, &fault.number(), &6);
-            Ok(register(metrics)?)
+            once_more(register(metrics))
         }
     }
 }
@@ -53,7 +53,7 @@ fn child<S: Registers>(
         Ok(counter) => Ok(counter),
         Err(fault) => {
             same(rt, &fault.number(), &6);
-            Ok(metrics.counter_of(family, &["x", "y"])?)
+            once_more(metrics.counter_of(family, &["x", "y"]))
         }
     }
 }
@@ -64,17 +64,12 @@ fn gauge<S: Registers>(rt: &impl Abort, metrics: &mut Registrar<S>) -> Result<Ga
         Ok(gauge) => Ok(gauge),
         Err(MetricRefusal::Family(fault)) => {
             same(rt, &fault.number(), &6);
-            Ok(metrics.gauge("g", "")?)
+            once_more(metrics.gauge("g", ""))
         }
         Err(MetricRefusal::Child { family, fault }) => {
             same(rt, &fault.number(), &6);
-            Ok(metrics.gauge_of(
-                &GaugeFamily {
-                    registry: ID,
-                    id: family,
-                },
-                &[],
-            )?)
+            let (registry, id) = (ID, family);
+            once_more(metrics.gauge_of(&GaugeFamily { registry, id }, &[]))
         }
     }
 }
@@ -89,7 +84,7 @@ fn prints(rt: &(impl Abort + Wait), registry: &Registry<'_, 1, 2, 0, 1>) -> Resu
         Ok(text) => text,
         Err(fault) => {
             same(rt, &fault.number(), &6);
-            scrape_text(rt, registry)?
+            once_more(scrape_text(rt, registry))?
         }
     };
     same(rt, &text.as_slice(), &SHOWN.as_bytes());

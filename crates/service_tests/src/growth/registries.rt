@@ -2,7 +2,7 @@
 ghost use Rattle.snapshot_scan.specs.Readers.{IsReaderOf};
 ghost use Rattle.snapshot_update.specs.Workers.{IsWorkerOf};
 
-use crate::asserts::same;
+use crate::asserts::{once_more, same};
 use crate::crew::{ID, last_reader, last_worker};
 use crate::helpers::{Plain, Source, desc, first_counter, first_gauge};
 use crate::seen::{Look, Looked, Moment, Seen};
@@ -26,10 +26,7 @@ pub(super) fn new_state(rt: &impl Abort, alloc: Global) -> Result<Plain, Fail> {
         Ok(registry) => Ok(registry),
         Err(none) => {
             same(rt, &none.fault, &NewFault::NoMemory);
-            match Plain::new(alloc, none.source, ID, 2) {
-                Ok(registry) => Ok(registry),
-                Err(none) => Err(none.fault.into()),
-            }
+            once_more(Plain::new(alloc, none.source, ID, 2))
         }
     }
 }
@@ -113,7 +110,7 @@ fn register<G: Grows>(
         return Ok(answer?);
     }
     same(rt, &look.at(grown), &before);
-    Ok(grown.register(desc(alloc, kind, name, &["l"])?)?)
+    once_more(grown.register(desc(alloc, kind, name, &["l"])?))
 }
 
 /// Makes its child.
@@ -129,7 +126,7 @@ fn child<G: Grows>(
         return Ok(answer?);
     }
     same(rt, &look.at(grown), &before);
-    Ok(grown.child(family, &look.values)?)
+    once_more(grown.child(family, &look.values))
 }
 
 /// The text of a scrape is this.
@@ -145,7 +142,7 @@ fn prints<G: Grows>(
         Ok(text) => text,
         Err(NoMemory) => {
             same(rt, &look.at(grown), &before);
-            render(scrape)?
+            once_more(render(scrape))?
         }
     };
     same(rt, &text.as_slice(), &expected.as_bytes());
@@ -164,7 +161,7 @@ fn scrape<G: Grows>(
         Ok(scrape) => prints(rt, grown, look, &scrape, expected),
         Err(ScrapeFault::NoMemory) => {
             same(rt, &look.at(grown), &before);
-            let scrape = grown.scrape()?;
+            let scrape = once_more(grown.scrape())?;
             prints(rt, grown, look, &scrape, expected)
         }
         Err(fault) => Err(fault.into()),
@@ -222,7 +219,14 @@ fn grow_gauge<G: Grows>(
 /// What the last scrape shows.
 const SHOWN: &str = "# TYPE a counter\na{l=\"x\"} 5\n# TYPE b gauge\nb{l=\"x\"} -2\n";
 
-/// The histogram in the first scrape that is kept.
+/// The histogram in the first scrape,
+const NO_VALUE: HistTotals = HistTotals {
+    buckets: [0; 25],
+    sum: 0,
+    count: 0,
+};
+
+/// in the second one,
 const ONE_VALUE: HistTotals = HistTotals {
     buckets: [
         0, 1, 0, 0, 0, 0, 0, 0, 0, 0, 0, 0, 0, 0, 0, 0, 0, 0, 0, 0, 0, 0, 0, 0, 0,
@@ -231,7 +235,7 @@ const ONE_VALUE: HistTotals = HistTotals {
     count: 1,
 };
 
-/// That in the last one.
+/// and in the last one.
 const TWO_VALUES: HistTotals = HistTotals {
     buckets: [
         1, 1, 0, 0, 0, 0, 0, 0, 0, 0, 0, 0, 0, 0, 0, 0, 0, 0, 0, 0, 0, 0, 0, 0, 0,
@@ -240,36 +244,45 @@ const TWO_VALUES: HistTotals = HistTotals {
     count: 2,
 };
 
-/// What is seen in the end, whatever was refused before: the last two of three scrapes, and four changes.
-const SEEN: Seen = Seen {
-    families: [Some(0), Some(1)],
-    children: [
-        Some(Handle::Counter(Counter {
-            registry: ID,
-            slot: 0,
-        })),
-        Some(Handle::Gauge(Gauge {
-            registry: ID,
-            slot: 0,
-        })),
-    ],
-    entries: 6,
-    kept: 2,
-    scrapes: [
-        Some(Moment {
-            lists: 1,
-            counter: 5,
-            hist: ONE_VALUE,
-            gauge: GaugeTotals { up: 0, down: 0 },
-        }),
-        Some(Moment {
-            lists: 2,
-            counter: 5,
-            hist: TWO_VALUES,
-            gauge: GaugeTotals { up: 0, down: 2 },
-        }),
-    ],
+/// The first scrape,
+const AT_FIRST: Moment = Moment {
+    lists: 0,
+    counter: 0,
+    hist: NO_VALUE,
+    gauge: GaugeTotals { up: 0, down: 0 },
 };
+
+/// the second one,
+const BETWEEN: Moment = Moment {
+    lists: 1,
+    counter: 5,
+    hist: ONE_VALUE,
+    gauge: GaugeTotals { up: 0, down: 0 },
+};
+
+/// and the last one.
+const AT_LAST: Moment = Moment {
+    lists: 2,
+    counter: 5,
+    hist: TWO_VALUES,
+    gauge: GaugeTotals { up: 0, down: 2 },
+};
+
+/// What is seen in the end, whatever was refused before: both families with their children, so many kept scrapes of three, the first two of
+/// these, and four changes beside.
+fn seen(kept: usize, scrapes: [Option<Moment>; 2]) -> Seen {
+    let (registry, slot) = (ID, 0);
+    Seen {
+        families: [Some(0), Some(1)],
+        children: [
+            Some(Handle::Counter(Counter { registry, slot })),
+            Some(Handle::Gauge(Gauge { registry, slot })),
+        ],
+        entries: kept.wrapping_add(4),
+        kept,
+        scrapes,
+    }
+}
 
 /// A registry of one thread grows, and counts.
 fn grow_and_count(
@@ -283,7 +296,8 @@ fn grow_and_count(
     grow_gauge(rt, alloc, registry, look)?;
     registry.apply(&SECOND)?;
     scrape(rt, registry, look, SHOWN)?;
-    same(rt, &look.at(registry), &SEEN);
+    let expected = seen(2, [Some(BETWEEN), Some(AT_LAST)]);
+    same(rt, &look.at(registry), &expected);
     Ok(())
 }
 
@@ -294,7 +308,7 @@ pub(super) fn grow_alone(rt: &impl Abort, alloc: Global) -> Result<(), Fail> {
     grow_and_count(rt, alloc, &mut registry, &mut look)
 }
 
-/// A registry behind its lock, that keeps two scrapes.
+/// A registry behind its lock, that would keep four scrapes.
 fn new_registry<'b>(
     rt: &impl Abort,
     alloc: Global,
@@ -303,14 +317,11 @@ fn new_registry<'b>(
 ) -> Result<Registry<'b, 1, 1, 1, 1>, Fail>
     requires { IsReaderOf board.now reader }
 {
-    match Registry::new(alloc, board, reader, 2) {
+    match Registry::new(alloc, board, reader, 4) {
         Ok(registry) => Ok(registry),
         Err(none) => {
             same(rt, &none.fault, &NewFault::NoMemory);
-            match Registry::new(alloc, board, none.reader, 2) {
-                Ok(registry) => Ok(registry),
-                Err(none) => Err(none.fault.into()),
-            }
+            once_more(Registry::new(alloc, board, none.reader, 4))
         }
     }
 }
@@ -334,9 +345,10 @@ fn grow_behind(
     scrape(rt, &mut grown, look, SHOWN)
 }
 
-/// What stood behind the lock in the end is what one of one thread has.
+/// What stood behind the lock in the end is what one of one thread has, with all three scrapes: none was kept that was refused.
 fn ends_so(rt: &impl Abort, registry: Registry<'_, 1, 1, 1, 1>, look: &mut Look) {
-    same(rt, &look.at(&mut registry.into_state()), &SEEN);
+    let expected = seen(3, [Some(AT_FIRST), Some(BETWEEN)]);
+    same(rt, &look.at(&mut registry.into_state()), &expected);
 }
 
 /// One of this board grows.

@@ -162,17 +162,17 @@ fn refusals_are_handed_on(rt: HostRuntime) -> Result<(), Fail> {
     Ok(())
 }
 
-/// Makes 70 scrapes, then other windows, and a scrape in the last two.
+/// Makes 70 scrapes, of which 64 are kept, then other windows, and a scrape in each.
 fn windows(rt: &(impl Wait + Abort), registry: &Two<'_>) -> Result<(), Fail> {
     for _ in 0..70 {
         prints(rt, registry, "")?;
     }
-    same(rt, &registry.set_window(rt, 1_024), &Ok(68));
+    same(rt, &registry.set_window(rt, 64), &Ok(64));
     same(rt, &registry.set_window(rt, 3), &Ok(3));
-    same(rt, &registry.set_window(rt, 0), &Err(BadWindow));
-    same(rt, &registry.set_window(rt, 1_025), &Err(BadWindow));
     prints(rt, registry, "")?;
     same(rt, &registry.set_window(rt, 1_024), &Ok(3));
+    same(rt, &registry.set_window(rt, 0), &Err(BadWindow));
+    same(rt, &registry.set_window(rt, 1_025), &Err(BadWindow));
     prints(rt, registry, "")
 }
 
@@ -180,7 +180,7 @@ fn windows(rt: &(impl Wait + Abort), registry: &Two<'_>) -> Result<(), Fail> {
 #[test]
 fn the_window(rt: HostRuntime) -> Result<(), Fail> {
     let mut crew = TwoCrew::new(rt.alloc(), ID, 1)?;
-    let registry = registry_of(rt.alloc(), &crew.board, &mut crew.readers, 68)?;
+    let registry = registry_of(rt.alloc(), &crew.board, &mut crew.readers, 64)?;
     windows(&rt, &registry)?;
     ends_with(&rt, registry, 4, 4);
     Ok(())
