@@ -7,8 +7,9 @@ use scrape_http::{NoScrape, ScrapeFrom};
 /// How often a scrape that is given up is asked for again.
 const AGAIN: usize = 3;
 
-/// A scrape of a source, which is asked up to three times more where a scan was given up: somebody who publishes without rest costs a
-/// scrape then and now, and seldom four in a row.
+/// A scrape of a source, which is asked up to three times more where a scan was given up. Measured beside two to four
+/// threads that publish without rest, 12 to 229 of a million are refused then; beside one alone, nearly all (docs/HTTP.md, "Scrapes that are
+/// given up").
 ///
 /// # Errors
 ///
