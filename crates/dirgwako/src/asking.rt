@@ -37,20 +37,18 @@ fn read_texts(
     ensures good { OnOk result (AreGood (family_of (kind_of shape.entry) name.now help.now labels.now (bounds_of shape.entry))) }
     ensures fault { IfErr result (IsUnread (family_of (kind_of shape.entry) name.now help.now labels.now (bounds_of shape.entry))) }
 {
-    let name = match MetricName::read(alloc, name) {
-        Ok(name) => name,
-        Err(fault) => return Err(FamilyRefusal::Name(fault)),
-    };
-    let help = match HelpText::read(alloc, help) {
-        Ok(help) => help,
-        Err(fault) => return Err(FamilyRefusal::Help(fault)),
-    };
-    match read_labels(alloc, labels) {
-        Ok(labels) => Ok(Texts { name, help, labels }),
-        Err(bad) => Err(FamilyRefusal::Label {
-            at: bad.at,
-            fault: bad.fault,
-        }),
+    match MetricName::read(alloc, name) {
+        Ok(name) => match HelpText::read(alloc, help) {
+            Ok(help) => match read_labels(alloc, labels) {
+                Ok(labels) => Ok(Texts { name, help, labels }),
+                Err(bad) => Err(FamilyRefusal::Label {
+                    at: bad.at,
+                    fault: bad.fault,
+                }),
+            },
+            Err(fault) => Err(FamilyRefusal::Help(fault)),
+        },
+        Err(fault) => Err(FamilyRefusal::Name(fault)),
     }
 }
 

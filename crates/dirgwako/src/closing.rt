@@ -46,10 +46,14 @@ pub fn last_text<'a, const N: usize, const C: usize, const H: usize, const G: us
 ) -> Result<(Vec<u8>, RegistryState<Scanner<'a, N, C, H, G>, N, C, H, G>), TextFault>
     ensures { IfOk result (λ last. IsLastText last.0.items last.1) }
 {
-    let (text, state) = text_of(registry.into_state())?;
-    // A look into the journal tells the proof what is kept.
-    let _ = state.journal();
-    Ok((text, state))
+    match text_of(registry.into_state()) {
+        Ok((text, state)) => {
+            // A look into the journal tells the proof what is kept.
+            let _ = state.journal();
+            Ok((text, state))
+        }
+        Err(fault) => Err(fault),
+    }
 }
 
 /// Prints [`last_text`] on standard output.

@@ -114,16 +114,15 @@ impl<S: Registers> Registrar<S> {
         ensures made { IfOk result (λ handle. AsksMetric S.id_in S.registered S.gave self.old.at self.new.at (family_of Kinds.Counter name.now help.now [] []) (Result.Ok (Handles.Counter handle))) }
         ensures fault { IfErr result (λ fault. AsksMetric S.id_in S.registered S.gave self.old.at self.new.at (family_of Kinds.Counter name.now help.now [] []) (Result.Err fault)) }
     {
-        let family = match self.counter_family(name, help, &[]) {
-            Ok(family) => family,
-            Err(fault) => return Err(MetricRefusal::Family(fault)),
-        };
-        match self.counter_of(&family, &[]) {
-            Ok(handle) => Ok(handle),
-            Err(fault) => Err(MetricRefusal::Child {
-                family: family.id,
-                fault,
-            }),
+        match self.counter_family(name, help, &[]) {
+            Ok(family) => match self.counter_of(&family, &[]) {
+                Ok(handle) => Ok(handle),
+                Err(fault) => Err(MetricRefusal::Child {
+                    family: family.id,
+                    fault,
+                }),
+            },
+            Err(fault) => Err(MetricRefusal::Family(fault)),
         }
     }
 
@@ -181,16 +180,15 @@ impl<S: Registers> Registrar<S> {
         ensures made { IfOk result (λ handle. AsksMetric S.id_in S.registered S.gave self.old.at self.new.at (family_of Kinds.Gauge name.now help.now [] []) (Result.Ok (Handles.Gauge handle))) }
         ensures fault { IfErr result (λ fault. AsksMetric S.id_in S.registered S.gave self.old.at self.new.at (family_of Kinds.Gauge name.now help.now [] []) (Result.Err fault)) }
     {
-        let family = match self.gauge_family(name, help, &[]) {
-            Ok(family) => family,
-            Err(fault) => return Err(MetricRefusal::Family(fault)),
-        };
-        match self.gauge_of(&family, &[]) {
-            Ok(handle) => Ok(handle),
-            Err(fault) => Err(MetricRefusal::Child {
-                family: family.id,
-                fault,
-            }),
+        match self.gauge_family(name, help, &[]) {
+            Ok(family) => match self.gauge_of(&family, &[]) {
+                Ok(handle) => Ok(handle),
+                Err(fault) => Err(MetricRefusal::Child {
+                    family: family.id,
+                    fault,
+                }),
+            },
+            Err(fault) => Err(MetricRefusal::Family(fault)),
         }
     }
 
@@ -265,16 +263,15 @@ impl<S: Registers> Registrar<S> {
         ensures made { IfOk result (λ handle. AsksMetric S.id_in S.registered S.gave self.old.at self.new.at (family_of Kinds.Histogram name.now help.now [] bounds.now) (Result.Ok (Handles.Histogram handle))) }
         ensures fault { IfErr result (λ fault. AsksMetric S.id_in S.registered S.gave self.old.at self.new.at (family_of Kinds.Histogram name.now help.now [] bounds.now) (Result.Err fault)) }
     {
-        let family = match self.histogram_family(name, help, &[], bounds) {
-            Ok(family) => family,
-            Err(fault) => return Err(MetricRefusal::Family(fault)),
-        };
-        match self.histogram_of(&family, &[]) {
-            Ok(handle) => Ok(handle),
-            Err(fault) => Err(MetricRefusal::Child {
-                family: family.id,
-                fault,
-            }),
+        match self.histogram_family(name, help, &[], bounds) {
+            Ok(family) => match self.histogram_of(&family, &[]) {
+                Ok(handle) => Ok(handle),
+                Err(fault) => Err(MetricRefusal::Child {
+                    family: family.id,
+                    fault,
+                }),
+            },
+            Err(fault) => Err(MetricRefusal::Family(fault)),
         }
     }
 }

@@ -1,4 +1,4 @@
-use Rattle.std.proofs.Common.{◌≡◌, ℕ, [], sym, ap, ◌∙◌, subst, arith}
+use Rattle.std.proofs.Common.{◌≡◌, ◌≤◌, ℕ, zero, suc, List, [], ◌∷◌, length, take, refl, sym, ap, ◌∙◌, subst, arith}
 use Rattle.std.proofs.lemmas.List.{length-map}
 use mathlib.Core.Option.{some}
 use lib.ListN.{get_elem?}
@@ -27,3 +27,17 @@ loop-k-preserved g c =
     subst (IsHistory g.row.N _) (sym grown.1)
     (history_next g.row.N (vectors_of l) c.loop-k.turns.items k u v grown.0 c.loop-k.invariant c.vector_before-from.ensures at c.vector-to.ensures.all
     (subst (λ (n : ℕ). IsPiece n u v grown.0) c.vector_before-from.ensures.all grown.2))
+
+all_of : {A : Type 0} (xs : List A) (n : ℕ) → length xs ≤ n → take n xs ≡ xs
+all_of [] zero h = refl
+all_of [] (suc n) h = refl
+all_of (x ∷ xs) zero h = absurd (omega (arith, h))
+all_of (x ∷ xs) (suc n) h = ap (λ l. x ∷ l) (all_of xs n (omega (arith, h)))
+
+pub returns-clause-history : goal.returns-clause-history
+returns-clause-history g c =
+    let l = c.args.snapshots.now in let f = c.loop-k-test.false in let long = length-map l (λ (s : Taken). s.vector) in
+    subst (λ v. IsHistory g.row.N v c.loop-k.turns.items) (all_of (vectors_of l) c.loop-k.k (omega (arith, f, long))) c.loop-k.invariant
+
+pub returns-in-Some-clause-fault : goal.returns-in-Some-clause-fault
+returns-in-Some-clause-fault g c = c.in-Some.ensures.some

@@ -1,4 +1,6 @@
-use Rattle.std.proofs.Common.{◌≡◌, ◌≤◌, ◌+◌, ℕ, List, [], ◌∷◌, ◌++◌, drop, map, get_or, sym, refl, ap, ◌∙◌, subst, arith, rules, append_assoc}
+use Rattle.std.proofs.Common.{◌≡◌, ◌<◌, ◌≤◌, ◌+◌, ℕ, zero, suc, Bool, true, false, cond, List, [], ◌∷◌, ◌++◌, length, drop, drop-cons, map, get_or, sym, refl, ap, ◌∙◌, subst, arith, rules}
+use Rattle.std.proofs.lemmas.Bool.{lt-leb}
+use Rattle.std.proofs.lemmas.List.{append-nil, append_assoc}
 use mathlib.Core.Option.{some-ne-none}
 use Rattle.ledger_core.specs.Ops.{width}
 use Rattle.register_rule.specs.declared.view.Asked.{Asked}
@@ -115,7 +117,53 @@ loop-place-preserved g c =
         asked = ap (λ (z : List ℕ). z ++ more) (map_both worker_of es e) ∙ (append_assoc (map worker_of es) (worker_of e ∷ []) more
             ∙ (ap (λ (z : ℕ). map worker_of es ++ z ∷ more) r.1 ∙ (ap (λ (z : List ℕ). map worker_of es ++ z) (sym d) ∙ inv.asked)));
         refuses = each_push (Refuses g.row.N c.args.floor.now) es e inv.refuses r.2;
-        may = subst (MayAsk c.args.floor.now more) (sym snoc) (may_next n p e c.args.floor.now more (refused_all n es (scan_of ms)) (subst (λ (l : List ℕ). MayAsk c.args.floor.now l (refused_all n es (scan_of ms))) d inv.may));
+        may = subst (MayAsk c.args.floor.now more) (sym snoc) (may_next n p e c.args.floor.now more (refused_all n es (scan_of ms)) (subst (λ (l : List ℕ). MayAsk c.args.floor.now l
+            (refused_all n es (scan_of ms))) d inv.may));
         view = view;
       },
     )
+
+-- a worker that is not to be asked
+not_due : (p : ℕ) (base found : List ℕ) → p < length base → p < length found → get_or found p 0 < get_or base p 0 + 2 → due_from p (drop p base) (drop p found) ≡ due_from (p + 1) (drop
+    (p + 1) base) (drop (p + 1) found)
+not_due p base found hb hf h = let e : suc p ≡ p + 1 = omega arith in
+    (λ z. due_from p (drop-cons base p 0 hb z) (drop-cons found p 0 hf z)) ∙ (ap (λ (b : Bool). cond b (p ∷ due_from (suc p) (drop (suc p) base) (drop (suc p) found)) (due_from (suc p)
+    (drop (suc p) base) (drop (suc p) found))) (lt-leb _ _ h)
+    ∙ ap (λ (k : ℕ). due_from k (drop k base) (drop k found)) e)
+
+none_left : (l : List ℕ) (n : ℕ) → length l ≤ n → drop n l ≡ []
+none_left [] zero h = refl
+none_left [] (suc n) h = refl
+none_left (x ∷ l) zero h = absurd (omega (arith, h))
+none_left (x ∷ l) (suc n) h = none_left l n (omega (arith, h))
+
+false_true : false ≡ true → ⊥
+false_true e = cc
+
+pub loop-place-preserved-then-not-due : goal.loop-place-preserved-then-not-due
+loop-place-preserved-then-not-due g c =
+    let p = c.loop-place.place in let base = c.args.base.now in let found = c.args.found.now in
+    let ms = members_of (g.S.ScanSeat.bundle c.args.seat.now) in
+    let es = c.loop-place.invariant.0 in let inv = c.loop-place.invariant.1 in
+    let lens = c.requires.lengths in let t = c.loop-place-test.true in
+    let no : get_or base p 0 + 2 ≤ get_or found p 0 → ⊥ = λ h. false_true (c.if-not-due.ensures.1 h) in
+    let d = not_due p base found (omega (arith, lens.2, lens.3, t)) t (omega (arith, no)) in (
+      es,
+      record {
+        own = inv.own;
+        ruled = inv.ruled;
+        leads = inv.leads;
+        asked = ap (λ (l : List ℕ). map worker_of es ++ l) (sym d) ∙ inv.asked;
+        refuses = inv.refuses;
+        may = subst (λ (l : List ℕ). MayAsk c.args.floor.now l (refused_all g.row.N es (scan_of ms))) d inv.may;
+        view = inv.view;
+      },
+    )
+
+pub returns-clause-refuses : goal.returns-clause-refuses
+returns-clause-refuses g c = λ _.
+    let p = c.loop-place.place in let base = c.args.base.now in let found = c.args.found.now in
+    let es = c.loop-place.invariant.0 in let inv = c.loop-place.invariant.1 in
+    let lens = c.requires.lengths in let f = c.loop-place-test.false in
+    let end : due_from p (drop p base) (drop p found) ≡ [] = ap (λ (l : List ℕ). due_from p l (drop p found)) (none_left base p (omega (arith, lens.2, lens.3, f))) in
+    (es, sym (append-nil (map worker_of es)) ∙ (ap (λ (l : List ℕ). map worker_of es ++ l) (sym end) ∙ inv.asked), inv.refuses, inv.view)

@@ -1,4 +1,4 @@
-use Rattle.std.proofs.Common.{◌≡◌, ℕ, Bool, false, List, [], ◌∷◌, ◌++◌, length, map, take, drop, slice_index, sym, refl, ap, ◌∙◌, subst, arith, rules}
+use Rattle.std.proofs.Common.{◌≡◌, ℕ, Bool, true, false, List, [], ◌∷◌, ◌++◌, length, map, take, drop, slice_index, sym, refl, ap, ◌∙◌, subst, arith, rules}
 use Rattle.ledger_core.specs.Ops.{width}
 use Rattle.ledger_core.specs.Vectors.{is_above}
 use Rattle.register_rule.specs.declared.view.Scan.{Scan}
@@ -32,6 +32,28 @@ abbrev quiet_in : Ended → Bool
 quiet_in (End.Direct quiet) = quiet
 quiet_in End.Lent = false
 quiet_in End.GaveUp = false
+
+-- the ways to end are apart
+direct_lent : (q : Bool) → End.Direct q ≡ End.Lent → ⊥
+direct_lent q e = cc
+
+direct_up : (q : Bool) → End.Direct q ≡ End.GaveUp → ⊥
+direct_up q e = cc
+
+lent_direct : (q : Bool) → End.Lent ≡ End.Direct q → ⊥
+lent_direct q e = cc
+
+lent_up : End.Lent ≡ End.GaveUp → ⊥
+lent_up e = cc
+
+up_direct : (q : Bool) → End.GaveUp ≡ End.Direct q → ⊥
+up_direct q e = cc
+
+up_lent : End.GaveUp ≡ End.Lent → ⊥
+up_lent e = cc
+
+not_quiet : false ≡ true → ⊥
+not_quiet e = cc
 
 pub returns-then-clean-clause-once : goal.returns-then-clean-clause-once
 returns-then-clean-clause-once g c = λ _. ap (λ (x : Scan). x.opened) (now_is _ _ _ c.requires.own.1 (c.try_once-clean.ensures.clean c.if-clean.true))
@@ -344,3 +366,130 @@ returns-clause-came_up g c = λ _ e moved.
     let fl = c.copy_from_slice.new.self in let ba = c.copy_from_slice-2.new.self in
     subst (λ (x : Scan). CameTo n w (scan_of ms) x (GaveUp e.worker e.first e.last)) (sym (now_is _ ms _ c.requires.own.1 inv.view))
     (came_up n w fl ba c.loop-k.opened c.loop-k.found tries inv.tried c.loop-k.kept (scan_of ms) (omega (arith, count, t, last)) e moved)
+
+pub try_once-clean-requires : goal.try_once-clean-requires
+try_once-clean-requires g c = let lens = c.requires.lengths in let idle = c.requires.idle in (
+  search rules,
+  (
+    c.requires.own,
+    (
+      c.requires.geometry,
+      ((lens.0, lens.1, lens.2, lens.3), (c.requires.wide, (c.requires.totals, (idle.kept, (λ z. (idle.rest z).looks, λ z. (idle.rest z).due, λ z. (idle.rest z).asks))))),
+    ),
+  ),
+)
+
+pub returns-then-clean-clause-own : goal.returns-then-clean-clause-own
+returns-then-clean-clause-own g c = c.try_once-clean.ensures.own
+
+pub returns-then-clean-clause-ruled : goal.returns-then-clean-clause-ruled
+returns-then-clean-clause-ruled g c = c.try_once-clean.ensures.ruled
+
+pub returns-then-clean-clause-wide : goal.returns-then-clean-clause-wide
+returns-then-clean-clause-wide g c = c.try_once-clean.ensures.wide
+
+pub returns-then-clean-clause-totals : goal.returns-then-clean-clause-totals
+returns-then-clean-clause-totals g c = c.try_once-clean.ensures.totals
+
+pub returns-then-clean-clause-idle : goal.returns-then-clean-clause-idle
+returns-then-clean-clause-idle g c = let scan = now_is _ _ _ c.requires.own.1 (c.try_once-clean.ensures.clean c.if-clean.true) in
+    record { kept = ap (λ (d : Scan). d.kept) scan; rest = ap (λ (d : Scan). d.now) scan }
+
+pub returns-then-clean-clause-others : goal.returns-then-clean-clause-others
+returns-then-clean-clause-others g c = others_same _ (members_of (g.S.ScanSeat.bundle c.args.seat.now)) _ c.requires.own.1 (c.try_once-clean.ensures.clean c.if-clean.true)
+
+pub returns-then-clean-clause-quiet : goal.returns-then-clean-clause-quiet
+returns-then-clean-clause-quiet g c = λ e. c.try_once-clean.ensures.quiet (ap quiet_in e)
+
+pub returns-then-clean-clause-lent : goal.returns-then-clean-clause-lent
+returns-then-clean-clause-lent g c = λ e. absurd (direct_lent _ e)
+
+pub returns-then-clean-clause-came_lent : goal.returns-then-clean-clause-came_lent
+returns-then-clean-clause-came_lent g c = λ e. absurd (direct_lent _ e)
+
+pub returns-then-clean-clause-gave_up : goal.returns-then-clean-clause-gave_up
+returns-then-clean-clause-gave_up g c = λ e. absurd (direct_up _ e)
+
+pub returns-then-clean-clause-came_up : goal.returns-then-clean-clause-came_up
+returns-then-clean-clause-came_up g c = λ e. absurd (direct_up _ e)
+
+pub returns-then-clean-2-clause-ruled : goal.returns-then-clean-2-clause-ruled
+returns-then-clean-2-clause-ruled g c = c.try_once-clean-in-loop-k.ensures.ruled
+
+pub returns-then-clean-2-clause-wide : goal.returns-then-clean-2-clause-wide
+returns-then-clean-2-clause-wide g c = c.try_once-clean-in-loop-k.ensures.wide
+
+pub returns-then-clean-2-clause-totals : goal.returns-then-clean-2-clause-totals
+returns-then-clean-2-clause-totals g c = c.try_once-clean-in-loop-k.ensures.totals
+
+pub returns-then-clean-2-clause-quiet : goal.returns-then-clean-2-clause-quiet
+returns-then-clean-2-clause-quiet g c = λ e. absurd (not_quiet (ap quiet_in e))
+
+pub returns-then-clean-2-clause-once : goal.returns-then-clean-2-clause-once
+returns-then-clean-2-clause-once g c = λ e. absurd (not_quiet (ap quiet_in e))
+
+pub returns-then-clean-2-clause-lent : goal.returns-then-clean-2-clause-lent
+returns-then-clean-2-clause-lent g c = λ e. absurd (direct_lent _ e)
+
+pub returns-then-clean-2-clause-came_lent : goal.returns-then-clean-2-clause-came_lent
+returns-then-clean-2-clause-came_lent g c = λ e. absurd (direct_lent _ e)
+
+pub returns-then-clean-2-clause-gave_up : goal.returns-then-clean-2-clause-gave_up
+returns-then-clean-2-clause-gave_up g c = λ e. absurd (direct_up _ e)
+
+pub returns-then-clean-2-clause-came_up : goal.returns-then-clean-2-clause-came_up
+returns-then-clean-2-clause-came_up g c = λ e. absurd (direct_up _ e)
+
+pub returns-then-lends-clause-ruled : goal.returns-then-lends-clause-ruled
+returns-then-lends-clause-ruled g c = c.ask_all-lends.ensures.ruled
+
+pub returns-then-lends-clause-wide : goal.returns-then-lends-clause-wide
+returns-then-lends-clause-wide g c = c.try_once-clean-in-loop-k.ensures.wide
+
+pub returns-then-lends-clause-totals : goal.returns-then-lends-clause-totals
+returns-then-lends-clause-totals g c = c.try_once-clean-in-loop-k.ensures.totals
+
+pub returns-then-lends-clause-direct : goal.returns-then-lends-clause-direct
+returns-then-lends-clause-direct g c = λ q e. absurd (lent_direct q e)
+
+pub returns-then-lends-clause-came_direct : goal.returns-then-lends-clause-came_direct
+returns-then-lends-clause-came_direct g c = λ q e. absurd (lent_direct q e)
+
+pub returns-then-lends-clause-quiet : goal.returns-then-lends-clause-quiet
+returns-then-lends-clause-quiet g c = λ e. absurd (lent_direct _ e)
+
+pub returns-then-lends-clause-once : goal.returns-then-lends-clause-once
+returns-then-lends-clause-once g c = λ e. absurd (lent_direct _ e)
+
+pub returns-then-lends-clause-moved : goal.returns-then-lends-clause-moved
+returns-then-lends-clause-moved g c = λ e. absurd (lent_direct _ e)
+
+pub returns-then-lends-clause-gave_up : goal.returns-then-lends-clause-gave_up
+returns-then-lends-clause-gave_up g c = λ e. absurd (lent_up e)
+
+pub returns-then-lends-clause-came_up : goal.returns-then-lends-clause-came_up
+returns-then-lends-clause-came_up g c = λ e. absurd (lent_up e)
+
+pub returns-clause-ruled : goal.returns-clause-ruled
+returns-clause-ruled g c = c.loop-k.invariant.1.ruled
+
+pub returns-clause-direct : goal.returns-clause-direct
+returns-clause-direct g c = λ q e. absurd (up_direct q e)
+
+pub returns-clause-came_direct : goal.returns-clause-came_direct
+returns-clause-came_direct g c = λ q e. absurd (up_direct q e)
+
+pub returns-clause-quiet : goal.returns-clause-quiet
+returns-clause-quiet g c = λ e. absurd (up_direct _ e)
+
+pub returns-clause-once : goal.returns-clause-once
+returns-clause-once g c = λ e. absurd (up_direct _ e)
+
+pub returns-clause-moved : goal.returns-clause-moved
+returns-clause-moved g c = λ e. absurd (up_direct _ e)
+
+pub returns-clause-lent : goal.returns-clause-lent
+returns-clause-lent g c = λ e. absurd (up_lent e)
+
+pub returns-clause-came_lent : goal.returns-clause-came_lent
+returns-clause-came_lent g c = λ e. absurd (up_lent e)
