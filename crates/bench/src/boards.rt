@@ -153,25 +153,57 @@ impl<R: ServiceRuntime> Lines<'_, R> {
         let floor = &mut Floor::new(rt.alloc(), all, 0, copied)?;
         self.measure("scan_quiet", 10, |_| floor.scan(), |_| scan(0))?;
         for moved in [1, 4, 16] {
-            let name = format!(in rt.alloc(); "scan_moved_{moved}")?;
-            let Some(moving) = workers.get_mut(..moved) else {
-                break;
-            };
-            let floor = &mut Floor::new(rt.alloc(), all, words.saturating_mul(moved), copied)?;
-            let least = |rounds| timed(rt, rounds, &mut |_| floor.scan());
-            let batch = |rounds|
-                requires { (state : F) (x : _) → F.pre state x }
-            {
-                let make = &mut |_| publish(moving);
-                timed_each(rt, rounds, make, &mut |()| scan(0))
-            };
-            self.batches(name.as_str(), 1_000, least, batch)?;
+            if let Some(moving) = workers.get_mut(..moved) {
+                let read = words.saturating_mul(moved);
+                let floor = &mut Floor::new(rt.alloc(), all, read, copied)?;
+                self.scans_after(moving, &mut scan, floor)?;
+            }
         }
         Ok(())
     }
 
-    /// Updates and scans of a new board of rows of so many words. `busy_4` has one batch: a worker whose scan meets numbers that move
-    /// reads rows and tries again.
+    /// Scans of which each is made after these workers have published.
+    fn scans_after<F: FnMut(u64) -> Option<()>>(
+        &self,
+        moving: &mut [impl Counts],
+        scan: &mut F,
+        floor: &mut Floor,
+    ) -> Result<()>
+        requires { (state : F) (x : _) → F.pre state x }
+    {
+        let rt = self.rt;
+        let name = format!(in rt.alloc(); "scan_moved_{}", moving.len())?;
+        let least = |rounds| timed(rt, rounds, &mut |_| floor.scan());
+        let batch = |rounds|
+            requires { (state : F) (x : _) → F.pre state x }
+        {
+            let make = &mut |_| publish(moving);
+            timed_each(rt, rounds, make, &mut |()| scan(0))
+        };
+        self.batches(name.as_str(), 1_000, least, batch)
+    }
+
+    /// Scans by the source of a registry, whose rows have so many words.
+    fn scanned<const N: usize, const C: usize, const H: usize, const G: usize>(
+        &self,
+        workers: &mut [impl Counts],
+        source: &mut impl Source<N, C, H, G>,
+        words: usize,
+    ) -> Result<()> {
+        let mut out = Snapshot::new(self.rt.alloc())?;
+        self.scans(workers, |_| source.scan(&mut out).ok(), words)
+    }
+
+    /// Updates of so many workers, of which four count at once. There is one batch: a worker whose scan meets numbers that move reads
+    /// rows and tries again.
+    fn busy<W: Counts + Send + Drop>(&self, workers: Vec<W>, all: usize) -> Result<()> {
+        let rounds = self.one_in(100);
+        let floor = four_updates(self.rt, all, rounds)?;
+        let taken = four_count(self.rt, workers, rounds)?;
+        self.line("busy_4", rounds, taken, floor, None)
+    }
+
+    /// Updates and scans of a new board of rows of so many words.
     pub fn board<const N: usize, const C: usize, const H: usize, const G: usize>(
         &self,
         words: usize,
@@ -180,12 +212,11 @@ impl<R: ServiceRuntime> Lines<'_, R> {
         let (registry, mut recorders, _) = crew.open(1)?;
         self.updates(recorders.first_mut().context("no worker")?, N, C)?;
         self.lists::<N, C, H, G>()?;
-        let mut source = registry.into_state().into_source();
-        let mut out = Snapshot::new(self.rt.alloc())?;
-        self.scans(&mut recorders, |_| source.scan(&mut out).ok(), words)?;
-        let rounds = self.one_in(100);
-        let floor = four_updates(self.rt, N, rounds)?;
-        let taken = four_count(self.rt, recorders, rounds)?;
-        self.line("busy_4", rounds, taken, floor, None)
+        self.scanned(
+            &mut recorders,
+            &mut registry.into_state().into_source(),
+            words,
+        )?;
+        self.busy(recorders, N)
     }
 }

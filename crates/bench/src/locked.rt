@@ -25,18 +25,28 @@ fn scrapes(clock: &impl Clock, source: &mut impl ScrapeFrom, rounds: u64) -> Res
     nanos_since(clock, start)
 }
 
+/// Counts all of a service by the first recorder, registers it, and makes as many scrapes as the registry keeps.
+fn fill<const N: usize, const C: usize, const H: usize>(
+    rt: &impl ServiceRuntime,
+    registry: &Registry<'_, N, C, H, 0>,
+    recorders: &mut [Recorder<'_, N, C, H, 0>],
+    service: Service,
+) -> Result<()> {
+    count_by(recorders.first_mut().context("no worker")?, service)?;
+    service.register(rt.alloc(), &mut Behind { rt, registry })?;
+    let _nanos = scrapes(rt, &mut FromRegistry { rt, registry }, WINDOW as u64)?;
+    Ok(())
+}
+
 /// A new board's registry of a service that was counted, which has made as many scrapes as it keeps, and the board's recorders.
 pub fn filled<'a, const N: usize, const C: usize, const H: usize>(
     rt: &impl ServiceRuntime,
     crew: &'a mut Crew<N, C, H, 0>,
     service: Service,
 ) -> Result<(Registry<'a, N, C, H, 0>, Vec<Recorder<'a, N, C, H, 0>>)> {
-    let (made, mut recorders, _) = crew.open(WINDOW)?;
-    count_by(recorders.first_mut().context("no worker")?, service)?;
-    let registry = &made;
-    service.register(rt.alloc(), &mut Behind { rt, registry })?;
-    let _nanos = scrapes(rt, &mut FromRegistry { rt, registry }, WINDOW as u64)?;
-    Ok((made, recorders))
+    let (registry, mut recorders, _) = crew.open(WINDOW)?;
+    fill(rt, &registry, &mut recorders, service)?;
+    Ok((registry, recorders))
 }
 
 /// Waits until the flag stands.

@@ -150,6 +150,21 @@ fn empty<const C: usize, const H: usize>(alloc: Global, window: usize) -> Result
     Ok(made.map_err(|not_made| not_made.fault)?)
 }
 
+/// Counts all of a service in a registry, registers it, and makes so many scrapes.
+fn fill<const C: usize, const H: usize>(
+    alloc: Global,
+    registry: &mut Plain<C, H>,
+    service: Service,
+    scrapes: usize,
+) -> Result<()> {
+    service.count(|ops| registry.apply(&ops).ok())?;
+    service.register(alloc, registry)?;
+    for _scrape in 0..scrapes {
+        let _scrape = registry.scrape()?;
+    }
+    Ok(())
+}
+
 /// A registry of a service, which has made as many scrapes as its window is, after all of the service was counted.
 fn plain<const C: usize, const H: usize>(
     alloc: Global,
@@ -159,11 +174,7 @@ fn plain<const C: usize, const H: usize>(
     requires { IsGeometry 1 C H 0 }
 {
     let mut registry = empty::<C, H>(alloc, window)?;
-    service.count(|ops| registry.apply(&ops).ok())?;
-    service.register(alloc, &mut registry)?;
-    for _scrape in 0..window {
-        let _scrape = registry.scrape()?;
-    }
+    fill(alloc, &mut registry, service, window)?;
     Ok(registry)
 }
 
@@ -233,15 +244,39 @@ impl<R: ServiceRuntime> Lines<'_, R> {
         self.measure("gather", 1_000, floor, gather)
     }
 
+    /// Scrapes of a registry beside scans of a source that is equal to its own.
+    fn beside_scans<const N: usize, const C: usize, const H: usize, const G: usize>(
+        &self,
+        registry: &mut impl ScrapeFrom,
+        source: &mut impl Source<N, C, H, G>,
+    ) -> Result<()> {
+        let mut out = Snapshot::new(self.rt.alloc())?;
+        self.scrapes(registry, |_| source.scan(&mut out).ok())
+    }
+
     /// A registry over a source of one thread.
     pub fn alone<const C: usize, const H: usize>(&self, service: Service) -> Result<()>
         requires { IsGeometry 1 C H 0 }
     {
         let alloc = self.rt.alloc();
         let state = &mut plain::<C, H>(alloc, service, WINDOW)?;
-        let mut source = plain::<C, H>(alloc, service, WINDOW)?.into_source();
-        let mut out = Snapshot::new(alloc)?;
-        self.scrapes(&mut FromState { state }, |_| source.scan(&mut out).ok())
+        let source = &mut plain::<C, H>(alloc, service, WINDOW)?.into_source();
+        self.beside_scans(&mut FromState { state }, source)
+    }
+
+    /// A registry over a board, and the source of another one that is equal.
+    fn over_boards<const N: usize, const C: usize, const H: usize>(
+        &self,
+        crew: &mut Crew<N, C, H, 0>,
+        equal: &mut Crew<N, C, H, 0>,
+        service: Service,
+    ) -> Result<()> {
+        let state = &mut filled(self.rt, crew, service)?.0.into_state();
+        let source = &mut filled(self.rt, equal, service)?
+            .0
+            .into_state()
+            .into_source();
+        self.beside_scans(&mut FromState { state }, source)
     }
 
     /// A registry over a board.
@@ -249,23 +284,17 @@ impl<R: ServiceRuntime> Lines<'_, R> {
         &self,
         service: Service,
     ) -> Result<()> {
-        let (rt, alloc) = (self.rt, self.rt.alloc());
-        let mut crew = Crew::<N, C, H, 0>::new(alloc, ID, 1)?;
-        let state = &mut filled(rt, &mut crew, service)?.0.into_state();
-        let mut equal = Crew::<N, C, H, 0>::new(alloc, ID, 1)?;
-        let equal = filled(rt, &mut equal, service)?.0;
-        let mut source = equal.into_state().into_source();
-        let mut out = Snapshot::new(alloc)?;
-        self.scrapes(&mut FromState { state }, |_| source.scan(&mut out).ok())
+        let mut crew = Crew::<N, C, H, 0>::new(self.rt.alloc(), ID, 1)?;
+        let mut equal = Crew::<N, C, H, 0>::new(self.rt.alloc(), ID, 1)?;
+        self.over_boards(&mut crew, &mut equal, service)
     }
 
-    /// Scrapes of registries that keep 1,024 scrapes and a single one.
-    pub fn windows<const C: usize, const H: usize>(&self, service: Service) -> Result<()>
-        requires { IsGeometry 1 C H 0 }
-    {
-        let alloc = self.rt.alloc();
-        let wide = &mut plain::<C, H>(alloc, service, 1_024)?;
-        let narrow = &mut plain::<C, H>(alloc, service, 1)?;
+    /// Scrapes of a registry that keeps many, beside those of one that keeps few.
+    fn wide_and_narrow(
+        &self,
+        wide: &mut impl ScrapeFrom,
+        narrow: &mut impl ScrapeFrom,
+    ) -> Result<()> {
         let floor = |_| {
             let _scrape = narrow.scrape().ok()?;
             Some(())
@@ -274,6 +303,16 @@ impl<R: ServiceRuntime> Lines<'_, R> {
             let _scrape = wide.scrape().ok()?;
             Some(())
         })
+    }
+
+    /// Scrapes of registries that keep 1,024 scrapes and a single one.
+    pub fn windows<const C: usize, const H: usize>(&self, service: Service) -> Result<()>
+        requires { IsGeometry 1 C H 0 }
+    {
+        let alloc = self.rt.alloc();
+        let state = &mut plain::<C, H>(alloc, service, 1_024)?;
+        let narrow = &mut plain::<C, H>(alloc, service, 1)?;
+        self.wide_and_narrow(&mut FromState { state }, &mut FromState { state: narrow })
     }
 
     /// Texts of a service's scrape.
@@ -286,12 +325,19 @@ impl<R: ServiceRuntime> Lines<'_, R> {
 
     /// Registrations and children. Where the family is the 128th, 127 are there; where the child is the 256th, 255.
     pub fn makings(&self) -> Result<()> {
-        let (rt, alloc) = (self.rt, self.rt.alloc());
+        let rt = self.rt;
         let (first, last) = (|n| registrations(rt, 0, n), |n| registrations(rt, 127, n));
         self.batches("register_128th", 10_000, first, last)?;
         let (first, last) = (|n| new_children(rt, 0, n), |n| new_children(rt, 255, n));
         self.batches("child_256th", 10_000, first, last)?;
-        let (values, one) = (&values(alloc, 0)?, &mut with_families(alloc, 1, 1)?);
+        self.finding()
+    }
+
+    /// A child of 256 that is found, beside the only one.
+    fn finding(&self) -> Result<()> {
+        let alloc = self.rt.alloc();
+        let values = &values(alloc, 0)?;
+        let one = &mut with_families(alloc, 1, 1)?;
         let all = &mut with_families(alloc, 1, 256)?;
         let floor = |_| find_once(one, values);
         self.measure("child_of_256", 10, floor, |_| find_once(all, values))
