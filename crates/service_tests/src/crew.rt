@@ -39,7 +39,10 @@ pub(crate) fn last_reader<const N: usize, const C: usize, const H: usize, const 
     ensures own { IfOk result (IsReaderOf board.now) }
     ensures others { All (IsReaderOf board.now) readers.new.items }
 {
-    Ok(readers.pop().ok_or("no reader")?)
+    match readers.pop() {
+        Some(reader) => Ok(reader),
+        None => Err("no reader".into()),
+    }
 }
 
 /// Takes the last worker.
@@ -51,7 +54,10 @@ pub(crate) fn last_worker<const N: usize, const C: usize, const H: usize, const 
     ensures own { IfOk result (IsWorkerOf board.now) }
     ensures others { All (IsWorkerOf board.now) workers.new.items }
 {
-    Ok(workers.pop().ok_or("no worker")?)
+    match workers.pop() {
+        Some(worker) => Ok(worker),
+        None => Err("no worker".into()),
+    }
 }
 
 /// A registry that keeps so many scrapes, by the last reader.

@@ -326,6 +326,24 @@ fn new_registry<'b>(
     }
 }
 
+/// It grows by both families, while a worker counts.
+fn grow_both<R: Wait + Abort>(
+    rt: &R,
+    alloc: Global,
+    board: &OneBoard,
+    worker: &mut Worker<1, 1, 1, 1>,
+    grown: &mut Shared<'_, '_, R>,
+    look: &mut Look,
+) -> Result<(), Fail>
+    requires { IsWorkerOf board.now worker.old }
+{
+    grow_counter(rt, alloc, grown, look)?;
+    worker.apply(board, &FIRST)?;
+    grow_gauge(rt, alloc, grown, look)?;
+    worker.apply(board, &SECOND)?;
+    Ok(())
+}
+
 /// It grows as one of one thread does, while a worker counts.
 fn grow_behind(
     rt: &(impl Wait + Abort),
@@ -338,10 +356,7 @@ fn grow_behind(
     requires { IsWorkerOf board.now worker.old }
 {
     let mut grown = Shared { rt, registry };
-    grow_counter(rt, alloc, &mut grown, look)?;
-    worker.apply(board, &FIRST)?;
-    grow_gauge(rt, alloc, &mut grown, look)?;
-    worker.apply(board, &SECOND)?;
+    grow_both(rt, alloc, board, worker, &mut grown, look)?;
     scrape(rt, &mut grown, look, SHOWN)
 }
 

@@ -133,6 +133,15 @@ fn print_all(rt: &impl Abort, registry: &mut Over<GivesUp>, texts: &[&str]) -> R
     Ok(())
 }
 
+/// A scrape is given up, and the registry is as it was.
+fn is_given_up(rt: &impl Abort, registry: &mut Over<GivesUp>, look: &mut Look) {
+    let before = look.at(registry);
+    let fault = ScrapeFault::Contended(RISEN);
+    same(rt, &registry.scrape().err(), &Some(fault));
+    same(rt, &fault.number(), &14);
+    same(rt, &look.at(registry), &before);
+}
+
 /// The scrape of this number is given up: the registry is as it was, and the next scrapes show what they would have shown.
 fn gives_up_at(
     rt: &impl Abort,
@@ -141,11 +150,7 @@ fn gives_up_at(
     at: usize,
 ) -> Result<(), Fail> {
     print_all(rt, registry, SHOWN.get(..at).ok_or("no text")?)?;
-    let before = look.at(registry);
-    let fault = ScrapeFault::Contended(RISEN);
-    same(rt, &registry.scrape().err(), &Some(fault));
-    same(rt, &fault.number(), &14);
-    same(rt, &look.at(registry), &before);
+    is_given_up(rt, registry, look);
     print_all(rt, registry, SHOWN.get(at..).ok_or("no text")?)?;
     same(rt, &look.at(registry).entries, &6);
     Ok(())

@@ -23,6 +23,25 @@ type Names<'a> = Registry<'a, 2, 4, 2, 2>;
 /// What counts.
 type Counts<'a> = Recorder<'a, 2, 4, 2, 2>;
 
+/// The registry of a crew that is opened here.
+fn opened(team: &mut Team, window: usize) -> Result<Names<'_>, Fail> {
+    match team.open(window) {
+        Ok((registry, _, _)) => Ok(registry),
+        Err(fault) => Err(fault.into()),
+    }
+}
+
+/// The registry of a crew that is opened here, and its last recorder.
+fn opened_to_count(team: &mut Team) -> Result<(Names<'_>, Counts<'_>), Fail> {
+    match team.open(64) {
+        Ok((registry, mut recorders, _)) => match recorders.pop() {
+            Some(recorder) => Ok((registry, recorder)),
+            None => Err("no recorder".into()),
+        },
+        Err(fault) => Err(fault.into()),
+    }
+}
+
 /// Makes a scrape, whose text is this.
 fn prints(rt: &(impl Wait + Abort), registry: &Names<'_>, expected: &str) -> Result<(), Fail> {
     let text = scrape_text(rt, registry)?;

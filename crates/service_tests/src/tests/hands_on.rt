@@ -187,7 +187,25 @@ fn taken_from(rt: &impl Abort, side: Side) -> Result<Given, Fail> {
     Ok(given)
 }
 
+/// The names of the families that each of two threads asks for.
+fn all_names(alloc: Global) -> Result<((Named, Named), (Named, Named)), Fail> {
+    let one = named(alloc, "a", "c")?;
+    match named(alloc, "b", "d") {
+        Ok(other) => Ok((one, other)),
+        Err(fault) => Err(fault),
+    }
+}
+
 /// What each of the threads was given.
+fn taken_from_both(rt: &impl Abort, one: Side, other: Side) -> Result<(Given, Given), Fail> {
+    let one = taken_from(rt, one)?;
+    match taken_from(rt, other) {
+        Ok(other) => Ok((one, other)),
+        Err(fault) => Err(fault),
+    }
+}
+
+/// What each of the threads was given, where they ask at once.
 fn all_at_once(
     rt: &(impl Abort + Threads + Wait + Sync),
     alloc: Global,
@@ -197,11 +215,9 @@ fn all_at_once(
 ) -> Result<(Given, Given), Fail>
     requires { IsWorkerOf board.now workers.0 × IsWorkerOf board.now workers.1 }
 {
-    let one = named(alloc, "a", "c")?;
-    let names = (one, named(alloc, "b", "d")?);
+    let names = all_names(alloc)?;
     let (one, other) = two_sides(rt, alloc, board, registry, workers, names);
-    let one = taken_from(rt, one)?;
-    Ok((one, taken_from(rt, other)?))
+    taken_from_both(rt, one, other)
 }
 
 /// What was registered and made stands in the journal: asked for again, a child gives its handle, and a descriptor is refused for

@@ -1,9 +1,10 @@
 //! What recorders refuse: handles that are none of their board, and too much. Nothing is counted then.
-use super::{Counts, Team, prints};
+use super::{Counts, Names, Team, opened_to_count, prints};
 use crate::asserts::same;
 use crate::crew::ID;
 use dirgwako::{ApplyFault, Change, CountFault, Counter, OpFault, Registrar, inc};
 use std::process::Abort;
+use std::sync::Wait;
 use std::test::Fail;
 
 /// More than a counter can hold.
@@ -58,13 +59,22 @@ fn refuses_changes(rt: &impl Abort, recorder: &mut Counts<'_>) {
     same(rt, &recorder.number(), &0);
 }
 
+/// A recorder refuses lists and changes, and a scrape shows that nothing is counted.
+fn refuses_all(
+    rt: &(impl Wait + Abort + AllocGlobal),
+    registry: &Names<'_>,
+    recorder: &mut Counts<'_>,
+) -> Result<(), Fail> {
+    Registrar::new(rt, registry).counter("a", "")?;
+    refuses_lists(rt, recorder);
+    refuses_changes(rt, recorder);
+    prints(rt, registry, "# TYPE a counter\na 0\n")
+}
+
+/// Nothing that a recorder refuses is counted.
 #[test]
 fn a_recorder_refuses(rt: HostRuntime) -> Result<(), Fail> {
     let mut team = Team::new(rt.alloc(), ID, 1)?;
-    let (registry, mut recorders, _) = team.open(64)?;
-    Registrar::new(&rt, &registry).counter("a", "")?;
-    let recorder = recorders.last_mut().ok_or("no recorder")?;
-    refuses_lists(&rt, recorder);
-    refuses_changes(&rt, recorder);
-    prints(&rt, &registry, "# TYPE a counter\na 0\n")
+    let (registry, mut recorder) = opened_to_count(&mut team)?;
+    refuses_all(&rt, &registry, &mut recorder)
 }

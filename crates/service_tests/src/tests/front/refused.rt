@@ -1,5 +1,5 @@
 //! Metrics that are refused: which text it was, at which place, and by which number.
-use super::{Team, prints};
+use super::{Names, Team, opened, prints};
 use crate::asserts::same;
 use crate::crew::ID;
 use dirgwako::{
@@ -132,16 +132,26 @@ fn fills_up<S: Registers>(
     Ok(())
 }
 
+/// Families are refused for each of their texts and shapes, for names that are taken, and where there are too many.
+fn refuses_families<S: Registers>(
+    rt: &(impl Abort + AllocGlobal),
+    metrics: &mut Registrar<S>,
+) -> Result<(), Fail> {
+    refuses_texts(rt, metrics)?;
+    refuses_a_label(rt, metrics)?;
+    refuses_shapes(rt, metrics);
+    refuses_shared_names(rt, metrics)?;
+    fills_up(rt, metrics)
+}
+
+/// Families are refused for each fault by its number, and register nothing.
 #[test]
 fn families(rt: HostRuntime) -> Result<(), Fail> {
     let mut team = Team::new(rt.alloc(), ID, 1)?;
-    let (registry, _, _) = team.open(64)?;
-    let mut metrics = Registrar::new(&rt, &registry);
-    refuses_texts(&rt, &mut metrics)?;
-    refuses_a_label(&rt, &mut metrics)?;
-    refuses_shapes(&rt, &mut metrics);
-    refuses_shared_names(&rt, &mut metrics)?;
-    fills_up(&rt, &mut metrics)
+    match opened(&mut team, 64) {
+        Ok(registry) => refuses_families(&rt, &mut Registrar::new(&rt, &registry)),
+        Err(fault) => Err(fault),
+    }
 }
 
 /// These label values are refused so, by this number.
@@ -200,14 +210,39 @@ fn refuses_a_metric<S: Registers>(rt: &impl Abort, metrics: &mut Registrar<S>) -
 const CHILDREN: &str = "# TYPE c counter\nc{a=\"x\",b=\"1\"} 0\nc{a=\"x\",b=\"2\"} 0\n\
      c{a=\"x\",b=\"3\"} 0\nc{a=\"x\",b=\"4\"} 0\n# TYPE g gauge\ng 0\n";
 
+/// Children are refused for their values and where there are too many, and a scrape shows those that are not.
+fn shows_children(
+    rt: &(impl Wait + Abort + AllocGlobal),
+    registry: &Names<'_>,
+) -> Result<(), Fail> {
+    let mut metrics = Registrar::new(rt, registry);
+    refuses_children(rt, &mut metrics)?;
+    refuses_a_metric(rt, &mut metrics)?;
+    prints(rt, registry, CHILDREN)
+}
+
+/// Children are refused for each fault by its number, and a scrape shows the others.
 #[test]
 fn children(rt: HostRuntime) -> Result<(), Fail> {
     let mut team = Team::new(rt.alloc(), ID, 1)?;
-    let (registry, _, _) = team.open(64)?;
-    let mut metrics = Registrar::new(&rt, &registry);
-    refuses_children(&rt, &mut metrics)?;
-    refuses_a_metric(&rt, &mut metrics)?;
-    prints(&rt, &registry, CHILDREN)
+    match opened(&mut team, 64) {
+        Ok(registry) => shows_children(&rt, &registry),
+        Err(fault) => Err(fault),
+    }
+}
+
+/// A registry whose families are one of gauges and one of counters refuses a family of counters so, by this number.
+fn refuses_a_family<S: Registers>(
+    rt: &impl Abort,
+    metrics: &mut Registrar<S>,
+    family: &CounterFamily,
+    refusal: (ChildRefusal, u8),
+) -> Result<(), Fail> {
+    metrics.gauge_family("g", "", &[])?;
+    metrics.counter_family("k", "", &[])?;
+    let (fault, number) = refusal;
+    refuses_values(rt, metrics, family, &[], fault, number);
+    Ok(())
 }
 
 /// A registry of a board of this id, whose families are one of gauges and one of counters, is asked by a family of counters.
@@ -219,13 +254,18 @@ fn asks_another(
     shown: &str,
 ) -> Result<(), Fail> {
     let mut team = Team::new(rt.alloc(), id, 1)?;
-    let (registry, _, _) = team.open(1)?;
-    let mut metrics = Registrar::new(rt, &registry);
-    metrics.gauge_family("g", "", &[])?;
-    metrics.counter_family("k", "", &[])?;
-    let (fault, number) = refusal;
-    refuses_values(rt, &mut metrics, family, &[], fault, number);
+    let registry = opened(&mut team, 1)?;
+    refuses_a_family(rt, &mut Registrar::new(rt, &registry), family, refusal)?;
     prints(rt, &registry, shown)
+}
+
+/// Two families of counters.
+fn two_families<S: Registers>(
+    metrics: &mut Registrar<S>,
+) -> Result<(CounterFamily, CounterFamily), Fail> {
+    let first = metrics.counter_family("c", "", &[])?;
+    let second = metrics.counter_family("d", "", &[])?;
+    Ok((first, second))
 }
 
 /// A family of another board is refused before anything is done, also where the kinds agree. Boards of one id are not told apart: there it
@@ -233,10 +273,8 @@ fn asks_another(
 #[test]
 fn a_family_of_another_board(rt: HostRuntime) -> Result<(), Fail> {
     let mut team = Team::new(rt.alloc(), ID, 1)?;
-    let (registry, _, _) = team.open(1)?;
-    let mut metrics = Registrar::new(&rt, &registry);
-    let first = metrics.counter_family("c", "", &[])?;
-    let second = metrics.counter_family("d", "", &[])?;
+    let registry = opened(&mut team, 1)?;
+    let (first, second) = two_families(&mut Registrar::new(&rt, &registry))?;
     let shown = "# TYPE g gauge\ng 0\n";
     asks_another(&rt, &first, ID, (ChildRefusal::OtherKind, 28), shown)?;
     asks_another(&rt, &second, ID + 1, (ChildRefusal::OtherRegistry, 20), "")

@@ -1,9 +1,9 @@
 //! Families with labels of each kind, what is counted, and what a scrape prints, which is written here by the format's rules: families by
 //! their names, children by their label values, a histogram's buckets with those below them.
-use super::{Counts, Names, Team, prints};
+use super::{Counts, Names, Team, opened_to_count, prints};
 use crate::asserts::same;
 use crate::crew::ID;
-use crate::helpers::{self, plain};
+use crate::helpers::{self, Plain, plain};
 use dirgwako::{
     CountFault, Counter, Gauge, Histogram, PrintFault, Registers, Registrar, TextFault, down, inc,
     linear, observe, up,
@@ -45,12 +45,14 @@ fn histogram<S: Registers>(rt: &impl Abort, metrics: &mut Registrar<S>) -> Resul
 type Handles = ((Counter, Counter), Histogram, Gauge);
 
 /// All families, not in the order of their names.
-fn register(rt: &(impl Wait + Abort + AllocGlobal), registry: &Names<'_>) -> Result<Handles, Fail> {
-    let mut metrics = Registrar::new(rt, registry);
-    let counters = counters(rt, &mut metrics)?;
-    let hist = histogram(rt, &mut metrics)?;
+fn register<S: Registers>(rt: &impl Abort, metrics: &mut Registrar<S>) -> Result<Handles, Fail> {
+    let counters = counters(rt, metrics)?;
+    let hist = histogram(rt, metrics)?;
     metrics.histogram("z", "No bound.", &[])?;
-    Ok((counters, hist, gauge(rt, &mut metrics)?))
+    match gauge(rt, metrics) {
+        Ok(gauge) => Ok((counters, hist, gauge)),
+        Err(fault) => Err(fault),
+    }
 }
 
 /// Values at and beside the bounds, and a gauge that falls below zero. Several changes are one version, and none are one too.
@@ -93,28 +95,53 @@ z_sum 0
 z_count 0
 "#;
 
+/// All families are registered and counted, and a scrape shows them.
+fn counts_and_shows(
+    rt: &(impl Wait + Abort + AllocGlobal),
+    registry: &Names<'_>,
+    recorder: &mut Counts<'_>,
+) -> Result<(), Fail> {
+    let handles = register(rt, &mut Registrar::new(rt, registry))?;
+    count(rt, recorder, handles)?;
+    prints(rt, registry, SHOWN)
+}
+
+/// A scrape shows what was counted of each kind, and the recorder is the second worker, which has published seven times.
 #[test]
 fn metrics_of_each_kind(rt: HostRuntime) -> Result<(), Fail> {
     let mut team = Team::new(rt.alloc(), ID, 1)?;
-    let (registry, mut recorders, _) = team.open(64)?;
-    let handles = register(&rt, &registry)?;
-    let mut recorder = recorders.pop().ok_or("no recorder")?;
-    count(&rt, &mut recorder, handles)?;
-    prints(&rt, &registry, SHOWN)?;
+    let (registry, mut recorder) = opened_to_count(&mut team)?;
+    counts_and_shows(&rt, &registry, &mut recorder)?;
     let worker = recorder.into_worker();
     same(&rt, &(worker.index(), worker.number()), &(1, 7));
     Ok(())
 }
 
-/// Metrics of a registry of one thread, which has no lock.
-#[test]
-fn a_registry_without_a_lock(rt: HostRuntime) -> Result<(), Fail> {
-    let mut metrics = Registrar::of(rt.alloc(), plain(rt.alloc(), 8)?);
+/// A child of a family of counters is the first counter.
+fn has_first_counter<S: Registers>(
+    rt: &impl Abort,
+    metrics: &mut Registrar<S>,
+) -> Result<(), Fail> {
     let family = metrics.counter_family("c", "", &["l"])?;
     let (registry, slot) = (ID, 0);
     let counter = metrics.counter_of(&family, &["x"])?;
-    same(&rt, &counter, &Counter { registry, slot });
-    helpers::prints(&rt, &mut metrics.at, "# TYPE c counter\nc{l=\"x\"} 0\n")
+    same(rt, &counter, &Counter { registry, slot });
+    Ok(())
+}
+
+/// A scrape shows it.
+fn shows_first_counter(rt: &impl Abort, metrics: &mut Registrar<Plain>) -> Result<(), Fail> {
+    has_first_counter(rt, metrics)?;
+    helpers::prints(rt, &mut metrics.at, "# TYPE c counter\nc{l=\"x\"} 0\n")
+}
+
+/// Metrics of a registry of one thread, which has no lock.
+#[test]
+fn a_registry_without_a_lock(rt: HostRuntime) -> Result<(), Fail> {
+    match plain(rt.alloc(), 8) {
+        Ok(registry) => shows_first_counter(&rt, &mut Registrar::of(rt.alloc(), registry)),
+        Err(fault) => Err(fault),
+    }
 }
 
 /// The numbers of refusals that no test can reach.
