@@ -5,7 +5,7 @@ ghost use Rattle.metrics_run.specs.Arguments.{AsksServe, IsCount, IsPort};
 use script_lines::read_number;
 
 /// What the arguments ask for.
-#[derive(Clone, Copy, Debug, PartialEq, Eq)]
+#[derive(Clone, Copy)]
 pub(crate) enum Asked {
     /// `script`
     Script,

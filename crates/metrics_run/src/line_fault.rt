@@ -7,56 +7,40 @@ use metric_desc::{HistogramFault, LabelsFault};
 use metric_names::{HelpTextFault, LabelNameFault, LabelValueFault, MetricNameFault, NoMemory};
 use registry_state::{BadWindow, ChildFault, RegisterFault, ScrapeFault};
 use std::alloc::{AllocError, AllocFailed};
-use thiserror::Error;
 use worker_pool::PoolFault;
 
 /// Why a script's line is refused.
-#[derive(Clone, Copy, Debug, PartialEq, Eq, Error)]
+#[derive(Clone, Copy)]
 pub enum LineFault {
     /// Refusal 27: the line is not in the script's language.
-    #[error("the line is not in the script's language")]
     BadLine,
     /// Refusals 1, 2, 3 and 6 of a metric's name.
-    #[error(transparent)]
     Name(MetricNameFault),
     /// Refusals 1 to 4 and 6 of a label's name.
-    #[error(transparent)]
     Label(LabelNameFault),
     /// Refusals 3, 5 and 6 of a help.
-    #[error(transparent)]
     Help(HelpTextFault),
     /// Refusals 7 and 9 of the labels of a counter or a gauge.
-    #[error(transparent)]
     Labels(LabelsFault),
     /// Refusals 7 to 10 of the labels and bounds of a histogram.
-    #[error(transparent)]
     Histogram(HistogramFault),
     /// Refusals 3 and 6 of a label's value.
-    #[error(transparent)]
     Value(LabelValueFault),
     /// Refusals 19, 23 and 6 of a family.
-    #[error(transparent)]
     Register(RegisterFault),
     /// Refusal 20: no family of that name.
-    #[error("there is no family of that name")]
     NoSuchFamily,
     /// Refusals 21, 22 and 6 of a child.
-    #[error(transparent)]
     Child(ChildFault),
     /// Refusal 28: no child of that number, or one of another kind.
-    #[error("there is no child of that number and kind")]
     NoSuchChild,
     /// Refusals 12, 15, 30 and 6 of a `go`.
-    #[error(transparent)]
     Pool(PoolFault),
     /// Refusals 6 and 14 of a scrape.
-    #[error(transparent)]
     Scrape(ScrapeFault),
     /// Refusal 31: no count of scrapes that may be kept.
-    #[error(transparent)]
     Window(BadWindow),
     /// Refusal 6: a growth was refused.
-    #[error("out of memory")]
     NoMemory,
 }
 

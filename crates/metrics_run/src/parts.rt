@@ -93,7 +93,7 @@ pub(crate) fn read_values(alloc: Global, values: &str) -> Result<Vec<LabelValue>
 }
 
 /// What a line says of a family, but for its kind and bounds, as it is written.
-#[derive(Clone, Copy, Debug)]
+#[derive(Clone, Copy)]
 pub(crate) struct Parts<'a> {
     pub(crate) name: &'a str,
     pub(crate) labels: &'a str,

@@ -36,7 +36,7 @@ use std::thread::Threads;
 pub const MAX_LINES: u64 = 1_000_000;
 
 /// How a script ended.
-#[derive(Clone, Copy, Debug, PartialEq, Eq)]
+#[derive(Clone, Copy, PartialEq, Eq)]
 pub enum ScriptEnd {
     /// After its last line.
     Done,
@@ -61,7 +61,7 @@ impl ScriptEnd {
 }
 
 /// What ends a script before its last line.
-#[derive(Clone, Copy, Debug, PartialEq, Eq)]
+#[derive(Clone, Copy)]
 enum Stop {
     Refused(Refused),
     Broken,

@@ -20,7 +20,7 @@ pub(crate) struct State<'a> {
 }
 
 /// What a line counts: `by`, so many times, in the child of this number, by this worker.
-#[derive(Clone, Copy, Debug, PartialEq, Eq)]
+#[derive(Clone, Copy)]
 pub(crate) struct Count {
     pub(crate) what: Counting,
     pub(crate) worker: usize,

@@ -1,7 +1,7 @@
-use Rattle.std.proofs.Common.{◌≡◌, ℕ, refl, length, replicate, [], ap, sym, subst, ◌∙◌}
+use Rattle.std.proofs.Common.{true, ◌≡◌, ℕ, refl, length, replicate, [], ap, sym, subst, ◌∙◌}
 use Rattle.std.proofs.lemmas.List.{length-map, with_items_is}
 use Rattle.snapshot_update.specs.Workers.{index_of}
-use Rattle.worker_pool.specs.Ends.{DidAll}
+use Rattle.worker_pool.specs.Ends.{DidAll, IsPoolFault}
 use Rattle.metrics_run.specs.Jobs.{lists_in}
 use Rattle.metrics_run.proofs.Crew.{same_workers, none_left}
 use Rattle.metrics_run.proofs.state.State.go.Goals as goal
@@ -40,3 +40,10 @@ returns-in-Ok-clause-gone g c =
       settler = refl;
       children = refl;
     }
+
+pub returns-in-Err-clause-fault : goal.returns-in-Err-clause-fault
+returns-in-Err-clause-fault g c =
+    let self = c.args.self.now in
+    let fault = c.in-Err.fault in
+    let lists = subst (λ queue. IsPoolFault true self.board.now queue c.replace-workers.result.items fault) c.deref.ensures.value c.in-Err.ensures.fault in
+    (fault, c.told.ensures, subst (λ ws. IsPoolFault true self.board.now self.queue.items ws.items fault) c.replace-workers.ensures.value lists)

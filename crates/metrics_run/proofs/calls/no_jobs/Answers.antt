@@ -1,0 +1,15 @@
+use Rattle.std.proofs.Common.{◌≡◌, ◌∷◌, [], All, ap, arith, length, length-append, subst, sym, ◌∙◌}
+use Rattle.std.proofs.lemmas.List.Elements.{All-push}
+use Rattle.std.specs.declared.vec.Vec.{Vec}
+use Rattle.std.specs.declared.alloc.Global.{Global}
+use Rattle.worker_pool.specs.declared.job.Job.{Job}
+use Rattle.metrics_run.proofs.calls.no_jobs.Goals as goal
+
+pub loop-worker-preserved : goal.loop-worker-preserved
+loop-worker-preserved c =
+    let lists = c.loop-worker.lists.items in
+    let items = c.in_ok-push.ensures.items in
+    let so_many = c.loop-worker.invariant.0 in
+    let longer = ap length items ∙ length-append lists (c.new.result ∷ []) in
+    let is_empty : Vec Job Global → Type 0 = λ list. list.items ≡ [] in
+    (omega (arith, longer, so_many), subst (All is_empty) (sym items) (All-push is_empty lists c.new.result c.loop-worker.invariant.1 c.new.ensures.items))
