@@ -4,8 +4,6 @@ pub mod Ordered
 pub mod Slots
 pub mod Holding
 pub mod Showing
-pub mod Increasing
-pub mod Historic
 pub mod Merging
 pub mod Entries
 pub mod Replayed

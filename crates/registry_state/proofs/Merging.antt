@@ -6,7 +6,8 @@ use Rattle.std.proofs.Math.Seq.{drop-length, take-add}
 use Rattle.snapshot_scan.specs.Snapshots.{Taken, entry_of}
 use Rattle.snapshot_scan.specs.Sources.{newest}
 use Rattle.registry_state.specs.Journal.{Change, Entry, Changed, Scraped, scrapes, without_oldest, without, within}
-use Rattle.registry_state.specs.Merged.{merged, AreNoted, answers_of}
+use Rattle.scrape_history.specs.History.{answers_of}
+use Rattle.registry_state.specs.Merged.{merged, AreNoted}
 
 pub noted_within : (all from : ℕ) (kept : List (Taken × ℕ)) → AreNoted all from kept → from ≤ all
 noted_within all from [] noted = noted

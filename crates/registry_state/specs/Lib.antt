@@ -2,8 +2,6 @@ pub mod Journal
 pub mod Replay
 pub mod Parts
 pub mod Merged
-pub mod Increases
-pub mod History
 pub mod Notes
 pub mod Kept
 pub mod Shown

@@ -1,6 +1,5 @@
 -- How a journal is kept: all changes in order, and the kept scrapes, each with how many changes were made before it.
 use Rattle.std.specs.Prelude.{ℕ, ◌-◌, ◌≤◌, List, [], ◌∷◌, ◌++◌, map, take, drop}
-use Rattle.register_rule.specs.declared.view.Entry.{Entry as Answer}
 use Rattle.snapshot_scan.specs.Snapshots.{Taken, entry_of}
 use Rattle.registry_state.specs.Journal.{Change, Entry, Changed, Scraped}
 
@@ -14,7 +13,3 @@ merged changes from (scrape ∷ kept) =
 abbrev pub AreNoted : (all from : ℕ) → (kept : List (Taken × ℕ)) → Type 0
 AreNoted all from [] = from ≤ all
 AreNoted all from (scrape ∷ kept) = (from ≤ scrape.1) × AreNoted all scrape.1 kept
-
--- the answers of kept scrapes
-abbrev pub answers_of : List (Taken × ℕ) → List Answer
-answers_of kept = map (λ (scrape : Taken × ℕ). entry_of scrape.0) kept

@@ -9,10 +9,10 @@ ghost use Rattle.registry_state.specs.Journal.{Changed, Scraped, scrapes, within
 ghost use Rattle.registry_state.specs.Notes.{change_of};
 
 use crate::fault::ScrapeFault;
-use crate::history::History;
 use crate::kept::Kept;
 use crate::note::Note;
 use metric_names::NoMemory;
+use scrape_history::History;
 use snapshot_scan::{Snapshot, Source};
 use std::alloc::{AllocError, Global};
 use std::marker::Model;

@@ -2,7 +2,7 @@
 ghost use Rattle.std.specs.Prelude.{◌≡◌, ◌<◌, Some, length, slice_get};
 ghost use Rattle.snapshot_scan.specs.Snapshots.{entry_of};
 
-use crate::history::History;
+use scrape_history::History;
 use snapshot_scan::Snapshot;
 use std::marker::Model;
 
@@ -18,7 +18,7 @@ impl<'a, const N: usize, const C: usize, const H: usize, const G: usize> Model
     for Kept<'a, N, C, H, G> {
     ghost use Rattle.std.specs.Prelude.{List};
     ghost use Rattle.register_rule.specs.declared.view.Entry.{Entry as Answer};
-    ghost use Rattle.registry_state.specs.Merged.{answers_of};
+    ghost use Rattle.scrape_history.specs.History.{answers_of};
 
     ghost Value = { List Answer };
 

@@ -6,11 +6,8 @@ mod children;
 mod family;
 mod fault;
 mod handle;
-mod history;
-mod increase;
 mod journal;
 mod kept;
-mod later;
 mod note;
 mod ordering;
 mod plain;
@@ -18,8 +15,6 @@ mod registering;
 mod registry;
 mod scraping;
 mod shown;
-#[cfg(test)]
-mod tests;
 mod used;
 
 pub use fault::{BadWindow, ChildFault, NewFault, RegisterFault, ScrapeFault};

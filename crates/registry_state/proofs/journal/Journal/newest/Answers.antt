@@ -4,7 +4,7 @@ use Rattle.register_rule.specs.declared.view.Entry.{Entry as Answer}
 use Rattle.snapshot_scan.specs.Snapshots.{entry_of}
 use Rattle.snapshot_scan.specs.Sources.{newest}
 use Rattle.registry_state.specs.Journal.{scrapes}
-use Rattle.registry_state.specs.Merged.{answers_of}
+use Rattle.scrape_history.specs.History.{answers_of}
 use Rattle.registry_state.specs.Notes.{change_of}
 use Rattle.registry_state.proofs.Merging.{merged_scrapes}
 use Rattle.registry_state.proofs.journal.Journal.newest.Goals as goal

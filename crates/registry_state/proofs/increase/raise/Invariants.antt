@@ -1,6 +1,0 @@
-use Rattle.std.proofs.Common.{◌≡◌, take}
-use Rattle.registry_state.specs.Increases.{raised_by}
-use Rattle.registry_state.proofs.increase.raise.Given as goal
-
-abbrev pub invariant-loop-place : goal.invariant-loop-place
-invariant-loop-place g l = l.snapshot ≡ raised_by l.initial.snapshot (take l.place l.increases.items)

@@ -1,0 +1,2 @@
+pub mod Increases
+pub mod History

@@ -1,0 +1,10 @@
+//! Scrapes that are kept in little memory: the oldest whole, each later one as its increases over the one before.
+#![tactic(auto)]
+
+mod history;
+mod increase;
+mod later;
+#[cfg(test)]
+mod tests;
+
+pub use history::History;

@@ -1,0 +1,199 @@
+//! The seat of a reader or of a worker, and another worker that publishes between its loads.
+ghost use Rattle.std.specs.Prelude.{◌≡◌, IfOk};
+ghost use Rattle.segment_layout.specs.Layout.{depth};
+ghost use Rattle.register_rule.specs.Steps.{after};
+ghost use Rattle.register_rule.specs.Told.{IsLoad, IsTold};
+ghost use Rattle.register_rule.specs.Learned.{Learns};
+ghost use Rattle.register_rule.specs.Members.{fresh_scan};
+ghost use Rattle.register_rule.specs.Seats.{members_of, reader_of, worker_of, MayScan, HasReader, HasWorker};
+ghost use Rattle.snapshot_scan.specs.Shape.{scan_in};
+ghost use Rattle.snapshot_update.specs.Workers.{IsWorkerOf};
+ghost use Rattle.unit_tests.specs.Beside.{IsWorkerOf-prop};
+
+use crate::asserts::same;
+use crate::crew::{ID, counter, finds, inc, new_worker, one_seat};
+use register_rule::{Board, Load, Parts, ReadSeat, ScanSeat, WorkSeat};
+use snapshot_scan::{Contended, Memory, Snapshot};
+use snapshot_update::Worker;
+use std::alloc::{AllocError, Global};
+use std::process::Abort;
+use std::test::Fail;
+
+/// A board of two workers, whose rows are one counter, the second worker, and the seat of the first one.
+fn with_first(alloc: Global) -> Result<(Board<2, 1, 0, 0>, Worker<2, 1, 0, 0>, WorkSeat), Fail>
+    ensures own { IfOk result (λ r. IsWorkerOf r.0 r.1 × HasWorker r.0 r.2) }
+    ensures fresh { IfOk result (λ r. (worker_of r.2).scan ≡ fresh_scan 2 1) }
+{
+    let Parts {
+        board,
+        mut work,
+        read: _,
+    } = Board::new(alloc, ID, 1)?;
+    match (work.pop(), work.pop()) {
+        (Some(second), Some(first)) => {
+            let worker = new_worker(alloc, &board, second, 1)?;
+            Ok((board, worker, first))
+        }
+        _ => Err("no seats".into()),
+    }
+}
+
+/// Such a board, the second worker, and the seat of a reader.
+fn with_reader(alloc: Global) -> Result<(Board<2, 1, 0, 0>, Worker<2, 1, 0, 0>, ReadSeat), Fail>
+    ensures own { IfOk result (λ r. IsWorkerOf r.0 r.1 × HasReader r.0 r.2) }
+    ensures fresh { IfOk result (λ r. (reader_of r.2).scan ≡ fresh_scan 2 1) }
+{
+    let Parts {
+        board,
+        mut work,
+        mut read,
+    } = Board::new(alloc, ID, 1)?;
+    match (work.pop(), read.pop()) {
+        (Some(second), Some(reader)) => {
+            let worker = new_worker(alloc, &board, second, 1)?;
+            Ok((board, worker, reader))
+        }
+        _ => Err("no seats".into()),
+    }
+}
+
+#[test]
+fn a_seat_falls_behind(rt: HostRuntime) -> Result<(), Fail> {
+    let (board, seat, mut reader) = one_seat(rt.alloc())?;
+    let mut worker = new_worker(rt.alloc(), &board, seat, 0)?;
+    inc(&rt, &board, &mut worker, 0, 5);
+    same(&rt, &board.open(&mut reader, 0), &1);
+    same(&rt, &board.read_word(&mut reader, 0, 1, 0), &5);
+    inc(&rt, &board, &mut worker, 0, 5);
+    inc(&rt, &board, &mut worker, 0, 5);
+    same(&rt, &board.confirm(&mut reader, 0), &3);
+    Ok(())
+}
+
+/// Before which loads of its number the second worker publishes.
+#[derive(Clone, Copy)]
+struct Plan {
+    opens: bool,
+    confirms: bool,
+    asks: bool,
+    ends: bool,
+}
+
+/// A seat that scans while the second worker publishes by plan, and adds 5 each time. The first load is left alone.
+#[derive(Drop)]
+struct Beside<'a, S> {
+    board: &'a Board<2, 1, 0, 0>,
+    worker: Worker<2, 1, 0, 0>,
+    seat: S,
+    plan: Plan,
+    ghost own: { IsWorkerOf board.now worker } by { IsWorkerOf-prop board.now worker },
+}
+
+/// Whether the worker, which has published or not, publishes before this load.
+fn is_planned(plan: Plan, begun: bool, what: Load) -> bool {
+    match what {
+        Load::Open { place } => place == 1 && plan.opens && begun,
+        Load::Confirm { place } => place == 1 && plan.confirms,
+        Load::Ask { place: _ } => plan.asks,
+        Load::EndAsk { place: _ } => plan.ends,
+        _ => false,
+    }
+}
+
+impl<'a, S: ScanSeat<2, 1, 0, 0>> ScanSeat<2, 1, 0, 0> for Beside<'a, S> {
+    ghost bundle = { λ s. S.bundle s.seat };
+
+    fn load(&mut self, board: &Board<2, 1, 0, 0>, what: Load) -> u64
+        requires own { MayScan board.now (S.bundle self.old.seat) }
+        requires inside { IsLoad 2 (depth 2 1) what }
+        ensures learns { Learns 2 1 0 0 (after 2 1 what result) (S.bundle self.old.seat) (S.bundle self.new.seat) }
+        ensures told { IsTold 1 what (members_of (S.bundle self.old.seat)) result }
+    {
+        if is_planned(self.plan, self.worker.number() > 0, what) {
+            let _ = self.worker.inc(self.board, &counter(0), 5);
+        }
+        self.seat.load(board, what)
+    }
+}
+
+/// What a scan of this seat answers while the second worker publishes by plan.
+fn scan_beside<S: ScanSeat<2, 1, 0, 0> + Drop>(
+    alloc: Global,
+    board: &Board<2, 1, 0, 0>,
+    worker: Worker<2, 1, 0, 0>,
+    seat: S,
+    plan: Plan,
+    out: &mut Snapshot<2, 1, 0, 0>,
+) -> Result<Result<(), Contended>, AllocError>
+    requires own { IsWorkerOf board.now worker × MayScan board.now (S.bundle seat) }
+    requires fresh { scan_in (S.bundle seat) ≡ fresh_scan 2 1 }
+{
+    let mut memory = Memory::new(alloc)?;
+    let mut beside = Beside {
+        board,
+        worker,
+        seat,
+        plan,
+    };
+    Ok(memory.scan_to(board, &mut beside, out))
+}
+
+/// The numbers read are 0, 1 in the first try, 2, 3 in the second, and then 4, where the worker is asked.
+#[test]
+fn a_running_worker_lends(rt: HostRuntime) -> Result<(), Fail> {
+    let plan = Plan {
+        opens: true,
+        confirms: true,
+        asks: true,
+        ends: false,
+    };
+    let (board, worker, seat) = with_reader(rt.alloc())?;
+    let mut out = Snapshot::new(rt.alloc())?;
+    let found = scan_beside(rt.alloc(), &board, worker, seat, plan, &mut out)?;
+    finds(&rt, found, &out, &[0, 3]);
+    same(&rt, &out.counter(0), &15);
+    Ok(())
+}
+
+/// A scan of this seat is given up: a number rises in each of four tries, and while the worker is asked. The output stays as it was.
+fn gives_up<S: ScanSeat<2, 1, 0, 0> + Drop>(
+    rt: &impl Abort,
+    alloc: Global,
+    board: &Board<2, 1, 0, 0>,
+    worker: Worker<2, 1, 0, 0>,
+    seat: S,
+) -> Result<(), Fail>
+    requires own { IsWorkerOf board.now worker × MayScan board.now (S.bundle seat) }
+    requires fresh { scan_in (S.bundle seat) ≡ fresh_scan 2 1 }
+{
+    let plan = Plan {
+        opens: false,
+        confirms: true,
+        asks: false,
+        ends: true,
+    };
+    let contended = Contended {
+        worker: 1,
+        first: 4,
+        last: 5,
+    };
+    let mut out = Snapshot::new(alloc)?;
+    out.set(&[6, 7], &[8]);
+    let found = scan_beside(alloc, board, worker, seat, plan, &mut out)?;
+    same(rt, &found, &Err(contended));
+    same(rt, &out.vector(), &[6, 7].as_slice());
+    same(rt, &(contended.number(), out.counter(0)), &(14, 8));
+    Ok(())
+}
+
+#[test]
+fn a_running_scan_gives_up(rt: HostRuntime) -> Result<(), Fail> {
+    let (board, worker, seat) = with_reader(rt.alloc())?;
+    gives_up(&rt, rt.alloc(), &board, worker, seat)
+}
+
+#[test]
+fn a_worker_gives_up_its_scan(rt: HostRuntime) -> Result<(), Fail> {
+    let (board, worker, seat) = with_first(rt.alloc())?;
+    gives_up(&rt, rt.alloc(), &board, worker, seat)
+}

@@ -1,0 +1,159 @@
+//! What tests do with the workers and readers of a board, each at its place among them.
+ghost use Rattle.std.specs.Prelude.{◌≡◌, ◌<◌, IfOk, All};
+ghost use Rattle.ledger_core.specs.Ops.{width};
+ghost use Rattle.segment_layout.specs.Layout.{depth, IsGeometry};
+ghost use Rattle.register_rule.specs.Members.{new_worker, fresh_scan};
+ghost use Rattle.register_rule.specs.Seats.{worker_of, reader_of, HasWorker, HasReader};
+ghost use Rattle.snapshot_scan.specs.Order.{IsAlone};
+ghost use Rattle.snapshot_scan.specs.Readers.{IsReaderOf};
+ghost use Rattle.snapshot_update.specs.Workers.{IsWorkerOf};
+
+use crate::asserts::same;
+use ledger_core::{Counter, Gauge};
+use register_rule::{Board, Parts, ReadSeat, WorkSeat};
+use snapshot_scan::{Contended, Reader, Snapshot};
+use snapshot_update::Worker;
+use std::alloc::{AllocError, Global};
+use std::process::Abort;
+use std::test::Fail;
+
+/// The id of the boards.
+pub(crate) const ID: u64 = 1;
+
+/// A counter of the boards.
+pub(crate) fn counter(slot: usize) -> Counter {
+    Counter { registry: ID, slot }
+}
+
+/// A gauge of the boards.
+pub(crate) fn gauge(slot: usize) -> Gauge {
+    Gauge { registry: ID, slot }
+}
+
+/// Takes the last reader, to which nobody is lent.
+pub(crate) fn last_reader<const N: usize, const C: usize, const H: usize, const G: usize>(
+    board: &Board<N, C, H, G>,
+    readers: &mut Vec<Reader<N, C, H, G>>,
+) -> Result<Reader<N, C, H, G>, Fail>
+    requires own { All (IsReaderOf board.now) readers.old.items }
+    requires alone { All IsAlone readers.old.items }
+    ensures own { IfOk result (IsReaderOf board.now) }
+    ensures alone { IfOk result IsAlone }
+    ensures others { All (IsReaderOf board.now) readers.new.items × All IsAlone readers.new.items }
+{
+    match readers.pop() {
+        Some(reader) => Ok(reader),
+        None => Err("no reader".into()),
+    }
+}
+
+/// Takes the last worker.
+pub(crate) fn last_worker<const N: usize, const C: usize, const H: usize, const G: usize>(
+    board: &Board<N, C, H, G>,
+    workers: &mut Vec<Worker<N, C, H, G>>,
+) -> Result<Worker<N, C, H, G>, Fail>
+    requires own { All (IsWorkerOf board.now) workers.old.items }
+    ensures own { IfOk result (IsWorkerOf board.now) }
+    ensures others { All (IsWorkerOf board.now) workers.new.items }
+{
+    match workers.pop() {
+        Some(worker) => Ok(worker),
+        None => Err("no worker".into()),
+    }
+}
+
+/// Adds to a counter, which is not refused.
+pub(crate) fn inc<const N: usize, const C: usize, const H: usize, const G: usize>(
+    rt: &impl Abort,
+    board: &Board<N, C, H, G>,
+    worker: &mut Worker<N, C, H, G>,
+    slot: usize,
+    by: u64,
+)
+    requires own { IsWorkerOf board.now worker.old }
+    ensures own { IsWorkerOf board.now worker.new }
+{
+    same(rt, &worker.inc(board, &counter(slot), by), &Ok(()));
+}
+
+/// A scan is not refused, and finds this vector.
+pub(crate) fn finds<const N: usize, const C: usize, const H: usize, const G: usize>(
+    rt: &impl Abort,
+    scan: Result<(), Contended>,
+    out: &Snapshot<N, C, H, G>,
+    vector: &[u64],
+) {
+    same(rt, &scan, &Ok(()));
+    same(rt, &out.vector(), &vector);
+}
+
+/// The worker of a seat that has made no step.
+pub(crate) fn new_worker<const N: usize, const C: usize, const H: usize, const G: usize>(
+    alloc: Global,
+    board: &Board<N, C, H, G>,
+    seat: WorkSeat,
+    index: usize,
+) -> Result<Worker<N, C, H, G>, AllocError>
+    requires own { HasWorker board.now seat }
+    requires geometry { IsGeometry N C H G }
+    requires fresh { worker_of seat ≡ new_worker N (width C H G) (depth N (width C H G)) index }
+    ensures { IfOk result (λ w. IsWorkerOf board.now w) }
+{
+    match Worker::new(alloc, seat) {
+        Ok(worker) => Ok(worker),
+        Err(_) => Err(AllocError),
+    }
+}
+
+/// The reader of a seat that has made no step.
+pub(crate) fn new_reader<const N: usize, const C: usize, const H: usize, const G: usize>(
+    alloc: Global,
+    board: &Board<N, C, H, G>,
+    seat: ReadSeat,
+) -> Result<Reader<N, C, H, G>, AllocError>
+    requires own { HasReader board.now seat }
+    requires geometry { IsGeometry N C H G }
+    requires fresh { (reader_of seat).scan ≡ fresh_scan N (width C H G) }
+    ensures { IfOk result (λ r. IsReaderOf board.now r) }
+{
+    match Reader::new(alloc, seat) {
+        Ok(reader) => Ok(reader),
+        Err(_) => Err(AllocError),
+    }
+}
+
+/// A board of one worker, whose row is one counter, the worker's seat, and a reader's.
+pub(crate) fn one_seat(alloc: Global) -> Result<(Board<1, 1, 0, 0>, WorkSeat, ReadSeat), Fail>
+    ensures own { IfOk result (λ r. HasWorker r.0 r.1 × HasReader r.0 r.2) }
+    ensures worker { IfOk result (λ r. worker_of r.1 ≡ new_worker 1 1 4 0) }
+    ensures reader { IfOk result (λ r. (reader_of r.2).scan ≡ fresh_scan 1 1) }
+{
+    let Parts {
+        board,
+        mut work,
+        mut read,
+    } = Board::new(alloc, ID, 1)?;
+    match (work.pop(), read.pop()) {
+        (Some(seat), Some(reader)) => Ok((board, seat, reader)),
+        _ => Err("no seats".into()),
+    }
+}
+
+/// A snapshot of two workers that have published so often, whose rows have no words.
+fn snapshot(alloc: Global, numbers: [u64; 2]) -> Result<Snapshot<2, 0, 0, 0>, AllocError> {
+    let mut out = Snapshot::new(alloc)?;
+    out.set(&numbers, &[]);
+    Ok(out)
+}
+
+/// Snapshots with these vectors.
+pub(crate) fn snapshots(
+    alloc: Global,
+    vectors: &[[u64; 2]],
+) -> Result<Vec<Snapshot<2, 0, 0, 0>>, AllocError> {
+    let mut taken = Vec::new(alloc);
+    for vector in vectors {
+        taken.push(snapshot(alloc, *vector)?)?;
+    }
+    Ok(taken)
+}

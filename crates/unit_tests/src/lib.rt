@@ -1,0 +1,58 @@
+//! The tests of the crates that registries are built of, each by itself: names, descriptors, rows, watched ends and the text; the board,
+//! scans and updates, meetings and the pool of threads. They stand apart from what they test: a crate with tests is proved twice.
+#![tactic(auto)]
+
+#[cfg(test)]
+mod asserts;
+#[cfg(test)]
+mod beside;
+#[cfg(test)]
+mod buckets;
+#[cfg(test)]
+mod checked;
+#[cfg(test)]
+mod costs;
+#[cfg(test)]
+mod crew;
+#[cfg(test)]
+mod descs;
+#[cfg(test)]
+mod gates;
+#[cfg(test)]
+mod growth;
+#[cfg(test)]
+mod history;
+#[cfg(test)]
+mod jobs;
+#[cfg(test)]
+mod layout;
+#[cfg(test)]
+mod limits;
+#[cfg(test)]
+mod made;
+#[cfg(test)]
+mod making;
+#[cfg(test)]
+mod names;
+#[cfg(test)]
+mod pools;
+#[cfg(test)]
+mod rows;
+#[cfg(test)]
+mod running;
+#[cfg(test)]
+mod runs;
+#[cfg(test)]
+mod scan_states;
+#[cfg(test)]
+mod sending;
+#[cfg(test)]
+mod settling;
+#[cfg(test)]
+mod sources;
+#[cfg(test)]
+mod texts;
+#[cfg(test)]
+mod updates;
+#[cfg(test)]
+mod watching;
