@@ -188,10 +188,10 @@ impl<R: ServiceRuntime> Lines<'_, R> {
         &self,
         workers: &mut [impl Counts],
         source: &mut impl Source<N, C, H, G>,
+        out: &mut Snapshot<N, C, H, G>,
         words: usize,
     ) -> Result<()> {
-        let mut out = Snapshot::new(self.rt.alloc())?;
-        self.scans(workers, |_| source.scan(&mut out).ok(), words)
+        self.scans(workers, |_| source.scan(out).ok(), words)
     }
 
     /// Updates of so many workers, of which four count at once. There is one batch: a worker whose scan meets numbers that move reads
@@ -212,11 +212,9 @@ impl<R: ServiceRuntime> Lines<'_, R> {
         let (registry, mut recorders, _) = crew.open(1)?;
         self.updates(recorders.first_mut().context("no worker")?, N, C)?;
         self.lists::<N, C, H, G>()?;
-        self.scanned(
-            &mut recorders,
-            &mut registry.into_state().into_source(),
-            words,
-        )?;
+        let mut out = Snapshot::new(self.rt.alloc())?;
+        let mut source = registry.into_state().into_source();
+        self.scanned(&mut recorders, &mut source, &mut out, words)?;
         self.busy(recorders, N)
     }
 }

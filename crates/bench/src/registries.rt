@@ -249,9 +249,9 @@ impl<R: ServiceRuntime> Lines<'_, R> {
         &self,
         registry: &mut impl ScrapeFrom,
         source: &mut impl Source<N, C, H, G>,
+        out: &mut Snapshot<N, C, H, G>,
     ) -> Result<()> {
-        let mut out = Snapshot::new(self.rt.alloc())?;
-        self.scrapes(registry, |_| source.scan(&mut out).ok())
+        self.scrapes(registry, |_| source.scan(out).ok())
     }
 
     /// A registry over a source of one thread.
@@ -261,7 +261,8 @@ impl<R: ServiceRuntime> Lines<'_, R> {
         let alloc = self.rt.alloc();
         let state = &mut plain::<C, H>(alloc, service, WINDOW)?;
         let source = &mut plain::<C, H>(alloc, service, WINDOW)?.into_source();
-        self.beside_scans(&mut FromState { state }, source)
+        let out = &mut Snapshot::new(alloc)?;
+        self.beside_scans(&mut FromState { state }, source, out)
     }
 
     /// A registry over a board, and the source of another one that is equal.
@@ -269,6 +270,7 @@ impl<R: ServiceRuntime> Lines<'_, R> {
         &self,
         crew: &mut Crew<N, C, H, 0>,
         equal: &mut Crew<N, C, H, 0>,
+        out: &mut Snapshot<N, C, H, 0>,
         service: Service,
     ) -> Result<()> {
         let state = &mut filled(self.rt, crew, service)?.0.into_state();
@@ -276,7 +278,7 @@ impl<R: ServiceRuntime> Lines<'_, R> {
             .0
             .into_state()
             .into_source();
-        self.beside_scans(&mut FromState { state }, source)
+        self.beside_scans(&mut FromState { state }, source, out)
     }
 
     /// A registry over a board.
@@ -284,9 +286,11 @@ impl<R: ServiceRuntime> Lines<'_, R> {
         &self,
         service: Service,
     ) -> Result<()> {
-        let mut crew = Crew::<N, C, H, 0>::new(self.rt.alloc(), ID, 1)?;
-        let mut equal = Crew::<N, C, H, 0>::new(self.rt.alloc(), ID, 1)?;
-        self.over_boards(&mut crew, &mut equal, service)
+        let alloc = self.rt.alloc();
+        let mut crew = Crew::<N, C, H, 0>::new(alloc, ID, 1)?;
+        let mut equal = Crew::<N, C, H, 0>::new(alloc, ID, 1)?;
+        let mut out = Snapshot::new(alloc)?;
+        self.over_boards(&mut crew, &mut equal, &mut out, service)
     }
 
     /// Scrapes of a registry that keeps many, beside those of one that keeps few.
