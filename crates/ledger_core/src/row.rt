@@ -1,4 +1,4 @@
-ghost use Rattle.std.specs.Prelude.{◌≡◌, ◌+◌, ◌*◌, ◌<◌, ◌≤◌, length, take, drop, slice_index, replicate, sum, OnOk, OnErr, IfErr, All};
+ghost use Rattle.std.specs.Prelude.{◌≡◌, ℕ, ◌+◌, ◌*◌, ◌<◌, ◌≤◌, length, take, drop, slice_index, replicate, sum, OnOk, OnErr, IfErr, All};
 ghost use Rattle.ledger_core.specs.Ops.{width};
 ghost use Rattle.ledger_core.specs.Row.{Accepts, Adds};
 ghost use Rattle.ledger_core.specs.OpFault.{IsOpFault};
@@ -62,10 +62,21 @@ impl<const C: usize, const H: usize, const G: usize> Row<C, H, G> {
         }
     }
 
+    /// Writes the words of the row, in their order.
+    #[inline]
+    pub fn copy_to(&self, words: &mut [u64])
+        requires { length words.old ≡ width C H G }
+        ensures same { words.new ≡ self.now }
+        ensures low { (k : ℕ) → slice_index words.new k ≤ MAX_WORD }
+    {
+        self.words.copy_to(words);
+    }
+
     /// Adds the whole list, or nothing.
     ///
     /// Operations are tried in order, and the first that fails is named by its place `at` in the list:
     /// refusal 11 `OutOfGeometry`, 12 `TooLarge`; of one operation 11 comes before 12.
+    #[inline(always)]
     pub fn try_apply(&mut self, ops: &[Op]) -> Result<(), OpFault>
         ensures ok { OnOk result (Adds C H self.old ops.now self.new) }
         ensures accepted { OnOk result (Accepts C H G (slice_index self.old) ops.now) }

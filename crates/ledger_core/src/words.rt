@@ -68,7 +68,72 @@ impl<const C: usize, const H: usize, const G: usize> Words<C, H, G> {
         }
     }
 
+    /// Writes the words, in their order.
+    #[inline]
+    pub(crate) fn copy_to(&self, words: &mut [u64])
+        requires { length words.old ≡ width C H G }
+        ensures same { words.new ≡ self.now }
+        ensures low { (k : ℕ) → slice_index words.new k ≤ MAX_WORD }
+    {
+        // A look into the words tells the proof that none of them is over the limit.
+        let _ = &self.gauges;
+        let _ = self.len();
+        self.copy_counters(words);
+        self.copy_hists(words);
+        self.copy_gauges(words);
+    }
+
+    // Writes the counters.
+    #[inline]
+    fn copy_counters(&self, words: &mut [u64])
+        requires { length words.old ≡ width C H G }
+        ensures { (k : ℕ) → k < C → slice_index words.new k ≡ slice_index self.now k }
+    {
+        for counter in 0..C {
+            words[counter] = self.word(Word::Counter(counter));
+        }
+    }
+
+    // Writes the histograms behind the counters.
+    #[inline]
+    fn copy_hists(&self, words: &mut [u64])
+        requires long { length words.old ≡ width C H G }
+        requires before { (k : ℕ) → k < C → slice_index words.old k ≡ slice_index self.now k }
+        ensures { (k : ℕ) → k < C + 27 * H → slice_index words.new k ≡ slice_index self.now k }
+    {
+        for hist in 0..H {
+            self.copy_hist(hist, words);
+        }
+    }
+
+    // Writes a histogram behind those before it.
+    #[inline]
+    fn copy_hist(&self, hist: usize, words: &mut [u64])
+        requires inside { hist < H }
+        requires long { length words.old ≡ width C H G }
+        requires before { (k : ℕ) → k < C + 27 * hist → slice_index words.old k ≡ slice_index self.now k }
+        ensures { (k : ℕ) → k < C + 27 * hist + 27 → slice_index words.new k ≡ slice_index self.now k }
+    {
+        for item in 0..27 {
+            words[C + 27 * hist + item] = self.word(Word::Hist { hist, item });
+        }
+    }
+
+    // Writes the gauges behind the histograms.
+    #[inline]
+    fn copy_gauges(&self, words: &mut [u64])
+        requires long { length words.old ≡ width C H G }
+        requires before { (k : ℕ) → k < C + 27 * H → slice_index words.old k ≡ slice_index self.now k }
+        ensures { (k : ℕ) → k < width C H G → slice_index words.new k ≡ slice_index self.now k }
+    {
+        for gauge in 0..G {
+            words[C + 27 * H + 2 * gauge] = self.word(Word::Gauge { gauge, item: UPS });
+            words[C + 27 * H + 2 * gauge + 1] = self.word(Word::Gauge { gauge, item: DOWNS });
+        }
+    }
+
     /// Adds the whole list, or nothing.
+    #[inline(always)]
     pub(crate) fn try_apply(&mut self, ops: &[Op]) -> Result<(), OpFault>
         ensures ok { OnOk result (Adds C H self.old ops.now self.new) }
         ensures accepted { OnOk result (Accepts C H G (slice_index self.old) ops.now) }
@@ -98,6 +163,7 @@ impl<const C: usize, const H: usize, const G: usize> Words<C, H, G> {
     }
 
     // Adds one operation, the one at the place `at`, or nothing.
+    #[inline(always)]
     fn try_add(&mut self, at: usize, op: &Op) -> Result<(), OpFault>
         ensures ok { OnOk result (Rises self.old (part C H op.now) self.new) }
         ensures within { OnOk result (IsWithin C H G op.now) }
@@ -116,6 +182,8 @@ impl<const C: usize, const H: usize, const G: usize> Words<C, H, G> {
     }
 
     // Takes from the row what these operations added to it.
+    #[cold]
+    #[inline(never)]
     fn take_back(&mut self, ops: &[Op])
         requires within { All (IsWithin C H G) ops.now }
         requires added { (k : ℕ) → sum_ops C H ops.now k ≤ slice_index self.old k }
@@ -127,6 +195,7 @@ impl<const C: usize, const H: usize, const G: usize> Words<C, H, G> {
     }
 
     // Whether the operation names a slot of the row.
+    #[inline(always)]
     fn holds(&self, op: &Op) -> bool
         ensures { IsTrue result ↔ IsWithin C H G op.now }
     {
@@ -138,6 +207,7 @@ impl<const C: usize, const H: usize, const G: usize> Words<C, H, G> {
     }
 
     // Whether no word passes the limit by the operation.
+    #[inline(always)]
     fn has_room(&self, op: &Op) -> bool
         requires { IsWithin C H G op.now }
         ensures { MatchBool result (HasRoom (slice_index self.now) (part C H op.now)) (LacksRoom (width C H G) (slice_index self.now) (part C H op.now)) }
@@ -155,6 +225,7 @@ impl<const C: usize, const H: usize, const G: usize> Words<C, H, G> {
     }
 
     // Adds an operation for which there is room.
+    #[inline(always)]
     fn add(&mut self, op: &Op)
         requires within { IsWithin C H G op.now }
         requires room { HasRoom (slice_index self.old) (part C H op.now) }
@@ -191,6 +262,7 @@ impl<const C: usize, const H: usize, const G: usize> Words<C, H, G> {
     }
 
     // Whether a word may rise by `by`.
+    #[inline(always)]
     fn fits(&self, word: Word, by: u64) -> bool
         requires { IsWord C H G word }
         ensures room { IsTrue result ↔ (slice_index self.now (place_of C H word) + by ≤ MAX_WORD) }
@@ -200,6 +272,7 @@ impl<const C: usize, const H: usize, const G: usize> Words<C, H, G> {
     }
 
     // Adds `by` to a word.
+    #[inline(always)]
     fn raise(&mut self, word: Word, by: u64)
         requires known { IsWord C H G word }
         requires room { slice_index self.old (place_of C H word) + by ≤ MAX_WORD }
@@ -235,6 +308,7 @@ impl<const C: usize, const H: usize, const G: usize> Words<C, H, G> {
     }
 
     // Writes a word.
+    #[inline(always)]
     fn set(&mut self, word: Word, value: u64)
         requires known { IsWord C H G word }
         requires bounded { value ≤ MAX_WORD }

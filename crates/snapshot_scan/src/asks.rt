@@ -70,6 +70,7 @@ fn is_due(base: u64, found: u64) -> bool
 }
 
 /// Asks all workers that are to be asked after a try, until one lends, and says whether one did.
+#[inline(never)]
 pub(crate) fn ask_all<
     S: ScanSeat<N, C, H, G>,
     const N: usize,

@@ -13,6 +13,7 @@ use crate::kept::Kept;
 use register_rule::{Board, ScanSeat};
 
 /// The first collect of a try. It says whether each number is the one that is remembered.
+#[inline(always)]
 pub(crate) fn collect<
     S: ScanSeat<N, C, H, G>,
     const N: usize,
@@ -35,16 +36,17 @@ pub(crate) fn collect<
     ensures unknown { result ≡ false → HasOther opened.new (map version_of kept.old) }
 {
     let mut known = true;
-    for place in 0..kept.len() {
+    for place in 0..N {
         let number = kept[place].look(board, seat, place);
-        opened[place] = number;
         known = known & (number == kept[place].number);
+        opened[place] = number;
     }
     known
 }
 
 /// The second collect of a try whose rows are all remembered: nothing is left to remember. It says whether each number was
 /// found again.
+#[inline(always)]
 fn confirm_known<
     S: ScanSeat<N, C, H, G>,
     const N: usize,
@@ -66,13 +68,18 @@ fn confirm_known<
     ensures risen { (q : ℕ) → q < N → slice_index opened.now q ≤ slice_index found.new q }
     ensures clean { IsTrue result ↔ (opened.now ≡ found.new) }
 {
-    for place in 0..kept.len() {
-        found[place] = board.confirm(seat, place);
+    let _ = kept;
+    let mut same = true;
+    for place in 0..N {
+        let again = board.confirm(seat, place);
+        same = same & (opened[place] == again);
+        found[place] = again;
     }
-    opened == found
+    same
 }
 
 /// The second collect of a try. It says whether each number was found again.
+#[inline(never)]
 fn confirm_all<
     S: ScanSeat<N, C, H, G>,
     const N: usize,
@@ -113,6 +120,7 @@ fn confirm_all<
 }
 
 /// The second collect of a try. It says whether each number was found again. `known` says that all rows are remembered.
+#[inline(always)]
 pub(crate) fn confirm<
     S: ScanSeat<N, C, H, G>,
     const N: usize,

@@ -10,7 +10,7 @@ ghost use Rattle.snapshot_scan.specs.Shape.{read_all};
 use register_rule::{Board, ScanSeat};
 
 /// Reads the items from `from` on of the buffer that the number `number` of a segment shows.
-#[inline]
+#[inline(never)]
 pub(crate) fn read_items<
     S: ScanSeat<N, C, H, G>,
     const N: usize,

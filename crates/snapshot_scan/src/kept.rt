@@ -149,9 +149,7 @@ pub(crate) fn copy_words<const C: usize, const H: usize, const G: usize>(
     ensures words { words.new ≡ row.now }
     ensures low { (k : ℕ) → k < width C H G → slice_index words.new k ≤ greatest_word }
 {
-    for k in 0..row.len() {
-        words[k] = row.word_at(k);
-    }
+    row.copy_to(words);
 }
 
 /// Makes the words of the old row at these items those of the new one, also in the totals.

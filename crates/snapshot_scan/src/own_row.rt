@@ -65,6 +65,7 @@ impl<const N: usize, const C: usize, const H: usize, const G: usize> Memory<N, C
 }
 
 // As `Memory::remember`, over what is remembered of all segments and the sums.
+#[inline(never)]
 fn remember_all<const C: usize, const H: usize, const G: usize>(
     kept: &mut [Kept],
     totals: &mut [u64],

@@ -46,6 +46,7 @@ impl<const N: usize, const C: usize, const H: usize, const G: usize> Memory<N, C
     }
 
     /// A scan of at most `N` + 2 tries, which takes no memory and waits for nobody.
+    #[inline(always)]
     pub fn scan<S: ScanSeat<N, C, H, G>>(
         &mut self,
         board: &Board<N, C, H, G>,

@@ -19,6 +19,7 @@ use crate::kept::Kept;
 use register_rule::{Board, ScanSeat};
 
 /// One try of a scan, without the asking. It says whether the try is clean, and in `known` whether each row is remembered.
+#[inline(always)]
 fn try_once<
     S: ScanSeat<N, C, H, G>,
     const N: usize,
@@ -58,10 +59,51 @@ fn try_once<
     confirm(board, seat, kept, totals, opened, found, *known)
 }
 
+/// One more try of a scan, as [`try_once`]: a scan that is quiet makes none.
+#[inline(never)]
+fn try_again<
+    S: ScanSeat<N, C, H, G>,
+    const N: usize,
+    const C: usize,
+    const H: usize,
+    const G: usize,
+>(
+    board: &Board<N, C, H, G>,
+    seat: &mut S,
+    kept: &mut [Kept],
+    totals: &mut [u64],
+    opened: &mut [u64],
+    found: &mut [u64],
+    known: &mut bool,
+) -> bool
+    requires own { MayScan board.now (S.bundle seat.old) }
+    requires geometry { IsGeometry N C H G }
+    requires lengths { (length kept.old ≡ N) × (length totals.old ≡ width C H G) × (length opened.old ≡ N) × (length found.old ≡ N) }
+    requires wide { AreWide (width C H G) kept.old }
+    requires totals { AreTotals (width C H G) kept.old totals.old }
+    requires kept { (scan_in (S.bundle seat.old)).kept ≡ map version_of kept.old }
+    requires rest { ((scan_in (S.bundle seat.old)).now.looks ≡ []) × ((scan_in (S.bundle seat.old)).now.due ≡ []) × ((scan_in (S.bundle seat.old)).now.asks ≡ []) }
+    ensures own { table_of (S.bundle seat.new) ≡ table_of (S.bundle seat.old) }
+    ensures ruled { IsRuled N C H G (S.bundle seat.new) }
+    ensures wide { AreWide (width C H G) kept.new }
+    ensures totals { AreTotals (width C H G) kept.new totals.new }
+    ensures told { (q : ℕ) → q < N → IsLoaded q (scan_in (S.bundle seat.old)) (slice_index opened.new q) }
+    ensures clean { result ≡ true → members_of (S.bundle seat.new) ≡ with_scan (answered (record { vector = opened.new; totals = totals.new }) (settling opened.new found.new kept.new (opening opened.new kept.new (scan_in (S.bundle seat.old))))) (members_of (S.bundle seat.old)) }
+    ensures same { result ≡ true → opened.new ≡ found.new }
+    ensures failed { result ≡ false → members_of (S.bundle seat.new) ≡ with_scan (gives_up N (failing (settling opened.new found.new kept.new (opening opened.new kept.new (scan_in (S.bundle seat.old)))))) (members_of (S.bundle seat.old)) }
+    ensures risen { (q : ℕ) → q < N → slice_index opened.new q ≤ slice_index found.new q }
+    ensures rose { result ≡ false → (q : ℕ) × (q < N) × (slice_index opened.new q < slice_index found.new q) }
+    ensures quiet { known.new ≡ true → IsQuiet kept.old kept.new totals.old totals.new opened.new }
+    ensures unknown { known.new ≡ false → HasOther opened.new (map version_of kept.old) }
+{
+    try_once(board, seat, kept, totals, opened, found, known)
+}
+
 /// A scan of at most `N` + 2 tries.
 ///
 /// It reads the words only of those rows whose number is not the remembered one. Its memory: what is remembered of each
 /// segment, the sums of the remembered rows, the numbers of both collects, and the words that a worker lends.
+#[inline(always)]
 pub(crate) fn scan<
     S: ScanSeat<N, C, H, G>,
     const N: usize,
@@ -110,7 +152,7 @@ pub(crate) fn scan<
     base.copy_from_slice(found);
     let row = totals.len();
     for _k in 0..N + 1 {
-        let clean = try_once(board, seat, kept, totals, opened, found, &mut known);
+        let clean = try_again(board, seat, kept, totals, opened, found, &mut known);
         if clean {
             return Ended::Direct { quiet: false };
         }

@@ -5,16 +5,8 @@ use Rattle.std.proofs.lemmas.Bool.{cases_eq}
 use Rattle.std.proofs.lemmas.List.Elements.{Contains-append_right, Contains-append_cases}
 use Rattle.std.proofs.lemmas.List.{same_lists, get_or_default}
 use Rattle.snapshot_update.specs.Images.{Changed}
-use Rattle.snapshot_update.specs.Changes.{Notes}
+use Rattle.snapshot_update.specs.Changes.{Notes, SoFar}
 use Rattle.snapshot_update.proofs.Noted.{none_listed}
-
--- where two images differ is listed, of their items below n
-pub record SoFar (n : ℕ) (changed : Changed) (old new : List ℕ) : Type 0 where
-  pub differ : changed.all ≡ false → (j : ℕ) → j < n → ¬ (Contains changed.items j) → get_or old j 0 ≡ get_or new j 0
-  pub inside : (j : ℕ) → Contains changed.items j → j < n
-  pub listed : (j : ℕ) → Contains changed.items j → ¬ (get_or old j 0 ≡ get_or new j 0)
-  pub longer : length changed.items ≤ n
-  pub fits : n ≤ 256 → changed.all ≡ false
 
 only_one : (x j : ℕ) → Contains (x ∷ []) j → x ≡ j
 only_one x j h = let lt = h.1 in let zero : h.0 ≡ 0 = omega (arith, lt) in subst (λ (k : ℕ). get_or (x ∷ []) k j ≡ j) zero h.2

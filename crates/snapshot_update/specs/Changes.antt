@@ -1,5 +1,5 @@
 -- Noting items at which something changes.
-use Rattle.std.specs.Prelude.{◌≡◌, ℕ, ◌+◌, ◌<◌, ◌≤◌, ◌⊎◌, false, List, length, Contains}
+use Rattle.std.specs.Prelude.{◌≡◌, ℕ, ◌+◌, ◌<◌, ◌≤◌, ◌⊎◌, false, List, length, slice_index, Contains}
 use Rattle.snapshot_update.specs.Images.{Changed}
 
 -- all items stay all; else the old items are listed, and this one, and no other. There is room for 256
@@ -27,3 +27,11 @@ pub record NotesEach (shift : ℕ) (items : List ℕ) (old new : Changed) : Type
   pub keeps : new.all ≡ false → (j : ℕ) → Contains old.items j → Contains new.items j
   pub notes : new.all ≡ false → (j : ℕ) → Contains items j → Contains new.items (j + shift)
   pub others : (j : ℕ) → Contains new.items j → Contains old.items j ⊎ ((i : ℕ) × Contains items i × (j ≡ i + shift))
+
+-- where two images differ is listed, of their items below n
+pub record SoFar (n : ℕ) (changed : Changed) (old new : List ℕ) : Type 0 where
+  pub differ : changed.all ≡ false → (j : ℕ) → j < n → ¬ (Contains changed.items j) → slice_index old j ≡ slice_index new j
+  pub inside : (j : ℕ) → Contains changed.items j → j < n
+  pub listed : (j : ℕ) → Contains changed.items j → ¬ (slice_index old j ≡ slice_index new j)
+  pub longer : length changed.items ≤ n
+  pub fits : n ≤ 256 → changed.all ≡ false

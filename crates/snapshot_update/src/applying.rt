@@ -61,6 +61,7 @@ impl<const N: usize, const C: usize, const H: usize, const G: usize> Worker<N, C
     /// # Errors
     ///
     /// [`ApplyFault::Exhausted`], 15; then [`ApplyFault::Refused`], 11 or 12, of the first operation that fails.
+    #[inline(always)]
     pub fn apply(&mut self, board: &Board<N, C, H, G>, ops: &[Op]) -> Result<(), ApplyFault>
         requires own { IsWorkerOf board.now self.old }
         ensures own { IsWorkerOf board.now self.new }

@@ -1,6 +1,6 @@
 //! At which items of a buffer something may have changed.
-ghost use Rattle.std.specs.Prelude.{◌≡◌, ◌+◌, ◌<◌, ◌≤◌, ℕ, true, false, [], length, IfOk};
-ghost use Rattle.snapshot_update.specs.Changes.{Notes};
+ghost use Rattle.std.specs.Prelude.{◌≡◌, ◌+◌, ◌<◌, ◌≤◌, ℕ, true, false, [], length, slice_index, IfOk, Contains};
+ghost use Rattle.snapshot_update.specs.Changes.{Notes, NotesEach};
 
 use std::alloc::{AllocError, Global};
 use std::marker::Model;
@@ -71,6 +71,23 @@ impl Changes {
         self.count += 1;
     }
 
+    /// Each of these items, so much further along the buffer, may have changed, too. Where not all can be listed, all may have.
+    #[inline(always)]
+    pub(crate) fn note_each(&mut self, items: &[usize], shift: usize)
+        requires room { (j : ℕ) → Contains items.now j → j + shift < 18446744073709551616 }
+        ensures notes { NotesEach shift items.now self.old self.new }
+    {
+        if self.all {
+            return;
+        }
+        if items.len() > ROOM - self.count {
+            self.all = true;
+            return;
+        }
+        write_each(self.items.as_mut_slice(), items, self.count, shift);
+        self.count += items.len();
+    }
+
     /// All items may have changed.
     #[inline]
     pub(crate) fn note_all(&mut self)
@@ -95,5 +112,18 @@ impl Changes {
         ensures few { length result.now ≤ 256 }
     {
         &self.items[..self.count]
+    }
+}
+
+/// Writes these items, so much further along the buffer, to the places from `first` on.
+#[inline(always)]
+fn write_each(places: &mut [usize], items: &[usize], first: usize, shift: usize)
+    requires room { first + length items.now ≤ length places.old }
+    requires fits { (k : ℕ) → k < length items.now → slice_index items.now k + shift < 18446744073709551616 }
+    ensures kept { (q : ℕ) → q < first → slice_index places.new q ≡ slice_index places.old q }
+    ensures written { (k : ℕ) → k < length items.now → slice_index places.new (first + k) ≡ slice_index items.now k + shift }
+{
+    for k in 0..items.len() {
+        places[first + k] = items[k] + shift;
     }
 }

@@ -171,6 +171,7 @@ impl<const N: usize, const C: usize, const H: usize, const G: usize> Worker<N, C
     }
 
     // One operation by a handle of this registry.
+    #[inline(always)]
     fn count(&mut self, board: &Board<N, C, H, G>, registry: u64, op: Op) -> Result<(), CountFault>
         requires own { IsWorkerOf board.now self.old }
         ensures own { IsWorkerOf board.now self.new }

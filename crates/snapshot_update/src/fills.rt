@@ -5,6 +5,7 @@ ghost use Rattle.ledger_core.specs.Ops.{width};
 ghost use Rattle.segment_layout.specs.Layout.{depth};
 ghost use Rattle.register_rule.specs.Seats.{worker_of, index_of, HasWorker};
 ghost use Rattle.snapshot_update.specs.Images.{DifferAt, with_hidden};
+ghost use Rattle.snapshot_update.specs.Changes.{SoFar};
 ghost use Rattle.snapshot_update.specs.Target.{target_of};
 
 use crate::changes::Changes;
@@ -12,7 +13,7 @@ use crate::version::Version;
 use register_rule::{Board, WorkSeat};
 
 /// Makes an item of the hidden buffer this word. `hidden` is what the buffer holds, and a word that it holds is not stored.
-#[inline]
+#[inline(always)]
 pub(crate) fn fill_item<const N: usize, const C: usize, const H: usize, const G: usize>(
     board: &Board<N, C, H, G>,
     seat: &mut WorkSeat,
@@ -36,7 +37,7 @@ pub(crate) fn fill_item<const N: usize, const C: usize, const H: usize, const G:
 }
 
 /// Fills the items that are listed with the version's words. An item that had the version's word keeps it.
-#[inline]
+#[inline(always)]
 pub(crate) fn fill_changes<const N: usize, const C: usize, const H: usize, const G: usize>(
     board: &Board<N, C, H, G>,
     seat: &mut WorkSeat,
@@ -63,7 +64,7 @@ pub(crate) fn fill_changes<const N: usize, const C: usize, const H: usize, const
 
 /// Fills the hidden buffer with the version, where it differs from it at no items but those of three lists: those at which
 /// the two buffers differ, by the last publish and by a late one, and those that this update touches.
-#[inline]
+#[inline(always)]
 pub(crate) fn fill_known<const N: usize, const C: usize, const H: usize, const G: usize>(
     board: &Board<N, C, H, G>,
     seat: &mut WorkSeat,
@@ -91,7 +92,42 @@ pub(crate) fn fill_known<const N: usize, const C: usize, const H: usize, const G
     fill_changes(board, seat, hidden, touched, version);
 }
 
+/// Fills the items from `from` on and before `to` of the hidden buffer with the version, where those before are filled, and
+/// lists where the version differs from what the shown buffer holds.
+#[inline(always)]
+fn fill_some<const N: usize, const C: usize, const H: usize, const G: usize>(
+    board: &Board<N, C, H, G>,
+    seat: &mut WorkSeat,
+    hidden: &mut [u64],
+    shown: &[u64],
+    recent: &mut Changes,
+    version: &Version<C, H, G>,
+    from: usize,
+    to: usize,
+)
+    requires own { HasWorker board.now seat.old }
+    requires exact { (worker_of seat.old).work.hidden ≡ hidden.old }
+    requires lengths { (length hidden.old ≡ depth N (width C H G)) × (length shown.now ≡ depth N (width C H G)) × (length (target_of version.now) ≡ depth N (width C H G)) }
+    requires inside { (from ≤ to) × (to ≤ depth N (width C H G)) }
+    requires filled { (j : ℕ) → j < from → slice_index hidden.old j ≡ slice_index (target_of version.now) j }
+    requires noted { SoFar from recent.old shown.now (target_of version.now) }
+    ensures own { HasWorker board.now seat.new }
+    ensures index { index_of seat.new ≡ index_of seat.old }
+    ensures member { worker_of seat.new ≡ with_hidden hidden.new (worker_of seat.old) }
+    ensures filled { (j : ℕ) → j < to → slice_index hidden.new j ≡ slice_index (target_of version.now) j }
+    ensures noted { SoFar to recent.new shown.now (target_of version.now) }
+{
+    for item in from..to {
+        let word = version.word(item);
+        if shown[item] != word {
+            recent.note(item);
+        }
+        fill_item(board, seat, hidden, item, word);
+    }
+}
+
 /// Fills the whole hidden buffer with the version, and lists where the version differs from what the shown buffer holds.
+#[inline(never)]
 pub(crate) fn fill_all<const N: usize, const C: usize, const H: usize, const G: usize>(
     board: &Board<N, C, H, G>,
     seat: &mut WorkSeat,
@@ -113,11 +149,10 @@ pub(crate) fn fill_all<const N: usize, const C: usize, const H: usize, const G: 
     ensures few { depth N (width C H G) ≤ 256 → recent.new.all ≡ false }
 {
     recent.clear();
-    for item in 0..hidden.len() {
-        let word = version.word(item);
-        if shown[item] != word {
-            recent.note(item);
-        }
-        fill_item(board, seat, hidden, item, word);
-    }
+    let row = version.row.len();
+    // The parts of a version one by one: in none of them the kind of a word is asked for.
+    fill_some(board, seat, hidden, shown, recent, version, 0, C);
+    fill_some(board, seat, hidden, shown, recent, version, C, row);
+    let end = hidden.len();
+    fill_some(board, seat, hidden, shown, recent, version, row, end);
 }

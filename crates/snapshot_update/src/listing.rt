@@ -1,5 +1,5 @@
 //! Lists of changes from lists of changes.
-ghost use Rattle.std.specs.Prelude.{◌≡◌, ℕ, ◌+◌, ◌<◌, ◌⊎◌, true, false, Contains};
+ghost use Rattle.std.specs.Prelude.{◌≡◌, ℕ, ◌+◌, ◌<◌, ◌⊎◌, ◌≤◌, true, false, length, Contains};
 ghost use Rattle.snapshot_update.specs.Changes.{NotesEach};
 
 use crate::changes::Changes;
@@ -10,10 +10,7 @@ pub(crate) fn note_each(to: &mut Changes, from: &Changes, shift: usize)
     requires room { (j : ℕ) → Contains from.now.items j → j + shift < 18446744073709551616 }
     ensures { NotesEach shift from.now.items to.old to.new }
 {
-    let items = from.as_slice();
-    for &item in items {
-        to.note(item + shift);
-    }
+    to.note_each(from.as_slice(), shift);
 }
 
 /// Lists where the version that was published differs from the one that an update of nothing would publish now: at the
@@ -33,4 +30,32 @@ pub(crate) fn list_late(late: &mut Changes, touched: &Changes, own: usize, lent:
     if !known {
         late.note_all();
     }
+}
+
+/// Whether these items are those of two lists, one behind the other.
+#[inline(always)]
+pub(crate) fn are_both(items: &[usize], first: &[usize], second: &[usize]) -> bool
+    ensures first { result ≡ true → (j : ℕ) → Contains first.now j → Contains items.now j }
+    ensures second { result ≡ true → (j : ℕ) → Contains second.now j → Contains items.now j }
+{
+    if second.len() > items.len() || items.len() - second.len() != first.len() {
+        return false;
+    }
+    let has_first = stands_at(items, 0, first);
+    let has_second = stands_at(items, first.len(), second);
+    has_first & has_second
+}
+
+/// Whether a part of these items, from the place `from` on, is this list.
+#[inline(always)]
+fn stands_at(items: &[usize], from: usize, part: &[usize]) -> bool
+    requires { from + length part.now ≤ length items.now }
+    ensures { result ≡ true → (j : ℕ) → Contains part.now j → Contains items.now j }
+{
+    for k in 0..part.len() {
+        if items[from + k] != part[k] {
+            return false;
+        }
+    }
+    true
 }

@@ -8,14 +8,14 @@ ghost use Rattle.snapshot_update.specs.Target.{target_of};
 ghost use Rattle.snapshot_update.specs.Fit.{AreInside};
 
 use crate::changes::Changes;
-use crate::fills::{fill_all, fill_known};
-use crate::listing::note_each;
+use crate::fills::{fill_all, fill_changes, fill_known};
+use crate::listing::{are_both, note_each};
 use crate::version::Version;
 use register_rule::{Board, WorkSeat};
 
 /// Fills the hidden buffer with the version, and lists in `recent` where it differs from what the shown buffer holds. Where
 /// it is `known` that the version differs from that at no items but the late and the touched ones, no others are compared.
-#[inline]
+#[inline(always)]
 pub(crate) fn fill_next<const N: usize, const C: usize, const H: usize, const G: usize>(
     board: &Board<N, C, H, G>,
     seat: &mut WorkSeat,
@@ -43,6 +43,11 @@ pub(crate) fn fill_next<const N: usize, const C: usize, const H: usize, const G:
     ensures inside { AreInside (depth N (width C H G)) recent.new }
 {
     if known {
+        let all_recent = are_both(recent.as_slice(), late.as_slice(), touched.as_slice());
+        if all_recent {
+            fill_changes(board, seat, hidden, recent, version);
+            return;
+        }
         fill_known(board, seat, hidden, recent, late, touched, version);
         recent.clear();
         note_each(recent, late, 0);

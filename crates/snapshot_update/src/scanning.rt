@@ -34,7 +34,7 @@ pub(crate) fn is_quiet(ended: Ended) -> bool
 }
 
 /// The scan of a worker for its update: its other parts stay as they were.
-#[inline]
+#[inline(always)]
 pub(crate) fn scan_own<const N: usize, const C: usize, const H: usize, const G: usize>(
     board: &Board<N, C, H, G>,
     seat: &mut WorkSeat,

@@ -17,7 +17,7 @@ const SUM: usize = 25;
 const COUNT: usize = 26;
 
 /// Lists the words of a row that these operations add to, and no items that are not words of the row.
-#[inline]
+#[inline(always)]
 pub(crate) fn touch<const C: usize, const H: usize, const G: usize>(
     ops: &[Op],
     touched: &mut Changes,
@@ -35,7 +35,7 @@ pub(crate) fn touch<const C: usize, const H: usize, const G: usize>(
 }
 
 // Lists the words of a row that an operation adds to, behind those that are listed.
-#[inline]
+#[inline(always)]
 fn touch_one<const C: usize, const H: usize, const G: usize>(op: &Op, touched: &mut Changes)
     requires within { IsWithin C H G op.now }
     requires slots { AreSlots C H G }

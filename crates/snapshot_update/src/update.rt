@@ -37,7 +37,7 @@ fn flag_word(lends: bool) -> u64
 
 /// Fills the hidden buffer with the version of this row, with the answer of the scan that ended so, and says whether it lends
 /// that. `quiet` says that the scan found all that is remembered, and all touched words are listed.
-#[inline]
+#[inline(always)]
 fn fill_version<const N: usize, const C: usize, const H: usize, const G: usize>(
     board: &Board<N, C, H, G>,
     seat: &mut WorkSeat,
@@ -84,7 +84,7 @@ fn fill_version<const N: usize, const C: usize, const H: usize, const G: usize>(
 
 /// After the publish the buffers have changed their roles. `known` says that all touched words are listed, and that the
 /// version was published with what is remembered.
-#[inline]
+#[inline(always)]
 fn turn<const N: usize, const C: usize, const H: usize, const G: usize>(
     images: &mut Images,
     own: usize,
@@ -107,7 +107,7 @@ fn turn<const N: usize, const C: usize, const H: usize, const G: usize>(
 }
 
 /// Remembers the worker's own new row. Where it is `known`, it differs from the remembered one at the touched words alone.
-#[inline]
+#[inline(always)]
 fn learn<const N: usize, const C: usize, const H: usize, const G: usize>(
     memory: &mut Memory<N, C, H, G>,
     own: usize,
@@ -132,6 +132,7 @@ fn learn<const N: usize, const C: usize, const H: usize, const G: usize>(
 
 /// An update: the operations are added to the row, a scan is made, and the version is published with the view of the scan, or
 /// without one where that was given up. It takes no memory and waits for nobody.
+#[inline(always)]
 pub(crate) fn update<const N: usize, const C: usize, const H: usize, const G: usize>(
     board: &Board<N, C, H, G>,
     seat: &mut WorkSeat,

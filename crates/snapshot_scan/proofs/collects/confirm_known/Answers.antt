@@ -1,5 +1,7 @@
-use Rattle.std.proofs.Common.{refl, ◌≡◌, ◌≢◌, ◌<◌, ◌+◌, ◌≤◌, ◌==◌, Bool, true, false, cond, ℕ, zero, suc, List, [], ◌∷◌, ◌++◌, length, take, set, get_or, arith, rules, sym, ap, ◌∙◌, subst, below_more, get_or-set_other, get_or-set_same, eq-eqb, ne_eqb}
+use Rattle.std.proofs.Common.{refl, ◌≡◌, ◌≢◌, ◌<◌, ◌+◌, ◌≤◌, ◌==◌, Bool, true, false, cond, ℕ, zero, suc, List, [], ◌∷◌, ◌++◌, length, take, set, get_or, arith, rules, sym, ap, ◌∙◌, subst, below_more, get_or-set_other, get_or-set_same, eq-eqb, ne_eqb, ⊎_elim}
 use mathlib.Core.Option.{some}
+use Rattle.std.proofs.lemmas.List.{same_lists, get_or_default}
+use Rattle.std.proofs.lemmas.Bool.{eqb-true, eqb-false, and_parts, and_cases, true≢false}
 use lib.ListN.{get_elem?}
 use Rattle.ledger_core.specs.Ops.{width}
 use Rattle.register_rule.proofs.Words.{there}
@@ -28,10 +30,12 @@ loop-place-init g c =
       leads = c.requires.own.1;
       view = sym (ap (λ (b : Bool). with_scan (cond b (ended g.row.N w z) z) ms) no ∙ (ap (λ (d : Scan). with_scan d ms) (sym starts) ∙ with_same ms));
       risen = λ q lt. absurd (omega (arith, lt));
+      held = λ e q lt. absurd (omega (arith, lt));
+      moved = λ e. absurd (true≢false e);
     }
 
-pub confirm-requires : goal.confirm-requires
-confirm-requires g c = let lens = c.requires.lengths in let t = c.loop-place-test.true in
+pub confirm-again-requires : goal.confirm-again-requires
+confirm-again-requires g c = let lens = c.requires.lengths in let t = c.loop-place-test.true in
     (search rules, ((c.loop-place.invariant.own ∙ c.requires.own.0, c.loop-place.invariant.leads), omega (arith, lens.0)))
 
 -- a row that is remembered is remembered again, or stays
@@ -53,7 +57,7 @@ loop-place-preserved g c =
     let w : ℕ = width g.row.C g.row.H g.row.G in
     let n : ℕ = g.row.N in
     let p = c.loop-place.place in let gs = c.args.kept.now in let fs = c.loop-place.found in let os = c.args.opened.now in
-    let s = c.confirm.result in
+    let s = c.confirm-again.result in
     let o = get_or os p 0 in
     let ms = members_of (bundle c.args.seat.now) in
     let c0 : Scan = scan_of ms in
@@ -76,19 +80,26 @@ loop-place-preserved g c =
     ∙ (λ i. settling os (sym more i) (set_same gs p gg at i) c0) in
     let no : (p == n) ≡ false = ne_eqb p n (λ e. omega (arith, e, ltn)) in
     let was : members_of (bundle c.loop-place.seat) ≡ with_scan z ms = inv.view ∙ ap (λ (b : Bool). with_scan (cond b (ended n w z) z) ms) no in
-    let view : members_of (bundle c.confirm.new.seat) ≡ with_scan (cond ((p + 1) == n) (ended n w z') z') ms =
-    c.confirm.ensures.learns.member ∙ (ap (led (scanned (after_confirm n w p s))) was ∙ (with_led (after_confirm n w p s) z ms
+    let view : members_of (bundle c.confirm-again.new.seat) ≡ with_scan (cond ((p + 1) == n) (ended n w z') z') ms =
+    c.confirm-again.ensures.learns.member ∙ (ap (led (scanned (after_confirm n w p s))) was ∙ (with_led (after_confirm n w p s) z ms
     ∙ ap (λ (d : Scan). with_scan (cond ((p + 1) == n) (ended n w d) d) ms) shape)) in
     let scan : scan_of (members_of (bundle c.loop-place.seat)) ≡ z = ap scan_of was ∙ scan_with z ms c.requires.own.1 in
-    let risen : o ≤ s = let at_load = c.requires.loaded p ltn in c.confirm.ensures.told.opened at_load.0 o (ap (λ (d : Scan). get_elem? d.opened at_load.0) scan ∙ at_load.1) in
+    let risen : o ≤ s = let at_load = c.requires.loaded p ltn in c.confirm-again.ensures.told.opened at_load.0 o (ap (λ (d : Scan). get_elem? d.opened at_load.0) scan ∙ at_load.1) in
     record {
-      own = c.confirm.ensures.learns.own ∙ inv.own;
-      ruled = λ _. c.confirm.ensures.learns.ruled;
-      leads = subst HasMember (sym c.confirm.ensures.learns.member) (led_some (after_confirm n w p s) _ inv.leads);
+      own = c.confirm-again.ensures.learns.own ∙ inv.own;
+      ruled = λ _. c.confirm-again.ensures.learns.ruled;
+      leads = subst HasMember (sym c.confirm-again.ensures.learns.member) (led_some (after_confirm n w p s) _ inv.leads);
       view = view;
       risen = below_more (λ (q : ℕ). get_or os q 0 ≤ get_or (set fs p s) q 0) p
           (λ q h. let ne : q ≢ p = omega (arith, h) in let e = get_or-set_other fs p q s 0 ne in let r = inv.risen q h in omega (arith, e, r))
           (let e = get_or-set_same fs p s 0 ltf in omega (arith, e, risen));
+      held = λ t. let both = and_parts (c.loop-place.same) (o == s) t in below_more (λ (q : ℕ). get_or os q 0 ≡ get_or (set fs p s) q 0) p
+          (λ q h. let ne : q ≢ p = omega (arith, h) in inv.held both.0 q h ∙ sym (get_or-set_other fs p q s 0 ne))
+          (eqb-true o s both.1 ∙ sym (get_or-set_same fs p s 0 ltf));
+      moved = λ t. ⊎_elim (λ h. let old = inv.moved h in let low = old.1 in let other : old.0 ≢ p = λ e. omega (arith, low, e) in
+          (old.0, omega (arith, low), λ e. old.2 (e ∙ get_or-set_other fs p old.0 s 0 other)))
+          (λ h. (p, omega arith, λ e. eqb-false o s h (e ∙ get_or-set_same fs p s 0 ltf)))
+          (and_cases c.loop-place.same (o == s) t);
     }
 
 pub returns-clause-view : goal.returns-clause-view
@@ -107,3 +118,16 @@ returns-clause-view g c =
 pub returns-clause-ruled : goal.returns-clause-ruled
 returns-clause-ruled g c = let f = c.loop-place-test.false in let lens = c.requires.lengths in let some_worker = c.requires.geometry.workers.0 in let last = c.loop-place.auto.place-end in
     c.loop-place.invariant.ruled (omega (arith, lens.0))
+
+true_by : (b : Bool) → (b ≡ false → ⊥) → b ≡ true
+true_by true h = refl
+true_by false h = absurd (h refl)
+
+pub returns-clause-clean : goal.returns-clause-clean
+returns-clause-clean g c =
+    let os = c.args.opened.now in let fs = c.loop-place.found in
+    let lens = c.requires.lengths in let a2 = c.loop-place.auto.found in let f = c.loop-place-test.false in
+    let inv = c.loop-place.invariant in (
+      λ t. same_lists os fs (omega (arith, lens.1, lens.2, a2)) (λ k d lt. get_or_default os k d 0 lt ∙ (inv.held t k (omega (arith, lens.1, lt, f)) ∙ get_or_default fs k 0 d (omega (arith, lens.1, lens.2, a2, lt)))),
+      λ e. true_by c.loop-place.same (λ no. let m = inv.moved no in m.2 (ap (λ (l : List ℕ). get_or l m.0 0) e)),
+    )

@@ -1,4 +1,4 @@
-use Rattle.std.proofs.Common.{◌≡◌, ◌<◌, ◌≤◌, ◌==◌, cond, ℕ, take, get_or}
+use Rattle.std.proofs.Common.{◌≡◌, ◌≢◌, true, false, ◌<◌, ◌≤◌, ◌==◌, cond, ℕ, take, get_or}
 use Rattle.ledger_core.specs.Ops.{width}
 use Rattle.register_rule.specs.Steps.{ended}
 use Rattle.register_rule.specs.Seats.{HasMember, table_of, members_of}
@@ -13,4 +13,6 @@ invariant-loop-place g l = let bundle = g.S.ScanSeat.bundle in let ms = members_
   leads : HasMember (members_of (bundle l.seat));
   view : members_of (bundle l.seat) ≡ with_scan (cond (l.place == g.row.N) (ended g.row.N w (settling l.opened (take l.place l.found) l.kept (scan_of ms))) (settling l.opened (take l.place l.found) l.kept (scan_of ms))) ms;
   risen : (q : ℕ) → q < l.place → get_or l.opened q 0 ≤ get_or l.found q 0;
+  held : l.same ≡ true → (q : ℕ) → q < l.place → get_or l.opened q 0 ≡ get_or l.found q 0;
+  moved : l.same ≡ false → (q : ℕ) × (q < l.place) × (get_or l.opened q 0 ≢ get_or l.found q 0);
 }

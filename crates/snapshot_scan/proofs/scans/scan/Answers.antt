@@ -70,12 +70,12 @@ returns-then-clean-2-clause-moved g c = λ _.
     let n : ℕ = g.row.N in
     let inv = c.loop-k.invariant.1 in let tries = c.loop-k.invariant.0 in let lens = c.requires.lengths in
     let fl = c.copy_from_slice.new.self in let ba = c.copy_from_slice-2.new.self in
-    let r = c.try_once-clean-in-loop-k.new in
+    let r = c.try_again-clean.new in
     let view = at_loop n c.loop-k._k tries c.loop-k.kept fl ba ms _ inv.count c.loop-k-test.true inv.view in
     let d : Scan = stood tries c.loop-k.kept fl ba (scan_of ms) in
-    let end = then_is (λ (x : Scan). answered (record { vector = r.opened; totals = r.totals }) (settling r.opened r.found r.kept (opening r.opened r.kept x))) d ms _ _ c.requires.own.1 view (c.try_once-clean-in-loop-k.ensures.clean c.if-clean-2.true) in
+    let end = then_is (λ (x : Scan). answered (record { vector = r.opened; totals = r.totals }) (settling r.opened r.found r.kept (opening r.opened r.kept x))) d ms _ _ c.requires.own.1 view (c.try_again-clean.ensures.clean c.if-clean-2.true) in
     moved_later n fl ba c.loop-k.opened c.loop-k.found tries inv.tried c.loop-k.kept (scan_of ms) (map version_of c.args.kept.now) r.opened _ c.requires.geometry.workers.0 inv.lengths.0
-    (c.try_once-clean-in-loop-k.auto.opened ∙ (c.loop-k.auto.opened ∙ (c.try_once-clean.auto.opened ∙ lens.2)))
+    (c.try_again-clean.auto.opened ∙ (c.loop-k.auto.opened ∙ (c.try_once-clean.auto.opened ∙ lens.2)))
     (ap (λ (x : Scan). x.opened) (now_is _ ms _ c.requires.own.1 end))
 
 pub loop-k-init : goal.loop-k-init
@@ -108,8 +108,8 @@ loop-k-init g c =
       },
     )
 
-pub try_once-clean-requires-in-loop-k : goal.try_once-clean-requires-in-loop-k
-try_once-clean-requires-in-loop-k g c =
+pub try_again-clean-requires : goal.try_again-clean-requires
+try_again-clean-requires g c =
     let ms = members_of (g.S.ScanSeat.bundle c.args.seat.now) in
     let n : ℕ = g.row.N in
     let inv = c.loop-k.invariant.1 in let tries = c.loop-k.invariant.0 in let lens = c.requires.lengths in
@@ -130,17 +130,17 @@ try_once-clean-requires-in-loop-k g c =
     )
 
 pub returns-then-clean-2-clause-own : goal.returns-then-clean-2-clause-own
-returns-then-clean-2-clause-own g c = c.try_once-clean-in-loop-k.ensures.own ∙ c.loop-k.invariant.1.own
+returns-then-clean-2-clause-own g c = c.try_again-clean.ensures.own ∙ c.loop-k.invariant.1.own
 
 pub returns-then-clean-2-clause-idle : goal.returns-then-clean-2-clause-idle
-returns-then-clean-2-clause-idle g c = let scan = now_is _ _ _ c.loop-k.invariant.1.leads (c.try_once-clean-in-loop-k.ensures.clean c.if-clean-2.true) in
+returns-then-clean-2-clause-idle g c = let scan = now_is _ _ _ c.loop-k.invariant.1.leads (c.try_again-clean.ensures.clean c.if-clean-2.true) in
     record { kept = ap (λ (d : Scan). d.kept) scan; rest = ap (λ (d : Scan). d.now) scan }
 
 pub returns-then-clean-2-clause-others : goal.returns-then-clean-2-clause-others
 returns-then-clean-2-clause-others g c =
     let ms = members_of (g.S.ScanSeat.bundle c.args.seat.now) in
-    let inv = c.loop-k.invariant.1 in let r = c.try_once-clean-in-loop-k.new in
-    others_same _ ms _ c.requires.own.1 (then_is (λ (d : Scan). answered (record { vector = r.opened; totals = r.totals }) (settling r.opened r.found r.kept (opening r.opened r.kept d))) _ ms _ _ c.requires.own.1 inv.view (c.try_once-clean-in-loop-k.ensures.clean c.if-clean-2.true))
+    let inv = c.loop-k.invariant.1 in let r = c.try_again-clean.new in
+    others_same _ ms _ c.requires.own.1 (then_is (λ (d : Scan). answered (record { vector = r.opened; totals = r.totals }) (settling r.opened r.found r.kept (opening r.opened r.kept d))) _ ms _ _ c.requires.own.1 inv.view (c.try_again-clean.ensures.clean c.if-clean-2.true))
 
 pub returns-then-clean-2-clause-direct : goal.returns-then-clean-2-clause-direct
 returns-then-clean-2-clause-direct g c = λ _ _.
@@ -148,15 +148,15 @@ returns-then-clean-2-clause-direct g c = λ _ _.
     let n : ℕ = g.row.N in
     let inv = c.loop-k.invariant.1 in let tries = c.loop-k.invariant.0 in let lens = c.requires.lengths in
     let fl = c.copy_from_slice.new.self in let ba = c.copy_from_slice-2.new.self in
-    let r = c.try_once-clean-in-loop-k.new in
+    let r = c.try_again-clean.new in
     let view = at_loop n c.loop-k._k tries c.loop-k.kept fl ba ms _ inv.count c.loop-k-test.true inv.view in
     let d : Scan = stood tries c.loop-k.kept fl ba (scan_of ms) in
     let scan = now_is d ms _ c.requires.own.1 view in
-    let end = then_is (λ (x : Scan). answered (record { vector = r.opened; totals = r.totals }) (settling r.opened r.found r.kept (opening r.opened r.kept x))) d ms _ _ c.requires.own.1 view (c.try_once-clean-in-loop-k.ensures.clean c.if-clean-2.true) in
+    let end = then_is (λ (x : Scan). answered (record { vector = r.opened; totals = r.totals }) (settling r.opened r.found r.kept (opening r.opened r.kept x))) d ms _ _ c.requires.own.1 view (c.try_again-clean.ensures.clean c.if-clean-2.true) in
     subst (λ (x : Scan). IsAnswered n (scan_of ms) x (record { vector = r.opened; totals = r.totals })) (sym (now_is _ ms _ c.requires.own.1 end))
     (direct_later n fl ba c.loop-k.opened c.loop-k.found tries inv.tried c.loop-k.kept (scan_of ms) r.opened r.found r.totals r.kept inv.lengths.0
-    (c.try_once-clean-in-loop-k.auto.opened ∙ (c.loop-k.auto.opened ∙ (c.try_once-clean.auto.opened ∙ lens.2)))
-    (λ q lt. subst (λ (x : Scan). IsLoaded q x (slice_index r.opened q)) scan (c.try_once-clean-in-loop-k.ensures.told q lt)))
+    (c.try_again-clean.auto.opened ∙ (c.loop-k.auto.opened ∙ (c.try_once-clean.auto.opened ∙ lens.2)))
+    (λ q lt. subst (λ (x : Scan). IsLoaded q x (slice_index r.opened q)) scan (c.try_again-clean.ensures.told q lt)))
 
 pub ask_all-lends-requires : goal.ask_all-lends-requires
 ask_all-lends-requires g c =
@@ -164,19 +164,19 @@ ask_all-lends-requires g c =
     let n : ℕ = g.row.N in let w : ℕ = width g.row.C g.row.H g.row.G in
     let inv = c.loop-k.invariant.1 in let tries = c.loop-k.invariant.0 in let lens = c.requires.lengths in
     let fl = c.copy_from_slice.new.self in let ba = c.copy_from_slice-2.new.self in
-    let r = c.try_once-clean-in-loop-k.new in
-    let few : length r.kept ≡ n = c.try_once-clean-in-loop-k.auto.kept ∙ (c.loop-k.auto.kept ∙ (c.try_once-clean.auto.kept ∙ lens.0)) in
-    let long : length r.opened ≡ n = c.try_once-clean-in-loop-k.auto.opened ∙ (c.loop-k.auto.opened ∙ (c.try_once-clean.auto.opened ∙ lens.2)) in
-    let deep : length r.found ≡ n = c.try_once-clean-in-loop-k.auto.found ∙ (c.loop-k.auto.found ∙ (c.try_once-clean.auto.found ∙ lens.3)) in
+    let r = c.try_again-clean.new in
+    let few : length r.kept ≡ n = c.try_again-clean.auto.kept ∙ (c.loop-k.auto.kept ∙ (c.try_once-clean.auto.kept ∙ lens.0)) in
+    let long : length r.opened ≡ n = c.try_again-clean.auto.opened ∙ (c.loop-k.auto.opened ∙ (c.try_once-clean.auto.opened ∙ lens.2)) in
+    let deep : length r.found ≡ n = c.try_again-clean.auto.found ∙ (c.loop-k.auto.found ∙ (c.try_once-clean.auto.found ∙ lens.3)) in
     let view = at_loop n c.loop-k._k tries c.loop-k.kept fl ba ms _ inv.count c.loop-k-test.true inv.view in
     let d : Scan = stood tries c.loop-k.kept fl ba (scan_of ms) in
-    let fails = loop_fails n w c.loop-k._k r.opened r.found r.kept c.loop-k.kept few long deep tries fl ba ms _ _ c.requires.own.1 inv.count view (c.try_once-clean-in-loop-k.ensures.failed c.if-clean-2.false) in
+    let fails = loop_fails n w c.loop-k._k r.opened r.found r.kept c.loop-k.kept few long deep tries fl ba ms _ _ c.requires.own.1 inv.count view (c.try_again-clean.ensures.failed c.if-clean-2.false) in
     let scan = now_is _ ms _ c.requires.own.1 fails in (
       search rules,
       (
-        (c.try_once-clean-in-loop-k.ensures.own ∙ (inv.own ∙ c.requires.own.0), still_some _ ms _ c.requires.own.1 fails),
+        (c.try_again-clean.ensures.own ∙ (inv.own ∙ c.requires.own.0), still_some _ ms _ c.requires.own.1 fails),
         (
-          c.try_once-clean-in-loop-k.ensures.ruled,
+          c.try_again-clean.ensures.ruled,
           (
             c.requires.geometry,
             (
@@ -189,7 +189,7 @@ ask_all-lends-requires g c =
     )
 
 pub returns-then-lends-clause-own : goal.returns-then-lends-clause-own
-returns-then-lends-clause-own g c = c.ask_all-lends.ensures.own ∙ (c.try_once-clean-in-loop-k.ensures.own ∙ c.loop-k.invariant.1.own)
+returns-then-lends-clause-own g c = c.ask_all-lends.ensures.own ∙ (c.try_again-clean.ensures.own ∙ c.loop-k.invariant.1.own)
 
 pub returns-then-lends-clause-idle : goal.returns-then-lends-clause-idle
 returns-then-lends-clause-idle g c =
@@ -197,13 +197,13 @@ returns-then-lends-clause-idle g c =
     let n : ℕ = g.row.N in let w : ℕ = width g.row.C g.row.H g.row.G in
     let inv = c.loop-k.invariant.1 in let tries = c.loop-k.invariant.0 in let lens = c.requires.lengths in
     let fl = c.copy_from_slice.new.self in let ba = c.copy_from_slice-2.new.self in
-    let r = c.try_once-clean-in-loop-k.new in
-    let few : length r.kept ≡ n = c.try_once-clean-in-loop-k.auto.kept ∙ (c.loop-k.auto.kept ∙ (c.try_once-clean.auto.kept ∙ lens.0)) in
-    let long : length r.opened ≡ n = c.try_once-clean-in-loop-k.auto.opened ∙ (c.loop-k.auto.opened ∙ (c.try_once-clean.auto.opened ∙ lens.2)) in
-    let deep : length r.found ≡ n = c.try_once-clean-in-loop-k.auto.found ∙ (c.loop-k.auto.found ∙ (c.try_once-clean.auto.found ∙ lens.3)) in
+    let r = c.try_again-clean.new in
+    let few : length r.kept ≡ n = c.try_again-clean.auto.kept ∙ (c.loop-k.auto.kept ∙ (c.try_once-clean.auto.kept ∙ lens.0)) in
+    let long : length r.opened ≡ n = c.try_again-clean.auto.opened ∙ (c.loop-k.auto.opened ∙ (c.try_once-clean.auto.opened ∙ lens.2)) in
+    let deep : length r.found ≡ n = c.try_again-clean.auto.found ∙ (c.loop-k.auto.found ∙ (c.try_once-clean.auto.found ∙ lens.3)) in
     let view = at_loop n c.loop-k._k tries c.loop-k.kept fl ba ms _ inv.count c.loop-k-test.true inv.view in
     let d : Scan = stood tries c.loop-k.kept fl ba (scan_of ms) in
-    let fails = loop_fails n w c.loop-k._k r.opened r.found r.kept c.loop-k.kept few long deep tries fl ba ms _ _ c.requires.own.1 inv.count view (c.try_once-clean-in-loop-k.ensures.failed c.if-clean-2.false) in
+    let fails = loop_fails n w c.loop-k._k r.opened r.found r.kept c.loop-k.kept few long deep tries fl ba ms _ _ c.requires.own.1 inv.count view (c.try_again-clean.ensures.failed c.if-clean-2.false) in
     let l = c.ask_all-lends.ensures.lends c.if-lends.true in
     let a = lent_in n w c.ask_all-lends.new.lent in
     let end = loop_lends n w c.loop-k._k r.opened r.found r.kept c.loop-k.kept few long deep tries fl ba ms _ _ c.requires.own.1 inv.count view _ a l.1 l.0 l.2 fails l.3 l.7 in
@@ -216,13 +216,13 @@ returns-then-lends-clause-others g c =
     let n : ℕ = g.row.N in let w : ℕ = width g.row.C g.row.H g.row.G in
     let inv = c.loop-k.invariant.1 in let tries = c.loop-k.invariant.0 in let lens = c.requires.lengths in
     let fl = c.copy_from_slice.new.self in let ba = c.copy_from_slice-2.new.self in
-    let r = c.try_once-clean-in-loop-k.new in
-    let few : length r.kept ≡ n = c.try_once-clean-in-loop-k.auto.kept ∙ (c.loop-k.auto.kept ∙ (c.try_once-clean.auto.kept ∙ lens.0)) in
-    let long : length r.opened ≡ n = c.try_once-clean-in-loop-k.auto.opened ∙ (c.loop-k.auto.opened ∙ (c.try_once-clean.auto.opened ∙ lens.2)) in
-    let deep : length r.found ≡ n = c.try_once-clean-in-loop-k.auto.found ∙ (c.loop-k.auto.found ∙ (c.try_once-clean.auto.found ∙ lens.3)) in
+    let r = c.try_again-clean.new in
+    let few : length r.kept ≡ n = c.try_again-clean.auto.kept ∙ (c.loop-k.auto.kept ∙ (c.try_once-clean.auto.kept ∙ lens.0)) in
+    let long : length r.opened ≡ n = c.try_again-clean.auto.opened ∙ (c.loop-k.auto.opened ∙ (c.try_once-clean.auto.opened ∙ lens.2)) in
+    let deep : length r.found ≡ n = c.try_again-clean.auto.found ∙ (c.loop-k.auto.found ∙ (c.try_once-clean.auto.found ∙ lens.3)) in
     let view = at_loop n c.loop-k._k tries c.loop-k.kept fl ba ms _ inv.count c.loop-k-test.true inv.view in
     let d : Scan = stood tries c.loop-k.kept fl ba (scan_of ms) in
-    let fails = loop_fails n w c.loop-k._k r.opened r.found r.kept c.loop-k.kept few long deep tries fl ba ms _ _ c.requires.own.1 inv.count view (c.try_once-clean-in-loop-k.ensures.failed c.if-clean-2.false) in
+    let fails = loop_fails n w c.loop-k._k r.opened r.found r.kept c.loop-k.kept few long deep tries fl ba ms _ _ c.requires.own.1 inv.count view (c.try_again-clean.ensures.failed c.if-clean-2.false) in
     let l = c.ask_all-lends.ensures.lends c.if-lends.true in
     let a = lent_in n w c.ask_all-lends.new.lent in
     let end = loop_lends n w c.loop-k._k r.opened r.found r.kept c.loop-k.kept few long deep tries fl ba ms _ _ c.requires.own.1 inv.count view _ a l.1 l.0 l.2 fails l.3 l.7 in
@@ -234,13 +234,13 @@ returns-then-lends-clause-lent g c = λ _.
     let n : ℕ = g.row.N in let w : ℕ = width g.row.C g.row.H g.row.G in
     let inv = c.loop-k.invariant.1 in let tries = c.loop-k.invariant.0 in let lens = c.requires.lengths in
     let fl = c.copy_from_slice.new.self in let ba = c.copy_from_slice-2.new.self in
-    let r = c.try_once-clean-in-loop-k.new in
-    let few : length r.kept ≡ n = c.try_once-clean-in-loop-k.auto.kept ∙ (c.loop-k.auto.kept ∙ (c.try_once-clean.auto.kept ∙ lens.0)) in
-    let long : length r.opened ≡ n = c.try_once-clean-in-loop-k.auto.opened ∙ (c.loop-k.auto.opened ∙ (c.try_once-clean.auto.opened ∙ lens.2)) in
-    let deep : length r.found ≡ n = c.try_once-clean-in-loop-k.auto.found ∙ (c.loop-k.auto.found ∙ (c.try_once-clean.auto.found ∙ lens.3)) in
+    let r = c.try_again-clean.new in
+    let few : length r.kept ≡ n = c.try_again-clean.auto.kept ∙ (c.loop-k.auto.kept ∙ (c.try_once-clean.auto.kept ∙ lens.0)) in
+    let long : length r.opened ≡ n = c.try_again-clean.auto.opened ∙ (c.loop-k.auto.opened ∙ (c.try_once-clean.auto.opened ∙ lens.2)) in
+    let deep : length r.found ≡ n = c.try_again-clean.auto.found ∙ (c.loop-k.auto.found ∙ (c.try_once-clean.auto.found ∙ lens.3)) in
     let view = at_loop n c.loop-k._k tries c.loop-k.kept fl ba ms _ inv.count c.loop-k-test.true inv.view in
     let d : Scan = stood tries c.loop-k.kept fl ba (scan_of ms) in
-    let fails = loop_fails n w c.loop-k._k r.opened r.found r.kept c.loop-k.kept few long deep tries fl ba ms _ _ c.requires.own.1 inv.count view (c.try_once-clean-in-loop-k.ensures.failed c.if-clean-2.false) in
+    let fails = loop_fails n w c.loop-k._k r.opened r.found r.kept c.loop-k.kept few long deep tries fl ba ms _ _ c.requires.own.1 inv.count view (c.try_again-clean.ensures.failed c.if-clean-2.false) in
     let l = c.ask_all-lends.ensures.lends c.if-lends.true in
     let a = lent_in n w c.ask_all-lends.new.lent in
     let end = loop_lends n w c.loop-k._k r.opened r.found r.kept c.loop-k.kept few long deep tries fl ba ms _ _ c.requires.own.1 inv.count view _ a l.1 l.0 l.2 fails l.3 l.7 in
@@ -254,27 +254,27 @@ loop-k-preserved g c =
     let n : ℕ = g.row.N in let w : ℕ = width g.row.C g.row.H g.row.G in
     let inv = c.loop-k.invariant.1 in let tries = c.loop-k.invariant.0 in let lens = c.requires.lengths in
     let fl = c.copy_from_slice.new.self in let ba = c.copy_from_slice-2.new.self in
-    let r = c.try_once-clean-in-loop-k.new in
-    let few : length r.kept ≡ n = c.try_once-clean-in-loop-k.auto.kept ∙ (c.loop-k.auto.kept ∙ (c.try_once-clean.auto.kept ∙ lens.0)) in
-    let long : length r.opened ≡ n = c.try_once-clean-in-loop-k.auto.opened ∙ (c.loop-k.auto.opened ∙ (c.try_once-clean.auto.opened ∙ lens.2)) in
-    let deep : length r.found ≡ n = c.try_once-clean-in-loop-k.auto.found ∙ (c.loop-k.auto.found ∙ (c.try_once-clean.auto.found ∙ lens.3)) in
+    let r = c.try_again-clean.new in
+    let few : length r.kept ≡ n = c.try_again-clean.auto.kept ∙ (c.loop-k.auto.kept ∙ (c.try_once-clean.auto.kept ∙ lens.0)) in
+    let long : length r.opened ≡ n = c.try_again-clean.auto.opened ∙ (c.loop-k.auto.opened ∙ (c.try_once-clean.auto.opened ∙ lens.2)) in
+    let deep : length r.found ≡ n = c.try_again-clean.auto.found ∙ (c.loop-k.auto.found ∙ (c.try_once-clean.auto.found ∙ lens.3)) in
     let view = at_loop n c.loop-k._k tries c.loop-k.kept fl ba ms _ inv.count c.loop-k-test.true inv.view in
     let d : Scan = stood tries c.loop-k.kept fl ba (scan_of ms) in
-    let fails = loop_fails n w c.loop-k._k r.opened r.found r.kept c.loop-k.kept few long deep tries fl ba ms _ _ c.requires.own.1 inv.count view (c.try_once-clean-in-loop-k.ensures.failed c.if-clean-2.false) in
+    let fails = loop_fails n w c.loop-k._k r.opened r.found r.kept c.loop-k.kept few long deep tries fl ba ms _ _ c.requires.own.1 inv.count view (c.try_again-clean.ensures.failed c.if-clean-2.false) in
     let q = c.ask_all-lends.ensures.refuses c.if-lends.false in
     let t : Tried = record { first = r.opened; second = r.found; asks = q.0 } in
     let end = loop_refuses n w c.loop-k._k r.opened r.found r.kept c.loop-k.kept few long deep tries fl ba ms _ _ c.requires.own.1 inv.count view _ q.0 fails q.1 q.3 in
-    let failed : FailedTry n fl ba t = record { opened = long; found = deep; risen = c.try_once-clean-in-loop-k.ensures.risen; rose = c.try_once-clean-in-loop-k.ensures.rose c.if-clean-2.false; asked = q.1; none = q.2 } in (
+    let failed : FailedTry n fl ba t = record { opened = long; found = deep; risen = c.try_again-clean.ensures.risen; rose = c.try_again-clean.ensures.rose c.if-clean-2.false; asked = q.1; none = q.2 } in (
       tries ++ t ∷ [],
       record {
-        own = c.ask_all-lends.ensures.own ∙ (c.try_once-clean-in-loop-k.ensures.own ∙ inv.own);
+        own = c.ask_all-lends.ensures.own ∙ (c.try_again-clean.ensures.own ∙ inv.own);
         ruled = c.ask_all-lends.ensures.ruled;
         leads = still_some _ ms _ c.requires.own.1 end;
-        wide = c.try_once-clean-in-loop-k.ensures.wide;
-        totals = c.try_once-clean-in-loop-k.ensures.totals;
+        wide = c.try_again-clean.ensures.wide;
+        totals = c.try_again-clean.ensures.totals;
         count = count_more tries t c.loop-k._k inv.count;
         above = each_push (λ (u : Tried). Below (scan_of ms).seen u.first) tries t inv.above
-            (seen_below n (stood tries c.loop-k.kept fl ba (scan_of ms)) r.opened long (λ p lt. subst (λ (x : Scan). IsLoaded p x (slice_index r.opened p)) (now_is d ms _ c.requires.own.1 view) (c.try_once-clean-in-loop-k.ensures.told p lt)));
+            (seen_below n (stood tries c.loop-k.kept fl ba (scan_of ms)) r.opened long (λ p lt. subst (λ (x : Scan). IsLoaded p x (slice_index r.opened p)) (now_is d ms _ c.requires.own.1 view) (c.try_again-clean.ensures.told p lt)));
         tried = tries_more n fl ba c.loop-k.opened c.loop-k.found tries inv.tried c.loop-k.kept (scan_of ms) r.opened r.found q.0 failed;
         lengths = inv.lengths;
         seen = inv.seen;
@@ -328,14 +328,14 @@ returns-then-clean-2-clause-came_direct g c = λ _ _.
     let n : ℕ = g.row.N in let w : ℕ = width g.row.C g.row.H g.row.G in
     let inv = c.loop-k.invariant.1 in let tries = c.loop-k.invariant.0 in let lens = c.requires.lengths in
     let fl = c.copy_from_slice.new.self in let ba = c.copy_from_slice-2.new.self in
-    let r = c.try_once-clean-in-loop-k.new in
+    let r = c.try_again-clean.new in
     let view = at_loop n c.loop-k._k tries c.loop-k.kept fl ba ms _ inv.count c.loop-k-test.true inv.view in
     let d : Scan = stood tries c.loop-k.kept fl ba (scan_of ms) in
-    let end = then_is (λ (x : Scan). answered (record { vector = r.opened; totals = r.totals }) (settling r.opened r.found r.kept (opening r.opened r.kept x))) d ms _ _ c.requires.own.1 view (c.try_once-clean-in-loop-k.ensures.clean c.if-clean-2.true) in
+    let end = then_is (λ (x : Scan). answered (record { vector = r.opened; totals = r.totals }) (settling r.opened r.found r.kept (opening r.opened r.kept x))) d ms _ _ c.requires.own.1 view (c.try_again-clean.ensures.clean c.if-clean-2.true) in
     let count = inv.count in let lt = c.loop-k-test.true in
     subst (λ (x : Scan). AnswersBy n w (scan_of ms) x (record { vector = r.opened; totals = r.totals })) (sym (now_is _ ms _ c.requires.own.1 end))
     (came_later n w fl ba c.loop-k.opened c.loop-k.found tries inv.tried c.loop-k.kept (scan_of ms) r.opened r.found r.kept (record { vector = r.opened; totals = r.totals })
-    (c.try_once-clean-in-loop-k.auto.opened ∙ (c.loop-k.auto.opened ∙ (c.try_once-clean.auto.opened ∙ lens.2))) (c.try_once-clean-in-loop-k.ensures.same c.if-clean-2.true) (omega (arith, count, lt)) refl)
+    (c.try_again-clean.auto.opened ∙ (c.loop-k.auto.opened ∙ (c.try_once-clean.auto.opened ∙ lens.2))) (c.try_again-clean.ensures.same c.if-clean-2.true) (omega (arith, count, lt)) refl)
 
 pub returns-then-lends-clause-came_lent : goal.returns-then-lends-clause-came_lent
 returns-then-lends-clause-came_lent g c = λ _.
@@ -343,19 +343,19 @@ returns-then-lends-clause-came_lent g c = λ _.
     let n : ℕ = g.row.N in let w : ℕ = width g.row.C g.row.H g.row.G in
     let inv = c.loop-k.invariant.1 in let tries = c.loop-k.invariant.0 in let lens = c.requires.lengths in
     let fl = c.copy_from_slice.new.self in let ba = c.copy_from_slice-2.new.self in
-    let r = c.try_once-clean-in-loop-k.new in
-    let few : length r.kept ≡ n = c.try_once-clean-in-loop-k.auto.kept ∙ (c.loop-k.auto.kept ∙ (c.try_once-clean.auto.kept ∙ lens.0)) in
-    let long : length r.opened ≡ n = c.try_once-clean-in-loop-k.auto.opened ∙ (c.loop-k.auto.opened ∙ (c.try_once-clean.auto.opened ∙ lens.2)) in
-    let deep : length r.found ≡ n = c.try_once-clean-in-loop-k.auto.found ∙ (c.loop-k.auto.found ∙ (c.try_once-clean.auto.found ∙ lens.3)) in
+    let r = c.try_again-clean.new in
+    let few : length r.kept ≡ n = c.try_again-clean.auto.kept ∙ (c.loop-k.auto.kept ∙ (c.try_once-clean.auto.kept ∙ lens.0)) in
+    let long : length r.opened ≡ n = c.try_again-clean.auto.opened ∙ (c.loop-k.auto.opened ∙ (c.try_once-clean.auto.opened ∙ lens.2)) in
+    let deep : length r.found ≡ n = c.try_again-clean.auto.found ∙ (c.loop-k.auto.found ∙ (c.try_once-clean.auto.found ∙ lens.3)) in
     let view = at_loop n c.loop-k._k tries c.loop-k.kept fl ba ms _ inv.count c.loop-k-test.true inv.view in
-    let fails = loop_fails n w c.loop-k._k r.opened r.found r.kept c.loop-k.kept few long deep tries fl ba ms _ _ c.requires.own.1 inv.count view (c.try_once-clean-in-loop-k.ensures.failed c.if-clean-2.false) in
+    let fails = loop_fails n w c.loop-k._k r.opened r.found r.kept c.loop-k.kept few long deep tries fl ba ms _ _ c.requires.own.1 inv.count view (c.try_again-clean.ensures.failed c.if-clean-2.false) in
     let l = c.ask_all-lends.ensures.lends c.if-lends.true in
     let a = lent_in n w c.ask_all-lends.new.lent in
     let end = loop_lends n w c.loop-k._k r.opened r.found r.kept c.loop-k.kept few long deep tries fl ba ms _ _ c.requires.own.1 inv.count view _ a l.1 l.0 l.2 fails l.3 l.7 in
     let count = inv.count in let lt = c.loop-k-test.true in
     subst (λ (x : Scan). AnswersBy n w (scan_of ms) x a) (sym (now_is _ ms _ c.requires.own.1 end))
     (came_lending n w fl ba c.loop-k.opened c.loop-k.found tries inv.tried c.loop-k.kept (scan_of ms) r.opened r.found r.kept a l.1 l.0 l.2 (worker_of l.1 ∷ l.2) long deep (omega (arith, count, lt))
-    (c.try_once-clean-in-loop-k.ensures.rose c.if-clean-2.false) l.3 l.4 l.6 (ap (lent_in n w) (sym l.5)))
+    (c.try_again-clean.ensures.rose c.if-clean-2.false) l.3 l.4 l.6 (ap (lent_in n w) (sym l.5)))
 
 pub returns-clause-came_up : goal.returns-clause-came_up
 returns-clause-came_up g c = λ _ e moved.
@@ -414,13 +414,13 @@ pub returns-then-clean-clause-came_up : goal.returns-then-clean-clause-came_up
 returns-then-clean-clause-came_up g c = λ e. absurd (direct_up _ e)
 
 pub returns-then-clean-2-clause-ruled : goal.returns-then-clean-2-clause-ruled
-returns-then-clean-2-clause-ruled g c = c.try_once-clean-in-loop-k.ensures.ruled
+returns-then-clean-2-clause-ruled g c = c.try_again-clean.ensures.ruled
 
 pub returns-then-clean-2-clause-wide : goal.returns-then-clean-2-clause-wide
-returns-then-clean-2-clause-wide g c = c.try_once-clean-in-loop-k.ensures.wide
+returns-then-clean-2-clause-wide g c = c.try_again-clean.ensures.wide
 
 pub returns-then-clean-2-clause-totals : goal.returns-then-clean-2-clause-totals
-returns-then-clean-2-clause-totals g c = c.try_once-clean-in-loop-k.ensures.totals
+returns-then-clean-2-clause-totals g c = c.try_again-clean.ensures.totals
 
 pub returns-then-clean-2-clause-quiet : goal.returns-then-clean-2-clause-quiet
 returns-then-clean-2-clause-quiet g c = λ e. absurd (not_quiet (ap quiet_in e))
@@ -444,10 +444,10 @@ pub returns-then-lends-clause-ruled : goal.returns-then-lends-clause-ruled
 returns-then-lends-clause-ruled g c = c.ask_all-lends.ensures.ruled
 
 pub returns-then-lends-clause-wide : goal.returns-then-lends-clause-wide
-returns-then-lends-clause-wide g c = c.try_once-clean-in-loop-k.ensures.wide
+returns-then-lends-clause-wide g c = c.try_again-clean.ensures.wide
 
 pub returns-then-lends-clause-totals : goal.returns-then-lends-clause-totals
-returns-then-lends-clause-totals g c = c.try_once-clean-in-loop-k.ensures.totals
+returns-then-lends-clause-totals g c = c.try_again-clean.ensures.totals
 
 pub returns-then-lends-clause-direct : goal.returns-then-lends-clause-direct
 returns-then-lends-clause-direct g c = λ q e. absurd (lent_direct q e)

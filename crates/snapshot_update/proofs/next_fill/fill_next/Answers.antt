@@ -1,8 +1,10 @@
-use Rattle.std.proofs.Common.{◌≡◌, ⊎_elim, ◌+◌, ◌<◌, ℕ, false, List, [], Contains, subst, arith}
+use Rattle.std.proofs.Common.{◌≡◌, ⊎_elim, ◌+◌, ◌<◌, ℕ, false, List, [], Contains, sym, ◌∙◌, subst, arith}
 use Rattle.ledger_core.specs.Ops.{width}
 use Rattle.segment_layout.specs.Layout.{depth}
 use Rattle.snapshot_update.specs.Images.{Changed}
 use Rattle.snapshot_update.specs.Changes.{NotesEach}
+use Rattle.snapshot_update.specs.Target.{target_of}
+use Rattle.snapshot_update.proofs.Filling.{listed_or, all_filled}
 use Rattle.snapshot_update.proofs.Noted.{none_listed}
 use Rattle.snapshot_update.proofs.next_fill.fill_next.Goals as goal
 
@@ -35,3 +37,19 @@ pub returns-then-known-clause-inside : goal.returns-then-known-clause-inside
 returns-then-known-clause-inside g c =
     both_inside (depth g.row.N (width g.row.C g.row.H g.row.G)) c.args.late.now.items c.args.touched.now.items c.clear.new.self c.note_each.new.to c.note_each-then-known.new.to c.clear.ensures.none.1 c.note_each.ensures c.note_each-then-known.ensures
     c.requires.inside.1 c.requires.inside.2
+
+pub returns-then-all_recent-clause-recent : goal.returns-then-all_recent-clause-recent
+returns-then-all_recent-clause-recent g c = λ _ j lt not. let lens = c.requires.lengths in
+    let r = c.as_slice.ensures.listed in let a = c.as_slice-then-known.ensures.listed in let b = c.as_slice-then-known-2.ensures.listed in
+    let both = c.are_both-all_recent.ensures in let yes = c.if-all_recent.true in
+    c.requires.known c.if-known.true j (omega (arith, lens.2, lt))
+    (λ h. not (subst (λ (l : List ℕ). Contains l j) r (both.first yes j (subst (λ (l : List ℕ). Contains l j) (sym a) h))))
+    (λ h. not (subst (λ (l : List ℕ). Contains l j) r (both.second yes j (subst (λ (l : List ℕ). Contains l j) (sym b) h))))
+
+pub returns-then-all_recent-clause-hidden : goal.returns-then-all_recent-clause-hidden
+returns-then-all_recent-clause-hidden g c =
+    let lens = c.requires.lengths in let fills = c.fill_changes.ensures in let listed = c.requires.listed c.if-known.true in
+    all_filled c.fill_changes.new.hidden (target_of c.args.version.now) (depth g.row.N (width g.row.C g.row.H g.row.G)) (c.fill_changes.auto.hidden ∙ lens.0) lens.2 (λ j lt.
+    ⊎_elim (fills.filled j) (λ not_recent. fills.kept j (c.requires.recent listed.0 j (omega (arith, lens.1, lt)) not_recent
+    ∙ returns-then-all_recent-clause-recent g c listed.0 j (omega (arith, lens.2, lt)) not_recent))
+    (listed_or c.args.recent.now.items j))

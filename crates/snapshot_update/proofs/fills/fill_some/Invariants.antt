@@ -2,8 +2,8 @@ use Rattle.std.proofs.Common.{◌≡◌, ◌<◌, ℕ, get_or}
 use Rattle.register_rule.specs.Seats.{worker_of, index_of, HasWorker}
 use Rattle.snapshot_update.specs.Images.{with_hidden}
 use Rattle.snapshot_update.specs.Target.{target_of}
-use Rattle.snapshot_update.proofs.Filling.{SoFar}
-use Rattle.snapshot_update.proofs.fills.fill_all.Given as goal
+use Rattle.snapshot_update.specs.Changes.{SoFar}
+use Rattle.snapshot_update.proofs.fills.fill_some.Given as goal
 
 abbrev pub invariant-loop-item : goal.invariant-loop-item
 invariant-loop-item g l = record {
