@@ -5,7 +5,7 @@ ghost use Rattle.scrape_server.specs.Again.{AsksAgain};
 ghost use Rattle.dirgwako.specs.Answering.{Answers};
 
 use scrape_http::{ScrapeFrom, Served, serve_one};
-use scrape_server::{AskedAgain, close_in_stages};
+use scrape_server::{AskedAgain, close_behind};
 use std::io::{ErrorKind, Read, Result, Write};
 use std::net::TcpStream;
 use std::time::{Clock, Duration, Instant};
@@ -78,8 +78,8 @@ fn reply<I: Read, O: Write, S: ScrapeFrom>(
     }
 }
 
-/// Answers one connection, and tells the reply, or None where there was none: it may take as long as `patience`, and then it is ended in
-/// stages.
+/// Answers one connection, and tells the reply, or None where there was none: it may take as long as `patience`, and then it is ended
+/// behind its reply.
 pub(crate) fn answer<R: Clock, S: ScrapeFrom>(
     clock: &R,
     stream: &TcpStream,
@@ -105,6 +105,6 @@ pub(crate) fn answer<R: Clock, S: ScrapeFrom>(
     });
     let served = reply(&mut reader, &mut writer, source)?;
     // The reply is sent; that the client went away before the end is no fault of the service.
-    let _ = close_in_stages(stream);
+    let _ = close_behind(stream, served.status);
     Some(served)
 }

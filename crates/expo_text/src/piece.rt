@@ -4,14 +4,14 @@ use crate::room::{digits, fill, fill_number};
 use std::marker::Model;
 
 /// How many bytes go out together at most.
-pub(crate) const PIECE: usize = 4096;
+pub(crate) const PIECE: usize = 16_384;
 
-/// Bytes that wait to go out together, at most 4,096. Plain data.
+/// Bytes that wait to go out together, at most 16,384. Plain data.
 ///
 /// Contracts see it as the list of these bytes.
 #[derive(Drop)]
 pub(crate) struct Piece {
-    places: [u8; 4096],
+    places: [u8; PIECE],
     filled: usize,
 }
 
@@ -22,7 +22,7 @@ impl Model for Piece {
 
     ghost view = { λ p. take p.filled p.places };
 
-    ghost invariant = { λ p. p.filled ≤ 4096 };
+    ghost invariant = { λ p. p.filled ≤ 16384 };
 }
 
 impl Piece {
@@ -45,7 +45,7 @@ impl Piece {
 
     /// Whether there is no room left.
     pub(crate) fn is_full(&self) -> bool
-        ensures { result ≡ false → length self.now < 4096 }
+        ensures { result ≡ false → length self.now < 16384 }
     {
         self.filled == PIECE
     }
@@ -83,7 +83,7 @@ impl Piece {
 
     /// Takes the first of these bytes, as many as there is room for, and answers how many.
     pub(crate) fn take(&mut self, bytes: &[u8]) -> usize
-        requires room { length self.old < 4096 }
+        requires room { length self.old < 16384 }
         requires some { 0 < length bytes.now }
         ensures some { 0 < result }
         ensures within { result ≤ length bytes.now }

@@ -103,7 +103,7 @@ impl<W: Write> Sending<'_, W> {
     fn make_room(&mut self)
         ensures same { self.new.out.ghost_name ≡ self.old.out.ghost_name }
         ensures sent { Sends (sender_of W.contents self.old.out.now self.old.waiting self.old.sent) (sender_of W.contents self.new.out.now self.new.waiting self.new.sent) [] }
-        ensures room { length self.new.waiting < 4096 }
+        ensures room { length self.new.waiting < 16384 }
     {
         if self.waiting.is_full() {
             self.send();
@@ -160,7 +160,7 @@ impl<W: Write> Sink for Sending<'_, W> {
     ghost chain = { λ a b c xs ys first second. (second.0 ∙ first.0, sends-chain _ _ _ xs ys first.1 second.1) };
 }
 
-/// Sends bytes, which are at most 4,096, and then the text of a scrape to a writer, in pieces of at most 4,096 bytes. Takes
+/// Sends bytes, which are at most 16,384, and then the text of a scrape to a writer, in pieces of at most 16,384 bytes. Takes
 /// no memory, and does not flush. The writer has not failed before.
 ///
 /// Refusal 25 [`WriteFailed`] the first time that the writer has failed, and no other.
@@ -170,7 +170,7 @@ pub fn write_after<W: Write>(
     out: &mut Watched<W>,
 ) -> Result<(), WriteFailed>
     requires not_failed { out.old.failed ≡ false }
-    requires short { length front.now ≤ 4096 }
+    requires short { length front.now ≤ 16384 }
     ensures sent { OnOk result (Appends (W.contents out.old.inner) (W.contents out.new.inner) (front.now ++ text scrape.now)) }
     ensures part { IfErr result (λ fault. (fault.sent < length (front.now ++ text scrape.now)) × Appends (W.contents out.old.inner) (W.contents out.new.inner) (take fault.sent (front.now ++ text scrape.now))) }
     ensures failed { out.new.failed ≡ is_err result }
@@ -190,7 +190,7 @@ pub fn write_after<W: Write>(
     Ok(())
 }
 
-/// Sends the text of a scrape to a writer, in pieces of at most 4,096 bytes. Takes no memory, and does not flush. The writer
+/// Sends the text of a scrape to a writer, in pieces of at most 16,384 bytes. Takes no memory, and does not flush. The writer
 /// has not failed before.
 ///
 /// Refusal 25 [`WriteFailed`] the first time that the writer has failed, and no other. Source: Prometheus documentation,

@@ -6,7 +6,7 @@ ghost use Rattle.metrics_serve.specs.Counted.{WasCounted};
 use crate::board::{Board, Worker};
 use crate::metrics::Metrics;
 use scrape_http::{ScrapeFrom, Served, WireFault, serve_one};
-use scrape_server::close_in_stages;
+use scrape_server::close_behind;
 use std::net::TcpStream;
 use watched::Watched;
 
@@ -29,7 +29,7 @@ pub(crate) fn answer<S: ScrapeFrom>(
         Ok(served) => {
             // Were a word of the row near its limit, the reply would not be counted.
             let _ = worker.apply(board, &metrics.list(served));
-            let _ = close_in_stages(stream);
+            let _ = close_behind(stream, served.status);
             Ok(served)
         }
         Err(fault) => Err(fault),

@@ -60,7 +60,7 @@ fn send_bytes<W: Write>(
     finish(writer, status, bytes.len())
 }
 
-/// Sends a head and the text of a scrape, in as few writes as pieces of 4,096 bytes allow.
+/// Sends a head and the text of a scrape, in as few writes as pieces of 16,384 bytes allow.
 fn send_text<W: Write>(
     writer: &mut Watched<W>,
     head: &[u8],

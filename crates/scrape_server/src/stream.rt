@@ -1,7 +1,7 @@
 //! Connections.
 ghost use Rattle.scrape_server.specs.Stream.{IsAskedOnce};
 
-use scrape_http::{ScrapeFrom, Served, WireFault, serve_one};
+use scrape_http::{ScrapeFrom, Served, Status, WireFault, serve_one};
 use std::io::{self, Read};
 use std::net::{Shutdown, TcpStream};
 use std::time::Duration;
@@ -43,8 +43,35 @@ pub fn close_in_stages(stream: &TcpStream) -> io::Result<()> {
     Ok(())
 }
 
-/// Serves one connection: reads a request, writes its reply by [`serve_one`], and ends the connection in stages by
-/// [`close_in_stages`]. After a fault of a read or a write there is nobody to wait for. That the client is served is tested, and in no
+/// Whether input waits that nobody has read; a byte of it is taken. It waits for nothing.
+fn has_input(mut stream: &TcpStream) -> io::Result<bool> {
+    stream.set_nonblocking(true)?;
+    match stream.read(&mut [0; 1]) {
+        Ok(0) | Err(_) => Ok(false),
+        Ok(_) => {
+            stream.set_nonblocking(false)?;
+            Ok(true)
+        }
+    }
+}
+
+/// Ends a connection behind a reply of this status. The request of a scrape was read whole: where nothing waits behind it, nothing is left
+/// to be done, and the socket may be closed. Else it ends in stages: [`close_in_stages`].
+///
+/// Source: RFC 9112, section 9.6.
+///
+/// # Errors
+///
+/// That of the socket, which the client has closed or reset by then: nothing is left to be done.
+pub fn close_behind(stream: &TcpStream, status: Status) -> io::Result<()> {
+    match status {
+        Status::Success | Status::Unavailable if !has_input(stream)? => Ok(()),
+        _ => close_in_stages(stream),
+    }
+}
+
+/// Serves one connection: reads a request, writes its reply by [`serve_one`], and ends the connection by
+/// [`close_behind`]. After a fault of a read or a write there is nobody to wait for. That the client is served is tested, and in no
 /// clause: what a socket gives and takes none can name.
 ///
 /// # Errors
@@ -56,9 +83,9 @@ pub fn serve_stream<S: ScrapeFrom>(stream: &TcpStream, source: &mut S) -> Result
     let mut reader = Watched::new(stream);
     let mut writer = Watched::new(stream);
     let served = serve_one(&mut reader, &mut writer, source);
-    if served.is_ok() {
+    if let Ok(reply) = served {
         // The reply is sent; that the client went away before the end is no fault of the service.
-        let _ = close_in_stages(stream);
+        let _ = close_behind(stream, reply.status);
     }
     served
 }

@@ -98,19 +98,33 @@ fn pieces(rt: HostRuntime) -> Result<(), Fail> {
     Ok(())
 }
 
-// Each of 8 values of 256 line feeds stands in 512 bytes, so that a buffer of 4,096 bytes is sent twice. Around them are 62 bytes.
+// Each of 7 values of 256 line feeds stands in 512 bytes, and a child in 3,630, so that a buffer of 16,384 bytes is sent twice by five.
 #[test]
 fn long_text_in_few_calls(rt: HostRuntime) -> Result<(), Fail> {
     let alloc = rt.alloc();
     let feeds = "\n".repeat(alloc, 256)?;
-    let children = children(alloc, &[(&[feeds.as_str(); 8], Number::Counter(0))])?;
+    let long = feeds.as_str();
+    let values = [
+        [long, long, long, long, long, long, long, "a"],
+        [long, long, long, long, long, long, long, "b"],
+        [long, long, long, long, long, long, long, "c"],
+        [long, long, long, long, long, long, long, "d"],
+        [long, long, long, long, long, long, long, "e"],
+    ];
+    let zeros: [(&[&str], Number); 5] = [
+        (&values[0], Number::Counter(0)),
+        (&values[1], Number::Counter(0)),
+        (&values[2], Number::Counter(0)),
+        (&values[3], Number::Counter(0)),
+        (&values[4], Number::Counter(0)),
+    ];
     let family = Family {
         labels: &["a", "b", "c", "d", "e", "f", "g", "h"],
         ..COUNTER
     };
-    let scrape = alone(alloc, &family, children)?.ok_or("no scrape")?;
+    let scrape = alone(alloc, &family, children(alloc, &zeros)?)?.ok_or("no scrape")?;
     let mut out = make_slow(alloc, 100_000, 2)?;
     same(&rt, &write_to(&scrape, &mut out), &Ok(()));
-    same(&rt, &out.into_inner().taken.len(), &4_158);
+    same(&rt, &out.into_inner().taken.len(), &18_167);
     Ok(())
 }
