@@ -19,7 +19,10 @@ pub trait Counts {
     fn raise(&mut self, slot: usize) -> Option<()>;
 
     fn watch(&mut self, hist: &Histogram, value: u64) -> Option<()>;
+}
 
+/// What publishes lists.
+pub trait Applies {
     fn apply(&mut self, ops: [Op; CHILDREN]) -> Option<()>;
 }
 
@@ -33,7 +36,10 @@ impl<const N: usize, const C: usize, const H: usize, const G: usize> Counts
     fn watch(&mut self, hist: &Histogram, value: u64) -> Option<()> {
         self.observe(hist, value).ok()
     }
+}
 
+impl<const N: usize, const C: usize, const H: usize, const G: usize> Applies
+    for Recorder<'_, N, C, H, G> {
     fn apply(&mut self, ops: [Op; CHILDREN]) -> Option<()> {
         let registry = ID;
         self.publish(&ops.map(|op| Change { registry, op })).ok()

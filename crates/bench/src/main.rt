@@ -21,6 +21,7 @@ mod boards;
 mod locked;
 mod measuring;
 mod registries;
+mod tallies;
 mod texts;
 
 use anyhow::Result;
@@ -41,6 +42,8 @@ fn measure_boards(lines: &mut Lines<'_, impl ServiceRuntime>) -> Result<()> {
     lines.on("4,64,8,0").board::<4, 64, 8, 0>(280)?;
     lines.on("16,256,32,0").board::<16, 256, 32, 0>(1_120)?;
     lines.on("32,256,32,64").board::<32, 256, 32, 64>(1_248)?;
+    lines.on("4,64,8,0").tallies::<4, 64, 8, 0>()?;
+    lines.on("16,256,32,0").tallies::<16, 256, 32, 0>()?;
     lines.on("64,8").texts_of::<64, 8>(SMALL)?;
     lines.on("256,32").texts_of::<256, 32>(LARGE)
 }

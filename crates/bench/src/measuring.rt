@@ -254,3 +254,16 @@ pub fn four_updates(rt: &impl ServiceRuntime, workers: usize, rounds: u64) -> Re
     let _each = map_indices(rt, alloc, 4, update_often)?;
     nanos_since(rt, start)
 }
+
+/// The nanoseconds of so many rounds of four threads at once, each of which adds to one word that they share.
+pub fn four_additions(rt: &impl ServiceRuntime, rounds: u64) -> Result<u64> {
+    let shared = &AtomicU64::new(0);
+    let add_often = &|_thread| {
+        for _round in 0..rounds {
+            shared.fetch_add(1, Ordering::SeqCst);
+        }
+    };
+    let start = Instant::now(rt)?;
+    let _each = map_indices(rt, rt.alloc(), 4, add_often)?;
+    nanos_since(rt, start)
+}

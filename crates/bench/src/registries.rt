@@ -2,7 +2,7 @@
 //! children each.
 ghost use Rattle.segment_layout.specs.Layout.{IsGeometry};
 
-use crate::boards::Counts;
+use crate::boards::Applies;
 use crate::locked::filled;
 use crate::measuring::{Lines, keep, timed_each};
 use anyhow::{Context, Result};
@@ -93,7 +93,7 @@ impl Service {
 }
 
 /// Counts all of a service.
-pub fn count_by(worker: &mut impl Counts, service: Service) -> Result<()> {
+pub fn count_by(worker: &mut impl Applies, service: Service) -> Result<()> {
     service.count(|ops| worker.apply(ops))
 }
 
