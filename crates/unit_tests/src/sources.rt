@@ -48,18 +48,23 @@ fn a_plain_source(rt: HostRuntime) -> Result<(), Fail> {
     Ok(())
 }
 
-#[test]
-fn a_plain_source_refuses(rt: HostRuntime) -> Result<(), Fail> {
-    let mut source = PlainSource::<1, 1, 0, 0>::new(rt.alloc())?;
-    let mut out = Snapshot::new(rt.alloc())?;
+/// A source refuses what is outside its row and what is too large, and is as it was.
+fn refuses(rt: &impl Abort, source: &mut PlainSource<1, 1, 0, 0>, out: &mut Snapshot<1, 1, 0, 0>) {
     let outside = PlainFault::Refused(OpFault::OutOfGeometry { at: 0 });
     let large = PlainFault::Refused(OpFault::TooLarge { at: 1 });
     let other = [Op::Inc { counter: 1, by: 1 }];
-    same(&rt, &source.apply(&other), &Err(outside));
-    same(&rt, &source.apply(&one_and(MAX_WORD)), &Err(large));
-    same(&rt, &(outside.number(), large.number()), &(11, 12));
-    same(&rt, &PlainFault::Exhausted.number(), &15);
-    same(&rt, &scans(&mut source, &mut out), &Ok((0, 0)));
+    same(rt, &source.apply(&other), &Err(outside));
+    same(rt, &source.apply(&one_and(MAX_WORD)), &Err(large));
+    same(rt, &(outside.number(), large.number()), &(11, 12));
+    same(rt, &PlainFault::Exhausted.number(), &15);
+    same(rt, &scans(source, out), &Ok((0, 0)));
+}
+
+#[test]
+fn a_plain_source_refuses(rt: HostRuntime) -> Result<(), Fail> {
+    let mut source = PlainSource::new(rt.alloc())?;
+    let mut out = Snapshot::new(rt.alloc())?;
+    refuses(&rt, &mut source, &mut out);
     Ok(())
 }
 

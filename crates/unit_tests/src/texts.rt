@@ -49,24 +49,14 @@ fn counters(rt: HostRuntime) -> Result<(), Fail> {
         children: &[(&["\"\n\\"], Number::Counter(0))],
         ..COUNTER
     };
-    let cases = [
-        (childless, b"".as_slice(), 0),
-        (COUNTER, b"# TYPE a counter\na 0\n".as_slice(), 21),
-        (
-            greatest,
-            b"# TYPE a:b_ counter\na:b_ 18446744073709551615\n".as_slice(),
-            46,
-        ),
-        (
-            escaped,
-            b"# HELP a a\\\\b\\nc\n# TYPE a counter\na{l=\"\\\"\\n\\\\\"} 0\n".as_slice(),
-            50,
-        ),
-    ];
-    for (family, text, len) in cases {
-        expect(&rt, rt.alloc(), &[family], text, len)?;
-    }
-    Ok(())
+    let alloc = rt.alloc();
+    expect(&rt, alloc, &[childless], b"", 0)?;
+    let one = b"# TYPE a counter\na 0\n";
+    expect(&rt, alloc, &[COUNTER], one, 21)?;
+    let largest = b"# TYPE a:b_ counter\na:b_ 18446744073709551615\n";
+    expect(&rt, alloc, &[greatest], largest, 46)?;
+    let marked = b"# HELP a a\\\\b\\nc\n# TYPE a counter\na{l=\"\\\"\\n\\\\\"} 0\n";
+    expect(&rt, alloc, &[escaped], marked, 50)
 }
 
 /// A histogram's family `h` and its text.
