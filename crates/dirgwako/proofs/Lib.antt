@@ -4,3 +4,4 @@ mod Reading
 mod Seating
 mod Spacing
 pub mod Moment
+mod Flushing

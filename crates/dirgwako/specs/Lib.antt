@@ -16,6 +16,9 @@ pub use Rattle.bucket_math.specs.Bounds
 pub use Rattle.ledger_core.specs.Ops
 pub use Rattle.ledger_core.specs.Row
 pub use Rattle.ledger_core.specs.OpFault
+pub use Rattle.ledger_core.specs.Joining
+pub use Rattle.ledger_core.specs.Takes
+pub use Rattle.ledger_core.specs.Tally
 pub use Rattle.metric_names.specs.MetricName
 pub use Rattle.metric_names.specs.LabelName
 pub use Rattle.metric_names.specs.LabelValue

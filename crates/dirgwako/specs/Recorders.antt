@@ -1,10 +1,14 @@
 -- What a clause reads of a recorder.
-use Rattle.std.specs.Prelude.{◌≡◌, ℕ, ◌<◌, List, [], ◌∷◌, ◌++◌, map, length, All}
+use Rattle.std.specs.Prelude.{◌≡◌, ◌≢◌, ℕ, ◌<◌, List, [], ◌∷◌, ◌++◌, map, length, All}
 use Rattle.ledger_core.specs.Ops.{sum_ops}
+use Rattle.ledger_core.specs.declared.op_fault.OpFault.TheVariants.{OutOfGeometry, TooLarge}
 use Rattle.ledger_core.specs.Row.{Accepts}
+use Rattle.ledger_core.specs.Tally.{Tallied, AcceptsAlike, RefusesAlike}
 use Rattle.register_rule.specs.declared.board.Board.{Board}
 use Rattle.register_rule.specs.Seats.{board_id}
 use Rattle.register_rule.specs.Sums.{total}
+use Rattle.snapshot_update.specs.declared.faults.ApplyFault.{ApplyFault}
+use Rattle.snapshot_update.specs.declared.faults.ApplyFault.TheVariants.{Exhausted, Refused}
 use Rattle.snapshot_update.specs.declared.faults.CountFault.{CountFault}
 use Rattle.snapshot_update.specs.declared.faults.CountFault.TheVariants.{WrongRegistry, Apply}
 use Rattle.snapshot_update.specs.declared.worker.Worker.{Worker}
@@ -44,3 +48,25 @@ module _ {N C H G : ℕ} where
   abbrev pub IsPublishFault : List Change → Recorder N C H G → CountFault → Type 0
   IsPublishFault changes r WrongRegistry = ¬ (All (IsOf (id_in r)) changes)
   IsPublishFault changes r (Apply fault) = All (IsOf (id_in r)) changes × IsApplyFault C H G (member_of r.worker) (map op_in changes) fault
+
+  -- one version was published, which adds all that a tally had; it is of the registry of its board, the row accepts it, and each list
+  -- that it adds up to, and the worker's number was not the greatest that there is
+  pub record IsFlushed (t : Tallied) (r r' : Recorder N C H G) : Type 0 where
+    pub of_it : t.registry ≡ id_in r
+    pub updated : IsUpdated N C H G (index_of r.worker) t.ops (member_of r.worker) (member_of r'.worker)
+    pub lists : lists_of r'.worker ≡ lists_of r.worker ++ t.ops ∷ []
+    pub accepted : Accepts C H G (total (sum_ops C H) (member_of r.worker).work.made) t.ops
+    pub alike : AcceptsAlike C H G (total (sum_ops C H) (member_of r.worker).work.made) t.ops
+    pub room : length (member_of r.worker).work.made < 18446744073709551615
+
+  -- why a worker does not take what a tally has: its number is the greatest that there is; or else a word would pass 2^48 - 1, in
+  -- whatever order it were counted
+  abbrev pub IsRefusedAlike : Tallied → Recorder N C H G → ApplyFault → Type 0
+  IsRefusedAlike t r Exhausted = Unit {0}
+  IsRefusedAlike t r (Refused (OutOfGeometry _)) = ⊥
+  IsRefusedAlike t r (Refused (TooLarge _)) = RefusesAlike C H G (total (sum_ops C H) (member_of r.worker).work.made) t.ops
+
+  -- why a tally was not published: it is not of the registry of the board, or else as for a list of operations, but never 11
+  abbrev pub IsFlushFault : Tallied → Recorder N C H G → CountFault → Type 0
+  IsFlushFault t r WrongRegistry = t.registry ≢ id_in r
+  IsFlushFault t r (Apply fault) = (t.registry ≡ id_in r) × IsApplyFault C H G (member_of r.worker) t.ops fault × IsRefusedAlike t r fault

@@ -30,7 +30,7 @@ pub use crew::Crew;
 pub use expo_text::{Scrape, render};
 pub use family::{CounterFamily, GaugeFamily, HistogramFamily};
 pub use fault::{ChildRefusal, FamilyRefusal, MetricRefusal};
-pub use ledger_core::{Counter, Gauge, HistTotals, Histogram, Op, OpFault};
+pub use ledger_core::{Counter, Gauge, HistTotals, Histogram, Op, OpFault, Tally, TallyFault};
 pub use listening::{listen, listen_aloud, port_of};
 pub use metric_desc::{Desc, HistogramFault, Kind, LabelsFault};
 pub use metric_names::{

@@ -7,7 +7,7 @@ ghost use Rattle.std.proofs.Props.{props};
 
 use crate::change::Change;
 use crate::listing::{are_of, ops_of};
-use ledger_core::{Counter, Gauge, Histogram};
+use ledger_core::{Counter, Gauge, Histogram, Tally};
 use register_rule::Board;
 use snapshot_update::{CountFault, Worker};
 use std::alloc::{AllocError, Global};
@@ -31,7 +31,7 @@ impl<'a, const N: usize, const C: usize, const H: usize, const G: usize> Drop
 }
 
 impl<'a, const N: usize, const C: usize, const H: usize, const G: usize> Recorder<'a, N, C, H, G> {
-    ghost use Rattle.dirgwako.specs.Recorders.{board_in, id_in, worker_in, IsOn, ArePublished, IsPublishFault};
+    ghost use Rattle.dirgwako.specs.Recorders.{board_in, id_in, worker_in, IsOn, ArePublished, IsPublishFault, IsFlushed, IsFlushFault};
 
     /// The recorder of this worker of this board.
     pub(crate) fn new(
@@ -133,6 +133,42 @@ impl<'a, const N: usize, const C: usize, const H: usize, const G: usize> Recorde
         }
         match self.worker.apply(self.board, &ops_of(changes)) {
             Ok(()) => Ok(()),
+            Err(fault) => Err(CountFault::Apply(fault)),
+        }
+    }
+
+    /// An empty tally for the handles of its board's registry, with room for `K` operations, and for 65,536 at most.
+    pub fn tally<const K: usize>(&self) -> Tally<C, H, G, K>
+        ensures registry { result.registry ≡ id_in self.now }
+        ensures empty { result.ops ≡ [] }
+    {
+        Tally::new(self.board.id())
+    }
+
+    /// Publishes what a tally has counted as one version, all of it or nothing: no scrape sees some of it alone. The tally is empty then.
+    ///
+    /// # Errors
+    ///
+    /// 16 [`CountFault::WrongRegistry`], the tally is of another registry; then [`CountFault::Apply`]: 15, the worker has published
+    /// 2^64 - 1 times; 12, a number would pass 2^48 - 1. Nothing has changed then, and the tally has what it had.
+    pub fn flush<const K: usize>(&mut self, tally: &mut Tally<C, H, G, K>) -> Result<(), CountFault>
+        ensures board { board_in self.new ≡ board_in self.old }
+        ensures index { index_of (worker_in self.new) ≡ index_of (worker_in self.old) }
+        ensures flushed { OnOk result (IsFlushed tally.old self.old self.new) }
+        ensures emptied { OnOk result (tally.new.ops ≡ []) }
+        ensures registry { tally.new.registry ≡ tally.old.registry }
+        ensures fault { IfErr result (IsFlushFault tally.old self.old) }
+        ensures kept { OnErr result (tally.new ≡ tally.old) }
+        ensures unchanged { OnErr result (member_of (worker_in self.new) ≡ member_of (worker_in self.old)) }
+    {
+        if tally.registry() != self.board.id() {
+            return Err(CountFault::WrongRegistry);
+        }
+        match self.worker.apply(self.board, tally.ops()) {
+            Ok(()) => {
+                tally.clear();
+                Ok(())
+            }
             Err(fault) => Err(CountFault::Apply(fault)),
         }
     }

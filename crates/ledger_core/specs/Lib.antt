@@ -7,3 +7,6 @@ pub mod Rise
 pub mod Legal
 pub mod Limits
 pub mod Vectors
+pub mod Joining
+pub mod Takes
+pub mod Tally

@@ -7,10 +7,14 @@
 #![tactic(auto)]
 
 mod handles;
+mod joining;
 mod limits;
 mod op;
 mod op_fault;
+mod op_list;
 mod row;
+mod tally;
+mod tally_fault;
 mod totals;
 mod word;
 mod words;
@@ -20,4 +24,6 @@ pub use limits::{MAX_COUNTERS, MAX_GAUGES, MAX_HISTOGRAMS, MAX_WORKERS};
 pub use op::Op;
 pub use op_fault::OpFault;
 pub use row::{MAX_WORD, Row};
+pub use tally::Tally;
+pub use tally_fault::TallyFault;
 pub use totals::{GaugeTotals, HistTotals};

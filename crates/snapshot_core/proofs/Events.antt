@@ -7,6 +7,7 @@ use Rattle.std.proofs.lemmas.Bool.{cond_both}
 use mathlib.Core.Logic.{dite}
 use native.Mathlib.Decide.{dec_le}
 use Rattle.ledger_core.specs.declared.op.Op.{Op}
+use Rattle.ledger_core.proofs.Placing.{at_set}
 use Rattle.ledger_core.specs.Ops.{width, sum_ops}
 use Rattle.snapshot_core.specs.declared.actor.Phase.{Phase}
 use Rattle.snapshot_core.specs.declared.actor.Phase.TheVariants as phase
@@ -26,7 +27,7 @@ use Rattle.snapshot_core.specs.Turns.{ops_of}
 use Rattle.snapshot_core.proofs.Past.{number_rises}
 use Rattle.snapshot_core.proofs.Scanning.{Based, NextOk, Good, none_read, added_length, first_good, second_good, refused, lent}
 use Rattle.snapshot_core.proofs.Sized.{sized_first, sized_second, sized_asked}
-use Rattle.snapshot_core.proofs.Worlds.{Same, same_more, at_set, with_actor, SegOk, ScanOk, PhaseOk, ActOk, Inv, step_grows, phase_grows, seg_grows, answers_grow, answers_more, ticks, one_actor}
+use Rattle.snapshot_core.proofs.Worlds.{Same, same_more, with_actor, SegOk, ScanOk, PhaseOk, ActOk, Inv, step_grows, phase_grows, seg_grows, answers_grow, answers_more, ticks, one_actor}
 use Rattle.snapshot_core.proofs.Accepted.{taken}
 use Rattle.snapshot_core.proofs.Lending.{at_publish, NoPublish, below_with, not_yet, number_quiet, row_quiet, Rising, rising_more, at_end, only_one, in_both, number_now, row_now}
 use Rattle.snapshot_core.proofs.Grows.{Ordered}

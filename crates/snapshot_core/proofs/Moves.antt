@@ -19,7 +19,7 @@ use Rattle.snapshot_core.proofs.Grows.{Ordered, Extends, with_publish}
 use Rattle.snapshot_core.proofs.Turns.{closed_by, same_step}
 use Rattle.snapshot_core.proofs.Accepted.{taken}
 use Rattle.snapshot_core.proofs.Justify.{SegOk, IsReady, ActOk, AnswerOk, PublishOk, IsReadyIn, J, Idle, seg_waits, act_waits, next_j}
-use Rattle.snapshot_core.proofs.Worlds.{at_set}
+use Rattle.ledger_core.proofs.Placing.{at_set}
 
 -- the element that a write puts in a list, and another one there
 set_here : {A : Type 0} (l : List A) (i : ℕ) (x y : A) → slice_get l i ≡ Some y → slice_get (set l i x) i ≡ Some x

@@ -6,6 +6,7 @@ use Rattle.std.proofs.lemmas.Option.{none-some, same_Some}
 use mathlib.Core.Option.{some}
 use lib.ListN.{get_elem?}
 use Rattle.ledger_core.specs.declared.op.Op.{Op}
+use Rattle.ledger_core.proofs.Placing.{at_set}
 use Rattle.snapshot_core.specs.declared.actor.Phase.{Phase}
 use Rattle.snapshot_core.specs.declared.actor.Phase.TheVariants as phase
 use Rattle.snapshot_core.specs.declared.next.Next.{Next}
@@ -19,14 +20,6 @@ use Rattle.snapshot_core.specs.Turns.{Answered}
 use Rattle.snapshot_core.proofs.Past.{number_grows, row_grows, total_grows, Inside, sum_ap}
 use Rattle.snapshot_core.proofs.Scanning.{Firsts, Seconds, Based, NextOk, Good}
 use Rattle.snapshot_core.proofs.Lending.{Below, at_publish, not_yet, number_quiet, row_quiet, in_both, only_one}
-
--- what stands in a list after a write
-pub at_set : {A : Type 0} (l : List A) (i : ℕ) (x : A) (j : ℕ) (y : A) → slice_get (set l i x) j ≡ Some y → ((j ≡ i) × (x ≡ y)) ⊎ ((j ≢ i) × (slice_get l j ≡ Some y))
-at_set [] i x j y e = inr (λ same. none-some y e, e)
-at_set (z ∷ l) zero x zero y e = inl (refl, same_Some x y e)
-at_set (z ∷ l) zero x (suc j) y e = inr ((λ same. absurd (omega arith)), e)
-at_set (z ∷ l) (suc i) x zero y e = inr ((λ same. absurd (omega arith)), e)
-at_set (z ∷ l) (suc i) x (suc j) y e = ⊎_elim (λ t. let t0 = t.0 in inl (omega arith, t.1)) (λ t. inr ((λ same. t.0 (omega arith)), t.1)) (at_set l i x j y e)
 
 -- what stands in a list of one element several times
 pub in_several : {A : Type 0} (m : ℕ) (x : A) (i : ℕ) (y : A) → slice_get (replicate m x) i ≡ Some y → x ≡ y

@@ -51,6 +51,8 @@ mod settling;
 #[cfg(test)]
 mod sources;
 #[cfg(test)]
+mod tallies;
+#[cfg(test)]
 mod texts;
 #[cfg(test)]
 mod updates;

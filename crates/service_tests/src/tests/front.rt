@@ -7,6 +7,7 @@ mod limits;
 mod refused;
 mod serving;
 mod shown;
+mod tallies;
 
 use crate::asserts::same;
 use dirgwako::{Crew, Recorder, Registry, scrape_text};

@@ -1,0 +1,33 @@
+use Rattle.std.proofs.Common.{◌<◌, arith, min}
+use Rattle.ledger_core.specs.declared.op.Op.TheVariants.{Observe}
+use Rattle.ledger_core.proofs.Placing.{offered_observe}
+use Rattle.ledger_core.proofs.Taking.{fault_told, sum_passes}
+use Rattle.ledger_core.proofs.tally.Tally.observe.Goals as goal
+
+pub returns-then-value-self-clause-fault : goal.returns-then-value-self-clause-fault
+returns-then-value-self-clause-fault g c =
+    let few = c.as_slice.ensures.rising.few in
+    let low = c.place-place.ensures.within in
+    let lt : c.place-place.result < 25 = omega arith in
+    rw (← c.place-place.ensures.place)
+    (sum_passes g.row.C g.row.H g.row.G c.args.hist.now.registry c.self.inside.registry c.args.hist.now.slot c.place-place.result c.args.value (min g.row.K 65536)
+    c.self.inside.list c.self.inside.sums c.args.self.now c.self.view_is c.if-hist-self.false (omega arith) lt c.self.invariant.summed (omega arith))
+
+pub invariant_of-self : goal.invariant_of-self
+invariant_of-self g c =
+    let f = c.self.inside in
+    let few = c.as_slice.ensures.rising.few in
+    let low = c.place-place.ensures.within in
+    let lt : c.place-place.result < 25 = omega arith in
+    offered_observe g.row.C g.row.H g.row.G c.args.hist.now.slot c.place-place.result c.args.value f.list c.add.new.self
+    f.counters f.ups f.downs f.sums (omega arith) lt (omega arith) c.self.invariant c.in-Ok.ensures.taken c.in-Ok.ensures.added.1
+
+pub returns-in-Err-clause-fault : goal.returns-in-Err-clause-fault
+returns-in-Err-clause-fault g c =
+    let few = c.as_slice.ensures.rising.few in
+    let low = c.place-place.ensures.within in
+    let lt : c.place-place.result < 25 = omega arith in
+    rw (← c.place-place.ensures.place)
+    (fault_told g.row.C g.row.H g.row.G (min g.row.K 65536) c.args.hist.now.registry (Observe c.args.hist.now.slot c.place-place.result c.args.value)
+    c.self.inside.registry c.self.inside.list c.args.self.now c.in-Err.fault c.self.view_is c.if-hist-self.false
+    (omega arith, lt) c.in-Err.ensures.fault)
