@@ -31,6 +31,12 @@ impl<'a, const N: usize, const C: usize, const H: usize, const G: usize> Tallyin
             left: EACH,
         }
     }
+
+    /// Publishes what the tally has.
+    fn publish(&mut self) -> Option<()> {
+        self.left = EACH;
+        self.recorder.flush(&mut self.tally).ok()
+    }
 }
 
 impl<const N: usize, const C: usize, const H: usize, const G: usize> Counts
@@ -42,13 +48,12 @@ impl<const N: usize, const C: usize, const H: usize, const G: usize> Counts
         if self.left > 0 {
             return Some(());
         }
-        self.left = EACH;
-        self.recorder.flush(&mut self.tally).ok()
+        self.publish()
     }
 
     fn watch(&mut self, hist: &Histogram, value: u64) -> Option<()> {
         if self.tally.is_full() {
-            self.recorder.flush(&mut self.tally).ok()?;
+            self.publish()?;
         }
         self.tally.observe(hist, value).ok()
     }
@@ -87,7 +92,10 @@ impl<R: ServiceRuntime> Lines<'_, R> {
         for recorder in recorders {
             counting.push(Tallying::new(recorder))?;
         }
-        self.tallied(counting.first_mut().context("no worker")?)?;
+        let first = counting.first_mut().context("no worker")?;
+        self.tallied(first)?;
+        // Its thread counts on beside others: of the values that it has seen the tally may be full.
+        first.publish().context("a worker refused")?;
         self.busy_tallies(counting)
     }
 }
