@@ -78,6 +78,16 @@ def the_port_is_the_one_asked_for(program, _service, _printed):
     expect(it, (b"served 1\n", b"", 0))
 
 
+def a_body_that_nobody_reads(program, _service, _printed):
+    it = server(program, "serve", "0", "1")
+    with connect(port_told(it.stdout)) as client:
+        # More than a head may have comes with it, so that input waits when the reply is sent.
+        client.sendall(GET[:-2] + b"Content-Length: 100000\r\n\r\n" + b"x" * 100_000)
+        head, _, body = b"".join(iter(lambda: client.recv(65536), b"")).partition(b"\r\n\r\n")
+    check(head.startswith(OK) and f"Content-Length: {len(body)}\r\n".encode() in head + b"\r\n", f"the reply arrives whole: {head}")
+    expect(it, (b"served 1\n", b"", 0))
+
+
 def there_is_no_room_for_threads(program, _service, _printed):
     it = server("sh", "-c", 'ulimit -v 6000 && exec "$0" serve 0 1', program)
     port_told(it.stdout)
@@ -111,6 +121,7 @@ def the_example_is_at_the_port_asked_for(_program, service, printed):
 ALL = [
     the_program_serves,
     the_port_is_the_one_asked_for,
+    a_body_that_nobody_reads,
     there_is_no_room_for_threads,
     the_example_serves,
     the_example_is_at_the_port_asked_for,
