@@ -3,7 +3,7 @@ ghost use Rattle.std.specs.Prelude.{All, IfOk};
 ghost use Rattle.snapshot_scan.specs.Readers.{IsReaderOf};
 ghost use Rattle.snapshot_update.specs.Workers.{IsWorkerOf};
 
-use crate::asserts::same;
+use crate::asserts::{done, same};
 use metric_registry::Registry;
 use register_rule::Board;
 use snapshot_scan::Reader;
@@ -62,18 +62,19 @@ pub(crate) fn last_worker<const N: usize, const C: usize, const H: usize, const 
 
 /// A registry that keeps so many scrapes, by the last reader.
 pub(crate) fn registry_of<'a, const N: usize, const C: usize, const H: usize, const G: usize>(
+    rt: &impl Abort,
     alloc: Global,
     board: &'a Board<N, C, H, G>,
     readers: &mut Vec<Reader<N, C, H, G>>,
     window: usize,
-) -> Result<Registry<'a, N, C, H, G>, Fail>
+) -> Registry<'a, N, C, H, G>
     requires own { All (IsReaderOf board.now) readers.old.items }
     ensures others { All (IsReaderOf board.now) readers.new.items }
 {
-    let reader = last_reader(board, readers)?;
+    let reader = done(rt, last_reader(board, readers));
     match Registry::new(alloc, board, reader, window) {
-        Ok(registry) => Ok(registry),
-        Err(none) => Err(none.fault.into()),
+        Ok(registry) => registry,
+        Err(_) => rt.panic("no registry"),
     }
 }
 
@@ -82,7 +83,7 @@ pub(crate) fn ends_with(rt: &impl Abort, registry: Two<'_>, kept: usize, entries
     let state = registry.into_state();
     same(
         rt,
-        &(state.kept().len(), state.journal().len()),
-        &(kept, entries),
+        (state.kept().len(), state.journal().len()),
+        (kept, entries),
     );
 }

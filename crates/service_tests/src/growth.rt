@@ -43,13 +43,13 @@ fn replies(rt: &impl Abort, registry: &mut Plain, alloc: Global) -> Result<(), F
         Status::Unavailable => (0, 136),
         _ => (1, 113),
     };
-    same(rt, &(registry.kept().len(), first), &(kept, sent));
+    same(rt, (registry.kept().len(), first), (kept, sent));
     let (status, second) = asked(registry, alloc)?;
     let then = match (kept, status) {
         (1, Status::Unavailable) => (1, 136),
         _ => (kept + 1, 113),
     };
-    same(rt, &(registry.kept().len(), second), &then);
+    same(rt, (registry.kept().len(), second), then);
     Ok(())
 }
 
@@ -64,12 +64,13 @@ fn growth_reply(rt: HostRuntime) -> Result<(), Fail> {
 /// The parts of a line, and the lines of a reader.
 #[test]
 fn growth_lines(rt: HostRuntime) -> Result<(), Fail> {
+    let rt = &rt;
     let alloc = rt.alloc();
-    growth_of_labels(&rt, alloc)?;
-    growth_of_bounds(&rt, alloc)?;
-    growth_of_help(&rt, alloc)?;
-    growth_of_values(&rt, alloc)?;
-    growth_of_lines(&rt, alloc)
+    growth_of_labels(rt, alloc)?;
+    growth_of_bounds(rt, alloc)?;
+    growth_of_help(rt, alloc)?;
+    growth_of_values(rt, alloc)?;
+    growth_of_lines(rt, alloc)
 }
 
 /// A family's line.
@@ -78,52 +79,52 @@ const FAMILY: &str = "histogram h a,b 10,20 two\\swords";
 /// Its labels.
 fn growth_of_labels(rt: &impl Abort, alloc: Global) -> Result<(), Fail> {
     let Some(Line::Histogram { labels, .. }) = read_line(FAMILY) else {
-        return Err("no histogram".into());
+        rt.panic("no histogram")
     };
     let labels = match labels_of(alloc, labels) {
         Ok(labels) => labels,
         Err(NoMemory) => once_more(labels_of(alloc, labels))?,
     };
-    same(rt, &labels.as_slice(), &["a", "b"].as_slice());
+    same(rt, labels.as_slice(), ["a", "b"].as_slice());
     Ok(())
 }
 
 /// Its bounds.
 fn growth_of_bounds(rt: &impl Abort, alloc: Global) -> Result<(), Fail> {
     let Some(Line::Histogram { bounds, .. }) = read_line(FAMILY) else {
-        return Err("no histogram".into());
+        rt.panic("no histogram")
     };
     let bounds = match bounds_of(alloc, bounds) {
         Ok(bounds) => bounds,
         Err(NoMemory) => once_more(bounds_of(alloc, bounds))?,
     };
-    same(rt, &bounds.as_slice(), &[10, 20].as_slice());
+    same(rt, bounds.as_slice(), [10, 20].as_slice());
     Ok(())
 }
 
 /// Its help.
 fn growth_of_help(rt: &impl Abort, alloc: Global) -> Result<(), Fail> {
     let Some(Line::Histogram { help, .. }) = read_line(FAMILY) else {
-        return Err("no histogram".into());
+        rt.panic("no histogram")
     };
     let help = match unescape(alloc, help) {
         Ok(help) => help,
         Err(NoMemory) => once_more(unescape(alloc, help))?,
     };
-    same(rt, &help.as_str(), &"two words");
+    same(rt, help.as_str(), "two words");
     Ok(())
 }
 
 /// The values of a child.
 fn growth_of_values(rt: &impl Abort, alloc: Global) -> Result<(), Fail> {
     let Some(Line::Child { values, .. }) = read_line("child h x y") else {
-        return Err("no child".into());
+        rt.panic("no child")
     };
     let values = match values_of(alloc, values) {
         Ok(values) => values,
         Err(NoMemory) => once_more(values_of(alloc, values))?,
     };
-    same(rt, &values.as_slice(), &["x", "y"].as_slice());
+    same(rt, values.as_slice(), ["x", "y"].as_slice());
     Ok(())
 }
 
@@ -133,11 +134,11 @@ fn growth_of_lines(rt: &impl Abort, alloc: Global) -> Result<(), Fail> {
         Ok(lines) => lines,
         Err(NoMemory) => once_more(Lines::new(alloc, b"go\nscrape".as_slice()))?,
     };
-    same(rt, &lines.next()?, &Next::Line);
-    same(rt, &lines.bytes(), &b"go".as_slice());
-    same(rt, &lines.next()?, &Next::Line);
-    same(rt, &lines.bytes(), &b"scrape".as_slice());
-    same(rt, &lines.next()?, &Next::End);
+    same(rt, lines.next()?, Next::Line);
+    same(rt, lines.bytes(), b"go".as_slice());
+    same(rt, lines.next()?, Next::Line);
+    same(rt, lines.bytes(), b"scrape".as_slice());
+    same(rt, lines.next()?, Next::End);
     Ok(())
 }
 

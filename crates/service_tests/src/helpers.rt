@@ -1,5 +1,5 @@
 //! Registries of one thread, and what is registered.
-use crate::asserts::same;
+use crate::asserts::{done, need, same};
 use crate::crew::ID;
 use expo_text::render;
 use ledger_core::{Counter, Gauge};
@@ -21,10 +21,10 @@ pub(crate) type Over<S> = RegistryState<S, 1, 1, 1, 1>;
 pub(crate) type Plain = Over<Source>;
 
 /// A registry that keeps so many scrapes.
-pub(crate) fn plain(alloc: Global, window: usize) -> Result<Plain, Fail> {
-    match Plain::new(alloc, Source::new(alloc)?, ID, window) {
-        Ok(registry) => Ok(registry),
-        Err(none) => Err(none.fault.into()),
+pub(crate) fn plain(rt: &impl Abort, alloc: Global, window: usize) -> Plain {
+    match Plain::new(alloc, need(rt, Source::new(alloc)), ID, window) {
+        Ok(registry) => registry,
+        Err(_) => rt.panic("no registry"),
     }
 }
 
@@ -66,27 +66,30 @@ pub(crate) fn values(alloc: Global, texts: &[&str]) -> Result<Vec<LabelValue>, F
 
 /// Registers a family without labels, and makes its one child.
 pub(crate) fn made(
+    rt: &impl Abort,
     registry: &mut Plain,
     alloc: Global,
     kind: Kind,
     name: &str,
-) -> Result<Handle, Fail> {
-    let family = registry.register(desc(alloc, kind, name, &[])?)?;
-    Ok(registry.child(family, &[])?)
+) -> Handle {
+    let family = need(
+        rt,
+        registry.register(done(rt, desc(alloc, kind, name, &[]))),
+    );
+    need(rt, registry.child(family, &[]))
 }
 
 /// Makes a scrape, whose text is this.
-pub(crate) fn prints(rt: &impl Abort, registry: &mut Plain, expected: &str) -> Result<(), Fail> {
-    let text = render(&registry.scrape()?)?;
-    same(rt, &text.as_slice(), &expected.as_bytes());
-    Ok(())
+pub(crate) fn prints(rt: &impl Abort, registry: &mut Plain, expected: &str) {
+    let text = need(rt, render(&need(rt, registry.scrape())));
+    same(rt, text.as_slice(), expected.as_bytes());
 }
 
 /// Expects so many kept scrapes, and so many entries of the journal.
 pub(crate) fn holds(rt: &impl Abort, registry: &Plain, kept: usize, entries: usize) {
     same(
         rt,
-        &(registry.kept().len(), registry.journal().len()),
-        &(kept, entries),
+        (registry.kept().len(), registry.journal().len()),
+        (kept, entries),
     );
 }

@@ -18,7 +18,7 @@ fn new_team(rt: &impl Abort, alloc: Global) -> Result<Team, Fail> {
     match Team::new(alloc, ID, 1) {
         Ok(team) => Ok(team),
         Err(fault) => {
-            same(rt, &fault, &BoardFault::NoMemory);
+            same(rt, fault, BoardFault::NoMemory);
             once_more(Team::new(alloc, ID, 1))
         }
     }
@@ -37,7 +37,7 @@ fn family<S: Registers>(
     match register(metrics) {
         Ok(family) => Ok(family),
         Err(fault) => {
-            same(rt, &fault.number(), &6);
+            same(rt, fault.number(), 6);
             once_more(register(metrics))
         }
     }
@@ -52,7 +52,7 @@ fn child<S: Registers>(
     match metrics.counter_of(family, &["x", "y"]) {
         Ok(counter) => Ok(counter),
         Err(fault) => {
-            same(rt, &fault.number(), &6);
+            same(rt, fault.number(), 6);
             once_more(metrics.counter_of(family, &["x", "y"]))
         }
     }
@@ -63,11 +63,11 @@ fn gauge<S: Registers>(rt: &impl Abort, metrics: &mut Registrar<S>) -> Result<Ga
     match metrics.gauge("g", "") {
         Ok(gauge) => Ok(gauge),
         Err(MetricRefusal::Family(fault)) => {
-            same(rt, &fault.number(), &6);
+            same(rt, fault.number(), 6);
             once_more(metrics.gauge("g", ""))
         }
         Err(MetricRefusal::Child { family, fault }) => {
-            same(rt, &fault.number(), &6);
+            same(rt, fault.number(), 6);
             let (registry, id) = (ID, family);
             once_more(metrics.gauge_of(&GaugeFamily { registry, id }, &[]))
         }
@@ -83,11 +83,11 @@ fn prints(rt: &(impl Abort + Wait), registry: &Registry<'_, 1, 2, 0, 1>) -> Resu
     let text = match scrape_text(rt, registry) {
         Ok(text) => text,
         Err(fault) => {
-            same(rt, &fault.number(), &6);
+            same(rt, fault.number(), 6);
             once_more(scrape_text(rt, registry))?
         }
     };
-    same(rt, &text.as_slice(), &SHOWN.as_bytes());
+    same(rt, text.as_slice(), SHOWN.as_bytes());
     Ok(())
 }
 
@@ -100,7 +100,7 @@ fn use_registry(
     let family = family(rt, &mut metrics)?;
     let counter = child(rt, &mut metrics, &family)?;
     let gauge = gauge(rt, &mut metrics)?;
-    same(rt, &(counter.slot, gauge.slot), &(0, 0));
+    same(rt, (counter.slot, gauge.slot), (0, 0));
     prints(rt, registry)
 }
 
@@ -112,7 +112,7 @@ fn is_used(rt: &(impl Abort + Wait + AllocGlobal), team: &mut Team) -> Result<bo
             Ok(true)
         }
         Err(fault) => {
-            same(rt, &fault, &OpenFault::Registry(NewFault::NoMemory));
+            same(rt, fault, OpenFault::Registry(NewFault::NoMemory));
             Ok(false)
         }
     }
@@ -124,8 +124,8 @@ pub(super) fn use_team(rt: &(impl Abort + Wait + AllocGlobal)) -> Result<(), Fai
     if is_used(rt, &mut team)? {
         return Ok(());
     }
-    same(rt, &team.open(2).err(), &Some(OpenFault::Opened));
+    same(rt, team.open(2).err(), Some(OpenFault::Opened));
     let mut team = new_team(rt, rt.alloc())?;
-    same(rt, &is_used(rt, &mut team)?, &true);
+    same(rt, is_used(rt, &mut team)?, true);
     Ok(())
 }

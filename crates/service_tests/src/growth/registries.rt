@@ -25,7 +25,7 @@ pub(super) fn new_state(rt: &impl Abort, alloc: Global) -> Result<Plain, Fail> {
     match Plain::new(alloc, Source::new(alloc)?, ID, 2) {
         Ok(registry) => Ok(registry),
         Err(none) => {
-            same(rt, &none.fault, &NewFault::NoMemory);
+            same(rt, none.fault, NewFault::NoMemory);
             once_more(Plain::new(alloc, none.source, ID, 2))
         }
     }
@@ -109,7 +109,7 @@ fn register<G: Grows>(
     if answer != Err(RegisterFault::NoMemory) {
         return Ok(answer?);
     }
-    same(rt, &look.at(grown), &before);
+    same(rt, look.at(grown), before);
     once_more(grown.register(desc(alloc, kind, name, &["l"])?))
 }
 
@@ -125,7 +125,7 @@ fn child<G: Grows>(
     if answer != Err(ChildFault::NoMemory) {
         return Ok(answer?);
     }
-    same(rt, &look.at(grown), &before);
+    same(rt, look.at(grown), before);
     once_more(grown.child(family, &look.values))
 }
 
@@ -141,11 +141,11 @@ fn prints<G: Grows>(
     let text = match render(scrape) {
         Ok(text) => text,
         Err(NoMemory) => {
-            same(rt, &look.at(grown), &before);
+            same(rt, look.at(grown), before);
             once_more(render(scrape))?
         }
     };
-    same(rt, &text.as_slice(), &expected.as_bytes());
+    same(rt, text.as_slice(), expected.as_bytes());
     Ok(())
 }
 
@@ -160,7 +160,7 @@ fn scrape<G: Grows>(
     match grown.scrape() {
         Ok(scrape) => prints(rt, grown, look, &scrape, expected),
         Err(ScrapeFault::NoMemory) => {
-            same(rt, &look.at(grown), &before);
+            same(rt, look.at(grown), before);
             let scrape = once_more(grown.scrape())?;
             prints(rt, grown, look, &scrape, expected)
         }
@@ -197,7 +197,7 @@ fn grow_counter<G: Grows>(
 ) -> Result<(), Fail> {
     scrape(rt, grown, look, "")?;
     let family = register(rt, alloc, grown, look, Kind::Counter, "a")?;
-    same(rt, &child(rt, grown, look, family)?, &first_counter());
+    same(rt, child(rt, grown, look, family)?, first_counter());
     look.made = 1;
     Ok(())
 }
@@ -211,7 +211,7 @@ fn grow_gauge<G: Grows>(
 ) -> Result<(), Fail> {
     scrape(rt, grown, look, "# TYPE a counter\na{l=\"x\"} 5\n")?;
     let family = register(rt, alloc, grown, look, Kind::Gauge, "b")?;
-    same(rt, &child(rt, grown, look, family)?, &first_gauge());
+    same(rt, child(rt, grown, look, family)?, first_gauge());
     look.made = 2;
     Ok(())
 }
@@ -297,7 +297,7 @@ fn grow_and_count(
     registry.apply(&SECOND)?;
     scrape(rt, registry, look, SHOWN)?;
     let expected = seen(2, [Some(BETWEEN), Some(AT_LAST)]);
-    same(rt, &look.at(registry), &expected);
+    same(rt, look.at(registry), expected);
     Ok(())
 }
 
@@ -320,7 +320,7 @@ fn new_registry<'b>(
     match Registry::new(alloc, board, reader, 4) {
         Ok(registry) => Ok(registry),
         Err(none) => {
-            same(rt, &none.fault, &NewFault::NoMemory);
+            same(rt, none.fault, NewFault::NoMemory);
             once_more(Registry::new(alloc, board, none.reader, 4))
         }
     }
@@ -363,7 +363,7 @@ fn grow_behind(
 /// What stood behind the lock in the end is what one of one thread has, with all three scrapes: none was kept that was refused.
 fn ends_so(rt: &impl Abort, registry: Registry<'_, 1, 1, 1, 1>, look: &mut Look) {
     let expected = seen(3, [Some(AT_FIRST), Some(BETWEEN)]);
-    same(rt, &look.at(&mut registry.into_state()), &expected);
+    same(rt, look.at(&mut registry.into_state()), expected);
 }
 
 /// One of this board grows.

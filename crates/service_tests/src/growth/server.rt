@@ -66,7 +66,7 @@ fn reply_to(alloc: Global, mut client: &TcpStream) -> io::Result<Vec<u8>> {
 /// It ends so.
 fn ends_in(rt: &impl Abort, bytes: &[u8], end: &[u8]) {
     let from = bytes.len().saturating_sub(end.len());
-    same(rt, &bytes.get(from..), &Some(end));
+    same(rt, bytes.get(from..), Some(end));
 }
 
 /// What the second scrape ends in, behind a first one that was replied,
@@ -99,7 +99,7 @@ scrape_requests_total{code=\"503\"} 1
 fn are_counted(rt: &impl Abort, first: &[u8], second: &[u8]) {
     let busy = b"HTTP/1.1 503 Service Unavailable\r\n";
     if second.starts_with(busy) {
-        same(rt, &(first.len(), second.len()), &(707, 136));
+        same(rt, (first.len(), second.len()), (707, 136));
     } else if first.starts_with(busy) {
         ends_in(rt, second, WANTED);
     } else {
@@ -121,13 +121,13 @@ fn read_both(
 
 /// What the server wrote was let go. It has replied twice, or there was no memory before it listened.
 fn has_ended(rt: &impl Abort, end: ServeEnd, writer: &LetGo) -> Result<(), NoMemory> {
-    same(rt, &writer.flushed, &writer.written.len());
+    same(rt, writer.flushed, writer.written.len());
     if end == ServeEnd::NoMemory {
-        same(rt, &end.status(), &1);
-        same(rt, &writer.written.as_slice(), &b"refused 0 6\n".as_slice());
+        same(rt, end.status(), 1);
+        same(rt, writer.written.as_slice(), b"refused 0 6\n".as_slice());
         return Err(NoMemory);
     }
-    same(rt, &end, &ServeEnd::Done);
+    same(rt, end, ServeEnd::Done);
     ends_in(rt, &writer.written, b"served 2\n");
     Ok(())
 }

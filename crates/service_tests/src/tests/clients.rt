@@ -1,7 +1,7 @@
 //! Clients over loopback.
-use crate::asserts::same;
+use crate::asserts::{need, same, there};
 use std::alloc::Global;
-use std::io::{self, Error, ErrorKind, Read, Write};
+use std::io::{Read, Write};
 use std::net::{Ipv4Addr, Net, Shutdown, TcpListener, TcpStream};
 use std::process::Abort;
 
@@ -32,44 +32,49 @@ pub(super) enum Step {
 }
 
 /// Connects to a port of this machine.
-pub(super) fn connect<T: Net<Listener = TcpListener, Stream = TcpStream>>(
-    rt: &T,
-    port: u16,
-) -> io::Result<TcpStream> {
-    TcpStream::connect(rt, (Ipv4Addr::LOCALHOST, port))
+pub(super) fn connect<T>(rt: &T, port: u16) -> TcpStream
+where
+    T: Abort + Net<Listener = TcpListener, Stream = TcpStream>,
+{
+    need(rt, TcpStream::connect(rt, (Ipv4Addr::LOCALHOST, port)))
 }
 
 /// All that a client reads until the end.
-fn read_all(alloc: Global, mut stream: &TcpStream) -> io::Result<Vec<u8>> {
+fn read_all(rt: &impl Abort, alloc: Global, mut stream: &TcpStream) -> Vec<u8> {
     let mut bytes = Vec::new(alloc);
-    stream.read_to_end(&mut bytes)?;
-    Ok(bytes)
+    need(rt, stream.read_to_end(&mut bytes));
+    bytes
+}
+
+/// Sends bytes.
+fn send(rt: &impl Abort, mut stream: &TcpStream, bytes: &[u8]) {
+    need(rt, stream.write_all(bytes));
 }
 
 /// Sends bytes and so many letters behind them, all at once: a client that stalls between two writes may be let go.
-fn fill(alloc: Global, mut stream: &TcpStream, bytes: &[u8], letters: usize) -> io::Result<()> {
+fn fill(rt: &impl Abort, alloc: Global, stream: &TcpStream, bytes: &[u8], letters: usize) {
     let mut all = Vec::new(alloc);
-    all.extend_from_slice(bytes)?;
+    need(rt, all.extend_from_slice(bytes));
     for _letter in 0..letters {
-        all.extend_from_slice(b"x")?;
+        need(rt, all.push(b'x'));
     }
-    stream.write_all(&all)
+    send(rt, stream, &all);
 }
 
 /// Sends until that fails, at most 16 million bytes.
-fn flood(mut stream: &TcpStream) -> io::Result<()> {
+fn flood(rt: &impl Abort, mut stream: &TcpStream) {
     for _piece in 0..4_000 {
         if stream.write_all(&[b'x'; 4_000]).is_err() {
-            return Ok(());
+            return;
         }
     }
-    Err(Error::from(ErrorKind::Other))
+    rt.panic("all of it was taken")
 }
 
 /// Reads 100 bytes.
-fn read_front(mut stream: &TcpStream) -> io::Result<()> {
+fn read_front(rt: &impl Abort, mut stream: &TcpStream) {
     let mut front = [0; 100];
-    stream.read_exact(&mut front)
+    need(rt, stream.read_exact(&mut front));
 }
 
 /// The connections of clients, in the order in which they were opened, and the replies that were read.
@@ -82,42 +87,36 @@ struct Clients {
 
 impl Clients {
     /// No connection yet.
-    fn new(alloc: Global, port: u16) -> io::Result<Clients> {
-        Ok(Clients {
+    fn new(rt: &impl Abort, alloc: Global, port: u16) -> Clients {
+        Clients {
             port,
-            streams: Vec::with_capacity(alloc, CLIENTS)?,
-            replies: Vec::with_capacity(alloc, CLIENTS)?,
-        })
+            streams: need(rt, Vec::with_capacity(alloc, CLIENTS)),
+            replies: need(rt, Vec::with_capacity(alloc, CLIENTS)),
+        }
     }
 
     /// Opens a connection, and tells its number.
-    fn open<T: Net<Listener = TcpListener, Stream = TcpStream>>(
-        &mut self,
-        rt: &T,
-    ) -> io::Result<usize> {
+    fn open<T>(&mut self, rt: &T) -> usize
+    where
+        T: Abort + Net<Listener = TcpListener, Stream = TcpStream>,
+    {
         let number = self.streams.len();
-        let stream = connect(rt, self.port)?;
-        if self.streams.push(Some(stream)).is_err() {
-            return Err(Error::from(ErrorKind::OutOfMemory));
-        }
-        Ok(number)
+        need(rt, self.streams.push(Some(connect(rt, self.port))));
+        number
     }
 
-    /// The connection of this number, unless it is closed.
-    fn stream(&self, number: usize) -> io::Result<&TcpStream> {
+    /// The connection of this number, which is not closed.
+    fn stream(&self, rt: &impl Abort, number: usize) -> &TcpStream {
         match self.streams.get(number) {
-            Some(Some(stream)) => Ok(stream),
-            _ => Err(Error::from(ErrorKind::NotConnected)),
+            Some(Some(stream)) => stream,
+            _ => rt.panic("no such connection"),
         }
     }
 
     /// Reads the next reply to its end.
-    fn read(&mut self, alloc: Global, number: usize) -> io::Result<()> {
-        let reply = read_all(alloc, self.stream(number)?)?;
-        match self.replies.push(reply) {
-            Ok(()) => Ok(()),
-            Err(_) => Err(Error::from(ErrorKind::OutOfMemory)),
-        }
+    fn read(&mut self, rt: &impl Abort, alloc: Global, number: usize) {
+        let reply = read_all(rt, alloc, self.stream(rt, number));
+        need(rt, self.replies.push(reply));
     }
 
     /// Closes a connection.
@@ -128,69 +127,64 @@ impl Clients {
     }
 
     /// Sends a request by a connection of its own, reads the reply, and closes.
-    fn ask<T: Net<Listener = TcpListener, Stream = TcpStream>>(
-        &mut self,
-        rt: &T,
-        alloc: Global,
-        bytes: &[u8],
-    ) -> io::Result<()> {
-        let number = self.open(rt)?;
-        let mut stream = self.stream(number)?;
-        stream.write_all(bytes)?;
-        self.read(alloc, number)?;
+    fn ask<T>(&mut self, rt: &T, alloc: Global, bytes: &[u8])
+    where
+        T: Abort + Net<Listener = TcpListener, Stream = TcpStream>,
+    {
+        let number = self.open(rt);
+        send(rt, self.stream(rt, number), bytes);
+        self.read(rt, alloc, number);
         self.close(number);
-        Ok(())
+    }
+
+    /// Reads from a connection, and closes it.
+    fn leave(&mut self, rt: &impl Abort, number: usize) {
+        read_front(rt, self.stream(rt, number));
+        self.close(number);
     }
 
     /// Does a step.
-    fn step<T: Net<Listener = TcpListener, Stream = TcpStream>>(
-        &mut self,
-        rt: &T,
-        alloc: Global,
-        step: Step,
-    ) -> io::Result<()> {
+    fn step<T>(&mut self, rt: &T, alloc: Global, step: Step)
+    where
+        T: Abort + Net<Listener = TcpListener, Stream = TcpStream>,
+    {
         match step {
-            Step::Open => self.open(rt).map(|_number| ()),
-            Step::Send(number, bytes) => {
-                let mut stream = self.stream(number)?;
-                stream.write_all(bytes)
+            Step::Open => {
+                self.open(rt);
             }
-            Step::Fill(number, bytes, more) => fill(alloc, self.stream(number)?, bytes, more),
-            Step::Flood(number) => flood(self.stream(number)?),
-            Step::End(number) => self.stream(number)?.shutdown(Shutdown::Write),
-            Step::Close(number) => {
-                self.close(number);
-                Ok(())
+            Step::Send(number, bytes) => send(rt, self.stream(rt, number), bytes),
+            Step::Fill(number, bytes, more) => {
+                fill(rt, alloc, self.stream(rt, number), bytes, more)
             }
-            Step::Leave(number) => {
-                read_front(self.stream(number)?)?;
-                self.close(number);
-                Ok(())
+            Step::Flood(number) => flood(rt, self.stream(rt, number)),
+            Step::End(number) => {
+                need(rt, self.stream(rt, number).shutdown(Shutdown::Write));
             }
-            Step::Read(number) => self.read(alloc, number),
+            Step::Close(number) => self.close(number),
+            Step::Leave(number) => self.leave(rt, number),
+            Step::Read(number) => self.read(rt, alloc, number),
             Step::Ask(bytes) => self.ask(rt, alloc, bytes),
         }
     }
 }
 
 /// Does all steps, and gives the replies in the order in which they were read.
-pub(super) fn play<T: Net<Listener = TcpListener, Stream = TcpStream>>(
-    rt: &T,
-    alloc: Global,
-    port: u16,
-    steps: &[Step],
-) -> io::Result<Vec<Vec<u8>>> {
-    let mut clients = Clients::new(alloc, port)?;
+pub(super) fn play<T>(rt: &T, alloc: Global, port: u16, steps: &[Step]) -> Vec<Vec<u8>>
+where
+    T: Abort + Net<Listener = TcpListener, Stream = TcpStream>,
+{
+    let mut clients = Clients::new(rt, alloc, port);
     for step in steps {
-        clients.step(rt, alloc, *step)?;
+        clients.step(rt, alloc, *step);
     }
-    Ok(clients.replies)
+    clients.replies
 }
 
 /// There are as many replies as fronts, and each begins so.
 pub(super) fn begin(rt: &impl Abort, replies: &[Vec<u8>], fronts: &[&[u8]]) {
-    same(rt, &replies.len(), &fronts.len());
-    for (reply, front) in replies.iter().zip(fronts.iter()) {
-        assert_eq!(rt; reply.get(..front.len()), Some(*front));
+    same(rt, replies.len(), fronts.len());
+    for (number, front) in fronts.iter().enumerate() {
+        let reply = there(rt, replies.get(number));
+        same(rt, reply.get(..front.len()), Some(*front));
     }
 }

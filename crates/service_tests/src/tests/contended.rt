@@ -3,7 +3,7 @@ ghost use Rattle.snapshot_scan.specs.Plain.{recorded_by};
 
 use super::ends::{Seen, USUAL, served, wide};
 use super::failing::BUSY;
-use crate::asserts::same;
+use crate::asserts::{done, need, same, there};
 use crate::crew::ID;
 use crate::helpers::{self, Over, desc};
 use crate::seen::{Look, Looked};
@@ -17,7 +17,6 @@ use scrape_server::serve_state;
 use snapshot_scan::{Contended, Snapshot, Source};
 use std::alloc::Global;
 use std::process::Abort;
-use std::test::Fail;
 use watched::Watched;
 
 /// A source of one thread, which counts a list before each scan. Behind so many scans it gives so many up.
@@ -83,36 +82,38 @@ impl Looked for Over<GivesUp> {
 
 /// Registers a family by a label, and makes its child.
 fn made(
+    rt: &impl Abort,
     alloc: Global,
     registry: &mut Over<GivesUp>,
     kind: Kind,
     name: &str,
     values: &[LabelValue],
-) -> Result<(), Fail> {
-    let family = registry.register(desc(alloc, kind, name, &["l"])?)?;
-    registry.child(family, values)?;
-    Ok(())
+) {
+    let family = need(
+        rt,
+        registry.register(done(rt, desc(alloc, kind, name, &["l"]))),
+    );
+    need(rt, registry.child(family, values));
 }
 
 /// The families `a` and `b` with a child each.
-fn made_both(alloc: Global, registry: &mut Over<GivesUp>, look: &mut Look) -> Result<(), Fail> {
-    made(alloc, registry, Kind::Counter, "a", &look.values)?;
-    made(alloc, registry, Kind::Gauge, "b", &look.values)?;
+fn made_both(rt: &impl Abort, alloc: Global, registry: &mut Over<GivesUp>, look: &mut Look) {
+    made(rt, alloc, registry, Kind::Counter, "a", &look.values);
+    made(rt, alloc, registry, Kind::Gauge, "b", &look.values);
     look.made = 2;
-    Ok(())
 }
 
 /// A registry over such a source that keeps two scrapes.
-fn registry(alloc: Global, before: usize, times: u64) -> Result<Over<GivesUp>, Fail> {
+fn registry(rt: &impl Abort, alloc: Global, before: usize, times: u64) -> Over<GivesUp> {
     let source = GivesUp {
-        plain: helpers::Source::new(alloc)?,
+        plain: need(rt, helpers::Source::new(alloc)),
         before,
         times,
         given_up: 0,
     };
     match Over::<GivesUp>::new(alloc, source, ID, 2) {
-        Ok(registry) => Ok(registry),
-        Err(none) => Err(none.fault.into()),
+        Ok(registry) => registry,
+        Err(_) => rt.panic("no registry"),
     }
 }
 
@@ -125,54 +126,45 @@ const SHOWN: [&str; 4] = [
 ];
 
 /// Scrapes show these.
-fn print_all(rt: &impl Abort, registry: &mut Over<GivesUp>, texts: &[&str]) -> Result<(), Fail> {
+fn print_all(rt: &impl Abort, registry: &mut Over<GivesUp>, texts: &[&str]) {
     for text in texts {
-        let shown = render(&registry.scrape()?)?;
-        same(rt, &shown.as_slice(), &text.as_bytes());
+        let shown = need(rt, render(&need(rt, registry.scrape())));
+        same(rt, shown.as_slice(), text.as_bytes());
     }
-    Ok(())
 }
 
 /// A scrape is given up, and the registry is as it was.
 fn is_given_up(rt: &impl Abort, registry: &mut Over<GivesUp>, look: &mut Look) {
     let before = look.at(registry);
     let fault = ScrapeFault::Contended(RISEN);
-    same(rt, &registry.scrape().err(), &Some(fault));
-    same(rt, &fault.number(), &14);
-    same(rt, &look.at(registry), &before);
+    same(rt, registry.scrape().err(), Some(fault));
+    same(rt, fault.number(), 14);
+    same(rt, look.at(registry), before);
 }
 
 /// The scrape of this number is given up: the registry is as it was, and the next scrapes show what they would have shown.
-fn gives_up_at(
-    rt: &impl Abort,
-    registry: &mut Over<GivesUp>,
-    look: &mut Look,
-    at: usize,
-) -> Result<(), Fail> {
-    print_all(rt, registry, SHOWN.get(..at).ok_or("no text")?)?;
+fn gives_up_at(rt: &impl Abort, registry: &mut Over<GivesUp>, look: &mut Look, at: usize) {
+    print_all(rt, registry, there(rt, SHOWN.get(..at)));
     is_given_up(rt, registry, look);
-    print_all(rt, registry, SHOWN.get(at..).ok_or("no text")?)?;
-    same(rt, &look.at(registry).entries, &6);
-    Ok(())
+    print_all(rt, registry, there(rt, SHOWN.get(at..)));
+    same(rt, look.at(registry).entries, 6);
 }
 
 /// Of all scans one was given up.
-fn gives_up_once(rt: &impl Abort, alloc: Global, at: usize) -> Result<(), Fail> {
-    let mut look = Look::new(alloc)?;
-    let mut registry = registry(alloc, at, 1)?;
-    made_both(alloc, &mut registry, &mut look)?;
-    gives_up_at(rt, &mut registry, &mut look, at)?;
-    same(rt, &registry.into_source().given_up, &1);
-    Ok(())
+fn gives_up_once(rt: &impl Abort, alloc: Global, at: usize) {
+    let mut look = done(rt, Look::new(alloc));
+    let mut registry = registry(rt, alloc, at, 1);
+    made_both(rt, alloc, &mut registry, &mut look);
+    gives_up_at(rt, &mut registry, &mut look, at);
+    same(rt, registry.into_source().given_up, 1);
 }
 
 /// The first scrape is given up, or a later one: when there is room for it among those that are kept, and when there is none.
 #[test]
-fn a_scrape_is_given_up(rt: HostRuntime) -> Result<(), Fail> {
+fn a_scrape_is_given_up(rt: HostRuntime) {
     for at in 0..4 {
-        gives_up_once(&rt, rt.alloc(), at)?;
+        gives_up_once(&rt, rt.alloc(), at);
     }
-    Ok(())
 }
 
 /// The reply to the first scrape.
@@ -187,9 +179,9 @@ fn replies(
     mut request: &[u8],
     reply: (Status, &[u8]),
     kept: usize,
-) -> Result<(), Fail> {
+) {
     let mut reader = Watched::new(&mut request);
-    let mut writer = wide(alloc)?;
+    let mut writer = wide(rt, alloc);
     let answer = serve_state(&mut reader, &mut writer, registry);
     let seen = Seen {
         answer,
@@ -197,28 +189,29 @@ fn replies(
         kept: registry.kept().len(),
     };
     served(rt, &seen, reply.0, reply.1);
-    same(rt, &seen.kept, &kept);
-    Ok(())
+    same(rt, seen.kept, kept);
 }
 
 /// A request whose scan is given up, a HEAD likewise, and one more.
-fn replies_in_turn(
-    rt: &impl Abort,
-    alloc: Global,
-    registry: &mut Over<GivesUp>,
-) -> Result<(), Fail> {
+fn replies_in_turn(rt: &impl Abort, alloc: Global, registry: &mut Over<GivesUp>) {
     let head = b"HEAD /metrics HTTP/1.0\r\n\r\n".as_slice();
     let busy = Status::Unavailable;
-    replies(rt, alloc, registry, USUAL, (busy, BUSY), 0)?;
-    replies(rt, alloc, registry, head, (busy, &BUSY[..116]), 0)?;
-    replies(rt, alloc, registry, USUAL, (Status::Success, OK), 1)
+    replies(rt, alloc, registry, USUAL, (busy, BUSY), 0);
+    replies(rt, alloc, registry, head, (busy, &BUSY[..116]), 0);
+    replies(rt, alloc, registry, USUAL, (Status::Success, OK), 1);
 }
 
 /// Where the scan is given up, 503 is replied, to a HEAD by its head alone, and 200 to the next request.
 #[test]
-fn a_server_replies_503(rt: HostRuntime) -> Result<(), Fail> {
-    same(&rt, &BUSY.len(), &136);
-    let mut registry = registry(rt.alloc(), 0, 2)?;
-    made_both(rt.alloc(), &mut registry, &mut Look::new(rt.alloc())?)?;
-    replies_in_turn(&rt, rt.alloc(), &mut registry)
+fn a_server_replies_503(rt: HostRuntime) {
+    let rt = &rt;
+    same(rt, BUSY.len(), 136);
+    let mut registry = registry(rt, rt.alloc(), 0, 2);
+    made_both(
+        rt,
+        rt.alloc(),
+        &mut registry,
+        &mut done(rt, Look::new(rt.alloc())),
+    );
+    replies_in_turn(rt, rt.alloc(), &mut registry);
 }

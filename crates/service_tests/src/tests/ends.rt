@@ -1,7 +1,7 @@
 //! The ends of a connection, what serving came to, and replies byte for byte.
-ghost use Rattle.std.specs.Prelude.{◌≡◌, false, IfOk};
+ghost use Rattle.std.specs.Prelude.{◌≡◌, false};
 
-use crate::asserts::same;
+use crate::asserts::{need, same};
 use crate::helpers::{Plain, made, plain};
 use metric_desc::Kind;
 use scrape_http::{Served, Status, WireFault};
@@ -9,7 +9,6 @@ use scrape_server::serve_state;
 use std::alloc::{AllocError, Global};
 use std::io::{self, Error, ErrorKind, Read, Write};
 use std::process::Abort;
-use std::test::Fail;
 use watched::Watched;
 
 /// More than any request here has.
@@ -67,23 +66,23 @@ impl Write for Narrow {
 }
 
 /// A writer that takes all, one byte a write.
-pub(super) fn wide(alloc: Global) -> Result<Watched<Narrow>, AllocError>
-    ensures { IfOk result (λ w. w.failed ≡ false) }
+pub(super) fn wide(rt: &impl Abort, alloc: Global) -> Watched<Narrow>
+    ensures { result.failed ≡ false }
 {
-    Ok(Watched::new(Narrow {
-        taken: Vec::with_capacity(alloc, 1024)?,
+    Watched::new(Narrow {
+        taken: need(rt, Vec::with_capacity(alloc, 1024)),
         room: 1024,
         step: 1,
         fails: true,
         flushes: true,
-    }))
+    })
 }
 
 /// A registry with a counter `a`, which is 0.
-pub(super) fn counting(alloc: Global) -> Result<Plain, Fail> {
-    let mut registry = plain(alloc, 8)?;
-    made(&mut registry, alloc, Kind::Counter, "a")?;
-    Ok(registry)
+pub(super) fn counting(rt: &impl Abort, alloc: Global) -> Plain {
+    let mut registry = plain(rt, alloc, 8);
+    made(rt, &mut registry, alloc, Kind::Counter, "a");
+    registry
 }
 
 /// What serving came to: the answer, the bytes that were written, and how many scrapes are kept.
@@ -97,39 +96,40 @@ pub(super) struct Seen {
 /// Serves from this registry a request that comes so many bytes a read, of which the `reads`th, from 0, fails. The writer takes one byte
 /// a write.
 pub(super) fn see_from(
+    rt: &impl Abort,
     registry: &mut Plain,
     alloc: Global,
     bytes: &[u8],
     step: usize,
     reads: usize,
-) -> Result<Seen, Fail> {
+) -> Seen {
     let mut reader = Watched::new(Pieces { bytes, step, reads });
-    let mut writer = wide(alloc)?;
+    let mut writer = wide(rt, alloc);
     let answer = serve_state(&mut reader, &mut writer, registry);
-    Ok(Seen {
+    Seen {
         answer,
         written: writer.into_inner().taken,
         kept: registry.kept().len(),
-    })
+    }
 }
 
 /// The same from a new registry with a counter.
-pub(super) fn see(alloc: Global, bytes: &[u8], step: usize, reads: usize) -> Result<Seen, Fail> {
-    see_from(&mut counting(alloc)?, alloc, bytes, step, reads)
+pub(super) fn see(rt: &impl Abort, alloc: Global, bytes: &[u8], step: usize, reads: usize) -> Seen {
+    see_from(rt, &mut counting(rt, alloc), alloc, bytes, step, reads)
 }
 
 /// The whole reply was sent, and is this.
 pub(super) fn served(rt: &impl Abort, seen: &Seen, status: Status, reply: &[u8]) {
-    same(rt, &seen.written.as_slice(), &reply);
+    same(rt, seen.written.as_slice(), reply);
     let sent = reply.len();
-    same(rt, &seen.answer, &Ok(Served { status, sent }));
+    same(rt, seen.answer, Ok(Served { status, sent }));
 }
 
 /// Nothing was sent, for this reason, and no scrape was made.
 pub(super) fn unserved(rt: &impl Abort, seen: &Seen, fault: WireFault, number: u8) {
-    same(rt, &seen.answer, &Err(fault));
-    same(rt, &fault.number(), &number);
-    same(rt, &(seen.written.len(), seen.kept), &(0, 0));
+    same(rt, seen.answer, Err(fault));
+    same(rt, fault.number(), number);
+    same(rt, (seen.written.len(), seen.kept), (0, 0));
 }
 
 /// A request that comes so many bytes a read gets this reply; a scrape is made for 200 alone, and once.
@@ -139,12 +139,11 @@ fn gets(
     step: usize,
     status: Status,
     reply: &[u8],
-) -> Result<(), Fail> {
-    let seen = see(rt.alloc(), request, step, ALL)?;
+) {
+    let seen = see(rt, rt.alloc(), request, step, ALL);
     served(rt, &seen, status, reply);
     let kept = if status == Status::Success { 1 } else { 0 };
-    same(rt, &seen.kept, &kept);
-    Ok(())
+    same(rt, seen.kept, kept);
 }
 
 /// Each request gets this reply, whether it comes at once or byte by byte.
@@ -153,12 +152,11 @@ pub(super) fn get(
     requests: &[&[u8]],
     status: Status,
     reply: &[u8],
-) -> Result<(), Fail> {
+) {
     for request in requests {
-        gets(rt, request, ALL, status, reply)?;
-        gets(rt, request, 1, status, reply)?;
+        gets(rt, request, ALL, status, reply);
+        gets(rt, request, 1, status, reply);
     }
-    Ok(())
 }
 
 /// The reply of the counter.

@@ -2,12 +2,11 @@
 use super::ends::{
     ALL, BAD, MISSING, Narrow, OK_A, USUAL, counting, get, see, served, unserved, wide,
 };
-use crate::asserts::same;
+use crate::asserts::{need, same};
 use expo_text::Scrape;
 use scrape_http::{NoScrape, ScrapeFrom, Served, Status, WireFault, serve_one};
 use scrape_server::serve_state;
 use std::process::Abort;
-use std::test::Fail;
 use watched::Watched;
 
 /// The reply where there is no scrape.
@@ -16,28 +15,29 @@ pub(super) const BUSY: &[u8] =
 
 /// Each beginning of a request is a bad request, but for the empty one, which is none.
 #[test]
-fn cut_heads(rt: HostRuntime) -> Result<(), Fail> {
-    let seen = see(rt.alloc(), b"", ALL, ALL)?;
-    unserved(&rt, &seen, WireFault::EndBeforeHead, 26);
+fn cut_heads(rt: HostRuntime) {
+    let rt = &rt;
+    let seen = see(rt, rt.alloc(), b"", ALL, ALL);
+    unserved(rt, &seen, WireFault::EndBeforeHead, 26);
     for len in 1..USUAL.len() {
-        get(&rt, &[&USUAL[..len]], Status::BadRequest, BAD)?;
+        get(rt, &[&USUAL[..len]], Status::BadRequest, BAD);
     }
-    get(&rt, &[USUAL], Status::Success, OK_A)
+    get(rt, &[USUAL], Status::Success, OK_A);
 }
 
 /// A read that fails, up to the one that makes the head whole. No read is made after that one, nor after the end.
 #[test]
-fn failing_reads(rt: HostRuntime) -> Result<(), Fail> {
+fn failing_reads(rt: HostRuntime) {
+    let rt = &rt;
     let alloc = rt.alloc();
     for reads in 0..USUAL.len() {
-        let seen = see(alloc, USUAL, 1, reads)?;
-        unserved(&rt, &seen, WireFault::ReadFailed, 24);
+        let seen = see(rt, alloc, USUAL, 1, reads);
+        unserved(rt, &seen, WireFault::ReadFailed, 24);
     }
-    let seen = see(alloc, USUAL, 1, USUAL.len())?;
-    served(&rt, &seen, Status::Success, OK_A);
-    let seen = see(alloc, b"GET /", ALL, 2)?;
-    served(&rt, &seen, Status::BadRequest, BAD);
-    Ok(())
+    let seen = see(rt, alloc, USUAL, 1, USUAL.len());
+    served(rt, &seen, Status::Success, OK_A);
+    let seen = see(rt, alloc, b"GET /", ALL, 2);
+    served(rt, &seen, Status::BadRequest, BAD);
 }
 
 /// Serves `GET /` to a writer that takes so many bytes of the 116, at most so many a write.
@@ -47,37 +47,37 @@ fn fails_after(
     step: usize,
     fails: bool,
     flushes: bool,
-) -> Result<(), Fail> {
+) {
     let alloc = rt.alloc();
     let request: &[u8] = b"GET / HTTP/1.1\r\nHost: h\r\n\r\n";
     let mut reader = Watched::new(request);
     let mut writer = Watched::new(Narrow {
-        taken: Vec::with_capacity(alloc, 1024)?,
+        taken: need(rt, Vec::with_capacity(alloc, 1024)),
         room,
         step,
         fails,
         flushes,
     });
-    let answer = serve_state(&mut reader, &mut writer, &mut counting(alloc)?);
+    let answer = serve_state(&mut reader, &mut writer, &mut counting(rt, alloc));
     let fault = WireFault::WriteFailed { sent: room };
-    same(rt, &answer, &Err(fault));
-    same(rt, &(fault.number(), writer.failed()), &(25, true));
+    same(rt, answer, Err(fault));
+    same(rt, (fault.number(), writer.failed()), (25, true));
     let taken = writer.into_inner().taken;
-    same(rt, &Some(taken.as_slice()), &MISSING.get(..room));
-    Ok(())
+    same(rt, Some(taken.as_slice()), MISSING.get(..room));
 }
 
 /// Writes that fail or take nothing after each byte, and a flush that fails.
 #[test]
-fn failing_writes(rt: HostRuntime) -> Result<(), Fail> {
+fn failing_writes(rt: HostRuntime) {
+    let rt = &rt;
     for room in 0..116 {
-        for step in [1, ALL] {
-            fails_after(&rt, room, step, true, true)?;
-            fails_after(&rt, room, step, false, true)?;
-        }
+        fails_after(rt, room, 1, true, true);
+        fails_after(rt, room, 1, false, true);
+        fails_after(rt, room, ALL, true, true);
+        fails_after(rt, room, ALL, false, true);
     }
-    fails_after(&rt, 116, ALL, true, false)?;
-    fails_after(&rt, 116, 1, false, false)
+    fails_after(rt, 116, ALL, true, false);
+    fails_after(rt, 116, 1, false, false);
 }
 
 /// Has no scrape, and counts how often it was asked.
@@ -97,30 +97,24 @@ impl ScrapeFrom for Busy {
 }
 
 /// A request to a source that has no scrape for this reason.
-fn is_busy(
-    rt: &(impl Abort + AllocGlobal),
-    why: NoScrape,
-    mut request: &[u8],
-    reply: &[u8],
-) -> Result<(), Fail> {
+fn is_busy(rt: &(impl Abort + AllocGlobal), why: NoScrape, mut request: &[u8], reply: &[u8]) {
     let mut source = Busy { why, asked: 0 };
     let mut reader = Watched::new(&mut request);
-    let mut writer = wide(rt.alloc())?;
+    let mut writer = wide(rt, rt.alloc());
     let answer = serve_one(&mut reader, &mut writer, &mut source);
     let (status, sent) = (Status::Unavailable, reply.len());
-    same(rt, &answer, &Ok(Served { status, sent }));
-    same(rt, &writer.into_inner().taken.as_slice(), &reply);
-    same(rt, &source.asked, &1);
-    Ok(())
+    same(rt, answer, Ok(Served { status, sent }));
+    same(rt, writer.into_inner().taken.as_slice(), reply);
+    same(rt, source.asked, 1);
 }
 
 #[test]
-fn no_scrape(rt: HostRuntime) -> Result<(), Fail> {
-    same(&rt, &BUSY.len(), &136);
+fn no_scrape(rt: HostRuntime) {
+    let rt = &rt;
+    same(rt, BUSY.len(), 136);
     let head = b"HEAD /metrics HTTP/1.0\r\n\r\n".as_slice();
-    for why in [NoScrape::Contended, NoScrape::NoMemory] {
-        is_busy(&rt, why, USUAL, BUSY)?;
-        is_busy(&rt, why, head, &BUSY[..116])?;
-    }
-    Ok(())
+    is_busy(rt, NoScrape::Contended, USUAL, BUSY);
+    is_busy(rt, NoScrape::Contended, head, &BUSY[..116]);
+    is_busy(rt, NoScrape::NoMemory, USUAL, BUSY);
+    is_busy(rt, NoScrape::NoMemory, head, &BUSY[..116]);
 }

@@ -9,11 +9,10 @@ mod serving;
 mod shown;
 mod tallies;
 
-use crate::asserts::same;
+use crate::asserts::{need, same, there};
 use dirgwako::{Crew, Recorder, Registry, scrape_text};
 use std::process::Abort;
 use std::sync::Wait;
-use std::test::Fail;
 
 /// A crew of two workers, of four counters, two histograms and two gauges.
 type Team = Crew<2, 4, 2, 2>;
@@ -25,27 +24,19 @@ type Names<'a> = Registry<'a, 2, 4, 2, 2>;
 type Counts<'a> = Recorder<'a, 2, 4, 2, 2>;
 
 /// The registry of a crew that is opened here.
-fn opened(team: &mut Team, window: usize) -> Result<Names<'_>, Fail> {
-    match team.open(window) {
-        Ok((registry, _, _)) => Ok(registry),
-        Err(fault) => Err(fault.into()),
-    }
+fn opened<'a>(rt: &impl Abort, team: &'a mut Team, window: usize) -> Names<'a> {
+    let (registry, _, _) = need(rt, team.open(window));
+    registry
 }
 
 /// The registry of a crew that is opened here, and its last recorder.
-fn opened_to_count(team: &mut Team) -> Result<(Names<'_>, Counts<'_>), Fail> {
-    match team.open(64) {
-        Ok((registry, mut recorders, _)) => match recorders.pop() {
-            Some(recorder) => Ok((registry, recorder)),
-            None => Err("no recorder".into()),
-        },
-        Err(fault) => Err(fault.into()),
-    }
+fn opened_to_count<'a>(rt: &impl Abort, team: &'a mut Team) -> (Names<'a>, Counts<'a>) {
+    let (registry, mut recorders, _) = need(rt, team.open(64));
+    (registry, there(rt, recorders.pop()))
 }
 
 /// Makes a scrape, whose text is this.
-fn prints(rt: &(impl Wait + Abort), registry: &Names<'_>, expected: &str) -> Result<(), Fail> {
-    let text = scrape_text(rt, registry)?;
-    same(rt, &text.as_slice(), &expected.as_bytes());
-    Ok(())
+fn prints(rt: &(impl Wait + Abort), registry: &Names<'_>, expected: &str) {
+    let text = need(rt, scrape_text(rt, registry));
+    same(rt, text.as_slice(), expected.as_bytes());
 }

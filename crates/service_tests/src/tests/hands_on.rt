@@ -1,7 +1,7 @@
 //! What threads were answered by one registry, and what stands behind its lock in the end.
 ghost use Rattle.snapshot_update.specs.Workers.{IsWorkerOf};
 
-use crate::asserts::same;
+use crate::asserts::{done, need, same, there};
 use crate::crew::{ID, Two, TwoBoard, TwoCrew, TwoWorker, last_worker, registry_of};
 use crate::helpers::desc;
 use expo_text::{Number, Scrape, render};
@@ -13,7 +13,6 @@ use snapshot_update::CountFault;
 use std::alloc::Global;
 use std::process::Abort;
 use std::sync::Wait;
-use std::test::Fail;
 use std::thread::{Threads, join};
 
 /// The text of all families, when both workers have counted 500 times on each counter.
@@ -36,76 +35,50 @@ struct Given {
     scrapes: Vec<Scrape>,
 }
 
-/// What ends a thread before: the number of a refusal.
-type Refusal = u8;
-
-/// That of want of memory.
-const NO_MEMORY: Refusal = 6;
-
 /// Scrapes eight times, and keeps what it is given.
-fn scrape_often(
-    rt: &impl Wait,
-    registry: &Two<'_>,
-    scrapes: &mut Vec<Scrape>,
-) -> Result<(), Refusal> {
+fn scrape_often(rt: &(impl Wait + Abort), registry: &Two<'_>, scrapes: &mut Vec<Scrape>) {
     for _ in 0..8 {
         match registry.scrape(rt) {
-            Ok(scrape) => {
-                if scrapes.push(scrape).is_err() {
-                    return Err(NO_MEMORY);
-                }
-            }
+            Ok(scrape) => need(rt, scrapes.push(scrape)),
             Err(ScrapeFault::Contended(_)) => {}
-            Err(fault) => return Err(fault.number()),
+            Err(fault) => need(rt, Err(fault)),
         }
     }
-    Ok(())
 }
 
 /// Registers a family, and makes its child.
-fn make(rt: &impl Wait, registry: &Two<'_>, named: Named) -> Result<Counted, Refusal> {
+fn make(rt: &(impl Wait + Abort), registry: &Two<'_>, named: Named) -> Counted {
     let (name, desc) = named;
-    let family = match registry.register(rt, desc) {
-        Ok(family) => family,
-        Err(fault) => return Err(fault.number()),
-    };
-    match registry.child(rt, family, &[]) {
-        Ok(Handle::Counter(counter)) => Ok((name, family, counter)),
-        Ok(_) => Err(0),
-        Err(fault) => Err(fault.number()),
+    let family = need(rt, registry.register(rt, desc));
+    match need(rt, registry.child(rt, family, &[])) {
+        Handle::Counter(counter) => (name, family, counter),
+        _ => rt.panic("no counter"),
     }
 }
 
 /// Registers a family and makes its child, and scrapes before and after that.
-fn ask_once(
-    rt: &impl Wait,
-    registry: &Two<'_>,
-    named: Named,
-    given: &mut Given,
-) -> Result<(), Refusal> {
-    scrape_often(rt, registry, &mut given.scrapes)?;
-    let made = make(rt, registry, named)?;
-    if given.counted.push(made).is_err() {
-        return Err(NO_MEMORY);
-    }
-    scrape_often(rt, registry, &mut given.scrapes)
+fn ask_once(rt: &(impl Wait + Abort), registry: &Two<'_>, named: Named, given: &mut Given) {
+    scrape_often(rt, registry, &mut given.scrapes);
+    let made = make(rt, registry, named);
+    need(rt, given.counted.push(made));
+    scrape_often(rt, registry, &mut given.scrapes);
 }
 
 /// Asks for two families.
 fn ask(
-    rt: &impl Wait,
+    rt: &(impl Wait + Abort),
     alloc: Global,
     registry: &Two<'_>,
     names: (Named, Named),
-) -> Result<Given, Refusal> {
+) -> Given {
     let mut given = Given {
         counted: Vec::new(alloc),
         scrapes: Vec::new(alloc),
     };
     let (first, second) = names;
-    ask_once(rt, registry, first, &mut given)?;
-    ask_once(rt, registry, second, &mut given)?;
-    Ok(given)
+    ask_once(rt, registry, first, &mut given);
+    ask_once(rt, registry, second, &mut given);
+    given
 }
 
 /// Counts 500 times on each counter.
@@ -123,11 +96,11 @@ fn count(board: &TwoBoard, mut worker: TwoWorker) -> Result<(), CountFault>
 }
 
 /// How a worker ended, and what the thread beside it was given.
-type Side = (Result<(), CountFault>, Result<Given, Refusal>);
+type Side = (Result<(), CountFault>, Given);
 
 /// A worker counts, while another thread asks.
 fn count_and_ask(
-    rt: &(impl Threads + Wait + Sync),
+    rt: &(impl Threads + Wait + Abort + Sync),
     alloc: Global,
     board: &TwoBoard,
     registry: &Two<'_>,
@@ -141,22 +114,27 @@ fn count_and_ask(
         || -> Result<(), CountFault>
             requires { IsWorkerOf board.now worker }
         { count(board, worker) },
-        || -> Result<Given, Refusal> { ask(rt, alloc, registry, names) },
+        || -> Given { ask(rt, alloc, registry, names) },
     )
 }
 
 /// The names of two families with their descriptors of counters.
-fn named(alloc: Global, first: &'static str, second: &'static str) -> Result<(Named, Named), Fail> {
-    let one = desc(alloc, Kind::Counter, first, &[])?;
-    Ok((
+fn named(
+    rt: &impl Abort,
+    alloc: Global,
+    first: &'static str,
+    second: &'static str,
+) -> (Named, Named) {
+    let one = done(rt, desc(alloc, Kind::Counter, first, &[]));
+    (
         (first, one),
-        (second, desc(alloc, Kind::Counter, second, &[])?),
-    ))
+        (second, done(rt, desc(alloc, Kind::Counter, second, &[]))),
+    )
 }
 
 /// Two workers and two threads that ask, at once.
 fn two_sides(
-    rt: &(impl Threads + Wait + Sync),
+    rt: &(impl Threads + Wait + Abort + Sync),
     alloc: Global,
     board: &TwoBoard,
     registry: &Two<'_>,
@@ -179,30 +157,16 @@ fn two_sides(
 }
 
 /// What the thread was given: a scrape at least. All was counted beside it.
-fn taken_from(rt: &impl Abort, side: Side) -> Result<Given, Fail> {
+fn taken_from(rt: &impl Abort, side: Side) -> Given {
     let (counted, given) = side;
-    same(rt, &counted, &Ok(()));
-    let given = given?;
-    same(rt, &given.scrapes.is_empty(), &false);
-    Ok(given)
+    same(rt, counted, Ok(()));
+    same(rt, given.scrapes.is_empty(), false);
+    given
 }
 
 /// The names of the families that each of two threads asks for.
-fn all_names(alloc: Global) -> Result<((Named, Named), (Named, Named)), Fail> {
-    let one = named(alloc, "a", "c")?;
-    match named(alloc, "b", "d") {
-        Ok(other) => Ok((one, other)),
-        Err(fault) => Err(fault),
-    }
-}
-
-/// What each of the threads was given.
-fn taken_from_both(rt: &impl Abort, one: Side, other: Side) -> Result<(Given, Given), Fail> {
-    let one = taken_from(rt, one)?;
-    match taken_from(rt, other) {
-        Ok(other) => Ok((one, other)),
-        Err(fault) => Err(fault),
-    }
+fn all_names(rt: &impl Abort, alloc: Global) -> ((Named, Named), (Named, Named)) {
+    (named(rt, alloc, "a", "c"), named(rt, alloc, "b", "d"))
 }
 
 /// What each of the threads was given, where they ask at once.
@@ -212,34 +176,28 @@ fn all_at_once(
     board: &TwoBoard,
     registry: &Two<'_>,
     workers: (TwoWorker, TwoWorker),
-) -> Result<(Given, Given), Fail>
+) -> (Given, Given)
     requires { IsWorkerOf board.now workers.0 × IsWorkerOf board.now workers.1 }
 {
-    let names = all_names(alloc)?;
+    let names = all_names(rt, alloc);
     let (one, other) = two_sides(rt, alloc, board, registry, workers, names);
-    taken_from_both(rt, one, other)
+    (taken_from(rt, one), taken_from(rt, other))
 }
 
 /// What was registered and made stands in the journal: asked for again, a child gives its handle, and a descriptor is refused for
 /// its family. The journal does not grow.
-fn all_stand(
-    rt: &impl Abort,
-    alloc: Global,
-    state: &mut State<'_>,
-    counted: &[Counted],
-) -> Result<(), Fail> {
+fn all_stand(rt: &impl Abort, alloc: Global, state: &mut State<'_>, counted: &[Counted]) {
     let before = state.journal().len();
     for (name, family, counter) in counted {
-        let again = state.register(desc(alloc, Kind::Counter, name, &[])?);
+        let again = state.register(done(rt, desc(alloc, Kind::Counter, name, &[])));
         let with = family.number();
-        same(rt, &again, &Err(RegisterFault::Clash { with }));
-        same(rt, &state.family(name), &Some(*family));
-        let handle = state.child(*family, &[])?;
-        same(rt, &handle, &Handle::Counter(*counter));
-        same(rt, &counter.registry, &ID);
+        same(rt, again, Err(RegisterFault::Clash { with }));
+        same(rt, state.family(name), Some(*family));
+        let handle = need(rt, state.child(*family, &[]));
+        same(rt, handle, Handle::Counter(*counter));
+        same(rt, counter.registry, ID);
     }
-    same(rt, &state.journal().len(), &before);
-    Ok(())
+    same(rt, state.journal().len(), before);
 }
 
 /// The slot of the counter of this name.
@@ -259,17 +217,16 @@ fn is_shown(
     other: &Given,
     scrape: &Scrape,
     kept: &Snapshot<2, 4, 1, 1>,
-) -> Result<(), Fail> {
+) {
     for family in scrape.families() {
         let name = family.desc.name().as_str();
         let slot = slot_of(&one.counted, name).or(slot_of(&other.counted, name));
-        let slot = slot.ok_or("no such family")?;
+        let slot = there(rt, slot);
         for child in family.children.as_slice() {
-            assert!(rt; slot < 4, "slot {slot}");
-            same(rt, &child.number, &Number::Counter(kept.counter(slot)));
+            assert!(rt; slot < 4);
+            same(rt, child.number, Number::Counter(kept.counter(slot)));
         }
     }
-    Ok(())
 }
 
 /// The kept scrapes are exactly those that were given, in order of their vectors: from the least ones on, the next one of the
@@ -280,9 +237,9 @@ fn all_kept(
     snapshot: &mut Snapshot<2, 4, 1, 1>,
     one: &Given,
     other: &Given,
-) -> Result<(), Fail> {
+) {
     let kept = state.kept();
-    same(rt, &kept.len(), &(one.scrapes.len() + other.scrapes.len()));
+    same(rt, kept.len(), one.scrapes.len() + other.scrapes.len());
     let (mut i, mut j) = (0usize, 0usize);
     for k in 0..kept.len() {
         kept.read(k, snapshot);
@@ -295,37 +252,26 @@ fn all_kept(
                 j += 1;
                 scrape
             }
-            _ => return Err("more was kept than was given".into()),
+            _ => rt.panic("more was kept than was given"),
         };
-        same(rt, &scrape.vector(), &snapshot.vector());
-        is_shown(rt, one, other, scrape, snapshot)?;
+        same(rt, scrape.vector(), snapshot.vector());
+        is_shown(rt, one, other, scrape, snapshot);
     }
-    Ok(())
 }
 
 /// The last scrape is the first thread's, and shows all families with all that was counted.
-fn scrape_last(
-    rt: &(impl Abort + Wait),
-    registry: &Two<'_>,
-    scrapes: &mut Vec<Scrape>,
-) -> Result<(), Fail> {
-    let last = registry.scrape(rt)?;
-    same(rt, &render(&last)?.as_slice(), &ALL);
-    Ok(scrapes.push(last)?)
+fn scrape_last(rt: &(impl Abort + Wait), registry: &Two<'_>, scrapes: &mut Vec<Scrape>) {
+    let last = need(rt, registry.scrape(rt));
+    same(rt, need(rt, render(&last)).as_slice(), ALL);
+    need(rt, scrapes.push(last));
 }
 
 /// All that was given stands behind the lock.
-fn stands(
-    rt: &impl Abort,
-    alloc: Global,
-    state: &mut State<'_>,
-    one: &Given,
-    other: &Given,
-) -> Result<(), Fail> {
-    all_stand(rt, alloc, state, &one.counted)?;
-    all_stand(rt, alloc, state, &other.counted)?;
-    let mut snapshot = Snapshot::new(alloc)?;
-    all_kept(rt, state, &mut snapshot, one, other)
+fn stands(rt: &impl Abort, alloc: Global, state: &mut State<'_>, one: &Given, other: &Given) {
+    all_stand(rt, alloc, state, &one.counted);
+    all_stand(rt, alloc, state, &other.counted);
+    let mut snapshot = need(rt, Snapshot::new(alloc));
+    all_kept(rt, state, &mut snapshot, one, other);
 }
 
 /// Threads use a registry, of which nothing is left but what stood behind its lock.
@@ -335,19 +281,20 @@ fn hands_on(
     board: &TwoBoard,
     registry: Two<'_>,
     workers: (TwoWorker, TwoWorker),
-) -> Result<(), Fail>
+)
     requires { IsWorkerOf board.now workers.0 × IsWorkerOf board.now workers.1 }
 {
-    let (mut one, other) = all_at_once(rt, alloc, board, &registry, workers)?;
-    scrape_last(rt, &registry, &mut one.scrapes)?;
-    stands(rt, alloc, &mut registry.into_state(), &one, &other)
+    let (mut one, other) = all_at_once(rt, alloc, board, &registry, workers);
+    scrape_last(rt, &registry, &mut one.scrapes);
+    stands(rt, alloc, &mut registry.into_state(), &one, &other);
 }
 
 #[test]
-fn registry_hands_on(rt: HostRuntime) -> Result<(), Fail> {
-    let mut crew = TwoCrew::new(rt.alloc(), ID, 1)?;
-    let registry = registry_of(rt.alloc(), &crew.board, &mut crew.readers, 65)?;
-    let second = last_worker(&crew.board, &mut crew.workers)?;
-    let first = last_worker(&crew.board, &mut crew.workers)?;
-    hands_on(&rt, rt.alloc(), &crew.board, registry, (first, second))
+fn registry_hands_on(rt: HostRuntime) {
+    let rt = &rt;
+    let mut crew = need(rt, TwoCrew::new(rt.alloc(), ID, 1));
+    let registry = registry_of(rt, rt.alloc(), &crew.board, &mut crew.readers, 65);
+    let second = done(rt, last_worker(&crew.board, &mut crew.workers));
+    let first = done(rt, last_worker(&crew.board, &mut crew.workers));
+    hands_on(rt, rt.alloc(), &crew.board, registry, (first, second));
 }

@@ -1,9 +1,8 @@
 //! The lines of scripts, and what stands in them.
-use crate::asserts::same;
+use crate::asserts::{need, same};
 use script_lines::{Counting, Line, bounds_of, labels_of, read_line, unescape, values_of};
 use std::alloc::Global;
 use std::process::Abort;
-use std::test::Fail;
 
 /// The greatest number.
 const MOST: u64 = 18_446_744_073_709_551_615;
@@ -45,67 +44,65 @@ const fn count(what: Counting, worker: usize, child: u64, by: u64, times: u64) -
 
 /// The text is this line.
 fn is_line(rt: &impl Abort, text: &str, line: Line<'_>) {
-    same(rt, &read_line(text), &Some(line));
+    same(rt, read_line(text), Some(line));
 }
 
 /// Lines of families.
 #[test]
 fn lines_of_families(rt: HostRuntime) {
-    is_line(&rt, "counter a -", counter("-", ""));
-    is_line(&rt, "counter a - ", counter("-", ""));
-    is_line(&rt, "counter a -  ", counter("-", " "));
-    is_line(&rt, "counter a b,,c", counter("b,,c", ""));
-    is_line(&rt, "counter a , two  words ", counter(",", "two  words "));
+    let rt = &rt;
+    is_line(rt, "counter a -", counter("-", ""));
+    is_line(rt, "counter a - ", counter("-", ""));
+    is_line(rt, "counter a -  ", counter("-", " "));
+    is_line(rt, "counter a b,,c", counter("b,,c", ""));
+    is_line(rt, "counter a , two  words ", counter(",", "two  words "));
     is_line(
-        &rt,
+        rt,
         "counter a - größe\\\\\\n\\s",
         counter("-", "größe\\\\\\n\\s"),
     );
-    is_line(&rt, "histogram h - -", histogram("-", ""));
-    is_line(&rt, "histogram h - 3,2,2 ", histogram("3,2,2", ""));
+    is_line(rt, "histogram h - -", histogram("-", ""));
+    is_line(rt, "histogram h - 3,2,2 ", histogram("3,2,2", ""));
     is_line(
-        &rt,
+        rt,
         "histogram h - 1,18446744073709551615 a b",
         histogram("1,18446744073709551615", "a b"),
     );
     let (name, labels, help) = ("http:x", "b", "the help");
     let gauge = Line::Gauge { name, labels, help };
-    same(&rt, &read_line("gauge http:x b the help"), &Some(gauge));
+    same(rt, read_line("gauge http:x b the help"), Some(gauge));
 }
 
 /// Other lines.
 #[test]
 fn lines_of_children(rt: HostRuntime) {
-    is_line(&rt, "child a", child(""));
-    is_line(&rt, "child a \\e", child("\\e"));
+    let rt = &rt;
+    is_line(rt, "child a", child(""));
+    is_line(rt, "child a \\e", child("\\e"));
     is_line(
-        &rt,
+        rt,
         "child a two\\swords é \\\\n",
         child("two\\swords é \\\\n"),
     );
-    is_line(&rt, "inc 0 0 0", count(Counting::Inc, 0, 0, 0, 1));
-    is_line(&rt, "obs 3 12 7 1", count(Counting::Obs, 3, 12, 7, 1));
+    is_line(rt, "inc 0 0 0", count(Counting::Inc, 0, 0, 0, 1));
+    is_line(rt, "obs 3 12 7 1", count(Counting::Obs, 3, 12, 7, 1));
+    is_line(rt, "up 1 2 3 100000", count(Counting::Up, 1, 2, 3, 100_000));
     is_line(
-        &rt,
-        "up 1 2 3 100000",
-        count(Counting::Up, 1, 2, 3, 100_000),
-    );
-    is_line(
-        &rt,
+        rt,
         "down 2 18446744073709551615 18446744073709551615",
         count(Counting::Down, 2, MOST, MOST, 1),
     );
-    is_line(&rt, "go", Line::Go);
-    is_line(&rt, "scrape", Line::Scrape);
-    is_line(&rt, "settle", Line::Settle);
-    is_line(&rt, "window 0", Line::Window { size: 0 });
+    is_line(rt, "go", Line::Go);
+    is_line(rt, "scrape", Line::Scrape);
+    is_line(rt, "settle", Line::Settle);
+    is_line(rt, "window 0", Line::Window { size: 0 });
     is_line(
-        &rt,
+        rt,
         "window 18446744073709551615",
         Line::Window { size: MOST },
     );
-    is_line(&rt, "", Line::Nothing);
-    is_line(&rt, "#go", Line::Nothing);
+    is_line(rt, "", Line::Nothing);
+    is_line(rt, "#go", Line::Nothing);
 }
 
 /// Texts that are none, with a bar between two: of families,
@@ -124,58 +121,64 @@ const NO_COUNTS: &str =
 const NO_OTHERS: &str =
     "go | go|GO|go #|go\r|scrape x|settle 0|settled|window|window 01|window 18446744073709551616| | #|é";
 
+/// None of these texts is a line.
+fn are_no_lines(rt: &impl Abort, texts: &str) {
+    for text in texts.split('|') {
+        same(rt, (text, read_line(text)), (text, None));
+    }
+}
+
 #[test]
 fn no_lines(rt: HostRuntime) {
-    for texts in [NO_FAMILIES, NO_COUNTS, NO_OTHERS] {
-        for text in texts.split('|') {
-            assert_eq!(rt; read_line(text), None, "{text}");
-        }
-    }
+    let rt = &rt;
+    are_no_lines(rt, NO_FAMILIES);
+    are_no_lines(rt, NO_COUNTS);
+    are_no_lines(rt, NO_OTHERS);
 }
 
 /// The help of a counter's line, as it is meant.
-fn help_of(alloc: Global, text: &str) -> Result<String, Fail> {
+fn help_of(rt: &impl Abort, alloc: Global, text: &str) -> String {
     let Some(Line::Counter { help, .. }) = read_line(text) else {
-        return Err("no counter".into());
+        rt.panic("no counter")
     };
-    Ok(unescape(alloc, help)?)
+    need(rt, unescape(alloc, help))
 }
 
 /// The bounds of a histogram's line.
-fn bounds_in(alloc: Global, text: &str) -> Result<Vec<u64>, Fail> {
+fn bounds_in(rt: &impl Abort, alloc: Global, text: &str) -> Vec<u64> {
     let Some(Line::Histogram { bounds, .. }) = read_line(text) else {
-        return Err("no histogram".into());
+        rt.panic("no histogram")
     };
-    Ok(bounds_of(alloc, bounds)?)
+    need(rt, bounds_of(alloc, bounds))
 }
 
 /// The values of a child's line, each as it is meant and with a semicolon behind it.
-fn values_in(alloc: Global, text: &str) -> Result<String, Fail> {
+fn values_in(rt: &impl Abort, alloc: Global, text: &str) -> String {
     let Some(Line::Child { values, .. }) = read_line(text) else {
-        return Err("no child".into());
+        rt.panic("no child")
     };
     let mut told = String::new(alloc);
-    for value in values_of(alloc, values)? {
-        told.push_str(value)?;
-        told.push(';')?;
+    for value in need(rt, values_of(alloc, values)) {
+        need(rt, told.push_str(value));
+        need(rt, told.push(';'));
     }
-    Ok(told)
+    told
 }
 
 #[test]
-fn what_stands_in_lines(rt: HostRuntime) -> Result<(), Fail> {
+fn what_stands_in_lines(rt: HostRuntime) {
+    let rt = &rt;
     let alloc = rt.alloc();
-    let help = help_of(alloc, "counter a - \\\\n\\n\\s\\e. größe\\\\\\\\")?;
-    same(&rt, &help.as_str(), &"\\n\n . größe\\\\");
-    same(&rt, &help_of(alloc, "counter a - ")?.len(), &0);
-    let bounds = bounds_in(alloc, "histogram h - 3,2,2,18446744073709551615 help")?;
-    same(&rt, &bounds.as_slice(), &[3, 2, 2, MOST].as_slice());
-    same(&rt, &bounds_in(alloc, "histogram h - -")?.len(), &0);
-    let values = values_in(alloc, "child a v \\e two\\swords")?;
-    same(&rt, &values.as_str(), &"v;\\e;two\\swords;");
-    same(&rt, &values_in(alloc, "child a")?.len(), &0);
-    let labels = labels_of(alloc, "b,,c-")?;
-    same(&rt, &labels.as_slice(), &["b", "", "c-"].as_slice());
-    same(&rt, &labels_of(alloc, "-")?.len(), &0);
-    Ok(())
+    let help = help_of(rt, alloc, "counter a - \\\\n\\n\\s\\e. größe\\\\\\\\");
+    same(rt, help.as_str(), "\\n\n . größe\\\\");
+    same(rt, help_of(rt, alloc, "counter a - ").len(), 0);
+    let bounds = bounds_in(rt, alloc, "histogram h - 3,2,2,18446744073709551615 help");
+    same(rt, bounds.as_slice(), [3, 2, 2, MOST].as_slice());
+    same(rt, bounds_in(rt, alloc, "histogram h - -").len(), 0);
+    let values = values_in(rt, alloc, "child a v \\e two\\swords");
+    same(rt, values.as_str(), "v;\\e;two\\swords;");
+    same(rt, values_in(rt, alloc, "child a").len(), 0);
+    let labels = need(rt, labels_of(alloc, "b,,c-"));
+    same(rt, labels.as_slice(), ["b", "", "c-"].as_slice());
+    same(rt, need(rt, labels_of(alloc, "-")).len(), 0);
 }

@@ -3,7 +3,7 @@ ghost use Rattle.std.specs.Prelude.{◌≡◌, length, All};
 ghost use Rattle.snapshot_scan.specs.Readers.{IsReaderOf};
 ghost use Rattle.snapshot_update.specs.Workers.{IsWorkerOf};
 
-use crate::asserts::same;
+use crate::asserts::{done, need, same};
 use crate::crew::registry_of;
 use crate::helpers::desc;
 use expo_text::{Number, Scrape};
@@ -16,7 +16,6 @@ use snapshot_update::{Crew, Worker};
 use std::alloc::{AllocError, Global};
 use std::process::Abort;
 use std::sync::Wait;
-use std::test::Fail;
 use std::thread::{Threads, join};
 use worker_pool::{Job, JobOp, Open, PoolFault, run_pool};
 
@@ -33,33 +32,39 @@ type Registry<'a> = metric_registry::Registry<'a, 4, 1, 0, 0>;
 const TIMES: u64 = 10_000;
 
 /// A family `a` of counters, and its one child.
-fn one_counter(rt: &impl Wait, alloc: Global, registry: &Registry<'_>) -> Result<Counter, Fail> {
-    let family = registry.register(rt, desc(alloc, Kind::Counter, "a", &[])?)?;
-    match registry.child(rt, family, &[])? {
-        Handle::Counter(counter) => Ok(counter),
-        _ => Err("no counter".into()),
+fn one_counter(rt: &(impl Wait + Abort), alloc: Global, registry: &Registry<'_>) -> Counter {
+    let family = need(
+        rt,
+        registry.register(rt, done(rt, desc(alloc, Kind::Counter, "a", &[]))),
+    );
+    match need(rt, registry.child(rt, family, &[])) {
+        Handle::Counter(counter) => counter,
+        _ => rt.panic("no counter"),
     }
 }
 
 /// A worker's list of jobs.
-fn list(alloc: Global, counter: Counter) -> Result<Vec<Job>, AllocError> {
+fn list(rt: &impl Abort, alloc: Global, counter: Counter) -> Vec<Job> {
     let mut jobs = Vec::new(alloc);
     for _ in 0..TIMES {
-        jobs.push(Job {
-            line: 1,
-            what: JobOp::Inc(counter, 1),
-        })?;
+        need(
+            rt,
+            jobs.push(Job {
+                line: 1,
+                what: JobOp::Inc(counter, 1),
+            }),
+        );
     }
-    Ok(jobs)
+    jobs
 }
 
 /// Those of all workers.
-fn lists(alloc: Global, counter: Counter) -> Result<Vec<Vec<Job>>, AllocError> {
+fn lists(rt: &impl Abort, alloc: Global, counter: Counter) -> Vec<Vec<Job>> {
     let mut jobs = Vec::new(alloc);
     for _ in 0..4 {
-        jobs.push(list(alloc, counter)?)?;
+        need(rt, jobs.push(list(rt, alloc, counter)));
     }
-    Ok(jobs)
+    jobs
 }
 
 /// What a scrape shows of the counter.
@@ -76,11 +81,8 @@ fn rises(rt: &impl Abort, vector: &[u64], before: &mut [u64; 4]) -> u64 {
     assert_eq!(rt; vector.len(), 4);
     let mut sum = 0u64;
     for (worker, number) in before.iter_mut().enumerate() {
-        assert!(rt;
-            *number <= vector[worker],
-            "{number} and then {}",
-            vector[worker]
-        );
+        let risen = (*number, vector[worker]);
+        same(rt, (risen, risen.0 <= risen.1), (risen, true));
         *number = vector[worker];
         sum = sum.wrapping_add(*number);
     }
@@ -89,10 +91,7 @@ fn rises(rt: &impl Abort, vector: &[u64], before: &mut [u64; 4]) -> u64 {
 
 /// Scrapes until all is counted, at most 100,000 times. Each scrape is of one moment: since each version counts 1, its counter is
 /// the sum of its vector. It tells how many scrapes there were, and whether all was seen.
-fn scrape_often(
-    rt: &(impl Wait + Abort),
-    registry: &Registry<'_>,
-) -> Result<(u64, bool), ScrapeFault> {
+fn scrape_often(rt: &(impl Wait + Abort), registry: &Registry<'_>) -> (u64, bool) {
     let mut before = [0u64; 4];
     let mut scrapes = 0u64;
     for _scrape in 0..100_000u32 {
@@ -100,20 +99,20 @@ fn scrape_often(
             Ok(scrape) => {
                 scrapes = scrapes.saturating_add(1);
                 let sum = rises(rt, scrape.vector(), &mut before);
-                same(rt, &counted_in(&scrape), &Some(sum));
+                same(rt, counted_in(&scrape), Some(sum));
                 if sum == 4 * TIMES {
-                    return Ok((scrapes, true));
+                    return (scrapes, true);
                 }
             }
             Err(ScrapeFault::Contended(_)) => {}
-            Err(fault) => return Err(fault),
+            Err(fault) => need(rt, Err(fault)),
         }
     }
-    Ok((scrapes, false))
+    (scrapes, false)
 }
 
 /// What the pool answered, and how many scrapes there were meanwhile.
-type Ended = (Result<Workers, PoolFault>, Result<(u64, bool), ScrapeFault>);
+type Ended = (Result<Workers, PoolFault>, (u64, bool));
 
 /// The pool runs all jobs, while scrapes are made.
 fn count_and_scrape(
@@ -131,7 +130,7 @@ fn count_and_scrape(
         || -> Result<Workers, PoolFault>
             requires { (length jobs.now ≡ length workers.items) × All (IsWorkerOf board.now) workers.items }
         { run_pool(rt, alloc, board, workers, jobs, &Open) },
-        || -> Result<(u64, bool), ScrapeFault> { scrape_often(rt, registry) },
+        || -> (u64, bool) { scrape_often(rt, registry) },
     )
 }
 
@@ -143,14 +142,13 @@ fn counted(
     registry: &Registry<'_>,
     workers: Workers,
     jobs: &[Vec<Job>],
-) -> Result<(), Fail>
+)
     requires { All (IsWorkerOf board.now) workers.items }
 {
     assert_eq!(rt; jobs.len(), workers.len());
     let (counted, scraped) = count_and_scrape(rt, alloc, board, registry, workers, jobs);
-    assert!(rt; scraped?.0 > 0, "no scrape was made");
-    let _workers = counted?;
-    Ok(())
+    same(rt, (scraped, scraped.0 > 0), (scraped, true));
+    let _workers = need(rt, counted);
 }
 
 /// Scrapes while the pool counts, and when all was counted.
@@ -160,22 +158,21 @@ fn count_and_end(
     board: &Four,
     workers: Workers,
     readers: &mut Vec<Reader<4, 1, 0, 0>>,
-) -> Result<(), Fail>
+)
     requires { All (IsReaderOf board.now) readers.old.items × All (IsWorkerOf board.now) workers.items }
 {
-    let registry = registry_of(alloc, board, readers, 64)?;
-    let jobs = lists(alloc, one_counter(rt, alloc, &registry)?)?;
-    counted(rt, alloc, board, &registry, workers, &jobs)?;
-    same(rt, &scrape_often(rt, &registry)?, &(1, true));
-    Ok(())
+    let registry = registry_of(rt, alloc, board, readers, 64);
+    let jobs = lists(rt, alloc, one_counter(rt, alloc, &registry));
+    counted(rt, alloc, board, &registry, workers, &jobs);
+    same(rt, scrape_often(rt, &registry), (1, true));
 }
 
 #[test]
-fn scrapes_while_a_pool_counts(rt: HostRuntime) -> Result<(), Fail> {
+fn scrapes_while_a_pool_counts(rt: HostRuntime) {
     let Crew {
         board,
         workers,
         mut readers,
-    } = Crew::new(rt.alloc(), 1, 1)?;
-    count_and_end(&rt, rt.alloc(), &board, workers, &mut readers)
+    } = need(&rt, Crew::new(rt.alloc(), 1, 1));
+    count_and_end(&rt, rt.alloc(), &board, workers, &mut readers);
 }

@@ -1,10 +1,10 @@
 //! Requests that come whole, and heads at their limits.
 use super::ends::{ALL, BAD, MISSING, OK_A, USUAL, get, see_from, served};
-use crate::asserts::same;
+use crate::asserts::{need, same, there};
 use crate::helpers::plain;
 use scrape_http::Status;
 use std::alloc::Global;
-use std::test::Fail;
+use std::process::Abort;
 
 /// The reply of a registry without families.
 const EMPTY: &[u8] =
@@ -66,75 +66,79 @@ const BAD_REQUESTS: [&[u8]; 13] = [
 
 /// A registry without families: a scrape of no bytes.
 #[test]
-fn an_empty_registry(rt: HostRuntime) -> Result<(), Fail> {
+fn an_empty_registry(rt: HostRuntime) {
+    let rt = &rt;
     let alloc = rt.alloc();
-    let mut registry = plain(alloc, 1)?;
+    let mut registry = plain(rt, alloc, 1);
     let request = b"GET /metrics HTTP/1.1\r\nHost: h\r\n\r\n";
-    let seen = see_from(&mut registry, alloc, request, ALL, ALL)?;
-    same(&rt, &EMPTY.len(), &113);
-    served(&rt, &seen, Status::Success, EMPTY);
-    same(&rt, &seen.kept, &1);
-    Ok(())
+    let seen = see_from(rt, &mut registry, alloc, request, ALL, ALL);
+    same(rt, EMPTY.len(), 113);
+    served(rt, &seen, Status::Success, EMPTY);
+    same(rt, seen.kept, 1);
 }
 
 #[test]
-fn whole_requests(rt: HostRuntime) -> Result<(), Fail> {
-    same(&rt, &MISSING.len(), &116);
-    get(&rt, &SCRAPES, Status::Success, OK_A)?;
-    get(&rt, &PATHS, Status::NotFound, MISSING)?;
-    get(&rt, &METHODS, Status::MethodNotAllowed, WRONG)?;
-    get(&rt, &BAD_REQUESTS, Status::BadRequest, BAD)
+fn whole_requests(rt: HostRuntime) {
+    let rt = &rt;
+    same(rt, MISSING.len(), 116);
+    get(rt, &SCRAPES, Status::Success, OK_A);
+    get(rt, &PATHS, Status::NotFound, MISSING);
+    get(rt, &METHODS, Status::MethodNotAllowed, WRONG);
+    get(rt, &BAD_REQUESTS, Status::BadRequest, BAD);
 }
 
 /// A HEAD gets the head of a GET, and a scrape is made for it.
 #[test]
-fn heads_alone(rt: HostRuntime) -> Result<(), Fail> {
+fn heads_alone(rt: HostRuntime) {
+    let rt = &rt;
     let scrape = b"HEAD /metrics HTTP/1.1\r\nHost: h\r\n\r\n".as_slice();
-    get(&rt, &[scrape], Status::Success, &OK_A[..114])?;
+    get(rt, &[scrape], Status::Success, &OK_A[..114]);
     let path = b"HEAD / HTTP/1.0\r\n\r\n".as_slice();
-    get(&rt, &[path], Status::NotFound, &MISSING[..106])?;
+    get(rt, &[path], Status::NotFound, &MISSING[..106]);
     let host = b"HEAD /metrics HTTP/1.1\r\n\r\n".as_slice();
-    get(&rt, &[host], Status::BadRequest, &BAD[..108])
+    get(rt, &[host], Status::BadRequest, &BAD[..108]);
 }
 
 /// A request with one field of so many letters.
-fn long_field(alloc: Global, letters: usize) -> Result<Vec<u8>, Fail> {
+fn long_field(rt: &impl Abort, alloc: Global, letters: usize) -> Vec<u8> {
     let mut text = Vec::new(alloc);
-    text.extend_from_slice(b"GET /metrics HTTP/1.0\r\nX: ")?;
+    need(rt, text.extend_from_slice(b"GET /metrics HTTP/1.0\r\nX: "));
     for _ in 0..letters {
-        text.push(b'a')?;
+        need(rt, text.push(b'a'));
     }
-    text.extend_from_slice(b"\r\n\r\n")?;
-    Ok(text)
+    need(rt, text.extend_from_slice(b"\r\n\r\n"));
+    text
 }
 
 /// A request with so many fields, without its empty line.
-fn many_fields(alloc: Global, fields: usize) -> Result<Vec<u8>, Fail> {
+fn many_fields(rt: &impl Abort, alloc: Global, fields: usize) -> Vec<u8> {
     let mut text = Vec::new(alloc);
-    text.extend_from_slice(b"GET /metrics HTTP/1.0\r\n")?;
+    need(rt, text.extend_from_slice(b"GET /metrics HTTP/1.0\r\n"));
     for _ in 0..fields {
-        text.extend_from_slice(b"X: y\r\n")?;
+        need(rt, text.extend_from_slice(b"X: y\r\n"));
     }
-    Ok(text)
+    text
 }
 
 #[test]
-fn at_most_8192_bytes(rt: HostRuntime) -> Result<(), Fail> {
-    let fits = long_field(rt.alloc(), 8_162)?;
-    same(&rt, &fits.len(), &8_192);
-    get(&rt, &[fits.as_slice()], Status::Success, OK_A)?;
-    let long = long_field(rt.alloc(), 8_163)?;
-    let cut = long.get(..8_192).ok_or("too short")?;
-    get(&rt, &[long.as_slice(), cut], Status::TooLarge, LARGE)
+fn at_most_8192_bytes(rt: HostRuntime) {
+    let rt = &rt;
+    let fits = long_field(rt, rt.alloc(), 8_162);
+    same(rt, fits.len(), 8_192);
+    get(rt, &[fits.as_slice()], Status::Success, OK_A);
+    let long = long_field(rt, rt.alloc(), 8_163);
+    let cut = there(rt, long.get(..8_192));
+    get(rt, &[long.as_slice(), cut], Status::TooLarge, LARGE);
 }
 
 #[test]
-fn at_most_64_fields(rt: HostRuntime) -> Result<(), Fail> {
-    let mut fits = many_fields(rt.alloc(), 64)?;
-    get(&rt, &[fits.as_slice()], Status::BadRequest, BAD)?;
-    fits.extend_from_slice(b"\r\n")?;
-    get(&rt, &[fits.as_slice()], Status::Success, OK_A)?;
-    let mut many = many_fields(rt.alloc(), 65)?;
-    many.extend_from_slice(b"\r\n")?;
-    get(&rt, &[many.as_slice()], Status::TooLarge, LARGE)
+fn at_most_64_fields(rt: HostRuntime) {
+    let rt = &rt;
+    let mut fits = many_fields(rt, rt.alloc(), 64);
+    get(rt, &[fits.as_slice()], Status::BadRequest, BAD);
+    need(rt, fits.extend_from_slice(b"\r\n"));
+    get(rt, &[fits.as_slice()], Status::Success, OK_A);
+    let mut many = many_fields(rt, rt.alloc(), 65);
+    need(rt, many.extend_from_slice(b"\r\n"));
+    get(rt, &[many.as_slice()], Status::TooLarge, LARGE);
 }

@@ -1,14 +1,13 @@
 //! The server of the program, and clients that are not as they should be.
 use super::clients::{Step, begin, play};
 use super::ends::{MISSING, USUAL};
-use crate::asserts::same;
+use crate::asserts::{need, same, there};
 use metrics_serve::{ServeEnd, serve_on};
 use std::alloc::Global;
 use std::io::{self, Error, ErrorKind, Write};
 use std::net::{Ipv4Addr, Net, TcpListener, TcpStream};
 use std::process::Abort;
 use std::sync::Wait;
-use std::test::Fail;
 use std::thread::{Threads, join};
 
 const GET: &[u8] = b"GET /metrics HTTP/1.1\r\nHost: h\r\n\r\n";
@@ -64,8 +63,11 @@ fn opened(steps: &[Step]) -> u64 {
 }
 
 /// What a server prints that has counted so many replies.
-fn lines(alloc: Global, port: u16, replies: u64) -> Result<String, Fail> {
-    Ok(format!(in alloc; "listening {port}\nserved {replies}\n")?)
+fn lines(rt: &impl Abort, alloc: Global, port: u16, replies: u64) -> String {
+    need(
+        rt,
+        format!(in alloc; "listening {port}\nserved {replies}\n"),
+    )
 }
 
 /// How a server ended that serves so many connections, and what it wrote.
@@ -81,74 +83,52 @@ fn serve<T: Threads + Wait + Sync>(
 }
 
 /// The server ended well, and counted so many replies.
-fn is_done(
-    rt: &impl Abort,
-    alloc: Global,
-    served: &(ServeEnd, Vec<u8>),
-    port: u16,
-    replies: u64,
-) -> Result<(), Fail> {
-    same(rt, &served.0, &ServeEnd::Done);
-    let printed = lines(alloc, port, replies)?;
-    same(rt, &served.1.as_slice(), &printed.as_bytes());
-    Ok(())
+fn is_done(rt: &impl Abort, alloc: Global, served: &(ServeEnd, Vec<u8>), port: u16, replies: u64) {
+    same(rt, served.0, ServeEnd::Done);
+    let printed = lines(rt, alloc, port, replies);
+    same(rt, served.1.as_slice(), printed.as_bytes());
 }
 
 /// Serves the connections of these steps to the end, counts so many replies, and gives those that the clients read.
-fn replies_to<T>(rt: &T, alloc: Global, steps: &[Step], replies: u64) -> Result<Vec<Vec<u8>>, Fail>
+fn replies_to<T>(rt: &T, alloc: Global, steps: &[Step], replies: u64) -> Vec<Vec<u8>>
 where
     T: Abort + Threads + Wait + Sync + Net<Listener = TcpListener, Stream = TcpStream>,
 {
-    let listener = TcpListener::bind(rt, (Ipv4Addr::LOCALHOST, 0))?;
-    let port = listener.local_addr()?.port();
+    let listener = need(rt, TcpListener::bind(rt, (Ipv4Addr::LOCALHOST, 0)));
+    let port = need(rt, listener.local_addr()).port();
     let count = opened(steps);
     let (served, got) = join(
         rt,
         || serve(rt, alloc, listener, count),
         || play(rt, alloc, port, steps),
     );
-    let got = got?;
-    is_done(rt, alloc, &served, port, replies)?;
-    Ok(got)
+    is_done(rt, alloc, &served, port, replies);
+    got
 }
 
 /// Serves the connections of these steps. So many replies are counted, and those that the clients read begin so.
-fn serves<T>(
-    rt: &T,
-    alloc: Global,
-    steps: &[Step],
-    replies: u64,
-    fronts: &[&[u8]],
-) -> Result<(), Fail>
+fn serves<T>(rt: &T, alloc: Global, steps: &[Step], replies: u64, fronts: &[&[u8]])
 where
     T: Abort + Threads + Wait + Sync + Net<Listener = TcpListener, Stream = TcpStream>,
 {
-    let got = replies_to(rt, alloc, steps, replies)?;
+    let got = replies_to(rt, alloc, steps, replies);
     begin(rt, &got, fronts);
-    Ok(())
 }
 
 /// The same of replies that are these, one behind the other.
-fn serves_whole<T>(
-    rt: &T,
-    alloc: Global,
-    steps: &[Step],
-    fronts: &[&[u8]],
-    whole: &[u8],
-) -> Result<(), Fail>
+fn serves_whole<T>(rt: &T, alloc: Global, steps: &[Step], fronts: &[&[u8]], whole: &[u8])
 where
     T: Abort + Threads + Wait + Sync + Net<Listener = TcpListener, Stream = TcpStream>,
 {
-    let got = replies_to(rt, alloc, steps, fronts.len() as u64)?;
+    let got = replies_to(rt, alloc, steps, fronts.len() as u64);
     begin(rt, &got, fronts);
-    same(rt, &got.concat(alloc)?.as_slice(), &whole);
-    Ok(())
+    same(rt, need(rt, got.concat(alloc)).as_slice(), whole);
 }
 
 #[test]
-fn the_first_reply(rt: HostRuntime) -> Result<(), Fail> {
-    same(&rt, &FIRST.len(), &707);
-    serves_whole(&rt, rt.alloc(), &[Step::Ask(USUAL)], &[FIRST], FIRST)
+fn the_first_reply(rt: HostRuntime) {
+    same(&rt, FIRST.len(), 707);
+    serves_whole(&rt, rt.alloc(), &[Step::Ask(USUAL)], &[FIRST], FIRST);
 }
 
 const FOUR: [Step; 6] = [
@@ -162,8 +142,8 @@ const FOUR: [Step; 6] = [
 
 /// A connection without a byte is not counted.
 #[test]
-fn four_connections(rt: HostRuntime) -> Result<(), Fail> {
-    serves(&rt, rt.alloc(), &FOUR, 3, &[MISSING, b"", WRONG, OK])
+fn four_connections(rt: HostRuntime) {
+    serves(&rt, rt.alloc(), &FOUR, 3, &[MISSING, b"", WRONG, OK]);
 }
 
 const OF_EACH_STATUS: [Step; 11] = [
@@ -203,19 +183,22 @@ fn bytes_of(replies: &[Vec<u8>]) -> usize {
 
 /// Replies of each status but 503, and then a scrape: what was counted by the threads of all of them.
 #[test]
-fn a_scrape_shows_the_replies_before_it(rt: HostRuntime) -> Result<(), Fail> {
-    let replies = replies_to(&rt, rt.alloc(), &OF_EACH_STATUS, 9)?;
-    let (last, before) = replies.split_last().ok_or("no reply")?;
+fn a_scrape_shows_the_replies_before_it(rt: HostRuntime) {
+    let rt = &rt;
+    let replies = replies_to(rt, rt.alloc(), &OF_EACH_STATUS, 9);
+    let (last, before) = there(rt, replies.split_last());
     begin(
-        &rt,
+        rt,
         before,
         &[OK, BAD, MISSING, MISSING, WRONG, WRONG, WRONG, LARGE],
     );
     let sent = bytes_of(before);
-    let wanted = format!(in rt.alloc(); "scrape_reply_bytes_sum {sent}\n{COUNTS}")?;
+    let wanted = need(
+        rt,
+        format!(in rt.alloc(); "scrape_reply_bytes_sum {sent}\n{COUNTS}"),
+    );
     let shown = last.len().saturating_sub(wanted.len());
-    same(&rt, &last.get(shown..), &Some(wanted.as_bytes()));
-    Ok(())
+    same(rt, last.get(shown..), Some(wanted.as_bytes()));
 }
 
 const QUIET: [Step; 8] = [
@@ -231,8 +214,8 @@ const QUIET: [Step; 8] = [
 
 /// A client that says nothing until all others were served keeps nobody from being served, but those of its own thread.
 #[test]
-fn a_client_that_says_nothing(rt: HostRuntime) -> Result<(), Fail> {
-    serves(&rt, rt.alloc(), &QUIET, 4, &[OK, MISSING, OK, OK])
+fn a_client_that_says_nothing(rt: HostRuntime) {
+    serves(&rt, rt.alloc(), &QUIET, 4, &[OK, MISSING, OK, OK]);
 }
 
 const LEAVING: [Step; 8] = [
@@ -249,8 +232,8 @@ const LEAVING: [Step; 8] = [
 /// A client that sends half a head, one that goes away within its reply, which resets the connection, and then a good one. The second
 /// reply was sent whole, and counts.
 #[test]
-fn clients_that_leave(rt: HostRuntime) -> Result<(), Fail> {
-    serves(&rt, rt.alloc(), &LEAVING, 3, &[BAD, OK])
+fn clients_that_leave(rt: HostRuntime) {
+    serves(&rt, rt.alloc(), &LEAVING, 3, &[BAD, OK]);
 }
 
 const SENDING_MUCH: [Step; 6] = [
@@ -284,8 +267,8 @@ Request Header Fields Too Large
 
 /// A request with a body of 100,000 bytes, which nobody reads, and a head of over 9,000: both clients get their replies whole.
 #[test]
-fn clients_that_send_much(rt: HostRuntime) -> Result<(), Fail> {
-    serves_whole(&rt, rt.alloc(), &SENDING_MUCH, &[WRONG, LARGE], TO_MUCH)
+fn clients_that_send_much(rt: HostRuntime) {
+    serves_whole(&rt, rt.alloc(), &SENDING_MUCH, &[WRONG, LARGE], TO_MUCH);
 }
 
 const STAYING: [Step; 11] = [
@@ -305,8 +288,8 @@ const STAYING: [Step; 11] = [
 /// A client that keeps its connection after the reply, and one that sends on for as long as it is read, are let go: the next one of their
 /// thread is served.
 #[test]
-fn clients_that_stay(rt: HostRuntime) -> Result<(), Fail> {
-    serves(&rt, rt.alloc(), &STAYING, 6, &[OK, WRONG, OK, OK, OK, OK])
+fn clients_that_stay(rt: HostRuntime) {
+    serves(&rt, rt.alloc(), &STAYING, 6, &[OK, WRONG, OK, OK, OK, OK]);
 }
 
 /// Takes all that is written, but at one call, where it fails or takes nothing.
@@ -348,12 +331,12 @@ impl Write for Fails {
 }
 
 /// After so many calls of its writer the server ends.
-fn ends_after<T>(rt: &T, alloc: Global, calls: u64) -> Result<(), Fail>
+fn ends_after<T>(rt: &T, alloc: Global, calls: u64)
 where
     T: Abort + Threads + Wait + Sync + Net<Listener = TcpListener, Stream = TcpStream>,
 {
-    let listener = TcpListener::bind(rt, (Ipv4Addr::LOCALHOST, 0))?;
-    let printed = lines(alloc, listener.local_addr()?.port(), 0)?;
+    let listener = need(rt, TcpListener::bind(rt, (Ipv4Addr::LOCALHOST, 0)));
+    let printed = lines(rt, alloc, need(rt, listener.local_addr()).port(), 0);
     let mut writer = Fails {
         kept: Vec::new(alloc),
         calls,
@@ -361,34 +344,29 @@ where
     };
     let end = serve_on(rt, alloc, listener, 0, &mut writer);
     let status = if calls < 8 { 3 } else { 0 };
-    assert_eq!(rt; end.status(), status, "at call {calls}");
+    same(rt, (calls, end.status()), (calls, status));
     let kept = writer.kept.as_slice();
-    assert_eq!(rt;
-        printed.as_bytes().get(..kept.len()),
-        Some(kept),
-        "at call {calls}"
-    );
-    Ok(())
+    let front = printed.as_bytes().get(..kept.len());
+    same(rt, (calls, front), (calls, Some(kept)));
 }
 
 /// Three writes and a flush are for the port, and as many for the replies.
 #[test]
-fn a_writer_that_fails(rt: HostRuntime) -> Result<(), Fail> {
+fn a_writer_that_fails(rt: HostRuntime) {
     for calls in 0..9u64 {
-        ends_after(&rt, rt.alloc(), calls)?;
+        ends_after(&rt, rt.alloc(), calls);
     }
-    Ok(())
 }
 
 #[test]
-fn a_listener_that_fails(rt: HostRuntime) -> Result<(), Fail> {
+fn a_listener_that_fails(rt: HostRuntime) {
+    let rt = &rt;
     let alloc = rt.alloc();
-    let listener = TcpListener::bind(&rt, (Ipv4Addr::LOCALHOST, 0))?;
-    let port = listener.local_addr()?.port();
-    listener.set_nonblocking(true)?;
-    let (end, written) = serve(&rt, alloc, listener, 1);
-    same(&rt, &end, &ServeEnd::Broken);
-    let told = format!(in alloc; "listening {port}\n")?;
-    same(&rt, &written.as_slice(), &told.as_bytes());
-    Ok(())
+    let listener = need(rt, TcpListener::bind(rt, (Ipv4Addr::LOCALHOST, 0)));
+    let port = need(rt, listener.local_addr()).port();
+    need(rt, listener.set_nonblocking(true));
+    let (end, written) = serve(rt, alloc, listener, 1);
+    same(rt, end, ServeEnd::Broken);
+    let told = need(rt, format!(in alloc; "listening {port}\n"));
+    same(rt, written.as_slice(), told.as_bytes());
 }

@@ -1,18 +1,16 @@
 //! A registry behind its lock, served over loopback, one connection after the other.
 use super::clients::{Step, begin, play};
 use super::ends::OK_A;
-use crate::asserts::same;
+use crate::asserts::{done, need, same};
 use crate::crew::{ID, Two, TwoCrew, ends_with, registry_of};
 use crate::helpers::desc;
 use metric_desc::Kind;
 use scrape_http::{Served, Status, WireFault};
 use scrape_server::{FromRegistry, serve_stream};
 use std::alloc::Global;
-use std::io;
 use std::net::{Ipv4Addr, Net, TcpListener, TcpStream};
 use std::process::Abort;
 use std::sync::Wait;
-use std::test::Fail;
 use std::thread::{Threads, join};
 
 /// What a connection was served.
@@ -27,66 +25,67 @@ const STEPS: [Step; 4] = [
 ];
 
 /// Registers the counter `a`, and makes its child.
-fn register(rt: &impl Wait, alloc: Global, registry: &Two<'_>) -> Result<(), Fail> {
-    let family = registry.register(rt, desc(alloc, Kind::Counter, "a", &[])?)?;
-    registry.child(rt, family, &[])?;
-    Ok(())
+fn register(rt: &(impl Wait + Abort), alloc: Global, registry: &Two<'_>) {
+    let family = need(
+        rt,
+        registry.register(rt, done(rt, desc(alloc, Kind::Counter, "a", &[]))),
+    );
+    need(rt, registry.child(rt, family, &[]));
 }
 
 /// Serves a connection.
-fn serve_next(rt: &impl Wait, registry: &Two<'_>, listener: &TcpListener) -> io::Result<One> {
-    let (stream, _peer) = listener.accept()?;
-    Ok(serve_stream(&stream, &mut FromRegistry { rt, registry }))
+fn serve_next(rt: &(impl Wait + Abort), registry: &Two<'_>, listener: &TcpListener) -> One {
+    let (stream, _peer) = need(rt, listener.accept());
+    serve_stream(&stream, &mut FromRegistry { rt, registry })
 }
 
 /// Serves two connections.
-fn serve_two(rt: &impl Wait, registry: &Two<'_>, listener: &TcpListener) -> io::Result<(One, One)> {
-    let first = serve_next(rt, registry, listener)?;
-    Ok((first, serve_next(rt, registry, listener)?))
+fn serve_two(rt: &(impl Wait + Abort), registry: &Two<'_>, listener: &TcpListener) -> (One, One) {
+    let first = serve_next(rt, registry, listener);
+    (first, serve_next(rt, registry, listener))
 }
 
 /// Serves the two that ask, and gives the replies that they read.
-fn serve_while_asked<T>(rt: &T, alloc: Global, registry: &Two<'_>) -> Result<Vec<Vec<u8>>, Fail>
+fn serve_while_asked<T>(rt: &T, alloc: Global, registry: &Two<'_>) -> Vec<Vec<u8>>
 where
     T: Abort + Threads + Wait + Sync + Net<Listener = TcpListener, Stream = TcpStream>,
 {
-    let listener = TcpListener::bind(rt, (Ipv4Addr::LOCALHOST, 0))?;
-    let port = listener.local_addr()?.port();
+    let listener = need(rt, TcpListener::bind(rt, (Ipv4Addr::LOCALHOST, 0)));
+    let port = need(rt, listener.local_addr()).port();
     let (served, replies) = join(
         rt,
         || serve_two(rt, registry, &listener),
         || play(rt, alloc, port, &STEPS),
     );
-    are_served(rt, served?);
-    Ok(replies?)
+    are_served(rt, served);
+    replies
 }
 
 /// The reply to a scrape was sent, and the one to a large head.
 fn are_served(rt: &impl Abort, served: (One, One)) {
     let (status, sent) = (Status::Success, OK_A.len());
-    same(rt, &served.0, &Ok(Served { status, sent }));
+    same(rt, served.0, Ok(Served { status, sent }));
     let (status, sent) = (Status::TooLarge, 160);
-    same(rt, &served.1, &Ok(Served { status, sent }));
+    same(rt, served.1, Ok(Served { status, sent }));
 }
 
 /// Both clients read their replies.
-fn asks_two<T>(rt: &T, alloc: Global, registry: &Two<'_>) -> Result<(), Fail>
+fn asks_two<T>(rt: &T, alloc: Global, registry: &Two<'_>)
 where
     T: Abort + Threads + Wait + Sync + Net<Listener = TcpListener, Stream = TcpStream>,
 {
-    register(rt, alloc, registry)?;
-    let replies = serve_while_asked(rt, alloc, registry)?;
+    register(rt, alloc, registry);
+    let replies = serve_while_asked(rt, alloc, registry);
     let large = b"HTTP/1.1 431 Request Header Fields Too Large\r\n".as_slice();
     begin(rt, &replies, &[OK_A, large]);
-    Ok(())
 }
 
 /// A scrape, which is kept, and a head of over 9,000 bytes, for which none is made.
 #[test]
-fn two_connections(rt: HostRuntime) -> Result<(), Fail> {
-    let mut crew = TwoCrew::new(rt.alloc(), ID, 1)?;
-    let registry = registry_of(rt.alloc(), &crew.board, &mut crew.readers, 4)?;
-    asks_two(&rt, rt.alloc(), &registry)?;
-    ends_with(&rt, registry, 1, 3);
-    Ok(())
+fn two_connections(rt: HostRuntime) {
+    let rt = &rt;
+    let mut crew = need(rt, TwoCrew::new(rt.alloc(), ID, 1));
+    let registry = registry_of(rt, rt.alloc(), &crew.board, &mut crew.readers, 4);
+    asks_two(rt, rt.alloc(), &registry);
+    ends_with(rt, registry, 1, 3);
 }

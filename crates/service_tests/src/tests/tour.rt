@@ -1,5 +1,5 @@
 //! The tour of docs/REGISTRY.md: families, children, operations, a scrape and its text.
-use crate::asserts::same;
+use crate::asserts::{need, same};
 use expo_text::render;
 use ledger_core::{Counter, Histogram, Op};
 use metric_desc::Desc;
@@ -7,74 +7,80 @@ use metric_names::{HelpText, LabelName, LabelValue, MetricName};
 use registry_state::{FamilyId, Handle, RegistryState};
 use snapshot_scan::PlainSource;
 use std::alloc::Global;
-use std::test::Fail;
+use std::process::Abort;
 
 /// A registry over a source of two counters, a histogram and a gauge.
 type Service = RegistryState<PlainSource<1, 2, 1, 1>, 1, 2, 1, 1>;
 
 /// Counters by a label.
-fn requests(alloc: Global) -> Result<Desc, Fail> {
-    let name = MetricName::read(alloc, "http_requests_total")?;
+fn requests(rt: &impl Abort, alloc: Global) -> Desc {
+    let name = need(rt, MetricName::read(alloc, "http_requests_total"));
     let mut labels = Vec::new(alloc);
-    labels.push(LabelName::read(alloc, "code")?)?;
-    Ok(Desc::counter(name, HelpText::empty(alloc), labels)?)
+    need(rt, labels.push(need(rt, LabelName::read(alloc, "code"))));
+    need(rt, Desc::counter(name, HelpText::empty(alloc), labels))
 }
 
 /// Histograms with bounds and a help.
-fn sizes(alloc: Global) -> Result<Desc, Fail> {
-    let name = MetricName::read(alloc, "request_size_bytes")?;
-    let help = HelpText::read(alloc, "The size of a request.")?;
-    Ok(Desc::histogram(name, help, Vec::new(alloc), &[10, 20])?)
+fn sizes(rt: &impl Abort, alloc: Global) -> Desc {
+    let name = need(rt, MetricName::read(alloc, "request_size_bytes"));
+    let help = need(rt, HelpText::read(alloc, "The size of a request."));
+    need(rt, Desc::histogram(name, help, Vec::new(alloc), &[10, 20]))
 }
 
 /// The counter of this code.
 fn coded(
+    rt: &impl Abort,
     service: &mut Service,
     alloc: Global,
     family: FamilyId,
     code: &str,
-) -> Result<Counter, Fail> {
+) -> Counter {
     let mut values = Vec::new(alloc);
-    values.push(LabelValue::read(alloc, code)?)?;
-    match service.child(family, &values)? {
-        Handle::Counter(counter) => Ok(counter),
-        _ => Err("no counter".into()),
+    need(rt, values.push(need(rt, LabelValue::read(alloc, code))));
+    match need(rt, service.child(family, &values)) {
+        Handle::Counter(counter) => counter,
+        _ => rt.panic("no counter"),
     }
 }
 
 /// The one histogram of a family without labels.
-fn sized(service: &mut Service, family: FamilyId) -> Result<Histogram, Fail> {
-    match service.child(family, &[])? {
-        Handle::Histogram(histogram) => Ok(histogram),
-        _ => Err("no histogram".into()),
+fn sized(rt: &impl Abort, service: &mut Service, family: FamilyId) -> Histogram {
+    match need(rt, service.child(family, &[])) {
+        Handle::Histogram(histogram) => histogram,
+        _ => rt.panic("no histogram"),
     }
 }
 
 /// Registers, makes and counts.
-fn serve(service: &mut Service, alloc: Global) -> Result<(), Fail> {
-    let size = service.register(sizes(alloc)?)?;
-    let request = service.register(requests(alloc)?)?;
-    let failed = coded(service, alloc, request, "500")?;
-    let served = coded(service, alloc, request, "200")?;
-    let bytes = sized(service, size)?;
-    service.apply(&[
-        Op::Inc {
-            counter: served.slot,
-            by: 3,
-        },
-        Op::Inc {
-            counter: failed.slot,
-            by: 1,
-        },
-    ])?;
+fn serve(rt: &impl Abort, service: &mut Service, alloc: Global) {
+    let size = need(rt, service.register(sizes(rt, alloc)));
+    let request = need(rt, service.register(requests(rt, alloc)));
+    let failed = coded(rt, service, alloc, request, "500");
+    let served = coded(rt, service, alloc, request, "200");
+    let bytes = sized(rt, service, size);
+    need(
+        rt,
+        service.apply(&[
+            Op::Inc {
+                counter: served.slot,
+                by: 3,
+            },
+            Op::Inc {
+                counter: failed.slot,
+                by: 1,
+            },
+        ]),
+    );
     for value in [10, 15, 30] {
-        service.apply(&[Op::Observe {
-            hist: bytes.slot,
-            place: bytes.bounds.place(value),
-            value,
-        }])?;
+        need(
+            rt,
+            service.apply(&[Op::Observe {
+                hist: bytes.slot,
+                place: bytes.bounds.place(value),
+                value,
+            }]),
+        );
     }
-    Ok(())
 }
 
 /// What the scrape is in the end.
@@ -90,14 +96,14 @@ const SHOWN: &str = "# TYPE http_requests_total counter\n\
      request_size_bytes_count 3\n";
 
 #[test]
-fn tour(rt: HostRuntime) -> Result<(), Fail> {
-    let source = PlainSource::new(rt.alloc())?;
+fn tour(rt: HostRuntime) {
+    let rt = &rt;
+    let source = need(rt, PlainSource::new(rt.alloc()));
     let mut service = match Service::new(rt.alloc(), source, 7, 64) {
         Ok(service) => service,
-        Err(none) => return Err(none.fault.into()),
+        Err(_) => rt.panic("no registry"),
     };
-    serve(&mut service, rt.alloc())?;
-    let text = render(&service.scrape()?)?;
-    same(&rt, &text.as_slice(), &SHOWN.as_bytes());
-    Ok(())
+    serve(rt, &mut service, rt.alloc());
+    let text = need(rt, render(&need(rt, service.scrape())));
+    same(rt, text.as_slice(), SHOWN.as_bytes());
 }

@@ -1,11 +1,10 @@
 //! What recorders refuse: handles that are none of their board, and too much. Nothing is counted then.
 use super::{Counts, Names, Team, opened_to_count, prints};
-use crate::asserts::same;
+use crate::asserts::{need, same};
 use crate::crew::ID;
 use dirgwako::{ApplyFault, Change, CountFault, Counter, OpFault, Registrar, inc};
 use std::process::Abort;
 use std::sync::Wait;
-use std::test::Fail;
 
 /// More than a counter can hold.
 const LARGE: u64 = 281_474_976_710_656;
@@ -23,8 +22,8 @@ fn refuses<const K: usize>(
     fault: CountFault,
     number: u8,
 ) {
-    same(rt, &recorder.publish(changes), &Err(fault));
-    same(rt, &(fault.number(), recorder.number()), &(number, 0));
+    same(rt, recorder.publish(changes), Err(fault));
+    same(rt, (fault.number(), recorder.number()), (number, 0));
 }
 
 /// The first change that fails, which is none of the board's slots or too large.
@@ -53,10 +52,10 @@ fn refuses_lists(rt: &impl Abort, recorder: &mut Counts<'_>) {
 /// Nor is one change.
 fn refuses_changes(rt: &impl Abort, recorder: &mut Counts<'_>) {
     let other = recorder.inc(&counter(ID + 1, 0), 1);
-    same(rt, &other, &Err(CountFault::WrongRegistry));
+    same(rt, other, Err(CountFault::WrongRegistry));
     let large = refused(OpFault::TooLarge { at: 0 });
-    same(rt, &recorder.inc(&counter(ID, 0), LARGE), &Err(large));
-    same(rt, &recorder.number(), &0);
+    same(rt, recorder.inc(&counter(ID, 0), LARGE), Err(large));
+    same(rt, recorder.number(), 0);
 }
 
 /// A recorder refuses lists and changes, and a scrape shows that nothing is counted.
@@ -64,17 +63,18 @@ fn refuses_all(
     rt: &(impl Wait + Abort + AllocGlobal),
     registry: &Names<'_>,
     recorder: &mut Counts<'_>,
-) -> Result<(), Fail> {
-    Registrar::new(rt, registry).counter("a", "")?;
+) {
+    need(rt, Registrar::new(rt, registry).counter("a", ""));
     refuses_lists(rt, recorder);
     refuses_changes(rt, recorder);
-    prints(rt, registry, "# TYPE a counter\na 0\n")
+    prints(rt, registry, "# TYPE a counter\na 0\n");
 }
 
 /// Nothing that a recorder refuses is counted.
 #[test]
-fn a_recorder_refuses(rt: HostRuntime) -> Result<(), Fail> {
-    let mut team = Team::new(rt.alloc(), ID, 1)?;
-    let (registry, mut recorder) = opened_to_count(&mut team)?;
-    refuses_all(&rt, &registry, &mut recorder)
+fn a_recorder_refuses(rt: HostRuntime) {
+    let rt = &rt;
+    let mut team = need(rt, Team::new(rt.alloc(), ID, 1));
+    let (registry, mut recorder) = opened_to_count(rt, &mut team);
+    refuses_all(rt, &registry, &mut recorder);
 }

@@ -1,6 +1,6 @@
 //! Crews at their limits, and those that are refused.
 use super::Team;
-use crate::asserts::same;
+use crate::asserts::{need, same};
 use crate::crew::ID;
 use dirgwako::{
     BoardFault, CountFault, Counter, Crew, NewFault, OpenFault, Recorder, Registrar, Registry,
@@ -9,48 +9,47 @@ use dirgwako::{
 use std::alloc::Global;
 use std::process::Abort;
 use std::sync::Wait;
-use std::test::Fail;
 
 /// No crew of this geometry.
 fn refused<const N: usize>(rt: &impl Abort, alloc: Global, readers: usize) {
     let made = Crew::<N, 1, 0, 0>::new(alloc, ID, readers);
-    same(rt, &made.err(), &Some(BoardFault::Geometry));
+    same(rt, made.err(), Some(BoardFault::Geometry));
 }
 
 #[test]
 fn crews_that_are_refused(rt: HostRuntime) {
+    let rt = &rt;
     let alloc = rt.alloc();
-    refused::<33>(&rt, alloc, 1);
-    refused::<0>(&rt, alloc, 1);
-    refused::<1>(&rt, alloc, 0);
-    refused::<1>(&rt, alloc, 5);
-    same(&rt, &BoardFault::Geometry.number(), &13);
+    refused::<33>(rt, alloc, 1);
+    refused::<0>(rt, alloc, 1);
+    refused::<1>(rt, alloc, 0);
+    refused::<1>(rt, alloc, 5);
+    same(rt, BoardFault::Geometry.number(), 13);
 }
 
 /// The crew is not opened for this reason, which has this number.
 fn is_shut(rt: &impl Abort, team: &mut Team, window: usize, fault: OpenFault, number: u8) {
-    same(rt, &team.open(window).err(), &Some(fault));
-    same(rt, &fault.number(), &number);
+    same(rt, team.open(window).err(), Some(fault));
+    same(rt, fault.number(), number);
 }
 
 /// The crew is opened, with the longest window.
-fn opens(rt: &impl Abort, team: &mut Team) -> Result<(), Fail> {
-    let (_, recorders, scanners) = team.open(1_024)?;
-    same(rt, &(recorders.len(), scanners.len()), &(2, 1));
-    Ok(())
+fn opens(rt: &impl Abort, team: &mut Team) {
+    let (_, recorders, scanners) = need(rt, team.open(1_024));
+    same(rt, (recorders.len(), scanners.len()), (2, 1));
 }
 
 /// A bad window leaves the crew as it is; an open crew is not opened again.
 #[test]
-fn opened_once(rt: HostRuntime) -> Result<(), Fail> {
-    let mut team = Team::new(rt.alloc(), ID, 2)?;
+fn opened_once(rt: HostRuntime) {
+    let rt = &rt;
+    let mut team = need(rt, Team::new(rt.alloc(), ID, 2));
     let window = OpenFault::Registry(NewFault::BadWindow);
-    is_shut(&rt, &mut team, 0, window, 31);
-    is_shut(&rt, &mut team, 1_025, window, 31);
-    opens(&rt, &mut team)?;
-    is_shut(&rt, &mut team, 1_024, OpenFault::Opened, 32);
-    is_shut(&rt, &mut team, 0, OpenFault::Opened, 32);
-    Ok(())
+    is_shut(rt, &mut team, 0, window, 31);
+    is_shut(rt, &mut team, 1_025, window, 31);
+    opens(rt, &mut team);
+    is_shut(rt, &mut team, 1_024, OpenFault::Opened, 32);
+    is_shut(rt, &mut team, 0, OpenFault::Opened, 32);
 }
 
 /// Each recorder has its place, and counts 1.
@@ -58,12 +57,11 @@ fn count<const N: usize, const C: usize, const H: usize, const G: usize>(
     rt: &impl Abort,
     recorders: &mut [Recorder<'_, N, C, H, G>],
     counter: &Counter,
-) -> Result<(), CountFault> {
+) {
     for (at, recorder) in recorders.iter_mut().enumerate() {
-        same(rt, &recorder.index(), &at);
-        recorder.inc(counter, 1)?;
+        same(rt, recorder.index(), at);
+        need(rt, recorder.inc(counter, 1));
     }
-    Ok(())
 }
 
 /// Each scanner finds so much of this counter.
@@ -73,45 +71,41 @@ fn scan(
     scanners: &mut [Scanner<'_, 32, 256, 32, 64>],
     counter: Counter,
     found: u64,
-) -> Result<(), Fail> {
-    let mut out = Snapshot::new(alloc)?;
+) {
+    let mut out = need(rt, Snapshot::new(alloc));
     for scanner in scanners.iter_mut() {
-        scanner.scan(&mut out)?;
-        same(rt, &counter_total(&out, &counter), &Some(found));
+        need(rt, scanner.scan(&mut out));
+        same(rt, counter_total(&out, &counter), Some(found));
     }
-    Ok(())
 }
 
 #[test]
-fn the_greatest_crew(rt: HostRuntime) -> Result<(), Fail> {
-    let mut crew = Crew::<32, 256, 32, 64>::new(rt.alloc(), u64::MAX, 4)?;
-    let (registry, mut recorders, mut scanners) = crew.open(1)?;
-    same(&rt, &(recorders.len(), scanners.len()), &(32, 3));
-    let counter = Registrar::new(&rt, &registry).counter("a", "")?;
-    count(&rt, &mut recorders, &counter)?;
-    scan(&rt, rt.alloc(), &mut scanners, counter, 32)
+fn the_greatest_crew(rt: HostRuntime) {
+    let rt = &rt;
+    let mut crew = need(rt, Crew::<32, 256, 32, 64>::new(rt.alloc(), u64::MAX, 4));
+    let (registry, mut recorders, mut scanners) = need(rt, crew.open(1));
+    same(rt, (recorders.len(), scanners.len()), (32, 3));
+    let counter = need(rt, Registrar::new(rt, &registry).counter("a", ""));
+    count(rt, &mut recorders, &counter);
+    scan(rt, rt.alloc(), &mut scanners, counter, 32);
 }
 
 /// A registry keeps the last two of its scrapes.
-fn keeps_two<R: Abort + Wait>(rt: &R, registry: Registry<'_, 1, 1, 0, 0>) -> Result<(), Fail> {
-    registry.scrape(rt)?;
-    registry.scrape(rt)?;
-    same(rt, &registry.into_state().kept().len(), &2);
-    Ok(())
+fn keeps_two<R: Abort + Wait>(rt: &R, registry: Registry<'_, 1, 1, 0, 0>) {
+    need(rt, registry.scrape(rt));
+    need(rt, registry.scrape(rt));
+    same(rt, registry.into_state().kept().len(), 2);
 }
 
 #[test]
-fn the_least_crew(rt: HostRuntime) -> Result<(), Fail> {
-    let mut crew = Crew::<1, 1, 0, 0>::new(rt.alloc(), 0, 1)?;
-    let (registry, mut recorders, scanners) = crew.open(2)?;
-    same(&rt, &(recorders.len(), scanners.len()), &(1, 0));
-    let counter = Registrar::new(&rt, &registry).counter("a", "")?;
-    count(&rt, &mut recorders, &counter)?;
-    let text = scrape_text(&rt, &registry)?;
-    same(
-        &rt,
-        &text.as_slice(),
-        &b"# TYPE a counter\na 1\n".as_slice(),
-    );
-    keeps_two(&rt, registry)
+fn the_least_crew(rt: HostRuntime) {
+    let rt = &rt;
+    let mut crew = need(rt, Crew::<1, 1, 0, 0>::new(rt.alloc(), 0, 1));
+    let (registry, mut recorders, scanners) = need(rt, crew.open(2));
+    same(rt, (recorders.len(), scanners.len()), (1, 0));
+    let counter = need(rt, Registrar::new(rt, &registry).counter("a", ""));
+    count(rt, &mut recorders, &counter);
+    let text = need(rt, scrape_text(rt, &registry));
+    same(rt, text.as_slice(), b"# TYPE a counter\na 1\n".as_slice());
+    keeps_two(rt, registry);
 }

@@ -1,6 +1,6 @@
 //! Metrics that are refused: which text it was, at which place, and by which number.
 use super::{Names, Team, opened, prints};
-use crate::asserts::same;
+use crate::asserts::{need, same};
 use crate::crew::ID;
 use dirgwako::{
     BadBounds, ChildFault, ChildRefusal, CounterFamily, FamilyRefusal, HelpTextFault,
@@ -9,62 +9,83 @@ use dirgwako::{
 };
 use std::process::Abort;
 use std::sync::Wait;
-use std::test::Fail;
 
 /// A family was refused so, by this number.
 fn is_refused(rt: &impl Abort, got: Option<FamilyRefusal>, fault: FamilyRefusal, number: u8) {
-    same(rt, &got, &Some(fault));
-    same(rt, &fault.number(), &number);
+    same(rt, got, Some(fault));
+    same(rt, fault.number(), number);
+}
+
+/// A family of this name and help, whose label is none, is refused so.
+fn refuses_text<S: Registers>(
+    rt: &impl Abort,
+    metrics: &mut Registrar<S>,
+    (name, help): (&str, &str),
+    fault: FamilyRefusal,
+    number: u8,
+) {
+    let got = metrics.counter_family(name, help, &["-"]).err();
+    is_refused(rt, got, fault, number);
 }
 
 /// Names and helps; the name is read first.
-fn refuses_texts<S: Registers>(
-    rt: &(impl Abort + AllocGlobal),
-    metrics: &mut Registrar<S>,
-) -> Result<(), Fail> {
-    let name = "a".repeat(rt.alloc(), 129)?;
-    let help = "a".repeat(rt.alloc(), 1_025)?;
-    let long_name = FamilyRefusal::Name(MetricNameFault::TooLong { limit: 128 });
-    let long_help = FamilyRefusal::Help(HelpTextFault::TooLong { limit: 1_024 });
+fn refuses_texts<S: Registers>(rt: &(impl Abort + AllocGlobal), metrics: &mut Registrar<S>) {
+    let empty = FamilyRefusal::Name(MetricNameFault::Empty);
+    refuses_text(rt, metrics, ("", " x"), empty, 1);
     let bad = FamilyRefusal::Name(MetricNameFault::BadByte { at: 1 });
-    for (name, help, fault, number) in [
-        ("", " x", FamilyRefusal::Name(MetricNameFault::Empty), 1),
-        ("a-b", "", bad, 2),
-        (name.as_str(), "", long_name, 3),
-        ("a", help.as_str(), long_help, 3),
-        ("a", " x", FamilyRefusal::Help(HelpTextFault::EdgeBlank), 5),
-    ] {
-        let got = metrics.counter_family(name, help, &["-"]).err();
-        is_refused(rt, got, fault, number);
-    }
-    Ok(())
+    refuses_text(rt, metrics, ("a-b", ""), bad, 2);
+    let name = need(rt, "a".repeat(rt.alloc(), 129));
+    let long = FamilyRefusal::Name(MetricNameFault::TooLong { limit: 128 });
+    refuses_text(rt, metrics, (&name, ""), long, 3);
+    let help = need(rt, "a".repeat(rt.alloc(), 1_025));
+    let long = FamilyRefusal::Help(HelpTextFault::TooLong { limit: 1_024 });
+    refuses_text(rt, metrics, ("a", &help), long, 3);
+    let blank = FamilyRefusal::Help(HelpTextFault::EdgeBlank);
+    refuses_text(rt, metrics, ("a", " x"), blank, 5);
+}
+
+/// A family of these labels is refused for the one at this place.
+fn refuses_label<S: Registers>(
+    rt: &impl Abort,
+    metrics: &mut Registrar<S>,
+    labels: &[&str],
+    at: usize,
+    fault: LabelNameFault,
+    number: u8,
+) {
+    let got = metrics.gauge_family("g", "", labels).err();
+    is_refused(rt, got, FamilyRefusal::Label { at, fault }, number);
 }
 
 /// Labels one by one, from the first on.
-fn refuses_a_label<S: Registers>(
-    rt: &(impl Abort + AllocGlobal),
+fn refuses_a_label<S: Registers>(rt: &(impl Abort + AllocGlobal), metrics: &mut Registrar<S>) {
+    refuses_label(rt, metrics, &["", "-"], 0, LabelNameFault::Empty, 1);
+    let bad = LabelNameFault::BadByte { at: 1 };
+    refuses_label(rt, metrics, &["a", "b:c"], 1, bad, 2);
+    let long = need(rt, "l".repeat(rt.alloc(), 129));
+    let fault = LabelNameFault::TooLong { limit: 128 };
+    refuses_label(rt, metrics, &["a", &long], 1, fault, 3);
+    refuses_label(rt, metrics, &["a", "__b"], 1, LabelNameFault::Reserved, 4);
+}
+
+/// A histogram of these labels and bounds is refused so.
+fn refuses_histogram<S: Registers>(
+    rt: &impl Abort,
     metrics: &mut Registrar<S>,
-) -> Result<(), Fail> {
-    let long = "l".repeat(rt.alloc(), 129)?;
-    for (labels, at, fault, number) in [
-        (["", "-"], 0, LabelNameFault::Empty, 1),
-        (["a", "b:c"], 1, LabelNameFault::BadByte { at: 1 }, 2),
-        (
-            ["a", long.as_str()],
-            1,
-            LabelNameFault::TooLong { limit: 128 },
-            3,
-        ),
-        (["a", "__b"], 1, LabelNameFault::Reserved, 4),
-    ] {
-        let got = metrics.gauge_family("g", "", &labels).err();
-        is_refused(rt, got, FamilyRefusal::Label { at, fault }, number);
-    }
-    Ok(())
+    labels: &[&str],
+    bounds: &[u64],
+    fault: HistogramFault,
+    number: u8,
+) {
+    let got = metrics.histogram_family("h", "", labels, bounds).err();
+    is_refused(rt, got, FamilyRefusal::Histogram(fault), number);
 }
 
 /// Nine labels.
 const NINE: [&str; 9] = ["a", "b", "c", "d", "e", "f", "g", "h", "i"];
+
+/// Bounds of which the second one does not rise.
+const LEVEL: [u64; 3] = [1, 1, 2];
 
 /// Labels together, of a gauge and a histogram, and bounds.
 fn refuses_shapes<S: Registers>(rt: &impl Abort, metrics: &mut Registrar<S>) {
@@ -74,84 +95,59 @@ fn refuses_shapes<S: Registers>(rt: &impl Abort, metrics: &mut Registrar<S>) {
     let twice = LabelsFault::DuplicateLabel { at: 2 };
     let got = metrics.counter_family("c", "", &["a", "b", "a"]).err();
     is_refused(rt, got, FamilyRefusal::Labels(twice), 7);
-    for (labels, bounds, fault, number) in [
-        (NINE.as_slice(), [1, 1, 2], HistogramFault::Labels(many), 9),
-        (
-            ["a", "le"].as_slice(),
-            [1, 1, 2],
-            HistogramFault::LeOnHistogram,
-            8,
-        ),
-        (
-            ["a"].as_slice(),
-            [1, 1, 2],
-            HistogramFault::Bounds(BadBounds { at: 1 }),
-            10,
-        ),
-        (
-            ["a"].as_slice(),
-            [1, 2, 281_474_976_710_656],
-            HistogramFault::Bounds(BadBounds { at: 2 }),
-            10,
-        ),
-    ] {
-        let got = metrics.histogram_family("h", "", labels, &bounds).err();
-        is_refused(rt, got, FamilyRefusal::Histogram(fault), number);
-    }
+    refuses_histogram(rt, metrics, &NINE, &LEVEL, HistogramFault::Labels(many), 9);
+    let le = HistogramFault::LeOnHistogram;
+    refuses_histogram(rt, metrics, &["a", "le"], &LEVEL, le, 8);
+    let bad = HistogramFault::Bounds(BadBounds { at: 1 });
+    refuses_histogram(rt, metrics, &["a"], &LEVEL, bad, 10);
+    let bad = HistogramFault::Bounds(BadBounds { at: 2 });
+    let large = [1, 2, 281_474_976_710_656];
+    refuses_histogram(rt, metrics, &["a"], &large, bad, 10);
 }
 
+/// The names of samples of a histogram `h`.
+const OF_A_HISTOGRAM: [&str; 4] = ["h", "h_bucket", "h_sum", "h_count"];
+
 /// The names of samples of a histogram are its own.
-fn refuses_shared_names<S: Registers>(
-    rt: &impl Abort,
-    metrics: &mut Registrar<S>,
-) -> Result<(), Fail> {
-    metrics.gauge_family("le", "", &["le"])?;
-    let family = metrics.histogram_family("h", "", &[], &[])?;
-    same(rt, &family.id.number(), &1);
+fn refuses_shared_names<S: Registers>(rt: &impl Abort, metrics: &mut Registrar<S>) {
+    need(rt, metrics.gauge_family("le", "", &["le"]));
+    let family = need(rt, metrics.histogram_family("h", "", &[], &[]));
+    same(rt, family.id.number(), 1);
     let clash = FamilyRefusal::Register(RegisterFault::Clash { with: 1 });
-    for name in ["h", "h_bucket", "h_sum", "h_count"] {
+    for name in &OF_A_HISTOGRAM {
         is_refused(rt, metrics.counter_family(name, "", &[]).err(), clash, 19);
     }
     let got = metrics.histogram("h", "", &[]).err();
-    same(rt, &got, &Some(MetricRefusal::Family(clash)));
-    Ok(())
+    same(rt, got, Some(MetricRefusal::Family(clash)));
 }
 
 /// No other family was registered by what was refused, and 126 more are.
-fn fills_up<S: Registers>(
-    rt: &(impl Abort + AllocGlobal),
-    metrics: &mut Registrar<S>,
-) -> Result<(), Fail> {
+fn fills_up<S: Registers>(rt: &(impl Abort + AllocGlobal), metrics: &mut Registrar<S>) {
     for number in 2..128usize {
-        let name = format!(in rt.alloc(); "f{number}")?;
-        let family = metrics.counter_family(name.as_str(), "", &[])?;
-        same(rt, &family.id.number(), &number);
+        let name = need(rt, format!(in rt.alloc(); "f{number}"));
+        let family = need(rt, metrics.counter_family(name.as_str(), "", &[]));
+        same(rt, family.id.number(), number);
     }
     let full = FamilyRefusal::Register(RegisterFault::TooManyFamilies);
     is_refused(rt, metrics.gauge_family("f128", "", &[]).err(), full, 23);
-    Ok(())
 }
 
 /// Families are refused for each of their texts and shapes, for names that are taken, and where there are too many.
-fn refuses_families<S: Registers>(
-    rt: &(impl Abort + AllocGlobal),
-    metrics: &mut Registrar<S>,
-) -> Result<(), Fail> {
-    refuses_texts(rt, metrics)?;
-    refuses_a_label(rt, metrics)?;
+fn refuses_families<S: Registers>(rt: &(impl Abort + AllocGlobal), metrics: &mut Registrar<S>) {
+    refuses_texts(rt, metrics);
+    refuses_a_label(rt, metrics);
     refuses_shapes(rt, metrics);
-    refuses_shared_names(rt, metrics)?;
-    fills_up(rt, metrics)
+    refuses_shared_names(rt, metrics);
+    fills_up(rt, metrics);
 }
 
 /// Families are refused for each fault by its number, and register nothing.
 #[test]
-fn families(rt: HostRuntime) -> Result<(), Fail> {
-    let mut team = Team::new(rt.alloc(), ID, 1)?;
-    match opened(&mut team, 64) {
-        Ok(registry) => refuses_families(&rt, &mut Registrar::new(&rt, &registry)),
-        Err(fault) => Err(fault),
-    }
+fn families(rt: HostRuntime) {
+    let rt = &rt;
+    let mut team = need(rt, Team::new(rt.alloc(), ID, 1));
+    let registry = opened(rt, &mut team, 64);
+    refuses_families(rt, &mut Registrar::new(rt, &registry));
 }
 
 /// These label values are refused so, by this number.
@@ -163,28 +159,25 @@ fn refuses_values<S: Registers>(
     fault: ChildRefusal,
     number: u8,
 ) {
-    same(rt, &metrics.counter_of(family, values).err(), &Some(fault));
-    same(rt, &fault.number(), &number);
+    same(rt, metrics.counter_of(family, values).err(), Some(fault));
+    same(rt, fault.number(), number);
 }
 
 /// Label values of a family of two labels, and one child more than there are slots.
-fn refuses_children<S: Registers>(
-    rt: &(impl Abort + AllocGlobal),
-    metrics: &mut Registrar<S>,
-) -> Result<(), Fail> {
-    let family = &metrics.counter_family("c", "", &["a", "b"])?;
-    let long = "x".repeat(rt.alloc(), 257)?;
+fn refuses_children<S: Registers>(rt: &(impl Abort + AllocGlobal), metrics: &mut Registrar<S>) {
+    let family = &need(rt, metrics.counter_family("c", "", &["a", "b"]));
+    let long = need(rt, "x".repeat(rt.alloc(), 257));
     let (at, fault) = (1, LabelValueFault::TooLong { limit: 256 });
     let value = ChildRefusal::Value { at, fault };
     refuses_values(rt, metrics, family, &["", long.as_str()], value, 3);
     let (want, got) = (2, 1);
     let count = ChildRefusal::Child(ChildFault::LabelCount { want, got });
     refuses_values(rt, metrics, family, &["x"], count, 21);
-    for value in ["1", "2", "3", "4"] {
-        metrics.counter_of(family, &["x", value])?;
-    }
+    need(rt, metrics.counter_of(family, &["x", "1"]));
+    need(rt, metrics.counter_of(family, &["x", "2"]));
+    need(rt, metrics.counter_of(family, &["x", "3"]));
+    need(rt, metrics.counter_of(family, &["x", "4"]));
     refuses_values(rt, metrics, family, &["x", "5"], FULL, 22);
-    Ok(())
 }
 
 /// Every counter is used.
@@ -193,17 +186,16 @@ const FULL: ChildRefusal = ChildRefusal::Child(ChildFault::Full {
 });
 
 /// A metric without labels for which there is no slot: its family stands, and its name is taken.
-fn refuses_a_metric<S: Registers>(rt: &impl Abort, metrics: &mut Registrar<S>) -> Result<(), Fail> {
+fn refuses_a_metric<S: Registers>(rt: &impl Abort, metrics: &mut Registrar<S>) {
     let Err(MetricRefusal::Child { family, fault }) = metrics.counter("d", "") else {
-        return Err("no refusal of a child".into());
+        rt.panic("no refusal of a child")
     };
-    same(rt, &(family.number(), fault), &(1, FULL));
-    same(rt, &MetricRefusal::Child { family, fault }.number(), &22);
+    same(rt, (family.number(), fault), (1, FULL));
+    same(rt, MetricRefusal::Child { family, fault }.number(), 22);
     let clash = MetricRefusal::Family(FamilyRefusal::Register(RegisterFault::Clash { with: 1 }));
-    same(rt, &metrics.counter("d", "").err(), &Some(clash));
-    same(rt, &clash.number(), &19);
-    metrics.gauge("g", "")?;
-    Ok(())
+    same(rt, metrics.counter("d", "").err(), Some(clash));
+    same(rt, clash.number(), 19);
+    need(rt, metrics.gauge("g", ""));
 }
 
 /// What a scrape shows of them.
@@ -211,24 +203,20 @@ const CHILDREN: &str = "# TYPE c counter\nc{a=\"x\",b=\"1\"} 0\nc{a=\"x\",b=\"2\
      c{a=\"x\",b=\"3\"} 0\nc{a=\"x\",b=\"4\"} 0\n# TYPE g gauge\ng 0\n";
 
 /// Children are refused for their values and where there are too many, and a scrape shows those that are not.
-fn shows_children(
-    rt: &(impl Wait + Abort + AllocGlobal),
-    registry: &Names<'_>,
-) -> Result<(), Fail> {
+fn shows_children(rt: &(impl Wait + Abort + AllocGlobal), registry: &Names<'_>) {
     let mut metrics = Registrar::new(rt, registry);
-    refuses_children(rt, &mut metrics)?;
-    refuses_a_metric(rt, &mut metrics)?;
-    prints(rt, registry, CHILDREN)
+    refuses_children(rt, &mut metrics);
+    refuses_a_metric(rt, &mut metrics);
+    prints(rt, registry, CHILDREN);
 }
 
 /// Children are refused for each fault by its number, and a scrape shows the others.
 #[test]
-fn children(rt: HostRuntime) -> Result<(), Fail> {
-    let mut team = Team::new(rt.alloc(), ID, 1)?;
-    match opened(&mut team, 64) {
-        Ok(registry) => shows_children(&rt, &registry),
-        Err(fault) => Err(fault),
-    }
+fn children(rt: HostRuntime) {
+    let rt = &rt;
+    let mut team = need(rt, Team::new(rt.alloc(), ID, 1));
+    let registry = opened(rt, &mut team, 64);
+    shows_children(rt, &registry);
 }
 
 /// A registry whose families are one of gauges and one of counters refuses a family of counters so, by this number.
@@ -237,12 +225,11 @@ fn refuses_a_family<S: Registers>(
     metrics: &mut Registrar<S>,
     family: &CounterFamily,
     refusal: (ChildRefusal, u8),
-) -> Result<(), Fail> {
-    metrics.gauge_family("g", "", &[])?;
-    metrics.counter_family("k", "", &[])?;
+) {
+    need(rt, metrics.gauge_family("g", "", &[]));
+    need(rt, metrics.counter_family("k", "", &[]));
     let (fault, number) = refusal;
     refuses_values(rt, metrics, family, &[], fault, number);
-    Ok(())
 }
 
 /// A registry of a board of this id, whose families are one of gauges and one of counters, is asked by a family of counters.
@@ -252,30 +239,32 @@ fn asks_another(
     id: u64,
     refusal: (ChildRefusal, u8),
     shown: &str,
-) -> Result<(), Fail> {
-    let mut team = Team::new(rt.alloc(), id, 1)?;
-    let registry = opened(&mut team, 1)?;
-    refuses_a_family(rt, &mut Registrar::new(rt, &registry), family, refusal)?;
-    prints(rt, &registry, shown)
+) {
+    let mut team = need(rt, Team::new(rt.alloc(), id, 1));
+    let registry = opened(rt, &mut team, 1);
+    refuses_a_family(rt, &mut Registrar::new(rt, &registry), family, refusal);
+    prints(rt, &registry, shown);
 }
 
 /// Two families of counters.
 fn two_families<S: Registers>(
+    rt: &impl Abort,
     metrics: &mut Registrar<S>,
-) -> Result<(CounterFamily, CounterFamily), Fail> {
-    let first = metrics.counter_family("c", "", &[])?;
-    let second = metrics.counter_family("d", "", &[])?;
-    Ok((first, second))
+) -> (CounterFamily, CounterFamily) {
+    let first = need(rt, metrics.counter_family("c", "", &[]));
+    let second = need(rt, metrics.counter_family("d", "", &[]));
+    (first, second)
 }
 
 /// A family of another board is refused before anything is done, also where the kinds agree. Boards of one id are not told apart: there it
 /// is taken for the family of its number, whose child is made then.
 #[test]
-fn a_family_of_another_board(rt: HostRuntime) -> Result<(), Fail> {
-    let mut team = Team::new(rt.alloc(), ID, 1)?;
-    let registry = opened(&mut team, 1)?;
-    let (first, second) = two_families(&mut Registrar::new(&rt, &registry))?;
+fn a_family_of_another_board(rt: HostRuntime) {
+    let rt = &rt;
+    let mut team = need(rt, Team::new(rt.alloc(), ID, 1));
+    let registry = opened(rt, &mut team, 1);
+    let (first, second) = two_families(rt, &mut Registrar::new(rt, &registry));
     let shown = "# TYPE g gauge\ng 0\n";
-    asks_another(&rt, &first, ID, (ChildRefusal::OtherKind, 28), shown)?;
-    asks_another(&rt, &second, ID + 1, (ChildRefusal::OtherRegistry, 20), "")
+    asks_another(rt, &first, ID, (ChildRefusal::OtherKind, 28), shown);
+    asks_another(rt, &second, ID + 1, (ChildRefusal::OtherRegistry, 20), "");
 }

@@ -1,16 +1,15 @@
 //! Connections that a server answers, whoever comes between them.
 use super::{Names, Team};
-use crate::asserts::same;
+use crate::asserts::{need, same, there};
 use crate::crew::ID;
 use crate::tests::clients::{Step, connect, play};
 use crate::tests::ends::{MISSING, OK_A};
 use dirgwako::{Answered, Registrar, listen, port_of, serve, serve_forever};
 use std::alloc::Global;
-use std::io::{self, Error, ErrorKind, Write};
+use std::io::{ErrorKind, Write};
 use std::net::{Net, TcpListener, TcpStream};
 use std::process::Abort;
 use std::sync::Wait;
-use std::test::Fail;
 use std::thread::{Threads, join, sleep};
 use std::time::{Clock, Duration};
 
@@ -40,84 +39,82 @@ const GOOD: [Step; 3] = [
 ];
 
 /// Sends a head a byte each twentieth of a second, until that fails, which it has to within 20 seconds.
-fn drip<T>(rt: &T, port: u16) -> io::Result<()>
+fn drip<T>(rt: &T, port: u16)
 where
-    T: Clock + Net<Listener = TcpListener, Stream = TcpStream>,
+    T: Abort + Clock + Net<Listener = TcpListener, Stream = TcpStream>,
 {
-    let stream = connect(rt, port)?;
+    let stream = connect(rt, port);
     let mut stream = &stream;
-    stream.write_all(b"GET /metrics HTTP/1.1\r\nX: ")?;
+    need(rt, stream.write_all(b"GET /metrics HTTP/1.1\r\nX: "));
     for _byte in 0..400 {
         if stream.write_all(b"x").is_err() {
-            return Ok(());
+            return;
         }
         sleep(rt, Duration::from_millis(50));
     }
-    Err(Error::from(ErrorKind::Other))
+    rt.panic("it was not cut off")
 }
 
 /// The replies to all of them.
-fn visit<T>(rt: &T, alloc: Global, port: u16) -> io::Result<(Vec<Vec<u8>>, Vec<Vec<u8>>)>
+fn visit<T>(rt: &T, alloc: Global, port: u16) -> (Vec<Vec<u8>>, Vec<Vec<u8>>)
 where
-    T: Clock + Net<Listener = TcpListener, Stream = TcpStream>,
+    T: Abort + Clock + Net<Listener = TcpListener, Stream = TcpStream>,
 {
-    let first = play(rt, alloc, port, &STRANGE)?;
-    let cut_off = drip(rt, port);
-    let last = play(rt, alloc, port, &GOOD)?;
-    cut_off?;
-    Ok((first, last))
+    let first = play(rt, alloc, port, &STRANGE);
+    drip(rt, port);
+    (first, play(rt, alloc, port, &GOOD))
 }
 
 /// The replies are these, whole.
 fn are(rt: &impl Abort, replies: &[Vec<u8>], whole: &[&[u8]]) {
-    same(rt, &replies.len(), &whole.len());
-    for (reply, bytes) in replies.iter().zip(whole.iter()) {
-        same(rt, &reply.as_slice(), bytes);
+    same(rt, replies.len(), whole.len());
+    for (number, bytes) in whole.iter().enumerate() {
+        let reply = there(rt, replies.get(number));
+        same(rt, reply.as_slice(), *bytes);
     }
 }
 
 /// Serves all of them, with a patience of a second. Only the ones that say nothing or not enough within it are not replied to.
-fn serves<T>(rt: &T, alloc: Global, registry: &Names<'_>) -> Result<(), Fail>
+fn serves<T>(rt: &T, alloc: Global, registry: &Names<'_>)
 where
     T: Abort + Clock + Threads + Wait + Sync + Net<Listener = TcpListener, Stream = TcpStream>,
 {
-    let listener = listen(rt, 0)?;
-    let port = port_of(&listener)?;
+    let listener = need(rt, listen(rt, 0));
+    let port = need(rt, port_of(&listener));
     let (answered, got) = join(
         rt,
         || serve(rt, &listener, registry, Duration::from_secs(1), 10),
         || visit(rt, alloc, port),
     );
-    let (first, last) = got?;
+    let (first, last) = got;
     are(rt, &first, &[OK_A, b"", OK_A, OK_A]);
     are(rt, &last, &[OK_A, &OK_A[..114], MISSING]);
     let (replies, faults) = (8, 2);
-    same(rt, &answered?, &Answered { replies, faults });
-    Ok(())
+    same(rt, need(rt, answered), Answered { replies, faults });
 }
 
 /// A registry with the counter `a`.
-fn register(rt: &(impl Wait + AllocGlobal), registry: &Names<'_>) -> Result<(), Fail> {
-    Registrar::new(rt, registry).counter("a", "")?;
-    Ok(())
+fn register(rt: &(impl Wait + Abort + AllocGlobal), registry: &Names<'_>) {
+    need(rt, Registrar::new(rt, registry).counter("a", ""));
 }
 
 #[test]
-fn whoever_comes(rt: HostRuntime) -> Result<(), Fail> {
-    let mut team = Team::new(rt.alloc(), ID, 1)?;
-    let (registry, _, _) = team.open(64)?;
-    register(&rt, &registry)?;
-    serves(&rt, rt.alloc(), &registry)
+fn whoever_comes(rt: HostRuntime) {
+    let rt = &rt;
+    let mut team = need(rt, Team::new(rt.alloc(), ID, 1));
+    let (registry, _, _) = need(rt, team.open(64));
+    register(rt, &registry);
+    serves(rt, rt.alloc(), &registry);
 }
 
 /// A listener that is not waited for fails at once where nobody has come.
-fn listens_in_vain<T>(rt: &T, alloc: Global, registry: &Names<'_>) -> Result<(), Fail>
+fn listens_in_vain<T>(rt: &T, alloc: Global, registry: &Names<'_>)
 where
     T: Abort + Clock + Threads + Wait + Sync + Net<Listener = TcpListener, Stream = TcpStream>,
 {
-    let listener = listen(rt, 0)?;
-    let port = port_of(&listener)?;
-    listener.set_nonblocking(true)?;
+    let listener = need(rt, listen(rt, 0));
+    let port = need(rt, port_of(&listener));
+    need(rt, listener.set_nonblocking(true));
     let (end, got) = join(
         rt,
         || serve_forever(rt, &listener, registry, Duration::from_secs(5)),
@@ -126,42 +123,42 @@ where
             play(rt, alloc, port, &GOOD[..1])
         },
     );
-    are(rt, &got?, &[OK_A]);
+    are(rt, &got, &[OK_A]);
     same(
         rt,
-        &end.err().map(|error| error.kind()),
-        &Some(ErrorKind::WouldBlock),
+        end.err().map(|error| error.kind()),
+        Some(ErrorKind::WouldBlock),
     );
-    Ok(())
 }
 
 /// The server asks such a listener again, and after 64 failures in a row, some six seconds, it ends.
 #[test]
-fn a_listener_that_fails(rt: HostRuntime) -> Result<(), Fail> {
-    let mut team = Team::new(rt.alloc(), ID, 1)?;
-    let (registry, _, _) = team.open(64)?;
-    register(&rt, &registry)?;
-    listens_in_vain(&rt, rt.alloc(), &registry)
+fn a_listener_that_fails(rt: HostRuntime) {
+    let rt = &rt;
+    let mut team = need(rt, Team::new(rt.alloc(), ID, 1));
+    let (registry, _, _) = need(rt, team.open(64));
+    register(rt, &registry);
+    listens_in_vain(rt, rt.alloc(), &registry);
 }
 
 /// No patience at all is refused before a connection is accepted, of which there is none.
 #[test]
-fn no_patience(rt: HostRuntime) -> Result<(), Fail> {
-    let mut team = Team::new(rt.alloc(), ID, 1)?;
-    let (registry, _, _) = team.open(64)?;
-    let listener = listen(&rt, 0)?;
+fn no_patience(rt: HostRuntime) {
+    let rt = &rt;
+    let mut team = need(rt, Team::new(rt.alloc(), ID, 1));
+    let (registry, _, _) = need(rt, team.open(64));
+    let listener = need(rt, listen(rt, 0));
     let none = Duration::from_secs(0);
-    let end = serve(&rt, &listener, &registry, none, 1);
+    let end = serve(rt, &listener, &registry, none, 1);
     same(
-        &rt,
-        &end.map_err(|error| error.kind()),
-        &Err(ErrorKind::InvalidInput),
+        rt,
+        end.map_err(|error| error.kind()),
+        Err(ErrorKind::InvalidInput),
     );
-    let end = serve_forever(&rt, &listener, &registry, none);
+    let end = serve_forever(rt, &listener, &registry, none);
     same(
-        &rt,
-        &end.map_err(|error| error.kind()),
-        &Err(ErrorKind::InvalidInput),
+        rt,
+        end.map_err(|error| error.kind()),
+        Err(ErrorKind::InvalidInput),
     );
-    Ok(())
 }

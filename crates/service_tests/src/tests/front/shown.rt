@@ -1,7 +1,7 @@
 //! Families with labels of each kind, what is counted, and what a scrape prints, which is written here by the format's rules: families by
 //! their names, children by their label values, a histogram's buckets with those below them.
 use super::{Counts, Names, Team, opened_to_count, prints};
-use crate::asserts::same;
+use crate::asserts::{need, same};
 use crate::crew::ID;
 use crate::helpers::{self, Plain, plain};
 use dirgwako::{
@@ -10,68 +10,70 @@ use dirgwako::{
 };
 use std::process::Abort;
 use std::sync::Wait;
-use std::test::Fail;
 
 /// Two counters by their result. A child that is asked for again is the same one.
-fn counters<S: Registers>(
-    rt: &impl Abort,
-    metrics: &mut Registrar<S>,
-) -> Result<(Counter, Counter), Fail> {
-    let family = metrics.counter_family("jobs_total", "Jobs by their\nresult.", &["result"])?;
-    let ok = metrics.counter_of(&family, &["ok"])?;
-    let bad = metrics.counter_of(&family, &["\"bad\""])?;
-    same(rt, &metrics.counter_of(&family, &["ok"])?, &ok);
-    Ok((ok, bad))
+fn counters<S: Registers>(rt: &impl Abort, metrics: &mut Registrar<S>) -> (Counter, Counter) {
+    let family = need(
+        rt,
+        metrics.counter_family("jobs_total", "Jobs by their\nresult.", &["result"]),
+    );
+    let ok = need(rt, metrics.counter_of(&family, &["ok"]));
+    let bad = need(rt, metrics.counter_of(&family, &["\"bad\""]));
+    same(rt, need(rt, metrics.counter_of(&family, &["ok"])), ok);
+    (ok, bad)
 }
 
 /// A gauge by two labels.
-fn gauge<S: Registers>(rt: &impl Abort, metrics: &mut Registrar<S>) -> Result<Gauge, Fail> {
-    let family = metrics.gauge_family("depth", "", &["queue", "host"])?;
-    let gauge = metrics.gauge_of(&family, &["in", ""])?;
-    same(rt, &metrics.gauge_of(&family, &["in", ""])?, &gauge);
-    Ok(gauge)
+fn gauge<S: Registers>(rt: &impl Abort, metrics: &mut Registrar<S>) -> Gauge {
+    let family = need(rt, metrics.gauge_family("depth", "", &["queue", "host"]));
+    let gauge = need(rt, metrics.gauge_of(&family, &["in", ""]));
+    same(rt, need(rt, metrics.gauge_of(&family, &["in", ""])), gauge);
+    gauge
 }
 
 /// A histogram by a label, with the bounds 100 and 250.
-fn histogram<S: Registers>(rt: &impl Abort, metrics: &mut Registrar<S>) -> Result<Histogram, Fail> {
-    let bounds = linear(100, 150, 2)?;
-    let family = metrics.histogram_family("bytes", "Bytes.", &["path"], bounds.as_slice())?;
-    let hist = metrics.histogram_of(&family, &["/"])?;
-    same(rt, &metrics.histogram_of(&family, &["/"])?, &hist);
-    Ok(hist)
+fn histogram<S: Registers>(rt: &impl Abort, metrics: &mut Registrar<S>) -> Histogram {
+    let bounds = need(rt, linear(100, 150, 2));
+    let family = need(
+        rt,
+        metrics.histogram_family("bytes", "Bytes.", &["path"], bounds.as_slice()),
+    );
+    let hist = need(rt, metrics.histogram_of(&family, &["/"]));
+    let again = need(rt, metrics.histogram_of(&family, &["/"]));
+    same(rt, &again, &hist);
+    hist
 }
 
 /// What is counted by.
 type Handles = ((Counter, Counter), Histogram, Gauge);
 
 /// All families, not in the order of their names.
-fn register<S: Registers>(rt: &impl Abort, metrics: &mut Registrar<S>) -> Result<Handles, Fail> {
-    let counters = counters(rt, metrics)?;
-    let hist = histogram(rt, metrics)?;
-    metrics.histogram("z", "No bound.", &[])?;
-    match gauge(rt, metrics) {
-        Ok(gauge) => Ok((counters, hist, gauge)),
-        Err(fault) => Err(fault),
-    }
+fn register<S: Registers>(rt: &impl Abort, metrics: &mut Registrar<S>) -> Handles {
+    let counters = counters(rt, metrics);
+    let hist = histogram(rt, metrics);
+    need(rt, metrics.histogram("z", "No bound.", &[]));
+    (counters, hist, gauge(rt, metrics))
 }
 
 /// Values at and beside the bounds, and a gauge that falls below zero. Several changes are one version, and none are one too.
-fn count(rt: &impl Abort, recorder: &mut Counts<'_>, handles: Handles) -> Result<(), CountFault> {
+fn count(rt: &impl Abort, recorder: &mut Counts<'_>, handles: Handles) {
     let ((ok, bad), hist, gauge) = handles;
-    recorder.inc(&ok, 281_474_976_710_654)?;
-    recorder.observe(&hist, 100)?;
-    recorder.up(&gauge, 3)?;
-    recorder.down(&gauge, 1)?;
-    same(rt, &recorder.number(), &4);
+    need(rt, recorder.inc(&ok, 281_474_976_710_654));
+    need(rt, recorder.observe(&hist, 100));
+    need(rt, recorder.up(&gauge, 3));
+    need(rt, recorder.down(&gauge, 1));
+    same(rt, recorder.number(), 4);
     let values = [
         observe(&hist, 101),
         observe(&hist, 250),
         observe(&hist, 251),
     ];
-    recorder.publish(&values)?;
-    recorder.publish(&[inc(&ok, 1), inc(&bad, 2), up(&gauge, 1), down(&gauge, 10)])?;
-    recorder.publish(&[])?;
-    Ok(())
+    need(rt, recorder.publish(&values));
+    need(
+        rt,
+        recorder.publish(&[inc(&ok, 1), inc(&bad, 2), up(&gauge, 1), down(&gauge, 10)]),
+    );
+    need(rt, recorder.publish(&[]));
 }
 
 /// What a scrape shows then.
@@ -100,55 +102,50 @@ fn counts_and_shows(
     rt: &(impl Wait + Abort + AllocGlobal),
     registry: &Names<'_>,
     recorder: &mut Counts<'_>,
-) -> Result<(), Fail> {
-    let handles = register(rt, &mut Registrar::new(rt, registry))?;
-    count(rt, recorder, handles)?;
-    prints(rt, registry, SHOWN)
+) {
+    let handles = register(rt, &mut Registrar::new(rt, registry));
+    count(rt, recorder, handles);
+    prints(rt, registry, SHOWN);
 }
 
 /// A scrape shows what was counted of each kind, and the recorder is the second worker, which has published seven times.
 #[test]
-fn metrics_of_each_kind(rt: HostRuntime) -> Result<(), Fail> {
-    let mut team = Team::new(rt.alloc(), ID, 1)?;
-    let (registry, mut recorder) = opened_to_count(&mut team)?;
-    counts_and_shows(&rt, &registry, &mut recorder)?;
+fn metrics_of_each_kind(rt: HostRuntime) {
+    let rt = &rt;
+    let mut team = need(rt, Team::new(rt.alloc(), ID, 1));
+    let (registry, mut recorder) = opened_to_count(rt, &mut team);
+    counts_and_shows(rt, &registry, &mut recorder);
     let worker = recorder.into_worker();
-    same(&rt, &(worker.index(), worker.number()), &(1, 7));
-    Ok(())
+    same(rt, (worker.index(), worker.number()), (1, 7));
 }
 
 /// A child of a family of counters is the first counter.
-fn has_first_counter<S: Registers>(
-    rt: &impl Abort,
-    metrics: &mut Registrar<S>,
-) -> Result<(), Fail> {
-    let family = metrics.counter_family("c", "", &["l"])?;
+fn has_first_counter<S: Registers>(rt: &impl Abort, metrics: &mut Registrar<S>) {
+    let family = need(rt, metrics.counter_family("c", "", &["l"]));
     let (registry, slot) = (ID, 0);
-    let counter = metrics.counter_of(&family, &["x"])?;
-    same(rt, &counter, &Counter { registry, slot });
-    Ok(())
+    let counter = need(rt, metrics.counter_of(&family, &["x"]));
+    same(rt, counter, Counter { registry, slot });
 }
 
 /// A scrape shows it.
-fn shows_first_counter(rt: &impl Abort, metrics: &mut Registrar<Plain>) -> Result<(), Fail> {
-    has_first_counter(rt, metrics)?;
-    helpers::prints(rt, &mut metrics.at, "# TYPE c counter\nc{l=\"x\"} 0\n")
+fn shows_first_counter(rt: &impl Abort, metrics: &mut Registrar<Plain>) {
+    has_first_counter(rt, metrics);
+    helpers::prints(rt, &mut metrics.at, "# TYPE c counter\nc{l=\"x\"} 0\n");
 }
 
 /// Metrics of a registry of one thread, which has no lock.
 #[test]
-fn a_registry_without_a_lock(rt: HostRuntime) -> Result<(), Fail> {
-    match plain(rt.alloc(), 8) {
-        Ok(registry) => shows_first_counter(&rt, &mut Registrar::of(rt.alloc(), registry)),
-        Err(fault) => Err(fault),
-    }
+fn a_registry_without_a_lock(rt: HostRuntime) {
+    let registry = plain(&rt, rt.alloc(), 8);
+    shows_first_counter(&rt, &mut Registrar::of(rt.alloc(), registry));
 }
 
 /// The numbers of refusals that no test can reach.
 #[test]
 fn no_text(rt: HostRuntime) {
+    let rt = &rt;
     let (none, given_up) = (TextFault::NoMemory, TextFault::Contended);
-    same(&rt, &(none.number(), given_up.number()), &(6, 14));
-    same(&rt, &PrintFault::Text(given_up).number(), &Some(14));
-    same(&rt, &PrintFault::Output.number(), &None);
+    same(rt, (none.number(), given_up.number()), (6, 14));
+    same(rt, PrintFault::Text(given_up).number(), Some(14));
+    same(rt, PrintFault::Output.number(), None);
 }

@@ -1,11 +1,10 @@
 //! Tallies that recorders publish: no scrape sees what stands in one, and then all of it; and which are refused.
 use super::{Counts, Names, Team, opened_to_count, prints};
-use crate::asserts::same;
+use crate::asserts::{need, same};
 use crate::crew::ID;
 use dirgwako::{ApplyFault, CountFault, Counter, OpFault, Registrar, Tally};
 use std::process::Abort;
 use std::sync::Wait;
-use std::test::Fail;
 
 /// More than a counter can hold.
 const LARGE: u64 = 281_474_976_710_656;
@@ -21,49 +20,53 @@ fn publishes(
     rt: &(impl Wait + Abort + AllocGlobal),
     registry: &Names<'_>,
     recorder: &mut Counts<'_>,
-) -> Result<(), Fail> {
+) {
     let mut metrics = Registrar::new(rt, registry);
-    let (a, b) = (metrics.counter("a", "")?, metrics.gauge("b", "")?);
+    let (a, b) = (
+        need(rt, metrics.counter("a", "")),
+        need(rt, metrics.gauge("b", "")),
+    );
     let mut tally = recorder.tally::<8>();
-    tally.inc(&a, 1)?;
-    tally.inc(&a, 2)?;
-    tally.down(&b, 2)?;
-    prints(rt, registry, NOTHING)?;
-    same(rt, &recorder.flush(&mut tally), &Ok(()));
-    same(rt, &(recorder.number(), tally.ops().len()), &(1, 0));
-    prints(rt, registry, THREE)
+    need(rt, tally.inc(&a, 1));
+    need(rt, tally.inc(&a, 2));
+    need(rt, tally.down(&b, 2));
+    prints(rt, registry, NOTHING);
+    same(rt, recorder.flush(&mut tally), Ok(()));
+    same(rt, (recorder.number(), tally.ops().len()), (1, 0));
+    prints(rt, registry, THREE);
 }
 
 #[test]
-fn a_tally_is_one_version(rt: HostRuntime) -> Result<(), Fail> {
-    let mut team = Team::new(rt.alloc(), ID, 1)?;
-    let (registry, mut recorder) = opened_to_count(&mut team)?;
-    publishes(&rt, &registry, &mut recorder)
+fn a_tally_is_one_version(rt: HostRuntime) {
+    let rt = &rt;
+    let mut team = need(rt, Team::new(rt.alloc(), ID, 1));
+    let (registry, mut recorder) = opened_to_count(rt, &mut team);
+    publishes(rt, &registry, &mut recorder);
 }
 
 /// A tally of another registry is not published, nor what would be too large; it has then what it had.
-fn refuses(rt: &impl Abort, recorder: &mut Counts<'_>) -> Result<(), Fail> {
+fn refuses(rt: &impl Abort, recorder: &mut Counts<'_>) {
     let mut other = Tally::<4, 2, 2, 8>::new(ID + 1);
     let fault = CountFault::WrongRegistry;
-    same(rt, &recorder.flush(&mut other), &Err(fault));
+    same(rt, recorder.flush(&mut other), Err(fault));
     let a = Counter {
         registry: ID,
         slot: 0,
     };
     let mut tally = recorder.tally::<8>();
-    tally.inc(&a, LARGE - 1)?;
-    same(rt, &recorder.flush(&mut tally), &Ok(()));
-    tally.inc(&a, 1)?;
+    need(rt, tally.inc(&a, LARGE - 1));
+    same(rt, recorder.flush(&mut tally), Ok(()));
+    need(rt, tally.inc(&a, 1));
     let large = ApplyFault::Refused(OpFault::TooLarge { at: 0 });
     let fault = CountFault::Apply(large);
-    same(rt, &recorder.flush(&mut tally), &Err(fault));
-    same(rt, &(recorder.number(), tally.ops().len()), &(1, 1));
-    Ok(())
+    same(rt, recorder.flush(&mut tally), Err(fault));
+    same(rt, (recorder.number(), tally.ops().len()), (1, 1));
 }
 
 #[test]
-fn a_tally_is_refused(rt: HostRuntime) -> Result<(), Fail> {
-    let mut team = Team::new(rt.alloc(), ID, 1)?;
-    let (_registry, mut recorder) = opened_to_count(&mut team)?;
-    refuses(&rt, &mut recorder)
+fn a_tally_is_refused(rt: HostRuntime) {
+    let rt = &rt;
+    let mut team = need(rt, Team::new(rt.alloc(), ID, 1));
+    let (_registry, mut recorder) = opened_to_count(rt, &mut team);
+    refuses(rt, &mut recorder);
 }
