@@ -10,7 +10,7 @@ ghost use Rattle.snapshot_scan.specs.Shape.{scan_in};
 ghost use Rattle.snapshot_update.specs.Workers.{IsWorkerOf};
 ghost use Rattle.unit_tests.specs.Beside.{IsWorkerOf-prop};
 
-use crate::asserts::same;
+use crate::asserts::{done, need, same};
 use crate::crew::{ID, counter, finds, inc, new_worker, one_seat};
 use register_rule::{Board, Load, Parts, ReadSeat, ScanSeat, WorkSeat};
 use snapshot_scan::{Contended, Memory, Snapshot};
@@ -58,16 +58,16 @@ fn with_reader(alloc: Global) -> Result<(Board<2, 1, 0, 0>, Worker<2, 1, 0, 0>, 
 }
 
 #[test]
-fn a_seat_falls_behind(rt: HostRuntime) -> Result<(), Fail> {
-    let (board, seat, mut reader) = one_seat(rt.alloc())?;
-    let mut worker = new_worker(rt.alloc(), &board, seat, 0)?;
-    inc(&rt, &board, &mut worker, 0, 5);
-    same(&rt, &board.open(&mut reader, 0), &1);
-    same(&rt, &board.read_word(&mut reader, 0, 1, 0), &5);
-    inc(&rt, &board, &mut worker, 0, 5);
-    inc(&rt, &board, &mut worker, 0, 5);
-    same(&rt, &board.confirm(&mut reader, 0), &3);
-    Ok(())
+fn a_seat_falls_behind(rt: HostRuntime) {
+    let rt = &rt;
+    let (board, seat, mut reader) = done(rt, one_seat(rt.alloc()));
+    let mut worker = need(rt, new_worker(rt.alloc(), &board, seat, 0));
+    inc(rt, &board, &mut worker, 0, 5);
+    same(rt, board.open(&mut reader, 0), 1);
+    same(rt, board.read_word(&mut reader, 0, 1, 0), 5);
+    inc(rt, &board, &mut worker, 0, 5);
+    inc(rt, &board, &mut worker, 0, 5);
+    same(rt, board.confirm(&mut reader, 0), 3);
 }
 
 /// Before which loads of its number the second worker publishes.
@@ -118,41 +118,42 @@ impl<'a, S: ScanSeat<2, 1, 0, 0>> ScanSeat<2, 1, 0, 0> for Beside<'a, S> {
 
 /// What a scan of this seat answers while the second worker publishes by plan.
 fn scan_beside<S: ScanSeat<2, 1, 0, 0> + Drop>(
+    rt: &impl Abort,
     alloc: Global,
     board: &Board<2, 1, 0, 0>,
     worker: Worker<2, 1, 0, 0>,
     seat: S,
     plan: Plan,
     out: &mut Snapshot<2, 1, 0, 0>,
-) -> Result<Result<(), Contended>, AllocError>
+) -> Result<(), Contended>
     requires own { IsWorkerOf board.now worker × MayScan board.now (S.bundle seat) }
     requires fresh { scan_in (S.bundle seat) ≡ fresh_scan 2 1 }
 {
-    let mut memory = Memory::new(alloc)?;
+    let mut memory = need(rt, Memory::new(alloc));
     let mut beside = Beside {
         board,
         worker,
         seat,
         plan,
     };
-    Ok(memory.scan_to(board, &mut beside, out))
+    memory.scan_to(board, &mut beside, out)
 }
 
 /// The numbers read are 0, 1 in the first try, 2, 3 in the second, and then 4, where the worker is asked.
 #[test]
-fn a_running_worker_lends(rt: HostRuntime) -> Result<(), Fail> {
+fn a_running_worker_lends(rt: HostRuntime) {
+    let rt = &rt;
     let plan = Plan {
         opens: true,
         confirms: true,
         asks: true,
         ends: false,
     };
-    let (board, worker, seat) = with_reader(rt.alloc())?;
-    let mut out = Snapshot::new(rt.alloc())?;
-    let found = scan_beside(rt.alloc(), &board, worker, seat, plan, &mut out)?;
-    finds(&rt, found, &out, &[0, 3]);
-    same(&rt, &out.counter(0), &15);
-    Ok(())
+    let (board, worker, seat) = done(rt, with_reader(rt.alloc()));
+    let mut out = need(rt, Snapshot::new(rt.alloc()));
+    let found = scan_beside(rt, rt.alloc(), &board, worker, seat, plan, &mut out);
+    finds(rt, found, &out, &[0, 3]);
+    same(rt, out.counter(0), 15);
 }
 
 /// A scan of this seat is given up: a number rises in each of four tries, and while the worker is asked. The output stays as it was.
@@ -162,7 +163,7 @@ fn gives_up<S: ScanSeat<2, 1, 0, 0> + Drop>(
     board: &Board<2, 1, 0, 0>,
     worker: Worker<2, 1, 0, 0>,
     seat: S,
-) -> Result<(), Fail>
+)
     requires own { IsWorkerOf board.now worker × MayScan board.now (S.bundle seat) }
     requires fresh { scan_in (S.bundle seat) ≡ fresh_scan 2 1 }
 {
@@ -177,23 +178,22 @@ fn gives_up<S: ScanSeat<2, 1, 0, 0> + Drop>(
         first: 4,
         last: 5,
     };
-    let mut out = Snapshot::new(alloc)?;
+    let mut out = need(rt, Snapshot::new(alloc));
     out.set(&[6, 7], &[8]);
-    let found = scan_beside(alloc, board, worker, seat, plan, &mut out)?;
-    same(rt, &found, &Err(contended));
-    same(rt, &out.vector(), &[6, 7].as_slice());
-    same(rt, &(contended.number(), out.counter(0)), &(14, 8));
-    Ok(())
+    let found = scan_beside(rt, alloc, board, worker, seat, plan, &mut out);
+    same(rt, found, Err(contended));
+    same(rt, out.vector(), [6, 7].as_slice());
+    same(rt, (contended.number(), out.counter(0)), (14, 8));
 }
 
 #[test]
-fn a_running_scan_gives_up(rt: HostRuntime) -> Result<(), Fail> {
-    let (board, worker, seat) = with_reader(rt.alloc())?;
-    gives_up(&rt, rt.alloc(), &board, worker, seat)
+fn a_running_scan_gives_up(rt: HostRuntime) {
+    let (board, worker, seat) = done(&rt, with_reader(rt.alloc()));
+    gives_up(&rt, rt.alloc(), &board, worker, seat);
 }
 
 #[test]
-fn a_worker_gives_up_its_scan(rt: HostRuntime) -> Result<(), Fail> {
-    let (board, worker, seat) = with_first(rt.alloc())?;
-    gives_up(&rt, rt.alloc(), &board, worker, seat)
+fn a_worker_gives_up_its_scan(rt: HostRuntime) {
+    let (board, worker, seat) = done(&rt, with_first(rt.alloc()));
+    gives_up(&rt, rt.alloc(), &board, worker, seat);
 }

@@ -1,24 +1,23 @@
 //! Bounds, places and cumulation.
-use crate::asserts::same;
+use crate::asserts::{need, same};
 use bucket_math::{BUCKETS, BadBounds, Bounds, MAX_BOUND, cumulate};
 use std::process::Abort;
-use std::test::Fail;
 
 /// Each of these values has this place.
 fn have_places(rt: &impl Abort, bounds: &Bounds, placed: &[(u64, usize)]) {
     for (value, place) in placed {
-        assert_eq!(rt; bounds.place(*value), *place, "of {value}");
+        same(rt, (value, bounds.place(*value)), (value, *place));
     }
 }
 
 /// A value is placed by the first bound that is not below it.
 #[test]
-fn places(rt: HostRuntime) -> Result<(), Fail> {
-    let bounds = Bounds::from_slice(&[10, 20])?;
+fn places(rt: HostRuntime) {
+    let rt = &rt;
+    let bounds = need(rt, Bounds::from_slice(&[10, 20]));
     let placed = [(0, 0), (10, 0), (11, 1), (20, 1), (21, 2), (u64::MAX, 2)];
-    have_places(&rt, &bounds, &placed);
-    same(&rt, &Bounds::from_slice(&[])?.place(u64::MAX), &0);
-    Ok(())
+    have_places(rt, &bounds, &placed);
+    same(rt, need(rt, Bounds::from_slice(&[])).place(u64::MAX), 0);
 }
 
 /// The bounds 0, 1, 2 and so on.
@@ -31,25 +30,26 @@ fn rising<const N: usize>() -> [u64; N] {
 }
 
 /// Each of these is read as bounds, and is what was read.
-fn are_bounds(rt: &impl Abort, accepted: &[&[u64]]) -> Result<(), Fail> {
+fn are_bounds(rt: &impl Abort, accepted: &[&[u64]]) {
     for bounds in accepted {
-        same(rt, &Bounds::from_slice(bounds)?.as_slice(), bounds);
+        same(rt, need(rt, Bounds::from_slice(bounds)).as_slice(), *bounds);
     }
-    Ok(())
 }
 
 /// Each of these is refused as bounds, at this place.
 fn are_no_bounds(rt: &impl Abort, refused: &[(&[u64], usize)]) {
     for (bounds, at) in refused {
         let fault = BadBounds { at: *at };
-        assert_eq!(rt; Bounds::from_slice(bounds).err(), Some(fault), "{bounds:?}");
-        same(rt, &fault.number(), &10);
+        let found = Bounds::from_slice(bounds).err();
+        same(rt, (bounds, found), (bounds, Some(fault)));
+        same(rt, fault.number(), 10);
     }
 }
 
 /// Bounds that rise up to the greatest one are read as they are, and others are refused at the first that is none.
 #[test]
-fn bounds(rt: HostRuntime) -> Result<(), Fail> {
+fn bounds(rt: HostRuntime) {
+    let rt = &rt;
     let (most, more) = (rising::<24>(), rising::<25>());
     let accepted = [
         [].as_slice(),
@@ -57,20 +57,20 @@ fn bounds(rt: HostRuntime) -> Result<(), Fail> {
         [281_474_976_710_655].as_slice(),
         most.as_slice(),
     ];
-    are_bounds(&rt, &accepted)?;
-    same(&rt, &MAX_BOUND, &281_474_976_710_655);
+    are_bounds(rt, &accepted);
+    same(rt, MAX_BOUND, 281_474_976_710_655);
     let refused = [
         ([5, 5].as_slice(), 1),
         ([281_474_976_710_656].as_slice(), 0),
         ([1, 3, 2, 2].as_slice(), 2),
         (more.as_slice(), 24),
     ];
-    are_no_bounds(&rt, &refused);
-    Ok(())
+    are_no_bounds(rt, &refused);
 }
 
 #[test]
 fn cumulates(rt: HostRuntime) {
+    let rt = &rt;
     let mut buckets = [0; BUCKETS];
     buckets[0] = 1;
     buckets[1] = 1;
@@ -78,7 +78,7 @@ fn cumulates(rt: HostRuntime) {
     let mut two = [3; BUCKETS];
     two[0] = 1;
     two[1] = 2;
-    same(&rt, &cumulate(&buckets, 2), &two);
-    same(&rt, &cumulate(&buckets, 0), &[3; BUCKETS]);
-    same(&rt, &cumulate(&buckets, 24)[24], &3);
+    same(rt, cumulate(&buckets, 2), two);
+    same(rt, cumulate(&buckets, 0), [3; BUCKETS]);
+    same(rt, cumulate(&buckets, 24)[24], 3);
 }

@@ -3,6 +3,7 @@ ghost use Rattle.std.specs.Prelude.{◌≡◌, ◌<◌};
 ghost use Rattle.segment_layout.specs.Layout.{IsGeometry};
 ghost use Rattle.snapshot_update.specs.Workers.{IsWorkerOf};
 
+use crate::asserts::{done, need, same};
 use crate::crew::{counter, last_worker};
 use crate::jobs::make_team;
 use register_rule::Board;
@@ -10,7 +11,6 @@ use snapshot_update::Worker;
 use std::alloc::Global;
 use std::io;
 use std::process::Abort;
-use std::test::Fail;
 use std::time::{Clock, Duration, Instant};
 
 /// How long a hundred updates take, each of which adds to one word.
@@ -46,22 +46,22 @@ fn least<const N: usize, const C: usize, const H: usize, const G: usize>(
 
 /// The least time, in nanoseconds, on a new board.
 fn least_on_new<const N: usize, const C: usize, const H: usize, const G: usize>(
-    clock: &impl Clock,
+    rt: &(impl Clock + Abort),
     alloc: Global,
-) -> Result<u128, Fail>
+) -> u128
     requires geometry { IsGeometry N C H G }
 {
-    let mut it = make_team::<N, C, H, G>(alloc)?;
-    let mut worker = last_worker(&it.board, &mut it.workers)?;
-    Ok(least(clock, &it.board, &mut worker)?.as_nanos())
+    let mut it = done(rt, make_team::<N, C, H, G>(alloc));
+    let mut worker = done(rt, last_worker(&it.board, &mut it.workers));
+    need(rt, least(rt, &it.board, &mut worker)).as_nanos()
 }
 
 /// It compares and fills what changed, whatever else the row has: here a buffer of 4 words, and one of 2,498. To compare all of these
 /// takes some thirty times as long.
 #[test]
-fn an_update_costs_no_more_on_a_large_board(rt: HostRuntime) -> Result<(), Fail> {
-    let small = least_on_new::<1, 1, 0, 0>(&rt, rt.alloc())?;
-    let large = least_on_new::<1, 256, 32, 64>(&rt, rt.alloc())?;
-    assert!(&rt; large / 6 < small, "{small} ns, but {large} ns");
-    Ok(())
+fn an_update_costs_no_more_on_a_large_board(rt: HostRuntime) {
+    let rt = &rt;
+    let small = least_on_new::<1, 1, 0, 0>(rt, rt.alloc());
+    let large = least_on_new::<1, 256, 32, 64>(rt, rt.alloc());
+    same(rt, (small, large, large / 6 < small), (small, large, true));
 }

@@ -73,7 +73,7 @@ pub(crate) fn inc<const N: usize, const C: usize, const H: usize, const G: usize
     requires own { IsWorkerOf board.now worker.old }
     ensures own { IsWorkerOf board.now worker.new }
 {
-    same(rt, &worker.inc(board, &counter(slot), by), &Ok(()));
+    same(rt, worker.inc(board, &counter(slot), by), Ok(()));
 }
 
 /// A scan is not refused, and finds this vector.
@@ -83,8 +83,8 @@ pub(crate) fn finds<const N: usize, const C: usize, const H: usize, const G: usi
     out: &Snapshot<N, C, H, G>,
     vector: &[u64],
 ) {
-    same(rt, &scan, &Ok(()));
-    same(rt, &out.vector(), &vector);
+    same(rt, scan, Ok(()));
+    same(rt, out.vector(), vector);
 }
 
 /// The worker of a seat that has made no step.

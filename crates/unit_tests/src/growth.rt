@@ -7,7 +7,7 @@ ghost use Rattle.register_rule.specs.Seats.{worker_of, reader_of, HasWorker, Has
 ghost use Rattle.snapshot_scan.specs.Readers.{IsReaderOf};
 ghost use Rattle.snapshot_update.specs.Workers.{IsWorkerOf};
 
-use crate::asserts::{are_names, once_more, same};
+use crate::asserts::{are_names, once_more, same, there};
 use crate::crew::{ID, finds, inc, new_reader, new_worker, one_seat, snapshots};
 use crate::jobs::{job, listed, team_after};
 use crate::made::{COUNTER, Family, desc, scrape};
@@ -37,8 +37,8 @@ fn growth_board(rt: HostRuntime) -> Result<(), Fail> {
         Err(BoardFault::NoMemory) => once_more(Board::new(rt.alloc(), ID, 2))?,
         first => first?,
     };
-    same(&rt, &parts.board.id(), &ID);
-    same(&rt, &(parts.work.len(), parts.read.len()), &(2, 2));
+    same(&rt, parts.board.id(), ID);
+    same(&rt, (parts.work.len(), parts.read.len()), (2, 2));
     Ok(())
 }
 
@@ -49,8 +49,8 @@ fn growth_crew(rt: HostRuntime) -> Result<(), Fail> {
         Err(BoardFault::NoMemory) => once_more(Crew::new(rt.alloc(), ID, 2))?,
         first => first?,
     };
-    same(&rt, &crew.board.id(), &ID);
-    same(&rt, &(crew.workers.len(), crew.readers.len()), &(2, 2));
+    same(&rt, crew.board.id(), ID);
+    same(&rt, (crew.workers.len(), crew.readers.len()), (2, 2));
     Ok(())
 }
 
@@ -60,8 +60,8 @@ fn growth_snapshot(rt: HostRuntime) -> Result<(), Fail> {
         Ok(out) => out,
         Err(AllocError) => once_more(Snapshot::new(rt.alloc()))?,
     };
-    same(&rt, &out.vector(), &[0, 0].as_slice());
-    same(&rt, &(out.counter(2), out.gauge(0)), &(0, 0));
+    same(&rt, out.vector(), [0, 0].as_slice());
+    same(&rt, (out.counter(2), out.gauge(0)), (0, 0));
     Ok(())
 }
 
@@ -73,9 +73,9 @@ fn growth_source(rt: HostRuntime) -> Result<(), Fail> {
     };
     let mut out = Snapshot::new(rt.alloc())?;
     let ops = [Op::Inc { counter: 0, by: 3 }];
-    same(&rt, &source.apply(&ops), &Ok(()));
+    same(&rt, source.apply(&ops), Ok(()));
     source.take(&mut out);
-    same(&rt, &(out.vector()[0], out.counter(0)), &(1, 3));
+    same(&rt, (out.vector()[0], out.counter(0)), (1, 3));
     Ok(())
 }
 
@@ -93,7 +93,7 @@ fn worker_at_last(
     match Worker::new(alloc, seat) {
         Ok(worker) => Ok(worker),
         Err(refused) => {
-            same(rt, &refused.number(), &6);
+            same(rt, refused.number(), 6);
             let NoRoom { seat } = refused;
             let Ok(worker) = new_worker(alloc, board, seat, 0) else {
                 return Err("refused when it was asked once more".into());
@@ -117,7 +117,7 @@ fn reader_at_last(
     match Reader::new(alloc, seat) {
         Ok(reader) => Ok(reader),
         Err(refused) => {
-            same(rt, &refused.number(), &6);
+            same(rt, refused.number(), 6);
             let NoRoom { seat } = refused;
             let Ok(reader) = new_reader(alloc, board, seat) else {
                 return Err("refused when it was asked once more".into());
@@ -129,43 +129,60 @@ fn reader_at_last(
 
 #[test]
 fn growth_seats(rt: HostRuntime) -> Result<(), Fail> {
+    let rt = &rt;
     let (board, work, read) = one_seat(rt.alloc())?;
-    let mut worker = worker_at_last(&rt, rt.alloc(), &board, work)?;
-    let mut reader = reader_at_last(&rt, rt.alloc(), &board, read)?;
+    let mut worker = worker_at_last(rt, rt.alloc(), &board, work)?;
+    let mut reader = reader_at_last(rt, rt.alloc(), &board, read)?;
     let mut out = Snapshot::new(rt.alloc())?;
-    inc(&rt, &board, &mut worker, 0, 5);
-    finds(&rt, reader.scan(&board, &mut out), &out, &[1]);
-    same(&rt, &out.counter(0), &5);
+    inc(rt, &board, &mut worker, 0, 5);
+    finds(rt, reader.scan(&board, &mut out), &out, &[1]);
+    same(rt, out.counter(0), 5);
     Ok(())
 }
 
-/// An update of the only worker, and then a scan of the reader.
+/// Of each event whose it is, and whether it begins: an update of the only worker, and then a scan of the reader.
+const EVENTS: [(usize, bool); 7] = [
+    (0, true),
+    (0, false),
+    (0, false),
+    (0, false),
+    (1, true),
+    (1, false),
+    (1, false),
+];
+
+/// An event. The worker's update is one increment.
+fn event(alloc: Global, actor: usize, begins: bool) -> Result<Event, AllocError> {
+    if !begins {
+        return Ok(Event::Step { actor });
+    }
+    let mut ops = Vec::new(alloc);
+    if actor == 0 {
+        ops.push(Op::Inc { counter: 0, by: 1 })?;
+    }
+    Ok(Event::Begin { actor, ops })
+}
+
+/// These events.
 fn events(alloc: Global) -> Result<Vec<Event>, AllocError> {
-    let ops = vec![in alloc; Op::Inc { counter: 0, by: 1 }]?;
     let mut list = Vec::new(alloc);
-    list.push(Event::Begin { actor: 0, ops })?;
-    list.push(Event::Step { actor: 0 })?;
-    list.push(Event::Step { actor: 0 })?;
-    list.push(Event::Step { actor: 0 })?;
-    let ops = Vec::new(alloc);
-    list.push(Event::Begin { actor: 1, ops })?;
-    list.push(Event::Step { actor: 1 })?;
-    list.push(Event::Step { actor: 1 })?;
+    for &(actor, begins) in &EVENTS {
+        list.push(event(alloc, actor, begins)?)?;
+    }
     Ok(list)
 }
 
 /// The trace has one publish, the update's scan of nothing, and the reader's of all.
-fn is_whole(rt: &impl Abort, trace: &Trace) -> Result<(), Fail> {
-    same(rt, &(trace.publishes.len(), trace.answers.len()), &(1, 2));
-    let publish = trace.publishes.first().ok_or("no publish")?;
+fn is_whole(rt: &impl Abort, trace: &Trace) {
+    same(rt, (trace.publishes.len(), trace.answers.len()), (1, 2));
+    let publish = there(rt, trace.publishes.first());
     let ops = [Op::Inc { counter: 0, by: 1 }];
-    same(rt, &(publish.at, publish.worker), &(3, 0));
-    same(rt, &publish.ops.as_slice(), &ops.as_slice());
-    let scan = trace.answers.last().ok_or("no answer")?;
-    same(rt, &(scan.actor, scan.begin, scan.end), &(1, 4, 6));
-    same(rt, &scan.vector.as_slice(), &[1].as_slice());
-    same(rt, &scan.totals.as_slice(), &[1].as_slice());
-    Ok(())
+    same(rt, (publish.at, publish.worker), (3, 0));
+    same(rt, publish.ops.as_slice(), ops.as_slice());
+    let scan = there(rt, trace.answers.last());
+    same(rt, (scan.actor, scan.begin, scan.end), (1, 4, 6));
+    same(rt, scan.vector.as_slice(), [1].as_slice());
+    same(rt, scan.totals.as_slice(), [1].as_slice());
 }
 
 #[test]
@@ -176,7 +193,8 @@ fn growth_run(rt: HostRuntime) -> Result<(), Fail> {
         Err(RunFault::NoMemory) => once_more(run::<1, 0, 0>(rt.alloc(), 1, list.as_slice()))?,
         first => first?,
     };
-    is_whole(&rt, &trace)
+    is_whole(&rt, &trace);
+    Ok(())
 }
 
 #[test]
@@ -188,7 +206,7 @@ fn growth_history(rt: HostRuntime) -> Result<(), Fail> {
         first => first?,
     };
     let turns = [Turn { worker: 0, by: 2 }, Turn { worker: 1, by: 3 }];
-    same(&rt, &found.as_slice(), &turns.as_slice());
+    same(&rt, found.as_slice(), turns.as_slice());
     Ok(())
 }
 
@@ -203,7 +221,7 @@ fn pool_of_two(rt: &(impl Threads + Wait + Abort), alloc: Global) -> Result<bool
         Some(fault) => return Err(fault.into()),
     }
     if fault.is_none() {
-        same(rt, &it.out.counter(0), &7);
+        same(rt, it.out.counter(0), 7);
     }
     Ok(fault.is_none())
 }
@@ -211,8 +229,9 @@ fn pool_of_two(rt: &(impl Threads + Wait + Abort), alloc: Global) -> Result<bool
 /// Where a pool wants memory, nothing was done, and the workers are gone. Another crew is handed in then.
 #[test]
 fn growth_pool(rt: HostRuntime) -> Result<(), Fail> {
-    if !pool_of_two(&rt, rt.alloc())? {
-        same(&rt, &pool_of_two(&rt, rt.alloc())?, &true);
+    let rt = &rt;
+    if !pool_of_two(rt, rt.alloc())? {
+        same(rt, pool_of_two(rt, rt.alloc())?, true);
     }
     Ok(())
 }
@@ -253,26 +272,44 @@ fn value(alloc: Global) -> Result<LabelValue, Fail> {
     }
 }
 
+/// The copy of a name has its text.
+fn copies_name(rt: &impl Abort, it: &MetricName) -> Result<(), Fail> {
+    let copy = again(it.copy(), it.copy())?;
+    same(rt, copy.as_str(), "a_name");
+    Ok(())
+}
+
+/// So has that of a label's name.
+fn copies_label(rt: &impl Abort, it: &LabelName) -> Result<(), Fail> {
+    let copy = again(it.copy(), it.copy())?;
+    same(rt, copy.as_str(), "l");
+    Ok(())
+}
+
 #[test]
 fn growth_of_names(rt: HostRuntime) -> Result<(), Fail> {
-    let it = name(rt.alloc())?;
+    copies_name(&rt, &name(rt.alloc())?)?;
+    copies_label(&rt, &label(rt.alloc())?)
+}
+
+/// The copy of a help has its text.
+fn copies_help(rt: &impl Abort, it: &HelpText) -> Result<(), Fail> {
     let copy = again(it.copy(), it.copy())?;
-    same(&rt, &copy.as_str(), &"a_name");
-    let it = label(rt.alloc())?;
+    same(rt, copy.as_str(), "A help.");
+    Ok(())
+}
+
+/// So has that of a label's value.
+fn copies_value(rt: &impl Abort, it: &LabelValue) -> Result<(), Fail> {
     let copy = again(it.copy(), it.copy())?;
-    same(&rt, &copy.as_str(), &"l");
+    same(rt, copy.as_str(), "v");
     Ok(())
 }
 
 #[test]
 fn growth_of_texts(rt: HostRuntime) -> Result<(), Fail> {
-    let it = help(rt.alloc())?;
-    let copy = again(it.copy(), it.copy())?;
-    same(&rt, &copy.as_str(), &"A help.");
-    let it = value(rt.alloc())?;
-    let copy = again(it.copy(), it.copy())?;
-    same(&rt, &copy.as_str(), &"v");
-    Ok(())
+    copies_help(&rt, &help(rt.alloc())?)?;
+    copies_value(&rt, &value(rt.alloc())?)
 }
 
 /// A histogram with a help, a label and two bounds.
@@ -288,21 +325,20 @@ fn histogram(alloc: Global) -> Result<Desc, Fail> {
 }
 
 /// The descriptor is that one.
-fn is_histogram(rt: &impl Abort, it: &Desc) -> Result<(), Fail> {
+fn is_histogram(rt: &impl Abort, it: &Desc) {
     let found = (it.kind(), it.name().as_str(), it.help().as_str());
-    same(rt, &found, &(Kind::Histogram, "a", "A help."));
-    let label = it.labels().first().ok_or("no label")?;
-    same(rt, &(it.labels().len(), label.as_str()), &(1, "l"));
-    let bounds = it.bounds().ok_or("no bounds")?;
-    same(rt, &bounds.as_slice(), &[5, 10].as_slice());
-    Ok(())
+    same(rt, found, (Kind::Histogram, "a", "A help."));
+    let label = there(rt, it.labels().first());
+    same(rt, (it.labels().len(), label.as_str()), (1, "l"));
+    let bounds = there(rt, it.bounds());
+    same(rt, bounds.as_slice(), [5, 10].as_slice());
 }
 
 #[test]
 fn growth_of_a_descriptor(rt: HostRuntime) -> Result<(), Fail> {
     let it = histogram(rt.alloc())?;
     let copy = again(it.copy(), it.copy())?;
-    is_histogram(&rt, &copy)?;
+    is_histogram(&rt, &copy);
     let names = again(copy.names(), copy.names())?;
     are_names(
         &rt,
@@ -316,10 +352,6 @@ fn growth_of_a_descriptor(rt: HostRuntime) -> Result<(), Fail> {
 fn growth_of_a_text(rt: HostRuntime) -> Result<(), Fail> {
     let scrape = scrape(rt.alloc(), &[COUNTER])?.ok_or("no scrape")?;
     let text = again(render(&scrape), render(&scrape))?;
-    same(
-        &rt,
-        &text.as_slice(),
-        &b"# TYPE a counter\na 0\n".as_slice(),
-    );
+    same(&rt, text.as_slice(), b"# TYPE a counter\na 0\n".as_slice());
     Ok(())
 }

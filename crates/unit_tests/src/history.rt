@@ -1,8 +1,7 @@
 //! The history that passes through snapshots.
-use crate::asserts::same;
+use crate::asserts::{need, same};
 use crate::crew::snapshots;
 use chain_law::{ChainFault, Turn, history_of};
-use std::test::Fail;
 
 /// A turn of a worker.
 fn turn(worker: usize, by: u64) -> Turn {
@@ -10,27 +9,26 @@ fn turn(worker: usize, by: u64) -> Turn {
 }
 
 #[test]
-fn one_history_passes_through(rt: HostRuntime) -> Result<(), Fail> {
-    let taken = snapshots(rt.alloc(), &[[2, 0], [2, 3], [4, 3]])?;
-    let found = history_of(rt.alloc(), taken.as_slice())?;
+fn one_history_passes_through(rt: HostRuntime) {
+    let rt = &rt;
+    let taken = need(rt, snapshots(rt.alloc(), &[[2, 0], [2, 3], [4, 3]]));
+    let found = need(rt, history_of(rt.alloc(), taken.as_slice()));
     let turns = [turn(0, 2), turn(1, 3), turn(0, 2)];
-    same(&rt, &found.as_slice(), &turns.as_slice());
-    Ok(())
+    same(rt, found.as_slice(), turns.as_slice());
 }
 
 #[test]
-fn what_falls_has_no_history(rt: HostRuntime) -> Result<(), Fail> {
-    let taken = snapshots(rt.alloc(), &[[2, 0], [1, 3]])?;
+fn what_falls_has_no_history(rt: HostRuntime) {
+    let rt = &rt;
+    let taken = need(rt, snapshots(rt.alloc(), &[[2, 0], [1, 3]]));
     let found = history_of(rt.alloc(), taken.as_slice());
     let fault = ChainFault::NotChain { a: 0, b: 1 };
-    same(&rt, &found.err(), &Some(fault));
-    same(&rt, &fault.number(), &17);
-    Ok(())
+    same(rt, found.err(), Some(fault));
+    same(rt, fault.number(), 17);
 }
 
 #[test]
-fn no_snapshot_has_no_turn(rt: HostRuntime) -> Result<(), Fail> {
-    let found = history_of::<2, 0, 0, 0>(rt.alloc(), &[])?;
-    same(&rt, &found.len(), &0);
-    Ok(())
+fn no_snapshot_has_no_turn(rt: HostRuntime) {
+    let found = need(&rt, history_of::<2, 0, 0, 0>(rt.alloc(), &[]));
+    same(&rt, found.len(), 0);
 }

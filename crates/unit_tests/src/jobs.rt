@@ -4,7 +4,7 @@ ghost use Rattle.segment_layout.specs.Layout.{IsGeometry};
 ghost use Rattle.snapshot_scan.specs.Readers.{IsReaderOf};
 ghost use Rattle.snapshot_update.specs.Workers.{IsWorkerOf};
 
-use crate::crew::{ID, counter, last_reader};
+use crate::crew::{ID, counter, finds, last_reader};
 use register_rule::Board;
 use snapshot_scan::{Reader, Snapshot};
 use snapshot_update::{Crew, Worker};
@@ -63,6 +63,18 @@ pub(crate) fn make_team<const N: usize, const C: usize, const H: usize, const G:
         reader,
         out,
     })
+}
+
+/// A scan of the team's reader is not refused, and finds this vector.
+pub(crate) fn team_finds<const N: usize, const C: usize, const H: usize, const G: usize>(
+    rt: &impl Abort,
+    team: &mut Team<N, C, H, G>,
+    vector: &[u64],
+)
+    requires own { IsReaderOf team.old.board team.old.reader }
+{
+    let scan = team.reader.scan(&team.board, &mut team.out);
+    finds(rt, scan, &team.out, vector);
 }
 
 /// What the pool answers, with the workers that it hands back.

@@ -1,8 +1,10 @@
 //! Scrapes, made of plain texts.
+use crate::asserts::{done, need};
 use expo_text::{ChildScrape, FamilyScrape, Number, Scrape};
 use metric_desc::{Desc, Kind};
 use metric_names::{HelpText, LabelName, LabelValue, MetricName};
 use std::alloc::Global;
+use std::process::Abort;
 use std::sync::Arc;
 use std::test::Fail;
 
@@ -68,6 +70,18 @@ pub fn children(alloc: Global, written: &[(&[&str], Number)]) -> Result<Vec<Chil
         })?;
     }
     Ok(children)
+}
+
+/// Adds a child with these values.
+pub fn add_child(
+    rt: &impl Abort,
+    alloc: Global,
+    all: &mut Vec<ChildScrape>,
+    texts: &[&str],
+    number: Number,
+) {
+    let values = done(rt, values(alloc, texts));
+    need(rt, all.push(ChildScrape { values, number }));
 }
 
 /// A family with these children.

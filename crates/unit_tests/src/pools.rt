@@ -1,29 +1,23 @@
 //! Workers on threads of a pool.
-use crate::asserts::same;
-use crate::crew::{ID, counter, finds, gauge};
+use crate::asserts::{done, need, same};
+use crate::crew::{ID, counter, gauge};
 use crate::gates::{Meeting, ShutsBehind};
-use crate::jobs::{job, listed, make_team, runs, team_after};
+use crate::jobs::{job, listed, make_team, runs, team_after, team_finds};
 use bucket_math::Bounds;
 use ledger_core::{Counter, Histogram};
-use std::test::Fail;
 use worker_pool::{Gate, Job, JobOp, Open, PoolFault};
 
 #[test]
-fn two_workers_at_once(rt: HostRuntime) -> Result<(), Fail> {
+fn two_workers_at_once(rt: HostRuntime) {
+    let rt = &rt;
     let gate = Meeting::new(10_000_000);
-    let jobs = listed(rt.alloc(), &[&[job(1, 0, 3)], &[job(2, 0, 4)]])?;
-    let (mut it, fault) = team_after::<_, 2, 1, 0, 0>(&rt, rt.alloc(), jobs, &gate)?;
-    same(&rt, &(fault, it.workers.len()), &(None, 2));
-    same(&rt, &gate.is_shut(), &false);
-    same(&rt, &gate.found(), &((true, 1), (true, 1)));
-    finds(
-        &rt,
-        it.reader.scan(&it.board, &mut it.out),
-        &it.out,
-        &[1, 1],
-    );
-    same(&rt, &it.out.counter(0), &7);
-    Ok(())
+    let jobs = need(rt, listed(rt.alloc(), &[&[job(1, 0, 3)], &[job(2, 0, 4)]]));
+    let (mut it, fault) = done(rt, team_after::<_, 2, 1, 0, 0>(rt, rt.alloc(), jobs, &gate));
+    same(rt, (fault, it.workers.len()), (None, 2));
+    same(rt, gate.is_shut(), false);
+    same(rt, gate.found(), ((true, 1), (true, 1)));
+    team_finds(rt, &mut it, &[1, 1]);
+    same(rt, it.out.counter(0), 7);
 }
 
 /// A pool that runs all on one thread: it asks the gate for each worker, and stops where it does not open.
@@ -39,25 +33,26 @@ fn run_serially(gate: &impl Gate, workers: usize) -> Option<PoolFault> {
 
 #[test]
 fn one_thread_does_not_get_on(rt: HostRuntime) {
+    let rt = &rt;
     let gate = Meeting::new(1_000);
     let fault = PoolFault::GateShut { worker: 0 };
-    same(&rt, &run_serially(&gate, 2), &Some(fault));
-    same(&rt, &fault.number(), &29);
-    same(&rt, &gate.is_shut(), &true);
-    same(&rt, &gate.found(), &((true, 0), (false, 0)));
+    same(rt, run_serially(&gate, 2), Some(fault));
+    same(rt, fault.number(), 29);
+    same(rt, gate.is_shut(), true);
+    same(rt, gate.found(), ((true, 0), (false, 0)));
 }
 
 /// A worker may ask 10,000,000 times before each job: here once before the first one, and then in vain.
 #[test]
-fn a_gate_shuts_behind_a_job(rt: HostRuntime) -> Result<(), Fail> {
+fn a_gate_shuts_behind_a_job(rt: HostRuntime) {
+    let rt = &rt;
     let gate = ShutsBehind::new();
-    let jobs = listed(rt.alloc(), &[&[job(1, 0, 5), job(2, 0, 7)]])?;
-    let (mut it, fault) = team_after::<_, 1, 1, 0, 0>(&rt, rt.alloc(), jobs, &gate)?;
-    same(&rt, &fault, &Some(PoolFault::GateShut { worker: 0 }));
-    same(&rt, &gate.found(), &(10_000_001, 1));
-    finds(&rt, it.reader.scan(&it.board, &mut it.out), &it.out, &[1]);
-    same(&rt, &it.out.counter(0), &5);
-    Ok(())
+    let jobs = need(rt, listed(rt.alloc(), &[&[job(1, 0, 5), job(2, 0, 7)]]));
+    let (mut it, fault) = done(rt, team_after::<_, 1, 1, 0, 0>(rt, rt.alloc(), jobs, &gate));
+    same(rt, fault, Some(PoolFault::GateShut { worker: 0 }));
+    same(rt, gate.found(), (10_000_001, 1));
+    team_finds(rt, &mut it, &[1]);
+    same(rt, it.out.counter(0), 5);
 }
 
 /// The greatest value of a word, 2^48 - 1.
@@ -66,7 +61,8 @@ const MAX: u64 = 281_474_976_710_655;
 /// The first one of four workers is refused the line 9, since its handle is of another board, the second one the line 5, since
 /// its word would be too large, the third one the line 7, since there is no such counter, the fourth none.
 #[test]
-fn the_least_line_is_told(rt: HostRuntime) -> Result<(), Fail> {
+fn the_least_line_is_told(rt: HostRuntime) {
+    let rt = &rt;
     let other = Counter {
         registry: 2,
         slot: 0,
@@ -81,28 +77,22 @@ fn the_least_line_is_told(rt: HostRuntime) -> Result<(), Fail> {
         &[job(7, 2, 1), job(8, 0, 1_000)],
         &[job(3, 1, 2), job(10, 1, 3), job(11, 1, 4)],
     ];
-    let jobs = listed(rt.alloc(), &lists)?;
-    let (mut it, fault) = team_after::<_, 4, 2, 0, 0>(&rt, rt.alloc(), jobs, &Open)?;
+    let jobs = need(rt, listed(rt.alloc(), &lists));
+    let (mut it, fault) = done(rt, team_after::<_, 4, 2, 0, 0>(rt, rt.alloc(), jobs, &Open));
     let refused = PoolFault::Refused {
         line: 5,
         number: 12,
     };
-    same(&rt, &fault, &Some(refused));
-    same(&rt, &refused.number(), &12);
-    finds(
-        &rt,
-        it.reader.scan(&it.board, &mut it.out),
-        &it.out,
-        &[1, 2, 0, 3],
-    );
-    same(&rt, &(it.out.counter(0), it.out.counter(1)), &(MAX + 1, 10));
-    Ok(())
+    same(rt, fault, Some(refused));
+    same(rt, refused.number(), 12);
+    team_finds(rt, &mut it, &[1, 2, 0, 3]);
+    same(rt, (it.out.counter(0), it.out.counter(1)), (MAX + 1, 10));
 }
 
 /// That the system gives no thread cannot be brought about here.
 #[test]
 fn the_number_of_no_thread(rt: HostRuntime) {
-    same(&rt, &PoolFault::NoThread { worker: 0 }.number(), &30);
+    same(&rt, PoolFault::NoThread { worker: 0 }.number(), 30);
 }
 
 /// A job of this line.
@@ -111,10 +101,9 @@ fn of(what: JobOp) -> Job {
 }
 
 #[test]
-fn jobs_of_all_kinds(rt: HostRuntime) -> Result<(), Fail> {
-    let Ok(bounds) = Bounds::from_slice(&[5, 10]) else {
-        return Err("bad bounds".into());
-    };
+fn jobs_of_all_kinds(rt: HostRuntime) {
+    let rt = &rt;
+    let bounds = need(rt, Bounds::from_slice(&[5, 10]));
     let hist = Histogram {
         registry: ID,
         slot: 0,
@@ -126,26 +115,23 @@ fn jobs_of_all_kinds(rt: HostRuntime) -> Result<(), Fail> {
         of(JobOp::Up(gauge(0), 5)),
         of(JobOp::Down(gauge(0), 7)),
     ];
-    let jobs = listed(rt.alloc(), &[&kinds, &[]])?;
-    let (mut it, fault) = team_after::<_, 2, 1, 1, 1>(&rt, rt.alloc(), jobs, &Open)?;
-    same(&rt, &(fault, it.workers.len()), &(None, 2));
-    finds(
-        &rt,
-        it.reader.scan(&it.board, &mut it.out),
-        &it.out,
-        &[4, 0],
-    );
-    same(&rt, &(it.out.counter(0), it.out.gauge(0)), &(3, -2));
+    let jobs = need(rt, listed(rt.alloc(), &[&kinds, &[]]));
+    let (mut it, fault) = done(rt, team_after::<_, 2, 1, 1, 1>(rt, rt.alloc(), jobs, &Open));
+    same(rt, (fault, it.workers.len()), (None, 2));
+    team_finds(rt, &mut it, &[4, 0]);
+    same(rt, (it.out.counter(0), it.out.gauge(0)), (3, -2));
     let totals = it.out.hist(0);
     let found = (totals.buckets[1], totals.sum, totals.count);
-    same(&rt, &found, &(1, 6, 1));
-    Ok(())
+    same(rt, found, (1, 6, 1));
 }
 
 #[test]
-fn no_workers(rt: HostRuntime) -> Result<(), Fail> {
-    let it = make_team::<2, 1, 0, 0>(rt.alloc())?;
-    let none = runs(&rt, rt.alloc(), &it.board, Vec::new(rt.alloc()), &[], &Open)?;
-    same(&rt, &none.len(), &0);
-    Ok(())
+fn no_workers(rt: HostRuntime) {
+    let rt = &rt;
+    let it = done(rt, make_team::<2, 1, 0, 0>(rt.alloc()));
+    let none = need(
+        rt,
+        runs(rt, rt.alloc(), &it.board, Vec::new(rt.alloc()), &[], &Open),
+    );
+    same(rt, none.len(), 0);
 }

@@ -5,7 +5,7 @@ ghost use Rattle.snapshot_scan.specs.Readers.{IsReaderOf};
 ghost use Rattle.snapshot_scan.specs.Snapshots.{entry_of};
 ghost use Rattle.snapshot_update.specs.Workers.{IsWorkerOf};
 
-use crate::asserts::same;
+use crate::asserts::{done, need, same};
 use crate::crew::{ID, finds, last_reader};
 use crate::jobs::{increments, runs};
 use bucket_math::Bounds;
@@ -18,7 +18,6 @@ use std::alloc::{AllocError, Global};
 use std::cmp::Ordering;
 use std::process::Abort;
 use std::sync::Wait;
-use std::test::Fail;
 use std::thread::{Threads, join};
 use worker_pool::{Job, JobOp, Open, PoolFault};
 
@@ -132,9 +131,11 @@ fn all_compare(
     while i < ones.len() && j < others.len() {
         let found = order(board, &ones[i], one, &others[j], other);
         let (left, right) = (ones[i].vector(), others[j].vector());
-        assert!(rt;
-            compare_so(left, right, found),
-            "{left:?} {found:?} {right:?}"
+        let compared = (left, found, right);
+        same(
+            rt,
+            (compared, compare_so(left, right, found)),
+            (compared, true),
         );
         if found == Ordering::Greater {
             j += 1;
@@ -145,15 +146,15 @@ fn all_compare(
 }
 
 /// How often each worker published in the history that passes through these snapshots.
-fn counts(alloc: Global, taken: &[Snapshot<4, 1, 1, 0>]) -> Result<[u64; 4], ChainFault> {
-    let turns = history_of(alloc, taken)?;
+fn counts(rt: &impl Abort, alloc: Global, taken: &[Snapshot<4, 1, 1, 0>]) -> [u64; 4] {
+    let turns = need(rt, history_of(alloc, taken));
     let mut counted = [0u64; 4];
     for k in 0..turns.len() {
         if let Some(number) = counted.get_mut(turns[k].worker) {
             *number = number.wrapping_add(turns[k].by);
         }
     }
-    Ok(counted)
+    counted
 }
 
 /// The numbers of all workers in the end.
@@ -190,7 +191,7 @@ fn told_by(out: &Snapshot<4, 1, 1, 0>) -> Counted {
 /// Each of these is of one moment.
 fn are_of_one_moment(rt: &impl Abort, taken: &[Snapshot<4, 1, 1, 0>]) {
     for out in taken {
-        same(rt, &found_in(out), &told_by(out));
+        same(rt, found_in(out), told_by(out));
     }
 }
 
@@ -203,20 +204,15 @@ fn settle_and_scan(
     settled: &mut Snapshot<4, 1, 1, 0>,
     other: &mut Reader<4, 1, 1, 0>,
     scanned: &mut Snapshot<4, 1, 1, 0>,
-) -> Result<(), Fail>
+)
     requires own { IsReaderOf board.now one.old × IsReaderOf board.now other.old }
     requires alone { IsAlone other.old }
     requires workers { All (IsWorkerOf board.now) workers.old }
 {
-    let Ok(()) = settle(board, one, workers, settled) else {
-        return Err("not all settle".into());
-    };
-    let Ok(()) = other.scan(board, scanned) else {
-        return Err("the last scan was refused".into());
-    };
+    need(rt, settle(board, one, workers, settled));
+    need(rt, other.scan(board, scanned));
     let found = order(board, settled, one, scanned, other);
-    same(rt, &found, &Ordering::Equal);
-    Ok(())
+    same(rt, found, Ordering::Equal);
 }
 
 /// The two readers scan once more, and all workers settle with one of them: each has all numbers, so that they are equal, and the
@@ -228,24 +224,20 @@ fn end_equal(
     workers: &mut [Worker<4, 1, 1, 0>],
     one: &mut Reader<4, 1, 1, 0>,
     other: &mut Reader<4, 1, 1, 0>,
-) -> Result<(Snapshot<4, 1, 1, 0>, Snapshot<4, 1, 1, 0>), Fail>
+) -> (Snapshot<4, 1, 1, 0>, Snapshot<4, 1, 1, 0>)
     requires own { IsReaderOf board.now one.old × IsReaderOf board.now other.old }
     requires alone { IsAlone other.old }
     requires workers { All (IsWorkerOf board.now) workers.old }
 {
-    let mut last = Snapshot::new(alloc)?;
-    let mut settled = Snapshot::new(alloc)?;
-    let mut scanned = Snapshot::new(alloc)?;
+    let mut last = need(rt, Snapshot::new(alloc));
+    let mut settled = need(rt, Snapshot::new(alloc));
+    let mut scanned = need(rt, Snapshot::new(alloc));
     finds(rt, one.scan(board, &mut last), &last, &ALL);
-    settle_and_scan(rt, board, workers, one, &mut settled, other, &mut scanned)?;
-    same(rt, &settled.vector(), &ALL.as_slice());
-    same(
-        rt,
-        &found_in(&settled),
-        &(20_000, 20_000, 20_000, [5_000; 4]),
-    );
-    same(rt, &settled.hist(0).sum, &180_000);
-    Ok((settled, scanned))
+    settle_and_scan(rt, board, workers, one, &mut settled, other, &mut scanned);
+    same(rt, settled.vector(), ALL.as_slice());
+    same(rt, found_in(&settled), (20_000, 20_000, 20_000, [5_000; 4]));
+    same(rt, settled.hist(0).sum, 180_000);
+    (settled, scanned)
 }
 
 /// What a reader was given, how many of its scans were given up, and its last snapshot.
@@ -253,20 +245,19 @@ type Given = (Vec<Snapshot<4, 1, 1, 0>>, usize, Snapshot<4, 1, 1, 0>);
 
 /// What a reader was given, which is something, and then the last snapshot: each of its scans is accounted for, all are of one moment
 /// each, and one history passes through them.
-fn ends_so(rt: &impl Abort, alloc: Global, given: Given) -> Result<(), Fail> {
+fn ends_so(rt: &impl Abort, alloc: Global, given: Given) {
     let (mut taken, given_up, last) = given;
-    same(rt, &taken.is_empty(), &false);
-    same(rt, &taken.len().wrapping_add(given_up), &1_000);
-    taken.push(last)?;
+    same(rt, taken.is_empty(), false);
+    same(rt, taken.len().wrapping_add(given_up), 1_000);
+    need(rt, taken.push(last));
     are_of_one_moment(rt, taken.as_slice());
-    same(rt, &counts(alloc, taken.as_slice())?, &ALL);
-    Ok(())
+    same(rt, counts(rt, alloc, taken.as_slice()), ALL);
 }
 
 /// So do both.
-fn end_so(rt: &impl Abort, alloc: Global, one: Given, other: Given) -> Result<(), Fail> {
-    ends_so(rt, alloc, one)?;
-    ends_so(rt, alloc, other)
+fn end_so(rt: &impl Abort, alloc: Global, one: Given, other: Given) {
+    ends_so(rt, alloc, one);
+    ends_so(rt, alloc, other);
 }
 
 /// What two readers were given, and the end.
@@ -277,7 +268,7 @@ fn end_well(
     workers: &mut [Worker<4, 1, 1, 0>],
     left: Watch,
     right: Watch,
-) -> Result<(), Fail>
+)
     requires workers { All (IsWorkerOf board.now) workers.old }
     requires left { IsReaderOf board.now left.reader × All (λ s. HasRecorded left.reader (entry_of s)) left.taken.items }
     requires right { IsReaderOf board.now right.reader × All (λ s. HasRecorded right.reader (entry_of s)) right.taken.items }
@@ -300,13 +291,13 @@ fn end_well(
         &mut other,
         others.as_slice(),
     );
-    let (settled, scanned) = end_equal(rt, alloc, board, workers, &mut one, &mut other)?;
+    let (settled, scanned) = end_equal(rt, alloc, board, workers, &mut one, &mut other);
     end_so(
         rt,
         alloc,
         (ones, of_one, settled),
         (others, of_other, scanned),
-    )
+    );
 }
 
 /// What two readers were given.
@@ -383,14 +374,21 @@ fn count_and_end(
     jobs: &[Vec<Job>],
     left: Reader<4, 1, 1, 0>,
     right: Reader<4, 1, 1, 0>,
-) -> Result<(), Fail>
+)
     requires workers { All (IsWorkerOf board.now) workers.items }
     requires left { IsReaderOf board.now left × IsAlone left }
     requires right { IsReaderOf board.now right × IsAlone right }
 {
     let (workers, (left, right)) = all_at_once(rt, alloc, board, workers, jobs, left, right);
-    let mut workers = workers?;
-    end_well(rt, alloc, board, workers.as_mut_slice(), left?, right?)
+    let mut workers = need(rt, workers);
+    end_well(
+        rt,
+        alloc,
+        board,
+        workers.as_mut_slice(),
+        need(rt, left),
+        need(rt, right),
+    );
 }
 
 /// So do the workers and the last two readers of a crew.
@@ -400,22 +398,22 @@ fn scan_and_count(
     board: &Board<4, 1, 1, 0>,
     workers: Vec<Worker<4, 1, 1, 0>>,
     readers: &mut Vec<Reader<4, 1, 1, 0>>,
-) -> Result<(), Fail>
+)
     requires workers { All (IsWorkerOf board.now) workers.items }
     requires readers { All (IsReaderOf board.now) readers.old.items × All IsAlone readers.old.items }
 {
-    let jobs = lists(alloc, Bounds::from_slice(&[5, 10, 15])?)?;
-    let right = last_reader(board, readers)?;
-    let left = last_reader(board, readers)?;
-    count_and_end(rt, alloc, board, workers, &jobs, left, right)
+    let jobs = need(rt, lists(alloc, need(rt, Bounds::from_slice(&[5, 10, 15]))));
+    let right = done(rt, last_reader(board, readers));
+    let left = done(rt, last_reader(board, readers));
+    count_and_end(rt, alloc, board, workers, &jobs, left, right);
 }
 
 #[test]
-fn readers_scan_while_workers_count(rt: HostRuntime) -> Result<(), Fail> {
+fn readers_scan_while_workers_count(rt: HostRuntime) {
     let Crew {
         board,
         workers,
         mut readers,
-    } = Crew::<4, 1, 1, 0>::new(rt.alloc(), ID, 2)?;
-    scan_and_count(&rt, rt.alloc(), &board, workers, &mut readers)
+    } = need(&rt, Crew::<4, 1, 1, 0>::new(rt.alloc(), ID, 2));
+    scan_and_count(&rt, rt.alloc(), &board, workers, &mut readers);
 }

@@ -1,12 +1,13 @@
 //! Texts that are sent: whole, with a front, in few calls, and to writers that fail.
-ghost use Rattle.std.specs.Prelude.{◌≡◌, false, IfOk};
+ghost use Rattle.std.specs.Prelude.{◌≡◌, false};
 
-use crate::asserts::same;
-use crate::made::{COUNTER, Family, alone, children, scrape};
-use expo_text::{Number, Scrape, WriteFailed, send, write_after, write_to};
+use crate::asserts::{done, need, same, there};
+use crate::made::{COUNTER, Family, add_child, alone, scrape};
+use expo_text::{ChildScrape, Number, Scrape, WriteFailed, send, write_after, write_to};
+use metric_desc::Kind;
 use std::alloc::Global;
 use std::io::{self, Error, ErrorKind, Write};
-use std::test::Fail;
+use std::process::Abort;
 use watched::Watched;
 
 // Takes so many bytes a call, and fails from a call on. What it takes fits into memory that was made before.
@@ -34,15 +35,15 @@ impl Write for Slow {
     }
 }
 
-fn make_slow(alloc: Global, each: usize, calls: usize) -> Result<Watched<Slow>, Fail>
-    ensures { IfOk result (λ w. w.failed ≡ false) }
+fn make_slow(rt: &impl Abort, alloc: Global, each: usize, calls: usize) -> Watched<Slow>
+    ensures { result.failed ≡ false }
 {
-    let taken = Vec::with_capacity(alloc, 100_000)?;
-    Ok(Watched::new(Slow { taken, each, calls }))
+    let taken = need(rt, Vec::with_capacity(alloc, 100_000));
+    Watched::new(Slow { taken, each, calls })
 }
 
-fn small(alloc: Global) -> Result<Scrape, Fail> {
-    Ok(scrape(alloc, &[COUNTER])?.ok_or("no scrape")?)
+fn small(rt: &impl Abort, alloc: Global) -> Scrape {
+    there(rt, done(rt, scrape(alloc, &[COUNTER])))
 }
 
 const TEXT: &[u8] = b"# TYPE a counter\na 0\n";
@@ -51,80 +52,87 @@ const BOTH: &[u8] = b"abc# TYPE a counter\na 0\n";
 
 /// A writer of one byte a call takes all.
 #[test]
-fn byte_by_byte(rt: HostRuntime) -> Result<(), Fail> {
-    let mut out = make_slow(rt.alloc(), 1, 21)?;
-    same(&rt, &write_to(&small(rt.alloc())?, &mut out), &Ok(()));
-    same(&rt, &out.into_inner().taken.as_slice(), &TEXT);
-    Ok(())
+fn byte_by_byte(rt: HostRuntime) {
+    let rt = &rt;
+    let mut out = make_slow(rt, rt.alloc(), 1, 21);
+    same(rt, write_to(&small(rt, rt.alloc()), &mut out), Ok(()));
+    same(rt, out.into_inner().taken.as_slice(), TEXT);
 }
 
 /// A front and a text go in one call, where the writer takes them.
 #[test]
-fn a_front_and_the_text(rt: HostRuntime) -> Result<(), Fail> {
-    let mut out = make_slow(rt.alloc(), 100, 1)?;
-    let sent = write_after(b"abc", &small(rt.alloc())?, &mut out);
-    same(&rt, &sent, &Ok(()));
-    same(&rt, &out.into_inner().taken.as_slice(), &BOTH);
-    Ok(())
+fn a_front_and_the_text(rt: HostRuntime) {
+    let rt = &rt;
+    let mut out = make_slow(rt, rt.alloc(), 100, 1);
+    let sent = write_after(b"abc", &small(rt, rt.alloc()), &mut out);
+    same(rt, sent, Ok(()));
+    same(rt, out.into_inner().taken.as_slice(), BOTH);
+}
+
+// A writer that fails after so many bytes took all before that.
+fn fails_after(rt: &impl Abort, alloc: Global, scrape: &Scrape, calls: usize) {
+    let mut out = make_slow(rt, alloc, 1, calls);
+    let failed = WriteFailed { sent: calls };
+    same(rt, write_after(b"abc", scrape, &mut out), Err(failed));
+    same(rt, failed.number(), 25);
+    let taken = out.into_inner().taken;
+    same(rt, Some(taken.as_slice()), BOTH.get(..calls));
 }
 
 /// A writer that fails within the front and within the text, which took all before that.
 #[test]
-fn failures(rt: HostRuntime) -> Result<(), Fail> {
-    let scrape = small(rt.alloc())?;
-    for calls in [0, 2, 3, 23] {
-        let mut out = make_slow(rt.alloc(), 1, calls)?;
-        let failed = WriteFailed { sent: calls };
-        same(&rt, &write_after(b"abc", &scrape, &mut out), &Err(failed));
-        same(&rt, &failed.number(), &25);
-        same(&rt, &out.into_inner().taken.as_slice(), &&BOTH[..calls]);
-    }
-    Ok(())
+fn failures(rt: HostRuntime) {
+    let rt = &rt;
+    let scrape = small(rt, rt.alloc());
+    fails_after(rt, rt.alloc(), &scrape, 0);
+    fails_after(rt, rt.alloc(), &scrape, 2);
+    fails_after(rt, rt.alloc(), &scrape, 3);
+    fails_after(rt, rt.alloc(), &scrape, 23);
 }
 
 /// A writer that takes no byte fails, and pieces of bytes are sent likewise.
 #[test]
-fn pieces(rt: HostRuntime) -> Result<(), Fail> {
-    let mut out = make_slow(rt.alloc(), 0, 9)?;
-    send(b"", &mut out)?;
-    same(&rt, &send(b"abc", &mut out), &Err(WriteFailed { sent: 0 }));
-    let mut out = make_slow(rt.alloc(), 2, 2)?;
-    same(
-        &rt,
-        &send(b"abcde", &mut out),
-        &Err(WriteFailed { sent: 4 }),
-    );
-    same(&rt, &out.failed(), &true);
-    Ok(())
+fn pieces(rt: HostRuntime) {
+    let rt = &rt;
+    let mut out = make_slow(rt, rt.alloc(), 0, 9);
+    need(rt, send(b"", &mut out));
+    same(rt, send(b"abc", &mut out), Err(WriteFailed { sent: 0 }));
+    let mut out = make_slow(rt, rt.alloc(), 2, 2);
+    same(rt, send(b"abcde", &mut out), Err(WriteFailed { sent: 4 }));
+    same(rt, out.failed(), true);
 }
+
+/// What the five children of a long text have for their last value.
+const LAST: [&str; 5] = ["a", "b", "c", "d", "e"];
+
+/// Five children, each with this text for its first 7 values.
+fn five(rt: &impl Abort, alloc: Global, long: &str) -> Vec<ChildScrape> {
+    let mut all = Vec::new(alloc);
+    for last in &LAST {
+        let texts = [long, long, long, long, long, long, long, *last];
+        add_child(rt, alloc, &mut all, &texts, Number::Counter(0));
+    }
+    all
+}
+
+/// Eight labels.
+const EIGHT: Family = Family {
+    kind: Kind::Counter,
+    name: "a",
+    help: "",
+    labels: &["a", "b", "c", "d", "e", "f", "g", "h"],
+    bounds: &[],
+    children: &[],
+};
 
 // Each of 7 values of 256 line feeds stands in 512 bytes, and a child in 3,630, so that a buffer of 16,384 bytes is sent twice by five.
 #[test]
-fn long_text_in_few_calls(rt: HostRuntime) -> Result<(), Fail> {
+fn long_text_in_few_calls(rt: HostRuntime) {
+    let rt = &rt;
     let alloc = rt.alloc();
-    let feeds = "\n".repeat(alloc, 256)?;
-    let long = feeds.as_str();
-    let values = [
-        [long, long, long, long, long, long, long, "a"],
-        [long, long, long, long, long, long, long, "b"],
-        [long, long, long, long, long, long, long, "c"],
-        [long, long, long, long, long, long, long, "d"],
-        [long, long, long, long, long, long, long, "e"],
-    ];
-    let zeros: [(&[&str], Number); 5] = [
-        (&values[0], Number::Counter(0)),
-        (&values[1], Number::Counter(0)),
-        (&values[2], Number::Counter(0)),
-        (&values[3], Number::Counter(0)),
-        (&values[4], Number::Counter(0)),
-    ];
-    let family = Family {
-        labels: &["a", "b", "c", "d", "e", "f", "g", "h"],
-        ..COUNTER
-    };
-    let scrape = alone(alloc, &family, children(alloc, &zeros)?)?.ok_or("no scrape")?;
-    let mut out = make_slow(alloc, 100_000, 2)?;
-    same(&rt, &write_to(&scrape, &mut out), &Ok(()));
-    same(&rt, &out.into_inner().taken.len(), &18_167);
-    Ok(())
+    let all = five(rt, alloc, &need(rt, "\n".repeat(alloc, 256)));
+    let scrape = there(rt, done(rt, alone(alloc, &EIGHT, all)));
+    let mut out = make_slow(rt, alloc, 100_000, 2);
+    same(rt, write_to(&scrape, &mut out), Ok(()));
+    same(rt, out.into_inner().taken.len(), 18_167);
 }

@@ -1,45 +1,47 @@
 //! Exact totals.
-use crate::asserts::same;
+use crate::asserts::{done, need, same};
 use crate::crew::last_worker;
 use crate::jobs::{lists, make_team, team_after};
 use chain_law::{NotAll, settle};
-use std::test::Fail;
 use worker_pool::Open;
 
 /// Nobody is handed in.
 #[test]
-fn nobody_settles(rt: HostRuntime) -> Result<(), Fail> {
-    let mut it = make_team::<4, 1, 0, 0>(rt.alloc())?;
+fn nobody_settles(rt: HostRuntime) {
+    let rt = &rt;
+    let mut it = done(rt, make_team::<4, 1, 0, 0>(rt.alloc()));
     let missing = NotAll { missing: 0 };
     let found = settle(&it.board, &mut it.reader, &mut [], &mut it.out);
-    same(&rt, &found, &Err(missing));
-    same(&rt, &missing.number(), &18);
-    Ok(())
+    same(rt, found, Err(missing));
+    same(rt, missing.number(), 18);
 }
 
 /// The third of four workers is not handed in. Those who are stand in any order.
 #[test]
-fn the_third_worker_is_missing(rt: HostRuntime) -> Result<(), Fail> {
-    let mut it = make_team::<4, 1, 0, 0>(rt.alloc())?;
-    let fourth = last_worker(&it.board, &mut it.workers)?;
-    let _third = last_worker(&it.board, &mut it.workers)?;
-    let second = last_worker(&it.board, &mut it.workers)?;
-    let first = last_worker(&it.board, &mut it.workers)?;
+fn the_third_worker_is_missing(rt: HostRuntime) {
+    let rt = &rt;
+    let mut it = done(rt, make_team::<4, 1, 0, 0>(rt.alloc()));
+    let fourth = done(rt, last_worker(&it.board, &mut it.workers));
+    let _third = done(rt, last_worker(&it.board, &mut it.workers));
+    let second = done(rt, last_worker(&it.board, &mut it.workers));
+    let first = done(rt, last_worker(&it.board, &mut it.workers));
     let workers = &mut [fourth, first, second];
     let found = settle(&it.board, &mut it.reader, workers, &mut it.out);
-    same(&rt, &found, &Err(NotAll { missing: 2 }));
-    Ok(())
+    same(rt, found, Err(NotAll { missing: 2 }));
 }
 
 #[test]
-fn thirty_two_workers_settle(rt: HostRuntime) -> Result<(), Fail> {
-    let jobs = lists(rt.alloc(), 32, 100)?;
-    let (mut it, fault) = team_after::<_, 32, 1, 0, 0>(&rt, rt.alloc(), jobs, &Open)?;
-    same(&rt, &fault, &None);
+fn thirty_two_workers_settle(rt: HostRuntime) {
+    let rt = &rt;
+    let jobs = need(rt, lists(rt.alloc(), 32, 100));
+    let (mut it, fault) = done(
+        rt,
+        team_after::<_, 32, 1, 0, 0>(rt, rt.alloc(), jobs, &Open),
+    );
+    same(rt, fault, None);
     let workers = it.workers.as_mut_slice();
     let found = settle(&it.board, &mut it.reader, workers, &mut it.out);
-    same(&rt, &found, &Ok(()));
-    same(&rt, &it.out.vector(), &[100; 32].as_slice());
-    same(&rt, &it.out.counter(0), &3_200);
-    Ok(())
+    same(rt, found, Ok(()));
+    same(rt, it.out.vector(), [100; 32].as_slice());
+    same(rt, it.out.counter(0), 3_200);
 }

@@ -3,7 +3,7 @@ ghost use Rattle.std.specs.Prelude.{◌<◌};
 ghost use Rattle.snapshot_scan.specs.Readers.{IsReaderOf};
 ghost use Rattle.snapshot_update.specs.Workers.{IsWorkerOf};
 
-use crate::asserts::same;
+use crate::asserts::{done, need, same};
 use crate::crew::{finds, inc, last_worker};
 use crate::jobs::{Team, make_team};
 use ledger_core::{MAX_WORD, Op, OpFault};
@@ -11,7 +11,6 @@ use register_rule::Board;
 use snapshot_scan::{Contended, PlainFault, PlainSource, Reader, Scanner, Snapshot, Source};
 use snapshot_update::Worker;
 use std::process::Abort;
-use std::test::Fail;
 
 /// Scans: the number of the first worker and the total of the first counter.
 fn scans<const N: usize, const C: usize, const H: usize, const G: usize, S: Source<N, C, H, G>>(
@@ -36,16 +35,16 @@ fn one_and(more: u64) -> [Op; 2] {
 }
 
 #[test]
-fn a_plain_source(rt: HostRuntime) -> Result<(), Fail> {
-    let mut source = PlainSource::<1, 1, 0, 1>::new(rt.alloc())?;
-    let mut out = Snapshot::new(rt.alloc())?;
-    same(&rt, &scans(&mut source, &mut out), &Ok((0, 0)));
-    same(&rt, &source.apply(&[]), &Ok(()));
-    same(&rt, &source.apply(&one_and(4)), &Ok(()));
-    same(&rt, &source.apply(&[Op::Down { gauge: 0, by: 9 }]), &Ok(()));
-    same(&rt, &scans(&mut source, &mut out), &Ok((3, 5)));
-    same(&rt, &out.gauge(0), &(-9));
-    Ok(())
+fn a_plain_source(rt: HostRuntime) {
+    let rt = &rt;
+    let mut source = need(rt, PlainSource::<1, 1, 0, 1>::new(rt.alloc()));
+    let mut out = need(rt, Snapshot::new(rt.alloc()));
+    same(rt, scans(&mut source, &mut out), Ok((0, 0)));
+    same(rt, source.apply(&[]), Ok(()));
+    same(rt, source.apply(&one_and(4)), Ok(()));
+    same(rt, source.apply(&[Op::Down { gauge: 0, by: 9 }]), Ok(()));
+    same(rt, scans(&mut source, &mut out), Ok((3, 5)));
+    same(rt, out.gauge(0), -9);
 }
 
 /// A source refuses what is outside its row and what is too large, and is as it was.
@@ -53,19 +52,19 @@ fn refuses(rt: &impl Abort, source: &mut PlainSource<1, 1, 0, 0>, out: &mut Snap
     let outside = PlainFault::Refused(OpFault::OutOfGeometry { at: 0 });
     let large = PlainFault::Refused(OpFault::TooLarge { at: 1 });
     let other = [Op::Inc { counter: 1, by: 1 }];
-    same(rt, &source.apply(&other), &Err(outside));
-    same(rt, &source.apply(&one_and(MAX_WORD)), &Err(large));
-    same(rt, &(outside.number(), large.number()), &(11, 12));
-    same(rt, &PlainFault::Exhausted.number(), &15);
-    same(rt, &scans(source, out), &Ok((0, 0)));
+    same(rt, source.apply(&other), Err(outside));
+    same(rt, source.apply(&one_and(MAX_WORD)), Err(large));
+    same(rt, (outside.number(), large.number()), (11, 12));
+    same(rt, PlainFault::Exhausted.number(), 15);
+    same(rt, scans(source, out), Ok((0, 0)));
 }
 
 #[test]
-fn a_plain_source_refuses(rt: HostRuntime) -> Result<(), Fail> {
-    let mut source = PlainSource::new(rt.alloc())?;
-    let mut out = Snapshot::new(rt.alloc())?;
-    refuses(&rt, &mut source, &mut out);
-    Ok(())
+fn a_plain_source_refuses(rt: HostRuntime) {
+    let rt = &rt;
+    let mut source = need(rt, PlainSource::new(rt.alloc()));
+    let mut out = need(rt, Snapshot::new(rt.alloc()));
+    refuses(rt, &mut source, &mut out);
 }
 
 /// A worker counts, and is found through a source, and then by the reader that it gives back.
@@ -80,33 +79,33 @@ fn is_found(
 {
     let mut scanner = Scanner::new(board, reader);
     inc(rt, board, worker, 0, 5);
-    same(rt, &scanner.scan(out), &Ok(()));
+    same(rt, scanner.scan(out), Ok(()));
     let mut reader = scanner.into_reader();
     inc(rt, board, worker, 0, 6);
     finds(rt, reader.scan(board, out), out, &[2]);
     let mut scanner = Scanner::new(board, reader);
-    same(rt, &scans(&mut scanner, out), &Ok((2, 11)));
+    same(rt, scans(&mut scanner, out), Ok((2, 11)));
 }
 
 #[test]
-fn a_board_with_a_reader(rt: HostRuntime) -> Result<(), Fail> {
+fn a_board_with_a_reader(rt: HostRuntime) {
+    let rt = &rt;
     let Team {
         board,
         mut workers,
         reader,
         mut out,
-    } = make_team::<1, 1, 0, 0>(rt.alloc())?;
-    let mut worker = last_worker(&board, &mut workers)?;
-    is_found(&rt, &board, &mut worker, reader, &mut out);
-    Ok(())
+    } = done(rt, make_team::<1, 1, 0, 0>(rt.alloc()));
+    let mut worker = done(rt, last_worker(&board, &mut workers));
+    is_found(rt, &board, &mut worker, reader, &mut out);
 }
 
 #[test]
-fn a_copy_is_the_same_snapshot(rt: HostRuntime) -> Result<(), Fail> {
-    let mut out = Snapshot::<1, 0, 0, 0>::new(rt.alloc())?;
+fn a_copy_is_the_same_snapshot(rt: HostRuntime) {
+    let rt = &rt;
+    let mut out = need(rt, Snapshot::<1, 0, 0, 0>::new(rt.alloc()));
     out.set(&[3], &[]);
-    let mut copy = Snapshot::new(rt.alloc())?;
+    let mut copy = need(rt, Snapshot::new(rt.alloc()));
     copy.copy_from(&out);
-    same(&rt, &copy.vector(), &[3].as_slice());
-    Ok(())
+    same(rt, copy.vector(), [3].as_slice());
 }

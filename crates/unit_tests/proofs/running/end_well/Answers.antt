@@ -11,5 +11,5 @@ all_compare-requires g c = record {
   recorded_other = subst (All (λ s. HasRecorded c.args.right.reader (entry_of s))) (sym c.as_slice-2.ensures.value) c.requires.right.1;
 }
 
-pub end_equal-requires : goal.end_equal-requires
-end_equal-requires g c = record { own = c.all_compare.ensures.own; alone = c.all_compare.ensures.alone.1; workers = c.requires.workers }
+pub end_equal-settled-requires : goal.end_equal-settled-requires
+end_equal-settled-requires g c = record { own = c.all_compare.ensures.own; alone = c.all_compare.ensures.alone.1; workers = c.requires.workers }
