@@ -28,7 +28,7 @@ of_worker (Apply (apply.Refused (TooLarge place))) e = omega (arith, e)
 no_thread : (place : ℕ) (f : PoolFault) → f ≡ NoThread place → pool_number f ≢ 29
 no_thread place f e = subst (λ (x : PoolFault). pool_number x ≢ 29) (sym e) (λ n. omega (arith, n))
 
-module _ {N C H G : ℕ} (b : Board N C H G) (lists : List (Vec Job Global)) (ws : List (Worker N C H G)) (long : length lists ≡ length ws) where
+module _ {N C H G : ℕ} (b : Board N C H G) (lists : List (List Job)) (ws : List (Worker N C H G)) (long : length lists ≡ length ws) where
   -- no worker ended by a fault of this number
   not_by : (place : ℕ) (jobs : List Job) (w : Worker N C H G) (f : PoolFault) → IsWorkEnd true b place jobs w (Err f) → pool_number f ≢ 29
   not_by place jobs w (Refused line number) refused e = of_worker refused.fault (sym refused.number_is ∙ e)
@@ -42,7 +42,7 @@ module _ {N C H G : ℕ} (b : Board N C H G) (lists : List (Vec Job Global)) (ws
       let few = is.truly.few in let lt = at_below is.ends is.told.place (Err f) at in
       let jobs = item_at lists is.told.place (omega (arith, lt, few, long)) in
       let w = item_at ws is.told.place (omega (arith, lt, few)) in
-      not_by is.told.place jobs.0.items w.0 f (is.truly.each is.told.place jobs.0 w.0 (Err f) jobs.1 w.1 at))
+      not_by is.told.place jobs.0 w.0 f (is.truly.each is.told.place jobs.0 w.0 (Err f) jobs.1 w.1 at))
       (λ t. no_thread is.told.place f t.2)
       is.told.met
 

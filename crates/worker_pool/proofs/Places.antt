@@ -1,7 +1,10 @@
 -- Items of lists, by their places.
-use Rattle.std.proofs.Common.{◌≡◌, ℕ, zero, suc, ◌+◌, List, [], ◌∷◌, ◌++◌, length, take, drop, refl, sym, ap, subst, arith}
+use Rattle.std.proofs.Common.{◌≡◌, ℕ, zero, suc, ◌+◌, List, [], ◌∷◌, ◌++◌, length, take, drop, refl, sym, ap, ◌∙◌, subst, arith}
 use mathlib.Core.Option.{some, some-injective, some-ne-none}
 use lib.ListN.{get_elem?}
+use Rattle.std.specs.Prelude.{Some, slice_get}
+use Rattle.std.proofs.lemmas.Option.{get_or_from_slice_get, slice_get_within}
+use Rattle.register_rule.proofs.Words.{there}
 
 module _ {A : Type 0} where
   left_then : (k : ℕ) (xs ys : List A) (x : A) → drop k xs ≡ x ∷ ys → (get_elem? xs k ≡ some x) × (ys ≡ drop (suc k) xs)
@@ -35,3 +38,7 @@ module _ {A : Type 0} where
   pub at_end : (xs : List A) (x : A) → get_elem? (xs ++ x ∷ []) (length xs) ≡ some x
   at_end [] x = refl
   at_end (y ∷ ys) x = at_end ys x
+
+  -- what `slice_get` finds, `get_elem?` finds
+  pub item_is : (xs : List A) (k : ℕ) (x : A) → slice_get xs k ≡ Some x → get_elem? xs k ≡ some x
+  item_is xs k x e = there xs k x (slice_get_within xs k x e) ∙ ap some (get_or_from_slice_get xs k x x e)

@@ -4,6 +4,7 @@
 mod fault;
 mod gate;
 mod job;
+mod job_lists;
 mod outcome;
 mod promise;
 mod run;
@@ -13,4 +14,5 @@ mod thread_work;
 pub use fault::PoolFault;
 pub use gate::{Gate, Open};
 pub use job::{Job, JobOp};
-pub use run::run_pool;
+pub use job_lists::JobLists;
+pub use run::{run_lists, run_pool};

@@ -2,11 +2,13 @@
 ghost use Rattle.std.specs.Prelude.{◌≡◌, ◌≢◌, true, length, IfOk, IfErr, vec_len, All};
 ghost use Rattle.snapshot_update.specs.Workers.{IsWorkerOf};
 ghost use Rattle.worker_pool.specs.Faults.{pool_number};
+ghost use Rattle.worker_pool.specs.Jobs.{lists_in};
 ghost use Rattle.worker_pool.specs.Ends.{DidAll, IsPoolFault};
 
 use crate::fault::PoolFault;
 use crate::gate::Gate;
 use crate::job::Job;
+use crate::job_lists::JobLists;
 use crate::starting::run_in;
 use register_rule::Board;
 use snapshot_update::Worker;
@@ -45,17 +47,48 @@ pub fn run_pool<
 ) -> Result<Vec<Worker<N, C, H, G>>, PoolFault>
     requires lists { length jobs.now ≡ vec_len workers }
     requires own { All (IsWorkerOf board.now) workers.items }
-    ensures did { IfOk result (λ v. DidAll board.now jobs.now workers.entry.items v.items) }
+    ensures did { IfOk result (λ v. DidAll board.now (lists_in jobs.now) workers.entry.items v.items) }
     ensures own { IfOk result (λ v. All (IsWorkerOf board.now) v.items) }
-    ensures fault { IfErr result (IsPoolFault P.ALWAYS_OPEN board.now jobs.now workers.entry.items) }
+    ensures fault { IfErr result (IsPoolFault P.ALWAYS_OPEN board.now (lists_in jobs.now) workers.entry.items) }
+    ensures opened { P.ALWAYS_OPEN ≡ true → IfErr result (λ f. pool_number f ≢ 29) }
+{
+    run_lists(rt, alloc, board, workers, &jobs, gate)
+}
+
+/// [`run_pool`], over lists of any kind, which give one job at a time.
+///
+/// # Errors
+///
+/// Those of [`run_pool`]: 16, 15, 11, 12, 29, 30 and 6.
+pub fn run_lists<
+    R: Threads + Wait,
+    Q: JobLists + Sync,
+    P: Gate + Sync,
+    const N: usize,
+    const C: usize,
+    const H: usize,
+    const G: usize,
+>(
+    rt: &R,
+    alloc: Global,
+    board: &Board<N, C, H, G>,
+    workers: Vec<Worker<N, C, H, G>>,
+    lists: &Q,
+    gate: &P,
+) -> Result<Vec<Worker<N, C, H, G>>, PoolFault>
+    requires lists { length (Q.lists lists.now) ≡ vec_len workers }
+    requires own { All (IsWorkerOf board.now) workers.items }
+    ensures did { IfOk result (λ v. DidAll board.now (Q.lists lists.now) workers.entry.items v.items) }
+    ensures own { IfOk result (λ v. All (IsWorkerOf board.now) v.items) }
+    ensures fault { IfErr result (IsPoolFault P.ALWAYS_OPEN board.now (Q.lists lists.now) workers.entry.items) }
     ensures opened { P.ALWAYS_OPEN ≡ true → IfErr result (λ f. pool_number f ≢ 29) }
 {
     thread::scope(
         thread::scope_env(),
         rt,
         |scope| -> Result<Vec<Worker<N, C, H, G>>, PoolFault>
-            requires { (length jobs.now ≡ vec_len workers) × All (IsWorkerOf board.now) workers.items }
-            ensures { IfOk result (λ v. DidAll board.entry.now jobs.entry.now workers.items v.items × All (IsWorkerOf board.entry.now) v.items) × IfErr result (IsPoolFault P.ALWAYS_OPEN board.entry.now jobs.entry.now workers.items) × (P.ALWAYS_OPEN ≡ true → IfErr result (λ f. pool_number f ≢ 29)) }
-        { run_in(rt, scope, alloc, board, workers, jobs, gate) },
+            requires { (length (Q.lists lists.now) ≡ vec_len workers) × All (IsWorkerOf board.now) workers.items }
+            ensures { IfOk result (λ v. DidAll board.entry.now (Q.lists lists.entry.now) workers.items v.items × All (IsWorkerOf board.entry.now) v.items) × IfErr result (IsPoolFault P.ALWAYS_OPEN board.entry.now (Q.lists lists.entry.now) workers.items) × (P.ALWAYS_OPEN ≡ true → IfErr result (λ f. pool_number f ≢ 29)) }
+        { run_in(rt, scope, alloc, board, workers, lists, gate) },
     )
 }

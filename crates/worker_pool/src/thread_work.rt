@@ -1,11 +1,12 @@
 //! What one thread of a pool does.
-ghost use Rattle.std.specs.Prelude.{◌≡◌, true};
+ghost use Rattle.std.specs.Prelude.{◌≡◌, ◌<◌, true, length};
 ghost use Rattle.snapshot_update.specs.Workers.{IsWorkerOf};
+ghost use Rattle.worker_pool.specs.Jobs.{jobs_at};
 ghost use Rattle.worker_pool.specs.Works.{IsWorkEnd};
 
 use crate::fault::PoolFault;
 use crate::gate::Gate;
-use crate::job::Job;
+use crate::job_lists::JobLists;
 use register_rule::Board;
 use snapshot_update::Worker;
 use std::thread::yield_now;
@@ -27,17 +28,26 @@ fn opens<P: Gate>(gate: &P, place: usize) -> bool
 }
 
 /// Does the jobs of the worker at this place, in order, and hands the worker back.
-pub(crate) fn work<P: Gate, const N: usize, const C: usize, const H: usize, const G: usize>(
+pub(crate) fn work<
+    Q: JobLists,
+    P: Gate,
+    const N: usize,
+    const C: usize,
+    const H: usize,
+    const G: usize,
+>(
     board: &Board<N, C, H, G>,
     mut worker: Worker<N, C, H, G>,
     place: usize,
-    jobs: &[Job],
+    lists: &Q,
     gate: &P,
 ) -> Result<Worker<N, C, H, G>, PoolFault>
     requires own { IsWorkerOf board.now worker }
-    ensures { IsWorkEnd P.ALWAYS_OPEN board.now place jobs.now worker.entry result }
+    requires place { place < length (Q.lists lists.now) }
+    ensures { IsWorkEnd P.ALWAYS_OPEN board.now place (jobs_at (Q.lists lists.now) place) worker.entry result }
 {
-    for job in jobs {
+    for next in 0..lists.count(place) {
+        let job = lists.job(place, next);
         if !opens(gate, place) {
             return Err(PoolFault::GateShut { worker: place });
         }

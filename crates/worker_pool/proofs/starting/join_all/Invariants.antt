@@ -6,7 +6,7 @@ use Rattle.worker_pool.proofs.starting.join_all.Given as goal
 
 abbrev pub invariant-loop-thread : goal.invariant-loop-thread
 invariant-loop-thread g l = record {
-  joined : HaveJoined l.fn.threads.items (into_iter_items l.thread-iterator) l.ends.items;
+  joined : HaveJoined g.Q.JobLists.lists l.fn.threads.items (into_iter_items l.thread-iterator) l.ends.items;
   count : into_iter_len l.thread-iterator ≡ length (into_iter_items l.thread-iterator);
   room : vec_len l.ends + into_iter_len l.thread-iterator ≤ vec_capacity l.ends;
 }
