@@ -1,8 +1,5 @@
 -- The workers of a script and their lists of jobs.
-use Rattle.std.proofs.Common.{◌≡◌, ℕ, suc, ◌<◌, List, [], ◌∷◌, All, Some, get_or, length, map, replicate, refl, sym, subst, ap, ◌∙◌, arith}
-use Rattle.std.proofs.lemmas.List.Elements.{All-head, All-tail}
-use Rattle.std.specs.declared.vec.Vec.{Vec}
-use Rattle.std.specs.declared.alloc.Global.{Global}
+use Rattle.std.proofs.Common.{◌≡◌, ℕ, suc, List, [], ◌∷◌, Some, length, map, refl, subst, ap, ◌∙◌, arith}
 use mathlib.Core.Option.{some}
 use lib.ListN.{get_elem?}
 use Rattle.register_rule.specs.declared.board.Board.{Board}
@@ -10,20 +7,22 @@ use Rattle.snapshot_update.specs.declared.worker.Worker.{Worker}
 use Rattle.snapshot_update.specs.Workers.{index_of}
 use Rattle.worker_pool.specs.declared.job.Job.{Job}
 use Rattle.worker_pool.specs.Ends.{DidAll}
-use Rattle.std.proofs.lemmas.Option.{slice_get-get_or}
 use Rattle.std.specs.Prelude.{option_and_then, slice_get}
 use Rattle.registry_state.specs.declared.handle.Handle.{Handle}
 use Rattle.worker_pool.specs.declared.job.JobOp.{JobOp}
 use Rattle.metrics_run.specs.declared.state.Count.{Count}
-use Rattle.metrics_run.specs.Jobs.{job_for, lists_in}
+use Rattle.metrics_run.specs.Entries.{job_of}
+use Rattle.metrics_run.specs.Jobs.{job_for}
+use Rattle.metrics_run.specs.declared.entry.Entry.{Entry}
+use Rattle.metrics_run.proofs.Entries.{job_parts}
 use Rattle.metrics_run.specs.State.{job_in}
 
 abbrev Lists : Type 0
-Lists = List (Vec Job Global)
+Lists = List (List Job)
 
 module _ {N C H G : ℕ} where
   abbrev EachSame : Lists → (ws vs : List (Worker N C H G)) → Type 0
-  EachSame lists ws vs = (i : ℕ) (jobs : Vec Job Global) (w v : Worker N C H G) → get_elem? lists i ≡ some jobs → get_elem? ws i ≡ some w → get_elem? vs i ≡ some v
+  EachSame lists ws vs = (i : ℕ) (jobs : List Job) (w v : Worker N C H G) → get_elem? lists i ≡ some jobs → get_elem? ws i ≡ some w → get_elem? vs i ≡ some v
       → index_of v ≡ index_of w
 
   indexes_kept : (lists : Lists) (ws vs : List (Worker N C H G)) → length lists ≡ length ws → length vs ≡ length ws → EachSame lists ws vs → map index_of vs ≡ map index_of ws
@@ -40,18 +39,11 @@ module _ {N C H G : ℕ} where
   pub same_workers : (b : Board N C H G) (lists : Lists) (ws vs : List (Worker N C H G)) → length lists ≡ length ws → DidAll b lists ws vs → map index_of vs ≡ map index_of ws
   same_workers b lists ws vs few did = indexes_kept lists ws vs few did.all (λ i jobs w v a b c. (did.each i jobs w v a b c).index)
 
--- lists of no jobs
-pub none_left : (lists : Lists) → All (λ (list : Vec Job Global). list.items ≡ []) lists → lists_in lists ≡ replicate (length lists) []
-none_left [] all = refl
-none_left (list ∷ lists) all =
-    let Empty : Vec Job Global → Type 0 = λ it. it.items ≡ [] in
-    ap (λ (x : List Job). x ∷ lists_in lists) (All-head Empty list lists all) ∙ ap (λ (xs : List (List Job)). [] ∷ xs) (none_left lists (All-tail Empty list lists all))
-
--- what a line counts in the child that was looked up
-pub counted : (children looked : List Handle) (number : ℕ) (count : Count) (handle : Handle) (what : JobOp) → looked ≡ children → number ≡ count.child
-    → number < length looked → handle ≡ get_or looked number handle → Some what ≡ job_for count.what count.by handle → job_in children count ≡ Some what
-counted children looked number count handle what same is lt here counts =
-    let at : slice_get looked number ≡ Some handle = slice_get-get_or looked number handle lt ∙ ap Some (sym here) in
-    let found : slice_get children count.child ≡ Some handle =
-    subst (λ (l : List Handle). slice_get l count.child ≡ Some handle) same (subst (λ (n : ℕ). slice_get looked n ≡ Some handle) is at) in
-    ap (option_and_then (job_for count.what count.by)) found ∙ sym counts
+-- what a line counts, by the job that its entry makes
+pub counted : (children : List Handle) (line number : ℕ) (count : Count) (job : Job) → number ≡ count.child
+    → job_of children (record { line = line; child = number; by = count.by; what = count.what }) ≡ Some job
+    → (what : JobOp) × (job_in children count ≡ Some what) × (job ≡ record { line = line; what = what })
+counted children line number count job is makes =
+    let entry : Entry = record { line = line; child = number; by = count.by; what = count.what } in
+    let parts = job_parts entry (option_and_then (job_for count.what count.by) (slice_get children number)) job makes in
+    (parts.0, subst (λ (n : ℕ). option_and_then (job_for count.what count.by) (slice_get children n) ≡ Some parts.0) is parts.1, parts.2)

@@ -1,6 +1,5 @@
 -- What a line leaves ready, and what a line that prints nothing comes to.
 use Rattle.std.proofs.Common.{◌≡◌, ℕ, List, [], All, map, length, refl, sym, subst, ap, ◌∙◌}
-use Rattle.std.proofs.lemmas.List.{length-map}
 use Rattle.metric_desc.specs.Desc.{Descriptor}
 use Rattle.register_rule.specs.Seats.{board_id}
 use Rattle.register_rule.specs.declared.board.Board.{Board}
@@ -13,7 +12,6 @@ use Rattle.snapshot_scan.specs.Scanners.{board_in, reader_in}
 use Rattle.snapshot_update.specs.declared.worker.Worker.{Worker}
 use Rattle.snapshot_update.specs.Workers.{index_of, IsWorkerOf}
 use Rattle.metrics_run.specs.Done.{IsDone, IsStepped}
-use Rattle.metrics_run.specs.Jobs.{jobs_in}
 use Rattle.metrics_run.specs.Refusals.{IsActRefusal, IsRefused}
 use Rattle.metrics_run.specs.Scans.{Scans}
 use Rattle.metrics_run.specs.State.{IsReady, IsRegistered, IsSame}
@@ -34,7 +32,7 @@ registered_ready old new desc is ready =
           (subst (λ (r : Registry Scans). IsReaderOf old.board.now (reader_in r.source)) (sym is.registry) ready.scraper);
       id = ap (λ (r : Registry Scans). r.id) is.registry ∙ (ready.id ∙ ap board_id (sym board));
       settler = subst (λ (b : Board 4 64 8 16). IsReaderOf b new.settler) (sym board) (subst (IsReaderOf old.board.now) (sym beside.settler) ready.settler);
-      lists = sym (length-map new.queue.items jobs_in) ∙ (ap length beside.queue ∙ (length-map old.queue.items jobs_in ∙ ready.lists));
+      lists = ap length beside.queue ∙ ready.lists;
     }
 
 -- a line that prints nothing and counts nothing was done

@@ -1,7 +1,5 @@
 -- The jobs that wait for `go`.
-use Rattle.std.specs.Prelude.{ℕ, List, map, replicate, ◌++◌, slice_index_or, slice_set, Option, Some, None, []}
-use Rattle.std.specs.declared.vec.Vec.{Vec}
-use Rattle.std.specs.declared.alloc.Global.{Global}
+use Rattle.std.specs.Prelude.{ℕ, List, replicate, ◌++◌, slice_index_or, slice_set, Option, Some, None, []}
 use Rattle.registry_state.specs.declared.handle.Handle.{Handle}
 use Rattle.script_lines.specs.declared.line.Counting.{Counting}
 use Rattle.script_lines.specs.declared.line.Counting.TheVariants.{Inc, Obs, Up, Down}
@@ -23,14 +21,6 @@ job_for Up by (Handle.Gauge gauge) = Some (job.Up gauge by)
 job_for Down by (Handle.Counter counter) = None
 job_for Down by (Handle.Histogram histogram) = None
 job_for Down by (Handle.Gauge gauge) = Some (job.Down gauge by)
-
--- the jobs of a worker's list
-abbrev pub jobs_in : Vec Job Global → List Job
-jobs_in list = list.items
-
--- the jobs of all workers
-abbrev pub lists_in : List (Vec Job Global) → List (List Job)
-lists_in lists = map jobs_in lists
 
 -- with this job behind the list of a worker, so many times
 abbrev pub with_jobs : (worker : ℕ) → Job → (times : ℕ) → List (List Job) → List (List Job)

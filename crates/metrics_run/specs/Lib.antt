@@ -3,6 +3,8 @@ pub mod Parts
 pub mod Printed
 pub mod Status
 pub mod Jobs
+pub mod Entries
+pub mod Waiting
 pub mod Children
 pub mod Scans
 pub mod State

@@ -9,7 +9,6 @@ use Rattle.metrics_serve.specs.Printed.{Begins}
 use Rattle.metrics_run.specs.Done.{IsStepped}
 use Rattle.metrics_run.specs.Refusals.{IsLineRefused}
 use Rattle.metrics_run.specs.declared.line_fault.LineFault.TheVariants as fault
-use Rattle.metrics_run.specs.declared.refused.Refused.{Refused}
 use Rattle.metrics_run.specs.declared.script.Stop.{Stop}
 use Rattle.metrics_run.specs.declared.script.Stop.TheVariants as stop
 use Rattle.metrics_run.specs.declared.state.State.{State}

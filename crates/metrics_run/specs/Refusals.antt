@@ -14,7 +14,7 @@ use Rattle.script_lines.specs.Language.{Saying, Nothing, Counter, Gauge, Histogr
 use Rattle.worker_pool.specs.Ends.{IsPoolFault}
 use Rattle.worker_pool.specs.declared.fault.PoolFault.{PoolFault}
 use Rattle.worker_pool.specs.declared.fault.PoolFault.TheVariants as pool
-use Rattle.metrics_run.specs.Jobs.{lists_in}
+use Rattle.metrics_run.specs.Waiting.{lists_in}
 use Rattle.metrics_run.specs.Parts.{IsDescribed, AreRead, AreValuesRefused, IsPlainRefusal, IsHistogramRefusal}
 use Rattle.metrics_run.specs.Scans.{gave_in, gave_up_in, quit_in}
 use Rattle.metrics_run.specs.State.{job_in, IsBeside, IsSame}
@@ -51,7 +51,7 @@ IsChildRefusal old name values refusal =
 -- why nothing is queued: there is no such child, or there is no room
 abbrev pub IsQueueRefusal : State → Counted → LineFault → Type 0
 IsQueueRefusal old count refusal =
-    ((refusal ≡ fault.NoSuchChild) × (job_in old.children.items count ≡ None)) ⊎ ((refusal ≡ fault.NoMemory) × (job_in old.children.items count ≢ None))
+    ((refusal ≡ fault.NoSuchChild) × (job_in old.queue.children.items count ≡ None)) ⊎ ((refusal ≡ fault.NoMemory) × (job_in old.queue.children.items count ≢ None))
 
 -- the line by which a fault of the pool is told: that of the job that was refused, or that of the `go`
 abbrev pub told_at : (line : ℕ) → PoolFault → ℕ
@@ -70,8 +70,8 @@ pub record IsLost (old new : State) : Type 0 where
   pub board : new.board.now ≡ old.board.now
   pub registry : new.registry ≡ old.registry
   pub settler : new.settler ≡ old.settler
-  pub children : new.children.items ≡ old.children.items
-  pub queue : lists_in new.queue.items ≡ lists_in old.queue.items
+  pub children : new.queue.children.items ≡ old.queue.children.items
+  pub queue : lists_in new.queue ≡ lists_in old.queue
 
 -- the registry made no scrape, and has the families, the kept scrapes and the window that it had
 pub record IsNotScraped (old : State) (wrong : ScrapeFault) (new : State) : Type 0 where
@@ -134,7 +134,7 @@ IsRefused old number (Child name values) refused new = IsToldAt number (IsActRef
 IsRefused old number (Count what worker child by times) refused new =
     IsToldAt number (IsActRefusal old (Count what worker child by times)) refused × IsSame old new
 IsRefused old number Go refused new =
-    ((wrong : PoolFault) × IsGoRefusal number wrong refused × IsPoolFault true old.board.now old.queue.items old.workers.items wrong) × IsLost old new
+    ((wrong : PoolFault) × IsGoRefusal number wrong refused × IsPoolFault true old.board.now (lists_in old.queue) old.workers.items wrong) × IsLost old new
 IsRefused old number Scrape refused new = IsToldAt number (λ refusal. IsScrapeRefusal old refusal new) refused
 IsRefused old number Settle refused new = ⊥
 IsRefused old number (Window size) refused new = IsToldAt number (IsWindowRefusal size) refused × IsSame old new

@@ -19,7 +19,8 @@ use Rattle.worker_pool.specs.declared.job.JobOp.{JobOp}
 use Rattle.worker_pool.specs.Ends.{DidAll}
 use Rattle.metrics_run.specs.Parts.{AreRead}
 use Rattle.metrics_run.specs.Children.{HasOne}
-use Rattle.metrics_run.specs.Jobs.{job_for, lists_in, with_jobs}
+use Rattle.metrics_run.specs.Jobs.{job_for, with_jobs}
+use Rattle.metrics_run.specs.Waiting.{lists_in}
 use Rattle.metrics_run.specs.Scans.{gave_in}
 use Rattle.metrics_run.specs.declared.state.State.{State}
 use Rattle.metrics_run.specs.declared.state.Count.{Count}
@@ -33,7 +34,7 @@ pub record IsReady (state : State) : Type 0 where
   pub scraper : IsReaderOf state.board.now (reader_in state.registry.source)
   pub id : state.registry.id ≡ board_id state.board.now
   pub settler : IsReaderOf state.board.now state.settler
-  pub lists : length state.queue.items ≡ 4
+  pub lists : length (lists_in state.queue) ≡ 4
 
 -- nothing yet: these workers of this board, no families, no children, and no jobs
 pub record IsFresh (board : Board 4 64 8 16) (workers : List (Worker 4 64 8 16)) (state : State) : Type 0 where
@@ -42,16 +43,16 @@ pub record IsFresh (board : Board 4 64 8 16) (workers : List (Worker 4 64 8 16))
   pub journal : state.registry.journal ≡ []
   pub families : state.registry.state ≡ nothing
   pub window : state.registry.window ≡ 64
-  pub children : state.children.items ≡ []
-  pub queue : lists_in state.queue.items ≡ replicate 4 []
+  pub children : state.queue.children.items ≡ []
+  pub queue : lists_in state.queue ≡ replicate 4 []
 
 -- nothing has changed but the registry
 pub record IsBeside (old new : State) : Type 0 where
   pub board : new.board.now ≡ old.board.now
   pub workers : new.workers.items ≡ old.workers.items
   pub settler : new.settler ≡ old.settler
-  pub children : new.children.items ≡ old.children.items
-  pub queue : lists_in new.queue.items ≡ lists_in old.queue.items
+  pub children : new.queue.children.items ≡ old.queue.children.items
+  pub queue : lists_in new.queue ≡ lists_in old.queue
 
 -- nothing has changed
 pub record IsSame (old new : State) : Type 0 where
@@ -75,12 +76,12 @@ pub record IsFound (name values : List ℕ) (old new : State) (handle : Handle) 
 pub record IsNumbered (name values : List ℕ) (old new : State) : Type 0 where
   pub handle : Handle
   pub found : IsFound name values old new handle
-  pub numbered : (HasOne old.children.items handle × (new.children.items ≡ old.children.items))
-      ⊎ ((¬ (HasOne old.children.items handle)) × (new.children.items ≡ old.children.items ++ handle ∷ []))
+  pub numbered : (HasOne old.queue.children.items handle × (new.queue.children.items ≡ old.queue.children.items))
+      ⊎ ((¬ (HasOne old.queue.children.items handle)) × (new.queue.children.items ≡ old.queue.children.items ++ handle ∷ []))
   pub board : new.board.now ≡ old.board.now
   pub workers : new.workers.items ≡ old.workers.items
   pub settler : new.settler ≡ old.settler
-  pub queue : lists_in new.queue.items ≡ lists_in old.queue.items
+  pub queue : lists_in new.queue ≡ lists_in old.queue
 
 -- what a line counts, if there is such a child
 abbrev pub job_in : List Handle → Count → Option JobOp
@@ -89,22 +90,22 @@ job_in children count = option_and_then (job_for count.what count.by) (slice_get
 -- a job waits, from this line, as often as it says
 pub record IsQueued (old : State) (line : ℕ) (count : Count) (new : State) : Type 0 where
   pub what : JobOp
-  pub counts : job_in old.children.items count ≡ Some what
-  pub queue : lists_in new.queue.items ≡ with_jobs count.worker (record { line = line; what = what }) count.times (lists_in old.queue.items)
+  pub counts : job_in old.queue.children.items count ≡ Some what
+  pub queue : lists_in new.queue ≡ with_jobs count.worker (record { line = line; what = what }) count.times (lists_in old.queue)
   pub board : new.board.now ≡ old.board.now
   pub registry : new.registry ≡ old.registry
   pub workers : new.workers.items ≡ old.workers.items
   pub settler : new.settler ≡ old.settler
-  pub children : new.children.items ≡ old.children.items
+  pub children : new.queue.children.items ≡ old.queue.children.items
 
 -- each worker did all jobs of its list, and no job waits
 pub record IsGone (old new : State) : Type 0 where
-  pub did : DidAll old.board.now old.queue.items old.workers.items new.workers.items
-  pub emptied : lists_in new.queue.items ≡ replicate 4 []
+  pub did : DidAll old.board.now (lists_in old.queue) old.workers.items new.workers.items
+  pub emptied : lists_in new.queue ≡ replicate 4 []
   pub board : new.board.now ≡ old.board.now
   pub registry : new.registry ≡ old.registry
   pub settler : new.settler ≡ old.settler
-  pub children : new.children.items ≡ old.children.items
+  pub children : new.queue.children.items ≡ old.queue.children.items
 
 -- the registry made a scrape of all its families, which it keeps, and this is its text
 pub record IsScraped (old : State) (bytes : List ℕ) (new : State) : Type 0 where
@@ -121,8 +122,8 @@ pub record IsSettled (old new : State) : Type 0 where
   pub lists : map lists_of new.workers.items ≡ map lists_of old.workers.items
   pub board : new.board.now ≡ old.board.now
   pub registry : new.registry ≡ old.registry
-  pub children : new.children.items ≡ old.children.items
-  pub queue : lists_in new.queue.items ≡ lists_in old.queue.items
+  pub children : new.queue.children.items ≡ old.queue.children.items
+  pub queue : lists_in new.queue ≡ lists_in old.queue
 
 -- the registry keeps so many scrapes from now on, the newest, and so many are kept now
 pub record IsWindowed (size kept : ℕ) (old new : State) : Type 0 where

@@ -5,13 +5,15 @@ ghost use Rattle.snapshot_update.specs.Workers.{index_of, IsWorkerOf};
 ghost use Rattle.worker_pool.specs.Ends.{IsPoolFault};
 ghost use Rattle.script_lines.specs.Language.{AreValues};
 ghost use Rattle.metrics_run.specs.LineFault.{number_of};
+ghost use Rattle.metrics_run.specs.Waiting.{lists_in};
 ghost use Rattle.metrics_run.specs.State.{IsReady, IsFresh, IsSame, IsRegistered, IsNumbered, IsQueued, IsGone, IsScraped, IsSettled, IsWindowed};
 ghost use Rattle.metrics_run.specs.Refusals.{IsRegisterRefusal, IsChildRefusal, IsQueueRefusal, IsGoRefusal, IsLost, IsScrapeRefusal, IsWindowRefusal};
 
 use crate::children::has_number;
-use crate::jobs::{add_times, drop_jobs, job_of};
+use crate::entry::Entry;
 use crate::line_fault::LineFault;
 use crate::parts::read_values;
+use crate::queue::Queue;
 use crate::refused::Refused;
 use crate::state::{Count, State};
 use chain_law::settle;
@@ -25,13 +27,10 @@ use std::alloc::Global;
 use std::mem;
 use std::sync::Wait;
 use std::thread::Threads;
-use worker_pool::{Job, Open, PoolFault, run_pool};
+use worker_pool::{Open, PoolFault, run_lists};
 
 /// How many scrapes a script's registry keeps at first.
 const WINDOW: usize = 64;
-
-/// How many workers there are.
-const WORKERS: usize = 4;
 
 /// The line and the fault by which a `go` is refused: the line of the job that was refused, or its own.
 fn told(line: u64, fault: PoolFault) -> Refused
@@ -45,18 +44,6 @@ fn told(line: u64, fault: PoolFault) -> Refused
         line,
         fault: LineFault::Pool(fault),
     }
-}
-
-/// An empty list of jobs for each worker.
-fn no_jobs(alloc: Global) -> Result<Vec<Vec<Job>>, NoMemory>
-    ensures all { IfOk result (λ v. length v.items ≡ 4) }
-    ensures none { IfOk result (λ v. All (λ list. list.items ≡ []) v.items) }
-{
-    let mut lists = Vec::with_capacity(alloc, WORKERS)?;
-    for _worker in 0..WORKERS {
-        lists.push(Vec::new(alloc))?;
-    }
-    Ok(lists)
 }
 
 impl<'a> State<'a> {
@@ -74,7 +61,7 @@ impl<'a> State<'a> {
             settler,
         } = staff;
         let settled = Snapshot::new(alloc)?;
-        let queue = no_jobs(alloc)?;
+        let queue = Queue::new(alloc)?;
         match Registry::new(alloc, Scanner::new(board, scraper), board.id(), WINDOW) {
             Ok(registry) => Ok(State {
                 alloc,
@@ -83,7 +70,6 @@ impl<'a> State<'a> {
                 workers,
                 settler,
                 settled,
-                children: Vec::new(alloc),
                 queue,
             }),
             Err(_) => Err(NoMemory),
@@ -116,18 +102,18 @@ impl<'a> State<'a> {
         let Some(family) = self.registry.family(name) else {
             return Err(LineFault::NoSuchFamily);
         };
-        if self.children.reserve(1).is_err() {
+        if self.queue.reserve_child().is_err() {
             return Err(LineFault::NoMemory);
         }
         let handle = match self.registry.child(family, &values) {
             Ok(handle) => handle,
             Err(fault) => return Err(LineFault::Child(fault)),
         };
-        if has_number(&self.children, &handle) {
+        if has_number(&self.queue.children, &handle) {
             return Ok(());
         }
         // The room was made above.
-        let _ = self.children.push(handle);
+        self.queue.add_child(handle);
         Ok(())
     }
 
@@ -140,17 +126,19 @@ impl<'a> State<'a> {
         ensures fault { IfErr result (IsQueueRefusal self.old count) }
         ensures unchanged { OnErr result (IsSame self.old self.new) }
     {
-        let Ok(number) = usize::try_from(count.child) else {
+        let Ok(child) = usize::try_from(count.child) else {
             return Err(LineFault::NoSuchChild);
         };
-        let Some(handle) = self.children.get(number) else {
-            return Err(LineFault::NoSuchChild);
+        let entry = Entry {
+            line,
+            child,
+            by: count.by,
+            what: count.what,
         };
-        let Some(what) = job_of(handle, count.what, count.by) else {
+        if entry.job(&self.queue.children).is_none() {
             return Err(LineFault::NoSuchChild);
-        };
-        let job = Job { line, what };
-        match add_times(&mut self.queue[count.worker], &job, count.times) {
+        }
+        match self.queue.add(count.worker, &entry, count.times) {
             Ok(()) => Ok(()),
             Err(NoMemory) => Err(LineFault::NoMemory),
         }
@@ -161,15 +149,15 @@ impl<'a> State<'a> {
         requires ready { IsReady self.old }
         ensures ready { OnOk result (IsReady self.new) }
         ensures gone { OnOk result (IsGone self.old self.new) }
-        ensures fault { IfErr result (λ refused. (fault : PoolFault) × IsGoRefusal line fault refused × IsPoolFault true self.old.board.now self.old.queue.items self.old.workers.items fault) }
+        ensures fault { IfErr result (λ refused. (fault : PoolFault) × IsGoRefusal line fault refused × IsPoolFault true self.old.board.now (lists_in self.old.queue) self.old.workers.items fault) }
         ensures opened { IfErr result (λ refused. number_of refused.fault ≢ 29) }
         ensures lost { OnErr result (IsLost self.old self.new) }
     {
         let workers = mem::replace(&mut self.workers, Vec::new(self.alloc));
-        match run_pool(rt, self.alloc, self.board, workers, &self.queue, &Open) {
+        match run_lists(rt, self.alloc, self.board, workers, &self.queue, &Open) {
             Ok(workers) => {
                 self.workers = workers;
-                drop_jobs(&mut self.queue);
+                self.queue.clear();
                 Ok(())
             }
             Err(fault) => Err(told(line, fault)),

@@ -1,14 +1,14 @@
-//! The jobs that wait for `go`, a list for each worker.
-ghost use Rattle.std.specs.Prelude.{◌≡◌, ◌++◌, [], length, replicate, All, OnErr, OnOk};
+//! What the children's handles count, and lists that grow.
+ghost use Rattle.std.specs.Prelude.{◌≡◌, ◌++◌, replicate, OnErr, OnOk};
 ghost use Rattle.metrics_run.specs.Jobs.{job_for};
 
 use metric_names::NoMemory;
 use registry_state::Handle;
 use script_lines::Counting;
-use worker_pool::{Job, JobOp};
+use worker_pool::JobOp;
 
 /// What counts `by` in a handle, if its kind is that.
-pub(crate) fn job_of(handle: &Handle, what: Counting, by: u64) -> Option<JobOp>
+pub(crate) fn op_for(handle: &Handle, what: Counting, by: u64) -> Option<JobOp>
     ensures { result ≡ job_for what by handle.now }
 {
     match (what, handle) {
@@ -34,14 +34,4 @@ pub(crate) fn add_times<T: Copy>(list: &mut Vec<T>, value: &T, times: u64) -> Re
         let _ = list.push(*value);
     }
     Ok(())
-}
-
-/// Drops all jobs, and keeps the lists' room.
-pub(crate) fn drop_jobs(lists: &mut [Vec<Job>])
-    ensures all { length lists.new ≡ length lists.old }
-    ensures none { All (λ list. list.items ≡ []) lists.new }
-{
-    for list in lists.iter_mut() {
-        list.clear();
-    }
 }

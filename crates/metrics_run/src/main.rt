@@ -8,9 +8,11 @@
 mod arguments;
 mod calls;
 mod children;
+mod entry;
 mod jobs;
 mod line_fault;
 mod parts;
+mod queue;
 mod refused;
 mod script;
 mod state;

@@ -1,12 +1,11 @@
 //! What a script has made so far.
+use crate::queue::Queue;
 use metrics_serve::{Board, Reader, Registry, Snapshot, Worker};
-use registry_state::Handle;
 use script_lines::Counting;
 use std::alloc::Global;
-use worker_pool::Job;
 
-/// What a script has made so far: its registry, which nobody shares, the handles of its children by their numbers, and a list of jobs
-/// for each worker, which wait for `go`. The workers are at home here between two lines.
+/// What a script has made so far: its registry, which nobody shares, and its children by their numbers, with the
+/// jobs that wait for `go`. The workers are at home here between two lines.
 #[derive(Drop)]
 pub(crate) struct State<'a> {
     pub(crate) alloc: Global,
@@ -15,8 +14,7 @@ pub(crate) struct State<'a> {
     pub(crate) workers: Vec<Worker>,
     pub(crate) settler: Reader,
     pub(crate) settled: Snapshot,
-    pub(crate) children: Vec<Handle>,
-    pub(crate) queue: Vec<Vec<Job>>,
+    pub(crate) queue: Queue,
 }
 
 /// What a line counts: `by`, so many times, in the child of this number, by this worker.

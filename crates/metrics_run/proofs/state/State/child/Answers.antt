@@ -1,4 +1,4 @@
-use Rattle.std.proofs.Common.{List, ℕ, refl, inr, subst, rules}
+use Rattle.std.proofs.Common.{List, ℕ, refl, ◌∙◌, inr, subst, rules}
 use Rattle.registry_state.specs.Changed.{IsGiven}
 use Rattle.registry_state.specs.Faults.{IsChildFault}
 use Rattle.metrics_run.proofs.state.State.child.Goals as goal
@@ -38,5 +38,5 @@ returns-clause-numbered c =
       board = refl;
       workers = refl;
       settler = refl;
-      queue = refl;
+      queue = c.add_child.ensures.lists ∙ c.reserve_child.ensures.lists;
     }
