@@ -7,8 +7,8 @@ use registry_state::Handle;
 use script_lines::Counting;
 use worker_pool::Job;
 
-/// A job that waits: the line that asked for it, and what it counts in the child of a number. The handle of the child is not in it,
-/// so that it takes 32 bytes, and a [`Job`] 232.
+/// A job that waits: the line that asked for it, and what it counts, `by`, in the child of this number. It has no handle in it, so that it
+/// takes 32 bytes, where a [`Job`] takes 240.
 #[derive(Clone, Copy)]
 pub(crate) struct Entry {
     pub(crate) line: u64,
@@ -16,6 +16,8 @@ pub(crate) struct Entry {
     pub(crate) by: u64,
     pub(crate) what: Counting,
 }
+
+const _: () = prove!(size_of::<Entry>() == 32);
 
 impl Entry {
     /// The job that it makes of its child's handle, if there is such a child, of the kind that it counts.

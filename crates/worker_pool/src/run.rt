@@ -59,7 +59,8 @@ pub fn run_pool<
 ///
 /// # Errors
 ///
-/// Those of [`run_pool`]: 16, 15, 11, 12, 29, 30 and 6.
+/// Those of [`run_pool`]: 16, 15, 11, 12 [`PoolFault::Refused`], 29 [`PoolFault::GateShut`], 30 [`PoolFault::NoThread`], 6
+/// [`PoolFault::NoMemory`].
 pub fn run_lists<
     R: Threads + Wait,
     Q: JobLists + Sync,
