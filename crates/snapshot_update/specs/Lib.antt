@@ -1,5 +1,6 @@
 pub mod Images
 pub mod Changes
+pub mod Run
 pub mod Target
 pub mod Fit
 pub mod Updated

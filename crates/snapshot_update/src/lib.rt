@@ -14,6 +14,7 @@ mod images;
 mod listing;
 mod meeting;
 mod next_fill;
+mod run;
 mod scanning;
 mod touched;
 mod update;

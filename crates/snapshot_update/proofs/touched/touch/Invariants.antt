@@ -1,8 +1,12 @@
 use Rattle.std.proofs.Common.{◌*◌, take}
 use Rattle.ledger_core.specs.Ops.{width, sum_ops}
 use Rattle.snapshot_update.specs.Changes.{Touches}
+use Rattle.snapshot_update.specs.Run.{IsRun}
 use Rattle.snapshot_update.proofs.Touching.{none}
 use Rattle.snapshot_update.proofs.touched.touch.Given as goal
 
 abbrev pub invariant-loop-op : goal.invariant-loop-op
-invariant-loop-op g l = Touches (3 * l.op-index) (width g.row.C g.row.H g.row.G) (sum_ops g.row.C g.row.H (take l.op-index l.ops)) none l.touched
+invariant-loop-op g l = record {
+  touches : Touches (3 * l.op-index) (width g.row.C g.row.H g.row.G) (sum_ops g.row.C g.row.H (take l.op-index l.ops)) none l.touched;
+  run : IsRun g.row.C g.row.H l.run l.touched;
+}
