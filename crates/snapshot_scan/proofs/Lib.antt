@@ -1,4 +1,7 @@
 pub mod Words
+pub mod Noted
+pub mod Shifted
+pub mod Moving
 pub mod Blank
 pub mod Opening
 pub mod Settling

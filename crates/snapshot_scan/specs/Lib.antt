@@ -1,4 +1,6 @@
 pub mod Shape
+pub mod Changes
+pub mod Exchange
 pub mod Memory
 pub mod Asking
 pub mod Scanned

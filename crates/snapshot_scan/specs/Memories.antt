@@ -7,6 +7,7 @@ use Rattle.ledger_core.specs.Ops.{width}
 use Rattle.snapshot_scan.specs.declared.ending.Ended.{Ended}
 use Rattle.snapshot_scan.specs.declared.ending.Ended.TheVariants.{Direct, Lent, GaveUp}
 use Rattle.snapshot_scan.specs.declared.memory.Memory.{Memory}
+use Rattle.snapshot_scan.specs.Changes.{Changed}
 use Rattle.snapshot_scan.specs.Memory.{version_of}
 use Rattle.register_rule.specs.Steps.{lent_in}
 use Rattle.snapshot_scan.specs.Scanned.{IsIdle}
@@ -36,6 +37,10 @@ module _ {N C H G : ℕ} where
 
   abbrev pub found_in : Memory N C H G → List ℕ
   found_in m = m.found.items
+
+  -- where the last scan may have changed the sums
+  abbrev pub moved_in : Memory N C H G → Changed
+  moved_in m = m.moved
 
   -- the answer of the scan that ended so: its own numbers with the sums of the rows, or the view that was lent
   abbrev pub answer_of : Memory N C H G → Ended → Entry

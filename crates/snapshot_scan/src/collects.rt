@@ -6,9 +6,11 @@ ghost use Rattle.ledger_core.specs.Ops.{width};
 ghost use Rattle.segment_layout.specs.Layout.{IsGeometry, depth};
 ghost use Rattle.register_rule.specs.Steps.{ended};
 ghost use Rattle.register_rule.specs.Seats.{table_of, members_of, MayScan};
+ghost use Rattle.snapshot_scan.specs.Changes.{Moves};
 ghost use Rattle.snapshot_scan.specs.Shape.{scan_in, with_scan, IsRuled};
 ghost use Rattle.snapshot_scan.specs.Memory.{AreWide, AreTotals, AreKnown, HasOther, IsLoaded, version_of, looks_of, opening, settling};
 
+use crate::changes::Changes;
 use crate::kept::Kept;
 use register_rule::{Board, ScanSeat};
 
@@ -78,7 +80,7 @@ fn confirm_known<
     same
 }
 
-/// The second collect of a try. It says whether each number was found again.
+/// The second collect of a try. It says whether each number was found again. Where the totals change is listed in `moved`.
 #[inline(never)]
 fn confirm_all<
     S: ScanSeat<N, C, H, G>,
@@ -93,6 +95,7 @@ fn confirm_all<
     totals: &mut [u64],
     opened: &[u64],
     found: &mut [u64],
+    moved: &mut Changes,
 ) -> bool
     requires own { MayScan board.now (S.bundle seat.old) }
     requires geometry { IsGeometry N C H G }
@@ -110,16 +113,18 @@ fn confirm_all<
     ensures risen { (q : ℕ) → q < N → slice_index opened.now q ≤ slice_index found.new q }
     ensures held { (q : ℕ) (g : Kept) → get_elem? kept.new q ≡ some g → slice_index opened.now q ≡ slice_index found.new q → g.number ≡ slice_index opened.now q }
     ensures clean { IsTrue result ↔ (opened.now ≡ found.new) }
+    ensures listed { Moves (width C H G) totals.old totals.new moved.old moved.new }
 {
     for place in 0..kept.len() {
         let number = board.confirm(seat, place);
-        kept[place].settle(opened[place], number, totals);
+        kept[place].settle(opened[place], number, totals, moved);
         found[place] = number;
     }
     opened == found
 }
 
-/// The second collect of a try. It says whether each number was found again. `known` says that all rows are remembered.
+/// The second collect of a try. It says whether each number was found again. `known` says that all rows are remembered. Where
+/// the totals change is listed in `moved`.
 #[inline(always)]
 pub(crate) fn confirm<
     S: ScanSeat<N, C, H, G>,
@@ -134,6 +139,7 @@ pub(crate) fn confirm<
     totals: &mut [u64],
     opened: &[u64],
     found: &mut [u64],
+    moved: &mut Changes,
     known: bool,
 ) -> bool
     requires own { MayScan board.now (S.bundle seat.old) }
@@ -154,9 +160,10 @@ pub(crate) fn confirm<
     ensures held { (q : ℕ) (g : Kept) → get_elem? kept.new q ≡ some g → slice_index opened.now q ≡ slice_index found.new q → g.number ≡ slice_index opened.now q }
     ensures clean { IsTrue result ↔ (opened.now ≡ found.new) }
     ensures quiet { known ≡ true → (kept.new ≡ kept.old) × (totals.new ≡ totals.old) }
+    ensures listed { Moves (width C H G) totals.old totals.new moved.old moved.new }
 {
     if known {
         return confirm_known(board, seat, kept, opened, found);
     }
-    confirm_all(board, seat, kept, totals, opened, found)
+    confirm_all(board, seat, kept, totals, opened, found, moved)
 }

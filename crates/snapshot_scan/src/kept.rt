@@ -6,7 +6,10 @@ ghost use Rattle.segment_layout.specs.Layout.{depth};
 ghost use Rattle.register_rule.specs.Members.{led, scanned};
 ghost use Rattle.register_rule.specs.Told.{IsNumber};
 ghost use Rattle.register_rule.specs.Seats.{table_of, members_of, MayScan};
+ghost use Rattle.snapshot_scan.specs.Changes.{Moves};
 
+use crate::changes::Changes;
+use crate::exchange::exchange;
 use crate::items::read_items;
 use ledger_core::Row;
 use register_rule::{Board, ScanSeat};
@@ -68,42 +71,46 @@ impl Kept {
     }
 
     /// The confirming load of the segment, which was opened at `opened`, found `found`. Where that is the same number, the
-    /// row is remembered, and its words take the place of the old ones in the totals.
+    /// row is remembered, and its words take the place of the old ones in the totals. Where these change is listed in `moved`.
     #[inline]
-    pub fn settle(&mut self, opened: u64, found: u64, totals: &mut [u64])
+    pub fn settle(&mut self, opened: u64, found: u64, totals: &mut [u64], moved: &mut Changes)
         requires wide { IsWide (length totals.old) self.old }
         requires part { (k : ℕ) → k < length totals.old → (slice_index self.old.row.items k ≤ slice_index totals.old k) × (slice_index totals.old k ≤ 9007199254740992) }
         ensures wide { IsWide (length totals.old) self.new }
         ensures version { version_of self.new ≡ cond (opened == found) (record { number = opened; row = words_of opened self.old }) (version_of self.old) }
         ensures words { words_of opened self.new ≡ words_of opened self.old }
         ensures totals { (k : ℕ) → k < length totals.old → slice_index totals.new k + slice_index self.old.row.items k ≡ slice_index totals.old k + slice_index self.new.row.items k }
+        ensures moved { Moves (length totals.old) totals.old totals.new moved.old moved.new }
     {
         if found == opened && opened != self.number {
-            self.replace(opened, totals);
+            self.replace(opened, totals, moved);
         }
     }
 
-    /// Remembers the row in `fresh`, under this number, and its words take the place of the old ones in the totals.
+    /// Remembers the row in `fresh`, under this number, and its words take the place of the old ones in the totals. Where
+    /// these change is listed in `moved`.
     #[inline]
-    pub fn replace(&mut self, number: u64, totals: &mut [u64])
+    pub fn replace(&mut self, number: u64, totals: &mut [u64], moved: &mut Changes)
         requires wide { IsWide (length totals.old) self.old }
         requires part { (k : ℕ) → k < length totals.old → (slice_index self.old.row.items k ≤ slice_index totals.old k) × (slice_index totals.old k ≤ 9007199254740992) }
         ensures wide { IsWide (length totals.old) self.new }
         ensures version { version_of self.new ≡ record { number = number; row = self.old.fresh.items } }
         ensures swapped { self.new.fresh.items ≡ self.old.row.items }
         ensures totals { (k : ℕ) → k < length totals.old → slice_index totals.new k + slice_index self.old.row.items k ≡ slice_index totals.old k + slice_index self.old.fresh.items k }
+        ensures moved { Moves (length totals.old) totals.old totals.new moved.old moved.new }
     {
-        exchange(totals, self.row.as_slice(), self.fresh.as_slice());
+        exchange(totals, self.row.as_slice(), self.fresh.as_slice(), moved);
         swap(&mut self.row, &mut self.fresh);
         self.number = number;
     }
 
-    /// Remembers this row under this number.
+    /// Remembers this row under this number. Where the totals change is listed in `moved`.
     pub fn learn<const C: usize, const H: usize, const G: usize>(
         &mut self,
         number: u64,
         row: &Row<C, H, G>,
         totals: &mut [u64],
+        moved: &mut Changes,
     )
         requires long { length totals.old ≡ width C H G }
         requires wide { IsWide (width C H G) self.old }
@@ -113,7 +120,7 @@ impl Kept {
         ensures totals { (k : ℕ) → k < width C H G → slice_index totals.new k + slice_index self.old.row.items k ≡ slice_index totals.old k + slice_index row.now k }
     {
         copy_words(self.fresh.as_mut_slice(), row);
-        self.replace(number, totals);
+        self.replace(number, totals, moved);
     }
 
     /// Remembers this row under this number, where it differs from the remembered one at these words alone.
@@ -185,17 +192,4 @@ fn change_word(totals: &mut [u64], old: &mut [u64], item: usize, word: u64)
 {
     totals[item] = totals[item] - old[item] + word;
     old[item] = word;
-}
-
-/// Takes the words of one row from the totals, and adds those of another.
-#[inline]
-fn exchange(totals: &mut [u64], old: &[u64], new: &[u64])
-    requires lengths { (length old.now ≡ length totals.old) × (length new.now ≡ length totals.old) }
-    requires part { (k : ℕ) → k < length totals.old → (slice_index old.now k ≤ slice_index totals.old k) × (slice_index totals.old k ≤ 9007199254740992) }
-    requires low { (k : ℕ) → k < length totals.old → slice_index new.now k ≤ greatest_word }
-    ensures { (k : ℕ) → k < length totals.old → slice_index totals.new k + slice_index old.now k ≡ slice_index totals.old k + slice_index new.now k }
-{
-    for k in 0..totals.len() {
-        totals[k] = totals[k] - old[k] + new[k];
-    }
 }

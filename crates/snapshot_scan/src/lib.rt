@@ -13,9 +13,11 @@
 #![tactic(auto)]
 
 mod asks;
+mod changes;
 mod collects;
 mod contended;
 mod ending;
+mod exchange;
 mod items;
 mod kept;
 mod lending;
@@ -35,6 +37,7 @@ mod scans;
 mod snapshot;
 mod source;
 
+pub use changes::Changes;
 pub use contended::Contended;
 pub use ending::Ended;
 pub use memory::Memory;

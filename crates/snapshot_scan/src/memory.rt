@@ -4,16 +4,19 @@ ghost use Rattle.ledger_core.specs.Ops.{width};
 ghost use Rattle.segment_layout.specs.Layout.{IsGeometry};
 ghost use Rattle.snapshot_scan.specs.Memory.{AreWide, AreTotals};
 
+use crate::changes::Changes;
 use crate::kept::Kept;
 
 /// What the scans of one seat work with and remember: of each segment the row that was confirmed last, the sums of these
-/// rows, the numbers of both collects, and the words that a worker lends. It grows no more once it is made.
+/// rows, the numbers of both collects, the words that a worker lends, and where the sums changed. It grows no more once it is
+/// made.
 pub struct Memory<const N: usize, const C: usize, const H: usize, const G: usize> {
     pub(crate) kept: Vec<Kept>,
     pub(crate) totals: Vec<u64>,
     pub(crate) opened: Vec<u64>,
     pub(crate) found: Vec<u64>,
     pub(crate) lent: Vec<u64>,
+    pub(crate) moved: Changes,
     ghost geometry: { IsGeometry N C H G },
     ghost sizes: { (length kept.items ≡ N) × (length totals.items ≡ width C H G) × (length opened.items ≡ N) × (length found.items ≡ N) × (length lent.items ≡ 1 + N + width C H G) },
     ghost wide: { AreWide (width C H G) kept.items },
@@ -28,6 +31,7 @@ impl<const N: usize, const C: usize, const H: usize, const G: usize> Drop for Me
             opened: _,
             found: _,
             lent: _,
+            moved: _,
         } = self;
     }
 }

@@ -5,8 +5,9 @@ ghost use lib.ListN.{get_elem?};
 ghost use Rattle.ledger_core.specs.Ops.{width};
 ghost use Rattle.register_rule.specs.declared.view.Version.{Version};
 ghost use Rattle.snapshot_scan.specs.Memory.{AreWide, AreTotals, version_of};
-ghost use Rattle.snapshot_scan.specs.Memories.{rows_of, sums_of, answer_of};
+ghost use Rattle.snapshot_scan.specs.Memories.{rows_of, sums_of, moved_in, answer_of};
 
+use crate::changes::Changes;
 use crate::ending::Ended;
 use crate::kept::Kept;
 use crate::memory::Memory;
@@ -27,6 +28,14 @@ impl<const N: usize, const C: usize, const H: usize, const G: usize> Memory<N, C
         (self.opened.as_slice(), self.totals.as_slice())
     }
 
+    /// Where the last scan may have changed the sums of the remembered rows: at no other words.
+    #[inline]
+    pub fn moved(&self) -> &Changes
+        ensures { result.now ≡ moved_in self.now }
+    {
+        &self.moved
+    }
+
     /// Remembers that the row of this segment is now `row`, under this number: its words take the place of the old ones in
     /// the sums.
     pub fn remember(&mut self, place: usize, number: u64, row: &Row<C, H, G>)
@@ -37,6 +46,7 @@ impl<const N: usize, const C: usize, const H: usize, const G: usize> Memory<N, C
         remember_all(
             self.kept.as_mut_slice(),
             self.totals.as_mut_slice(),
+            &mut self.moved,
             place,
             number,
             row,
@@ -69,6 +79,7 @@ impl<const N: usize, const C: usize, const H: usize, const G: usize> Memory<N, C
 fn remember_all<const C: usize, const H: usize, const G: usize>(
     kept: &mut [Kept],
     totals: &mut [u64],
+    moved: &mut Changes,
     place: usize,
     number: u64,
     row: &Row<C, H, G>,
@@ -81,7 +92,7 @@ fn remember_all<const C: usize, const H: usize, const G: usize>(
     ensures totals { AreTotals (width C H G) kept.new totals.new }
     ensures rows { map version_of kept.new ≡ slice_set (map version_of kept.old) place (record { number = number; row = row.now }) }
 {
-    kept[place].learn(number, row, totals);
+    kept[place].learn(number, row, totals, moved);
 }
 
 // As `Memory::remember_at`.

@@ -1,5 +1,5 @@
 //! A scan with the memory of its seat.
-ghost use Rattle.std.specs.Prelude.{◌≡◌, ℕ, ◌+◌, ◌<◌, ◌≤◌, [], ◌∷◌, ◌++◌, Bool, true, false, length, map, replicate, slice_index, take, drop, IfOk, IfErr, OnOk, OnErr};
+ghost use Rattle.std.specs.Prelude.{◌≡◌, ℕ, ◌+◌, ◌<◌, ◌≤◌, [], ◌∷◌, ◌++◌, Bool, true, false, length, map, replicate, slice_index, take, drop, Contains, IfOk, IfErr, OnOk, OnErr};
 ghost use Rattle.ledger_core.specs.Ops.{width};
 ghost use Rattle.segment_layout.specs.Layout.{IsGeometry};
 ghost use Rattle.register_rule.specs.Seats.{table_of, members_of, MayScan};
@@ -13,8 +13,9 @@ ghost use Rattle.snapshot_scan.specs.Contention.{IsFirstMoved, IsContended};
 ghost use Rattle.snapshot_scan.specs.Snapshots.{entry_of};
 ghost use Rattle.snapshot_scan.specs.Scanned.{IsAnswered, HasMoved, IsGivenUp};
 ghost use Rattle.snapshot_scan.specs.Core.{CameTo, AnswersBy};
-ghost use Rattle.snapshot_scan.specs.Memories.{rows_of, sums_of, opened_in, found_in, answer_of, HasView, IsReady};
+ghost use Rattle.snapshot_scan.specs.Memories.{rows_of, sums_of, opened_in, found_in, moved_in, answer_of, HasView, IsReady};
 
+use crate::changes::Changes;
 use crate::contended::{Contended, first_moved};
 use crate::ending::Ended;
 use crate::kept::Kept;
@@ -36,16 +37,19 @@ impl<const N: usize, const C: usize, const H: usize, const G: usize> Memory<N, C
         let opened = vec![in alloc; 0u64; N]?;
         let found = vec![in alloc; 0u64; N]?;
         let lent = vec![in alloc; 0u64; 1 + N + row]?;
+        let moved = Changes::new(alloc)?;
         Ok(Memory {
             kept,
             totals,
             opened,
             found,
             lent,
+            moved,
         })
     }
 
-    /// A scan of at most `N` + 2 tries, which takes no memory and waits for nobody.
+    /// A scan of at most `N` + 2 tries, which takes no memory and waits for nobody. Where it changes the sums of the remembered
+    /// rows is listed ([`Memory::moved`]).
     #[inline(always)]
     pub fn scan<S: ScanSeat<N, C, H, G>>(
         &mut self,
@@ -63,9 +67,13 @@ impl<const N: usize, const C: usize, const H: usize, const G: usize> Memory<N, C
         ensures quiet { result ≡ Ended.Direct true → (rows_of self.new ≡ rows_of self.old) × (sums_of self.new ≡ sums_of self.old) × AreNumbers (opened_in self.new) (rows_of self.new) }
         ensures once { result ≡ Ended.Direct true → (scan_in (S.bundle seat.new)).opened ≡ (scan_in (S.bundle seat.old)).opened ++ pairs 0 (opened_in self.new) }
         ensures moved { result ≡ Ended.Direct false → HasMoved N (rows_of self.old) (scan_in (S.bundle seat.old)) (scan_in (S.bundle seat.new)) }
+        ensures numbers { (q : Bool) → result ≡ Ended.Direct q → AreNumbers (opened_in self.new) (rows_of self.new) }
+        ensures listed { (moved_in self.new).all ≡ false → (k : ℕ) → k < width C H G → ¬ (Contains (moved_in self.new).items k) → slice_index (sums_of self.new) k ≡ slice_index (sums_of self.old) k }
+        ensures words { (j : ℕ) → Contains (moved_in self.new).items j → j < width C H G }
         ensures gave_up { result ≡ Ended.GaveUp → IsGivenUp N (scan_in (S.bundle seat.old)) (scan_in (S.bundle seat.new)) (opened_in self.new) (found_in self.new) }
         ensures came_up { result ≡ Ended.GaveUp → (e : Contended) → IsFirstMoved (opened_in self.new) (found_in self.new) e → CameTo N (width C H G) (scan_in (S.bundle seat.old)) (scan_in (S.bundle seat.new)) (Next.GaveUp e.worker e.first e.last) }
     {
+        self.moved.clear();
         scan(
             board,
             seat,
@@ -74,6 +82,7 @@ impl<const N: usize, const C: usize, const H: usize, const G: usize> Memory<N, C
             self.opened.as_mut_slice(),
             self.found.as_mut_slice(),
             self.lent.as_mut_slice(),
+            &mut self.moved,
         )
     }
 }

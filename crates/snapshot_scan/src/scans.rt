@@ -4,8 +4,9 @@ ghost use Rattle.register_rule.specs.Steps.{answered, gives_up, lent_in};
 ghost use Rattle.ledger_core.specs.Ops.{width};
 ghost use Rattle.segment_layout.specs.Layout.{IsGeometry};
 ghost use Rattle.register_rule.specs.Seats.{table_of, members_of, MayScan};
+ghost use Rattle.snapshot_scan.specs.Changes.{Moves};
 ghost use Rattle.snapshot_scan.specs.Shape.{scan_in, with_scan, IsRuled};
-ghost use Rattle.snapshot_scan.specs.Memory.{AreWide, AreTotals, HasOther, IsLoaded, pairs, version_of, opening, settling, failing};
+ghost use Rattle.snapshot_scan.specs.Memory.{AreWide, AreTotals, AreKnown, HasOther, IsLoaded, pairs, version_of, opening, settling, failing};
 ghost use Rattle.snapshot_core.specs.declared.next.Next.TheVariants as Next;
 ghost use Rattle.snapshot_scan.specs.declared.contended.Contended.{Contended};
 ghost use Rattle.snapshot_scan.specs.Contention.{IsFirstMoved};
@@ -13,12 +14,14 @@ ghost use Rattle.snapshot_scan.specs.Scanned.{IsIdle, IsQuiet, HasMoved, IsAnswe
 ghost use Rattle.snapshot_scan.specs.Core.{CameTo, AnswersBy};
 
 use crate::asks::ask_all;
+use crate::changes::Changes;
 use crate::collects::{collect, confirm};
 use crate::ending::Ended;
 use crate::kept::Kept;
 use register_rule::{Board, ScanSeat};
 
 /// One try of a scan, without the asking. It says whether the try is clean, and in `known` whether each row is remembered.
+/// Where the totals change is listed in `moved`.
 #[inline(always)]
 fn try_once<
     S: ScanSeat<N, C, H, G>,
@@ -33,6 +36,7 @@ fn try_once<
     totals: &mut [u64],
     opened: &mut [u64],
     found: &mut [u64],
+    moved: &mut Changes,
     known: &mut bool,
 ) -> bool
     requires own { MayScan board.now (S.bundle seat.old) }
@@ -54,9 +58,11 @@ fn try_once<
     ensures rose { result ≡ false → (q : ℕ) × (q < N) × (slice_index opened.new q < slice_index found.new q) }
     ensures quiet { known.new ≡ true → IsQuiet kept.old kept.new totals.old totals.new opened.new }
     ensures unknown { known.new ≡ false → HasOther opened.new (map version_of kept.old) }
+    ensures numbers { result ≡ true → AreKnown opened.new kept.new }
+    ensures listed { Moves (width C H G) totals.old totals.new moved.old moved.new }
 {
     *known = collect(board, seat, kept, opened);
-    confirm(board, seat, kept, totals, opened, found, *known)
+    confirm(board, seat, kept, totals, opened, found, moved, *known)
 }
 
 /// One more try of a scan, as [`try_once`]: a scan that is quiet makes none.
@@ -74,6 +80,7 @@ fn try_again<
     totals: &mut [u64],
     opened: &mut [u64],
     found: &mut [u64],
+    moved: &mut Changes,
     known: &mut bool,
 ) -> bool
     requires own { MayScan board.now (S.bundle seat.old) }
@@ -95,14 +102,17 @@ fn try_again<
     ensures rose { result ≡ false → (q : ℕ) × (q < N) × (slice_index opened.new q < slice_index found.new q) }
     ensures quiet { known.new ≡ true → IsQuiet kept.old kept.new totals.old totals.new opened.new }
     ensures unknown { known.new ≡ false → HasOther opened.new (map version_of kept.old) }
+    ensures numbers { result ≡ true → AreKnown opened.new kept.new }
+    ensures listed { Moves (width C H G) totals.old totals.new moved.old moved.new }
 {
-    try_once(board, seat, kept, totals, opened, found, known)
+    try_once(board, seat, kept, totals, opened, found, moved, known)
 }
 
 /// A scan of at most `N` + 2 tries.
 ///
 /// It reads the words only of those rows whose number is not the remembered one. Its memory: what is remembered of each
-/// segment, the sums of the remembered rows, the numbers of both collects, and the words that a worker lends.
+/// segment, the sums of the remembered rows, the numbers of both collects, and the words that a worker lends. Where the sums
+/// change is listed in `moved`.
 #[inline(always)]
 pub(crate) fn scan<
     S: ScanSeat<N, C, H, G>,
@@ -118,6 +128,7 @@ pub(crate) fn scan<
     opened: &mut [u64],
     found: &mut [u64],
     lent: &mut [u64],
+    moved: &mut Changes,
 ) -> Ended
     requires own { MayScan board.now (S.bundle seat.old) }
     requires geometry { IsGeometry N C H G }
@@ -138,11 +149,13 @@ pub(crate) fn scan<
     ensures moved { result ≡ Ended.Direct false → HasMoved N (map version_of kept.old) (scan_in (S.bundle seat.old)) (scan_in (S.bundle seat.new)) }
     ensures lent { result ≡ Ended.Lent → IsAnswered N (scan_in (S.bundle seat.old)) (scan_in (S.bundle seat.new)) (lent_in N (width C H G) lent.new) }
     ensures came_lent { result ≡ Ended.Lent → AnswersBy N (width C H G) (scan_in (S.bundle seat.old)) (scan_in (S.bundle seat.new)) (lent_in N (width C H G) lent.new) }
+    ensures numbers { (q : Bool) → result ≡ Ended.Direct q → AreKnown opened.new kept.new }
+    ensures listed { Moves (width C H G) totals.old totals.new moved.old moved.new }
     ensures gave_up { result ≡ Ended.GaveUp → IsGivenUp N (scan_in (S.bundle seat.old)) (scan_in (S.bundle seat.new)) opened.new found.new }
     ensures came_up { result ≡ Ended.GaveUp → (e : Contended) → IsFirstMoved opened.new found.new e → CameTo N (width C H G) (scan_in (S.bundle seat.old)) (scan_in (S.bundle seat.new)) (Next.GaveUp e.worker e.first e.last) }
 {
     let mut known = false;
-    let clean = try_once(board, seat, kept, totals, opened, found, &mut known);
+    let clean = try_once(board, seat, kept, totals, opened, found, moved, &mut known);
     if clean {
         return Ended::Direct { quiet: known };
     }
@@ -152,7 +165,7 @@ pub(crate) fn scan<
     base.copy_from_slice(found);
     let row = totals.len();
     for _k in 0..N + 1 {
-        let clean = try_again(board, seat, kept, totals, opened, found, &mut known);
+        let clean = try_again(board, seat, kept, totals, opened, found, moved, &mut known);
         if clean {
             return Ended::Direct { quiet: false };
         }

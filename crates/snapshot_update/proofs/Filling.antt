@@ -4,9 +4,9 @@ use Rattle.std.specs.List.{Contains}
 use Rattle.std.proofs.lemmas.Bool.{cases_eq}
 use Rattle.std.proofs.lemmas.List.Elements.{Contains-append_right, Contains-append_cases}
 use Rattle.std.proofs.lemmas.List.{same_lists, get_or_default}
-use Rattle.snapshot_update.specs.Images.{Changed}
-use Rattle.snapshot_update.specs.Changes.{Notes, SoFar}
-use Rattle.snapshot_update.proofs.Noted.{none_listed}
+use Rattle.snapshot_scan.specs.Changes.{Changed, Notes}
+use Rattle.snapshot_update.specs.Changes.{SoFar}
+use Rattle.snapshot_scan.proofs.Noted.{none_listed}
 
 only_one : (x j : ℕ) → Contains (x ∷ []) j → x ≡ j
 only_one x j h = let lt = h.1 in let zero : h.0 ≡ 0 = omega (arith, lt) in subst (λ (k : ℕ). get_or (x ∷ []) k j ≡ j) zero h.2

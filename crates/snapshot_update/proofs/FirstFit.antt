@@ -11,10 +11,10 @@ use Rattle.snapshot_scan.specs.declared.memory.Memory.{Memory}
 use Rattle.snapshot_scan.specs.Memories.{rows_of, sums_of}
 use Rattle.snapshot_scan.proofs.Blank.{zero_in}
 use Rattle.snapshot_update.specs.declared.images.Images.{Images}
-use Rattle.snapshot_update.specs.Images.{Changed}
+use Rattle.snapshot_scan.specs.Changes.{Changed}
 use Rattle.snapshot_update.specs.Fit.{number_in, IsFit, HasSeenOwn}
 use Rattle.snapshot_update.specs.Blank.{AreBlank}
-use Rattle.snapshot_update.proofs.Noted.{none_listed}
+use Rattle.snapshot_scan.proofs.Noted.{none_listed}
 use Rattle.snapshot_update.proofs.VersionWords.{words_long, numbers_long}
 use Rattle.snapshot_update.proofs.Fitting.{rows_many}
 

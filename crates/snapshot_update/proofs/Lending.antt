@@ -21,7 +21,8 @@ use Rattle.snapshot_scan.proofs.Standing.{stands_behind, stands_scanned}
 use Rattle.snapshot_scan.proofs.Words.{front_at, at_map}
 use Rattle.snapshot_update.specs.declared.worker.Worker.{Worker as worker}
 use Rattle.snapshot_update.specs.Lending.{IsLentAs}
-use Rattle.snapshot_update.specs.Images.{Changed, with_hidden}
+use Rattle.snapshot_scan.specs.Changes.{Changed}
+use Rattle.snapshot_update.specs.Images.{with_hidden}
 use Rattle.snapshot_update.specs.Fit.{IsFit, HoldsFor, HasSeenOwn}
 use Rattle.snapshot_update.specs.Updated.{IsUpdated, IsRuledAlone}
 

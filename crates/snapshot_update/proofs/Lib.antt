@@ -1,8 +1,6 @@
-pub mod Noted
 pub mod Touching
 pub mod Filling
 pub mod Giving
-pub mod Shifted
 pub mod VersionWords
 pub mod Fitting
 pub mod FirstFit

@@ -5,7 +5,7 @@ use Rattle.register_rule.specs.declared.view.Member.{Member}
 use Rattle.register_rule.specs.declared.view.Scan.{Scan}
 use Rattle.snapshot_scan.specs.declared.memory.Memory.{Memory}
 use Rattle.snapshot_scan.specs.Memories.{rows_of, sums_of, IsReady}
-use Rattle.snapshot_update.specs.Images.{Changed}
+use Rattle.snapshot_scan.specs.Changes.{Changed}
 use Rattle.snapshot_update.specs.Fit.{number_in, IsFit}
 use Rattle.snapshot_update.proofs.VersionWords.{words_long, numbers_long}
 use Rattle.snapshot_update.proofs.Fitting.{rows_many}

@@ -1,15 +1,6 @@
 -- Noting items at which something changes.
 use Rattle.std.specs.Prelude.{◌≡◌, ℕ, ◌+◌, ◌<◌, ◌≤◌, ◌⊎◌, false, List, length, slice_index, Contains}
-use Rattle.snapshot_update.specs.Images.{Changed}
-
--- all items stay all; else the old items are listed, and this one, and no other. There is room for 256
-pub record Notes (item : ℕ) (old new : Changed) : Type 0 where
-  pub listed : new.all ≡ false → old.all ≡ false
-  pub keeps : new.all ≡ false → (j : ℕ) → Contains old.items j → Contains new.items j
-  pub notes : new.all ≡ false → Contains new.items item
-  pub others : (j : ℕ) → Contains new.items j → Contains old.items j ⊎ (j ≡ item)
-  pub longer : length new.items ≤ length old.items + 1
-  pub fits : old.all ≡ false → length old.items < 256 → new.all ≡ false
+use Rattle.snapshot_scan.specs.Changes.{Changed}
 
 -- the words that rise are listed, of a row of w words: all stay all; else the old items are listed, and behind them n more
 -- at most, words of the row, with each word k at which `by k` is not 0
@@ -20,13 +11,6 @@ pub record Touches (n w : ℕ) (by : ℕ → ℕ) (old new : Changed) : Type 0 w
   pub inside : (j : ℕ) → Contains new.items j → Contains old.items j ⊎ (j < w)
   pub longer : length new.items ≤ length old.items + n
   pub fits : old.all ≡ false → length old.items + n ≤ 256 → new.all ≡ false
-
--- each of these items, so much further along the buffer, is noted, and no other
-pub record NotesEach (shift : ℕ) (items : List ℕ) (old new : Changed) : Type 0 where
-  pub listed : new.all ≡ false → old.all ≡ false
-  pub keeps : new.all ≡ false → (j : ℕ) → Contains old.items j → Contains new.items j
-  pub notes : new.all ≡ false → (j : ℕ) → Contains items j → Contains new.items (j + shift)
-  pub others : (j : ℕ) → Contains new.items j → Contains old.items j ⊎ ((i : ℕ) × Contains items i × (j ≡ i + shift))
 
 -- where two images differ is listed, of their items below n
 pub record SoFar (n : ℕ) (changed : Changed) (old new : List ℕ) : Type 0 where

@@ -10,7 +10,8 @@ use Rattle.register_rule.specs.declared.view.Who.TheVariants.{Worker}
 use Rattle.register_rule.specs.Sums.{total}
 use Rattle.snapshot_scan.specs.declared.memory.Memory.{Memory}
 use Rattle.snapshot_scan.specs.Memories.{rows_of, sums_of, IsReady}
-use Rattle.snapshot_update.specs.Images.{Changed, DifferAt, version_words}
+use Rattle.snapshot_scan.specs.Changes.{Changed}
+use Rattle.snapshot_update.specs.Images.{DifferAt, version_words}
 
 -- all items that are listed are items of a buffer of b words
 abbrev pub AreInside : (b : ℕ) → Changed → Type 0

@@ -1,15 +1,11 @@
 -- Images of buffers: what a worker knows of both its buffers, and where two of them may differ.
 use Rattle.std.specs.Prelude.{◌≡◌, ℕ, Bool, false, ◌<◌, List, ◌∷◌, ◌++◌, length, slice_index, Contains}
 use Rattle.register_rule.specs.declared.view.Member.{Member}
+use Rattle.snapshot_scan.specs.Changes.{Changed}
 
 -- the words of a version's buffer: its row, its flag, and the view that it lends
 abbrev pub version_words : (row : List ℕ) → (flag : ℕ) → (vector totals : List ℕ) → List ℕ
 version_words row flag vector totals = row ++ flag ∷ (vector ++ totals)
-
--- items of a buffer at which something may have changed: these, or all of them
-pub record Changed : Type 0 where
-  pub all : Bool
-  pub items : List ℕ
 
 -- two images differ at no other items
 abbrev pub DifferAt : Changed → (old new : List ℕ) → Type 0

@@ -8,9 +8,9 @@ ghost use Rattle.snapshot_update.specs.Images.{DifferAt, with_hidden};
 ghost use Rattle.snapshot_update.specs.Changes.{SoFar};
 ghost use Rattle.snapshot_update.specs.Target.{target_of};
 
-use crate::changes::Changes;
 use crate::version::Version;
 use register_rule::{Board, WorkSeat};
+use snapshot_scan::Changes;
 
 /// Makes an item of the hidden buffer this word. `hidden` is what the buffer holds, and a word that it holds is not stored.
 #[inline(always)]

@@ -1,7 +1,7 @@
 //! What a worker knows of its buffers.
 ghost use Rattle.std.specs.Prelude.{◌≡◌, true, [], replicate, IfOk};
 
-use crate::changes::Changes;
+use snapshot_scan::Changes;
 use std::alloc::{AllocError, Global};
 
 /// What a worker knows of its buffers: the words of the hidden and of the shown one, and where they may differ from each other

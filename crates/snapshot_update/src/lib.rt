@@ -5,7 +5,6 @@
 #![tactic(auto)]
 
 mod applying;
-mod changes;
 mod counting;
 mod crew;
 mod faults;

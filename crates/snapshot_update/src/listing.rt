@@ -1,8 +1,8 @@
 //! Lists of changes from lists of changes.
 ghost use Rattle.std.specs.Prelude.{◌≡◌, ℕ, ◌+◌, ◌<◌, ◌⊎◌, ◌≤◌, true, false, length, Contains};
-ghost use Rattle.snapshot_update.specs.Changes.{NotesEach};
+ghost use Rattle.snapshot_scan.specs.Changes.{NotesEach};
 
-use crate::changes::Changes;
+use snapshot_scan::Changes;
 
 /// Notes each item that is listed in `from`, so much further along the buffer.
 #[inline]

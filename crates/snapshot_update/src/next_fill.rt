@@ -7,11 +7,11 @@ ghost use Rattle.snapshot_update.specs.Images.{DifferAt, with_hidden};
 ghost use Rattle.snapshot_update.specs.Target.{target_of};
 ghost use Rattle.snapshot_update.specs.Fit.{AreInside};
 
-use crate::changes::Changes;
 use crate::fills::{fill_all, fill_changes, fill_known};
 use crate::listing::{are_both, note_each};
 use crate::version::Version;
 use register_rule::{Board, WorkSeat};
+use snapshot_scan::Changes;
 
 /// Fills the hidden buffer with the version, and lists in `recent` where it differs from what the shown buffer holds. Where
 /// it is `known` that the version differs from that at no items but the late and the touched ones, no others are compared.

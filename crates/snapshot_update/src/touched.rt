@@ -5,9 +5,9 @@ ghost use Rattle.ledger_core.specs.Limits.{AreSlots};
 ghost use Rattle.snapshot_update.specs.Changes.{Touches};
 ghost use Rattle.snapshot_update.specs.Run.{IsRun};
 
-use crate::changes::Changes;
 use crate::run::Run;
 use ledger_core::Op;
+use snapshot_scan::Changes;
 
 /// How many words a histogram has.
 const HIST: usize = 27;

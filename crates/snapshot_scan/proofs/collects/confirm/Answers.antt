@@ -1,4 +1,6 @@
 use Rattle.std.proofs.Common.{◌≡◌, true, false, refl, sym, ◌∙◌}
+use Rattle.ledger_core.specs.Ops.{width}
+use Rattle.snapshot_scan.proofs.Moving.{moves_none}
 use Rattle.snapshot_scan.proofs.collects.confirm.Goals as goal
 
 not_known : true ≡ false → ⊥
@@ -57,3 +59,9 @@ returns-clause-clean g c = c.confirm_all.ensures.clean
 
 pub returns-clause-quiet : goal.returns-clause-quiet
 returns-clause-quiet g c = λ e. absurd (not_known (sym e ∙ c.if-known.false))
+
+pub returns-then-known-clause-listed : goal.returns-then-known-clause-listed
+returns-then-known-clause-listed g c = moves_none (width g.row.C g.row.H g.row.G) c.args.totals.now c.args.moved.now
+
+pub returns-clause-listed : goal.returns-clause-listed
+returns-clause-listed g c = c.confirm_all.ensures.listed

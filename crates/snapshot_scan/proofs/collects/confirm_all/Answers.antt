@@ -12,9 +12,11 @@ use Rattle.register_rule.specs.Steps.{ended, after_confirm, confirmed_at}
 use Rattle.register_rule.specs.Seats.{HasMember, members_of}
 use Rattle.snapshot_scan.specs.declared.kept.Kept.{Kept}
 use Rattle.snapshot_scan.specs.Shape.{scan_of, with_scan}
+use Rattle.snapshot_scan.specs.Changes.{Moves}
 use Rattle.snapshot_scan.specs.Memory.{IsWide, version_of, words_of, settling}
 use Rattle.snapshot_scan.proofs.Words.{take_next, take_all, length_take, led_some, with_led, with_same, scan_with, from_set}
 use Rattle.snapshot_scan.proofs.Settling.{confirms_more, row_in, sum_low, sum_set, words_wide, settling_starts, set_at}
+use Rattle.snapshot_scan.proofs.Moving.{moves_none, moves_then}
 use Rattle.snapshot_scan.proofs.collects.confirm_all.Goals as goal
 
 pub loop-place-init : goal.loop-place-init
@@ -32,6 +34,7 @@ loop-place-init g c =
       wide = c.requires.wide;
       totals = c.requires.totals;
       view = sym (ap (λ (b : Bool). with_scan (cond b (ended g.row.N w z) z) ms) no ∙ (ap (λ (d : Scan). with_scan d ms) (sym starts) ∙ with_same ms));
+      moves = moves_none w c.args.totals.now c.args.moved.now;
       risen = λ q lt. absurd (omega (arith, lt));
       held = λ q x lt. absurd (omega (arith, lt));
     }
@@ -100,6 +103,8 @@ loop-place-preserved g c =
       wide = λ q y e. ⊎_elim (λ h. inv.wide q y h) (λ h. subst (IsWide w) h.0 (subst (λ (k : ℕ). IsWide k g') long c.settle.ensures.wide)) (from_set gs p g' q y e);
       totals = λ k low. let e = inv.totals k low in let h = sum_set k gs p gg g' at in let d = c.settle.ensures.totals k (omega (arith, long, low)) in omega (arith, e, h, d);
       view = view;
+      moves = moves_then w c.args.totals.now c.loop-place.totals ts' c.args.moved.now c.loop-place.moved c.settle.new.moved inv.moves
+          (subst (λ (k : ℕ). Moves k c.loop-place.totals ts' c.loop-place.moved c.settle.new.moved) long c.settle.ensures.moved);
       risen = below_more (λ (q : ℕ). get_or os q 0 ≤ get_or (set fs p s) q 0) p
           (λ q h. let ne : q ≢ p = omega (arith, h) in subst (λ (x : ℕ). get_or os q 0 ≤ x) (sym (get_or-set_other fs p q s 0 ne)) (inv.risen q h))
           (subst (λ (x : ℕ). o ≤ x) (sym (get_or-set_same fs p s 0 ltf)) risen);

@@ -6,6 +6,7 @@ use Rattle.register_rule.specs.Steps.{ended}
 use Rattle.register_rule.specs.Seats.{HasMember, table_of, members_of}
 use Rattle.snapshot_scan.specs.declared.kept.Kept.{Kept}
 use Rattle.snapshot_scan.specs.Shape.{scan_of, with_scan, IsRuled}
+use Rattle.snapshot_scan.specs.Changes.{Moves}
 use Rattle.snapshot_scan.specs.Memory.{AreWide, AreTotals, settling}
 use Rattle.snapshot_scan.proofs.collects.confirm_all.Given as goal
 
@@ -17,6 +18,7 @@ invariant-loop-place g l = let bundle = g.S.ScanSeat.bundle in let ms = members_
   wide : AreWide w l.kept;
   totals : AreTotals w l.kept l.totals;
   view : members_of (bundle l.seat) ≡ with_scan (cond (l.place == g.row.N) (ended g.row.N w (settling l.opened (take l.place l.found) l.kept (scan_of ms))) (settling l.opened (take l.place l.found) l.kept (scan_of ms))) ms;
+  moves : Moves w l.fn.totals l.totals l.fn.moved l.moved;
   risen : (q : ℕ) → q < l.place → get_or l.opened q 0 ≤ get_or l.found q 0;
   held : (q : ℕ) (x : Kept) → q < l.place → get_elem? l.kept q ≡ some x → get_or l.opened q 0 ≡ get_or l.found q 0 → x.number ≡ get_or l.opened q 0;
 }

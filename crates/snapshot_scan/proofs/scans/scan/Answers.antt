@@ -19,6 +19,7 @@ use Rattle.snapshot_scan.proofs.Scanning.{now_is, still_some, others_same, then_
 use Rattle.snapshot_core.specs.declared.next.Next.TheVariants.{GaveUp}
 use Rattle.snapshot_scan.specs.Core.{CameTo, AnswersBy}
 use Rattle.snapshot_scan.proofs.Arriving.{came_first, came_later, came_lending, came_up}
+use Rattle.snapshot_scan.proofs.Moving.{moves_then}
 use Rattle.snapshot_scan.proofs.scans.scan.Goals as goal
 
 pub returns-then-clean-clause-direct : goal.returns-then-clean-clause-direct
@@ -99,6 +100,7 @@ loop-k-init g c =
         leads = still_some _ ms _ c.requires.own.1 view;
         wide = c.try_once-clean.ensures.wide;
         totals = c.try_once-clean.ensures.totals;
+        moves = c.try_once-clean.ensures.listed;
         count = refl;
         above = each_push (λ (t : Tried). Below (scan_of ms).seen t.first) [] one (λ p y at. absurd (some-ne-none y (sym at))) (seen_below n (scan_of ms) r.opened long c.try_once-clean.ensures.told);
         tried = subst (λ (x : List ℕ). AreTries n x ba r.opened r.found (one ∷ [])) f (subst (λ (x : List ℕ). AreTries n r.opened x r.opened r.found (one ∷ [])) b (tries_one n r.opened r.found failed));
@@ -272,6 +274,7 @@ loop-k-preserved g c =
         leads = still_some _ ms _ c.requires.own.1 end;
         wide = c.try_again-clean.ensures.wide;
         totals = c.try_again-clean.ensures.totals;
+        moves = moves_then w c.args.totals.now c.loop-k.totals r.totals c.args.moved.now c.loop-k.moved r.moved inv.moves c.try_again-clean.ensures.listed;
         count = count_more tries t c.loop-k._k inv.count;
         above = each_push (λ (u : Tried). Below (scan_of ms).seen u.first) tries t inv.above
             (seen_below n (stood tries c.loop-k.kept fl ba (scan_of ms)) r.opened long (λ p lt. subst (λ (x : Scan). IsLoaded p x (slice_index r.opened p)) (now_is d ms _ c.requires.own.1 view) (c.try_again-clean.ensures.told p lt)));
@@ -493,3 +496,29 @@ returns-clause-lent g c = λ e. absurd (up_lent e)
 
 pub returns-clause-came_lent : goal.returns-clause-came_lent
 returns-clause-came_lent g c = λ e. absurd (up_lent e)
+
+pub returns-then-clean-clause-numbers : goal.returns-then-clean-clause-numbers
+returns-then-clean-clause-numbers g c = λ _ _. c.try_once-clean.ensures.numbers c.if-clean.true
+
+pub returns-then-clean-2-clause-numbers : goal.returns-then-clean-2-clause-numbers
+returns-then-clean-2-clause-numbers g c = λ _ _. c.try_again-clean.ensures.numbers c.if-clean-2.true
+
+pub returns-then-lends-clause-numbers : goal.returns-then-lends-clause-numbers
+returns-then-lends-clause-numbers g c = λ q e. absurd (lent_direct q e)
+
+pub returns-clause-numbers : goal.returns-clause-numbers
+returns-clause-numbers g c = λ q e. absurd (up_direct q e)
+
+pub returns-then-clean-clause-listed : goal.returns-then-clean-clause-listed
+returns-then-clean-clause-listed g c = c.try_once-clean.ensures.listed
+
+pub returns-then-clean-2-clause-listed : goal.returns-then-clean-2-clause-listed
+returns-then-clean-2-clause-listed g c = let w : ℕ = width g.row.C g.row.H g.row.G in let r = c.try_again-clean.new in
+    moves_then w c.args.totals.now c.loop-k.totals r.totals c.args.moved.now c.loop-k.moved r.moved c.loop-k.invariant.1.moves c.try_again-clean.ensures.listed
+
+pub returns-then-lends-clause-listed : goal.returns-then-lends-clause-listed
+returns-then-lends-clause-listed g c = let w : ℕ = width g.row.C g.row.H g.row.G in let r = c.try_again-clean.new in
+    moves_then w c.args.totals.now c.loop-k.totals r.totals c.args.moved.now c.loop-k.moved r.moved c.loop-k.invariant.1.moves c.try_again-clean.ensures.listed
+
+pub returns-clause-listed : goal.returns-clause-listed
+returns-clause-listed g c = c.loop-k.invariant.1.moves

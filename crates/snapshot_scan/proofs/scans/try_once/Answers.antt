@@ -79,3 +79,6 @@ returns-clause-rose g c = λ t.
     let long : length os ≡ g.row.N = c.collect.auto.opened ∙ lens.2 in
     let r = rose_some os fs (long ∙ sym (c.confirm.auto.found ∙ lens.3)) (λ q lt. c.confirm.ensures.risen q (omega (arith, long, lt))) (λ e. true_not_false (sym (c.confirm.ensures.clean.1 e) ∙ t)) in
     (r.0, omega (arith, long, r.1), r.2)
+
+pub returns-clause-numbers : goal.returns-clause-numbers
+returns-clause-numbers g c = λ t q x at. c.confirm.ensures.held q x at (ap (λ (l : List ℕ). slice_index l q) (c.confirm.ensures.clean.0 t))

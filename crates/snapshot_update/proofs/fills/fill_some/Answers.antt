@@ -1,7 +1,8 @@
 use Rattle.std.proofs.Common.{◌≡◌, ℕ, ◌<◌, ◌+◌, length, sym, ap, ◌∙◌, subst, arith}
 use Rattle.ledger_core.specs.Ops.{width}
 use Rattle.segment_layout.specs.Layout.{depth}
-use Rattle.snapshot_update.specs.Images.{Changed, with_hidden}
+use Rattle.snapshot_scan.specs.Changes.{Changed}
+use Rattle.snapshot_update.specs.Images.{with_hidden}
 use Rattle.snapshot_update.specs.Target.{target_of}
 use Rattle.snapshot_update.specs.Changes.{SoFar}
 use Rattle.snapshot_update.proofs.Filling.{so_far_same, so_far_noted, below_set}

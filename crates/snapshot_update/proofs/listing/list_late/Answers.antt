@@ -1,7 +1,6 @@
 use Rattle.std.proofs.Common.{◌≡◌, ◌⊎◌, inl, inr, ⊎_elim, ◌+◌, ℕ, List, [], Contains, subst}
-use Rattle.snapshot_update.specs.Images.{Changed}
-use Rattle.snapshot_update.specs.Changes.{Notes, NotesEach}
-use Rattle.snapshot_update.proofs.Noted.{none_listed}
+use Rattle.snapshot_scan.specs.Changes.{Changed, Notes, NotesEach}
+use Rattle.snapshot_scan.proofs.Noted.{none_listed}
 use Rattle.snapshot_update.proofs.listing.list_late.Goals as goal
 
 -- after a clear list has noted one item and those of another list

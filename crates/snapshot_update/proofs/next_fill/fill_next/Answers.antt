@@ -1,11 +1,10 @@
 use Rattle.std.proofs.Common.{◌≡◌, ⊎_elim, ◌+◌, ◌<◌, ℕ, false, List, [], Contains, sym, ◌∙◌, subst, arith}
 use Rattle.ledger_core.specs.Ops.{width}
 use Rattle.segment_layout.specs.Layout.{depth}
-use Rattle.snapshot_update.specs.Images.{Changed}
-use Rattle.snapshot_update.specs.Changes.{NotesEach}
+use Rattle.snapshot_scan.specs.Changes.{Changed, NotesEach}
 use Rattle.snapshot_update.specs.Target.{target_of}
 use Rattle.snapshot_update.proofs.Filling.{listed_or, all_filled}
-use Rattle.snapshot_update.proofs.Noted.{none_listed}
+use Rattle.snapshot_scan.proofs.Noted.{none_listed}
 use Rattle.snapshot_update.proofs.next_fill.fill_next.Goals as goal
 
 pub note_each-requires : goal.note_each-requires

@@ -1,7 +1,7 @@
 use Rattle.std.proofs.Common.{⊎_elim}
 use Rattle.ledger_core.specs.Ops.{width}
 use Rattle.snapshot_update.proofs.Touching.{touches_more}
-use Rattle.snapshot_update.proofs.Noted.{none_listed}
+use Rattle.snapshot_scan.proofs.Noted.{none_listed}
 use Rattle.snapshot_update.proofs.touched.touch.Goals as goal
 
 pub loop-op-preserved : goal.loop-op-preserved

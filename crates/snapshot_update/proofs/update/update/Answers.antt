@@ -17,7 +17,8 @@ use Rattle.register_rule.specs.Seats.{worker_of, index_of}
 use Rattle.snapshot_scan.specs.declared.ending.Ended.{Ended}
 use Rattle.snapshot_scan.specs.declared.ending.Ended.TheVariants.{Direct, GaveUp}
 use Rattle.snapshot_scan.specs.Memories.{rows_of, sums_of, answer_of}
-use Rattle.snapshot_update.specs.Images.{Changed, DifferAt, version_words, with_hidden}
+use Rattle.snapshot_scan.specs.Changes.{Changed}
+use Rattle.snapshot_update.specs.Images.{DifferAt, version_words, with_hidden}
 use Rattle.snapshot_update.specs.Fit.{AreInside, number_in, next_words}
 use Rattle.snapshot_update.specs.Updated.{ScanMeets, IsRuledAlone}
 use Rattle.snapshot_update.proofs.VersionWords.{known_words, late_words, words_long, row_taken, numbers_long}

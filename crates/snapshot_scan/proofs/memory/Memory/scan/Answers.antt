@@ -15,6 +15,7 @@ use Rattle.snapshot_scan.specs.Contention.{IsFirstMoved}
 use Rattle.snapshot_scan.specs.Scanned.{IsIdle, IsAnswered, IsGivenUp}
 use Rattle.snapshot_scan.specs.Shape.{scan_in}
 use Rattle.snapshot_scan.proofs.Words.{over}
+use Rattle.snapshot_scan.proofs.Moving.{moves_inside}
 use Rattle.snapshot_scan.proofs.memory.Memory.scan.Goals as goal
 
 -- what is written over a vector's items by way of a slice of them
@@ -149,3 +150,20 @@ scan-requires g c =
         ),
       ),
     )
+
+pub returns-clause-numbers : goal.returns-clause-numbers
+returns-clause-numbers g c = λ quiet e.
+    let known = c.scan.ensures.numbers quiet e in let old = c.args.self.now in let new = c.scan.new in
+    let kept = written new.kept c.as_mut_slice.result.now old.kept.items old.kept.len c.as_mut_slice.ensures.value c.as_mut_slice.ensures.len c.scan.auto.kept in
+    let opened = written new.opened c.as_mut_slice-3.result.now old.opened.items old.opened.len c.as_mut_slice-3.ensures.value c.as_mut_slice-3.ensures.len c.scan.auto.opened in
+    λ p v at. let t = from_rows new.kept p v (ap (λ (l : List Kept). get_elem? (map version_of l) p) (sym kept) ∙ at) in
+    ap (λ (x : Version). x.number) (sym t.2) ∙ (known p t.0 t.1 ∙ ap (λ (l : List ℕ). slice_index l p) (sym opened))
+
+pub returns-clause-listed : goal.returns-clause-listed
+returns-clause-listed g c = λ few k lt none.
+    let old = c.args.self.now in let new = c.scan.new in
+    let totals = written new.totals c.as_mut_slice-2.result.now old.totals.items old.totals.len c.as_mut_slice-2.ensures.value c.as_mut_slice-2.ensures.len c.scan.auto.totals in
+    ap (λ (l : List ℕ). slice_index l k) totals ∙ (c.scan.ensures.listed.same few k lt none ∙ ap (λ (l : List ℕ). slice_index l k) c.as_mut_slice-2.ensures.value)
+
+pub returns-clause-words : goal.returns-clause-words
+returns-clause-words g c = moves_inside (width g.row.C g.row.H g.row.G) c.as_mut_slice-2.result.now c.scan.new.totals c.clear.new.self c.scan.new.moved c.clear.ensures.none.1 c.scan.ensures.listed

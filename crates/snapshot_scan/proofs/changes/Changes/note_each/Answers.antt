@@ -1,8 +1,8 @@
 use Rattle.std.proofs.Common.{◌≡◌, ℕ, ◌+◌, ◌<◌, List, length, take, get_or, refl, sym, ap, ◌∙◌, arith}
 use Rattle.std.proofs.lemmas.List.{with_items_is}
-use Rattle.snapshot_update.specs.Images.{Changed}
-use Rattle.snapshot_update.proofs.Shifted.{from_place, notes_each_all, notes_each_full, notes_each_behind}
-use Rattle.snapshot_update.proofs.changes.Changes.note_each.Goals as goal
+use Rattle.snapshot_scan.specs.Changes.{Changed}
+use Rattle.snapshot_scan.proofs.Shifted.{from_place, notes_each_all, notes_each_full, notes_each_behind}
+use Rattle.snapshot_scan.proofs.changes.Changes.note_each.Goals as goal
 
 pub write_each-requires-clause-fits : goal.write_each-requires-clause-fits
 write_each-requires-clause-fits c = λ k lt. c.requires.room (get_or c.args.items.now k 0) (from_place c.args.items.now k lt)

@@ -1,6 +1,6 @@
-//! At which items of a buffer something may have changed.
+//! At which items of a list something may have changed.
 ghost use Rattle.std.specs.Prelude.{◌≡◌, ◌+◌, ◌<◌, ◌≤◌, ℕ, true, false, [], length, slice_index, IfOk, Contains};
-ghost use Rattle.snapshot_update.specs.Changes.{Notes, NotesEach};
+ghost use Rattle.snapshot_scan.specs.Changes.{Notes, NotesEach};
 
 use std::alloc::{AllocError, Global};
 use std::marker::Model;
@@ -8,11 +8,11 @@ use std::marker::Model;
 /// How many items can be listed: where more change, all count as changed.
 const ROOM: usize = 256;
 
-/// Items of a buffer at which something may have changed: at most 256 of them are listed, or all may have changed.
+/// Items of a list at which something may have changed: at most 256 of them are listed, or all may have changed.
 ///
 /// It takes memory when it is made, and never after.
 #[derive(Drop)]
-pub(crate) struct Changes {
+pub struct Changes {
     items: Vec<usize>,
     count: usize,
     all: bool,
@@ -20,7 +20,7 @@ pub(crate) struct Changes {
 
 impl Model for Changes {
     ghost use Rattle.std.specs.Prelude.{◌≡◌, ◌≤◌, length, take};
-    ghost use Rattle.snapshot_update.specs.Images.{Changed};
+    ghost use Rattle.snapshot_scan.specs.Changes.{Changed};
 
     ghost Value = { Changed };
 
@@ -31,7 +31,7 @@ impl Model for Changes {
 
 impl Changes {
     /// All items may have changed.
-    pub(crate) fn new(alloc: Global) -> Result<Changes, AllocError>
+    pub fn new(alloc: Global) -> Result<Changes, AllocError>
         ensures { IfOk result (λ c. (c.all ≡ true) × (c.items ≡ [])) }
     {
         let items = vec![in alloc; 0usize; ROOM]?;
@@ -44,7 +44,7 @@ impl Changes {
 
     /// Nothing has changed.
     #[inline]
-    pub(crate) fn clear(&mut self)
+    pub fn clear(&mut self)
         ensures none { (self.new.all ≡ false) × (self.new.items ≡ []) }
     {
         self.count = 0;
@@ -53,7 +53,7 @@ impl Changes {
 
     /// This item may have changed, too. Where no more can be listed, all may have.
     #[inline]
-    pub(crate) fn note(&mut self, item: usize)
+    pub fn note(&mut self, item: usize)
         ensures kept { self.old.all ≡ true → self.new ≡ self.old }
         ensures notes { Notes item self.old self.new }
     {
@@ -71,9 +71,9 @@ impl Changes {
         self.count += 1;
     }
 
-    /// Each of these items, so much further along the buffer, may have changed, too. Where not all can be listed, all may have.
+    /// Each of these items, so much further along, may have changed, too. Where not all can be listed, all may have.
     #[inline(always)]
-    pub(crate) fn note_each(&mut self, items: &[usize], shift: usize)
+    pub fn note_each(&mut self, items: &[usize], shift: usize)
         requires room { (j : ℕ) → Contains items.now j → j + shift < 18446744073709551616 }
         ensures notes { NotesEach shift items.now self.old self.new }
     {
@@ -90,7 +90,7 @@ impl Changes {
 
     /// All items may have changed.
     #[inline]
-    pub(crate) fn note_all(&mut self)
+    pub fn note_all(&mut self)
         ensures all { self.new.all ≡ true }
         ensures items { self.new.items ≡ self.old.items }
     {
@@ -99,7 +99,7 @@ impl Changes {
 
     /// Whether all items may have changed.
     #[inline]
-    pub(crate) fn is_all(&self) -> bool
+    pub fn is_all(&self) -> bool
         ensures { result ≡ self.now.all }
     {
         self.all
@@ -107,7 +107,7 @@ impl Changes {
 
     /// The items that are listed: where not all may have changed, no others have.
     #[inline]
-    pub(crate) fn as_slice(&self) -> &[usize]
+    pub fn as_slice(&self) -> &[usize]
         ensures listed { result.now ≡ self.now.items }
         ensures few { length result.now ≤ 256 }
     {
@@ -115,7 +115,7 @@ impl Changes {
     }
 }
 
-/// Writes these items, so much further along the buffer, to the places from `first` on.
+/// Writes these items, so much further along, to the places from `first` on.
 #[inline(always)]
 fn write_each(places: &mut [usize], items: &[usize], first: usize, shift: usize)
     requires room { first + length items.now ≤ length places.old }

@@ -1,9 +1,9 @@
 use Rattle.std.proofs.Common.{sym, ap, ◌∙◌, arith, ◌∷◌, ◌++◌, [], length, take, true, subst}
 use Rattle.std.specs.List.{Contains}
 use Rattle.std.proofs.lemmas.List.{take_more_set, length-take-le}
-use Rattle.snapshot_update.specs.Images.{Changed}
-use Rattle.snapshot_update.proofs.Noted.{notes_all, notes_again, notes_full, notes_more, last_there}
-use Rattle.snapshot_update.proofs.changes.Changes.note.Goals as goal
+use Rattle.snapshot_scan.specs.Changes.{Changed}
+use Rattle.snapshot_scan.proofs.Noted.{notes_all, notes_again, notes_full, notes_more, last_there}
+use Rattle.snapshot_scan.proofs.changes.Changes.note.Goals as goal
 
 pub returns-then-self-clause-notes : goal.returns-then-self-clause-notes
 returns-then-self-clause-notes c = notes_all c.args.item c.args.self.now (sym (ap (λ (x : Changed). x.all) c.self.view_is) ∙ c.if-self.true)

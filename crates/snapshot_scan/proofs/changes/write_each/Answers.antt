@@ -1,5 +1,5 @@
 use Rattle.std.proofs.Common.{◌≡◌, ◌≢◌, ℕ, ◌+◌, ◌<◌, set, length, get_or, refl, sym, ap, ◌∙◌, arith, below_more, get_or-set_same, get_or-set_other}
-use Rattle.snapshot_update.proofs.changes.write_each.Goals as goal
+use Rattle.snapshot_scan.proofs.changes.write_each.Goals as goal
 
 pub loop-k-preserved : goal.loop-k-preserved
 loop-k-preserved c =

@@ -1,0 +1,66 @@
+//! Sums of rows, where one row takes the place of another.
+ghost use Rattle.std.specs.Prelude.{◌≡◌, ℕ, ◌+◌, ◌<◌, ◌≤◌, false, length, slice_index};
+ghost use Rattle.bucket_math.specs.Words.{greatest_word};
+ghost use Rattle.snapshot_scan.specs.Changes.{Moves};
+ghost use Rattle.snapshot_scan.specs.Exchange.{Exchanges, AreParts};
+
+use crate::changes::Changes;
+
+/// How many words of two rows are compared at once.
+const BLOCK: usize = 16;
+
+/// Takes the words of one row from the totals, and adds those of another. Where these change is listed in `moved`.
+#[inline(never)]
+pub(crate) fn exchange(totals: &mut [u64], old: &[u64], new: &[u64], moved: &mut Changes)
+    requires lengths { (length old.now ≡ length totals.old) × (length new.now ≡ length totals.old) }
+    requires part { (k : ℕ) → k < length totals.old → (slice_index old.now k ≤ slice_index totals.old k) × (slice_index totals.old k ≤ 9007199254740992) }
+    requires low { (k : ℕ) → k < length totals.old → slice_index new.now k ≤ greatest_word }
+    ensures sums { (k : ℕ) → k < length totals.old → slice_index totals.new k + slice_index old.now k ≡ slice_index totals.old k + slice_index new.now k }
+    ensures moved { Moves (length totals.old) totals.old totals.new moved.old moved.new }
+{
+    let blocks = totals.len() / BLOCK;
+    for block in 0..blocks {
+        let from = BLOCK * block;
+        if differ(old, new, from) {
+            exchange_some(totals, old, new, moved, from, from + BLOCK);
+        }
+    }
+    exchange_some(totals, old, new, moved, BLOCK * blocks, totals.len());
+}
+
+/// Whether two rows differ at one of the words of a block, which begins at `from`.
+#[inline(always)]
+fn differ(old: &[u64], new: &[u64], from: usize) -> bool
+    requires inside { (from + 16 ≤ length old.now) × (from + 16 ≤ length new.now) }
+    ensures { result ≡ false → (k : ℕ) → from ≤ k → k < from + 16 → slice_index old.now k ≡ slice_index new.now k }
+{
+    let mut bits = 0;
+    for k in 0..BLOCK {
+        bits |= old[from + k] ^ new[from + k];
+    }
+    bits != 0
+}
+
+/// Takes the words of one row from the totals, and adds those of another, from `from` on and before `to`.
+#[inline(never)]
+fn exchange_some(
+    totals: &mut [u64],
+    old: &[u64],
+    new: &[u64],
+    moved: &mut Changes,
+    from: usize,
+    to: usize,
+)
+    requires inside { (from ≤ to) × (to ≤ length totals.old) }
+    requires lengths { (length old.now ≡ length totals.old) × (length new.now ≡ length totals.old) }
+    requires part { AreParts from (length totals.old) old.now totals.old }
+    requires low { (k : ℕ) → k < length totals.old → slice_index new.now k ≤ greatest_word }
+    ensures { Exchanges (length totals.old) from to old.now new.now totals.old totals.new moved.old moved.new }
+{
+    for k in from..to {
+        if old[k] != new[k] {
+            totals[k] = totals[k] - old[k] + new[k];
+            moved.note(k);
+        }
+    }
+}
