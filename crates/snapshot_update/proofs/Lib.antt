@@ -3,6 +3,7 @@ pub mod Filling
 pub mod Giving
 pub mod VersionWords
 pub mod Fitting
+pub mod Following
 pub mod FirstFit
 pub mod ScannedFit
 pub mod Lending

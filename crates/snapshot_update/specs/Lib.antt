@@ -1,6 +1,7 @@
 pub mod Images
 pub mod Changes
 pub mod Run
+pub mod Known
 pub mod Target
 pub mod Fit
 pub mod Updated

@@ -10,6 +10,7 @@ mod crew;
 mod faults;
 mod fills;
 mod images;
+mod known;
 mod listing;
 mod meeting;
 mod next_fill;

@@ -1,6 +1,7 @@
 //! Lists of changes from lists of changes.
 ghost use Rattle.std.specs.Prelude.{◌≡◌, ℕ, ◌+◌, ◌<◌, ◌⊎◌, ◌≤◌, true, false, length, Contains};
 ghost use Rattle.snapshot_scan.specs.Changes.{NotesEach};
+ghost use Rattle.snapshot_update.specs.Known.{NotesRange};
 
 use snapshot_scan::Changes;
 
@@ -11,6 +12,17 @@ pub(crate) fn note_each(to: &mut Changes, from: &Changes, shift: usize)
     ensures { NotesEach shift from.now.items to.old to.new }
 {
     to.note_each(from.as_slice(), shift);
+}
+
+/// Notes so many items from the item `first` on.
+#[inline]
+pub(crate) fn note_range(to: &mut Changes, first: usize, count: usize)
+    requires room { first + count < 18446744073709551616 }
+    ensures { NotesRange first count to.old to.new }
+{
+    for item in first..first + count {
+        to.note(item);
+    }
 }
 
 /// Lists where the version that was published differs from the one that an update of nothing would publish now: at the

@@ -1,5 +1,5 @@
 //! The scans of a worker.
-ghost use Rattle.std.specs.Prelude.{◌≡◌, ◌↔◌, ℕ, true, false, IsTrue, slice_index, IfErr, OnOk, OnErr};
+ghost use Rattle.std.specs.Prelude.{◌≡◌, ◌↔◌, ℕ, ◌<◌, Bool, Contains, true, false, IsTrue, slice_index, IfErr, OnOk, OnErr};
 ghost use Rattle.ledger_core.specs.Ops.{width};
 ghost use Rattle.ledger_core.specs.Legal.{IsLegal};
 ghost use Rattle.register_rule.specs.Seats.{worker_of, index_of, HasWorker};
@@ -10,7 +10,8 @@ ghost use Rattle.snapshot_scan.specs.Contention.{IsContended};
 ghost use Rattle.snapshot_scan.specs.Core.{CameTo, AnswersBy};
 ghost use Rattle.snapshot_scan.specs.Snapshots.{entry_of};
 ghost use Rattle.snapshot_scan.specs.Memory.{AreNumbers};
-ghost use Rattle.snapshot_scan.specs.Memories.{rows_of, sums_of, answer_of, HasView, IsReady};
+ghost use Rattle.snapshot_scan.specs.Memories.{rows_of, sums_of, moved_in, answer_of, HasView, IsReady};
+ghost use Rattle.snapshot_update.specs.Fit.{AreInside};
 ghost use Rattle.snapshot_update.specs.Updated.{ScanMeets, IsRuledAlone};
 
 use register_rule::{Board, WorkSeat};
@@ -33,6 +34,14 @@ pub(crate) fn is_quiet(ended: Ended) -> bool
     matches!(ended, Ended::Direct { quiet: true })
 }
 
+/// Whether the scan ended with numbers of its own.
+#[inline]
+pub(crate) fn is_direct(ended: Ended) -> bool
+    ensures { IsTrue result ↔ ((quiet : Bool) × (ended ≡ Ended.Direct quiet)) }
+{
+    matches!(ended, Ended::Direct { .. })
+}
+
 /// The scan of a worker for its update: its other parts stay as they were.
 #[inline(always)]
 pub(crate) fn scan_own<const N: usize, const C: usize, const H: usize, const G: usize>(
@@ -50,6 +59,9 @@ pub(crate) fn scan_own<const N: usize, const C: usize, const H: usize, const G: 
     ensures view { HasView result → IsAnswered N (worker_of seat.old).scan (worker_of seat.new).scan (answer_of memory.new result) }
     ensures meets { HasView result → ScanMeets N (width C H G) (worker_of seat.old).scan (worker_of seat.new).scan true }
     ensures quiet { result ≡ Ended.Direct true → (rows_of memory.new ≡ rows_of memory.old) × (sums_of memory.new ≡ sums_of memory.old) × AreNumbers (answer_of memory.new result).vector (rows_of memory.new) }
+    ensures numbers { (q : Bool) → result ≡ Ended.Direct q → AreNumbers (answer_of memory.new result).vector (rows_of memory.new) }
+    ensures listed { (moved_in memory.new).all ≡ false → (k : ℕ) → k < width C H G → ¬ (Contains (moved_in memory.new).items k) → slice_index (sums_of memory.new) k ≡ slice_index (sums_of memory.old) k }
+    ensures words { AreInside (width C H G) (moved_in memory.new) }
     ensures gave_up { result ≡ Ended.GaveUp → ScanMeets N (width C H G) (worker_of seat.old).scan (worker_of seat.new).scan false }
 {
     memory.scan(board, seat)

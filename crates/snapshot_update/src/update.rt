@@ -16,9 +16,10 @@ ghost use Rattle.snapshot_update.specs.Fit.{AreInside, AreImages, IsFit};
 ghost use Rattle.snapshot_update.specs.Updated.{IsUpdated};
 
 use crate::images::Images;
+use crate::known::know_next;
 use crate::listing::list_late;
 use crate::next_fill::fill_next;
-use crate::scanning::{has_view, is_quiet, scan_own};
+use crate::scanning::{has_view, scan_own};
 use crate::touched::touch;
 use crate::version::Version;
 use ledger_core::{Op, OpFault, Row};
@@ -36,7 +37,8 @@ fn flag_word(lends: bool) -> u64
 }
 
 /// Fills the hidden buffer with the version of this row, with the answer of the scan that ended so, and says whether it lends
-/// that. `quiet` says that the scan found all that is remembered, and all touched words are listed.
+/// that. `known` says that the scan ended direct, and that the version differs from what the shown buffer holds at no items
+/// but the late and the touched ones.
 #[inline(always)]
 fn fill_version<const N: usize, const C: usize, const H: usize, const G: usize>(
     board: &Board<N, C, H, G>,
@@ -45,14 +47,14 @@ fn fill_version<const N: usize, const C: usize, const H: usize, const G: usize>(
     memory: &Memory<N, C, H, G>,
     images: &mut Images,
     ended: Ended,
-    quiet: bool,
+    known: bool,
 ) -> bool
     requires own { HasWorker board.now seat.old }
     requires geometry { IsGeometry N C H G }
     requires exact { (worker_of seat.old).work.hidden ≡ images.old.hidden.items }
     requires touched { AreInside (width C H G) images.old.touched }
     requires images { (next : List ℕ) × AreImages (depth N (width C H G)) next images.old.hidden.items images.old.shown.items images.old.recent images.old.late
-        × (quiet ≡ true → (images.old.touched.all ≡ false) × (ended ≡ Ended.Direct true)
+        × (known ≡ true → (images.old.touched.all ≡ false) × ((quiet : Bool) × (ended ≡ Ended.Direct quiet))
         × ((j : ℕ) → j < depth N (width C H G) → ¬ (Contains images.old.touched.items j) → slice_index next j ≡ slice_index (version_words row.now 1 (answer_of memory.now ended).vector (answer_of memory.now ended).totals) j)) }
     ensures own { HasWorker board.now seat.new }
     ensures index { index_of seat.new ≡ index_of seat.old }
@@ -67,7 +69,7 @@ fn fill_version<const N: usize, const C: usize, const H: usize, const G: usize>(
     let (vector, totals) = memory.answer(ended);
     let lends = has_view(ended);
     let version = Version::new(row, flag_word(lends), vector, totals);
-    let known = quiet & !images.recent.is_all() & !images.late.is_all();
+    let listed = known & !images.recent.is_all() & !images.late.is_all();
     fill_next(
         board,
         seat,
@@ -77,7 +79,7 @@ fn fill_version<const N: usize, const C: usize, const H: usize, const G: usize>(
         &images.late,
         &images.touched,
         &version,
-        known,
+        listed,
     );
     lends
 }
@@ -157,13 +159,20 @@ pub(crate) fn update<const N: usize, const C: usize, const H: usize, const G: us
     row.try_apply(ops)?;
     let ended = scan_own(board, seat, memory);
     touch::<C, H, G>(ops, &mut images.touched);
-    let quiet = is_quiet(ended) & !images.touched.is_all() & images.own;
-    let lends = fill_version(board, seat, row, memory, images, ended, quiet);
+    let known = know_next(
+        seat,
+        memory,
+        &mut images.late,
+        &images.touched,
+        images.own,
+        ended,
+    );
+    let lends = fill_version(board, seat, row, memory, images, ended, known);
     board.publish(seat, ops, lends);
     let own = seat.worker();
-    turn::<N, C, H, G>(images, own, quiet);
+    turn::<N, C, H, G>(images, own, known);
     let number = seat.number();
-    learn(memory, own, number, row, images, quiet);
+    learn(memory, own, number, row, images, known);
     images.own = true;
     Ok(())
 }

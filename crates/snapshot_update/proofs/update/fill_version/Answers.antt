@@ -9,10 +9,10 @@ use Rattle.snapshot_update.specs.Images.{version_words}
 use Rattle.snapshot_update.specs.Target.{target_of}
 use Rattle.snapshot_update.proofs.update.fill_version.Goals as goal
 
--- a quiet scan has a view
-quiet_views : (b : Bool) (e : Ended) → (b ≡ false → e ≡ GaveUp) → e ≡ Direct true → b ≡ true
-quiet_views true e none quiet = refl
-quiet_views false e none quiet = absurd (let h = sym (none refl) ∙ quiet in cc)
+-- a scan that ended direct has a view
+direct_views : (b : Bool) (e : Ended) (quiet : Bool) → (b ≡ false → e ≡ GaveUp) → e ≡ Direct quiet → b ≡ true
+direct_views true e quiet none direct = refl
+direct_views false e quiet none direct = absurd (let h = sym (none refl) ∙ direct in cc)
 
 pub fill_next-requires : goal.fill_next-requires
 fill_next-requires g c =
@@ -41,7 +41,7 @@ fill_next-requires g c =
                     (
                       (λ listed j lt not_there. ap (λ (l : List ℕ). slice_index l j) hidden ∙ (t.recent listed j (let e = ap (λ (l : List ℕ). length l) shown in omega (arith, lt, e)) not_there ∙ ap (λ (l : List ℕ). slice_index l j) (sym shown))),
                       (λ known j lt not_late not_touched. let a = and_parts _ _ known in let a' = and_parts _ _ a.0 in let is = q a'.0 in
-                          let lends : c.has_view-lends.result ≡ true = quiet_views c.has_view-lends.result c.args.ended c.has_view-lends.ensures.none is.1 in
+                          let lends : c.has_view-lends.result ≡ true = direct_views c.has_view-lends.result c.args.ended is.1.0 c.has_view-lends.ensures.none is.1.1 in
                           let flag : c.flag_word.result ≡ 1 = c.flag_word.ensures ∙ ap (λ (x : Bool). cond x 1 0) lends in
                           let next = c.requires.images.0 in
                           let same : slice_index im.shown.items j ≡ slice_index next j = t.late (sym c.is_all-2.ensures ∙ not-true _ a.1) j (let e = t.next_deep in omega (arith, lt, e)) not_late in

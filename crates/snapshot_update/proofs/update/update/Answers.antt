@@ -19,20 +19,26 @@ use Rattle.snapshot_scan.specs.declared.ending.Ended.TheVariants.{Direct, GaveUp
 use Rattle.snapshot_scan.specs.Memories.{rows_of, sums_of, answer_of}
 use Rattle.snapshot_scan.specs.Changes.{Changed}
 use Rattle.snapshot_update.specs.Images.{DifferAt, version_words, with_hidden}
-use Rattle.snapshot_update.specs.Fit.{AreInside, number_in, next_words}
+use Rattle.snapshot_update.specs.Fit.{AreInside, AreImages, number_in, next_words}
 use Rattle.snapshot_update.specs.Updated.{ScanMeets, IsRuledAlone}
 use Rattle.snapshot_update.proofs.VersionWords.{known_words, late_words, words_long, row_taken, numbers_long}
 use Rattle.register_rule.proofs.Publish.{total_last}
 use Rattle.snapshot_update.proofs.Fitting.{answer_long, rows_many, accepts_same, holds}
+use Rattle.snapshot_update.proofs.Following.{next_is}
 use Rattle.snapshot_update.proofs.update.update.Goals as goal
+
+by_known : {P : Type 0} (b : Bool) → (b ≡ true → P) → (b ≡ false → P) → P
+by_known true p q = p refl
+by_known false p q = q refl
 
 pub fill_version-lends-requires : goal.fill_version-lends-requires
 fill_version-lends-requires g c =
     let n : ℕ = g.row.N in let w : ℕ = width g.row.C g.row.H g.row.G in
-    let fit = c.requires.fit in let s = c.scan_own-ended in let memory = s.new.memory in
+    let fit = c.requires.fit in let s = c.scan_own-ended in let memory = s.new.memory in let im = c.args.images.now in
     let row = c.args.row.now in let row' = c.try_apply.new.self in let adds = c.in_ok-try_apply.ensures.ok in
     let wide : length row ≡ w = fit.wide in
-    let a = answer_of memory s.result in let long = answer_long n g.row.C g.row.H g.row.G memory s.result in (
+    let a = answer_of memory s.result in let long = answer_long n g.row.C g.row.H g.row.G memory s.result in
+    let known = c.know_next-known.result in (
       search rules,
       (
         search rules,
@@ -46,20 +52,24 @@ fill_version-lends-requires g c =
                 ap (λ (m : Member). m.work.hidden) s.ensures.others ∙ fit.hidden_is,
                 (
                   c.touch.ensures.inside,
-                  (
-                    next_words row (rows_of c.args.memory.now) (sums_of c.args.memory.now),
-                    fit.images,
-                    λ quiet.
-                        let both = and_parts _ _ (and_parts _ _ quiet).0 in let is = c.is_quiet.ensures.0 both.0 in let q = s.ensures.quiet is in
-                        let listed : c.touch.new.touched.all ≡ false = sym c.is_all.ensures ∙ not-true _ both.1 in (
+                  by_known known (λ yes.
+                      let next = next_is n g.row.C g.row.H g.row.G (index_of c.args.seat.now) row c.args.memory.now memory im.hidden.items im.shown.items im.recent im.late c.know_next-known.new.late im.own (worker_of c.args.seat.now) (worker_of s.new.seat) s.result
+                      fit c.requires.own.1 s.ensures.others s.ensures.ruled s.ensures.ready s.ensures.quiet s.ensures.numbers s.ensures.listed (index_of s.new.seat) _ s.ensures.index (ap (λ (x : Member). length x.work.made) s.ensures.others) (c.know_next-known.ensures.known yes) in
+                      let listed : c.touch.new.touched.all ≡ false = c.know_next-known.ensures.touched yes in (
+                        next_words row (rows_of memory) (sums_of memory),
+                        next.images,
+                        λ _. (
                           listed,
-                          is,
-                          λ j lt none.
-                              ap (λ (x : (List Version) × (List ℕ)). slice_index (next_words row x.0 x.1) j) (λ z. (sym q.0 z, sym q.1 z))
-                              ∙ known_words w n row row' (rows_of memory) (sums_of memory) a.vector a.totals wide (adds.width_stays ∙ wide) (rows_many n g.row.C g.row.H g.row.G memory) long.0 q.2 (ap (λ (e : Ended). (answer_of memory e).totals) is) c.touch.new.touched.items
+                          next.direct,
+                          λ j lt none. known_words w n row row' (rows_of memory) (sums_of memory) a.vector a.totals wide (adds.width_stays ∙ wide) (rows_many n g.row.C g.row.H g.row.G memory) long.0 next.numbers next.totals c.touch.new.touched.items
                               (λ k lt' none'. let e = adds.sums k in let z = c.touch.ensures.rises listed k none' in omega (arith, e, z)) j (omega (arith, lt)) none,
                         ),
-                  ),
+                      ))
+                      (λ no. (
+                        next_words row (rows_of c.args.memory.now) (sums_of c.args.memory.now),
+                        subst (λ (x : Changed). AreImages (depth n w) (next_words row (rows_of c.args.memory.now) (sums_of c.args.memory.now)) im.hidden.items im.shown.items im.recent x) (sym (c.know_next-known.ensures.unknown no)) fit.images,
+                        λ yes. absurd (let h = sym yes ∙ no in cc),
+                      )),
                 ),
               ),
             ),
@@ -105,7 +115,7 @@ turn-requires-clause-touched g c = subst (AreInside (width g.row.C g.row.H g.row
 pub learn-requires : goal.learn-requires
 learn-requires g c =
     let n : ℕ = g.row.N in let w : ℕ = width g.row.C g.row.H g.row.G in
-    let fit = c.requires.fit in let s = c.scan_own-ended in let f = c.fill_version-lends in let memory = s.new.memory in
+    let fit = c.requires.fit in let s = c.scan_own-ended in let f = c.fill_version-lends in let memory = s.new.memory in let im = c.args.images.now in
     let row = c.args.row.now in let row' = c.try_apply.new.self in let adds = c.in_ok-try_apply.ensures.ok in
     let i : ℕ = index_of c.args.seat.now in
     let same : c.worker-own.result ≡ i = c.worker-own.ensures.index ∙ (c.publish.ensures.index ∙ (f.ensures.index ∙ s.ensures.index)) in
@@ -119,10 +129,11 @@ learn-requires g c =
             (let lt = c.requires.own.1 in omega (arith, same, lt)),
             (
               subst (AreInside w) (sym touched) c.touch.ensures.inside,
-              λ quiet v at k lt none.
-                  let both = and_parts _ _ (and_parts _ _ quiet).0 in let is = c.is_quiet.ensures.0 both.0 in let q = s.ensures.quiet is in
-                  let listed : c.touch.new.touched.all ≡ false = sym c.is_all.ensures ∙ not-true _ both.1 in
-                  let here : some v ≡ some (record { number = length (worker_of c.args.seat.now).work.made; row = row }) = sym at ∙ ((λ z. get_elem? (q.0 z) (same z)) ∙ fit.own_row (and_parts _ _ quiet).1) in
+              λ yes v at k lt none.
+                  let next = next_is n g.row.C g.row.H g.row.G (index_of c.args.seat.now) row c.args.memory.now memory im.hidden.items im.shown.items im.recent im.late c.know_next-known.new.late im.own (worker_of c.args.seat.now) (worker_of s.new.seat) s.result
+                  fit c.requires.own.1 s.ensures.others s.ensures.ruled s.ensures.ready s.ensures.quiet s.ensures.numbers s.ensures.listed (index_of s.new.seat) _ s.ensures.index (ap (λ (x : Member). length x.work.made) s.ensures.others) (c.know_next-known.ensures.known yes) in
+                  let listed : c.touch.new.touched.all ≡ false = c.know_next-known.ensures.touched yes in
+                  let here : some v ≡ some (record { number = length (worker_of c.args.seat.now).work.made; row = row }) = sym at ∙ (ap (get_elem? (rows_of memory)) same ∙ next.own) in
                   let e = ap (λ (x : Version). slice_index x.row k) (some-injective v _ here) in
                   let z = c.touch.ensures.rises listed k (λ has. none (subst (λ (t : Changed). Contains t.items k) (sym touched) has)) in let d = adds.sums k in omega (arith, e, z, d),
             ),
@@ -131,14 +142,10 @@ learn-requires g c =
       ),
     )
 
-by_known : {P : Type 0} (b : Bool) → (b ≡ true → P) → (b ≡ false → P) → P
-by_known true p q = p refl
-by_known false p q = q refl
-
--- a quiet scan lends
-lends_quiet : (b : Bool) (e : Ended) → (b ≡ false → e ≡ GaveUp) → e ≡ Direct true → b ≡ true
-lends_quiet true e none quiet = refl
-lends_quiet false e none quiet = absurd (let h = sym (none refl) ∙ quiet in cc)
+-- a scan that ended direct lends
+lends_direct : (b : Bool) (e : Ended) (quiet : Bool) → (b ≡ false → e ≡ GaveUp) → e ≡ Direct quiet → b ≡ true
+lends_direct true e quiet none direct = refl
+lends_direct false e quiet none direct = absurd (let h = sym (none refl) ∙ direct in cc)
 
 set_there : (l : List Version) (i : ℕ) (v : Version) → i < length l → get_elem? (set l i v) i ≡ some v
 set_there [] i v h = absurd (omega (arith, h))
@@ -148,7 +155,7 @@ set_there (x ∷ l) (suc i) v h = set_there l i v (omega (arith, h))
 pub returns-clause-fit : goal.returns-clause-fit
 returns-clause-fit g c =
     let n : ℕ = g.row.N in let w : ℕ = width g.row.C g.row.H g.row.G in let b : ℕ = depth n w in
-    let fit = c.requires.fit in let s = c.scan_own-ended in let f = c.fill_version-lends in let memory = s.new.memory in
+    let fit = c.requires.fit in let s = c.scan_own-ended in let f = c.fill_version-lends in let memory = s.new.memory in let im = c.args.images.now in
     let m : Member = worker_of c.args.seat.now in let c' : Scan = (worker_of s.new.seat).scan in
     let row = c.args.row.now in let row' = c.try_apply.new.self in let adds = c.in_ok-try_apply.ensures.ok in let ops = c.args.ops.now in
     let wide : length row ≡ w = fit.wide in
@@ -172,7 +179,7 @@ returns-clause-fit g c =
     let taken : take w f.new.images.hidden.items ≡ row' = ap (take w) hidden ∙ row_taken w n row' (cond f.result 1 0) a.vector a.totals wide' long.0 in
     let after = c.learn.new.memory in
     let all_after : length (map number_in (rows_of after)) ≡ n = numbers_long (rows_of after) ∙ rows_many n g.row.C g.row.H g.row.G after in
-    let quiet : Bool = (c.is_quiet.result && not c.is_all.result) && c.args.images.now.own in
+    let known = c.know_next-known.result in
     record {
       who = c.publish.new.seat.is;
       counts = refl;
@@ -194,16 +201,17 @@ returns-clause-fit g c =
             (subst (λ (x : List ℕ). DifferAt f.new.images.recent x c.turn.new.images.shown.items) (sym (c.turn.ensures.buffers.0 ∙ f.ensures.others.0))
             (subst (DifferAt f.new.images.recent c.args.images.now.shown.items) (sym c.turn.ensures.buffers.1) f.ensures.recent));
         recent_inside = subst (AreInside b) (sym c.turn.ensures.others.0) f.ensures.inside;
-        late = by_known quiet (λ known.
-            let both = and_parts _ _ (and_parts _ _ known).0 in let direct = c.is_quiet.ensures.0 both.0 in let q = s.ensures.quiet direct in
-            let listed : c.touch.new.touched.all ≡ false = sym c.is_all.ensures ∙ not-true _ both.1 in
+        late = by_known known (λ yes.
+            let next = next_is n g.row.C g.row.H g.row.G (index_of c.args.seat.now) row c.args.memory.now memory im.hidden.items im.shown.items im.recent im.late c.know_next-known.new.late im.own (worker_of c.args.seat.now) (worker_of s.new.seat) s.result
+            fit c.requires.own.1 s.ensures.others s.ensures.ruled s.ensures.ready s.ensures.quiet s.ensures.numbers s.ensures.listed (index_of s.new.seat) _ s.ensures.index (ap (λ (x : Member). length x.work.made) s.ensures.others) (c.know_next-known.ensures.known yes) in
+            let listed : c.touch.new.touched.all ≡ false = c.know_next-known.ensures.touched yes in
             let touched : f.new.images.touched ≡ c.touch.new.touched = f.ensures.others.2 in
-            let yes' : f.result ≡ true = lends_quiet f.result s.result f.ensures.none direct in
+            let yes' : f.result ≡ true = lends_direct f.result s.result next.direct.0 f.ensures.none next.direct.1 in
             let words : c.turn.new.images.shown.items ≡ version_words row' 1 a.vector a.totals = c.turn.ensures.buffers.1 ∙ (hidden ∙ ap (λ (t : Bool). version_words row' (cond t 1 0) a.vector a.totals) yes') in
-            let own_at : get_elem? (rows_of memory) c.worker-own.result ≡ some (record { number = length m.work.made; row = row }) = (λ z. get_elem? (q.0 z) (own' z)) ∙ fit.own_row (and_parts _ _ known).1 in
+            let own_at : get_elem? (rows_of memory) c.worker-own.result ≡ some (record { number = length m.work.made; row = row }) = ap (get_elem? (rows_of memory)) own' ∙ next.own in
             subst (λ (x : List Version). DifferAt c.turn.new.images.late c.turn.new.images.shown.items (next_words row' x (sums_of after))) (sym rows')
             (subst (λ (x : List ℕ). DifferAt c.turn.new.images.late x (next_words row' (set (rows_of memory) c.worker-own.result v) (sums_of after))) (sym words)
-            (late_words w n row row' (rows_of memory) (sums_of memory) a.vector a.totals wide wide' many long.0 q.2 (ap (λ (e : Ended). (answer_of memory e).totals) direct) f.new.images.touched.items
+            (late_words w n row row' (rows_of memory) (sums_of memory) a.vector a.totals wide wide' many long.0 next.numbers next.totals f.new.images.touched.items
             (λ k lt' none. let e = adds.sums k in let z = c.touch.ensures.rises listed k (λ has. none (subst (λ (t : Changed). Contains t.items k) (sym touched) has)) in omega (arith, e, z))
             c.worker-own.result v (sums_of after) c.turn.new.images.late (c.learn.ensures.sums _ own_at) after.sizes.1 c.turn.ensures.own c.turn.ensures.lent)))
             (λ unknown listed. absurd (let h = sym (c.turn.ensures.unknown unknown) ∙ listed in cc));

@@ -1,0 +1,36 @@
+-- What an update lists of what its scan found.
+use Rattle.std.specs.Prelude.{◌≡◌, ◌⊎◌, ℕ, ◌+◌, ◌*◌, ◌<◌, Bool, true, false, Contains, slice_index}
+use Rattle.ledger_core.specs.Ops.{width}
+use Rattle.snapshot_scan.specs.declared.ending.Ended.{Ended}
+use Rattle.snapshot_scan.specs.declared.ending.Ended.TheVariants.{Direct}
+use Rattle.snapshot_scan.specs.declared.memory.Memory.{Memory}
+use Rattle.snapshot_scan.specs.Changes.{Changed}
+use Rattle.snapshot_scan.specs.Memories.{moved_in, answer_of}
+
+-- the scan found all that was remembered, and the worker's own row was: nothing more is late
+pub record IsStill (ended : Ended) (own : Bool) (late late' : Changed) : Type 0 where
+  pub quiet : ended ≡ Direct true
+  pub remembered : own ≡ true
+  pub same : late' ≡ late
+
+-- n numbers from the item `first` on are listed, too, and no more
+pub record NotesRange (first n : ℕ) (old new : Changed) : Type 0 where
+  pub listed : new.all ≡ false → old.all ≡ false
+  pub keeps : new.all ≡ false → (j : ℕ) → Contains old.items j → Contains new.items j
+  pub notes : new.all ≡ false → (i : ℕ) → i < n → Contains new.items (first + i)
+  pub others : (j : ℕ) → Contains new.items j → Contains old.items j ⊎ ((i : ℕ) × (i < n) × (j ≡ first + i))
+
+-- in a buffer of rows of w words, all n numbers of the vector are listed, too, and the totals of these words
+pub record ListsMoved (n w : ℕ) (moved old new : Changed) : Type 0 where
+  pub listed : new.all ≡ false → old.all ≡ false
+  pub few : new.all ≡ false → moved.all ≡ false
+  pub keeps : new.all ≡ false → (j : ℕ) → Contains old.items j → Contains new.items j
+  pub numbers : new.all ≡ false → (i : ℕ) → i < n → Contains new.items (w + 1 + i)
+  pub totals : new.all ≡ false → (k : ℕ) → Contains moved.items k → Contains new.items (w + 1 + n + k)
+  pub inside : (j : ℕ) → Contains new.items j → Contains old.items j ⊎ (j < 2 * w + 1 + n)
+
+-- the scan ended direct, and found the number of its own worker; where it moved the sums is late, too
+pub record IsFollowed (n c h g own number : ℕ) (memory : Memory n c h g) (ended : Ended) (late late' : Changed) : Type 0 where
+  pub direct : (quiet : Bool) × (ended ≡ Direct quiet)
+  pub found : slice_index (answer_of memory ended).vector own ≡ number
+  pub lists : ListsMoved n (width c h g) (moved_in memory) late late'

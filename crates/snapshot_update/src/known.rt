@@ -1,0 +1,87 @@
+//! Where the next version is known to differ from what the shown buffer holds.
+ghost use Rattle.std.specs.Prelude.{◌≡◌, ◌⊎◌, ℕ, ◌+◌, ◌<◌, Bool, true, false, length, slice_index, Contains};
+ghost use Rattle.ledger_core.specs.Ops.{width};
+ghost use Rattle.segment_layout.specs.Layout.{IsGeometry};
+ghost use Rattle.register_rule.specs.Seats.{worker_of, index_of};
+ghost use Rattle.snapshot_scan.specs.declared.ending.Ended.TheVariants as Ended;
+ghost use Rattle.snapshot_scan.specs.Memories.{moved_in, answer_of};
+ghost use Rattle.snapshot_update.specs.Fit.{AreInside};
+ghost use Rattle.snapshot_update.specs.Known.{IsStill, ListsMoved, IsFollowed};
+
+use crate::listing::{note_each, note_range};
+use crate::scanning::{is_direct, is_quiet};
+use register_rule::WorkSeat;
+use segment_layout::{Item, item_at};
+use snapshot_scan::{Changes, Ended, Memory};
+
+/// Whether the version that an update publishes is known to differ from what the shown buffer holds at no items but the late
+/// and the touched ones. What the scan found anew is listed as late, too. `own` says that the row that was remembered of the
+/// worker's own segment is known to be its row.
+#[inline(always)]
+pub(crate) fn know_next<const N: usize, const C: usize, const H: usize, const G: usize>(
+    seat: &WorkSeat,
+    memory: &Memory<N, C, H, G>,
+    late: &mut Changes,
+    touched: &Changes,
+    own: bool,
+    ended: Ended,
+) -> bool
+    requires geometry { IsGeometry N C H G }
+    requires inside { index_of seat.now < N }
+    requires words { AreInside (width C H G) (moved_in memory.now) }
+    ensures touched { result ≡ true → touched.now.all ≡ false }
+    ensures known { result ≡ true → IsStill ended own late.old late.new ⊎ IsFollowed N C H G (index_of seat.now) (length (worker_of seat.now).work.made) memory.now ended late.old late.new }
+    ensures unknown { result ≡ false → late.new ≡ late.old }
+{
+    let quiet = is_quiet(ended) & !touched.is_all() & own;
+    if quiet {
+        return true;
+    }
+    follow(seat, memory, late, touched, ended)
+}
+
+/// Whether a scan that was not quiet ended direct, with the number of its own worker, and all touched words are listed. What
+/// the scan found anew is listed as late then, and the row that it remembers under that number is the worker's row.
+#[inline(never)]
+fn follow<const N: usize, const C: usize, const H: usize, const G: usize>(
+    seat: &WorkSeat,
+    memory: &Memory<N, C, H, G>,
+    late: &mut Changes,
+    touched: &Changes,
+    ended: Ended,
+) -> bool
+    requires geometry { IsGeometry N C H G }
+    requires inside { index_of seat.now < N }
+    requires words { AreInside (width C H G) (moved_in memory.now) }
+    ensures touched { result ≡ true → touched.now.all ≡ false }
+    ensures known { result ≡ true → IsFollowed N C H G (index_of seat.now) (length (worker_of seat.now).work.made) memory.now ended late.old late.new }
+    ensures unknown { result ≡ false → late.new ≡ late.old }
+{
+    if !is_direct(ended) || touched.is_all() {
+        return false;
+    }
+    let (vector, _) = memory.answer(ended);
+    if vector[seat.worker()] != seat.number() {
+        return false;
+    }
+    list_moved::<N, C, H, G>(late, memory.moved());
+    true
+}
+
+/// Lists all numbers of the vector, and the totals of these words, behind what is listed.
+#[inline]
+fn list_moved<const N: usize, const C: usize, const H: usize, const G: usize>(
+    late: &mut Changes,
+    moved: &Changes,
+)
+    requires geometry { IsGeometry N C H G }
+    requires words { AreInside (width C H G) moved.now }
+    ensures { ListsMoved N (width C H G) moved.now late.old late.new }
+{
+    let numbers = item_at(N, C, H, G, Item::Flag) + 1;
+    note_range(late, numbers, N);
+    note_each(late, moved, numbers + N);
+    if moved.is_all() {
+        late.note_all();
+    }
+}
