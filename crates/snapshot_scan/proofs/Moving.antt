@@ -6,7 +6,7 @@ use native.Mathlib.Decide.{dec_lt}
 use Rattle.std.specs.Int.{bit_at}
 use lib.Bits.{bit_xor}
 use Rattle.std.proofs.lemmas.Nat.Bits.{same_from_bits, bit_at_xor, bit_at-zero, bit_at-lt}
-use Rattle.snapshot_scan.specs.Changes.{Changed, Notes, Moves}
+use Rattle.snapshot_scan.specs.Changes.{Changed, Notes, Moves, Lists}
 use Rattle.snapshot_scan.specs.Exchange.{Exchanges, AreParts}
 use Rattle.snapshot_scan.proofs.Noted.{none_listed}
 
@@ -38,9 +38,27 @@ moves_one w k x s t old new lt is notes = record {
   inside = λ j h. ⊎_elim (λ was. inl was) (λ e. inr (omega (arith, e, lt))) (notes.others j h);
 }
 
--- after a list that was empty all that are listed are among the sums
-pub moves_inside : (w : ℕ) (s t : List ℕ) (old new : Changed) → old.items ≡ [] → Moves w s t old new → (j : ℕ) → Contains new.items j → j < w
-moves_inside w s t old new empty is j h = ⊎_elim (λ was. absurd (none_listed j (subst (λ (l : List ℕ). Contains l j) empty was))) (λ lt. lt) (is.inside j h)
+-- from an empty list on
+pub lists_first : (w : ℕ) (s t : List ℕ) (old new : Changed) → old.items ≡ [] → Moves w s t old new → Lists w s t new
+lists_first w s t old new empty is = record {
+  same = is.same;
+  inside = λ j h. ⊎_elim (λ was. absurd (none_listed j (subst (λ (l : List ℕ). Contains l j) empty was))) (λ lt. lt) (is.inside j h);
+}
+
+-- nothing changes
+pub lists_none : (w : ℕ) (s t : List ℕ) (c : Changed) → t ≡ s → ((j : ℕ) → Contains c.items j → j < w) → Lists w s t c
+lists_none w s t c e inside = record { same = λ _ k lt none. ap (λ (l : List ℕ). get_or l k 0) e; inside = inside }
+
+-- more is listed
+pub lists_then : (w : ℕ) (s t u : List ℕ) (a b : Changed) → Lists w s t a → Moves w t u a b → Lists w s u b
+lists_then w s t u a b first second = record {
+  same = λ h k lt none. second.same h k lt none ∙ first.same (second.listed h) k lt (λ was. none (second.keeps h k was));
+  inside = λ j h. ⊎_elim (λ was. first.inside j was) (λ lt. lt) (second.inside j h);
+}
+
+-- what is listed stays among the sums
+pub moves_inside : (w : ℕ) (s t : List ℕ) (old new : Changed) → ((j : ℕ) → Contains old.items j → j < w) → Moves w s t old new → (j : ℕ) → Contains new.items j → j < w
+moves_inside w s t old new inside is j h = ⊎_elim (λ was. inside j was) (λ lt. lt) (is.inside j h)
 
 below_or_not : (k n : ℕ) → (k < n) ⊎ (n ≤ k)
 below_or_not k n = dite (dec_lt k n) (λ lt. inl lt) (λ not. inr (omega (arith, not)))

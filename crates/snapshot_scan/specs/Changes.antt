@@ -28,3 +28,8 @@ pub record Moves (w : ℕ) (sums sums' : List ℕ) (old new : Changed) : Type 0 
   pub keeps : new.all ≡ false → (j : ℕ) → Contains old.items j → Contains new.items j
   pub same : new.all ≡ false → (k : ℕ) → k < w → ¬ (Contains new.items k) → slice_index sums' k ≡ slice_index sums k
   pub inside : (j : ℕ) → Contains new.items j → Contains old.items j ⊎ (j < w)
+
+-- of w sums those differ at no items but the ones that are listed, and these are among them
+pub record Lists (w : ℕ) (sums sums' : List ℕ) (changed : Changed) : Type 0 where
+  pub same : changed.all ≡ false → (k : ℕ) → k < w → ¬ (Contains changed.items k) → slice_index sums' k ≡ slice_index sums k
+  pub inside : (j : ℕ) → Contains changed.items j → j < w

@@ -118,6 +118,7 @@ impl Kept {
         ensures wide { IsWide (width C H G) self.new }
         ensures version { version_of self.new ≡ record { number = number; row = row.now } }
         ensures totals { (k : ℕ) → k < width C H G → slice_index totals.new k + slice_index self.old.row.items k ≡ slice_index totals.old k + slice_index row.now k }
+        ensures moved { Moves (width C H G) totals.old totals.new moved.old moved.new }
     {
         copy_words(self.fresh.as_mut_slice(), row);
         self.replace(number, totals, moved);

@@ -1,5 +1,5 @@
 //! What the scans of one seat work with, made once.
-ghost use Rattle.std.specs.Prelude.{◌≡◌, ℕ, ◌+◌, ◌<◌, ◌≤◌, Bool, true, length, map, replicate, slice_index, IfOk};
+ghost use Rattle.std.specs.Prelude.{◌≡◌, ℕ, ◌+◌, ◌<◌, ◌≤◌, Bool, true, length, map, replicate, slice_index, Contains, IfOk};
 ghost use Rattle.ledger_core.specs.Ops.{width};
 ghost use Rattle.segment_layout.specs.Layout.{IsGeometry};
 ghost use Rattle.snapshot_scan.specs.Memory.{AreWide, AreTotals};
@@ -21,6 +21,7 @@ pub struct Memory<const N: usize, const C: usize, const H: usize, const G: usize
     ghost sizes: { (length kept.items ≡ N) × (length totals.items ≡ width C H G) × (length opened.items ≡ N) × (length found.items ≡ N) × (length lent.items ≡ 1 + N + width C H G) },
     ghost wide: { AreWide (width C H G) kept.items },
     ghost sums: { AreTotals (width C H G) kept.items totals.items },
+    ghost listed: { (j : ℕ) → Contains moved.items j → j < width C H G },
 }
 
 impl<const N: usize, const C: usize, const H: usize, const G: usize> Drop for Memory<N, C, H, G> {

@@ -4,6 +4,7 @@ ghost use mathlib.Core.Option.{some};
 ghost use lib.ListN.{get_elem?};
 ghost use Rattle.ledger_core.specs.Ops.{width};
 ghost use Rattle.register_rule.specs.declared.view.Version.{Version};
+ghost use Rattle.snapshot_scan.specs.Changes.{Moves};
 ghost use Rattle.snapshot_scan.specs.Memory.{AreWide, AreTotals, version_of};
 ghost use Rattle.snapshot_scan.specs.Memories.{rows_of, sums_of, moved_in, answer_of};
 
@@ -91,6 +92,7 @@ fn remember_all<const C: usize, const H: usize, const G: usize>(
     ensures wide { AreWide (width C H G) kept.new }
     ensures totals { AreTotals (width C H G) kept.new totals.new }
     ensures rows { map version_of kept.new ≡ slice_set (map version_of kept.old) place (record { number = number; row = row.now }) }
+    ensures moved { Moves (width C H G) totals.old totals.new moved.old moved.new }
 {
     kept[place].learn(number, row, totals, moved);
 }

@@ -73,7 +73,6 @@ impl<const N: usize, const C: usize, const H: usize, const G: usize> Memory<N, C
         ensures gave_up { result ≡ Ended.GaveUp → IsGivenUp N (scan_in (S.bundle seat.old)) (scan_in (S.bundle seat.new)) (opened_in self.new) (found_in self.new) }
         ensures came_up { result ≡ Ended.GaveUp → (e : Contended) → IsFirstMoved (opened_in self.new) (found_in self.new) e → CameTo N (width C H G) (scan_in (S.bundle seat.old)) (scan_in (S.bundle seat.new)) (Next.GaveUp e.worker e.first e.last) }
     {
-        self.moved.clear();
         scan(
             board,
             seat,

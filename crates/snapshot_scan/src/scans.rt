@@ -1,10 +1,10 @@
 //! A scan.
-ghost use Rattle.std.specs.Prelude.{◌≡◌, ℕ, ◌+◌, ◌<◌, ◌≤◌, [], ◌++◌, Bool, true, false, length, map, slice_index};
+ghost use Rattle.std.specs.Prelude.{◌≡◌, ℕ, ◌+◌, ◌<◌, ◌≤◌, [], ◌++◌, Bool, true, false, length, map, slice_index, Contains};
 ghost use Rattle.register_rule.specs.Steps.{answered, gives_up, lent_in};
 ghost use Rattle.ledger_core.specs.Ops.{width};
 ghost use Rattle.segment_layout.specs.Layout.{IsGeometry};
 ghost use Rattle.register_rule.specs.Seats.{table_of, members_of, MayScan};
-ghost use Rattle.snapshot_scan.specs.Changes.{Moves};
+ghost use Rattle.snapshot_scan.specs.Changes.{Moves, Lists};
 ghost use Rattle.snapshot_scan.specs.Shape.{scan_in, with_scan, IsRuled};
 ghost use Rattle.snapshot_scan.specs.Memory.{AreWide, AreTotals, AreKnown, HasOther, IsLoaded, pairs, version_of, opening, settling, failing};
 ghost use Rattle.snapshot_core.specs.declared.next.Next.TheVariants as Next;
@@ -20,10 +20,58 @@ use crate::ending::Ended;
 use crate::kept::Kept;
 use register_rule::{Board, ScanSeat};
 
-/// One try of a scan, without the asking. It says whether the try is clean, and in `known` whether each row is remembered.
-/// Where the totals change is listed in `moved`.
+/// The first try of a scan. It says whether the try is clean, and in `known` whether each row is remembered: then nothing
+/// changes, nor does `moved`. Else that lists where the totals changed.
 #[inline(always)]
 fn try_once<
+    S: ScanSeat<N, C, H, G>,
+    const N: usize,
+    const C: usize,
+    const H: usize,
+    const G: usize,
+>(
+    board: &Board<N, C, H, G>,
+    seat: &mut S,
+    kept: &mut [Kept],
+    totals: &mut [u64],
+    opened: &mut [u64],
+    found: &mut [u64],
+    moved: &mut Changes,
+    known: &mut bool,
+) -> bool
+    requires own { MayScan board.now (S.bundle seat.old) }
+    requires geometry { IsGeometry N C H G }
+    requires lengths { (length kept.old ≡ N) × (length totals.old ≡ width C H G) × (length opened.old ≡ N) × (length found.old ≡ N) }
+    requires wide { AreWide (width C H G) kept.old }
+    requires totals { AreTotals (width C H G) kept.old totals.old }
+    requires kept { (scan_in (S.bundle seat.old)).kept ≡ map version_of kept.old }
+    requires listed { (j : ℕ) → Contains moved.old.items j → j < width C H G }
+    requires rest { ((scan_in (S.bundle seat.old)).now.looks ≡ []) × ((scan_in (S.bundle seat.old)).now.due ≡ []) × ((scan_in (S.bundle seat.old)).now.asks ≡ []) }
+    ensures own { table_of (S.bundle seat.new) ≡ table_of (S.bundle seat.old) }
+    ensures ruled { IsRuled N C H G (S.bundle seat.new) }
+    ensures wide { AreWide (width C H G) kept.new }
+    ensures totals { AreTotals (width C H G) kept.new totals.new }
+    ensures told { (q : ℕ) → q < N → IsLoaded q (scan_in (S.bundle seat.old)) (slice_index opened.new q) }
+    ensures clean { result ≡ true → members_of (S.bundle seat.new) ≡ with_scan (answered (record { vector = opened.new; totals = totals.new }) (settling opened.new found.new kept.new (opening opened.new kept.new (scan_in (S.bundle seat.old))))) (members_of (S.bundle seat.old)) }
+    ensures same { result ≡ true → opened.new ≡ found.new }
+    ensures failed { result ≡ false → members_of (S.bundle seat.new) ≡ with_scan (gives_up N (failing (settling opened.new found.new kept.new (opening opened.new kept.new (scan_in (S.bundle seat.old)))))) (members_of (S.bundle seat.old)) }
+    ensures risen { (q : ℕ) → q < N → slice_index opened.new q ≤ slice_index found.new q }
+    ensures rose { result ≡ false → (q : ℕ) × (q < N) × (slice_index opened.new q < slice_index found.new q) }
+    ensures quiet { known.new ≡ true → IsQuiet kept.old kept.new totals.old totals.new opened.new }
+    ensures unknown { known.new ≡ false → HasOther opened.new (map version_of kept.old) }
+    ensures numbers { result ≡ true → AreKnown opened.new kept.new }
+    ensures listed { Lists (width C H G) totals.old totals.new moved.new }
+{
+    *known = collect(board, seat, kept, opened);
+    if !*known {
+        moved.clear();
+    }
+    confirm(board, seat, kept, totals, opened, found, moved, *known)
+}
+
+/// One more try of a scan, as [`try_once`]: a scan that is quiet makes none. Where the totals change is listed in `moved`, too.
+#[inline(never)]
+fn try_again<
     S: ScanSeat<N, C, H, G>,
     const N: usize,
     const C: usize,
@@ -65,49 +113,6 @@ fn try_once<
     confirm(board, seat, kept, totals, opened, found, moved, *known)
 }
 
-/// One more try of a scan, as [`try_once`]: a scan that is quiet makes none.
-#[inline(never)]
-fn try_again<
-    S: ScanSeat<N, C, H, G>,
-    const N: usize,
-    const C: usize,
-    const H: usize,
-    const G: usize,
->(
-    board: &Board<N, C, H, G>,
-    seat: &mut S,
-    kept: &mut [Kept],
-    totals: &mut [u64],
-    opened: &mut [u64],
-    found: &mut [u64],
-    moved: &mut Changes,
-    known: &mut bool,
-) -> bool
-    requires own { MayScan board.now (S.bundle seat.old) }
-    requires geometry { IsGeometry N C H G }
-    requires lengths { (length kept.old ≡ N) × (length totals.old ≡ width C H G) × (length opened.old ≡ N) × (length found.old ≡ N) }
-    requires wide { AreWide (width C H G) kept.old }
-    requires totals { AreTotals (width C H G) kept.old totals.old }
-    requires kept { (scan_in (S.bundle seat.old)).kept ≡ map version_of kept.old }
-    requires rest { ((scan_in (S.bundle seat.old)).now.looks ≡ []) × ((scan_in (S.bundle seat.old)).now.due ≡ []) × ((scan_in (S.bundle seat.old)).now.asks ≡ []) }
-    ensures own { table_of (S.bundle seat.new) ≡ table_of (S.bundle seat.old) }
-    ensures ruled { IsRuled N C H G (S.bundle seat.new) }
-    ensures wide { AreWide (width C H G) kept.new }
-    ensures totals { AreTotals (width C H G) kept.new totals.new }
-    ensures told { (q : ℕ) → q < N → IsLoaded q (scan_in (S.bundle seat.old)) (slice_index opened.new q) }
-    ensures clean { result ≡ true → members_of (S.bundle seat.new) ≡ with_scan (answered (record { vector = opened.new; totals = totals.new }) (settling opened.new found.new kept.new (opening opened.new kept.new (scan_in (S.bundle seat.old))))) (members_of (S.bundle seat.old)) }
-    ensures same { result ≡ true → opened.new ≡ found.new }
-    ensures failed { result ≡ false → members_of (S.bundle seat.new) ≡ with_scan (gives_up N (failing (settling opened.new found.new kept.new (opening opened.new kept.new (scan_in (S.bundle seat.old)))))) (members_of (S.bundle seat.old)) }
-    ensures risen { (q : ℕ) → q < N → slice_index opened.new q ≤ slice_index found.new q }
-    ensures rose { result ≡ false → (q : ℕ) × (q < N) × (slice_index opened.new q < slice_index found.new q) }
-    ensures quiet { known.new ≡ true → IsQuiet kept.old kept.new totals.old totals.new opened.new }
-    ensures unknown { known.new ≡ false → HasOther opened.new (map version_of kept.old) }
-    ensures numbers { result ≡ true → AreKnown opened.new kept.new }
-    ensures listed { Moves (width C H G) totals.old totals.new moved.old moved.new }
-{
-    try_once(board, seat, kept, totals, opened, found, moved, known)
-}
-
 /// A scan of at most `N` + 2 tries.
 ///
 /// It reads the words only of those rows whose number is not the remembered one. Its memory: what is remembered of each
@@ -135,6 +140,7 @@ pub(crate) fn scan<
     requires lengths { (length kept.old ≡ N) × (length totals.old ≡ width C H G) × (length opened.old ≡ N) × (length found.old ≡ N) × (length lent.old ≡ 1 + N + width C H G) }
     requires wide { AreWide (width C H G) kept.old }
     requires totals { AreTotals (width C H G) kept.old totals.old }
+    requires listed { (j : ℕ) → Contains moved.old.items j → j < width C H G }
     requires idle { IsIdle (scan_in (S.bundle seat.old)) kept.old }
     ensures own { table_of (S.bundle seat.new) ≡ table_of (S.bundle seat.old) }
     ensures ruled { IsRuled N C H G (S.bundle seat.new) }
@@ -150,7 +156,7 @@ pub(crate) fn scan<
     ensures lent { result ≡ Ended.Lent → IsAnswered N (scan_in (S.bundle seat.old)) (scan_in (S.bundle seat.new)) (lent_in N (width C H G) lent.new) }
     ensures came_lent { result ≡ Ended.Lent → AnswersBy N (width C H G) (scan_in (S.bundle seat.old)) (scan_in (S.bundle seat.new)) (lent_in N (width C H G) lent.new) }
     ensures numbers { (q : Bool) → result ≡ Ended.Direct q → AreKnown opened.new kept.new }
-    ensures listed { Moves (width C H G) totals.old totals.new moved.old moved.new }
+    ensures listed { Lists (width C H G) totals.old totals.new moved.new }
     ensures gave_up { result ≡ Ended.GaveUp → IsGivenUp N (scan_in (S.bundle seat.old)) (scan_in (S.bundle seat.new)) opened.new found.new }
     ensures came_up { result ≡ Ended.GaveUp → (e : Contended) → IsFirstMoved opened.new found.new e → CameTo N (width C H G) (scan_in (S.bundle seat.old)) (scan_in (S.bundle seat.new)) (Next.GaveUp e.worker e.first e.last) }
 {
@@ -158,6 +164,9 @@ pub(crate) fn scan<
     let clean = try_once(board, seat, kept, totals, opened, found, moved, &mut known);
     if clean {
         return Ended::Direct { quiet: known };
+    }
+    if known {
+        moved.clear();
     }
     let mut floor = [0; N];
     floor.copy_from_slice(opened);

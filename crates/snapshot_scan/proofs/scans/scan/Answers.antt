@@ -1,4 +1,4 @@
-use Rattle.std.proofs.Common.{◌≡◌, ℕ, Bool, true, false, List, [], ◌∷◌, ◌++◌, length, map, take, drop, slice_index, sym, refl, ap, ◌∙◌, subst, arith, rules}
+use Rattle.std.proofs.Common.{◌≡◌, ℕ, Bool, true, false, List, [], ◌∷◌, ◌++◌, Contains, length, map, take, drop, slice_index, sym, refl, ap, ◌∙◌, subst, arith, rules}
 use Rattle.ledger_core.specs.Ops.{width}
 use Rattle.ledger_core.specs.Vectors.{is_above}
 use Rattle.register_rule.specs.declared.view.Scan.{Scan}
@@ -19,8 +19,11 @@ use Rattle.snapshot_scan.proofs.Scanning.{now_is, still_some, others_same, then_
 use Rattle.snapshot_core.specs.declared.next.Next.TheVariants.{GaveUp}
 use Rattle.snapshot_scan.specs.Core.{CameTo, AnswersBy}
 use Rattle.snapshot_scan.proofs.Arriving.{came_first, came_later, came_lending, came_up}
-use Rattle.snapshot_scan.proofs.Moving.{moves_then}
+use Rattle.snapshot_scan.specs.Changes.{Changed, Lists}
+use Rattle.snapshot_scan.proofs.Noted.{none_listed}
+use Rattle.snapshot_scan.proofs.Moving.{lists_none, lists_then}
 use Rattle.snapshot_scan.proofs.scans.scan.Goals as goal
+use Rattle.snapshot_scan.proofs.scans.scan.Goals.{then-known, else-known}
 
 pub returns-then-clean-clause-direct : goal.returns-then-clean-clause-direct
 returns-then-clean-clause-direct g c = λ _ _.
@@ -100,7 +103,11 @@ loop-k-init g c =
         leads = still_some _ ms _ c.requires.own.1 view;
         wide = c.try_once-clean.ensures.wide;
         totals = c.try_once-clean.ensures.totals;
-        moves = c.try_once-clean.ensures.listed;
+        listed = elim c.if-known.branch [
+          | then-known b ↦ lists_none w c.args.totals.now r.totals c.if-known.moved (c.try_once-clean.ensures.quiet b.if-known.true).totals
+              (λ j h. absurd (none_listed j (subst (λ (l : List ℕ). Contains l j) (ap (λ (x : Changed). x.items) b.moved-is ∙ b.clear.ensures.none.1) h)))
+          | else-known b ↦ subst (Lists w c.args.totals.now r.totals) (sym b.moved-is) c.try_once-clean.ensures.listed
+        ];
         count = refl;
         above = each_push (λ (t : Tried). Below (scan_of ms).seen t.first) [] one (λ p y at. absurd (some-ne-none y (sym at))) (seen_below n (scan_of ms) r.opened long c.try_once-clean.ensures.told);
         tried = subst (λ (x : List ℕ). AreTries n x ba r.opened r.found (one ∷ [])) f (subst (λ (x : List ℕ). AreTries n r.opened x r.opened r.found (one ∷ [])) b (tries_one n r.opened r.found failed));
@@ -274,7 +281,7 @@ loop-k-preserved g c =
         leads = still_some _ ms _ c.requires.own.1 end;
         wide = c.try_again-clean.ensures.wide;
         totals = c.try_again-clean.ensures.totals;
-        moves = moves_then w c.args.totals.now c.loop-k.totals r.totals c.args.moved.now c.loop-k.moved r.moved inv.moves c.try_again-clean.ensures.listed;
+        listed = lists_then w c.args.totals.now c.loop-k.totals r.totals c.loop-k.moved r.moved inv.listed c.try_again-clean.ensures.listed;
         count = count_more tries t c.loop-k._k inv.count;
         above = each_push (λ (u : Tried). Below (scan_of ms).seen u.first) tries t inv.above
             (seen_below n (stood tries c.loop-k.kept fl ba (scan_of ms)) r.opened long (λ p lt. subst (λ (x : Scan). IsLoaded p x (slice_index r.opened p)) (now_is d ms _ c.requires.own.1 view) (c.try_again-clean.ensures.told p lt)));
@@ -377,7 +384,7 @@ try_once-clean-requires g c = let lens = c.requires.lengths in let idle = c.requ
     c.requires.own,
     (
       c.requires.geometry,
-      ((lens.0, lens.1, lens.2, lens.3), (c.requires.wide, (c.requires.totals, (idle.kept, (λ z. (idle.rest z).looks, λ z. (idle.rest z).due, λ z. (idle.rest z).asks))))),
+      ((lens.0, lens.1, lens.2, lens.3), (c.requires.wide, (c.requires.totals, (idle.kept, (c.requires.listed, (λ z. (idle.rest z).looks, λ z. (idle.rest z).due, λ z. (idle.rest z).asks)))))),
     ),
   ),
 )
@@ -514,11 +521,11 @@ returns-then-clean-clause-listed g c = c.try_once-clean.ensures.listed
 
 pub returns-then-clean-2-clause-listed : goal.returns-then-clean-2-clause-listed
 returns-then-clean-2-clause-listed g c = let w : ℕ = width g.row.C g.row.H g.row.G in let r = c.try_again-clean.new in
-    moves_then w c.args.totals.now c.loop-k.totals r.totals c.args.moved.now c.loop-k.moved r.moved c.loop-k.invariant.1.moves c.try_again-clean.ensures.listed
+    lists_then w c.args.totals.now c.loop-k.totals r.totals c.loop-k.moved r.moved c.loop-k.invariant.1.listed c.try_again-clean.ensures.listed
 
 pub returns-then-lends-clause-listed : goal.returns-then-lends-clause-listed
 returns-then-lends-clause-listed g c = let w : ℕ = width g.row.C g.row.H g.row.G in let r = c.try_again-clean.new in
-    moves_then w c.args.totals.now c.loop-k.totals r.totals c.args.moved.now c.loop-k.moved r.moved c.loop-k.invariant.1.moves c.try_again-clean.ensures.listed
+    lists_then w c.args.totals.now c.loop-k.totals r.totals c.loop-k.moved r.moved c.loop-k.invariant.1.listed c.try_again-clean.ensures.listed
 
 pub returns-clause-listed : goal.returns-clause-listed
-returns-clause-listed g c = c.loop-k.invariant.1.moves
+returns-clause-listed g c = c.loop-k.invariant.1.listed

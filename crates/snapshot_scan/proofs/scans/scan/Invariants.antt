@@ -3,7 +3,7 @@ use Rattle.ledger_core.specs.Ops.{width}
 use Rattle.register_rule.specs.Steps.{gives_up}
 use Rattle.register_rule.specs.Seats.{HasMember, table_of, members_of}
 use Rattle.snapshot_scan.specs.Shape.{scan_of, with_scan, IsRuled}
-use Rattle.snapshot_scan.specs.Changes.{Moves}
+use Rattle.snapshot_scan.specs.Changes.{Lists}
 use Rattle.snapshot_scan.specs.Memory.{AreWide, AreTotals}
 use Rattle.register_rule.specs.History.{Below}
 use Rattle.snapshot_scan.specs.Scanned.{Tried}
@@ -19,7 +19,7 @@ invariant-loop-k g l = let bundle = g.S.ScanSeat.bundle in let ms = members_of (
   leads : HasMember (members_of (bundle l.seat));
   wide : AreWide w l.kept;
   totals : AreTotals w l.kept l.totals;
-  moves : Moves w l.fn.totals l.totals l.fn.moved l.moved;
+  listed : Lists w l.fn.totals l.totals l.moved;
   count : length tries ≡ l._k + 1;
   tried : AreTries g.row.N l.floor l.base l.opened l.found tries;
   above : (q : ℕ) (t : Tried) → get_elem? tries q ≡ some t → Below (scan_of ms).seen t.first;

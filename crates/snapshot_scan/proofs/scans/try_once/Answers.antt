@@ -1,4 +1,4 @@
-use Rattle.std.proofs.Common.{◌≡◌, ◌≢◌, ◌+◌, ℕ, List, [], length, slice_index, get_or, sym, ap, ◌∙◌, subst, arith, rules}
+use Rattle.std.proofs.Common.{◌≡◌, ◌≢◌, ◌+◌, ◌<◌, ℕ, Contains, List, [], length, slice_index, get_or, sym, ap, ◌∙◌, subst, arith, rules}
 use lib.ListN.{get_elem?}
 use Rattle.ledger_core.specs.Ops.{width}
 use Rattle.register_rule.proofs.Words.{there}
@@ -9,7 +9,10 @@ use Rattle.snapshot_scan.specs.Shape.{scan_of, with_scan}
 use Rattle.snapshot_scan.specs.Memory.{opening, settling}
 use Rattle.snapshot_scan.proofs.Words.{scan_with, with_led, led_some}
 use Rattle.snapshot_scan.proofs.Trying.{ends_clean, ends_failed, rose_some, loads_at, true_not_false, sums_same}
+use Rattle.snapshot_scan.specs.Changes.{Changed}
+use Rattle.snapshot_scan.proofs.Moving.{lists_first, lists_none, moves_inside}
 use Rattle.snapshot_scan.proofs.scans.try_once.Goals as goal
+use Rattle.snapshot_scan.proofs.scans.try_once.Goals.{then-not-known, else-not-known}
 
 pub confirm-requires : goal.confirm-requires
 confirm-requires g c =
@@ -82,3 +85,12 @@ returns-clause-rose g c = λ t.
 
 pub returns-clause-numbers : goal.returns-clause-numbers
 returns-clause-numbers g c = λ t q x at. c.confirm.ensures.held q x at (ap (λ (l : List ℕ). slice_index l q) (c.confirm.ensures.clean.0 t))
+
+pub returns-clause-listed : goal.returns-clause-listed
+returns-clause-listed g c =
+    let w : ℕ = width g.row.C g.row.H g.row.G in let r = c.confirm.new in let s = c.args.totals.now in
+    elim c.if-not-known.branch [
+      | then-not-known b ↦ lists_first w s r.totals c.if-not-known.moved r.moved (ap (λ (x : Changed). x.items) b.moved-is ∙ b.clear.ensures.none.1) c.confirm.ensures.listed
+      | else-not-known b ↦ lists_none w s r.totals r.moved (c.confirm.ensures.quiet b.if-not-known.false).1
+          (moves_inside w s r.totals c.if-not-known.moved r.moved (subst (λ (x : Changed). (j : ℕ) → Contains x.items j → j < w) (sym b.moved-is) c.requires.listed) c.confirm.ensures.listed)
+    ]

@@ -1,8 +1,9 @@
-use Rattle.std.proofs.Common.{◌+◌, ℕ, List, length, subst, sym, ap, ◌∙◌}
+use Rattle.std.proofs.Common.{◌+◌, ℕ, List, Contains, length, subst, sym, ap, ◌∙◌}
 use lib.ListN.{length-replicate}
 use Rattle.ledger_core.specs.Ops.{width}
 use Rattle.snapshot_scan.specs.Memory.{AreBlank, AreTotals}
 use Rattle.snapshot_scan.proofs.Blank.{are_wide, are_totals, rows_blank}
+use Rattle.snapshot_scan.proofs.Noted.{none_listed}
 use Rattle.snapshot_scan.proofs.memory.Memory.new.Goals as goal
 
 pub invariant_of-result : goal.invariant_of-result
@@ -19,6 +20,7 @@ invariant_of-result g c =
       );
       wide = are_wide w c.in_ok-kept.kept.items blank;
       sums = subst (AreTotals w c.in_ok-kept.kept.items) (sym (c.in_ok-totals.ensures.items_if_clones_equal (λ y h. h))) (are_totals w c.in_ok-kept.kept.items blank);
+      listed = λ j h. absurd (none_listed j (subst (λ (l : List ℕ). Contains l j) c.in_ok-moved.ensures.1 h));
     }
 
 pub returns : goal.returns

@@ -15,7 +15,6 @@ use Rattle.snapshot_scan.specs.Contention.{IsFirstMoved}
 use Rattle.snapshot_scan.specs.Scanned.{IsIdle, IsAnswered, IsGivenUp}
 use Rattle.snapshot_scan.specs.Shape.{scan_in}
 use Rattle.snapshot_scan.proofs.Words.{over}
-use Rattle.snapshot_scan.proofs.Moving.{moves_inside}
 use Rattle.snapshot_scan.proofs.memory.Memory.scan.Goals as goal
 
 -- what is written over a vector's items by way of a slice of them
@@ -77,6 +76,7 @@ invariant_of-self g c =
       wide = subst (AreWide w) (sym kept) c.scan.ensures.wide;
       sums = subst (λ (l : List Kept). AreTotals w l (take old.totals.len (new.totals ++ drop (length new.totals) old.totals.items))) (sym kept) (subst (AreTotals w new.kept)
           (sym totals) c.scan.ensures.totals);
+      listed = c.scan.ensures.listed.inside;
     }
 
 pub returns-clause-ready : goal.returns-clause-ready
@@ -143,7 +143,7 @@ scan-requires g c =
               subst (AreWide w) kept old.wide,
               (
                 subst (λ (l : List Kept). AreTotals w l c.as_mut_slice-2.result.now) kept (subst (AreTotals w old.kept.items) totals old.sums),
-                subst (IsIdle (scan_in (g.S.ScanSeat.bundle c.args.seat.now))) kept c.requires.ready,
+                (old.listed, subst (IsIdle (scan_in (g.S.ScanSeat.bundle c.args.seat.now))) kept c.requires.ready),
               ),
             ),
           ),
@@ -166,4 +166,4 @@ returns-clause-listed g c = λ few k lt none.
     ap (λ (l : List ℕ). slice_index l k) totals ∙ (c.scan.ensures.listed.same few k lt none ∙ ap (λ (l : List ℕ). slice_index l k) c.as_mut_slice-2.ensures.value)
 
 pub returns-clause-words : goal.returns-clause-words
-returns-clause-words g c = moves_inside (width g.row.C g.row.H g.row.G) c.as_mut_slice-2.result.now c.scan.new.totals c.clear.new.self c.scan.new.moved c.clear.ensures.none.1 c.scan.ensures.listed
+returns-clause-words g c = c.scan.ensures.listed.inside
