@@ -19,8 +19,8 @@ from started import Failed, check, run
 
 ROOT = pathlib.Path(__file__).resolve().parent.parent
 # The runs of a test, and of a script, go up in these steps, each of which is a build.
-STEPS = [48, 400]
-SCRIPT_STEPS = [160, 400]
+STEPS = [80, 192, 400]
+SCRIPT_STEPS = [200, 400]
 LAST = STEPS[-1]
 MINUTES = 20 * 60
 
