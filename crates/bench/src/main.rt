@@ -18,17 +18,17 @@
 #![tactic(auto)]
 
 mod boards;
-mod locked;
 mod measuring;
 mod registries;
+mod served;
 mod tallies;
 mod texts;
 
 use anyhow::Result;
 use dirgwako::ServiceRuntime;
-use locked::serve;
 use measuring::Lines;
 use registries::{LARGE, SMALL};
+use served::serve;
 use std::env;
 use std::net::{Net, TcpListener, TcpStream};
 use std::process::ExitCode;
@@ -53,17 +53,14 @@ fn measure_registries(lines: &mut Lines<'_, impl ServiceRuntime>) -> Result<()> 
     lines.on("1,64,8,0").alone::<64, 8>(SMALL)?;
     lines.on("4,64,8,0").shared::<4, 64, 8>(SMALL)?;
     lines.on("1,256,32,0").alone::<256, 32>(LARGE)?;
-    lines.on("16,256,32,0").shared::<16, 256, 32>(LARGE)?;
-    lines.on("1,64,8,0").windows::<64, 8>(SMALL)?;
-    lines.on("1,256,0,0").makings()
+    lines.on("16,256,32,0").shared::<16, 256, 32>(LARGE)
 }
 
-/// Measures boards, texts, registries, and a registry behind its lock.
+/// Measures boards, texts and registries.
 fn measure_all(rt: &impl ServiceRuntime, rounds: u64) -> Result<()> {
     let mut lines = Lines { rt, rounds, of: "" };
     measure_boards(&mut lines)?;
     measure_registries(&mut lines)?;
-    lines.on("4,64,8,0").locked::<4, 64, 8>(SMALL)?;
     if rounds == 0 {
         println!(rt; "measured 3 geometries, 2 texts and 2 registries")?;
     }

@@ -3,10 +3,10 @@
 ghost use Rattle.segment_layout.specs.Layout.{IsGeometry};
 
 use crate::boards::Applies;
-use crate::locked::filled;
-use crate::measuring::{Lines, keep, timed_each};
+use crate::measuring::{Lines, keep};
+use crate::served::filled;
 use anyhow::{Context, Result};
-use dirgwako::{Crew, Desc, FamilyId, Op, Registers, ServiceRuntime, Snapshot, render};
+use dirgwako::{Crew, Desc, Op, Registers, ServiceRuntime, Snapshot, render};
 use metric_names::{HelpText, LabelName, LabelValue, MetricName};
 use registry_state::RegistryState;
 use scrape_http::ScrapeFrom;
@@ -54,14 +54,9 @@ impl Service {
                 None => counter_desc(alloc, place)?,
                 Some(place) => histogram_desc(alloc, place, self.2)?,
             };
-            add(alloc, registry, desc, CHILDREN)?;
+            add(alloc, registry, desc)?;
         }
         Ok(())
-    }
-
-    /// The descriptor of its last family.
-    pub fn last(self, alloc: Global) -> Result<Desc> {
-        histogram_desc(alloc, self.1.saturating_sub(1), self.2)
     }
 
     /// One of the changes that are counted: an increment of each counter, and then observations of each bound of each histogram.
@@ -98,7 +93,7 @@ pub fn count_by(worker: &mut impl Applies, service: Service) -> Result<()> {
 }
 
 /// The values of the labels of the child of this number.
-pub fn values(alloc: Global, child: usize) -> Result<Vec<LabelValue>> {
+fn values(alloc: Global, child: usize) -> Result<Vec<LabelValue>> {
     let value = format!(in alloc; "/api/v1/{child}")?;
     let mut values = Vec::new(alloc);
     values.push(LabelValue::read(alloc, value.as_str())?)?;
@@ -130,13 +125,13 @@ fn histogram_desc(alloc: Global, family: usize, bounds: usize) -> Result<Desc> {
     Ok(Desc::histogram(name, help, labels, &bounds)?)
 }
 
-/// Registers a family, and makes its first `count` children.
-fn add(alloc: Global, registry: &mut impl Registers, desc: Desc, count: usize) -> Result<FamilyId> {
+/// Registers a family, and makes its children.
+fn add(alloc: Global, registry: &mut impl Registers, desc: Desc) -> Result<()> {
     let family = registry.register(desc)?;
-    for child in 0..count {
+    for child in 0..CHILDREN {
         let _handle = registry.child(family, &values(alloc, child)?)?;
     }
-    Ok(family)
+    Ok(())
 }
 
 /// A registry over a source of one thread.
@@ -176,50 +171,6 @@ fn plain<const C: usize, const H: usize>(
     let mut registry = empty::<C, H>(alloc, window)?;
     fill(alloc, &mut registry, service, window)?;
     Ok(registry)
-}
-
-/// A registry of 256 counters, and its last family.
-type Made = (Plain<256, 0>, Option<FamilyId>);
-
-/// A registry with so many families, of which each has so many children.
-fn with_families(alloc: Global, families: usize, children: usize) -> Result<Made> {
-    let (mut registry, mut last) = (empty(alloc, 1)?, None);
-    for family in 0..families {
-        last = Some(add(alloc, &mut registry, counter_desc(alloc, family)?, children)?);
-    }
-    Ok((registry, last))
-}
-
-/// The nanoseconds of so many registrations of a family where so many are there, each in a registry of its own.
-fn registrations(rt: &impl ServiceRuntime, there: usize, rounds: u64) -> Result<u64> {
-    let alloc = rt.alloc();
-    let make = &mut |_| {
-        let (registry, _last) = with_families(alloc, there, 0).ok()?;
-        Some((registry, counter_desc(alloc, there).ok()?))
-    };
-    let register = &mut |(mut registry, desc): (Plain<256, 0>, Desc)| {
-        let _family = registry.register(desc).ok()?;
-        Some(registry)
-    };
-    timed_each(rt, rounds, make, register)
-}
-
-/// Asks for a child of a family.
-fn find_once(made: &mut Made, values: &[LabelValue]) -> Option<()> {
-    let _handle = made.0.child(made.1?, values).ok()?;
-    Some(())
-}
-
-/// The nanoseconds of so many new children of a family where so many are there, each in a registry of its own.
-fn new_children(rt: &impl ServiceRuntime, there: usize, rounds: u64) -> Result<u64> {
-    let alloc = rt.alloc();
-    let values = values(alloc, there)?;
-    let make = &mut |_| with_families(alloc, 1, there).ok();
-    let find = &mut |mut made: Made| {
-        find_once(&mut made, &values)?;
-        Some(made)
-    };
-    timed_each(rt, rounds, make, find)
 }
 
 impl<R: ServiceRuntime> Lines<'_, R> {
@@ -273,11 +224,8 @@ impl<R: ServiceRuntime> Lines<'_, R> {
         out: &mut Snapshot<N, C, H, 0>,
         service: Service,
     ) -> Result<()> {
-        let state = &mut filled(self.rt, crew, service)?.0.into_state();
-        let source = &mut filled(self.rt, equal, service)?
-            .0
-            .into_state()
-            .into_source();
+        let state = &mut filled(self.rt, crew, service)?.into_state();
+        let source = &mut filled(self.rt, equal, service)?.into_state().into_source();
         self.beside_scans(&mut FromState { state }, source, out)
     }
 
@@ -293,57 +241,11 @@ impl<R: ServiceRuntime> Lines<'_, R> {
         self.over_boards(&mut crew, &mut equal, &mut out, service)
     }
 
-    /// Scrapes of a registry that keeps many, beside those of one that keeps few.
-    fn wide_and_narrow(
-        &self,
-        wide: &mut impl ScrapeFrom,
-        narrow: &mut impl ScrapeFrom,
-    ) -> Result<()> {
-        let floor = |_| {
-            let _scrape = narrow.scrape().ok()?;
-            Some(())
-        };
-        self.measure("scrape_keeping_1024", 1_000, floor, |_| {
-            let _scrape = wide.scrape().ok()?;
-            Some(())
-        })
-    }
-
-    /// Scrapes of registries that keep 1,024 scrapes and a single one.
-    pub fn windows<const C: usize, const H: usize>(&self, service: Service) -> Result<()>
-        requires { IsGeometry 1 C H 0 }
-    {
-        let alloc = self.rt.alloc();
-        let state = &mut plain::<C, H>(alloc, service, 1_024)?;
-        let narrow = &mut plain::<C, H>(alloc, service, 1)?;
-        self.wide_and_narrow(&mut FromState { state }, &mut FromState { state: narrow })
-    }
-
     /// Texts of a service's scrape.
     pub fn texts_of<const C: usize, const H: usize>(&self, service: Service) -> Result<()>
         requires { IsGeometry 1 C H 0 }
     {
         let mut registry = plain::<C, H>(self.rt.alloc(), service, 1)?;
         self.texts(&registry.scrape()?)
-    }
-
-    /// Registrations and children. Where the family is the 128th, 127 are there; where the child is the 256th, 255.
-    pub fn makings(&self) -> Result<()> {
-        let rt = self.rt;
-        let (first, last) = (|n| registrations(rt, 0, n), |n| registrations(rt, 127, n));
-        self.batches("register_128th", 10_000, first, last)?;
-        let (first, last) = (|n| new_children(rt, 0, n), |n| new_children(rt, 255, n));
-        self.batches("child_256th", 10_000, first, last)?;
-        self.finding()
-    }
-
-    /// A child of 256 that is found, beside the only one.
-    fn finding(&self) -> Result<()> {
-        let alloc = self.rt.alloc();
-        let values = &values(alloc, 0)?;
-        let one = &mut with_families(alloc, 1, 1)?;
-        let all = &mut with_families(alloc, 1, 256)?;
-        let floor = |_| find_once(one, values);
-        self.measure("child_of_256", 10, floor, |_| find_once(all, values))
     }
 }
