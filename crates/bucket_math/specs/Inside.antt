@@ -16,9 +16,11 @@ pub record IsInside (places : List ℕ) (len : ℕ) : Type 0 where
 abbrev pub fields_of : List ℕ → Inside
 fields_of bounds = record { bounds = bounds ++ replicate (24 - length bounds) 0; len = length bounds }
 
+-- of the places the first `len` are `len` bounds
 length-view : (places : List ℕ) (len : ℕ) → IsInside places len → length (take len places) ≡ len
 length-view places len inside = length-take-le len places (subst (λ n. len ≤ n) (sym inside.all_places) inside.few)
 
+-- the list of the bounds gives their fields back
 pub fields_of-view : (b : Inside) → IsInside b.bounds b.len → fields_of (take b.len b.bounds) ≡ b
 fields_of-view b inside =
     let e = length-view b.bounds b.len inside in
