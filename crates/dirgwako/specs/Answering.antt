@@ -8,10 +8,11 @@ use Rattle.scrape_http.specs.declared.status.Status.TheVariants.{Success, Unavai
 use Rattle.scrape_server.specs.Again.{AsksAgain}
 
 module _ {S : Type 0} (gave : S → S → Result Scraped NoScrape → Type 0) (before after : S) where
-  -- the source was asked once, and again where a scan was given up, and answered by a scrape; or why it has none
+  -- the source was asked once, and again where a scan was given up, and answered by a scrape
   abbrev pub Shows : Type 0
   Shows = (scrape : Scraped) × AsksAgain gave 3 before after (Ok scrape)
 
+  -- or it told why it has none
   abbrev pub ShowsNone : Type 0
   ShowsNone = (why : NoScrape) × AsksAgain gave 3 before after (Err why)
 

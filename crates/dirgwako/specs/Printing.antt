@@ -15,6 +15,7 @@ abbrev pub text_number : TextFault → ℕ
 text_number NoMemory = 6
 text_number Contended = 14
 
+-- the number of each fault of printing; where the output fails there is none
 abbrev pub print_number : PrintFault → Option ℕ
 print_number (Text fault) = Some (text_number fault)
 print_number Output = None
