@@ -7,6 +7,7 @@ use Rattle.std.proofs.Math.Nat.{add_assoc, le-add_right, lt_of_le_of_lt}
 abbrev pub Counts : (old new n : ℕ) → Type 0
 Counts old new n = old + n < 2 ^ 64 → new ≡ old + n
 
+-- a count to which nothing is added stays as it is
 pub counts-none : (a : ℕ) → Counts a a 0
 counts-none a fits = sym (add-zero a)
 
@@ -19,6 +20,7 @@ counts-both a b c n m first second fits =
     let end : c ≡ b + m = second (subst (λ k. k + m < 2 ^ 64) (sym start) all) in
     end ∙ ap (λ k. k + m) start ∙ apart
 
+-- a count of the bytes of one text, and then of another, is that of both together
 pub counts-more : (a b c : ℕ) (xs ys : List ℕ) → Counts a b (length xs) → Counts b c (length ys) → Counts a c (length (xs ++ ys))
 counts-more a b c xs ys first second =
     subst (λ n. Counts a c n) (sym (length-append xs ys)) (counts-both a b c (length xs) (length ys) first second)

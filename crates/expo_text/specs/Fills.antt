@@ -9,6 +9,7 @@ pub record Fills (old new : List ℕ) (before after : ℕ) (bytes : List ℕ) : 
   pub count : before + length bytes ≤ length old → after ≡ before + length bytes
   pub filled : before + length bytes ≤ length old → take after new ≡ take before old ++ bytes
 
+-- where no bytes are filled in, the places and the count stay as they are
 pub fills-nothing : (places : List ℕ) (n : ℕ) → Fills places places n n []
 fills-nothing places n = record { places = refl; count = λ _. sym (add-zero n); filled = λ _. sym (append-nil (take n places)) }
 

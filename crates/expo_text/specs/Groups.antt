@@ -12,13 +12,15 @@ pub record Group : Type 0 where
   pub kind : Kind
   pub samples : List Sample
 
--- the group of a family; a family without children has none
+-- the group of these children, with these samples; where there are no children, none
 abbrev pub group_of_children : Descriptor → List Child → List Sample → List Group
 group_of_children desc [] all = []
 group_of_children desc (_ ∷ _) all = record { name = desc.name; help = desc.help; kind = desc.kind; samples = all } ∷ []
 
+-- the group of a family with all its samples; a family without children has none
 abbrev pub group_of_family : Family → List Group
 group_of_family family = group_of_children family.desc family.children (samples_of_family family)
 
+-- the groups of the families of a scrape, in their order
 abbrev pub groups_of : Scraped → List Group
 groups_of scrape = flat_map group_of_family scrape.families

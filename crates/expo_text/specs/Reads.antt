@@ -75,6 +75,7 @@ HasDistinctLabels sample = AllPairs (λ (a b : List ℕ × List ℕ). a.0 ≢ b.
 abbrev pub others : List (List ℕ × List ℕ) → List (List ℕ × List ℕ)
 others labels = filter (λ label. not (same label.0 (codes "le"))) labels
 
+-- two samples are of one child: but for `le` they have the same labels
 abbrev pub IsOfOneChild : Sample → Sample → Type 0
 IsOfOneChild a b = AreSameLabels (others a.labels) (others b.labels)
 

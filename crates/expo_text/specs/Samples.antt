@@ -40,12 +40,14 @@ samples_of_number desc labels (Histogram totals) = bound_samples desc labels tot
 samples_of_number desc labels (Gauge totals) =
     record { name = desc.name; labels = labels; value = pos totals.up -ℤ pos totals.down } ∷ []
 
--- the samples of a child, of a family, and of the whole scrape
+-- the samples of a child, which has a value for each label of its family
 abbrev pub samples_of_child : Descriptor → Child → List Sample
 samples_of_child desc child = samples_of_number desc (zip desc.labels child.values) child.number
 
+-- the samples of a family, child by child
 abbrev pub samples_of_family : Family → List Sample
 samples_of_family family = flat_map (samples_of_child family.desc) family.children
 
+-- the samples of a whole scrape, family by family
 abbrev pub samples : Scraped → List Sample
 samples scrape = flat_map samples_of_family scrape.families

@@ -16,6 +16,7 @@ pub record Sender : Type 0 where
   pub waiting : List ℕ
   pub sent : ℕ
 
+-- the sender over this writer, with these bytes waiting, and so many sent
 abbrev pub sender_of : {W : Type 0} → (W → Option (List ℕ)) → Watch W → (waiting : List ℕ) → (sent : ℕ) → Sender
 sender_of contents out waiting sent =
     record { contents = contents out.inner; failed = out.failed; ended = out.ended; waiting = waiting; sent = sent }
@@ -42,6 +43,7 @@ some-more : (xs ys : List ℕ) → 0 < length xs → 0 < length (xs ++ ys)
 some-more xs ys some =
     subst (λ n. 0 < n) (sym (length-append xs ys)) (lt_of_lt_of_le some (le-add_right (length xs) (length ys)))
 
+-- a sender that was given no bytes is as it was
 pub sends-nothing : (a : Sender) → Sends a a []
 sends-nothing a = record {
   gone = [];
@@ -55,15 +57,18 @@ sends-nothing a = record {
   ended = refl;
 }
 
+-- what is left of one text waits before the next: what went of both, and what is left then, are all bytes in order
 join : (gone left waiting waiting_then xs ys gone_then left_then : List ℕ) → gone ++ left ≡ waiting ++ xs → left ≡ waiting_then → gone_then ++ left_then ≡ waiting_then ++ ys → (gone ++ gone_then) ++ left_then ≡ waiting ++ (xs ++ ys)
 join gone left waiting waiting_then xs ys gone_then left_then first same second =
     append_assoc gone gone_then left_then ∙ ap (λ l. gone ++ l) (second ∙ ap (λ l. l ++ ys) (sym same)) ∙ sym (append_assoc gone left ys)
     ∙ ap (λ l. l ++ ys) first ∙ append_assoc waiting xs ys
 
+-- the same where nothing more goes: all of the next text is left
 join-failed : (gone left waiting xs ys gone_then : List ℕ) → gone ++ left ≡ waiting ++ xs → gone_then ≡ [] → (gone ++ gone_then) ++ (left ++ ys) ≡ waiting ++ (xs ++ ys)
 join-failed gone left waiting xs ys gone_then first none =
     ap (λ l. l ++ (left ++ ys)) (ap (λ l. gone ++ l) none ∙ append-nil gone) ∙ sym (append_assoc gone left ys) ∙ ap (λ l. l ++ ys) first ∙ append_assoc waiting xs ys
 
+-- where the writer has not failed after the first text, two texts are sent as one
 chain-going : (a b c : Sender) (xs ys : List ℕ) → b.failed ≡ false → Sends a b xs → Sends b c ys → Sends a c (xs ++ ys)
 chain-going a b c xs ys ok p q = record {
   gone = p.gone ++ q.gone;
@@ -77,6 +82,7 @@ chain-going a b c xs ys ok p q = record {
   ended = q.ended ∙ p.ended;
 }
 
+-- where it has, they are, too: nothing goes of the second
 chain-failed : (a b c : Sender) (xs ys : List ℕ) → b.failed ≡ true → Sends a b xs → Sends b c ys → Sends a c (xs ++ ys)
 chain-failed a b c xs ys failed p q = record {
   gone = p.gone ++ q.gone;
@@ -90,9 +96,11 @@ chain-failed a b c xs ys failed p q = record {
   ended = q.ended ∙ p.ended;
 }
 
+-- so they are in both cases
 chain-either : (a b c : Sender) (xs ys : List ℕ) (failed : Bool) → b.failed ≡ failed → Sends a b xs → Sends b c ys → Sends a c (xs ++ ys)
 chain-either a b c xs ys true is p q = chain-failed a b c xs ys is p q
 chain-either a b c xs ys false is p q = chain-going a b c xs ys is p q
 
+-- two texts that are given one after the other are sent as one
 pub sends-chain : (a b c : Sender) (xs ys : List ℕ) → Sends a b xs → Sends b c ys → Sends a c (xs ++ ys)
 sends-chain a b c xs ys p q = chain-either a b c xs ys b.failed refl p q

@@ -23,10 +23,12 @@ pub record IsSpelledDesc (desc : Descriptor) : Type 0 where
   pub labels : All IsLabelName desc.labels
   pub kept : IsDescOf desc.kind desc.labels desc.bounds
 
+-- a child's label values are of their grammar, and its number is of words
 pub record IsSpelledChild (child : Child) : Type 0 where
   pub values : All IsLabelValue child.values
   pub number : IsOfWords child.number
 
+-- a family's descriptor and its children are spelled so
 pub record IsSpelled (family : Family) : Type 0 where
   pub desc : IsSpelledDesc family.desc
   pub children : All IsSpelledChild family.children

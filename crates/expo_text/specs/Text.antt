@@ -38,11 +38,12 @@ kind_text Gauge = codes "gauge"
 abbrev pub type_line : Descriptor → List ℕ
 type_line desc = codes "# TYPE " ++ desc.name ++ codes " " ++ kind_text desc.kind ++ codes "\n"
 
--- the group of a family: its help, its type, then its samples; without children nothing at all
+-- the lines of a group: the help, the type, then these samples; without children nothing at all
 abbrev pub group_of : Descriptor → List Child → List Sample → List ℕ
 group_of desc [] lines = []
 group_of desc (_ ∷ _) lines = help_line desc.name desc.help ++ type_line desc ++ flat_map sample_line lines
 
+-- the lines of a family's group
 abbrev pub group_text : Family → List ℕ
 group_text family = group_of family.desc family.children (samples_of_family family)
 

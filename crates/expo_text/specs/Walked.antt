@@ -17,10 +17,11 @@ drop_while test bytes = drop (prefix_len test bytes) bytes
 abbrev pub skip : List ℕ → List ℕ
 skip bytes = drop_while is_blank bytes
 
--- the token in front, which ends at a blank or a tab
+-- a byte that a token may have: no blank, and no tab
 abbrev pub in_token : ℕ → Bool
 in_token b = not (is_blank b)
 
+-- the token in front, which ends at a blank or a tab
 abbrev pub first : List ℕ → List ℕ
 first bytes = take_while in_token bytes
 
@@ -65,6 +66,7 @@ completed AfterValue b = []
 completed Ended b = []
 completed Failed b = []
 
+-- the list of labels has ended here
 abbrev pub has_ended : Place → Bool
 has_ended BeforeName = false
 has_ended (InName name) = false
@@ -92,10 +94,12 @@ labels_entry name place labels (b ∷ bytes) =
 abbrev pub in_name : ℕ → Bool
 in_name b = in_token b && not (b == 123)
 
+-- what follows a sample's name: labels in braces and a value, or a value alone
 abbrev pub after_name : (name : List ℕ) → List ℕ → Entry
 after_name name [] = Malformed
 after_name name (b ∷ bytes) = if b == 123 then labels_entry name BeforeName [] bytes else value_entry name [] (b ∷ bytes)
 
+-- a line that begins with the name of a sample
 abbrev pub sample_entry : List ℕ → Entry
 sample_entry line = after_name (take_while in_name line) (skip (drop_while in_name line))
 
@@ -114,6 +118,7 @@ abbrev pub entry_from : List ℕ → Entry
 entry_from [] = Nothing
 entry_from (b ∷ bytes) = if b == 35 then hash_entry (skip bytes) else sample_entry (b ∷ bytes)
 
+-- what a line is
 abbrev pub entry_of : List ℕ → Entry
 entry_of line = entry_from (skip line)
 
@@ -127,6 +132,7 @@ abbrev pub has_end : (name group : List ℕ) → List (List ℕ) → Bool
 has_end name group [] = false
 has_end name group (end ∷ ends) = if same name (group ++ end) then true else has_end name group ends
 
+-- no sample is there
 abbrev pub is_empty : List Written → Bool
 is_empty [] = true
 is_empty (_ ∷ _) = false
