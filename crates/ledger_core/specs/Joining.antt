@@ -45,6 +45,7 @@ pub record IsSumOf (first second both : Op) : Type 0 where
 abbrev pub PassTogether : (first second : Op) → Type 0
 PassTogether first second = (c h g : ℕ) → IsWithin c h g second → LacksRoom (width c h g) (part c h first) (part c h second)
 
+-- what joining two operations comes to: one operation of their sum; or together they are too much; or their slots are two
 abbrev pub IsJoined : (first second : Op) → Joined → Type 0
 IsJoined first second (One sum) = IsSumOf first second (with_amount sum first)
 IsJoined first second TooLarge = PassTogether first second
