@@ -5,11 +5,13 @@ use Rattle.metric_desc.specs.declared.kind.Kind.TheVariants.{Counter as CounterK
 use Rattle.metric_desc.specs.declared.kind.Shape.{Shape}
 use Rattle.metric_desc.specs.declared.kind.Shape.TheVariants.{Counter, Histogram, Gauge}
 
+-- the kind of a family of this shape
 abbrev pub kind_of : Shape → Kind
 kind_of Counter = CounterKind
 kind_of (Histogram bounds) = HistogramKind
 kind_of Gauge = GaugeKind
 
+-- its bounds: only a histogram has any
 abbrev pub bounds_of : Shape → List ℕ
 bounds_of Counter = []
 bounds_of (Histogram bounds) = bounds
