@@ -9,10 +9,11 @@ help_byte b = if b == 92 then codes "\\\\" else (if b == 10 then codes "\\n" els
 abbrev pub label_byte : ℕ → List ℕ
 label_byte b = if b == 34 then codes "\\\"" else help_byte b
 
--- a help text is written so, and a label value
+-- a help text is written so
 abbrev pub EscHelp : (raw written : List ℕ) → Type 0
 EscHelp raw written = flat_map help_byte raw ≡ written
 
+-- a label value is written so
 abbrev pub EscLabel : (raw written : List ℕ) → Type 0
 EscLabel raw written = flat_map label_byte raw ≡ written
 
