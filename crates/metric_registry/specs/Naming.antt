@@ -49,6 +49,7 @@ pub record HasMoment (n c h g : ℕ) (first : List Change) (scrape : Scraped) : 
   pub moment : AreMoments n c h g (answer ∷ [])
   pub shown : IsShown c h (families_after [] (first ++ more)) answer scrape
 
+-- there is such a moment
 abbrev pub ShowsMoment : (n c h g : ℕ) → (first : List Change) → Scraped → Type 0
 ShowsMoment n c h g first scrape = ∥ HasMoment n c h g first scrape ∥₁
 
