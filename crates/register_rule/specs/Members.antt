@@ -10,28 +10,33 @@ use Rattle.register_rule.specs.declared.view.Member.{Member}
 use Rattle.register_rule.specs.declared.view.View.{View}
 use Rattle.register_rule.specs.Steps.{at_rest, upper}
 
+-- the view of these members
 abbrev pub group : List Member → View
 group ms = record { members = ms }
 
--- a member that has made no step: n workers, rows of w words, buffers of b words
+-- the scans of a member that has made no step: n workers, rows of w words
 abbrev pub fresh_scan : (n w : ℕ) → Scan
 fresh_scan n w = record { opened = []; confirmed = []; before = []; asked = []; recorded = []; quit = 0; seen = replicate n 0; kept = replicate n (record { number = 0; row = replicate w 0 }); now = at_rest }
 
+-- worker i, which has made no step: both its buffers are b zeros
 abbrev pub new_worker : (n w b i : ℕ) → Member
 new_worker n w b i = record { who = Worker i; work = record { made = []; hidden = replicate b 0; shown = replicate b 0 }; scan = fresh_scan n w }
 
+-- reader i, which has made no step: it has no buffers
 abbrev pub new_reader : (n w i : ℕ) → Member
 new_reader n w i = record { who = Reader i; work = record { made = []; hidden = []; shown = [] }; scan = fresh_scan n w }
 
--- the workers from i on, k of them; the readers likewise
+-- the new workers from i on, k of them
 abbrev pub workers_from : (n w b i k : ℕ) → List Member
 workers_from n w b i zero = []
 workers_from n w b i (suc k) = new_worker n w b i ∷ workers_from n w b (i + 1) k
 
+-- the new readers from i on, k of them
 abbrev pub readers_from : (n w i k : ℕ) → List Member
 readers_from n w i zero = []
 readers_from n w i (suc k) = new_reader n w i ∷ readers_from n w (i + 1) k
 
+-- all members of a new board: n workers, and so many readers
 abbrev pub everyone : (n w b readers : ℕ) → View
 everyone n w b readers = group (workers_from n w b 0 n ++ readers_from n w 0 readers)
 
@@ -40,10 +45,12 @@ abbrev pub first_of : List Member → Member
 first_of [] = new_reader 0 0 0
 first_of (m ∷ ms) = m
 
+-- these members, of whom `f` has changed the first
 abbrev pub led : (Member → Member) → List Member → List Member
 led f [] = []
 led f (m ∷ ms) = f m ∷ ms
 
+-- this member, of which `f` has changed what it learned by its scans
 abbrev pub scanned : (Scan → Scan) → Member → Member
 scanned f m = record m { scan = f m.scan }
 
@@ -51,6 +58,7 @@ scanned f m = record m { scan = f m.scan }
 abbrev pub filled : (k x : ℕ) → Member → Member
 filled k x m = record m { work = record m.work { hidden = slice_set m.work.hidden k x } }
 
+-- the last of these entries, if there is one
 abbrev pub last_entry : List Entry → Option Entry
 last_entry [] = None
 last_entry (a ∷ []) = Some a
@@ -70,25 +78,28 @@ published w i ops lends m = record m {
   };
 }
 
+-- both are one worker, or one reader
 abbrev pub same_who : Who → Who → Bool
 same_who (Worker i) (Worker j) = i == j
 same_who (Reader i) (Reader j) = i == j
 same_who _ _ = false
 
--- the members of this name, and the others
+-- the members of this name
 abbrev pub picked : Who → List Member → List Member
 picked who [] = []
 picked who (m ∷ ms) = cond (same_who who m.who) (m ∷ picked who ms) (picked who ms)
 
+-- the members of any other name
 abbrev pub without : Who → List Member → List Member
 without who [] = []
 without who (m ∷ ms) = cond (same_who who m.who) (without who ms) (m ∷ without who ms)
 
--- what a member has seen, and of its own segment all that it made
+-- these numbers, in which a worker's own one is at least how often it has published
 abbrev pub raised_by : Who → (made : ℕ) → List ℕ → List ℕ
 raised_by (Worker i) made seen = slice_set seen i (max (slice_index seen i) made)
 raised_by (Reader r) made seen = seen
 
+-- what a member has seen, and of its own segment all that it made
 abbrev pub reach : Member → List ℕ
 reach m = raised_by m.who (length m.work.made) m.scan.seen
 
@@ -97,6 +108,7 @@ abbrev pub greatest : List Member → List ℕ
 greatest [] = []
 greatest (m ∷ ms) = upper (reach m) (greatest ms)
 
+-- this member, which has seen these numbers, too
 abbrev pub raised : List ℕ → Member → Member
 raised seen m = record m { scan = record m.scan { seen = upper m.scan.seen seen } }
 

@@ -46,6 +46,7 @@ module _ (n w b : ℕ) (adds : List Op → ℕ → ℕ) (made : ℕ → List Mad
     pub lends : (q : ℕ) (x : Made) (a : Entry) → get_elem? m.work.made q ≡ some x → x.lends ≡ Some a
         → (p : ℕ) × (get_elem? m.scan.recorded p ≡ some a)
 
+  -- what a member knows by its role: a worker of its own segment, a reader nothing more
   abbrev pub IsRole : (words : List ℕ) → Member → Who → Type 0
   IsRole words m (Worker i) = IsWorker words i m
   IsRole words m (Reader r) = Unit {0}

@@ -15,6 +15,7 @@ use Rattle.register_rule.specs.Sums.{total, row_sum}
 use Rattle.register_rule.specs.Shown.{Shows}
 use Rattle.register_rule.specs.Loads.{AreOrdered}
 
+-- the number that the opening load of the look found
 abbrev pub opened_at : Look → ℕ
 opened_at l = l.number
 
@@ -23,6 +24,7 @@ module _ (n w : ℕ) (adds : List Op → ℕ → ℕ) (made : ℕ → List Made)
   abbrev pub AtMost : List ℕ → Type 0
   AtMost vector = (i s : ℕ) → get_elem? vector i ≡ some s → s ≤ length (made i)
 
+  -- loads of numbers of segments that there are, each found no greater than it is
   abbrev pub AreLoads : List (ℕ × ℕ) → Type 0
   AreLoads xs = (q : ℕ) (x : ℕ × ℕ) → get_elem? xs q ≡ some x → (x.0 < n) × (x.1 ≤ length (made x.0))
 
@@ -54,6 +56,7 @@ module _ (n w : ℕ) (adds : List Op → ℕ → ℕ) (made : ℕ → List Made)
     pub moment : IsCut n history a.vector
     pub sums : (k : ℕ) → k < w → get_elem? a.totals k ≡ some (row_sum adds made 0 a.vector k)
 
+  -- what was read of a worker that was asked is right
   pub record IsAsked (e : Asked) : Type 0 where
     pub inside : e.worker < n
     pub risen : e.number ≤ e.again
@@ -61,6 +64,7 @@ module _ (n w : ℕ) (adds : List Op → ℕ → ℕ) (made : ℕ → List Made)
     -- where the number was found again, the words are those of its version, from the flag on
     pub shown : e.number ≡ e.again → (k x : ℕ) → get_elem? e.words k ≡ some x → Shows n w adds (take e.number (made e.worker)) (w + k) x
 
+  -- all that a member has loaded, remembers, asked and recorded is right
   pub record IsSound (history : List ℕ) (c : Scan) : Type 0 where
     pub opened : AreLoads c.opened
     pub confirmed : AreLoads c.confirmed

@@ -20,10 +20,11 @@ members_of s = s.seat.me.0.members
 abbrev pub HasMember : List Member → Type 0
 HasMember ms = (m : Member) × (others : List Member) × (ms ≡ m ∷ others)
 
--- a seat of one member as a bundle, and that member
+-- the seat of one worker as a bundle
 abbrev pub work_bundle : WorkSeat → Bundle
 work_bundle s = s.bundle
 
+-- the worker as a member: the seat has no other
 abbrev pub worker_of : WorkSeat → Member
 worker_of s = first_of (members_of (work_bundle s))
 
@@ -31,13 +32,16 @@ worker_of s = first_of (members_of (work_bundle s))
 abbrev pub index_of : WorkSeat → ℕ
 index_of s = s.worker
 
+-- the seat of one reader as a bundle
 abbrev pub read_bundle : ReadSeat → Bundle
 read_bundle s = s.bundle
 
+-- the reader as a member: the seat has no other
 abbrev pub reader_of : ReadSeat → Member
 reader_of s = first_of (members_of (read_bundle s))
 
 module _ {N C H G : ℕ} where
+  -- the id that the board was made with
   abbrev pub board_id : Board N C H G → ℕ
   board_id b = b.table.shared.key.id
 
@@ -53,5 +57,6 @@ module _ {N C H G : ℕ} where
   abbrev pub HasWorker : Board N C H G → WorkSeat → Type 0
   HasWorker b s = Has b (work_bundle s) × (index_of s < N)
 
+  -- the seat is that of one of its readers
   abbrev pub HasReader : Board N C H G → ReadSeat → Type 0
   HasReader b s = Has b (read_bundle s)

@@ -13,6 +13,7 @@ use Rattle.register_rule.specs.declared.load.Load.TheVariants.{Open, Read, Confi
 use Rattle.register_rule.specs.History.{tab}
 use Rattle.register_rule.specs.Scans.{opened_at}
 
+-- each of them passes the test
 abbrev pub every : {A : Type 0} → (A → Bool) → List A → Bool
 every p [] = true
 every p (x ∷ xs) = p x && every p xs
@@ -37,20 +38,26 @@ gives_up n c = cond (length c.now.due == 0 && c.now.failed == n + 2) (record c {
 
 -- **The opening load** of the place i found the number s. It opens the next place of a try in which nothing is
 -- confirmed yet, where nobody is still to be asked. The words of a row that is remembered need not be read again.
+
+-- the words that are remembered of the place i, if they are those of the version s
 abbrev pub words_kept : (i s : ℕ) → List Version → List ℕ
 words_kept i s [] = []
 words_kept zero s (v ∷ vs) = cond (v.number == s) v.row []
 words_kept (suc i) s (v ∷ vs) = words_kept i s vs
 
+-- the look at the place i: it is opened at the number s, and these words of that version are known
 abbrev pub begun : (i s : ℕ) → List ℕ → Look
 begun i s words = record { place = i; number = s; words = words; sure = false; found = 0 }
 
+-- the number of the look was not found again
 abbrev pub unsure : Look → Bool
 unsure l = not l.sure
 
+-- the place i is the next one that the try opens
 abbrev pub opens_next : ℕ → Progress → Bool
 opens_next i t = i == length t.looks && (length t.due == 0 && every unsure t.looks)
 
+-- a scan after the opening load of the place i
 abbrev pub after_open : (i s : ℕ) → Scan → Scan
 after_open i s c = record c {
   opened = c.opened ++ (i, s) ∷ [];
@@ -59,21 +66,28 @@ after_open i s c = record c {
 
 -- **The load of a word** of the version s of the place i found x at the item k. A look takes its words one by one;
 -- those of a worker that is asked begin at the flag.
+
+-- the look with this word, if it is the next one of its version
 abbrev pub noted : (from i s k x : ℕ) → Look → Look
 noted from i s k x l = cond (l.place == i && l.number == s && not l.sure && k == from + length l.words) (record l { words = l.words ++ x ∷ [] }) l
 
+-- a scan after the load of a word, which a try or an asked worker may take
 abbrev pub after_read : (w i s k x : ℕ) → Scan → Scan
 after_read w i s k x c = record c { now = record c.now { looks = map (noted 0 i s k x) c.now.looks; asks = map (noted w i s k x) c.now.asks } }
 
 -- **The confirming load** of the place i found the number s. A place whose number is found again is sure, and its row
 -- is remembered. That of the last place ends the try.
+
+-- the look with what its confirming load found
 abbrev pub settled : (i s : ℕ) → Look → Look
 settled i s l = cond (l.place == i) (record l { sure = l.sure || l.number == s; found = s }) l
 
+-- the remembered rows, in which a sure row of the place i, if it was read whole, takes the old one's place
 abbrev pub remembered : (w i : ℕ) → List Look → List Version → List Version
 remembered w i [] kept = kept
 remembered w i (l ∷ ls) kept = cond (l.place == i && l.sure && length l.words == w) (slice_set kept i (record { number = l.number; row = l.words })) (remembered w i ls kept)
 
+-- a scan after the confirming load of the place i, before that ends a try
 abbrev pub confirmed_at : (w i s : ℕ) → Scan → Scan
 confirmed_at w i s c = record c {
   confirmed = c.confirmed ++ (i, s) ∷ [];
@@ -82,21 +96,24 @@ confirmed_at w i s c = record c {
   now = record c.now { looks = map (settled i s) c.now.looks };
 }
 
--- a try is clean where all n rows are read and each number was found again
+-- a place is clean where its row of w words is read and its number was found again
 abbrev pub clean : (w : ℕ) → Look → Bool
 clean w l = l.sure && length l.words == w
 
+-- a try is clean where all n places are
 abbrev pub are_clean : (n w : ℕ) → List Look → Bool
 are_clean n w looks = length looks == n && every (clean w) looks
 
+-- the word k of the rows of a try, added up
 abbrev pub sum_words : ℕ → List Look → ℕ
 sum_words k [] = 0
 sum_words k (l ∷ ls) = slice_index l.words k + sum_words k ls
 
--- its entry: the numbers, and the sums of the rows
+-- the entry of a clean try: the numbers, and the sums of the rows
 abbrev pub entry_of : (w : ℕ) → List Look → Entry
 entry_of w looks = record { vector = map opened_at looks; totals = tab 0 w (λ k. sum_words k looks) }
 
+-- the number that the confirming load of the look found
 abbrev pub found_of : Look → ℕ
 found_of l = l.found
 
@@ -110,20 +127,26 @@ due_of (x ∷ base) (l ∷ looks) = cond (nat_le (x + 2) l.found) (l.place ∷ d
 abbrev pub with_base : Progress → Progress
 with_base t = cond (t.failed == 0) (record t { floor = map opened_at t.looks; base = map found_of t.looks }) t
 
+-- one try more has failed, and who is to be asked is known
 abbrev pub failed_once_more : Progress → Progress
 failed_once_more t = record t { failed = t.failed + 1; looks = []; due = due_of t.base t.looks }
 
+-- the end of a try: a clean one gives the answer, and any other one has failed
 abbrev pub ended : (n w : ℕ) → Scan → Scan
 ended n w c = cond (are_clean n w c.now.looks) (answered (entry_of w c.now.looks) c) (gives_up n (record c { now = failed_once_more (with_base c.now) }))
 
+-- a scan after the confirming load of the place i, of n
 abbrev pub after_confirm : (n w i s : ℕ) → Scan → Scan
 after_confirm n w i s c = cond (i + 1 == n) (ended n w (confirmed_at w i s c)) (confirmed_at w i s c)
 
 -- **The opening load of a worker that is asked**, the first of those to be asked, found the number s
+
+-- worker i is the first of these
 abbrev pub is_next : ℕ → List ℕ → Bool
 is_next i [] = false
 is_next i (x ∷ xs) = i == x
 
+-- a scan after the opening load of worker i, which is asked
 abbrev pub after_ask : (i s : ℕ) → Scan → Scan
 after_ask i s c = record c { now = cond (is_next i c.now.due) (record c.now { asks = begun i s [] ∷ [] }) c.now }
 
@@ -135,25 +158,31 @@ lent_in n w words = record { vector = take n (drop 1 words); totals = take w (dr
 -- its flag is 1, all its words are read, and its vector is below the floor nowhere. If it does not, the next one is
 -- asked, and after the last one the next try begins.
 
+-- the worker that was asked lends
 abbrev pub is_lender : (n w s : ℕ) → (floor : List ℕ) → Look → Bool
 is_lender n w s floor l = l.number == s && length l.words == 1 + n + w && slice_index l.words 0 == 1 && is_above floor (take n (drop 1 l.words))
 
+-- the worker that was asked, as it is recorded
 abbrev pub asked_of : (s : ℕ) → Look → Asked
 asked_of s l = record { worker = l.place; number = l.number; words = l.words; again = s }
 
+-- all but the first of these
 abbrev pub rest : List ℕ → List ℕ
 rest [] = []
 rest (x ∷ xs) = xs
 
+-- the end of asking a worker: the scan has its view as the answer, or the next one is asked
 abbrev pub answers : (n w s : ℕ) → Look → Scan → Scan
 answers n w s l c = cond (is_lender n w s c.now.floor l)
     (answered (lent_in n w l.words) (record c { asked = c.asked ++ asked_of s l ∷ [] }))
     (gives_up n (record c { asked = c.asked ++ asked_of s l ∷ []; now = record c.now { due = rest c.now.due; asks = [] } }))
 
+-- the same, if worker i is the one that is being asked
 abbrev pub ask_ends : (n w i s : ℕ) → List Look → Scan → Scan
 ask_ends n w i s [] c = c
 ask_ends n w i s (l ∷ ls) c = cond (l.place == i) (answers n w s l c) c
 
+-- a scan after the confirming load of worker i, which is asked
 abbrev pub after_end_ask : (n w i s : ℕ) → Scan → Scan
 after_end_ask n w i s c = ask_ends n w i s c.now.asks c
 
