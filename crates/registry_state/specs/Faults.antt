@@ -55,26 +55,31 @@ IsChildFault c h g families family values Child.NoMemory =
 -- what a refused scrape leaves of a source of n workers: all as it was, where nothing was scanned; and where a scan was given up, it
 -- recorded nothing, some worker's number rose, and the source gave it up
 module _ {S : Type 0} (n : ℕ) (recorded : S → List Answer) (quit : S → ℕ) (gave_up : S → S → Contended → Type 0) where
+  -- this refusal leaves that of the source
   abbrev pub Leaves : (old new : S) → ScrapeFault → Type 0
   Leaves old new Scrape.NoMemory = new ≡ old
   Leaves old new (Scrape.Contended fault) =
       (recorded new ≡ recorded old) × (quit new ≡ quit old + 1) × (fault.worker < n) × (fault.first < fault.last) × gave_up old new fault
 
+-- the number of each reason why there is no registry
 abbrev pub new_number : NewFault → ℕ
 new_number New.BadWindow = 31
 new_number New.NoMemory = 6
 
+-- the number of each refusal of a family
 abbrev pub register_number : RegisterFault → ℕ
 register_number (Register.Clash with) = 19
 register_number Register.TooManyFamilies = 23
 register_number Register.NoMemory = 6
 
+-- the number of each refusal of a child
 abbrev pub child_number : ChildFault → ℕ
 child_number Child.NoSuchFamily = 20
 child_number (Child.LabelCount want got) = 21
 child_number (Child.Full kind) = 22
 child_number Child.NoMemory = 6
 
+-- the number of each refusal of a scrape
 abbrev pub scrape_number : ScrapeFault → ℕ
 scrape_number Scrape.NoMemory = 6
 scrape_number (Scrape.Contended fault) = 14

@@ -14,6 +14,7 @@ zero_of Counter = Number.Counter 0
 zero_of Histogram = Number.Histogram (record { buckets = replicate 25 0; sum = 0; count = 0 })
 zero_of Gauge = Number.Gauge (record { up = 0; down = 0 })
 
+-- a child with zeros
 abbrev pub child_blank : Kind → Child → ChildShown
 child_blank kind child = record { values = child.values; number = zero_of kind }
 

@@ -26,6 +26,7 @@ pub record State : Type 0 where
   pub families : List Family
   pub last : Option Answer
 
+-- what a new registry holds: no family, and no scrape
 abbrev pub nothing : State
 nothing = record { families = []; last = None }
 

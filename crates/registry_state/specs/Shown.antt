@@ -20,6 +20,7 @@ module _ (c h : ℕ) (totals : List ℕ) where
   })
   number_at Gauge slot = Number.Gauge (record { up = slice_index totals (c + 27 * h + 2 * slot); down = slice_index totals (c + 27 * h + 2 * slot + 1) })
 
+  -- a child with the number of its slot
   abbrev pub child_shown : Kind → Child → ChildShown
   child_shown kind child = record { values = child.values; number = number_at kind child.slot }
 
