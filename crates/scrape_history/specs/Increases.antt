@@ -19,6 +19,7 @@ abbrev pub IsFor : (n w : ℕ) → Taken → Increase → Type 0
 IsFor n w t (Number worker by) = worker < n
 IsFor n w t (Total word by) = (word < w) × ((slice_index t.totals word + by) % 2 ^ 64 < 9007199254740992)
 
+-- each increase is so, after those before it
 abbrev pub AreFor : (n w : ℕ) → Taken → List Increase → Type 0
 AreFor n w t [] = ⊤
 AreFor n w t (increase ∷ increases) = IsFor n w t increase × AreFor n w (raised t increase) increases
