@@ -19,6 +19,7 @@ pub record Reply : Type 0 where
 abbrev pub line : List ℕ → List ℕ
 line words = words ++ crlf_bytes
 
+-- the line that a reply begins with
 abbrev pub status_line : Status → List ℕ
 status_line status = line (codes "HTTP/1.1 " ++ decimal (code_of status) ++ codes " " ++ phrase_of status)
 

@@ -14,12 +14,14 @@ number_of ReadFailed = 24
 number_of (WriteFailed sent) = 25
 number_of EndBeforeHead = 26
 
+-- a read failed
 abbrev pub is_read_failed : {A : Type 0} → Result A WireFault → Bool
 is_read_failed (Ok _) = false
 is_read_failed (Err ReadFailed) = true
 is_read_failed (Err (WriteFailed sent)) = false
 is_read_failed (Err EndBeforeHead) = false
 
+-- a write failed
 abbrev pub is_write_failed : {A : Type 0} → Result A WireFault → Bool
 is_write_failed (Ok _) = false
 is_write_failed (Err ReadFailed) = false
