@@ -12,12 +12,13 @@ Cuts old new line Line = Consumes old new (line ++ feed ∷ []) ⊎ ((line ≢ [
 Cuts old new line TooLong = (length line ≡ 4096) × ((byte : ℕ) × (byte ≢ feed) × Consumes old new (line ++ byte ∷ []))
 Cuts old new line End = (line ≡ []) × Keeps old new × IsAtEnd new
 
--- the lines of bytes: the parts between line feeds, but for a last one that is empty
+-- these parts, but for a last one that is empty
 abbrev pub without_empty_end : List (List ℕ) → List (List ℕ)
 without_empty_end [] = []
 without_empty_end (part ∷ []) = if length part == 0 then [] else part ∷ []
 without_empty_end (part ∷ next ∷ parts) = part ∷ without_empty_end (next ∷ parts)
 
+-- the lines of bytes: the parts between line feeds, but for a last one that is empty
 abbrev pub lines_in : List ℕ → List (List ℕ)
 lines_in bytes = without_empty_end (slice_split (λ b. b == feed) bytes)
 

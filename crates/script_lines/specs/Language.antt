@@ -4,19 +4,23 @@ use Rattle.std.specs.List.{join_with_byte}
 use Rattle.script_lines.specs.declared.line.Counting.{Counting}
 use Rattle.script_lines.specs.declared.line.Counting.TheVariants.{Inc, Obs, Up, Down}
 
--- the bytes that part and begin things
+-- a blank parts words
 abbrev pub blank : ℕ
 blank = 32
 
+-- a comma parts labels and bounds
 abbrev pub comma : ℕ
 comma = 44
 
+-- a hash begins a comment
 abbrev pub hash : ℕ
 hash = 35
 
+-- a backslash begins an escape
 abbrev pub backslash : ℕ
 backslash = 92
 
+-- a line feed ends a line
 abbrev pub feed : ℕ
 feed = 10
 
@@ -36,6 +40,7 @@ pub data Piece : Type 0 where
   Blank : Piece
   Nought : Piece
 
+-- how a piece is written
 abbrev pub written_as : Piece → List ℕ
 written_as (Plain byte) = byte ∷ []
 written_as Backslash = codes "\\\\"
@@ -43,6 +48,7 @@ written_as Feed = codes "\\n"
 written_as Blank = codes "\\s"
 written_as Nought = codes "\\e"
 
+-- what a piece stands for
 abbrev pub stands_for : Piece → List ℕ
 stands_for (Plain byte) = byte ∷ []
 stands_for Backslash = codes "\\"
@@ -50,6 +56,7 @@ stands_for Feed = codes "\n"
 stands_for Blank = codes " "
 stands_for Nought = []
 
+-- a byte that stands for itself is no backslash
 abbrev pub IsPiece : Piece → Type 0
 IsPiece (Plain byte) = byte ≢ backslash
 IsPiece Backslash = ⊤

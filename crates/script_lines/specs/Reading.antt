@@ -10,6 +10,7 @@ use Rattle.script_lines.specs.declared.word.Word.{Word}
 use Rattle.script_lines.specs.declared.word.Word.TheVariants as word
 
 infixl 10 ◌>>=◌
+-- where the first gives a value, what the second makes of it
 abbrev pub ◌>>=◌ : {A B : Type 0} → Option A → (A → Option B) → Option B
 o >>= f = option_and_then f o
 
@@ -18,6 +19,7 @@ unfoldable pub cut_of : List ℕ → Option (List ℕ × List ℕ)
 cut_of [] = None
 cut_of (b ∷ bs) = if b == blank then Some ([], bs) else option_map (λ c. (b ∷ c.0, c.1)) (cut_of bs)
 
+-- the text has no byte
 abbrev pub is_empty : List ℕ → Bool
 is_empty text = length text == 0
 
@@ -34,15 +36,19 @@ unfoldable pub ends_well : (escaped : Bool) → List ℕ → Bool
 ends_well escaped [] = not escaped
 ends_well escaped (b ∷ bs) = if escaped && not (is_letter b) then false else ends_well (not escaped && b == backslash) bs
 
+-- the text is a writing of some text
 abbrev pub is_writing : List ℕ → Bool
 is_writing text = ends_well false text
 
+-- the word is `-`, or numbers joined by commas
 unfoldable pub are_bounds : List ℕ → Bool
 are_bounds word = bytes_eq word (codes "-") || list_all (λ w. is_some (number_of w)) (slice_split (λ b. b == comma) word)
 
+-- the word is a writing, and not empty
 abbrev pub is_value : List ℕ → Bool
 is_value word = not (is_empty word) && is_writing word
 
+-- the text is such words, one blank between two
 unfoldable pub are_values : List ℕ → Bool
 are_values text = list_all is_value (slice_split (λ b. b == blank) text)
 
@@ -67,6 +73,7 @@ family_of text = do
   labels ← helped_of name.1
   Some (name.0, labels.0, labels.1)
 
+-- a histogram: a name, labels, bounds and a help
 unfoldable pub histogram_of : List ℕ → Option Saying
 histogram_of text = do
   name ← token_of text
@@ -74,9 +81,11 @@ histogram_of text = do
   bounds ← helped_of labels.1
   if are_bounds bounds.0 then Some (Histogram name.0 labels.0 bounds.0 bounds.1) else None
 
+-- a child of this name and of these values, where these are proper ones
 abbrev pub named : (name values : List ℕ) → Bool → Option Saying
 named name values proper = if not (is_empty name) && proper then Some (Child name values) else None
 
+-- a child: a name, and values behind it
 unfoldable pub child_of : List ℕ → Option Saying
 child_of text = option_map_or (λ c. named c.0 c.1 (are_values c.1)) (cut_of text) (named text [] true)
 
@@ -87,9 +96,11 @@ numbered_of text = do
   n ← number_of c.0
   Some (n, c.1)
 
+-- so many times a line may count
 abbrev pub is_times : ℕ → Bool
 is_times times = nat_le 1 times && nat_le times 100000
 
+-- how much, and how many times, where both are said
 abbrev pub repeated : (by times : List ℕ) → Option (ℕ × ℕ)
 repeated by times = do
   n ← number_of by
@@ -100,6 +111,7 @@ repeated by times = do
 unfoldable pub amount_of : List ℕ → Option (ℕ × ℕ)
 amount_of text = option_map_or (λ c. repeated c.0 c.1) (cut_of text) (option_map (λ n. (n, 1)) (number_of text))
 
+-- what a worker counts: worker, child, how much, and how many times
 unfoldable pub count_of : Counting → List ℕ → Option Saying
 count_of what text = do
   worker ← numbered_of text
@@ -131,10 +143,12 @@ alone_in text =
     if bytes_eq text (codes "go") then Some Go else if bytes_eq text (codes "scrape") then Some Scrape
     else if bytes_eq text (codes "settle") then Some Settle else None
 
+-- what a line of several words says, by its first one and what follows that
 abbrev pub worded_of : (first text : List ℕ) → Option Saying
 worded_of first text = do
   w ← word_in first
   after_word w text
 
+-- what a line says
 unfoldable pub line_of : List ℕ → Option Saying
 line_of text = if is_empty text || slice_index text 0 == hash then Some Nothing else option_map_or (λ c. worded_of c.0 c.1) (cut_of text) (alone_in text)
