@@ -11,19 +11,22 @@ use Rattle.snapshot_core.specs.Tries.{View, Read, Try, number_of, reads_of, Fail
 use Rattle.snapshot_core.specs.History.{Published, number_at, OneStep}
 use Rattle.snapshot_core.specs.Turns.{Answered, IsOpen, IsTurn, own, own_reads, ops_of}
 
--- the view of worker i's last publish before the event e: that of its last answer before that publish
+-- the event of worker i's last publish before the event e; of none of these, `found`
 abbrev pub last_publish : List Published → (e i : ℕ) → Option ℕ → Option ℕ
 last_publish [] e i found = found
 last_publish (p ∷ ps) e i found = last_publish ps e i (cond (nat_lt p.at e && p.worker == i) (Some p.at) found)
 
+-- the view of worker i's last answer before the event e; of none of these, `found`
 abbrev pub last_view : List Answered → (e i : ℕ) → Option View → Option View
 last_view [] e i found = found
 last_view (a ∷ answers) e i found = last_view answers e i (cond (nat_lt a.end e && a.actor == i) a.view found)
 
+-- the view of worker i's last answer before its publish at this event
 abbrev pub lent_since : List Answered → (i : ℕ) → Option ℕ → Option View
 lent_since answers i None = None
 lent_since answers i (Some at) = last_view answers at i None
 
+-- the view of worker i's last publish before the event e: that of its last answer before that publish
 abbrev pub lent_at : List Published → List Answered → (e i : ℕ) → Option View
 lent_at ps answers e i = lent_since answers i (last_publish ps e i None)
 
@@ -32,6 +35,7 @@ pub record Meets (ps : List Published) (answers : List Answered) (r : Read) : Ty
   pub number : r.number ≡ number_at ps r.at r.place
   pub view : r.view ≡ lent_at ps answers r.at r.place
 
+-- the event of a read, and whether it is torn
 abbrev pub where_and_torn : Read → ℕ × Bool
 where_and_torn r = (r.at, r.torn)
 
@@ -109,6 +113,7 @@ UndisturbedIsDirect n c h g es ps answers = (actor b m : ℕ) → IsTurn n c h g
     → ((q : ℕ) (p : Published) → get_elem? ps q ≡ some p → b < p.at → ¬ (p.at ≤ b + m))
     → (q : ℕ) × (a : Answered) × (get_elem? answers q ≡ some a) × (a.actor ≡ actor) × (a.begin ≡ b) × (a.how ≡ Direct) × (a.tries ≡ 1)
 
+-- how many reads a scan of n workers has made in so many tries where it ended so; a scan that gave up is not counted
 abbrev pub reads_by : (n tries : ℕ) → How → ℕ
 reads_by n tries Direct = 2 * n * tries
 reads_by n tries (Lent from) = 2 * n * tries + 1

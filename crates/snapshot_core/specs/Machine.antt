@@ -23,11 +23,14 @@ use Rattle.snapshot_core.specs.Tries.{View, from_on}
 use Rattle.snapshot_core.specs.History.{Published}
 use Rattle.snapshot_core.specs.Turns.{Answered, ops_of, answered_of, published_of}
 
+-- a segment: how often its worker has published, its row, and the view that its version lends
 pub record Seg : Type 0 where
   pub number : ℕ
   pub row : List ℕ
   pub view : Option View
 
+-- an actor: what it is at, the event of its Begin, its scan, the sums of the rows of this try,
+-- and the view of its scan once that is over
 pub record Act : Type 0 where
   pub phase : Phase
   pub begin : ℕ
@@ -35,21 +38,26 @@ pub record Act : Type 0 where
   pub totals : List ℕ
   pub view : Option View
 
+-- all segments and actors, and what was published and answered so far
 pub record World : Type 0 where
   pub segments : List Seg
   pub actors : List Act
   pub publishes : List Published
   pub answers : List Answered
 
+-- what a version lends, as a view
 abbrev pub lent_of : Lent → View
 lent_of l = record { vector = l.vector.items; totals = l.totals.items }
 
+-- a segment of the machine by its values
 abbrev pub seg_of : {C H G : ℕ} → Segment C H G → Seg
 seg_of s = record { number = s.number; row = s.row; view = option_map lent_of s.view }
 
+-- an actor of the machine by its values
 abbrev pub act_of : Actor → Act
 act_of a = record { phase = a.phase; begin = a.begin; scan = a.scan.scan; totals = a.totals.items; view = option_map lent_of a.view }
 
+-- the whole machine by its values
 abbrev pub world_of : {C H G : ℕ} → Machine C H G → World
 world_of m = record { segments = map seg_of m.segments.items; actors = map act_of m.actors.items; publishes = map published_of m.publishes.items; answers = map answered_of m.answers.items }
 
@@ -67,6 +75,7 @@ abbrev pub has_room : (c h : ℕ) → List ℕ → Op → (k m : ℕ) → Bool
 has_room c h row op k zero = true
 has_room c h row op k (suc m) = nat_le (slice_index row k + part c h op k) greatest_word && has_room c h row op (suc k) m
 
+-- the row with one operation
 abbrev pub raised : (c h g : ℕ) → List ℕ → Op → List ℕ
 raised c h g row op = map (λ k. slice_index row k + part c h op k) (from_on 0 (width c h g))
 
@@ -81,18 +90,23 @@ added [] row = []
 added (x ∷ totals) [] = x ∷ totals
 added (x ∷ totals) (y ∷ row) = (x + y) % 2 ^ 64 ∷ added totals row
 
+-- an actor that has nothing begun
 abbrev pub idle_of : (w n : ℕ) → Act
 idle_of w n = record { phase = phase.Rest; begin = 0; scan = new_scan n; totals = replicate w 0; view = None }
 
+-- the actor with a scan that it begins at the event `at`
 abbrev pub begun_of : (n at : ℕ) → Act → Act
 begun_of n at a = record a { phase = phase.Scan; begin = at; scan = new_scan n; view = None }
 
+-- a segment that nothing was published to
 abbrev pub blank_of : (w : ℕ) → Seg
 blank_of w = record { number = 0; row = replicate w 0; view = None }
 
+-- the world before the first event: n workers and four readers, and rows of w words
 abbrev pub start : (n w : ℕ) → World
 start n w = record { segments = replicate n (blank_of w); actors = replicate (n + 4) (idle_of w n); publishes = []; answers = [] }
 
+-- what a read meets, unless it is torn
 abbrev pub not_torn : Bool → Option (List ℕ) → Option (List ℕ)
 not_torn true v = None
 not_torn false v = v
@@ -118,44 +132,54 @@ end_by s a (next.Lent from) = Some (how.Lent from, s.view)
 end_by s a (next.GaveUp worker first last) = Some (how.GaveUp, None)
 end_by s a _ = None
 
--- the actor and the answers after that read
+-- a scan's end by its values
 abbrev pub ended_of : How × Option Lent → How × Option View
 ended_of e = (e.0, option_map lent_of e.1)
 
+-- the view, or an empty one where there is none
 abbrev pub or_blank : Option View → View
 or_blank None = record { vector = []; totals = [] }
 or_blank (Some v) = v
 
+-- what an actor is at once its scan is over: a worker publishes next
 abbrev pub phase_after : (is_worker : Bool) → Phase
 phase_after true = phase.Ready
 phase_after false = phase.Rest
 
+-- the actor, whose scan ended so if it ended
 abbrev pub finished : (is_worker : Bool) → Act → Option (How × Option View) → Act
 finished is_worker a None = a
 finished is_worker a (Some e) = record a { phase = phase_after is_worker; view = e.1 }
 
+-- its answer, if its scan ended
 abbrev pub told : (at who : ℕ) → Act → Option (How × Option View) → List Answered
 told at who a None = []
 told at who a (Some e) = record { actor = who; begin = a.begin; end = at; tries = a.scan.tries; how = e.0; view = e.1 } ∷ []
 
+-- the actor after its read of this segment
 abbrev pub read_of : Act → Seg → (torn : Bool) → Act
 read_of a s torn = read_by s torn a a.scan.next
 
+-- how its scan ended with this read, and the view, if it ended
 abbrev pub end_of : Act → Seg → (torn : Bool) → Option (How × Option View)
 end_of a s torn = end_by s (read_of a s torn) (read_of a s torn).scan.next
 
+-- the actor after this read, and after the end of its scan if it ended
 abbrev pub ended_by : (is_worker : Bool) → Act → Seg → (torn : Bool) → Act
 ended_by is_worker a s torn = finished is_worker (read_of a s torn) (end_of a s torn)
 
+-- the answer that this read brings, if it brings one
 abbrev pub told_by : (at who : ℕ) → Act → Seg → (torn : Bool) → List Answered
 told_by at who a s torn = told at who (read_of a s torn) (end_of a s torn)
 
 -- n workers
 module _ (c h g n : ℕ) where
+  -- there is a row
   abbrev pub is_some : Option (List ℕ) → Bool
   is_some None = false
   is_some (Some r) = true
 
+  -- the operations may begin: a worker's row accepts them and its number is not the greatest, a reader has none
   abbrev pub accepts : List Op → Option Seg → Bool
   accepts ops None = length ops == 0
   accepts ops (Some s) = nat_lt s.number (2 ^ 64 - 1) && is_some (applied c h g s.row ops)
@@ -165,6 +189,7 @@ module _ (c h g n : ℕ) where
   begins_if w at who ops a phase.Rest = cond (accepts ops (slice_get w.segments who)) (record w { actors = slice_set w.actors who (begun_of n at a) }) w
   begins_if w at who ops a _ = w
 
+  -- a Begin of the actor of this number, which changes nothing where there is none
   abbrev pub begins : World → (at who : ℕ) → List Op → Option Act → World
   begins w at who ops None = w
   begins w at who ops (Some a) = begins_if w at who ops a a.phase
@@ -174,6 +199,7 @@ module _ (c h g n : ℕ) where
   over None = phase.Rest
   over (Some s) = phase.Ready
 
+  -- the world after a read by which the actor's scan ended so, if it ended
   abbrev pub ends : World → (at who : ℕ) → Act → Option (How × Option View) → World
   ends w at who a None = record w { actors = slice_set w.actors who a }
   ends w at who a (Some e) = record w {
@@ -185,10 +211,12 @@ module _ (c h g n : ℕ) where
   abbrev pub reads_segment : World → (at who : ℕ) → Act → (torn : Bool) → Seg → World
   reads_segment w at who a torn s = ends w at who (read_by s torn a a.scan.next) (end_by s (read_by s torn a a.scan.next) (read_by s torn a a.scan.next).scan.next)
 
+  -- a read of this segment, if there is one
   abbrev pub reads_from : World → (at who : ℕ) → Act → (torn : Bool) → Option Seg → World
   reads_from w at who a torn None = w
   reads_from w at who a torn (Some s) = reads_segment w at who a torn s
 
+  -- a read of the segment at this place, if one is to be read
   abbrev pub reads_place : World → (at who : ℕ) → Act → (torn : Bool) → Option ℕ → World
   reads_place w at who a torn None = w
   reads_place w at who a torn (Some place) = reads_from w at who a torn (slice_get w.segments place)
@@ -202,33 +230,39 @@ module _ (c h g n : ℕ) where
     publishes = w.publishes ++ record { at = at; worker = who; ops = ops } ∷ [];
   }) w
 
+  -- a publish of a worker; an actor without a segment is none
   abbrev pub publishes_as : World → (at who : ℕ) → List Op → Act → Option Seg → World
   publishes_as w at who ops a None = w
   publishes_as w at who ops a (Some s) = publishes_row w at who ops a s (applied c h g s.row ops)
 
-  -- the same of an actor that there is
+  -- a read by the actor of this number, which changes nothing where there is none
   abbrev pub reads : World → (at who : ℕ) → (torn : Bool) → Option Act → World
   reads w at who torn None = w
   reads w at who torn (Some a) = reads_place w at who a torn (place_in a.scan.next)
 
+  -- a publish by the actor of this number, which changes nothing where there is none
   abbrev pub publishes_by : World → (at who : ℕ) → List Op → Option Act → World
   publishes_by w at who ops None = w
   publishes_by w at who ops (Some a) = publishes_as w at who ops a (slice_get w.segments who)
 
+  -- what an actor does at an event of its own: by its phase nothing, a read or a publish
   abbrev pub steps_in : List Event → World → (at who : ℕ) → (torn : Bool) → Act → Phase → World
   steps_in events w at who torn a phase.Rest = w
   steps_in events w at who torn a phase.Scan = reads_place w at who a torn (place_in a.scan.next)
   steps_in events w at who torn a phase.Ready = cond torn w (publishes_as w at who (ops_of (slice_get events a.begin)) a (slice_get w.segments who))
 
+  -- the same, of the actor of this number, if there is one
   abbrev pub steps : List Event → World → (at who : ℕ) → (torn : Bool) → Option Act → World
   steps events w at who torn None = w
   steps events w at who torn (Some a) = steps_in events w at who torn a a.phase
 
+  -- the world after an event
   abbrev pub happens : List Event → World → (at : ℕ) → Event → World
   happens events w at (Begin who ops) = begins w at who ops.items (slice_get w.actors who)
   happens events w at (Step who) = steps events w at who false (slice_get w.actors who)
   happens events w at (Torn who) = steps events w at who true (slice_get w.actors who)
 
+  -- the same, if there is such an event
   abbrev pub happens_at : List Event → World → (at : ℕ) → Option Event → World
   happens_at events w at None = w
   happens_at events w at (Some e) = happens events w at e

@@ -6,9 +6,11 @@ use Rattle.snapshot_core.specs.declared.scan_state.ScanState.{ScanState}
 use Rattle.snapshot_core.specs.Tries.{View, Read, Try, number_of, from_on, reads_of, AllFailed, floor_of, base_of}
 use Rattle.snapshot_core.specs.Next.{Follows}
 
+-- how many workers the scan is of
 abbrev pub workers_of : ScanState → ℕ
 workers_of s = s.scan.n
 
+-- what comes next in it
 abbrev pub next_of : ScanState → Next
 next_of s = s.scan.next
 
@@ -37,5 +39,6 @@ pub record Told (s : Scan) (reads : List Read) : Type 0 where
   pub floor : length (base_of before now) ≡ s.n → floor_of before now ≡ map (slice_index s.floor) (from_on 0 s.n)
   pub base : length (base_of before now) ≡ s.n → base_of before now ≡ map (slice_index s.base) (from_on 0 s.n)
 
+-- the state is that of a scan that was told these reads
 abbrev pub WasTold : ScanState → List Read → Type 0
 WasTold s reads = Told s.scan reads

@@ -24,9 +24,11 @@ pub record Try : Type 0 where
   pub second : List Read
   pub asks : List Read
 
+-- the worker whose segment was read
 abbrev pub place_of : Read → ℕ
 place_of r = r.place
 
+-- the number that was met
 abbrev pub number_of : Read → ℕ
 number_of r = r.number
 
@@ -45,16 +47,18 @@ pub record TwoCollects (n : ℕ) (t : Try) : Type 0 where
   pub first : map place_of t.first ≡ from_on 0 n
   pub second : map place_of t.second ≡ from_on 0 n
 
--- the first collect is read whole, and each worker's two reads meet one number
+-- no read is torn
 abbrev pub is_whole : List Read → Bool
 is_whole [] = true
 is_whole (r ∷ rs) = not r.torn && is_whole rs
 
+-- both lists are the same numbers
 abbrev pub same_numbers : List ℕ → List ℕ → Bool
 same_numbers [] [] = true
 same_numbers (x ∷ xs) (y ∷ ys) = (x == y) && same_numbers xs ys
 same_numbers _ _ = false
 
+-- a try is clean: its first collect is read whole, and each worker's two reads meet one number
 abbrev pub is_clean : Try → Bool
 is_clean t = is_whole t.first && same_numbers (map number_of t.first) (map number_of t.second)
 
@@ -63,14 +67,16 @@ abbrev pub to_ask : (base : List ℕ) → List Read → List ℕ
 to_ask base [] = []
 to_ask base (r ∷ rs) = cond (nat_le (slice_index base r.place + 2) r.number) (r.place ∷ to_ask base rs) (to_ask base rs)
 
--- an asked worker lends where it is read whole and its version has a view that is not below the floor
+-- there is a view, and it is not below the floor
 abbrev pub lends_view : (floor : List ℕ) → Option View → Bool
 lends_view floor None = false
 lends_view floor (Some v) = is_above floor v.vector
 
+-- an asked worker lends: it is read whole, and its version has a view that is not below the floor
 abbrev pub lends : (floor : List ℕ) → Read → Bool
 lends floor r = not r.torn && lends_view floor r.view
 
+-- none of these asked workers lends
 abbrev pub none_lends : (floor : List ℕ) → List Read → Bool
 none_lends floor [] = true
 none_lends floor (r ∷ rs) = not (lends floor r) && none_lends floor rs
@@ -82,6 +88,7 @@ pub record Failed (n : ℕ) (floor base : List ℕ) (t : Try) : Type 0 where
   pub asked : map place_of t.asks ≡ to_ask base t.second
   pub none : none_lends floor t.asks ≡ true
 
+-- each of these tries failed
 abbrev pub AllFailed : (n : ℕ) (floor base : List ℕ) → List Try → Type 0
 AllFailed n floor base [] = Unit {0}
 AllFailed n floor base (t ∷ ts) = Failed n floor base t × AllFailed n floor base ts
@@ -106,13 +113,15 @@ pub record EndsLent (n : ℕ) (floor base : List ℕ) (from : ℕ) (view : Optio
   pub from_is : last.place ≡ from
   pub view_is : last.view ≡ view
 
--- the first try of a scan gives its floor, the numbers of its first collect, and its base, those of its second one
+-- the first try of a scan that made these tries and then this one
 abbrev pub first_try : List Try → Try → Try
 first_try [] last = last
 first_try (t ∷ ts) last = t
 
+-- the floor of a scan: the numbers that its first try met in the first collect
 abbrev pub floor_of : List Try → Try → List ℕ
 floor_of before last = map number_of (first_try before last).first
 
+-- the base of a scan: the numbers that its first try met in the second collect
 abbrev pub base_of : List Try → Try → List ℕ
 base_of before last = map number_of (first_try before last).second

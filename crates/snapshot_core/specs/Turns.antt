@@ -23,14 +23,17 @@ pub record Answered : Type 0 where
   pub how : How
   pub view : Option View
 
+-- the view of a scan that ended so: a scan that gave up has none
 abbrev pub view_of : How → View → Option View
 view_of Direct v = Some v
 view_of (Lent from) v = Some v
 view_of GaveUp v = None
 
+-- an answer of a trace by its values
 abbrev pub answered_of : Answer → Answered
 answered_of a = record { actor = a.actor; begin = a.begin; end = a.end; tries = a.tries; how = a.how; view = view_of a.how (record { vector = a.vector.items; totals = a.totals.items }) }
 
+-- a publish of a trace by its values
 abbrev pub published_of : Publish → Published
 published_of p = record { at = p.at; worker = p.worker; ops = p.ops.items }
 
