@@ -24,6 +24,7 @@ pub record Lends (n w : ℕ) (floor : List ℕ) (e : Asked) : Type 0 where
   pub flag : slice_index e.words 0 ≡ 1
   pub above : is_above floor (take n (drop 1 e.words)) ≡ true
 
+-- one worker more was asked
 abbrev pub asked_too : Asked → Scan → Scan
 asked_too e c = record c { asked = c.asked ++ e ∷ [] }
 
@@ -37,6 +38,7 @@ due_from q [] found = []
 due_from q (x ∷ base) [] = []
 due_from q (x ∷ base) (f ∷ found) = cond (nat_le (x + 2) f) (q ∷ due_from (suc q) base found) (due_from (suc q) base found)
 
+-- which worker was asked
 abbrev pub worker_of : Asked → ℕ
 worker_of e = e.worker
 

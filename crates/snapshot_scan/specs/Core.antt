@@ -30,9 +30,11 @@ view_in n w (flag ∷ words) = cond (flag == 1) (Some (record { vector = take n 
 abbrev pub asked_read : (n w : ℕ) → Asked → Read
 asked_read n w e = record { place = e.worker; at = 0; torn = not (e.number == e.again); number = e.number; view = view_in n w e.words }
 
+-- a try as one of the core
 abbrev pub core_try : (n w : ℕ) → Tried → Try
 core_try n w t = record { first = collect_reads 0 t.first; second = collect_reads 0 t.second; asks = map (asked_read n w) t.asks }
 
+-- all reads of these tries, in the order of the core
 abbrev pub core_reads : (n w : ℕ) → List Tried → List Read
 core_reads n w tries = reads_of (map (core_try n w) tries)
 

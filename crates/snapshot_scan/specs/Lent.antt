@@ -23,6 +23,7 @@ HasNumbers ms vector = (i : ℕ) (m : Member) → Stands i m ms → get_elem? ve
 abbrev pub HasSeen : List Member → Type 0
 HasSeen ms = (i : ℕ) (m : Member) → Stands i m ms → (i < length (scan_of ms).seen) × (length m.work.made ≤ slice_index (scan_of ms).seen i)
 
+-- all members but the first
 abbrev pub behind : List Member → List Member
 behind [] = []
 behind (m ∷ ms) = ms

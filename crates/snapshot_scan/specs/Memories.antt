@@ -31,10 +31,11 @@ module _ {N C H G : ℕ} where
   abbrev pub sums_of : Memory N C H G → List ℕ
   sums_of m = m.totals.items
 
-  -- the numbers of the last first and second collect
+  -- the numbers that the first collect of the last try found
   abbrev pub opened_in : Memory N C H G → List ℕ
   opened_in m = m.opened.items
 
+  -- the numbers that the second collect of the last try found
   abbrev pub found_in : Memory N C H G → List ℕ
   found_in m = m.found.items
 

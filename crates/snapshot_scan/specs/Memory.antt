@@ -9,6 +9,7 @@ use Rattle.register_rule.specs.declared.view.Scan.{Scan}
 use Rattle.register_rule.specs.Steps.{begun, settled, with_base, failed_once_more}
 use Rattle.snapshot_scan.specs.declared.kept.Kept.{Kept}
 
+-- a remembered row as a version
 abbrev pub version_of : Kept → Version
 version_of g = record { number = g.number; row = g.row.items }
 
@@ -19,6 +20,7 @@ pub record IsWide (w : ℕ) (g : Kept) : Type 0 where
   pub row_low : (k : ℕ) → k < w → slice_index g.row.items k ≤ greatest_word
   pub fresh_low : (k : ℕ) → k < w → slice_index g.fresh.items k ≤ greatest_word
 
+-- each of them has rows of w such words
 abbrev pub AreWide : (w : ℕ) → List Kept → Type 0
 AreWide w gs = (q : ℕ) (g : Kept) → get_elem? gs q ≡ some g → IsWide w g
 
@@ -28,6 +30,7 @@ pub record IsBlank (w : ℕ) (g : Kept) : Type 0 where
   pub row : g.row.items ≡ replicate w 0
   pub fresh : g.fresh.items ≡ replicate w 0
 
+-- each of them is the row of version 0
 abbrev pub AreBlank : (w : ℕ) → List Kept → Type 0
 AreBlank w gs = (q : ℕ) (g : Kept) → get_elem? gs q ≡ some g → IsBlank w g
 
@@ -72,6 +75,7 @@ abbrev pub sum_rows : (k : ℕ) → List Kept → ℕ
 sum_rows k [] = 0
 sum_rows k (g ∷ gs) = slice_index g.row.items k + sum_rows k gs
 
+-- of w words the totals are the sums of these rows
 abbrev pub AreTotals : (w : ℕ) → List Kept → List ℕ → Type 0
 AreTotals w gs totals = (k : ℕ) → k < w → slice_index totals k ≡ sum_rows k gs
 

@@ -13,6 +13,7 @@ module _ {N C H G : ℕ} where
   abbrev pub bundle_of : Reader N C H G → Bundle
   bundle_of r = r.bundle
 
+  -- the members of its seat
   abbrev pub members_with : Reader N C H G → List Member
   members_with r = members_of r.bundle
 

@@ -18,10 +18,12 @@ pub record Tried : Type 0 where
   pub second : List ℕ
   pub asks : List Asked
 
+-- the opening loads of these tries, in order
 abbrev pub all_opened : List Tried → List (ℕ × ℕ)
 all_opened [] = []
 all_opened (t ∷ ts) = pairs 0 t.first ++ all_opened ts
 
+-- the confirming loads of these tries, in order
 abbrev pub all_confirmed : List Tried → List (ℕ × ℕ)
 all_confirmed [] = []
 all_confirmed (t ∷ ts) = pairs 0 t.second ++ all_confirmed ts
@@ -31,6 +33,7 @@ abbrev pub all_before : List (ℕ × ℕ) → List Tried → List ℕ
 all_before opened [] = []
 all_before opened (t ∷ ts) = map (λ _. length (opened ++ pairs 0 t.first)) t.second ++ all_before (opened ++ pairs 0 t.first) ts
 
+-- the workers that were asked in these tries, in order
 abbrev pub all_asked : List Tried → List Asked
 all_asked [] = []
 all_asked (t ∷ ts) = t.asks ++ all_asked ts

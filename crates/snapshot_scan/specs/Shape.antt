@@ -10,6 +10,7 @@ use Rattle.ledger_core.specs.Row.{Accepts}
 use Rattle.register_rule.specs.Told.{AreRuled}
 use Rattle.register_rule.specs.Members.{first_of, led, scanned}
 
+-- what the first of these members has learned by its scans
 abbrev pub scan_of : List Member → Scan
 scan_of ms = (first_of ms).scan
 
