@@ -17,6 +17,7 @@ use Rattle.snapshot_update.specs.Images.{DifferAt, version_words}
 abbrev pub AreInside : (b : ℕ) → Changed → Type 0
 AreInside b changed = (j : ℕ) → Contains changed.items j → j < b
 
+-- the number of a version
 abbrev pub number_in : Version → ℕ
 number_in v = v.number
 

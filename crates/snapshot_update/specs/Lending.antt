@@ -14,5 +14,6 @@ module _ {N C H G : ℕ} where
     pub there : Stands w.index m (members_with r)
     pub fits : HoldsFor N C H G w.index w.number w.row.value w.memory w.images.hidden.items w.images.shown.items w.images.recent w.images.late w.images.own w.index m
 
+  -- the worker is lent to this reader
   abbrev pub IsLent : Worker N C H G → Reader N C H G → Type 0
   IsLent w r = (m : Member) × IsLentAs m w r

@@ -19,10 +19,12 @@ use Rattle.snapshot_update.specs.declared.faults.CountFault.{CountFault}
 use Rattle.snapshot_update.specs.declared.faults.CountFault.TheVariants.{WrongRegistry, Apply}
 use Rattle.snapshot_update.specs.Updated.{IsUpdated}
 
+-- the member of a worker's seat; where the seat is away, a blank one stands for it
 abbrev pub member_in : Option WorkSeat → Member
 member_in None = new_worker 0 0 0 0
 member_in (Some s) = worker_of s
 
+-- the operations that a publish added
 abbrev pub ops_in : Made → List Op
 ops_in x = x.ops
 
