@@ -3,6 +3,7 @@ use Rattle.std.specs.Prelude.{◌≡◌, ◌⊎◌, ℕ, ◌<◌, ⊤, Option, S
 use Rattle.worker_pool.specs.declared.fault.PoolFault.{PoolFault}
 use Rattle.worker_pool.specs.declared.fault.PoolFault.TheVariants.{Refused, GateShut, NoThread, NoMemory}
 
+-- the number of each fault; that of a refused job is the number of its refusal
 abbrev pub pool_number : PoolFault → ℕ
 pool_number (Refused line number) = number
 pool_number (GateShut worker) = 29
