@@ -1,9 +1,10 @@
 -- Rows of zeros.
-use Rattle.std.proofs.Common.{◌≡◌, ℕ, zero, suc, List, [], ◌∷◌, length, map, replicate, slice_index, sym, refl, ap, ◌∙◌, arith}
+use Rattle.std.proofs.Common.{◌≡◌, ℕ, zero, suc, List, [], ◌∷◌, length, map, replicate, slice_index, sym, refl, ap, ◌∙◌, subst, arith, Contains}
 use mathlib.Core.Option.{some, some-injective, some-ne-none}
 use lib.ListN.{get_elem?, length-replicate}
 use Rattle.register_rule.specs.declared.view.Version.{Version}
 use Rattle.snapshot_scan.specs.declared.kept.Kept.{Kept}
+use Rattle.snapshot_scan.proofs.Noted.{none_listed}
 use Rattle.snapshot_scan.specs.Memory.{version_of, IsWide, AreWide, AreTotals, IsBlank, AreBlank, sum_rows}
 
 pub zero_in : (n k : ℕ) → slice_index (replicate n 0) k ≡ 0
@@ -17,6 +18,8 @@ blank_wide w g is = record {
   fresh = ap (λ (l : List ℕ). length l) is.fresh ∙ length-replicate w 0;
   row_low = λ k lt. let e = ap (λ (l : List ℕ). slice_index l k) is.row ∙ zero_in w k in omega (arith, e);
   fresh_low = λ k lt. let e = ap (λ (l : List ℕ). slice_index l k) is.fresh ∙ zero_in w k in omega (arith, e);
+  same = λ h k lt none. let z = sym is.changed.0 ∙ h in absurd (cc);
+  inside = λ j h. absurd (none_listed j (subst (λ (l : List ℕ). Contains l j) is.changed.1 h));
 }
 
 pub are_wide : (w : ℕ) (gs : List Kept) → AreBlank w gs → AreWide w gs

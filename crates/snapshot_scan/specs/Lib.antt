@@ -1,7 +1,9 @@
 pub mod Shape
 pub mod Changes
 pub mod Exchange
+pub mod Reading
 pub mod Memory
+pub mod Collecting
 pub mod Asking
 pub mod Scanned
 pub mod Contention

@@ -1,5 +1,5 @@
 -- What a scan remembers, and what its looks are by it.
-use Rattle.std.specs.Prelude.{◌≡◌, ◌≢◌, ℕ, suc, ◌+◌, ◌<◌, ◌≤◌, ◌==◌, cond, List, [], ◌∷◌, ◌++◌, length, map, replicate, slice_index}
+use Rattle.std.specs.Prelude.{◌≡◌, ◌≢◌, ℕ, suc, ◌+◌, ◌<◌, ◌≤◌, ◌==◌, true, false, cond, List, [], ◌∷◌, ◌++◌, length, map, replicate, slice_index, Contains}
 use Rattle.bucket_math.specs.Words.{greatest_word}
 use mathlib.Core.Option.{some}
 use lib.ListN.{get_elem?}
@@ -13,12 +13,14 @@ use Rattle.snapshot_scan.specs.declared.kept.Kept.{Kept}
 abbrev pub version_of : Kept → Version
 version_of g = record { number = g.number; row = g.row.items }
 
--- rows of w words, each at most 2^48 - 1
+-- rows of w words, each at most 2^48 - 1, which differ at no words but the ones that are listed
 pub record IsWide (w : ℕ) (g : Kept) : Type 0 where
   pub row : length g.row.items ≡ w
   pub fresh : length g.fresh.items ≡ w
   pub row_low : (k : ℕ) → k < w → slice_index g.row.items k ≤ greatest_word
   pub fresh_low : (k : ℕ) → k < w → slice_index g.fresh.items k ≤ greatest_word
+  pub same : g.changed.all ≡ false → (k : ℕ) → k < w → ¬ (Contains g.changed.items k) → slice_index g.row.items k ≡ slice_index g.fresh.items k
+  pub inside : (j : ℕ) → Contains g.changed.items j → j < w
 
 -- each of them has rows of w such words
 abbrev pub AreWide : (w : ℕ) → List Kept → Type 0
@@ -29,6 +31,7 @@ pub record IsBlank (w : ℕ) (g : Kept) : Type 0 where
   pub number : g.number ≡ 0
   pub row : g.row.items ≡ replicate w 0
   pub fresh : g.fresh.items ≡ replicate w 0
+  pub changed : (g.changed.all ≡ true) × (g.changed.items ≡ [])
 
 -- each of them is the row of version 0
 abbrev pub AreBlank : (w : ℕ) → List Kept → Type 0

@@ -1,84 +1,19 @@
-//! The two collects of a try.
-ghost use Rattle.std.specs.Prelude.{◌≡◌, ℕ, ◌+◌, ◌<◌, ◌≤◌, ◌↔◌, [], true, false, IsTrue, length, map, slice_index};
+//! The second collect of a try.
+ghost use Rattle.std.specs.Prelude.{◌≡◌, ℕ, ◌+◌, ◌<◌, ◌≤◌, ◌↔◌, [], true, IsTrue, length, map, slice_index};
 ghost use mathlib.Core.Option.{some};
 ghost use lib.ListN.{get_elem?};
 ghost use Rattle.ledger_core.specs.Ops.{width};
-ghost use Rattle.segment_layout.specs.Layout.{IsGeometry, depth};
+ghost use Rattle.segment_layout.specs.Layout.{IsGeometry};
 ghost use Rattle.register_rule.specs.Steps.{ended};
 ghost use Rattle.register_rule.specs.Seats.{table_of, members_of, MayScan};
 ghost use Rattle.snapshot_scan.specs.Changes.{Moves};
 ghost use Rattle.snapshot_scan.specs.Shape.{scan_in, with_scan, IsRuled};
-ghost use Rattle.snapshot_scan.specs.Memory.{AreWide, AreTotals, AreKnown, HasOther, IsLoaded, version_of, looks_of, opening, settling};
+ghost use Rattle.snapshot_scan.specs.Memory.{AreWide, AreTotals, AreKnown, version_of, looks_of, settling};
 
 use crate::changes::Changes;
+use crate::confirms::confirm_known;
 use crate::kept::Kept;
 use register_rule::{Board, ScanSeat};
-
-/// The first collect of a try. It says whether each number is the one that is remembered.
-#[inline(always)]
-pub(crate) fn collect<
-    S: ScanSeat<N, C, H, G>,
-    const N: usize,
-    const C: usize,
-    const H: usize,
-    const G: usize,
->(board: &Board<N, C, H, G>, seat: &mut S, kept: &mut [Kept], opened: &mut [u64]) -> bool
-    requires own { MayScan board.now (S.bundle seat.old) }
-    requires geometry { IsGeometry N C H G }
-    requires lengths { (length kept.old ≡ N) × (length opened.old ≡ N) }
-    requires wide { AreWide (width C H G) kept.old }
-    requires kept { (scan_in (S.bundle seat.old)).kept ≡ map version_of kept.old }
-    requires rest { ((scan_in (S.bundle seat.old)).now.looks ≡ []) × ((scan_in (S.bundle seat.old)).now.due ≡ []) × ((scan_in (S.bundle seat.old)).now.asks ≡ []) }
-    ensures own { table_of (S.bundle seat.new) ≡ table_of (S.bundle seat.old) }
-    ensures wide { AreWide (width C H G) kept.new }
-    ensures same { map version_of kept.new ≡ map version_of kept.old }
-    ensures view { members_of (S.bundle seat.new) ≡ with_scan (opening opened.new kept.new (scan_in (S.bundle seat.old))) (members_of (S.bundle seat.old)) }
-    ensures told { (q : ℕ) → q < N → IsLoaded q (scan_in (S.bundle seat.old)) (slice_index opened.new q) }
-    ensures known { result ≡ true → AreKnown opened.new kept.new }
-    ensures unknown { result ≡ false → HasOther opened.new (map version_of kept.old) }
-{
-    let mut known = true;
-    for place in 0..N {
-        let number = kept[place].look(board, seat, place);
-        known = known & (number == kept[place].number);
-        opened[place] = number;
-    }
-    known
-}
-
-/// The second collect of a try whose rows are all remembered: nothing is left to remember. It says whether each number was
-/// found again.
-#[inline(always)]
-fn confirm_known<
-    S: ScanSeat<N, C, H, G>,
-    const N: usize,
-    const C: usize,
-    const H: usize,
-    const G: usize,
->(board: &Board<N, C, H, G>, seat: &mut S, kept: &[Kept], opened: &[u64], found: &mut [u64]) -> bool
-    requires own { MayScan board.now (S.bundle seat.old) }
-    requires geometry { IsGeometry N C H G }
-    requires lengths { (length kept.now ≡ N) × (length opened.now ≡ N) × (length found.old ≡ N) }
-    requires wide { AreWide (width C H G) kept.now }
-    requires known { AreKnown opened.now kept.now }
-    requires kept { (scan_in (S.bundle seat.old)).kept ≡ map version_of kept.now }
-    requires looks { (scan_in (S.bundle seat.old)).now.looks ≡ looks_of 0 opened.now [] kept.now }
-    requires loaded { (q : ℕ) → q < N → (j : ℕ) × (get_elem? (scan_in (S.bundle seat.old)).opened j ≡ some (q, slice_index opened.now q)) }
-    ensures own { table_of (S.bundle seat.new) ≡ table_of (S.bundle seat.old) }
-    ensures ruled { IsRuled N C H G (S.bundle seat.new) }
-    ensures view { members_of (S.bundle seat.new) ≡ with_scan (ended N (width C H G) (settling opened.now found.new kept.now (scan_in (S.bundle seat.old)))) (members_of (S.bundle seat.old)) }
-    ensures risen { (q : ℕ) → q < N → slice_index opened.now q ≤ slice_index found.new q }
-    ensures clean { IsTrue result ↔ (opened.now ≡ found.new) }
-{
-    let _ = kept;
-    let mut same = true;
-    for place in 0..N {
-        let again = board.confirm(seat, place);
-        same = same & (opened[place] == again);
-        found[place] = again;
-    }
-    same
-}
 
 /// The second collect of a try. It says whether each number was found again. Where the totals change is listed in `moved`.
 #[inline(never)]

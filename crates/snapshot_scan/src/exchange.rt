@@ -1,7 +1,7 @@
 //! Sums of rows, where one row takes the place of another.
-ghost use Rattle.std.specs.Prelude.{◌≡◌, ℕ, ◌+◌, ◌<◌, ◌≤◌, false, length, slice_index};
+ghost use Rattle.std.specs.Prelude.{◌≡◌, ℕ, ◌+◌, ◌-◌, ◌<◌, ◌≤◌, false, length, slice_index, slice_set, Contains};
 ghost use Rattle.bucket_math.specs.Words.{greatest_word};
-ghost use Rattle.snapshot_scan.specs.Changes.{Moves};
+ghost use Rattle.snapshot_scan.specs.Changes.{Notes, Moves};
 ghost use Rattle.snapshot_scan.specs.Exchange.{Exchanges, AreParts};
 
 use crate::changes::Changes;
@@ -9,9 +9,87 @@ use crate::changes::Changes;
 /// How many words of two rows are compared at once.
 const BLOCK: usize = 16;
 
+/// Takes the words of one row from the totals, and adds those of another, which take the place of the old ones. The two rows
+/// differ at no words but the `changed` ones. Where the totals may change is listed in `moved`.
+#[inline]
+pub(crate) fn exchange(
+    totals: &mut [u64],
+    old: &mut [u64],
+    new: &[u64],
+    changed: &Changes,
+    moved: &mut Changes,
+)
+    requires lengths { (length old.old ≡ length totals.old) × (length new.now ≡ length totals.old) }
+    requires words { (j : ℕ) → Contains changed.now.items j → j < length totals.old }
+    requires others { changed.now.all ≡ false → (k : ℕ) → k < length totals.old → ¬ (Contains changed.now.items k) → slice_index old.old k ≡ slice_index new.now k }
+    requires part { (k : ℕ) → k < length totals.old → (slice_index old.old k ≤ slice_index totals.old k) × (slice_index totals.old k ≤ 9007199254740992) }
+    requires low { (k : ℕ) → k < length totals.old → (slice_index old.old k ≤ greatest_word) × (slice_index new.now k ≤ greatest_word) }
+    ensures same { old.new ≡ new.now }
+    ensures sums { (k : ℕ) → k < length totals.old → slice_index totals.new k + slice_index old.old k ≡ slice_index totals.old k + slice_index new.now k }
+    ensures moved { Moves (length totals.old) totals.old totals.new moved.old moved.new }
+{
+    if changed.is_all() {
+        exchange_all(totals, old, new, moved);
+    } else {
+        exchange_at(totals, old, new, changed.as_slice(), moved);
+    }
+}
+
+/// As [`exchange`], where the two rows may differ at any word.
+fn exchange_all(totals: &mut [u64], old: &mut [u64], new: &[u64], moved: &mut Changes)
+    requires lengths { (length old.old ≡ length totals.old) × (length new.now ≡ length totals.old) }
+    requires part { (k : ℕ) → k < length totals.old → (slice_index old.old k ≤ slice_index totals.old k) × (slice_index totals.old k ≤ 9007199254740992) }
+    requires low { (k : ℕ) → k < length totals.old → slice_index new.now k ≤ greatest_word }
+    ensures same { old.new ≡ new.now }
+    ensures sums { (k : ℕ) → k < length totals.old → slice_index totals.new k + slice_index old.old k ≡ slice_index totals.old k + slice_index new.now k }
+    ensures moved { Moves (length totals.old) totals.old totals.new moved.old moved.new }
+{
+    exchange_sums(totals, old, new, moved);
+    old.copy_from_slice(new);
+}
+
+/// As [`exchange`], where the two rows differ at no words but these.
+#[inline(never)]
+fn exchange_at(
+    totals: &mut [u64],
+    old: &mut [u64],
+    new: &[u64],
+    items: &[usize],
+    moved: &mut Changes,
+)
+    requires lengths { (length old.old ≡ length totals.old) × (length new.now ≡ length totals.old) }
+    requires words { (j : ℕ) → Contains items.now j → j < length totals.old }
+    requires others { (k : ℕ) → k < length totals.old → ¬ (Contains items.now k) → slice_index old.old k ≡ slice_index new.now k }
+    requires part { (k : ℕ) → k < length totals.old → (slice_index old.old k ≤ slice_index totals.old k) × (slice_index totals.old k ≤ 9007199254740992) }
+    requires low { (k : ℕ) → k < length totals.old → (slice_index old.old k ≤ greatest_word) × (slice_index new.now k ≤ greatest_word) }
+    ensures same { old.new ≡ new.now }
+    ensures sums { (k : ℕ) → k < length totals.old → slice_index totals.new k + slice_index old.old k ≡ slice_index totals.old k + slice_index new.now k }
+    ensures moved { Moves (length totals.old) totals.old totals.new moved.old moved.new }
+{
+    for &item in items {
+        exchange_word(totals, old, new, item, moved);
+    }
+}
+
+/// Takes one word of a row from its total, adds that of another row, which takes its place, and lists it.
+#[inline(always)]
+fn exchange_word(totals: &mut [u64], old: &mut [u64], new: &[u64], item: usize, moved: &mut Changes)
+    requires inside { (item < length totals.old) × (item < length old.old) × (item < length new.now) }
+    requires part { slice_index old.old item ≤ slice_index totals.old item }
+    requires room { slice_index totals.old item + slice_index new.now item < 18446744073709551616 }
+    ensures old { old.new ≡ slice_set old.old item (slice_index new.now item) }
+    ensures totals { totals.new ≡ slice_set totals.old item (slice_index totals.old item - slice_index old.old item + slice_index new.now item) }
+    ensures notes { Notes item moved.old moved.new }
+{
+    let word = new[item];
+    totals[item] = totals[item] - old[item] + word;
+    old[item] = word;
+    moved.note(item);
+}
+
 /// Takes the words of one row from the totals, and adds those of another. Where these change is listed in `moved`.
 #[inline(never)]
-pub(crate) fn exchange(totals: &mut [u64], old: &[u64], new: &[u64], moved: &mut Changes)
+fn exchange_sums(totals: &mut [u64], old: &[u64], new: &[u64], moved: &mut Changes)
     requires lengths { (length old.now ≡ length totals.old) × (length new.now ≡ length totals.old) }
     requires part { (k : ℕ) → k < length totals.old → (slice_index old.now k ≤ slice_index totals.old k) × (slice_index totals.old k ≤ 9007199254740992) }
     requires low { (k : ℕ) → k < length totals.old → slice_index new.now k ≤ greatest_word }

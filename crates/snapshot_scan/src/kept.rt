@@ -10,11 +10,10 @@ ghost use Rattle.snapshot_scan.specs.Changes.{Moves};
 
 use crate::changes::Changes;
 use crate::exchange::exchange;
-use crate::items::read_items;
+use crate::rows::read_row;
 use ledger_core::Row;
 use register_rule::{Board, ScanSeat};
 use std::alloc::{AllocError, Global};
-use std::mem::swap;
 
 /// What a scan remembers of one segment.
 #[derive(Drop)]
@@ -25,6 +24,8 @@ pub struct Kept {
     pub row: Vec<u64>,
     /// The row that the try in progress read, where its number is another.
     pub fresh: Vec<u64>,
+    /// At which words the two rows may differ.
+    pub changed: Changes,
 }
 
 impl Kept {
@@ -38,6 +39,7 @@ impl Kept {
             number: 0,
             row: vec![in alloc; 0u64; row]?,
             fresh: vec![in alloc; 0u64; row]?,
+            changed: Changes::new(alloc)?,
         })
     }
 
@@ -65,7 +67,14 @@ impl Kept {
     {
         let number = board.open(seat, place);
         if number != self.number {
-            read_items(board, seat, place, number, 0, self.fresh.as_mut_slice());
+            read_row(
+                board,
+                seat,
+                place,
+                number,
+                self.fresh.as_mut_slice(),
+                &mut self.changed,
+            );
         }
         number
     }
@@ -95,12 +104,18 @@ impl Kept {
         requires part { (k : ℕ) → k < length totals.old → (slice_index self.old.row.items k ≤ slice_index totals.old k) × (slice_index totals.old k ≤ 9007199254740992) }
         ensures wide { IsWide (length totals.old) self.new }
         ensures version { version_of self.new ≡ record { number = number; row = self.old.fresh.items } }
-        ensures swapped { self.new.fresh.items ≡ self.old.row.items }
+        ensures fresh { self.new.fresh.items ≡ self.old.fresh.items }
         ensures totals { (k : ℕ) → k < length totals.old → slice_index totals.new k + slice_index self.old.row.items k ≡ slice_index totals.old k + slice_index self.old.fresh.items k }
         ensures moved { Moves (length totals.old) totals.old totals.new moved.old moved.new }
     {
-        exchange(totals, self.row.as_slice(), self.fresh.as_slice(), moved);
-        swap(&mut self.row, &mut self.fresh);
+        exchange(
+            totals,
+            self.row.as_mut_slice(),
+            self.fresh.as_slice(),
+            &self.changed,
+            moved,
+        );
+        self.changed.clear();
         self.number = number;
     }
 
@@ -121,6 +136,7 @@ impl Kept {
         ensures moved { Moves (width C H G) totals.old totals.new moved.old moved.new }
     {
         copy_words(self.fresh.as_mut_slice(), row);
+        self.changed.note_all();
         self.replace(number, totals, moved);
     }
 
@@ -144,6 +160,7 @@ impl Kept {
     {
         prove!(row.len() == self.row.len());
         change_words(totals, self.row.as_mut_slice(), row, items);
+        self.changed.note_all();
         self.number = number;
     }
 }

@@ -15,9 +15,10 @@ ghost use Rattle.snapshot_scan.specs.Core.{CameTo, AnswersBy};
 
 use crate::asks::ask_all;
 use crate::changes::Changes;
-use crate::collects::{collect, confirm};
+use crate::collects::confirm;
 use crate::ending::Ended;
 use crate::kept::Kept;
+use crate::opens::collect;
 use register_rule::{Board, ScanSeat};
 
 /// The first try of a scan. It says whether the try is clean, and in `known` whether each row is remembered: then nothing

@@ -1,4 +1,4 @@
-use Rattle.std.proofs.Common.{◌≡◌, ◌<◌, ℕ, List, ◌++◌, Contains, length, take, drop, slice_index, sym, ap, ◌∙◌, arith, ⊎_elim}
+use Rattle.std.proofs.Common.{◌≡◌, ◌<◌, ◌≤◌, ℕ, List, ◌++◌, Contains, length, take, drop, slice_index, sym, ap, ◌∙◌, subst, arith, ⊎_elim}
 use Rattle.ledger_core.specs.Ops.{width}
 use Rattle.snapshot_scan.proofs.Words.{over, same_words, contains_or_not}
 use Rattle.snapshot_scan.proofs.kept.Kept.change.Goals as goal
@@ -25,3 +25,18 @@ returns-clause-totals g c = λ k lt.
     let e = words_are w old.row.items c.change_words.new.old c.args.row.now c.args.items.now c.change_words.ensures.changed
     (λ j none. c.change_words.ensures.others j none ∙ ap (λ (l : List ℕ). slice_index l j) value) c.requires.others k lt in
     omega (arith, s, v, e)
+
+pub returns-clause-wide : goal.returns-clause-wide
+returns-clause-wide g c =
+    let w : ℕ = width g.row.C g.row.H g.row.G in let old = c.args.self.now in let new = c.change_words.new.old in
+    let value = c.as_mut_slice.ensures.value in let a = c.change_words.auto.old in let wide = c.requires.wide in
+    let long : length new ≡ w = a ∙ (ap (λ (l : List ℕ). length l) value ∙ wide.row) in
+    let written : take old.row.len (new ++ drop (length new) old.row.items) ≡ new = over new old.row.items old.row.len (a ∙ ap (λ (l : List ℕ). length l) value) (let n = c.as_mut_slice.ensures.len in omega (arith, a)) in
+    record {
+      row = ap (λ (l : List ℕ). length l) written ∙ long;
+      fresh = wide.fresh;
+      row_low = λ k lt. subst (λ (l : List ℕ). slice_index l k ≤ 281474976710655) (sym written) (c.change_words.ensures.low k lt);
+      fresh_low = wide.fresh_low;
+      same = λ listed. absurd (let e = sym c.note_all.ensures.all ∙ listed in cc);
+      inside = λ j has. wide.inside j (subst (λ (l : List ℕ). Contains l j) c.note_all.ensures.items has);
+    }

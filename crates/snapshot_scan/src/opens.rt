@@ -1,0 +1,141 @@
+//! The first collect of a try, four places in one turn.
+ghost use Rattle.std.specs.Prelude.{◌≡◌, ℕ, ◌+◌, ◌<◌, ◌≤◌, List, [], true, false, length, map, slice_index};
+ghost use Rattle.ledger_core.specs.Ops.{width};
+ghost use Rattle.segment_layout.specs.Layout.{IsGeometry};
+ghost use Rattle.register_rule.specs.declared.view.Member.{Member};
+ghost use Rattle.register_rule.specs.Seats.{table_of, members_of, HasMember, MayScan};
+ghost use Rattle.snapshot_scan.specs.Shape.{scan_in, with_scan};
+ghost use Rattle.snapshot_scan.specs.Memory.{AreWide, AreKnown, HasOther, IsLoaded, version_of, opening};
+ghost use Rattle.snapshot_scan.specs.Collecting.{HasOpened};
+
+use crate::kept::Kept;
+use register_rule::{Board, ScanSeat};
+
+/// How many places are opened in one turn.
+const TURN: usize = 4;
+
+/// Opens a place, where those before it are opened. It says whether all of them were `known`, and this one's number is the one
+/// that is remembered.
+#[inline(always)]
+fn open_one<
+    S: ScanSeat<N, C, H, G>,
+    const N: usize,
+    const C: usize,
+    const H: usize,
+    const G: usize,
+>(
+    board: &Board<N, C, H, G>,
+    seat: &mut S,
+    kept: &mut [Kept],
+    opened: &mut [u64],
+    place: usize,
+    known: bool,
+) -> bool
+    requires own { MayScan board.now (S.bundle seat.old) }
+    requires geometry { IsGeometry N C H G }
+    requires inside { (place < N) × (length kept.old ≡ N) × (length opened.old ≡ N) }
+    requires wide { AreWide (width C H G) kept.old }
+    ensures own { table_of (S.bundle seat.new) ≡ table_of (S.bundle seat.old) }
+    ensures leads { HasMember (members_of (S.bundle seat.new)) }
+    ensures wide { AreWide (width C H G) kept.new }
+    ensures opened { (ms : List Member) (rows : List Kept) → HasOpened (width C H G) place ms rows (members_of (S.bundle seat.old)) kept.old opened.old known
+        → HasOpened (width C H G) (place + 1) ms rows (members_of (S.bundle seat.new)) kept.new opened.new result }
+{
+    let number = kept[place].look(board, seat, place);
+    opened[place] = number;
+    known & (number == kept[place].number)
+}
+
+/// Opens four places.
+#[inline(always)]
+fn open_four<
+    S: ScanSeat<N, C, H, G>,
+    const N: usize,
+    const C: usize,
+    const H: usize,
+    const G: usize,
+>(
+    board: &Board<N, C, H, G>,
+    seat: &mut S,
+    kept: &mut [Kept],
+    opened: &mut [u64],
+    place: usize,
+    known: bool,
+) -> bool
+    requires own { MayScan board.now (S.bundle seat.old) }
+    requires geometry { IsGeometry N C H G }
+    requires inside { (place + 4 ≤ N) × (length kept.old ≡ N) × (length opened.old ≡ N) }
+    requires wide { AreWide (width C H G) kept.old }
+    ensures own { table_of (S.bundle seat.new) ≡ table_of (S.bundle seat.old) }
+    ensures leads { HasMember (members_of (S.bundle seat.new)) }
+    ensures wide { AreWide (width C H G) kept.new }
+    ensures opened { (ms : List Member) (rows : List Kept) → HasOpened (width C H G) place ms rows (members_of (S.bundle seat.old)) kept.old opened.old known
+        → HasOpened (width C H G) (place + 4) ms rows (members_of (S.bundle seat.new)) kept.new opened.new result }
+{
+    let one = open_one(board, seat, kept, opened, place, known);
+    let two = open_one(board, seat, kept, opened, place + 1, one);
+    let three = open_one(board, seat, kept, opened, place + 2, two);
+    open_one(board, seat, kept, opened, place + 3, three)
+}
+
+/// Opens the places from `from` on, where those before are opened.
+#[inline(always)]
+fn open_rest<
+    S: ScanSeat<N, C, H, G>,
+    const N: usize,
+    const C: usize,
+    const H: usize,
+    const G: usize,
+>(
+    board: &Board<N, C, H, G>,
+    seat: &mut S,
+    kept: &mut [Kept],
+    opened: &mut [u64],
+    from: usize,
+    known: bool,
+) -> bool
+    requires own { MayScan board.now (S.bundle seat.old) }
+    requires geometry { IsGeometry N C H G }
+    requires inside { (from ≤ N) × (length kept.old ≡ N) × (length opened.old ≡ N) }
+    requires wide { AreWide (width C H G) kept.old }
+    ensures own { table_of (S.bundle seat.new) ≡ table_of (S.bundle seat.old) }
+    ensures opened { (ms : List Member) (rows : List Kept) → HasOpened (width C H G) from ms rows (members_of (S.bundle seat.old)) kept.old opened.old known
+        → HasOpened (width C H G) N ms rows (members_of (S.bundle seat.new)) kept.new opened.new result }
+{
+    let mut all = known;
+    for place in from..N {
+        all = open_one(board, seat, kept, opened, place, all);
+    }
+    all
+}
+
+/// The first collect of a try. It says whether each number is the one that is remembered.
+#[inline(always)]
+pub(crate) fn collect<
+    S: ScanSeat<N, C, H, G>,
+    const N: usize,
+    const C: usize,
+    const H: usize,
+    const G: usize,
+>(board: &Board<N, C, H, G>, seat: &mut S, kept: &mut [Kept], opened: &mut [u64]) -> bool
+    requires own { MayScan board.now (S.bundle seat.old) }
+    requires geometry { IsGeometry N C H G }
+    requires lengths { (length kept.old ≡ N) × (length opened.old ≡ N) }
+    requires wide { AreWide (width C H G) kept.old }
+    requires kept { (scan_in (S.bundle seat.old)).kept ≡ map version_of kept.old }
+    requires rest { ((scan_in (S.bundle seat.old)).now.looks ≡ []) × ((scan_in (S.bundle seat.old)).now.due ≡ []) × ((scan_in (S.bundle seat.old)).now.asks ≡ []) }
+    ensures own { table_of (S.bundle seat.new) ≡ table_of (S.bundle seat.old) }
+    ensures wide { AreWide (width C H G) kept.new }
+    ensures same { map version_of kept.new ≡ map version_of kept.old }
+    ensures view { members_of (S.bundle seat.new) ≡ with_scan (opening opened.new kept.new (scan_in (S.bundle seat.old))) (members_of (S.bundle seat.old)) }
+    ensures told { (q : ℕ) → q < N → IsLoaded q (scan_in (S.bundle seat.old)) (slice_index opened.new q) }
+    ensures known { result ≡ true → AreKnown opened.new kept.new }
+    ensures unknown { result ≡ false → HasOther opened.new (map version_of kept.old) }
+{
+    let turns = N / TURN;
+    let mut known = true;
+    for turn in 0..turns {
+        known = open_four(board, seat, kept, opened, TURN * turn, known);
+    }
+    open_rest(board, seat, kept, opened, TURN * turns, known)
+}

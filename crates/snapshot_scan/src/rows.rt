@@ -1,0 +1,158 @@
+//! Reading a row over the words of the one that was read before.
+ghost use Rattle.std.specs.Prelude.{◌≡◌, ℕ, ◌+◌, ◌<◌, ◌≤◌, List, length, slice_index, slice_set};
+ghost use Rattle.bucket_math.specs.Words.{greatest_word};
+ghost use Rattle.ledger_core.specs.Ops.{width};
+ghost use Rattle.segment_layout.specs.Layout.{depth};
+ghost use Rattle.register_rule.specs.declared.view.Member.{Member};
+ghost use Rattle.register_rule.specs.Members.{led, scanned};
+ghost use Rattle.register_rule.specs.Seats.{table_of, members_of, HasMember, MayScan};
+ghost use Rattle.snapshot_scan.specs.Shape.{read_all};
+ghost use Rattle.snapshot_scan.specs.Changes.{Changed, Notes, Moves};
+ghost use Rattle.snapshot_scan.specs.Reading.{IsReadTo};
+
+use crate::changes::Changes;
+use register_rule::{Board, ScanSeat};
+
+/// How many words are read in one turn.
+const TURN: usize = 4;
+
+/// Makes a word another one, and lists it.
+#[cold]
+#[inline(never)]
+fn change_word(words: &mut [u64], changed: &mut Changes, k: usize, word: u64)
+    requires { k < length words.old }
+    ensures words { words.new ≡ slice_set words.old k word }
+    ensures notes { Notes k changed.old changed.new }
+{
+    words[k] = word;
+    changed.note(k);
+}
+
+/// Makes a word this one, and lists it where it was another.
+#[inline(always)]
+fn put_word(words: &mut [u64], changed: &mut Changes, k: usize, word: u64)
+    requires { k < length words.old }
+    ensures words { words.new ≡ slice_set words.old k word }
+    ensures moves { Moves (length words.old) words.old words.new changed.old changed.new }
+{
+    if words[k] != word {
+        change_word(words, changed, k, word);
+    }
+}
+
+/// Reads the word `k` of a row, where those before it are read.
+#[inline(always)]
+fn read_one<
+    S: ScanSeat<N, C, H, G>,
+    const N: usize,
+    const C: usize,
+    const H: usize,
+    const G: usize,
+>(
+    board: &Board<N, C, H, G>,
+    seat: &mut S,
+    place: usize,
+    number: u64,
+    k: usize,
+    words: &mut [u64],
+    changed: &mut Changes,
+)
+    requires own { MayScan board.now (S.bundle seat.old) }
+    requires inside { (place < N) × (k < length words.old) × (length words.old ≡ width C H G) }
+    ensures own { table_of (S.bundle seat.new) ≡ table_of (S.bundle seat.old) }
+    ensures leads { HasMember (members_of (S.bundle seat.new)) }
+    ensures read { (ms : List Member) (row : List ℕ) (listed : Changed) → IsReadTo (width C H G) place number k ms (members_of (S.bundle seat.old)) row words.old listed changed.old
+        → IsReadTo (width C H G) place number (k + 1) ms (members_of (S.bundle seat.new)) row words.new listed changed.new }
+{
+    let word = board.read_word(seat, place, number, k);
+    put_word(words, changed, k, word);
+}
+
+/// Reads four words of a row, from the word `k` on, where those before it are read.
+#[inline(always)]
+fn read_four<
+    S: ScanSeat<N, C, H, G>,
+    const N: usize,
+    const C: usize,
+    const H: usize,
+    const G: usize,
+>(
+    board: &Board<N, C, H, G>,
+    seat: &mut S,
+    place: usize,
+    number: u64,
+    k: usize,
+    words: &mut [u64],
+    changed: &mut Changes,
+)
+    requires own { MayScan board.now (S.bundle seat.old) }
+    requires inside { (place < N) × (k + 4 ≤ length words.old) × (length words.old ≡ width C H G) }
+    ensures own { table_of (S.bundle seat.new) ≡ table_of (S.bundle seat.old) }
+    ensures leads { HasMember (members_of (S.bundle seat.new)) }
+    ensures read { (ms : List Member) (row : List ℕ) (listed : Changed) → IsReadTo (width C H G) place number k ms (members_of (S.bundle seat.old)) row words.old listed changed.old
+        → IsReadTo (width C H G) place number (k + 4) ms (members_of (S.bundle seat.new)) row words.new listed changed.new }
+{
+    read_one(board, seat, place, number, k, words, changed);
+    read_one(board, seat, place, number, k + 1, words, changed);
+    read_one(board, seat, place, number, k + 2, words, changed);
+    read_one(board, seat, place, number, k + 3, words, changed);
+}
+
+/// Reads the words of a row from the word `from` on, where those before it are read.
+#[inline(always)]
+fn read_rest<
+    S: ScanSeat<N, C, H, G>,
+    const N: usize,
+    const C: usize,
+    const H: usize,
+    const G: usize,
+>(
+    board: &Board<N, C, H, G>,
+    seat: &mut S,
+    place: usize,
+    number: u64,
+    from: usize,
+    words: &mut [u64],
+    changed: &mut Changes,
+)
+    requires own { MayScan board.now (S.bundle seat.old) }
+    requires inside { (place < N) × (from ≤ length words.old) × (length words.old ≡ width C H G) }
+    ensures own { table_of (S.bundle seat.new) ≡ table_of (S.bundle seat.old) }
+    ensures read { (ms : List Member) (row : List ℕ) (listed : Changed) → IsReadTo (width C H G) place number from ms (members_of (S.bundle seat.old)) row words.old listed changed.old
+        → IsReadTo (width C H G) place number (width C H G) ms (members_of (S.bundle seat.new)) row words.new listed changed.new }
+{
+    for k in from..words.len() {
+        read_one(board, seat, place, number, k, words, changed);
+    }
+}
+
+/// Reads the row that the number `number` of a segment shows over `words`. A word that is there already is not written, and each
+/// word that changes is listed.
+#[inline(never)]
+pub(crate) fn read_row<
+    S: ScanSeat<N, C, H, G>,
+    const N: usize,
+    const C: usize,
+    const H: usize,
+    const G: usize,
+>(
+    board: &Board<N, C, H, G>,
+    seat: &mut S,
+    place: usize,
+    number: u64,
+    words: &mut [u64],
+    changed: &mut Changes,
+)
+    requires own { MayScan board.now (S.bundle seat.old) }
+    requires inside { (place < N) × (length words.old ≡ width C H G) }
+    ensures own { table_of (S.bundle seat.new) ≡ table_of (S.bundle seat.old) }
+    ensures member { members_of (S.bundle seat.new) ≡ led (scanned (read_all (width C H G) place number 0 words.new)) (members_of (S.bundle seat.old)) }
+    ensures bounded { (k : ℕ) → k < width C H G → slice_index words.new k ≤ greatest_word }
+    ensures moves { Moves (width C H G) words.old words.new changed.old changed.new }
+{
+    let turns = words.len() / TURN;
+    for turn in 0..turns {
+        read_four(board, seat, place, number, TURN * turn, words, changed);
+    }
+    read_rest(board, seat, place, number, TURN * turns, words, changed);
+}
