@@ -1,0 +1,131 @@
+"""The programs that are compared: what is missing on this machine, how each is built, and its words."""
+import os
+import pathlib
+import shutil
+import subprocess
+import sys
+
+HERE = pathlib.Path(__file__).resolve().parent
+ROOT = HERE.parent
+sys.path.append(str(ROOT / "checks"))
+from started import Failed, check, run  # noqa: E402
+
+# Where all is built. Git ignores it.
+OUT = HERE / "out"
+PYTHON = "/usr/bin/python3"
+REGISTRY = pathlib.Path("/usr/share/cargo/registry")
+GOPATH = pathlib.Path("/usr/share/gocode")
+OURS, RUST, GO, PEER_PYTHON, BARE = "Dirgwako", "prometheus (Rust)", "client_golang (Go)", "prometheus_client (Python)", "a text made before"
+
+
+def can_import(module):
+    """Whether Debian's python3 has a module."""
+    if not pathlib.Path(PYTHON).exists():
+        return False
+    return subprocess.run([PYTHON, "-c", f"import {module}"], capture_output=True).returncode == 0
+
+
+def needs():
+    """What each program needs: whether it is there, what it is, and Debian's packages that have it."""
+    has_crate = any(REGISTRY.glob("prometheus-0.13*"))
+    has_go = (GOPATH / "src/github.com/prometheus/client_golang").is_dir()
+    return {
+        RUST: [(shutil.which("cargo"), "cargo", "cargo"), (has_crate, "the crate prometheus 0.13", "librust-prometheus-dev")],
+        GO: [(shutil.which("go"), "go", "golang-go"), (has_go, "client_golang", "golang-github-prometheus-client-golang-dev")],
+        PEER_PYTHON: [(can_import("prometheus_client"), "prometheus_client", "python3-prometheus-client")],
+        "requests a second": [(shutil.which("wrk"), "wrk", "wrk")],
+        "the pictures": [(can_import("matplotlib"), "matplotlib", "python3-matplotlib")],
+    }
+
+
+def missing():
+    """What cannot be made, and the line that says why."""
+    lines = {}
+    for what, wanted in needs().items():
+        lacks = [(name, package) for is_there, name, package in wanted if not is_there]
+        if lacks:
+            names, packages = ", ".join(it for it, _ in lacks), " ".join(it for _, it in lacks)
+            lines[what] = f"left out: {what}, for want of {names}: apt-get install {packages}"
+    return lines
+
+
+def build(words, where, environment, seconds=300):
+    """Builds a program, by one line of a shell's words."""
+    out, err, status = run(*words, cwd=where, env={**os.environ, **environment}, seconds=seconds)
+    check(status == 0, f"{words[0]} does not build {where.relative_to(ROOT)}:\n{(out + err).decode()[-2000:]}")
+
+
+def build_rust():
+    target = OUT / "rust"
+    build(["cargo", "build", "--offline", "--release", "--target-dir", target], HERE / "rust", {})
+    return [target / "release/peer"]
+
+
+def build_go():
+    cache = {"GO111MODULE": "off", "GOPATH": str(GOPATH), "GOCACHE": str(OUT / "gocache")}
+    build(["go", "build", "-o", OUT / "go_peer", "."], HERE / "go", cache)
+    return [OUT / "go_peer"]
+
+
+def build_python():
+    return [PYTHON, "-B", HERE / "python/peer.py"]
+
+
+def below(name):
+    """A crate of the repository and all that it stands on."""
+    lines = dict(line.split(":", 1) for line in (ROOT / "crates.txt").read_text().splitlines() if ":" in line and not line.startswith("#"))
+    found, left = set(), [name]
+    while left:
+        crate = left.pop()
+        if crate in lines and crate not in found:
+            found.add(crate)
+            left += lines[crate].split()
+    return found
+
+
+def build_ours(given):
+    """The program `bench`: the one that is given, or the built one where it is newer than its sources, or else it is proved and built."""
+    if given:
+        check(os.access(given, os.X_OK), f"{given} is no program")
+        return [pathlib.Path(given).resolve()]
+    built = ROOT / "crates/bench/out/bench"
+    sources = [file for crate in below("bench") for file in (ROOT / "crates" / crate / "src").glob("**/*.rt")]
+    if not built.is_file() or built.stat().st_mtime < max(it.stat().st_mtime for it in sources):
+        check(shutil.which("rt"), "no rt on the path, which proves and builds crates/bench, and no --bench PROGRAM")
+        print("crates/bench is proved and built first: seconds after small changes, a quarter of an hour from nothing", flush=True)
+        build(["rt", "run", "--", "0"], ROOT / "crates/bench", {}, seconds=3600)
+    check(built.is_file(), "rt has built no crates/bench/out/bench")
+    return [built]
+
+
+def build_all(given, lacks):
+    """The words by which each program is started, in the order of the tables."""
+    OUT.mkdir(exist_ok=True)
+    makers = {OURS: lambda: build_ours(given), RUST: build_rust, GO: build_go, PEER_PYTHON: build_python}
+    return {name: make() for name, make in makers.items() if name not in lacks}
+
+
+def first_line(*words):
+    """The first line that a program prints; what it is called where there is none."""
+    try:
+        out, _, status = run(*words)
+    except (OSError, Failed):
+        return f"no {words[0]}"
+    return out.decode().partition("\n")[0] if status == 0 else f"no {words[0]}"
+
+
+def package(name):
+    return first_line("dpkg-query", "-W", "-f", "${Version}\n", name)
+
+
+def versions():
+    """What is compared, and in which version."""
+    commit = first_line("git", "-C", ROOT, "rev-parse", "--short", "HEAD")
+    is_changed = run("git", "-C", ROOT, "status", "--porcelain", "--", "crates")[0]
+    return [
+        (OURS, f"commit {commit}{', with changes' if is_changed else ''}; {first_line('rt', 'version')}"),
+        (RUST, f"librust-prometheus-dev {package('librust-prometheus-dev')}; {first_line('rustc', '--version')}"),
+        (GO, f"golang-github-prometheus-client-golang-dev {package('golang-github-prometheus-client-golang-dev')}; {first_line('go', 'version')}"),
+        (PEER_PYTHON, f"python3-prometheus-client {package('python3-prometheus-client')}; {first_line(PYTHON, '--version')}"),
+        ("wrk", package("wrk")),
+    ]

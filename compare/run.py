@@ -1,0 +1,97 @@
+"""Runs the same work over Dirgwako and other client libraries, side by side, and writes results.md and two pictures.
+
+`python3 compare/run.py [--quick] [--bench PROGRAM]`: the whole in some minutes. With `--quick` each measurement takes a second or less, and
+all goes to compare/out/, so that no figure of it is taken for one. PROGRAM is a built `bench`; by itself the script takes that of
+crates/bench, which `rt` proves and builds where it is older than its sources. It installs nothing: what is missing is left out, and told.
+"""
+import argparse
+import json
+import os
+import pathlib
+import signal
+import sys
+
+sys.dont_write_bytecode = True
+sys.path.insert(0, str(pathlib.Path(__file__).resolve().parent))
+import programs
+import loads
+import speeds
+import table
+import torn
+from started import Failed, check, end_all, run
+
+
+def interrupted(number, _frame):
+    """Ends all that was started."""
+    end_all()
+    print("interrupted: all that was started is ended, and no page was written", file=sys.stderr)
+    os._exit(128 + number)
+
+
+def torn_scrapes(started, wanted):
+    """What is found of each program's scrapes."""
+    found = {}
+    for name, words in started.items():
+        print(f"torn scrapes: {name}", flush=True)
+        if name == programs.OURS:
+            more = [*words, "torn", wanted + 50]
+            found[table.APART] = torn.measure([*more, "apart"], wanted, False)
+            found[table.TOGETHER] = torn.measure([*more, "together"], wanted, True)
+        else:
+            found[name] = torn.measure([*words, "torn", wanted + 50], wanted, False)
+    return found
+
+
+def draw(found, where):
+    """Has the pictures drawn, of all that was scraped."""
+    shown = [
+        {"name": name, "is_ours": name.startswith(programs.OURS), "share": it.share(), "torn": it.torn, "differences": it.differences[:100]}
+        for name, it in found.items()
+        if it.differences
+    ]
+    pictures = [where / "torn.svg", where / "difference.svg"]
+    out, err, status = run(programs.PYTHON, programs.HERE / "draw.py", *pictures, given=json.dumps(shown).encode())
+    check(status == 0, f"the pictures are not drawn:\n{(out + err).decode()[-2000:]}")
+    return pictures
+
+
+def asked():
+    words = argparse.ArgumentParser(description="The same work over Dirgwako and other client libraries.")
+    words.add_argument("--quick", action="store_true", help="a second or less for each measurement; writes to compare/out/")
+    words.add_argument("--bench", metavar="PROGRAM", help="a built bench program")
+    return words.parse_args()
+
+
+def compare(how):
+    """Measures all, and writes it."""
+    lacks, load = programs.missing(), os.getloadavg()[0]
+    for line in lacks.values():
+        print(line, flush=True)
+    if table.cores() < 4:
+        print(f"this machine has {table.cores()} cores: lines of four threads, and of requests, are no figures to tell", flush=True)
+    started = programs.build_all(how.bench, lacks)
+    scrapes, rounds, turns, seconds = (500, 20_000, 1, 1) if how.quick else (5_000, 1_000_000, 3, 2)
+    found = torn_scrapes(started, scrapes)
+    measured = speeds.measure(started, rounds, turns)
+    loaded = loads.measure(started, seconds, min(turns, 2), "requests a second" not in lacks)
+    page = programs.OUT / "results.md" if how.quick else programs.HERE / "results.md"
+    page.write_text(table.page(load, found, measured, loaded))
+    written = [page]
+    if "the pictures" not in lacks:
+        written += draw(found, programs.OUT if how.quick else programs.ROOT / "docs")
+    print("written:", *(os.path.relpath(it) for it in written))
+
+
+def main():
+    for number in (signal.SIGHUP, signal.SIGINT, signal.SIGTERM):
+        signal.signal(number, interrupted)
+    try:
+        compare(asked())
+    except (Failed, OSError, ValueError, KeyError) as why:
+        print(f"failed: {why!r}" if isinstance(why, (ValueError, KeyError)) else f"failed: {why}", file=sys.stderr)
+        return 1
+    return 0
+
+
+if __name__ == "__main__":
+    sys.exit(main())

@@ -1,0 +1,78 @@
+"""The nanoseconds of updates and of scrapes with their texts, of each program by turns."""
+from dataclasses import dataclass, field
+
+from programs import BARE, OURS, PEER_PYTHON
+from started import check, run
+
+# An update, as the tables call it; the name that the peers print it by; and ours: of one thread, of four, and the same two in a tally.
+UPDATES = [
+    ("an increment", "inc", ("inc_one_counter", "busy_4", "tally_inc", "tally_busy_4")),
+    ("an observation", "observe", ("observe", "busy_4_observe", "tally_observe", None)),
+    ("ten increments at once", "inc_10", ("publish_10_inc", "busy_4_10_inc", None, None)),
+    ("ten observations at once", "observe_10", ("publish_10_observe", "busy_4_10_observe", None, None)),
+]
+BOARD = "4,64,8,0"
+SIZES = {"small": "64 counters, 8 histograms of 10 bounds", "large": "256 counters, 32 histograms of 24 bounds"}
+GATHERS = {"small": "4,64,8,0", "large": "16,256,32,0"}
+TALLY = f"{OURS}, in a tally"
+
+
+@dataclass
+class Range:
+    """The least and the most of the same measurement in several turns."""
+    all: list = field(default_factory=list)
+
+    def add(self, value):
+        self.all.append(value)
+
+    def ends(self):
+        return min(self.all), max(self.all)
+
+
+class Found(dict):
+    """A range for each key."""
+
+    def __missing__(self, key):
+        self[key] = Range()
+        return self[key]
+
+
+def lines_of(words, seconds=300):
+    """The lines that a program prints, cut at blanks."""
+    out, err, status = run(*words, seconds=seconds)
+    check(status == 0, f"{' '.join(str(it) for it in words)}: status {status}: {err.decode()[-500:]}")
+    return [line.split() for line in out.decode().splitlines()]
+
+
+def ours(words, rounds, updates, gathers):
+    """One turn of our program, which prints all at once."""
+    printed = {(line[0], line[1]): float(line[2]) for line in lines_of([*words, rounds])}
+    for _what, name, (alone, busy, tally, busy_tally) in UPDATES:
+        wanted = [(OURS, 1, alone), (OURS, 4, busy), (TALLY, 1, tally), (TALLY, 4, busy_tally)]
+        for who, threads, line in wanted:
+            if line:
+                updates[who, name, threads].add(printed[line, BOARD])
+    for size, geometry in GATHERS.items():
+        gathers[OURS, size].add(printed["gather", geometry])
+
+
+def peer(name, words, rounds, updates, gathers):
+    """One turn of another one. Python's gets a tenth of the rounds."""
+    less = 10 if name == PEER_PYTHON else 1
+    for line, threads, each in lines_of([*words, "updates", rounds // less]):
+        updates[name, line, int(threads)].add(float(each))
+    for size in SIZES:
+        gathers[name, size].add(float(lines_of([*words, "gather", max(rounds // 1_000 // less, 1), size])[0][0]))
+
+
+def measure(programs, rounds, turns):
+    """The ranges of updates and of gathers."""
+    updates, gathers = Found(), Found()
+    for turn in range(turns):
+        print(f"updates and scrapes, turn {turn + 1} of {turns}", flush=True)
+        for name, words in programs.items():
+            if name == OURS:
+                ours(words, rounds, updates, gathers)
+            elif name != BARE:
+                peer(name, words, rounds, updates, gathers)
+    return updates, gathers

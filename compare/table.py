@@ -1,0 +1,146 @@
+"""The page of results."""
+import datetime
+import os
+import platform
+import statistics
+
+from loads import CONNECTIONS
+from programs import BARE, GO, OURS, PEER_PYTHON, RUST, missing, versions
+from speeds import SIZES, TALLY, UPDATES
+
+PEERS = (RUST, GO, PEER_PYTHON)
+APART, TOGETHER = f"{OURS}, each change a version", f"{OURS}, a round one version"
+
+
+def processor():
+    with open("/proc/cpuinfo", encoding="utf-8") as lines:
+        names = [line.partition(":")[2].strip() for line in lines if line.startswith("model name")]
+    return names[0] if names else platform.machine()
+
+
+def cores():
+    return len(os.sched_getaffinity(0))
+
+
+def short(number):
+    """A number with three digits that tell."""
+    if number >= 1_000:
+        return f"{round(number, 3 - len(str(int(number)))):,.0f}"
+    return f"{number:.1f}" if number < 100 else f"{number:.0f}"
+
+
+def told(found, unit=1):
+    """A range, as `A to B`, or as `A` where both are spelled alike; a dash where nothing was measured."""
+    if not found.all:
+        return "-"
+    low, high = (short(it / unit) for it in found.ends())
+    return low if low == high else f"{low} to {high}"
+
+
+def ratio(one, other):
+    """How many times the median of one is that of another."""
+    if not one.all or not other.all:
+        return "-"
+    times = statistics.median(one.all) / statistics.median(other.all)
+    return f"{times:.2f}" if times < 10 else f"{times:.0f}"
+
+
+def row(*cells):
+    return "| " + " | ".join(str(it) for it in cells) + " |"
+
+
+def head(*cells):
+    return [row(*cells), "|" + "---|" * len(cells)]
+
+
+def machine(load):
+    """What was measured, where and when."""
+    lines = [
+        "# One run of the comparison",
+        "",
+        "`python3 compare/run.py` makes this page, and the pictures [torn.svg](../docs/torn.svg) and [difference.svg](../docs/difference.svg).",
+        "What each line measures is told in [README.md](README.md). Two numbers, as `A to B`, are the least and the most of the turns of this run.",
+        "",
+        f"{datetime.date.today()}: {processor()}, {cores()} cores, {platform.system()} {platform.release()}; load {load:.1f} before the run.",
+    ]
+    if cores() < 4:
+        lines += ["", f"With {cores()} cores, lines of four threads share them, and `wrk` takes one from what it asks: these are no figures to tell."]
+    if load > 0.5:
+        lines += ["", "Others used the machine too: these are no figures to tell."]
+    lines += ["", *head("what", "version"), *(row(*it) for it in versions()), ""]
+    for line in missing().values():
+        lines += [line, ""]
+    return lines
+
+
+def torn_lines(torn):
+    lines = ["## Torn scrapes", ""]
+    lines += head("scrapes while one thread counts without rest", "scrapes", "torn", "share", "of them torn within the histogram", "a - b, in truth 0 or 1", "given up, as 503")
+    for name, found in torn.items():
+        if found.differences:
+            low, high = min(found.differences), max(found.differences)
+            lines.append(row(name, f"{found.scrapes:,}", f"{found.torn:,}", f"{100 * found.share():.1f} %", f"{found.torn_histograms:,}", f"{low:,.0f} to {high:,.0f}", f"{found.given_up:,}"))
+        else:
+            lines.append(row(name, 0, "-", "-", "-", "-", f"{found.given_up:,}"))
+    return lines + [""]
+
+
+def update_lines(updates):
+    lines = ["## Updates, in nanoseconds", ""]
+    lines += head("what", "threads", OURS, "in a tally", *PEERS, f"{OURS} to {RUST}", f"in a tally to {RUST}")
+    for what, name, _ours in UPDATES:
+        for threads in (1, 4):
+            one = {who: updates[who, name, threads] for who in (OURS, TALLY, *PEERS)}
+            ratios = (ratio(one[who], one[RUST]) for who in (OURS, TALLY))
+            lines.append(row(what, threads, *(told(it) for it in one.values()), *ratios))
+    return lines + [""]
+
+
+def gather_lines(gathers, texts):
+    lines = ["## A scrape with its text, in microseconds", ""]
+    lines += head("of", OURS, *PEERS, f"{OURS} to {RUST}")
+    for size, what in SIZES.items():
+        each = {who: gathers[who, size] for who in (OURS, *PEERS)}
+        lines.append(row(what, *(told(it, 1_000) for it in each.values()), ratio(each[OURS], each[RUST])))
+    lines += ["", *head("the text", *texts["small"]), *(text_row(size, each) for size, each in texts.items())]
+    return lines + [""]
+
+
+def text_row(size, each):
+    """The bytes of each text, and whether all series have the numbers that ours have."""
+    def cell(found):
+        length, series, differing = found
+        return f"{length:,} bytes; {'the same numbers' if differing == 0 else f'{differing} of {series} series differ'}"
+    return row(SIZES[size], *(cell(it) for it in each.values()))
+
+
+def load_lines(rates, errors):
+    names = [name for name in (OURS, *PEERS, BARE) if (name, "small", 1) in rates]
+    if not names:
+        return []
+    lines = ["## Requests a second, one a connection", ""]
+    lines += head("of", "at once", *names, f"{OURS} to {RUST}", f"{OURS} to {BARE}")
+    for size, what in SIZES.items():
+        for connections in CONNECTIONS:
+            each = {name: rates[name, size, connections] for name in names}
+            ratios = (ratio(each[OURS], rates[other, size, connections]) for other in (RUST, BARE))
+            lines.append(row(what, connections, *(told(it) for it in each.values()), *ratios))
+    failed = [f"{name} {count:,}" for name, count in errors.items() if count]
+    return lines + ["", f"Requests that failed: {', '.join(failed) or 'none'}.", ""]
+
+
+def memory_lines(memory):
+    lines = ["## Memory of the serving process at most, in megabytes", ""]
+    names = list(dict.fromkeys(name for name, _size in memory))
+    lines += head("of", *names)
+    for size, what in SIZES.items():
+        lines.append(row(what, *(f"{memory[name, size] / 1_024:.1f}" for name in names)))
+    return lines + [""]
+
+
+def page(load, torn, speeds, loads):
+    """The whole page."""
+    (updates, gathers), (rates, errors, memory, texts) = speeds, loads
+    lines = machine(load) + torn_lines(torn) + update_lines(updates) + gather_lines(gathers, texts)
+    lines += load_lines(rates, errors) + memory_lines(memory)
+    return "\n".join(lines).rstrip() + "\n"
