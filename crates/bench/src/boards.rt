@@ -7,7 +7,8 @@ use crate::measuring::{Floor, Lines, four_updates, nanos_since, timed, timed_eac
 use crate::registries::{CHILDREN, ID};
 use anyhow::{Context, Result, bail};
 use dirgwako::{
-    Board, Bounds, Change, Counter, Crew, Histogram, Op, Recorder, ServiceRuntime, Snapshot, Worker,
+    Board, Bounds, Change, Counter, Crew, Histogram, Op, Recorder, ServiceRuntime, Snapshot,
+    Worker, inc, observe,
 };
 use snapshot_scan::Source;
 use std::array;
@@ -43,6 +44,28 @@ impl<const N: usize, const C: usize, const H: usize, const G: usize> Applies
     fn apply(&mut self, ops: [Op; CHILDREN]) -> Option<()> {
         let registry = ID;
         self.publish(&ops.map(|op| Change { registry, op })).ok()
+    }
+}
+
+/// A recorder that publishes the same ten changes again and again, or the first one of them alone if `is_one` says so.
+#[derive(Drop)]
+struct Publishing<'a, const N: usize, const C: usize, const H: usize, const G: usize> {
+    recorder: Recorder<'a, N, C, H, G>,
+    changes: [Change; 10],
+    is_one: bool,
+}
+
+impl<const N: usize, const C: usize, const H: usize, const G: usize> Counts
+    for Publishing<'_, N, C, H, G> {
+    fn raise(&mut self, _slot: usize) -> Option<()> {
+        if self.is_one {
+            return self.recorder.publish(&[self.changes[0]]).ok();
+        }
+        self.recorder.publish(&self.changes).ok()
+    }
+
+    fn watch(&mut self, hist: &Histogram, value: u64) -> Option<()> {
+        self.recorder.observe(hist, value).ok()
     }
 }
 
@@ -202,11 +225,71 @@ impl<R: ServiceRuntime> Lines<'_, R> {
 
     /// Updates of so many workers, of which four count at once. There is one batch: a worker whose scan meets numbers that move reads
     /// rows and tries again.
-    fn busy<W: Counts + Send + Drop>(&self, workers: Vec<W>, all: usize) -> Result<()> {
+    fn busy<W: Counts + Send + Drop>(&self, name: &str, workers: Vec<W>, all: usize) -> Result<()> {
         let rounds = self.one_in(100);
         let floor = four_updates(self.rt, all, rounds)?;
         let taken = four_count(self.rt, workers, rounds)?;
-        self.line("busy_4", rounds, taken, floor, None)
+        self.line(name, rounds, taken, floor, None)
+    }
+
+    /// Publishes by the first of these, of whose buffer so many words differ, and then by all four at once.
+    fn publishing(
+        &self,
+        alone: &str,
+        busy: &str,
+        mut workers: Vec<impl Counts + Send + Drop>,
+        words: usize,
+    ) -> Result<()> {
+        let all = workers.len();
+        let first = workers.first_mut().context("no worker")?;
+        self.update(alone, 10, all, words, |_| first.raise(0))?;
+        self.busy(busy, workers, all)
+    }
+
+    /// The same changes again and again, by recorders of a new board; the first of them alone if `is_one` says so.
+    fn changing<const N: usize, const C: usize, const H: usize, const G: usize>(
+        &self,
+        alone: &str,
+        busy: &str,
+        changes: [Change; 10],
+        is_one: bool,
+        words: usize,
+    ) -> Result<()> {
+        let alloc = self.rt.alloc();
+        let mut crew = Crew::<N, C, H, G>::new(alloc, ID, 1)?;
+        let (_registry, recorders, _) = crew.open(1)?;
+        let mut counting = Vec::with_capacity(alloc, recorders.len())?;
+        for recorder in recorders {
+            counting.push(Publishing {
+                recorder,
+                changes,
+                is_one,
+            })?;
+        }
+        self.publishing(alone, busy, counting, words)
+    }
+
+    /// Lists of ten increments, of as many counters, and of ten observations, one in each bucket of a bound; and a single observation.
+    pub fn published<const N: usize, const C: usize, const H: usize, const G: usize>(
+        &self,
+    ) -> Result<()> {
+        let values = [5, 10, 25, 50, 100, 250, 500, 1_000, 2_500, 5_000];
+        let hist = Histogram {
+            registry: ID,
+            slot: 0,
+            bounds: Bounds::from_slice(&values)?,
+        };
+        let raised: [Change; 10] = array::from_fn(|slot| inc(&Counter { registry: ID, slot }, 1));
+        self.changing::<N, C, H, G>("publish_10_inc", "busy_4_10_inc", raised, false, 21)?;
+        let observed = values.map(|value| observe(&hist, value));
+        self.changing::<N, C, H, G>(
+            "publish_10_observe",
+            "busy_4_10_observe",
+            observed,
+            false,
+            25,
+        )?;
+        self.changing::<N, C, H, G>("publish_observe", "busy_4_observe", observed, true, 7)
     }
 
     /// Updates and scans of a new board of rows of so many words.
@@ -221,6 +304,6 @@ impl<R: ServiceRuntime> Lines<'_, R> {
         let mut out = Snapshot::new(self.rt.alloc())?;
         let mut source = registry.into_state().into_source();
         self.scanned(&mut recorders, &mut source, &mut out, words)?;
-        self.busy(recorders, N)
+        self.busy("busy_4", recorders, N)
     }
 }

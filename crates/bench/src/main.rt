@@ -14,6 +14,9 @@
 //! by four threads, each of which answers so many connections. Standard error tells the port, which the system chooses where PORT is 0;
 //! at the end it prints how many bytes the text of a scrape has.
 //!
+//! `bench torn SCRAPES apart`, or `together`, prints so many scrapes of a board on which a thread counts without rest, each behind a line
+//! `---`; a scrape that is given up has no text: [`torn`].
+//!
 //! Exit status 0 at the end; 2 for other arguments; 1 where something failed.
 #![tactic(auto)]
 
@@ -23,6 +26,7 @@ mod registries;
 mod served;
 mod tallies;
 mod texts;
+mod torn;
 
 use anyhow::Result;
 use dirgwako::ServiceRuntime;
@@ -33,9 +37,10 @@ use std::env;
 use std::net::{Net, TcpListener, TcpStream};
 use std::process::ExitCode;
 use std::rt::Env;
+use torn::print_scrapes;
 
 const USAGE: &str =
-    "usage: bench ROUNDS, at most 1000000000, or bench serve PORT REPLIES small|large";
+    "usage: bench ROUNDS, at most 1000000000, or bench serve PORT REPLIES small|large, or bench torn SCRAPES apart|together";
 
 /// Measures three geometries, and the texts of two scrapes.
 fn measure_boards(lines: &mut Lines<'_, impl ServiceRuntime>) -> Result<()> {
@@ -44,6 +49,7 @@ fn measure_boards(lines: &mut Lines<'_, impl ServiceRuntime>) -> Result<()> {
     lines.on("32,256,32,64").board::<32, 256, 32, 64>(1_248)?;
     lines.on("4,64,8,0").tallies::<4, 64, 8, 0>()?;
     lines.on("16,256,32,0").tallies::<16, 256, 32, 0>()?;
+    lines.on("4,64,8,0").published::<4, 64, 8, 0>()?;
     lines.on("64,8").texts_of::<64, 8>(SMALL)?;
     lines.on("256,32").texts_of::<256, 32>(LARGE)
 }
@@ -67,7 +73,8 @@ fn measure_all(rt: &impl ServiceRuntime, rounds: u64) -> Result<()> {
     Ok(())
 }
 
-/// Measures so many rounds, or serves so many replies by each thread at a port, as the arguments say; nothing if they say neither.
+/// Measures so many rounds, serves so many replies by each thread at a port, or prints so many scrapes, as the arguments say; nothing if
+/// they say none of it.
 fn run(
     rt: &(impl ServiceRuntime + Eprint + Env + Net<Listener = TcpListener, Stream = TcpStream>),
 ) -> Option<Result<()>> {
@@ -82,6 +89,14 @@ fn run(
             match size.as_str() {
                 "small" => Some(serve::<64, 8>(rt, port, replies, SMALL)),
                 "large" => Some(serve::<256, 32>(rt, port, replies, LARGE)),
+                _ => None,
+            }
+        }
+        [_, word, scrapes, how] if word.as_str() == "torn" => {
+            let scrapes = scrapes.as_str().parse().ok()?;
+            match how.as_str() {
+                "apart" => Some(print_scrapes(rt, scrapes, true)),
+                "together" => Some(print_scrapes(rt, scrapes, false)),
                 _ => None,
             }
         }
