@@ -72,7 +72,7 @@ def draw_differences(programs, path):
         axes.set_yticks(TICKS, [f"{tick:,}" for tick in TICKS], fontsize=9)
         axes.tick_params(bottom=False)
         axes.minorticks_off()
-    figure.supxlabel("a - b in a hundred scrapes, one after the other; whatever the moment, it is 0 or 1", fontsize=11)
+    figure.supxlabel("a - b in a hundred scrapes of five runs; whatever the moment, it is 0 or 1", fontsize=11)
     save(figure, path)
 
 

@@ -21,6 +21,10 @@ import torn
 from started import Failed, check, end_all, run
 
 
+# In so many runs scrapes are taken: a library may read its series in another order in each.
+TURNS = 5
+
+
 def interrupted(number, _frame):
     """Ends all that was started."""
     end_all()
@@ -29,23 +33,25 @@ def interrupted(number, _frame):
 
 
 def torn_scrapes(started, wanted):
-    """What is found of each program's scrapes."""
-    found = {}
-    for name, words in started.items():
-        print(f"torn scrapes: {name}", flush=True)
-        if name == programs.OURS:
-            more = [*words, "torn", wanted + 50]
-            found[table.APART] = torn.measure([*more, "apart"], wanted, False)
-            found[table.TOGETHER] = torn.measure([*more, "together"], wanted, True)
-        else:
-            found[name] = torn.measure([*words, "torn", wanted + 50], wanted, False)
+    """What is found of each program's scrapes, a fifth of them in each of five runs, by turns."""
+    found, each = {}, wanted // TURNS
+    for turn in range(TURNS):
+        print(f"torn scrapes, turn {turn + 1} of {TURNS}", flush=True)
+        for name, words in started.items():
+            more = [*words, "torn", each + 50]
+            if name == programs.OURS:
+                runs = [(table.APART, [*more, "apart"], False), (table.TOGETHER, [*more, "together"], True)]
+            else:
+                runs = [(name, more, False)]
+            for what, line, is_together in runs:
+                found.setdefault(what, torn.Torn()).add(torn.measure(line, each, is_together))
     return found
 
 
 def draw(found, where):
     """Has the pictures drawn, of all that was scraped."""
     shown = [
-        {"name": name, "is_ours": name.startswith(programs.OURS), "share": it.share(), "torn": it.torn, "differences": it.differences[:100]}
+        {"name": name, "is_ours": name.startswith(programs.OURS), "share": it.share(), "torn": it.torn, "differences": it.differences[:: max(len(it.differences) // 100, 1)][:100]}
         for name, it in found.items()
         if it.differences
     ]
@@ -75,7 +81,7 @@ def compare(how):
     measured = speeds.measure(started, rounds, turns)
     loaded = loads.measure(started, seconds, min(turns, 2), "requests a second" not in lacks)
     page = programs.OUT / "results.md" if how.quick else programs.HERE / "results.md"
-    page.write_text(table.page(load, found, measured, loaded))
+    page.write_text(table.page(load, found, measured, loaded, how.quick))
     written = [page]
     if "the pictures" not in lacks:
         written += draw(found, programs.OUT if how.quick else programs.ROOT / "docs")

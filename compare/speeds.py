@@ -44,9 +44,13 @@ def lines_of(words, seconds=300):
     return [line.split() for line in out.decode().splitlines()]
 
 
-def ours(words, rounds, updates, gathers):
-    """One turn of our program, which prints all at once."""
-    printed = {(line[0], line[1]): float(line[2]) for line in lines_of([*words, rounds])}
+def ours(words, rounds, updates, gathers, lines):
+    """One turn of our program, which prints all at once; of each line the nanoseconds, and how many times those of its floor they are."""
+    printed = {}
+    for name, of, each, ratio, *_second in lines_of([*words, rounds]):
+        printed[name, of] = float(each)
+        lines[name, of, "ns"].add(float(each))
+        lines[name, of, "floors"].add(float(ratio))
     for _what, name, (alone, busy, tally, busy_tally) in UPDATES:
         wanted = [(OURS, 1, alone), (OURS, 4, busy), (TALLY, 1, tally), (TALLY, 4, busy_tally)]
         for who, threads, line in wanted:
@@ -66,13 +70,13 @@ def peer(name, words, rounds, updates, gathers):
 
 
 def measure(programs, rounds, turns):
-    """The ranges of updates and of gathers."""
-    updates, gathers = Found(), Found()
+    """The ranges of updates, of gathers, and of all lines of our program."""
+    updates, gathers, lines = Found(), Found(), Found()
     for turn in range(turns):
         print(f"updates and scrapes, turn {turn + 1} of {turns}", flush=True)
         for name, words in programs.items():
             if name == OURS:
-                ours(words, rounds, updates, gathers)
+                ours(words, rounds, updates, gathers, lines)
             elif name != BARE:
                 peer(name, words, rounds, updates, gathers)
-    return updates, gathers
+    return updates, gathers, lines

@@ -53,7 +53,7 @@ def head(*cells):
     return [row(*cells), "|" + "---|" * len(cells)]
 
 
-def machine(load):
+def machine(load, is_quick):
     """What was measured, where and when."""
     lines = [
         "# One run of the comparison",
@@ -63,6 +63,8 @@ def machine(load):
         "",
         f"{datetime.date.today()}: {processor()}, {cores()} cores, {platform.system()} {platform.release()}; load {load:.1f} before the run.",
     ]
+    if is_quick:
+        lines += ["", "A quick run, with few rounds: these are no figures to tell."]
     if cores() < 4:
         lines += ["", f"With {cores()} cores, lines of four threads share them, and `wrk` takes one from what it asks: these are no figures to tell."]
     if load > 0.5:
@@ -138,9 +140,17 @@ def memory_lines(memory):
     return lines + [""]
 
 
-def page(load, torn, speeds, loads):
+def all_lines(lines):
+    """What our program has printed, line by line."""
+    told_lines = head("measurement", "of", "nanoseconds", "times its floor")
+    for name, of in dict.fromkeys((name, of) for name, of, _what in lines):
+        told_lines.append(row(f"`{name}`", of, told(lines[name, of, "ns"]), told(lines[name, of, "floors"])))
+    return ["## Each line of `bench`", "", "What they are is told in [MEASURING.md](../docs/MEASURING.md).", "", *told_lines]
+
+
+def page(load, torn, speeds, loads, is_quick):
     """The whole page."""
-    (updates, gathers), (rates, errors, memory, texts) = speeds, loads
-    lines = machine(load) + torn_lines(torn) + update_lines(updates) + gather_lines(gathers, texts)
-    lines += load_lines(rates, errors) + memory_lines(memory)
-    return "\n".join(lines).rstrip() + "\n"
+    (updates, gathers, lines), (rates, errors, memory, texts) = speeds, loads
+    parts = machine(load, is_quick) + torn_lines(torn) + update_lines(updates) + gather_lines(gathers, texts)
+    parts += load_lines(rates, errors) + memory_lines(memory) + all_lines(lines)
+    return "\n".join(parts).rstrip() + "\n"

@@ -56,6 +56,13 @@ class Torn:
     def share(self):
         return self.torn / max(self.scrapes, 1)
 
+    def add(self, other):
+        self.scrapes += other.scrapes
+        self.given_up += other.given_up
+        self.torn += other.torn
+        self.torn_histograms += other.torn_histograms
+        self.differences += other.differences
+
 
 def judge(texts, wanted, is_together):
     """Judges so many scrapes, from the first one on that was taken after the thread had begun to count."""
