@@ -79,7 +79,7 @@ def calls_that_take_memory(crate):
     """How many public calls of the libraries of a crate are handed the allocator, or can answer that there was no memory."""
     sources = [path.read_text() for it in libraries(crate) for path in (ROOT / "crates" / it / "src").rglob("*.rt")]
     faults = [name for text in sources for name in re.findall(r"\benum (\w+) \{[^}]*\bNoMemory\b", text)]
-    tells = re.compile(rf"\balloc: Global\b|->[^{{;]*\b({'|'.join(['NoMemory', 'NoRoom', 'AllocError', *faults])})\b", re.S)
+    tells = re.compile(rf"\balloc: Global\b|->[^{{;]*\b({'|'.join(['NoMemory', 'NoMemoryForSeat', 'AllocError', *faults])})\b", re.S)
     heads = [it for text in sources for it in re.findall(r"\bpub fn \w+.*?(?=\n\s*(?:requires|ensures|\{)|\{)", text, re.S)]
     return sum(bool(tells.search(it)) for it in heads)
 

@@ -5,7 +5,7 @@ use mathlib.Core.Option.{some, some-injective, some-ne-none}
 use lib.ListN.{get_elem?}
 use Rattle.ledger_core.specs.Ops.{width, sum_ops}
 use Rattle.ledger_core.specs.Row.{Accepts}
-use Rattle.register_rule.specs.declared.view.Entry.{Entry}
+use Rattle.register_rule.specs.declared.view.Answer.{Answer}
 use Rattle.register_rule.specs.declared.view.Made.{Made}
 use Rattle.register_rule.specs.declared.view.Member.{Member}
 use Rattle.register_rule.specs.declared.view.Scan.{Scan}
@@ -13,18 +13,18 @@ use Rattle.register_rule.specs.declared.view.Who.{Who}
 use Rattle.register_rule.specs.declared.view.Who.TheVariants.{Worker as is_worker, Reader as is_reader}
 use Rattle.register_rule.specs.Members.{first_of}
 use Rattle.register_rule.specs.Rule.{AreApart}
-use Rattle.register_rule.specs.Scans.{IsSound, IsEntry}
+use Rattle.register_rule.specs.Scans.{IsSound, IsOneMoment}
 use Rattle.register_rule.specs.Sums.{total}
 use Rattle.register_rule.specs.Told.{AreRuled}
 use Rattle.register_rule.proofs.Moments.{length_tab}
 use Rattle.snapshot_scan.specs.declared.reader.Reader.{Reader}
-use Rattle.snapshot_scan.specs.Lent.{Stands, AllStand, HasNumbers, behind}
+use Rattle.snapshot_scan.specs.Lent.{IsWorkerAmong, AllWorkersAmong, HasNumbers, behind}
 use Rattle.snapshot_scan.specs.Order.{IsAlone}
 use Rattle.snapshot_scan.specs.Readers.{members_with, scan_by}
 use Rattle.snapshot_scan.specs.Scanned.{IsAnswered}
 use Rattle.snapshot_scan.specs.Shape.{with_scan}
-use Rattle.snapshot_scan.specs.Snapshots.{Taken, entry_of}
-use Rattle.snapshot_scan.proofs.LastEntry.{at_end}
+use Rattle.snapshot_scan.specs.Snapshots.{Taken, as_answer}
+use Rattle.snapshot_scan.proofs.LastAnswer.{at_end}
 use Rattle.snapshot_scan.proofs.Words.{at_map}
 use Rattle.snapshot_scan.proofs.Publishing.{ops_of, whose_moments}
 use Rattle.snapshot_scan.proofs.Sourced.{has_member}
@@ -34,13 +34,13 @@ use Rattle.snapshot_update.specs.Workers.{index_of, member_of, lists_of, ops_in}
 use Rattle.snapshot_scan.proofs.Standing.{stands_scanned}
 use Rattle.snapshot_update.proofs.Lending.{one_picked, apart_at, lent_scanned}
 use Rattle.chain_law.specs.Lent.{AreLentFrom, IsLentFrom, AreDistinct, AreLent, IsBackFrom, AreBackFrom, HaveLeft}
-use Rattle.chain_law.specs.Settled.{HasIndex, IsSettled, AreSame, AreMomentsOf, made_of}
+use Rattle.chain_law.specs.Settled.{HasIndex, IsSettled, AreSame, AreMomentsOf, made_by}
 use Rattle.register_rule.proofs.Words.{there, at_below}
 use Rattle.chain_law.proofs.Sums.{sums, AreOnce, in_any_order}
 use Rattle.chain_law.proofs.Totals.{all_sum, rows_sum}
 
 -- of members that are apart one alone has each name
-same_member : (i : ℕ) (a b : Member) (ms : List Member) → AreApart ms → Stands i a ms → Stands i b ms → a ≡ b
+same_member : (i : ℕ) (a b : Member) (ms : List Member) → AreApart ms → IsWorkerAmong i a ms → IsWorkerAmong i b ms → a ≡ b
 same_member i a b ms apart s t = only (sym (one_picked i a ms apart s) ∙ one_picked i b ms apart t)
   where
     only : a ∷ [] ≡ b ∷ [] → a ≡ b
@@ -82,13 +82,13 @@ module _ {N C H G : ℕ} (place : ℕ) (vs ws us : List (Worker N C H G)) (r1 r2
   pair : (p : ℕ) (w : Worker N C H G) → get_elem? ws p ≡ some w → (v : Worker N C H G) × (get_elem? vs p ≡ some v) × IsLentFrom (place + p) v w r1
   pair p w now = let lt = at_below ws p w now in let v = get_or vs p w in let at = there vs p w (omega (arith, lt, long)) in (v, at, lent p v w (omega (arith, lt, long)) at now)
 
-  abbrev stands : (p : ℕ) (v w : Worker N C H G) → IsLentFrom (place + p) v w r1 → (m : Member) × Stands (index_of w) m (members_with r2)
+  abbrev stands : (p : ℕ) (v w : Worker N C H G) → IsLentFrom (place + p) v w r1 → (m : Member) × IsWorkerAmong (index_of w) m (members_with r2)
   stands p v w l = (l.member, stands_scanned (index_of w) r1.index (scan_by r2) l.member (members_with r1) (members_with r2) r1.is scans l.lent.there)
 
   pub still_lent : AreLent 0 ws r2
   still_lent p w _ now = let t = pair p w now in (t.2.member, lent_scanned w r1 r2 t.2.member t.2.lent (scan_by r2) scans)
 
-  pub all_stand : ((i : ℕ) → i < N → HasIndex vs i) → AllStand N (members_with r1)
+  pub all_stand : ((i : ℕ) → i < N → HasIndex vs i) → AllWorkersAmong N (members_with r1)
   all_stand all i lt = let (p, v, at, e) = all i lt in
       let w = get_or ws p v in let h = at_below vs p v at in let now = there ws p v (omega (arith, h, long)) in
       let l = lent p v w h at now in (l.member, (l.lent.there.0, l.lent.there.1, l.lent.there.2 ∙ ap is_worker (l.index ∙ e)))
@@ -115,7 +115,7 @@ module _ {N C H G : ℕ} (place : ℕ) (vs ws us : List (Worker N C H G)) (r1 r2
         lists = same_lists lists_of vs us (many ∙ long) (λ p v u at now. let t = three p v u at now in
             let is : member_of u ≡ t.2.0.member = same_member (index_of t.0) (member_of u) t.2.0.member (members_with r2) ruled.apart t.2.1.stood (stands p v t.0 t.2.0).1 in
             ap (λ (m : Member). map ops_in m.work.made) is ∙ ap (map ops_in) t.2.0.made);
-        made = same_lists made_of vs us (many ∙ long) (λ p v u at now. let t = three p v u at now in
+        made = same_lists made_by vs us (many ∙ long) (λ p v u at now. let t = three p v u at now in
             let is : member_of u ≡ t.2.0.member = same_member (index_of t.0) (member_of u) t.2.0.member (members_with r2) ruled.apart t.2.1.stood (stands p v t.0 t.2.0).1 in
             ap (λ (m : Member). m.work.made) is ∙ t.2.0.made);
       }
@@ -143,7 +143,7 @@ module _ {N C H G : ℕ} (place : ℕ) (vs ws us : List (Worker N C H G)) (r1 r2
                 let h = at_below vs p v its in let w = get_or ws p v in let now = there ws p v (omega (arith, h, long)) in
                 absurd (t.1 p w (omega (arith, h, long)) now ((lent p v w h its now).index ∙ same))
 
-    module _ (out : Taken) (answered : IsAnswered N (scan_by r1) (scan_by r2) (entry_of out)) (numbers : HasNumbers (members_with r1) out.vector) (all : (i : ℕ) → i < N → HasIndex vs i) where
+    module _ (out : Taken) (answered : IsAnswered N (scan_by r1) (scan_by r2) (as_answer out)) (numbers : HasNumbers (members_with r1) out.vector) (all : (i : ℕ) → i < N → HasIndex vs i) where
       -- the number of each of them
       number : (p : ℕ) (v : Worker N C H G) → get_elem? vs p ≡ some v → get_elem? out.vector (index_of v) ≡ some (length (member_of v).work.made)
       number p v at =
@@ -170,8 +170,8 @@ module _ {N C H G : ℕ} (place : ℕ) (vs ws us : List (Worker N C H G)) (r1 r2
       sound : IsSound N (width C H G) (sum_ops C H) ruled.made ruled.history (scan_by r2)
       sound = ruled.scans 0 (first_of (members_with r2)) (first_at (members_with r2) r2.leads)
 
-      entry : IsEntry N (width C H G) (sum_ops C H) ruled.made ruled.history (entry_of out)
-      entry = (sound.recorded (length (scan_by r1).recorded) (entry_of out) (ap (λ (l : List Entry). get_elem? l (length (scan_by r1).recorded)) answered.recorded ∙ at_end (scan_by r1).recorded (entry_of out))).0
+      entry : IsOneMoment N (width C H G) (sum_ops C H) ruled.made ruled.history (as_answer out)
+      entry = (sound.recorded (length (scan_by r1).recorded) (as_answer out) (ap (λ (l : List Answer). get_elem? l (length (scan_by r1).recorded)) answered.recorded ∙ at_end (scan_by r1).recorded (as_answer out))).0
 
       wide : length out.vector ≡ N
       wide = ap (λ (z : List ℕ). length z) entry.moment.2 ∙ length_tab 0 N _

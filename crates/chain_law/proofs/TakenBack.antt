@@ -8,7 +8,7 @@ use Rattle.register_rule.specs.declared.view.Member.{Member}
 use Rattle.register_rule.specs.declared.view.Who.TheVariants.{Worker as is_worker}
 use Rattle.register_rule.specs.Members.{without}
 use Rattle.snapshot_scan.specs.declared.reader.Reader.{Reader}
-use Rattle.snapshot_scan.specs.Lent.{Stands}
+use Rattle.snapshot_scan.specs.Lent.{IsWorkerAmong}
 use Rattle.snapshot_scan.specs.Readers.{members_with}
 use Rattle.snapshot_scan.proofs.Standing.{stood_before}
 use Rattle.snapshot_update.specs.declared.worker.Worker.{Worker}
@@ -23,14 +23,14 @@ module _ {N C H G : ℕ} (vs ws : List (Worker N C H G)) (k : ℕ) (x y : Worker
     (others : (p : ℕ) → k ≤ p → get_elem? ws p ≡ get_elem? vs p)
     (left : members_with r' ≡ without (is_worker (index_of x)) (members_with r)) where
   -- those behind it are lent still
-  pub lent_still : ((p : ℕ) (w : Worker N C H G) → k ≤ p → get_elem? ws p ≡ some w → (m : Member) × IsLentAs m w r × Stands (index_of w) m (members_with first))
-      → (p : ℕ) (w : Worker N C H G) → k + 1 ≤ p → get_elem? (set ws k y) p ≡ some w → (m : Member) × IsLentAs m w r' × Stands (index_of w) m (members_with first)
+  pub lent_still : ((p : ℕ) (w : Worker N C H G) → k ≤ p → get_elem? ws p ≡ some w → (m : Member) × IsLentAs m w r × IsWorkerAmong (index_of w) m (members_with first))
+      → (p : ℕ) (w : Worker N C H G) → k + 1 ≤ p → get_elem? (set ws k y) p ≡ some w → (m : Member) × IsLentAs m w r' × IsWorkerAmong (index_of w) m (members_with first)
   lent_still lent p w le now = ⊎_elim (λ h. absurd (let e = h.0 in omega (arith, le, e)))
       (λ h. let t = lent p w (omega (arith, le)) h.1 in
       (t.0, lent_left w r r' t.0 t.1 (index_of x) (λ e. distinct k p x w (omega (arith, le)) here (sym (others p (omega (arith, le))) ∙ h.1) (sym e)) left, t.2))
       (from_set ws k p y w now)
 
-  pub back_more : Stands (index_of x) (member_of y) (members_with first) → AreBackFrom k vs ws first → AreBackFrom (k + 1) vs (set ws k y) first
+  pub back_more : IsWorkerAmong (index_of x) (member_of y) (members_with first) → AreBackFrom k vs ws first → AreBackFrom (k + 1) vs (set ws k y) first
   back_more stood done p v w below its now = ⊎_elim
       (λ h. let same : x ≡ v = some-injective x v (sym here ∙ (ap (get_elem? vs) (sym h.0) ∙ its)) in
       subst (λ (u : Worker N C H G). IsBackFrom v u first) h.1 (subst (λ (u : Worker N C H G). IsBackFrom u y first) same (record { index = index; stood = stood })))

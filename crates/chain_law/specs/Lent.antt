@@ -4,7 +4,7 @@ use mathlib.Core.Option.{some}
 use lib.ListN.{get_elem?}
 use Rattle.register_rule.specs.declared.view.Member.{Member}
 use Rattle.snapshot_scan.specs.declared.reader.Reader.{Reader}
-use Rattle.snapshot_scan.specs.Lent.{Stands}
+use Rattle.snapshot_scan.specs.Lent.{IsWorkerAmong}
 use Rattle.snapshot_scan.specs.Readers.{members_with}
 use Rattle.snapshot_update.specs.declared.worker.Worker.{Worker}
 use Rattle.snapshot_update.specs.Workers.{index_of, member_of}
@@ -33,13 +33,13 @@ module _ {N C H G : ℕ} where
 
   -- who stands behind the reader stood there before, and is none of the first k of them
   abbrev pub HaveLeft : (k : ℕ) → List (Worker N C H G) → (old new : Reader N C H G) → Type 0
-  HaveLeft k ws old new = (i : ℕ) (m : Member) → Stands i m (members_with new)
-      → Stands i m (members_with old) × ((p : ℕ) (w : Worker N C H G) → p < k → get_elem? ws p ≡ some w → index_of w ≢ i)
+  HaveLeft k ws old new = (i : ℕ) (m : Member) → IsWorkerAmong i m (members_with new)
+      → IsWorkerAmong i m (members_with old) × ((p : ℕ) (w : Worker N C H G) → p < k → get_elem? ws p ≡ some w → index_of w ≢ i)
 
   -- worker v was lent to the reader and is now w, as whom it stood there
   pub record IsBackFrom (v w : Worker N C H G) (r : Reader N C H G) : Type 0 where
     pub index : index_of w ≡ index_of v
-    pub stood : Stands (index_of v) (member_of w) (members_with r)
+    pub stood : IsWorkerAmong (index_of v) (member_of w) (members_with r)
 
   -- the first k of them are back
   abbrev pub AreBackFrom : (k : ℕ) (vs ws : List (Worker N C H G)) → Reader N C H G → Type 0

@@ -3,7 +3,7 @@ use Rattle.std.specs.Prelude.{◌≡◌, ℕ, ◌<◌, List, [], length, map}
 use mathlib.Core.Option.{some}
 use lib.ListN.{get_elem?}
 use Rattle.ledger_core.specs.Ops.{width, sum_ops}
-use Rattle.register_rule.specs.declared.view.Entry.{Entry}
+use Rattle.register_rule.specs.declared.view.Answer.{Answer}
 use Rattle.register_rule.specs.declared.view.Made.{Made}
 use Rattle.snapshot_scan.specs.Moments.{Publish, AreAccepted, AreAlong, lists_by}
 use Rattle.snapshot_scan.specs.Snapshots.{Taken}
@@ -28,22 +28,22 @@ module _ {N C H G : ℕ} where
     pub least : (j : ℕ) → j < i → HasIndex ws j
 
   -- what a worker has published, each list with what its version lends
-  abbrev pub made_of : Worker N C H G → List Made
-  made_of w = (member_of w).work.made
+  abbrev pub made_by : Worker N C H G → List Made
+  made_by w = (member_of w).work.made
 
   -- they are the workers that they were, and each has published what it had, and lends what it lent
   pub record AreSame (old new : List (Worker N C H G)) : Type 0 where
     pub index : map index_of new ≡ map index_of old
     pub lists : map lists_of new ≡ map lists_of old
-    pub made : map made_of new ≡ map made_of old
+    pub made : map made_by new ≡ map made_by old
 
   -- a history along which these answers stand, and in which each of the workers published exactly its lists
-  pub record HaveHistoryOf (ws : List (Worker N C H G)) (answers : List Entry) : Type 0 where
+  pub record HaveHistoryOf (ws : List (Worker N C H G)) (answers : List Answer) : Type 0 where
     pub history : List Publish
     pub accepted : AreAccepted N C H G [] history
     pub along : AreAlong N C H G history 0 answers
     pub lists : (p : ℕ) (w : Worker N C H G) → get_elem? ws p ≡ some w → lists_by (index_of w) history ≡ lists_of w
 
   -- the answers are moments of the one history of what these workers published, in order
-  abbrev pub AreMomentsOf : List (Worker N C H G) → List Entry → Type 0
+  abbrev pub AreMomentsOf : List (Worker N C H G) → List Answer → Type 0
   AreMomentsOf ws answers = ∥ HaveHistoryOf ws answers ∥₁

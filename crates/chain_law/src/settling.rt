@@ -1,10 +1,10 @@
 //! Exact totals.
 ghost use Rattle.std.specs.Prelude.{◌≡◌, ℕ, ◌<◌, [], ◌∷◌, ◌++◌, All, IfErr, OnOk, OnErr};
-ghost use Rattle.register_rule.specs.declared.view.Entry.{Entry};
+ghost use Rattle.register_rule.specs.declared.view.Answer.{Answer};
 ghost use Rattle.snapshot_scan.specs.Lent.{SeesMore};
 ghost use Rattle.snapshot_scan.specs.Order.{HasRecorded, IsAlone};
 ghost use Rattle.snapshot_scan.specs.Readers.{scan_by, index_of as reader_index, IsReaderOf};
-ghost use Rattle.snapshot_scan.specs.Snapshots.{entry_of};
+ghost use Rattle.snapshot_scan.specs.Snapshots.{as_answer};
 ghost use Rattle.snapshot_update.specs.Workers.{IsWorkerOf};
 ghost use Rattle.chain_law.specs.Settled.{HasIndex, IsSettled, IsMissing, AreSame, AreMomentsOf};
 
@@ -34,9 +34,9 @@ pub fn settle<const N: usize, const C: usize, const H: usize, const G: usize>(
     ensures own { IsReaderOf board.now reader.new × All (IsWorkerOf board.now) workers.new }
     ensures index { reader_index reader.new ≡ reader_index reader.old }
     ensures same { AreSame workers.old workers.new }
-    ensures recorded { OnOk result ((scan_by reader.new).recorded ≡ (scan_by reader.old).recorded ++ entry_of out.new ∷ []) }
-    ensures found { OnOk result (HasRecorded reader.new (entry_of out.new)) }
-    ensures still { (a : Entry) → HasRecorded reader.old a → HasRecorded reader.new a }
+    ensures recorded { OnOk result ((scan_by reader.new).recorded ≡ (scan_by reader.old).recorded ++ as_answer out.new ∷ []) }
+    ensures found { OnOk result (HasRecorded reader.new (as_answer out.new)) }
+    ensures still { (a : Answer) → HasRecorded reader.old a → HasRecorded reader.new a }
     ensures quit { (scan_by reader.new).quit ≡ (scan_by reader.old).quit }
     ensures seen { OnOk result (SeesMore out.new.vector (scan_by reader.new).seen) }
     ensures settled { OnOk result (IsSettled workers.old out.new) }

@@ -1,6 +1,6 @@
 //! Turns of workers, and why a list of snapshots has no history.
 ghost use Rattle.std.specs.Prelude.{◌≡◌};
-ghost use Rattle.chain_law.specs.Numbers.{chain_number};
+ghost use Rattle.chain_law.specs.Numbers.{chain_fault_number};
 
 use std::alloc::AllocError;
 use thiserror::Error;
@@ -41,7 +41,7 @@ impl From<AllocError> for ChainFault {
 impl ChainFault {
     /// The refusal's number.
     pub fn number(&self) -> u8
-        ensures { result ≡ chain_number self.now }
+        ensures { result ≡ chain_fault_number self.now }
     {
         match self {
             ChainFault::NotChain { .. } => 17,

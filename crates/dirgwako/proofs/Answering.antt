@@ -2,7 +2,7 @@
 use Rattle.std.proofs.Common.{◌≡◌, ℕ, ◌+◌, zero, suc, Bool, true, false, ◌⊎◌, inl, inr, List, [], ◌++◌, Option, Some, None, Result, Ok, Err, refl, sym, subst, ap}
 use Rattle.std.specs.Prelude.{◌==◌, nat_lt, ◌||◌, ◌&&◌, not, codes, bytes_eq, if◌then◌else◌}
 use Rattle.expo_text.specs.Scraped.{Scraped}
-use Rattle.scrape_http.specs.Asks.{Asks, Refuses}
+use Rattle.scrape_http.specs.Asks.{Asks, MayBeRefusedBy}
 use Rattle.scrape_http.specs.Head.{is_get_or_head, refusal_by, hosts}
 use Rattle.scrape_http.specs.Target.{path_of}
 use Rattle.scrape_http.specs.Reply.{Outcome, Reply, IsReply, Replies, refused, scraped}
@@ -13,7 +13,7 @@ use Rattle.scrape_http.specs.declared.serve.Served.{Served}
 use Rattle.scrape_http.specs.declared.source.NoScrape.{NoScrape}
 use Rattle.scrape_http.specs.declared.status.Status.{Status}
 use Rattle.scrape_http.specs.declared.status.Status.TheVariants.{Success, BadRequest, NotFound, MethodNotAllowed, TooLarge, Unavailable}
-use Rattle.dirgwako.specs.Answering.{AnswersBy, AreAnswered, Shows, ShowsNone}
+use Rattle.dirgwako.specs.Answering.{AnswersBy, AreAnswered, GaveScrape, GaveNone}
 use Rattle.scrape_server.specs.Again.{AsksAgain}
 
 -- a status by which a request is refused
@@ -31,7 +31,7 @@ by_three false false false = tt
 head_refusal : (hosts minor : ℕ) (target method : List ℕ) → IsRefusal (refusal_by hosts minor target method)
 head_refusal hosts minor target method = by_three (nat_lt 1 hosts || (minor == 1 && hosts == 0)) (not (bytes_eq (path_of target) (codes "/metrics"))) (not (is_get_or_head method))
 
-refusal : (bytes : List ℕ) (ended : Bool) (status : Option Status) → Refuses bytes ended status → IsRefusal status
+refusal : (bytes : List ℕ) (ended : Bool) (status : Option Status) → MayBeRefusedBy bytes ended status → IsRefusal status
 refusal bytes ended None is = tt
 refusal bytes ended (Some Success) is = absurd is
 refusal bytes ended (Some BadRequest) is = tt
@@ -86,7 +86,7 @@ module _ {P S : Type 0} (source : P → S) (gave : S → S → Outcome → Type 
       by_reply before after (is.bytes ++ []) ended is.outcome is.reply output output_then served (is.is_reply [] (λ _. refl)) is.answers is.sends
 
   by_asking : (before after : P) (outcome : Option Outcome) → Outcomes Again before after outcome
-      → (source after ≡ source before) ⊎ (Shows gave (source before) (source after) ⊎ ShowsNone gave (source before) (source after))
+      → (source after ≡ source before) ⊎ (GaveScrape gave (source before) (source after) ⊎ GaveNone gave (source before) (source after))
   by_asking before after None same = inl (ap source same)
   by_asking before after (Some (Ok scrape)) given = inr (inl (scrape, given))
   by_asking before after (Some (Err why)) given = inr (inr (why, given))
@@ -95,7 +95,7 @@ module _ {P S : Type 0} (source : P → S) (gave : S → S → Outcome → Type 
   pub not_served : (before after : P) (input input_then output output_then : Known) (ended failed : Bool) (latest : ℕ) (fault : WireFault) → failed ≡ is_read_failed {A = Served} (Err fault)
       → (failed ≡ false → IsServed Again before after input input_then output output_then ended latest (Err fault))
       → (failed ≡ true → IsUnserved before after output output_then)
-      → (source after ≡ source before) ⊎ (Shows gave (source before) (source after) ⊎ ShowsNone gave (source before) (source after))
+      → (source after ≡ source before) ⊎ (GaveScrape gave (source before) (source after) ⊎ GaveNone gave (source before) (source after))
   not_served before after input input_then output output_then ended failed latest ReadFailed is served none = inl (ap source (none is).same)
   not_served before after input input_then output output_then ended failed latest (WriteFailed sent) is served none = by_asking before after (served is).outcome (served is).answers
   not_served before after input input_then output output_then ended failed latest EndBeforeHead is served none = by_asking before after (served is).outcome (served is).answers

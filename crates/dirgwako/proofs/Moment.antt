@@ -2,11 +2,11 @@
 use Rattle.std.proofs.Common.{◌≡◌, ℕ, List, Ok, sym, ap, subst}
 use Rattle.expo_text.specs.Scraped.{Scraped}
 use Rattle.expo_text.specs.Text.{text}
-use Rattle.scrape_server.specs.Scrapes.{Scrapes, Shows}
+use Rattle.scrape_server.specs.Scrapes.{Scrapes, ShowsScrape}
 use Rattle.snapshot_scan.specs.Scanners.{recorded_in}
 use Rattle.snapshot_scan.specs.declared.contended.Contended.{Contended}
 use Rattle.snapshot_scan.specs.declared.scanner.Scanner.{Scanner}
-use Rattle.register_rule.specs.declared.view.Entry.{Entry as Answer}
+use Rattle.register_rule.specs.declared.view.Answer.{Answer}
 use Rattle.registry_state.specs.Kept.{IsKept, Registry}
 use Rattle.registry_state.specs.Replay.{State}
 use Rattle.registry_state.specs.Shown.{IsShown}
@@ -16,7 +16,7 @@ use Rattle.scrape_server.proofs.Askings.{at_end}
 
 -- the text of what a registry has just kept
 module _ {N C H G : ℕ} (quit : Scanner N C H G → ℕ) (gave : Scanner N C H G → Scanner N C H G → Answer → Type 0) (gave_up : Scanner N C H G → Scanner N C H G → Contended → Type 0) where
-  pub last_text_of : (old new : Registry (Scanner N C H G)) (scrape : Scraped) (bytes : List ℕ) → Shows N C H G recorded_in quit gave gave_up old new scrape
+  pub last_text_of : (old new : Registry (Scanner N C H G)) (scrape : Scraped) (bytes : List ℕ) → ShowsScrape N C H G recorded_in quit gave gave_up old new scrape
       → IsKept N C H G (recorded_in new.source) new.journal new.window new.state → bytes ≡ text scrape → IsLastText bytes new
   last_text_of old new scrape bytes shows kept is = record {
     kept = kept;

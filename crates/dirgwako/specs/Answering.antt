@@ -9,23 +9,23 @@ use Rattle.scrape_server.specs.Again.{AsksAgain}
 
 module _ {S : Type 0} (gave : S → S → Result Scraped NoScrape → Type 0) (before after : S) where
   -- the source was asked once, and again where a scan was given up, and answered by a scrape
-  abbrev pub Shows : Type 0
-  Shows = (scrape : Scraped) × AsksAgain gave 3 before after (Ok scrape)
+  abbrev pub GaveScrape : Type 0
+  GaveScrape = (scrape : Scraped) × AsksAgain gave 3 before after (Ok scrape)
 
   -- or it told why it has none
-  abbrev pub ShowsNone : Type 0
-  ShowsNone = (why : NoScrape) × AsksAgain gave 3 before after (Err why)
+  abbrev pub GaveNone : Type 0
+  GaveNone = (why : NoScrape) × AsksAgain gave 3 before after (Err why)
 
   -- a reply of this status: 200 of a scrape, 503 where there is none, and every other without asking
   abbrev pub AnswersBy : Status → Type 0
-  AnswersBy Success = Shows
-  AnswersBy Unavailable = ShowsNone
+  AnswersBy Success = GaveScrape
+  AnswersBy Unavailable = GaveNone
   AnswersBy _ = after ≡ before
 
   -- a reply; or none, before or after the source was asked
   abbrev pub Answers : Option Served → Type 0
   Answers (Some served) = AnswersBy served.status
-  Answers None = (after ≡ before) ⊎ (Shows ⊎ ShowsNone)
+  Answers None = (after ≡ before) ⊎ (GaveScrape ⊎ GaveNone)
 
 module _ {S : Type 0} (answered : S → S → Option Served → Type 0) where
   -- so many connections were met, one after the other, and so many of them replied to

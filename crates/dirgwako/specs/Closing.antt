@@ -2,7 +2,7 @@
 use Rattle.std.specs.Prelude.{◌≡◌, ℕ, List, Some}
 use Rattle.expo_text.specs.Scraped.{Scraped}
 use Rattle.expo_text.specs.Text.{text}
-use Rattle.register_rule.specs.declared.view.Entry.{Entry as Answer}
+use Rattle.register_rule.specs.declared.view.Answer.{Answer}
 use Rattle.snapshot_scan.specs.Scanners.{recorded_in}
 use Rattle.snapshot_scan.specs.declared.scanner.Scanner.{Scanner}
 use Rattle.registry_state.specs.Kept.{IsKept, Registry}

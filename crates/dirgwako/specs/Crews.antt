@@ -4,7 +4,7 @@ use Rattle.std.specs.declared.alloc.Global.{Global}
 use Rattle.register_rule.specs.declared.board.Board.{Board}
 use Rattle.metric_registry.specs.declared.naming.Named.{Ghosts}
 use Rattle.metric_registry.specs.declared.registry.RegistryOf.{RegistryOf}
-use Rattle.registry_state.specs.Faults.{IsNewFault, new_number}
+use Rattle.registry_state.specs.Faults.{IsNewFault, new_fault_number}
 use Rattle.snapshot_scan.specs.declared.reader.Reader.{Reader}
 use Rattle.snapshot_scan.specs.declared.scanner.Scanner.{Scanner}
 use Rattle.snapshot_update.specs.declared.worker.Worker.{Worker}
@@ -40,6 +40,6 @@ module _ {N C H G : ℕ} where
   IsOpenFault c window (Registry fault) = (readers_of c ≢ []) × IsNewFault window fault
 
 -- the number of each fault
-abbrev pub open_number : OpenFault → ℕ
-open_number Opened = 32
-open_number (Registry fault) = new_number fault
+abbrev pub open_fault_number : OpenFault → ℕ
+open_fault_number Opened = 32
+open_fault_number (Registry fault) = new_fault_number fault

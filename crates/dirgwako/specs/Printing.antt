@@ -11,14 +11,14 @@ use Rattle.dirgwako.specs.declared.printing.PrintFault.{PrintFault}
 use Rattle.dirgwako.specs.declared.printing.PrintFault.TheVariants.{Text, Output}
 
 -- the number of each fault
-abbrev pub text_number : TextFault → ℕ
-text_number NoMemory = 6
-text_number Contended = 14
+abbrev pub text_fault_number : TextFault → ℕ
+text_fault_number NoMemory = 6
+text_fault_number Contended = 14
 
 -- the number of each fault of printing; where the output fails there is none
-abbrev pub print_number : PrintFault → Option ℕ
-print_number (Text fault) = Some (text_number fault)
-print_number Output = None
+abbrev pub print_fault_number : PrintFault → Option ℕ
+print_fault_number (Text fault) = Some (text_fault_number fault)
+print_fault_number Output = None
 
 module _ {S : Type 0} (gave : S → S → Result Scraped NoScrape → Type 0) (before after : S) where
   -- these bytes are the text of the scrape that the source gave

@@ -15,22 +15,22 @@ use Rattle.dirgwako.specs.declared.fault.MetricRefusal.{MetricRefusal}
 use Rattle.dirgwako.specs.declared.fault.MetricRefusal.TheVariants as metric
 
 -- the number of each refusal of a family
-abbrev pub family_number : FamilyRefusal → ℕ
-family_number (family.Name fault) = name.number_of fault
-family_number (family.Help fault) = help.number_of fault
-family_number (family.Label _ fault) = label.number_of fault
-family_number (family.Labels fault) = labels.number_of fault
-family_number (family.Histogram fault) = histogram.number_of fault
-family_number (family.Register fault) = state.register_number fault
+abbrev pub family_refusal_number : FamilyRefusal → ℕ
+family_refusal_number (family.Name fault) = name.number_of fault
+family_refusal_number (family.Help fault) = help.number_of fault
+family_refusal_number (family.Label _ fault) = label.number_of fault
+family_refusal_number (family.Labels fault) = labels.number_of fault
+family_refusal_number (family.Histogram fault) = histogram.number_of fault
+family_refusal_number (family.Register fault) = state.register_fault_number fault
 
 -- the number of each refusal of a child
-abbrev pub child_number : ChildRefusal → ℕ
-child_number child.OtherRegistry = 20
-child_number (child.Value _ fault) = value.number_of fault
-child_number (child.Child fault) = state.child_number fault
-child_number child.OtherKind = 28
+abbrev pub child_refusal_number : ChildRefusal → ℕ
+child_refusal_number child.OtherRegistry = 20
+child_refusal_number (child.Value _ fault) = value.number_of fault
+child_refusal_number (child.Child fault) = state.child_fault_number fault
+child_refusal_number child.OtherKind = 28
 
 -- the number of each refusal of a metric: that of its family, or of its one child
-abbrev pub metric_number : MetricRefusal → ℕ
-metric_number (metric.Family fault) = family_number fault
-metric_number (metric.Child _ fault) = child_number fault
+abbrev pub metric_refusal_number : MetricRefusal → ℕ
+metric_refusal_number (metric.Family fault) = family_refusal_number fault
+metric_refusal_number (metric.Child _ fault) = child_refusal_number fault

@@ -1,7 +1,7 @@
 //! A board and all who work on it.
 ghost use Rattle.std.specs.Prelude.{◌≡◌, [], ◌∷◌, ◌++◌, map, length, replicate, IfOk, IfErr, OnOk, OnErr, All};
 ghost use Rattle.std.specs.List.{range_with_len};
-ghost use Rattle.register_rule.specs.Faults.{IsBoard, IsBoardFault};
+ghost use Rattle.register_rule.specs.Faults.{IsBoardSize, IsBoardFault};
 ghost use Rattle.register_rule.specs.Seats.{board_id};
 ghost use Rattle.metric_registry.specs.Names.{id_of};
 ghost use Rattle.registry_state.specs.Faults.{IsWindow};
@@ -56,7 +56,7 @@ impl<const N: usize, const C: usize, const H: usize, const G: usize> Crew<N, C, 
     /// [`BoardFault::NoMemory`].
     pub fn new(alloc: Global, id: u64, readers: usize) -> Result<Crew<N, C, H, G>, BoardFault>
         ensures id { IfOk result (λ c. board_id (board_of c) ≡ id) }
-        ensures geometry { IfOk result (λ _. IsBoard N C H G readers) }
+        ensures geometry { IfOk result (λ _. IsBoardSize N C H G readers) }
         ensures all { IfOk result (λ c. map index_of (workers_of c) ≡ range_with_len 0 N) }
         ensures new { IfOk result (λ c. map lists_of (workers_of c) ≡ replicate N []) }
         ensures alone { IfOk result (λ c. All IsAlone (readers_of c)) }

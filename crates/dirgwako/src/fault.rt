@@ -1,6 +1,6 @@
 //! Why metrics are refused that are registered by plain texts.
 ghost use Rattle.std.specs.Prelude.{◌≡◌};
-ghost use Rattle.dirgwako.specs.Refused.{family_number, child_number, metric_number};
+ghost use Rattle.dirgwako.specs.Refused.{family_refusal_number, child_refusal_number, metric_refusal_number};
 
 use metric_desc::{HistogramFault, LabelsFault};
 use metric_names::{HelpTextFault, LabelNameFault, LabelValueFault, MetricNameFault};
@@ -33,7 +33,7 @@ pub enum FamilyRefusal {
 impl FamilyRefusal {
     /// The refusal's number.
     pub fn number(&self) -> u8
-        ensures { result ≡ family_number self.now }
+        ensures { result ≡ family_refusal_number self.now }
     {
         match self {
             FamilyRefusal::Name(fault) => fault.number(),
@@ -68,7 +68,7 @@ pub enum ChildRefusal {
 impl ChildRefusal {
     /// The refusal's number.
     pub fn number(&self) -> u8
-        ensures { result ≡ child_number self.now }
+        ensures { result ≡ child_refusal_number self.now }
     {
         match self {
             ChildRefusal::OtherRegistry => 20,
@@ -96,7 +96,7 @@ pub enum MetricRefusal {
 impl MetricRefusal {
     /// The refusal's number.
     pub fn number(&self) -> u8
-        ensures { result ≡ metric_number self.now }
+        ensures { result ≡ metric_refusal_number self.now }
     {
         match self {
             MetricRefusal::Family(fault) => fault.number(),

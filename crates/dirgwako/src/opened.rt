@@ -16,11 +16,11 @@ pub enum OpenFault {
 }
 
 impl OpenFault {
-    ghost use Rattle.dirgwako.specs.Crews.{open_number};
+    ghost use Rattle.dirgwako.specs.Crews.{open_fault_number};
 
     /// The refusal's number.
     pub fn number(&self) -> u8
-        ensures { result ≡ open_number self.now }
+        ensures { result ≡ open_fault_number self.now }
     {
         match self {
             OpenFault::Opened => 32,

@@ -3,7 +3,7 @@ ghost use Rattle.std.specs.Prelude.{◌≡◌, ◌⊎◌, IfErr, IfOk, Ok, Err};
 ghost use Rattle.expo_text.specs.Scraped.{Scraped};
 ghost use Rattle.scrape_http.specs.declared.source.NoScrape.TheVariants as none;
 ghost use Rattle.scrape_server.specs.Again.{AsksAgain};
-ghost use Rattle.dirgwako.specs.Printing.{IsText, IsTextFault, text_number, print_number};
+ghost use Rattle.dirgwako.specs.Printing.{IsText, IsTextFault, text_fault_number, print_fault_number};
 
 use expo_text::render;
 use metric_registry::Registry;
@@ -26,7 +26,7 @@ pub enum TextFault {
 impl TextFault {
     /// The refusal's number.
     pub fn number(&self) -> u8
-        ensures { result ≡ text_number self.now }
+        ensures { result ≡ text_fault_number self.now }
     {
         match self {
             TextFault::NoMemory => 6,
@@ -49,7 +49,7 @@ pub enum PrintFault {
 impl PrintFault {
     /// The refusal's number; of standard output's failure there is none.
     pub fn number(&self) -> Option<u8>
-        ensures { result ≡ print_number self.now }
+        ensures { result ≡ print_fault_number self.now }
     {
         match self {
             PrintFault::Text(fault) => Some(fault.number()),

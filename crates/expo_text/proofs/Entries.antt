@@ -10,7 +10,7 @@ use Rattle.metric_names.specs.Escapes.{help_byte, label_byte}
 use Rattle.metric_desc.specs.declared.kind.Kind.TheVariants.{Gauge}
 use Rattle.expo_text.specs.Samples.{Sample}
 use Rattle.expo_text.specs.Groups.{Group}
-use Rattle.expo_text.specs.Lines.{Written, Entry, Help, Typed, Sampled}
+use Rattle.expo_text.specs.Lines.{Written, LineEntry, Help, Typed, Sampled}
 use Rattle.expo_text.specs.Parts.{Part}
 use Rattle.expo_text.specs.Reads.{word_of}
 
@@ -22,18 +22,18 @@ abbrev pub written_of : Sample → Written
 written_of sample = record { name = sample.name; labels = map written_label sample.labels; value = signed_decimal sample.value }
 
 -- the entries of a group's lines
-abbrev pub help_entries : (name help : List ℕ) → List Entry
+abbrev pub help_entries : (name help : List ℕ) → List LineEntry
 help_entries name [] = []
 help_entries name (byte ∷ bytes) = Help name (flat_map help_byte (byte ∷ bytes)) ∷ []
 
-abbrev pub sampled : Sample → Entry
+abbrev pub sampled : Sample → LineEntry
 sampled sample = Sampled (written_of sample)
 
-abbrev pub group_entries : Group → List Entry
+abbrev pub group_entries : Group → List LineEntry
 group_entries group =
     help_entries group.name group.help ++ (Typed group.name (word_of group.kind) ∷ map sampled group.samples)
 
-abbrev pub entries_of : List Group → List Entry
+abbrev pub entries_of : List Group → List LineEntry
 entries_of groups = flat_map group_entries groups
 
 -- the part that these entries make

@@ -4,7 +4,7 @@ use Rattle.std.specs.List.{join_by}
 use Rattle.std.proofs.lemmas.Bool.{not_from_false, and_from}
 use Rattle.metric_names.specs.HelpText.{is_blank}
 use Rattle.expo_text.specs.Text.{label_text, labels_text}
-use Rattle.expo_text.specs.Lines.{same, Help, Typed, Sampled, Malformed}
+use Rattle.expo_text.specs.Lines.{is_same_text, Help, Typed, Sampled, Malformed}
 use Rattle.expo_text.specs.Walked.{skip, in_token, first, after, value_entry, in_name, after_name, type_entry, entry_from, entry_of}
 use Rattle.expo_text.proofs.Entries.{written_label}
 use Rattle.expo_text.proofs.Tokens.{Each, Stops, each_weaker, take_while_all, drop_while_all, other_byte}
@@ -79,8 +79,8 @@ type_tokens : (name word : List ℕ) → Each in_token name → Each in_token wo
     → type_entry (name ++ (32 ∷ word)) ≡ Typed name word
 type_tokens name word h k stops =
     let all = name ++ (32 ∷ word) in
-    ap (λ rest. if same (after rest) [] then Typed (first all) (first rest) else Malformed) (after_token name word h stops)
-    ∙ ap (λ end. if same end [] then Typed (first all) (first word) else Malformed) (after_only word k)
+    ap (λ rest. if is_same_text (after rest) [] then Typed (first all) (first rest) else Malformed) (after_token name word h stops)
+    ∙ ap (λ end. if is_same_text end [] then Typed (first all) (first word) else Malformed) (after_only word k)
     ∙ ap₂ Typed (first_token name word h) (only_token word k)
 
 -- a type line
@@ -94,7 +94,7 @@ type_read name word named k stops =
 value_read : (name token : List ℕ) (labels : List (List ℕ × List ℕ)) → Each in_token token
     → value_entry name labels token ≡ Sampled (record { name = name; labels = labels; value = token })
 value_read name token labels h =
-    ap (λ end. if same end [] then Sampled (record { name = name; labels = labels; value = first token }) else Malformed) (after_only token h)
+    ap (λ end. if is_same_text end [] then Sampled (record { name = name; labels = labels; value = first token }) else Malformed) (after_only token h)
     ∙ ap (λ value. Sampled (record { name = name; labels = labels; value = value })) (only_token token h)
 
 -- a line that begins with a name is that of a sample

@@ -5,7 +5,7 @@ use Rattle.std.specs.Cmp.Lexicographic.{same_text}
 use Rattle.std.proofs.lemmas.Bool.{cases_Bool, both_ways, not_from_true, not_from_false, and_from, and_parts, ne_eqb}
 use Rattle.std.proofs.lemmas.List.Elements.{All-head, All-cons, All-nil}
 use Rattle.metric_names.specs.HelpText.{is_blank}
-use Rattle.expo_text.specs.Lines.{same, Entry, Nothing, Help, Typed, Sampled, Malformed, AreBlanks, IsFirst, IsOnly, IsSampleWord, IsHash, IsLine}
+use Rattle.expo_text.specs.Lines.{is_same_text, LineEntry, Nothing, Help, Typed, Sampled, Malformed, AreBlanks, IsFirst, IsOnly, IsSampleWord, IsHash, IsLine}
 use Rattle.expo_text.specs.Walked.{drop_while, skip, in_token, first, after, BeforeName, value_entry, labels_entry, in_name, after_name, sample_entry, type_entry, hash_entry, entry_from, entry_of}
 use Rattle.expo_text.proofs.Tokens.{Each, Stops, each_weaker, take_while_all, drop_while_all}
 use Rattle.expo_text.proofs.LabelsFound.{labels_found}
@@ -13,7 +13,7 @@ use Rattle.expo_text.proofs.Tokened.{other_text, token_byte, cut, skip_blanks, B
 use Rattle.expo_text.proofs.LinesWalked.{line_walked}
 
 -- two texts that are the same
-equal_text : (a b : List ℕ) → same a b ≡ true → a ≡ b
+equal_text : (a b : List ℕ) → is_same_text a b ≡ true → a ≡ b
 equal_text a b e = same_text a b (sym e)
 
 -- a line that a walk takes for a help
@@ -67,7 +67,7 @@ comment_found line text hash no_help no_type =
 -- the two tokens of a type
 type_end : (line text : List ℕ) → IsHash line text → first (skip text) ≡ codes "TYPE" → type_entry (after (skip text)) ≢ Malformed → IsLine line (type_entry (after (skip text)))
 type_end line text hash word formed =
-    elim (cases_Bool (same (after (after (after (skip text)))) [])) [
+    elim (cases_Bool (is_same_text (after (after (after (skip text)))) [])) [
       | inl none ↦ rw none (type_found line text hash word (equal_text (after (after (after (skip text)))) [] none))
       | inr some ↦ absurd (formed (rw some refl))
     ]
@@ -75,9 +75,9 @@ type_end line text hash word formed =
 -- a line with a hash
 hash_found : (line text : List ℕ) → IsHash line text → hash_entry (skip text) ≢ Malformed → IsLine line (hash_entry (skip text))
 hash_found line text hash formed =
-    elim (cases_Bool (same (first (skip text)) (codes "HELP"))) [
+    elim (cases_Bool (is_same_text (first (skip text)) (codes "HELP"))) [
       | inl help ↦ rw help (help_found line text hash (equal_text (first (skip text)) (codes "HELP") help))
-      | inr no_help ↦ elim (cases_Bool (same (first (skip text)) (codes "TYPE"))) [
+      | inr no_help ↦ elim (cases_Bool (is_same_text (first (skip text)) (codes "TYPE"))) [
         | inl type ↦ rw (no_help, type) (type_end line text hash (equal_text (first (skip text)) (codes "TYPE") type) (rw (no_help, type) at formed))
         | inr no_type ↦ rw (no_help, no_type) (comment_found line text hash (other_text (first (skip text)) (codes "HELP") no_help) (other_text (first (skip text)) (codes "TYPE") no_type))
       ]
@@ -90,7 +90,7 @@ record FoundValue (name : List ℕ) (labels : List (List ℕ × List ℕ)) (text
 
 value_found : (name : List ℕ) (labels : List (List ℕ × List ℕ)) (text : List ℕ) → value_entry name labels (skip text) ≢ Malformed → FoundValue name labels text
 value_found name labels text formed =
-    elim (cases_Bool (same (after (skip text)) [])) [
+    elim (cases_Bool (is_same_text (after (skip text)) [])) [
       | inl none ↦ record { only = only_found text (equal_text (after (skip text)) [] none); is = rw none refl }
       | inr some ↦ absurd (formed (rw some refl))
     ]
@@ -265,7 +265,7 @@ pub line_found : (line : List ℕ) → entry_of line ≢ Malformed → IsLine li
 line_found line formed = let all = blanks line in rest_found line (skip line) refl all all.stops formed
 
 -- a line is an entry exactly where a walk over it finds that entry
-pub line_is : (line : List ℕ) (entry : Entry) → entry ≢ Malformed → IsLine line entry ↔ (entry_of line ≡ entry)
+pub line_is : (line : List ℕ) (entry : LineEntry) → entry ≢ Malformed → IsLine line entry ↔ (entry_of line ≡ entry)
 line_is line entry formed = (
   λ is. line_walked line entry is,
   λ e. subst (IsLine line) e (line_found line (λ m. formed (sym e ∙ m))),

@@ -16,7 +16,7 @@ use Rattle.expo_text.specs.Scraped.{Child, Family, Scraped}
 use Rattle.expo_text.specs.Samples.{Sample, samples_of_family}
 use Rattle.expo_text.specs.Groups.{Group, groups_of, group_of_family, group_of_children}
 use Rattle.expo_text.specs.Text.{text, labels_text, sample_line, help_line, kind_text, type_line, group_of, group_text}
-use Rattle.expo_text.specs.Lines.{AreLines, Entry, Typed, Malformed}
+use Rattle.expo_text.specs.Lines.{AreLines, LineEntry, Typed, Malformed}
 use Rattle.expo_text.specs.Walked.{in_token, entry_of}
 use Rattle.expo_text.specs.Reads.{Match, word_of}
 use Rattle.expo_text.proofs.Entries.{IsPrintedSample, IsPrintedGroup, sampled, help_entries, group_entries, entries_of}
@@ -27,7 +27,7 @@ use Rattle.expo_text.proofs.Feeds.{is_kept, Kept, named_kept, token_kept, help_k
 use Rattle.expo_text.proofs.LineRead.{help_read, type_read, sample_read}
 
 -- a line as it is printed, without its line feed, and the entry that a scraper reads in it
-record IsPrintedLine (line : List ℕ) (entry : Entry) : Type 0 where
+record IsPrintedLine (line : List ℕ) (entry : LineEntry) : Type 0 where
   kept : Kept line
   reads : entry_of line ≡ entry
   formed : entry ≢ Malformed
@@ -155,7 +155,7 @@ are_lines (group ∷ groups) printed =
     (are_lines groups (All-tail IsPrintedGroup group groups printed))
 
 -- a text cut at its line feeds gives the lines back
-cut_back : (lines : List (List ℕ)) (entries : List Entry) → Match IsPrintedLine lines entries → AreLines (feed lines) lines
+cut_back : (lines : List (List ℕ)) (entries : List LineEntry) → Match IsPrintedLine lines entries → AreLines (feed lines) lines
 cut_back [] [] h = refl
 cut_back [] (entry ∷ entries) h = absurd h
 cut_back (line ∷ lines) [] h = absurd h
@@ -166,14 +166,14 @@ cut_back (line ∷ lines) (entry ∷ entries) h =
     ∙ ap (λ rest. line ∷ rest) (cut_back lines entries h.1)
 
 -- the entries of the lines
-read_back : (lines : List (List ℕ)) (entries : List Entry) → Match IsPrintedLine lines entries → map entry_of lines ≡ entries
+read_back : (lines : List (List ℕ)) (entries : List LineEntry) → Match IsPrintedLine lines entries → map entry_of lines ≡ entries
 read_back [] [] h = refl
 read_back [] (entry ∷ entries) h = absurd h
 read_back (line ∷ lines) [] h = absurd h
 read_back (line ∷ lines) (entry ∷ entries) h = ap₂ ◌∷◌ h.0.reads (read_back lines entries h.1)
 
 -- each line is one of the format
-formed_each : (lines : List (List ℕ)) (entries : List Entry) → Match IsPrintedLine lines entries → All (λ line. entry_of line ≢ Malformed) lines
+formed_each : (lines : List (List ℕ)) (entries : List LineEntry) → Match IsPrintedLine lines entries → All (λ line. entry_of line ≢ Malformed) lines
 formed_each [] [] h = All-nil (λ line. entry_of line ≢ Malformed)
 formed_each [] (entry ∷ entries) h = absurd h
 formed_each (line ∷ lines) [] h = absurd h

@@ -4,7 +4,7 @@ use Rattle.std.specs.Prelude.{All}
 use Rattle.std.proofs.lemmas.Bool.{not_from_true, not_from_false, and_from, and_left, ne_eqb}
 use Rattle.std.proofs.lemmas.List.Elements.{All-head, All-tail}
 use Rattle.metric_names.specs.HelpText.{is_blank}
-use Rattle.expo_text.specs.Lines.{same, Written, Entry, Nothing, Help, Typed, Sampled, Malformed, AreBlanks, EndsToken, IsFirst, NoToken, OneToken, IsOnly, IsSampleWord, IsBraced, IsBare, IsHash, IsHelp, IsType, IsComment, IsLine}
+use Rattle.expo_text.specs.Lines.{is_same_text, Written, LineEntry, Nothing, Help, Typed, Sampled, Malformed, AreBlanks, EndsToken, IsFirst, NoToken, OneToken, IsOnly, IsSampleWord, IsBraced, IsBare, IsHash, IsHelp, IsType, IsComment, IsLine}
 use Rattle.expo_text.specs.Walked.{skip, in_token, first, after, BeforeName, value_entry, labels_entry, in_name, after_name, type_entry, hash_entry, entry_from, entry_of}
 use Rattle.expo_text.proofs.Tokens.{Each, Stops, each_append, take_while_all, drop_while_all}
 use Rattle.expo_text.proofs.LabelsWalked.{labels_walked}
@@ -15,17 +15,17 @@ hash_walked : (line text : List ℕ) → IsHash line text → entry_of line ≡ 
 hash_walked line text is = ap entry_from (ap skip (is.is ∙ append_assoc is.before (codes "#") text) ∙ skip_blanks is.before (35 ∷ text) is.blanks refl)
 
 -- what a line with a hash is, by its first word and what follows it
-abbrev pub hash_by : (word more : List ℕ) → Entry
+abbrev pub hash_by : (word more : List ℕ) → LineEntry
 hash_by word more =
-    if same word (codes "HELP") then Help (first more) (after more) else (if same word (codes "TYPE") then type_entry more else Nothing)
+    if is_same_text word (codes "HELP") then Help (first more) (after more) else (if is_same_text word (codes "TYPE") then type_entry more else Nothing)
 
 -- what a type is, by its name and its word and what follows them
-abbrev pub type_by : (name word end : List ℕ) → Entry
-type_by name word end = if same end [] then Typed name word else Malformed
+abbrev pub type_by : (name word end : List ℕ) → LineEntry
+type_by name word end = if is_same_text end [] then Typed name word else Malformed
 
 -- what a sample is, by its value and what follows it
-abbrev pub value_by : (name : List ℕ) → List (List ℕ × List ℕ) → (value end : List ℕ) → Entry
-value_by name labels value end = if same end [] then Sampled (record { name = name; labels = labels; value = value }) else Malformed
+abbrev pub value_by : (name : List ℕ) → List (List ℕ × List ℕ) → (value end : List ℕ) → LineEntry
+value_by name labels value end = if is_same_text end [] then Sampled (record { name = name; labels = labels; value = value }) else Malformed
 
 pub help_walked : (line name help : List ℕ) → IsHelp line name help → entry_of line ≡ Help name help
 help_walked line name help is =
@@ -141,7 +141,7 @@ bare_walked line sample is =
     ∙ ap (λ labels. Sampled (record { name = sample.name; labels = labels; value = sample.value })) (sym is.none)
 
 -- a line is what a walk over it finds
-pub line_walked : (line : List ℕ) (entry : Entry) → IsLine line entry → entry_of line ≡ entry
+pub line_walked : (line : List ℕ) (entry : LineEntry) → IsLine line entry → entry_of line ≡ entry
 line_walked line Nothing (inl blank) = ap entry_from (skip_all line blank)
 line_walked line Nothing (inr comment) = comment_walked line comment
 line_walked line (Help name help) is = help_walked line name help is

@@ -9,7 +9,7 @@ use Rattle.expo_text.specs.Samples.{Sample}
 use Rattle.expo_text.specs.Order.{IsScrape}
 use Rattle.expo_text.specs.Spelled.{IsSpelledIfPrinted}
 use Rattle.expo_text.specs.Groups.{Group, groups_of}
-use Rattle.expo_text.specs.Lines.{same, Entry, Help, Typed}
+use Rattle.expo_text.specs.Lines.{is_same_text, LineEntry, Help, Typed}
 use Rattle.expo_text.specs.Parts.{Part}
 use Rattle.expo_text.specs.Walked.{ends_of, has_end, begun, gathered, parts_of}
 use Rattle.expo_text.specs.Reads.{word_of}
@@ -26,7 +26,7 @@ abbrev pub IsNamed : Group → Type 0
 IsNamed group = Each (λ (sample : Sample). has_end sample.name group.name (ends_of (word_of group.kind ∷ [])) ≡ true) group.samples
 
 -- the samples after the types of their group
-gathered-samples : (part : Part) (samples : List Sample) (rest : List Entry)
+gathered-samples : (part : Part) (samples : List Sample) (rest : List LineEntry)
     → Each (λ (sample : Sample). has_end sample.name part.name (ends_of part.types) ≡ true) samples
     → gathered part (map sampled samples ++ rest) ≡ gathered (record part { samples = part.samples ++ map written_of samples }) rest
 gathered-samples part [] rest named = ap (λ written. gathered (record part { samples = written }) rest) (sym (append-nil part.samples))
@@ -42,19 +42,19 @@ abbrev pub open_part : (name help : List ℕ) → Kind → Part
 open_part name help kind = record { name = name; helps = helps_of help; types = word_of kind ∷ []; samples = [] }
 
 -- a type joins the help of its group
-gathered-type : (name written word : List ℕ) (rest : List Entry)
+gathered-type : (name written word : List ℕ) (rest : List LineEntry)
     → gathered (begun (Help name written)) (Typed name word ∷ rest)
     ≡ gathered (record { name = name; helps = written ∷ []; types = word ∷ []; samples = [] }) rest
 gathered-type name written word rest = rw (same_self name) refl
 
 -- the lines of the first group
-parts_of-first : (name help : List ℕ) (kind : Kind) (rest : List Entry)
+parts_of-first : (name help : List ℕ) (kind : Kind) (rest : List LineEntry)
     → parts_of (help_entries name help ++ (Typed name (word_of kind) ∷ rest)) ≡ gathered (open_part name help kind) rest
 parts_of-first name [] kind rest = refl
 parts_of-first name (byte ∷ bytes) kind rest = rw (same_self name) refl
 
 -- the lines of a group after those of another
-gathered-next : (part : Part) (name help : List ℕ) (kind : Kind) (rest : List Entry) → same name part.name ≡ false
+gathered-next : (part : Part) (name help : List ℕ) (kind : Kind) (rest : List LineEntry) → is_same_text name part.name ≡ false
     → gathered part (help_entries name help ++ (Typed name (word_of kind) ∷ rest)) ≡ part ∷ gathered (open_part name help kind) rest
 gathered-next part name [] kind rest differ = rw differ refl
 gathered-next part name (byte ∷ bytes) kind rest differ = rw (differ, same_self name) refl

@@ -4,7 +4,7 @@ use Rattle.std.specs.Prelude.{All, Contains, filter, ◌↔◌}
 use Rattle.std.specs.Cmp.Lexicographic.{same_text}
 use Rattle.std.proofs.lemmas.Bool.{cases_Bool, both_ways, and_parts}
 use Rattle.std.proofs.lemmas.List.Elements.{All-from_recursion}
-use Rattle.expo_text.specs.Lines.{same, Written, Entry, Nothing, Help, Typed, Sampled, Malformed}
+use Rattle.expo_text.specs.Lines.{is_same_text, Written, LineEntry, Nothing, Help, Typed, Sampled, Malformed}
 use Rattle.expo_text.specs.Parts.{Part, IsEnd, BucketEnd, SumEnd, CountEnd, NoEnd, IsNamedAfter, AreHeads, NoHead, HelpHead, TypeHead, IsBlock, AreBlocks, NoBlock, NextBlock, is_of_group, AreParts}
 use Rattle.expo_text.specs.Walked.{ends_of, has_end, is_empty, joins, begun, gathered, parts_of}
 use Rattle.expo_text.proofs.Tokened.{same_self, other_text}
@@ -12,7 +12,7 @@ use Rattle.expo_text.proofs.Pairs.{Each, Pairs, each_weaker}
 use Rattle.expo_text.proofs.PartsWalked.{IsTyped, AreApart, three, parts_walked}
 
 -- an entry that the format knows
-abbrev pub IsFormed : Entry → Type 0
+abbrev pub IsFormed : LineEntry → Type 0
 IsFormed entry = entry ≢ Malformed
 
 -- a name with one of these ends
@@ -28,7 +28,7 @@ record Ends (word name group : List ℕ) : Type 0 where
 -- of an end that a walk finds first
 end_found : (word name group end : List ℕ) (ends : List (List ℕ)) → IsEnd word end → (HasEnd name group ends → Ends word name group) → HasEnd name group (end ∷ ends) → Ends word name group
 end_found word name group end ends is later found =
-    elim (cases_Bool (same name (group ++ end))) [
+    elim (cases_Bool (is_same_text name (group ++ end))) [
       | inl here ↦ record { end = end; ends = is; is = same_text name (group ++ end) (sym here) }
       | inr other ↦ later (rw other at found)
     ]
@@ -46,7 +46,7 @@ histogram_found name group found =
 
 ends_found : (word name group : List ℕ) → HasEnd name group (ends_of (word ∷ [])) → Ends word name group
 ends_found word name group found =
-    elim (cases_Bool (same word (codes "histogram"))) [
+    elim (cases_Bool (is_same_text word (codes "histogram"))) [
       | inl histogram ↦ subst (λ w. Ends w name group) (sym (same_text word (codes "histogram") (sym histogram))) (histogram_found name group (rw histogram at found))
       | inr other ↦ end_found word name group [] [] (NoEnd word (other_text word (codes "histogram") other)) (no_end word name group) (rw other at found)
     ]
@@ -68,12 +68,12 @@ abbrev grown : Part → (helps types : List (List ℕ)) → List Written → Par
 grown part helps types samples = record { name = part.name; helps = part.helps ++ helps; types = part.types ++ types; samples = part.samples ++ samples }
 
 -- what a walk finds after an open part: further lines of it, and the blocks of others
-record Goes (part : Part) (entries : List Entry) : Type 0 where
-  heads : List Entry
+record Goes (part : Part) (entries : List LineEntry) : Type 0 where
+  heads : List LineEntry
   helps : List (List ℕ)
   types : List (List ℕ)
   samples : List Written
-  rest : List Entry
+  rest : List LineEntry
   others : List Part
   is : gathered part entries ≡ grown part helps types samples ∷ others
   cut : filter is_of_group entries ≡ heads ++ (map Sampled samples ++ rest)
@@ -91,7 +91,7 @@ grown_none part =
     ∙ ap (λ s. make part.helps part.types s) (append-nil part.samples)
 
 -- where no line of the part follows
-goes_none : (part : Part) (entries rest : List Entry) (others : List Part) → gathered part entries ≡ part ∷ others → filter is_of_group entries ≡ rest → AreBlocks rest others → Goes part entries
+goes_none : (part : Part) (entries rest : List LineEntry) (others : List Part) → gathered part entries ≡ part ∷ others → filter is_of_group entries ≡ rest → AreBlocks rest others → Goes part entries
 goes_none part entries rest others is cut blocks = record {
   heads = [];
   helps = [];
@@ -108,7 +108,7 @@ goes_none part entries rest others is cut blocks = record {
 }
 
 -- a help of the part
-goes_help : (part : Part) (help : List ℕ) (entries : List Entry) → is_empty part.samples ≡ true → gathered part (Help part.name help ∷ entries) ≡ gathered (record part { helps = part.helps ++ (help ∷ []) }) entries
+goes_help : (part : Part) (help : List ℕ) (entries : List LineEntry) → is_empty part.samples ≡ true → gathered part (Help part.name help ∷ entries) ≡ gathered (record part { helps = part.helps ++ (help ∷ []) }) entries
     → Goes (record part { helps = part.helps ++ (help ∷ []) }) entries → Goes part (Help part.name help ∷ entries)
 goes_help part help entries empty is goes = record {
   heads = Help part.name help ∷ goes.heads;
@@ -126,7 +126,7 @@ goes_help part help entries empty is goes = record {
 }
 
 -- a type of the part
-goes_type : (part : Part) (word : List ℕ) (entries : List Entry) → is_empty part.samples ≡ true → gathered part (Typed part.name word ∷ entries) ≡ gathered (record part { types = part.types ++ (word ∷ []) }) entries
+goes_type : (part : Part) (word : List ℕ) (entries : List LineEntry) → is_empty part.samples ≡ true → gathered part (Typed part.name word ∷ entries) ≡ gathered (record part { types = part.types ++ (word ∷ []) }) entries
     → Goes (record part { types = part.types ++ (word ∷ []) }) entries → Goes part (Typed part.name word ∷ entries)
 goes_type part word entries empty is goes =
     let all : (part.types ++ (word ∷ [])) ++ goes.types ≡ part.types ++ (word ∷ goes.types) = append_assoc part.types (word ∷ []) goes.types in
@@ -151,7 +151,7 @@ full_after [] sample = refl
 full_after (_ ∷ _) sample = refl
 
 -- a sample of the part
-goes_sample : (part : Part) (sample : Written) (entries : List Entry) → HasEnd sample.name part.name (ends_of part.types)
+goes_sample : (part : Part) (sample : Written) (entries : List LineEntry) → HasEnd sample.name part.name (ends_of part.types)
     → gathered part (Sampled sample ∷ entries) ≡ gathered (record part { samples = part.samples ++ (sample ∷ []) }) entries
     → Goes (record part { samples = part.samples ++ (sample ∷ []) }) entries → Goes part (Sampled sample ∷ entries)
 goes_sample part sample entries ends is goes =
@@ -173,8 +173,8 @@ goes_sample part sample entries ends is goes =
     }
 
 -- the block of a part that a walk began, and those after it
-block_found : (part : Part) (entries all : List Entry) (goes : Goes part entries) → Each IsTyped (gathered part entries)
-    → (heads : List Entry) → filter is_of_group all ≡ heads ++ (map Sampled goes.samples ++ goes.rest) → part.samples ≡ []
+block_found : (part : Part) (entries all : List LineEntry) (goes : Goes part entries) → Each IsTyped (gathered part entries)
+    → (heads : List LineEntry) → filter is_of_group all ≡ heads ++ (map Sampled goes.samples ++ goes.rest) → part.samples ≡ []
     → AreHeads part.name heads (part.helps ++ goes.helps) (part.types ++ goes.types) → AreBlocks (filter is_of_group all) (gathered part entries)
 block_found part entries all goes typed heads cut none headed =
     let part' : Part = grown part goes.helps goes.types goes.samples in
@@ -194,14 +194,14 @@ block_found part entries all goes typed heads cut none headed =
     (NextBlock (heads ++ map Sampled goes.samples) goes.rest part' goes.others block goes.blocks))
 
 -- the blocks from one that begins with a help on
-begun_help : (name help : List ℕ) (entries : List Entry) → Goes (begun (Help name help)) entries → Each IsTyped (gathered (begun (Help name help)) entries)
+begun_help : (name help : List ℕ) (entries : List LineEntry) → Goes (begun (Help name help)) entries → Each IsTyped (gathered (begun (Help name help)) entries)
     → AreBlocks (filter is_of_group (Help name help ∷ entries)) (gathered (begun (Help name help)) entries)
 begun_help name help entries goes typed =
     block_found (begun (Help name help)) entries (Help name help ∷ entries) goes typed (Help name help ∷ goes.heads)
     (ap (λ es. Help name help ∷ es) goes.cut) refl (HelpHead help goes.heads goes.helps goes.types goes.headed)
 
 -- from one that begins with a type on
-begun_type : (name word : List ℕ) (entries : List Entry) → Goes (begun (Typed name word)) entries → Each IsTyped (gathered (begun (Typed name word)) entries)
+begun_type : (name word : List ℕ) (entries : List LineEntry) → Goes (begun (Typed name word)) entries → Each IsTyped (gathered (begun (Typed name word)) entries)
     → AreBlocks (filter is_of_group (Typed name word ∷ entries)) (gathered (begun (Typed name word)) entries)
 begun_type name word entries goes typed =
     block_found (begun (Typed name word)) entries (Typed name word ∷ entries) goes typed (Typed name word ∷ goes.heads)
@@ -212,14 +212,14 @@ some_word : (types : List (List ℕ)) (word : List ℕ) → types ≡ [] → typ
 some_word types word none one = cc
 
 -- none begins with a sample: it would have no type
-begun_sample : (sample : Written) (entries : List Entry) → Goes (begun (Sampled sample)) entries → Each IsTyped (gathered (begun (Sampled sample)) entries) → ⊥
+begun_sample : (sample : Written) (entries : List LineEntry) → Goes (begun (Sampled sample)) entries → Each IsTyped (gathered (begun (Sampled sample)) entries) → ⊥
 begun_sample sample entries goes typed =
     let all : Each IsTyped (grown (begun (Sampled sample)) goes.helps goes.types goes.samples ∷ goes.others) = subst (Each IsTyped) goes.is typed in
     let none = goes.closed refl in
     some_word goes.types all.0.word none.2 all.0.is
 
 -- an entry of no group changes nothing
-goes_nothing : (part : Part) (entries : List Entry) → Goes part entries → Goes part (Nothing ∷ entries)
+goes_nothing : (part : Part) (entries : List LineEntry) → Goes part entries → Goes part (Nothing ∷ entries)
 goes_nothing part entries goes = record {
   heads = goes.heads;
   helps = goes.helps;
@@ -236,13 +236,13 @@ goes_nothing part entries goes = record {
 }
 
 -- what a walk finds after an open part
-gathered_found : (entries : List Entry) (part : Part) → Each IsFormed entries → Each IsTyped (gathered part entries) → Goes part entries
+gathered_found : (entries : List LineEntry) (part : Part) → Each IsFormed entries → Each IsTyped (gathered part entries) → Goes part entries
 gathered_found [] part formed typed = goes_none part [] [] [] refl refl NoBlock
 gathered_found (Nothing ∷ entries) part formed typed = goes_nothing part entries (gathered_found entries part formed.1 typed)
 gathered_found (Help name help ∷ entries) part formed typed =
-    elim (cases_Bool (same name part.name && is_empty part.samples)) [
+    elim (cases_Bool (is_same_text name part.name && is_empty part.samples)) [
       | inl joins ↦
-          let both = and_parts (same name part.name) (is_empty part.samples) joins in
+          let both = and_parts (is_same_text name part.name) (is_empty part.samples) joins in
           let more = gathered_found entries (record part { helps = part.helps ++ (help ∷ []) }) formed.1 (rw joins at typed) in
           subst (λ n. Goes part (Help n help ∷ entries)) (sym (same_text name part.name (sym both.0)))
           (goes_help part help entries both.1 (rw (same_self part.name, both.1) refl) more)
@@ -252,9 +252,9 @@ gathered_found (Help name help ∷ entries) part formed typed =
           (begun_help name help entries (gathered_found entries (begun (Help name help)) formed.1 others.1) others.1)
     ]
 gathered_found (Typed name word ∷ entries) part formed typed =
-    elim (cases_Bool (same name part.name && is_empty part.samples)) [
+    elim (cases_Bool (is_same_text name part.name && is_empty part.samples)) [
       | inl joins ↦
-          let both = and_parts (same name part.name) (is_empty part.samples) joins in
+          let both = and_parts (is_same_text name part.name) (is_empty part.samples) joins in
           let more = gathered_found entries (record part { types = part.types ++ (word ∷ []) }) formed.1 (rw joins at typed) in
           subst (λ n. Goes part (Typed n word ∷ entries)) (sym (same_text name part.name (sym both.0)))
           (goes_type part word entries both.1 (rw (same_self part.name, both.1) refl) more)
@@ -275,7 +275,7 @@ gathered_found (Sampled sample ∷ entries) part formed typed =
 gathered_found (Malformed ∷ entries) part formed typed = absurd (formed.0 refl)
 
 -- the parts that a walk finds
-pub parts_found : (entries : List Entry) → Each IsFormed entries → Each IsTyped (parts_of entries) → AreParts entries (parts_of entries)
+pub parts_found : (entries : List LineEntry) → Each IsFormed entries → Each IsTyped (parts_of entries) → AreParts entries (parts_of entries)
 parts_found [] formed typed = NoBlock
 parts_found (Nothing ∷ entries) formed typed = parts_found entries formed.1 typed
 parts_found (Help name help ∷ entries) formed typed = begun_help name help entries (gathered_found entries (begun (Help name help)) formed.1 typed) typed
@@ -284,7 +284,7 @@ parts_found (Sampled sample ∷ entries) formed typed = absurd (begun_sample sam
 parts_found (Malformed ∷ entries) formed typed = absurd (formed.0 refl)
 
 -- where each part has one type and their names differ, the parts of a text are exactly those that a walk finds
-pub parts_are : (entries : List Entry) (parts : List Part) → Each IsFormed entries → Each IsTyped parts → Pairs AreApart parts
+pub parts_are : (entries : List LineEntry) (parts : List Part) → Each IsFormed entries → Each IsTyped parts → Pairs AreApart parts
     → AreParts entries parts ↔ (parts_of entries ≡ parts)
 parts_are entries parts formed typed apart = (
   λ are. parts_walked entries parts are typed apart,

@@ -5,22 +5,22 @@ use Rattle.std.proofs.lemmas.Cmp.{nat_list_eq_equiv}
 use Rattle.std.proofs.lemmas.Bool.{cases_Bool, both_ways, not_from_true, not_from_false, false_from_ne_true}
 use Rattle.std.proofs.lemmas.List.Elements.{All-head, All-tail, All-cons, All-nil}
 use Rattle.metric_names.specs.HelpText.{is_blank}
-use Rattle.expo_text.specs.Lines.{same, AreBlanks, HasNoBlank, IsToken, EndsToken, HasNoBlankInFront, IsFirst, NoToken, OneToken, IsOnly}
+use Rattle.expo_text.specs.Lines.{is_same_text, AreBlanks, HasNoBlank, IsToken, EndsToken, HasNoBlankInFront, IsFirst, NoToken, OneToken, IsOnly}
 use Rattle.expo_text.specs.Walked.{drop_while, skip, in_token, first, after}
 use Rattle.expo_text.proofs.Tokens.{Each, Stops, take_while_all, drop_while_all}
 use Rattle.expo_text.proofs.LabelsFound.{more_blank, no_blanks}
 
 -- a text is the same as itself
-pub same_self : (a : List ℕ) → same a a ≡ true
+pub same_self : (a : List ℕ) → is_same_text a a ≡ true
 same_self a = nat_list_eq_equiv.refl a
 
 -- two texts that differ are not the same
-pub same_other : (a b : List ℕ) → a ≢ b → same a b ≡ false
-same_other a b differ = false_from_ne_true (same a b) (λ e. differ (same_text a b (sym e)))
+pub same_other : (a b : List ℕ) → a ≢ b → is_same_text a b ≡ false
+same_other a b differ = false_from_ne_true (is_same_text a b) (λ e. differ (same_text a b (sym e)))
 
 -- two texts that are not the same differ
-pub other_text : (a b : List ℕ) → same a b ≡ false → a ≢ b
-other_text a b other e = both_ways (same a b) other (ap (λ c. same a c) (sym e) ∙ same_self a)
+pub other_text : (a b : List ℕ) → is_same_text a b ≡ false → a ≢ b
+other_text a b other e = both_ways (is_same_text a b) other (ap (λ c. is_same_text a c) (sym e) ∙ same_self a)
 
 pub each_blank : (gap : List ℕ) → AreBlanks gap → Each is_blank gap
 each_blank [] h = tt

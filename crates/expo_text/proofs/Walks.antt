@@ -3,7 +3,7 @@ use Rattle.std.proofs.Common.{◌≡◌, ◌≢◌, ◌↔◌, ℕ, List, [], �
 use Rattle.std.specs.Prelude.{All}
 use Rattle.std.proofs.lemmas.List.Elements.{All-head, All-tail, All-cons, All-nil}
 use Rattle.expo_text.specs.Groups.{Group}
-use Rattle.expo_text.specs.Lines.{Entry, Malformed, IsLine}
+use Rattle.expo_text.specs.Lines.{LineEntry, Malformed, IsLine}
 use Rattle.expo_text.specs.Parts.{Part}
 use Rattle.expo_text.specs.Reads.{Match, word_of, IsGroup, Reads}
 use Rattle.expo_text.specs.Walked.{entry_of, parts_of, ReadsWalked}
@@ -14,18 +14,18 @@ use Rattle.expo_text.proofs.PartsWalked.{IsTyped, AreApart, parts_walked}
 use Rattle.expo_text.proofs.PartsFound.{IsFormed, parts_found}
 
 -- no bytes are a line that is none of the format
-line_formed : (line : List ℕ) (entry : Entry) → IsLine line entry → entry ≢ Malformed
+line_formed : (line : List ℕ) (entry : LineEntry) → IsLine line entry → entry ≢ Malformed
 line_formed line entry is malformed = subst (IsLine line) malformed is
 
 -- the entries of lines are those that the walk finds
-entries_walked : (lines : List (List ℕ)) (entries : List Entry) → Match IsLine lines entries → map entry_of lines ≡ entries
+entries_walked : (lines : List (List ℕ)) (entries : List LineEntry) → Match IsLine lines entries → map entry_of lines ≡ entries
 entries_walked [] [] are = refl
 entries_walked [] (_ ∷ _) are = absurd are
 entries_walked (_ ∷ _) [] are = absurd are
 entries_walked (line ∷ lines) (entry ∷ entries) are = ap₂ (λ e es. e ∷ es) (line_walked line entry are.0) (entries_walked lines entries are.1)
 
 -- and each of them is one of the format
-all_formed : (lines : List (List ℕ)) (entries : List Entry) → Match IsLine lines entries → All (λ line. entry_of line ≢ Malformed) lines
+all_formed : (lines : List (List ℕ)) (entries : List LineEntry) → Match IsLine lines entries → All (λ line. entry_of line ≢ Malformed) lines
 all_formed [] [] are = All-nil (λ (line : List ℕ). entry_of line ≢ Malformed)
 all_formed [] (_ ∷ _) are = absurd are
 all_formed (_ ∷ _) [] are = absurd are

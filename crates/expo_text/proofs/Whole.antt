@@ -22,7 +22,7 @@ use Rattle.expo_text.specs.Samples.{Sample, bucket_sample, bound_samples, last_s
 use Rattle.expo_text.specs.Order.{IsNumberOf, IsFamily, IsScrape}
 use Rattle.expo_text.specs.Spelled.{IsSpelledIfPrinted}
 use Rattle.expo_text.specs.Groups.{Group, groups_of}
-use Rattle.expo_text.specs.Lines.{same}
+use Rattle.expo_text.specs.Lines.{is_same_text}
 use Rattle.expo_text.specs.Reads.{others, IsBucket, IsLower, IsOfHistogram, IsNoHigher, IsWhole, IsHistogramGroup}
 use Rattle.expo_text.proofs.Pairs.{Each, Pairs, each_weaker, each_both, each_append, each_flat_map, pairs_places, pairs_append}
 use Rattle.expo_text.proofs.LabelSets.{HasNoLe, no_le_in, le_is, le_there, turned, same_list}
@@ -49,8 +49,8 @@ others-own : (labels values : List (List ℕ)) → ¬ (Contains labels le) → o
 others-own [] values none = refl
 others-own (label ∷ labels) [] none = refl
 others-own (label ∷ labels) (value ∷ values) none =
-    let differ : same label le ≡ false = false_from_ne_true (same label le) (λ e. none (0, (omega arith), same_text label le (sym e))) in
-    cond-true (not (same label le)) ((label, value) ∷ others (zip labels values)) (others (zip labels values)) (not_from_false (same label le) differ)
+    let differ : is_same_text label le ≡ false = false_from_ne_true (is_same_text label le) (λ e. none (0, (omega arith), same_text label le (sym e))) in
+    cond-true (not (is_same_text label le)) ((label, value) ∷ others (zip labels values)) (others (zip labels values)) (not_from_false (is_same_text label le) differ)
     ∙ ap (λ rest. (label, value) ∷ rest) (others-own labels values (λ found. none (suc found.0, (omega (arith, found.1)), found.2)))
 
 -- a sample's labels without `le` are its child's own
@@ -58,7 +58,7 @@ others-owned : (own : List (List ℕ × List ℕ)) (sample : Sample) → others 
 others-owned own sample kept (inl e) = ap others e ∙ kept
 others-owned own sample kept (inr e) =
     ap others e.1
-    ∙ filter-append (λ (label : List ℕ × List ℕ). not (same label.0 (codes "le"))) own ((codes "le", e.0) ∷ [])
+    ∙ filter-append (λ (label : List ℕ × List ℕ). not (is_same_text label.0 (codes "le"))) own ((codes "le", e.0) ∷ [])
     ∙ ap (λ xs. xs ++ []) kept
     ∙ append-nil own
 

@@ -10,8 +10,8 @@ abbrev pub AreLines : List ℕ → List (List ℕ) → Type 0
 AreLines bytes lines = slice_split (λ b. b == 10) bytes ≡ lines ++ ([] ∷ [])
 
 -- two texts are the same
-abbrev pub same : List ℕ → List ℕ → Bool
-same a b = pointwise nat_eq a b
+abbrev pub is_same_text : List ℕ → List ℕ → Bool
+is_same_text a b = pointwise nat_eq a b
 
 -- a sample as it is written: its name, its labels with their values still escaped, and the token of its value
 pub record Written : Type 0 where
@@ -20,12 +20,12 @@ pub record Written : Type 0 where
   pub value : List ℕ
 
 -- what a line is: nothing, as a comment or an empty line; a help, still escaped; a type; a sample; or no line of the format
-pub data Entry : Type 0 where
-  Nothing : Entry
-  Help : (name help : List ℕ) → Entry
-  Typed : (name word : List ℕ) → Entry
-  Sampled : Written → Entry
-  Malformed : Entry
+pub data LineEntry : Type 0 where
+  Nothing : LineEntry
+  Help : (name help : List ℕ) → LineEntry
+  Typed : (name word : List ℕ) → LineEntry
+  Sampled : Written → LineEntry
+  Malformed : LineEntry
 
 -- blanks and tabs alone, or nothing
 abbrev pub AreBlanks : List ℕ → Type 0
@@ -160,7 +160,7 @@ pub record IsComment (line : List ℕ) : Type 0 where
   pub no_type : word ≢ codes "TYPE"
 
 -- a line is this entry
-abbrev pub IsLine : (line : List ℕ) → Entry → Type 0
+abbrev pub IsLine : (line : List ℕ) → LineEntry → Type 0
 IsLine line Nothing = AreBlanks line ⊎ IsComment line
 IsLine line (Help name help) = IsHelp line name help
 IsLine line (Typed name word) = IsType line name word

@@ -9,7 +9,7 @@ use Rattle.metric_desc.specs.declared.kind.Kind.{Kind}
 use Rattle.metric_desc.specs.declared.kind.Kind.TheVariants.{Counter, Histogram, Gauge}
 use Rattle.expo_text.specs.Samples.{Sample}
 use Rattle.expo_text.specs.Groups.{Group}
-use Rattle.expo_text.specs.Lines.{AreLines, same, Written, Entry, IsLine}
+use Rattle.expo_text.specs.Lines.{AreLines, is_same_text, Written, LineEntry, IsLine}
 use Rattle.expo_text.specs.Parts.{Part, AreParts}
 
 -- two lists are as long as each other, and the relation holds between them element by element
@@ -73,7 +73,7 @@ HasDistinctLabels sample = AllPairs (λ (a b : List ℕ × List ℕ). a.0 ≢ b.
 
 -- the labels of a child: all but `le`
 abbrev pub others : List (List ℕ × List ℕ) → List (List ℕ × List ℕ)
-others labels = filter (λ label. not (same label.0 (codes "le"))) labels
+others labels = filter (λ label. not (is_same_text label.0 (codes "le"))) labels
 
 -- two samples are of one child: but for `le` they have the same labels
 abbrev pub IsOfOneChild : Sample → Sample → Type 0
@@ -132,7 +132,7 @@ pub record IsHistogramGroup (group : Group) : Type 0 where
 pub record Reads (bytes : List ℕ) (groups : List Group) : Type 0 where
   pub lines : List (List ℕ)
   pub cut : AreLines bytes lines
-  pub entries : List Entry
+  pub entries : List LineEntry
   pub formed : Match IsLine lines entries
   pub parts : List Part
   pub blocks : AreParts entries parts

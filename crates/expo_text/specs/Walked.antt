@@ -5,7 +5,7 @@ use Rattle.std.specs.List.{prefix_len}
 use Rattle.metric_names.specs.HelpText.{is_blank}
 use Rattle.metric_desc.specs.declared.kind.Kind.TheVariants.{Histogram}
 use Rattle.expo_text.specs.Groups.{Group}
-use Rattle.expo_text.specs.Lines.{AreLines, same, Written, Entry, Nothing, Help, Typed, Sampled, Malformed}
+use Rattle.expo_text.specs.Lines.{AreLines, is_same_text, Written, LineEntry, Nothing, Help, Typed, Sampled, Malformed}
 use Rattle.expo_text.specs.Parts.{Part}
 use Rattle.expo_text.specs.Reads.{Match, IsGroup, IsSameSeries, HasDistinctLabels, IsHistogramGroup}
 
@@ -79,12 +79,12 @@ has_ended Ended = true
 has_ended Failed = false
 
 -- the value of a sample: one token, and nothing after it
-abbrev pub value_entry : (name : List ℕ) → List (List ℕ × List ℕ) → List ℕ → Entry
+abbrev pub value_entry : (name : List ℕ) → List (List ℕ × List ℕ) → List ℕ → LineEntry
 value_entry name labels rest =
-    if same (after rest) [] then Sampled (record { name = name; labels = labels; value = first rest }) else Malformed
+    if is_same_text (after rest) [] then Sampled (record { name = name; labels = labels; value = first rest }) else Malformed
 
 -- the labels of a sample from a place on, after those that are read, then its value
-abbrev pub labels_entry : (name : List ℕ) → Place → List (List ℕ × List ℕ) → List ℕ → Entry
+abbrev pub labels_entry : (name : List ℕ) → Place → List (List ℕ × List ℕ) → List ℕ → LineEntry
 labels_entry name place labels [] = Malformed
 labels_entry name place labels (b ∷ bytes) =
     if has_ended (move place b) then value_entry name labels (skip bytes)
@@ -95,42 +95,42 @@ abbrev pub in_name : ℕ → Bool
 in_name b = in_token b && not (b == 123)
 
 -- what follows a sample's name: labels in braces and a value, or a value alone
-abbrev pub after_name : (name : List ℕ) → List ℕ → Entry
+abbrev pub after_name : (name : List ℕ) → List ℕ → LineEntry
 after_name name [] = Malformed
 after_name name (b ∷ bytes) = if b == 123 then labels_entry name BeforeName [] bytes else value_entry name [] (b ∷ bytes)
 
 -- a line that begins with the name of a sample
-abbrev pub sample_entry : List ℕ → Entry
+abbrev pub sample_entry : List ℕ → LineEntry
 sample_entry line = after_name (take_while in_name line) (skip (drop_while in_name line))
 
 -- a type has two tokens, its family's name and its kind
-abbrev pub type_entry : List ℕ → Entry
-type_entry rest = if same (after (after rest)) [] then Typed (first rest) (first (after rest)) else Malformed
+abbrev pub type_entry : List ℕ → LineEntry
+type_entry rest = if is_same_text (after (after rest)) [] then Typed (first rest) (first (after rest)) else Malformed
 
 -- after a hash: the token HELP with a family's name and all the rest, or the token TYPE, or a comment
-abbrev pub hash_entry : List ℕ → Entry
+abbrev pub hash_entry : List ℕ → LineEntry
 hash_entry rest =
-    if same (first rest) (codes "HELP") then Help (first (after rest)) (after (after rest))
-    else (if same (first rest) (codes "TYPE") then type_entry (after rest) else Nothing)
+    if is_same_text (first rest) (codes "HELP") then Help (first (after rest)) (after (after rest))
+    else (if is_same_text (first rest) (codes "TYPE") then type_entry (after rest) else Nothing)
 
 -- a line without its blanks in front: empty, or with a hash in front, which is 35, or a sample
-abbrev pub entry_from : List ℕ → Entry
+abbrev pub entry_from : List ℕ → LineEntry
 entry_from [] = Nothing
 entry_from (b ∷ bytes) = if b == 35 then hash_entry (skip bytes) else sample_entry (b ∷ bytes)
 
 -- what a line is
-abbrev pub entry_of : List ℕ → Entry
+abbrev pub entry_of : List ℕ → LineEntry
 entry_of line = entry_from (skip line)
 
 -- what the names of a group's samples have after its name: of a histogram one of three, else nothing
 abbrev pub ends_of : (types : List (List ℕ)) → List (List ℕ)
 ends_of [] = [] ∷ []
-ends_of (word ∷ _) = if same word (codes "histogram") then (codes "_bucket" ∷ codes "_sum" ∷ codes "_count" ∷ []) else ([] ∷ [])
+ends_of (word ∷ _) = if is_same_text word (codes "histogram") then (codes "_bucket" ∷ codes "_sum" ∷ codes "_count" ∷ []) else ([] ∷ [])
 
 -- the name is the group's with one of these after it
 abbrev pub has_end : (name group : List ℕ) → List (List ℕ) → Bool
 has_end name group [] = false
-has_end name group (end ∷ ends) = if same name (group ++ end) then true else has_end name group ends
+has_end name group (end ∷ ends) = if is_same_text name (group ++ end) then true else has_end name group ends
 
 -- no sample is there
 abbrev pub is_empty : List Written → Bool
@@ -139,15 +139,15 @@ is_empty (_ ∷ _) = false
 
 -- a line belongs to the group before it: a help or a type of its name before the first sample, a sample of it,
 -- and what is no line of a group
-abbrev pub joins : Part → Entry → Bool
+abbrev pub joins : Part → LineEntry → Bool
 joins part Nothing = true
-joins part (Help name help) = same name part.name && is_empty part.samples
-joins part (Typed name word) = same name part.name && is_empty part.samples
+joins part (Help name help) = is_same_text name part.name && is_empty part.samples
+joins part (Typed name word) = is_same_text name part.name && is_empty part.samples
 joins part (Sampled sample) = has_end sample.name part.name (ends_of part.types)
 joins part Malformed = true
 
 -- the group with this line
-abbrev pub joined : Part → Entry → Part
+abbrev pub joined : Part → LineEntry → Part
 joined part Nothing = part
 joined part (Help name help) = record part { helps = part.helps ++ (help ∷ []) }
 joined part (Typed name word) = record part { types = part.types ++ (word ∷ []) }
@@ -155,7 +155,7 @@ joined part (Sampled sample) = record part { samples = part.samples ++ (sample �
 joined part Malformed = part
 
 -- a group that begins with this line
-abbrev pub begun : Entry → Part
+abbrev pub begun : LineEntry → Part
 begun Nothing = record { name = []; helps = []; types = []; samples = [] }
 begun (Help name help) = record { name = name; helps = help ∷ []; types = []; samples = [] }
 begun (Typed name word) = record { name = name; helps = []; types = word ∷ []; samples = [] }
@@ -163,13 +163,13 @@ begun (Sampled sample) = record { name = sample.name; helps = []; types = []; sa
 begun Malformed = record { name = []; helps = []; types = []; samples = [] }
 
 -- the groups of the lines after those of an open group, and that group
-abbrev pub gathered : Part → List Entry → List Part
+abbrev pub gathered : Part → List LineEntry → List Part
 gathered part [] = part ∷ []
 gathered part (entry ∷ entries) =
     if joins part entry then gathered (joined part entry) entries else part ∷ gathered (begun entry) entries
 
 -- the groups of the lines
-abbrev pub parts_of : List Entry → List Part
+abbrev pub parts_of : List LineEntry → List Part
 parts_of [] = []
 parts_of (Nothing ∷ entries) = parts_of entries
 parts_of (Help name help ∷ entries) = gathered (begun (Help name help)) entries

@@ -1,7 +1,7 @@
 //! What the lines of a child's buckets begin with.
 ghost use Rattle.std.specs.Prelude.{◌≡◌, ◌≤◌, length, take};
 
-use crate::room::{fill, fill_number};
+use crate::filling::{fill, fill_number};
 use crate::sink::Sink;
 
 /// How many bytes a front has at most: a name of 128 bytes and `_bucket`, 8 labels of 643 bytes each with what parts them,

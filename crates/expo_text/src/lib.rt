@@ -4,22 +4,22 @@
 //! Source: Prometheus documentation, "Exposition formats", "Text-based format".
 #![tactic(auto)]
 
+mod byte_count;
 mod checked;
+mod filling;
 mod front;
 mod labels;
 mod number;
 mod page;
 mod piece;
-mod room;
 mod samples;
 mod scrape;
 mod sending;
 mod sink;
-mod tally;
 mod writer;
 
+pub use byte_count::text_len;
 pub use number::Number;
 pub use page::render;
 pub use scrape::{ChildScrape, FamilyScrape, Scrape};
 pub use sending::{WriteFailed, send, write_after, write_to};
-pub use tally::text_len;

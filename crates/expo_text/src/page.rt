@@ -3,10 +3,10 @@ ghost use Rattle.expo_text.specs.Text.{text};
 ghost use Rattle.expo_text.specs.Groups.{Group, groups_of};
 ghost use Rattle.expo_text.specs.Reads.{Reads};
 
-use crate::room::{fill, fill_number};
+use crate::byte_count::text_len;
+use crate::filling::{fill, fill_number};
 use crate::scrape::Scrape;
 use crate::sink::Sink;
-use crate::tally::text_len;
 use crate::writer::put_groups;
 use metric_names::NoMemory;
 

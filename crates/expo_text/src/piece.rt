@@ -1,6 +1,6 @@
 ghost use Rattle.std.specs.Prelude.{◌≡◌, ◌<◌, ◌≤◌, ◌++◌, [], true, false, length, take, decimal};
 
-use crate::room::{digits, fill, fill_number};
+use crate::filling::{digits, fill, fill_number};
 use std::marker::Model;
 
 /// How many bytes go out together at most.

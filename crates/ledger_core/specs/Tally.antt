@@ -33,11 +33,11 @@ IsTallyFault c h g room registry op t TooLarge =
 IsTallyFault c h g room registry op t Full = (registry ≡ t.registry) × IsWithin c h g op × (length t.ops ≡ room)
 
 -- the number of each fault
-abbrev pub tally_number : TallyFault → ℕ
-tally_number WrongRegistry = 16
-tally_number Outside = 11
-tally_number TooLarge = 12
-tally_number Full = 33
+abbrev pub tally_fault_number : TallyFault → ℕ
+tally_fault_number WrongRegistry = 16
+tally_fault_number Outside = 11
+tally_fault_number TooLarge = 12
+tally_fault_number Full = 33
 
 -- of each counter there is one operation at most, and of each gauge one that raises it and one that lowers it
 abbrev pub AreMerged : List Op → Type 0

@@ -1,5 +1,5 @@
 ghost use Rattle.std.specs.Prelude.{◌≡◌};
-ghost use Rattle.ledger_core.specs.Tally.{tally_number};
+ghost use Rattle.ledger_core.specs.Tally.{tally_fault_number};
 
 use thiserror::Error;
 
@@ -23,7 +23,7 @@ pub enum TallyFault {
 impl TallyFault {
     /// The refusal's number.
     pub fn number(&self) -> u8
-        ensures { result ≡ tally_number self.now }
+        ensures { result ≡ tally_fault_number self.now }
     {
         match self {
             TallyFault::WrongRegistry => 16,

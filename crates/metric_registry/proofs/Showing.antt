@@ -4,11 +4,11 @@ use Rattle.std.specs.Prelude.{IsSomeAnd, Some}
 use Rattle.std.proofs.Math.Logic.{∥∥₁_map}
 use mathlib.Core.List.{IsPrefix}
 use Rattle.expo_text.specs.Scraped.{Scraped}
-use Rattle.register_rule.specs.declared.view.Entry.{Entry as Answer}
+use Rattle.register_rule.specs.declared.view.Answer.{Answer}
 use Rattle.snapshot_scan.specs.Moments.{AreMoments}
 use Rattle.snapshot_scan.proofs.Publishing.{moments_later}
 use Rattle.metric_desc.specs.Desc.{Descriptor}
-use Rattle.registry_state.specs.Changed.{Keeps, IsGiven, WasThere, WasMade, changed}
+use Rattle.registry_state.specs.Changed.{KeepsScrape, IsGiven, WasThere, WasMade, changed}
 use Rattle.registry_state.specs.Journal.{Change, Registered, Made, Entry, Changed, Scraped as Kept, changes, within}
 use Rattle.registry_state.specs.Kept.{Registry, IsKept}
 use Rattle.registry_state.specs.Parts.{AreAccepted, families_after}
@@ -42,7 +42,7 @@ begins_window first journal journal' window same = subst (λ (l : List Change). 
 
 pub shows_moment : {S : Type 0} (n c h g : ℕ) (first : List Change) (recorded : S → List Answer) (gave : S → S → Answer → Type 0) (old new : Registry S) (r : Result Scraped ScrapeFault)
     → BeginsWith first old.journal → IsKept n c h g (recorded old.source) old.journal old.window old.state
-    → OnOk r (Keeps n c h g recorded gave old new) → IfOk r (λ (scrape : Scraped). IsSomeAnd new.state.last (λ answer. IsShown c h new.state.families answer scrape)) → IfOk r (ShowsMoment n c h g first)
+    → OnOk r (KeepsScrape n c h g recorded gave old new) → IfOk r (λ (scrape : Scraped). IsSomeAnd new.state.last (λ answer. IsShown c h new.state.families answer scrape)) → IfOk r (ShowsMoment n c h g first)
 shows_moment n c h g first recorded gave old new (Ok scrape) begins was kept shown = ∥∥₁_map begins (λ (more, is).
     let parts = parts_of_replay n c h g old.journal old.state was.replays in
     let shown' : IsShown c h old.state.families kept.answer scrape = subst (λ (s : State). IsSomeAnd s.last (λ answer. IsShown c h s.families answer scrape)) kept.state shown in
@@ -69,7 +69,7 @@ module _ {S : Type 0} (first : List Change) (old new : Registry S) (begins : Beg
       (λ (made : WasMade c h g old new family values handle). begins_change first old.journal new.journal (Made family values made.slot) (ap (λ (r : Registry S). r.journal) made.after_it) begins) is
   given_begins c h g family values (Err fault) is same = same_begins same
 
-  pub scraped_begins : (n c h g : ℕ) (recorded : S → List Answer) (gave : S → S → Answer → Type 0) (r : Result Scraped ScrapeFault) → OnOk r (Keeps n c h g recorded gave old new)
+  pub scraped_begins : (n c h g : ℕ) (recorded : S → List Answer) (gave : S → S → Answer → Type 0) (r : Result Scraped ScrapeFault) → OnOk r (KeepsScrape n c h g recorded gave old new)
       → OnErr r ((new.journal ≡ old.journal) × (new.state ≡ old.state) × (new.id ≡ old.id) × (new.window ≡ old.window)) → BeginsWith first new.journal
   scraped_begins n c h g recorded gave (Ok scrape) kept same = begins_scrape first old.journal new.journal old.window kept.answer kept.journal begins
   scraped_begins n c h g recorded gave (Err fault) kept same = subst (BeginsWith first) (sym same.0) begins

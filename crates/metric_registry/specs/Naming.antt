@@ -6,7 +6,7 @@ use Rattle.atomic_table.specs.Seated.{TableId}
 use Rattle.expo_text.specs.Scraped.{Scraped}
 use Rattle.register_rule.specs.Seats.{board_id}
 use Rattle.register_rule.specs.declared.board.Board.{Board}
-use Rattle.register_rule.specs.declared.view.Entry.{Entry as Answer}
+use Rattle.register_rule.specs.declared.view.Answer.{Answer}
 use Rattle.snapshot_scan.specs.Moments.{AreMoments}
 use Rattle.snapshot_scan.specs.Scanners.{board_in}
 use Rattle.snapshot_scan.specs.declared.scanner.Scanner.{Scanner}

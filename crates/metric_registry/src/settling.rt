@@ -3,7 +3,7 @@ ghost use Rattle.std.specs.Prelude.{◌≡◌, ℕ, ◌<◌, [], ◌∷◌, ◌+
 ghost use Rattle.chain_law.specs.Settled.{AreMomentsOf, AreSame, HasIndex, IsMissing, IsSettled};
 ghost use Rattle.snapshot_scan.specs.Readers.{IsReaderOf};
 ghost use Rattle.snapshot_scan.specs.Scanners.{reader_in};
-ghost use Rattle.snapshot_scan.specs.Snapshots.{entry_of};
+ghost use Rattle.snapshot_scan.specs.Snapshots.{as_answer};
 ghost use Rattle.snapshot_update.specs.Workers.{IsWorkerOf};
 ghost use Rattle.registry_state.specs.Journal.{scrapes};
 ghost use Rattle.registry_state.specs.Replay.{Replays, State as Held};
@@ -47,7 +47,7 @@ pub fn settle_state<'a, const N: usize, const C: usize, const H: usize, const G:
     ensures same { AreSame workers.old workers.new }
     ensures journal { IfOk result (λ journal. journal ≡ state.entry.journal) }
     ensures replays { IfOk result (λ journal. (it : Held) × Replays N C H G journal it) }
-    ensures moments { IfOk result (λ journal. AreMomentsOf workers.old (scrapes journal ++ entry_of out.new ∷ [])) }
+    ensures moments { IfOk result (λ journal. AreMomentsOf workers.old (scrapes journal ++ as_answer out.new ∷ [])) }
     ensures all { OnOk result ((i : ℕ) → i < N → HasIndex workers.old i) }
     ensures settled { OnOk result (IsSettled workers.old out.new) }
     ensures missing { IfErr result (λ e. IsMissing workers.old e.fault.missing) }
@@ -93,7 +93,7 @@ impl<'a, B: Named, const N: usize, const C: usize, const H: usize, const G: usiz
         ensures own { All (IsWorkerOf board.now) workers.new }
         ensures same { AreSame workers.old workers.new }
         ensures replays { IfOk result (λ journal. (it : Held) × Replays N C H G journal it) }
-        ensures moments { IfOk result (λ journal. AreMomentsOf workers.old (scrapes journal ++ entry_of out.new ∷ [])) }
+        ensures moments { IfOk result (λ journal. AreMomentsOf workers.old (scrapes journal ++ as_answer out.new ∷ [])) }
         ensures all { OnOk result ((i : ℕ) → i < N → HasIndex workers.old i) }
         ensures begins { IfOk result (λ journal. BeginsWith B.first journal) }
         ensures settled { OnOk result (IsSettled workers.old out.new) }

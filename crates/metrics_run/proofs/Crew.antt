@@ -11,10 +11,10 @@ use Rattle.std.specs.Prelude.{option_and_then, slice_get}
 use Rattle.registry_state.specs.declared.handle.Handle.{Handle}
 use Rattle.worker_pool.specs.declared.job.JobOp.{JobOp}
 use Rattle.metrics_run.specs.declared.state.Count.{Count}
-use Rattle.metrics_run.specs.Entries.{job_of}
+use Rattle.metrics_run.specs.QueuedJobs.{job_of}
 use Rattle.metrics_run.specs.Jobs.{job_for}
-use Rattle.metrics_run.specs.declared.entry.Entry.{Entry}
-use Rattle.metrics_run.proofs.Entries.{job_parts}
+use Rattle.metrics_run.specs.declared.queued_job.QueuedJob.{QueuedJob}
+use Rattle.metrics_run.proofs.QueuedJobs.{job_parts}
 use Rattle.metrics_run.specs.State.{job_in}
 
 abbrev Lists : Type 0
@@ -44,6 +44,6 @@ pub counted : (children : List Handle) (line number : ℕ) (count : Count) (job 
     → job_of children (record { line = line; child = number; by = count.by; what = count.what }) ≡ Some job
     → (what : JobOp) × (job_in children count ≡ Some what) × (job ≡ record { line = line; what = what })
 counted children line number count job is makes =
-    let entry : Entry = record { line = line; child = number; by = count.by; what = count.what } in
+    let entry : QueuedJob = record { line = line; child = number; by = count.by; what = count.what } in
     let parts = job_parts entry (option_and_then (job_for count.what count.by) (slice_get children number)) job makes in
     (parts.0, subst (λ (n : ℕ). option_and_then (job_for count.what count.by) (slice_get children n) ≡ Some parts.0) is parts.1, parts.2)

@@ -3,7 +3,7 @@ pub mod Parts
 pub mod Printed
 pub mod Status
 pub mod Jobs
-pub mod Entries
+pub mod QueuedJobs
 pub mod Waiting
 pub mod Children
 pub mod Scans

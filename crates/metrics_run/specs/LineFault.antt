@@ -6,8 +6,8 @@ use Rattle.metric_names.specs.HelpText as help
 use Rattle.metric_names.specs.LabelValue as value
 use Rattle.metric_desc.specs.Labels as labels
 use Rattle.metric_desc.specs.Histogram as histogram
-use Rattle.registry_state.specs.Faults.{register_number, child_number, scrape_number}
-use Rattle.worker_pool.specs.Faults.{pool_number}
+use Rattle.registry_state.specs.Faults.{register_fault_number, child_fault_number, scrape_fault_number}
+use Rattle.worker_pool.specs.Faults.{pool_fault_number}
 use Rattle.metrics_run.specs.declared.line_fault.LineFault.{LineFault}
 use Rattle.metrics_run.specs.declared.line_fault.LineFault.TheVariants.{BadLine, Name, Label, Help, Labels, Histogram, Value, Register, NoSuchFamily, Child, NoSuchChild, Pool, Scrape, Window, NoMemory}
 
@@ -20,11 +20,11 @@ number_of (Help fault) = help.number_of fault
 number_of (Labels fault) = labels.number_of fault
 number_of (Histogram fault) = histogram.number_of fault
 number_of (Value fault) = value.number_of fault
-number_of (Register fault) = register_number fault
+number_of (Register fault) = register_fault_number fault
 number_of NoSuchFamily = 20
-number_of (Child fault) = child_number fault
+number_of (Child fault) = child_fault_number fault
 number_of NoSuchChild = 28
-number_of (Pool fault) = pool_number fault
-number_of (Scrape fault) = scrape_number fault
+number_of (Pool fault) = pool_fault_number fault
+number_of (Scrape fault) = scrape_fault_number fault
 number_of (Window fault) = 31
 number_of NoMemory = 6

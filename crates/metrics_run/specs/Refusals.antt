@@ -4,7 +4,7 @@ use Rattle.metric_desc.specs.Desc.{Descriptor}
 use Rattle.metric_desc.specs.declared.kind.Kind.{Kind}
 use Rattle.metric_desc.specs.declared.kind.Kind.TheVariants as kind
 use Rattle.snapshot_scan.specs.Scanners.{recorded_in}
-use Rattle.registry_state.specs.Changed.{Keeps}
+use Rattle.registry_state.specs.Changed.{KeepsScrape}
 use Rattle.registry_state.specs.Faults.{IsWindow, IsRegisterFault, IsChildFault, Leaves}
 use Rattle.registry_state.specs.declared.fault.BadWindow.{BadWindow}
 use Rattle.registry_state.specs.declared.fault.RegisterFault.{RegisterFault}
@@ -86,7 +86,7 @@ pub record IsNotScraped (old : State) (wrong : ScrapeFault) (new : State) : Type
 abbrev pub IsScrapeRefusal : State → LineFault → (new : State) → Type 0
 IsScrapeRefusal old refusal new =
     ((wrong : ScrapeFault) × (refusal ≡ fault.Scrape wrong) × IsNotScraped old wrong new)
-    ⊎ ((refusal ≡ fault.NoMemory) × Keeps 4 64 8 16 recorded_in gave_in old.registry new.registry × IsBeside old new)
+    ⊎ ((refusal ≡ fault.NoMemory) × KeepsScrape 4 64 8 16 recorded_in gave_in old.registry new.registry × IsBeside old new)
 
 -- why a window is refused: it is none that a registry may have
 abbrev pub IsWindowRefusal : (size : ℕ) → LineFault → Type 0

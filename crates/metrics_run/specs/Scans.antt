@@ -1,6 +1,6 @@
 -- What a script's registry says of its scans.
 use Rattle.std.specs.Prelude.{◌≡◌, ℕ}
-use Rattle.register_rule.specs.declared.view.Entry.{Entry as Answer}
+use Rattle.register_rule.specs.declared.view.Answer.{Answer}
 use Rattle.snapshot_scan.specs.Answered.{HasAnswered, HasGivenUp}
 use Rattle.snapshot_scan.specs.Readers.{scan_by}
 use Rattle.snapshot_scan.specs.Scanners.{board_in, reader_in}

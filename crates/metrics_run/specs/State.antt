@@ -9,7 +9,7 @@ use Rattle.snapshot_scan.specs.Readers.{IsReaderOf}
 use Rattle.snapshot_scan.specs.Scanners.{board_in, reader_in, recorded_in}
 use Rattle.snapshot_update.specs.declared.worker.Worker.{Worker}
 use Rattle.snapshot_update.specs.Workers.{index_of, lists_of, IsWorkerOf}
-use Rattle.registry_state.specs.Changed.{changed, IsGiven, Keeps}
+use Rattle.registry_state.specs.Changed.{changed, IsGiven, KeepsScrape}
 use Rattle.registry_state.specs.Faults.{IsWindow}
 use Rattle.registry_state.specs.Journal.{Registered, scrapes, within}
 use Rattle.registry_state.specs.Replay.{nothing}
@@ -109,7 +109,7 @@ pub record IsGone (old new : State) : Type 0 where
 
 -- the registry made a scrape of all its families, which it keeps, and this is its text
 pub record IsScraped (old : State) (bytes : List ℕ) (new : State) : Type 0 where
-  pub kept : Keeps 4 64 8 16 recorded_in gave_in old.registry new.registry
+  pub kept : KeepsScrape 4 64 8 16 recorded_in gave_in old.registry new.registry
   pub scrape : Scraped
   pub shown : IsShown 64 8 old.registry.state.families kept.answer scrape
   pub text_is : bytes ≡ text scrape

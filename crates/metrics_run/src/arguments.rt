@@ -6,7 +6,7 @@ use script_lines::read_number;
 
 /// What the arguments ask for.
 #[derive(Clone, Copy)]
-pub(crate) enum Asked {
+pub(crate) enum Command {
     /// `script`
     Script,
     /// `serve PORT COUNT`

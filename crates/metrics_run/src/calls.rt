@@ -10,10 +10,10 @@ ghost use Rattle.metrics_run.specs.State.{IsReady, IsFresh, IsSame, IsRegistered
 ghost use Rattle.metrics_run.specs.Refusals.{IsRegisterRefusal, IsChildRefusal, IsQueueRefusal, IsGoRefusal, IsLost, IsScrapeRefusal, IsWindowRefusal};
 
 use crate::children::has_number;
-use crate::entry::Entry;
 use crate::line_fault::LineFault;
 use crate::parts::read_values;
 use crate::queue::Queue;
+use crate::queued_job::QueuedJob;
 use crate::refused::Refused;
 use crate::state::{Count, State};
 use chain_law::settle;
@@ -129,7 +129,7 @@ impl<'a> State<'a> {
         let Ok(child) = usize::try_from(count.child) else {
             return Err(LineFault::NoSuchChild);
         };
-        let entry = Entry {
+        let entry = QueuedJob {
             line,
             child,
             by: count.by,

@@ -8,16 +8,16 @@
 mod arguments;
 mod calls;
 mod children;
-mod entry;
 mod jobs;
 mod line_fault;
 mod parts;
 mod queue;
+mod queued_job;
 mod refused;
 mod script;
 mod state;
 
-use arguments::{Asked, read_serve};
+use arguments::{Command, read_serve};
 use metric_names::NoMemory;
 use metrics_serve::{ServeEnd, serve_on};
 use script::{ScriptEnd, refuse_all, run_script};
@@ -33,14 +33,14 @@ use std::{env, io};
 const USAGE: &str = "usage: metrics_run script | metrics_run serve PORT COUNT";
 
 /// What the words ask for, if they do: the program's name, and then those of a script or of a server.
-fn read_asked(mut words: env::Args) -> Option<Asked> {
+fn read_asked(mut words: env::Args) -> Option<Command> {
     let _program = words.next();
     let asked = match words.next()?.as_str() {
-        "script" => Asked::Script,
+        "script" => Command::Script,
         "serve" => {
             let (port, count) = (words.next()?, words.next()?);
             let (port, count) = read_serve(port.as_str(), count.as_str())?;
-            Asked::Serve { port, count }
+            Command::Serve { port, count }
         }
         _ => return None,
     };
@@ -53,7 +53,7 @@ fn read_asked(mut words: env::Args) -> Option<Asked> {
 /// What the arguments ask for, if they do. An argument that is no text asks for nothing.
 ///
 /// Refusal 6 [`NoMemory`], and no other.
-fn asked(rt: &(impl Env + AllocGlobal)) -> Result<Option<Asked>, NoMemory> {
+fn asked(rt: &(impl Env + AllocGlobal)) -> Result<Option<Command>, NoMemory> {
     match env::args(rt) {
         Ok(words) => Ok(read_asked(words)),
         Err(fault) if fault.kind() == ErrorKind::OutOfMemory => Err(NoMemory),
@@ -74,11 +74,11 @@ where
 
 fn main(rt: HostRuntime) -> ExitCode {
     let (is_broken, status) = match asked(&rt) {
-        Ok(Some(Asked::Script)) => {
+        Ok(Some(Command::Script)) => {
             let end = run_script(&rt, rt.alloc(), rt.reader(), io::writer(&rt));
             (end == ScriptEnd::Broken, end.status())
         }
-        Ok(Some(Asked::Serve { port, count })) => {
+        Ok(Some(Command::Serve { port, count })) => {
             let end = serve(&rt, rt.alloc(), port, count, &mut io::writer(&rt));
             (end == ServeEnd::Broken, end.status())
         }

@@ -1,9 +1,9 @@
 //! What waits for `go`.
 ghost use Rattle.std.specs.Prelude.{◌≡◌, [], length, All, IfOk};
-ghost use Rattle.metrics_run.specs.Entries.{ListFits};
+ghost use Rattle.metrics_run.specs.QueuedJobs.{ListFits};
 
-use crate::entry::Entry;
 use crate::jobs::add_times;
+use crate::queued_job::QueuedJob;
 use metric_names::NoMemory;
 use registry_state::Handle;
 use std::alloc::Global;
@@ -17,12 +17,12 @@ const WORKERS: usize = 4;
 #[derive(Drop)]
 pub(crate) struct Queue {
     pub(crate) children: Vec<Handle>,
-    pub(crate) lists: Vec<Vec<Entry>>,
+    pub(crate) lists: Vec<Vec<QueuedJob>>,
     ghost fit: { All (ListFits children.items) lists.items },
 }
 
 /// An empty list for each worker.
-fn no_lists(alloc: Global) -> Result<Vec<Vec<Entry>>, NoMemory>
+fn no_lists(alloc: Global) -> Result<Vec<Vec<QueuedJob>>, NoMemory>
     ensures all { IfOk result (λ v. length v.items ≡ 4) }
     ensures none { IfOk result (λ v. All (λ list. list.items ≡ []) v.items) }
 {
@@ -34,7 +34,7 @@ fn no_lists(alloc: Global) -> Result<Vec<Vec<Entry>>, NoMemory>
 }
 
 /// Drops the entries of all lists, and keeps the lists' room.
-fn drop_entries(lists: &mut [Vec<Entry>])
+fn drop_entries(lists: &mut [Vec<QueuedJob>])
     ensures all { length lists.new ≡ length lists.old }
     ensures none { All (λ list. list.items ≡ []) lists.new }
 {
@@ -46,7 +46,7 @@ fn drop_entries(lists: &mut [Vec<Entry>])
 impl Queue {
     ghost use Rattle.std.specs.Prelude.{◌<◌, ◌∷◌, ◌++◌, replicate, OnErr, OnOk, vec_capacity, vec_len};
     ghost use Rattle.worker_pool.specs.declared.job.Job.{Job};
-    ghost use Rattle.metrics_run.specs.Entries.{job_of, Fits};
+    ghost use Rattle.metrics_run.specs.QueuedJobs.{job_of, Fits};
     ghost use Rattle.metrics_run.specs.Jobs.{with_jobs};
     ghost use Rattle.metrics_run.specs.Waiting.{lists_in};
 
@@ -84,7 +84,12 @@ impl Queue {
     }
 
     /// Puts an entry behind a worker's list, so many times, or leaves all as it was.
-    pub(crate) fn add(&mut self, worker: usize, entry: &Entry, times: u64) -> Result<(), NoMemory>
+    pub(crate) fn add(
+        &mut self,
+        worker: usize,
+        entry: &QueuedJob,
+        times: u64,
+    ) -> Result<(), NoMemory>
         requires worker { worker < length (lists_in self.old) }
         requires fits { Fits self.old.children.items entry.now }
         ensures children { self.new.children.items ≡ self.old.children.items }

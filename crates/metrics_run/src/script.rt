@@ -3,7 +3,7 @@ ghost use Rattle.std.specs.Prelude.{◌≡◌, ℕ, List, [], ◌∷◌, ◌++�
 ghost use Rattle.std.specs.Io.KnownBytes.{Appends, IsAtEnd, Keeps};
 ghost use Rattle.chain_law.specs.Settled.{AreMomentsOf, IsSettled};
 ghost use Rattle.registry_state.specs.Journal.{scrapes};
-ghost use Rattle.snapshot_scan.specs.Snapshots.{entry_of};
+ghost use Rattle.snapshot_scan.specs.Snapshots.{as_answer};
 ghost use Rattle.metrics_run.specs.LineFault.{number_of};
 ghost use Rattle.script_lines.specs.Language.{IsLine};
 ghost use Rattle.script_lines.specs.Line.{saying_of};
@@ -277,7 +277,7 @@ pub fn refuse_all<W: Write>(writer: &mut W) -> ScriptEnd
 fn end(state: State<'_>) -> (Journal<4, 64, 8, 16>, Snapshot)
     requires { IsReady state }
     ensures journal { result.0 ≡ state.entry.registry.journal }
-    ensures moments { AreMomentsOf state.entry.workers.items (scrapes result.0 ++ entry_of result.1 ∷ []) }
+    ensures moments { AreMomentsOf state.entry.workers.items (scrapes result.0 ++ as_answer result.1 ∷ []) }
     ensures totals { IsSettled state.entry.workers.items result.1 }
 {
     let State {

@@ -12,7 +12,7 @@ use Rattle.snapshot_update.specs.declared.worker.Worker.{Worker}
 use Rattle.snapshot_update.specs.Workers.{index_of, lists_of, member_of, ops_in, IsApplyFault, IsWorkerOf}
 use Rattle.metrics_serve.specs.declared.metrics.Metrics.{Metrics}
 use Rattle.metrics_serve.specs.declared.threads.Four.{Four}
-use Rattle.metrics_serve.specs.Counted.{AreFour, AreNew, HasCounted, HaveCounted, IsNew, WasCounted, list_for}
+use Rattle.metrics_serve.specs.Counted.{AreFour, AreNewWorkers, HasCounted, HaveCounted, IsNewWorker, WasCounted, list_for}
 
 module _ (b : Board 4 64 8 16) (m : Metrics) where
   -- no reply yet
@@ -71,10 +71,10 @@ module _ (b : Board 4 64 8 16) (m : Metrics) where
       }
 
   -- the four workers are there again, in their order
-  pub back_again : (was four : Four) → AreNew b was → HaveCounted b m was four → AreFour b four
+  pub back_again : (was four : Four) → AreNewWorkers b was → HaveCounted b m was four → AreFour b four
   back_again was four new counted =
       let P = IsWorkerOf b in
-      let index : (i : ℕ) (w v : Worker 4 64 8 16) → IsNew b i w → HasCounted b m w v → index_of v ≡ i = λ i w v is has. has.index ∙ is.index_is in
+      let index : (i : ℕ) (w v : Worker 4 64 8 16) → IsNewWorker b i w → HasCounted b m w v → index_of v ≡ i = λ i w v is has. has.index ∙ is.index_is in
       record {
         own = All-cons P four.a (four.b ∷ four.c ∷ four.d ∷ []) counted.0.own (All-cons P four.b (four.c ∷ four.d ∷ []) counted.1.own
             (All-cons P four.c (four.d ∷ []) counted.2.own (All-cons P four.d [] counted.3.own (All-nil P))));

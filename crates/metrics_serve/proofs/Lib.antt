@@ -1,9 +1,9 @@
-pub mod Gathered
+pub mod SettledFour
 pub mod Printing
 mod Counting
 mod Four
 mod Making
 mod Named
 mod Sent
-mod Six
+mod SixCounters
 mod Totals

@@ -15,8 +15,8 @@ use Rattle.chain_law.specs.Made.{joined, made_all}
 use Rattle.chain_law.specs.Settled.{IsSettled}
 use Rattle.metrics_serve.specs.declared.metrics.Metrics.{Metrics}
 use Rattle.metrics_serve.specs.declared.threads.Four.{Four}
-use Rattle.metrics_serve.specs.Counted.{AreNew, AreSix, HasCounted, HaveCounted, IsNew, all_of, counter_for, list_for, number_of, replies_in}
-use Rattle.metrics_serve.proofs.Six.{one_of_six, six_same, six_both, six_list}
+use Rattle.metrics_serve.specs.Counted.{AreNewWorkers, AreSix, HasCounted, HaveCounted, IsNewWorker, all_of, counter_for, list_for, replies_counted, replies_in}
+use Rattle.metrics_serve.proofs.SixCounters.{one_of_six, six_same, six_both, six_list}
 
 module _ (m : Metrics) (are : AreSix m) where
   -- the sum over the counters of all statuses
@@ -56,12 +56,12 @@ module _ (m : Metrics) (are : AreSix m) where
       omega (arith, e, first, later)
 
   module _ (b : Board 4 64 8 16) where
-    of_worker : (i : ℕ) (w v : Worker 4 64 8 16) → IsNew b i w → (counted : HasCounted b m w v) → all (sum_ops 64 8 (joined (lists_of v))) ≡ length counted.replies
+    of_worker : (i : ℕ) (w v : Worker 4 64 8 16) → IsNewWorker b i w → (counted : HasCounted b m w v) → all (sum_ops 64 8 (joined (lists_of v))) ≡ length counted.replies
     of_worker i w v new counted =
         let lists : lists_of v ≡ map (list_for m) counted.replies = counted.lists ∙ ap (λ (l : List (List Op)). l ++ map (list_for m) counted.replies) new.lists in
         ap (λ (l : List (List Op)). all (sum_ops 64 8 (joined l))) lists ∙ of_replies counted.replies
 
-    of_four : (was four : Four) → AreNew b was → (counted : HaveCounted b m was four) → all (sum_ops 64 8 (made_all (all_of four))) ≡ number_of counted
+    of_four : (was four : Four) → AreNewWorkers b was → (counted : HaveCounted b m was four) → all (sum_ops 64 8 (made_all (all_of four))) ≡ replies_counted counted
     of_four was four new counted =
         let of_a = of_worker 0 was.a four.a new.0 counted.0 in
         let of_b = of_worker 1 was.b four.b new.1 counted.1 in
@@ -74,8 +74,8 @@ module _ (m : Metrics) (are : AreSix m) where
         omega (arith, of_a, of_b, of_c, of_d, from_a, from_b, from_c, from_d)
 
     -- the total of all statuses is how many replies were counted
-    pub all_counted : (was four : Four) → AreNew b was → (counted : HaveCounted b m was four) → (out : Taken) → IsSettled (all_of four) out
-        → replies_in m out.totals ≡ number_of counted
+    pub all_counted : (was four : Four) → AreNewWorkers b was → (counted : HaveCounted b m was four) → (out : Taken) → IsSettled (all_of four) out
+        → replies_in m out.totals ≡ replies_counted counted
     all_counted was four new counted out settled =
         let read : (k : ℕ) → k < 64 → slice_index out.totals k ≡ sum_ops 64 8 (made_all (all_of four)) k =
         λ k inside. read_at out.totals k _ 0 (settled.totals k (omega arith)) in

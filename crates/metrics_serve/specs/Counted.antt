@@ -13,7 +13,7 @@ use Rattle.snapshot_update.specs.declared.faults.ApplyFault.{ApplyFault}
 use Rattle.snapshot_update.specs.declared.worker.Worker.{Worker}
 use Rattle.snapshot_update.specs.Workers.{index_of, lists_of, member_of, IsApplyFault, IsWorkerOf}
 use Rattle.chain_law.specs.Settled.{AreMomentsOf, IsSettled}
-use Rattle.snapshot_scan.specs.Snapshots.{Taken, entry_of}
+use Rattle.snapshot_scan.specs.Snapshots.{Taken, as_answer}
 use Rattle.snapshot_scan.specs.declared.scanner.Scanner.{Scanner}
 use Rattle.registry_state.specs.Journal.{Entry, changes, scrapes}
 use Rattle.registry_state.specs.Kept.{Registry}
@@ -69,22 +69,22 @@ pub record WasCounted (b : Board 4 64 8 16) (m : Metrics) (w v : Worker 4 64 8 1
   pub fault : OnErr result (member_of v ≡ member_of w)
 
 -- this is the worker of this index, at home, and it has published nothing
-pub record IsNew (b : Board 4 64 8 16) (index : ℕ) (w : Worker 4 64 8 16) : Type 0 where
+pub record IsNewWorker (b : Board 4 64 8 16) (index : ℕ) (w : Worker 4 64 8 16) : Type 0 where
   pub own : IsWorkerOf b w
   pub index_is : index_of w ≡ index
   pub lists : lists_of w ≡ []
 
 -- these are the four workers of a new board, in order
-abbrev pub AreNew : Board 4 64 8 16 → Four → Type 0
-AreNew b four = IsNew b 0 four.a × IsNew b 1 four.b × IsNew b 2 four.c × IsNew b 3 four.d
+abbrev pub AreNewWorkers : Board 4 64 8 16 → Four → Type 0
+AreNewWorkers b four = IsNewWorker b 0 four.a × IsNewWorker b 1 four.b × IsNewWorker b 2 four.c × IsNewWorker b 3 four.d
 
 -- each of the four has counted replies, and nothing else
 abbrev pub HaveCounted : Board 4 64 8 16 → Metrics → (was four : Four) → Type 0
 HaveCounted b m was four = HasCounted b m was.a four.a × HasCounted b m was.b four.b × HasCounted b m was.c four.c × HasCounted b m was.d four.d
 
 -- how many replies these are, of all four
-abbrev pub number_of : {b : Board 4 64 8 16} {m : Metrics} {was four : Four} → HaveCounted b m was four → ℕ
-number_of counted = length counted.0.replies + length counted.1.replies + length counted.2.replies + length counted.3.replies
+abbrev pub replies_counted : {b : Board 4 64 8 16} {m : Metrics} {was four : Four} → HaveCounted b m was four → ℕ
+replies_counted counted = length counted.0.replies + length counted.1.replies + length counted.2.replies + length counted.3.replies
 
 -- the four workers, in order
 abbrev pub all_of : Four → List (Worker 4 64 8 16)
@@ -102,10 +102,10 @@ pub record AreFour (b : Board 4 64 8 16) (four : Four) : Type 0 where
 pub record AreReplies (b : Board 4 64 8 16) (m : Metrics) (first : Registry (Scanner 4 64 8 16)) (was : Four) (replies : ℕ) : Type 0 where
   pub four : Four
   pub counted : HaveCounted b m was four
-  pub number : replies ≡ number_of counted
+  pub number : replies ≡ replies_counted counted
   pub out : Taken
   pub settled : IsSettled (all_of four) out
   pub total : replies ≡ replies_in m out.totals
   pub journal : List Entry
   pub begins : BeginsWith (changes first.journal) journal
-  pub moments : AreMomentsOf (all_of four) (scrapes journal ++ entry_of out ∷ [])
+  pub moments : AreMomentsOf (all_of four) (scrapes journal ++ as_answer out ∷ [])

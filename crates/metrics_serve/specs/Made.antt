@@ -13,7 +13,7 @@ pub record IsSameBoard {S : Type 0} (old new : Registry S) : Type 0 where
   pub id : new.id ≡ old.id
 
 -- the registry is of this board, and has the server's metrics: six counters of the board's, no two of which are one
-pub record IsServed (b : Board 4 64 8 16) (service : Service) : Type 0 where
+pub record IsService (b : Board 4 64 8 16) (service : Service) : Type 0 where
   pub scans : board_in service.registry.source ≡ b
   pub id : service.registry.id ≡ board_id b
   pub six : AreSix service.metrics

@@ -5,8 +5,8 @@ ghost use Rattle.snapshot_scan.specs.Readers.{IsReaderOf};
 ghost use Rattle.snapshot_update.specs.Workers.{index_of, lists_of, IsWorkerOf};
 ghost use Rattle.registry_state.specs.Journal.{changes};
 ghost use Rattle.metric_registry.specs.Naming.{name_of};
-ghost use Rattle.metrics_serve.specs.Counted.{AreNew, AreReplies};
-ghost use Rattle.metrics_serve.specs.Made.{IsServed};
+ghost use Rattle.metrics_serve.specs.Counted.{AreNewWorkers, AreReplies};
+ghost use Rattle.metrics_serve.specs.Made.{IsService};
 ghost use Rattle.metrics_serve.specs.Printed.{Begins, Prints, listening_line, status_of};
 
 use crate::board::{Board, Reader, Registry, Snapshot, Staff, Worker, new_board};
@@ -64,7 +64,7 @@ impl<'b> Service<'b> {
     /// A registry with the server's metrics, and empty queues. There is none for want of memory alone.
     fn new(alloc: Global, board: &'b Board, scraper: Reader) -> Option<Service<'b>>
         requires { IsReaderOf board.now scraper }
-        ensures { IfSome result (IsServed board.now) }
+        ensures { IfSome result (IsService board.now) }
     {
         let source = Scanner::new(board, scraper);
         let Ok(mut registry) = Registry::new(alloc, source, board.id(), WINDOW) else {
@@ -109,7 +109,7 @@ fn to_four(board: &Board, mut workers: Vec<Worker>) -> Four
     requires own { All (IsWorkerOf board.now) workers.items }
     requires all { map index_of workers.items ≡ 0 ∷ 1 ∷ 2 ∷ 3 ∷ [] }
     requires new { map lists_of workers.items ≡ replicate 4 [] }
-    ensures { AreNew board.now result }
+    ensures { AreNewWorkers board.now result }
 {
     let (Some(d), Some(c), Some(b), Some(a)) = (
         workers.pop(),
@@ -132,8 +132,8 @@ fn serve_counting<B: Named + Send, T: Threads + Wait + Sync>(
     listener: &TcpListener,
     count: u64,
 ) -> Option<u64>
-    requires new { AreNew board.now workers }
-    requires service { IsServed board.now service }
+    requires new { AreNewWorkers board.now workers }
+    requires service { IsService board.now service }
     requires named { B.board ≡ Some (name_of board.now) }
     requires first { B.first ≡ changes service.registry.journal }
     ensures { IfSome result (AreReplies board.now service.entry.metrics service.entry.registry workers) }

@@ -1,7 +1,7 @@
 //! The threads of the server: each answers the connections of its queue, in order.
 ghost use Rattle.std.specs.Prelude.{◌≡◌, IfSome};
 ghost use Rattle.snapshot_update.specs.Workers.{IsWorkerOf};
-ghost use Rattle.metrics_serve.specs.Counted.{AreNew, HasCounted, HaveCounted};
+ghost use Rattle.metrics_serve.specs.Counted.{AreNewWorkers, HasCounted, HaveCounted};
 
 use crate::answer::answer;
 use crate::board::{Board, Worker};
@@ -156,7 +156,7 @@ fn serve_all<'s, E: 's, T: Threads + Wait + Sync, S: ScrapeFrom + Send + Drop + 
     listener: &TcpListener,
     count: u64,
 ) -> Option<Four>
-    requires { AreNew shared.board.now workers }
+    requires { AreNewWorkers shared.board.now workers }
     ensures { IfSome result (λ four. HaveCounted shared.entry.board.now shared.entry.metrics.now workers four) }
 {
     let (from_a, from_b, from_c, from_d) = sources;
@@ -191,14 +191,14 @@ pub(crate) fn serve_in_threads<T: Threads + Wait + Sync, S: ScrapeFrom + Send + 
     listener: &TcpListener,
     count: u64,
 ) -> Option<Four>
-    requires { AreNew shared.board.now workers }
+    requires { AreNewWorkers shared.board.now workers }
     ensures { IfSome result (λ four. HaveCounted shared.entry.board.now shared.entry.metrics.now workers four) }
 {
     thread::scope(
         thread::scope_env(),
         shared.rt,
         |scope| -> Option<Four>
-            requires { AreNew shared.board.now workers }
+            requires { AreNewWorkers shared.board.now workers }
             ensures { IfSome result (λ four. HaveCounted shared.entry.board.now shared.entry.metrics.now workers four) }
         { serve_all(scope, shared, sources, workers, queues, listener, count) },
     )

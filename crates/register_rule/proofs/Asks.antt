@@ -7,7 +7,7 @@ use Rattle.std.proofs.lemmas.Bool.{eqb-true, and_parts, cond_both}
 use Rattle.ledger_core.specs.declared.op.Op.{Op}
 use Rattle.register_rule.specs.declared.view.Made.{Made}
 use Rattle.register_rule.specs.declared.view.Look.{Look}
-use Rattle.register_rule.specs.declared.view.Entry.{Entry}
+use Rattle.register_rule.specs.declared.view.Answer.{Answer}
 use Rattle.register_rule.specs.declared.view.Asked.{Asked}
 use Rattle.register_rule.specs.declared.view.Progress.{Progress}
 use Rattle.register_rule.specs.declared.view.Scan.{Scan}
@@ -15,7 +15,7 @@ use Rattle.register_rule.specs.History.{count, IsCut, Below}
 use Rattle.register_rule.specs.Sums.{row_sum, last_lent, flag_of}
 use Rattle.register_rule.specs.Shown.{Shows}
 use Rattle.register_rule.specs.Loads.{AreOrdered}
-use Rattle.register_rule.specs.Scans.{opened_at, AreLoads, HasMoved, IsLook, Doomed, IsEntry, IsAsked, IsSound}
+use Rattle.register_rule.specs.Scans.{opened_at, AreLoads, IsStale, IsLook, Doomed, IsOneMoment, IsAsked, IsSound}
 use Rattle.register_rule.specs.Steps.{upper, at_rest, answered, gives_up, begun, is_next, after_ask, rest, lent_in, is_lender, asked_of, answers, ask_ends, after_end_ask}
 use Rattle.register_rule.proofs.Words.{there, read_at, from_replicate, each_push}
 use Rattle.register_rule.proofs.Moments.{length_tab}
@@ -30,7 +30,7 @@ piece_at j k l i lt = get_or-take k (drop j l) i 0 lt ∙ get_or-drop j l i 0
 length_piece : (j k : ℕ) (l : List ℕ) → j + k ≤ length l → length (take k (drop j l)) ≡ k
 length_piece j k l le = length-take-le k (drop j l) (let e = length-drop j l in omega (arith, e))
 
-flag_low : (o : Option Entry) → flag_of o ≤ 1
+flag_low : (o : Option Answer) → flag_of o ≤ 1
 flag_low None = omega arith
 flag_low (Some a) = omega arith
 
@@ -69,13 +69,13 @@ module _ (n w : ℕ) (adds : List Op → ℕ → ℕ) (made : ℕ → List Made)
       (λ _. ok)
 
   -- a scan ends with an answer
-  pub scan_answered : (c : Scan) (a : Entry) → 0 < n → length a.vector ≡ n → IsEntry n w adds made h a → IsSound n w adds made h c → IsSound n w adds made h (answered a c)
+  pub scan_answered : (c : Scan) (a : Answer) → 0 < n → length a.vector ≡ n → IsOneMoment n w adds made h a → IsSound n w adds made h c → IsSound n w adds made h (answered a c)
   scan_answered c a some_n wide answer ok = let same : length c.seen ≡ length a.vector = ok.seen_wide ∙ sym wide in record {
     opened = ok.opened;
     confirmed = ok.confirmed;
     ordered = rest_ordered c.opened c.confirmed c.before c.now.looks ok.ordered;
     asked = ok.asked;
-    recorded = each_push (λ (y : Entry). IsEntry n w adds made h y × Below y.vector (upper c.seen a.vector)) c.recorded a
+    recorded = each_push (λ (y : Answer). IsOneMoment n w adds made h y × Below y.vector (upper c.seen a.vector)) c.recorded a
         (λ q x t. ((ok.recorded q x t).0, below_upper x.vector c.seen a.vector same (ok.recorded q x t).1))
         (answer, new same);
     seen = λ i s e. ⊎_elim (ok.seen i s) (answer.low i s) (upper_from c.seen a.vector i s e);
@@ -106,13 +106,13 @@ module _ (n w : ℕ) (adds : List Op → ℕ → ℕ) (made : ℕ → List Made)
     old = omega (arith, end);
     shown = λ same k y e. ⊎_elim
         (λ (t : Shows n w adds (take l.number (made l.place)) (w + k) y). t)
-        (λ (t : HasMoved n w adds made l). let t' = t.1 in absurd (omega (arith, end, same)))
+        (λ (t : IsStale n w adds made l). let t' = t.1 in absurd (omega (arith, end, same)))
         (ok.right k y e);
   }
 
   -- what a worker whose number stood still has shown is what it lends
-  lent_right : (i x : ℕ) (floor : List ℕ) (l : Look) → l.place ≡ i → x ≡ length (made i) → ((a : Entry) → last_lent (made i) ≡ Some a → IsEntry n w adds made h a) → IsLook n w adds made w l → is_lender n w x floor l ≡ true
-      → IsEntry n w adds made h (lent_in n w l.words) × (length (lent_in n w l.words).vector ≡ n)
+  lent_right : (i x : ℕ) (floor : List ℕ) (l : Look) → l.place ≡ i → x ≡ length (made i) → ((a : Answer) → last_lent (made i) ≡ Some a → IsOneMoment n w adds made h a) → IsLook n w adds made w l → is_lender n w x floor l ≡ true
+      → IsOneMoment n w adds made h (lent_in n w l.words) × (length (lent_in n w l.words).vector ≡ n)
   lent_right i x floor l at is lent ok hit =
       let t3 = and_parts _ _ hit in let t2 = and_parts _ _ t3.0 in let t1 = and_parts _ _ t2.0 in
       let this : l.number ≡ x = eqb-true _ _ t1.0 in let len : length l.words ≡ 1 + n + w = eqb-true _ _ t1.1 in let one : get_or l.words 0 0 ≡ 1 = eqb-true _ _ t2.1 in
@@ -120,11 +120,11 @@ module _ (n w : ℕ) (adds : List Op → ℕ → ℕ) (made : ℕ → List Made)
       let all : take l.number (made l.place) ≡ made i = take_all l.number (made l.place) (omega (arith, still)) ∙ ap made at in
       let shows : (p : ℕ) → p < length l.words → Shows n w adds (made i) (w + p) (get_or l.words p 0) =
       λ p lt. subst (λ (z : List Made). Shows n w adds z (w + p) (get_or l.words p 0)) all
-      (⊎_elim (λ t. t) (λ (t : HasMoved n w adds made l). let t' = t.1 in absurd (omega arith)) (ok.right p (get_or l.words p 0) (there l.words p 0 lt))) in
+      (⊎_elim (λ t. t) (λ (t : IsStale n w adds made l). let t' = t.1 in absurd (omega arith)) (ok.right p (get_or l.words p 0) (there l.words p 0 lt))) in
       go shows len one (last_lent (made i)) refl
     where
-      go : ((p : ℕ) → p < length l.words → Shows n w adds (made i) (w + p) (get_or l.words p 0)) → length l.words ≡ 1 + n + w → get_or l.words 0 0 ≡ 1 → (o : Option Entry) → last_lent (made i) ≡ o
-          → IsEntry n w adds made h (lent_in n w l.words) × (length (lent_in n w l.words).vector ≡ n)
+      go : ((p : ℕ) → p < length l.words → Shows n w adds (made i) (w + p) (get_or l.words p 0)) → length l.words ≡ 1 + n + w → get_or l.words 0 0 ≡ 1 → (o : Option Answer) → last_lent (made i) ≡ o
+          → IsOneMoment n w adds made h (lent_in n w l.words) × (length (lent_in n w l.words).vector ≡ n)
       go shows len one None e = let f : get_or l.words 0 0 ≡ flag_of (last_lent (made i)) = (shows 0 (omega (arith, len))).flag (omega arith) in let f' : flag_of (last_lent (made i)) ≡ 0 = ap flag_of e in absurd (omega (arith, f, f', one))
       go shows len one (Some a) e =
           let ok' = lent a e in
@@ -147,7 +147,7 @@ module _ (n w : ℕ) (adds : List Op → ℕ → ℕ) (made : ℕ → List Made)
           )
 
   -- the confirming load of the worker that is asked
-  pub end_ask_right : (c : Scan) (i x : ℕ) → 0 < n → x ≡ length (made i) → ((a : Entry) → last_lent (made i) ≡ Some a → IsEntry n w adds made h a) → IsSound n w adds made h c → IsSound n w adds made h (after_end_ask n w i x c)
+  pub end_ask_right : (c : Scan) (i x : ℕ) → 0 < n → x ≡ length (made i) → ((a : Answer) → last_lent (made i) ≡ Some a → IsOneMoment n w adds made h a) → IsSound n w adds made h c → IsSound n w adds made h (after_end_ask n w i x c)
   end_ask_right c i x some_n is lent ok = by_asks c.now.asks ok.asks
     where
       by_asks : (ls : List Look) → ((q : ℕ) (l : Look) → get_elem? ls q ≡ some l → IsLook n w adds made w l) → IsSound n w adds made h (ask_ends n w i x ls c)

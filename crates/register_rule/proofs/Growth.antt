@@ -7,13 +7,13 @@ use Rattle.ledger_core.specs.declared.op.Op.{Op}
 use Rattle.register_rule.specs.declared.view.Made.{Made}
 use Rattle.register_rule.specs.declared.view.Look.{Look}
 use Rattle.register_rule.specs.declared.view.Version.{Version}
-use Rattle.register_rule.specs.declared.view.Entry.{Entry}
+use Rattle.register_rule.specs.declared.view.Answer.{Answer}
 use Rattle.register_rule.specs.declared.view.Asked.{Asked}
 use Rattle.register_rule.specs.declared.view.Scan.{Scan}
 use Rattle.register_rule.specs.History.{IsCut, Below}
 use Rattle.register_rule.specs.Sums.{total, row_sum}
 use Rattle.register_rule.specs.Shown.{Shows}
-use Rattle.register_rule.specs.Scans.{opened_at, AtMost, AreLoads, HasMoved, IsLook, Doomed, IsVersion, IsEntry, IsAsked, IsSound}
+use Rattle.register_rule.specs.Scans.{opened_at, AtMost, AreLoads, IsStale, IsLook, Doomed, IsVersion, IsOneMoment, IsAsked, IsSound}
 use Rattle.register_rule.specs.Steps.{upper}
 use Rattle.register_rule.proofs.Moments.{past_grows}
 use Rattle.register_rule.proofs.Upper.{length_upper, upper_from, upper_of}
@@ -33,7 +33,7 @@ module _ (n w : ℕ) (adds : List Op → ℕ → ℕ) where
     loads_grow : (xs : List (ℕ × ℕ)) → AreLoads n w adds made xs → AreLoads n w adds made' xs
     loads_grow xs ok q x e = let up = (more x.0).0 in let h = (ok q x e).1 in ((ok q x e).0, omega arith)
 
-    moved_grows : (l : Look) → HasMoved n w adds made l → HasMoved n w adds made' l
+    moved_grows : (l : Look) → IsStale n w adds made l → IsStale n w adds made' l
     moved_grows l t = let up = (more l.place).0 in let h = t.1 in (t.0, omega arith)
 
     look_grows : (from : ℕ) (l : Look) → IsLook n w adds made from l → IsLook n w adds made' from l
@@ -43,7 +43,7 @@ module _ (n w : ℕ) (adds : List Op → ℕ → ℕ) where
       risen = ⊎_elim (λ none. inl none) (λ t. let h = t.1 in inr (t.0, omega arith)) ok.risen;
       right = λ k x e. ⊎_elim
           (λ (t : Shows n w adds (take l.number (made l.place)) (from + k) x). inl (subst (λ (z : List Made). Shows n w adds z (from + k) x) (sym ((more l.place).1 l.number ok.old)) t))
-          (λ (t : HasMoved n w adds made l). inr (moved_grows l t))
+          (λ (t : IsStale n w adds made l). inr (moved_grows l t))
           (ok.right k x e);
     }
 
@@ -74,7 +74,7 @@ module _ (n w : ℕ) (adds : List Op → ℕ → ℕ) where
         let rest = sums_grow (suc i) v k (λ q x at. let e' : i + suc q ≡ suc i + q = omega arith in subst (λ (z : ℕ). x ≤ length (made z)) e' (low (suc q) x at)) in
         λ c. total adds (here c) k + rest c
 
-  pub answer_grows : (made made' : ℕ → List Made) (h more : List ℕ) (a : Entry) → Grows made made' → IsEntry n w adds made h a → IsEntry n w adds made' (h ++ more) a
+  pub answer_grows : (made made' : ℕ → List Made) (h more : List ℕ) (a : Answer) → Grows made made' → IsOneMoment n w adds made h a → IsOneMoment n w adds made' (h ++ more) a
   answer_grows made made' h more a grows ok = record {
     low = low_grows made made' grows a.vector ok.low;
     moment = past_grows n h more a.vector ok.moment;

@@ -14,7 +14,7 @@ use Rattle.register_rule.specs.declared.view.Made.{Made}
 use Rattle.register_rule.specs.declared.view.Who.{Who}
 use Rattle.register_rule.specs.declared.view.Who.TheVariants.{Worker, Reader}
 use Rattle.register_rule.specs.declared.view.Member.{Member}
-use Rattle.register_rule.specs.declared.view.View.{View}
+use Rattle.register_rule.specs.declared.view.SeatView.{SeatView}
 use Rattle.register_rule.specs.declared.load.Load.{Load}
 use Rattle.register_rule.specs.declared.load.Load.TheVariants.{Open, Read, Confirm, Ask, EndAsk}
 use Rattle.register_rule.specs.Words.{item_of, seg}
@@ -24,8 +24,8 @@ use Rattle.register_rule.specs.Shown.{Shows}
 use Rattle.register_rule.specs.Scans.{IsSound}
 use Rattle.register_rule.specs.Rule.{IsWorker, IsRole, IsMember, Rule, AreApart}
 use Rattle.register_rule.specs.Steps.{after}
-use Rattle.register_rule.specs.Members.{group, led, scanned, filled}
-use Rattle.register_rule.specs.Told.{IsNumber, IsLoad, word_of, IsTold, AreRuled, AreRuledAt, Sits, AllCompare, Keeps}
+use Rattle.register_rule.specs.Members.{group, led, scan_changed, filled}
+use Rattle.register_rule.specs.Told.{IsNumber, IsLoad, word_of, LoadTells, AreRuled, AreRuledAt, Sits, AllCompare, KeepsRule}
 use Rattle.register_rule.proofs.Words.{item_lt, same_item, items_apart, seg_here, seg_else, seg_at, at_below, from_replicate, each_of}
 use Rattle.register_rule.proofs.Growth.{Grows, scan_grows, own_rises}
 use Rattle.register_rule.proofs.Finds.{Finds}
@@ -33,24 +33,24 @@ use Rattle.register_rule.proofs.Looks.{scan_after, records_stay, seen_stays}
 use Rattle.register_rule.proofs.Pairs.{fewer, compares, allows_both, compares_now}
 
 -- all members of all seats, where the seat `id` has the view u from now on
-pub everyone_else : (F : ℕ → Member → Type 0) (vs : List View) (id : ℕ) (u : View) → ((p : ℕ) (x : Member) → get_elem? u.members p ≡ some x → F id x)
-    → ((j : ℕ) (v : View) → j ≢ id → get_elem? vs j ≡ some v → (p : ℕ) (x : Member) → get_elem? v.members p ≡ some x → F j x)
-    → (j : ℕ) (v : View) → get_elem? (set vs id u) j ≡ some v → (p : ℕ) (x : Member) → get_elem? v.members p ≡ some x → F j x
+pub everyone_else : (F : ℕ → Member → Type 0) (vs : List SeatView) (id : ℕ) (u : SeatView) → ((p : ℕ) (x : Member) → get_elem? u.members p ≡ some x → F id x)
+    → ((j : ℕ) (v : SeatView) → j ≢ id → get_elem? vs j ≡ some v → (p : ℕ) (x : Member) → get_elem? v.members p ≡ some x → F j x)
+    → (j : ℕ) (v : SeatView) → get_elem? (set vs id u) j ≡ some v → (p : ℕ) (x : Member) → get_elem? v.members p ≡ some x → F j x
 everyone_else F vs id u here others j v e p x at = ⊎_elim
-    (λ (t : (j ≡ id) × (u ≡ v)). subst (λ (z : ℕ). F z x) (sym t.0) (here p x (ap (λ (y : View). get_elem? y.members p) t.1 ∙ at)))
+    (λ (t : (j ≡ id) × (u ≡ v)). subst (λ (z : ℕ). F z x) (sym t.0) (here p x (ap (λ (y : SeatView). get_elem? y.members p) t.1 ∙ at)))
     (λ (t : (j ≢ id) × (get_elem? vs j ≡ some v)). others j v t.0 t.1 p x at)
     (at_set vs id j u v e)
 
 -- the same, where this view has the one member m
-pub everywhere : (F : ℕ → Member → Type 0) (vs : List View) (id : ℕ) (m : Member) → F id m
-    → ((j : ℕ) (v : View) → j ≢ id → get_elem? vs j ≡ some v → (p : ℕ) (x : Member) → get_elem? v.members p ≡ some x → F j x)
-    → (j : ℕ) (v : View) → get_elem? (set vs id (group (m ∷ []))) j ≡ some v → (p : ℕ) (x : Member) → get_elem? v.members p ≡ some x → F j x
+pub everywhere : (F : ℕ → Member → Type 0) (vs : List SeatView) (id : ℕ) (m : Member) → F id m
+    → ((j : ℕ) (v : SeatView) → j ≢ id → get_elem? vs j ≡ some v → (p : ℕ) (x : Member) → get_elem? v.members p ≡ some x → F j x)
+    → (j : ℕ) (v : SeatView) → get_elem? (set vs id (group (m ∷ []))) j ≡ some v → (p : ℕ) (x : Member) → get_elem? v.members p ≡ some x → F j x
 everywhere F vs id m here = everyone_else F vs id (group (m ∷ [])) (λ p x at. subst (F id) (from_replicate 1 m p x at) here)
 
 -- members are apart in all views where they are in the one that changes
-pub views_apart : (vs : List View) (id : ℕ) (u : View) → AreApart u.members → ((j : ℕ) (v : View) → get_elem? vs j ≡ some v → AreApart v.members) → (j : ℕ) (v : View) → get_elem? (set vs id u) j ≡ some v → AreApart v.members
+pub views_apart : (vs : List SeatView) (id : ℕ) (u : SeatView) → AreApart u.members → ((j : ℕ) (v : SeatView) → get_elem? vs j ≡ some v → AreApart v.members) → (j : ℕ) (v : SeatView) → get_elem? (set vs id u) j ≡ some v → AreApart v.members
 views_apart vs id u here all j v e = ⊎_elim
-    (λ (t : (j ≡ id) × (u ≡ v)). subst (λ (y : View). AreApart y.members) t.1 here)
+    (λ (t : (j ≡ id) × (u ≡ v)). subst (λ (y : SeatView). AreApart y.members) t.1 here)
     (λ (t : (j ≢ id) × (get_elem? vs j ≡ some v)). all j v t.1)
     (at_set vs id j u v e)
 
@@ -58,14 +58,14 @@ pub one_apart : (m : Member) → AreApart (m ∷ [])
 one_apart m = (λ q o e. absurd (some-ne-none o (sym e)), tt)
 
 module _ (n w b : ℕ) (adds : List Op → ℕ → ℕ) (accepts : (ℕ → ℕ) → List Op → Type 0) where
-  abbrev Ruled : State (Unit {0}) View → Type 0
+  abbrev Ruled : State (Unit {0}) SeatView → Type 0
   Ruled = Rule n w b adds accepts
 
   abbrev Mine : Type 0
-  Mine = Me (Unit {0}) View
+  Mine = Me (Unit {0}) SeatView
 
   -- the first member of a seat, and what it is where it is a worker
-  pub first : (s : State (Unit {0}) View) (r : Ruled s) (id : ℕ) (v : View) (m : Member) (ms : List Member) → get_elem? s.views id ≡ some v → v.members ≡ m ∷ ms → IsMember n w b adds r.made r.owner r.history s.words id m
+  pub first : (s : State (Unit {0}) SeatView) (r : Ruled s) (id : ℕ) (v : SeatView) (m : Member) (ms : List Member) → get_elem? s.views id ≡ some v → v.members ≡ m ∷ ms → IsMember n w b adds r.made r.owner r.history s.words id m
   first s r id v m ms at one = r.each id v at 0 m (ap (λ (l : List Member). get_elem? l 0) one)
 
   pub as_worker : (made : ℕ → List Made) (owner : Who → ℕ) (history words : List ℕ) (j i : ℕ) (m : Member) → m.who ≡ Worker i → IsMember n w b adds made owner history words j m → IsWorker n w b adds made words i m
@@ -165,7 +165,7 @@ module _ (n w b : ℕ) (adds : List Op → ℕ → ℕ) (accepts : (ℕ → ℕ)
         (group (new ∷ []), keeps, tt, rule, (ap (λ (z : List Member). group (led (filled k x) z)) (sym one), refl))
 
     pub fill_allows : me.0.members ≡ m ∷ [] → m.who ≡ Worker i → k < b → w ≤ b → (k < w → x ≤ 281474976710655) → at ≡ i * span b + item_of b (suc (length m.work.made)) k
-        → Allows (Keeps n w b adds accepts) slots id me at (λ _. x) (λ _ me'. (me'.0 ≡ group (led (filled k x) me.0.members)) × (me'.1 ≡ me.1))
+        → Allows (KeepsRule n w b adds accepts) slots id me at (λ _. x) (λ _ me'. (me'.0 ≡ group (led (filled k x) me.0.members)) × (me'.1 ≡ me.1))
     fill_allows one who inside room low place = allows_both Ruled (AllCompare n b) (compares n w b adds accepts) slots id me at (λ _. x) (λ _ me'. (me'.0 ≡ group (led (filled k x) me.0.members)) × (me'.1 ≡ me.1)) (fills one who inside room low place)
 
   -- what the rule says of the members of one seat
@@ -200,7 +200,7 @@ module _ (n w b : ℕ) (adds : List Op → ℕ → ℕ) (accepts : (ℕ → ℕ)
     }
 
     -- a load of a scan leaves what the member is
-    role_after : (m : Member) (who : Who) (what : Load) (x : ℕ) → IsSound n w adds made history (after n w what x m.scan) → IsRole n w b adds made words m who → IsRole n w b adds made words (scanned (after n w what x) m) who
+    role_after : (m : Member) (who : Who) (what : Load) (x : ℕ) → IsSound n w adds made history (after n w what x m.scan) → IsRole n w b adds made words m who → IsRole n w b adds made words (scan_changed (after n w what x) m) who
     role_after m (Worker i) what x ok was = record {
       work = was.work;
       own = own_rises n w adds made m.scan.seen (after n w what x m.scan).seen i ok.seen (seen_stays n w what x m.scan i) was.own;
@@ -208,11 +208,11 @@ module _ (n w b : ℕ) (adds : List Op → ℕ → ℕ) (accepts : (ℕ → ℕ)
     }
     role_after m (Reader r) what x ok was = tt
 
-    member_after : (m : Member) (what : Load) (x : ℕ) → IsSound n w adds made history (after n w what x m.scan) → IsMember n w b adds made owner history words id m → IsMember n w b adds made owner history words id (scanned (after n w what x) m)
+    member_after : (m : Member) (what : Load) (x : ℕ) → IsSound n w adds made history (after n w what x m.scan) → IsMember n w b adds made owner history words id m → IsMember n w b adds made owner history words id (scan_changed (after n w what x) m)
     member_after m what x ok' was = record { here = was.here; role = role_after m m.who what x ok' was.role; scan = ok' }
 
   -- what a load of a word of the board finds
-  module _ (s : State (Unit {0}) View) (r : Ruled s) where
+  module _ (s : State (Unit {0}) SeatView) (r : Ruled s) where
     found_number : (i at : ℕ) → i < n → at ≡ i * span b + 0 → get_or s.words at 0 ≡ length (r.made i)
     found_number i at inside place = seg_at b s.words i 0 at place ∙ r.number i inside
 
@@ -223,7 +223,7 @@ module _ (n w b : ℕ) (adds : List Op → ℕ → ℕ) (accepts : (ℕ → ℕ)
     finds (Ask place) at inside is = (inside, found_number place at inside is)
     finds (EndAsk place) at inside is = (inside, found_number place at inside is)
 
-    told : (id : ℕ) (what : Load) (at : ℕ) (ms : List Member) → IsLoad n b what → at ≡ word_of b what → ((p : ℕ) (m : Member) → get_elem? ms p ≡ some m → IsMember n w b adds r.made r.owner r.history s.words id m) → IsTold w what ms (get_or s.words at 0)
+    told : (id : ℕ) (what : Load) (at : ℕ) (ms : List Member) → IsLoad n b what → at ≡ word_of b what → ((p : ℕ) (m : Member) → get_elem? ms p ≡ some m → IsMember n w b adds r.made r.owner r.history s.words id m) → LoadTells w what ms (get_or s.words at 0)
     told id (Open place) at ms inside is each = number_told r.made r.owner r.history s.words id place _ ms (found_number place at inside is) each
     told id (Read place number item) at ms inside is each = λ lt. subst (λ (z : ℕ). z ≤ 281474976710655) (sym (seg_at b s.words place _ at is)) (r.bounded place number item inside.0 lt)
     told id (Confirm place) at ms inside is each = number_told r.made r.owner r.history s.words id place _ ms (found_number place at inside is) each
@@ -240,12 +240,12 @@ module _ (n w b : ℕ) (adds : List Op → ℕ → ℕ) (accepts : (ℕ → ℕ)
   -- **A load of a scan** by the first member
   module _ (slots id : ℕ) (me : Mine) (m : Member) (ms : List Member) (what : Load) (at : ℕ) where
     abbrev Loaded : ℕ → Mine → Type 0
-    Loaded found me' = (me'.0 ≡ group (led (scanned (after n w what found)) me.0.members)) × (me'.1 ≡ me.1) × IsTold w what me.0.members found × AreRuled n w adds accepts me'.0.members
+    Loaded found me' = (me'.0 ≡ group (led (scan_changed (after n w what found)) me.0.members)) × (me'.1 ≡ me.1) × LoadTells w what me.0.members found × AreRuled n w adds accepts me'.0.members
 
     loads : me.0.members ≡ m ∷ ms → IsLoad n b what → at ≡ word_of b what → Allows Ruled slots id me at (λ z. z) Loaded
     loads one inside place s r deep seat fits =
         let x : ℕ = get_or s.words at 0 in
-        let new : Member = scanned (after n w what x) m in
+        let new : Member = scan_changed (after n w what x) m in
         let was = first s r id me.0 m ms seat one in
         let each = r.each id me.0 seat in
         let ok = member_after r.made r.owner r.history s.words id m what x (scan_after n w adds r.made r.history r.counted r.lent what x m.scan (some_worker what inside) (finds s r what at inside place) was.scan) was in
@@ -266,10 +266,10 @@ module _ (n w b : ℕ) (adds : List Op → ℕ → ℕ) (accepts : (ℕ → ℕ)
           apart = views_apart s.views id (group (new ∷ ms)) here_apart r.apart;
           each = everyone_else (IsMember n w b adds r.made r.owner r.history s.words) s.views id (group (new ∷ ms)) here (λ j v other e. r.each j v e);
         } in
-        (group (new ∷ ms), keeps, tt, rule, (ap (λ (l : List Member). group (led (scanned (after n w what x)) l)) (sym one), refl, told s r id what at me.0.members inside place each, ruled r.made r.owner r.history s.words id (new ∷ ms) r.counted r.legal here here_apart))
+        (group (new ∷ ms), keeps, tt, rule, (ap (λ (l : List Member). group (led (scan_changed (after n w what x)) l)) (sym one), refl, told s r id what at me.0.members inside place each, ruled r.made r.owner r.history s.words id (new ∷ ms) r.counted r.legal here here_apart))
 
     pub load_allows : me.0.members ≡ m ∷ ms → IsLoad n b what → at ≡ word_of b what
-        → Allows (Keeps n w b adds accepts) slots id me at (λ z. z) (λ found me'. (me'.0 ≡ group (led (scanned (after n w what found)) me.0.members)) × (me'.1 ≡ me.1) × IsTold w what me.0.members found × AreRuled n w adds accepts me'.0.members)
+        → Allows (KeepsRule n w b adds accepts) slots id me at (λ z. z) (λ found me'. (me'.0 ≡ group (led (scan_changed (after n w what found)) me.0.members)) × (me'.1 ≡ me.1) × LoadTells w what me.0.members found × AreRuled n w adds accepts me'.0.members)
     load_allows one inside place = allows_both Ruled (AllCompare n b) (compares n w b adds accepts) slots id me at (λ z. z) Loaded (loads one inside place)
 
   -- **A load of a number** that changes no view
@@ -284,7 +284,7 @@ module _ (n w b : ℕ) (adds : List Op → ℕ → ℕ) (accepts : (ℕ → ℕ)
           me.0,
           keeps,
           tt,
-          subst (λ (z : List ℕ × List View). Ruled record { words = z.0; homes = s.homes; views = z.1 }) (λ k. (sym (set-get_or s.words at 0) k, sym (set_again s.views id me.0 seat) k)) r,
+          subst (λ (z : List ℕ × List SeatView). Ruled record { words = z.0; homes = s.homes; views = z.1 }) (λ k. (sym (set-get_or s.words at 0) k, sym (set_again s.views id me.0 seat) k)) r,
           (
             refl,
             refl,
@@ -298,5 +298,5 @@ module _ (n w b : ℕ) (adds : List Op → ℕ → ℕ) (accepts : (ℕ → ℕ)
         )
 
     pub tell_allows : i < n → at ≡ i * span b + 0
-        → Allows (Keeps n w b adds accepts) slots id me at (λ z. z) (λ found me'. (me'.0 ≡ me.0) × (me'.1 ≡ me.1) × IsNumber i me.0.members found × AreRuledAt n w adds accepts i me.0.members found)
+        → Allows (KeepsRule n w b adds accepts) slots id me at (λ z. z) (λ found me'. (me'.0 ≡ me.0) × (me'.1 ≡ me.1) × IsNumber i me.0.members found × AreRuledAt n w adds accepts i me.0.members found)
     tell_allows inside place = allows_both Ruled (AllCompare n b) (compares n w b adds accepts) slots id me at (λ z. z) Tells (tells inside place)

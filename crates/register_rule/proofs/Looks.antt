@@ -11,7 +11,7 @@ use Rattle.ledger_core.specs.declared.op.Op.{Op}
 use Rattle.register_rule.specs.declared.view.Made.{Made}
 use Rattle.register_rule.specs.declared.view.Look.{Look}
 use Rattle.register_rule.specs.declared.view.Version.{Version}
-use Rattle.register_rule.specs.declared.view.Entry.{Entry}
+use Rattle.register_rule.specs.declared.view.Answer.{Answer}
 use Rattle.register_rule.specs.declared.view.Progress.{Progress}
 use Rattle.register_rule.specs.declared.view.Scan.{Scan}
 use Rattle.register_rule.specs.declared.load.Load.{Load}
@@ -20,8 +20,8 @@ use Rattle.register_rule.specs.History.{tab, count, numbers_after, IsCut}
 use Rattle.register_rule.specs.Sums.{total, row_sum, last_lent}
 use Rattle.register_rule.specs.Shown.{Shows}
 use Rattle.register_rule.specs.Loads.{IsTried, AreOrdered}
-use Rattle.register_rule.specs.Scans.{opened_at, AreLoads, HasMoved, IsLook, Doomed, IsVersion, IsEntry, IsSound}
-use Rattle.register_rule.specs.Steps.{every, answered, gives_up, words_kept, begun, unsure, opens_next, after_open, noted, after_read, settled, remembered, confirmed_at, clean, are_clean, sum_words, entry_of, with_base, failed_once_more, ended, after_confirm, is_lender, lent_in, answers, ask_ends, after}
+use Rattle.register_rule.specs.Scans.{opened_at, AreLoads, IsStale, IsLook, Doomed, IsVersion, IsOneMoment, IsSound}
+use Rattle.register_rule.specs.Steps.{every, answered, gives_up, words_kept, begun, unsure, opens_next, after_open, noted, after_read, settled, remembered, confirmed_at, clean, are_clean, sum_words, answer_of_try, with_base, failed_once_more, ended, after_confirm, is_lender, lent_in, answers, ask_ends, after}
 use Rattle.register_rule.proofs.Words.{at_below, there, from_map, last_is, each_of, each_push}
 use Rattle.register_rule.proofs.Moments.{tab_at}
 use Rattle.register_rule.proofs.Finds.{Finds}
@@ -90,7 +90,7 @@ module _ (n w : ℕ) (adds : List Op → ℕ → ℕ) (made : ℕ → List Made)
     inside = inside;
     old = omega (arith, is);
     risen = inl refl;
-    right = words_from (λ (ws : List ℕ). (k y : ℕ) → get_elem? ws k ≡ some y → Shows n w adds (take x (made i)) (0 + k) y ⊎ HasMoved n w adds made (begun i x (words_kept i x kept))) i x kept
+    right = words_from (λ (ws : List ℕ). (k y : ℕ) → get_elem? ws k ≡ some y → Shows n w adds (take x (made i)) (0 + k) y ⊎ IsStale n w adds made (begun i x (words_kept i x kept))) i x kept
         (λ k y e. absurd (some-ne-none y (sym e)))
         (λ v at new k y e. inl (let lt = at_below v.row k y e in let wide = (ok i v at).wide in let z : k ≡ 0 + k = omega arith in record {
           row = λ _. (ok i v at).row k y e ∙ (λ c. total adds (take (new c) (made i)) (z c));
@@ -119,7 +119,7 @@ module _ (n w : ℕ) (adds : List Op → ℕ → ℕ) (made : ℕ → List Made)
 
   -- a load that changes looks one by one, and no place or number
   scan_maps : (c : Scan) (f g : Look → Look) (found : List (ℕ × ℕ)) (marks : List ℕ) → AreLoads n w adds made found → AreOrdered c.opened found marks (map f c.now.looks) → ((l : Look) → (f l).number ≡ l.number) → ((l : Look) → (f l).place ≡ l.place) → ((l : Look) → IsLook n w adds made 0 l → IsLook n w adds made 0 (f l))
-      → ((l : Look) → IsLook n w adds made w l → IsLook n w adds made w (g l)) → ((l : Look) → HasMoved n w adds made l → (f l).sure ≡ false)
+      → ((l : Look) → IsLook n w adds made w l → IsLook n w adds made w (g l)) → ((l : Look) → IsStale n w adds made l → (f l).sure ≡ false)
       → IsSound n w adds made h c → IsSound n w adds made h (record c { confirmed = found; before = marks; now = record c.now { looks = map f c.now.looks; asks = map g c.now.asks } })
   scan_maps c f g found marks confirmed' ordered' number place look look' sure ok = record {
     opened = ok.opened;
@@ -188,7 +188,7 @@ module _ (n w : ℕ) (adds : List Op → ℕ → ℕ) (made : ℕ → List Made)
             wide = wide';
             row = λ k x e. let lt = at_below l.words k x e in let z : 0 + k ≡ k = omega arith in ⊎_elim
                 (λ (t : Shows n w adds (take l.number (made l.place)) (0 + k) x). t.row (omega arith) ∙ (λ c. total adds (take l.number (made (here c))) (z c)))
-                (λ (t : HasMoved n w adds made l). absurd (true≢false (sym on ∙ t.0)))
+                (λ (t : IsStale n w adds made l). absurd (true≢false (sym on ∙ t.0)))
                 (right.right k x e);
           }
 
@@ -203,7 +203,7 @@ module _ (n w : ℕ) (adds : List Op → ℕ → ℕ) (made : ℕ → List Made)
         inside = ok'.inside;
         old = ok'.old;
         risen = let o = ok'.old in inr (omega (arith, end), omega (arith, end));
-        right = λ k y e. ⊎_elim (λ t. inl t) (λ (t : HasMoved n w adds made l). inr (off l same t, t.1)) (ok'.right k y e);
+        right = λ k y e. ⊎_elim (λ t. inl t) (λ (t : IsStale n w adds made l). inr (off l same t, t.1)) (ok'.right k y e);
       })
       (λ _. ok'))
       (λ l ok'. ok')
@@ -227,7 +227,7 @@ module _ (n w : ℕ) (adds : List Op → ℕ → ℕ) (made : ℕ → List Made)
       still l same = is ∙ ap (λ (z : ℕ). length (made z)) (sym (eqb-true _ _ same))
 
       -- a number that has moved is not found again
-      off : (l : Look) → (l.place == i) ≡ true → HasMoved n w adds made l → (l.sure || l.number == x) ≡ false
+      off : (l : Look) → (l.place == i) ≡ true → IsStale n w adds made l → (l.sure || l.number == x) ≡ false
       off l same moved = or_from l.sure (l.number == x) moved.0 (ne_eqb l.number x (λ e. let end = still l same in let lt = moved.1 in omega (arith, e, end)))
 
   -- the sums of a clean try
@@ -249,7 +249,7 @@ module _ (n w : ℕ) (adds : List Op → ℕ → ℕ) (made : ℕ → List Made)
       (low_of (suc i) ls (λ p x at. let e'' : i + suc p ≡ suc i + p = omega arith in ((ok (suc p) x at).0, (ok (suc p) x at).1 ∙ e'')) q s e)
 
   -- the answer of a clean try
-  clean_right : (c : Scan) → IsSound n w adds made h c → are_clean n w c.now.looks ≡ true → IsEntry n w adds made h (entry_of w c.now.looks) × (length (map opened_at c.now.looks) ≡ n)
+  clean_right : (c : Scan) → IsSound n w adds made h c → are_clean n w c.now.looks ≡ true → IsOneMoment n w adds made h (answer_of_try w c.now.looks) × (length (map opened_at c.now.looks) ≡ n)
   clean_right c ok hit =
       let t = and_parts _ _ hit in let len : length c.now.looks ≡ n = eqb-true _ _ t.0 in
       let each : (q : ℕ) (l : Look) → get_elem? c.now.looks q ≡ some l → (l.sure ≡ true) × (length l.words ≡ w) = λ q l e. let p = and_parts _ _ (every_at (clean w) c.now.looks t.1 q l e) in (p.0, eqb-true _ _ p.1) in (
@@ -259,7 +259,7 @@ module _ (n w : ℕ) (adds : List Op → ℕ → ℕ) (made : ℕ → List Made)
           sums = λ k lt. tab_at 0 w _ k lt ∙ ap some (let z : 0 + k ≡ k = omega arith in ap (λ (y : ℕ). sum_words y c.now.looks) z ∙ sums_right k 0 c.now.looks (λ q l at. let z' : q ≡ 0 + q = omega arith in (
             (ok.looks q l at).1 ∙ z',
             let long = (each q l at).1 in ⊎_elim (λ (r : Shows n w adds (take l.number (made l.place)) (0 + k) (get_or l.words k 0)). let z'' : 0 + k ≡ k = omega arith in r.row (omega arith) ∙ ap (total adds (take l.number (made l.place))) z'')
-                (λ (r : HasMoved n w adds made l). absurd (true≢false (sym (each q l at).0 ∙ r.0)))
+                (λ (r : IsStale n w adds made l). absurd (true≢false (sym (each q l at).0 ∙ r.0)))
                 ((ok.looks q l at).0.right k (get_or l.words k 0) (there l.words k 0 (omega (arith, long)))),
           )));
         },
@@ -268,8 +268,8 @@ module _ (n w : ℕ) (adds : List Op → ℕ → ℕ) (made : ℕ → List Made)
 
   -- the end of a try
   ended_right : (c : Scan) → 0 < n → IsSound n w adds made h c → IsSound n w adds made h (ended n w c)
-  ended_right c some_n ok = cond_both (are_clean n w c.now.looks) (answered (entry_of w c.now.looks) c) (gives_up n (record c { now = failed_once_more (with_base c.now) })) (IsSound n w adds made h)
-      (λ hit. let t = clean_right c ok hit in scan_answered n w adds made h c (entry_of w c.now.looks) some_n t.1 t.0 ok)
+  ended_right c some_n ok = cond_both (are_clean n w c.now.looks) (answered (answer_of_try w c.now.looks) c) (gives_up n (record c { now = failed_once_more (with_base c.now) })) (IsSound n w adds made h)
+      (λ hit. let t = clean_right c ok hit in scan_answered n w adds made h c (answer_of_try w c.now.looks) some_n t.1 t.0 ok)
       (λ _. scan_gives n w adds made h (record c { now = failed_once_more (with_base c.now) }) some_n
       (with_now n w adds made h c c.opened c.asked c.quit (failed_once_more (with_base c.now)) ok.opened (rest_ordered c.opened c.confirmed c.before c.now.looks ok.ordered) ok.asked (λ q l e. absurd (some-ne-none l (sym e)))
       (cond_both (c.now.failed == 0) (record c.now { floor = _; base = _ }) c.now (λ (t : Progress). (q : ℕ) (l : Look) → get_elem? t.asks q ≡ some l → IsLook n w adds made w l) (λ _. ok.asks) (λ _. ok.asks))
@@ -282,7 +282,7 @@ module _ (n w : ℕ) (adds : List Op → ℕ → ℕ) (made : ℕ → List Made)
 
 -- a load of a scan
 pub scan_after : (n w : ℕ) (adds : List Op → ℕ → ℕ) (made : ℕ → List Made) (h : List ℕ) → ((i : ℕ) → i < n → count i h ≡ length (made i))
-    → ((i : ℕ) (a : Entry) → i < n → last_lent (made i) ≡ Some a → IsEntry n w adds made h a)
+    → ((i : ℕ) (a : Answer) → i < n → last_lent (made i) ≡ Some a → IsOneMoment n w adds made h a)
     → (what : Load) (x : ℕ) (c : Scan) → 0 < n → Finds n w adds made what x → IsSound n w adds made h c → IsSound n w adds made h (after n w what x c)
 scan_after n w adds made h counted lent (Open place) x c some_n found ok = after_open_right n w adds made h counted c place x found.0 found.1 ok
 scan_after n w adds made h counted lent (Read place number item) x c some_n found ok = after_read_right n w adds made h counted c place number item x found ok
@@ -292,14 +292,14 @@ scan_after n w adds made h counted lent (EndAsk place) x c some_n found ok = end
 
 -- no answer is lost, and nothing that was seen falls
 record Stays (c d : Scan) : Type 0 where
-  answer : (p : ℕ) (a : Entry) → get_elem? c.recorded p ≡ some a → get_elem? d.recorded p ≡ some a
+  answer : (p : ℕ) (a : Answer) → get_elem? c.recorded p ≡ some a → get_elem? d.recorded p ≡ some a
   seen : (i x : ℕ) → get_elem? c.seen i ≡ some x → (z : ℕ) × (get_elem? d.seen i ≡ some z) × (x ≤ z)
 
 -- where both are as they were
 as_was : (c d : Scan) → d.recorded ≡ c.recorded → d.seen ≡ c.seen → Stays c d
-as_was c d r s = record { answer = λ p a e. ap (λ (z : List Entry). get_elem? z p) r ∙ e; seen = λ i x e. (x, ap (λ (z : List ℕ). get_elem? z i) s ∙ e, omega arith) }
+as_was c d r s = record { answer = λ p a e. ap (λ (z : List Answer). get_elem? z p) r ∙ e; seen = λ i x e. (x, ap (λ (z : List ℕ). get_elem? z i) s ∙ e, omega arith) }
 
-answer_stays : (c d : Scan) (a : Entry) → d.recorded ≡ c.recorded → d.seen ≡ c.seen → Stays c (answered a d)
+answer_stays : (c d : Scan) (a : Answer) → d.recorded ≡ c.recorded → d.seen ≡ c.seen → Stays c (answered a d)
 answer_stays c d a r s = let was = as_was c d r s in record {
   answer = λ p b e. at_longer d.recorded (a ∷ []) p b (was.answer p b e);
   seen = λ i x e. let t = upper_at d.seen a.vector i x (ap (λ (z : List ℕ). get_elem? z i) s ∙ e) in t;
@@ -317,8 +317,8 @@ ask_stays n w i x (l ∷ ls) c = cond_both (l.place == i) (answers n w x l c) c 
     (λ _. as_was c c refl refl)
 
 end_stays : (n w i x : ℕ) (c : Scan) → Stays c (ended n w (confirmed_at w i x c))
-end_stays n w i x c = let d = confirmed_at w i x c in cond_both (are_clean n w d.now.looks) (answered (entry_of w d.now.looks) d) (gives_up n (record d { now = failed_once_more (with_base d.now) })) (Stays c)
-    (λ _. answer_stays c d (entry_of w d.now.looks) refl refl) (λ _. give_stays n c (record d { now = failed_once_more (with_base d.now) }) refl refl)
+end_stays n w i x c = let d = confirmed_at w i x c in cond_both (are_clean n w d.now.looks) (answered (answer_of_try w d.now.looks) d) (gives_up n (record d { now = failed_once_more (with_base d.now) })) (Stays c)
+    (λ _. answer_stays c d (answer_of_try w d.now.looks) refl refl) (λ _. give_stays n c (record d { now = failed_once_more (with_base d.now) }) refl refl)
 
 stays : (n w : ℕ) (what : Load) (x : ℕ) (c : Scan) → Stays c (after n w what x c)
 stays n w (Open place) x c = as_was c _ refl refl
@@ -327,7 +327,7 @@ stays n w (Confirm place) x c = cond_both (place + 1 == n) (ended n w (confirmed
 stays n w (Ask place) x c = as_was c _ refl refl
 stays n w (EndAsk place) x c = ask_stays n w place x c.now.asks c
 
-pub records_stay : (n w : ℕ) (what : Load) (x : ℕ) (c : Scan) (p : ℕ) (a : Entry) → get_elem? c.recorded p ≡ some a → get_elem? (after n w what x c).recorded p ≡ some a
+pub records_stay : (n w : ℕ) (what : Load) (x : ℕ) (c : Scan) (p : ℕ) (a : Answer) → get_elem? c.recorded p ≡ some a → get_elem? (after n w what x c).recorded p ≡ some a
 records_stay n w what x c p a e = (stays n w what x c).answer p a e
 
 pub seen_stays : (n w : ℕ) (what : Load) (x : ℕ) (c : Scan) (i y : ℕ) → get_elem? c.seen i ≡ some y → (z : ℕ) × (get_elem? (after n w what x c).seen i ≡ some z) × (y ≤ z)

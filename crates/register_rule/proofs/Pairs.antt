@@ -3,17 +3,17 @@ use Rattle.std.proofs.Common.{◌⊎◌, inl, inr, ⊎_elim, ℕ, ◌<◌, ◌�
 use Rattle.atomic_table.specs.Table.{State, Me, Allows, Splits, Joins}
 use Rattle.ledger_core.specs.declared.op.Op.{Op}
 use Rattle.register_rule.specs.declared.view.Look.{Look}
-use Rattle.register_rule.specs.declared.view.Entry.{Entry}
+use Rattle.register_rule.specs.declared.view.Answer.{Answer}
 use Rattle.register_rule.specs.declared.view.Member.{Member}
-use Rattle.register_rule.specs.declared.view.View.{View}
+use Rattle.register_rule.specs.declared.view.SeatView.{SeatView}
 use Rattle.register_rule.specs.Words.{seg}
 use Rattle.register_rule.specs.History.{IsCut}
 use Rattle.register_rule.specs.Scans.{opened_at, Doomed, IsSound}
 use Rattle.register_rule.specs.Rule.{Rule}
-use Rattle.register_rule.specs.Told.{Records, Tries, IsDoomed, AreComparable, Sits, AllCompare}
+use Rattle.register_rule.specs.Told.{HaveRecorded, Tries, IsDoomed, AreComparable, Sits, AllCompare}
 use Rattle.register_rule.proofs.Moments.{comparable}
 
-module _ (n w b : ℕ) (adds : List Op → ℕ → ℕ) (accepts : (ℕ → ℕ) → List Op → Type 0) (s : State (Unit {0}) View) (r : Rule n w b adds accepts s) where
+module _ (n w b : ℕ) (adds : List Op → ℕ → ℕ) (accepts : (ℕ → ℕ) → List Op → Type 0) (s : State (Unit {0}) SeatView) (r : Rule n w b adds accepts s) where
   scan_of : (m : Member) → Sits s m → IsSound n w adds r.made r.history m.scan
   scan_of m t = (r.each t.0 t.2 t.3 t.1 m t.4).scan
 
@@ -23,7 +23,7 @@ module _ (n w b : ℕ) (adds : List Op → ℕ → ℕ) (accepts : (ℕ → ℕ)
     is_doomed : (m : Member) → Sits s m → Doomed n w adds r.made m.scan.now.looks → IsDoomed n number (Sits s) m.scan.now.looks
     is_doomed m t d = (d.0, d.1, d.2, d.3.0, λ e. let x = same d.1.place ((scan_of m t).looks d.0 d.1 d.2).0.inside in let h = d.3.1 in omega arith)
 
-    moment_of : (a : Entry) → Records n number (Sits s) a → IsCut n r.history a.vector
+    moment_of : (a : Answer) → HaveRecorded n number (Sits s) a → IsCut n r.history a.vector
     moment_of a x = ((scan_of x.0 x.1).recorded x.2.0 a x.2.1).0.moment
 
     -- a try with all places opened

@@ -14,18 +14,18 @@ use Rattle.segment_layout.specs.Layout.{span}
 use Rattle.ledger_core.specs.declared.op.Op.{Op}
 use Rattle.register_rule.specs.declared.view.Made.{Made}
 use Rattle.register_rule.specs.declared.view.Who.TheVariants.{Worker}
-use Rattle.register_rule.specs.declared.view.Entry.{Entry}
+use Rattle.register_rule.specs.declared.view.Answer.{Answer}
 use Rattle.register_rule.specs.declared.view.Version.{Version}
 use Rattle.register_rule.specs.declared.view.Member.{Member}
-use Rattle.register_rule.specs.declared.view.View.{View}
+use Rattle.register_rule.specs.declared.view.SeatView.{SeatView}
 use Rattle.register_rule.specs.Words.{item_of, seg}
 use Rattle.register_rule.specs.History.{count}
 use Rattle.register_rule.specs.Sums.{total, Legal, last_lent}
 use Rattle.register_rule.specs.Shown.{Shows}
 use Rattle.register_rule.specs.Scans.{IsVersion}
 use Rattle.register_rule.specs.Rule.{IsWorker, IsRole, IsMember, Rule}
-use Rattle.register_rule.specs.Members.{group, led, last_entry, made_of, published}
-use Rattle.register_rule.specs.Told.{AllCompare, HoldsNext, Keeps}
+use Rattle.register_rule.specs.Members.{group, led, last_answer, made_of, published}
+use Rattle.register_rule.specs.Told.{AllCompare, HoldsNext, KeepsRule}
 use Rattle.register_rule.proofs.Words.{item_lt, seg_here, seg_else, at_below, there, read_at, each_push, put, put_here, put_else}
 use Rattle.register_rule.proofs.Moments.{count_append}
 use Rattle.register_rule.proofs.Growth.{Grows, answer_grows, scan_grows, scan_published}
@@ -38,13 +38,13 @@ lent_last [] x = refl
 lent_last (y ∷ []) x = refl
 lent_last (y ∷ z ∷ zs) x = lent_last (z ∷ zs) x
 
-at_last_entry : (l : List Entry) (a : Entry) → last_entry l ≡ Some a → (q : ℕ) × (get_elem? l q ≡ some a)
+at_last_entry : (l : List Answer) (a : Answer) → last_answer l ≡ Some a → (q : ℕ) × (get_elem? l q ≡ some a)
 at_last_entry [] a e = absurd (none-some a e)
 at_last_entry (x ∷ []) a e = (0, ap some (same_Some x a e))
 at_last_entry (x ∷ y ∷ ys) a e = let t = at_last_entry (y ∷ ys) a e in (suc t.0, t.1)
 
 -- what a publish lends is an answer that its worker recorded
-lent_recorded : (m : Member) (lends : Bool) (a : Entry) → cond lends (last_entry m.scan.recorded) None ≡ Some a → (q : ℕ) × (get_elem? m.scan.recorded q ≡ some a)
+lent_recorded : (m : Member) (lends : Bool) (a : Answer) → cond lends (last_answer m.scan.recorded) None ≡ Some a → (q : ℕ) × (get_elem? m.scan.recorded q ≡ some a)
 lent_recorded m true a e = at_last_entry m.scan.recorded a e
 lent_recorded m false a e = absurd (none-some a e)
 
@@ -62,8 +62,8 @@ legal_more adds accepts before (x ∷ xs) y h a = (h.0, legal_more adds accepts 
 item_again : (b s k : ℕ) → item_of b (suc (suc s)) k ≡ item_of b s k
 item_again b s k = let e : suc (suc s) % 2 ≡ s % 2 = omega arith in ap (λ (z : ℕ). 1 + z * b + k) e
 
-module _ (n w b : ℕ) (adds : List Op → ℕ → ℕ) (accepts : (ℕ → ℕ) → List Op → Type 0) (slots id : ℕ) (me : Me (Unit {0}) View) (m : Member) (i x at : ℕ) (ops : List Op) (lends : Bool) where
-  abbrev Ruled : State (Unit {0}) View → Type 0
+module _ (n w b : ℕ) (adds : List Op → ℕ → ℕ) (accepts : (ℕ → ℕ) → List Op → Type 0) (slots id : ℕ) (me : Me (Unit {0}) SeatView) (m : Member) (i x at : ℕ) (ops : List Op) (lends : Bool) where
+  abbrev Ruled : State (Unit {0}) SeatView → Type 0
   Ruled = Rule n w b adds accepts
 
   abbrev last : Made
@@ -169,6 +169,6 @@ module _ (n w b : ℕ) (adds : List Op → ℕ → ℕ) (accepts : (ℕ → ℕ)
       (group (new ∷ []), keeps, tt, rule, (ap (λ (z : List Member). group (led (published w i ops lends) z)) (sym one), refl))
 
   pub publish_allows : me.0.members ≡ m ∷ [] → m.who ≡ Worker i → at ≡ i * span b + 0 → x ≡ suc (length m.work.made) → w ≤ b → HoldsNext n w b adds ops lends m → accepts (total adds m.work.made) ops
-      → Allows (Keeps n w b adds accepts) slots id me at (λ _. x) (λ _ me'. (me'.0 ≡ group (led (published w i ops lends) me.0.members)) × (me'.1 ≡ me.1))
+      → Allows (KeepsRule n w b adds accepts) slots id me at (λ _. x) (λ _ me'. (me'.0 ≡ group (led (published w i ops lends) me.0.members)) × (me'.1 ≡ me.1))
   publish_allows one who place next room holds fine = allows_both Ruled (AllCompare n b) (compares n w b adds accepts) slots id me at (λ _. x)
       (λ _ me'. (me'.0 ≡ group (led (published w i ops lends) me.0.members)) × (me'.1 ≡ me.1)) (publishes one who place next room holds fine)

@@ -14,12 +14,12 @@ use Rattle.register_rule.specs.declared.view.Made.{Made}
 use Rattle.register_rule.specs.declared.view.Who.{Who}
 use Rattle.register_rule.specs.declared.view.Who.TheVariants.{Worker, Reader}
 use Rattle.register_rule.specs.declared.view.Member.{Member}
-use Rattle.register_rule.specs.declared.view.View.{View}
+use Rattle.register_rule.specs.declared.view.SeatView.{SeatView}
 use Rattle.register_rule.specs.Scans.{AtMost, IsSound}
 use Rattle.register_rule.specs.Steps.{upper}
 use Rattle.register_rule.specs.Rule.{IsRole, IsMember, Rule, AreApart}
 use Rattle.register_rule.specs.Members.{group, same_who, picked, without, raised_by, reach, greatest, raised, met}
-use Rattle.register_rule.specs.Told.{Keeps, AllCompare}
+use Rattle.register_rule.specs.Told.{KeepsRule, AllCompare}
 use Rattle.register_rule.proofs.Words.{there, read_at, from_all, from_map, from_both, last_is}
 use Rattle.register_rule.proofs.Upper.{length_upper, upper_from, upper_at}
 use Rattle.register_rule.proofs.Growth.{scan_raised, own_rises}
@@ -134,7 +134,7 @@ module _ (n w b : ℕ) (adds : List Op → ℕ → ℕ) where
 
 module _ (n w b : ℕ) (adds : List Op → ℕ → ℕ) (accepts : (ℕ → ℕ) → List Op → Type 0) where
   -- the new seat owns the members of this name
-  parts : (id : ℕ) (v : View) (who : Who) → (m : Member) × (picked who v.members ≡ m ∷ []) → Splits (Rule n w b adds accepts) id v (group (without who v.members)) (group (picked who v.members))
+  parts : (id : ℕ) (v : SeatView) (who : Who) → (m : Member) × (picked who v.members ≡ m ∷ []) → Splits (Rule n w b adds accepts) id v (group (without who v.members)) (group (picked who v.members))
   parts id v who there s r at =
       let fresh : ℕ = length s.views in
       let owner' : Who → ℕ = λ x. cond (same_who who x) fresh (r.owner x) in
@@ -155,7 +155,7 @@ module _ (n w b : ℕ) (adds : List Op → ℕ → ℕ) (accepts : (ℕ → ℕ)
         bounded = r.bounded;
         apart = λ j u e. ⊎_elim
             (views_apart s.views id (group (without who v.members)) (subst AreApart (sym (without_is who v.members)) (filter_apart _ v.members (r.apart id v at))) r.apart j u)
-            (λ (t : (group (picked who v.members) ≡ u) × (j ≡ length (set s.views id (group (without who v.members))))). subst (λ (z : View). AreApart z.members) t.0 (subst AreApart (sym (picked_is who v.members)) (filter_apart _ v.members (r.apart id v at))))
+            (λ (t : (group (picked who v.members) ≡ u) × (j ≡ length (set s.views id (group (without who v.members))))). subst (λ (z : SeatView). AreApart z.members) t.0 (subst AreApart (sym (picked_is who v.members)) (filter_apart _ v.members (r.apart id v at))))
             (last_is _ _ u j e);
         each = λ j u e. ⊎_elim
             (everyone_else (IsMember n w b adds r.made owner' r.history s.words) s.views id (group (without who v.members))
@@ -164,20 +164,20 @@ module _ (n w b : ℕ) (adds : List Op → ℕ → ℕ) (accepts : (ℕ → ℕ)
             (λ k z ne e' p m at'. let ok = r.each k z e' p m at' in moves n w b adds r.made r.owner r.history s.words k owner' k m (else m.who (other m.who k ne ok.here) ∙ ok.here) ok)
             j u)
             (λ (t : (group (picked who v.members) ≡ u) × (j ≡ length (set s.views id (group (without who v.members))))) p m e'.
-            let x = from_picked who v.members p m (ap (λ (z : View). get_elem? z.members p) t.0 ∙ e') in
+            let x = from_picked who v.members p m (ap (λ (z : SeatView). get_elem? z.members p) t.0 ∙ e') in
             let j_is : j ≡ fresh = t.1 ∙ length-set s.views id _ in
             moves n w b adds r.made r.owner r.history s.words id owner' j m (ap (λ (k : Bool). cond k fresh (r.owner m.who)) x.1 ∙ sym j_is) (r.each id v at x.0.0 m x.0.1))
             (last_is _ _ u j e);
       }
 
-  pub part_splits : (id : ℕ) (v : View) (who : Who) → (m : Member) × (picked who v.members ≡ m ∷ []) → Splits (Keeps n w b adds accepts) id v (group (without who v.members)) (group (picked who v.members))
+  pub part_splits : (id : ℕ) (v : SeatView) (who : Who) → (m : Member) × (picked who v.members ≡ m ∷ []) → Splits (KeepsRule n w b adds accepts) id v (group (without who v.members)) (group (picked who v.members))
   part_splits id v who there = splits_both (Rule n w b adds accepts) (AllCompare n b) (compares n w b adds accepts) id v _ _ (parts id v who there)
 
   -- the seat that takes in the other one owns all members of both
-  meets : (id : ℕ) (v : View) (other : ℕ) (u : View) → Joins (Rule n w b adds accepts) id v other u (group (met (v.members ++ u.members))) (group [])
+  meets : (id : ℕ) (v : SeatView) (other : ℕ) (u : SeatView) → Joins (Rule n w b adds accepts) id v other u (group (met (v.members ++ u.members))) (group [])
   meets id v other u s r at apart there =
       let ms : List Member = v.members ++ u.members in
-      let both : View = group (met ms) in
+      let both : SeatView = group (met ms) in
       let owner' : Who → ℕ = λ x. cond (r.owner x == other) id (r.owner x) in
       let was : get_elem? s.views other ≡ some u = sym (set_else s.views id other both apart) ∙ there in
       let else : (x : Who) → r.owner x ≢ other → owner' x ≡ r.owner x = λ x e. ap (λ (t : Bool). cond t id (r.owner x)) (ne_eqb (r.owner x) other e) in
@@ -212,5 +212,5 @@ module _ (n w b : ℕ) (adds : List Op → ℕ → ℕ) (accepts : (ℕ → ℕ)
             j x e p m e' apart');
       }
 
-  pub meet_joins : (id : ℕ) (v : View) (other : ℕ) (u : View) → Joins (Keeps n w b adds accepts) id v other u (group (met (v.members ++ u.members))) (group [])
+  pub meet_joins : (id : ℕ) (v : SeatView) (other : ℕ) (u : SeatView) → Joins (KeepsRule n w b adds accepts) id v other u (group (met (v.members ++ u.members))) (group [])
   meet_joins id v other u = joins_both (Rule n w b adds accepts) (AllCompare n b) (compares n w b adds accepts) id v other u _ _ (meets id v other u)

@@ -15,12 +15,12 @@ use Rattle.register_rule.specs.declared.view.Made.{Made}
 use Rattle.register_rule.specs.declared.view.Who.{Who}
 use Rattle.register_rule.specs.declared.view.Who.TheVariants.{Worker, Reader}
 use Rattle.register_rule.specs.declared.view.Member.{Member}
-use Rattle.register_rule.specs.declared.view.View.{View}
+use Rattle.register_rule.specs.declared.view.SeatView.{SeatView}
 use Rattle.register_rule.specs.Shown.{Shows}
 use Rattle.register_rule.specs.Scans.{IsVersion, IsSound}
 use Rattle.register_rule.specs.Rule.{IsMember, Rule, AreApart}
 use Rattle.register_rule.specs.Members.{fresh_scan, new_worker, new_reader, workers_from, readers_from, everyone, first_of, same_who, picked, without}
-use Rattle.register_rule.specs.Told.{Keeps}
+use Rattle.register_rule.specs.Told.{KeepsRule}
 use Rattle.register_rule.proofs.Words.{there, from_replicate, from_both}
 use Rattle.register_rule.proofs.Ordering.{none_ordered}
 use Rattle.register_rule.proofs.Pairs.{compares}
@@ -124,8 +124,8 @@ module _ (n w b : ℕ) (adds : List Op → ℕ → ℕ) (accepts : (ℕ → ℕ)
       (λ (t : (q : ℕ) × (get_elem? (readers_from n w 0 readers) q ≡ some m) × (p ≡ length (workers_from n w b 0 n) + q)). let f = from_order (readers_in_order n w) 0 readers t.0 m t.1 in subst IsFirst f.2 (reader_is f.0))
       (from_both _ _ p m e)
 
-  each : (j : ℕ) (v : View) → get_elem? (everyone n w b readers ∷ []) j ≡ some v → (p : ℕ) (m : Member) → get_elem? v.members p ≡ some m → IsMember n w b adds none_made (λ _. 0) [] ws j m
-  each zero v e p m e' = one p m (ap (λ (z : View). get_elem? z.members p) (some-injective _ v e) ∙ e')
+  each : (j : ℕ) (v : SeatView) → get_elem? (everyone n w b readers ∷ []) j ≡ some v → (p : ℕ) (m : Member) → get_elem? v.members p ≡ some m → IsMember n w b adds none_made (λ _. 0) [] ws j m
+  each zero v e p m e' = one p m (ap (λ (z : SeatView). get_elem? z.members p) (some-injective _ v e) ∙ e')
   each (suc j) v e p m e' = absurd (some-ne-none v (sym e))
 
   -- no worker has a reader's name
@@ -135,8 +135,8 @@ module _ (n w b : ℕ) (adds : List Op → ℕ → ℕ) (accepts : (ℕ → ℕ)
       let e : Reader y.0 ≡ Worker x.0 = ap (λ (z : Member). z.who) y.2 ∙ (same ∙ sym (ap (λ (z : Member). z.who) x.2)) in
       let f : false ≡ true = ap (λ (z : Who). same_who (Worker x.0) z) e ∙ eq-eqb x.0 x.0 refl in absurd (let g : false ≡ true = f in cc)
 
-  all_apart : (j : ℕ) (v : View) → get_elem? (everyone n w b readers ∷ []) j ≡ some v → AreApart v.members
-  all_apart zero v e = subst (λ (z : View). AreApart z.members) (some-injective _ v e) (both_apart (workers_from n w b 0 n) (readers_from n w 0 readers) (order_apart (workers_in_order n w b) 0 n) (order_apart (readers_in_order n w) 0 readers) cross)
+  all_apart : (j : ℕ) (v : SeatView) → get_elem? (everyone n w b readers ∷ []) j ≡ some v → AreApart v.members
+  all_apart zero v e = subst (λ (z : SeatView). AreApart z.members) (some-injective _ v e) (both_apart (workers_from n w b 0 n) (readers_from n w 0 readers) (order_apart (workers_in_order n w b) 0 n) (order_apart (readers_in_order n w) 0 readers) cross)
   all_apart (suc j) v e = absurd (some-ne-none v (sym e))
 
   ruled : Rule n w b adds accepts (opening ws [] (everyone n w b readers))
@@ -156,7 +156,7 @@ module _ (n w b : ℕ) (adds : List Op → ℕ → ℕ) (accepts : (ℕ → ℕ)
   }
 
   -- the opening state
-  pub starts : Keeps n w b adds accepts (opening ws [] (everyone n w b readers))
+  pub starts : KeepsRule n w b adds accepts (opening ws [] (everyone n w b readers))
   starts = (ruled, compares n w b adds accepts _ ruled)
 
 -- those picked from two lists, one after the other

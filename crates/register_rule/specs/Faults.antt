@@ -5,13 +5,13 @@ use Rattle.register_rule.specs.declared.board_fault.BoardFault.{BoardFault}
 use Rattle.register_rule.specs.declared.board_fault.BoardFault.TheVariants.{Geometry, NoMemory}
 
 -- workers, slots and readers are in range
-abbrev pub IsBoard : (n c h g readers : ℕ) → Type 0
-IsBoard n c h g readers = IsGeometry n c h g × (1 ≤ readers) × (readers ≤ 4)
+abbrev pub IsBoardSize : (n c h g readers : ℕ) → Type 0
+IsBoardSize n c h g readers = IsGeometry n c h g × (1 ≤ readers) × (readers ≤ 4)
 
 -- something is out of range; memory is answered only where nothing is
 abbrev pub IsBoardFault : (n c h g readers : ℕ) → BoardFault → Type 0
-IsBoardFault n c h g readers Geometry = ¬ (IsBoard n c h g readers)
-IsBoardFault n c h g readers NoMemory = IsBoard n c h g readers
+IsBoardFault n c h g readers Geometry = ¬ (IsBoardSize n c h g readers)
+IsBoardFault n c h g readers NoMemory = IsBoardSize n c h g readers
 
 -- the number of each fault
 abbrev pub number_of : BoardFault → ℕ

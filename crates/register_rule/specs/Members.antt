@@ -3,15 +3,15 @@ use Rattle.std.specs.Prelude.{ℕ, zero, suc, ◌+◌, ◌==◌, max, Bool, fals
 use Rattle.ledger_core.specs.declared.op.Op.{Op}
 use Rattle.register_rule.specs.declared.view.Who.{Who}
 use Rattle.register_rule.specs.declared.view.Who.TheVariants.{Worker, Reader}
-use Rattle.register_rule.specs.declared.view.Entry.{Entry}
+use Rattle.register_rule.specs.declared.view.Answer.{Answer}
 use Rattle.register_rule.specs.declared.view.Made.{Made}
 use Rattle.register_rule.specs.declared.view.Scan.{Scan}
 use Rattle.register_rule.specs.declared.view.Member.{Member}
-use Rattle.register_rule.specs.declared.view.View.{View}
+use Rattle.register_rule.specs.declared.view.SeatView.{SeatView}
 use Rattle.register_rule.specs.Steps.{at_rest, upper}
 
 -- the view of these members
-abbrev pub group : List Member → View
+abbrev pub group : List Member → SeatView
 group ms = record { members = ms }
 
 -- the scans of a member that has made no step: n workers, rows of w words
@@ -37,7 +37,7 @@ readers_from n w i zero = []
 readers_from n w i (suc k) = new_reader n w i ∷ readers_from n w (i + 1) k
 
 -- all members of a new board: n workers, and so many readers
-abbrev pub everyone : (n w b readers : ℕ) → View
+abbrev pub everyone : (n w b readers : ℕ) → SeatView
 everyone n w b readers = group (workers_from n w b 0 n ++ readers_from n w 0 readers)
 
 -- the first member of a view makes the seat's steps
@@ -51,22 +51,22 @@ led f [] = []
 led f (m ∷ ms) = f m ∷ ms
 
 -- this member, of which `f` has changed what it learned by its scans
-abbrev pub scanned : (Scan → Scan) → Member → Member
-scanned f m = record m { scan = f m.scan }
+abbrev pub scan_changed : (Scan → Scan) → Member → Member
+scan_changed f m = record m { scan = f m.scan }
 
 -- a store of x into the item k of the hidden buffer
 abbrev pub filled : (k x : ℕ) → Member → Member
 filled k x m = record m { work = record m.work { hidden = slice_set m.work.hidden k x } }
 
--- the last of these entries, if there is one
-abbrev pub last_entry : List Entry → Option Entry
-last_entry [] = None
-last_entry (a ∷ []) = Some a
-last_entry (a ∷ x ∷ xs) = last_entry (x ∷ xs)
+-- the last of these answers, if there is one
+abbrev pub last_answer : List Answer → Option Answer
+last_answer [] = None
+last_answer (a ∷ []) = Some a
+last_answer (a ∷ x ∷ xs) = last_answer (x ∷ xs)
 
--- a publish of these operations, which lends the last entry that the member recorded, or nothing
+-- a publish of these operations, which lends the last answer that the member recorded, or nothing
 abbrev pub made_of : List Op → (lends : Bool) → Member → Made
-made_of ops lends m = record { ops = ops; lends = cond lends (last_entry m.scan.recorded) None }
+made_of ops lends m = record { ops = ops; lends = cond lends (last_answer m.scan.recorded) None }
 
 -- the store of worker i's own number: the buffers change their roles, and the worker knows its new row
 abbrev pub published : (w i : ℕ) → List Op → (lends : Bool) → Member → Member

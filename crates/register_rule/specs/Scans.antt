@@ -7,7 +7,7 @@ use Rattle.ledger_core.specs.declared.op.Op.{Op}
 use Rattle.register_rule.specs.declared.view.Made.{Made}
 use Rattle.register_rule.specs.declared.view.Look.{Look}
 use Rattle.register_rule.specs.declared.view.Version.{Version}
-use Rattle.register_rule.specs.declared.view.Entry.{Entry}
+use Rattle.register_rule.specs.declared.view.Answer.{Answer}
 use Rattle.register_rule.specs.declared.view.Asked.{Asked}
 use Rattle.register_rule.specs.declared.view.Scan.{Scan}
 use Rattle.register_rule.specs.History.{IsCut, Below}
@@ -29,8 +29,8 @@ module _ (n w : ℕ) (adds : List Op → ℕ → ℕ) (made : ℕ → List Made)
   AreLoads xs = (q : ℕ) (x : ℕ × ℕ) → get_elem? xs q ≡ some x → (x.0 < n) × (x.1 ≤ length (made x.0))
 
   -- the number opened here was not found again, and is no longer the number of the segment
-  abbrev pub HasMoved : Look → Type 0
-  HasMoved l = (l.sure ≡ false) × (l.number < length (made l.place))
+  abbrev pub IsStale : Look → Type 0
+  IsStale l = (l.sure ≡ false) × (l.number < length (made l.place))
 
   -- words that were read under a number are those of its version, or the number has moved; they are the items of the
   -- buffer from `from` on
@@ -38,11 +38,11 @@ module _ (n w : ℕ) (adds : List Op → ℕ → ℕ) (made : ℕ → List Made)
     pub inside : l.place < n
     pub old : l.number ≤ length (made l.place)
     pub risen : (l.found ≡ 0) ⊎ ((l.number ≤ l.found) × (l.found ≤ length (made l.place)))
-    pub right : (k x : ℕ) → get_elem? l.words k ≡ some x → Shows n w adds (take l.number (made l.place)) (from + k) x ⊎ HasMoved l
+    pub right : (k x : ℕ) → get_elem? l.words k ≡ some x → Shows n w adds (take l.number (made l.place)) (from + k) x ⊎ IsStale l
 
   -- at a place that is not confirmed the number is no longer the one opened
   abbrev pub Doomed : List Look → Type 0
-  Doomed looks = (q : ℕ) × (l : Look) × (get_elem? looks q ≡ some l) × HasMoved l
+  Doomed looks = (q : ℕ) × (l : Look) × (get_elem? looks q ≡ some l) × IsStale l
 
   -- the row of a version of worker i, which never changes
   pub record IsVersion (i : ℕ) (v : Version) : Type 0 where
@@ -51,7 +51,7 @@ module _ (n w : ℕ) (adds : List Op → ℕ → ℕ) (made : ℕ → List Made)
     pub row : (k x : ℕ) → get_elem? v.row k ≡ some x → x ≡ total adds (take v.number (made i)) k
 
   -- the answer of a scan is all segments at one moment: the numbers, and the sums of the rows of these versions
-  pub record IsEntry (history : List ℕ) (a : Entry) : Type 0 where
+  pub record IsOneMoment (history : List ℕ) (a : Answer) : Type 0 where
     pub low : AtMost a.vector
     pub moment : IsCut n history a.vector
     pub sums : (k : ℕ) → k < w → get_elem? a.totals k ≡ some (row_sum adds made 0 a.vector k)
@@ -71,7 +71,7 @@ module _ (n w : ℕ) (adds : List Op → ℕ → ℕ) (made : ℕ → List Made)
     -- a confirming load is not below the opening loads of its place before it
     pub ordered : AreOrdered c.opened c.confirmed c.before c.now.looks
     pub asked : (q : ℕ) (e : Asked) → get_elem? c.asked q ≡ some e → IsAsked e
-    pub recorded : (q : ℕ) (a : Entry) → get_elem? c.recorded q ≡ some a → IsEntry history a × Below a.vector c.seen
+    pub recorded : (q : ℕ) (a : Answer) → get_elem? c.recorded q ≡ some a → IsOneMoment history a × Below a.vector c.seen
     pub seen : AtMost c.seen
     pub seen_wide : length c.seen ≡ n
     pub kept : (i : ℕ) (v : Version) → get_elem? c.kept i ≡ some v → IsVersion i v

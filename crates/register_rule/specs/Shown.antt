@@ -6,7 +6,7 @@ use Rattle.ledger_core.specs.declared.op.Op.{Op}
 use Rattle.segment_layout.specs.declared.part.Item.TheVariants.{Flag, Vector, Lent}
 use Rattle.segment_layout.specs.Layout.{item_at}
 use Rattle.register_rule.specs.declared.view.Made.{Made}
-use Rattle.register_rule.specs.declared.view.Entry.{Entry}
+use Rattle.register_rule.specs.declared.view.Answer.{Answer}
 use Rattle.register_rule.specs.Sums.{total, last_lent, flag_of}
 
 -- the item k of the buffer of the version after these publishes is x: the row's words, the flag, and where the flag
@@ -14,5 +14,5 @@ use Rattle.register_rule.specs.Sums.{total, last_lent, flag_of}
 pub record Shows (n w : ℕ) (adds : List Op → ℕ → ℕ) (made : List Made) (k x : ℕ) : Type 0 where
   pub row : k < w → x ≡ total adds made k
   pub flag : k ≡ item_at n w Flag → x ≡ flag_of (last_lent made)
-  pub vector : (a : Entry) (j : ℕ) → last_lent made ≡ Some a → j < n → k ≡ item_at n w (Vector j) → get_elem? a.vector j ≡ some x
-  pub totals : (a : Entry) (j : ℕ) → last_lent made ≡ Some a → j < w → k ≡ item_at n w (Lent j) → get_elem? a.totals j ≡ some x
+  pub vector : (a : Answer) (j : ℕ) → last_lent made ≡ Some a → j < n → k ≡ item_at n w (Vector j) → get_elem? a.vector j ≡ some x
+  pub totals : (a : Answer) (j : ℕ) → last_lent made ≡ Some a → j < w → k ≡ item_at n w (Lent j) → get_elem? a.totals j ≡ some x

@@ -4,7 +4,7 @@ use Rattle.std.specs.Prelude.{ℕ, zero, suc, ◌+◌, ◌==◌, ◌&&◌, ◌||
 use Rattle.ledger_core.specs.Vectors.{is_above}
 use Rattle.register_rule.specs.declared.view.Look.{Look}
 use Rattle.register_rule.specs.declared.view.Version.{Version}
-use Rattle.register_rule.specs.declared.view.Entry.{Entry}
+use Rattle.register_rule.specs.declared.view.Answer.{Answer}
 use Rattle.register_rule.specs.declared.view.Asked.{Asked}
 use Rattle.register_rule.specs.declared.view.Progress.{Progress}
 use Rattle.register_rule.specs.declared.view.Scan.{Scan}
@@ -29,7 +29,7 @@ abbrev pub at_rest : Progress
 at_rest = record { failed = 0; floor = []; base = []; looks = []; due = []; asks = [] }
 
 -- a scan ends with an answer, which is recorded
-abbrev pub answered : Entry → Scan → Scan
+abbrev pub answered : Answer → Scan → Scan
 answered a c = record c { recorded = c.recorded ++ a ∷ []; seen = upper c.seen a.vector; now = at_rest }
 
 -- a scan whose try n + 2 has failed, and that has nobody to ask, is given up
@@ -109,9 +109,9 @@ abbrev pub sum_words : ℕ → List Look → ℕ
 sum_words k [] = 0
 sum_words k (l ∷ ls) = slice_index l.words k + sum_words k ls
 
--- the entry of a clean try: the numbers, and the sums of the rows
-abbrev pub entry_of : (w : ℕ) → List Look → Entry
-entry_of w looks = record { vector = map opened_at looks; totals = tab 0 w (λ k. sum_words k looks) }
+-- the answer of a clean try: the numbers, and the sums of the rows
+abbrev pub answer_of_try : (w : ℕ) → List Look → Answer
+answer_of_try w looks = record { vector = map opened_at looks; totals = tab 0 w (λ k. sum_words k looks) }
 
 -- the number that the confirming load of the look found
 abbrev pub found_of : Look → ℕ
@@ -133,7 +133,7 @@ failed_once_more t = record t { failed = t.failed + 1; looks = []; due = due_of 
 
 -- the end of a try: a clean one gives the answer, and any other one has failed
 abbrev pub ended : (n w : ℕ) → Scan → Scan
-ended n w c = cond (are_clean n w c.now.looks) (answered (entry_of w c.now.looks) c) (gives_up n (record c { now = failed_once_more (with_base c.now) }))
+ended n w c = cond (are_clean n w c.now.looks) (answered (answer_of_try w c.now.looks) c) (gives_up n (record c { now = failed_once_more (with_base c.now) }))
 
 -- a scan after the confirming load of the place i, of n
 abbrev pub after_confirm : (n w i s : ℕ) → Scan → Scan
@@ -151,7 +151,7 @@ abbrev pub after_ask : (i s : ℕ) → Scan → Scan
 after_ask i s c = record c { now = cond (is_next i c.now.due) (record c.now { asks = begun i s [] ∷ [] }) c.now }
 
 -- the view in the words that were read, which begin with the flag
-abbrev pub lent_in : (n w : ℕ) → List ℕ → Entry
+abbrev pub lent_in : (n w : ℕ) → List ℕ → Answer
 lent_in n w words = record { vector = take n (drop 1 words); totals = take w (drop (1 + n) words) }
 
 -- **The confirming load of the worker that is asked** found the number s. It lends where its number is found again,

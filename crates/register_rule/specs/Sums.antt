@@ -3,7 +3,7 @@
 use Rattle.std.specs.Prelude.{ℕ, suc, ◌+◌, Option, Some, None, List, [], ◌∷◌, ◌++◌, take}
 use Rattle.ledger_core.specs.declared.op.Op.{Op}
 use Rattle.register_rule.specs.declared.view.Made.{Made}
-use Rattle.register_rule.specs.declared.view.Entry.{Entry}
+use Rattle.register_rule.specs.declared.view.Answer.{Answer}
 
 module _ (adds : List Op → ℕ → ℕ) where
   -- the word k of the row after these publishes
@@ -22,12 +22,12 @@ module _ (adds : List Op → ℕ → ℕ) where
   Legal accepts before (x ∷ xs) = accepts (total before) x.ops × Legal accepts (before ++ x ∷ []) xs
 
 -- what the last version lends
-abbrev pub last_lent : List Made → Option Entry
+abbrev pub last_lent : List Made → Option Answer
 last_lent [] = None
 last_lent (m ∷ []) = m.lends
 last_lent (m ∷ x ∷ xs) = last_lent (x ∷ xs)
 
 -- a flag is 1 where something is lent
-abbrev pub flag_of : Option Entry → ℕ
+abbrev pub flag_of : Option Answer → ℕ
 flag_of None = 0
 flag_of (Some a) = 1

@@ -9,9 +9,9 @@ use Rattle.register_rule.specs.declared.view.Who.TheVariants.{Worker}
 use Rattle.register_rule.specs.declared.view.Look.{Look}
 use Rattle.register_rule.specs.declared.view.Made.{Made}
 use Rattle.register_rule.specs.declared.view.Asked.{Asked}
-use Rattle.register_rule.specs.declared.view.Entry.{Entry}
+use Rattle.register_rule.specs.declared.view.Answer.{Answer}
 use Rattle.register_rule.specs.declared.view.Member.{Member}
-use Rattle.register_rule.specs.declared.view.View.{View}
+use Rattle.register_rule.specs.declared.view.SeatView.{SeatView}
 use Rattle.register_rule.specs.declared.load.Load.{Load}
 use Rattle.register_rule.specs.declared.load.Load.TheVariants.{Open, Read, Confirm, Ask, EndAsk}
 use Rattle.segment_layout.specs.Layout.{span}
@@ -49,12 +49,12 @@ word_of b (Ask place) = place * span b + 0
 word_of b (EndAsk place) = place * span b + 0
 
 -- a load tells that it found a number, or that a word of a row is at most 2^48 - 1
-abbrev pub IsTold : (w : ℕ) → Load → List Member → ℕ → Type 0
-IsTold w (Open place) ms x = IsNumber place ms x
-IsTold w (Read place number item) ms x = item < w → x ≤ greatest_word
-IsTold w (Confirm place) ms x = IsNumber place ms x
-IsTold w (Ask place) ms x = IsNumber place ms x
-IsTold w (EndAsk place) ms x = IsNumber place ms x
+abbrev pub LoadTells : (w : ℕ) → Load → List Member → ℕ → Type 0
+LoadTells w (Open place) ms x = IsNumber place ms x
+LoadTells w (Read place number item) ms x = item < w → x ≤ greatest_word
+LoadTells w (Confirm place) ms x = IsNumber place ms x
+LoadTells w (Ask place) ms x = IsNumber place ms x
+LoadTells w (EndAsk place) ms x = IsNumber place ms x
 
 -- all that the rule says of these members: there are publishes of all workers, in one order, of which those of the
 -- workers among them are a part, and by which the scans of each of them are right
@@ -69,9 +69,9 @@ pub record AreRuled (n w : ℕ) (adds : List Op → ℕ → ℕ) (accepts : (ℕ
 
 -- some members, in pairs: n workers, of whom i has the number `number i`
 module _ (n : ℕ) (number : ℕ → ℕ) (Is : Member → Type 0) where
-  -- a is an entry that one of them recorded
-  abbrev pub Records : Entry → Type 0
-  Records a = (m : Member) × Is m × ((q : ℕ) × (get_elem? m.scan.recorded q ≡ some a))
+  -- a is an answer that one of them recorded
+  abbrev pub HaveRecorded : Answer → Type 0
+  HaveRecorded a = (m : Member) × Is m × ((q : ℕ) × (get_elem? m.scan.recorded q ≡ some a))
 
   -- these are the places of a try of one of them, and all are opened
   abbrev pub Tries : List Look → Type 0
@@ -84,16 +84,16 @@ module _ (n : ℕ) (number : ℕ → ℕ) (Is : Member → Type 0) where
   -- any two recorded vectors are comparable; of two tries one is doomed or their vectors are comparable; and a try is
   -- doomed or its vector is comparable with each recorded one
   pub record AreComparable : Type 0 where
-    pub recorded : (a c : Entry) → Records a → Records c → Comparable a.vector c.vector
+    pub recorded : (a c : Answer) → HaveRecorded a → HaveRecorded c → Comparable a.vector c.vector
     pub tries : (looks others : List Look) → Tries looks → Tries others → (IsDoomed looks ⊎ IsDoomed others) ⊎ Comparable (map opened_at looks) (map opened_at others)
-    pub between : (looks : List Look) (a : Entry) → Tries looks → Records a → IsDoomed looks ⊎ Comparable (map opened_at looks) a.vector
+    pub between : (looks : List Look) (a : Answer) → Tries looks → HaveRecorded a → IsDoomed looks ⊎ Comparable (map opened_at looks) a.vector
 
 -- m is a member of some seat's view
-abbrev pub Sits : State (Unit {0}) View → Member → Type 0
-Sits s m = (j : ℕ) × (p : ℕ) × (v : View) × (get_elem? s.views j ≡ some v) × (get_elem? v.members p ≡ some m)
+abbrev pub Sits : State (Unit {0}) SeatView → Member → Type 0
+Sits s m = (j : ℕ) × (p : ℕ) × (v : SeatView) × (get_elem? s.views j ≡ some v) × (get_elem? v.members p ≡ some m)
 
 -- the members of all seats compare, by the numbers that stand on the board
-abbrev pub AllCompare : (n b : ℕ) → State (Unit {0}) View → Type 0
+abbrev pub AllCompare : (n b : ℕ) → State (Unit {0}) SeatView → Type 0
 AllCompare n b s = AreComparable n (λ i. seg b s.words i 0) (Sits s)
 
 -- the same, at one moment: x is the number of the segment i, and these members compare, by the numbers of that moment
@@ -105,5 +105,5 @@ abbrev pub HoldsNext : (n w b : ℕ) → (List Op → ℕ → ℕ) → List Op �
 HoldsNext n w b adds ops lends m = (k : ℕ) → k < b → Shows n w adds (m.work.made ++ made_of ops lends m ∷ []) k (slice_index m.work.hidden k)
 
 -- the rule, and what it says of members in pairs
-abbrev pub Keeps : (n w b : ℕ) → (List Op → ℕ → ℕ) → ((ℕ → ℕ) → List Op → Type 0) → State (Unit {0}) View → Type 0
-Keeps n w b adds accepts s = Rule n w b adds accepts s × AllCompare n b s
+abbrev pub KeepsRule : (n w b : ℕ) → (List Op → ℕ → ℕ) → ((ℕ → ℕ) → List Op → Type 0) → State (Unit {0}) SeatView → Type 0
+KeepsRule n w b adds accepts s = Rule n w b adds accepts s × AllCompare n b s

@@ -4,7 +4,7 @@ ghost use Rattle.ledger_core.specs.Ops.{width};
 ghost use Rattle.segment_layout.specs.Layout.{IsGeometry, words};
 
 use crate::seats::{ReadSeat, WorkSeat};
-use crate::view::View;
+use crate::view::SeatView;
 use atomic_table::{Play, Split, Table, TableRule};
 use std::alloc::Global;
 use std::marker::Brand;
@@ -19,25 +19,25 @@ pub struct Key {
 /// The rule of a board of this geometry.
 pub struct Law<const N: usize, const C: usize, const H: usize, const G: usize>;
 
-impl<const N: usize, const C: usize, const H: usize, const G: usize> TableRule<(), View, Key>
+impl<const N: usize, const C: usize, const H: usize, const G: usize> TableRule<(), SeatView, Key>
     for Law<N, C, H, G> {
     ghost use Rattle.ledger_core.specs.Ops.{width, sum_ops};
     ghost use Rattle.ledger_core.specs.Row.{Accepts};
     ghost use Rattle.segment_layout.specs.Layout.{depth};
-    ghost use Rattle.register_rule.specs.Told.{Keeps};
+    ghost use Rattle.register_rule.specs.Told.{KeepsRule};
     ghost use Rattle.register_rule.specs.Members.{everyone};
 
-    ghost holds = { λ _. Keeps N (width C H G) (depth N (width C H G)) (sum_ops C H) (Accepts C H G) };
+    ghost holds = { λ _. KeepsRule N (width C H G) (depth N (width C H G)) (sum_ops C H) (Accepts C H G) };
 
     ghost first = { λ key. everyone N (width C H G) (depth N (width C H G)) key.readers };
 }
 
 // Each call picks what it tells.
-impl Play<(), View> for Brand {
+impl Play<(), SeatView> for Brand {
     ghost then = { λ _ _ _ _. Unit {0} };
 }
 
-impl Split<View> for Brand {
+impl Split<SeatView> for Brand {
     ghost left = { λ v. v };
 
     ghost right = { λ v. v };
@@ -46,7 +46,7 @@ impl Split<View> for Brand {
 /// The words that all workers and readers share: `N` segments, 1 to 32, of rows of `C` counters, at most 256, `H`
 /// histograms, at most 32, and `G` gauges, at most 64. A row has `C + 27 * H + 2 * G` words of at most 2^48 - 1.
 pub struct Board<const N: usize, const C: usize, const H: usize, const G: usize> {
-    pub(crate) table: Table<(), View, Key, Law<N, C, H, G>, Global>,
+    pub(crate) table: Table<(), SeatView, Key, Law<N, C, H, G>, Global>,
     pub(crate) id: u64,
     ghost sized: { IsGeometry N C H G × (table.shared.table_id.words ≡ words N (width C H G)) },
     ghost named: { table.shared.key.id ≡ id },

@@ -5,7 +5,7 @@
 //! [`Board::read_word`], [`Board::confirm`], [`Board::ask`] and [`Board::end_ask`] are the loads of a scan,
 //! [`Board::fill_word`] and [`Board::publish`] the stores of a worker, [`Board::join`] and [`Board::part`] put the
 //! members of seats together and apart, and [`Board::tell`] is a load that only tells. No step is handed memory. What a
-//! seat knows is a [`View`], which contracts see and no program makes.
+//! seat knows is a [`SeatView`], which contracts see and no program makes.
 //!
 //! The algorithm is the unbounded single-writer snapshot of Afek, Attiya, Dolev, Gafni, Merritt and Shavit, "Atomic
 //! Snapshots of Shared Memory", J. ACM 40(4), 1993, section 3. Where each word stands is said in `segment_layout`.
@@ -27,4 +27,4 @@ pub use board_fault::BoardFault;
 pub use load::Load;
 pub use scans::ScanSeat;
 pub use seats::{Bundle, ReadSeat, WorkSeat};
-pub use view::{Asked, Entry, Look, Made, Member, Progress, Scan, Version, View, Who, Work};
+pub use view::{Answer, Asked, Look, Made, Member, Progress, Scan, SeatView, Version, Who, Work};

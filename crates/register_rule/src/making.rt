@@ -5,7 +5,7 @@ ghost use Rattle.ledger_core.specs.Ops.{width};
 ghost use Rattle.segment_layout.specs.Layout.{depth};
 ghost use Rattle.register_rule.specs.Members.{workers_from, readers_from};
 ghost use Rattle.register_rule.specs.Seats.{table_of, members_of, worker_of, reader_of, board_id, Has, HasWorker, HasReader};
-ghost use Rattle.register_rule.specs.Faults.{IsBoard, IsBoardFault};
+ghost use Rattle.register_rule.specs.Faults.{IsBoardSize, IsBoardFault};
 
 use crate::board::{Board, Key, Parts};
 use crate::board_fault::BoardFault;
@@ -30,7 +30,7 @@ impl<const N: usize, const C: usize, const H: usize, const G: usize> Board<N, C,
         ensures id { IfOk result (λ p. board_id p.board ≡ id) }
         ensures work { IfOk result (λ p. All (HasWorker p.board) p.work.items × (map worker_of p.work.items ≡ workers_from N (width C H G) (depth N (width C H G)) 0 N)) }
         ensures read { IfOk result (λ p. All (HasReader p.board) p.read.items × (map reader_of p.read.items ≡ readers_from N (width C H G) 0 readers)) }
-        ensures geometry { IfOk result (λ _. IsBoard N C H G readers) }
+        ensures geometry { IfOk result (λ _. IsBoardSize N C H G readers) }
         ensures fault { IfErr result (IsBoardFault N C H G readers) }
     {
         if !is_board(N, C, H, G, readers) {
@@ -87,7 +87,7 @@ impl<const N: usize, const C: usize, const H: usize, const G: usize> Board<N, C,
 }
 
 fn is_board(n: usize, c: usize, h: usize, g: usize, readers: usize) -> bool
-    ensures { Decides result (IsBoard n c h g readers) }
+    ensures { Decides result (IsBoardSize n c h g readers) }
 {
     1 <= n
         && n <= MAX_WORKERS

@@ -5,13 +5,13 @@ ghost use mathlib.Core.Option.{none};
 ghost use Rattle.atomic_table.specs.Table.{step, Allows, Splits, Joins};
 ghost use Rattle.register_rule.specs.Members.{group, met};
 
-use crate::view::View;
+use crate::view::SeatView;
 use atomic_table::{Join, Play, Seat, Shared, Split, TableRule};
 
 #[inline]
-pub(crate) fn load_as<X, K, J: Play<(), View>, P: TableRule<(), View, K>>(
-    shared: &Shared<(), View, K, P>,
-    seat: &mut Seat<(), View>,
+pub(crate) fn load_as<X, K, J: Play<(), SeatView>, P: TableRule<(), SeatView, K>>(
+    shared: &Shared<(), SeatView, K, P>,
+    seat: &mut Seat<(), SeatView>,
     word: usize,
     _about: &X,
 ) -> u64
@@ -22,9 +22,9 @@ pub(crate) fn load_as<X, K, J: Play<(), View>, P: TableRule<(), View, K>>(
 }
 
 #[inline]
-pub(crate) fn store_as<X, K, J: Play<(), View>, P: TableRule<(), View, K>>(
-    shared: &Shared<(), View, K, P>,
-    seat: &mut Seat<(), View>,
+pub(crate) fn store_as<X, K, J: Play<(), SeatView>, P: TableRule<(), SeatView, K>>(
+    shared: &Shared<(), SeatView, K, P>,
+    seat: &mut Seat<(), SeatView>,
     word: usize,
     new: u64,
     _about: &X,
@@ -35,11 +35,11 @@ pub(crate) fn store_as<X, K, J: Play<(), View>, P: TableRule<(), View, K>>(
     shared.store::<J>(seat, word, new);
 }
 
-pub(crate) fn split_as<X, K, J: Split<View>, P: TableRule<(), View, K>>(
-    shared: &Shared<(), View, K, P>,
-    seat: &mut Seat<(), View>,
+pub(crate) fn split_as<X, K, J: Split<SeatView>, P: TableRule<(), SeatView, K>>(
+    shared: &Shared<(), SeatView, K, P>,
+    seat: &mut Seat<(), SeatView>,
     _about: &X,
-) -> Seat<(), View>
+) -> Seat<(), SeatView>
     requires { (seat.old.table_id ≡ shared.now.table_id) × (0 < shared.now.table_id.words) × Splits (P.holds shared.now.key) seat.old.id seat.old.me.0 (J.left seat.old.me.0) (J.right seat.old.me.0) }
     ensures { (seat.new.table_id ≡ seat.old.table_id) × (seat.new.id ≡ seat.old.id) × (seat.new.me ≡ (J.left seat.old.me.0, seat.old.me.1)) × (result.table_id ≡ seat.old.table_id) × (result.me ≡ (J.right seat.old.me.0, [])) }
 {
@@ -49,7 +49,7 @@ pub(crate) fn split_as<X, K, J: Split<View>, P: TableRule<(), View, K>>(
 /// The members of both seats meet in the first one.
 pub(crate) struct Both;
 
-impl Join<View> for Both {
+impl Join<SeatView> for Both {
     ghost both = { λ v w. group (met (v.members ++ w.members)) };
 
     ghost spent = { group [] };

@@ -4,9 +4,9 @@ ghost use Rattle.bucket_math.specs.Words.{greatest_word};
 ghost use Rattle.ledger_core.specs.Ops.{width};
 ghost use Rattle.segment_layout.specs.Layout.{depth};
 ghost use Rattle.register_rule.specs.Steps.{after, after_open, after_read, after_confirm, after_ask, after_end_ask};
-ghost use Rattle.register_rule.specs.Told.{IsLoad, IsTold, IsNumber};
+ghost use Rattle.register_rule.specs.Told.{IsLoad, LoadTells, IsNumber};
 ghost use Rattle.register_rule.specs.Seats.{members_of, MayScan};
-ghost use Rattle.register_rule.specs.Learned.{Learns};
+ghost use Rattle.register_rule.specs.Learned.{ScanChangesBy};
 
 use crate::board::Board;
 use crate::load::Load;
@@ -22,8 +22,8 @@ pub trait ScanSeat<const N: usize, const C: usize, const H: usize, const G: usiz
     fn load(&mut self, board: &Board<N, C, H, G>, what: Load) -> u64
         requires own { MayScan board.now (bundle self.old) }
         requires inside { IsLoad N (depth N (width C H G)) what }
-        ensures learns { Learns N C H G (after N (width C H G) what result) (bundle self.old) (bundle self.new) }
-        ensures told { IsTold (width C H G) what (members_of (bundle self.old)) result };
+        ensures learns { ScanChangesBy N C H G (after N (width C H G) what result) (bundle self.old) (bundle self.new) }
+        ensures told { LoadTells (width C H G) what (members_of (bundle self.old)) result };
 }
 
 impl<const N: usize, const C: usize, const H: usize, const G: usize> ScanSeat<N, C, H, G>
@@ -66,7 +66,7 @@ impl<const N: usize, const C: usize, const H: usize, const G: usize> Board<N, C,
     pub fn open<S: ScanSeat<N, C, H, G>>(&self, seat: &mut S, place: usize) -> u64
         requires own { MayScan self.now (S.bundle seat.old) }
         requires inside { place < N }
-        ensures learns { Learns N C H G (after_open place result) (S.bundle seat.old) (S.bundle seat.new) }
+        ensures learns { ScanChangesBy N C H G (after_open place result) (S.bundle seat.old) (S.bundle seat.new) }
         ensures told { IsNumber place (members_of (S.bundle seat.old)) result }
     {
         seat.load(self, Load::Open { place })
@@ -85,7 +85,7 @@ impl<const N: usize, const C: usize, const H: usize, const G: usize> Board<N, C,
     ) -> u64
         requires own { MayScan self.now (S.bundle seat.old) }
         requires inside { (place < N) × (item < depth N (width C H G)) }
-        ensures learns { Learns N C H G (after_read (width C H G) place number item result) (S.bundle seat.old) (S.bundle seat.new) }
+        ensures learns { ScanChangesBy N C H G (after_read (width C H G) place number item result) (S.bundle seat.old) (S.bundle seat.new) }
         ensures bounded { item < width C H G → result ≤ greatest_word }
     {
         seat.load(
@@ -105,7 +105,7 @@ impl<const N: usize, const C: usize, const H: usize, const G: usize> Board<N, C,
     pub fn confirm<S: ScanSeat<N, C, H, G>>(&self, seat: &mut S, place: usize) -> u64
         requires own { MayScan self.now (S.bundle seat.old) }
         requires inside { place < N }
-        ensures learns { Learns N C H G (after_confirm N (width C H G) place result) (S.bundle seat.old) (S.bundle seat.new) }
+        ensures learns { ScanChangesBy N C H G (after_confirm N (width C H G) place result) (S.bundle seat.old) (S.bundle seat.new) }
         ensures told { IsNumber place (members_of (S.bundle seat.old)) result }
     {
         seat.load(self, Load::Confirm { place })
@@ -117,7 +117,7 @@ impl<const N: usize, const C: usize, const H: usize, const G: usize> Board<N, C,
     pub fn ask<S: ScanSeat<N, C, H, G>>(&self, seat: &mut S, place: usize) -> u64
         requires own { MayScan self.now (S.bundle seat.old) }
         requires inside { place < N }
-        ensures learns { Learns N C H G (after_ask place result) (S.bundle seat.old) (S.bundle seat.new) }
+        ensures learns { ScanChangesBy N C H G (after_ask place result) (S.bundle seat.old) (S.bundle seat.new) }
         ensures told { IsNumber place (members_of (S.bundle seat.old)) result }
     {
         seat.load(self, Load::Ask { place })
@@ -128,7 +128,7 @@ impl<const N: usize, const C: usize, const H: usize, const G: usize> Board<N, C,
     pub fn end_ask<S: ScanSeat<N, C, H, G>>(&self, seat: &mut S, place: usize) -> u64
         requires own { MayScan self.now (S.bundle seat.old) }
         requires inside { place < N }
-        ensures learns { Learns N C H G (after_end_ask N (width C H G) place result) (S.bundle seat.old) (S.bundle seat.new) }
+        ensures learns { ScanChangesBy N C H G (after_end_ask N (width C H G) place result) (S.bundle seat.old) (S.bundle seat.new) }
         ensures told { IsNumber place (members_of (S.bundle seat.old)) result }
     {
         seat.load(self, Load::EndAsk { place })

@@ -3,13 +3,13 @@ ghost use Rattle.std.specs.Prelude.{◌≡◌, [], ◌∷◌, length};
 ghost use Rattle.register_rule.specs.declared.view.Who.TheVariants.{Worker, Reader};
 ghost use Rattle.register_rule.specs.Members.{first_of};
 
-use crate::view::View;
+use crate::view::SeatView;
 use atomic_table::Seat;
 
 /// A seat of some workers and readers. The first one makes its steps.
 #[derive(Drop)]
 pub struct Bundle {
-    pub(crate) seat: Seat<(), View>,
+    pub(crate) seat: Seat<(), SeatView>,
     ghost free: { seat.me.1 ≡ [] },
 }
 

@@ -9,8 +9,8 @@ ghost use Rattle.register_rule.specs.Words.{item_of, IsPlaceOf};
 ghost use Rattle.register_rule.specs.Sums.{total};
 ghost use Rattle.register_rule.specs.Steps.{after};
 ghost use Rattle.register_rule.specs.Members.{filled, published, picked, without, met};
-ghost use Rattle.register_rule.specs.Told.{IsLoad, word_of, IsTold, IsNumber, AreRuledAt, HoldsNext};
-ghost use Rattle.register_rule.specs.Learned.{Learns};
+ghost use Rattle.register_rule.specs.Told.{IsLoad, word_of, LoadTells, IsNumber, AreRuledAt, HoldsNext};
+ghost use Rattle.register_rule.specs.Learned.{ScanChangesBy};
 ghost use Rattle.register_rule.specs.Seats.{table_of, members_of, worker_of, index_of, board_id, Has, MayScan, HasWorker};
 
 use crate::board::{Board, Key, Law};
@@ -70,8 +70,8 @@ impl<const N: usize, const C: usize, const H: usize, const G: usize> Board<N, C,
     pub(crate) fn load(&self, bundle: &mut Bundle, what: Load) -> u64
         requires own { MayScan self.now bundle.old }
         requires inside { IsLoad N (depth N (width C H G)) what }
-        ensures learns { Learns N C H G (after N (width C H G) what result) bundle.old bundle.new }
-        ensures told { IsTold (width C H G) what (members_of bundle.old) result }
+        ensures learns { ScanChangesBy N C H G (after N (width C H G) what result) bundle.old bundle.new }
+        ensures told { LoadTells (width C H G) what (members_of bundle.old) result }
     {
         let at = self.place(what);
         load_as::<Load, Key, Brand, Law<N, C, H, G>>(
@@ -106,10 +106,10 @@ impl<const N: usize, const C: usize, const H: usize, const G: usize> Board<N, C,
     }
 
     /// Stores the worker's own number plus one, which makes the hidden buffer the shown one: the worker has then
-    /// published these operations. With `lends` the version lends the last entry that the worker recorded, if there is
+    /// published these operations. With `lends` the version lends the last answer that the worker recorded, if there is
     /// one. A worker publishes at most 2^64 - 1 times.
     ///
-    /// The hidden buffer has to hold the new row, the flag, and where an entry is lent its vector and its totals.
+    /// The hidden buffer has to hold the new row, the flag, and where an answer is lent its vector and its totals.
     #[inline]
     pub fn publish(&self, seat: &mut WorkSeat, ops: &[Op], lends: bool)
         requires own { HasWorker self.now seat.old }

@@ -35,7 +35,7 @@ pub struct Look {
 }
 
 /// The answer of a scan, as it is recorded: all segments at one moment.
-pub struct Entry {
+pub struct Answer {
     /// The number of each segment, `N` of them.
     pub vector: LinkedList<u64>,
     /// The sums of the segments' rows, word by word: `C + 27 * H + 2 * G` of them.
@@ -46,8 +46,8 @@ pub struct Entry {
 pub struct Made {
     /// The operations that it added.
     pub ops: LinkedList<Op>,
-    /// The entry that its version lends, if it lends one.
-    pub lends: Option<Entry>,
+    /// The answer that its version lends, if it lends one.
+    pub lends: Option<Answer>,
 }
 
 /// A worker that was asked for the view that it lends.
@@ -90,7 +90,7 @@ pub struct Scan {
     /// All workers asked.
     pub asked: LinkedList<Asked>,
     /// The answers of the scans that were not given up.
-    pub recorded: LinkedList<Entry>,
+    pub recorded: LinkedList<Answer>,
     /// How many scans were given up.
     pub quit: u64,
     /// For each segment the greatest number that is known to have been published.
@@ -122,7 +122,7 @@ pub struct Member {
 }
 
 /// What a seat knows: its members, of which the first one makes its steps.
-pub struct View {
+pub struct SeatView {
     /// Each is in the view of one seat only.
     pub members: LinkedList<Member>,
 }

@@ -3,7 +3,7 @@ use Rattle.std.proofs.Common.{◌≡◌, ℕ, List, [], ◌∷◌, ◌++◌, len
 use Rattle.std.specs.List.{insert}
 use Rattle.metric_desc.specs.Desc.{Descriptor}
 use Rattle.metric_desc.specs.declared.kind.Kind.{Kind}
-use Rattle.register_rule.specs.declared.view.Entry.{Entry as Answer}
+use Rattle.register_rule.specs.declared.view.Answer.{Answer}
 use Rattle.segment_layout.specs.Layout.{IsGeometry}
 use Rattle.snapshot_scan.specs.Sources.{newest}
 use Rattle.registry_state.specs.Journal.{Change, Registered, Entry, Changed, scrapes}

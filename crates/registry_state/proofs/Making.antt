@@ -4,7 +4,7 @@ use Rattle.std.specs.Prelude.{slice_get, IsSomeAnd, Result, Ok, Err, IfErr, IsEr
 use Rattle.std.proofs.lemmas.List.{get_or_default}
 use Rattle.metric_desc.specs.Desc.{Descriptor}
 use Rattle.metric_desc.specs.declared.kind.Kind.{Kind}
-use Rattle.register_rule.specs.declared.view.Entry.{Entry as Answer}
+use Rattle.register_rule.specs.declared.view.Answer.{Answer}
 use Rattle.snapshot_scan.specs.Sources.{newest}
 use Rattle.registry_state.specs.Journal.{Made, Entry, Changed, scrapes}
 use Rattle.registry_state.specs.Replay.{Child, Family, MayMake, put, with_child, slots}

@@ -3,7 +3,7 @@ use Rattle.std.proofs.Common.{◌≡◌, ℕ, zero, suc, ◌≤◌, ◌-◌, ◌
 use Rattle.std.specs.Prelude.{◌<◌, false, true, Some, None, slice_index_or}
 use Rattle.std.proofs.lemmas.List.{drop-append-le, take-append-le, append_assoc, map-append, take_rest, drop-drop, length-drop, length-map, length-append, length-take-le, take-append-drop}
 use Rattle.std.proofs.Math.Seq.{drop-length, take-add}
-use Rattle.snapshot_scan.specs.Snapshots.{Taken, entry_of}
+use Rattle.snapshot_scan.specs.Snapshots.{Taken, as_answer}
 use Rattle.snapshot_scan.specs.Sources.{newest}
 use Rattle.registry_state.specs.Journal.{Change, Entry, Changed, Scraped, scrapes, without_oldest, without, within}
 use Rattle.scrape_history.specs.History.{answers_of}
@@ -63,15 +63,15 @@ merged_change cs from (scrape ∷ kept) change noted =
     let piece : take (scrape.1 - from) (drop from (cs ++ change ∷ [])) ≡ take (scrape.1 - from) (drop from cs) =
     ap (take (scrape.1 - from)) (drop-append-le from cs (change ∷ []) le) ∙ take-append-le (scrape.1 - from) (drop from cs) (change ∷ []) inner in
     rw (piece, merged_change cs scrape.1 kept change noted.1)
-    (sym (append_assoc (map Changed (take (scrape.1 - from) (drop from cs))) (Scraped (entry_of scrape.0) ∷ merged cs scrape.1 kept) (Changed change ∷ [])))
+    (sym (append_assoc (map Changed (take (scrape.1 - from) (drop from cs))) (Scraped (as_answer scrape.0) ∷ merged cs scrape.1 kept) (Changed change ∷ [])))
 
 -- one scrape more
 pub merged_scrape : (cs : List Change) (from : ℕ) (kept : List (Taken × ℕ)) (snapshot : Taken) → AreNoted (length cs) from kept
-    → merged cs from (kept ++ (snapshot, length cs) ∷ []) ≡ merged cs from kept ++ Scraped (entry_of snapshot) ∷ []
+    → merged cs from (kept ++ (snapshot, length cs) ∷ []) ≡ merged cs from kept ++ Scraped (as_answer snapshot) ∷ []
 merged_scrape cs from [] snapshot noted = rw (take_rest, drop-length) refl
 merged_scrape cs from (scrape ∷ kept) snapshot noted =
     rw (merged_scrape cs scrape.1 kept snapshot noted.1)
-    (sym (append_assoc (map Changed (take (scrape.1 - from) (drop from cs))) (Scraped (entry_of scrape.0) ∷ merged cs scrape.1 kept) (Scraped (entry_of snapshot) ∷ [])))
+    (sym (append_assoc (map Changed (take (scrape.1 - from) (drop from cs))) (Scraped (as_answer scrape.0) ∷ merged cs scrape.1 kept) (Scraped (as_answer snapshot) ∷ [])))
 
 without_front : (cs : List Change) (entries : List Entry)
     → without_oldest (map Changed cs ++ entries) ≡ map Changed cs ++ without_oldest entries
@@ -90,13 +90,13 @@ without_all (suc k) cs = without_all k cs ∙ ap (without k) (sym (without_none 
 merged_less : (cs : List Change) (from : ℕ) (scrape : Taken × ℕ) (kept : List (Taken × ℕ)) → AreNoted (length cs) from (scrape ∷ kept)
     → merged cs from kept ≡ without_oldest (merged cs from (scrape ∷ kept))
 merged_less cs from scrape [] noted = sym (
-    without_front (take (scrape.1 - from) (drop from cs)) (Scraped (entry_of scrape.0) ∷ merged cs scrape.1 [])
+    without_front (take (scrape.1 - from) (drop from cs)) (Scraped (as_answer scrape.0) ∷ merged cs scrape.1 [])
     ∙ sym (map-append Changed (take (scrape.1 - from) (drop from cs)) (drop scrape.1 cs))
     ∙ ap (map Changed) (joined_rest cs from scrape.1 noted.0))
 merged_less cs from scrape (second ∷ kept) noted = sym (
-    without_front (take (scrape.1 - from) (drop from cs)) (Scraped (entry_of scrape.0) ∷ merged cs scrape.1 (second ∷ kept))
-    ∙ sym (append_assoc (map Changed (take (scrape.1 - from) (drop from cs))) (map Changed (take (second.1 - scrape.1) (drop scrape.1 cs))) (Scraped (entry_of second.0) ∷ merged cs second.1 kept))
-    ∙ ap (λ front. front ++ Scraped (entry_of second.0) ∷ merged cs second.1 kept)
+    without_front (take (scrape.1 - from) (drop from cs)) (Scraped (as_answer scrape.0) ∷ merged cs scrape.1 (second ∷ kept))
+    ∙ sym (append_assoc (map Changed (take (scrape.1 - from) (drop from cs))) (map Changed (take (second.1 - scrape.1) (drop scrape.1 cs))) (Scraped (as_answer second.0) ∷ merged cs second.1 kept))
+    ∙ ap (λ front. front ++ Scraped (as_answer second.0) ∷ merged cs second.1 kept)
     (sym (map-append Changed (take (scrape.1 - from) (drop from cs)) (take (second.1 - scrape.1) (drop scrape.1 cs)))
     ∙ ap (map Changed) (joined cs from scrape.1 second.1 noted.0 noted.1.0)))
 
@@ -120,12 +120,12 @@ scrapes_none (change ∷ cs) = scrapes_none cs
 pub merged_scrapes : (cs : List Change) (from : ℕ) (kept : List (Taken × ℕ)) → scrapes (merged cs from kept) ≡ answers_of kept
 merged_scrapes cs from [] = scrapes_none (drop from cs)
 merged_scrapes cs from (scrape ∷ kept) =
-    scrapes_front (take (scrape.1 - from) (drop from cs)) (Scraped (entry_of scrape.0) ∷ merged cs scrape.1 kept)
-    ∙ ap (λ rest. entry_of scrape.0 ∷ rest) (merged_scrapes cs scrape.1 kept)
+    scrapes_front (take (scrape.1 - from) (drop from cs)) (Scraped (as_answer scrape.0) ∷ merged cs scrape.1 kept)
+    ∙ ap (λ rest. as_answer scrape.0 ∷ rest) (merged_scrapes cs scrape.1 kept)
 
 -- they are as many as are kept
 merged_count : (cs : List Change) (from : ℕ) (kept : List (Taken × ℕ)) → length (scrapes (merged cs from kept)) ≡ length kept
-merged_count cs from kept = ap length (merged_scrapes cs from kept) ∙ length-map kept (λ (scrape : Taken × ℕ). entry_of scrape.0)
+merged_count cs from kept = ap length (merged_scrapes cs from kept) ∙ length-map kept (λ (scrape : Taken × ℕ). as_answer scrape.0)
 
 -- the oldest scrapes over the window dropped
 pub merged_within : (cs : List Change) (window : ℕ) (kept : List (Taken × ℕ)) → AreNoted (length cs) 0 kept
@@ -147,14 +147,14 @@ merged_length cs from (scrape ∷ kept) noted =
     let front : length (map Changed (take (scrape.1 - from) (drop from cs))) ≡ scrape.1 - from =
     length-map (take (scrape.1 - from) (drop from cs)) Changed ∙ length-take-le (scrape.1 - from) (drop from cs) inner in
     let e : length (merged cs from (scrape ∷ kept)) ≡ length (map Changed (take (scrape.1 - from) (drop from cs))) + suc (length (merged cs scrape.1 kept)) =
-    length-append (map Changed (take (scrape.1 - from) (drop from cs))) (Scraped (entry_of scrape.0) ∷ merged cs scrape.1 kept) in
+    length-append (map Changed (take (scrape.1 - from) (drop from cs))) (Scraped (as_answer scrape.0) ∷ merged cs scrape.1 kept) in
     omega (arith, rest, inside, front, e, noted.0)
 
 -- the answer that is kept last is the newest
 pub newest_kept : (kept : List (Taken × ℕ)) (i : ℕ) (scrape : Taken × ℕ) → suc i ≡ length kept → scrape ≡ slice_index_or kept i scrape
-    → newest (answers_of kept) ≡ Some (entry_of scrape.0)
+    → newest (answers_of kept) ≡ Some (as_answer scrape.0)
 newest_kept [] i scrape e last = absurd (omega (arith, e))
-newest_kept (first ∷ []) zero scrape e last = ap (λ (s : Taken × ℕ). Some (entry_of s.0)) (sym last)
+newest_kept (first ∷ []) zero scrape e last = ap (λ (s : Taken × ℕ). Some (as_answer s.0)) (sym last)
 newest_kept (first ∷ []) (suc i) scrape e last = absurd (omega (arith, e))
 newest_kept (first ∷ second ∷ kept) zero scrape e last = absurd (omega (arith, e))
 newest_kept (first ∷ second ∷ kept) (suc i) scrape e last = newest_kept (second ∷ kept) i scrape (omega (arith, e)) last

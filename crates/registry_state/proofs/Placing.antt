@@ -13,7 +13,7 @@ use Rattle.std.proofs.Math.Nat.{eq-or-lt_of_le}
 use Rattle.std.proofs.lemmas.Cmp.{lists_total, nat_list_cmp_total, tied_itself}
 use Rattle.std.proofs.lemmas.Map.Lookups.{CmpEqualImpliesEq, exact_bytes}
 use Rattle.registry_state.specs.Replay.{Child, put}
-use Rattle.registry_state.specs.Held.{IsChildBefore, IsPlaceOf}
+use Rattle.registry_state.specs.Held.{IsChildBefore, IsPlaceOfValues}
 use Rattle.registry_state.proofs.Lists.{cases_order}
 
 abbrev pub stands : Child → Child → Ordering
@@ -89,14 +89,14 @@ found_at children values (Err place) ordered within found = tt
 pub place_at : (children : List Child) (values : List (List ℕ)) (result : Result ℕ ℕ) → AllPairs IsChildBefore children
     → IsSearchInRange result (length children)
     → IsBinarySearchResult (λ (child : Child). slice_cmp (slice_cmp nat_cmp) child.values values) children result
-    → IfErr result (IsPlaceOf children values)
+    → IfErr result (IsPlaceOfValues children values)
 place_at children values (Ok place) ordered within found = tt
 place_at children values (Err place) ordered within found =
     let parts = found (rising (record { values = values; slot = 0 }) children ordered) in
     record { within = within; front = parts.0; back = parts.1 }
 
 -- no child has the values of which there is a place
-pub place_is_new : (children : List Child) (values : List (List ℕ)) (place : ℕ) → IsPlaceOf children values place
+pub place_is_new : (children : List Child) (values : List (List ℕ)) (place : ℕ) → IsPlaceOfValues children values place
     → All (λ (child : Child). child.values ≢ values) children
 place_is_new children values place at k d within same =
     let child : Child = get_or children k d in
@@ -109,10 +109,10 @@ place_is_new children values place at k d within same =
     not_both : {o : Ordering} (p : Ordering) → (p ≡ Equal → ⊥) → o ≡ p → o ≡ Equal → ⊥
     not_both p other e f = other (sym e ∙ f)
 
-pub put_at : (child : Child) (children : List Child) (place : ℕ) → IsPlaceOf children child.values place → put child children ≡ insert children place child
+pub put_at : (child : Child) (children : List Child) (place : ℕ) → IsPlaceOfValues children child.values place → put child children ≡ insert children place child
 put_at child children place at = put_is child children place at.within at.front at.back
 
-pub new_at : (children : List Child) (values : List (List ℕ)) (result : Result ℕ ℕ) → IfErr result (IsPlaceOf children values)
+pub new_at : (children : List Child) (values : List (List ℕ)) (result : Result ℕ ℕ) → IfErr result (IsPlaceOfValues children values)
     → OnErr result (All (λ (child : Child). child.values ≢ values) children)
 new_at children values (Ok place) at = tt
 new_at children values (Err place) at = place_is_new children values place at

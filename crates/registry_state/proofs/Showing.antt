@@ -20,7 +20,7 @@ use Rattle.metric_desc.specs.declared.kind.Kind.{Kind}
 use Rattle.metric_desc.specs.declared.kind.Kind.TheVariants.{Counter, Histogram, Gauge}
 use Rattle.ledger_core.specs.Limits.{AreSlots}
 use Rattle.ledger_core.proofs.Legal.{legal_buckets}
-use Rattle.register_rule.specs.declared.view.Entry.{Entry as Answer}
+use Rattle.register_rule.specs.declared.view.Answer.{Answer}
 use Rattle.snapshot_scan.specs.Sources.{IsWhole}
 use Rattle.expo_text.specs.Scraped.{Child as ChildShown, Family as FamilyShown}
 use Rattle.expo_text.specs.Order.{IsBefore, IsNumberOf, IsFamily, IsScrape, IsChildBefore as IsShownBefore}

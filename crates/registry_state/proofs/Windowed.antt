@@ -2,14 +2,14 @@
 use Rattle.std.proofs.Common.{◌≡◌, ℕ, ◌≤◌, List, [], ◌∷◌, ◌++◌, refl, ap, sym, subst, ◌∙◌}
 use Rattle.std.specs.Prelude.{Option, Some, None}
 use Rattle.metric_desc.specs.declared.kind.Kind.{Kind}
-use Rattle.register_rule.specs.declared.view.Entry.{Entry as Answer}
+use Rattle.register_rule.specs.declared.view.Answer.{Answer}
 use Rattle.snapshot_scan.specs.Moments.{AreMoments}
 use Rattle.snapshot_scan.specs.Sources.{newest, Records}
 use Rattle.registry_state.specs.Journal.{Entry, Scraped, scrapes, within}
 use Rattle.registry_state.specs.Replay.{Family, State}
 use Rattle.registry_state.specs.Faults.{IsWindow}
 use Rattle.registry_state.specs.Kept.{Registry, IsKept}
-use Rattle.registry_state.specs.Changed.{Keeps}
+use Rattle.registry_state.specs.Changed.{KeepsScrape}
 use Rattle.registry_state.specs.Whole.{IsHeld}
 use Rattle.registry_state.proofs.Entries.{newest_within, newest_scrape}
 use Rattle.registry_state.proofs.Keeping.{keeps_at_window, kept_scrape}
@@ -88,7 +88,7 @@ seen_window {S} id window' source journal journal' families some same =
 -- what contracts see of a registry that has scraped
 pub keeps_scrape : {S : Type 0} (n c h g : ℕ) (recorded : S → List Answer) (gave : S → S → Answer → Type 0) (id window : ℕ) (source source' : S) (journal journal' : List Entry) (families : List Family)
     (answer : Answer) → 1 ≤ window → Records n c h g (recorded source) (recorded source') answer → gave source source' answer
-    → journal' ≡ within window (journal ++ Scraped answer ∷ []) → AreMoments n c h g (scrapes journal') → Keeps n c h g recorded gave
+    → journal' ≡ within window (journal ++ Scraped answer ∷ []) → AreMoments n c h g (scrapes journal') → KeepsScrape n c h g recorded gave
     (record { id = id; window = window; source = source; journal = journal; state = record { families = families; last = newest (scrapes journal) } })
     (record { id = id; window = window; source = source'; journal = journal'; state = record { families = families; last = newest (scrapes journal') } })
 keeps_scrape n c h g recorded gave id window source source' journal journal' families answer some records given same moments = record {

@@ -2,7 +2,7 @@
 use Rattle.std.specs.Prelude.{◌≡◌, ℕ, ◌<◌, ◌⊎◌, List, [], ◌∷◌, ◌++◌, Some, slice_get, Contains, IsSomeAnd}
 use Rattle.metric_desc.specs.Desc.{Descriptor}
 use Rattle.metric_desc.specs.declared.kind.Kind.{Kind}
-use Rattle.register_rule.specs.declared.view.Entry.{Entry as Answer}
+use Rattle.register_rule.specs.declared.view.Answer.{Answer}
 use Rattle.snapshot_scan.specs.Moments.{AreMoments}
 use Rattle.snapshot_scan.specs.Sources.{Records}
 use Rattle.registry_state.specs.Journal.{Change, Made, Changed, Scraped, scrapes, within}
@@ -56,7 +56,7 @@ module _ {S : Type 0} (c h g : ℕ) (old new : Registry S) (family : ℕ) (value
 
 -- one scan of the source was recorded, which the source gave, and it stands last in the journal, from which the oldest scrape went only
 -- if they were too many; all that are kept, with this one, are moments of one history of publishes
-pub record Keeps {S : Type 0} (n c h g : ℕ) (recorded : S → List Answer) (gave : S → S → Answer → Type 0) (old new : Registry S) : Type 0 where
+pub record KeepsScrape {S : Type 0} (n c h g : ℕ) (recorded : S → List Answer) (gave : S → S → Answer → Type 0) (old new : Registry S) : Type 0 where
   pub answer : Answer
   pub once : Records n c h g (recorded old.source) (recorded new.source) answer
   pub given : gave old.source new.source answer

@@ -2,7 +2,7 @@
 use Rattle.std.specs.Prelude.{◌≡◌, ◌≢◌, ℕ, ◌+◌, ◌<◌, ◌≤◌, List, length, take, slice_get, IsSomeAnd}
 use Rattle.metric_desc.specs.Desc.{Descriptor, Clash}
 use Rattle.metric_desc.specs.declared.kind.Kind.{Kind}
-use Rattle.register_rule.specs.declared.view.Entry.{Entry as Answer}
+use Rattle.register_rule.specs.declared.view.Answer.{Answer}
 use Rattle.snapshot_scan.specs.declared.contended.Contended.{Contended}
 use Rattle.registry_state.specs.Replay.{Family, IsApart, IsNew, IsFree, slots}
 use Rattle.registry_state.specs.declared.fault.NewFault.{NewFault}
@@ -62,24 +62,24 @@ module _ {S : Type 0} (n : ℕ) (recorded : S → List Answer) (quit : S → ℕ
       (recorded new ≡ recorded old) × (quit new ≡ quit old + 1) × (fault.worker < n) × (fault.first < fault.last) × gave_up old new fault
 
 -- the number of each reason why there is no registry
-abbrev pub new_number : NewFault → ℕ
-new_number New.BadWindow = 31
-new_number New.NoMemory = 6
+abbrev pub new_fault_number : NewFault → ℕ
+new_fault_number New.BadWindow = 31
+new_fault_number New.NoMemory = 6
 
 -- the number of each refusal of a family
-abbrev pub register_number : RegisterFault → ℕ
-register_number (Register.Clash with) = 19
-register_number Register.TooManyFamilies = 23
-register_number Register.NoMemory = 6
+abbrev pub register_fault_number : RegisterFault → ℕ
+register_fault_number (Register.Clash with) = 19
+register_fault_number Register.TooManyFamilies = 23
+register_fault_number Register.NoMemory = 6
 
 -- the number of each refusal of a child
-abbrev pub child_number : ChildFault → ℕ
-child_number Child.NoSuchFamily = 20
-child_number (Child.LabelCount want got) = 21
-child_number (Child.Full kind) = 22
-child_number Child.NoMemory = 6
+abbrev pub child_fault_number : ChildFault → ℕ
+child_fault_number Child.NoSuchFamily = 20
+child_fault_number (Child.LabelCount want got) = 21
+child_fault_number (Child.Full kind) = 22
+child_fault_number Child.NoMemory = 6
 
 -- the number of each refusal of a scrape
-abbrev pub scrape_number : ScrapeFault → ℕ
-scrape_number Scrape.NoMemory = 6
-scrape_number (Scrape.Contended fault) = 14
+abbrev pub scrape_fault_number : ScrapeFault → ℕ
+scrape_fault_number Scrape.NoMemory = 6
+scrape_fault_number (Scrape.Contended fault) = 14

@@ -28,7 +28,7 @@ IsChildBefore a b = slice_cmp (slice_cmp nat_cmp) a.values b.values ≡ Less
 
 -- the place at which a child of these values would stand: behind those whose values are before its own, and before the others, none of
 -- which has its values
-pub record IsPlaceOf (children : List Child) (values : List (List ℕ)) (place : ℕ) : Type 0 where
+pub record IsPlaceOfValues (children : List Child) (values : List (List ℕ)) (place : ℕ) : Type 0 where
   pub within : place ≤ length children
   pub front : AllWithin (λ (child : Child). slice_cmp (slice_cmp nat_cmp) child.values values ≡ Less) children 0 place
   pub back : AllWithin (λ (child : Child). slice_cmp (slice_cmp nat_cmp) child.values values ≡ Greater) children place (length children)

@@ -1,7 +1,7 @@
 -- The journal: what was registered, what was made and what was scraped, in order.
 use Rattle.std.specs.Prelude.{ℕ, zero, suc, ◌-◌, List, [], ◌∷◌, length}
 use Rattle.metric_desc.specs.Desc.{Descriptor}
-use Rattle.register_rule.specs.declared.view.Entry.{Entry as Answer}
+use Rattle.register_rule.specs.declared.view.Answer.{Answer}
 
 -- a change of what is scraped: a family was registered; or a child of these label values was made of the family of this number,
 -- and this slot counts for it

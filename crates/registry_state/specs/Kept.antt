@@ -1,6 +1,6 @@
 -- What a registry keeps, whenever nobody is at work in it.
 use Rattle.std.specs.Prelude.{◌≡◌, ℕ, ◌≤◌, List, ◌++◌, length}
-use Rattle.register_rule.specs.declared.view.Entry.{Entry as Answer}
+use Rattle.register_rule.specs.declared.view.Answer.{Answer}
 use Rattle.snapshot_scan.specs.Moments.{AreMoments}
 use Rattle.registry_state.specs.Journal.{Entry, scrapes}
 use Rattle.registry_state.specs.Replay.{State, Replays}

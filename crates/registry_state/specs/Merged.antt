@@ -1,13 +1,13 @@
 -- How a journal is kept: all changes in order, and the kept scrapes, each with how many changes were made before it.
 use Rattle.std.specs.Prelude.{ℕ, ◌-◌, ◌≤◌, List, [], ◌∷◌, ◌++◌, map, take, drop}
-use Rattle.snapshot_scan.specs.Snapshots.{Taken, entry_of}
+use Rattle.snapshot_scan.specs.Snapshots.{Taken, as_answer}
 use Rattle.registry_state.specs.Journal.{Change, Entry, Changed, Scraped}
 
 -- the journal from the change at `from` on
 abbrev pub merged : (changes : List Change) → (from : ℕ) → (kept : List (Taken × ℕ)) → List Entry
 merged changes from [] = map Changed (drop from changes)
 merged changes from (scrape ∷ kept) =
-    map Changed (take (scrape.1 - from) (drop from changes)) ++ Scraped (entry_of scrape.0) ∷ merged changes scrape.1 kept
+    map Changed (take (scrape.1 - from) (drop from changes)) ++ Scraped (as_answer scrape.0) ∷ merged changes scrape.1 kept
 
 -- the kept scrapes stand in order, after the change at `from` and within all
 abbrev pub AreNoted : (all from : ℕ) → (kept : List (Taken × ℕ)) → Type 0

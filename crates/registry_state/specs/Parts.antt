@@ -1,6 +1,6 @@
 -- A journal by its parts: its changes by themselves, and its scrapes by themselves.
 use Rattle.std.specs.Prelude.{◌≡◌, ⊤, ℕ, List, [], ◌∷◌, Option, Some, None}
-use Rattle.register_rule.specs.declared.view.Entry.{Entry as Answer}
+use Rattle.register_rule.specs.declared.view.Answer.{Answer}
 use Rattle.snapshot_scan.specs.Sources.{newest}
 use Rattle.registry_state.specs.Journal.{Change, Entry, changes, scrapes}
 use Rattle.registry_state.specs.Replay.{Family, State, IsAcceptedChange, IsNext, after}

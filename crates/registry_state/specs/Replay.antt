@@ -7,8 +7,8 @@ use Rattle.metric_desc.specs.Desc.{Descriptor, Clash}
 use Rattle.metric_desc.specs.declared.kind.Kind.{Kind}
 use Rattle.metric_desc.specs.declared.kind.Kind.TheVariants.{Counter, Histogram, Gauge}
 use Rattle.ledger_core.specs.Ops.{width}
-use Rattle.register_rule.specs.declared.view.Entry.{Entry as Answer}
-use Rattle.snapshot_scan.specs.Sources.{IsWhole, Rises}
+use Rattle.register_rule.specs.declared.view.Answer.{Answer}
+use Rattle.snapshot_scan.specs.Sources.{IsWhole, NothingFalls}
 use Rattle.registry_state.specs.Journal.{Change, Registered, Made, Entry, Changed, Scraped}
 
 -- a child: the values of its labels, and the slot that counts for it
@@ -67,7 +67,7 @@ module _ (n c h g : ℕ) where
   -- a scrape is accepted: it is whole, and not below the one before it
   pub record IsNext (last : Option Answer) (answer : Answer) : Type 0 where
     pub whole : IsWhole n c h g answer
-    pub rises : ForSome last (λ before. Rises n (width c h g) before answer)
+    pub rises : ForSome last (λ before. NothingFalls n (width c h g) before answer)
 
 -- the children with one more, which stands behind those whose values are before its own
 abbrev pub put : Child → List Child → List Child

@@ -5,7 +5,7 @@ use Rattle.metric_desc.specs.declared.kind.Kind.{Kind}
 use Rattle.metric_desc.specs.declared.kind.Kind.TheVariants.{Counter, Histogram, Gauge}
 use Rattle.expo_text.specs.Scraped.{Child as ChildShown, Family as FamilyShown, Scraped}
 use Rattle.expo_text.specs.declared.number.Number.{Number}
-use Rattle.register_rule.specs.declared.view.Entry.{Entry as Answer}
+use Rattle.register_rule.specs.declared.view.Answer.{Answer}
 use Rattle.registry_state.specs.Replay.{Child, Family}
 
 -- rows of c counters and h histograms

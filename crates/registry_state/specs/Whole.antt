@@ -1,7 +1,7 @@
 -- What the fields of a registry keep.
 use Rattle.std.specs.Prelude.{ℕ, List}
 use Rattle.metric_desc.specs.declared.kind.Kind.{Kind}
-use Rattle.register_rule.specs.declared.view.Entry.{Entry as Answer}
+use Rattle.register_rule.specs.declared.view.Answer.{Answer}
 use Rattle.segment_layout.specs.Layout.{IsGeometry}
 use Rattle.snapshot_scan.specs.Sources.{newest}
 use Rattle.registry_state.specs.Journal.{Entry, scrapes}

@@ -2,7 +2,7 @@
 ghost use Rattle.std.specs.Prelude.{◌≡◌, ◌++◌, ◌∷◌, [], slice_get, IfErr, IfOk, IsSomeAnd, OnErr, OnOk};
 ghost use Rattle.registry_state.specs.Journal.{Changed, Made};
 ghost use Rattle.registry_state.specs.Replay.{with_child};
-ghost use Rattle.registry_state.specs.Held.{IsPlaceOf};
+ghost use Rattle.registry_state.specs.Held.{IsPlaceOfValues};
 ghost use Rattle.registry_state.specs.Faults.{IsChildFault, IsWanted};
 ghost use Rattle.registry_state.specs.Changed.{IsGiven, IsInside, WasMade};
 
@@ -70,7 +70,7 @@ fn put_noted<const N: usize, const C: usize, const H: usize, const G: usize>(
     place: usize,
     child: Child,
 ) -> Result<(), NoMemory>
-    requires { IsSomeAnd (slice_get families.old.items number) (λ it. IsPlaceOf it.children child.values place) }
+    requires { IsSomeAnd (slice_get families.old.items number) (λ it. IsPlaceOfValues it.children child.values place) }
     ensures noted { OnOk result (journal.new ≡ journal.old ++ Changed (Made number child.values child.slot) ∷ []) }
     ensures put { OnOk result (families.new.items ≡ with_child families.old.items number child) }
     ensures unchanged { OnErr result ((journal.new ≡ journal.old) × (families.new.items ≡ families.old.items)) }
@@ -125,7 +125,7 @@ impl<
         values: &[LabelValue],
     ) -> Result<Handle, ChildFault>
         requires wanted { IsSomeAnd (slice_get self.old.state.families number) (λ it. IsWanted it values.now) }
-        requires place { IsSomeAnd (slice_get self.old.state.families number) (λ it. IsPlaceOf it.children values.now place) }
+        requires place { IsSomeAnd (slice_get self.old.state.families number) (λ it. IsPlaceOfValues it.children values.now place) }
         ensures made { IfOk result (WasMade C H G self.old self.new number values.now) }
         ensures inside { IfOk result (IsInside C H G) }
         ensures fault { IfErr result (IsChildFault C H G self.old.state.families number values.now) }

@@ -5,7 +5,7 @@ ghost use Rattle.std.specs.List.{HoldsAt};
 ghost use Rattle.std.specs.Vec.{vec_len, vec_capacity};
 ghost use Rattle.std.specs.Cmp.Lexicographic.{slice_cmp};
 ghost use Rattle.registry_state.specs.Replay.{IsApart, put};
-ghost use Rattle.registry_state.specs.Held.{IsChildBefore, IsPlaceOf};
+ghost use Rattle.registry_state.specs.Held.{IsChildBefore, IsPlaceOfValues};
 ghost use Rattle.registry_state.specs.Faults.{IsFirstClash, IsRegisterFault};
 
 use crate::fault::RegisterFault;
@@ -127,7 +127,7 @@ impl Child {
 pub(crate) fn place_of(children: &[Child], values: &[LabelValue]) -> Result<usize, usize>
     requires ordered { AllPairs IsChildBefore children.now }
     ensures found { IfOk result (λ place. (place < length children.now) × HoldsAt (λ child. child.values ≡ values.now) children.now place) }
-    ensures place { IfErr result (IsPlaceOf children.now values.now) }
+    ensures place { IfErr result (IsPlaceOfValues children.now values.now) }
     ensures new { OnErr result (All (λ child. child.values ≢ values.now) children.now) }
 {
     children.binary_search_by(|child| child.stands(values))
@@ -141,7 +141,7 @@ pub(crate) fn put_child(
     place: usize,
     child: Child,
 ) -> Result<(), NoMemory>
-    requires place { IsPlaceOf children.old.items child.values place }
+    requires place { IsPlaceOfValues children.old.items child.values place }
     ensures put { OnOk result (children.new.items ≡ put child children.old.items) }
     ensures unchanged { OnErr result (children.new.items ≡ children.old.items) }
     ensures room { vec_len children.old < vec_capacity children.old → IsOk result }

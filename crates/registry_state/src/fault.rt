@@ -1,6 +1,6 @@
 //! Why a registry refuses.
 ghost use Rattle.std.specs.Prelude.{◌≡◌};
-ghost use Rattle.registry_state.specs.Faults.{new_number, register_number, child_number, scrape_number};
+ghost use Rattle.registry_state.specs.Faults.{new_fault_number, register_fault_number, child_fault_number, scrape_fault_number};
 
 use metric_desc::Kind;
 use metric_names::NoMemory;
@@ -22,7 +22,7 @@ pub enum NewFault {
 impl NewFault {
     /// The refusal's number.
     pub fn number(&self) -> u8
-        ensures { result ≡ new_number self.now }
+        ensures { result ≡ new_fault_number self.now }
     {
         match self {
             NewFault::BadWindow => 31,
@@ -62,7 +62,7 @@ pub enum RegisterFault {
 impl RegisterFault {
     /// The refusal's number.
     pub fn number(&self) -> u8
-        ensures { result ≡ register_number self.now }
+        ensures { result ≡ register_fault_number self.now }
     {
         match self {
             RegisterFault::Clash { .. } => 19,
@@ -92,7 +92,7 @@ pub enum ChildFault {
 impl ChildFault {
     /// The refusal's number.
     pub fn number(&self) -> u8
-        ensures { result ≡ child_number self.now }
+        ensures { result ≡ child_fault_number self.now }
     {
         match self {
             ChildFault::NoSuchFamily => 20,
@@ -128,7 +128,7 @@ pub enum ScrapeFault {
 impl ScrapeFault {
     /// The refusal's number.
     pub fn number(&self) -> u8
-        ensures { result ≡ scrape_number self.now }
+        ensures { result ≡ scrape_fault_number self.now }
     {
         match self {
             ScrapeFault::NoMemory => 6,

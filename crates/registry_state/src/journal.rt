@@ -1,8 +1,8 @@
 //! The journal of a registry.
 ghost use Rattle.std.specs.Prelude.{◌≡◌, ◌+◌, ◌≤◌, [], ◌∷◌, ◌++◌, None, Some, length, IfErr, IfOk, MatchOption, OnErr, OnOk};
-ghost use Rattle.register_rule.specs.declared.view.Entry.{Entry as Answer};
+ghost use Rattle.register_rule.specs.declared.view.Answer.{Answer};
 ghost use Rattle.segment_layout.specs.Layout.{IsGeometry};
-ghost use Rattle.snapshot_scan.specs.Snapshots.{entry_of};
+ghost use Rattle.snapshot_scan.specs.Snapshots.{as_answer};
 ghost use Rattle.snapshot_scan.specs.Sources.{newest, Records};
 ghost use Rattle.registry_state.specs.Faults.{Leaves};
 ghost use Rattle.registry_state.specs.Journal.{Changed, Scraped, scrapes, within};
@@ -119,7 +119,7 @@ impl<const N: usize, const C: usize, const H: usize, const G: usize> Journal<N, 
 
     /// The newest scrape that is kept.
     pub(crate) fn newest(&self) -> Option<&Snapshot<N, C, H, G>>
-        ensures { MatchOption result (newest (scrapes self.now) ≡ None) (λ snapshot. newest (scrapes self.now) ≡ Some (entry_of snapshot.now)) }
+        ensures { MatchOption result (newest (scrapes self.now) ≡ None) (λ snapshot. newest (scrapes self.now) ≡ Some (as_answer snapshot.now)) }
     {
         self.kept.newest()
     }

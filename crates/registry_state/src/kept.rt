@@ -1,6 +1,6 @@
 //! The scrapes that a journal keeps.
 ghost use Rattle.std.specs.Prelude.{◌≡◌, ◌<◌, Some, length, slice_get};
-ghost use Rattle.snapshot_scan.specs.Snapshots.{entry_of};
+ghost use Rattle.snapshot_scan.specs.Snapshots.{as_answer};
 
 use scrape_history::History;
 use snapshot_scan::Snapshot;
@@ -17,7 +17,7 @@ pub struct Kept<'a, const N: usize, const C: usize, const H: usize, const G: usi
 impl<'a, const N: usize, const C: usize, const H: usize, const G: usize> Model
     for Kept<'a, N, C, H, G> {
     ghost use Rattle.std.specs.Prelude.{List};
-    ghost use Rattle.register_rule.specs.declared.view.Entry.{Entry as Answer};
+    ghost use Rattle.register_rule.specs.declared.view.Answer.{Answer};
     ghost use Rattle.scrape_history.specs.History.{answers_of};
 
     ghost Value = { List Answer };
@@ -36,7 +36,7 @@ impl<'a, const N: usize, const C: usize, const H: usize, const G: usize> Kept<'a
     /// Makes `out` the scrape of this number, counted from the oldest, which is 0; it asks that there are more. It takes no memory.
     pub fn read(&self, number: usize, out: &mut Snapshot<N, C, H, G>)
         requires { number < length self.now }
-        ensures { slice_get self.now number ≡ Some (entry_of out.new) }
+        ensures { slice_get self.now number ≡ Some (as_answer out.new) }
     {
         self.scrapes.read(number, out);
     }

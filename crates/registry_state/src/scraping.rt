@@ -4,7 +4,7 @@ ghost use Rattle.registry_state.specs.Journal.{scrapes, within};
 ghost use Rattle.registry_state.specs.Kept.{IsKept};
 ghost use Rattle.registry_state.specs.Shown.{IsShown};
 ghost use Rattle.registry_state.specs.Faults.{IsWindow, Leaves};
-ghost use Rattle.registry_state.specs.Changed.{Keeps};
+ghost use Rattle.registry_state.specs.Changed.{KeepsScrape};
 
 use crate::fault::{BadWindow, ScrapeFault};
 use crate::journal::Journal;
@@ -28,7 +28,7 @@ impl<
     ///
     /// 6 [`ScrapeFault::NoMemory`]: nothing was scanned. 14 [`ScrapeFault::Contended`]: the scan was given up. Nothing is kept then.
     pub fn scrape(&mut self) -> Result<Scrape, ScrapeFault>
-        ensures kept { OnOk result (Keeps N C H G S.recorded S.gave self.old self.new) }
+        ensures kept { OnOk result (KeepsScrape N C H G S.recorded S.gave self.old self.new) }
         ensures quit { OnOk result (S.quit self.new.source ≡ S.quit self.old.source) }
         ensures shown { IfOk result (λ scrape. IsSomeAnd self.new.state.last (λ answer. IsShown C H self.new.state.families answer scrape)) }
         ensures fault { IfErr result (Leaves N S.recorded S.quit S.gave_up self.old.source self.new.source) }

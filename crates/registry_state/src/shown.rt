@@ -1,7 +1,7 @@
 //! The scrape that a registry gives: all its memory is taken before the scan, and its numbers are written after it.
 ghost use Rattle.std.specs.Prelude.{◌≡◌, ℕ, ◌<◌, length, map, All, IfOk};
 ghost use Rattle.ledger_core.specs.Limits.{AreSlots};
-ghost use Rattle.snapshot_scan.specs.Snapshots.{entry_of};
+ghost use Rattle.snapshot_scan.specs.Snapshots.{as_answer};
 ghost use Rattle.snapshot_scan.specs.Sources.{IsWhole};
 ghost use Rattle.registry_state.specs.Replay.{slots};
 ghost use Rattle.registry_state.specs.Shown.{number_at, child_shown, family_shown, IsShown};
@@ -178,8 +178,8 @@ impl Blank {
         requires showable { AreShowable C H G families.now }
         requires order { IsOrder families.now order.now }
         requires slots { AreSlots C H G }
-        requires whole { IsWhole N C H G (entry_of snapshot.now) }
-        ensures { IsShown C H families.now (entry_of snapshot.now) result }
+        requires whole { IsWhole N C H G (as_answer snapshot.now) }
+        ensures { IsShown C H families.now (as_answer snapshot.now) result }
     {
         let mut vector = self.vector;
         vector.as_mut_slice().copy_from_slice(snapshot.vector());

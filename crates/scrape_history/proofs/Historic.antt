@@ -5,7 +5,7 @@ use Rattle.std.proofs.lemmas.List.{take-append-le, drop-append-le, take_all, len
 use Rattle.std.proofs.lemmas.Bool.{cases_lt}
 use Rattle.std.proofs.Math.Seq.{take-add}
 use Rattle.ledger_core.specs.Ops.{width}
-use Rattle.snapshot_scan.specs.Snapshots.{Taken, entry_of}
+use Rattle.snapshot_scan.specs.Snapshots.{Taken, as_answer}
 use Rattle.snapshot_scan.specs.Sources.{newest}
 use Rattle.scrape_history.specs.declared.increase.Increase.{Increase}
 use Rattle.scrape_history.specs.declared.later.Later.{Later}
@@ -59,34 +59,34 @@ place_left n window places left one few fit is = elim (cases_lt n window) [
 
 -- the scrape of a number
 read_later : (before : ℕ) (t : Taken) (ls : List Later) (is : List Increase) (k : ℕ) → k ≤ length ls
-    → slice_get (answers_of ((t, before) ∷ later_of t ls is)) k ≡ Some (entry_of (raised_by t (take (changed_in (take k ls)) is)))
+    → slice_get (answers_of ((t, before) ∷ later_of t ls is)) k ≡ Some (as_answer (raised_by t (take (changed_in (take k ls)) is)))
 read_later before t ls is zero le = refl
 read_later before t [] is (suc k) le = absurd (omega (arith, le))
 read_later before t (x ∷ ls) is (suc k) le =
     let u : Taken = raised_by t (take x.changed is) in
     let n : ℕ = changed_in (take k ls) in
     read_later x.before u ls (drop x.changed is) k (omega (arith, le))
-    ∙ ap (λ (v : Taken). Some (entry_of v))
+    ∙ ap (λ (v : Taken). Some (as_answer v))
     (sym (raised_append t (take x.changed is) (take n (drop x.changed is))) ∙ ap (raised_by t) (sym (take-add x.changed n is)))
 
 pub read_held : (first : Option ℕ) (t : Taken) (ls : List Later) (is : List Increase) (k : ℕ) → k < length (held_of first t ls is)
-    → slice_get (answers_of (held_of first t ls is)) k ≡ Some (entry_of (raised_by t (take (changed_in (take k ls)) is)))
+    → slice_get (answers_of (held_of first t ls is)) k ≡ Some (as_answer (raised_by t (take (changed_in (take k ls)) is)))
 read_held None t ls is k lt = absurd (omega (arith, lt))
 read_held (Some before) t ls is k lt = let e = later_count t ls is in read_later before t ls is k (omega (arith, e, lt))
 
 -- the newest one
 newest_later : (before : ℕ) (t : Taken) (ls : List Later) (is : List Increase) → length is ≡ changed_in ls
-    → newest (answers_of ((t, before) ∷ later_of t ls is)) ≡ Some (entry_of (raised_by t is))
-newest_later before t [] is all = ap (λ (l : List Increase). Some (entry_of (raised_by t l))) (sym (nil_from_length is all))
+    → newest (answers_of ((t, before) ∷ later_of t ls is)) ≡ Some (as_answer (raised_by t is))
+newest_later before t [] is all = ap (λ (l : List Increase). Some (as_answer (raised_by t l))) (sym (nil_from_length is all))
 newest_later before t (x ∷ ls) is all =
     let rest : length (drop x.changed is) ≡ changed_in ls = rw length-drop (omega (arith, all)) in
     newest_later x.before (raised_by t (take x.changed is)) ls (drop x.changed is) rest
-    ∙ ap (λ (v : Taken). Some (entry_of v)) (raised_rest t x.changed is)
+    ∙ ap (λ (v : Taken). Some (as_answer v)) (raised_rest t x.changed is)
 
 pub newest_held : (first : Option ℕ) (before : ℕ) (t u : Taken) (ls : List Later) (is : List Increase) → first ≡ Some before → length is ≡ changed_in ls → raised_by t is ≡ u
-    → newest (answers_of (held_of first t ls is)) ≡ Some (entry_of u)
+    → newest (answers_of (held_of first t ls is)) ≡ Some (as_answer u)
 newest_held first before t u ls is some all to =
-    ap (λ f. newest (answers_of (held_of f t ls is))) some ∙ newest_later before t ls is all ∙ ap (λ (v : Taken). Some (entry_of v)) to
+    ap (λ f. newest (answers_of (held_of f t ls is))) some ∙ newest_later before t ls is all ∙ ap (λ (v : Taken). Some (as_answer v)) to
 
 -- one scrape more
 push_later : (t : Taken) (ls : List Later) (is more : List Increase) (before : ℕ) → length is ≡ changed_in ls

@@ -2,8 +2,8 @@
 use Rattle.std.specs.Prelude.{◌≡◌, ℕ, ◌+◌, List, [], ◌∷◌, Option, Some, None, length, map, take, drop}
 use Rattle.segment_layout.specs.Layout.{IsGeometry}
 use Rattle.ledger_core.specs.Ops.{width}
-use Rattle.register_rule.specs.declared.view.Entry.{Entry as Answer}
-use Rattle.snapshot_scan.specs.Snapshots.{Taken, entry_of}
+use Rattle.register_rule.specs.declared.view.Answer.{Answer}
+use Rattle.snapshot_scan.specs.Snapshots.{Taken, as_answer}
 use Rattle.scrape_history.specs.declared.increase.Increase.{Increase}
 use Rattle.scrape_history.specs.declared.later.Later.{Later}
 use Rattle.scrape_history.specs.Increases.{raised_by, Lead}
@@ -27,7 +27,7 @@ held_of (Some before) oldest later increases = (oldest, before) ∷ later_of old
 
 -- the answers of kept scrapes
 abbrev pub answers_of : List (Taken × ℕ) → List Answer
-answers_of kept = map (λ (scrape : Taken × ℕ). entry_of scrape.0) kept
+answers_of kept = map (λ (scrape : Taken × ℕ). as_answer scrape.0) kept
 
 -- what contracts see of a history: its scrapes, each with how many changes were made before it; for how many scrapes there is room in
 -- all, and for how many increases more

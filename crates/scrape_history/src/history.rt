@@ -2,7 +2,7 @@
 ghost use Rattle.std.specs.Prelude.{◌≡◌, ◌+◌, ◌-◌, ◌<◌, ◌≤◌, [], ◌∷◌, ◌++◌, None, Some, drop, length, slice_get, IfOk, MatchOption, OnOk};
 ghost use Rattle.segment_layout.specs.Layout.{IsGeometry};
 ghost use Rattle.ledger_core.specs.Ops.{width};
-ghost use Rattle.snapshot_scan.specs.Snapshots.{entry_of};
+ghost use Rattle.snapshot_scan.specs.Snapshots.{as_answer};
 ghost use Rattle.snapshot_scan.specs.Sources.{newest};
 ghost use Rattle.scrape_history.specs.History.{answers_of};
 
@@ -152,7 +152,7 @@ impl<const N: usize, const C: usize, const H: usize, const G: usize> History<N, 
 
     /// The newest scrape.
     pub fn newest(&self) -> Option<&Snapshot<N, C, H, G>>
-        ensures { MatchOption result (newest (answers_of self.now.scrapes) ≡ None) (λ snapshot. newest (answers_of self.now.scrapes) ≡ Some (entry_of snapshot.now)) }
+        ensures { MatchOption result (newest (answers_of self.now.scrapes) ≡ None) (λ snapshot. newest (answers_of self.now.scrapes) ≡ Some (as_answer snapshot.now)) }
     {
         match self.first {
             Some(_before) => Some(&self.newest),
@@ -163,7 +163,7 @@ impl<const N: usize, const C: usize, const H: usize, const G: usize> History<N, 
     /// Makes `out` the scrape of this number, counted from the oldest, which is 0. It takes no memory.
     pub fn read(&self, number: usize, out: &mut Snapshot<N, C, H, G>)
         requires { number < length self.now.scrapes }
-        ensures { slice_get (answers_of self.now.scrapes) number ≡ Some (entry_of out.new) }
+        ensures { slice_get (answers_of self.now.scrapes) number ≡ Some (as_answer out.new) }
     {
         let changed = changed_to(&self.later, number);
         out.copy_from(&self.oldest);

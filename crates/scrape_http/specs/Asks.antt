@@ -8,14 +8,14 @@ use Rattle.scrape_http.specs.declared.request.Asked.{Asked}
 use Rattle.scrape_http.specs.Head.{asked_of}
 
 -- this head stands whole at the front of the first 8,192 bytes, and has at most 64 fields
-pub record Stands (bytes : List ℕ) (head : RequestHead) : Type 0 where
+pub record HeadStands (bytes : List ℕ) (head : RequestHead) : Type 0 where
   pub rest : List ℕ
   pub reads : ReadsRequest (take 8192 bytes) head rest
   pub few : length head.fields ≤ 64
 
 -- no head does
-abbrev pub NoneStands : List ℕ → Type 0
-NoneStands bytes = (head : RequestHead) → ¬ (Stands bytes head)
+abbrev pub NoHeadStands : List ℕ → Type 0
+NoHeadStands bytes = (head : RequestHead) → ¬ (HeadStands bytes head)
 
 -- there are 8,192 bytes, or a start line with more than 64 fields stands at their front
 abbrev pub IsTooLarge : List ℕ → Type 0
@@ -26,17 +26,17 @@ abbrev pub IsMalformed : List ℕ → (ended : Bool) → Type 0
 IsMalformed bytes ended = IsTrue ended ⊎ NeverHasRequest bytes
 
 -- bytes that are no head may be refused by this status
-abbrev pub Refuses : List ℕ → (ended : Bool) → Option Status → Type 0
-Refuses bytes ended (Some TooLarge) = IsTooLarge bytes
-Refuses bytes ended (Some BadRequest) = IsMalformed bytes ended
-Refuses bytes ended _ = ⊥
+abbrev pub MayBeRefusedBy : List ℕ → (ended : Bool) → Option Status → Type 0
+MayBeRefusedBy bytes ended (Some TooLarge) = IsTooLarge bytes
+MayBeRefusedBy bytes ended (Some BadRequest) = IsMalformed bytes ended
+MayBeRefusedBy bytes ended _ = ⊥
 
 -- What the bytes ask for: what the head asks for that stands whole at their front; where none does, it is a refusal, and its body
 -- is sent.
 abbrev pub Asks : List ℕ → (ended : Bool) → Asked → Type 0
 Asks bytes ended asked =
-    ((head : RequestHead) × Stands bytes head × (asked ≡ asked_of head))
-    ⊎ (NoneStands bytes × Refuses bytes ended asked.refusal × (asked.body ≡ true))
+    ((head : RequestHead) × HeadStands bytes head × (asked ≡ asked_of head))
+    ⊎ (NoHeadStands bytes × MayBeRefusedBy bytes ended asked.refusal × (asked.body ≡ true))
 
 -- no head stands whole at their front, and more bytes can make one
 pub record IsOpen (bytes : List ℕ) : Type 0 where

@@ -1,9 +1,9 @@
 -- What one scrape of a registry says, where a server asks for it.
 use Rattle.std.specs.Prelude.{◌≡◌, ℕ, List, Result, Ok, Err}
 use Rattle.expo_text.specs.Scraped.{Scraped}
-use Rattle.register_rule.specs.declared.view.Entry.{Entry as Answer}
+use Rattle.register_rule.specs.declared.view.Answer.{Answer}
 use Rattle.snapshot_scan.specs.declared.contended.Contended.{Contended}
-use Rattle.registry_state.specs.Changed.{Keeps}
+use Rattle.registry_state.specs.Changed.{KeepsScrape}
 use Rattle.registry_state.specs.Faults.{Leaves}
 use Rattle.registry_state.specs.Kept.{Registry}
 use Rattle.registry_state.specs.Shown.{IsShown}
@@ -19,13 +19,13 @@ no_scrape_of fault.NoMemory = none.NoMemory
 
 module _ {S : Type 0} (n c h g : ℕ) (recorded : S → List Answer) (quit : S → ℕ) (gave : S → S → Answer → Type 0) (gave_up : S → S → Contended → Type 0) (old new : Registry S) where
   -- one scan gave an answer, which is kept, and the scrape shows the families at it
-  pub record Shows (scrape : Scraped) : Type 0 where
-    pub kept : Keeps n c h g recorded gave old new
+  pub record ShowsScrape (scrape : Scraped) : Type 0 where
+    pub kept : KeepsScrape n c h g recorded gave old new
     pub quit_is : quit new.source ≡ quit old.source
     pub shown : IsShown c h old.state.families kept.answer scrape
 
   -- nothing was kept, for this reason
-  pub record ShowsNone (why : NoScrape) : Type 0 where
+  pub record ShowsNoScrape (why : NoScrape) : Type 0 where
     pub wrong : ScrapeFault
     pub why_is : why ≡ no_scrape_of wrong
     pub leaves : Leaves n recorded quit gave_up old.source new.source wrong
@@ -33,5 +33,5 @@ module _ {S : Type 0} (n c h g : ℕ) (recorded : S → List Answer) (quit : S �
 
   -- what one scrape of a registry does, and answers
   abbrev pub Scrapes : Result Scraped NoScrape → Type 0
-  Scrapes (Ok scrape) = Shows scrape
-  Scrapes (Err why) = ShowsNone why
+  Scrapes (Ok scrape) = ShowsScrape scrape
+  Scrapes (Err why) = ShowsNoScrape why

@@ -6,7 +6,7 @@ use Rattle.std.specs.Option.{option_map_or}
 use Rattle.std.proofs.lemmas.Bool.{and_parts, and_from, ltb-true, lt-ltb, leb-true, le-leb}
 use Rattle.script_lines.specs.Language.{Saying, Count}
 use Rattle.script_lines.specs.declared.line.Counting.{Counting}
-use Rattle.script_lines.specs.Reading.{cut_of, number_of, numbered_of, is_times, repeated, amount_of, count_of}
+use Rattle.script_lines.specs.Reading.{cut_of, number_written, numbered_of, is_times, repeated, amount_of, count_of}
 use Rattle.script_lines.proofs.Options.{none_or_some, bind_some, map_some, when_some}
 use Rattle.script_lines.proofs.Cut.{cut_found, cut_none, cut_parts}
 use Rattle.script_lines.proofs.Numbers.{number_found, number_says, digits_lack}
@@ -22,12 +22,12 @@ pub record IsAmount (text : List ℕ) (by times : ℕ) : Type 0 where
 abbrev times_step : ℕ → ℕ → Option (ℕ × ℕ)
 times_step n m = cond (is_times m) (Some (n, m)) None
 
-once_says : (text : List ℕ) (by : ℕ) → number_of text ≡ Some by → IsAmount text by 1
+once_says : (text : List ℕ) (by : ℕ) → number_written text ≡ Some by → IsAmount text by 1
 once_says text by is =
     let says = number_says text by is in
     record { small = says.0; some = omega arith; few = omega arith; is = inl (says.1, refl) }
 
-more_says : (text : List ℕ) (c : List ℕ × List ℕ) (by times : ℕ) → cut_of text ≡ Some c → number_of c.0 ≡ Some by → number_of c.1 ≡ Some times → is_times times ≡ true → IsAmount text by times
+more_says : (text : List ℕ) (c : List ℕ × List ℕ) (by times : ℕ) → cut_of text ≡ Some c → number_written c.0 ≡ Some by → number_written c.1 ≡ Some times → is_times times ≡ true → IsAmount text by times
 more_says text c by times cut first next test =
     let both = and_parts (leb 1 times) (leb times 100000) test in
     let says = number_says c.0 by first in
@@ -43,7 +43,7 @@ more_says text c by times cut first next test =
 amount_is : (text : List ℕ) (by times : ℕ) (a : ℕ × ℕ) → IsAmount text by times → (by, times) ≡ a → IsAmount text a.0 a.1
 amount_is text by times a is same = subst (λ (a : ℕ × ℕ). IsAmount text a.0 a.1) same is
 
-repeated_says : (text : List ℕ) (c : List ℕ × List ℕ) (by times : ℕ) (a : ℕ × ℕ) → cut_of text ≡ Some c → number_of c.0 ≡ Some by → number_of c.1 ≡ Some times → times_step by times ≡ Some a → IsAmount text a.0 a.1
+repeated_says : (text : List ℕ) (c : List ℕ × List ℕ) (by times : ℕ) (a : ℕ × ℕ) → cut_of text ≡ Some c → number_written c.0 ≡ Some by → number_written c.1 ≡ Some times → times_step by times ≡ Some a → IsAmount text a.0 a.1
 repeated_says text c by times a cut first next kept =
     let passed = when_some (is_times times) (by, times) a kept in
     amount_is text by times a (more_says text c by times cut first next passed.0) passed.1
@@ -51,14 +51,14 @@ repeated_says text c by times a cut first next kept =
 pub amount_says : (text : List ℕ) (a : ℕ × ℕ) → amount_of text ≡ Some a → IsAmount text a.0 a.1
 unfolding amount_of
 amount_says text a h =
-    let at : (o : Option (List ℕ × List ℕ)) → cut_of text ≡ o → option_map_or (λ (c : List ℕ × List ℕ). repeated c.0 c.1) o (option_map (λ n. (n, 1)) (number_of text)) ≡ Some a = λ o e. subst (λ o. option_map_or (λ (c : List ℕ × List ℕ). repeated c.0 c.1) o (option_map (λ n. (n, 1)) (number_of text)) ≡ Some a) e h in
+    let at : (o : Option (List ℕ × List ℕ)) → cut_of text ≡ o → option_map_or (λ (c : List ℕ × List ℕ). repeated c.0 c.1) o (option_map (λ n. (n, 1)) (number_written text)) ≡ Some a = λ o e. subst (λ o. option_map_or (λ (c : List ℕ × List ℕ). repeated c.0 c.1) o (option_map (λ n. (n, 1)) (number_written text)) ≡ Some a) e h in
     ⊎_elim
     (λ none.
-    let number = map_some (λ n. (n, 1)) (number_of text) a (at None none) in
+    let number = map_some (λ n. (n, 1)) (number_written text) a (at None none) in
     amount_is text number.0 1 a (once_says text number.0 number.1) number.2)
     (λ some.
-    let by = bind_some (λ n. option_and_then (times_step n) (number_of some.0.1)) (number_of some.0.0) a (at (Some some.0) some.1) in
-    let times = bind_some (times_step by.0) (number_of some.0.1) a by.2 in
+    let by = bind_some (λ n. option_and_then (times_step n) (number_written some.0.1)) (number_written some.0.0) a (at (Some some.0) some.1) in
+    let times = bind_some (times_step by.0) (number_written some.0.1) a by.2 in
     repeated_says text some.0 by.0 times.0 a some.1 by.1 times.1 times.2)
     (none_or_some (cut_of text))
 
@@ -68,14 +68,14 @@ amount_found text by times is =
     ⊎_elim
     (λ once.
     ap amount_of once.0
-    ∙ ap (λ o. option_map_or (λ (c : List ℕ × List ℕ). repeated c.0 c.1) o (option_map (λ n. (n, 1)) (number_of (decimal by)))) (cut_none (decimal by) (digits_lack 32 by (omega arith) is.small))
+    ∙ ap (λ o. option_map_or (λ (c : List ℕ × List ℕ). repeated c.0 c.1) o (option_map (λ n. (n, 1)) (number_written (decimal by)))) (cut_none (decimal by) (digits_lack 32 by (omega arith) is.small))
     ∙ ap (option_map (λ n. (n, 1))) (number_found (decimal by) by is.small refl)
     ∙ ap (λ t. Some (by, t)) (sym once.1))
     (λ more.
     let small : times < 2 ^ 64 = omega (arith, is.few) in
     ap amount_of more
-    ∙ ap (λ o. option_map_or (λ (c : List ℕ × List ℕ). repeated c.0 c.1) o (option_map (λ n. (n, 1)) (number_of (decimal by ++ 32 ∷ decimal times)))) (cut_found (decimal by) (decimal times) (digits_lack 32 by (omega arith) is.small))
-    ∙ ap (option_and_then (λ n. option_and_then (times_step n) (number_of (decimal times)))) (number_found (decimal by) by is.small refl)
+    ∙ ap (λ o. option_map_or (λ (c : List ℕ × List ℕ). repeated c.0 c.1) o (option_map (λ n. (n, 1)) (number_written (decimal by ++ 32 ∷ decimal times)))) (cut_found (decimal by) (decimal times) (digits_lack 32 by (omega arith) is.small))
+    ∙ ap (option_and_then (λ n. option_and_then (times_step n) (number_written (decimal times)))) (number_found (decimal by) by is.small refl)
     ∙ ap (option_and_then (times_step by)) (number_found (decimal times) times small refl)
     ∙ ap (λ t. cond t (Some (by, times)) None) (and_from (leb 1 times) (leb times 100000) (le-leb 1 times is.some) (le-leb times 100000 is.few)))
     is.is

@@ -7,7 +7,7 @@ use Rattle.std.proofs.lemmas.Slice.Eq.{bytes_eq-Decides}
 use Rattle.std.proofs.lemmas.List.Elements.{All-nil, All-cons, All-head, All-tail, All-weaker, All-append}
 use Rattle.std.proofs.lemmas.List.Splits.{join_with_byte-slice_split}
 use Rattle.script_lines.specs.Language.{Lacks, IsToken, IsWriting, AreLabels, AreBounds, AreValues}
-use Rattle.script_lines.specs.Reading.{number_of, is_empty, is_writing, is_value, are_bounds, are_values}
+use Rattle.script_lines.specs.Reading.{number_written, is_empty, is_writing, is_value, are_bounds, are_values}
 use Rattle.script_lines.proofs.Numbers.{number_found, number_says, digits_lack, digits_some}
 use Rattle.script_lines.proofs.Writings.{writing_says, writing_found}
 use Rattle.script_lines.proofs.Joined.{split_joined, some_part, parts_lack}
@@ -17,32 +17,32 @@ pub record AreNumbers (parts : List (List ℕ)) (numbers : List ℕ) : Type 0 wh
   pub are : parts ≡ map decimal numbers
   pub small : All (λ n. n < 2 ^ 64) numbers
 
-pub numbers_say : (parts : List (List ℕ)) → list_all (λ w. is_some (number_of w)) parts ≡ true → AreNumbers parts (filter_map number_of parts)
+pub numbers_say : (parts : List (List ℕ)) → list_all (λ w. is_some (number_written w)) parts ≡ true → AreNumbers parts (filter_map number_written parts)
 numbers_say [] h = record { are = refl; small = All-nil (λ n. n < 2 ^ 64) }
 numbers_say (part ∷ parts) h =
-    let both = and_parts (is_some (number_of part)) (list_all (λ w. is_some (number_of w)) parts) h in
+    let both = and_parts (is_some (number_written part)) (list_all (λ w. is_some (number_written w)) parts) h in
     let rest = numbers_say parts both.1 in
-    let number = number_there (number_of part) both.0 in
+    let number = number_there (number_written part) both.0 in
     let says = number_says part number.0 number.1 in
-    subst (λ o. AreNumbers (part ∷ parts) (cons_option o (filter_map number_of parts))) (sym number.1)
-    (record { are = ap (λ w. w ∷ parts) says.1 ∙ ap (λ ws. decimal number.0 ∷ ws) rest.are; small = All-cons (λ n. n < 2 ^ 64) number.0 (filter_map number_of parts) says.0 rest.small })
+    subst (λ o. AreNumbers (part ∷ parts) (cons_option o (filter_map number_written parts))) (sym number.1)
+    (record { are = ap (λ w. w ∷ parts) says.1 ∙ ap (λ ws. decimal number.0 ∷ ws) rest.are; small = All-cons (λ n. n < 2 ^ 64) number.0 (filter_map number_written parts) says.0 rest.small })
   where
     number_there : (o : Option ℕ) → is_some o ≡ true → (n : ℕ) × (o ≡ Some n)
     number_there None h = absurd (cc)
     number_there (Some n) h = (n, refl)
 
-pub numbers_found : (numbers : List ℕ) → All (λ n. n < 2 ^ 64) numbers → list_all (λ w. is_some (number_of w)) (map decimal numbers) ≡ true
+pub numbers_found : (numbers : List ℕ) → All (λ n. n < 2 ^ 64) numbers → list_all (λ w. is_some (number_written w)) (map decimal numbers) ≡ true
 numbers_found [] small = refl
 numbers_found (n ∷ numbers) small =
-    and_from (is_some (number_of (decimal n))) (list_all (λ w. is_some (number_of w)) (map decimal numbers))
+    and_from (is_some (number_written (decimal n))) (list_all (λ w. is_some (number_written w)) (map decimal numbers))
     (ap is_some (number_found (decimal n) n (All-head (λ n. n < 2 ^ 64) n numbers small) refl))
     (numbers_found numbers (All-tail (λ n. n < 2 ^ 64) n numbers small))
 
 -- the numbers themselves
-pub numbers_back : (numbers : List ℕ) → All (λ n. n < 2 ^ 64) numbers → filter_map number_of (map decimal numbers) ≡ numbers
+pub numbers_back : (numbers : List ℕ) → All (λ n. n < 2 ^ 64) numbers → filter_map number_written (map decimal numbers) ≡ numbers
 numbers_back [] small = refl
 numbers_back (n ∷ numbers) small =
-    ap (λ o. cons_option o (filter_map number_of (map decimal numbers))) (number_found (decimal n) n (All-head (λ n. n < 2 ^ 64) n numbers small) refl)
+    ap (λ o. cons_option o (filter_map number_written (map decimal numbers))) (number_found (decimal n) n (All-head (λ n. n < 2 ^ 64) n numbers small) refl)
     ∙ ap (λ ns. n ∷ ns) (numbers_back numbers (All-tail (λ n. n < 2 ^ 64) n numbers small))
 
 digits_all_lack : (numbers : List ℕ) → All (λ n. n < 2 ^ 64) numbers → All (Lacks 44) (map decimal numbers)
@@ -63,10 +63,10 @@ bounds_split word numbers some small is =
 
 pub bounds_found : (word : List ℕ) (numbers : List ℕ) → AreBounds word numbers → are_bounds word ≡ true
 unfolding are_bounds
-bounds_found word numbers (inl none) = or_left (bytes_eq word (codes "-")) (list_all (λ w. is_some (number_of w)) (slice_split (λ b. eqb b 44) word)) ((bytes_eq-Decides word (codes "-")).1 none.0)
+bounds_found word numbers (inl none) = or_left (bytes_eq word (codes "-")) (list_all (λ w. is_some (number_written w)) (slice_split (λ b. eqb b 44) word)) ((bytes_eq-Decides word (codes "-")).1 none.0)
 bounds_found word numbers (inr some) =
-    or_right (bytes_eq word (codes "-")) (list_all (λ w. is_some (number_of w)) (slice_split (λ b. eqb b 44) word))
-    (ap (list_all (λ w. is_some (number_of w))) (bounds_split word numbers some.0 some.1 some.2) ∙ numbers_found numbers some.1)
+    or_right (bytes_eq word (codes "-")) (list_all (λ w. is_some (number_written w)) (slice_split (λ b. eqb b 44) word))
+    (ap (list_all (λ w. is_some (number_written w))) (bounds_split word numbers some.0 some.1 some.2) ∙ numbers_found numbers some.1)
 
 pub bounds_say : (word : List ℕ) → are_bounds word ≡ true → (numbers : List ℕ) × AreBounds word numbers
 unfolding are_bounds
@@ -76,14 +76,14 @@ bounds_say word h =
     (λ all.
     let parts = slice_split (λ b. eqb b 44) word in
     let says = numbers_say parts all in (
-      filter_map number_of parts,
+      filter_map number_written parts,
       inr (
         (λ e. some_part 44 word (says.are ∙ ap (map decimal) e)),
         says.small,
         sym (join_with_byte-slice_split 44 word) ∙ ap (join_with_byte 44) says.are,
       ),
     ))
-    (or_cases (bytes_eq word (codes "-")) (list_all (λ w. is_some (number_of w)) (slice_split (λ b. eqb b 44) word)) h)
+    (or_cases (bytes_eq word (codes "-")) (list_all (λ w. is_some (number_written w)) (slice_split (λ b. eqb b 44) word)) h)
 
 -- a word that is not empty
 pub nonempty_says : (word : List ℕ) → is_empty word ≡ false → word ≢ []
@@ -149,17 +149,17 @@ bounds_token word numbers (inr some) =
     subst IsToken (sym some.2) (joined_token (map decimal numbers) (some_mapped numbers some.0) (digits_tokens numbers some.1))
 
 -- a dash is no number
-dash_no_number : (o : Option ℕ) → number_of (45 ∷ []) ≡ o → o ≡ None
+dash_no_number : (o : Option ℕ) → number_written (45 ∷ []) ≡ o → o ≡ None
 dash_no_number None is = refl
 dash_no_number (Some n) is =
     let says = number_says (45 ∷ []) n is in
     absurd (All-head (λ b. b ≢ 45) 45 [] (subst (Lacks 45) (sym says.1) (digits_lack 45 n (omega arith) says.0)) refl)
 
-pub bounds_are : (word numbers items : List ℕ) → AreBounds word numbers → items ≡ filter_map number_of (slice_split (λ b. eqb b 44) word) → AreBounds word items
+pub bounds_are : (word numbers items : List ℕ) → AreBounds word numbers → items ≡ filter_map number_written (slice_split (λ b. eqb b 44) word) → AreBounds word items
 bounds_are word numbers items (inl none) is =
-    inl (none.0, is ∙ ap (λ w. filter_map number_of (slice_split (λ b. eqb b 44) w)) none.0 ∙ ap (λ o. cons_option o []) (dash_no_number (number_of (45 ∷ [])) refl))
+    inl (none.0, is ∙ ap (λ w. filter_map number_written (slice_split (λ b. eqb b 44) w)) none.0 ∙ ap (λ o. cons_option o []) (dash_no_number (number_written (45 ∷ [])) refl))
 bounds_are word numbers items (inr some) is =
-    let same = is ∙ ap (filter_map number_of) (bounds_split word numbers some.0 some.1 some.2) ∙ numbers_back numbers some.1 in
+    let same = is ∙ ap (filter_map number_written) (bounds_split word numbers some.0 some.1 some.2) ∙ numbers_back numbers some.1 in
     subst (AreBounds word) (sym same) (inr some)
 
 pub labels_are : (word : List ℕ) (names : List (List ℕ)) → word ≢ codes "-" → names ≡ slice_split (λ b. eqb b 44) word → AreLabels word names

@@ -4,7 +4,7 @@ use Rattle.std.specs.Prelude.{option_and_then, ◌⊎◌}
 use Rattle.std.specs.Option.{option_map_or}
 use Rattle.std.proofs.lemmas.Bool.{or_parts, or_from, not-false, not_from_true}
 use Rattle.script_lines.specs.Language.{IsToken, IsWriting}
-use Rattle.script_lines.specs.Reading.{cut_of, number_of, is_empty, is_writing, token_of, helped, helped_of, numbered_of}
+use Rattle.script_lines.specs.Reading.{cut_of, number_written, is_empty, is_writing, token_of, helped, helped_of, numbered_of}
 use Rattle.script_lines.proofs.Options.{none_or_some, bind_some, unless_some}
 use Rattle.script_lines.proofs.Cut.{cut_found, cut_none, cut_parts, cut_whole}
 use Rattle.script_lines.proofs.Numbers.{number_found, number_says, digits_lack}
@@ -73,8 +73,8 @@ helped_found text token help is written (inr some) =
 pub numbered_says : (text : List ℕ) (c : ℕ × List ℕ) → numbered_of text ≡ Some c → (c.0 < 2 ^ 64) × (text ≡ decimal c.0 ++ 32 ∷ c.1)
 unfolding numbered_of
 numbered_says text c h =
-    let cut = bind_some (λ (c : List ℕ × List ℕ). option_and_then (λ n. Some (n, c.1)) (number_of c.0)) (cut_of text) c h in
-    let number = bind_some (λ n. Some (n, cut.0.1)) (number_of cut.0.0) c cut.2 in
+    let cut = bind_some (λ (c : List ℕ × List ℕ). option_and_then (λ n. Some (n, c.1)) (number_written c.0)) (cut_of text) c h in
+    let number = bind_some (λ n. Some (n, cut.0.1)) (number_written cut.0.0) c cut.2 in
     let parts = cut_parts text cut.0 cut.1 in
     let says = number_says cut.0.0 number.0 number.1 in
     let same : (number.0, cut.0.1) ≡ c = cc (number.2) in
@@ -83,5 +83,5 @@ numbered_says text c h =
 pub numbered_found : (n : ℕ) (rest : List ℕ) → n < 2 ^ 64 → numbered_of (decimal n ++ 32 ∷ rest) ≡ Some (n, rest)
 unfolding numbered_of
 numbered_found n rest small =
-    ap (option_and_then (λ (c : List ℕ × List ℕ). option_and_then (λ n. Some (n, c.1)) (number_of c.0))) (cut_found (decimal n) rest (digits_lack 32 n (omega arith) small))
+    ap (option_and_then (λ (c : List ℕ × List ℕ). option_and_then (λ n. Some (n, c.1)) (number_written c.0))) (cut_found (decimal n) rest (digits_lack 32 n (omega arith) small))
     ∙ ap (option_and_then (λ m. Some (m, rest))) (number_found (decimal n) n small refl)

@@ -10,7 +10,7 @@ use Rattle.script_lines.specs.Language.{Saying, Nothing, Counter, Gauge, Histogr
 use Rattle.script_lines.specs.declared.line.Counting.TheVariants.{Inc, Obs, Up, Down}
 use Rattle.script_lines.specs.declared.word.Word.{Word}
 use Rattle.script_lines.specs.declared.word.Word.TheVariants as word
-use Rattle.script_lines.specs.Reading.{cut_of, number_of, is_empty, family_of, word_in, after_word, alone_in, worded_of, line_of}
+use Rattle.script_lines.specs.Reading.{cut_of, number_written, is_empty, family_of, word_in, after_word, alone_in, worded_of, line_of}
 use Rattle.script_lines.proofs.Options.{none_or_some, bind_some, map_some, first_or_next}
 use Rattle.script_lines.proofs.Cut.{cut_parts}
 use Rattle.script_lines.proofs.Numbers.{number_found, number_says}
@@ -84,7 +84,7 @@ after_says (word.Count what) text s h =
     subst (IsLine (word_of what ++ 32 ∷ text)) (sym found.4)
     (is.few, is.small, is.amount.small, is.amount.some, is.amount.few, count_words (word_of what) text found.0 found.1 found.2 found.3 is)
 after_says word.Window text s h =
-    let found = map_some Window (number_of text) s h in
+    let found = map_some Window (number_written text) s h in
     let says = number_says text found.0 found.1 in
     subst (IsLine (codes "window" ++ 32 ∷ text)) found.2 (says.0, ap (λ r. codes "window" ++ 32 ∷ r) says.1)
 

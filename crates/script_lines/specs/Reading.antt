@@ -24,8 +24,8 @@ abbrev pub is_empty : List ℕ → Bool
 is_empty text = length text == 0
 
 -- the number that a text writes
-unfoldable pub number_of : List ℕ → Option ℕ
-number_of text = if nat_lt (digits_value 10 text) (2 ^ 64) && bytes_eq (decimal (digits_value 10 text)) text then Some (digits_value 10 text) else None
+unfoldable pub number_written : List ℕ → Option ℕ
+number_written text = if nat_lt (digits_value 10 text) (2 ^ 64) && bytes_eq (decimal (digits_value 10 text)) text then Some (digits_value 10 text) else None
 
 -- a byte that may stand after a backslash
 abbrev pub is_letter : ℕ → Bool
@@ -42,7 +42,7 @@ is_writing text = ends_well false text
 
 -- the word is `-`, or numbers joined by commas
 unfoldable pub are_bounds : List ℕ → Bool
-are_bounds word = bytes_eq word (codes "-") || list_all (λ w. is_some (number_of w)) (slice_split (λ b. b == comma) word)
+are_bounds word = bytes_eq word (codes "-") || list_all (λ w. is_some (number_written w)) (slice_split (λ b. b == comma) word)
 
 -- the word is a writing, and not empty
 abbrev pub is_value : List ℕ → Bool
@@ -93,7 +93,7 @@ child_of text = option_map_or (λ c. named c.0 c.1 (are_values c.1)) (cut_of tex
 unfoldable pub numbered_of : List ℕ → Option (ℕ × List ℕ)
 numbered_of text = do
   c ← cut_of text
-  n ← number_of c.0
+  n ← number_written c.0
   Some (n, c.1)
 
 -- so many times a line may count
@@ -103,13 +103,13 @@ is_times times = nat_le 1 times && nat_le times 100000
 -- how much, and how many times, where both are said
 abbrev pub repeated : (by times : List ℕ) → Option (ℕ × ℕ)
 repeated by times = do
-  n ← number_of by
-  m ← number_of times
+  n ← number_written by
+  m ← number_written times
   if is_times m then Some (n, m) else None
 
 -- how much, and how many times: once where it is not said
 unfoldable pub amount_of : List ℕ → Option (ℕ × ℕ)
-amount_of text = option_map_or (λ c. repeated c.0 c.1) (cut_of text) (option_map (λ n. (n, 1)) (number_of text))
+amount_of text = option_map_or (λ c. repeated c.0 c.1) (cut_of text) (option_map (λ n. (n, 1)) (number_written text))
 
 -- what a worker counts: worker, child, how much, and how many times
 unfoldable pub count_of : Counting → List ℕ → Option Saying
@@ -135,7 +135,7 @@ after_word word.Gauge text = option_map (λ f. Gauge f.0 f.1 f.2) (family_of tex
 after_word word.Histogram text = histogram_of text
 after_word word.Child text = child_of text
 after_word (word.Count what) text = count_of what text
-after_word word.Window text = option_map Window (number_of text)
+after_word word.Window text = option_map Window (number_written text)
 
 -- a line of one word
 unfoldable pub alone_in : List ℕ → Option Saying

@@ -8,12 +8,12 @@ use Rattle.snapshot_core.specs.declared.event.Event.{Event}
 use Rattle.snapshot_core.specs.declared.event.Event.TheVariants.{Begin, Step, Torn}
 use Rattle.snapshot_core.specs.declared.next.Next.{Next}
 use Rattle.snapshot_core.specs.declared.next.Next.TheVariants.{First, Second, Ask, Direct, Lent, GaveUp}
-use Rattle.snapshot_core.specs.declared.trace.How.{How}
-use Rattle.snapshot_core.specs.declared.trace.How.TheVariants as how
+use Rattle.snapshot_core.specs.declared.trace.ScanEnd.{ScanEnd}
+use Rattle.snapshot_core.specs.declared.trace.ScanEnd.TheVariants as how
 use Rattle.snapshot_core.specs.declared.scan.Scan.{Scan}
-use Rattle.snapshot_core.specs.Tries.{View, Read, Try, place_of, number_of, reads_of, TwoCollects, is_whole, same_numbers, is_clean, AllFailed, floor_of, base_of}
+use Rattle.snapshot_core.specs.Tries.{View, Read, Try, place_of, number_met, reads_of, TwoCollects, is_whole, same_numbers, is_clean, AllFailed, floor_of, base_of}
 use Rattle.snapshot_core.specs.Next.{Follows}
-use Rattle.snapshot_core.specs.Told.{Told}
+use Rattle.snapshot_core.specs.Told.{IsScanAfter}
 use Rattle.snapshot_core.specs.History.{Published, number_at}
 use Rattle.snapshot_core.specs.Turns.{Answered, IsTurn, own, own_reads}
 use Rattle.snapshot_core.specs.Faithful.{Meets, where_and_torn, Ends, lent_at, IsJustified, NoneTorn, UndisturbedIsDirect}
@@ -29,7 +29,7 @@ pub record Scans (n : ℕ) (ps : List Published) (answers : List Answered) (read
   pub few : scan.tries ≤ n + 2
   pub wanted : IsWanted scan.next
   pub told_reads : List Read
-  pub told : Told scan told_reads
+  pub told : IsScanAfter scan told_reads
   pub same : map where_and_torn told_reads ≡ reads
   pub meets : (q : ℕ) (r : Read) → get_elem? told_reads q ≡ some r → Meets ps answers r
 
@@ -53,7 +53,7 @@ alike_all ps answers (x ∷ xs) (y ∷ ys) e mx my = (record { same = same_read 
         λ k. record { place = p k; at = at k; torn = torn k; number = number k; view = view k }
 
 -- where what comes next is a read, no scan with these reads has ended
-pub not_justified : (n : ℕ) (ps : List Published) (answers : List Answered) (reads : List (ℕ × Bool)) → Scans n ps answers reads → (tries : ℕ) (h : How) (view : Option View) → IsJustified n ps answers reads tries h view → ⊥
+pub not_justified : (n : ℕ) (ps : List Published) (answers : List Answered) (reads : List (ℕ × Bool)) → Scans n ps answers reads → (tries : ℕ) (h : ScanEnd) (view : Option View) → IsJustified n ps answers reads tries h view → ⊥
 not_justified n ps answers reads s tries h view j =
     let told = s.told in
     let alike = alike_all ps answers s.told_reads j.met (s.same ∙ sym j.same) s.meets j.meets in
@@ -108,7 +108,7 @@ module _ (ps : List Published) (b : ℕ) where
   calm_whole [] h = refl
   calm_whole (r ∷ rs) h = and_from (not r.torn) (is_whole rs) (ap not h.0.0) (calm_whole rs h.1)
 
-  calm_numbers : (rs : List Read) → AreCalm rs → map number_of rs ≡ map (number_at ps (suc b)) (map place_of rs)
+  calm_numbers : (rs : List Read) → AreCalm rs → map number_met rs ≡ map (number_at ps (suc b)) (map place_of rs)
   calm_numbers [] h = refl
   calm_numbers (r ∷ rs) h = λ k. h.0.1 k ∷ calm_numbers rs h.1 k
 
@@ -118,15 +118,15 @@ module _ (ps : List Published) (b : ℕ) where
 
   calm_clean : (n : ℕ) (t : Try) → TwoCollects n t → AreCalm t.first → AreCalm t.second → is_clean t ≡ true
   calm_clean n t c f s =
-      let numbers : map number_of t.second ≡ map number_of t.first = calm_numbers t.second s ∙ (ap (map (number_at ps (suc b))) (c.second ∙ sym c.first) ∙ sym (calm_numbers t.first f)) in
-      and_from (is_whole t.first) (same_numbers (map number_of t.first) (map number_of t.second)) (calm_whole t.first f) (ap (same_numbers (map number_of t.first)) numbers ∙ same_self (map number_of t.first))
+      let numbers : map number_met t.second ≡ map number_met t.first = calm_numbers t.second s ∙ (ap (map (number_at ps (suc b))) (c.second ∙ sym c.first) ∙ sym (calm_numbers t.first f)) in
+      and_from (is_whole t.first) (same_numbers (map number_met t.first) (map number_met t.second)) (calm_whole t.first f) (ap (same_numbers (map number_met t.first)) numbers ∙ same_self (map number_met t.first))
 
   -- the first try of reads that are calm
   calm_try : (n : ℕ) (t : Try) (xs : List Read) → TwoCollects n t → AreCalm (t.first ++ t.second ++ t.asks ++ xs) → is_clean t ≡ true
   calm_try n t xs c h = let two = calm_front (t.first ++ t.second) t.asks (calm_front (t.first ++ t.second ++ t.asks) xs h) in calm_clean n t c (calm_front t.first t.second two) (calm_back t.first t.second two)
 
   -- so a scan that ended with calm reads was direct at once
-  calm_ends : (n : ℕ) (before : List Try) (last : Try) (h : How) (view : Option View) → AllFailed n (floor_of before last) (base_of before last) before → Ends n before last h view → AreCalm (reads_of (before ++ last ∷ [])) → (h ≡ how.Direct) × (before ≡ [])
+  calm_ends : (n : ℕ) (before : List Try) (last : Try) (h : ScanEnd) (view : Option View) → AllFailed n (floor_of before last) (base_of before last) before → Ends n before last h view → AreCalm (reads_of (before ++ last ∷ [])) → (h ≡ how.Direct) × (before ≡ [])
   calm_ends n (s ∷ ts) last h view f e calm = absurd (both_ways (is_clean s) f.0.unclean (calm_try n s (reads_of (ts ++ last ∷ [])) f.0.collects calm))
   calm_ends n [] last how.Direct view f e calm = (refl, refl)
   calm_ends n [] last (how.Lent from) view f e calm = absurd (both_ways (is_clean last) e.unclean (calm_try n last [] e.collects calm))

@@ -9,7 +9,7 @@ use Rattle.std.specs.List.{list_all}
 use mathlib.Core.Option.{some}
 use lib.ListN.{get_elem?}
 use Rattle.snapshot_core.specs.Scan.{failed_at, least_failed_of, is_to_ask, next_asked_of}
-use Rattle.snapshot_core.specs.Tries.{Read, Try, place_of, number_of, from_on, is_whole, same_numbers, is_clean, to_ask, TwoCollects}
+use Rattle.snapshot_core.specs.Tries.{Read, Try, place_of, number_met, from_on, is_whole, same_numbers, is_clean, to_ask, TwoCollects}
 
 -- the words of an array at n places
 abbrev pub words : ℕ → List ℕ → List ℕ
@@ -93,10 +93,10 @@ clean_least o w f k (suc m) = step (get_or w k false) (eqb (get_or o k 0) (get_o
     step false b A B l e h = sym (ap not (ap (λ (t : Bool). failed_at o w f (cond t k l)) e ∙ e))
 
 -- a try is clean where the least place that failed is none
-pub clean_is : (o : List ℕ) (w : List Bool) (f : List ℕ) (n : ℕ) (t : Try) → 1 ≤ n → map place_of t.first ≡ from_on 0 n → map place_of t.second ≡ from_on 0 n → Stands number_of 0 o t.first → Stands (λ (r : Read). not r.torn) false w t.first → Stands number_of 0 f t.second
+pub clean_is : (o : List ℕ) (w : List Bool) (f : List ℕ) (n : ℕ) (t : Try) → 1 ≤ n → map place_of t.first ≡ from_on 0 n → map place_of t.second ≡ from_on 0 n → Stands number_met 0 o t.first → Stands (λ (r : Read). not r.torn) false w t.first → Stands number_met 0 f t.second
     → is_clean t ≡ not (failed_at o w f (least_failed_of o w f 0 (n - 1)))
 clean_is o w f n t one e1 e2 ho hw hf =
-    ap (λ (z : Bool × (List ℕ × List ℕ)). z.0 && same_numbers z.1.0 z.1.1) (λ i. ((whole_of t.first ∙ ap all_true (parts_are (λ (r : Read). not r.torn) false w t.first n e1 hw)) i, (parts_are number_of 0 o t.first n e1 ho i, parts_are number_of 0 f t.second n e2 hf i)))
+    ap (λ (z : Bool × (List ℕ × List ℕ)). z.0 && same_numbers z.1.0 z.1.1) (λ i. ((whole_of t.first ∙ ap all_true (parts_are (λ (r : Read). not r.torn) false w t.first n e1 hw)) i, (parts_are number_met 0 o t.first n e1 ho i, parts_are number_met 0 f t.second n e2 hf i)))
     ∙ (let e : n ≡ suc (n - 1) = omega arith in ap (clean_over o w f 0) e) ∙ clean_least o w f 0 (n - 1)
 
 pub least_within : (o : List ℕ) (w : List Bool) (f : List ℕ) (k m : ℕ) → least_failed_of o w f k m ≤ k + m
@@ -129,13 +129,13 @@ part_at f g (x ∷ rs) zero r e is = let h : f x ≡ g x = cc in let same : x �
 part_at f g (x ∷ rs) (suc q) r e is = part_at f g rs q r (cc) is
 
 -- both reads of a place, and whether it failed
-pub tests_at : (o : List ℕ) (w : List Bool) (f : List ℕ) (n k : ℕ) (t : Try) → k < n → map place_of t.first ≡ from_on 0 n → map place_of t.second ≡ from_on 0 n → Stands number_of 0 o t.first → Stands (λ (r : Read). not r.torn) false w t.first → Stands number_of 0 f t.second
+pub tests_at : (o : List ℕ) (w : List Bool) (f : List ℕ) (n k : ℕ) (t : Try) → k < n → map place_of t.first ≡ from_on 0 n → map place_of t.second ≡ from_on 0 n → Stands number_met 0 o t.first → Stands (λ (r : Read). not r.torn) false w t.first → Stands number_met 0 f t.second
     → (one two : Read) × (get_elem? t.first k ≡ some one) × (get_elem? t.second k ≡ some two) × (one.number ≡ get_or o k 0) × (two.number ≡ get_or f k 0) × ((not one.torn && one.number == two.number) ≡ not (failed_at o w f k))
 tests_at o w f n k t lt e1 e2 ho hw hf =
     let a = read_at t.first 0 n k e1 lt in let b = read_at t.second 0 n k e2 lt in
     let pa : a.0.place ≡ k = a.2 ∙ (let e : 0 + k ≡ k = omega arith in e) in let pb : b.0.place ≡ k = b.2 ∙ (let e : 0 + k ≡ k = omega arith in e) in
-    let x : a.0.number ≡ get_or o k 0 = part_at number_of (λ (r : Read). get_or o r.place 0) t.first k a.0 ho a.1 ∙ ap (λ (q : ℕ). get_or o q 0) pa in
-    let y : b.0.number ≡ get_or f k 0 = part_at number_of (λ (r : Read). get_or f r.place 0) t.second k b.0 hf b.1 ∙ ap (λ (q : ℕ). get_or f q 0) pb in
+    let x : a.0.number ≡ get_or o k 0 = part_at number_met (λ (r : Read). get_or o r.place 0) t.first k a.0 ho a.1 ∙ ap (λ (q : ℕ). get_or o q 0) pa in
+    let y : b.0.number ≡ get_or f k 0 = part_at number_met (λ (r : Read). get_or f r.place 0) t.second k b.0 hf b.1 ∙ ap (λ (q : ℕ). get_or f q 0) pb in
     let z : not a.0.torn ≡ get_or w k false = part_at (λ (r : Read). not r.torn) (λ (r : Read). get_or w r.place false) t.first k a.0 hw a.1 ∙ ap (λ (q : ℕ). get_or w q false) pa in
     (a.0, b.0, a.1, b.1, x, y, ap (λ (v : Bool × (ℕ × ℕ)). v.0 && v.1.0 == v.1.1) (λ i. (z i, (x i, y i))) ∙ and_is (get_or w k false) (eqb (get_or o k 0) (get_or f k 0)))
 
@@ -172,12 +172,12 @@ asked_after base found k (suc m) xs p later e = go (is_to_ask base found k) xs e
     go true (x ∷ xs) e rec = rec xs (cc)
     go false xs e rec = rec xs e
 
-pub asks_same : (n : ℕ) (base found : List ℕ) (k m : ℕ) (rs : List Read) → k + m ≤ n → map place_of rs ≡ from_on k m → Stands number_of 0 found rs → to_ask (words n base) rs ≡ asked_over base found k m
+pub asks_same : (n : ℕ) (base found : List ℕ) (k m : ℕ) (rs : List Read) → k + m ≤ n → map place_of rs ≡ from_on k m → Stands number_met 0 found rs → to_ask (words n base) rs ≡ asked_over base found k m
 asks_same n base found k zero [] le p h = refl
 asks_same n base found k zero (r ∷ rs) le p h = absurd (cc)
 asks_same n base found k (suc m) [] le p h = absurd (cc)
 asks_same n base found k (suc m) (r ∷ rs) le p h = let pl : r.place ≡ k = cc in let pt : map place_of rs ≡ from_on (suc k) m = cc in
-    let one : r.number ≡ get_or found r.place 0 = cc in let rest : Stands number_of 0 found rs = cc in
+    let one : r.number ≡ get_or found r.place 0 = cc in let rest : Stands number_met 0 found rs = cc in
     let b : get_or (words n base) r.place 0 ≡ get_or base k 0 = ap (λ (q : ℕ). get_or (words n base) q 0) pl ∙ from_at (λ q. get_or base q 0) 0 n k (omega arith) ∙ (let e : 0 + k ≡ k = omega arith in ap (λ (q : ℕ). get_or base q 0) e) in
     let f : r.number ≡ get_or found k 0 = one ∙ ap (λ (q : ℕ). get_or found q 0) pl in
     let t : leb (get_or (words n base) r.place 0 + 2) r.number ≡ is_to_ask base found k = ap (λ (z : ℕ × ℕ). leb (z.0 + 2) z.1) (λ i. (b i, f i)) in

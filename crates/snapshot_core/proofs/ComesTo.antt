@@ -4,7 +4,7 @@ use mathlib.Core.Option.{some}
 use lib.ListN.{get_elem?}
 use Rattle.ledger_core.specs.Ops.{width, sum_ops}
 use Rattle.snapshot_core.specs.declared.event.Event.{Event}
-use Rattle.snapshot_core.specs.declared.trace.How.{How}
+use Rattle.snapshot_core.specs.declared.trace.ScanEnd.{ScanEnd}
 use Rattle.snapshot_core.specs.Turns.{Answered, IsTurn, own_reads}
 use Rattle.snapshot_core.specs.Faithful.{IsJustified, IsOutcome}
 use Rattle.snapshot_core.specs.Machine.{World, world_at}
@@ -24,7 +24,7 @@ module _ (c h g n : ℕ) (es : List Event) (one : 1 ≤ n) (most : n ≤ 32) whe
       → Scans n (ps c h g n es) (zs c h g n es) (own_reads es actor (suc b) m) ⊎ ((q : ℕ) × (a : Answered) × (get_elem? (zs c h g n es) q ≡ some a) × (a.actor ≡ actor) × (a.begin ≡ b) × (a.end ≤ b + m))
   goes_on = progress c h g n es (ps c h g n es) (zs c h g n es) (λ k. world_at c h g n es k) (before_event c h g n es one most)
 
-  never_justified : (actor b m : ℕ) → IsTurn n c h g es (ps c h g n es) (zs c h g n es) actor b → HasNoAnswer c h g n es actor b → b + m < length es → (tries : ℕ) (how : How) (view : _) → ¬ IsJustified n (ps c h g n es) (zs c h g n es) (own_reads es actor (suc b) m) tries how view
+  never_justified : (actor b m : ℕ) → IsTurn n c h g es (ps c h g n es) (zs c h g n es) actor b → HasNoAnswer c h g n es actor b → b + m < length es → (tries : ℕ) (how : ScanEnd) (view : _) → ¬ IsJustified n (ps c h g n es) (zs c h g n es) (own_reads es actor (suc b) m) tries how view
   never_justified actor b m turn none inside tries how view = ⊎_elim
       (λ s. not_justified n (ps c h g n es) (zs c h g n es) (own_reads es actor (suc b) m) s tries how view)
       (λ t. absurd (none t.0 t.1 t.2 t.3 t.4))

@@ -15,8 +15,8 @@ use Rattle.snapshot_core.specs.declared.event.Event.{Event}
 use Rattle.snapshot_core.specs.declared.event.Event.TheVariants.{Begin, Step, Torn}
 use Rattle.snapshot_core.specs.declared.next.Next.{Next}
 use Rattle.snapshot_core.specs.declared.next.Next.TheVariants.{First, Second, Ask, Direct, Lent, GaveUp}
-use Rattle.snapshot_core.specs.declared.trace.How.{How}
-use Rattle.snapshot_core.specs.declared.trace.How.TheVariants as how
+use Rattle.snapshot_core.specs.declared.trace.ScanEnd.{ScanEnd}
+use Rattle.snapshot_core.specs.declared.trace.ScanEnd.TheVariants as how
 use Rattle.snapshot_core.specs.History.{Published, number_at, row_at, OneStep}
 use Rattle.snapshot_core.specs.Machine.{Seg, Act, World, applied, added, begun_of, blank_of, not_torn, read_by, place_in, end_by, accepts, begins_if, begins, over, ends, reads_from, reads_place, publishes_row, publishes_as, steps_in, steps, happens_at}
 use Rattle.snapshot_core.specs.Scan.{first_by, second_by, asked_by, asked_at}
@@ -123,7 +123,7 @@ module _ (c h g n k : ℕ) (m : World) (r : Inv (sum_ops c h) (width c h g) n k 
     goes_on : Inv A W n (suc k) (with_actor m who a)
     goes_on = one_actor A W n (suc k) m who a stays (wide, subst (PhaseOk A W n m.publishes (suc k) who a) (sym scans) (record { last = k; met = s.view; by = omega arith; after = omega arith; shape = shape; good = good }, still_next))
 
-    ready : (e : How × Option View) → ((v : View) → e.1 ≡ Some v → OneStep A n W m.publishes a.begin k v) → Inv A W n (suc k) (ends c h g n m k who a (Some e))
+    ready : (e : ScanEnd × Option View) → ((v : View) → e.1 ≡ Some v → OneStep A n W m.publishes a.begin k v) → Inv A W n (suc k) (ends c h g n m k who a (Some e))
     ready e step = let next = one_actor A W n (suc k) m who (record a { phase = over c h g n (slice_get m.segments who); view = e.1 }) stays (wide, ready_phase (slice_get m.segments who)) in
         record {
           some = next.some;

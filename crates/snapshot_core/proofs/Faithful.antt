@@ -8,7 +8,7 @@ use lib.ListN.{get_elem?}
 use Rattle.ledger_core.specs.Ops.{width, sum_ops}
 use Rattle.snapshot_core.specs.declared.event.Event.{Event}
 use Rattle.snapshot_core.specs.declared.event.Event.TheVariants.{Step}
-use Rattle.snapshot_core.specs.declared.trace.How.{How}
+use Rattle.snapshot_core.specs.declared.trace.ScanEnd.{ScanEnd}
 use Rattle.snapshot_core.specs.Tries.{View}
 use Rattle.snapshot_core.specs.History.{Published}
 use Rattle.snapshot_core.specs.Turns.{Answered, IsOpen, IsTurn, own, own_reads, ops_of}
@@ -98,6 +98,6 @@ module _ (c h g n : ℕ) (es : List Event) where
     answers_rise = (world_ordered c h g n es (length es)).answers_rise
 
     -- all of it, with the turns that have no answer
-    pub faithful_with : ((actor b m : ℕ) → IsTurn n c h g es ps zs actor b → HasNoAnswer actor b → b + m < length es → (tries : ℕ) (how : How) (view : Option View) → ¬ IsJustified n ps zs (own_reads es actor (suc b) m) tries how view)
+    pub faithful_with : ((actor b m : ℕ) → IsTurn n c h g es ps zs actor b → HasNoAnswer actor b → b + m < length es → (tries : ℕ) (how : ScanEnd) (view : Option View) → ¬ IsJustified n ps zs (own_reads es actor (suc b) m) tries how view)
         → IsFaithful n c h g es ps zs
     faithful_with none = record { turns = turns; once = once; justified = justified; unanswered = none; published = published; publishes = publishes; publishes_rise = publishes_rise; answers_rise = answers_rise }

@@ -6,7 +6,7 @@ use mathlib.Core.Option.{some-ne-none}
 use Rattle.ledger_core.specs.declared.op.Op.{Op}
 use Rattle.snapshot_core.specs.declared.event.Event.{Event}
 use Rattle.snapshot_core.specs.declared.event.Event.TheVariants.{Begin, Step, Torn}
-use Rattle.snapshot_core.specs.declared.trace.How.{How}
+use Rattle.snapshot_core.specs.declared.trace.ScanEnd.{ScanEnd}
 use Rattle.snapshot_core.specs.declared.actor.Phase.{Phase}
 use Rattle.snapshot_core.specs.declared.actor.Phase.TheVariants.{Rest, Scan, Ready}
 use Rattle.snapshot_core.specs.Tries.{View}
@@ -78,7 +78,7 @@ module _ (c h g n : ℕ) (es : List Event) where
     keeps : (y : World) → y.publishes ≡ w.publishes → y.answers ≡ w.answers → Grown k w y
     keeps y e f = record { new = []; publishes = e ∙ sym (append-nil w.publishes); sole = tt; also = []; answers = f ∙ sym (append-nil w.answers); single = tt }
 
-    ends_grow : (who : ℕ) (a : Act) (o : Option (How × Option View)) → Grown k w (ends c h g n w k who a o)
+    ends_grow : (who : ℕ) (a : Act) (o : Option (ScanEnd × Option View)) → Grown k w (ends c h g n w k who a o)
     ends_grow who a None = keeps _ refl refl
     ends_grow who a (Some e) = record { new = []; publishes = sym (append-nil w.publishes); sole = tt; also = _ ∷ []; answers = refl; single = refl }
 

@@ -17,7 +17,7 @@ use Rattle.snapshot_core.specs.declared.actor.Phase.{Phase}
 use Rattle.snapshot_core.specs.declared.actor.Phase.TheVariants.{Rest, Scan, Ready}
 use Rattle.snapshot_core.specs.declared.next.Next.{Next}
 use Rattle.snapshot_core.specs.declared.next.Next.TheVariants.{First, Second, Ask, Direct, Lent, GaveUp}
-use Rattle.snapshot_core.specs.declared.trace.How.{How}
+use Rattle.snapshot_core.specs.declared.trace.ScanEnd.{ScanEnd}
 use Rattle.snapshot_core.specs.Sized.{place_next}
 use Rattle.snapshot_core.specs.Tries.{View, Read}
 use Rattle.snapshot_core.specs.History.{Published, number_at, row_at}
@@ -153,7 +153,7 @@ module _ (c h g n : ℕ) (es : List Event) (ps : List Published) (zs : List Answ
           no_publish q x e same = absurd (nobody_publishes c h g n es ps zs k w j low (record w { actors = slice_set w.actors who now }) ext refl q x e same)
 
       -- the scan is over
-      module _ (e : How × Option View) (ended : end_by s now now.scan.next ≡ Some e) (ext : Extends (suc k) ps zs (ends c h g n w k who now (Some e))) where
+      module _ (e : ScanEnd × Option View) (ended : end_by s now now.scan.next ≡ Some e) (ext : Extends (suc k) ps zs (ends c h g n w k who now (Some e))) where
         abbrev given : Answered
         given = record { actor = who; begin = now.begin; end = k; tries = now.scan.tries; how = e.0; view = e.1 }
 

@@ -12,7 +12,7 @@ use Rattle.snapshot_core.specs.declared.event.Event.TheVariants.{Step}
 use Rattle.snapshot_core.specs.declared.actor.Phase.{Phase}
 use Rattle.snapshot_core.specs.declared.actor.Phase.TheVariants.{Rest, Scan, Ready}
 use Rattle.snapshot_core.specs.Sized.{IsSized}
-use Rattle.snapshot_core.specs.Told.{Told}
+use Rattle.snapshot_core.specs.Told.{IsScanAfter}
 use Rattle.snapshot_core.specs.Tries.{Read}
 use Rattle.snapshot_core.specs.History.{Published, number_at, row_at}
 use Rattle.snapshot_core.specs.Turns.{Answered, BeginsAt, IsOpen, own, own_reads, ops_of}
@@ -48,7 +48,7 @@ module _ (c h g n : ℕ) (es : List Event) (ps : List Published) (zs : List Answ
     pub wide : a.scan.n ≡ n
     pub goes : (p : ℕ) × (place_in a.scan.next ≡ Some p) × (p < n)
     pub reads : List Read
-    pub told : Told a.scan reads
+    pub told : IsScanAfter a.scan reads
     pub meets : (q : ℕ) (r : Read) → get_elem? reads q ≡ some r → Meets ps zs r
     pub all_own : map where_and_torn reads ≡ own_reads es i (suc a.begin) (k - suc a.begin)
     pub fresh : (q : ℕ) (z : Answered) → get_elem? zs q ≡ some z → z.end < k → z.actor ≡ i → z.begin ≢ a.begin

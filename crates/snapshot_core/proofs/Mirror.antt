@@ -5,7 +5,7 @@ use Rattle.std.proofs.lemmas.List.{map-set, length-map, get_or_read}
 use Rattle.std.proofs.lemmas.Option.{slice_get_read, slice_get_past, slice_get-map}
 use Rattle.ledger_core.specs.declared.op.Op.{Op}
 use Rattle.snapshot_core.specs.declared.event.Event.{Event}
-use Rattle.snapshot_core.specs.declared.trace.How.{How}
+use Rattle.snapshot_core.specs.declared.trace.ScanEnd.{ScanEnd}
 use Rattle.snapshot_core.specs.declared.actor.Segment.{Segment}
 use Rattle.snapshot_core.specs.declared.actor.Phase.{Phase}
 use Rattle.snapshot_core.specs.declared.actor.Phase.TheVariants as phase
@@ -44,7 +44,7 @@ module _ (c h g n : ℕ) where
   over_is ss who true e = over_in ss who (ltb-true who (length ss) e)
   over_is ss who false e = ap (over c h g n) (slice_get_past ss who (ltb-false who (length ss) e))
 
-  ends_is : (w : World) (at who : ℕ) (a : Act) (t : Bool) → ltb who (length w.segments) ≡ t → (e : Option (How × Option View)) → ends c h g n w at who a e ≡ record { segments = w.segments; actors = set w.actors who (finished t a e); publishes = w.publishes; answers = w.answers ++ told at who a e }
+  ends_is : (w : World) (at who : ℕ) (a : Act) (t : Bool) → ltb who (length w.segments) ≡ t → (e : Option (ScanEnd × Option View)) → ends c h g n w at who a e ≡ record { segments = w.segments; actors = set w.actors who (finished t a e); publishes = w.publishes; answers = w.answers ++ told at who a e }
   ends_is w at who a t is None = ap (λ (z : List Answered). let y : World = record { segments = w.segments; actors = set w.actors who a; publishes = w.publishes; answers = z } in y) (sym (append-nil w.answers))
   ends_is w at who a t is (Some e) = ap (λ (z : Phase). let y : World = record { segments = w.segments; actors = set w.actors who (record a { phase = z; view = e.1 }); publishes = w.publishes; answers = w.answers ++ told at who a (Some e) } in y) (over_is w.segments who t is)
 

@@ -2,9 +2,9 @@
 use Rattle.std.proofs.Common.{◌≡◌, ℕ, suc, ◌+◌, ◌<◌, ◌≤◌, true, not, Option, Some, None, List, [], ◌∷◌, ◌++◌, length, map, sym, refl, ap, ◌∙◌, subst, arith, length-append, append_assoc}
 use Rattle.std.proofs.lemmas.Bool.{and_parts, both_ways}
 use Rattle.std.proofs.lemmas.List.{nil_from_length}
-use Rattle.snapshot_core.specs.declared.trace.How.{How}
-use Rattle.snapshot_core.specs.declared.trace.How.TheVariants as how
-use Rattle.snapshot_core.specs.Tries.{View, Read, Try, place_of, number_of, reads_of, is_clean, to_ask, lends, none_lends, AllFailed, EndsLent, floor_of, base_of}
+use Rattle.snapshot_core.specs.declared.trace.ScanEnd.{ScanEnd}
+use Rattle.snapshot_core.specs.declared.trace.ScanEnd.TheVariants as how
+use Rattle.snapshot_core.specs.Tries.{View, Read, Try, place_of, number_met, reads_of, is_clean, to_ask, lends, none_lends, AllFailed, EndsLent, floor_of, base_of}
 use Rattle.snapshot_core.specs.Told.{vector_of}
 use Rattle.snapshot_core.specs.Faithful.{Ends, IsScan}
 use Rattle.snapshot_core.proofs.Unique.{AllAlike, head_same, tail_same, same_front, alike_length, same_two, clean_same, same_failed, EndsSo, ends_so, ended_two, same_heads, alike_back, front_of, lent_failed, ends_failed}
@@ -31,13 +31,13 @@ after_try : (s : Try) (ys xs : List Read) → s.first ++ s.second ++ s.asks ++ y
 after_try s ys xs = append_assoc (s.first ++ s.second ++ s.asks) ys xs
 
 -- the view is the same where it is lent
-abbrev SameLent : How → Option View → Option View → Type 0
+abbrev SameLent : ScanEnd → Option View → Option View → Type 0
 SameLent how.Direct v v' = Unit {0}
 SameLent (how.Lent from) v v' = v ≡ v'
 SameLent how.GaveUp v v' = Unit {0}
 
 -- the last tries of two scans end them the same, and nothing is read after
-record SameLast (t u : Try) (h h' : How) (v v' : Option View) (xs : List Read) : Type 0 where
+record SameLast (t u : Try) (h h' : ScanEnd) (v v' : Option View) (xs : List Read) : Type 0 where
   pub none : xs ≡ []
   pub ended : h ≡ h'
   pub first : t.first ≡ u.first
@@ -62,7 +62,7 @@ module _ (n : ℕ) (floor base : List ℕ) where
       }
 
   -- two tries that end a scan
-  both_end : (t u : Try) (h h' : How) (v v' : Option View) (before before' : ℕ) (xs : List Read) → EndsSo n floor base before t h v → EndsSo n floor base before' u h' v' → AllAlike (t.first ++ t.second ++ t.asks ++ xs) (u.first ++ u.second ++ u.asks ++ [])
+  both_end : (t u : Try) (h h' : ScanEnd) (v v' : Option View) (before before' : ℕ) (xs : List Read) → EndsSo n floor base before t h v → EndsSo n floor base before' u h' v' → AllAlike (t.first ++ t.second ++ t.asks ++ xs) (u.first ++ u.second ++ u.asks ++ [])
       → SameLast t u h h' v v' xs
   both_end t u how.Direct how.Direct v v' before before' xs et eu a =
       let two = same_two n t u xs [] et.collects eu.collects a in
@@ -84,7 +84,7 @@ module _ (n : ℕ) (floor base : List ℕ) where
       record { none = alike_none xs same.1; ended = refl; first = ap (λ (z : Try). z.first) same.0; lent = tt }
 
   -- two scans that have ended, where k tries that failed stand before both
-  one_end : (k : ℕ) (ts us : List Try) (t u : Try) (h h' : How) (v v' : Option View) (xs : List Read)
+  one_end : (k : ℕ) (ts us : List Try) (t u : Try) (h h' : ScanEnd) (v v' : Option View) (xs : List Read)
       → AllFailed n floor base ts → EndsSo n floor base (k + length ts) t h v → AllFailed n floor base us → EndsSo n floor base (k + length us) u h' v' → k + length ts < n + 2 → k + length us < n + 2
       → AllAlike (reads_of (ts ++ t ∷ []) ++ xs) (reads_of (us ++ u ∷ [])) → (length ts ≡ length us) × SameLast t u h h' v v' xs
   one_end k [] [] t u h h' v v' xs ft et fu eu few few' a =
@@ -103,23 +103,23 @@ module _ (n : ℕ) (floor base : List ℕ) where
       (ap suc rest.0, rest.1)
 
 -- scans that end the same have one vector, where they have a view
-same_vector : (n : ℕ) (ts us : List Try) (t u : Try) (h : How) (v v' : Option View) → Ends n ts t h v → Ends n us u h v' → t.first ≡ u.first → SameLent h v v' → vector_of v ≡ vector_of v'
+same_vector : (n : ℕ) (ts us : List Try) (t u : Try) (h : ScanEnd) (v v' : Option View) → Ends n ts t h v → Ends n us u h v' → t.first ≡ u.first → SameLent h v v' → vector_of v ≡ vector_of v'
 same_vector n ts us t u how.Direct None v' et eu f l = absurd et
 same_vector n ts us t u how.Direct (Some v) None et eu f l = absurd eu
-same_vector n ts us t u how.Direct (Some v) (Some v') et eu f l = ap (λ (z : List ℕ). Some z) (et.1 ∙ (ap (map number_of) f ∙ sym eu.1))
+same_vector n ts us t u how.Direct (Some v) (Some v') et eu f l = ap (λ (z : List ℕ). Some z) (et.1 ∙ (ap (map number_met) f ∙ sym eu.1))
 same_vector n ts us t u (how.Lent from) v v' et eu f l = ap vector_of l
 same_vector n ts us t u how.GaveUp v v' et eu f l = ap vector_of (et.2 ∙ sym eu.2)
 
 -- where two scans have ended and the reads of the one begin those of the other, no read follows, and both made as many
 -- tries, ended the same and found one vector
-pub ended_once : (n : ℕ) (rs xs rs' : List Read) (tries tries' : ℕ) (h h' : How) (v v' : Option View)
+pub ended_once : (n : ℕ) (rs xs rs' : List Read) (tries tries' : ℕ) (h h' : ScanEnd) (v v' : Option View)
     → IsScan n rs tries h v → IsScan n rs' tries' h' v' → tries ≤ n + 2 → tries' ≤ n + 2 → AllAlike (rs ++ xs) rs'
     → (xs ≡ []) × (tries ≡ tries') × (h ≡ h') × (vector_of v ≡ vector_of v')
 ended_once n rs xs rs' tries tries' h h' v v' s s' few few' a = (
   same.1.none,
   s.count ∙ (ap (λ (z : ℕ). z + 1) same.0 ∙ sym s'.count),
   same.1.ended,
-  same_vector n s.before s'.before s.last s'.last h v v' s.ends (subst (λ (z : How). Ends n s'.before s'.last z v') (sym same.1.ended) s'.ends) same.1.first same.1.lent,
+  same_vector n s.before s'.before s.last s'.last h v v' s.ends (subst (λ (z : ScanEnd). Ends n s'.before s'.last z v') (sym same.1.ended) s'.ends) same.1.first same.1.lent,
 )
   where
     reads : AllAlike (reads_of (s.before ++ s.last ∷ []) ++ xs) (reads_of (s'.before ++ s'.last ∷ []))

@@ -11,7 +11,7 @@ use Rattle.ledger_core.specs.declared.op.Op.{Op}
 use Rattle.ledger_core.specs.Ops.{width, sum_ops}
 use Rattle.snapshot_core.specs.declared.event.Event.{Event}
 use Rattle.snapshot_core.specs.declared.event.Event.TheVariants.{Step}
-use Rattle.snapshot_core.specs.declared.trace.How.{How}
+use Rattle.snapshot_core.specs.declared.trace.ScanEnd.{ScanEnd}
 use Rattle.snapshot_core.specs.Tries.{View, Read}
 use Rattle.snapshot_core.specs.Told.{vector_of}
 use Rattle.snapshot_core.specs.History.{Published, number_at, total_at, OneStep}
@@ -82,7 +82,7 @@ alike_more (x ∷ xs) (y ∷ ys) zs a = (a.0, alike_more xs ys zs a.1)
 
 module _ (n c h g : ℕ) (es : List Event) where
   -- reads that are a scan in one trace are one in the other
-  just_same : (e : ℕ) (ps qs : List Published) (zs ys : List Answered) → Agree e ps qs zs ys → (i b m : ℕ) → b + m ≤ e → (tries : ℕ) (how : How) (view : Option View)
+  just_same : (e : ℕ) (ps qs : List Published) (zs ys : List Answered) → Agree e ps qs zs ys → (i b m : ℕ) → b + m ≤ e → (tries : ℕ) (how : ScanEnd) (view : Option View)
       → IsJustified n ps zs (own_reads es i (suc b) m) tries how view → IsJustified n qs ys (own_reads es i (suc b) m) tries how view
   just_same e ps qs zs ys ag i b m le tries how view j = record {
     met = j.met;

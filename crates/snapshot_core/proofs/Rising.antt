@@ -10,7 +10,7 @@ use Rattle.std.specs.Prelude.{slice_get, slice_index, nat_le}
 use Rattle.snapshot_core.specs.declared.event.Event.{Event}
 use Rattle.snapshot_core.specs.declared.event.Event.TheVariants.{Begin, Step, Torn}
 use Rattle.ledger_core.specs.Vectors.{is_above}
-use Rattle.snapshot_core.specs.Tries.{Read, Try, place_of, number_of, from_on, reads_of, TwoCollects, is_whole, same_numbers, is_clean, to_ask, Failed, AllFailed}
+use Rattle.snapshot_core.specs.Tries.{Read, Try, place_of, number_met, from_on, reads_of, TwoCollects, is_whole, same_numbers, is_clean, to_ask, Failed, AllFailed}
 use Rattle.snapshot_core.specs.History.{Published, number_at}
 use Rattle.snapshot_core.specs.Turns.{Answered, own, own_reads}
 use Rattle.snapshot_core.specs.Faithful.{Meets, where_and_torn}
@@ -113,7 +113,7 @@ module _ (ps : List Published) (answers : List Answered) where
       (a.0, record { one = c.0; two = b.0; firsts = c.1; seconds = c.2; asked = b.2 }, a.2)
 
   -- a later collect meets numbers that are not less
-  pub collect_low : (rs ss : List Read) (a b c d : ℕ) → map place_of rs ≡ map place_of ss → Within a b rs → Within c d ss → b ≤ c → Low (map number_of rs) (map number_of ss)
+  pub collect_low : (rs ss : List Read) (a b c d : ℕ) → map place_of rs ≡ map place_of ss → Within a b rs → Within c d ss → b ≤ c → Low (map number_met rs) (map number_met ss)
   collect_low [] [] a b c d e hr hs le = tt
   collect_low [] (s ∷ ss) a b c d e hr hs le = absurd (cc)
   collect_low (r ∷ rs) [] a b c d e hr hs le = absurd (cc)
@@ -130,18 +130,18 @@ module _ (ps : List Published) (answers : List Answered) where
 
   -- a try that is not clean meets more in its second collect, and never less than a collect before it
   pub try_more : (n : ℕ) (prev : List Read) (t : Try) (a b lo hi : ℕ) → map place_of prev ≡ from_on 0 n → Within a b prev → b ≤ lo → Spans lo hi t → TwoCollects n t → is_clean t ≡ false
-      → suc (sum_list (map number_of prev)) ≤ sum_list (map number_of t.second)
+      → suc (sum_list (map number_met prev)) ≤ sum_list (map number_met t.second)
   try_more n prev t a b lo hi places before le s two unclean =
       let one = collect_low prev t.first a b lo s.one (places ∙ sym two.first) before s.firsts le in
       let low = collect_low t.first t.second lo s.one s.one s.two (two.first ∙ sym two.second) s.firsts s.seconds (omega arith) in
-      let x = sum_low (map number_of prev) (map number_of t.first) one in
-      let y = sum_differs (map number_of t.first) (map number_of t.second) low (sym (ap (λ (z : Bool). z && same_numbers (map number_of t.first) (map number_of t.second)) (all_whole t.first lo s.one s.firsts)) ∙ unclean) in
+      let x = sum_low (map number_met prev) (map number_met t.first) one in
+      let y = sum_differs (map number_met t.first) (map number_met t.second) low (sym (ap (λ (z : Bool). z && same_numbers (map number_met t.first) (map number_met t.second)) (all_whole t.first lo s.one s.firsts)) ∙ unclean) in
       omega (arith, x, y)
 
   -- each of some tries that failed adds one at least
   pub tries_more : (n : ℕ) (floor base : List ℕ) (ts : List Try) (last : Try) (prev : List Read) (a b lo hi : ℕ) → map place_of prev ≡ from_on 0 n → Within a b prev → b ≤ lo
       → Within lo hi (reads_of (ts ++ last ∷ [])) → AllFailed n floor base ts → Failed n floor base last
-      → sum_list (map number_of prev) + suc (length ts) ≤ sum_list (map number_of last.second)
+      → sum_list (map number_met prev) + suc (length ts) ≤ sum_list (map number_met last.second)
   tries_more n floor base [] last prev a b lo hi places before le h failed end =
       let p = try_parts lo hi last [] h in
       let x = try_more n prev last a b lo p.0 places before le p.1 end.collects end.unclean in omega (arith, x)
@@ -155,7 +155,7 @@ module _ (ps : List Published) (answers : List Answered) where
 
   -- a vector of a moment after a collect is nowhere below its numbers
   pub moment_above : (rs : List Read) (vector : List ℕ) (k m a b j : ℕ) → map place_of rs ≡ from_on k m → length vector ≡ m → ((i : ℕ) → i < m → slice_index vector i ≡ number_at ps j (k + i)) → Within a b rs → b ≤ j
-      → is_above (map number_of rs) vector ≡ true
+      → is_above (map number_met rs) vector ≡ true
   moment_above [] vector k m a b j places wide are h le = refl
   moment_above (r ∷ rs) vector k zero a b j places wide are h le = absurd (cc)
   moment_above (r ∷ rs) [] k (suc m) a b j places wide are h le = absurd (omega (arith, wide))
@@ -171,7 +171,7 @@ module _ (ps : List Published) (answers : List Answered) where
       ))
 
 -- where nobody is to be asked, each number is at most one above the base
-pub none_more : (base xs : List ℕ) (rs : List Read) (k m : ℕ) → map place_of rs ≡ from_on k m → length xs ≡ m → ((i : ℕ) → slice_index base (k + i) ≡ slice_index xs i) → to_ask base rs ≡ [] → sum_list (map number_of rs) ≤ sum_list xs + m
+pub none_more : (base xs : List ℕ) (rs : List Read) (k m : ℕ) → map place_of rs ≡ from_on k m → length xs ≡ m → ((i : ℕ) → slice_index base (k + i) ≡ slice_index xs i) → to_ask base rs ≡ [] → sum_list (map number_met rs) ≤ sum_list xs + m
 none_more base xs [] k m places wide are none = omega arith
 none_more base xs (r ∷ rs) k zero places wide are none = absurd (cc)
 none_more base [] (r ∷ rs) k (suc m) places wide are none = absurd (omega (arith, wide))
@@ -180,7 +180,7 @@ none_more base (x ∷ xs) (r ∷ rs) k (suc m) places wide are none =
     let here : slice_index base r.place ≡ x = (let g : r.place ≡ k + 0 = omega (arith, at) in ap (slice_index base) g) ∙ are 0 in
     go here (nat_le (slice_index base r.place + 2) r.number) refl none (none_more base xs rs (suc k) m rest (omega (arith, wide)) (λ i. (let g : suc k + i ≡ k + suc i = omega arith in ap (slice_index base) g) ∙ are (suc i)))
   where
-    go : slice_index base r.place ≡ x → (t : Bool) → nat_le (slice_index base r.place + 2) r.number ≡ t → cond t (r.place ∷ to_ask base rs) (to_ask base rs) ≡ [] → (to_ask base rs ≡ [] → sum_list (map number_of rs) ≤ sum_list xs + m)
-        → r.number + sum_list (map number_of rs) ≤ x + sum_list xs + suc m
+    go : slice_index base r.place ≡ x → (t : Bool) → nat_le (slice_index base r.place + 2) r.number ≡ t → cond t (r.place ∷ to_ask base rs) (to_ask base rs) ≡ [] → (to_ask base rs ≡ [] → sum_list (map number_met rs) ≤ sum_list xs + m)
+        → r.number + sum_list (map number_met rs) ≤ x + sum_list xs + suc m
     go here true e empty rec = absurd (cc)
     go here false e empty rec = ⊎_elim (λ t. absurd (let f : true ≡ false = sym t.0 ∙ e in cc)) (λ t. let less = t.1 in let y = rec empty in omega (arith, less, here, y)) (leb_tells (slice_index base r.place + 2) r.number)

@@ -8,13 +8,13 @@ use Rattle.std.proofs.lemmas.List.{same_from_push}
 use Rattle.snapshot_core.specs.declared.next.Next.{Next}
 use Rattle.snapshot_core.specs.declared.next.Next.TheVariants.{First, Second, Ask, Direct, Lent, GaveUp}
 use Rattle.snapshot_core.specs.declared.scan.Scan.{Scan}
-use Rattle.snapshot_core.specs.declared.trace.How.{How}
-use Rattle.snapshot_core.specs.declared.trace.How.TheVariants as how
+use Rattle.snapshot_core.specs.declared.trace.ScanEnd.{ScanEnd}
+use Rattle.snapshot_core.specs.declared.trace.ScanEnd.TheVariants as how
 use Rattle.snapshot_core.specs.Next.{Follows}
 use Rattle.snapshot_core.specs.Scan.{least_of, failed_at, next_asked_of, lends_to, failed_of, given_up, asks_or_fails, asked_from, based, asks_or_ends, collected, first_by, second_by, asked_by}
 use Rattle.snapshot_core.specs.Sized.{IsSized}
-use Rattle.snapshot_core.specs.Told.{Told, vector_of}
-use Rattle.snapshot_core.specs.Tries.{View, Read, Try, number_of, from_on, reads_of, EndsLent, floor_of, base_of}
+use Rattle.snapshot_core.specs.Told.{IsScanAfter, vector_of}
+use Rattle.snapshot_core.specs.Tries.{View, Read, Try, number_met, from_on, reads_of, EndsLent, floor_of, base_of}
 use Rattle.snapshot_core.specs.Faithful.{Ends, IsScan}
 use Rattle.snapshot_core.specs.Machine.{Seg, Act, read_by, place_in, end_by, not_torn}
 use Rattle.snapshot_core.proofs.Collects.{parts_are}
@@ -75,13 +75,13 @@ pub record HasRead (s : Seg) (torn : Bool) (k p : ℕ) (reads : List Read) (a b 
   pub begin : b.begin ≡ a.begin
   pub sized : IsSized b.scan
   pub wide : b.scan.n ≡ a.scan.n
-  pub told : Told b.scan (reads ++ read_here p k torn s ∷ [])
+  pub told : IsScanAfter b.scan (reads ++ read_here p k torn s ∷ [])
 
 lent_same : (t : Bool) (v : Option View) → cond t None (vector_of v) ≡ not_torn t (vector_of v)
 lent_same true v = refl
 lent_same false v = refl
 
-pub has_read : (a : Act) (s : Seg) (torn : Bool) (k p : ℕ) (reads : List Read) → IsSized a.scan → Told a.scan reads → place_in a.scan.next ≡ Some p → HasRead s torn k p reads a (read_by s torn a a.scan.next)
+pub has_read : (a : Act) (s : Seg) (torn : Bool) (k p : ℕ) (reads : List Read) → IsSized a.scan → IsScanAfter a.scan reads → place_in a.scan.next ≡ Some p → HasRead s torn k p reads a (read_by s torn a a.scan.next)
 has_read a s torn k p reads z told at = go a.scan.next refl at
   where
     go : (x : Next) → a.scan.next ≡ x → place_in x ≡ Some p → HasRead s torn k p reads a (read_by s torn a x)
@@ -125,17 +125,17 @@ take_words f k (suc m) (x ∷ xs) le h = ap (λ (z : ℕ × List ℕ). z.0 ∷ z
     (λ i. ((h 0 (omega arith) ∙ (let e : k + 0 ≡ k = omega arith in ap f e)) i, take_words f (suc k) m xs (omega arith) (λ j lt. h (suc j) (omega arith) ∙ (let e : k + suc j ≡ suc k + j = omega arith in ap f e)) i))
 
 -- a scan that is over
-over_at : (s : Scan) (seg : Seg) (a : Act) (torn : Bool) (k p : ℕ) (reads : List Read) (e : How × Option View) → s ≡ a.scan → IsSized s → Told s (reads ++ read_here p k torn seg ∷ []) → (x : Next) → s.next ≡ x → end_by seg a x ≡ Some e
+over_at : (s : Scan) (seg : Seg) (a : Act) (torn : Bool) (k p : ℕ) (reads : List Read) (e : ScanEnd × Option View) → s ≡ a.scan → IsSized s → IsScanAfter s (reads ++ read_here p k torn seg ∷ []) → (x : Next) → s.next ≡ x → end_by seg a x ≡ Some e
     → IsScan s.n (reads ++ read_here p k torn seg ∷ []) s.tries e.0 e.1
 over_at s seg a torn k p reads e same z t x is ends = record { before = t.before; last = t.now; all = t.all; count = t.count; failed = t.failed; ends = go x ends (subst (Follows s.n t.before t.now) is t.follows) }
   where
-    shown : (y : How) (v : Option View) → Some (y, v) ≡ Some e → Ends s.n t.before t.now y v → Ends s.n t.before t.now e.0 e.1
-    shown y v q en = subst (λ (u : How × Option View). Ends s.n t.before t.now u.0 u.1) (same_Some (y, v) e q) en
+    shown : (y : ScanEnd) (v : Option View) → Some (y, v) ≡ Some e → Ends s.n t.before t.now y v → Ends s.n t.before t.now e.0 e.1
+    shown y v q en = subst (λ (u : ScanEnd × Option View). Ends s.n t.before t.now u.0 u.1) (same_Some (y, v) e q) en
 
-    vector : map (λ (r : Read). r.place) t.now.first ≡ from_on 0 s.n → take a.scan.n a.scan.opened ≡ map number_of t.now.first
+    vector : map (λ (r : Read). r.place) t.now.first ≡ from_on 0 s.n → take a.scan.n a.scan.opened ≡ map number_met t.now.first
     vector places = ap (λ (u : Scan). take u.n u.opened) (sym same)
         ∙ take_words (λ q. get_or s.opened q 0) 0 s.n s.opened (let l = z.opened in let m = z.most in omega arith) (λ j lt. let g : j ≡ 0 + j = omega arith in ap (λ (q : ℕ). get_or s.opened q 0) g)
-        ∙ sym (parts_are number_of 0 s.opened t.now.first s.n places t.opened)
+        ∙ sym (parts_are number_met 0 s.opened t.now.first s.n places t.opened)
 
     go : (x : Next) → end_by seg a x ≡ Some e → Follows s.n t.before t.now x → Ends s.n t.before t.now e.0 e.1
     go (First q) en f = absurd (none-some e en)
@@ -146,6 +146,6 @@ over_at s seg a torn k p reads e same z t x is ends = record { before = t.before
         (subst (λ (v : Option View). EndsLent s.n (floor_of t.before t.now) (base_of t.before t.now) q v t.now) (sym (ap (λ (r : Read). r.view) (same_from_push reads _ (read_here p k torn seg) f.1.1.last (t.all ∙ last_read t.before t.now f.1.1.before f.1.1.last f.1.1.asks)).1 ∙ f.1.1.view_is)) f.1.1)
     go (GaveUp u v w) en f = shown how.GaveUp None en (f.0, f.1, refl)
 
-pub scan_over : (n : ℕ) (seg : Seg) (a : Act) (torn : Bool) (k p : ℕ) (reads : List Read) (e : How × Option View) → a.scan.n ≡ n → IsSized a.scan → Told a.scan (reads ++ read_here p k torn seg ∷ []) → end_by seg a a.scan.next ≡ Some e
+pub scan_over : (n : ℕ) (seg : Seg) (a : Act) (torn : Bool) (k p : ℕ) (reads : List Read) (e : ScanEnd × Option View) → a.scan.n ≡ n → IsSized a.scan → IsScanAfter a.scan (reads ++ read_here p k torn seg ∷ []) → end_by seg a a.scan.next ≡ Some e
     → IsScan n (reads ++ read_here p k torn seg ∷ []) a.scan.tries e.0 e.1
 scan_over n seg a torn k p reads e wide z t ends = subst (λ (m : ℕ). IsScan m (reads ++ read_here p k torn seg ∷ []) a.scan.tries e.0 e.1) wide (over_at a.scan seg a torn k p reads e refl z t a.scan.next refl ends)

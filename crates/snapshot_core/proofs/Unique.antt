@@ -5,9 +5,9 @@ use Rattle.std.proofs.Math.Nat.{zero-add}
 use lib.ListN.{length-map}
 use Rattle.snapshot_core.specs.declared.next.Next.{Next}
 use Rattle.snapshot_core.specs.declared.next.Next.TheVariants.{First, Second, Ask, Direct, Lent, GaveUp}
-use Rattle.snapshot_core.specs.declared.trace.How.{How}
-use Rattle.snapshot_core.specs.declared.trace.How.TheVariants as how
-use Rattle.snapshot_core.specs.Tries.{View, Read, Try, place_of, number_of, from_on, reads_of, TwoCollects, is_clean, to_ask, lends, none_lends, Failed, AllFailed, EndsDirectly, EndsLent, first_try, floor_of, base_of}
+use Rattle.snapshot_core.specs.declared.trace.ScanEnd.{ScanEnd}
+use Rattle.snapshot_core.specs.declared.trace.ScanEnd.TheVariants as how
+use Rattle.snapshot_core.specs.Tries.{View, Read, Try, place_of, number_met, from_on, reads_of, TwoCollects, is_clean, to_ask, lends, none_lends, Failed, AllFailed, EndsDirectly, EndsLent, first_try, floor_of, base_of}
 use Rattle.snapshot_core.specs.Next.{Follows}
 use Rattle.snapshot_core.specs.Faithful.{Ends}
 use Rattle.snapshot_core.proofs.Collects.{count_of, length_parts, try_long}
@@ -107,7 +107,7 @@ lent_none floor us ts before last cs ds xs ys is lent none le places a =
 
 -- how a try ends a scan; one that gives up is the last of n + 2
 module _ (n : ℕ) (floor base : List ℕ) where
-  abbrev pub EndsSo : (before : ℕ) → Try → How → Option View → Type 0
+  abbrev pub EndsSo : (before : ℕ) → Try → ScanEnd → Option View → Type 0
   EndsSo before t how.Direct view = EndsDirectly n t
   EndsSo before t (how.Lent from) view = EndsLent n floor base from view t
   EndsSo before t how.GaveUp view = Failed n floor base t × (before ≡ n + 1)
@@ -125,7 +125,7 @@ module _ (n : ℕ) (floor base : List ℕ) where
       lent_none floor t.asks u.asks et.before et.last et.later [] xs ys et.asks et.lends fu.none (omega (arith, len, l1, l2, l3, l4)) places two.rest
 
   -- a try that ends a scan, and one that failed: the first is the last of n + 2
-  pub ends_failed : (t u : Try) (h : How) (view : Option View) (before : ℕ) (xs ys : List Read) → EndsSo before t h view → Failed n floor base u → AllAlike (t.first ++ t.second ++ t.asks ++ xs) (u.first ++ u.second ++ u.asks ++ ys) → before ≡ n + 1
+  pub ends_failed : (t u : Try) (h : ScanEnd) (view : Option View) (before : ℕ) (xs ys : List Read) → EndsSo before t h view → Failed n floor base u → AllAlike (t.first ++ t.second ++ t.asks ++ xs) (u.first ++ u.second ++ u.asks ++ ys) → before ≡ n + 1
   ends_failed t u how.Direct view before xs ys et fu a = let two = same_two n t u xs ys et.collects fu.collects a in absurd (both_ways (is_clean t) (clean_same t u two.first two.second ∙ fu.unclean) et.is_clean)
   ends_failed t u (how.Lent from) view before xs ys et fu a = absurd (lent_failed t u from view xs ys et fu a)
   ends_failed t u how.GaveUp view before xs ys et fu a = et.1
@@ -167,7 +167,7 @@ module _ (n : ℕ) (floor base : List ℕ) where
       let l6 : length u.asks ≡ length (to_ask base t.second) = sym (length-map u.asks place_of) ∙ ap (λ (z : List ℕ). length z) (fu.asked ∙ ap (to_ask base) (sym two.second)) in
       omega (arith, len, l1, l2, l3, l4, l5, l6)
 
-  ask_ends : (t u : Try) (p : ℕ) (h : How) (view : Option View) (before : ℕ) → InProgress t (Ask p) → EndsSo before u h view → AllAlike (t.first ++ t.second ++ t.asks ++ []) (u.first ++ u.second ++ u.asks ++ []) → ⊥
+  ask_ends : (t u : Try) (p : ℕ) (h : ScanEnd) (view : Option View) (before : ℕ) → InProgress t (Ask p) → EndsSo before u h view → AllAlike (t.first ++ t.second ++ t.asks ++ []) (u.first ++ u.second ++ u.asks ++ []) → ⊥
   ask_ends t u p how.Direct view before (lt, collects, unclean, none, (later, asked)) eu a =
       let two = same_two n t u [] [] collects eu.collects a in both_ways (is_clean t) unclean (clean_same t u two.first two.second ∙ eu.is_clean)
   ask_ends t u p (how.Lent from) view before (lt, collects, unclean, none, (later, asked)) eu a =
@@ -177,13 +177,13 @@ module _ (n : ℕ) (floor base : List ℕ) where
       lent_none floor u.asks t.asks eu.before eu.last eu.later (p ∷ later) [] [] eu.asks eu.lends none (omega (arith, len, l1, l2)) (eu.asked ∙ (ap (to_ask base) (sym two.second) ∙ sym asked)) (alike_back _ _ two.rest)
   ask_ends t u p how.GaveUp view before at eu a = asks_fewer t u p [] at eu.0 a
 
-  collects_of : (before : ℕ) (u : Try) (h : How) (view : Option View) → EndsSo before u h view → TwoCollects n u
+  collects_of : (before : ℕ) (u : Try) (h : ScanEnd) (view : Option View) → EndsSo before u h view → TwoCollects n u
   collects_of before u how.Direct view e = e.collects
   collects_of before u (how.Lent from) view e = e.collects
   collects_of before u how.GaveUp view e = e.0.collects
 
   -- a scan in progress has not ended: k tries that failed stand before both
-  not_over : (k : ℕ) (ts us : List Try) (t u : Try) (next : Next) (h : How) (view : Option View) → AllFailed n floor base ts → InProgress t next → AllFailed n floor base us → EndsSo (k + length us) u h view → k + length ts < n + 2
+  not_over : (k : ℕ) (ts us : List Try) (t u : Try) (next : Next) (h : ScanEnd) (view : Option View) → AllFailed n floor base ts → InProgress t next → AllFailed n floor base us → EndsSo (k + length us) u h view → k + length ts < n + 2
       → AllAlike (reads_of (ts ++ t ∷ [])) (reads_of (us ++ u ∷ [])) → ⊥
   not_over k [] [] t u next h view ft at fu eu few a =
       let s = too_short t u next [] at (collects_of (k + 0) u h view eu) a in ask_ends t u s.0 h view (k + 0) (subst (InProgress t) s.1 at) eu a
@@ -210,7 +210,7 @@ in_progress n before t Direct w f = absurd w
 in_progress n before t (Lent p) w f = absurd w
 in_progress n before t (GaveUp x y z) w f = absurd w
 
-pub ends_so : (n : ℕ) (before : List Try) (t : Try) (h : How) (view : Option View) → Ends n before t h view → EndsSo n (floor_of before t) (base_of before t) (0 + length before) t h view
+pub ends_so : (n : ℕ) (before : List Try) (t : Try) (h : ScanEnd) (view : Option View) → Ends n before t h view → EndsSo n (floor_of before t) (base_of before t) (0 + length before) t h view
 ends_so n before t how.Direct None e = absurd e
 ends_so n before t how.Direct (Some v) e = e.0
 ends_so n before t (how.Lent from) view e = e
@@ -226,7 +226,7 @@ first_form [] t = refl
 first_form (s ∷ ts) t = refl
 
 -- both collects of the first try of a scan that has ended
-pub ended_two : (n : ℕ) (before : List Try) (t : Try) (h : How) (view : Option View) → AllFailed n (floor_of before t) (base_of before t) before → Ends n before t h view → TwoCollects n (first_try before t)
+pub ended_two : (n : ℕ) (before : List Try) (t : Try) (h : ScanEnd) (view : Option View) → AllFailed n (floor_of before t) (base_of before t) before → Ends n before t h view → TwoCollects n (first_try before t)
 ended_two n before t h view f e = first_two n (floor_of before t) (base_of before t) before t f (collects_of n (floor_of before t) (base_of before t) (0 + length before) t h view (ends_so n before t h view e))
 
 -- where the first tries of alike scans made both collects, floor and base are the same
@@ -235,10 +235,10 @@ same_heads n before us t u xs c d a =
     let s = first_try before t in
     let form = ap (λ (z : List Read). z ++ xs) (first_form before t) ∙ append_assoc (s.first ++ s.second ++ s.asks) (after_first before t) xs in
     let two = same_two n s (first_try us u) (after_first before t ++ xs) (after_first us u) c d (subst (λ (z : List Read × List Read). AllAlike z.0 z.1) (λ k. (form k, first_form us u k)) a) in
-    (sym (ap (map number_of) two.first), sym (ap (map number_of) two.second))
+    (sym (ap (map number_met) two.first), sym (ap (map number_met) two.second))
 
 -- a scan whose next read is wanted is not one that has ended, whatever the reads of one event met
-pub wanted_not_ended : (n : ℕ) (before us : List Try) (t u : Try) (next : Next) (h : How) (view : Option View) → IsWanted next → Follows n before t next → AllFailed n (floor_of before t) (base_of before t) before → length before < n + 2
+pub wanted_not_ended : (n : ℕ) (before us : List Try) (t u : Try) (next : Next) (h : ScanEnd) (view : Option View) → IsWanted next → Follows n before t next → AllFailed n (floor_of before t) (base_of before t) before → length before < n + 2
     → AllFailed n (floor_of us u) (base_of us u) us → Ends n us u h view → AllAlike (reads_of (before ++ t ∷ [])) (reads_of (us ++ u ∷ [])) → ⊥
 wanted_not_ended n before us t u next h view w follows ft few fu ends a = go before follows ft few a
   where

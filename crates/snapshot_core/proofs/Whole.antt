@@ -9,10 +9,10 @@ use Rattle.std.specs.Prelude.{slice_get, slice_index, nat_le}
 use Rattle.ledger_core.specs.declared.op.Op.{Op}
 use Rattle.snapshot_core.specs.declared.event.Event.{Event}
 use Rattle.snapshot_core.specs.declared.event.Event.TheVariants.{Torn}
-use Rattle.snapshot_core.specs.declared.trace.How.{How}
-use Rattle.snapshot_core.specs.declared.trace.How.TheVariants.{Direct, Lent, GaveUp}
+use Rattle.snapshot_core.specs.declared.trace.ScanEnd.{ScanEnd}
+use Rattle.snapshot_core.specs.declared.trace.ScanEnd.TheVariants.{Direct, Lent, GaveUp}
 use Rattle.ledger_core.specs.Vectors.{is_above}
-use Rattle.snapshot_core.specs.Tries.{View, Read, Try, place_of, number_of, from_on, reads_of, TwoCollects, to_ask, lends, lends_view, none_lends, Failed, AllFailed, EndsLent, first_try, floor_of, base_of}
+use Rattle.snapshot_core.specs.Tries.{View, Read, Try, place_of, number_met, from_on, reads_of, TwoCollects, to_ask, lends, lends_view, none_lends, Failed, AllFailed, EndsLent, first_try, floor_of, base_of}
 use Rattle.snapshot_core.specs.History.{Published, number_at, IsMoment, OneStep}
 use Rattle.snapshot_core.specs.Turns.{Answered}
 use Rattle.snapshot_core.specs.Faithful.{lent_at, where_and_torn, Ends, IsScan, IsJustified, reads_in, reads_by, WholeReadsAnswer}
@@ -49,9 +49,9 @@ place_in rs q k m r is e =
     let lt : q < m = (let l = within rs q r is in let c = count_of rs k m e in omega arith) in
     let s = read_at rs k m q e lt in (ap place_of (some-injective r s.0 (sym is ∙ s.1)) ∙ s.2, lt)
 
-index_of : (rs : List Read) (q : ℕ) (r : Read) → get_elem? rs q ≡ some r → slice_index (map number_of rs) q ≡ r.number
+index_of : (rs : List Read) (q : ℕ) (r : Read) → get_elem? rs q ≡ some r → slice_index (map number_met rs) q ≡ r.number
 index_of [] q r is = absurd (some-ne-none r (sym is))
-index_of (x ∷ rs) zero r is = ap number_of (some-injective x r is)
+index_of (x ∷ rs) zero r is = ap number_met (some-injective x r is)
 index_of (x ∷ rs) (suc q) r is = index_of rs q r is
 
 not_both : (x : Bool) (y : Bool) → x ≡ true → (not x && y) ≡ true → ⊥
@@ -87,16 +87,16 @@ module _ (adds : List Op → ℕ → ℕ) (n w : ℕ) (ps : List Published) (ans
   meets_at r p fine e = fine.meets.number ∙ ap (number_at ps r.at) e
 
   -- a view of a moment after the first try's first collect
-  loan_lends : (one : List Read) (a mid : ℕ) (r : Read) → Within ps answers a mid one → map place_of one ≡ from_on 0 n → (l : Loan r.at r.place) → mid ≤ l.moment → Fine ps answers r → lends (map number_of one) r ≡ true
+  loan_lends : (one : List Read) (a mid : ℕ) (r : Read) → Within ps answers a mid one → map place_of one ≡ from_on 0 n → (l : Loan r.at r.place) → mid ≤ l.moment → Fine ps answers r → lends (map number_met one) r ≡ true
   loan_lends one a mid r h places l later fine =
-      lends_so (map number_of one) r l.view fine.intact (fine.meets.view ∙ l.lent)
+      lends_so (map number_met one) r l.view fine.intact (fine.meets.view ∙ l.lent)
       (moment_above ps answers one l.view.vector 0 n a mid l.moment places l.right.vector_wide (λ i lt. l.right.numbers i lt ∙ (let g : i ≡ 0 + i = omega arith in ap (number_at ps l.moment) g)) h later)
 
   -- who is asked has published twice since the base, so that its view is of such a moment
   first_lends : (one two found : List Read) (b c d top : ℕ) (r : Read) (later : List ℕ) → Loans top → Collected one two b → Within ps answers c d found → b ≤ d → map place_of found ≡ from_on 0 n
-      → to_ask (map number_of two) found ≡ r.place ∷ later → Fine ps answers r → d ≤ r.at → r.at < top → lends (map number_of one) r ≡ true
+      → to_ask (map number_met two) found ≡ r.place ∷ later → Fine ps answers r → d ≤ r.at → r.at < top → lends (map number_met one) r ≡ true
   first_lends one two found b c d top r later loans base second le places asked fine from to =
-      let a = asked_at (map number_of two) found r.place later asked in
+      let a = asked_at (map number_met two) found r.place later asked in
       let s = a.1 in let high = a.4 in let sp = a.3 in
       let pl = place_in found a.0 0 n s a.2 places in
       let pl0 = pl.0 in let pl1 = pl.1 in
@@ -121,7 +121,7 @@ module _ (adds : List Op → ℕ → ℕ) (n w : ℕ) (ps : List Published) (ans
 
   -- asks that begin with a read
   asks_lend : (one two : List Read) (b lo hi top : ℕ) (t : Try) (r : Read) (rest : List Read) (later : List ℕ) → Loans top → Collected one two b → (s : Spans ps answers lo hi t) → b ≤ s.two → hi ≤ top → TwoCollects n t
-      → t.asks ≡ r ∷ rest → to_ask (map number_of two) t.second ≡ r.place ∷ later → lends (map number_of one) r ≡ true
+      → t.asks ≡ r ∷ rest → to_ask (map number_met two) t.second ≡ r.place ∷ later → lends (map number_met one) r ≡ true
   asks_lend one two b lo hi top t r rest later loans base s le below collects is asked =
       let h : Within ps answers s.two hi (r ∷ rest) = subst (Within ps answers s.two hi) is s.asked in
       let from = h.0 in
@@ -129,22 +129,22 @@ module _ (adds : List Op → ℕ → ℕ) (n w : ℕ) (ps : List Published) (ans
       first_lends one two t.second b s.one s.two top r later loans base s.seconds le collects.second asked h.1 from (omega (arith, to, below))
 
   -- a try that failed asked nobody
-  failed_asks : (one two : List Read) (b lo hi top : ℕ) (t : Try) → Loans top → Collected one two b → (s : Spans ps answers lo hi t) → b ≤ s.two → hi ≤ top → Failed n (map number_of one) (map number_of two) t → t.asks ≡ []
+  failed_asks : (one two : List Read) (b lo hi top : ℕ) (t : Try) → Loans top → Collected one two b → (s : Spans ps answers lo hi t) → b ≤ s.two → hi ≤ top → Failed n (map number_met one) (map number_met two) t → t.asks ≡ []
   failed_asks one two b lo hi top t loans base s le below failed = go t.asks refl
     where
       go : (xs : List Read) → t.asks ≡ xs → t.asks ≡ []
       go [] e = e
-      go (r ∷ rest) e = absurd (not_both (lends (map number_of one) r) (none_lends (map number_of one) rest)
+      go (r ∷ rest) e = absurd (not_both (lends (map number_met one) r) (none_lends (map number_met one) rest)
           (asks_lend one two b lo hi top t r rest (map place_of rest) loans base s le below failed.collects e (sym failed.asked ∙ ap (map place_of) e))
-          (sym (ap (none_lends (map number_of one)) e) ∙ failed.none))
+          (sym (ap (none_lends (map number_met one)) e) ∙ failed.none))
 
   -- a try that ends with a view that is lent asked one
-  lent_asks : (one two : List Read) (b lo hi top from : ℕ) (view : Option View) (t : Try) → Loans top → Collected one two b → (s : Spans ps answers lo hi t) → b ≤ s.two → hi ≤ top → EndsLent n (map number_of one) (map number_of two) from view t → length t.asks ≡ 1
+  lent_asks : (one two : List Read) (b lo hi top from : ℕ) (view : Option View) (t : Try) → Loans top → Collected one two b → (s : Spans ps answers lo hi t) → b ≤ s.two → hi ≤ top → EndsLent n (map number_met one) (map number_met two) from view t → length t.asks ≡ 1
   lent_asks one two b lo hi top from view t loans base s le below ends = go ends.before ends.asks ends.none
     where
-      go : (xs : List Read) → t.asks ≡ xs ++ ends.last ∷ [] → none_lends (map number_of one) xs ≡ true → length t.asks ≡ 1
+      go : (xs : List Read) → t.asks ≡ xs ++ ends.last ∷ [] → none_lends (map number_met one) xs ≡ true → length t.asks ≡ 1
       go [] e none = ap length e
-      go (r ∷ rest) e none = absurd (not_both (lends (map number_of one) r) (none_lends (map number_of one) rest)
+      go (r ∷ rest) e none = absurd (not_both (lends (map number_met one) r) (none_lends (map number_met one) rest)
           (asks_lend one two b lo hi top t r (rest ++ ends.last ∷ []) (map place_of (rest ++ ends.last ∷ []) ++ ends.later) loans base s le below ends.collects e
           (sym ends.asked ∙ ap (λ (z : List Read). map place_of z ++ ends.later) e)) none)
 
@@ -178,7 +178,7 @@ module _ (adds : List Op → ℕ → ℕ) (n w : ℕ) (ps : List Published) (ans
   all_timed lo hi (t ∷ ts) last two h = begins_timed lo hi t (ts ++ last ∷ []) two h
 
   -- each try that failed has 2n reads
-  failed_long : (one two : List Read) (b lo hi top : ℕ) (ts : List Try) (last : Try) → Loans top → Collected one two b → hi ≤ top → Timed b lo hi (ts ++ last ∷ []) → AllFailed n (map number_of one) (map number_of two) ts
+  failed_long : (one two : List Read) (b lo hi top : ℕ) (ts : List Try) (last : Try) → Loans top → Collected one two b → hi ≤ top → Timed b lo hi (ts ++ last ∷ []) → AllFailed n (map number_met one) (map number_met two) ts
       → (mid : ℕ) × Timed b mid hi (last ∷ []) × (length (reads_of (ts ++ last ∷ [])) ≡ 2 * n * length ts + length (reads_of (last ∷ [])))
   failed_long one two b lo hi top [] last loans base below timed failed = (lo, timed, (let g : 2 * n * 0 ≡ 0 = omega arith in let goal : length (reads_of (last ∷ [])) ≡ 2 * n * 0 + length (reads_of (last ∷ [])) = omega (arith, g) in goal))
   failed_long one two b lo hi top (t ∷ ts) last loans base below timed failed =
@@ -198,12 +198,12 @@ module _ (adds : List Op → ℕ → ℕ) (n w : ℕ) (ps : List Published) (ans
       let z = failed_long t.first t.second all.0 lo hi hi (t ∷ ts) last loans all.1 (omega arith) all.2 failed in
       let l = z.1 in
       let asks = failed_asks t.first t.second all.0 z.0 l.0 hi last loans all.1 l.1 l.2 l.3 end in
-      let none : to_ask (map number_of t.second) last.second ≡ [] = sym end.asked ∙ ap (map place_of) asks in
-      let wide : length (map number_of t.second) ≡ n = length-map t.second number_of ∙ count_of t.second 0 n failed.0.collects.second in
-      let most = none_more (map number_of t.second) (map number_of t.second) last.second 0 n end.collects.second wide (λ i. (let g : 0 + i ≡ i = omega arith in ap (slice_index (map number_of t.second)) g)) none in
+      let none : to_ask (map number_met t.second) last.second ≡ [] = sym end.asked ∙ ap (map place_of) asks in
+      let wide : length (map number_met t.second) ≡ n = length-map t.second number_met ∙ count_of t.second 0 n failed.0.collects.second in
+      let most = none_more (map number_met t.second) (map number_met t.second) last.second 0 n end.collects.second wide (λ i. (let g : 0 + i ≡ i = omega arith in ap (slice_index (map number_met t.second)) g)) none in
       let p = try_parts ps answers lo hi t (reads_of (ts ++ last ∷ [])) h in
       let s = p.1 in
-      let least = tries_more ps answers n (map number_of t.first) (map number_of t.second) ts last t.second s.one s.two p.0 hi failed.0.collects.second s.seconds (within_span ps answers s.two p.0 t.asks s.asked) p.2 failed.1 end in
+      let least = tries_more ps answers n (map number_met t.first) (map number_met t.second) ts last t.second s.one s.two p.0 hi failed.0.collects.second s.seconds (within_span ps answers s.two p.0 t.asks s.asked) p.2 failed.1 end in
       omega (arith, most, least, long)
 
   -- a scan's reads
@@ -222,7 +222,7 @@ module _ (adds : List Op → ℕ → ℕ) (n w : ℕ) (ps : List Published) (ans
       let d = ap (λ (z : ℕ). 2 * n * z) c in
       omega (arith, e, long, rest, more, d)
 
-  scan_long : (lo hi : ℕ) (reads : List Read) (tries : ℕ) (how : How) (view : Option View) → Loans hi → Within ps answers lo hi reads → IsScan n reads tries how view → (how ≢ GaveUp) × (length reads ≡ reads_by n tries how)
+  scan_long : (lo hi : ℕ) (reads : List Read) (tries : ℕ) (how : ScanEnd) (view : Option View) → Loans hi → Within ps answers lo hi reads → IsScan n reads tries how view → (how ≢ GaveUp) × (length reads ≡ reads_by n tries how)
   scan_long lo hi reads tries Direct None loans h scan = absurd scan.ends
   scan_long lo hi reads tries Direct (Some v) loans h scan =
       let long = last_long lo hi tries 0 scan.before scan.last loans (subst (Within ps answers lo hi) scan.all h) scan.failed scan.ends.0.collects scan.count (λ b lo' mid s le below base. ap length scan.ends.0.none_asked) in
@@ -234,7 +234,7 @@ module _ (adds : List Op → ℕ → ℕ) (n w : ℕ) (ps : List Published) (ans
   scan_long lo hi reads tries GaveUp view loans h scan = absurd (not_all lo hi scan.before scan.last loans (subst (Within ps answers lo hi) scan.all h) scan.failed scan.ends.0 scan.ends.1)
 
 -- a scan that was not given up has a view
-has_view : (n : ℕ) (before : List Try) (last : Try) (how : How) (view : Option View) → Ends n before last how view → how ≢ GaveUp → (v : View) × (view ≡ Some v)
+has_view : (n : ℕ) (before : List Try) (last : Try) (how : ScanEnd) (view : Option View) → Ends n before last how view → how ≢ GaveUp → (v : View) × (view ≡ Some v)
 has_view n before last Direct None ends ne = absurd ends
 has_view n before last Direct (Some v) ends ne = (v, refl)
 has_view n before last GaveUp view ends ne = absurd (ne refl)

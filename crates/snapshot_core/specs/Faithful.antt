@@ -5,9 +5,9 @@ use lib.ListN.{get_elem?}
 use Rattle.ledger_core.specs.Ops.{width, sum_ops}
 use Rattle.snapshot_core.specs.declared.event.Event.{Event}
 use Rattle.snapshot_core.specs.declared.event.Event.TheVariants.{Step, Torn}
-use Rattle.snapshot_core.specs.declared.trace.How.{How}
-use Rattle.snapshot_core.specs.declared.trace.How.TheVariants.{Direct, Lent, GaveUp}
-use Rattle.snapshot_core.specs.Tries.{View, Read, Try, number_of, reads_of, Failed, AllFailed, EndsDirectly, EndsLent, floor_of, base_of}
+use Rattle.snapshot_core.specs.declared.trace.ScanEnd.{ScanEnd}
+use Rattle.snapshot_core.specs.declared.trace.ScanEnd.TheVariants.{Direct, Lent, GaveUp}
+use Rattle.snapshot_core.specs.Tries.{View, Read, Try, number_met, reads_of, Failed, AllFailed, EndsDirectly, EndsLent, floor_of, base_of}
 use Rattle.snapshot_core.specs.History.{Published, number_at, OneStep}
 use Rattle.snapshot_core.specs.Turns.{Answered, IsOpen, IsTurn, own, own_reads, ops_of}
 
@@ -41,14 +41,14 @@ where_and_torn r = (r.at, r.torn)
 
 -- the last try ends the scan so: directly, where the vector is the numbers of its first collect; with a view that is
 -- lent; or not at all, after n + 2 tries
-abbrev pub Ends : (n : ℕ) → List Try → Try → How → Option View → Type 0
+abbrev pub Ends : (n : ℕ) → List Try → Try → ScanEnd → Option View → Type 0
 Ends n before last Direct None = ⊥
-Ends n before last Direct (Some v) = EndsDirectly n last × (v.vector ≡ map number_of last.first)
+Ends n before last Direct (Some v) = EndsDirectly n last × (v.vector ≡ map number_met last.first)
 Ends n before last (Lent from) view = EndsLent n (floor_of before last) (base_of before last) from view last
 Ends n before last GaveUp view = Failed n (floor_of before last) (base_of before last) last × (length before ≡ n + 1) × (view ≡ None)
 
 -- these reads are a scan of so many tries, of which no other than the last ends it
-pub record IsScan (n : ℕ) (reads : List Read) (tries : ℕ) (how : How) (view : Option View) : Type 0 where
+pub record IsScan (n : ℕ) (reads : List Read) (tries : ℕ) (how : ScanEnd) (view : Option View) : Type 0 where
   pub before : List Try
   pub last : Try
   pub all : reads ≡ reads_of (before ++ last ∷ [])
@@ -57,7 +57,7 @@ pub record IsScan (n : ℕ) (reads : List Read) (tries : ℕ) (how : How) (view 
   pub ends : Ends n before last how view
 
 -- an actor's own reads, with what each of them meets, are such a scan
-pub record IsJustified (n : ℕ) (ps : List Published) (answers : List Answered) (reads : List (ℕ × Bool)) (tries : ℕ) (how : How) (view : Option View) : Type 0 where
+pub record IsJustified (n : ℕ) (ps : List Published) (answers : List Answered) (reads : List (ℕ × Bool)) (tries : ℕ) (how : ScanEnd) (view : Option View) : Type 0 where
   pub met : List Read
   pub same : map where_and_torn met ≡ reads
   pub meets : (q : ℕ) (r : Read) → get_elem? met q ≡ some r → Meets ps answers r
@@ -82,7 +82,7 @@ pub record IsFaithful (n c h g : ℕ) (es : List Event) (ps : List Published) (a
   -- each answer is justified by its reads, and where a turn has none, no beginning of its reads would justify one
   pub justified : (q : ℕ) (a : Answered) → get_elem? answers q ≡ some a → IsJustified n ps answers (reads_in es a) a.tries a.how a.view
   pub unanswered : (actor b m : ℕ) → IsTurn n c h g es ps answers actor b → ((q : ℕ) (a : Answered) → get_elem? answers q ≡ some a → a.actor ≡ actor → a.begin ≢ b)
-      → b + m < length es → (tries : ℕ) (how : How) (view : Option View) → ¬ IsJustified n ps answers (own_reads es actor (suc b) m) tries how view
+      → b + m < length es → (tries : ℕ) (how : ScanEnd) (view : Option View) → ¬ IsJustified n ps answers (own_reads es actor (suc b) m) tries how view
   -- a publish is of a worker, has its Begin's operations and stands at the worker's first Step after its answer's end, and
   -- where there is such a Step there is a publish at it
   pub published : (q : ℕ) (p : Published) → get_elem? ps q ≡ some p → (p.worker < n) × ((r : ℕ) × (a : Answered) × (get_elem? answers r ≡ some a) × (a.actor ≡ p.worker)
@@ -114,7 +114,7 @@ UndisturbedIsDirect n c h g es ps answers = (actor b m : ℕ) → IsTurn n c h g
     → (q : ℕ) × (a : Answered) × (get_elem? answers q ≡ some a) × (a.actor ≡ actor) × (a.begin ≡ b) × (a.how ≡ Direct) × (a.tries ≡ 1)
 
 -- how many reads a scan of n workers has made in so many tries where it ended so; a scan that gave up is not counted
-abbrev pub reads_by : (n tries : ℕ) → How → ℕ
+abbrev pub reads_by : (n tries : ℕ) → ScanEnd → ℕ
 reads_by n tries Direct = 2 * n * tries
 reads_by n tries (Lent from) = 2 * n * tries + 1
 reads_by n tries GaveUp = 0

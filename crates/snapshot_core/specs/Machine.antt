@@ -6,8 +6,8 @@ use Rattle.ledger_core.specs.declared.op.Op.TheVariants.{Inc, Observe, Up, Down}
 use Rattle.ledger_core.specs.Ops.{width, part}
 use Rattle.snapshot_core.specs.declared.event.Event.{Event}
 use Rattle.snapshot_core.specs.declared.event.Event.TheVariants.{Begin, Step, Torn}
-use Rattle.snapshot_core.specs.declared.trace.How.{How}
-use Rattle.snapshot_core.specs.declared.trace.How.TheVariants as how
+use Rattle.snapshot_core.specs.declared.trace.ScanEnd.{ScanEnd}
+use Rattle.snapshot_core.specs.declared.trace.ScanEnd.TheVariants as how
 use Rattle.snapshot_core.specs.declared.actor.Lent.{Lent}
 use Rattle.snapshot_core.specs.declared.actor.Segment.{Segment}
 use Rattle.snapshot_core.specs.declared.actor.Phase.{Phase}
@@ -126,14 +126,14 @@ place_in (next.Ask p) = Some p
 place_in _ = None
 
 -- how the scan ended, and its view, where it ended with this read of this segment
-abbrev pub end_by : Seg → Act → Next → Option (How × Option View)
+abbrev pub end_by : Seg → Act → Next → Option (ScanEnd × Option View)
 end_by s a next.Direct = Some (how.Direct, Some (record { vector = take a.scan.n a.scan.opened; totals = a.totals }))
 end_by s a (next.Lent from) = Some (how.Lent from, s.view)
 end_by s a (next.GaveUp worker first last) = Some (how.GaveUp, None)
 end_by s a _ = None
 
 -- a scan's end by its values
-abbrev pub ended_of : How × Option Lent → How × Option View
+abbrev pub ended_of : ScanEnd × Option Lent → ScanEnd × Option View
 ended_of e = (e.0, option_map lent_of e.1)
 
 -- the view, or an empty one where there is none
@@ -147,12 +147,12 @@ phase_after true = phase.Ready
 phase_after false = phase.Rest
 
 -- the actor, whose scan ended so if it ended
-abbrev pub finished : (is_worker : Bool) → Act → Option (How × Option View) → Act
+abbrev pub finished : (is_worker : Bool) → Act → Option (ScanEnd × Option View) → Act
 finished is_worker a None = a
 finished is_worker a (Some e) = record a { phase = phase_after is_worker; view = e.1 }
 
 -- its answer, if its scan ended
-abbrev pub told : (at who : ℕ) → Act → Option (How × Option View) → List Answered
+abbrev pub told : (at who : ℕ) → Act → Option (ScanEnd × Option View) → List Answered
 told at who a None = []
 told at who a (Some e) = record { actor = who; begin = a.begin; end = at; tries = a.scan.tries; how = e.0; view = e.1 } ∷ []
 
@@ -161,7 +161,7 @@ abbrev pub read_of : Act → Seg → (torn : Bool) → Act
 read_of a s torn = read_by s torn a a.scan.next
 
 -- how its scan ended with this read, and the view, if it ended
-abbrev pub end_of : Act → Seg → (torn : Bool) → Option (How × Option View)
+abbrev pub end_of : Act → Seg → (torn : Bool) → Option (ScanEnd × Option View)
 end_of a s torn = end_by s (read_of a s torn) (read_of a s torn).scan.next
 
 -- the actor after this read, and after the end of its scan if it ended
@@ -200,7 +200,7 @@ module _ (c h g n : ℕ) where
   over (Some s) = phase.Ready
 
   -- the world after a read by which the actor's scan ended so, if it ended
-  abbrev pub ends : World → (at who : ℕ) → Act → Option (How × Option View) → World
+  abbrev pub ends : World → (at who : ℕ) → Act → Option (ScanEnd × Option View) → World
   ends w at who a None = record w { actors = slice_set w.actors who a }
   ends w at who a (Some e) = record w {
     actors = slice_set w.actors who (record a { phase = over (slice_get w.segments who); view = e.1 });

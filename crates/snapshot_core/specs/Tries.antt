@@ -29,8 +29,8 @@ abbrev pub place_of : Read → ℕ
 place_of r = r.place
 
 -- the number that was met
-abbrev pub number_of : Read → ℕ
-number_of r = r.number
+abbrev pub number_met : Read → ℕ
+number_met r = r.number
 
 -- k, k + 1, .. , m of them
 abbrev pub from_on : (k m : ℕ) → List ℕ
@@ -60,7 +60,7 @@ same_numbers _ _ = false
 
 -- a try is clean: its first collect is read whole, and each worker's two reads meet one number
 abbrev pub is_clean : Try → Bool
-is_clean t = is_whole t.first && same_numbers (map number_of t.first) (map number_of t.second)
+is_clean t = is_whole t.first && same_numbers (map number_met t.first) (map number_met t.second)
 
 -- the workers to be asked: those whose number in the second collect is 2 or more above the base
 abbrev pub to_ask : (base : List ℕ) → List Read → List ℕ
@@ -120,8 +120,8 @@ first_try (t ∷ ts) last = t
 
 -- the floor of a scan: the numbers that its first try met in the first collect
 abbrev pub floor_of : List Try → Try → List ℕ
-floor_of before last = map number_of (first_try before last).first
+floor_of before last = map number_met (first_try before last).first
 
 -- the base of a scan: the numbers that its first try met in the second collect
 abbrev pub base_of : List Try → Try → List ℕ
-base_of before last = map number_of (first_try before last).second
+base_of before last = map number_met (first_try before last).second

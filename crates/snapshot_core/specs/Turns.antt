@@ -7,8 +7,8 @@ use Rattle.ledger_core.specs.Ops.{sum_ops}
 use Rattle.ledger_core.specs.Row.{Accepts}
 use Rattle.snapshot_core.specs.declared.event.Event.{Event}
 use Rattle.snapshot_core.specs.declared.event.Event.TheVariants.{Begin, Step, Torn}
-use Rattle.snapshot_core.specs.declared.trace.How.{How}
-use Rattle.snapshot_core.specs.declared.trace.How.TheVariants.{Direct, Lent, GaveUp}
+use Rattle.snapshot_core.specs.declared.trace.ScanEnd.{ScanEnd}
+use Rattle.snapshot_core.specs.declared.trace.ScanEnd.TheVariants.{Direct, Lent, GaveUp}
 use Rattle.snapshot_core.specs.declared.trace.Answer.{Answer}
 use Rattle.snapshot_core.specs.declared.trace.Publish.{Publish}
 use Rattle.snapshot_core.specs.Tries.{View}
@@ -20,11 +20,11 @@ pub record Answered : Type 0 where
   pub begin : ℕ
   pub end : ℕ
   pub tries : ℕ
-  pub how : How
+  pub how : ScanEnd
   pub view : Option View
 
 -- the view of a scan that ended so: a scan that gave up has none
-abbrev pub view_of : How → View → Option View
+abbrev pub view_of : ScanEnd → View → Option View
 view_of Direct v = Some v
 view_of (Lent from) v = Some v
 view_of GaveUp v = None

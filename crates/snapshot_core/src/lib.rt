@@ -26,4 +26,4 @@ pub use outcome::is_outcome;
 pub use run_fault::RunFault;
 pub use runs::run;
 pub use scan_state::ScanState;
-pub use trace::{Answer, How, Publish, Trace};
+pub use trace::{Answer, Publish, ScanEnd, Trace};

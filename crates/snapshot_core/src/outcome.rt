@@ -9,7 +9,7 @@ ghost use Rattle.snapshot_core.specs.Faithful.{IsOutcome};
 use crate::event::Event;
 use crate::run_fault::RunFault;
 use crate::runs::run;
-use crate::trace::{Answer, How, Publish, Trace};
+use crate::trace::{Answer, Publish, ScanEnd, Trace};
 use ledger_core::Op;
 use std::alloc::Global;
 

@@ -11,7 +11,7 @@ ghost use Rattle.snapshot_core.specs.Machine.{act_of, seg_of, lent_of, idle_of, 
 use crate::actor::{Actor, Lent, Phase, Segment};
 use crate::next::Next;
 use crate::scan_state::ScanState;
-use crate::trace::{Answer, How};
+use crate::trace::{Answer, ScanEnd};
 use crate::words::{add, copied, write};
 use ledger_core::Row;
 use std::alloc::{AllocError, Global};
@@ -178,13 +178,16 @@ impl Actor {
         &self,
         alloc: Global,
         segment: &Segment<C, H, G>,
-    ) -> Result<Option<(How, Option<Lent>)>, AllocError>
+    ) -> Result<Option<(ScanEnd, Option<Lent>)>, AllocError>
         ensures { IfOk result (λ e. option_map ended_of e ≡ end_by (seg_of segment.now) (act_of self.now) self.now.scan.scan.next) }
     {
         match self.scan.next() {
-            Next::Direct => Ok(Some((How::Direct, Some(self.direct(alloc)?)))),
-            Next::Lent(from) => Ok(Some((How::Lent { from }, copied_view(alloc, &segment.view)?))),
-            Next::GaveUp { .. } => Ok(Some((How::GaveUp, None))),
+            Next::Direct => Ok(Some((ScanEnd::Direct, Some(self.direct(alloc)?)))),
+            Next::Lent(from) => Ok(Some((
+                ScanEnd::Lent { from },
+                copied_view(alloc, &segment.view)?,
+            ))),
+            Next::GaveUp { .. } => Ok(Some((ScanEnd::GaveUp, None))),
             _ => Ok(None),
         }
     }
@@ -205,7 +208,7 @@ impl Actor {
         alloc: Global,
         at: usize,
         who: usize,
-        how: How,
+        how: ScanEnd,
         view: &Option<Lent>,
     ) -> Result<Answer, AllocError>
         requires { view_of how (or_blank (option_map lent_of view.now)) ≡ option_map lent_of view.now }

@@ -1,11 +1,11 @@
 ghost use Rattle.std.specs.Prelude.{◌≡◌, []};
-ghost use Rattle.snapshot_core.specs.declared.trace.How.TheVariants.{GaveUp};
+ghost use Rattle.snapshot_core.specs.declared.trace.ScanEnd.TheVariants.{GaveUp};
 
 use ledger_core::Op;
 
 /// How a scan ended.
 #[derive(Clone, Copy, Debug, PartialEq, Eq)]
-pub enum How {
+pub enum ScanEnd {
     /// Each number of a try was found again.
     Direct,
     /// An asked worker lent the view of its last scan.
@@ -26,7 +26,7 @@ pub struct Answer {
     /// How many tries it made, 1 to n + 2.
     pub tries: usize,
     /// How it ended.
-    pub how: How,
+    pub how: ScanEnd,
     /// The number of each worker; empty where the scan gave up.
     pub vector: Vec<u64>,
     /// The sums of all rows, word by word; empty where the scan gave up.

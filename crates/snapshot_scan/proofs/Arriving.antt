@@ -4,15 +4,15 @@ use Rattle.std.proofs.lemmas.List.{append-nil}
 use mathlib.Core.Option.{some, some-ne-none}
 use lib.ListN.{get_elem?}
 use Rattle.register_rule.specs.declared.view.Asked.{Asked}
-use Rattle.register_rule.specs.declared.view.Entry.{Entry}
+use Rattle.register_rule.specs.declared.view.Answer.{Answer}
 use Rattle.register_rule.specs.declared.view.Scan.{Scan}
 use Rattle.register_rule.specs.Steps.{answered, gives_up, lent_in}
 use Rattle.snapshot_core.specs.declared.next.Next.TheVariants.{Direct, Lent, GaveUp}
 use Rattle.snapshot_core.specs.Next.{Comes}
 use Rattle.snapshot_scan.specs.declared.contended.Contended.{Contended}
-use Rattle.snapshot_scan.specs.declared.kept.Kept.{Kept}
-use Rattle.snapshot_scan.specs.Memory.{opening, settling, pairs}
-use Rattle.snapshot_scan.specs.Asking.{Refuses, Lends, due_from, worker_of, asked_too}
+use Rattle.snapshot_scan.specs.declared.remembered_row.RememberedRow.{RememberedRow}
+use Rattle.snapshot_scan.specs.RememberedRows.{opening, settling, pairs}
+use Rattle.snapshot_scan.specs.Asking.{DoesNotLend, Lends, due_from, asked_worker, asked_too}
 use Rattle.snapshot_scan.specs.Contention.{IsFirstMoved}
 use Rattle.snapshot_scan.specs.Scanned.{Tried, all_opened, all_confirmed, all_before, all_asked}
 use Rattle.snapshot_scan.specs.Core.{CameTo, AnswersBy, core_reads}
@@ -20,7 +20,7 @@ use Rattle.snapshot_scan.proofs.Trying.{AreTries, stood, asking, given_last, ope
 use Rattle.snapshot_scan.proofs.Coming.{AllFail, HeadIs, comes_direct, comes_lent, comes_gave_up}
 
 -- the first try is clean
-pub came_first : (n w : ℕ) (opened found : List ℕ) (gs : List Kept) (c : Scan) (a : Entry) → length opened ≡ n → opened ≡ found → a.vector ≡ opened
+pub came_first : (n w : ℕ) (opened found : List ℕ) (gs : List RememberedRow) (c : Scan) (a : Answer) → length opened ≡ n → opened ≡ found → a.vector ≡ opened
     → AnswersBy n w c (answered a (settling opened found gs (opening opened gs c))) a
 came_first n w opened found gs c a long same is = record {
   next = Direct;
@@ -38,7 +38,7 @@ came_first n w opened found gs c a long same is = record {
   };
 }
 
-module _ (n w : ℕ) (floor base first last : List ℕ) (tries : List Tried) (tried : AreTries n floor base first last tries) (gs0 : List Kept) (c : Scan) where
+module _ (n w : ℕ) (floor base first last : List ℕ) (tries : List Tried) (tried : AreTries n floor base first last tries) (gs0 : List RememberedRow) (c : Scan) where
   head_is : HeadIs floor base tries
   head_is = subst (HeadIs floor base) (sym tried.all) (tried.is_floor, tried.is_base)
 
@@ -46,7 +46,7 @@ module _ (n w : ℕ) (floor base first last : List ℕ) (tries : List Tried) (tr
   one_more l m xs ys e = append_assoc ys l m ∙ ap (λ z. ys ++ z) (sym e)
 
   -- a later try is clean
-  pub came_later : (opened found : List ℕ) (gs : List Kept) (a : Entry) → length opened ≡ n → opened ≡ found → length tries < n + 2 → a.vector ≡ opened
+  pub came_later : (opened found : List ℕ) (gs : List RememberedRow) (a : Answer) → length opened ≡ n → opened ≡ found → length tries < n + 2 → a.vector ≡ opened
       → AnswersBy n w c (answered a (settling opened found gs (opening opened gs (stood tries gs0 floor base c)))) a
   came_later opened found gs a long same few is = let t : Tried = record { first = opened; second = opened; asks = [] } in record {
     next = Direct;
@@ -66,9 +66,9 @@ module _ (n w : ℕ) (floor base first last : List ℕ) (tries : List Tried) (tr
   }
 
   -- a worker lends
-  pub came_lending : (opened found : List ℕ) (gs : List Kept) (a : Entry) (e : Asked) (es : List Asked) (more workers : List ℕ) → length opened ≡ n → length found ≡ n → length tries < n + 2
+  pub came_lending : (opened found : List ℕ) (gs : List RememberedRow) (a : Answer) (e : Asked) (es : List Asked) (more workers : List ℕ) → length opened ≡ n → length found ≡ n → length tries < n + 2
       → (q : ℕ) × (q < n) × (slice_index opened q < slice_index found q)
-      → map worker_of es ++ worker_of e ∷ more ≡ due_from 0 base found → ((q : ℕ) (x : Asked) → get_elem? es q ≡ some x → Refuses n floor x) → Lends n w floor e → a ≡ lent_in n w e.words
+      → map asked_worker es ++ asked_worker e ∷ more ≡ due_from 0 base found → ((q : ℕ) (x : Asked) → get_elem? es q ≡ some x → DoesNotLend n floor x) → Lends n w floor e → a ≡ lent_in n w e.words
       → AnswersBy n w c (answered a (asked_too e (asking opened found gs floor base es workers (stood tries gs0 floor base c)))) a
   came_lending opened found gs a e es more workers long deep few rose due refuse lends is = let t : Tried = record { first = opened; second = found; asks = es ++ e ∷ [] } in
       record {

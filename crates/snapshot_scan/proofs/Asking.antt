@@ -9,24 +9,24 @@ use Rattle.ledger_core.specs.declared.op.Op.{Op}
 use Rattle.std.proofs.Math.Bool.{and-false}
 use Rattle.std.proofs.lemmas.Bool.{and_parts, eqb-true, leb-true, le-leb, lt-leb}
 use Rattle.ledger_core.specs.Vectors.{is_above}
-use Rattle.register_rule.specs.declared.view.Entry.{Entry}
+use Rattle.register_rule.specs.declared.view.Answer.{Answer}
 use Rattle.register_rule.specs.Sums.{last_lent, flag_of}
 use Rattle.register_rule.specs.declared.view.Look.{Look}
 use Rattle.register_rule.specs.declared.view.Asked.{Asked}
 use Rattle.register_rule.specs.declared.view.Scan.{Scan}
 use Rattle.register_rule.specs.declared.view.Member.{Member}
 use Rattle.register_rule.specs.Told.{AreRuled}
-use Rattle.register_rule.specs.Members.{led, scanned}
+use Rattle.register_rule.specs.Members.{led, scan_changed}
 use Rattle.register_rule.specs.Steps.{begun, noted, after_ask, after_end_ask, is_next, answers, asked_of, is_lender, answered, gives_up, rest, lent_in}
 use Rattle.register_rule.specs.Seats.{HasMember}
 use Rattle.snapshot_scan.specs.Shape.{scan_of, with_scan, read_all}
-use Rattle.snapshot_scan.specs.Asking.{Refuses, IsBelow, asked_too, refused, refused_all, MayAsk, due_from}
+use Rattle.snapshot_scan.specs.Asking.{DoesNotLend, IsBelow, asked_too, refused, refused_all, MayAsk, due_from}
 use Rattle.snapshot_scan.proofs.Words.{scan_with, led_some, length_take}
 
-pub three : (f g h : Scan → Scan) (ms a b d : List Member) → a ≡ led (scanned f) ms → b ≡ led (scanned g) a → d ≡ led (scanned h) b → d ≡ with_scan (h (g (f (scan_of ms)))) ms
-three f g h ms a b d p q r = r ∙ (ap (led (scanned h)) (q ∙ ap (led (scanned g)) p) ∙ go ms)
+pub three : (f g h : Scan → Scan) (ms a b d : List Member) → a ≡ led (scan_changed f) ms → b ≡ led (scan_changed g) a → d ≡ led (scan_changed h) b → d ≡ with_scan (h (g (f (scan_of ms)))) ms
+three f g h ms a b d p q r = r ∙ (ap (led (scan_changed h)) (q ∙ ap (led (scan_changed g)) p) ∙ go ms)
   where
-    go : (ms : List Member) → led (scanned h) (led (scanned g) (led (scanned f) ms)) ≡ with_scan (h (g (f (scan_of ms)))) ms
+    go : (ms : List Member) → led (scan_changed h) (led (scan_changed g) (led (scan_changed f) ms)) ≡ with_scan (h (g (f (scan_of ms)))) ms
     go [] = refl
     go (m ∷ ms) = refl
 
@@ -101,7 +101,7 @@ flag_low n w adds accepts (m ∷ ms) c e t ruled scan same x at =
     let flag : x ≡ flag_of (last_lent (take e.number (ruled.made e.worker))) = shows.flag (omega arith) in
     let low = one_or_none (last_lent (take e.number (ruled.made e.worker))) in omega (arith, flag, low)
   where
-    one_or_none : (o : Option Entry) → flag_of o ≤ 1
+    one_or_none : (o : Option Answer) → flag_of o ≤ 1
     one_or_none None = omega arith
     one_or_none (Some a) = omega arith
 
@@ -137,10 +137,10 @@ vector_long n w [] e = absurd (omega (arith, e))
 vector_long n w (x ∷ words) e = length_take words n (omega (arith, e))
 
 pub refuses_of : (n w i s again : ℕ) (words more floor : List ℕ) (adds : List Op → ℕ → ℕ) (accepts : (ℕ → ℕ) → List Op → Type 0) (ms a b d : List Member) → HasMember ms
-    → a ≡ led (scanned (after_ask i s)) ms → b ≡ led (scanned (read_all w i s w words)) a → d ≡ led (scanned (after_end_ask n w i again)) b
+    → a ≡ led (scan_changed (after_ask i s)) ms → b ≡ led (scan_changed (read_all w i s w words)) a → d ≡ led (scan_changed (after_end_ask n w i again)) b
     → (scan_of ms).now.due ≡ i ∷ more → (scan_of ms).now.looks ≡ [] → (scan_of ms).now.floor ≡ floor → length words ≡ 1 + n + w → length floor ≡ n → AreRuled n w adds accepts d
     → is_lender n w again floor (begun i s words) ≡ false
-    → (e : Asked) × (e.worker ≡ i) × Refuses n floor e × (d ≡ with_scan (gives_up n (refused e (scan_of ms))) ms)
+    → (e : Asked) × (e.worker ≡ i) × DoesNotLend n floor e × (d ≡ with_scan (gives_up n (refused e (scan_of ms))) ms)
 refuses_of n w i s again words more floor adds accepts ms a b d t p q r due looks is_floor long few ruled not_lent =
     let c : Scan = scan_of ms in
     let e : Asked = asked_of again (begun i s words) in

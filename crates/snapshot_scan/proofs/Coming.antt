@@ -7,9 +7,9 @@ use Rattle.std.proofs.lemmas.Bool.{eq-eqb, ne_eqb, lt-leb, and_from}
 use Rattle.ledger_core.specs.Vectors.{is_above}
 use Rattle.register_rule.specs.declared.view.Asked.{Asked}
 use Rattle.snapshot_core.specs.declared.next.Next.TheVariants.{Direct, Lent, GaveUp}
-use Rattle.snapshot_core.specs.Tries.{place_of, number_of, from_on, TwoCollects, is_whole, same_numbers, is_clean, to_ask, lends_view, lends, none_lends, Failed, AllFailed, EndsLent, floor_of, base_of, reads_of}
+use Rattle.snapshot_core.specs.Tries.{place_of, number_met, from_on, TwoCollects, is_whole, same_numbers, is_clean, to_ask, lends_view, lends, none_lends, Failed, AllFailed, EndsLent, floor_of, base_of, reads_of}
 use Rattle.snapshot_core.specs.Next.{FailedAt, HeldAt, Comes}
-use Rattle.snapshot_scan.specs.Asking.{Refuses, IsBelow, due_from, worker_of}
+use Rattle.snapshot_scan.specs.Asking.{DoesNotLend, IsBelow, due_from, asked_worker}
 use Rattle.snapshot_scan.specs.Scanned.{Tried, FailedTry}
 use Rattle.snapshot_scan.specs.Core.{number_read, collect_reads, view_in, asked_read, core_try, core_reads}
 
@@ -26,7 +26,7 @@ places_are : (i : ℕ) (xs : List ℕ) → map place_of (collect_reads i xs) ≡
 places_are i [] = refl
 places_are i (x ∷ xs) = ap (λ (z : List ℕ). i ∷ z) (places_are (suc i) xs)
 
-numbers_are : (i : ℕ) (xs : List ℕ) → map number_of (collect_reads i xs) ≡ xs
+numbers_are : (i : ℕ) (xs : List ℕ) → map number_met (collect_reads i xs) ≡ xs
 numbers_are i [] = refl
 numbers_are i (x ∷ xs) = ap (λ (z : List ℕ). x ∷ z) (numbers_are (suc i) xs)
 
@@ -109,18 +109,18 @@ module _ (n w : ℕ) (floor : List ℕ) where
         | false ↦ refl
       ]
 
-  refused_lends : (e : Asked) → Refuses n floor e → lends floor (asked_read n w e) ≡ false
+  refused_lends : (e : Asked) → DoesNotLend n floor e → lends floor (asked_read n w e) ≡ false
   refused_lends e (inl moved) = ap (λ (b : Bool). not (not b) && lends_view floor (view_in n w e.words)) (ne_eqb e.number e.again moved)
   refused_lends e (inr (inl flag)) = and_right (not (not (e.number == e.again))) (lends_view floor (view_in n w e.words)) (no_flag e.words flag)
   refused_lends e (inr (inr below)) = and_right (not (not (e.number == e.again))) (lends_view floor (view_in n w e.words)) (too_low e.words below)
 
-  none_of : (es : List Asked) → ((q : ℕ) (e : Asked) → get_elem? es q ≡ some e → Refuses n floor e) → none_lends floor (map (asked_read n w) es) ≡ true
+  none_of : (es : List Asked) → ((q : ℕ) (e : Asked) → get_elem? es q ≡ some e → DoesNotLend n floor e) → none_lends floor (map (asked_read n w) es) ≡ true
   none_of [] h = refl
   none_of (e ∷ es) h =
       and_from (not (lends floor (asked_read n w e))) (none_lends floor (map (asked_read n w) es))
       (ap not (refused_lends e (h 0 e refl))) (none_of es (λ q x at. h (suc q) x at))
 
-  workers_are : (es : List Asked) → map place_of (map (asked_read n w) es) ≡ map worker_of es
+  workers_are : (es : List Asked) → map place_of (map (asked_read n w) es) ≡ map asked_worker es
   workers_are [] = refl
   workers_are (e ∷ es) = ap (λ (z : List ℕ). e.worker ∷ z) (workers_are es)
 
@@ -142,8 +142,8 @@ collects_of n w t first second = record {
   second = places_are 0 t.second ∙ ap (from_on 0) second;
 }
 
-numbers_same : (t : Tried) (b : Bool) → same_numbers t.first t.second ≡ b → same_numbers (map number_of (collect_reads 0 t.first)) (map number_of (collect_reads 0 t.second)) ≡ b
-numbers_same t b h = ap (λ (z : List ℕ). same_numbers z (map number_of (collect_reads 0 t.second))) (numbers_are 0 t.first) ∙ (ap (same_numbers t.first) (numbers_are 0 t.second) ∙ h)
+numbers_same : (t : Tried) (b : Bool) → same_numbers t.first t.second ≡ b → same_numbers (map number_met (collect_reads 0 t.first)) (map number_met (collect_reads 0 t.second)) ≡ b
+numbers_same t b h = ap (λ (z : List ℕ). same_numbers z (map number_met (collect_reads 0 t.second))) (numbers_are 0 t.first) ∙ (ap (same_numbers t.first) (numbers_are 0 t.second) ∙ h)
 
 unclean_of : (n w : ℕ) (t : Tried) → length t.first ≡ n → (q : ℕ) × (q < n) × (slice_index t.first q < slice_index t.second q) → is_clean (core_try n w t) ≡ false
 unclean_of n w t first (q, lt, rose) =
@@ -237,17 +237,17 @@ module _ (n w : ℕ) (floor base : List ℕ) (before : List Tried) (fails : AllF
   -- in the last try, which is not the first, the worker e lends
   pub comes_lent : (t u : Tried) (us : List Tried) (es : List Asked) (e : Asked) (more : List ℕ) → before ≡ u ∷ us → length before < n + 2 → length t.first ≡ n → length t.second ≡ n
       → (q : ℕ) × (q < n) × (slice_index t.first q < slice_index t.second q)
-      → t.asks ≡ es ++ e ∷ [] → map worker_of es ++ worker_of e ∷ more ≡ due_from 0 base t.second
-      → ((q : ℕ) (x : Asked) → get_elem? es q ≡ some x → Refuses n floor x)
+      → t.asks ≡ es ++ e ∷ [] → map asked_worker es ++ asked_worker e ∷ more ≡ due_from 0 base t.second
+      → ((q : ℕ) (x : Asked) → get_elem? es q ≡ some x → DoesNotLend n floor x)
       → e.number ≡ e.again → length e.words ≡ 1 + n + w → slice_index e.words 0 ≡ 1 → is_above floor (take n (drop 1 e.words)) ≡ true
       → Comes n (core_reads n w (before ++ t ∷ [])) (Lent e.worker)
   comes_lent t u us es e more some_before few first second rose asks due refuse same wide flag above =
       let head' = head_more floor base before t u us some_before head in
       let long = base_long n floor base before t fails second head' in
-      let within = due_within 0 base t.second (length (map worker_of es)) e.worker (ap (λ (z : List ℕ). get_elem? z (length (map worker_of es))) (sym due) ∙ at_seam (map worker_of es) more e.worker) in
-      let places : map place_of (map (asked_read n w) t.asks) ≡ map worker_of es ++ e.worker ∷ [] = workers_are n w floor t.asks ∙ (ap (map worker_of) asks ∙ map-append worker_of es (e ∷ [])) in
+      let within = due_within 0 base t.second (length (map asked_worker es)) e.worker (ap (λ (z : List ℕ). get_elem? z (length (map asked_worker es))) (sym due) ∙ at_seam (map asked_worker es) more e.worker) in
+      let places : map place_of (map (asked_read n w) t.asks) ≡ map asked_worker es ++ e.worker ∷ [] = workers_are n w floor t.asks ∙ (ap (map asked_worker) asks ∙ map-append asked_worker es (e ∷ [])) in
       let asked : map place_of (map (asked_read n w) t.asks) ++ more ≡ to_ask base (collect_reads 0 t.second) =
-      ap (λ (z : List ℕ). z ++ more) places ∙ (append_assoc (map worker_of es) (e.worker ∷ []) more ∙ (due ∙ sym (due_of_try base t.second (long ∙ sym second)))) in
+      ap (λ (z : List ℕ). z ++ more) places ∙ (append_assoc (map asked_worker es) (e.worker ∷ []) more ∙ (due ∙ sym (due_of_try base t.second (long ∙ sym second)))) in
       record {
         before = map (core_try n w) before;
         now = core_try n w t;

@@ -11,10 +11,10 @@ pub mod Scanning
 pub mod Coming
 pub mod Arriving
 pub mod Totals
-pub mod LastEntry
+pub mod LastAnswer
 pub mod OwnRow
 pub mod Standing
-pub mod Gathered
+pub mod LentScan
 pub mod Comparing
 pub mod Sourced
 pub mod Publishing

@@ -6,7 +6,7 @@ use native.Mathlib.Decide.{dec_lt}
 use Rattle.std.specs.Int.{bit_at}
 use lib.Bits.{bit_xor}
 use Rattle.std.proofs.lemmas.Nat.Bits.{same_from_bits, bit_at_xor, bit_at-zero, bit_at-lt}
-use Rattle.snapshot_scan.specs.Changes.{Changed, Notes, Moves, Lists}
+use Rattle.snapshot_scan.specs.ChangedItems.{Changed, Notes, Moves, Lists}
 use Rattle.snapshot_scan.specs.Exchange.{Exchanges, AreParts}
 use Rattle.snapshot_scan.proofs.Noted.{none_listed}
 

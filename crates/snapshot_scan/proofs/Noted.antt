@@ -3,7 +3,7 @@ use Rattle.std.proofs.Common.{◌≡◌, ℕ, ◌-◌, ◌<◌, ◌≤◌, true,
 use Rattle.std.specs.List.{Contains}
 use Rattle.std.proofs.lemmas.List.{get_or-take, length-take-le}
 use Rattle.std.proofs.lemmas.List.Elements.{Contains-get_or, Contains-append_left, Contains-push, Contains-push_cases}
-use Rattle.snapshot_scan.specs.Changes.{Changed, Notes}
+use Rattle.snapshot_scan.specs.ChangedItems.{Changed, Notes}
 
 -- all stay all
 pub notes_all : (item : ℕ) (c : Changed) → c.all ≡ true → Notes item c c

@@ -6,31 +6,31 @@ use lib.ListN.{get_elem?}
 use Rattle.register_rule.specs.declared.view.Look.{Look}
 use Rattle.register_rule.specs.declared.view.Scan.{Scan}
 use Rattle.register_rule.specs.Steps.{every, unsure, begun, words_kept, opens_next, after_open, after_read, noted}
-use Rattle.snapshot_scan.specs.declared.kept.Kept.{Kept}
+use Rattle.snapshot_scan.specs.declared.remembered_row.RememberedRow.{RememberedRow}
 use Rattle.register_rule.specs.declared.view.Member.{Member}
 use Rattle.register_rule.specs.Told.{IsNumber}
 use Rattle.register_rule.specs.Seats.{HasMember}
 use Rattle.snapshot_scan.specs.Shape.{scan_of, with_scan, read_all, looked_at}
 use Rattle.snapshot_scan.proofs.Words.{scan_with, front_at}
-use Rattle.snapshot_scan.specs.Memory.{version_of, words_of, looks_of, pairs, opening, IsLoaded}
+use Rattle.snapshot_scan.specs.RememberedRows.{version_of, words_of, looks_of, pairs, opening, IsLoaded}
 
 pub pairs_snoc : (q : ℕ) (xs : List ℕ) (x : ℕ) → pairs q (xs ++ x ∷ []) ≡ pairs q xs ++ (q + length xs, x) ∷ []
 pairs_snoc q [] x = let e : q ≡ q + 0 = omega arith in ap (λ (z : ℕ). (z, x) ∷ []) e
 pairs_snoc q (y ∷ ys) x = let e : suc q + length ys ≡ q + suc (length ys) = omega arith in ap (λ z. (q, y) ∷ z) (pairs_snoc (suc q) ys x) ∙ ap (λ (z : ℕ). (q, y) ∷ pairs (suc q) ys ++ (z, x) ∷ []) e
 
-pub looks_long : (q : ℕ) (opened found : List ℕ) (gs : List Kept) → length opened ≤ length gs → length (looks_of q opened found gs) ≡ length opened
+pub looks_long : (q : ℕ) (opened found : List ℕ) (gs : List RememberedRow) → length opened ≤ length gs → length (looks_of q opened found gs) ≡ length opened
 looks_long q [] found gs h = refl
 looks_long q (s ∷ opened) found [] h = absurd (omega (arith, h))
 looks_long q (s ∷ opened) [] (g ∷ gs) h = ap suc (looks_long (suc q) opened [] gs (omega (arith, h)))
 looks_long q (s ∷ opened) (f ∷ found) (g ∷ gs) h = ap suc (looks_long (suc q) opened found gs (omega (arith, h)))
 
-pub opened_unsure : (q : ℕ) (opened : List ℕ) (gs : List Kept) → every unsure (looks_of q opened [] gs) ≡ true
+pub opened_unsure : (q : ℕ) (opened : List ℕ) (gs : List RememberedRow) → every unsure (looks_of q opened [] gs) ≡ true
 opened_unsure q [] gs = refl
 opened_unsure q (s ∷ opened) [] = refl
 opened_unsure q (s ∷ opened) (g ∷ gs) = opened_unsure (suc q) opened gs
 
 -- the row of one more place
-pub looks_snoc : (q : ℕ) (opened : List ℕ) (gs : List Kept) (s : ℕ) (g : Kept) → length opened < length gs
+pub looks_snoc : (q : ℕ) (opened : List ℕ) (gs : List RememberedRow) (s : ℕ) (g : RememberedRow) → length opened < length gs
     → looks_of q (opened ++ s ∷ []) [] (set gs (length opened) g) ≡ looks_of q opened [] gs ++ begun (q + length opened) s (words_of s g) ∷ []
 looks_snoc q [] [] s g h = absurd (omega (arith, h))
 looks_snoc q [] (x ∷ gs) s g h = let e : q ≡ q + 0 = omega arith in ap (λ (z : ℕ). begun z s (words_of s g) ∷ []) e
@@ -39,9 +39,9 @@ looks_snoc q (o ∷ opened) (x ∷ gs) s g h = let e : suc q + length opened ≡
     ap (λ z. begun q o (words_of o x) ∷ z) (looks_snoc (suc q) opened gs s g (omega (arith, h)))
     ∙ ap (λ (z : ℕ). begun q o (words_of o x) ∷ looks_of (suc q) opened [] gs ++ begun z s (words_of s g) ∷ []) e
 
-pub kept_words : (i s : ℕ) (gs : List Kept) (g : Kept) → get_elem? gs i ≡ some g → words_kept i s (map version_of gs) ≡ cond (g.number == s) g.row.items []
+pub kept_words : (i s : ℕ) (gs : List RememberedRow) (g : RememberedRow) → get_elem? gs i ≡ some g → words_kept i s (map version_of gs) ≡ cond (g.number == s) g.row.items []
 kept_words i s [] g e = absurd (some-ne-none g (sym e))
-kept_words zero s (x ∷ gs) g e = ap (λ (z : Kept). cond (z.number == s) z.row.items []) (some-injective x g e)
+kept_words zero s (x ∷ gs) g e = ap (λ (z : RememberedRow). cond (z.number == s) z.row.items []) (some-injective x g e)
 kept_words (suc i) s (x ∷ gs) g e = kept_words i s gs g e
 
 -- a load of the next word of a place that was begun last
@@ -54,7 +54,7 @@ noted_here i s k x ws e =
 noted_else : (i s k x : ℕ) (l : Look) → l.place ≢ i → noted 0 i s k x l ≡ l
 noted_else i s k x l other = ap (λ (z : Bool). cond (z && l.number == s && not l.sure && k == 0 + length l.words) (record l { words = l.words ++ x ∷ [] }) l) (ne_eqb l.place i other)
 
-noted_before : (i s k x q : ℕ) (opened : List ℕ) (gs : List Kept) → q + length opened ≤ i → map (noted 0 i s k x) (looks_of q opened [] gs) ≡ looks_of q opened [] gs
+noted_before : (i s k x q : ℕ) (opened : List ℕ) (gs : List RememberedRow) → q + length opened ≤ i → map (noted 0 i s k x) (looks_of q opened [] gs) ≡ looks_of q opened [] gs
 noted_before i s k x q [] gs h = refl
 noted_before i s k x q (o ∷ opened) [] h = refl
 noted_before i s k x q (o ∷ opened) (g ∷ gs) h =
@@ -71,7 +71,7 @@ abbrev looking : List Look → Scan → Scan
 looking ls c = record c { now = record c.now { looks = ls } }
 
 -- the words of the place that was begun last, all in their order
-reads_row : (w i s : ℕ) (opened : List ℕ) (gs : List Kept) (ws xs : List ℕ) (c : Scan) → length opened ≡ i → c.now.asks ≡ []
+reads_row : (w i s : ℕ) (opened : List ℕ) (gs : List RememberedRow) (ws xs : List ℕ) (c : Scan) → length opened ≡ i → c.now.asks ≡ []
     → read_all w i s (length ws) xs (looking (looks_of 0 opened [] gs ++ begun i s ws ∷ []) c) ≡ looking (looks_of 0 opened [] gs ++ begun i s (ws ++ xs) ∷ []) c
 reads_row w i s opened gs ws [] c here none = ap (λ (z : List ℕ). looking (looks_of 0 opened [] gs ++ begun i s z ∷ []) c) (sym (append-nil ws))
 reads_row w i s opened gs ws (x ∷ xs) c here none =
@@ -93,7 +93,7 @@ reads_row w i s opened gs ws (x ∷ xs) c here none =
     snoc_long (y ∷ l) x = ap suc (snoc_long l x)
 
 -- one more place is opened
-pub opens_more : (w s : ℕ) (opened : List ℕ) (gs : List Kept) (g g' : Kept) (c : Scan) → get_elem? gs (length opened) ≡ some g → length opened < length gs
+pub opens_more : (w s : ℕ) (opened : List ℕ) (gs : List RememberedRow) (g g' : RememberedRow) (c : Scan) → get_elem? gs (length opened) ≡ some g → length opened < length gs
     → version_of g' ≡ version_of g → c.kept ≡ map version_of gs → c.now.due ≡ [] → c.now.asks ≡ []
     → looked_at w (length opened) s (g.number == s) g'.fresh.items (opening opened gs c) ≡ opening (opened ++ s ∷ []) (set gs (length opened) g') c
 opens_more w s opened gs g g' c at inside same kept due asks =
@@ -117,10 +117,10 @@ opens_more w s opened gs g g' c at inside same kept due asks =
     go true h = h
     go false h = ap (read_all w (length opened) s 0 g'.fresh.items) h ∙ reads_row w (length opened) s opened gs [] g'.fresh.items (record c { opened = c.opened ++ pairs 0 (opened ++ s ∷ []) }) refl asks
 
-pub opening_starts : (gs : List Kept) (c : Scan) → c.now.looks ≡ [] → opening [] gs c ≡ c
+pub opening_starts : (gs : List RememberedRow) (c : Scan) → c.now.looks ≡ [] → opening [] gs c ≡ c
 opening_starts gs c none = λ z. record c { opened = append-nil c.opened z; now = record c.now { looks = sym none z } }
 
-pub loaded : (i x : ℕ) (c : Scan) (opened : List ℕ) (gs : List Kept) (ms ms' : List Member) → HasMember ms → ms' ≡ with_scan (opening opened gs c) ms → IsNumber i ms' x → IsLoaded i c x
+pub loaded : (i x : ℕ) (c : Scan) (opened : List ℕ) (gs : List RememberedRow) (ms ms' : List Member) → HasMember ms → ms' ≡ with_scan (opening opened gs c) ms → IsNumber i ms' x → IsLoaded i c x
 loaded i x c opened gs ms ms' some_ view number =
     let e : scan_of ms' ≡ opening opened gs c = ap scan_of view ∙ scan_with (opening opened gs c) ms some_ in record {
       opened = λ q y at. number.opened q y (ap (λ (d : Scan). get_elem? d.opened q) e ∙ front_at c.opened (pairs 0 opened) q (i, y) at);

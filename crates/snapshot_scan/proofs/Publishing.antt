@@ -13,12 +13,12 @@ use Rattle.std.proofs.Math.Logic.{∥∥₁_map}
 use Rattle.ledger_core.specs.declared.op.Op.{Op}
 use Rattle.ledger_core.specs.Ops.{width, sum_ops}
 use Rattle.ledger_core.specs.Row.{Accepts, Adds}
-use Rattle.register_rule.specs.declared.view.Entry.{Entry}
+use Rattle.register_rule.specs.declared.view.Answer.{Answer}
 use Rattle.register_rule.specs.declared.view.Made.{Made}
 use Rattle.register_rule.specs.declared.view.Member.{Member}
 use Rattle.register_rule.specs.declared.view.Scan.{Scan}
 use Rattle.register_rule.specs.History.{tab, count, numbers_after, IsCut, Below}
-use Rattle.register_rule.specs.Scans.{IsEntry}
+use Rattle.register_rule.specs.Scans.{IsOneMoment}
 use Rattle.register_rule.specs.Seats.{HasMember}
 use Rattle.register_rule.specs.Sums.{total, row_sum, Legal}
 use Rattle.register_rule.specs.Told.{AreRuled}
@@ -250,13 +250,13 @@ module _ (n : ℕ) (made : ℕ → List Made) where
         step others (inr le) = others done (λ i lt. then (inr le) i lt ∙ ap (lists_by i) (append-nil done))
 
 -- entries that climb
-abbrev pub Climbs : List Entry → Type 0
+abbrev pub Climbs : List Answer → Type 0
 Climbs [] = Unit {0}
 Climbs (a ∷ []) = Unit {0}
 Climbs (a ∷ b ∷ rest) = Below a.vector b.vector × Climbs (b ∷ rest)
 
 -- one more, above all of them
-climbs_more : (l : List Entry) (b : Entry) → Climbs l → ((q : ℕ) (a : Entry) → get_elem? l q ≡ some a → Below a.vector b.vector) → Climbs (l ++ b ∷ [])
+climbs_more : (l : List Answer) (b : Answer) → Climbs l → ((q : ℕ) (a : Answer) → get_elem? l q ≡ some a → Below a.vector b.vector) → Climbs (l ++ b ∷ [])
 climbs_more [] b climbs above = tt
 climbs_more (a ∷ []) b climbs above = (above 0 a refl, tt)
 climbs_more (a ∷ c ∷ rest) b climbs above = (climbs.0, climbs_more (c ∷ rest) b climbs.1 (λ q x e. above (suc q) x e))
@@ -279,7 +279,7 @@ tab_below f f' i (suc m) le zero x y ex ey = let a = some-injective (f i) x ex i
 tab_below f f' i (suc m) le (suc q) x y ex ey = tab_below f f' (suc i) m le q x y ex ey
 
 -- answers along a history climb
-climbs_along : (n c h g : ℕ) (history : List Publish) (from : ℕ) (l : List Entry) → AreAlong n c h g history from l → Climbs l
+climbs_along : (n c h g : ℕ) (history : List Publish) (from : ℕ) (l : List Answer) → AreAlong n c h g history from l → Climbs l
 climbs_along n c h g history from [] along = tt
 climbs_along n c h g history from (a ∷ []) along = tt
 climbs_along n c h g history from (a ∷ b ∷ rest) (t, low, in_it, is, (t', low', in_it', is', along)) = (
@@ -344,7 +344,7 @@ module _ (n c h g : ℕ) (ms : List Member) (ruled : AreRuled n (width c h g) (s
       omega (arith, e, more)
 
   -- an entry that is right is what the publishes up to its moment come to
-  entry_after : (t : ℕ) (a : Entry) → a.vector ≡ numbers_after n (take t order) → IsEntry n (width c h g) (sum_ops c h) made order a → IsAfter n c h g (before t) a
+  entry_after : (t : ℕ) (a : Answer) → a.vector ≡ numbers_after n (take t order) → IsOneMoment n (width c h g) (sum_ops c h) made order a → IsAfter n c h g (before t) a
   entry_after t a moment entry = record {
     numbers = moment ∙ tab_same (λ i. count i (take t order)) (λ i. length (lists_by i (before t))) 0 n (λ i lt. let in_n : i < n = omega (arith, lt) in lists_many n made (take t order) i in_n (room t i in_n));
     totals = λ k lt.
@@ -356,10 +356,10 @@ module _ (n c h g : ℕ) (ms : List Member) (ruled : AreRuled n (width c h g) (s
   }
 
   -- entries that are right and climb, from a moment on that the first of them is not below
-  abbrev AreRight : List Entry → Type 0
-  AreRight l = (q : ℕ) (a : Entry) → get_elem? l q ≡ some a → IsEntry n (width c h g) (sum_ops c h) made order a
+  abbrev AreRight : List Answer → Type 0
+  AreRight l = (q : ℕ) (a : Answer) → get_elem? l q ≡ some a → IsOneMoment n (width c h g) (sum_ops c h) made order a
 
-  later : (from : ℕ) (a : Entry) → Below (numbers_after n (take from order)) a.vector → IsCut n order a.vector → (t : ℕ) × (from ≤ t) × (a.vector ≡ numbers_after n (take t order))
+  later : (from : ℕ) (a : Answer) → Below (numbers_after n (take from order)) a.vector → IsCut n order a.vector → (t : ℕ) × (from ≤ t) × (a.vector ≡ numbers_after n (take t order))
   later from a above cut = ⊎_elim
       (λ (lt : cut.0 < from).
       let down : Below a.vector (numbers_after n (take from order)) = subst (λ (v : List ℕ). Below v (numbers_after n (take from order))) (sym cut.2) (rises n cut.0 from order (omega (arith, lt))) in
@@ -368,7 +368,7 @@ module _ (n c h g : ℕ) (ms : List Member) (ruled : AreRuled n (width c h g) (s
       (λ (le : from ≤ cut.0). (cut.0, le, cut.2))
       (cases_lt cut.0 from)
 
-  along_from : (from : ℕ) (a : Entry) (l : List Entry) → Below (numbers_after n (take from order)) a.vector → Climbs (a ∷ l) → AreRight (a ∷ l) → AreAlong n c h g history (length (before from)) (a ∷ l)
+  along_from : (from : ℕ) (a : Answer) (l : List Answer) → Below (numbers_after n (take from order)) a.vector → Climbs (a ∷ l) → AreRight (a ∷ l) → AreAlong n c h g history (length (before from)) (a ∷ l)
   along_from from a [] above climbs right =
       let entry = right 0 a refl in
       let t = later from a above entry.moment in
@@ -384,7 +384,7 @@ module _ (n c h g : ℕ) (ms : List Member) (ruled : AreRuled n (width c h g) (s
         along_from t.0 b l next climbs.1 (λ q x e. right (suc q) x e),
       )
 
-  along_all : (l : List Entry) → Climbs l → AreRight l → AreAlong n c h g history 0 l
+  along_all : (l : List Answer) → Climbs l → AreRight l → AreAlong n c h g history 0 l
   along_all [] climbs right = tt
   along_all (a ∷ l) climbs right =
       along_from 0 a l (λ q x y ex ey.
@@ -409,7 +409,7 @@ module _ (n c h g : ℕ) (few : n ≤ 32) (ms : List Member) (ruled : AreRuled n
       let sits : get_elem? ms 0 ≡ some t.0 = ap (λ (l : List Member). get_elem? l 0) t.2 in
       ((ruled.scans 0 t.0 sits).recorded q a (ap (λ (l : List Member). get_elem? (scan_of l).recorded q) (sym t.2) ∙ e)).0
 
-  history_more : (before : Scan) (a : Entry) → IsAnswered n before (scan_of ms) a → HaveHistory n c h g before.recorded → HaveHistory n c h g (scan_of ms).recorded
+  history_more : (before : Scan) (a : Answer) → IsAnswered n before (scan_of ms) a → HaveHistory n c h g before.recorded → HaveHistory n c h g (scan_of ms).recorded
   history_more before a answered old =
       record {
         history = history n c h g ms ruled;
@@ -421,7 +421,7 @@ module _ (n c h g : ℕ) (few : n ≤ 32) (ms : List Member) (ruled : AreRuled n
       }
 
   -- told by its result
-  pub moments_more : {T : Type 0} (before : Scan) (a : Entry) (answer : Result T Contended) → OnOk answer (IsAnswered n before (scan_of ms) a)
+  pub moments_more : {T : Type 0} (before : Scan) (a : Answer) (answer : Result T Contended) → OnOk answer (IsAnswered n before (scan_of ms) a)
       → IfErr answer (IsContended n before (scan_of ms)) → AreMoments n c h g before.recorded → AreMoments n c h g (scan_of ms).recorded
   moments_more before a (Ok x) answered contended old = ∥∥₁_map old (history_more before a answered)
   moments_more before a (Err e) answered contended old = subst (AreMoments n c h g) (sym contended.gave_up.recorded) old
@@ -464,7 +464,7 @@ module _ (n c h g : ℕ) (one : n ≡ 1) where
     accepted_more (before ++ q ∷ []) qs p accepted.2 lt (subst (λ (l : List Publish). Accepts c h g (sum_lists c h (lists_by p.worker l)) p.ops) (sym (append_assoc before (q ∷ []) qs)) fits),
   )
 
-  along_more : (history more : List Publish) (from : ℕ) (l : List Entry) → AreAlong n c h g history from l → AreAlong n c h g (history ++ more) from l
+  along_more : (history more : List Publish) (from : ℕ) (l : List Answer) → AreAlong n c h g history from l → AreAlong n c h g (history ++ more) from l
   along_more history more from [] along = tt
   along_more history more from (a ∷ l) (t, low, in_it, is, along) = (
     t,
@@ -474,7 +474,7 @@ module _ (n c h g : ℕ) (one : n ≡ 1) where
     along_more history more t l along,
   )
 
-  along_last : (history : List Publish) (from : ℕ) (l : List Entry) (a : Entry) → from ≤ length history → AreAlong n c h g history from l → IsAfter n c h g history a
+  along_last : (history : List Publish) (from : ℕ) (l : List Answer) (a : Answer) → from ≤ length history → AreAlong n c h g history from l → IsAfter n c h g history a
       → AreAlong n c h g history from (l ++ a ∷ [])
   along_last history from [] a low along is = (length history, low, omega arith, subst (λ (ps : List Publish). IsAfter n c h g ps a) (sym (take-length history)) is, tt)
   along_last history from (b ∷ l) a low (t, low', in_it, is', along) is = (t, low', in_it, is', along_last history t l a in_it along is)
@@ -488,7 +488,7 @@ module _ (n c h g : ℕ) (one : n ≡ 1) where
       ap (λ (l : List ℕ). slice_index l 0) h
 
   -- nothing was applied
-  pub comes_first : (count : ℕ) (row : List ℕ) (answers : List Entry) → count ≡ 0 → row ≡ replicate (width c h g) 0 → answers ≡ [] → ∥ ComeTo n c h g count row answers ∥₁
+  pub comes_first : (count : ℕ) (row : List ℕ) (answers : List Answer) → count ≡ 0 → row ≡ replicate (width c h g) 0 → answers ≡ [] → ∥ ComeTo n c h g count row answers ∥₁
   comes_first count row answers none zeros fresh = ∣ record {
     history = [];
     accepted = tt;
@@ -505,7 +505,7 @@ module _ (n c h g : ℕ) (one : n ≡ 1) where
       zero_at (suc w) (suc k) = zero_at w k
 
   -- a list more was applied
-  pub comes_more : (count count' : ℕ) (row row' : List ℕ) (ops : List Op) (answers : List Entry) → Accepts c h g (slice_index row) ops → Adds c h row ops row' → count' ≡ count + 1
+  pub comes_more : (count count' : ℕ) (row row' : List ℕ) (ops : List Op) (answers : List Answer) → Accepts c h g (slice_index row) ops → Adds c h row ops row' → count' ≡ count + 1
       → ∥ ComeTo n c h g count row answers ∥₁ → ∥ ComeTo n c h g count' row' answers ∥₁
   comes_more count count' row row' ops answers accepts adds more old = ∥∥₁_map old (λ was.
       let p : Publish = record { worker = 0; ops = ops } in
@@ -529,7 +529,7 @@ module _ (n c h g : ℕ) (one : n ≡ 1) where
       })
 
   -- an answer more was recorded
-  pub comes_taken : (count : ℕ) (row : List ℕ) (answers answers' : List Entry) (a : Entry) → answers' ≡ answers ++ a ∷ [] → a.vector ≡ count ∷ [] → a.totals ≡ row
+  pub comes_taken : (count : ℕ) (row : List ℕ) (answers answers' : List Answer) (a : Answer) → answers' ≡ answers ++ a ∷ [] → a.vector ≡ count ∷ [] → a.totals ≡ row
       → ∥ ComeTo n c h g count row answers ∥₁ → ∥ ComeTo n c h g count row answers' ∥₁
   comes_taken count row answers answers' a is vector totals old = ∥∥₁_map old (λ was. record {
     history = was.history;
@@ -542,15 +542,15 @@ module _ (n c h g : ℕ) (one : n ≡ 1) where
   })
 
 -- what a source of one worker recorded are moments
-pub comes_moments : (n c h g count : ℕ) (row : List ℕ) (answers : List Entry) → ∥ ComeTo n c h g count row answers ∥₁ → AreMoments n c h g answers
+pub comes_moments : (n c h g count : ℕ) (row : List ℕ) (answers : List Answer) → ∥ ComeTo n c h g count row answers ∥₁ → AreMoments n c h g answers
 comes_moments n c h g count row answers old = ∥∥₁_map old (λ was. record { history = was.history; accepted = was.accepted; along = was.along })
 
 -- the last of some moments are moments
-pub along_later : (n c h g : ℕ) (history : List Publish) (from : ℕ) (older l : List Entry) → AreAlong n c h g history from (older ++ l) → AreAlong n c h g history 0 l
+pub along_later : (n c h g : ℕ) (history : List Publish) (from : ℕ) (older l : List Answer) → AreAlong n c h g history from (older ++ l) → AreAlong n c h g history 0 l
 along_later n c h g history from [] [] along = tt
 along_later n c h g history from [] (a ∷ l) (t, low, in_it, is, along) = (t, omega arith, in_it, is, along)
 along_later n c h g history from (b ∷ older) l (t, low, in_it, is, along) = along_later n c h g history t older l along
 
-pub moments_later : (n c h g : ℕ) (older l : List Entry) → AreMoments n c h g (older ++ l) → AreMoments n c h g l
+pub moments_later : (n c h g : ℕ) (older l : List Answer) → AreMoments n c h g (older ++ l) → AreMoments n c h g l
 moments_later n c h g older l moments =
     ∥∥₁_map moments (λ was. record { history = was.history; accepted = was.accepted; along = along_later n c h g was.history 0 older l was.along })

@@ -4,7 +4,7 @@ use Rattle.std.proofs.lemmas.List.{append-nil}
 use mathlib.Core.Option.{some, some-injective, some-ne-none}
 use lib.ListN.{get_elem?}
 use Rattle.ledger_core.specs.Vectors.{is_above}
-use Rattle.register_rule.specs.declared.view.Entry.{Entry}
+use Rattle.register_rule.specs.declared.view.Answer.{Answer}
 use Rattle.register_rule.specs.declared.view.Asked.{Asked}
 use Rattle.register_rule.specs.declared.view.Member.{Member}
 use Rattle.register_rule.specs.declared.view.Scan.{Scan}
@@ -12,11 +12,11 @@ use Rattle.register_rule.specs.declared.view.Version.{Version}
 use Rattle.register_rule.specs.History.{Below}
 use Rattle.register_rule.specs.Steps.{answered, gives_up, at_rest}
 use Rattle.register_rule.proofs.Words.{there, at_below, read_at, each_push}
-use Rattle.snapshot_scan.specs.declared.kept.Kept.{Kept}
+use Rattle.snapshot_scan.specs.declared.remembered_row.RememberedRow.{RememberedRow}
 use Rattle.register_rule.specs.Seats.{HasMember}
 use Rattle.snapshot_scan.specs.Shape.{scan_of, with_scan}
-use Rattle.snapshot_scan.specs.Memory.{version_of, HasOther, pairs, opening, settling, failing, IsLoaded}
-use Rattle.snapshot_scan.specs.Asking.{refused_all, due_from, worker_of, asked_too, MayAsk}
+use Rattle.snapshot_scan.specs.RememberedRows.{version_of, HasOther, pairs, opening, settling, failing, IsLoaded}
+use Rattle.snapshot_scan.specs.Asking.{refused_all, due_from, asked_worker, asked_too, MayAsk}
 use Rattle.snapshot_scan.specs.Scanned.{Tried, all_opened, FailedTry, HasMoved, IsAnswered, IsGivenUp}
 use Rattle.snapshot_scan.proofs.Words.{scan_with, with_led, led_some}
 use Rattle.snapshot_scan.proofs.Asking.{above_below}
@@ -50,7 +50,7 @@ floor_below n c d floor opened later long told e i x y p q =
     let r = read_at opened i y 0 q in omega (arith, h, r)
 
 -- the first try is clean
-pub direct_first : (n : ℕ) (opened found totals : List ℕ) (gs : List Kept) (c : Scan) → length opened ≡ n → ((q : ℕ) → q < n → IsLoaded q c (slice_index opened q))
+pub direct_first : (n : ℕ) (opened found totals : List ℕ) (gs : List RememberedRow) (c : Scan) → length opened ≡ n → ((q : ℕ) → q < n → IsLoaded q c (slice_index opened q))
     → IsAnswered n c (answered (record { vector = opened; totals = totals }) (settling opened found gs (opening opened gs c))) (record { vector = opened; totals = totals })
 direct_first n opened found totals gs c long told = record {
   recorded = refl;
@@ -79,12 +79,12 @@ some_loads l [] h = absurd (omega (arith, h))
 some_loads [] (x ∷ xs) h = λ e. cc
 some_loads (y ∷ l) (x ∷ xs) h = λ e. cc
 
-module _ (n : ℕ) (floor base first last : List ℕ) (tries : List Tried) (tried : AreTries n floor base first last tries) (gs0 : List Kept) (c : Scan) where
+module _ (n : ℕ) (floor base first last : List ℕ) (tries : List Tried) (tried : AreTries n floor base first last tries) (gs0 : List RememberedRow) (c : Scan) where
   opened_so : (stood tries gs0 floor base c).opened ≡ c.opened ++ (pairs 0 floor ++ all_opened tried.others)
   opened_so = ap (λ (ts : List Tried). c.opened ++ all_opened ts) tried.all ∙ ap (λ (f : List ℕ). c.opened ++ (pairs 0 f ++ all_opened tried.others)) tried.is_floor
 
   -- a later try is clean
-  pub direct_later : (opened found totals : List ℕ) (gs : List Kept) → length floor ≡ n → length opened ≡ n → ((q : ℕ) → q < n → IsLoaded q (stood tries gs0 floor base c) (slice_index opened q))
+  pub direct_later : (opened found totals : List ℕ) (gs : List RememberedRow) → length floor ≡ n → length opened ≡ n → ((q : ℕ) → q < n → IsLoaded q (stood tries gs0 floor base c) (slice_index opened q))
       → IsAnswered n c (answered (record { vector = opened; totals = totals }) (settling opened found gs (opening opened gs (stood tries gs0 floor base c)))) (record { vector = opened; totals = totals })
   direct_later opened found totals gs wide long told = record {
     recorded = refl;
@@ -109,7 +109,7 @@ module _ (n : ℕ) (floor base first last : List ℕ) (tries : List Tried) (trie
   }
 
   -- a worker lends
-  pub lent_later : (opened found : List ℕ) (gs : List Kept) (a : Entry) (e : Asked) (es : List Asked) (workers : List ℕ) → length floor ≡ n → length a.vector ≡ n → Below c.seen floor → is_above floor a.vector ≡ true
+  pub lent_later : (opened found : List ℕ) (gs : List RememberedRow) (a : Answer) (e : Asked) (es : List Asked) (workers : List ℕ) → length floor ≡ n → length a.vector ≡ n → Below c.seen floor → is_above floor a.vector ≡ true
       → IsAnswered n c (answered a (asked_too e (asking opened found gs floor base es workers (stood tries gs0 floor base c)))) a
   lent_later opened found gs a e es workers wide long seen hit = record {
     recorded = refl;
@@ -171,7 +171,7 @@ tries_one n opened found failed = let t : Tried = record { first = opened; secon
 }
 
 -- what may be asked after a try
-pub may_start : (n : ℕ) (opened found : List ℕ) (gs : List Kept) (floor base workers : List ℕ) (d : Scan) → MayAsk floor workers (gives_up n (asking opened found gs floor base [] workers d))
+pub may_start : (n : ℕ) (opened found : List ℕ) (gs : List RememberedRow) (floor base workers : List ℕ) (d : Scan) → MayAsk floor workers (gives_up n (asking opened found gs floor base [] workers d))
 may_start n opened found gs floor base [] d = go (d.now.failed + 1 == n + 2)
   where
     go : (b : Bool) → MayAsk floor [] (cond b (record (asking opened found gs floor base [] [] d) { quit = d.quit + 1; now = at_rest }) (asking opened found gs floor base [] [] d))
@@ -183,7 +183,7 @@ may_start n opened found gs floor base (i ∷ more) d = subst (MayAsk floor (i �
 pub later_not : (tries : List Tried) (k : ℕ) → length tries ≡ k + 1 → (length tries == 0) ≡ false
 later_not tries k e = ne_eqb (length tries) 0 (λ h. omega (arith, h, e))
 
-pub first_starts : (n w : ℕ) (opened found : List ℕ) (gs : List Kept) (c : Scan) → length gs ≡ n → length opened ≡ n → length found ≡ n → c.now ≡ at_rest
+pub first_starts : (n w : ℕ) (opened found : List ℕ) (gs : List RememberedRow) (c : Scan) → length gs ≡ n → length opened ≡ n → length found ≡ n → c.now ≡ at_rest
     → failing (settling opened found gs (opening opened gs c)) ≡ stood (record { first = opened; second = found; asks = [] } ∷ []) gs opened found c
 first_starts n w opened found gs c few long deep none =
     fails_first n w opened found gs gs few long deep c none
@@ -197,11 +197,11 @@ first_starts n w opened found gs c few long deep none =
     })
 
 -- before its last try a scan goes on
-pub at_loop : (n k : ℕ) (tries : List Tried) (gs : List Kept) (floor base : List ℕ) (ms a : List Member) → length tries ≡ k + 1 → k < n + 1
+pub at_loop : (n k : ℕ) (tries : List Tried) (gs : List RememberedRow) (floor base : List ℕ) (ms a : List Member) → length tries ≡ k + 1 → k < n + 1
     → a ≡ with_scan (gives_up n (stood tries gs floor base (scan_of ms))) ms → a ≡ with_scan (stood tries gs floor base (scan_of ms)) ms
 at_loop n k tries gs floor base ms a e lt p = p ∙ ap (λ (x : Scan). with_scan x ms) (given_later n (stood tries gs floor base (scan_of ms)) (omega (arith, e, lt)))
 
-module _ (n w k : ℕ) (opened found : List ℕ) (gs gs0 : List Kept) (few : length gs ≡ n) (long : length opened ≡ n) (deep : length found ≡ n) (tries : List Tried) (floor base : List ℕ) (ms a b : List Member) (t : HasMember ms)
+module _ (n w k : ℕ) (opened found : List ℕ) (gs gs0 : List RememberedRow) (few : length gs ≡ n) (long : length opened ≡ n) (deep : length found ≡ n) (tries : List Tried) (floor base : List ℕ) (ms a b : List Member) (t : HasMember ms)
     (count : length tries ≡ k + 1) (p : a ≡ with_scan (stood tries gs0 floor base (scan_of ms)) ms) where
   abbrev was : Scan
   was = stood tries gs0 floor base (scan_of ms)
@@ -210,16 +210,16 @@ module _ (n w k : ℕ) (opened found : List ℕ) (gs gs0 : List Kept) (few : len
   loop_fails q = then_is (λ (d : Scan). gives_up n (failing (settling opened found gs (opening opened gs d)))) was ms a b t p q
       ∙ ap (λ (x : Scan). with_scan (gives_up n x) ms) (fails_later n w opened found gs gs few long deep was (later_not tries k count) refl)
 
-  pub loop_lends : (d : List Member) (answer : Entry) (e : Asked) (es : List Asked) (more : List ℕ) → b ≡ with_scan (gives_up n (asking opened found gs floor base [] (due_from 0 base found) (stood tries gs0 floor base (scan_of ms)))) ms
-      → map worker_of es ++ worker_of e ∷ more ≡ due_from 0 base found → d ≡ with_scan (answered answer (asked_too e (refused_all n es (scan_of b)))) b
-      → d ≡ with_scan (answered answer (asked_too e (asking opened found gs floor base es (worker_of e ∷ more) (stood tries gs0 floor base (scan_of ms))))) ms
+  pub loop_lends : (d : List Member) (answer : Answer) (e : Asked) (es : List Asked) (more : List ℕ) → b ≡ with_scan (gives_up n (asking opened found gs floor base [] (due_from 0 base found) (stood tries gs0 floor base (scan_of ms)))) ms
+      → map asked_worker es ++ asked_worker e ∷ more ≡ due_from 0 base found → d ≡ with_scan (answered answer (asked_too e (refused_all n es (scan_of b)))) b
+      → d ≡ with_scan (answered answer (asked_too e (asking opened found gs floor base es (asked_worker e ∷ more) (stood tries gs0 floor base (scan_of ms))))) ms
   loop_lends d answer e es more q due r =
       then_is (λ (x : Scan). answered answer (asked_too e (refused_all n es x))) (gives_up n (asking opened found gs floor base [] (due_from 0 base found) was)) ms b d t q r
       ∙ (ap (λ (ws : List ℕ). with_scan (answered answer (asked_too e (refused_all n es (gives_up n (asking opened found gs floor base [] ws was))))) ms) (sym due)
-      ∙ ap (λ (x : Scan). with_scan (answered answer (asked_too e x)) ms) (asked_some n w opened found gs gs few long deep floor base more (worker_of e) es [] was))
+      ∙ ap (λ (x : Scan). with_scan (answered answer (asked_too e x)) ms) (asked_some n w opened found gs gs few long deep floor base more (asked_worker e) es [] was))
 
   pub loop_refuses : (d : List Member) (es : List Asked) → b ≡ with_scan (gives_up n (asking opened found gs floor base [] (due_from 0 base found) (stood tries gs0 floor base (scan_of ms)))) ms
-      → map worker_of es ≡ due_from 0 base found → d ≡ with_scan (refused_all n es (scan_of b)) b
+      → map asked_worker es ≡ due_from 0 base found → d ≡ with_scan (refused_all n es (scan_of b)) b
       → d ≡ with_scan (gives_up n (stood (tries ++ record { first = opened; second = found; asks = es } ∷ []) gs floor base (scan_of ms))) ms
   loop_refuses d es q due r =
       then_is (refused_all n es) (gives_up n (asking opened found gs floor base [] (due_from 0 base found) was)) ms b d t q r

@@ -7,8 +7,8 @@ use Rattle.register_rule.specs.declared.view.Look.{Look}
 use Rattle.register_rule.specs.declared.view.Version.{Version}
 use Rattle.register_rule.specs.declared.view.Scan.{Scan}
 use Rattle.register_rule.specs.Steps.{begun, settled, remembered, confirmed_at}
-use Rattle.snapshot_scan.specs.declared.kept.Kept.{Kept}
-use Rattle.snapshot_scan.specs.Memory.{version_of, IsWide, AreWide, words_of, looks_of, pairs, settling, sum_rows}
+use Rattle.snapshot_scan.specs.declared.remembered_row.RememberedRow.{RememberedRow}
+use Rattle.snapshot_scan.specs.RememberedRows.{version_of, IsWide, AreWide, words_of, looks_of, pairs, settling, sum_rows}
 use Rattle.snapshot_scan.proofs.Words.{map_set, set_same, at_map}
 use Rattle.snapshot_scan.proofs.Opening.{pairs_snoc}
 
@@ -21,7 +21,7 @@ settled_here i s o ws = ap (λ (z : Bool). cond z (record { place = i; number = 
 settled_place : (i s o : ℕ) (ws : List ℕ) → (settled i s (begun i o ws)).place ≡ i
 settled_place i s o ws = ap (λ (l : Look). l.place) (settled_here i s o ws)
 
-settled_after : (i s q : ℕ) (opened found : List ℕ) (gs : List Kept) → i < q → map (settled i s) (looks_of q opened found gs) ≡ looks_of q opened found gs
+settled_after : (i s q : ℕ) (opened found : List ℕ) (gs : List RememberedRow) → i < q → map (settled i s) (looks_of q opened found gs) ≡ looks_of q opened found gs
 settled_after i s q [] found gs h = refl
 settled_after i s q (o ∷ opened) found [] h = refl
 settled_after i s q (o ∷ opened) [] (g ∷ gs) h = let a = settled_else i s (begun q o (words_of o g)) (λ e. omega (arith, h, e)) in let rest = settled_after i s (suc q) opened [] gs (omega (arith, h)) in λ z. a z ∷ rest z
@@ -30,7 +30,7 @@ settled_after i s q (o ∷ opened) (f ∷ found) (g ∷ gs) h =
     let a = settled_else i s (settled q f (begun q o (words_of o g))) (λ e. omega (arith, h, e, p)) in let rest = settled_after i s (suc q) opened found gs (omega (arith, h)) in λ z. a z ∷ rest z
 
 -- the look of the next place is settled
-settle_looks : (i s q o : ℕ) (opened pre : List ℕ) (gs : List Kept) (g g' : Kept) → i ≡ q + length pre → get_elem? opened (length pre) ≡ some o → get_elem? gs (length pre) ≡ some g → words_of o g' ≡ words_of o g
+settle_looks : (i s q o : ℕ) (opened pre : List ℕ) (gs : List RememberedRow) (g g' : RememberedRow) → i ≡ q + length pre → get_elem? opened (length pre) ≡ some o → get_elem? gs (length pre) ≡ some g → words_of o g' ≡ words_of o g
     → map (settled i s) (looks_of q opened pre gs) ≡ looks_of q opened (pre ++ s ∷ []) (set gs (length pre) g')
 settle_looks i s q o [] pre gs g g' e at there same = absurd (some-ne-none o (sym at))
 settle_looks i s q o (x ∷ opened) pre [] g g' e at there same = absurd (some-ne-none g (sym there))
@@ -52,7 +52,7 @@ finds w i l = l.place == i && l.sure && length l.words == w
 remembered_skip : (w i : ℕ) (l : Look) (ls : List Look) (kept : List Version) → l.place ≢ i → remembered w i (l ∷ ls) kept ≡ remembered w i ls kept
 remembered_skip w i l ls kept ne = ap (λ (z : Bool). cond (z && l.sure && length l.words == w) (set kept i (record { number = l.number; row = l.words })) (remembered w i ls kept)) (ne_eqb l.place i ne)
 
-remembered_after : (w i q : ℕ) (opened found : List ℕ) (gs : List Kept) (kept : List Version) → i < q → remembered w i (looks_of q opened found gs) kept ≡ kept
+remembered_after : (w i q : ℕ) (opened found : List ℕ) (gs : List RememberedRow) (kept : List Version) → i < q → remembered w i (looks_of q opened found gs) kept ≡ kept
 remembered_after w i q [] found gs kept h = refl
 remembered_after w i q (o ∷ opened) found [] kept h = refl
 remembered_after w i q (o ∷ opened) [] (g ∷ gs) kept h =
@@ -61,7 +61,7 @@ remembered_after w i q (o ∷ opened) (f ∷ found) (g ∷ gs) kept h =
     let p = settled_place q f o (words_of o g) in
     remembered_skip w i (settled q f (begun q o (words_of o g))) (looks_of (suc q) opened found gs) kept (λ e. omega (arith, h, e, p)) ∙ remembered_after w i (suc q) opened found gs kept (omega (arith, h))
 
-remembered_at : (w i s q o : ℕ) (opened pre : List ℕ) (gs : List Kept) (g : Kept) (kept : List Version) → i ≡ q + length pre → get_elem? opened (length pre) ≡ some o → get_elem? gs (length pre) ≡ some g → length (words_of o g) ≡ w
+remembered_at : (w i s q o : ℕ) (opened pre : List ℕ) (gs : List RememberedRow) (g : RememberedRow) (kept : List Version) → i ≡ q + length pre → get_elem? opened (length pre) ≡ some o → get_elem? gs (length pre) ≡ some g → length (words_of o g) ≡ w
     → remembered w i (looks_of q opened (pre ++ s ∷ []) gs) kept ≡ cond (o == s) (set kept i (record { number = o; row = words_of o g })) kept
 remembered_at w i s q o [] pre gs g kept e at there wide = absurd (some-ne-none o (sym at))
 remembered_at w i s q o (x ∷ opened) pre [] g kept e at there wide = absurd (some-ne-none g (sym there))
@@ -90,7 +90,7 @@ set_at (x ∷ l) zero a b e = refl
 set_at (x ∷ l) (suc i) a b e = set_at l i a b e
 
 -- one more place is confirmed, or found moved
-pub confirms_more : (w s o : ℕ) (opened pre : List ℕ) (gs : List Kept) (g g' : Kept) (c : Scan) → get_elem? opened (length pre) ≡ some o → get_elem? gs (length pre) ≡ some g → length (words_of o g) ≡ w
+pub confirms_more : (w s o : ℕ) (opened pre : List ℕ) (gs : List RememberedRow) (g g' : RememberedRow) (c : Scan) → get_elem? opened (length pre) ≡ some o → get_elem? gs (length pre) ≡ some g → length (words_of o g) ≡ w
     → words_of o g' ≡ words_of o g → version_of g' ≡ cond (o == s) (record { number = o; row = words_of o g }) (version_of g)
     → confirmed_at w (length pre) s (settling opened pre gs c) ≡ settling opened (pre ++ s ∷ []) (set gs (length pre) g') c
 confirms_more w s o opened pre gs g g' c at there wide same version =
@@ -115,26 +115,26 @@ confirms_more w s o opened pre gs g g' c at there wide same version =
     go false v = sym (set_same (map version_of gs) (length pre) (version_of g) (at_map version_of gs (length pre) g there)) ∙ (ap (set (map version_of gs) (length pre)) (sym v) ∙ sym (map_set version_of gs (length pre) g'))
 
 -- sums of rows
-pub row_in : (k : ℕ) (gs : List Kept) (i : ℕ) (g : Kept) → get_elem? gs i ≡ some g → slice_index g.row.items k ≤ sum_rows k gs
+pub row_in : (k : ℕ) (gs : List RememberedRow) (i : ℕ) (g : RememberedRow) → get_elem? gs i ≡ some g → slice_index g.row.items k ≤ sum_rows k gs
 row_in k [] i g e = absurd (some-ne-none g (sym e))
-row_in k (x ∷ gs) zero g e = let h : slice_index g.row.items k ≡ slice_index x.row.items k = ap (λ (z : Kept). slice_index z.row.items k) (sym (some-injective x g e)) in omega (arith, h)
+row_in k (x ∷ gs) zero g e = let h : slice_index g.row.items k ≡ slice_index x.row.items k = ap (λ (z : RememberedRow). slice_index z.row.items k) (sym (some-injective x g e)) in omega (arith, h)
 row_in k (x ∷ gs) (suc i) g e = let h = row_in k gs i g e in omega (arith, h)
 
-pub sum_low : (w k : ℕ) (gs : List Kept) → k < w → AreWide w gs → sum_rows k gs ≤ length gs * 281474976710655
+pub sum_low : (w k : ℕ) (gs : List RememberedRow) → k < w → AreWide w gs → sum_rows k gs ≤ length gs * 281474976710655
 sum_low w k [] lt wide = omega arith
 sum_low w k (g ∷ gs) lt wide = let h = sum_low w k gs lt (λ q x e. wide (suc q) x e) in let a = (wide 0 g refl).row_low k lt in omega (arith, h, a)
 
-pub sum_set : (k : ℕ) (gs : List Kept) (i : ℕ) (g g' : Kept) → get_elem? gs i ≡ some g → sum_rows k (set gs i g') + slice_index g.row.items k ≡ sum_rows k gs + slice_index g'.row.items k
+pub sum_set : (k : ℕ) (gs : List RememberedRow) (i : ℕ) (g g' : RememberedRow) → get_elem? gs i ≡ some g → sum_rows k (set gs i g') + slice_index g.row.items k ≡ sum_rows k gs + slice_index g'.row.items k
 sum_set k [] i g g' e = absurd (some-ne-none g (sym e))
-sum_set k (x ∷ gs) zero g g' e = let h : slice_index g.row.items k ≡ slice_index x.row.items k = ap (λ (z : Kept). slice_index z.row.items k) (sym (some-injective x g e)) in omega (arith, h)
+sum_set k (x ∷ gs) zero g g' e = let h : slice_index g.row.items k ≡ slice_index x.row.items k = ap (λ (z : RememberedRow). slice_index z.row.items k) (sym (some-injective x g e)) in omega (arith, h)
 sum_set k (x ∷ gs) (suc i) g g' e = let h = sum_set k gs i g g' e in omega (arith, h)
 
-pub words_wide : (w o : ℕ) (g : Kept) → IsWide w g → length (words_of o g) ≡ w
+pub words_wide : (w o : ℕ) (g : RememberedRow) → IsWide w g → length (words_of o g) ≡ w
 words_wide w o g wide = go (g.number == o)
   where
     go : (b : Bool) → length (cond b g.row.items g.fresh.items) ≡ w
     go true = wide.row
     go false = wide.fresh
 
-pub settling_starts : (opened : List ℕ) (gs : List Kept) (c : Scan) → c.kept ≡ map version_of gs → c.now.looks ≡ looks_of 0 opened [] gs → c ≡ settling opened [] gs c
+pub settling_starts : (opened : List ℕ) (gs : List RememberedRow) (c : Scan) → c.kept ≡ map version_of gs → c.now.looks ≡ looks_of 0 opened [] gs → c ≡ settling opened [] gs c
 settling_starts opened gs c kept looks = λ z. record c { confirmed = sym (append-nil c.confirmed) z; before = sym (append-nil c.before) z; kept = kept z; now = record c.now { looks = looks z } }

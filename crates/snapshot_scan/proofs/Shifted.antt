@@ -3,7 +3,7 @@ use Rattle.std.proofs.Common.{◌≡◌, ◌⊎◌, inl, inr, ⊎_elim, ℕ, ◌
 use Rattle.std.proofs.lemmas.List.{get_or-take, length-take-le}
 use Rattle.std.proofs.lemmas.Bool.{cases_order}
 use Rattle.register_rule.proofs.Words.{there, read_at}
-use Rattle.snapshot_scan.specs.Changes.{Changed, Notes, NotesEach}
+use Rattle.snapshot_scan.specs.ChangedItems.{Changed, Notes, NotesEach}
 
 -- the first q of them are noted
 pub record NotesFirst (shift q : ℕ) (items : List ℕ) (old new : Changed) : Type 0 where

@@ -9,7 +9,7 @@ use Rattle.std.specs.Option.{ForSome}
 use Rattle.ledger_core.specs.declared.op.Op.{Op}
 use Rattle.ledger_core.specs.Ops.{width, sum_ops}
 use Rattle.ledger_core.specs.Row.{Accepts, Adds}
-use Rattle.register_rule.specs.declared.view.Entry.{Entry}
+use Rattle.register_rule.specs.declared.view.Answer.{Answer}
 use Rattle.register_rule.specs.declared.view.Made.{Made}
 use Rattle.register_rule.specs.declared.view.Member.{Member}
 use Rattle.register_rule.specs.declared.view.Scan.{Scan}
@@ -24,25 +24,25 @@ use Rattle.snapshot_scan.specs.Moments.{AreMoments}
 use Rattle.snapshot_scan.specs.Scanned.{IsAnswered}
 use Rattle.snapshot_scan.specs.Contention.{IsContended}
 use Rattle.snapshot_scan.specs.declared.contended.Contended.{Contended}
-use Rattle.snapshot_scan.specs.Sources.{newest, Rises, Records}
-use Rattle.snapshot_scan.proofs.LastEntry.{at_end, last_failed}
+use Rattle.snapshot_scan.specs.Sources.{newest, NothingFalls, Records}
+use Rattle.snapshot_scan.proofs.LastAnswer.{at_end, last_failed}
 use Rattle.snapshot_scan.proofs.Totals.{numbers_long, sum_at, totals_legal}
 use Rattle.snapshot_scan.proofs.Words.{front_at}
 
-abbrev entry_or : Entry → Option Entry → Entry
+abbrev entry_or : Answer → Option Answer → Answer
 entry_or a None = a
 entry_or a (Some b) = b
 
-Some-injective : (a b : Entry) → Some a ≡ Some b → a ≡ b
+Some-injective : (a b : Answer) → Some a ≡ Some b → a ≡ b
 Some-injective a b e = ap (entry_or a) e
 
 -- the last one of some stands at the end
-pub newest_at : (l : List Entry) (a : Entry) → newest l ≡ Some a → (q : ℕ) × (get_elem? l q ≡ some a)
+pub newest_at : (l : List Answer) (a : Answer) → newest l ≡ Some a → (q : ℕ) × (get_elem? l q ≡ some a)
 newest_at [] a e = absurd (none-some a e)
 newest_at (x ∷ []) a e = (0, ap some (Some-injective x a e))
 newest_at (x ∷ y ∷ l) a e = let h = newest_at (y ∷ l) a e in (suc h.0, h.1)
 
-pub newest_last : (l : List Entry) (a : Entry) → newest (l ++ a ∷ []) ≡ Some a
+pub newest_last : (l : List Answer) (a : Answer) → newest (l ++ a ∷ []) ≡ Some a
 newest_last [] a = refl
 newest_last (x ∷ []) a = refl
 newest_last (x ∷ y ∷ l) a = newest_last (y ∷ l) a
@@ -86,7 +86,7 @@ beyond (x ∷ l) zero le = absurd (omega (arith, le))
 beyond (x ∷ l) (suc i) le = beyond l i (omega (arith, le))
 
 module _ (n c h g : ℕ) (few : n ≤ 32) (ms : List Member) (ruled : AreRuled n (width c h g) (sum_ops c h) (Accepts c h g) ms) (t : HasMember ms)
-    (before : Scan) (a : Entry) (answered : IsAnswered n before (scan_of ms) a) where
+    (before : Scan) (a : Answer) (answered : IsAnswered n before (scan_of ms) a) where
   sits : get_elem? ms 0 ≡ some t.0
   sits = ap (λ (l : List Member). get_elem? l 0) t.2
 
@@ -97,14 +97,14 @@ module _ (n c h g : ℕ) (few : n ≤ 32) (ms : List Member) (ruled : AreRuled n
   all = ap (λ (x : Scan). x.recorded) (sym is_first) ∙ answered.recorded
 
   here : get_elem? t.0.scan.recorded (length before.recorded) ≡ some a
-  here = ap (λ (l : List Entry). get_elem? l (length before.recorded)) all ∙ at_end before.recorded a
+  here = ap (λ (l : List Answer). get_elem? l (length before.recorded)) all ∙ at_end before.recorded a
 
   a_long : length a.vector ≡ n
   a_long = numbers_long n c h g few ms ruled 0 (length before.recorded) t.0 a sits here
 
-  module _ (b : Entry) (q : ℕ) (there : get_elem? before.recorded q ≡ some b) where
+  module _ (b : Answer) (q : ℕ) (there : get_elem? before.recorded q ≡ some b) where
     still : get_elem? t.0.scan.recorded q ≡ some b
-    still = ap (λ (l : List Entry). get_elem? l q) all ∙ front_at before.recorded (a ∷ []) q b there
+    still = ap (λ (l : List Answer). get_elem? l q) all ∙ front_at before.recorded (a ∷ []) q b there
 
     b_long : length b.vector ≡ n
     b_long = numbers_long n c h g few ms ruled 0 q t.0 b sits still
@@ -159,9 +159,9 @@ module _ (n c h g : ℕ) (few : n ≤ 32) (ms : List Member) (ruled : AreRuled n
   }
 
 -- a plain source: one worker, whose row is all there is
-pub plain_rises : (n c h g count count' : ℕ) (row row' : List ℕ) (ops : List Op) (entries : List Entry) → n ≡ 1 → Adds c h row ops row' → count' ≡ count + 1
-    → ForSome (newest entries) (λ a. Rises n (width c h g) a (record { vector = count ∷ []; totals = row }))
-    → ForSome (newest entries) (λ a. Rises n (width c h g) a (record { vector = count' ∷ []; totals = row' }))
+pub plain_rises : (n c h g count count' : ℕ) (row row' : List ℕ) (ops : List Op) (entries : List Answer) → n ≡ 1 → Adds c h row ops row' → count' ≡ count + 1
+    → ForSome (newest entries) (λ a. NothingFalls n (width c h g) a (record { vector = count ∷ []; totals = row }))
+    → ForSome (newest entries) (λ a. NothingFalls n (width c h g) a (record { vector = count' ∷ []; totals = row' }))
 plain_rises n c h g count count' row row' ops entries one adds more below a e =
     let old = below a e in
     record {
@@ -170,11 +170,11 @@ plain_rises n c h g count count' row row' ops entries one adds more below a e =
       totals = λ k lt. let le = old.totals k lt in let s = adds.sums k in omega (arith, le, s);
     }
 
-pub plain_newest : (n w count : ℕ) (row : List ℕ) (entries entries' : List Entry) (a : Entry) → entries' ≡ entries ++ a ∷ [] → a.vector ≡ count ∷ [] → a.totals ≡ row
-    → ForSome (newest entries') (λ b. Rises n w b (record { vector = count ∷ []; totals = row }))
+pub plain_newest : (n w count : ℕ) (row : List ℕ) (entries entries' : List Answer) (a : Answer) → entries' ≡ entries ++ a ∷ [] → a.vector ≡ count ∷ [] → a.totals ≡ row
+    → ForSome (newest entries') (λ b. NothingFalls n w b (record { vector = count ∷ []; totals = row }))
 plain_newest n w count row entries entries' a is vector totals b e =
     let same : a ≡ b = Some-injective a b (sym (ap newest is ∙ newest_last entries a) ∙ e) in
-    subst (λ (x : Entry). Rises n w x (record { vector = count ∷ []; totals = row })) same (record {
+    subst (λ (x : Answer). NothingFalls n w x (record { vector = count ∷ []; totals = row })) same (record {
       numbers = λ i _. let h : slice_index a.vector i ≡ slice_index (count ∷ []) i = ap (λ (l : List ℕ). slice_index l i) vector in omega (arith, h);
       totals = λ k _. let h : slice_index a.totals k ≡ slice_index row k = ap (λ (l : List ℕ). slice_index l k) totals in omega (arith, h);
     })
@@ -185,7 +185,7 @@ has_member (m ∷ ms) lt = (m, ms, refl)
 
 -- a scan's answer, told by its result
 pub scan_tells : {T E : Type 0} (n c h g : ℕ) (few : n ≤ 32) (ms : List Member) → AreRuled n (width c h g) (sum_ops c h) (Accepts c h g) ms → HasMember ms
-    → AreMoments n c h g (scan_of ms).recorded → (before : Scan) (a : Entry) → length a.totals ≡ width c h g → (answer : Result T E) → OnOk answer (IsAnswered n before (scan_of ms) a)
+    → AreMoments n c h g (scan_of ms).recorded → (before : Scan) (a : Answer) → length a.totals ≡ width c h g → (answer : Result T E) → OnOk answer (IsAnswered n before (scan_of ms) a)
     → OnOk answer (Records n c h g before.recorded (scan_of ms).recorded a)
 scan_tells n c h g few ms ruled t moments before a wide (Ok x) answered = scan_records n c h g few ms ruled t before a answered wide moments
 scan_tells n c h g few ms ruled t moments before a wide (Err e) answered = tt

@@ -14,10 +14,10 @@ use Rattle.register_rule.specs.Steps.{upper}
 use Rattle.register_rule.proofs.Seating.{from_without}
 use Rattle.register_rule.proofs.Upper.{upper_at}
 use Rattle.register_rule.proofs.Words.{there, at_below, read_at}
-use Rattle.snapshot_scan.specs.declared.kept.Kept.{Kept}
+use Rattle.snapshot_scan.specs.declared.remembered_row.RememberedRow.{RememberedRow}
 use Rattle.snapshot_scan.specs.Scanned.{IsIdle}
 use Rattle.snapshot_scan.specs.Shape.{scan_of, with_scan}
-use Rattle.snapshot_scan.specs.Lent.{Stands, HasSeen, behind, AreWorkers, IsWorkerAlone, SeesMore, HasSeenMore}
+use Rattle.snapshot_scan.specs.Lent.{IsWorkerAmong, HasSeen, behind, NoneIsReader, IsWorkerAlone, SeesMore, HasSeenMore}
 
 -- a reader is no worker
 pub no_worker : (i k : ℕ) (who : Who) → who ≡ Reader k → who ≡ Worker i → ⊥
@@ -27,12 +27,12 @@ nothing : {A : Type 0} (p : ℕ) (x : A) → get_elem? [] p ≡ some x → ⊥
 nothing p x e = some-ne-none x (sym e)
 
 -- who stands behind a reader stands at a place after it
-pub stands_behind : (i k : ℕ) (m m0 : Member) (ms : List Member) → m0.who ≡ Reader k → Stands i m (m0 ∷ ms) → Stands i m ms
+pub stands_behind : (i k : ℕ) (m m0 : Member) (ms : List Member) → m0.who ≡ Reader k → IsWorkerAmong i m (m0 ∷ ms) → IsWorkerAmong i m ms
 stands_behind i k m m0 ms is (zero, e, w) = absurd (no_worker i k m0.who is (ap (λ (x : Member). x.who) (some-injective m0 m e) ∙ w))
 stands_behind i k m m0 ms is (suc p, e, w) = (p, e, w)
 
 -- who stands behind a reader stands there after its scan
-pub stands_scanned : (i k : ℕ) (c : Scan) (m : Member) (ms ms' : List Member) → (first_of ms).who ≡ Reader k → ms' ≡ with_scan c ms → Stands i m ms → Stands i m ms'
+pub stands_scanned : (i k : ℕ) (c : Scan) (m : Member) (ms ms' : List Member) → (first_of ms).who ≡ Reader k → ms' ≡ with_scan c ms → IsWorkerAmong i m ms → IsWorkerAmong i m ms'
 stands_scanned i k c m [] ms' first same (p, e, is) = absurd (some-ne-none m (sym e))
 stands_scanned i k c m (m0 ∷ ms) ms' first same s = let b = stands_behind i k m m0 ms first s in (suc b.0, ap (λ (l : List Member). get_elem? l (suc b.0)) same ∙ b.1, b.2)
 
@@ -129,7 +129,7 @@ module _ (k : ℕ) (m0 : Member) (ms : List Member) (is : m0.who ≡ Reader k) w
   pub seen_joined : (ws : List Member) → IsWorkerAlone ws → HasSeen (m0 ∷ ms) → HasSeen (met ((m0 ∷ ms) ++ ws))
   seen_joined ws (j, w, one, whose, own) h = subst (λ (l : List Member). HasSeen (met ((m0 ∷ ms) ++ l))) (sym one) (joined_one j w whose own h)
 
-  pub workers_joined : (ws : List Member) → IsWorkerAlone ws → AreWorkers ms → AreWorkers (behind (met ((m0 ∷ ms) ++ ws)))
+  pub workers_joined : (ws : List Member) → IsWorkerAlone ws → NoneIsReader ms → NoneIsReader (behind (met ((m0 ∷ ms) ++ ws)))
   workers_joined ws (j, w, one, whose, own) all p r m e h =
       let t = from_map (raised (greatest ((m0 ∷ ms) ++ ws))) (ms ++ ws) p m e in
       let named : (t.0).who ≡ Reader r = ap (λ (x : Member). x.who) t.2 ∙ h in
@@ -150,8 +150,8 @@ pub seen_left : (i k : ℕ) (m0 : Member) (ms : List Member) → m0.who ≡ Read
 seen_left i k m0 ms is h = subst HasSeen (sym (reader_stays i k m0 ms is)) (λ j m s.
     let b = stands_behind j k m m0 (without (Worker i) ms) is s in let t = from_without (Worker i) ms b.0 m b.1 in h j m (suc t.0.0, t.0.1, b.2))
 
-pub workers_left : (i k : ℕ) (m0 : Member) (ms : List Member) → m0.who ≡ Reader k → AreWorkers ms → AreWorkers (behind (without (Worker i) (m0 ∷ ms)))
-workers_left i k m0 ms is all = subst (λ (l : List Member). AreWorkers (behind l)) (sym (reader_stays i k m0 ms is)) (λ p r m e. let t = from_without (Worker i) ms p m e in all t.0.0 r m t.0.1)
+pub workers_left : (i k : ℕ) (m0 : Member) (ms : List Member) → m0.who ≡ Reader k → NoneIsReader ms → NoneIsReader (behind (without (Worker i) (m0 ∷ ms)))
+workers_left i k m0 ms is all = subst (λ (l : List Member). NoneIsReader (behind l)) (sym (reader_stays i k m0 ms is)) (λ p r m e. let t = from_without (Worker i) ms p m e in all t.0.0 r m t.0.1)
 
 -- the same, of a seat that scanned
 pub scanned_seen : (k : ℕ) (ms ms' : List Member) → 0 < length ms → (first_of ms).who ≡ Reader k → ms' ≡ with_scan (scan_of ms') ms → SeesMore (scan_of ms).seen (scan_of ms').seen → HasSeen ms → HasSeen ms'
@@ -162,20 +162,20 @@ pub scanned_member : (c : Scan) (ms ms' : List Member) → 0 < length ms → ms'
 scanned_member c [] ms' lt e = absurd (omega (arith, lt))
 scanned_member c (m0 ∷ ms) ms' lt e = (record m0 { scan = c }, ms, e)
 
-pub scanned_workers : (c : Scan) (ms ms' : List Member) → ms' ≡ with_scan c ms → AreWorkers (behind ms) → AreWorkers (behind ms')
-scanned_workers c [] ms' e all = subst (λ (l : List Member). AreWorkers (behind l)) (sym e) all
-scanned_workers c (m0 ∷ ms) ms' e all = subst (λ (l : List Member). AreWorkers (behind l)) (sym e) all
+pub scanned_workers : (c : Scan) (ms ms' : List Member) → ms' ≡ with_scan c ms → NoneIsReader (behind ms) → NoneIsReader (behind ms')
+scanned_workers c [] ms' e all = subst (λ (l : List Member). NoneIsReader (behind l)) (sym e) all
+scanned_workers c (m0 ∷ ms) ms' e all = subst (λ (l : List Member). NoneIsReader (behind l)) (sym e) all
 
 -- what a reader's type says of its members: it is reader k, it scans no more, and behind it are workers, of whom it has seen all
-abbrev pub IsLed : (k : ℕ) → List Kept → List Member → Type 0
-IsLed k gs ms = (0 < length ms) × ((first_of ms).who ≡ Reader k) × IsIdle (scan_of ms) gs × AreWorkers (behind ms) × HasSeen ms
+abbrev pub IsLed : (k : ℕ) → List RememberedRow → List Member → Type 0
+IsLed k gs ms = (0 < length ms) × ((first_of ms).who ≡ Reader k) × IsIdle (scan_of ms) gs × NoneIsReader (behind ms) × HasSeen ms
 
-pub led_joined : (k : ℕ) (gs : List Kept) (ms ws ms' : List Member) → ms' ≡ met (ms ++ ws) → IsWorkerAlone ws → IsLed k gs ms → IsLed k gs ms'
+pub led_joined : (k : ℕ) (gs : List RememberedRow) (ms ws ms' : List Member) → ms' ≡ met (ms ++ ws) → IsWorkerAlone ws → IsLed k gs ms → IsLed k gs ms'
 led_joined k gs [] ws ms' e alone (lt, is, idle, all, seen) = absurd (omega (arith, lt))
 led_joined k gs (m0 ∷ ms) ws ms' e alone (lt, is, idle, all, seen) =
     subst (IsLed k gs) (sym e) (omega arith, is, record { kept = idle.kept; rest = idle.rest }, workers_joined k m0 ms is ws alone all, seen_joined k m0 ms is ws alone seen)
 
-pub led_left : (i k : ℕ) (gs : List Kept) (ms ms' : List Member) → ms' ≡ without (Worker i) ms → IsLed k gs ms → IsLed k gs ms'
+pub led_left : (i k : ℕ) (gs : List RememberedRow) (ms ms' : List Member) → ms' ≡ without (Worker i) ms → IsLed k gs ms → IsLed k gs ms'
 led_left i k gs [] ms' e (lt, is, idle, all, seen) = absurd (omega (arith, lt))
 led_left i k gs (m0 ∷ ms) ms' e (lt, is, idle, all, seen) =
     let stays = reader_stays i k m0 ms is in
@@ -212,7 +212,7 @@ seen_met [] ws ms' lt joins = absurd (omega (arith, lt))
 seen_met (m ∷ ms) ws ms' lt joins = subst (λ (l : List Member). HasSeenMore m.scan (scan_of l)) (sym joins) (record { only = refl; more = sees_upper m.scan.seen (greatest ((m ∷ ms) ++ ws)) })
 
 -- who stands where a worker left stood there before, and is another one
-pub stood_before : (i j : ℕ) (m : Member) (ms ms' : List Member) → ms' ≡ without (Worker j) ms → Stands i m ms' → Stands i m ms × (i ≢ j)
+pub stood_before : (i j : ℕ) (m : Member) (ms ms' : List Member) → ms' ≡ without (Worker j) ms → IsWorkerAmong i m ms' → IsWorkerAmong i m ms × (i ≢ j)
 stood_before i j m ms ms' left (p, e, is) =
     let t = from_without (Worker j) ms p m (ap (λ (l : List Member). get_elem? l p) (sym left) ∙ e) in
     ((t.0.0, t.0.1, is), λ same. true≢false (sym (ap (λ (w : Who). same_who (Worker j) w) is ∙ eq-eqb j i (sym same)) ∙ t.1))

@@ -9,10 +9,10 @@ use Rattle.ledger_core.specs.Row.{Accepts}
 use Rattle.ledger_core.specs.Legal.{IsLegal}
 use Rattle.ledger_core.proofs.Legal.{legal_zeros, legal_ops, legal_sums, sum_same}
 use Rattle.register_rule.specs.declared.view.Made.{Made}
-use Rattle.register_rule.specs.declared.view.Entry.{Entry}
+use Rattle.register_rule.specs.declared.view.Answer.{Answer}
 use Rattle.register_rule.specs.declared.view.Member.{Member}
 use Rattle.register_rule.specs.Sums.{total, row_sum, Legal}
-use Rattle.register_rule.specs.Scans.{IsEntry}
+use Rattle.register_rule.specs.Scans.{IsOneMoment}
 use Rattle.register_rule.specs.Told.{AreRuled}
 use Rattle.register_rule.proofs.Moments.{length_tab}
 use Rattle.register_rule.proofs.Words.{read_at}
@@ -68,8 +68,8 @@ module _ (c h g : ℕ) where
 
 -- an answer that a member of a board of n workers recorded
 module _ (n c h g : ℕ) (few : n ≤ 32) (ms : List Member) (ruled : AreRuled n (width c h g) (sum_ops c h) (Accepts c h g) ms)
-    (p q : ℕ) (m : Member) (a : Entry) (sits : get_elem? ms p ≡ some m) (records : get_elem? m.scan.recorded q ≡ some a) where
-  pub entry : IsEntry n (width c h g) (sum_ops c h) ruled.made ruled.history a
+    (p q : ℕ) (m : Member) (a : Answer) (sits : get_elem? ms p ≡ some m) (records : get_elem? m.scan.recorded q ≡ some a) where
+  pub entry : IsOneMoment n (width c h g) (sum_ops c h) ruled.made ruled.history a
   entry = ((ruled.scans p m sits).recorded q a records).0
 
   -- it has a number for each worker

@@ -8,17 +8,17 @@ use lib.ListN.{get_elem?}
 use Rattle.std.proofs.Math.Bool.{and-false}
 use Rattle.std.proofs.lemmas.Bool.{and_parts, eqb-true, lt-leb}
 use Rattle.register_rule.specs.declared.view.Look.{Look}
-use Rattle.register_rule.specs.declared.view.Entry.{Entry}
+use Rattle.register_rule.specs.declared.view.Answer.{Answer}
 use Rattle.register_rule.specs.declared.view.Version.{Version}
 use Rattle.register_rule.specs.declared.view.Asked.{Asked}
 use Rattle.register_rule.specs.declared.view.Progress.{Progress}
 use Rattle.register_rule.specs.declared.view.Scan.{Scan}
 use Rattle.register_rule.specs.History.{tab}
 use Rattle.register_rule.specs.Scans.{opened_at}
-use Rattle.register_rule.specs.Steps.{every, begun, settled, clean, are_clean, sum_words, entry_of, found_of, due_of, with_base, failed_once_more, answered, gives_up, ended, at_rest}
-use Rattle.snapshot_scan.specs.declared.kept.Kept.{Kept}
-use Rattle.snapshot_scan.specs.Memory.{version_of, AreWide, AreTotals, words_of, looks_of, pairs, opening, settling, sum_rows}
-use Rattle.snapshot_scan.specs.Asking.{refused, refused_all, due_from, worker_of}
+use Rattle.register_rule.specs.Steps.{every, begun, settled, clean, are_clean, sum_words, answer_of_try, found_of, due_of, with_base, failed_once_more, answered, gives_up, ended, at_rest}
+use Rattle.snapshot_scan.specs.declared.remembered_row.RememberedRow.{RememberedRow}
+use Rattle.snapshot_scan.specs.RememberedRows.{version_of, AreWide, AreTotals, words_of, looks_of, pairs, opening, settling, sum_rows}
+use Rattle.snapshot_scan.specs.Asking.{refused, refused_all, due_from, asked_worker}
 use Rattle.snapshot_scan.specs.Scanned.{Tried, all_opened, all_confirmed, all_before, all_asked, FailedTry, IsIdle}
 use Rattle.snapshot_scan.proofs.Opening.{looks_long}
 use Rattle.snapshot_scan.proofs.Settling.{settled_here, words_wide}
@@ -30,14 +30,14 @@ clean_here w q s f ws long = ap (clean w) (settled_here q f s ws) ∙ (ap (λ (b
     and_true true = refl
     and_true false = refl
 
-pub clean_all : (w q : ℕ) (opened : List ℕ) (gs : List Kept) → AreWide w gs → length opened ≤ length gs → every (clean w) (looks_of q opened opened gs) ≡ true
+pub clean_all : (w q : ℕ) (opened : List ℕ) (gs : List RememberedRow) → AreWide w gs → length opened ≤ length gs → every (clean w) (looks_of q opened opened gs) ≡ true
 clean_all w q [] gs wide h = refl
 clean_all w q (s ∷ opened) [] wide h = absurd (omega (arith, h))
 clean_all w q (s ∷ opened) (g ∷ gs) wide h =
     let a = clean_here w q s s (words_of s g) (words_wide w s g (wide 0 g refl)) ∙ eq-eqb s s refl in
     let others = clean_all w (suc q) opened gs (λ p x e. wide (suc p) x e) (omega (arith, h)) in λ z. a z && others z
 
-pub clean_same : (w q : ℕ) (opened found : List ℕ) (gs : List Kept) → AreWide w gs → length opened ≡ length gs → length found ≡ length gs → every (clean w) (looks_of q opened found gs) ≡ true → opened ≡ found
+pub clean_same : (w q : ℕ) (opened found : List ℕ) (gs : List RememberedRow) → AreWide w gs → length opened ≡ length gs → length found ≡ length gs → every (clean w) (looks_of q opened found gs) ≡ true → opened ≡ found
 clean_same w q [] [] gs wide h k t = refl
 clean_same w q [] (f ∷ found) gs wide h k t = absurd (omega (arith, h, k))
 clean_same w q (s ∷ opened) [] gs wide h k t = absurd (omega (arith, h, k))
@@ -47,20 +47,20 @@ clean_same w q (s ∷ opened) (f ∷ found) (g ∷ gs) wide h k t =
     let same : s ≡ f = eqb-true s f (sym (clean_here w q s f (words_of s g) (words_wide w s g (wide 0 g refl))) ∙ b.0) in
     let others = clean_same w (suc q) opened found gs (λ p x e. wide (suc p) x e) (omega (arith, h)) (omega (arith, k)) b.1 in λ z. same z ∷ others z
 
-pub numbers_are : (q : ℕ) (opened found : List ℕ) (gs : List Kept) → length opened ≤ length gs → map opened_at (looks_of q opened found gs) ≡ opened
+pub numbers_are : (q : ℕ) (opened found : List ℕ) (gs : List RememberedRow) → length opened ≤ length gs → map opened_at (looks_of q opened found gs) ≡ opened
 numbers_are q [] found gs h = refl
 numbers_are q (s ∷ opened) found [] h = absurd (omega (arith, h))
 numbers_are q (s ∷ opened) [] (g ∷ gs) h = ap (λ z. s ∷ z) (numbers_are (suc q) opened [] gs (omega (arith, h)))
 numbers_are q (s ∷ opened) (f ∷ found) (g ∷ gs) h = let a = ap opened_at (settled_here q f s (words_of s g)) in let others = numbers_are (suc q) opened found gs (omega (arith, h)) in λ z. a z ∷ others z
 
-pub founds_are : (q : ℕ) (opened found : List ℕ) (gs : List Kept) → length opened ≡ length gs → length found ≡ length gs → map found_of (looks_of q opened found gs) ≡ found
+pub founds_are : (q : ℕ) (opened found : List ℕ) (gs : List RememberedRow) → length opened ≡ length gs → length found ≡ length gs → map found_of (looks_of q opened found gs) ≡ found
 founds_are q [] [] gs h k = refl
 founds_are q [] (f ∷ found) gs h k = absurd (omega (arith, h, k))
 founds_are q (s ∷ opened) [] gs h k = absurd (omega (arith, h, k))
 founds_are q (s ∷ opened) (f ∷ found) [] h k = absurd (omega (arith, h))
 founds_are q (s ∷ opened) (f ∷ found) (g ∷ gs) h k = let a = ap found_of (settled_here q f s (words_of s g)) in let others = founds_are (suc q) opened found gs (omega (arith, h)) (omega (arith, k)) in λ z. a z ∷ others z
 
-pub dues_are : (q : ℕ) (base opened found : List ℕ) (gs : List Kept) → length opened ≡ length gs → length found ≡ length gs → due_of base (looks_of q opened found gs) ≡ due_from q base found
+pub dues_are : (q : ℕ) (base opened found : List ℕ) (gs : List RememberedRow) → length opened ≡ length gs → length found ≡ length gs → due_of base (looks_of q opened found gs) ≡ due_from q base found
 dues_are q [] opened found gs h k = refl
 dues_are q (x ∷ base) [] [] gs h k = refl
 dues_are q (x ∷ base) [] (f ∷ found) gs h k = absurd (omega (arith, h, k))
@@ -70,7 +70,7 @@ dues_are q (x ∷ base) (s ∷ opened) (f ∷ found) (g ∷ gs) h k =
     let a = settled_here q f s (words_of s g) in let others = dues_are (suc q) base opened found gs (omega (arith, h)) (omega (arith, k)) in
     λ z. cond (nat_le (x + 2) (a z).found) ((a z).place ∷ others z) (others z)
 
-pub sums_are : (k q : ℕ) (opened found : List ℕ) (gs : List Kept) → length opened ≡ length gs → length found ≡ length gs → ((p : ℕ) (g : Kept) → get_elem? gs p ≡ some g → g.number ≡ slice_index opened p) → sum_words k (looks_of q opened found gs) ≡ sum_rows k gs
+pub sums_are : (k q : ℕ) (opened found : List ℕ) (gs : List RememberedRow) → length opened ≡ length gs → length found ≡ length gs → ((p : ℕ) (g : RememberedRow) → get_elem? gs p ≡ some g → g.number ≡ slice_index opened p) → sum_words k (looks_of q opened found gs) ≡ sum_rows k gs
 sums_are k q [] [] [] h e held = refl
 sums_are k q [] [] (g ∷ gs) h e held = absurd (omega (arith, h))
 sums_are k q [] (f ∷ found) gs h e held = absurd (omega (arith, h, e))
@@ -89,34 +89,34 @@ tab_is i (suc w) f (x ∷ l) e h =
     let others = tab_is (suc i) w f l (omega (arith, e)) (λ k lt. let m : suc i + k ≡ i + suc k = omega arith in ap f m ∙ h (suc k) (omega (arith, lt))) in λ t. a t ∷ others t
 
 -- what the second collect ends with
-module _ (n w : ℕ) (opened found : List ℕ) (gs : List Kept) (c : Scan) (few : length gs ≡ n) (long : length opened ≡ n) (deep : length found ≡ n) (wide : AreWide w gs) where
+module _ (n w : ℕ) (opened found : List ℕ) (gs : List RememberedRow) (c : Scan) (few : length gs ≡ n) (long : length opened ≡ n) (deep : length found ≡ n) (wide : AreWide w gs) where
   abbrev end : Scan
   end = settling opened found gs c
 
   looks_all : (length (looks_of 0 opened found gs) == n) ≡ true
   looks_all = eq-eqb _ n (looks_long 0 opened found gs (omega (arith, few, long)) ∙ long)
 
-  pub ends_clean : (totals : List ℕ) → length totals ≡ w → opened ≡ found → ((p : ℕ) (g : Kept) → get_elem? gs p ≡ some g → g.number ≡ slice_index opened p) → AreTotals w gs totals
+  pub ends_clean : (totals : List ℕ) → length totals ≡ w → opened ≡ found → ((p : ℕ) (g : RememberedRow) → get_elem? gs p ≡ some g → g.number ≡ slice_index opened p) → AreTotals w gs totals
       → ended n w (settling opened found gs c) ≡ answered (record { vector = opened; totals = totals }) (settling opened found gs c)
   ends_clean totals sized same held sums =
       let all : are_clean n w (looks_of 0 opened found gs) ≡ true = λ z. looks_all z && (ap (λ (f : List ℕ). every (clean w) (looks_of 0 opened f gs)) (sym same) ∙ clean_all w 0 opened gs wide (omega (arith, few, long))) z in
-      let answer : entry_of w (looks_of 0 opened found gs) ≡ record { vector = opened; totals = totals } =
+      let answer : answer_of_try w (looks_of 0 opened found gs) ≡ record { vector = opened; totals = totals } =
       (λ z. record {
         vector = numbers_are 0 opened found gs (omega (arith, few, long)) z;
         totals = tab_is 0 w (λ k. sum_words k (looks_of 0 opened found gs)) totals sized (λ k lt. let e : 0 + k ≡ k = omega arith in ap (λ (j : ℕ). sum_words j (looks_of 0 opened found gs)) e ∙ (sums_are k 0 opened found gs (long ∙ sym few) (deep ∙ sym few) held ∙ sym (sums k lt))) z;
       }) in
-      ap (λ (b : Bool). cond b (answered (entry_of w (looks_of 0 opened found gs)) end) (gives_up n (record end { now = failed_once_more (with_base end.now) }))) all
-      ∙ ap (λ (a : Entry). answered a end) answer
+      ap (λ (b : Bool). cond b (answered (answer_of_try w (looks_of 0 opened found gs)) end) (gives_up n (record end { now = failed_once_more (with_base end.now) }))) all
+      ∙ ap (λ (a : Answer). answered a end) answer
 
   pub ends_failed : opened ≢ found → ended n w (settling opened found gs c) ≡ gives_up n (record (settling opened found gs c) { now = failed_once_more (with_base (settling opened found gs c).now) })
   ends_failed differ = go (are_clean n w (looks_of 0 opened found gs)) refl
     where
-      go : (b : Bool) → are_clean n w (looks_of 0 opened found gs) ≡ b → cond b (answered (entry_of w (looks_of 0 opened found gs)) end) (gives_up n (record end { now = failed_once_more (with_base end.now) })) ≡ gives_up n (record end { now = failed_once_more (with_base end.now) })
+      go : (b : Bool) → are_clean n w (looks_of 0 opened found gs) ≡ b → cond b (answered (answer_of_try w (looks_of 0 opened found gs)) end) (gives_up n (record end { now = failed_once_more (with_base end.now) })) ≡ gives_up n (record end { now = failed_once_more (with_base end.now) })
       go true t = absurd (differ (clean_same w 0 opened found gs wide (long ∙ sym few) (deep ∙ sym few) (and_parts _ _ t).1))
       go false t = refl
 
 -- after these tries, none of which ended the scan
-abbrev pub stood : List Tried → List Kept → (floor base : List ℕ) → Scan → Scan
+abbrev pub stood : List Tried → List RememberedRow → (floor base : List ℕ) → Scan → Scan
 stood tries gs floor base c = record c {
   opened = c.opened ++ all_opened tries;
   confirmed = c.confirmed ++ all_confirmed tries;
@@ -150,7 +150,7 @@ pub given_last : (n : ℕ) (c : Scan) → c.now.due ≡ [] → c.now.failed ≡ 
 given_last n c due last = ap (λ (b : Bool). cond b (record c { quit = c.quit + 1; now = at_rest }) c) (λ z. (ap (λ (l : List ℕ). length l == 0) due ∙ eq-eqb 0 0 refl) z && eq-eqb c.now.failed (n + 2) last z)
 
 -- the loads of a try in which these were asked, and those are still to be asked
-abbrev pub asking : (opened found : List ℕ) → List Kept → (floor base : List ℕ) → (es : List Asked) → (workers : List ℕ) → Scan → Scan
+abbrev pub asking : (opened found : List ℕ) → List RememberedRow → (floor base : List ℕ) → (es : List Asked) → (workers : List ℕ) → Scan → Scan
 asking opened found gs floor base es workers d = record d {
   opened = d.opened ++ pairs 0 opened;
   confirmed = d.confirmed ++ pairs 0 found;
@@ -164,7 +164,7 @@ pub none_due : (q : ℕ) (xs : List ℕ) → due_from q xs xs ≡ []
 none_due q [] = refl
 none_due q (x ∷ xs) = ap (λ (b : Bool). cond b (q ∷ due_from (suc q) xs xs) (due_from (suc q) xs xs)) (lt-leb (x + 2) x (omega arith)) ∙ none_due (suc q) xs
 
-module _ (n w : ℕ) (opened found : List ℕ) (gs gs' : List Kept) (few : length gs ≡ n) (long : length opened ≡ n) (deep : length found ≡ n) where
+module _ (n w : ℕ) (opened found : List ℕ) (gs gs' : List RememberedRow) (few : length gs ≡ n) (long : length opened ≡ n) (deep : length found ≡ n) where
   -- a later try that failed
   pub fails_later : (d : Scan) → (d.now.failed == 0) ≡ false → d.now.asks ≡ []
       → record (settling opened found gs (opening opened gs' d)) { now = failed_once_more (with_base (settling opened found gs (opening opened gs' d)).now) }
@@ -202,20 +202,20 @@ module _ (n w : ℕ) (opened found : List ℕ) (gs gs' : List Kept) (few : lengt
       })
 
   -- nobody lends
-  pub asked_none : (floor base : List ℕ) (es before : List Asked) (d : Scan) → refused_all n es (gives_up n (asking opened found gs floor base before (map worker_of es) d)) ≡ gives_up n (asking opened found gs floor base (before ++ es) [] d)
+  pub asked_none : (floor base : List ℕ) (es before : List Asked) (d : Scan) → refused_all n es (gives_up n (asking opened found gs floor base before (map asked_worker es) d)) ≡ gives_up n (asking opened found gs floor base (before ++ es) [] d)
   asked_none floor base [] before d = ap (λ (l : List Asked). gives_up n (asking opened found gs floor base l [] d)) (sym (append-nil before))
   asked_none floor base (e ∷ es) before d =
-      ap (λ (x : Scan). refused_all n es (gives_up n (refused e x))) (given_due n (asking opened found gs floor base before (map worker_of (e ∷ es)) d) (worker_of e) (map worker_of es) refl)
-      ∙ (ap (λ (l : List Asked). refused_all n es (gives_up n (record (asking opened found gs floor base before (map worker_of es) d) { asked = l }))) (append_assoc d.asked before (e ∷ []))
+      ap (λ (x : Scan). refused_all n es (gives_up n (refused e x))) (given_due n (asking opened found gs floor base before (map asked_worker (e ∷ es)) d) (asked_worker e) (map asked_worker es) refl)
+      ∙ (ap (λ (l : List Asked). refused_all n es (gives_up n (record (asking opened found gs floor base before (map asked_worker es) d) { asked = l }))) (append_assoc d.asked before (e ∷ []))
       ∙ (asked_none floor base es (before ++ e ∷ []) d
       ∙ ap (λ (l : List Asked). gives_up n (asking opened found gs floor base l [] d)) (append_assoc before (e ∷ []) es)))
 
   -- the next one lends
-  pub asked_some : (floor base more : List ℕ) (i : ℕ) (es before : List Asked) (d : Scan) → refused_all n es (gives_up n (asking opened found gs floor base before (map worker_of es ++ i ∷ more) d)) ≡ asking opened found gs floor base (before ++ es) (i ∷ more) d
+  pub asked_some : (floor base more : List ℕ) (i : ℕ) (es before : List Asked) (d : Scan) → refused_all n es (gives_up n (asking opened found gs floor base before (map asked_worker es ++ i ∷ more) d)) ≡ asking opened found gs floor base (before ++ es) (i ∷ more) d
   asked_some floor base more i [] before d = given_due n (asking opened found gs floor base before (i ∷ more) d) i more refl ∙ ap (λ (l : List Asked). asking opened found gs floor base l (i ∷ more) d) (sym (append-nil before))
   asked_some floor base more i (e ∷ es) before d =
-      ap (λ (x : Scan). refused_all n es (gives_up n (refused e x))) (given_due n (asking opened found gs floor base before (map worker_of (e ∷ es) ++ i ∷ more) d) (worker_of e) (map worker_of es ++ i ∷ more) refl)
-      ∙ (ap (λ (l : List Asked). refused_all n es (gives_up n (record (asking opened found gs floor base before (map worker_of es ++ i ∷ more) d) { asked = l }))) (append_assoc d.asked before (e ∷ []))
+      ap (λ (x : Scan). refused_all n es (gives_up n (refused e x))) (given_due n (asking opened found gs floor base before (map asked_worker (e ∷ es) ++ i ∷ more) d) (asked_worker e) (map asked_worker es ++ i ∷ more) refl)
+      ∙ (ap (λ (l : List Asked). refused_all n es (gives_up n (record (asking opened found gs floor base before (map asked_worker es ++ i ∷ more) d) { asked = l }))) (append_assoc d.asked before (e ∷ []))
       ∙ (asked_some floor base more i es (before ++ e ∷ []) d
       ∙ ap (λ (l : List Asked). asking opened found gs floor base l (i ∷ more) d) (append_assoc before (e ∷ []) es)))
 
@@ -244,7 +244,7 @@ count_snoc [] t = refl
 count_snoc (x ∷ ts) t = let h = count_snoc ts t in omega (arith, h)
 
 -- one more try has failed
-pub stood_more : (tries : List Tried) (gs0 gs : List Kept) (floor0 base0 floor base opened found : List ℕ) (es : List Asked) (c : Scan)
+pub stood_more : (tries : List Tried) (gs0 gs : List RememberedRow) (floor0 base0 floor base opened found : List ℕ) (es : List Asked) (c : Scan)
     → asking opened found gs floor base es [] (stood tries gs0 floor0 base0 c) ≡ stood (tries ++ record { first = opened; second = found; asks = es } ∷ []) gs floor base c
 stood_more tries gs0 gs floor0 base0 floor base opened found es c =
     let t : Tried = record { first = opened; second = found; asks = es } in
@@ -294,9 +294,9 @@ abbrev sums_by : (k : ℕ) → List Version → ℕ
 sums_by k [] = 0
 sums_by k (v ∷ vs) = slice_index v.row k + sums_by k vs
 
-pub sums_same : (k : ℕ) (gs hs : List Kept) → map version_of gs ≡ map version_of hs → sum_rows k gs ≡ sum_rows k hs
+pub sums_same : (k : ℕ) (gs hs : List RememberedRow) → map version_of gs ≡ map version_of hs → sum_rows k gs ≡ sum_rows k hs
 sums_same k gs hs e = go gs ∙ (ap (sums_by k) e ∙ sym (go hs))
   where
-    go : (gs : List Kept) → sum_rows k gs ≡ sums_by k (map version_of gs)
+    go : (gs : List RememberedRow) → sum_rows k gs ≡ sums_by k (map version_of gs)
     go [] = refl
     go (g ∷ gs) = ap (λ z. slice_index g.row.items k + z) (go gs)

@@ -7,7 +7,7 @@ use lib.ListN.{get_elem?}
 use Rattle.register_rule.specs.declared.view.Member.{Member}
 use Rattle.register_rule.specs.declared.view.Scan.{Scan}
 use Rattle.register_rule.specs.Steps.{after_read}
-use Rattle.register_rule.specs.Members.{led, scanned}
+use Rattle.register_rule.specs.Members.{led, scan_changed}
 use Rattle.register_rule.specs.Seats.{HasMember}
 use Rattle.snapshot_scan.specs.Shape.{with_scan, scan_of, read_all}
 
@@ -22,11 +22,11 @@ read_snoc w i s from (y ∷ ys) x c = let e : suc from + length ys ≡ from + su
     read_snoc w i s (suc from) ys x (after_read w i s from y c) ∙ ap (λ (z : ℕ). after_read w i s z x (read_all w i s (suc from) ys (after_read w i s from y c))) e
 
 -- two steps of the first member
-pub led_led : (f g h : Scan → Scan) (ms : List Member) → ((c : Scan) → f (g c) ≡ h c) → led (scanned f) (led (scanned g) ms) ≡ led (scanned h) ms
+pub led_led : (f g h : Scan → Scan) (ms : List Member) → ((c : Scan) → f (g c) ≡ h c) → led (scan_changed f) (led (scan_changed g) ms) ≡ led (scan_changed h) ms
 led_led f g h [] e = refl
 led_led f g h (m ∷ ms) e = ap (λ (c : Scan). record m { scan = c } ∷ ms) (e m.scan)
 
-pub led_some : (f : Scan → Scan) (ms : List Member) → HasMember ms → HasMember (led (scanned f) ms)
+pub led_some : (f : Scan → Scan) (ms : List Member) → HasMember ms → HasMember (led (scan_changed f) ms)
 led_some f [] t = t
 led_some f (m ∷ ms) t = (record m { scan = f m.scan }, ms, refl)
 
@@ -57,7 +57,7 @@ scan_with c [] t = absurd (nil_cons t.2)
     nil_cons e = cc
 scan_with c (m ∷ ms) t = refl
 
-pub with_led : (f : Scan → Scan) (c : Scan) (ms : List Member) → led (scanned f) (with_scan c ms) ≡ with_scan (f c) ms
+pub with_led : (f : Scan → Scan) (c : Scan) (ms : List Member) → led (scan_changed f) (with_scan c ms) ≡ with_scan (f c) ms
 with_led f c [] = refl
 with_led f c (m ∷ ms) = refl
 

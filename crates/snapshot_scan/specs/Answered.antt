@@ -1,7 +1,7 @@
 -- What a scan does to the reader that makes it.
 use Rattle.std.specs.Prelude.{◌≡◌, ℕ}
 use Rattle.ledger_core.specs.Ops.{width}
-use Rattle.register_rule.specs.declared.view.Entry.{Entry}
+use Rattle.register_rule.specs.declared.view.Answer.{Answer}
 use Rattle.snapshot_scan.specs.Shape.{with_scan}
 use Rattle.snapshot_scan.specs.Scanned.{IsAnswered}
 use Rattle.snapshot_scan.specs.Contention.{IsContended}
@@ -18,7 +18,7 @@ module _ {N C H G : ℕ} where
     pub others : members_with r' ≡ with_scan (scan_by r') (members_with r)
 
   -- by one scan it learned this answer, which has the number of each worker that is lent to it
-  pub record HasAnswered (r r' : Reader N C H G) (a : Entry) : Type 0 where
+  pub record HasAnswered (r r' : Reader N C H G) (a : Answer) : Type 0 where
     pub scanned : HasScanned r r'
     pub answered : IsAnswered N (scan_by r) (scan_by r') a
     pub answers : AnswersBy N (width C H G) (scan_by r) (scan_by r') a

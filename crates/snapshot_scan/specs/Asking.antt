@@ -13,8 +13,8 @@ IsBelow floor vector = (q x y : ℕ) × (get_elem? floor q ≡ some x) × (get_e
 
 -- an asked worker does not lend: it was not found under the same number again, its flag was read as 0, or its vector as
 -- below the floor
-abbrev pub Refuses : (n : ℕ) → (floor : List ℕ) → Asked → Type 0
-Refuses n floor e = (e.number ≢ e.again) ⊎ ((get_elem? e.words 0 ≡ some 0) ⊎ IsBelow floor (take n (drop 1 e.words)))
+abbrev pub DoesNotLend : (n : ℕ) → (floor : List ℕ) → Asked → Type 0
+DoesNotLend n floor e = (e.number ≢ e.again) ⊎ ((get_elem? e.words 0 ≡ some 0) ⊎ IsBelow floor (take n (drop 1 e.words)))
 
 -- an asked worker lends: it was found under the same number again, all its words were read, its flag is 1, and its vector is
 -- below the floor nowhere
@@ -39,8 +39,8 @@ due_from q (x ∷ base) [] = []
 due_from q (x ∷ base) (f ∷ found) = cond (nat_le (x + 2) f) (q ∷ due_from (suc q) base found) (due_from (suc q) base found)
 
 -- which worker was asked
-abbrev pub worker_of : Asked → ℕ
-worker_of e = e.worker
+abbrev pub asked_worker : Asked → ℕ
+asked_worker e = e.worker
 
 -- these workers were asked, one by one, and did not lend
 abbrev pub refused_all : (n : ℕ) → List Asked → Scan → Scan

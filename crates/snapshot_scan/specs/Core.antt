@@ -2,7 +2,7 @@
 -- loads found.
 use Rattle.std.specs.Prelude.{◌≡◌, ℕ, suc, ◌==◌, not, cond, false, Option, Some, None, List, [], ◌∷◌, ◌++◌, map, take, drop}
 use Rattle.register_rule.specs.declared.view.Asked.{Asked}
-use Rattle.register_rule.specs.declared.view.Entry.{Entry}
+use Rattle.register_rule.specs.declared.view.Answer.{Answer}
 use Rattle.register_rule.specs.declared.view.Scan.{Scan}
 use Rattle.snapshot_core.specs.declared.next.Next.{Next}
 use Rattle.snapshot_core.specs.declared.next.Next.TheVariants.{Direct, Lent}
@@ -53,13 +53,13 @@ pub record CameTo (n w : ℕ) (c c' : Scan) (next : Next) : Type 0 where
   pub comes : Comes n (core_reads n w (before ++ last ∷ [])) next
 
 -- the answer of a scan that ended so: the numbers that its last try opened, or the view that was lent to it last
-abbrev pub EndsWith : (n w : ℕ) → Tried → Next → Entry → Type 0
+abbrev pub EndsWith : (n w : ℕ) → Tried → Next → Answer → Type 0
 EndsWith n w last Direct a = a.vector ≡ last.first
 EndsWith n w last (Lent from) a = (asks : List Asked) × (e : Asked) × (last.asks ≡ asks ++ e ∷ []) × (e.worker ≡ from) × (a ≡ lent_in n w e.words)
 EndsWith n w last _ a = ⊥
 
 -- from c to c' a scan came to an end, direct or lent, with this answer
-pub record AnswersBy (n w : ℕ) (c c' : Scan) (a : Entry) : Type 0 where
+pub record AnswersBy (n w : ℕ) (c c' : Scan) (a : Answer) : Type 0 where
   pub next : Next
   pub came : CameTo n w c c' next
   pub ends : EndsWith n w came.last next a

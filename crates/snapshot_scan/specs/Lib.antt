@@ -1,14 +1,14 @@
 pub mod Shape
-pub mod Changes
+pub mod ChangedItems
 pub mod Exchange
 pub mod Reading
-pub mod Memory
+pub mod RememberedRows
 pub mod Collecting
 pub mod Asking
 pub mod Scanned
 pub mod Contention
 pub mod Core
-pub mod Memories
+pub mod ScanMemories
 pub mod Snapshots
 pub mod Readers
 pub mod Answered

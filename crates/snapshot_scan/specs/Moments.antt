@@ -3,7 +3,7 @@ use Rattle.std.specs.Prelude.{◌≡◌, ℕ, ◌<◌, ◌≤◌, ◌==◌, cond
 use Rattle.ledger_core.specs.declared.op.Op.{Op}
 use Rattle.ledger_core.specs.Ops.{width, sum_ops}
 use Rattle.ledger_core.specs.Row.{Accepts}
-use Rattle.register_rule.specs.declared.view.Entry.{Entry}
+use Rattle.register_rule.specs.declared.view.Answer.{Answer}
 use Rattle.register_rule.specs.History.{tab}
 
 -- a publish: the worker that made it, and its list of operations
@@ -32,28 +32,28 @@ module _ (n c h g : ℕ) where
   AreAccepted before (p ∷ ps) = (p.worker < n) × Accepts c h g (sum_lists c h (lists_by p.worker before)) p.ops × AreAccepted (before ++ p ∷ []) ps
 
   -- the answer is what these publishes come to: how often each worker published, and of each word the plain sum of all lists
-  pub record IsAfter (publishes : List Publish) (a : Entry) : Type 0 where
+  pub record IsAfter (publishes : List Publish) (a : Answer) : Type 0 where
     pub numbers : a.vector ≡ tab 0 n (λ i. length (lists_by i publishes))
     pub totals : (k : ℕ) → k < width c h g → slice_index a.totals k ≡ sum_all c h publishes k
 
   -- each answer is what a beginning of the history comes to, which is no shorter than that of the answer before it
-  abbrev pub AreAlong : (history : List Publish) → (from : ℕ) → List Entry → Type 0
+  abbrev pub AreAlong : (history : List Publish) → (from : ℕ) → List Answer → Type 0
   AreAlong history from [] = Unit {0}
   AreAlong history from (a ∷ rest) = (t : ℕ) × (from ≤ t) × (t ≤ length history) × IsAfter (take t history) a × AreAlong history t rest
 
   -- a history of publishes along which these answers stand
-  pub record HaveHistory (answers : List Entry) : Type 0 where
+  pub record HaveHistory (answers : List Answer) : Type 0 where
     pub history : List Publish
     pub accepted : AreAccepted [] history
     pub along : AreAlong history 0 answers
 
   -- the answers are moments of one history of publishes, in order
-  abbrev pub AreMoments : List Entry → Type 0
+  abbrev pub AreMoments : List Answer → Type 0
   AreMoments answers = ∥ HaveHistory answers ∥₁
 
   -- these answers stand along a history, and the numbers and totals of all of it are this count and this row: those of a source of
   -- one worker
-  pub record ComeTo (count : ℕ) (row : List ℕ) (answers : List Entry) : Type 0 where
+  pub record ComeTo (count : ℕ) (row : List ℕ) (answers : List Answer) : Type 0 where
     pub history : List Publish
     pub accepted : AreAccepted [] history
     pub along : AreAlong history 0 answers

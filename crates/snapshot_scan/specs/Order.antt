@@ -5,7 +5,7 @@ use Rattle.std.specs.declared.cmp.Ordering.TheVariants.{Less, Equal, Greater}
 use mathlib.Core.Option.{some}
 use lib.ListN.{get_elem?}
 use Rattle.register_rule.specs.History.{Below}
-use Rattle.register_rule.specs.declared.view.Entry.{Entry}
+use Rattle.register_rule.specs.declared.view.Answer.{Answer}
 use Rattle.snapshot_scan.specs.declared.reader.Reader.{Reader}
 use Rattle.snapshot_scan.specs.Lent.{behind}
 use Rattle.snapshot_scan.specs.Readers.{members_with, scan_by}
@@ -18,7 +18,7 @@ IsOrder u v Greater = Below v u × (u ≢ v)
 
 module _ {N C H G : ℕ} where
   -- a scan of this reader recorded it
-  abbrev pub HasRecorded : Reader N C H G → Entry → Type 0
+  abbrev pub HasRecorded : Reader N C H G → Answer → Type 0
   HasRecorded r a = (q : ℕ) × (get_elem? (scan_by r).recorded q ≡ some a)
 
   -- no worker is lent to the reader

@@ -3,7 +3,7 @@ use Rattle.std.specs.Prelude.{◌≡◌, ℕ, ◌+◌, ◌<◌, List, [], ◌∷
 use Rattle.ledger_core.specs.OpFault.{IsOpFault}
 use Rattle.ledger_core.specs.Row.{Accepts, Adds}
 use Rattle.ledger_core.specs.declared.op.Op.{Op}
-use Rattle.register_rule.specs.declared.view.Entry.{Entry}
+use Rattle.register_rule.specs.declared.view.Answer.{Answer}
 use Rattle.snapshot_scan.specs.declared.plain.PlainSource.{PlainSource}
 use Rattle.snapshot_scan.specs.declared.plain_fault.PlainFault.{PlainFault}
 use Rattle.snapshot_scan.specs.declared.plain_fault.PlainFault.TheVariants.{Exhausted, Refused}
@@ -18,7 +18,7 @@ module _ {N C H G : ℕ} where
   count_of s = s.count
 
   -- what its scans recorded, in order
-  abbrev pub recorded_by : PlainSource N C H G → List Entry
+  abbrev pub recorded_by : PlainSource N C H G → List Answer
   recorded_by s = s.seat.me.0.entries
 
   -- how many of its scans were given up: none ever is
@@ -26,7 +26,7 @@ module _ {N C H G : ℕ} where
   quit_by s = 0
 
   -- from s to s' one scan was made, which gave this answer: the count and the row, which stay as they were
-  pub record GivesRow (s s' : PlainSource N C H G) (a : Entry) : Type 0 where
+  pub record GivesRow (s s' : PlainSource N C H G) (a : Answer) : Type 0 where
     pub vector : a.vector ≡ count_of s ∷ []
     pub totals : a.totals ≡ row_of s
     pub count : count_of s' ≡ count_of s

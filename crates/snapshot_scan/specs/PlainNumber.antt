@@ -5,6 +5,6 @@ use Rattle.snapshot_scan.specs.declared.plain_fault.PlainFault.{PlainFault}
 use Rattle.snapshot_scan.specs.declared.plain_fault.PlainFault.TheVariants.{Exhausted, Refused}
 
 -- the number of each fault
-abbrev pub plain_number : PlainFault → ℕ
-plain_number Exhausted = 15
-plain_number (Refused fault) = number_of fault
+abbrev pub plain_fault_number : PlainFault → ℕ
+plain_fault_number Exhausted = 15
+plain_fault_number (Refused fault) = number_of fault

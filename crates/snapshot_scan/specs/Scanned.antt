@@ -2,15 +2,15 @@
 use Rattle.std.specs.Prelude.{◌≡◌, ◌≢◌, ◌⊎◌, ℕ, ◌+◌, ◌<◌, ◌≤◌, List, [], ◌∷◌, ◌++◌, length, map, slice_index}
 use mathlib.Core.Option.{some}
 use lib.ListN.{get_elem?}
-use Rattle.register_rule.specs.declared.view.Entry.{Entry}
+use Rattle.register_rule.specs.declared.view.Answer.{Answer}
 use Rattle.register_rule.specs.declared.view.Asked.{Asked}
 use Rattle.register_rule.specs.declared.view.Scan.{Scan}
 use Rattle.register_rule.specs.declared.view.Version.{Version}
 use Rattle.register_rule.specs.History.{Below}
 use Rattle.register_rule.specs.Steps.{at_rest, upper}
-use Rattle.snapshot_scan.specs.declared.kept.Kept.{Kept}
-use Rattle.snapshot_scan.specs.Memory.{version_of, AreKnown, HasOther, pairs}
-use Rattle.snapshot_scan.specs.Asking.{Refuses, due_from, worker_of}
+use Rattle.snapshot_scan.specs.declared.remembered_row.RememberedRow.{RememberedRow}
+use Rattle.snapshot_scan.specs.RememberedRows.{version_of, AreKnown, HasOther, pairs}
+use Rattle.snapshot_scan.specs.Asking.{DoesNotLend, due_from, asked_worker}
 
 -- a try as its loads: the numbers of both collects, and the workers asked
 pub record Tried : Type 0 where
@@ -45,16 +45,16 @@ pub record FailedTry (n : ℕ) (floor base : List ℕ) (t : Tried) : Type 0 wher
   pub found : length t.second ≡ n
   pub risen : (q : ℕ) → q < n → slice_index t.first q ≤ slice_index t.second q
   pub rose : (q : ℕ) × (q < n) × (slice_index t.first q < slice_index t.second q)
-  pub asked : map worker_of t.asks ≡ due_from 0 base t.second
-  pub none : (q : ℕ) (e : Asked) → get_elem? t.asks q ≡ some e → Refuses n floor e
+  pub asked : map asked_worker t.asks ≡ due_from 0 base t.second
+  pub none : (q : ℕ) (e : Asked) → get_elem? t.asks q ≡ some e → DoesNotLend n floor e
 
 -- a scan that is over: what is remembered is what the view has
-pub record IsIdle (c : Scan) (gs : List Kept) : Type 0 where
+pub record IsIdle (c : Scan) (gs : List RememberedRow) : Type 0 where
   pub kept : c.kept ≡ map version_of gs
   pub rest : c.now ≡ at_rest
 
 -- nothing was read anew: what is remembered stands as it stood, and the numbers that were opened are the remembered ones
-pub record IsQuiet (gs gs' : List Kept) (before after opened : List ℕ) : Type 0 where
+pub record IsQuiet (gs gs' : List RememberedRow) (before after opened : List ℕ) : Type 0 where
   pub kept : map version_of gs' ≡ map version_of gs
   pub totals : after ≡ before
   pub known : AreKnown opened gs'
@@ -69,7 +69,7 @@ pub record HasMoved (n : ℕ) (rows : List Version) (c c' : Scan) : Type 0 where
   pub why : HasOther first rows ⊎ (later ≢ [])
 
 -- from c to c' a scan recorded this answer
-pub record IsAnswered (n : ℕ) (c c' : Scan) (a : Entry) : Type 0 where
+pub record IsAnswered (n : ℕ) (c c' : Scan) (a : Answer) : Type 0 where
   pub recorded : c'.recorded ≡ c.recorded ++ a ∷ []
   pub quit : c'.quit ≡ c.quit
   pub seen : c'.seen ≡ upper c.seen a.vector

@@ -1,7 +1,7 @@
 -- What a clause reads of a scanner.
 use Rattle.std.specs.Prelude.{ℕ, List}
 use Rattle.register_rule.specs.declared.board.Board.{Board}
-use Rattle.register_rule.specs.declared.view.Entry.{Entry}
+use Rattle.register_rule.specs.declared.view.Answer.{Answer}
 use Rattle.snapshot_scan.specs.Readers.{scan_by}
 use Rattle.snapshot_scan.specs.declared.reader.Reader.{Reader}
 use Rattle.snapshot_scan.specs.declared.scanner.Scanner.{Scanner}
@@ -16,5 +16,5 @@ module _ {N C H G : ℕ} where
   reader_in s = s.reader
 
   -- what its scans recorded, in order
-  abbrev pub recorded_in : Scanner N C H G → List Entry
+  abbrev pub recorded_in : Scanner N C H G → List Answer
   recorded_in s = (scan_by s.reader).recorded

@@ -8,7 +8,7 @@ use Rattle.register_rule.specs.Steps.{after_open, after_read}
 use Rattle.ledger_core.specs.Ops.{width, sum_ops}
 use Rattle.ledger_core.specs.Row.{Accepts}
 use Rattle.register_rule.specs.Told.{AreRuled}
-use Rattle.register_rule.specs.Members.{first_of, led, scanned}
+use Rattle.register_rule.specs.Members.{first_of, led, scan_changed}
 
 -- what the first of these members has learned by its scans
 abbrev pub scan_of : List Member → Scan
@@ -20,7 +20,7 @@ scan_in b = scan_of (members_of b)
 
 -- the first member's scan is c
 abbrev pub with_scan : Scan → List Member → List Member
-with_scan c ms = led (scanned (λ _. c)) ms
+with_scan c ms = led (scan_changed (λ _. c)) ms
 
 -- loads of these words, from the item `from` on, of the version s of the place i
 abbrev pub read_all : (w i s from : ℕ) → List ℕ → Scan → Scan

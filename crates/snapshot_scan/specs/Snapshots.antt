@@ -2,16 +2,16 @@
 use Rattle.std.specs.Prelude.{◌≡◌, ℕ, ◌<◌, List, length, slice_index}
 use Rattle.ledger_core.specs.Limits.{AreSlots}
 use Rattle.ledger_core.specs.Ops.{width}
-use Rattle.register_rule.specs.declared.view.Entry.{Entry}
+use Rattle.register_rule.specs.declared.view.Answer.{Answer}
 
 -- the number of each worker, and the totals of all rows at these numbers
 pub record Taken : Type 0 where
   pub vector : List ℕ
   pub totals : List ℕ
 
--- as an entry of what a seat has recorded
-abbrev pub entry_of : Taken → Entry
-entry_of t = record { vector = t.vector; totals = t.totals }
+-- as an answer that a seat records
+abbrev pub as_answer : Taken → Answer
+as_answer t = record { vector = t.vector; totals = t.totals }
 
 -- no total of w is 2^53 or more
 abbrev pub AreLow : (w : ℕ) → List ℕ → Type 0

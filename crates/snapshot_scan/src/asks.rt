@@ -9,7 +9,7 @@ ghost use Rattle.ledger_core.specs.Vectors.{is_above};
 ghost use Rattle.register_rule.specs.Steps.{answered, gives_up, lent_in};
 ghost use Rattle.register_rule.specs.Seats.{table_of, members_of, MayScan};
 ghost use Rattle.snapshot_scan.specs.Shape.{scan_in, with_scan, IsRuled};
-ghost use Rattle.snapshot_scan.specs.Asking.{Refuses, Lends, asked_too, refused, due_from, refused_all, worker_of, MayAsk};
+ghost use Rattle.snapshot_scan.specs.Asking.{DoesNotLend, Lends, asked_too, refused, due_from, refused_all, asked_worker, MayAsk};
 
 use crate::items::read_items;
 use register_rule::{Board, ScanSeat};
@@ -47,7 +47,7 @@ fn ask<S: ScanSeat<N, C, H, G>, const N: usize, const C: usize, const H: usize, 
     ensures ruled { IsRuled N C H G (S.bundle seat.new) }
     ensures lends { result ≡ true → (e : Asked) × (e.worker ≡ place) × (e.words ≡ lent.new) × Lends N (width C H G) floor.now e
         × (members_of (S.bundle seat.new) ≡ with_scan (answered (lent_in N (width C H G) lent.new) (asked_too e (scan_in (S.bundle seat.old)))) (members_of (S.bundle seat.old))) }
-    ensures refuses { result ≡ false → (e : Asked) × (e.worker ≡ place) × Refuses N floor.now e
+    ensures refuses { result ≡ false → (e : Asked) × (e.worker ≡ place) × DoesNotLend N floor.now e
         × (members_of (S.bundle seat.new) ≡ with_scan (gives_up N (refused e (scan_in (S.bundle seat.old)))) (members_of (S.bundle seat.old))) }
 {
     let number = board.ask(seat, place);
@@ -94,13 +94,13 @@ pub(crate) fn ask_all<
     ensures own { table_of (S.bundle seat.new) ≡ table_of (S.bundle seat.old) }
     ensures ruled { IsRuled N C H G (S.bundle seat.new) }
     ensures lends { result ≡ true → (es : List Asked) × (e : Asked) × (more : List ℕ)
-        × (map worker_of es ++ worker_of e ∷ more ≡ due_from 0 base.now found.now)
-        × ((q : ℕ) (x : Asked) → get_elem? es q ≡ some x → Refuses N floor.now x)
+        × (map asked_worker es ++ asked_worker e ∷ more ≡ due_from 0 base.now found.now)
+        × ((q : ℕ) (x : Asked) → get_elem? es q ≡ some x → DoesNotLend N floor.now x)
         × (e.words ≡ lent.new) × Lends N (width C H G) floor.now e
         × (members_of (S.bundle seat.new) ≡ with_scan (answered (lent_in N (width C H G) lent.new) (asked_too e (refused_all N es (scan_in (S.bundle seat.old))))) (members_of (S.bundle seat.old))) }
     ensures refuses { result ≡ false → (es : List Asked)
-        × (map worker_of es ≡ due_from 0 base.now found.now)
-        × ((q : ℕ) (e : Asked) → get_elem? es q ≡ some e → Refuses N floor.now e)
+        × (map asked_worker es ≡ due_from 0 base.now found.now)
+        × ((q : ℕ) (e : Asked) → get_elem? es q ≡ some e → DoesNotLend N floor.now e)
         × (members_of (S.bundle seat.new) ≡ with_scan (refused_all N es (scan_in (S.bundle seat.old))) (members_of (S.bundle seat.old))) }
 {
     for place in 0..found.len() {

@@ -6,13 +6,13 @@ ghost use Rattle.ledger_core.specs.Ops.{width};
 ghost use Rattle.segment_layout.specs.Layout.{IsGeometry};
 ghost use Rattle.register_rule.specs.Steps.{ended};
 ghost use Rattle.register_rule.specs.Seats.{table_of, members_of, MayScan};
-ghost use Rattle.snapshot_scan.specs.Changes.{Moves};
+ghost use Rattle.snapshot_scan.specs.ChangedItems.{Moves};
 ghost use Rattle.snapshot_scan.specs.Shape.{scan_in, with_scan, IsRuled};
-ghost use Rattle.snapshot_scan.specs.Memory.{AreWide, AreTotals, AreKnown, version_of, looks_of, settling};
+ghost use Rattle.snapshot_scan.specs.RememberedRows.{AreWide, AreTotals, AreKnown, version_of, looks_of, settling};
 
-use crate::changes::Changes;
+use crate::changed_items::ChangedItems;
 use crate::confirms::confirm_known;
-use crate::kept::Kept;
+use crate::remembered_row::RememberedRow;
 use register_rule::{Board, ScanSeat};
 
 /// The second collect of a try. It says whether each number was found again. Where the totals change is listed in `moved`.
@@ -26,11 +26,11 @@ fn confirm_all<
 >(
     board: &Board<N, C, H, G>,
     seat: &mut S,
-    kept: &mut [Kept],
+    kept: &mut [RememberedRow],
     totals: &mut [u64],
     opened: &[u64],
     found: &mut [u64],
-    moved: &mut Changes,
+    moved: &mut ChangedItems,
 ) -> bool
     requires own { MayScan board.now (S.bundle seat.old) }
     requires geometry { IsGeometry N C H G }
@@ -46,7 +46,7 @@ fn confirm_all<
     ensures totals { AreTotals (width C H G) kept.new totals.new }
     ensures view { members_of (S.bundle seat.new) ≡ with_scan (ended N (width C H G) (settling opened.now found.new kept.new (scan_in (S.bundle seat.old)))) (members_of (S.bundle seat.old)) }
     ensures risen { (q : ℕ) → q < N → slice_index opened.now q ≤ slice_index found.new q }
-    ensures held { (q : ℕ) (g : Kept) → get_elem? kept.new q ≡ some g → slice_index opened.now q ≡ slice_index found.new q → g.number ≡ slice_index opened.now q }
+    ensures held { (q : ℕ) (g : RememberedRow) → get_elem? kept.new q ≡ some g → slice_index opened.now q ≡ slice_index found.new q → g.number ≡ slice_index opened.now q }
     ensures clean { IsTrue result ↔ (opened.now ≡ found.new) }
     ensures listed { Moves (width C H G) totals.old totals.new moved.old moved.new }
 {
@@ -70,11 +70,11 @@ pub(crate) fn confirm<
 >(
     board: &Board<N, C, H, G>,
     seat: &mut S,
-    kept: &mut [Kept],
+    kept: &mut [RememberedRow],
     totals: &mut [u64],
     opened: &[u64],
     found: &mut [u64],
-    moved: &mut Changes,
+    moved: &mut ChangedItems,
     known: bool,
 ) -> bool
     requires own { MayScan board.now (S.bundle seat.old) }
@@ -92,7 +92,7 @@ pub(crate) fn confirm<
     ensures totals { AreTotals (width C H G) kept.new totals.new }
     ensures view { members_of (S.bundle seat.new) ≡ with_scan (ended N (width C H G) (settling opened.now found.new kept.new (scan_in (S.bundle seat.old)))) (members_of (S.bundle seat.old)) }
     ensures risen { (q : ℕ) → q < N → slice_index opened.now q ≤ slice_index found.new q }
-    ensures held { (q : ℕ) (g : Kept) → get_elem? kept.new q ≡ some g → slice_index opened.now q ≡ slice_index found.new q → g.number ≡ slice_index opened.now q }
+    ensures held { (q : ℕ) (g : RememberedRow) → get_elem? kept.new q ≡ some g → slice_index opened.now q ≡ slice_index found.new q → g.number ≡ slice_index opened.now q }
     ensures clean { IsTrue result ↔ (opened.now ≡ found.new) }
     ensures quiet { known ≡ true → (kept.new ≡ kept.old) × (totals.new ≡ totals.old) }
     ensures listed { Moves (width C H G) totals.old totals.new moved.old moved.new }

@@ -8,10 +8,10 @@ ghost use Rattle.register_rule.specs.declared.view.Member.{Member};
 ghost use Rattle.register_rule.specs.Steps.{ended};
 ghost use Rattle.register_rule.specs.Seats.{table_of, members_of, HasMember, MayScan};
 ghost use Rattle.snapshot_scan.specs.Shape.{scan_in, with_scan, IsRuled};
-ghost use Rattle.snapshot_scan.specs.Memory.{AreWide, AreKnown, version_of, looks_of, settling};
+ghost use Rattle.snapshot_scan.specs.RememberedRows.{AreWide, AreKnown, version_of, looks_of, settling};
 ghost use Rattle.snapshot_scan.specs.Collecting.{HasConfirmed};
 
-use crate::kept::Kept;
+use crate::remembered_row::RememberedRow;
 use register_rule::{Board, ScanSeat};
 
 /// How many places are confirmed in one turn.
@@ -39,7 +39,7 @@ fn confirm_one<
     requires inside { (place < N) × (length opened.now ≡ N) × (length found.old ≡ N) }
     ensures own { table_of (S.bundle seat.new) ≡ table_of (S.bundle seat.old) }
     ensures leads { HasMember (members_of (S.bundle seat.new)) }
-    ensures confirmed { (ms : List Member) (gs : List Kept) → length gs ≡ N → HasConfirmed N C H G place ms gs opened.now (members_of (S.bundle seat.old)) found.old same
+    ensures confirmed { (ms : List Member) (gs : List RememberedRow) → length gs ≡ N → HasConfirmed N C H G place ms gs opened.now (members_of (S.bundle seat.old)) found.old same
         → HasConfirmed N C H G (place + 1) ms gs opened.now (members_of (S.bundle seat.new)) found.new result }
 {
     let again = board.confirm(seat, place);
@@ -68,7 +68,7 @@ fn confirm_four<
     requires inside { (place + 4 ≤ N) × (length opened.now ≡ N) × (length found.old ≡ N) }
     ensures own { table_of (S.bundle seat.new) ≡ table_of (S.bundle seat.old) }
     ensures leads { HasMember (members_of (S.bundle seat.new)) }
-    ensures confirmed { (ms : List Member) (gs : List Kept) → length gs ≡ N → HasConfirmed N C H G place ms gs opened.now (members_of (S.bundle seat.old)) found.old same
+    ensures confirmed { (ms : List Member) (gs : List RememberedRow) → length gs ≡ N → HasConfirmed N C H G place ms gs opened.now (members_of (S.bundle seat.old)) found.old same
         → HasConfirmed N C H G (place + 4) ms gs opened.now (members_of (S.bundle seat.new)) found.new result }
 {
     let one = confirm_one(board, seat, opened, found, place, same);
@@ -97,7 +97,7 @@ fn confirm_rest<
     requires geometry { IsGeometry N C H G }
     requires inside { (from ≤ N) × (length opened.now ≡ N) × (length found.old ≡ N) }
     ensures own { table_of (S.bundle seat.new) ≡ table_of (S.bundle seat.old) }
-    ensures confirmed { (ms : List Member) (gs : List Kept) → length gs ≡ N → HasConfirmed N C H G from ms gs opened.now (members_of (S.bundle seat.old)) found.old same
+    ensures confirmed { (ms : List Member) (gs : List RememberedRow) → length gs ≡ N → HasConfirmed N C H G from ms gs opened.now (members_of (S.bundle seat.old)) found.old same
         → HasConfirmed N C H G N ms gs opened.now (members_of (S.bundle seat.new)) found.new result }
 {
     let mut all = same;
@@ -116,7 +116,13 @@ pub(crate) fn confirm_known<
     const C: usize,
     const H: usize,
     const G: usize,
->(board: &Board<N, C, H, G>, seat: &mut S, kept: &[Kept], opened: &[u64], found: &mut [u64]) -> bool
+>(
+    board: &Board<N, C, H, G>,
+    seat: &mut S,
+    kept: &[RememberedRow],
+    opened: &[u64],
+    found: &mut [u64],
+) -> bool
     requires own { MayScan board.now (S.bundle seat.old) }
     requires geometry { IsGeometry N C H G }
     requires lengths { (length kept.now ≡ N) × (length opened.now ≡ N) × (length found.old ≡ N) }

@@ -1,10 +1,10 @@
 //! Sums of rows, where one row takes the place of another.
 ghost use Rattle.std.specs.Prelude.{◌≡◌, ℕ, ◌+◌, ◌-◌, ◌<◌, ◌≤◌, false, length, slice_index, slice_set, Contains};
 ghost use Rattle.bucket_math.specs.Words.{greatest_word};
-ghost use Rattle.snapshot_scan.specs.Changes.{Notes, Moves};
+ghost use Rattle.snapshot_scan.specs.ChangedItems.{Notes, Moves};
 ghost use Rattle.snapshot_scan.specs.Exchange.{Exchanges, AreParts};
 
-use crate::changes::Changes;
+use crate::changed_items::ChangedItems;
 
 /// How many words of two rows are compared at once.
 const BLOCK: usize = 16;
@@ -16,8 +16,8 @@ pub(crate) fn exchange(
     totals: &mut [u64],
     old: &mut [u64],
     new: &[u64],
-    changed: &Changes,
-    moved: &mut Changes,
+    changed: &ChangedItems,
+    moved: &mut ChangedItems,
 )
     requires lengths { (length old.old ≡ length totals.old) × (length new.now ≡ length totals.old) }
     requires words { (j : ℕ) → Contains changed.now.items j → j < length totals.old }
@@ -36,7 +36,7 @@ pub(crate) fn exchange(
 }
 
 /// As [`exchange`], where the two rows may differ at any word.
-fn exchange_all(totals: &mut [u64], old: &mut [u64], new: &[u64], moved: &mut Changes)
+fn exchange_all(totals: &mut [u64], old: &mut [u64], new: &[u64], moved: &mut ChangedItems)
     requires lengths { (length old.old ≡ length totals.old) × (length new.now ≡ length totals.old) }
     requires part { (k : ℕ) → k < length totals.old → (slice_index old.old k ≤ slice_index totals.old k) × (slice_index totals.old k ≤ 9007199254740992) }
     requires low { (k : ℕ) → k < length totals.old → slice_index new.now k ≤ greatest_word }
@@ -55,7 +55,7 @@ fn exchange_at(
     old: &mut [u64],
     new: &[u64],
     items: &[usize],
-    moved: &mut Changes,
+    moved: &mut ChangedItems,
 )
     requires lengths { (length old.old ≡ length totals.old) × (length new.now ≡ length totals.old) }
     requires words { (j : ℕ) → Contains items.now j → j < length totals.old }
@@ -73,7 +73,13 @@ fn exchange_at(
 
 /// Takes one word of a row from its total, adds that of another row, which takes its place, and lists it.
 #[inline(always)]
-fn exchange_word(totals: &mut [u64], old: &mut [u64], new: &[u64], item: usize, moved: &mut Changes)
+fn exchange_word(
+    totals: &mut [u64],
+    old: &mut [u64],
+    new: &[u64],
+    item: usize,
+    moved: &mut ChangedItems,
+)
     requires inside { (item < length totals.old) × (item < length old.old) × (item < length new.now) }
     requires part { slice_index old.old item ≤ slice_index totals.old item }
     requires room { slice_index totals.old item + slice_index new.now item < 18446744073709551616 }
@@ -89,7 +95,7 @@ fn exchange_word(totals: &mut [u64], old: &mut [u64], new: &[u64], item: usize, 
 
 /// Takes the words of one row from the totals, and adds those of another. Where these change is listed in `moved`.
 #[inline(never)]
-fn exchange_sums(totals: &mut [u64], old: &[u64], new: &[u64], moved: &mut Changes)
+fn exchange_sums(totals: &mut [u64], old: &[u64], new: &[u64], moved: &mut ChangedItems)
     requires lengths { (length old.now ≡ length totals.old) × (length new.now ≡ length totals.old) }
     requires part { (k : ℕ) → k < length totals.old → (slice_index old.now k ≤ slice_index totals.old k) × (slice_index totals.old k ≤ 9007199254740992) }
     requires low { (k : ℕ) → k < length totals.old → slice_index new.now k ≤ greatest_word }
@@ -125,7 +131,7 @@ fn exchange_some(
     totals: &mut [u64],
     old: &[u64],
     new: &[u64],
-    moved: &mut Changes,
+    moved: &mut ChangedItems,
     from: usize,
     to: usize,
 )

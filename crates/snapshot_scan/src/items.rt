@@ -3,7 +3,7 @@ ghost use Rattle.std.specs.Prelude.{◌≡◌, ℕ, ◌+◌, ◌<◌, ◌≤◌,
 ghost use Rattle.bucket_math.specs.Words.{greatest_word};
 ghost use Rattle.ledger_core.specs.Ops.{width};
 ghost use Rattle.segment_layout.specs.Layout.{depth};
-ghost use Rattle.register_rule.specs.Members.{led, scanned};
+ghost use Rattle.register_rule.specs.Members.{led, scan_changed};
 ghost use Rattle.register_rule.specs.Seats.{table_of, members_of, MayScan};
 ghost use Rattle.snapshot_scan.specs.Shape.{read_all};
 
@@ -29,7 +29,7 @@ pub(crate) fn read_items<
     requires inside { (place < N) × (from + length words.old ≤ depth N (width C H G)) }
     requires deep { depth N (width C H G) ≤ 2529 }
     ensures own { table_of (S.bundle seat.new) ≡ table_of (S.bundle seat.old) }
-    ensures member { members_of (S.bundle seat.new) ≡ led (scanned (read_all (width C H G) place number from words.new)) (members_of (S.bundle seat.old)) }
+    ensures member { members_of (S.bundle seat.new) ≡ led (scan_changed (read_all (width C H G) place number from words.new)) (members_of (S.bundle seat.old)) }
     ensures bounded { (k : ℕ) → k < length words.new → from + k < width C H G → slice_index words.new k ≤ greatest_word }
 {
     for k in 0..words.len() {

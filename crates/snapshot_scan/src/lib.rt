@@ -2,7 +2,7 @@
 //!
 //! A [`Reader`] scans into a [`Snapshot`]: a vector of how often each worker has published, and the totals of all rows at that
 //! vector. A scan makes at most `N` + 2 tries; it ends direct, where a try met the same numbers twice, with the view that a
-//! worker lent, or with [`Contended`]. It takes no memory and waits for nobody. [`Memory`] is what the scans of one seat work
+//! worker lent, or with [`Contended`]. It takes no memory and waits for nobody. [`ScanMemory`] is what the scans of one seat work
 //! with: the rows that were confirmed last are remembered, so that a scan reads the words of those rows alone that moved.
 //!
 //! A [`Source`] is what snapshots are taken of: a [`Scanner`], which is a board and a reader of it, or a [`PlainSource`], a
@@ -13,42 +13,42 @@
 #![tactic(auto)]
 
 mod asks;
-mod changes;
+mod changed_items;
 mod collects;
 mod confirms;
 mod contended;
-mod ending;
 mod exchange;
 mod items;
-mod kept;
 mod lending;
-mod memory;
-mod no_room;
+mod no_memory_for_seat;
 mod opens;
 mod ordering;
 mod own_row;
 mod plain;
 mod plain_calls;
 mod plain_fault;
+mod plain_table;
 mod reader;
 mod reading;
-mod recording;
+mod remembered_row;
 mod remembering;
 mod rows;
+mod scan_end;
+mod scan_memory;
 mod scanner;
 mod scans;
 mod snapshot;
 mod source;
 
-pub use changes::Changes;
+pub use changed_items::ChangedItems;
 pub use contended::Contended;
-pub use ending::Ended;
-pub use memory::Memory;
-pub use no_room::NoRoom;
+pub use no_memory_for_seat::NoMemoryForSeat;
 pub use ordering::order;
 pub use plain::PlainSource;
 pub use plain_fault::PlainFault;
 pub use reader::Reader;
+pub use scan_end::ScanEnd;
+pub use scan_memory::ScanMemory;
 pub use scanner::Scanner;
 pub use snapshot::Snapshot;
 pub use source::Source;

@@ -5,10 +5,10 @@ ghost use Rattle.segment_layout.specs.Layout.{IsGeometry};
 ghost use Rattle.register_rule.specs.declared.view.Member.{Member};
 ghost use Rattle.register_rule.specs.Seats.{table_of, members_of, HasMember, MayScan};
 ghost use Rattle.snapshot_scan.specs.Shape.{scan_in, with_scan};
-ghost use Rattle.snapshot_scan.specs.Memory.{AreWide, AreKnown, HasOther, IsLoaded, version_of, opening};
+ghost use Rattle.snapshot_scan.specs.RememberedRows.{AreWide, AreKnown, HasOther, IsLoaded, version_of, opening};
 ghost use Rattle.snapshot_scan.specs.Collecting.{HasOpened};
 
-use crate::kept::Kept;
+use crate::remembered_row::RememberedRow;
 use register_rule::{Board, ScanSeat};
 
 /// How many places are opened in one turn.
@@ -26,7 +26,7 @@ fn open_one<
 >(
     board: &Board<N, C, H, G>,
     seat: &mut S,
-    kept: &mut [Kept],
+    kept: &mut [RememberedRow],
     opened: &mut [u64],
     place: usize,
     known: bool,
@@ -38,7 +38,7 @@ fn open_one<
     ensures own { table_of (S.bundle seat.new) ≡ table_of (S.bundle seat.old) }
     ensures leads { HasMember (members_of (S.bundle seat.new)) }
     ensures wide { AreWide (width C H G) kept.new }
-    ensures opened { (ms : List Member) (rows : List Kept) → HasOpened (width C H G) place ms rows (members_of (S.bundle seat.old)) kept.old opened.old known
+    ensures opened { (ms : List Member) (rows : List RememberedRow) → HasOpened (width C H G) place ms rows (members_of (S.bundle seat.old)) kept.old opened.old known
         → HasOpened (width C H G) (place + 1) ms rows (members_of (S.bundle seat.new)) kept.new opened.new result }
 {
     let number = kept[place].look(board, seat, place);
@@ -57,7 +57,7 @@ fn open_four<
 >(
     board: &Board<N, C, H, G>,
     seat: &mut S,
-    kept: &mut [Kept],
+    kept: &mut [RememberedRow],
     opened: &mut [u64],
     place: usize,
     known: bool,
@@ -69,7 +69,7 @@ fn open_four<
     ensures own { table_of (S.bundle seat.new) ≡ table_of (S.bundle seat.old) }
     ensures leads { HasMember (members_of (S.bundle seat.new)) }
     ensures wide { AreWide (width C H G) kept.new }
-    ensures opened { (ms : List Member) (rows : List Kept) → HasOpened (width C H G) place ms rows (members_of (S.bundle seat.old)) kept.old opened.old known
+    ensures opened { (ms : List Member) (rows : List RememberedRow) → HasOpened (width C H G) place ms rows (members_of (S.bundle seat.old)) kept.old opened.old known
         → HasOpened (width C H G) (place + 4) ms rows (members_of (S.bundle seat.new)) kept.new opened.new result }
 {
     let one = open_one(board, seat, kept, opened, place, known);
@@ -89,7 +89,7 @@ fn open_rest<
 >(
     board: &Board<N, C, H, G>,
     seat: &mut S,
-    kept: &mut [Kept],
+    kept: &mut [RememberedRow],
     opened: &mut [u64],
     from: usize,
     known: bool,
@@ -99,7 +99,7 @@ fn open_rest<
     requires inside { (from ≤ N) × (length kept.old ≡ N) × (length opened.old ≡ N) }
     requires wide { AreWide (width C H G) kept.old }
     ensures own { table_of (S.bundle seat.new) ≡ table_of (S.bundle seat.old) }
-    ensures opened { (ms : List Member) (rows : List Kept) → HasOpened (width C H G) from ms rows (members_of (S.bundle seat.old)) kept.old opened.old known
+    ensures opened { (ms : List Member) (rows : List RememberedRow) → HasOpened (width C H G) from ms rows (members_of (S.bundle seat.old)) kept.old opened.old known
         → HasOpened (width C H G) N ms rows (members_of (S.bundle seat.new)) kept.new opened.new result }
 {
     let mut all = known;
@@ -117,7 +117,7 @@ pub(crate) fn collect<
     const C: usize,
     const H: usize,
     const G: usize,
->(board: &Board<N, C, H, G>, seat: &mut S, kept: &mut [Kept], opened: &mut [u64]) -> bool
+>(board: &Board<N, C, H, G>, seat: &mut S, kept: &mut [RememberedRow], opened: &mut [u64]) -> bool
     requires own { MayScan board.now (S.bundle seat.old) }
     requires geometry { IsGeometry N C H G }
     requires lengths { (length kept.old ≡ N) × (length opened.old ≡ N) }

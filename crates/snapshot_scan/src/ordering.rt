@@ -3,12 +3,12 @@ ghost use Rattle.std.specs.Prelude.{◌≡◌, ℕ, [], ◌∷◌, ◌++◌, len
 ghost use mathlib.Core.Option.{some};
 ghost use lib.ListN.{get_elem?};
 ghost use Rattle.register_rule.specs.History.{Comparable};
-ghost use Rattle.register_rule.specs.declared.view.Entry.{Entry};
+ghost use Rattle.register_rule.specs.declared.view.Answer.{Answer};
 ghost use Rattle.register_rule.specs.declared.view.Who.TheVariants as Who;
 ghost use Rattle.register_rule.specs.Members.{first_of, met};
 ghost use Rattle.register_rule.specs.Seats.{table_of, members_of, Has};
 ghost use Rattle.snapshot_scan.specs.Shape.{scan_in};
-ghost use Rattle.snapshot_scan.specs.Snapshots.{entry_of};
+ghost use Rattle.snapshot_scan.specs.Snapshots.{as_answer};
 ghost use Rattle.snapshot_scan.specs.Readers.{members_with, scan_by, index_of, IsReaderOf};
 ghost use Rattle.snapshot_scan.specs.Order.{IsOrder, HasRecorded, IsAlone};
 
@@ -30,7 +30,7 @@ pub fn order<const N: usize, const C: usize, const H: usize, const G: usize>(
     of_other: &mut Reader<N, C, H, G>,
 ) -> Ordering
     requires own { IsReaderOf board.now of_one.old × IsReaderOf board.now of_other.old }
-    requires recorded { HasRecorded of_one.old (entry_of one.now) × HasRecorded of_other.old (entry_of other.now) }
+    requires recorded { HasRecorded of_one.old (as_answer one.now) × HasRecorded of_other.old (as_answer other.now) }
     requires alone { IsAlone of_one.old × IsAlone of_other.old }
     ensures own { IsReaderOf board.now of_one.new × IsReaderOf board.now of_other.new }
     ensures index { (index_of of_one.new ≡ index_of of_one.old) × (index_of of_other.new ≡ index_of of_other.old) }
@@ -62,7 +62,7 @@ fn meet<const N: usize, const C: usize, const H: usize, const G: usize>(
     ensures alone { (members_of one.new ≡ first_of (members_of one.new) ∷ []) × (members_of other.new ≡ first_of (members_of other.new) ∷ []) }
     ensures kept { ((scan_in one.new).recorded ≡ (scan_in one.old).recorded) × ((scan_in other.new).recorded ≡ (scan_in other.old).recorded) }
     ensures met { members_of one.new ++ members_of other.new ≡ met (members_of one.old ++ members_of other.old) }
-    ensures comparable { (a b : Entry) (p q : ℕ) → get_elem? (scan_in one.old).recorded p ≡ some a → get_elem? (scan_in other.old).recorded q ≡ some b → Comparable a.vector b.vector }
+    ensures comparable { (a b : Answer) (p q : ℕ) → get_elem? (scan_in one.old).recorded p ≡ some a → get_elem? (scan_in other.old).recorded q ≡ some b → Comparable a.vector b.vector }
 {
     let guest = board.part(other, Who::Reader(who));
     board.join(one, guest);

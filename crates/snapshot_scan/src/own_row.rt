@@ -4,26 +4,26 @@ ghost use mathlib.Core.Option.{some};
 ghost use lib.ListN.{get_elem?};
 ghost use Rattle.ledger_core.specs.Ops.{width};
 ghost use Rattle.register_rule.specs.declared.view.Version.{Version};
-ghost use Rattle.snapshot_scan.specs.Changes.{Moves};
-ghost use Rattle.snapshot_scan.specs.Memory.{AreWide, AreTotals, version_of};
-ghost use Rattle.snapshot_scan.specs.Memories.{rows_of, sums_of, moved_in, answer_of};
+ghost use Rattle.snapshot_scan.specs.ChangedItems.{Moves};
+ghost use Rattle.snapshot_scan.specs.RememberedRows.{AreWide, AreTotals, version_of};
+ghost use Rattle.snapshot_scan.specs.ScanMemories.{rows_of, sums_of, moved_in, answer_of};
 
-use crate::changes::Changes;
-use crate::ending::Ended;
-use crate::kept::Kept;
-use crate::memory::Memory;
+use crate::changed_items::ChangedItems;
+use crate::remembered_row::RememberedRow;
+use crate::scan_end::ScanEnd;
+use crate::scan_memory::ScanMemory;
 use ledger_core::Row;
 
-impl<const N: usize, const C: usize, const H: usize, const G: usize> Memory<N, C, H, G> {
+impl<const N: usize, const C: usize, const H: usize, const G: usize> ScanMemory<N, C, H, G> {
     /// The vector of `N` numbers and the totals of the scan that ended so. Where it was given up they are the numbers that
     /// its last try opened, and the sums of the remembered rows.
     #[inline]
-    pub fn answer(&self, ended: Ended) -> (&[u64], &[u64])
+    pub fn answer(&self, ended: ScanEnd) -> (&[u64], &[u64])
         ensures vector { result.0.now ≡ (answer_of self.now ended).vector }
         ensures totals { result.1.now ≡ (answer_of self.now ended).totals }
         ensures lengths { (length result.0.now ≡ N) × (length result.1.now ≡ width C H G) }
     {
-        if let Ended::Lent = ended {
+        if let ScanEnd::Lent = ended {
             return (&self.lent[1..1 + N], &self.lent[1 + N..]);
         }
         (self.opened.as_slice(), self.totals.as_slice())
@@ -31,7 +31,7 @@ impl<const N: usize, const C: usize, const H: usize, const G: usize> Memory<N, C
 
     /// Where the last scan may have changed the sums of the remembered rows: at no other words.
     #[inline]
-    pub fn moved(&self) -> &Changes
+    pub fn moved(&self) -> &ChangedItems
         ensures { result.now ≡ moved_in self.now }
     {
         &self.moved
@@ -75,12 +75,12 @@ impl<const N: usize, const C: usize, const H: usize, const G: usize> Memory<N, C
     }
 }
 
-// As `Memory::remember`, over what is remembered of all segments and the sums.
+// As `ScanMemory::remember`, over what is remembered of all segments and the sums.
 #[inline(never)]
 fn remember_all<const C: usize, const H: usize, const G: usize>(
-    kept: &mut [Kept],
+    kept: &mut [RememberedRow],
     totals: &mut [u64],
-    moved: &mut Changes,
+    moved: &mut ChangedItems,
     place: usize,
     number: u64,
     row: &Row<C, H, G>,
@@ -97,10 +97,10 @@ fn remember_all<const C: usize, const H: usize, const G: usize>(
     kept[place].learn(number, row, totals, moved);
 }
 
-// As `Memory::remember_at`.
+// As `ScanMemory::remember_at`.
 #[inline]
 fn remember_some<const C: usize, const H: usize, const G: usize>(
-    kept: &mut [Kept],
+    kept: &mut [RememberedRow],
     totals: &mut [u64],
     place: usize,
     number: u64,
@@ -112,7 +112,7 @@ fn remember_some<const C: usize, const H: usize, const G: usize>(
     requires wide { AreWide (width C H G) kept.old }
     requires totals { AreTotals (width C H G) kept.old totals.old }
     requires words { (j : ℕ) → Contains items.now j → j < width C H G }
-    requires others { (g : Kept) → get_elem? kept.old place ≡ some g → (k : ℕ) → k < width C H G → ¬ (Contains items.now k) → slice_index g.row.items k ≡ slice_index row.now k }
+    requires others { (g : RememberedRow) → get_elem? kept.old place ≡ some g → (k : ℕ) → k < width C H G → ¬ (Contains items.now k) → slice_index g.row.items k ≡ slice_index row.now k }
     ensures wide { AreWide (width C H G) kept.new }
     ensures totals { AreTotals (width C H G) kept.new totals.new }
     ensures rows { map version_of kept.new ≡ slice_set (map version_of kept.old) place (record { number = number; row = row.now }) }

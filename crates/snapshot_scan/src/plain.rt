@@ -5,9 +5,9 @@ ghost use Rattle.ledger_core.specs.Ops.{width};
 ghost use Rattle.ledger_core.specs.Legal.{IsLegal};
 ghost use Rattle.ledger_core.specs.Limits.{AreSlots};
 ghost use Rattle.snapshot_scan.specs.Moments.{ComeTo};
-ghost use Rattle.snapshot_scan.specs.Sources.{newest, Rises};
+ghost use Rattle.snapshot_scan.specs.Sources.{newest, NothingFalls};
 
-use crate::recording::{NoLaw, Recordings};
+use crate::plain_table::{NoLaw, Recordings};
 use atomic_table::{Seat, Table};
 use ledger_core::Row;
 use std::alloc::Global;
@@ -25,7 +25,7 @@ pub struct PlainSource<const N: usize, const C: usize, const H: usize, const G: 
     ghost wide: { length row ≡ width C H G },
     ghost legal: { IsLegal C H (slice_index row) },
     ghost comes_to: { ∥ ComeTo N C H G count row seat.me.0.entries ∥₁ },
-    ghost below: { ForSome (newest seat.me.0.entries) (λ a. Rises N (width C H G) a (record { vector = count ∷ []; totals = row })) },
+    ghost below: { ForSome (newest seat.me.0.entries) (λ a. NothingFalls N (width C H G) a (record { vector = count ∷ []; totals = row })) },
 }
 
 impl<const N: usize, const C: usize, const H: usize, const G: usize> Drop

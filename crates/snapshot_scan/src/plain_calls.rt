@@ -2,14 +2,14 @@
 ghost use Rattle.std.specs.Prelude.{◌≡◌, ◌+◌, ◌<◌, ◌++◌, [], ◌∷◌, replicate, IsOk, IfOk, IfErr, OnOk, OnErr};
 ghost use Rattle.ledger_core.specs.Ops.{width};
 ghost use Rattle.ledger_core.specs.Limits.{AreSlots};
-ghost use Rattle.snapshot_scan.specs.Snapshots.{entry_of};
+ghost use Rattle.snapshot_scan.specs.Snapshots.{as_answer};
 ghost use Rattle.snapshot_scan.specs.Sources.{Records};
 ghost use Rattle.snapshot_scan.specs.Plain.{row_of, count_of, recorded_by, quit_by, GivesRow, IsApplied, IsPlainFault};
 
 use crate::contended::Contended;
 use crate::plain::PlainSource;
 use crate::plain_fault::PlainFault;
-use crate::recording::{NoLaw, load_as};
+use crate::plain_table::{NoLaw, load_as};
 use crate::snapshot::Snapshot;
 use crate::source::Source;
 use atomic_table::Table;
@@ -64,7 +64,7 @@ impl<const N: usize, const C: usize, const H: usize, const G: usize> PlainSource
     pub fn take(&mut self, out: &mut Snapshot<N, C, H, G>)
         ensures vector { out.new.vector ≡ count_of self.old ∷ [] }
         ensures totals { out.new.totals ≡ row_of self.old }
-        ensures recorded { recorded_by self.new ≡ recorded_by self.old ++ entry_of out.new ∷ [] }
+        ensures recorded { recorded_by self.new ≡ recorded_by self.old ++ as_answer out.new ∷ [] }
         ensures same { (row_of self.new ≡ row_of self.old) × (count_of self.new ≡ count_of self.old) }
     {
         out.set_row(self.count, &self.row);
@@ -89,8 +89,8 @@ impl<const N: usize, const C: usize, const H: usize, const G: usize> Source<N, C
 
     /// A scan, which is never given up: [`PlainSource::take`].
     fn scan(&mut self, out: &mut Snapshot<N, C, H, G>) -> Result<(), Contended>
-        ensures recorded { OnOk result (Records N C H G (recorded_by self.old) (recorded_by self.new) (entry_of out.new)) }
-        ensures gave { OnOk result (GivesRow self.old self.new (entry_of out.new)) }
+        ensures recorded { OnOk result (Records N C H G (recorded_by self.old) (recorded_by self.new) (as_answer out.new)) }
+        ensures gave { OnOk result (GivesRow self.old self.new (as_answer out.new)) }
         ensures kept { OnOk result (quit_by self.new ≡ quit_by self.old) }
         ensures given_up { OnErr result ((recorded_by self.new ≡ recorded_by self.old) × (quit_by self.new ≡ quit_by self.old + 1)) }
         ensures why { IfErr result (λ _. ⊥) }

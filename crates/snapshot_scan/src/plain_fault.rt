@@ -1,6 +1,6 @@
 //! Why a plain source refuses.
 ghost use Rattle.std.specs.Prelude.{◌≡◌};
-ghost use Rattle.snapshot_scan.specs.PlainNumber.{plain_number};
+ghost use Rattle.snapshot_scan.specs.PlainNumber.{plain_fault_number};
 
 use ledger_core::OpFault;
 use thiserror::Error;
@@ -19,7 +19,7 @@ pub enum PlainFault {
 impl PlainFault {
     /// The refusal's number.
     pub fn number(&self) -> u8
-        ensures { result ≡ plain_number self.now }
+        ensures { result ≡ plain_fault_number self.now }
     {
         match self {
             PlainFault::Exhausted => 15,

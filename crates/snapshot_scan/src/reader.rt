@@ -4,11 +4,11 @@ ghost use Rattle.register_rule.specs.declared.view.Who.TheVariants.{Reader};
 ghost use Rattle.register_rule.specs.Members.{first_of};
 ghost use Rattle.register_rule.specs.Seats.{members_of};
 ghost use Rattle.snapshot_scan.specs.Shape.{scan_in};
-ghost use Rattle.snapshot_scan.specs.Memories.{IsReady};
+ghost use Rattle.snapshot_scan.specs.ScanMemories.{IsReady};
 ghost use Rattle.snapshot_scan.specs.Moments.{AreMoments};
-ghost use Rattle.snapshot_scan.specs.Lent.{AreWorkers, behind, HasSeen};
+ghost use Rattle.snapshot_scan.specs.Lent.{NoneIsReader, behind, HasSeen};
 
-use crate::memory::Memory;
+use crate::scan_memory::ScanMemory;
 use register_rule::Bundle;
 
 /// What a scraper scans with: a reader's seat, and what its scans remember. Workers that are lent to it are members of its
@@ -16,11 +16,11 @@ use register_rule::Bundle;
 pub struct Reader<const N: usize, const C: usize, const H: usize, const G: usize> {
     pub(crate) bundle: Bundle,
     pub(crate) index: usize,
-    pub(crate) memory: Memory<N, C, H, G>,
+    pub(crate) memory: ScanMemory<N, C, H, G>,
     ghost leads: { 0 < length (members_of bundle) },
     ghost is: { (first_of (members_of bundle)).who ≡ Reader index },
     ghost ready: { IsReady (scan_in bundle) memory },
-    ghost lent: { AreWorkers (behind (members_of bundle)) },
+    ghost lent: { NoneIsReader (behind (members_of bundle)) },
     ghost seen: { HasSeen (members_of bundle) },
     pub ghost moments: { AreMoments N C H G (scan_in bundle).recorded },
 }

@@ -11,16 +11,16 @@ ghost use Rattle.snapshot_scan.specs.Shape.{with_scan, IsRuled};
 ghost use Rattle.snapshot_scan.specs.Scanned.{IsAnswered};
 ghost use Rattle.snapshot_scan.specs.Contention.{IsContended};
 ghost use Rattle.snapshot_scan.specs.Core.{CameTo, AnswersBy};
-ghost use Rattle.snapshot_scan.specs.Snapshots.{entry_of};
-ghost use Rattle.snapshot_scan.specs.Lent.{AllStand, HasNumbers, StayLent};
-ghost use Rattle.register_rule.specs.declared.view.Entry.{Entry};
+ghost use Rattle.snapshot_scan.specs.Snapshots.{as_answer};
+ghost use Rattle.snapshot_scan.specs.Lent.{AllWorkersAmong, HasNumbers, StayLent};
+ghost use Rattle.register_rule.specs.declared.view.Answer.{Answer};
 ghost use Rattle.snapshot_scan.specs.Order.{HasRecorded, IsAlone};
 ghost use Rattle.snapshot_scan.specs.Readers.{bundle_of, members_with, scan_by, index_of, IsReaderOf};
 
 use crate::contended::Contended;
-use crate::memory::Memory;
-use crate::no_room::NoRoom;
+use crate::no_memory_for_seat::NoMemoryForSeat;
 use crate::reader::Reader;
+use crate::scan_memory::ScanMemory;
 use crate::snapshot::Snapshot;
 use register_rule::{Board, ReadSeat};
 use std::alloc::Global;
@@ -30,8 +30,11 @@ impl<const N: usize, const C: usize, const H: usize, const G: usize> Reader<N, C
     ///
     /// # Errors
     ///
-    /// 6 [`NoRoom`], with the seat.
-    pub fn new(alloc: Global, seat: ReadSeat) -> Result<Reader<N, C, H, G>, NoRoom<ReadSeat>>
+    /// 6 [`NoMemoryForSeat`], with the seat.
+    pub fn new(
+        alloc: Global,
+        seat: ReadSeat,
+    ) -> Result<Reader<N, C, H, G>, NoMemoryForSeat<ReadSeat>>
         requires geometry { IsGeometry N C H G }
         requires fresh { (reader_of seat).scan ≡ fresh_scan N (width C H G) }
         ensures same { IfOk result (λ r. bundle_of r ≡ read_bundle seat) }
@@ -39,8 +42,8 @@ impl<const N: usize, const C: usize, const H: usize, const G: usize> Reader<N, C
         ensures alone { IfOk result IsAlone }
         ensures back { IfErr result (λ e. e.seat ≡ seat) }
     {
-        let Ok(memory) = Memory::new(alloc) else {
-            return Err(NoRoom { seat });
+        let Ok(memory) = ScanMemory::new(alloc) else {
+            return Err(NoMemoryForSeat { seat });
         };
         let index = seat.reader();
         Ok(Reader {
@@ -73,14 +76,14 @@ impl<const N: usize, const C: usize, const H: usize, const G: usize> Reader<N, C
         ensures index { index_of self.new ≡ index_of self.old }
         ensures others { members_with self.new ≡ with_scan (scan_by self.new) (members_with self.old) }
         ensures ruled { IsRuled N C H G (bundle_of self.new) }
-        ensures answered { OnOk result (IsAnswered N (scan_by self.old) (scan_by self.new) (entry_of out.new)) }
-        ensures found { OnOk result (HasRecorded self.new (entry_of out.new)) }
-        ensures still { (a : Entry) → HasRecorded self.old a → HasRecorded self.new a }
+        ensures answered { OnOk result (IsAnswered N (scan_by self.old) (scan_by self.new) (as_answer out.new)) }
+        ensures found { OnOk result (HasRecorded self.new (as_answer out.new)) }
+        ensures still { (a : Answer) → HasRecorded self.old a → HasRecorded self.new a }
         ensures alone { IsAlone self.old → IsAlone self.new }
         ensures stay { StayLent (members_with self.old) (members_with self.new) }
         ensures lent { OnOk result (HasNumbers (members_with self.old) out.new.vector) }
-        ensures gathered { AllStand N (members_with self.old) → IsOk result }
-        ensures answers { OnOk result (AnswersBy N (width C H G) (scan_by self.old) (scan_by self.new) (entry_of out.new)) }
+        ensures gathered { AllWorkersAmong N (members_with self.old) → IsOk result }
+        ensures answers { OnOk result (AnswersBy N (width C H G) (scan_by self.old) (scan_by self.new) (as_answer out.new)) }
         ensures legal { OnOk result (IsLegal C H (slice_index out.new.totals)) }
         ensures contended { IfErr result (IsContended N (scan_by self.old) (scan_by self.new)) }
         ensures came_up { IfErr result (λ e. CameTo N (width C H G) (scan_by self.old) (scan_by self.new) (Next.GaveUp e.worker e.first e.last)) }

@@ -4,13 +4,13 @@ ghost use Rattle.bucket_math.specs.Words.{greatest_word};
 ghost use Rattle.ledger_core.specs.Ops.{width};
 ghost use Rattle.segment_layout.specs.Layout.{depth};
 ghost use Rattle.register_rule.specs.declared.view.Member.{Member};
-ghost use Rattle.register_rule.specs.Members.{led, scanned};
+ghost use Rattle.register_rule.specs.Members.{led, scan_changed};
 ghost use Rattle.register_rule.specs.Seats.{table_of, members_of, HasMember, MayScan};
 ghost use Rattle.snapshot_scan.specs.Shape.{read_all};
-ghost use Rattle.snapshot_scan.specs.Changes.{Changed, Notes, Moves};
+ghost use Rattle.snapshot_scan.specs.ChangedItems.{Changed, Notes, Moves};
 ghost use Rattle.snapshot_scan.specs.Reading.{IsReadTo};
 
-use crate::changes::Changes;
+use crate::changed_items::ChangedItems;
 use register_rule::{Board, ScanSeat};
 
 /// How many words are read in one turn.
@@ -19,7 +19,7 @@ const TURN: usize = 4;
 /// Makes a word another one, and lists it.
 #[cold]
 #[inline(never)]
-fn change_word(words: &mut [u64], changed: &mut Changes, k: usize, word: u64)
+fn change_word(words: &mut [u64], changed: &mut ChangedItems, k: usize, word: u64)
     requires { k < length words.old }
     ensures words { words.new ≡ slice_set words.old k word }
     ensures notes { Notes k changed.old changed.new }
@@ -30,7 +30,7 @@ fn change_word(words: &mut [u64], changed: &mut Changes, k: usize, word: u64)
 
 /// Makes a word this one, and lists it where it was another.
 #[inline(always)]
-fn put_word(words: &mut [u64], changed: &mut Changes, k: usize, word: u64)
+fn put_word(words: &mut [u64], changed: &mut ChangedItems, k: usize, word: u64)
     requires { k < length words.old }
     ensures words { words.new ≡ slice_set words.old k word }
     ensures moves { Moves (length words.old) words.old words.new changed.old changed.new }
@@ -55,7 +55,7 @@ fn read_one<
     number: u64,
     k: usize,
     words: &mut [u64],
-    changed: &mut Changes,
+    changed: &mut ChangedItems,
 )
     requires own { MayScan board.now (S.bundle seat.old) }
     requires inside { (place < N) × (k < length words.old) × (length words.old ≡ width C H G) }
@@ -83,7 +83,7 @@ fn read_four<
     number: u64,
     k: usize,
     words: &mut [u64],
-    changed: &mut Changes,
+    changed: &mut ChangedItems,
 )
     requires own { MayScan board.now (S.bundle seat.old) }
     requires inside { (place < N) × (k + 4 ≤ length words.old) × (length words.old ≡ width C H G) }
@@ -113,7 +113,7 @@ fn read_rest<
     number: u64,
     from: usize,
     words: &mut [u64],
-    changed: &mut Changes,
+    changed: &mut ChangedItems,
 )
     requires own { MayScan board.now (S.bundle seat.old) }
     requires inside { (place < N) × (from ≤ length words.old) × (length words.old ≡ width C H G) }
@@ -141,12 +141,12 @@ pub(crate) fn read_row<
     place: usize,
     number: u64,
     words: &mut [u64],
-    changed: &mut Changes,
+    changed: &mut ChangedItems,
 )
     requires own { MayScan board.now (S.bundle seat.old) }
     requires inside { (place < N) × (length words.old ≡ width C H G) }
     ensures own { table_of (S.bundle seat.new) ≡ table_of (S.bundle seat.old) }
-    ensures member { members_of (S.bundle seat.new) ≡ led (scanned (read_all (width C H G) place number 0 words.new)) (members_of (S.bundle seat.old)) }
+    ensures member { members_of (S.bundle seat.new) ≡ led (scan_changed (read_all (width C H G) place number 0 words.new)) (members_of (S.bundle seat.old)) }
     ensures bounded { (k : ℕ) → k < width C H G → slice_index words.new k ≤ greatest_word }
     ensures moves { Moves (width C H G) words.old words.new changed.old changed.new }
 {

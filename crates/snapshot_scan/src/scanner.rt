@@ -1,7 +1,7 @@
 //! A board and a reader of it, as a source of snapshots.
 ghost use Rattle.std.specs.Prelude.{◌≡◌, ◌+◌, ◌<◌, IfErr, OnOk, OnErr};
 ghost use Rattle.segment_layout.specs.Layout.{IsGeometry};
-ghost use Rattle.snapshot_scan.specs.Snapshots.{entry_of};
+ghost use Rattle.snapshot_scan.specs.Snapshots.{as_answer};
 ghost use Rattle.snapshot_scan.specs.Sources.{Records};
 ghost use Rattle.snapshot_scan.specs.Readers.{IsReaderOf, scan_by};
 ghost use Rattle.snapshot_scan.specs.Answered.{HasAnswered, HasGivenUp};
@@ -62,8 +62,8 @@ impl<'a, const N: usize, const C: usize, const H: usize, const G: usize> Source<
 
     /// The reader's scan.
     fn scan(&mut self, out: &mut Snapshot<N, C, H, G>) -> Result<(), Contended>
-        ensures recorded { OnOk result (Records N C H G (scan_by self.old.reader).recorded (scan_by self.new.reader).recorded (entry_of out.new)) }
-        ensures gave { OnOk result ((self.new.board.now ≡ self.old.board.now) × HasAnswered self.old.reader self.new.reader (entry_of out.new)) }
+        ensures recorded { OnOk result (Records N C H G (scan_by self.old.reader).recorded (scan_by self.new.reader).recorded (as_answer out.new)) }
+        ensures gave { OnOk result ((self.new.board.now ≡ self.old.board.now) × HasAnswered self.old.reader self.new.reader (as_answer out.new)) }
         ensures kept { OnOk result ((scan_by self.new.reader).quit ≡ (scan_by self.old.reader).quit) }
         ensures given_up { OnErr result (((scan_by self.new.reader).recorded ≡ (scan_by self.old.reader).recorded) × ((scan_by self.new.reader).quit ≡ (scan_by self.old.reader).quit + 1)) }
         ensures why { IfErr result (λ e. (self.new.board.now ≡ self.old.board.now) × HasGivenUp self.old.reader self.new.reader e) }

@@ -4,9 +4,9 @@ ghost use Rattle.register_rule.specs.Steps.{answered, gives_up, lent_in};
 ghost use Rattle.ledger_core.specs.Ops.{width};
 ghost use Rattle.segment_layout.specs.Layout.{IsGeometry};
 ghost use Rattle.register_rule.specs.Seats.{table_of, members_of, MayScan};
-ghost use Rattle.snapshot_scan.specs.Changes.{Moves, Lists};
+ghost use Rattle.snapshot_scan.specs.ChangedItems.{Moves, Lists};
 ghost use Rattle.snapshot_scan.specs.Shape.{scan_in, with_scan, IsRuled};
-ghost use Rattle.snapshot_scan.specs.Memory.{AreWide, AreTotals, AreKnown, HasOther, IsLoaded, pairs, version_of, opening, settling, failing};
+ghost use Rattle.snapshot_scan.specs.RememberedRows.{AreWide, AreTotals, AreKnown, HasOther, IsLoaded, pairs, version_of, opening, settling, failing};
 ghost use Rattle.snapshot_core.specs.declared.next.Next.TheVariants as Next;
 ghost use Rattle.snapshot_scan.specs.declared.contended.Contended.{Contended};
 ghost use Rattle.snapshot_scan.specs.Contention.{IsFirstMoved};
@@ -14,11 +14,11 @@ ghost use Rattle.snapshot_scan.specs.Scanned.{IsIdle, IsQuiet, HasMoved, IsAnswe
 ghost use Rattle.snapshot_scan.specs.Core.{CameTo, AnswersBy};
 
 use crate::asks::ask_all;
-use crate::changes::Changes;
+use crate::changed_items::ChangedItems;
 use crate::collects::confirm;
-use crate::ending::Ended;
-use crate::kept::Kept;
 use crate::opens::collect;
+use crate::remembered_row::RememberedRow;
+use crate::scan_end::ScanEnd;
 use register_rule::{Board, ScanSeat};
 
 /// The first try of a scan. It says whether the try is clean, and in `known` whether each row is remembered: then nothing
@@ -33,11 +33,11 @@ fn try_once<
 >(
     board: &Board<N, C, H, G>,
     seat: &mut S,
-    kept: &mut [Kept],
+    kept: &mut [RememberedRow],
     totals: &mut [u64],
     opened: &mut [u64],
     found: &mut [u64],
-    moved: &mut Changes,
+    moved: &mut ChangedItems,
     known: &mut bool,
 ) -> bool
     requires own { MayScan board.now (S.bundle seat.old) }
@@ -81,11 +81,11 @@ fn try_again<
 >(
     board: &Board<N, C, H, G>,
     seat: &mut S,
-    kept: &mut [Kept],
+    kept: &mut [RememberedRow],
     totals: &mut [u64],
     opened: &mut [u64],
     found: &mut [u64],
-    moved: &mut Changes,
+    moved: &mut ChangedItems,
     known: &mut bool,
 ) -> bool
     requires own { MayScan board.now (S.bundle seat.old) }
@@ -129,13 +129,13 @@ pub(crate) fn scan<
 >(
     board: &Board<N, C, H, G>,
     seat: &mut S,
-    kept: &mut [Kept],
+    kept: &mut [RememberedRow],
     totals: &mut [u64],
     opened: &mut [u64],
     found: &mut [u64],
     lent: &mut [u64],
-    moved: &mut Changes,
-) -> Ended
+    moved: &mut ChangedItems,
+) -> ScanEnd
     requires own { MayScan board.now (S.bundle seat.old) }
     requires geometry { IsGeometry N C H G }
     requires lengths { (length kept.old ≡ N) × (length totals.old ≡ width C H G) × (length opened.old ≡ N) × (length found.old ≡ N) × (length lent.old ≡ 1 + N + width C H G) }
@@ -149,22 +149,22 @@ pub(crate) fn scan<
     ensures totals { AreTotals (width C H G) kept.new totals.new }
     ensures idle { IsIdle (scan_in (S.bundle seat.new)) kept.new }
     ensures others { members_of (S.bundle seat.new) ≡ with_scan (scan_in (S.bundle seat.new)) (members_of (S.bundle seat.old)) }
-    ensures direct { (q : Bool) → result ≡ Ended.Direct q → IsAnswered N (scan_in (S.bundle seat.old)) (scan_in (S.bundle seat.new)) (record { vector = opened.new; totals = totals.new }) }
-    ensures came_direct { (q : Bool) → result ≡ Ended.Direct q → AnswersBy N (width C H G) (scan_in (S.bundle seat.old)) (scan_in (S.bundle seat.new)) (record { vector = opened.new; totals = totals.new }) }
-    ensures quiet { result ≡ Ended.Direct true → IsQuiet kept.old kept.new totals.old totals.new opened.new }
-    ensures once { result ≡ Ended.Direct true → (scan_in (S.bundle seat.new)).opened ≡ (scan_in (S.bundle seat.old)).opened ++ pairs 0 opened.new }
-    ensures moved { result ≡ Ended.Direct false → HasMoved N (map version_of kept.old) (scan_in (S.bundle seat.old)) (scan_in (S.bundle seat.new)) }
-    ensures lent { result ≡ Ended.Lent → IsAnswered N (scan_in (S.bundle seat.old)) (scan_in (S.bundle seat.new)) (lent_in N (width C H G) lent.new) }
-    ensures came_lent { result ≡ Ended.Lent → AnswersBy N (width C H G) (scan_in (S.bundle seat.old)) (scan_in (S.bundle seat.new)) (lent_in N (width C H G) lent.new) }
-    ensures numbers { (q : Bool) → result ≡ Ended.Direct q → AreKnown opened.new kept.new }
+    ensures direct { (q : Bool) → result ≡ ScanEnd.Direct q → IsAnswered N (scan_in (S.bundle seat.old)) (scan_in (S.bundle seat.new)) (record { vector = opened.new; totals = totals.new }) }
+    ensures came_direct { (q : Bool) → result ≡ ScanEnd.Direct q → AnswersBy N (width C H G) (scan_in (S.bundle seat.old)) (scan_in (S.bundle seat.new)) (record { vector = opened.new; totals = totals.new }) }
+    ensures quiet { result ≡ ScanEnd.Direct true → IsQuiet kept.old kept.new totals.old totals.new opened.new }
+    ensures once { result ≡ ScanEnd.Direct true → (scan_in (S.bundle seat.new)).opened ≡ (scan_in (S.bundle seat.old)).opened ++ pairs 0 opened.new }
+    ensures moved { result ≡ ScanEnd.Direct false → HasMoved N (map version_of kept.old) (scan_in (S.bundle seat.old)) (scan_in (S.bundle seat.new)) }
+    ensures lent { result ≡ ScanEnd.Lent → IsAnswered N (scan_in (S.bundle seat.old)) (scan_in (S.bundle seat.new)) (lent_in N (width C H G) lent.new) }
+    ensures came_lent { result ≡ ScanEnd.Lent → AnswersBy N (width C H G) (scan_in (S.bundle seat.old)) (scan_in (S.bundle seat.new)) (lent_in N (width C H G) lent.new) }
+    ensures numbers { (q : Bool) → result ≡ ScanEnd.Direct q → AreKnown opened.new kept.new }
     ensures listed { Lists (width C H G) totals.old totals.new moved.new }
-    ensures gave_up { result ≡ Ended.GaveUp → IsGivenUp N (scan_in (S.bundle seat.old)) (scan_in (S.bundle seat.new)) opened.new found.new }
-    ensures came_up { result ≡ Ended.GaveUp → (e : Contended) → IsFirstMoved opened.new found.new e → CameTo N (width C H G) (scan_in (S.bundle seat.old)) (scan_in (S.bundle seat.new)) (Next.GaveUp e.worker e.first e.last) }
+    ensures gave_up { result ≡ ScanEnd.GaveUp → IsGivenUp N (scan_in (S.bundle seat.old)) (scan_in (S.bundle seat.new)) opened.new found.new }
+    ensures came_up { result ≡ ScanEnd.GaveUp → (e : Contended) → IsFirstMoved opened.new found.new e → CameTo N (width C H G) (scan_in (S.bundle seat.old)) (scan_in (S.bundle seat.new)) (Next.GaveUp e.worker e.first e.last) }
 {
     let mut known = false;
     let clean = try_once(board, seat, kept, totals, opened, found, moved, &mut known);
     if clean {
-        return Ended::Direct { quiet: known };
+        return ScanEnd::Direct { quiet: known };
     }
     if known {
         moved.clear();
@@ -177,12 +177,12 @@ pub(crate) fn scan<
     for _k in 0..N + 1 {
         let clean = try_again(board, seat, kept, totals, opened, found, moved, &mut known);
         if clean {
-            return Ended::Direct { quiet: false };
+            return ScanEnd::Direct { quiet: false };
         }
         let lends = ask_all(board, seat, row, &floor, &base, found, lent);
         if lends {
-            return Ended::Lent;
+            return ScanEnd::Lent;
         }
     }
-    Ended::GaveUp
+    ScanEnd::GaveUp
 }

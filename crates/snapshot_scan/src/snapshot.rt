@@ -5,7 +5,7 @@ ghost use Rattle.ledger_core.specs.Legal.{IsLegal};
 ghost use Rattle.segment_layout.specs.Layout.{IsGeometry};
 ghost use Rattle.snapshot_scan.specs.Snapshots.{AreLow};
 
-use crate::kept::copy_words;
+use crate::remembered_row::copy_words;
 use ledger_core::{GaugeTotals, HistTotals, Row};
 use std::alloc::{AllocError, Global};
 use std::marker::Model;

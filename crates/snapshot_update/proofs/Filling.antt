@@ -4,8 +4,8 @@ use Rattle.std.specs.List.{Contains}
 use Rattle.std.proofs.lemmas.Bool.{cases_eq}
 use Rattle.std.proofs.lemmas.List.Elements.{Contains-append_right, Contains-append_cases}
 use Rattle.std.proofs.lemmas.List.{same_lists, get_or_default}
-use Rattle.snapshot_scan.specs.Changes.{Changed, Notes}
-use Rattle.snapshot_update.specs.Changes.{SoFar}
+use Rattle.snapshot_scan.specs.ChangedItems.{Changed, Notes}
+use Rattle.snapshot_update.specs.Noting.{SoFar}
 use Rattle.snapshot_scan.proofs.Noted.{none_listed}
 
 only_one : (x j : ℕ) → Contains (x ∷ []) j → x ≡ j

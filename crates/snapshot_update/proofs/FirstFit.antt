@@ -7,11 +7,11 @@ use Rattle.segment_layout.specs.Layout.{depth}
 use Rattle.register_rule.specs.declared.view.Member.{Member}
 use Rattle.register_rule.specs.declared.view.Version.{Version}
 use Rattle.register_rule.specs.Members.{new_worker}
-use Rattle.snapshot_scan.specs.declared.memory.Memory.{Memory}
-use Rattle.snapshot_scan.specs.Memories.{rows_of, sums_of}
+use Rattle.snapshot_scan.specs.declared.scan_memory.ScanMemory.{ScanMemory}
+use Rattle.snapshot_scan.specs.ScanMemories.{rows_of, sums_of}
 use Rattle.snapshot_scan.proofs.Blank.{zero_in}
-use Rattle.snapshot_update.specs.declared.images.Images.{Images}
-use Rattle.snapshot_scan.specs.Changes.{Changed}
+use Rattle.snapshot_update.specs.declared.buffer_images.BufferImages.{BufferImages}
+use Rattle.snapshot_scan.specs.ChangedItems.{Changed}
 use Rattle.snapshot_update.specs.Fit.{number_in, IsFit, HasSeenOwn}
 use Rattle.snapshot_update.specs.Blank.{AreBlank}
 use Rattle.snapshot_scan.proofs.Noted.{none_listed}
@@ -26,7 +26,7 @@ same_at (suc n) (suc i) v h = same_at n i v (omega (arith, h))
 none_in : (b : ℕ) (c : Changed) → c.items ≡ [] → (j : ℕ) → Contains c.items j → j < b
 none_in b c e j has = absurd (none_listed j (subst (λ (l : List ℕ). Contains l j) e has))
 
-module _ (n c h g index : ℕ) (row : List ℕ) (memory : Memory n c h g) (im : Images) (inside : index < n) (zeros : row ≡ replicate (width c h g) 0)
+module _ (n c h g index : ℕ) (row : List ℕ) (memory : ScanMemory n c h g) (im : BufferImages) (inside : index < n) (zeros : row ≡ replicate (width c h g) 0)
     (rows : rows_of memory ≡ replicate n (record { number = 0; row = replicate (width c h g) 0 })) (blank : AreBlank (depth n (width c h g)) im) where
   abbrev w : ℕ
   w = width c h g

@@ -6,43 +6,43 @@ use Rattle.std.proofs.lemmas.Option.{none-some}
 use Rattle.ledger_core.specs.declared.op.Op.{Op}
 use Rattle.ledger_core.specs.Ops.{sum_ops, width}
 use Rattle.ledger_core.specs.Row.{Accepts}
-use Rattle.register_rule.specs.declared.view.Entry.{Entry}
+use Rattle.register_rule.specs.declared.view.Answer.{Answer}
 use Rattle.register_rule.specs.declared.view.Made.{Made}
 use Rattle.register_rule.specs.declared.view.Member.{Member}
 use Rattle.register_rule.specs.declared.view.Version.{Version}
 use Rattle.register_rule.specs.Sums.{total, last_lent, flag_of}
-use Rattle.register_rule.specs.Members.{made_of, last_entry}
+use Rattle.register_rule.specs.Members.{made_of, last_answer}
 use Rattle.register_rule.specs.Told.{HoldsNext}
 use Rattle.register_rule.proofs.Publish.{lent_last}
 use Rattle.register_rule.proofs.Words.{there}
 use Rattle.register_rule.proofs.Publish.{total_last}
-use Rattle.snapshot_scan.specs.declared.ending.Ended.{Ended}
-use Rattle.snapshot_scan.specs.declared.ending.Ended.TheVariants.{Direct, Lent, GaveUp}
-use Rattle.snapshot_scan.specs.declared.kept.Kept.{Kept}
-use Rattle.snapshot_scan.specs.declared.memory.Memory.{Memory}
-use Rattle.snapshot_scan.specs.Memory.{version_of}
-use Rattle.snapshot_scan.specs.Memories.{rows_of, answer_of}
+use Rattle.snapshot_scan.specs.declared.scan_end.ScanEnd.{ScanEnd}
+use Rattle.snapshot_scan.specs.declared.scan_end.ScanEnd.TheVariants.{Direct, Lent, GaveUp}
+use Rattle.snapshot_scan.specs.declared.remembered_row.RememberedRow.{RememberedRow}
+use Rattle.snapshot_scan.specs.declared.scan_memory.ScanMemory.{ScanMemory}
+use Rattle.snapshot_scan.specs.RememberedRows.{version_of}
+use Rattle.snapshot_scan.specs.ScanMemories.{rows_of, answer_of}
 use Rattle.snapshot_scan.proofs.Blank.{from_rows}
 use Rattle.snapshot_scan.proofs.Words.{length_take}
-use Rattle.snapshot_update.specs.Images.{version_words}
+use Rattle.snapshot_update.specs.BufferImages.{version_words}
 use Rattle.snapshot_update.proofs.VersionWords.{row_word, flag_word, vector_word, total_word}
 
-last_of : (l : List Entry) (a : Entry) → last_entry (l ++ a ∷ []) ≡ Some a
+last_of : (l : List Answer) (a : Answer) → last_answer (l ++ a ∷ []) ≡ Some a
 last_of [] a = refl
 last_of (x ∷ []) a = refl
 last_of (x ∷ y ∷ l) a = last_of (y ∷ l) a
 
 -- the answer of a scan has n numbers and w totals
-pub answer_long : (n c h g : ℕ) (memory : Memory n c h g) (ended : Ended) → (length (answer_of memory ended).vector ≡ n) × (length (answer_of memory ended).totals ≡ width c h g)
+pub answer_long : (n c h g : ℕ) (memory : ScanMemory n c h g) (ended : ScanEnd) → (length (answer_of memory ended).vector ≡ n) × (length (answer_of memory ended).totals ≡ width c h g)
 answer_long n c h g memory (Direct quiet) = (memory.sizes.2, memory.sizes.1)
 answer_long n c h g memory GaveUp = (memory.sizes.2, memory.sizes.1)
 answer_long n c h g memory Lent = let long = memory.sizes.4 in let a = length-drop 1 memory.lent.items in let b = length-drop (1 + n) memory.lent.items in
     (length_take (drop 1 memory.lent.items) n (omega (arith, a, long)), length_take (drop (1 + n) memory.lent.items) (width c h g) (omega (arith, b, long)))
 
-pub rows_many : (n c h g : ℕ) (memory : Memory n c h g) → length (rows_of memory) ≡ n
+pub rows_many : (n c h g : ℕ) (memory : ScanMemory n c h g) → length (rows_of memory) ≡ n
 rows_many n c h g memory = go memory.kept.items ∙ memory.sizes.0
   where
-    go : (gs : List Kept) → length (map version_of gs) ≡ length gs
+    go : (gs : List RememberedRow) → length (map version_of gs) ≡ length gs
     go [] = refl
     go (x ∷ gs) = ap suc (go gs)
 
@@ -55,18 +55,18 @@ accepts_same c h g f k ops same ok = record {
 -- the hidden buffer holds the version that is published: m has scanned, and its hidden buffer is filled
 module _ (n w b : ℕ) (adds : List Op → ℕ → ℕ) (ops : List Op) (m : Member) (row vector totals : List ℕ) (wide : length row ≡ w) (all : length vector ≡ n) (long : length totals ≡ w)
     (sums : (k : ℕ) → k < w → slice_index row k ≡ total adds m.work.made k + adds ops k) where
-  lends_view : m.work.hidden ≡ version_words row 1 vector totals → (before : List Entry) → m.scan.recorded ≡ before ++ record { vector = vector; totals = totals } ∷ [] → HoldsNext n w b adds ops true m
+  lends_view : m.work.hidden ≡ version_words row 1 vector totals → (before : List Answer) → m.scan.recorded ≡ before ++ record { vector = vector; totals = totals } ∷ [] → HoldsNext n w b adds ops true m
   lends_view hidden before recorded k below =
-      let a : Entry = record { vector = vector; totals = totals } in
+      let a : Answer = record { vector = vector; totals = totals } in
       let made : List Made = m.work.made ++ made_of ops true m ∷ [] in
-      let lent : last_lent made ≡ Some a = lent_last m.work.made (made_of ops true m) ∙ (ap last_entry recorded ∙ last_of before a) in
-      let same : (x : Entry) → last_lent made ≡ Some x → a ≡ x = λ x e. let h = sym lent ∙ e in cc in
+      let lent : last_lent made ≡ Some a = lent_last m.work.made (made_of ops true m) ∙ (ap last_answer recorded ∙ last_of before a) in
+      let same : (x : Answer) → last_lent made ≡ Some x → a ≡ x = λ x e. let h = sym lent ∙ e in cc in
       let at : (j : ℕ) → slice_index m.work.hidden j ≡ slice_index (version_words row 1 vector totals) j = λ j. ap (λ (l : List ℕ). slice_index l j) hidden in record {
         row = λ lt. at k ∙ (row_word w n row 1 vector totals wide all k lt ∙ (sums k lt ∙ sym (total_last adds m.work.made (made_of ops true m) k)));
         flag = λ e. ap (slice_index m.work.hidden) e ∙ (at w ∙ (flag_word w n row 1 vector totals wide all ∙ sym (ap flag_of lent)));
-        vector = λ x j e lt is. subst (λ (y : Entry). get_elem? y.vector j ≡ some (slice_index m.work.hidden k)) (same x e)
+        vector = λ x j e lt is. subst (λ (y : Answer). get_elem? y.vector j ≡ some (slice_index m.work.hidden k)) (same x e)
             (there vector j 0 (omega (arith, lt, all)) ∙ ap some (sym (ap (slice_index m.work.hidden) is ∙ (at (w + 1 + j) ∙ vector_word w n row 1 vector totals wide all j lt))));
-        totals = λ x j e lt is. subst (λ (y : Entry). get_elem? y.totals j ≡ some (slice_index m.work.hidden k)) (same x e)
+        totals = λ x j e lt is. subst (λ (y : Answer). get_elem? y.totals j ≡ some (slice_index m.work.hidden k)) (same x e)
             (there totals j 0 (omega (arith, lt, long)) ∙ ap some (sym (ap (slice_index m.work.hidden) is ∙ (at (w + 1 + n + j) ∙ total_word w n row 1 vector totals wide all j))));
       }
 
@@ -81,6 +81,6 @@ module _ (n w b : ℕ) (adds : List Op → ℕ → ℕ) (ops : List Op) (m : Mem
         totals = λ x j e lt is. absurd (none-some x (sym none ∙ e));
       }
 
-  pub holds : (lends : Bool) → m.work.hidden ≡ version_words row (cond lends 1 0) vector totals → (lends ≡ true → (before : List Entry) × (m.scan.recorded ≡ before ++ record { vector = vector; totals = totals } ∷ [])) → HoldsNext n w b adds ops lends m
+  pub holds : (lends : Bool) → m.work.hidden ≡ version_words row (cond lends 1 0) vector totals → (lends ≡ true → (before : List Answer) × (m.scan.recorded ≡ before ++ record { vector = vector; totals = totals } ∷ [])) → HoldsNext n w b adds ops lends m
   holds true hidden recorded = let r = recorded refl in lends_view hidden r.0 r.1
   holds false hidden recorded = lends_none hidden

@@ -11,14 +11,14 @@ use Rattle.register_rule.specs.declared.view.Version.{Version}
 use Rattle.register_rule.specs.declared.view.Who.TheVariants.{Worker}
 use Rattle.register_rule.specs.Sums.{total}
 use Rattle.register_rule.proofs.Words.{there, read_at}
-use Rattle.snapshot_scan.specs.declared.ending.Ended.{Ended}
-use Rattle.snapshot_scan.specs.declared.ending.Ended.TheVariants.{Direct}
-use Rattle.snapshot_scan.specs.declared.memory.Memory.{Memory}
-use Rattle.snapshot_scan.specs.Changes.{Changed, Notes, NotesEach}
-use Rattle.snapshot_scan.specs.Memory.{AreNumbers}
-use Rattle.snapshot_scan.specs.Memories.{rows_of, sums_of, moved_in, answer_of, IsReady}
+use Rattle.snapshot_scan.specs.declared.scan_end.ScanEnd.{ScanEnd}
+use Rattle.snapshot_scan.specs.declared.scan_end.ScanEnd.TheVariants.{Direct}
+use Rattle.snapshot_scan.specs.declared.scan_memory.ScanMemory.{ScanMemory}
+use Rattle.snapshot_scan.specs.ChangedItems.{Changed, Notes, NotesEach}
+use Rattle.snapshot_scan.specs.RememberedRows.{AreNumbers}
+use Rattle.snapshot_scan.specs.ScanMemories.{rows_of, sums_of, moved_in, answer_of, IsReady}
 use Rattle.snapshot_scan.proofs.Words.{same_words}
-use Rattle.snapshot_update.specs.Images.{DifferAt, version_words}
+use Rattle.snapshot_update.specs.BufferImages.{DifferAt, version_words}
 use Rattle.snapshot_update.specs.Fit.{AreInside, AreImages, number_in, next_words, IsFit}
 use Rattle.snapshot_update.specs.Known.{IsStill, NotesRange, ListsMoved, IsFollowed}
 use Rattle.snapshot_update.specs.Updated.{IsRuledAlone}
@@ -131,7 +131,7 @@ own_known n c h g i m row vector rows is ruled kept lt numbers own wide sums =
 
 -- a scan ended direct, and the version after it is known: its numbers and sums are those of the remembered rows, of which the
 -- worker's own is its row, and where the shown buffer may differ from it is listed as late
-pub record IsNext (n c h g i number : ℕ) (row : List ℕ) (memory : Memory n c h g) (ended : Ended) (hidden shown : List ℕ) (recent late : Changed) : Type 0 where
+pub record IsNext (n c h g i number : ℕ) (row : List ℕ) (memory : ScanMemory n c h g) (ended : ScanEnd) (hidden shown : List ℕ) (recent late : Changed) : Type 0 where
   pub direct : (quiet : Bool) × (ended ≡ Direct quiet)
   pub numbers : AreNumbers (answer_of memory ended).vector (rows_of memory)
   pub totals : (answer_of memory ended).totals ≡ sums_of memory
@@ -139,13 +139,13 @@ pub record IsNext (n c h g i number : ℕ) (row : List ℕ) (memory : Memory n c
   pub images : AreImages (depth n (width c h g)) (next_words row (rows_of memory) (sums_of memory)) hidden shown recent late
 
 -- m has scanned, and is m' now
-module _ (n c h g i : ℕ) (row : List ℕ) (memory memory' : Memory n c h g) (hidden shown : List ℕ) (recent late late' : Changed) (known : Bool) (m m' : Member) (ended : Ended)
+module _ (n c h g i : ℕ) (row : List ℕ) (memory memory' : ScanMemory n c h g) (hidden shown : List ℕ) (recent late late' : Changed) (known : Bool) (m m' : Member) (ended : ScanEnd)
     (fit : IsFit n c h g i (length m.work.made) row memory hidden shown recent late known m) (inside : i < n) (same : m' ≡ record m { scan = m'.scan }) (ruled : IsRuledAlone n c h g m') (ready : IsReady m'.scan memory')
     (quiet : ended ≡ Direct true → (rows_of memory' ≡ rows_of memory) × (sums_of memory' ≡ sums_of memory) × AreNumbers (answer_of memory' ended).vector (rows_of memory'))
     (numbers : (q : Bool) → ended ≡ Direct q → AreNumbers (answer_of memory' ended).vector (rows_of memory'))
     (listed : (moved_in memory').all ≡ false → (k : ℕ) → k < width c h g → ¬ (Contains (moved_in memory').items k) → slice_index (sums_of memory') k ≡ slice_index (sums_of memory) k) where
   totals_are : (q : Bool) → ended ≡ Direct q → (answer_of memory' ended).totals ≡ sums_of memory'
-  totals_are q e = ap (λ (x : Ended). (answer_of memory' x).totals) e
+  totals_are q e = ap (λ (x : ScanEnd). (answer_of memory' x).totals) e
 
   next_still : IsStill ended known late late' → IsNext n c h g i (length m.work.made) row memory' ended hidden shown recent late'
   next_still still = let q = quiet still.quiet in record {

@@ -6,7 +6,7 @@ use Rattle.register_rule.specs.declared.view.Scan.{Scan}
 use Rattle.snapshot_scan.specs.declared.contended.Contended.{Contended}
 use Rattle.snapshot_scan.specs.Scanned.{IsGivenUp}
 use Rattle.snapshot_scan.specs.Contention.{IsFirstMoved}
-use Rattle.snapshot_scan.proofs.LastEntry.{last_failed}
+use Rattle.snapshot_scan.proofs.LastAnswer.{last_failed}
 
 least : (first last : List ℕ) → length first ≡ length last → ((q : ℕ) → q < length first → slice_index first q ≤ slice_index last q)
     → (q : ℕ) → q < length first → slice_index first q < slice_index last q → (e : Contended) × IsFirstMoved first last e

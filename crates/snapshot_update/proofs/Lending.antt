@@ -11,26 +11,26 @@ use Rattle.register_rule.specs.Rule.{AreOthers, AreApart}
 use Rattle.register_rule.specs.declared.view.Made.{Made}
 use Rattle.ledger_core.specs.declared.op.Op.{Op}
 use Rattle.std.proofs.lemmas.List.{length_push}
-use Rattle.snapshot_scan.specs.declared.memory.Memory.{Memory}
+use Rattle.snapshot_scan.specs.declared.scan_memory.ScanMemory.{ScanMemory}
 use Rattle.register_rule.specs.declared.view.Scan.{Scan}
 use Rattle.snapshot_scan.specs.declared.reader.Reader.{Reader as reader}
-use Rattle.snapshot_scan.specs.Lent.{Stands}
+use Rattle.snapshot_scan.specs.Lent.{IsWorkerAmong}
 use Rattle.snapshot_scan.specs.Readers.{members_with}
 use Rattle.snapshot_scan.specs.Shape.{with_scan}
 use Rattle.snapshot_scan.proofs.Standing.{stands_behind, stands_scanned}
 use Rattle.snapshot_scan.proofs.Words.{front_at, at_map}
 use Rattle.snapshot_update.specs.declared.worker.Worker.{Worker as worker}
 use Rattle.snapshot_update.specs.Lending.{IsLentAs}
-use Rattle.snapshot_scan.specs.Changes.{Changed}
-use Rattle.snapshot_update.specs.Images.{with_hidden}
-use Rattle.snapshot_update.specs.Fit.{IsFit, HoldsFor, HasSeenOwn}
+use Rattle.snapshot_scan.specs.ChangedItems.{Changed}
+use Rattle.snapshot_update.specs.BufferImages.{with_hidden}
+use Rattle.snapshot_update.specs.Fit.{IsFit, IsFitOfSeat, HasSeenOwn}
 use Rattle.snapshot_update.specs.Updated.{IsUpdated, IsRuledAlone}
 
 pub same_seat : (a b : WorkSeat) → Some a ≡ Some b → a ≡ b
 same_seat a b e = cc
 
 -- what a worker knows speaks of nothing that it has seen
-pub raised_fit : (n c h g i k : ℕ) (row : List ℕ) (memory : Memory n c h g) (hidden shown : List ℕ) (recent late : Changed) (own : Bool) (seen : List ℕ) (m : Member)
+pub raised_fit : (n c h g i k : ℕ) (row : List ℕ) (memory : ScanMemory n c h g) (hidden shown : List ℕ) (recent late : Changed) (own : Bool) (seen : List ℕ) (m : Member)
     → IsFit n c h g i k row memory hidden shown recent late own m → IsFit n c h g i k row memory hidden shown recent late own (raised seen m)
 raised_fit n c h g i k row memory hidden shown recent late own seen m f = record {
   who = f.who;
@@ -44,8 +44,8 @@ raised_fit n c h g i k row memory hidden shown recent late own seen m f = record
   images = f.images;
 }
 
-pub raised_holds : (n c h g index number : ℕ) (row : List ℕ) (memory : Memory n c h g) (hidden shown : List ℕ) (recent late : Changed) (own : Bool) (i : ℕ) (seen : List ℕ) (m : Member)
-    → HoldsFor n c h g index number row memory hidden shown recent late own i m → HoldsFor n c h g index number row memory hidden shown recent late own index (raised seen m)
+pub raised_holds : (n c h g index number : ℕ) (row : List ℕ) (memory : ScanMemory n c h g) (hidden shown : List ℕ) (recent late : Changed) (own : Bool) (i : ℕ) (seen : List ℕ) (m : Member)
+    → IsFitOfSeat n c h g index number row memory hidden shown recent late own i m → IsFitOfSeat n c h g index number row memory hidden shown recent late own index (raised seen m)
 raised_holds n c h g index number row memory hidden shown recent late own i seen m f = (
   refl,
   f.1,
@@ -58,7 +58,7 @@ last_mapped f [] m = refl
 last_mapped f (x ∷ ms) m = last_mapped f ms m
 
 -- who joins stands behind the others
-pub joined_stands : (i : ℕ) (ms : List Member) (m : Member) → m.who ≡ Worker i → Stands i (raised (greatest (ms ++ m ∷ [])) m) (met (ms ++ m ∷ []))
+pub joined_stands : (i : ℕ) (ms : List Member) (m : Member) → m.who ≡ Worker i → IsWorkerAmong i (raised (greatest (ms ++ m ∷ [])) m) (met (ms ++ m ∷ []))
 joined_stands i ms m is = (length ms, last_mapped (raised (greatest (ms ++ m ∷ []))) ms m, is)
 
 not_worker : (i : ℕ) (who : Who) → who ≢ Worker i → same_who (Worker i) who ≡ false
@@ -82,7 +82,7 @@ apart_at (m ∷ ms) zero (suc b) x y apart lt e h = λ same. apart.0 b y h (same
 apart_at (m ∷ ms) (suc a) (suc b) x y apart lt e h = apart_at ms a b x y apart.1 (omega (arith, lt)) e h
 
 -- and one alone has each name
-pub one_picked : (i : ℕ) (m : Member) (ms : List Member) → AreApart ms → Stands i m ms → picked (Worker i) ms ≡ m ∷ []
+pub one_picked : (i : ℕ) (m : Member) (ms : List Member) → AreApart ms → IsWorkerAmong i m ms → picked (Worker i) ms ≡ m ∷ []
 one_picked i m [] apart (p, e, is) = absurd (some-ne-none m (sym e))
 one_picked i m (x ∷ ms) apart (zero, e, is) =
     let same : x ≡ m = some-injective x m e in let named : x.who ≡ Worker i = ap (λ (y : Member). y.who) same ∙ is in
@@ -109,7 +109,7 @@ updated_own n c h g i ops m m' is u =
     subst (HasSeenOwn i) (sym u.is) (set_own u.scan.seen i (length m.work.made) (suc (length m.work.made)) seen
     ∙ (let e = length_push m.work.made (made_of ops u.lends (with_hidden u.hidden mid)) in let more : suc (length m.work.made) ≡ length (m.work.made ++ made_of ops u.lends (with_hidden u.hidden mid) ∷ []) = omega (arith, e) in ap some more))
 
-in_picked : (i : ℕ) (m : Member) (ms : List Member) → Stands i m ms → (q : ℕ) × (get_elem? (picked (Worker i) ms) q ≡ some m)
+in_picked : (i : ℕ) (m : Member) (ms : List Member) → IsWorkerAmong i m ms → (q : ℕ) × (get_elem? (picked (Worker i) ms) q ≡ some m)
 in_picked i m [] (p, e, is) = absurd (some-ne-none m (sym e))
 in_picked i m (x ∷ ms) (zero, e, is) =
     let same : x ≡ m = some-injective x m e in let named : x.who ≡ Worker i = ap (λ (y : Member). y.who) same ∙ is in
@@ -121,7 +121,7 @@ in_picked i m (x ∷ ms) (suc p, e, is) = go (same_who (Worker i) x.who) (in_pic
     go false t = t
 
 -- who stands there is the one who is picked
-pub is_picked : (i : ℕ) (m x : Member) (ms : List Member) → Stands i m ms → picked (Worker i) ms ≡ x ∷ [] → x ≡ m
+pub is_picked : (i : ℕ) (m x : Member) (ms : List Member) → IsWorkerAmong i m ms → picked (Worker i) ms ≡ x ∷ [] → x ≡ m
 is_picked i m x ms stands one = let t = in_picked i m ms stands in only t.0 (ap (λ (l : List Member). get_elem? l t.0) (sym one) ∙ t.1)
   where
     only : (q : ℕ) → get_elem? (x ∷ []) q ≡ some m → x ≡ m
@@ -132,7 +132,7 @@ is_picked i m x ms stands one = let t = in_picked i m ms stands in only t.0 (ap 
 pub met_at : (ms ws : List Member) (p : ℕ) (m : Member) → get_elem? ms p ≡ some m → get_elem? (met (ms ++ ws)) p ≡ some (raised (greatest (ms ++ ws)) m)
 met_at ms ws p m e = at_map (raised (greatest (ms ++ ws))) (ms ++ ws) p m (front_at ms ws p m e)
 
-pub stands_met : (i : ℕ) (m : Member) (ms ws ms' : List Member) → ms' ≡ met (ms ++ ws) → Stands i m ms → Stands i (raised (greatest (ms ++ ws)) m) ms'
+pub stands_met : (i : ℕ) (m : Member) (ms ws ms' : List Member) → ms' ≡ met (ms ++ ws) → IsWorkerAmong i m ms → IsWorkerAmong i (raised (greatest (ms ++ ws)) m) ms'
 stands_met i m ms ws ms' joins (p, e, is) = (p, ap (λ (l : List Member). get_elem? l p) joins ∙ met_at ms ws p m e, is)
 
 stays_in : (i j p : ℕ) (m : Member) (ms : List Member) → i ≢ j → get_elem? ms p ≡ some m → m.who ≡ Worker i → (q : ℕ) × (get_elem? (without (Worker j) ms) q ≡ some m)
@@ -149,7 +149,7 @@ stays_in i j (suc p) m (x ∷ ms) other e is = go (same_who (Worker j) x.who) (s
     go true t = t
     go false t = (suc t.0, t.1)
 
-pub stands_left : (i j : ℕ) (m : Member) (ms ms' : List Member) → i ≢ j → ms' ≡ without (Worker j) ms → Stands i m ms → Stands i m ms'
+pub stands_left : (i j : ℕ) (m : Member) (ms ms' : List Member) → i ≢ j → ms' ≡ without (Worker j) ms → IsWorkerAmong i m ms → IsWorkerAmong i m ms'
 stands_left i j m ms ms' other left (p, e, is) = let t = stays_in i j p m ms other e is in (t.0, ap (λ (l : List Member). get_elem? l t.0) left ∙ t.1, is)
 
 -- a worker that is lent stays lent while others join, while the reader scans, and while others leave

@@ -7,8 +7,8 @@ use Rattle.std.proofs.lemmas.Nat.Bits.{bit_at-zero}
 use Rattle.std.specs.Int.{bit_at}
 use Rattle.ledger_core.specs.declared.op.Op.{Op}
 use Rattle.ledger_core.specs.Ops.{only, part, sum_ops}
-use Rattle.snapshot_scan.specs.Changes.{Changed, Notes}
-use Rattle.snapshot_update.specs.Changes.{Touches}
+use Rattle.snapshot_scan.specs.ChangedItems.{Changed, Notes}
+use Rattle.snapshot_update.specs.Noting.{Touches}
 use Rattle.snapshot_update.specs.declared.run.Run.{Run}
 use Rattle.snapshot_update.specs.Run.{AreListed, IsRun}
 

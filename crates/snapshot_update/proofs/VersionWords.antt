@@ -5,9 +5,9 @@ use mathlib.Core.Option.{some, some-injective, some-ne-none}
 use native.Mathlib.Decide.{ℕ_discrete, dec_lt}
 use lib.ListN.{get_elem?}
 use Rattle.register_rule.specs.declared.view.Version.{Version}
-use Rattle.snapshot_scan.specs.Memory.{AreNumbers}
-use Rattle.snapshot_scan.specs.Changes.{Changed}
-use Rattle.snapshot_update.specs.Images.{DifferAt, version_words}
+use Rattle.snapshot_scan.specs.RememberedRows.{AreNumbers}
+use Rattle.snapshot_scan.specs.ChangedItems.{Changed}
+use Rattle.snapshot_update.specs.BufferImages.{DifferAt, version_words}
 use Rattle.snapshot_update.specs.Fit.{number_in, next_words}
 
 front : (xs ys : List ℕ) (k : ℕ) → k < length xs → slice_index (xs ++ ys) k ≡ slice_index xs k

@@ -7,11 +7,11 @@ use Rattle.snapshot_update.specs.declared.faults.CountFault.{CountFault}
 use Rattle.snapshot_update.specs.declared.faults.CountFault.TheVariants.{WrongRegistry, Apply}
 
 -- the number of each refusal of a list
-abbrev pub apply_number : ApplyFault → ℕ
-apply_number Exhausted = 15
-apply_number (Refused fault) = Op.number_of fault
+abbrev pub apply_fault_number : ApplyFault → ℕ
+apply_fault_number Exhausted = 15
+apply_fault_number (Refused fault) = Op.number_of fault
 
 -- the number of each refusal of an operation by a handle
-abbrev pub count_number : CountFault → ℕ
-count_number WrongRegistry = 16
-count_number (Apply fault) = apply_number fault
+abbrev pub count_fault_number : CountFault → ℕ
+count_fault_number WrongRegistry = 16
+count_fault_number (Apply fault) = apply_fault_number fault

@@ -1,14 +1,14 @@
 -- What an update lists of what its scan found.
 use Rattle.std.specs.Prelude.{◌≡◌, ◌⊎◌, ℕ, ◌+◌, ◌*◌, ◌<◌, Bool, true, false, Contains, slice_index}
 use Rattle.ledger_core.specs.Ops.{width}
-use Rattle.snapshot_scan.specs.declared.ending.Ended.{Ended}
-use Rattle.snapshot_scan.specs.declared.ending.Ended.TheVariants.{Direct}
-use Rattle.snapshot_scan.specs.declared.memory.Memory.{Memory}
-use Rattle.snapshot_scan.specs.Changes.{Changed}
-use Rattle.snapshot_scan.specs.Memories.{moved_in, answer_of}
+use Rattle.snapshot_scan.specs.declared.scan_end.ScanEnd.{ScanEnd}
+use Rattle.snapshot_scan.specs.declared.scan_end.ScanEnd.TheVariants.{Direct}
+use Rattle.snapshot_scan.specs.declared.scan_memory.ScanMemory.{ScanMemory}
+use Rattle.snapshot_scan.specs.ChangedItems.{Changed}
+use Rattle.snapshot_scan.specs.ScanMemories.{moved_in, answer_of}
 
 -- the scan found all that was remembered, and the worker's own row was: nothing more is late
-pub record IsStill (ended : Ended) (own : Bool) (late late' : Changed) : Type 0 where
+pub record IsStill (ended : ScanEnd) (own : Bool) (late late' : Changed) : Type 0 where
   pub quiet : ended ≡ Direct true
   pub remembered : own ≡ true
   pub same : late' ≡ late
@@ -30,7 +30,7 @@ pub record ListsMoved (n w : ℕ) (moved old new : Changed) : Type 0 where
   pub inside : (j : ℕ) → Contains new.items j → Contains old.items j ⊎ (j < 2 * w + 1 + n)
 
 -- the scan ended direct, and found the number of its own worker; where it moved the sums is late, too
-pub record IsFollowed (n c h g own number : ℕ) (memory : Memory n c h g) (ended : Ended) (late late' : Changed) : Type 0 where
+pub record IsFollowed (n c h g own number : ℕ) (memory : ScanMemory n c h g) (ended : ScanEnd) (late late' : Changed) : Type 0 where
   pub direct : (quiet : Bool) × (ended ≡ Direct quiet)
   pub found : slice_index (answer_of memory ended).vector own ≡ number
   pub lists : ListsMoved n (width c h g) (moved_in memory) late late'

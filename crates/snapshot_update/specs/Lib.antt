@@ -1,5 +1,5 @@
-pub mod Images
-pub mod Changes
+pub mod BufferImages
+pub mod Noting
 pub mod Run
 pub mod Known
 pub mod Target

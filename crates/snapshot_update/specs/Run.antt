@@ -1,7 +1,7 @@
 -- What a run of observations says of the words that are listed.
 use Rattle.std.specs.Prelude.{◌≡◌, ℕ, ◌+◌, ◌*◌, ◌<◌, false, List, Contains}
 use Rattle.std.specs.Int.{bit_at}
-use Rattle.snapshot_scan.specs.Changes.{Changed}
+use Rattle.snapshot_scan.specs.ChangedItems.{Changed}
 use Rattle.snapshot_update.specs.declared.run.Run.{Run}
 
 -- of the histogram whose first word is `first`, the sum and the count are listed, and each bucket whose bit is 1

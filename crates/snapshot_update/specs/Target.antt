@@ -1,7 +1,7 @@
 -- The words that a version wants in its buffer.
 use Rattle.std.specs.Prelude.{ℕ, List}
 use Rattle.snapshot_update.specs.declared.version.Version.{Version}
-use Rattle.snapshot_update.specs.Images.{version_words}
+use Rattle.snapshot_update.specs.BufferImages.{version_words}
 
 -- the row, the flag, the vector and the totals
 abbrev pub target_of : {C H G : ℕ} → Version C H G → List ℕ

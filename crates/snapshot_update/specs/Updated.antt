@@ -3,7 +3,7 @@ use Rattle.std.specs.Prelude.{◌≡◌, ℕ, Bool, true, false, List, [], ◌�
 use Rattle.ledger_core.specs.declared.op.Op.{Op}
 use Rattle.ledger_core.specs.Ops.{width, sum_ops}
 use Rattle.ledger_core.specs.Row.{Accepts}
-use Rattle.register_rule.specs.declared.view.Entry.{Entry}
+use Rattle.register_rule.specs.declared.view.Answer.{Answer}
 use Rattle.register_rule.specs.declared.view.Member.{Member}
 use Rattle.register_rule.specs.declared.view.Scan.{Scan}
 use Rattle.register_rule.specs.Members.{published}
@@ -13,12 +13,12 @@ use Rattle.snapshot_scan.specs.declared.contended.Contended.{Contended}
 use Rattle.snapshot_scan.specs.Scanned.{IsAnswered}
 use Rattle.snapshot_scan.specs.Contention.{IsContended}
 use Rattle.snapshot_scan.specs.Core.{CameTo, AnswersBy}
-use Rattle.snapshot_update.specs.Images.{with_hidden}
+use Rattle.snapshot_update.specs.BufferImages.{with_hidden}
 
 -- the scan of an update: where the version lends a view, an answer was recorded, which is then the last one; where it does not,
 -- the scan was given up. n workers, rows of w words
 abbrev pub ScanMeets : (n w : ℕ) (c c' : Scan) (lends : Bool) → Type 0
-ScanMeets n w c c' true = (a : Entry) × IsAnswered n c c' a × AnswersBy n w c c' a
+ScanMeets n w c c' true = (a : Answer) × IsAnswered n c c' a × AnswersBy n w c c' a
 ScanMeets n w c c' false = (e : Contended) × IsContended n c c' e × CameTo n w c c' (GaveUp e.worker e.first e.last)
 
 -- all that the rule says of one member alone, on a board of n workers, c counters, h histograms and g gauges

@@ -59,8 +59,8 @@ module _ {N C H G : ℕ} where
     pub room : length (member_of w).work.made < 18446744073709551615
 
 -- the member after it has scanned
-abbrev pub scanned : Scan → Member → Member
-scanned c m = record m { scan = c }
+abbrev pub after_scan : Scan → Member → Member
+after_scan c m = record m { scan = c }
 
 -- why a worker refuses a list: its number is the greatest that there is, or else its row does not accept the list. A row of
 -- c counters, h histograms and g gauges

@@ -9,22 +9,22 @@ ghost use Rattle.register_rule.specs.Members.{new_worker};
 ghost use Rattle.register_rule.specs.Seats.{worker_of, index_of as seat_index};
 ghost use Rattle.snapshot_core.specs.declared.next.Next.TheVariants as Next;
 ghost use Rattle.snapshot_scan.specs.Scanned.{IsAnswered};
-ghost use Rattle.snapshot_scan.specs.Memories.{rows_of};
+ghost use Rattle.snapshot_scan.specs.ScanMemories.{rows_of};
 ghost use Rattle.snapshot_update.specs.Blank.{AreBlank};
 ghost use Rattle.snapshot_scan.specs.Contention.{IsContended};
 ghost use Rattle.snapshot_scan.specs.Core.{CameTo, AnswersBy};
-ghost use Rattle.snapshot_scan.specs.Snapshots.{entry_of};
+ghost use Rattle.snapshot_scan.specs.Snapshots.{as_answer};
 ghost use Rattle.snapshot_update.specs.Updated.{IsUpdated};
 ghost use Rattle.snapshot_update.specs.Workers.{index_of, member_of, lists_of, scan_by, IsWorkerOf, IsApplyFault};
 
+use crate::buffer_images::BufferImages;
 use crate::faults::ApplyFault;
-use crate::images::Images;
 use crate::update::update;
 use crate::worker::Worker;
 use ledger_core::{Op, Row};
 use register_rule::{Board, WorkSeat};
 use segment_layout::buffer_words;
-use snapshot_scan::{Contended, Memory, NoRoom, Snapshot};
+use snapshot_scan::{Contended, NoMemoryForSeat, ScanMemory, Snapshot};
 use std::alloc::{AllocError, Global};
 
 impl<const N: usize, const C: usize, const H: usize, const G: usize> Worker<N, C, H, G> {
@@ -32,8 +32,11 @@ impl<const N: usize, const C: usize, const H: usize, const G: usize> Worker<N, C
     ///
     /// # Errors
     ///
-    /// 6 [`NoRoom`], with the seat.
-    pub fn new(alloc: Global, seat: WorkSeat) -> Result<Worker<N, C, H, G>, NoRoom<WorkSeat>>
+    /// 6 [`NoMemoryForSeat`], with the seat.
+    pub fn new(
+        alloc: Global,
+        seat: WorkSeat,
+    ) -> Result<Worker<N, C, H, G>, NoMemoryForSeat<WorkSeat>>
         requires geometry { IsGeometry N C H G }
         requires inside { seat_index seat < N }
         requires fresh { worker_of seat ≡ new_worker N (width C H G) (depth N (width C H G)) (seat_index seat) }
@@ -42,7 +45,7 @@ impl<const N: usize, const C: usize, const H: usize, const G: usize> Worker<N, C
         ensures back { IfErr result (λ e. e.seat ≡ seat) }
     {
         let Ok((row, memory, images)) = parts(alloc) else {
-            return Err(NoRoom { seat });
+            return Err(NoMemoryForSeat { seat });
         };
         let index = seat.worker();
         Ok(Worker {
@@ -113,14 +116,14 @@ impl<const N: usize, const C: usize, const H: usize, const G: usize> Worker<N, C
 // The memory of a worker.
 fn parts<const N: usize, const C: usize, const H: usize, const G: usize>(
     alloc: Global,
-) -> Result<(Box<Row<C, H, G>>, Memory<N, C, H, G>, Images), AllocError>
+) -> Result<(Box<Row<C, H, G>>, ScanMemory<N, C, H, G>, BufferImages), AllocError>
     requires { IsGeometry N C H G }
     ensures row { IfOk result (λ r. r.0.value ≡ replicate (width C H G) 0) }
     ensures rows { IfOk result (λ r. rows_of r.1 ≡ replicate N (record { number = 0; row = replicate (width C H G) 0 })) }
     ensures images { IfOk result (λ r. AreBlank (depth N (width C H G)) r.2) }
 {
     let row = Box::new(alloc, Row::new())?;
-    let memory = Memory::new(alloc)?;
-    let images = Images::new(alloc, buffer_words(N, C, H, G))?;
+    let memory = ScanMemory::new(alloc)?;
+    let images = BufferImages::new(alloc, buffer_words(N, C, H, G))?;
     Ok((row, memory, images))
 }

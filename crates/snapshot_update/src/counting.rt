@@ -9,9 +9,9 @@ ghost use Rattle.snapshot_core.specs.declared.next.Next.TheVariants as Next;
 ghost use Rattle.snapshot_scan.specs.Scanned.{IsAnswered};
 ghost use Rattle.snapshot_scan.specs.Contention.{IsContended};
 ghost use Rattle.snapshot_scan.specs.Core.{CameTo, AnswersBy};
-ghost use Rattle.snapshot_scan.specs.Snapshots.{entry_of};
+ghost use Rattle.snapshot_scan.specs.Snapshots.{as_answer};
 ghost use Rattle.snapshot_update.specs.Updated.{IsRuledAlone};
-ghost use Rattle.snapshot_update.specs.Workers.{index_of, member_of, lists_of, scan_by, scanned, IsWorkerOf, IsCounted, IsCountFault};
+ghost use Rattle.snapshot_update.specs.Workers.{index_of, member_of, lists_of, scan_by, after_scan, IsWorkerOf, IsCounted, IsCountFault};
 
 use crate::faults::CountFault;
 use crate::scanning::scan_to;
@@ -153,9 +153,9 @@ impl<const N: usize, const C: usize, const H: usize, const G: usize> Worker<N, C
         ensures own { IsWorkerOf board.now self.new }
         ensures index { index_of self.new ≡ index_of self.old }
         ensures ruled { IsRuledAlone N C H G (member_of self.new) }
-        ensures made { member_of self.new ≡ scanned (scan_by self.new) (member_of self.old) }
-        ensures answered { OnOk result (IsAnswered N (scan_by self.old) (scan_by self.new) (entry_of out.new)) }
-        ensures answers { OnOk result (AnswersBy N (width C H G) (scan_by self.old) (scan_by self.new) (entry_of out.new)) }
+        ensures made { member_of self.new ≡ after_scan (scan_by self.new) (member_of self.old) }
+        ensures answered { OnOk result (IsAnswered N (scan_by self.old) (scan_by self.new) (as_answer out.new)) }
+        ensures answers { OnOk result (AnswersBy N (width C H G) (scan_by self.old) (scan_by self.new) (as_answer out.new)) }
         ensures legal { OnOk result (IsLegal C H (slice_index out.new.totals)) }
         ensures contended { IfErr result (IsContended N (scan_by self.old) (scan_by self.new)) }
         ensures came_up { IfErr result (λ e. CameTo N (width C H G) (scan_by self.old) (scan_by self.new) (Next.GaveUp e.worker e.first e.last)) }

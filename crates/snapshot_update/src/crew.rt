@@ -3,7 +3,7 @@ ghost use Rattle.std.specs.Prelude.{◌≡◌, [], map, length, replicate, IfOk,
 ghost use Rattle.std.specs.List.{range_with_len};
 ghost use Rattle.ledger_core.specs.Ops.{width};
 ghost use Rattle.segment_layout.specs.Layout.{depth, IsGeometry};
-ghost use Rattle.register_rule.specs.Faults.{IsBoard, IsBoardFault};
+ghost use Rattle.register_rule.specs.Faults.{IsBoardSize, IsBoardFault};
 ghost use Rattle.register_rule.specs.Members.{new_worker, workers_from, readers_from, fresh_scan};
 ghost use Rattle.register_rule.specs.Seats.{board_id, worker_of, reader_of, HasWorker, HasReader};
 ghost use Rattle.snapshot_scan.specs.Order.{IsAlone};
@@ -118,7 +118,7 @@ impl<const N: usize, const C: usize, const H: usize, const G: usize> Crew<N, C, 
     /// [`BoardFault::NoMemory`].
     pub fn new(alloc: Global, id: u64, readers: usize) -> Result<Crew<N, C, H, G>, BoardFault>
         ensures id { IfOk result (λ c. board_id c.board ≡ id) }
-        ensures geometry { IfOk result (λ _. IsBoard N C H G readers) }
+        ensures geometry { IfOk result (λ _. IsBoardSize N C H G readers) }
         ensures workers { IfOk result (λ c. All (IsWorkerOf c.board) c.workers.items) }
         ensures all { IfOk result (λ c. map index_of c.workers.items ≡ range_with_len 0 N) }
         ensures new { IfOk result (λ c. map lists_of c.workers.items ≡ replicate N []) }

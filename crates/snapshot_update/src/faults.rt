@@ -1,6 +1,6 @@
 //! Why a worker refuses.
 ghost use Rattle.std.specs.Prelude.{◌≡◌};
-ghost use Rattle.snapshot_update.specs.Faults.{apply_number, count_number};
+ghost use Rattle.snapshot_update.specs.Faults.{apply_fault_number, count_fault_number};
 
 use ledger_core::OpFault;
 use thiserror::Error;
@@ -19,7 +19,7 @@ pub enum ApplyFault {
 impl ApplyFault {
     /// The refusal's number.
     pub fn number(&self) -> u8
-        ensures { result ≡ apply_number self.now }
+        ensures { result ≡ apply_fault_number self.now }
     {
         match self {
             ApplyFault::Exhausted => 15,
@@ -42,7 +42,7 @@ pub enum CountFault {
 impl CountFault {
     /// The refusal's number.
     pub fn number(&self) -> u8
-        ensures { result ≡ count_number self.now }
+        ensures { result ≡ count_fault_number self.now }
     {
         match self {
             CountFault::WrongRegistry => 16,

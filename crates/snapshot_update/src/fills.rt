@@ -4,13 +4,13 @@ ghost use Rattle.bucket_math.specs.Words.{greatest_word};
 ghost use Rattle.ledger_core.specs.Ops.{width};
 ghost use Rattle.segment_layout.specs.Layout.{depth};
 ghost use Rattle.register_rule.specs.Seats.{worker_of, index_of, HasWorker};
-ghost use Rattle.snapshot_update.specs.Images.{DifferAt, with_hidden};
-ghost use Rattle.snapshot_update.specs.Changes.{SoFar};
+ghost use Rattle.snapshot_update.specs.BufferImages.{DifferAt, with_hidden};
+ghost use Rattle.snapshot_update.specs.Noting.{SoFar};
 ghost use Rattle.snapshot_update.specs.Target.{target_of};
 
 use crate::version::Version;
 use register_rule::{Board, WorkSeat};
-use snapshot_scan::Changes;
+use snapshot_scan::ChangedItems;
 
 /// Makes an item of the hidden buffer this word. `hidden` is what the buffer holds, and a word that it holds is not stored.
 #[inline(always)]
@@ -42,7 +42,7 @@ pub(crate) fn fill_changes<const N: usize, const C: usize, const H: usize, const
     board: &Board<N, C, H, G>,
     seat: &mut WorkSeat,
     hidden: &mut [u64],
-    changes: &Changes,
+    changes: &ChangedItems,
     version: &Version<C, H, G>,
 )
     requires own { HasWorker board.now seat.old }
@@ -69,9 +69,9 @@ pub(crate) fn fill_known<const N: usize, const C: usize, const H: usize, const G
     board: &Board<N, C, H, G>,
     seat: &mut WorkSeat,
     hidden: &mut [u64],
-    recent: &Changes,
-    late: &Changes,
-    touched: &Changes,
+    recent: &ChangedItems,
+    late: &ChangedItems,
+    touched: &ChangedItems,
     version: &Version<C, H, G>,
 )
     requires own { HasWorker board.now seat.old }
@@ -100,7 +100,7 @@ fn fill_some<const N: usize, const C: usize, const H: usize, const G: usize>(
     seat: &mut WorkSeat,
     hidden: &mut [u64],
     shown: &[u64],
-    recent: &mut Changes,
+    recent: &mut ChangedItems,
     version: &Version<C, H, G>,
     from: usize,
     to: usize,
@@ -133,7 +133,7 @@ pub(crate) fn fill_all<const N: usize, const C: usize, const H: usize, const G: 
     seat: &mut WorkSeat,
     hidden: &mut [u64],
     shown: &[u64],
-    recent: &mut Changes,
+    recent: &mut ChangedItems,
     version: &Version<C, H, G>,
 )
     requires own { HasWorker board.now seat.old }

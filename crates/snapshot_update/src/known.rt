@@ -3,8 +3,8 @@ ghost use Rattle.std.specs.Prelude.{◌≡◌, ◌⊎◌, ℕ, ◌+◌, ◌<◌,
 ghost use Rattle.ledger_core.specs.Ops.{width};
 ghost use Rattle.segment_layout.specs.Layout.{IsGeometry};
 ghost use Rattle.register_rule.specs.Seats.{worker_of, index_of};
-ghost use Rattle.snapshot_scan.specs.declared.ending.Ended.TheVariants as Ended;
-ghost use Rattle.snapshot_scan.specs.Memories.{moved_in, answer_of};
+ghost use Rattle.snapshot_scan.specs.declared.scan_end.ScanEnd.TheVariants as ScanEnd;
+ghost use Rattle.snapshot_scan.specs.ScanMemories.{moved_in, answer_of};
 ghost use Rattle.snapshot_update.specs.Fit.{AreInside};
 ghost use Rattle.snapshot_update.specs.Known.{IsStill, ListsMoved, IsFollowed};
 
@@ -12,7 +12,7 @@ use crate::listing::{note_each, note_range};
 use crate::scanning::{is_direct, is_quiet};
 use register_rule::WorkSeat;
 use segment_layout::{Item, item_at};
-use snapshot_scan::{Changes, Ended, Memory};
+use snapshot_scan::{ChangedItems, ScanEnd, ScanMemory};
 
 /// Whether the version that an update publishes is known to differ from what the shown buffer holds at no items but the late
 /// and the touched ones. What the scan found anew is listed as late, too. `own` says that the row that was remembered of the
@@ -20,11 +20,11 @@ use snapshot_scan::{Changes, Ended, Memory};
 #[inline(always)]
 pub(crate) fn know_next<const N: usize, const C: usize, const H: usize, const G: usize>(
     seat: &WorkSeat,
-    memory: &Memory<N, C, H, G>,
-    late: &mut Changes,
-    touched: &Changes,
+    memory: &ScanMemory<N, C, H, G>,
+    late: &mut ChangedItems,
+    touched: &ChangedItems,
     own: bool,
-    ended: Ended,
+    ended: ScanEnd,
 ) -> bool
     requires geometry { IsGeometry N C H G }
     requires inside { index_of seat.now < N }
@@ -45,10 +45,10 @@ pub(crate) fn know_next<const N: usize, const C: usize, const H: usize, const G:
 #[inline(never)]
 fn follow<const N: usize, const C: usize, const H: usize, const G: usize>(
     seat: &WorkSeat,
-    memory: &Memory<N, C, H, G>,
-    late: &mut Changes,
-    touched: &Changes,
-    ended: Ended,
+    memory: &ScanMemory<N, C, H, G>,
+    late: &mut ChangedItems,
+    touched: &ChangedItems,
+    ended: ScanEnd,
 ) -> bool
     requires geometry { IsGeometry N C H G }
     requires inside { index_of seat.now < N }
@@ -71,8 +71,8 @@ fn follow<const N: usize, const C: usize, const H: usize, const G: usize>(
 /// Lists all numbers of the vector, and the totals of these words, behind what is listed.
 #[inline]
 fn list_moved<const N: usize, const C: usize, const H: usize, const G: usize>(
-    late: &mut Changes,
-    moved: &Changes,
+    late: &mut ChangedItems,
+    moved: &ChangedItems,
 )
     requires geometry { IsGeometry N C H G }
     requires words { AreInside (width C H G) moved.now }

@@ -5,11 +5,11 @@
 #![tactic(auto)]
 
 mod applying;
+mod buffer_images;
 mod counting;
 mod crew;
 mod faults;
 mod fills;
-mod images;
 mod known;
 mod listing;
 mod meeting;

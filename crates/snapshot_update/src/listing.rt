@@ -1,13 +1,13 @@
 //! Lists of changes from lists of changes.
 ghost use Rattle.std.specs.Prelude.{◌≡◌, ℕ, ◌+◌, ◌<◌, ◌⊎◌, ◌≤◌, true, false, length, Contains};
-ghost use Rattle.snapshot_scan.specs.Changes.{NotesEach};
+ghost use Rattle.snapshot_scan.specs.ChangedItems.{NotesEach};
 ghost use Rattle.snapshot_update.specs.Known.{NotesRange};
 
-use snapshot_scan::Changes;
+use snapshot_scan::ChangedItems;
 
 /// Notes each item that is listed in `from`, so much further along the buffer.
 #[inline]
-pub(crate) fn note_each(to: &mut Changes, from: &Changes, shift: usize)
+pub(crate) fn note_each(to: &mut ChangedItems, from: &ChangedItems, shift: usize)
     requires room { (j : ℕ) → Contains from.now.items j → j + shift < 18446744073709551616 }
     ensures { NotesEach shift from.now.items to.old to.new }
 {
@@ -16,7 +16,7 @@ pub(crate) fn note_each(to: &mut Changes, from: &Changes, shift: usize)
 
 /// Notes so many items from the item `first` on.
 #[inline]
-pub(crate) fn note_range(to: &mut Changes, first: usize, count: usize)
+pub(crate) fn note_range(to: &mut ChangedItems, first: usize, count: usize)
     requires room { first + count < 18446744073709551616 }
     ensures { NotesRange first count to.old to.new }
 {
@@ -29,7 +29,13 @@ pub(crate) fn note_range(to: &mut Changes, first: usize, count: usize)
 /// worker's own number, and at the totals of the words that were touched, which stand `lent` further. Where that is not
 /// `known`, it may be anywhere.
 #[inline]
-pub(crate) fn list_late(late: &mut Changes, touched: &Changes, own: usize, lent: usize, known: bool)
+pub(crate) fn list_late(
+    late: &mut ChangedItems,
+    touched: &ChangedItems,
+    own: usize,
+    lent: usize,
+    known: bool,
+)
     requires room { (j : ℕ) → Contains touched.now.items j → j + lent < 18446744073709551616 }
     ensures unknown { known ≡ false → late.new.all ≡ true }
     ensures own { late.new.all ≡ false → Contains late.new.items own }

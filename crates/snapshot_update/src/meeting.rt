@@ -5,7 +5,7 @@ ghost use Rattle.register_rule.specs.declared.view.Who.TheVariants as Who;
 ghost use Rattle.register_rule.specs.History.{Below};
 ghost use Rattle.register_rule.specs.Members.{met, greatest, raised, picked, without};
 ghost use Rattle.register_rule.specs.Rule.{AreApart};
-ghost use Rattle.snapshot_scan.specs.Lent.{Stands, HasSeenMore};
+ghost use Rattle.snapshot_scan.specs.Lent.{IsWorkerAmong, HasSeenMore};
 ghost use Rattle.snapshot_scan.specs.Order.{IsAlone};
 ghost use Rattle.snapshot_scan.specs.Readers.{members_with, scan_by as scan_of_reader, index_of as reader_index, IsReaderOf};
 ghost use Rattle.snapshot_update.specs.Workers.{index_of, member_of, scan_by, IsWorkerOf};
@@ -57,7 +57,7 @@ impl<const N: usize, const C: usize, const H: usize, const G: usize> Worker<N, C
         ensures index { (index_of self.new ≡ index_of self.old) × (reader_index reader.new ≡ reader_index reader.old) }
         ensures worker { member_of self.new ≡ raised (greatest (members_with reader.old ++ member_of self.old ∷ [])) (member_of self.old) }
         ensures reader { members_with reader.new ≡ without (Who.Worker (index_of self.old)) (met (members_with reader.old ++ member_of self.old ∷ [])) }
-        ensures others { (i : ℕ) (m : Member) → Stands i m (members_with reader.old) → i ≢ index_of self.old }
+        ensures others { (i : ℕ) (m : Member) → IsWorkerAmong i m (members_with reader.old) → i ≢ index_of self.old }
         ensures kept { HasSeenMore (scan_of_reader reader.old) (scan_of_reader reader.new) }
         ensures alone { IsAlone reader.old → IsAlone reader.new }
         ensures reader_sees { length (member_of self.old).work.made ≤ slice_index (scan_of_reader reader.new).seen (index_of self.old) }

@@ -3,7 +3,7 @@ ghost use Rattle.std.specs.Prelude.{◌≡◌, ℕ, ◌+◌, ◌<◌, ◌≤◌,
 ghost use Rattle.ledger_core.specs.Ops.{width};
 ghost use Rattle.segment_layout.specs.Layout.{depth};
 ghost use Rattle.register_rule.specs.Seats.{worker_of, index_of, HasWorker};
-ghost use Rattle.snapshot_update.specs.Images.{DifferAt, with_hidden};
+ghost use Rattle.snapshot_update.specs.BufferImages.{DifferAt, with_hidden};
 ghost use Rattle.snapshot_update.specs.Target.{target_of};
 ghost use Rattle.snapshot_update.specs.Fit.{AreInside};
 
@@ -11,7 +11,7 @@ use crate::fills::{fill_all, fill_changes, fill_known};
 use crate::listing::{are_both, note_each};
 use crate::version::Version;
 use register_rule::{Board, WorkSeat};
-use snapshot_scan::Changes;
+use snapshot_scan::ChangedItems;
 
 /// Fills the hidden buffer with the version, and lists in `recent` where it differs from what the shown buffer holds. Where
 /// it is `known` that the version differs from that at no items but the late and the touched ones, no others are compared.
@@ -21,9 +21,9 @@ pub(crate) fn fill_next<const N: usize, const C: usize, const H: usize, const G:
     seat: &mut WorkSeat,
     hidden: &mut [u64],
     shown: &[u64],
-    recent: &mut Changes,
-    late: &Changes,
-    touched: &Changes,
+    recent: &mut ChangedItems,
+    late: &ChangedItems,
+    touched: &ChangedItems,
     version: &Version<C, H, G>,
     known: bool,
 )

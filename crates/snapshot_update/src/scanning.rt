@@ -3,43 +3,43 @@ ghost use Rattle.std.specs.Prelude.{◌≡◌, ◌↔◌, ℕ, ◌<◌, Bool, Co
 ghost use Rattle.ledger_core.specs.Ops.{width};
 ghost use Rattle.ledger_core.specs.Legal.{IsLegal};
 ghost use Rattle.register_rule.specs.Seats.{worker_of, index_of, HasWorker};
-ghost use Rattle.snapshot_scan.specs.declared.ending.Ended.TheVariants as Ended;
+ghost use Rattle.snapshot_scan.specs.declared.scan_end.ScanEnd.TheVariants as ScanEnd;
 ghost use Rattle.snapshot_scan.specs.Scanned.{IsAnswered};
 ghost use Rattle.snapshot_core.specs.declared.next.Next.TheVariants as Next;
 ghost use Rattle.snapshot_scan.specs.Contention.{IsContended};
 ghost use Rattle.snapshot_scan.specs.Core.{CameTo, AnswersBy};
-ghost use Rattle.snapshot_scan.specs.Snapshots.{entry_of};
-ghost use Rattle.snapshot_scan.specs.Memory.{AreNumbers};
-ghost use Rattle.snapshot_scan.specs.Memories.{rows_of, sums_of, moved_in, answer_of, HasView, IsReady};
+ghost use Rattle.snapshot_scan.specs.Snapshots.{as_answer};
+ghost use Rattle.snapshot_scan.specs.RememberedRows.{AreNumbers};
+ghost use Rattle.snapshot_scan.specs.ScanMemories.{rows_of, sums_of, moved_in, answer_of, HasView, IsReady};
 ghost use Rattle.snapshot_update.specs.Fit.{AreInside};
 ghost use Rattle.snapshot_update.specs.Updated.{ScanMeets, IsRuledAlone};
 
 use register_rule::{Board, WorkSeat};
-use snapshot_scan::{Contended, Ended, Memory, Snapshot};
+use snapshot_scan::{Contended, ScanEnd, ScanMemory, Snapshot};
 
 /// Whether the scan has a view to lend.
 #[inline]
-pub(crate) fn has_view(ended: Ended) -> bool
+pub(crate) fn has_view(ended: ScanEnd) -> bool
     ensures view { result ≡ true → HasView ended }
-    ensures none { result ≡ false → ended ≡ Ended.GaveUp }
+    ensures none { result ≡ false → ended ≡ ScanEnd.GaveUp }
 {
-    !matches!(ended, Ended::GaveUp)
+    !matches!(ended, ScanEnd::GaveUp)
 }
 
 /// Whether the scan found all that is remembered.
 #[inline]
-pub(crate) fn is_quiet(ended: Ended) -> bool
-    ensures { IsTrue result ↔ (ended ≡ Ended.Direct true) }
+pub(crate) fn is_quiet(ended: ScanEnd) -> bool
+    ensures { IsTrue result ↔ (ended ≡ ScanEnd.Direct true) }
 {
-    matches!(ended, Ended::Direct { quiet: true })
+    matches!(ended, ScanEnd::Direct { quiet: true })
 }
 
 /// Whether the scan ended with numbers of its own.
 #[inline]
-pub(crate) fn is_direct(ended: Ended) -> bool
-    ensures { IsTrue result ↔ ((quiet : Bool) × (ended ≡ Ended.Direct quiet)) }
+pub(crate) fn is_direct(ended: ScanEnd) -> bool
+    ensures { IsTrue result ↔ ((quiet : Bool) × (ended ≡ ScanEnd.Direct quiet)) }
 {
-    matches!(ended, Ended::Direct { .. })
+    matches!(ended, ScanEnd::Direct { .. })
 }
 
 /// The scan of a worker for its update: its other parts stay as they were.
@@ -47,8 +47,8 @@ pub(crate) fn is_direct(ended: Ended) -> bool
 pub(crate) fn scan_own<const N: usize, const C: usize, const H: usize, const G: usize>(
     board: &Board<N, C, H, G>,
     seat: &mut WorkSeat,
-    memory: &mut Memory<N, C, H, G>,
-) -> Ended
+    memory: &mut ScanMemory<N, C, H, G>,
+) -> ScanEnd
     requires own { HasWorker board.now seat.old }
     requires ready { IsReady (worker_of seat.old).scan memory.old }
     ensures own { HasWorker board.now seat.new }
@@ -58,11 +58,11 @@ pub(crate) fn scan_own<const N: usize, const C: usize, const H: usize, const G: 
     ensures ready { IsReady (worker_of seat.new).scan memory.new }
     ensures view { HasView result → IsAnswered N (worker_of seat.old).scan (worker_of seat.new).scan (answer_of memory.new result) }
     ensures meets { HasView result → ScanMeets N (width C H G) (worker_of seat.old).scan (worker_of seat.new).scan true }
-    ensures quiet { result ≡ Ended.Direct true → (rows_of memory.new ≡ rows_of memory.old) × (sums_of memory.new ≡ sums_of memory.old) × AreNumbers (answer_of memory.new result).vector (rows_of memory.new) }
-    ensures numbers { (q : Bool) → result ≡ Ended.Direct q → AreNumbers (answer_of memory.new result).vector (rows_of memory.new) }
+    ensures quiet { result ≡ ScanEnd.Direct true → (rows_of memory.new ≡ rows_of memory.old) × (sums_of memory.new ≡ sums_of memory.old) × AreNumbers (answer_of memory.new result).vector (rows_of memory.new) }
+    ensures numbers { (q : Bool) → result ≡ ScanEnd.Direct q → AreNumbers (answer_of memory.new result).vector (rows_of memory.new) }
     ensures listed { (moved_in memory.new).all ≡ false → (k : ℕ) → k < width C H G → ¬ (Contains (moved_in memory.new).items k) → slice_index (sums_of memory.new) k ≡ slice_index (sums_of memory.old) k }
     ensures words { AreInside (width C H G) (moved_in memory.new) }
-    ensures gave_up { result ≡ Ended.GaveUp → ScanMeets N (width C H G) (worker_of seat.old).scan (worker_of seat.new).scan false }
+    ensures gave_up { result ≡ ScanEnd.GaveUp → ScanMeets N (width C H G) (worker_of seat.old).scan (worker_of seat.new).scan false }
 {
     memory.scan(board, seat)
 }
@@ -71,7 +71,7 @@ pub(crate) fn scan_own<const N: usize, const C: usize, const H: usize, const G: 
 pub(crate) fn scan_to<const N: usize, const C: usize, const H: usize, const G: usize>(
     board: &Board<N, C, H, G>,
     seat: &mut WorkSeat,
-    memory: &mut Memory<N, C, H, G>,
+    memory: &mut ScanMemory<N, C, H, G>,
     out: &mut Snapshot<N, C, H, G>,
 ) -> Result<(), Contended>
     requires own { HasWorker board.now seat.old }
@@ -81,8 +81,8 @@ pub(crate) fn scan_to<const N: usize, const C: usize, const H: usize, const G: u
     ensures ruled { IsRuledAlone N C H G (worker_of seat.new) }
     ensures others { worker_of seat.new ≡ record (worker_of seat.old) { scan = (worker_of seat.new).scan } }
     ensures ready { IsReady (worker_of seat.new).scan memory.new }
-    ensures answered { OnOk result (IsAnswered N (worker_of seat.old).scan (worker_of seat.new).scan (entry_of out.new)) }
-    ensures answers { OnOk result (AnswersBy N (width C H G) (worker_of seat.old).scan (worker_of seat.new).scan (entry_of out.new)) }
+    ensures answered { OnOk result (IsAnswered N (worker_of seat.old).scan (worker_of seat.new).scan (as_answer out.new)) }
+    ensures answers { OnOk result (AnswersBy N (width C H G) (worker_of seat.old).scan (worker_of seat.new).scan (as_answer out.new)) }
     ensures legal { OnOk result (IsLegal C H (slice_index out.new.totals)) }
     ensures contended { IfErr result (IsContended N (worker_of seat.old).scan (worker_of seat.new).scan) }
     ensures came_up { IfErr result (λ e. CameTo N (width C H G) (worker_of seat.old).scan (worker_of seat.new).scan (Next.GaveUp e.worker e.first e.last)) }

@@ -2,12 +2,12 @@
 ghost use Rattle.std.specs.Prelude.{◌≡◌, ◌+◌, ◌*◌, ◌<◌, ◌≤◌, ℕ, false, length, All, Contains};
 ghost use Rattle.ledger_core.specs.Ops.{width, only, part, sum_ops, IsWithin};
 ghost use Rattle.ledger_core.specs.Limits.{AreSlots};
-ghost use Rattle.snapshot_update.specs.Changes.{Touches};
+ghost use Rattle.snapshot_update.specs.Noting.{Touches};
 ghost use Rattle.snapshot_update.specs.Run.{IsRun};
 
 use crate::run::Run;
 use ledger_core::Op;
-use snapshot_scan::Changes;
+use snapshot_scan::ChangedItems;
 
 /// How many words a histogram has.
 const HIST: usize = 27;
@@ -23,7 +23,7 @@ const COUNT: usize = 26;
 #[inline(always)]
 pub(crate) fn touch<const C: usize, const H: usize, const G: usize>(
     ops: &[Op],
-    touched: &mut Changes,
+    touched: &mut ChangedItems,
 )
     requires within { All (IsWithin C H G) ops.now }
     requires slots { AreSlots C H G }
@@ -42,7 +42,7 @@ pub(crate) fn touch<const C: usize, const H: usize, const G: usize>(
 #[inline(always)]
 fn touch_one<const C: usize, const H: usize, const G: usize>(
     op: &Op,
-    touched: &mut Changes,
+    touched: &mut ChangedItems,
     run: &mut Run,
 )
     requires within { IsWithin C H G op.now }
@@ -66,7 +66,7 @@ fn touch_one<const C: usize, const H: usize, const G: usize>(
 #[inline(always)]
 fn touch_hist<const C: usize, const H: usize, const G: usize>(
     hist: usize,
-    touched: &mut Changes,
+    touched: &mut ChangedItems,
     run: &mut Run,
 )
     requires within { hist < H }
@@ -89,7 +89,7 @@ fn touch_hist<const C: usize, const H: usize, const G: usize>(
 #[inline(always)]
 fn touch_bucket<const C: usize, const H: usize, const G: usize>(
     place: usize,
-    touched: &mut Changes,
+    touched: &mut ChangedItems,
     run: &mut Run,
 )
     requires within { (run.old.hist < H) × (place < 25) }

@@ -9,13 +9,13 @@ ghost use lib.ListN.{get_elem?};
 ghost use Rattle.register_rule.specs.declared.view.Version.{Version as version};
 ghost use Rattle.register_rule.specs.Sums.{total};
 ghost use Rattle.register_rule.specs.Seats.{worker_of, index_of, HasWorker};
-ghost use Rattle.snapshot_scan.specs.declared.ending.Ended.TheVariants as Ended;
-ghost use Rattle.snapshot_scan.specs.Memories.{rows_of, sums_of, answer_of, HasView};
-ghost use Rattle.snapshot_update.specs.Images.{DifferAt, version_words, with_hidden};
+ghost use Rattle.snapshot_scan.specs.declared.scan_end.ScanEnd.TheVariants as ScanEnd;
+ghost use Rattle.snapshot_scan.specs.ScanMemories.{rows_of, sums_of, answer_of, HasView};
+ghost use Rattle.snapshot_update.specs.BufferImages.{DifferAt, version_words, with_hidden};
 ghost use Rattle.snapshot_update.specs.Fit.{AreInside, AreImages, IsFit};
 ghost use Rattle.snapshot_update.specs.Updated.{IsUpdated};
 
-use crate::images::Images;
+use crate::buffer_images::BufferImages;
 use crate::known::know_next;
 use crate::listing::list_late;
 use crate::next_fill::fill_next;
@@ -25,7 +25,7 @@ use crate::version::Version;
 use ledger_core::{Op, OpFault, Row};
 use register_rule::{Board, WorkSeat};
 use segment_layout::{Item, item_at};
-use snapshot_scan::{Ended, Memory};
+use snapshot_scan::{ScanEnd, ScanMemory};
 use std::mem::swap;
 
 // The flag of a version that lends a view, or does not.
@@ -44,9 +44,9 @@ fn fill_version<const N: usize, const C: usize, const H: usize, const G: usize>(
     board: &Board<N, C, H, G>,
     seat: &mut WorkSeat,
     row: &Row<C, H, G>,
-    memory: &Memory<N, C, H, G>,
-    images: &mut Images,
-    ended: Ended,
+    memory: &ScanMemory<N, C, H, G>,
+    images: &mut BufferImages,
+    ended: ScanEnd,
     known: bool,
 ) -> bool
     requires own { HasWorker board.now seat.old }
@@ -54,7 +54,7 @@ fn fill_version<const N: usize, const C: usize, const H: usize, const G: usize>(
     requires exact { (worker_of seat.old).work.hidden ≡ images.old.hidden.items }
     requires touched { AreInside (width C H G) images.old.touched }
     requires images { (next : List ℕ) × AreImages (depth N (width C H G)) next images.old.hidden.items images.old.shown.items images.old.recent images.old.late
-        × (known ≡ true → (images.old.touched.all ≡ false) × ((quiet : Bool) × (ended ≡ Ended.Direct quiet))
+        × (known ≡ true → (images.old.touched.all ≡ false) × ((quiet : Bool) × (ended ≡ ScanEnd.Direct quiet))
         × ((j : ℕ) → j < depth N (width C H G) → ¬ (Contains images.old.touched.items j) → slice_index next j ≡ slice_index (version_words row.now 1 (answer_of memory.now ended).vector (answer_of memory.now ended).totals) j)) }
     ensures own { HasWorker board.now seat.new }
     ensures index { index_of seat.new ≡ index_of seat.old }
@@ -64,7 +64,7 @@ fn fill_version<const N: usize, const C: usize, const H: usize, const G: usize>(
     ensures recent { DifferAt images.new.recent images.old.shown.items images.new.hidden.items }
     ensures inside { AreInside (depth N (width C H G)) images.new.recent }
     ensures view { result ≡ true → HasView ended }
-    ensures none { result ≡ false → ended ≡ Ended.GaveUp }
+    ensures none { result ≡ false → ended ≡ ScanEnd.GaveUp }
 {
     let (vector, totals) = memory.answer(ended);
     let lends = has_view(ended);
@@ -88,7 +88,7 @@ fn fill_version<const N: usize, const C: usize, const H: usize, const G: usize>(
 /// version was published with what is remembered.
 #[inline(always)]
 fn turn<const N: usize, const C: usize, const H: usize, const G: usize>(
-    images: &mut Images,
+    images: &mut BufferImages,
     own: usize,
     known: bool,
 )
@@ -111,11 +111,11 @@ fn turn<const N: usize, const C: usize, const H: usize, const G: usize>(
 /// Remembers the worker's own new row. Where it is `known`, it differs from the remembered one at the touched words alone.
 #[inline(always)]
 fn learn<const N: usize, const C: usize, const H: usize, const G: usize>(
-    memory: &mut Memory<N, C, H, G>,
+    memory: &mut ScanMemory<N, C, H, G>,
     own: usize,
     number: u64,
     row: &Row<C, H, G>,
-    images: &Images,
+    images: &BufferImages,
     known: bool,
 )
     requires geometry { IsGeometry N C H G }
@@ -139,8 +139,8 @@ pub(crate) fn update<const N: usize, const C: usize, const H: usize, const G: us
     board: &Board<N, C, H, G>,
     seat: &mut WorkSeat,
     row: &mut Row<C, H, G>,
-    memory: &mut Memory<N, C, H, G>,
-    images: &mut Images,
+    memory: &mut ScanMemory<N, C, H, G>,
+    images: &mut BufferImages,
     ops: &[Op],
 ) -> Result<(), OpFault>
     requires own { HasWorker board.now seat.old }

@@ -3,7 +3,7 @@ ghost use Rattle.std.specs.Prelude.{◌≡◌, ◌+◌, ◌<◌, ◌≤◌, leng
 ghost use Rattle.bucket_math.specs.Words.{greatest_word};
 ghost use Rattle.ledger_core.specs.Ops.{width};
 ghost use Rattle.ledger_core.specs.Limits.{AreSlots};
-ghost use Rattle.snapshot_update.specs.Images.{version_words};
+ghost use Rattle.snapshot_update.specs.BufferImages.{version_words};
 ghost use Rattle.snapshot_update.specs.Target.{target_of};
 
 use crate::version::Version;

@@ -2,8 +2,8 @@
 ghost use Rattle.std.specs.Prelude.{◌≡◌, IfOk};
 ghost use Rattle.segment_layout.specs.Layout.{depth};
 ghost use Rattle.register_rule.specs.Steps.{after};
-ghost use Rattle.register_rule.specs.Told.{IsLoad, IsTold};
-ghost use Rattle.register_rule.specs.Learned.{Learns};
+ghost use Rattle.register_rule.specs.Told.{IsLoad, LoadTells};
+ghost use Rattle.register_rule.specs.Learned.{ScanChangesBy};
 ghost use Rattle.register_rule.specs.Members.{fresh_scan};
 ghost use Rattle.register_rule.specs.Seats.{members_of, reader_of, worker_of, MayScan, HasReader, HasWorker};
 ghost use Rattle.snapshot_scan.specs.Shape.{scan_in};
@@ -13,7 +13,7 @@ ghost use Rattle.unit_tests.specs.Beside.{IsWorkerOf-prop};
 use crate::asserts::{done, need, same};
 use crate::crew::{ID, counter, finds, inc, new_worker, one_seat};
 use register_rule::{Board, Load, Parts, ReadSeat, ScanSeat, WorkSeat};
-use snapshot_scan::{Contended, Memory, Snapshot};
+use snapshot_scan::{Contended, ScanMemory, Snapshot};
 use snapshot_update::Worker;
 use std::alloc::{AllocError, Global};
 use std::process::Abort;
@@ -106,8 +106,8 @@ impl<'a, S: ScanSeat<2, 1, 0, 0>> ScanSeat<2, 1, 0, 0> for Beside<'a, S> {
     fn load(&mut self, board: &Board<2, 1, 0, 0>, what: Load) -> u64
         requires own { MayScan board.now (S.bundle self.old.seat) }
         requires inside { IsLoad 2 (depth 2 1) what }
-        ensures learns { Learns 2 1 0 0 (after 2 1 what result) (S.bundle self.old.seat) (S.bundle self.new.seat) }
-        ensures told { IsTold 1 what (members_of (S.bundle self.old.seat)) result }
+        ensures learns { ScanChangesBy 2 1 0 0 (after 2 1 what result) (S.bundle self.old.seat) (S.bundle self.new.seat) }
+        ensures told { LoadTells 1 what (members_of (S.bundle self.old.seat)) result }
     {
         if is_planned(self.plan, self.worker.number() > 0, what) {
             let _ = self.worker.inc(self.board, &counter(0), 5);
@@ -129,7 +129,7 @@ fn scan_beside<S: ScanSeat<2, 1, 0, 0> + Drop>(
     requires own { IsWorkerOf board.now worker × MayScan board.now (S.bundle seat) }
     requires fresh { scan_in (S.bundle seat) ≡ fresh_scan 2 1 }
 {
-    let mut memory = need(rt, Memory::new(alloc));
+    let mut memory = need(rt, ScanMemory::new(alloc));
     let mut beside = Beside {
         board,
         worker,

@@ -21,7 +21,7 @@ use metric_names::{
 };
 use register_rule::{Board, BoardFault, ReadSeat, WorkSeat};
 use snapshot_core::{Event, RunFault, Trace, run};
-use snapshot_scan::{NoRoom, PlainSource, Reader, Snapshot};
+use snapshot_scan::{NoMemoryForSeat, PlainSource, Reader, Snapshot};
 use snapshot_update::{Crew, Worker};
 use std::alloc::{AllocError, Global};
 use std::process::Abort;
@@ -94,7 +94,7 @@ fn worker_at_last(
         Ok(worker) => Ok(worker),
         Err(refused) => {
             same(rt, refused.number(), 6);
-            let NoRoom { seat } = refused;
+            let NoMemoryForSeat { seat } = refused;
             let Ok(worker) = new_worker(alloc, board, seat, 0) else {
                 return Err("refused when it was asked once more".into());
             };
@@ -118,7 +118,7 @@ fn reader_at_last(
         Ok(reader) => Ok(reader),
         Err(refused) => {
             same(rt, refused.number(), 6);
-            let NoRoom { seat } = refused;
+            let NoMemoryForSeat { seat } = refused;
             let Ok(reader) = new_reader(alloc, board, seat) else {
                 return Err("refused when it was asked once more".into());
             };

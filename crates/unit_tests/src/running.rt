@@ -2,7 +2,7 @@
 ghost use Rattle.std.specs.Prelude.{◌≡◌, IfOk, All};
 ghost use Rattle.snapshot_scan.specs.Order.{HasRecorded, IsAlone};
 ghost use Rattle.snapshot_scan.specs.Readers.{IsReaderOf};
-ghost use Rattle.snapshot_scan.specs.Snapshots.{entry_of};
+ghost use Rattle.snapshot_scan.specs.Snapshots.{as_answer};
 ghost use Rattle.snapshot_update.specs.Workers.{IsWorkerOf};
 
 use crate::asserts::{done, need, same};
@@ -34,9 +34,9 @@ struct Watch {
 /// Scans once more, and keeps what it is given, or counts that it was given up.
 fn scan_once(alloc: Global, board: &Board<4, 1, 1, 0>, watch: &mut Watch) -> Result<(), AllocError>
     requires own { IsReaderOf board.now watch.old.reader }
-    requires recorded { All (λ s. HasRecorded watch.old.reader (entry_of s)) watch.old.taken.items }
+    requires recorded { All (λ s. HasRecorded watch.old.reader (as_answer s)) watch.old.taken.items }
     ensures own { IsReaderOf board.now watch.new.reader }
-    ensures recorded { All (λ s. HasRecorded watch.new.reader (entry_of s)) watch.new.taken.items }
+    ensures recorded { All (λ s. HasRecorded watch.new.reader (as_answer s)) watch.new.taken.items }
 {
     let mut out = Snapshot::new(alloc)?;
     if let Err(contended) = watch.reader.scan(board, &mut out) {
@@ -56,7 +56,7 @@ fn scan_often(
 ) -> Result<Watch, AllocError>
     requires own { IsReaderOf board.now reader × IsAlone reader }
     ensures own { IfOk result (λ w. IsReaderOf board.now w.reader) }
-    ensures recorded { IfOk result (λ w. All (λ s. HasRecorded w.reader (entry_of s)) w.taken.items) }
+    ensures recorded { IfOk result (λ w. All (λ s. HasRecorded w.reader (as_answer s)) w.taken.items) }
 {
     let mut watch = Watch {
         reader,
@@ -79,18 +79,18 @@ fn two_scan(
 ) -> Watches
     requires left { IsReaderOf board.now left × IsAlone left }
     requires right { IsReaderOf board.now right × IsAlone right }
-    ensures left { IfOk result.0 (λ w. IsReaderOf board.now w.reader × All (λ s. HasRecorded w.reader (entry_of s)) w.taken.items) }
-    ensures right { IfOk result.1 (λ w. IsReaderOf board.now w.reader × All (λ s. HasRecorded w.reader (entry_of s)) w.taken.items) }
+    ensures left { IfOk result.0 (λ w. IsReaderOf board.now w.reader × All (λ s. HasRecorded w.reader (as_answer s)) w.taken.items) }
+    ensures right { IfOk result.1 (λ w. IsReaderOf board.now w.reader × All (λ s. HasRecorded w.reader (as_answer s)) w.taken.items) }
 {
     join(
         rt,
         || -> Result<Watch, AllocError>
             requires { IsReaderOf board.now left × IsAlone left }
-            ensures { IfOk result (λ w. IsReaderOf board.entry.now w.reader × All (λ s. HasRecorded w.reader (entry_of s)) w.taken.items) }
+            ensures { IfOk result (λ w. IsReaderOf board.entry.now w.reader × All (λ s. HasRecorded w.reader (as_answer s)) w.taken.items) }
         { scan_often(alloc, board, left) },
         || -> Result<Watch, AllocError>
             requires { IsReaderOf board.now right × IsAlone right }
-            ensures { IfOk result (λ w. IsReaderOf board.entry.now w.reader × All (λ s. HasRecorded w.reader (entry_of s)) w.taken.items) }
+            ensures { IfOk result (λ w. IsReaderOf board.entry.now w.reader × All (λ s. HasRecorded w.reader (as_answer s)) w.taken.items) }
         { scan_often(alloc, board, right) },
     )
 }
@@ -121,8 +121,8 @@ fn all_compare(
 )
     requires own { IsReaderOf board.now one.old × IsReaderOf board.now other.old }
     requires alone { IsAlone one.old × IsAlone other.old }
-    requires recorded_one { All (λ s. HasRecorded one.old (entry_of s)) ones.now }
-    requires recorded_other { All (λ s. HasRecorded other.old (entry_of s)) others.now }
+    requires recorded_one { All (λ s. HasRecorded one.old (as_answer s)) ones.now }
+    requires recorded_other { All (λ s. HasRecorded other.old (as_answer s)) others.now }
     ensures own { IsReaderOf board.now one.new × IsReaderOf board.now other.new }
     ensures alone { IsAlone one.new × IsAlone other.new }
 {
@@ -270,8 +270,8 @@ fn end_well(
     right: Watch,
 )
     requires workers { All (IsWorkerOf board.now) workers.old }
-    requires left { IsReaderOf board.now left.reader × All (λ s. HasRecorded left.reader (entry_of s)) left.taken.items }
-    requires right { IsReaderOf board.now right.reader × All (λ s. HasRecorded right.reader (entry_of s)) right.taken.items }
+    requires left { IsReaderOf board.now left.reader × All (λ s. HasRecorded left.reader (as_answer s)) left.taken.items }
+    requires right { IsReaderOf board.now right.reader × All (λ s. HasRecorded right.reader (as_answer s)) right.taken.items }
 {
     let Watch {
         reader: mut one,
@@ -317,8 +317,8 @@ fn all_at_once(
     requires left { IsReaderOf board.now left × IsAlone left }
     requires right { IsReaderOf board.now right × IsAlone right }
     ensures workers { IfOk result.0 (λ v. All (IsWorkerOf board.now) v.items) }
-    ensures left { IfOk result.1.0 (λ w. IsReaderOf board.now w.reader × All (λ s. HasRecorded w.reader (entry_of s)) w.taken.items) }
-    ensures right { IfOk result.1.1 (λ w. IsReaderOf board.now w.reader × All (λ s. HasRecorded w.reader (entry_of s)) w.taken.items) }
+    ensures left { IfOk result.1.0 (λ w. IsReaderOf board.now w.reader × All (λ s. HasRecorded w.reader (as_answer s)) w.taken.items) }
+    ensures right { IfOk result.1.1 (λ w. IsReaderOf board.now w.reader × All (λ s. HasRecorded w.reader (as_answer s)) w.taken.items) }
 {
     join(
         rt,
@@ -328,7 +328,7 @@ fn all_at_once(
         { runs(rt, alloc, board, workers, jobs, &Open) },
         || -> Watches
             requires { IsReaderOf board.now left × IsAlone left × IsReaderOf board.now right × IsAlone right }
-            ensures { IfOk result.0 (λ w. IsReaderOf board.entry.now w.reader × All (λ s. HasRecorded w.reader (entry_of s)) w.taken.items) × IfOk result.1 (λ w. IsReaderOf board.entry.now w.reader × All (λ s. HasRecorded w.reader (entry_of s)) w.taken.items) }
+            ensures { IfOk result.0 (λ w. IsReaderOf board.entry.now w.reader × All (λ s. HasRecorded w.reader (as_answer s)) w.taken.items) × IfOk result.1 (λ w. IsReaderOf board.entry.now w.reader × All (λ s. HasRecorded w.reader (as_answer s)) w.taken.items) }
         { two_scan(rt, alloc, board, left, right) },
     )
 }

@@ -2,7 +2,7 @@
 use crate::asserts::{need, same, there};
 use ledger_core::Op;
 use snapshot_core::{
-    Answer, Event, How, Next, Publish, RunFault, ScanState, Trace, is_outcome, run,
+    Answer, Event, Next, Publish, RunFault, ScanEnd, ScanState, Trace, is_outcome, run,
 };
 use std::alloc::{AllocError, Global};
 use std::process::Abort;
@@ -59,7 +59,7 @@ fn answers(
     trace: &Trace,
     k: usize,
     turn: Turn,
-    how: How,
+    how: ScanEnd,
     vector: &[u64],
     totals: &[u64],
 ) {
@@ -87,8 +87,8 @@ fn direct_in_the_second_try(rt: HostRuntime) {
     let trace = traced(rt, rt.alloc(), 2, SECOND_TRY, 5);
     same(rt, trace.answers.len(), 2);
     publishes(rt, &trace, 1, 8);
-    answers(rt, &trace, 0, (0, 3, 7, 1), How::Direct, &[0, 0], &[0]);
-    answers(rt, &trace, 1, (2, 0, 14, 2), How::Direct, &[1, 0], &[5]);
+    answers(rt, &trace, 0, (0, 3, 7, 1), ScanEnd::Direct, &[0, 0], &[0]);
+    answers(rt, &trace, 1, (2, 0, 14, 2), ScanEnd::Direct, &[1, 0], &[5]);
 }
 
 /// How many reads of the reader stand in these events, from the Begin of this answer to its end.
@@ -111,10 +111,10 @@ const LENT_TORN: &str = "bsBSSSsBSSSsBSSSsBSSStss";
 
 /// The updates of the only worker make scans of their own: each finds those before it.
 fn own_scans(rt: &impl Abort, trace: &Trace) {
-    answers(rt, trace, 0, (0, 2, 4, 1), How::Direct, &[0], &[0]);
-    answers(rt, trace, 1, (0, 7, 9, 1), How::Direct, &[1], &[1]);
-    answers(rt, trace, 2, (0, 12, 14, 1), How::Direct, &[2], &[2]);
-    answers(rt, trace, 3, (0, 17, 19, 1), How::Direct, &[3], &[3]);
+    answers(rt, trace, 0, (0, 2, 4, 1), ScanEnd::Direct, &[0], &[0]);
+    answers(rt, trace, 1, (0, 7, 9, 1), ScanEnd::Direct, &[1], &[1]);
+    answers(rt, trace, 2, (0, 12, 14, 1), ScanEnd::Direct, &[2], &[2]);
+    answers(rt, trace, 3, (0, 17, 19, 1), ScanEnd::Direct, &[3], &[3]);
 }
 
 /// The fifth answer, the reader's, is this one, after so many reads.
@@ -122,7 +122,7 @@ fn ends(
     rt: &impl Abort,
     (text, trace): (&str, &Trace),
     turn: Turn,
-    how: How,
+    how: ScanEnd,
     number: u64,
     many: usize,
 ) {
@@ -135,7 +135,7 @@ fn lends(rt: &impl Abort, trace: &Trace) {
     same(rt, trace.answers.len(), 5);
     publishes(rt, trace, 4, 20);
     own_scans(rt, trace);
-    let lent = How::Lent { from: 0 };
+    let lent = ScanEnd::Lent { from: 0 };
     ends(rt, (LENT, trace), (1, 0, 21, 2), lent, 3, 5);
 }
 
@@ -147,7 +147,7 @@ fn lent_by_the_only_worker(rt: HostRuntime) {
     lends(rt, &traced(rt, rt.alloc(), 1, LENT, 1));
     let torn = traced(rt, rt.alloc(), 1, LENT_TORN, 1);
     let turn = (1, 0, 23, 3);
-    ends(rt, (LENT_TORN, &torn), turn, How::Direct, 4, 7);
+    ends(rt, (LENT_TORN, &torn), turn, ScanEnd::Direct, 4, 7);
 }
 
 #[test]
@@ -156,7 +156,7 @@ fn nobody_is_asked(rt: HostRuntime) {
     let text = "bssBSSSSSssssBSSSSSssssCTTTTTssssss";
     let trace = traced(rt, rt.alloc(), 2, text, 1);
     same(rt, trace.answers.len(), 4);
-    answers(rt, &trace, 3, (2, 0, 34, 4), How::Direct, &[2, 1], &[3]);
+    answers(rt, &trace, 3, (2, 0, 34, 4), ScanEnd::Direct, &[2, 1], &[3]);
 }
 
 #[test]
@@ -164,14 +164,14 @@ fn given_up(rt: HostRuntime) {
     let rt = &rt;
     let trace = traced(rt, rt.alloc(), 1, "btststs", 1);
     same(rt, trace.answers.len(), 1);
-    answers(rt, &trace, 0, (1, 0, 6, 3), How::GaveUp, &[], &[]);
+    answers(rt, &trace, 0, (1, 0, 6, 3), ScanEnd::GaveUp, &[], &[]);
 }
 
 /// A read is torn in the first try, or in the second one: the reader's answer has so many tries, and this end.
 fn is_torn(rt: &impl Abort, alloc: Global, text: &str, tries: usize, end: usize) {
     let trace = traced(rt, alloc, 2, text, 1);
     let turn = (2, 0, end, tries);
-    answers(rt, &trace, 0, turn, How::Direct, &[0, 0], &[0]);
+    answers(rt, &trace, 0, turn, ScanEnd::Direct, &[0, 0], &[0]);
 }
 
 #[test]
@@ -206,7 +206,7 @@ fn direct(rt: &impl Abort, alloc: Global, turn: Turn, vector: [u64; 2], total: u
         begin,
         end,
         tries,
-        how: How::Direct,
+        how: ScanEnd::Direct,
         vector: need(rt, Vec::from_array(alloc, vector)),
         totals: need(rt, Vec::from_array(alloc, [total])),
     }

@@ -5,7 +5,7 @@ use Rattle.std.specs.declared.alloc.Global.{Global}
 use Rattle.ledger_core.specs.declared.op_fault.OpFault.TheVariants.{OutOfGeometry, TooLarge}
 use Rattle.register_rule.specs.declared.board.Board.{Board}
 use Rattle.register_rule.proofs.Words.{at_below}
-use Rattle.snapshot_update.specs.Faults.{count_number}
+use Rattle.snapshot_update.specs.Faults.{count_fault_number}
 use Rattle.snapshot_update.specs.declared.worker.Worker.{Worker}
 use Rattle.snapshot_update.specs.declared.faults.ApplyFault.TheVariants as apply
 use Rattle.snapshot_update.specs.declared.faults.CountFault.{CountFault}
@@ -13,30 +13,30 @@ use Rattle.snapshot_update.specs.declared.faults.CountFault.TheVariants.{WrongRe
 use Rattle.worker_pool.specs.declared.fault.PoolFault.{PoolFault}
 use Rattle.worker_pool.specs.declared.fault.PoolFault.TheVariants.{Refused, GateShut, NoThread, NoMemory}
 use Rattle.worker_pool.specs.declared.job.Job.{Job}
-use Rattle.worker_pool.specs.Faults.{pool_number}
+use Rattle.worker_pool.specs.Faults.{pool_fault_number}
 use Rattle.worker_pool.specs.Works.{IsWorkEnd}
 use Rattle.worker_pool.specs.Ends.{IsFirstFault, IsPoolFault}
 use Rattle.worker_pool.proofs.Ending.{item_at}
 
 -- a worker's refusal has another number
-of_worker : (fault : CountFault) → count_number fault ≢ 29
+of_worker : (fault : CountFault) → count_fault_number fault ≢ 29
 of_worker WrongRegistry e = omega (arith, e)
 of_worker (Apply apply.Exhausted) e = omega (arith, e)
 of_worker (Apply (apply.Refused (OutOfGeometry place))) e = omega (arith, e)
 of_worker (Apply (apply.Refused (TooLarge place))) e = omega (arith, e)
 
-no_thread : (place : ℕ) (f : PoolFault) → f ≡ NoThread place → pool_number f ≢ 29
-no_thread place f e = subst (λ (x : PoolFault). pool_number x ≢ 29) (sym e) (λ n. omega (arith, n))
+no_thread : (place : ℕ) (f : PoolFault) → f ≡ NoThread place → pool_fault_number f ≢ 29
+no_thread place f e = subst (λ (x : PoolFault). pool_fault_number x ≢ 29) (sym e) (λ n. omega (arith, n))
 
 module _ {N C H G : ℕ} (b : Board N C H G) (lists : List (List Job)) (ws : List (Worker N C H G)) (long : length lists ≡ length ws) where
   -- no worker ended by a fault of this number
-  not_by : (place : ℕ) (jobs : List Job) (w : Worker N C H G) (f : PoolFault) → IsWorkEnd true b place jobs w (Err f) → pool_number f ≢ 29
+  not_by : (place : ℕ) (jobs : List Job) (w : Worker N C H G) (f : PoolFault) → IsWorkEnd true b place jobs w (Err f) → pool_fault_number f ≢ 29
   not_by place jobs w (Refused line number) refused e = of_worker refused.fault (sym refused.number_is ∙ e)
   not_by place jobs w (GateShut worker) shut e = absurd (let t : true ≡ false = shut.1 in cc)
   not_by place jobs w (NoThread worker) end e = end
   not_by place jobs w NoMemory end e = end
 
-  not_first : (f : PoolFault) → IsFirstFault true b lists ws f → pool_number f ≢ 29
+  not_first : (f : PoolFault) → IsFirstFault true b lists ws f → pool_fault_number f ≢ 29
   not_first f is = ⊎_elim
       (λ at.
       let few = is.truly.few in let lt = at_below is.ends is.told.place (Err f) at in
@@ -46,13 +46,13 @@ module _ {N C H G : ℕ} (b : Board N C H G) (lists : List (List Job)) (ws : Lis
       (λ t. no_thread is.told.place f t.2)
       is.told.met
 
-  not_told : (f : PoolFault) → IsPoolFault true b lists ws f → pool_number f ≢ 29
+  not_told : (f : PoolFault) → IsPoolFault true b lists ws f → pool_fault_number f ≢ 29
   not_told (Refused line number) is = not_first (Refused line number) is
   not_told (GateShut worker) is = not_first (GateShut worker) is
   not_told (NoThread worker) is = not_first (NoThread worker) is
   not_told NoMemory is = λ e. omega (arith, e)
 
   -- a pool behind a gate that is always open does not tell one that shut
-  pub never_shut : (always : Bool) (r : Result (Vec (Worker N C H G) Global) PoolFault) → IfErr r (IsPoolFault always b lists ws) → always ≡ true → IfErr r (λ f. pool_number f ≢ 29)
+  pub never_shut : (always : Bool) (r : Result (Vec (Worker N C H G) Global) PoolFault) → IfErr r (IsPoolFault always b lists ws) → always ≡ true → IfErr r (λ f. pool_fault_number f ≢ 29)
   never_shut always (Ok v) told opened = tt
   never_shut always (Err f) told opened = not_told f (subst (λ (x : Bool). IsPoolFault x b lists ws f) opened told)

@@ -4,11 +4,11 @@ use Rattle.worker_pool.specs.declared.fault.PoolFault.{PoolFault}
 use Rattle.worker_pool.specs.declared.fault.PoolFault.TheVariants.{Refused, GateShut, NoThread, NoMemory}
 
 -- the number of each fault; that of a refused job is the number of its refusal
-abbrev pub pool_number : PoolFault → ℕ
-pool_number (Refused line number) = number
-pool_number (GateShut worker) = 29
-pool_number (NoThread worker) = 30
-pool_number NoMemory = 6
+abbrev pub pool_fault_number : PoolFault → ℕ
+pool_fault_number (Refused line number) = number
+pool_fault_number (GateShut worker) = 29
+pool_fault_number (NoThread worker) = 30
+pool_fault_number NoMemory = 6
 
 -- the first is told rather than the second: a refused job before a shut gate, that before want of a thread, and that before
 -- want of memory; of two of one kind the one of the lesser line, or of the lesser worker

@@ -7,7 +7,7 @@ use Rattle.register_rule.specs.Seats.{board_id}
 use Rattle.snapshot_update.specs.declared.worker.Worker.{Worker}
 use Rattle.snapshot_update.specs.declared.faults.CountFault.{CountFault}
 use Rattle.snapshot_update.specs.Workers.{index_of, member_of, lists_of, IsWorkerOf, IsCountFault}
-use Rattle.snapshot_update.specs.Faults.{count_number}
+use Rattle.snapshot_update.specs.Faults.{count_fault_number}
 use Rattle.worker_pool.specs.declared.fault.PoolFault.{PoolFault}
 use Rattle.worker_pool.specs.declared.fault.PoolFault.TheVariants.{Refused, GateShut, NoThread, NoMemory}
 use Rattle.worker_pool.specs.declared.job.Job.{Job}
@@ -32,7 +32,7 @@ module _ {N C H G : ℕ} where
     pub did : Did b (take k jobs) w v
     pub fault : CountFault
     pub refused : IsCountFault C H G (board_id b) (registry_of job.what) (op_of job.what) (member_of v) fault
-    pub number_is : number ≡ count_number fault
+    pub number_is : number ≡ count_fault_number fault
 
   -- the worker did the first k jobs, and there was a next one
   pub record WasShutOut (b : Board N C H G) (jobs : List Job) (w : Worker N C H G) : Type 0 where

@@ -1,6 +1,6 @@
 //! Why a pool hands no workers back.
 ghost use Rattle.std.specs.Prelude.{◌≡◌, true, false, ◌⊎◌};
-ghost use Rattle.worker_pool.specs.Faults.{pool_number, ComesBefore};
+ghost use Rattle.worker_pool.specs.Faults.{pool_fault_number, ComesBefore};
 
 use thiserror::Error;
 
@@ -37,7 +37,7 @@ pub enum PoolFault {
 impl PoolFault {
     /// The refusal's number.
     pub fn number(&self) -> u8
-        ensures { result ≡ pool_number self.now }
+        ensures { result ≡ pool_fault_number self.now }
     {
         match *self {
             PoolFault::Refused { line: _, number } => number,

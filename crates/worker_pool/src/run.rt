@@ -1,7 +1,7 @@
 //! A pool of threads.
 ghost use Rattle.std.specs.Prelude.{◌≡◌, ◌≢◌, true, length, IfOk, IfErr, vec_len, All};
 ghost use Rattle.snapshot_update.specs.Workers.{IsWorkerOf};
-ghost use Rattle.worker_pool.specs.Faults.{pool_number};
+ghost use Rattle.worker_pool.specs.Faults.{pool_fault_number};
 ghost use Rattle.worker_pool.specs.Jobs.{lists_in};
 ghost use Rattle.worker_pool.specs.Ends.{DidAll, IsPoolFault};
 
@@ -50,7 +50,7 @@ pub fn run_pool<
     ensures did { IfOk result (λ v. DidAll board.now (lists_in jobs.now) workers.entry.items v.items) }
     ensures own { IfOk result (λ v. All (IsWorkerOf board.now) v.items) }
     ensures fault { IfErr result (IsPoolFault P.ALWAYS_OPEN board.now (lists_in jobs.now) workers.entry.items) }
-    ensures opened { P.ALWAYS_OPEN ≡ true → IfErr result (λ f. pool_number f ≢ 29) }
+    ensures opened { P.ALWAYS_OPEN ≡ true → IfErr result (λ f. pool_fault_number f ≢ 29) }
 {
     run_lists(rt, alloc, board, workers, &jobs, gate)
 }
@@ -82,14 +82,14 @@ pub fn run_lists<
     ensures did { IfOk result (λ v. DidAll board.now (Q.lists lists.now) workers.entry.items v.items) }
     ensures own { IfOk result (λ v. All (IsWorkerOf board.now) v.items) }
     ensures fault { IfErr result (IsPoolFault P.ALWAYS_OPEN board.now (Q.lists lists.now) workers.entry.items) }
-    ensures opened { P.ALWAYS_OPEN ≡ true → IfErr result (λ f. pool_number f ≢ 29) }
+    ensures opened { P.ALWAYS_OPEN ≡ true → IfErr result (λ f. pool_fault_number f ≢ 29) }
 {
     thread::scope(
         thread::scope_env(),
         rt,
         |scope| -> Result<Vec<Worker<N, C, H, G>>, PoolFault>
             requires { (length (Q.lists lists.now) ≡ vec_len workers) × All (IsWorkerOf board.now) workers.items }
-            ensures { IfOk result (λ v. DidAll board.entry.now (Q.lists lists.entry.now) workers.items v.items × All (IsWorkerOf board.entry.now) v.items) × IfErr result (IsPoolFault P.ALWAYS_OPEN board.entry.now (Q.lists lists.entry.now) workers.items) × (P.ALWAYS_OPEN ≡ true → IfErr result (λ f. pool_number f ≢ 29)) }
+            ensures { IfOk result (λ v. DidAll board.entry.now (Q.lists lists.entry.now) workers.items v.items × All (IsWorkerOf board.entry.now) v.items) × IfErr result (IsPoolFault P.ALWAYS_OPEN board.entry.now (Q.lists lists.entry.now) workers.items) × (P.ALWAYS_OPEN ≡ true → IfErr result (λ f. pool_fault_number f ≢ 29)) }
         { run_in(rt, scope, alloc, board, workers, lists, gate) },
     )
 }

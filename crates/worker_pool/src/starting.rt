@@ -1,7 +1,7 @@
 //! Starting the threads of a pool, and joining them.
 ghost use Rattle.std.specs.Prelude.{◌≡◌, ◌≢◌, true, ◌<◌, ◌≤◌, length, IfOk, IfErr, vec_len, vec_capacity, All};
 ghost use Rattle.snapshot_update.specs.Workers.{IsWorkerOf};
-ghost use Rattle.worker_pool.specs.Faults.{pool_number};
+ghost use Rattle.worker_pool.specs.Faults.{pool_fault_number};
 ghost use Rattle.worker_pool.specs.Ends.{DidAll, IsPoolFault};
 ghost use Rattle.worker_pool.specs.Jobs.{jobs_at};
 ghost use Rattle.worker_pool.specs.Works.{IsWorkEnd};
@@ -125,7 +125,7 @@ pub(crate) fn run_in<
     ensures did { IfOk result (λ v. DidAll board.now (Q.lists lists.now) workers.entry.items v.items) }
     ensures own { IfOk result (λ v. All (IsWorkerOf board.now) v.items) }
     ensures fault { IfErr result (IsPoolFault P.ALWAYS_OPEN board.now (Q.lists lists.now) workers.entry.items) }
-    ensures opened { P.ALWAYS_OPEN ≡ true → IfErr result (λ f. pool_number f ≢ 29) }
+    ensures opened { P.ALWAYS_OPEN ≡ true → IfErr result (λ f. pool_fault_number f ≢ 29) }
 {
     if workers.is_empty() {
         return Ok(workers);

@@ -1,7 +1,7 @@
 use Rattle.std.proofs.Common.{rules, ◌≡◌, ⊎_elim, ℕ, get_or, sym, refl, ap, ◌∙◌, subst, arith}
 use mathlib.Core.Option.{some}
 use lib.ListN.{get_elem?}
-use Rattle.snapshot_scan.specs.Lent.{Stands}
+use Rattle.snapshot_scan.specs.Lent.{IsWorkerAmong}
 use Rattle.snapshot_scan.specs.Readers.{members_with}
 use Rattle.snapshot_scan.specs.Shape.{scan_of}
 use Rattle.snapshot_scan.proofs.Standing.{sees_still}
@@ -48,7 +48,7 @@ loop-k-preserved g c =
       scan = (ap scan_of b.ensures.others ∙ sees_still (index_of x) r.index (members_with r) r.leads r.is) ∙ inv.scan;
       free = λ p w below at. ⊎_elim (λ h. subst (IsWorkerOf c.args.board.now) h.1 b.ensures.own.0) (λ h. inv.free p w (let n = h.0 in omega (arith, below, n)) h.1) (from_set ws k p b.new.self w at);
       back = back_more vs ws k x b.new.self c.args.reader.now r b.new.reader here c.requires.distinct b.ensures.index.0 inv.others b.ensures.others
-          (subst (λ (m : _). Stands (index_of x) m (members_with c.args.reader.now)) (sym is) t.2) inv.back;
+          (subst (λ (m : _). IsWorkerAmong (index_of x) m (members_with c.args.reader.now)) (sym is) t.2) inv.back;
       left = left_more vs k x c.args.reader.now r b.new.reader here b.ensures.others inv.left;
       lent = lent_still vs ws k x b.new.self c.args.reader.now r b.new.reader here c.requires.distinct b.ensures.index.0 inv.others b.ensures.others inv.lent;
       others = λ p le. set_else ws k p b.new.self (λ e. omega (arith, le, e)) ∙ inv.others p (omega (arith, le));

@@ -3,7 +3,7 @@ use mathlib.Core.Option.{some}
 use lib.ListN.{get_elem?}
 use Rattle.register_rule.specs.declared.view.Member.{Member}
 use Rattle.register_rule.specs.Seats.{table_of}
-use Rattle.snapshot_scan.specs.Lent.{Stands}
+use Rattle.snapshot_scan.specs.Lent.{IsWorkerAmong}
 use Rattle.snapshot_scan.specs.Readers.{members_with, bundle_of, scan_by, index_of}
 use Rattle.snapshot_update.specs.declared.worker.Worker.{Worker}
 use Rattle.snapshot_update.specs.Lending.{IsLentAs}
@@ -19,6 +19,6 @@ invariant-loop-k g l = record {
   free : (p : ℕ) (w : Worker g.row.N g.row.C g.row.H g.row.G) → p < l.k → get_elem? l.workers p ≡ some w → IsWorkerOf l.fn.board w;
   back : AreBackFrom l.k l.fn.workers l.workers l.fn.reader;
   left : HaveLeft l.k l.fn.workers l.fn.reader l.reader;
-  lent : (p : ℕ) (w : Worker g.row.N g.row.C g.row.H g.row.G) → l.k ≤ p → get_elem? l.workers p ≡ some w → (m : Member) × IsLentAs m w l.reader × Stands (worker_index w) m (members_with l.fn.reader);
+  lent : (p : ℕ) (w : Worker g.row.N g.row.C g.row.H g.row.G) → l.k ≤ p → get_elem? l.workers p ≡ some w → (m : Member) × IsLentAs m w l.reader × IsWorkerAmong (worker_index w) m (members_with l.fn.reader);
   others : (p : ℕ) → l.k ≤ p → get_elem? l.workers p ≡ get_elem? l.fn.workers p;
 }

@@ -1,8 +1,8 @@
 use Rattle.std.proofs.Common.{arith, ◌≡◌, List, [], ◌∷◌, ◌++◌, ap, sym, subst, ◌∙◌, append_assoc}
-use Rattle.register_rule.specs.declared.view.Entry.{Entry as Answer}
+use Rattle.register_rule.specs.declared.view.Answer.{Answer}
 use Rattle.snapshot_scan.specs.Readers.{scan_by, IsReaderOf}
 use Rattle.snapshot_scan.specs.Scanners.{reader_in}
-use Rattle.snapshot_scan.specs.Snapshots.{entry_of}
+use Rattle.snapshot_scan.specs.Snapshots.{as_answer}
 use Rattle.snapshot_scan.specs.declared.reader.Reader.{Reader}
 use Rattle.snapshot_scan.specs.declared.scanner.Scanner.{Scanner}
 use Rattle.registry_state.specs.Journal.{Entry, scrapes}
@@ -15,7 +15,7 @@ pub returns : goal.returns
 returns g c =
     let state = c.args.state in
     let last = c.into_parts-source.ensures.kept.newest in
-    let out = entry_of c.settle.new.out in
+    let out = as_answer c.settle.new.out in
     let before : (scan_by c.into_reader-reader.result).recorded ≡ last.older ++ scrapes state.journal =
     ap (λ (r : Reader g.row.N g.row.C g.row.H g.row.G). (scan_by r).recorded) c.into_reader-reader.ensures.reader
     ∙ (ap (λ (s : Scanner g.row.N g.row.C g.row.H g.row.G). (scan_by s.reader).recorded) c.into_parts-source.ensures.source ∙ last.is) in

@@ -1,6 +1,6 @@
 use Rattle.std.proofs.Common.{ap, ◌∙◌, map}
 use Rattle.snapshot_update.specs.Workers.{index_of}
-use Rattle.metrics_serve.proofs.Gathered.{has_all}
+use Rattle.metrics_serve.proofs.SettledFour.{has_all}
 use Rattle.metrics_run.proofs.script.end.Goals as goal
 
 pub unreachable-requires : goal.unreachable-requires

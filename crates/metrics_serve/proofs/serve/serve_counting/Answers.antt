@@ -6,7 +6,7 @@ use Rattle.std.specs.Prelude.{is_some}
 use Rattle.metric_registry.specs.Naming.{name_of, BeginsWith}
 use Rattle.metrics_serve.specs.Counted.{all_of}
 use Rattle.metrics_serve.proofs.Counting.{back_again}
-use Rattle.metrics_serve.proofs.Gathered.{has_all}
+use Rattle.metrics_serve.proofs.SettledFour.{has_all}
 use Rattle.metrics_serve.proofs.Named.{begins_itself}
 use Rattle.metrics_serve.proofs.Totals.{all_counted}
 use Rattle.metrics_serve.proofs.serve.serve_counting.Goals as goal

@@ -9,7 +9,7 @@ use Rattle.register_rule.specs.Steps.{answered, gives_up, lent_in}
 use Rattle.register_rule.specs.Seats.{HasMember, members_of}
 use Rattle.register_rule.proofs.Words.{each_push}
 use Rattle.snapshot_scan.specs.Shape.{scan_of, with_scan}
-use Rattle.snapshot_scan.specs.Asking.{Refuses, asked_too, refused, refused_all, due_from, worker_of, MayAsk}
+use Rattle.snapshot_scan.specs.Asking.{DoesNotLend, asked_too, refused, refused_all, due_from, asked_worker, MayAsk}
 use Rattle.snapshot_scan.proofs.Words.{scan_with, with_same, led_some, with_led}
 use Rattle.snapshot_scan.proofs.Opening.{map_both}
 use Rattle.snapshot_scan.proofs.Asking.{may_next, refused_snoc, due_here}
@@ -83,7 +83,7 @@ returns-then-lends-clause-lends g c = λ _.
       es,
       e,
       more,
-      ap (λ (z : ℕ). map worker_of es ++ z ∷ more) l.1 ∙ (ap (λ (z : List ℕ). map worker_of es ++ z) (sym d) ∙ inv.asked),
+      ap (λ (z : ℕ). map asked_worker es ++ z ∷ more) l.1 ∙ (ap (λ (z : List ℕ). map asked_worker es ++ z) (sym d) ∙ inv.asked),
       inv.refuses,
       l.2,
       l.3,
@@ -114,9 +114,9 @@ loop-place-preserved g c =
         own = c.ask-lends.ensures.own ∙ inv.own;
         ruled = c.ask-lends.ensures.ruled;
         leads = subst HasMember (sym view) (led_some (λ _. refused_all n (es ++ e ∷ []) (scan_of ms)) ms c.requires.own.1);
-        asked = ap (λ (z : List ℕ). z ++ more) (map_both worker_of es e) ∙ (append_assoc (map worker_of es) (worker_of e ∷ []) more
-            ∙ (ap (λ (z : ℕ). map worker_of es ++ z ∷ more) r.1 ∙ (ap (λ (z : List ℕ). map worker_of es ++ z) (sym d) ∙ inv.asked)));
-        refuses = each_push (Refuses g.row.N c.args.floor.now) es e inv.refuses r.2;
+        asked = ap (λ (z : List ℕ). z ++ more) (map_both asked_worker es e) ∙ (append_assoc (map asked_worker es) (asked_worker e ∷ []) more
+            ∙ (ap (λ (z : ℕ). map asked_worker es ++ z ∷ more) r.1 ∙ (ap (λ (z : List ℕ). map asked_worker es ++ z) (sym d) ∙ inv.asked)));
+        refuses = each_push (DoesNotLend g.row.N c.args.floor.now) es e inv.refuses r.2;
         may = subst (MayAsk c.args.floor.now more) (sym snoc) (may_next n p e c.args.floor.now more (refused_all n es (scan_of ms)) (subst (λ (l : List ℕ). MayAsk c.args.floor.now l
             (refused_all n es (scan_of ms))) d inv.may));
         view = view;
@@ -153,7 +153,7 @@ loop-place-preserved-then-not-due g c =
         own = inv.own;
         ruled = inv.ruled;
         leads = inv.leads;
-        asked = ap (λ (l : List ℕ). map worker_of es ++ l) (sym d) ∙ inv.asked;
+        asked = ap (λ (l : List ℕ). map asked_worker es ++ l) (sym d) ∙ inv.asked;
         refuses = inv.refuses;
         may = subst (λ (l : List ℕ). MayAsk c.args.floor.now l (refused_all g.row.N es (scan_of ms))) d inv.may;
         view = inv.view;
@@ -166,4 +166,4 @@ returns-clause-refuses g c = λ _.
     let es = c.loop-place.invariant.0 in let inv = c.loop-place.invariant.1 in
     let lens = c.requires.lengths in let f = c.loop-place-test.false in
     let end : due_from p (drop p base) (drop p found) ≡ [] = ap (λ (l : List ℕ). due_from p l (drop p found)) (none_left base p (omega (arith, lens.2, lens.3, f))) in
-    (es, sym (append-nil (map worker_of es)) ∙ (ap (λ (l : List ℕ). map worker_of es ++ l) (sym end) ∙ inv.asked), inv.refuses, inv.view)
+    (es, sym (append-nil (map asked_worker es)) ∙ (ap (λ (l : List ℕ). map asked_worker es ++ l) (sym end) ∙ inv.asked), inv.refuses, inv.view)

@@ -7,13 +7,13 @@ use lib.ListN.{get_elem?}
 use Rattle.ledger_core.specs.Ops.{width}
 use Rattle.register_rule.proofs.Words.{there, at_below}
 use Rattle.register_rule.specs.declared.view.Scan.{Scan}
-use Rattle.register_rule.specs.Members.{led, scanned}
+use Rattle.register_rule.specs.Members.{led, scan_changed}
 use Rattle.register_rule.specs.Steps.{ended, after_confirm, confirmed_at}
 use Rattle.register_rule.specs.Seats.{HasMember, members_of}
-use Rattle.snapshot_scan.specs.declared.kept.Kept.{Kept}
+use Rattle.snapshot_scan.specs.declared.remembered_row.RememberedRow.{RememberedRow}
 use Rattle.snapshot_scan.specs.Shape.{scan_of, with_scan}
-use Rattle.snapshot_scan.specs.Changes.{Moves}
-use Rattle.snapshot_scan.specs.Memory.{IsWide, version_of, words_of, settling}
+use Rattle.snapshot_scan.specs.ChangedItems.{Moves}
+use Rattle.snapshot_scan.specs.RememberedRows.{IsWide, version_of, words_of, settling}
 use Rattle.snapshot_scan.proofs.Words.{take_next, take_all, length_take, led_some, with_led, with_same, scan_with, from_set}
 use Rattle.snapshot_scan.proofs.Settling.{confirms_more, row_in, sum_low, sum_set, words_wide, settling_starts, set_at}
 use Rattle.snapshot_scan.proofs.Moving.{moves_none, moves_then}
@@ -46,7 +46,7 @@ confirm-number-requires g c = let lens = c.requires.lengths in let t = c.loop-pl
 pub settle-requires : goal.settle-requires
 settle-requires g c =
     let w : ℕ = width g.row.C g.row.H g.row.G in
-    let p = c.loop-place.place in let gs = c.loop-place.kept in let gg : Kept = get_or gs p c.index-kept-place.result in
+    let p = c.loop-place.place in let gs = c.loop-place.kept in let gg : RememberedRow = get_or gs p c.index-kept-place.result in
     let inv = c.loop-place.invariant in
     let lens = c.requires.lengths in let a1 = c.loop-place.auto.kept in let a3 = c.loop-place.auto.totals in let t = c.loop-place-test.true in
     let geo = c.requires.geometry.workers.1 in
@@ -67,8 +67,8 @@ loop-place-preserved g c =
     let w : ℕ = width g.row.C g.row.H g.row.G in
     let n : ℕ = g.row.N in
     let p = c.loop-place.place in let gs = c.loop-place.kept in let fs = c.loop-place.found in let os = c.args.opened.now in
-    let s = c.confirm-number.result in let g' : Kept = c.settle.new.self in let ts' = c.settle.new.totals in
-    let gg : Kept = get_or gs p c.index-kept-place.result in
+    let s = c.confirm-number.result in let g' : RememberedRow = c.settle.new.self in let ts' = c.settle.new.totals in
+    let gg : RememberedRow = get_or gs p c.index-kept-place.result in
     let o = get_or os p 0 in
     let ms = members_of (bundle c.args.seat.now) in
     let c0 : Scan = scan_of ms in
@@ -91,7 +91,7 @@ loop-place-preserved g c =
     let no : (p == n) ≡ false = ne_eqb p n (λ e. omega (arith, e, ltn)) in
     let was : members_of (bundle c.loop-place.seat) ≡ with_scan z ms = inv.view ∙ ap (λ (b : Bool). with_scan (cond b (ended n w z) z) ms) no in
     let view : members_of (bundle c.confirm-number.new.seat) ≡ with_scan (cond ((p + 1) == n) (ended n w z') z') ms =
-    c.confirm-number.ensures.learns.member ∙ (ap (led (scanned (after_confirm n w p s))) was ∙ (with_led (after_confirm n w p s) z ms
+    c.confirm-number.ensures.learns.member ∙ (ap (led (scan_changed (after_confirm n w p s))) was ∙ (with_led (after_confirm n w p s) z ms
     ∙ ap (λ (d : Scan). with_scan (cond ((p + 1) == n) (ended n w d) d) ms) shape)) in
     let scan : scan_of (members_of (bundle c.loop-place.seat)) ≡ z = ap scan_of was ∙ scan_with z ms c.requires.own.1 in
     let risen : o ≤ s = let at_load = c.requires.loaded p ltn in c.confirm-number.ensures.told.opened at_load.0 o (ap (λ (d : Scan). get_elem? d.opened at_load.0) scan ∙ at_load.1) in
@@ -111,7 +111,7 @@ loop-place-preserved g c =
       held = λ q x h e same. dite (ℕ_discrete q p)
           (λ is. let xe : g' ≡ x = some-injective g' x (sym (set_at gs p g' gg at) ∙ (ap (get_elem? (set gs p g')) (sym is) ∙ e)) in
           let oe : o ≡ s = ap (λ (i : ℕ). get_or os i 0) (sym is) ∙ (same ∙ (ap (λ (i : ℕ). get_or (set fs p s) i 0) is ∙ get_or-set_same fs p s 0 ltf)) in
-          ap (λ (k : Kept). k.number) (sym xe) ∙ (ap (λ (v : Version). v.number) (c.settle.ensures.version ∙ ap (λ (b : Bool). cond b (record { number = o; row = words_of o gg }) (version_of gg)) (eq-eqb o s oe)) ∙ ap (λ (i : ℕ). get_or os i 0) (sym is)))
+          ap (λ (k : RememberedRow). k.number) (sym xe) ∙ (ap (λ (v : Version). v.number) (c.settle.ensures.version ∙ ap (λ (b : Bool). cond b (record { number = o; row = words_of o gg }) (version_of gg)) (eq-eqb o s oe)) ∙ ap (λ (i : ℕ). get_or os i 0) (sym is)))
           (λ other. ⊎_elim (λ before. inv.held q x (omega (arith, other, h)) before (same ∙ get_or-set_other fs p q s 0 other)) (λ here. absurd (other here.1)) (from_set gs p g' q x e));
     }
 

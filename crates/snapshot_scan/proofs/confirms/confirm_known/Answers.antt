@@ -6,7 +6,7 @@ use Rattle.register_rule.specs.declared.view.Scan.{Scan}
 use Rattle.register_rule.specs.Steps.{ended}
 use Rattle.register_rule.specs.Seats.{members_of}
 use Rattle.snapshot_scan.specs.Shape.{scan_of, with_scan}
-use Rattle.snapshot_scan.specs.Memory.{settling}
+use Rattle.snapshot_scan.specs.RememberedRows.{settling}
 use Rattle.snapshot_scan.specs.Collecting.{HasConfirmed}
 use Rattle.snapshot_scan.proofs.Words.{take_all, with_same}
 use Rattle.snapshot_scan.proofs.Settling.{settling_starts}

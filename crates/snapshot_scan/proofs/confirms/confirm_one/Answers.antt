@@ -5,25 +5,25 @@ use lib.ListN.{get_elem?}
 use Rattle.ledger_core.specs.Ops.{width}
 use Rattle.register_rule.proofs.Words.{there}
 use Rattle.register_rule.specs.declared.view.Scan.{Scan}
-use Rattle.register_rule.specs.Members.{led, scanned}
+use Rattle.register_rule.specs.Members.{led, scan_changed}
 use Rattle.register_rule.specs.Steps.{ended, after_confirm, confirmed_at}
 use Rattle.register_rule.specs.Seats.{HasMember, members_of}
-use Rattle.snapshot_scan.specs.declared.kept.Kept.{Kept}
+use Rattle.snapshot_scan.specs.declared.remembered_row.RememberedRow.{RememberedRow}
 use Rattle.snapshot_scan.specs.Shape.{scan_of, with_scan}
-use Rattle.snapshot_scan.specs.Memory.{version_of, words_of, settling}
+use Rattle.snapshot_scan.specs.RememberedRows.{version_of, words_of, settling}
 use Rattle.snapshot_scan.proofs.Words.{set_same, take_next, length_take, led_some, with_led, scan_with}
 use Rattle.snapshot_scan.proofs.Settling.{confirms_more, words_wide}
 use Rattle.snapshot_scan.proofs.confirms.confirm_one.Goals as goal
 
 -- a row that is remembered is remembered again, or stays
-stays : (o s : ℕ) (x : Kept) → x.number ≡ o → version_of x ≡ cond (o == s) (record { number = o; row = words_of o x }) (version_of x)
+stays : (o s : ℕ) (x : RememberedRow) → x.number ≡ o → version_of x ≡ cond (o == s) (record { number = o; row = words_of o x }) (version_of x)
 stays o s x e = go (o == s)
   where
     go : (b : Bool) → version_of x ≡ cond b (record { number = o; row = words_of o x }) (version_of x)
     go true = λ z. record { number = e z; row = sym (ap (λ (t : Bool). cond t x.row.items x.fresh.items) (eq-eqb x.number o e)) z }
     go false = refl
 
-at_some : (l : List Kept) (i : ℕ) → i < length l → (x : Kept) × (get_elem? l i ≡ some x)
+at_some : (l : List RememberedRow) (i : ℕ) → i < length l → (x : RememberedRow) × (get_elem? l i ≡ some x)
 at_some [] i h = absurd (omega (arith, h))
 at_some (x ∷ l) zero h = (x, refl)
 at_some (x ∷ l) (suc i) h = at_some l i (omega (arith, h))
@@ -43,7 +43,7 @@ returns-clause-confirmed g c = λ ms gs few is.
     let inside = c.requires.inside in
     let ltn : p < n = inside.0 in
     let lt : p < length gs = omega (arith, few, ltn) in
-    let elem = at_some gs p lt in let gg : Kept = elem.0 in
+    let elem = at_some gs p lt in let gg : RememberedRow = elem.0 in
     let lto : p < length os = omega (arith, inside.1, ltn) in
     let ltf : p < length fs = omega (arith, inside.2, ltn) in
     let at : get_elem? gs p ≡ some gg = elem.1 in
@@ -59,7 +59,7 @@ returns-clause-confirmed g c = λ ms gs few is.
     let no : (p == n) ≡ false = ne_eqb p n (λ e. omega (arith, e, ltn)) in
     let was : members_of (bundle c.args.seat.now) ≡ with_scan z ms = is.view ∙ ap (λ (b : Bool). with_scan (cond b (ended n w z) z) ms) no in
     let view : members_of (bundle c.confirm-again.new.seat) ≡ with_scan (cond ((p + 1) == n) (ended n w z') z') ms =
-    c.confirm-again.ensures.learns.member ∙ (ap (led (scanned (after_confirm n w p s))) was ∙ (with_led (after_confirm n w p s) z ms
+    c.confirm-again.ensures.learns.member ∙ (ap (led (scan_changed (after_confirm n w p s))) was ∙ (with_led (after_confirm n w p s) z ms
     ∙ ap (λ (d : Scan). with_scan (cond ((p + 1) == n) (ended n w d) d) ms) shape)) in
     let scan : scan_of (members_of (bundle c.args.seat.now)) ≡ z = ap scan_of was ∙ scan_with z ms is.starts in
     let risen : o ≤ s = let at_load = is.loaded p ltn in c.confirm-again.ensures.told.opened at_load.0 o (ap (λ (d : Scan). get_elem? d.opened at_load.0) scan ∙ at_load.1) in

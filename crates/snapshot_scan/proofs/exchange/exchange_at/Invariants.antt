@@ -1,5 +1,5 @@
 use Rattle.std.proofs.Common.{◌≡◌, ◌<◌, ◌≤◌, ◌+◌, ℕ, Contains, length, get_or}
-use Rattle.snapshot_scan.specs.Changes.{Moves}
+use Rattle.snapshot_scan.specs.ChangedItems.{Moves}
 use Rattle.snapshot_scan.proofs.exchange.exchange_at.Given as goal
 
 abbrev pub invariant-loop-item : goal.invariant-loop-item

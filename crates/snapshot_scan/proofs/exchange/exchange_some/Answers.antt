@@ -1,5 +1,5 @@
 use Rattle.std.proofs.Common.{◌≡◌, ◌<◌, ◌≤◌, ◌+◌, ℕ, length, get_or, subst, sym, ap, ◌∙◌, arith}
-use Rattle.snapshot_scan.specs.Changes.{Changed}
+use Rattle.snapshot_scan.specs.ChangedItems.{Changed}
 use Rattle.snapshot_scan.specs.Exchange.{Exchanges}
 use Rattle.snapshot_scan.proofs.Moving.{exchanges_then, exchanges_one, exchanges_same}
 use Rattle.snapshot_scan.proofs.exchange.exchange_some.Goals as goal

@@ -1,5 +1,5 @@
 use Rattle.std.proofs.Common.{◌≡◌, ◌+◌, ◌*◌, ℕ, List, length, subst, sym, arith}
-use Rattle.snapshot_scan.specs.Changes.{Changed, Moves}
+use Rattle.snapshot_scan.specs.ChangedItems.{Changed, Moves}
 use Rattle.snapshot_scan.specs.Exchange.{Exchanges}
 use Rattle.snapshot_scan.proofs.Moving.{exchanges_then, exchanges_same, moves_then}
 use Rattle.snapshot_scan.proofs.exchange.exchange_sums.Goals as goal

@@ -1,6 +1,6 @@
 use Rattle.std.proofs.Common.{◌≡◌, ◌≢◌, ◌<◌, ◌+◌, ◌≤◌, ℕ, List, [], ◌∷◌, ◌++◌, take, length, get_or, set, arith, sym, ap, ◌∙◌, subst, below_more, get_or-set_other, get_or-set_same}
 use Rattle.ledger_core.specs.Ops.{width}
-use Rattle.register_rule.specs.Members.{led, scanned}
+use Rattle.register_rule.specs.Members.{led, scan_changed}
 use Rattle.register_rule.specs.Steps.{after_read}
 use Rattle.register_rule.specs.Seats.{HasMember, members_of}
 use Rattle.snapshot_scan.specs.Shape.{read_all}
@@ -17,8 +17,8 @@ loop-k-preserved g c =
     let lt : k < length ws = let a = c.loop-k.auto.words in let t = c.loop-k-test.true in omega arith in
     let more : take (k + 1) (set ws k x) ≡ take k ws ++ x ∷ [] = take_next ws k x lt in
     let deep : length (take k ws) ≡ k = length_take ws k (omega arith) in
-    let member : members_of (bundle c.read_word.new.seat) ≡ led (scanned (read_all w c.args.place c.args.number c.args.from (take (k + 1) (set ws k x)))) ms0 =
-    c.read_word.ensures.learns.member ∙ (ap (led (scanned (after_read w c.args.place c.args.number (c.args.from + k) x))) inv.member
+    let member : members_of (bundle c.read_word.new.seat) ≡ led (scan_changed (read_all w c.args.place c.args.number c.args.from (take (k + 1) (set ws k x)))) ms0 =
+    c.read_word.ensures.learns.member ∙ (ap (led (scan_changed (after_read w c.args.place c.args.number (c.args.from + k) x))) inv.member
     ∙ led_led (after_read w c.args.place c.args.number (c.args.from + k) x) (read_all w c.args.place c.args.number c.args.from (take k ws)) (read_all w c.args.place c.args.number c.args.from (take (k + 1) (set ws k x))) ms0
     (λ d. sym (ap (λ (l : List ℕ). read_all w c.args.place c.args.number c.args.from l d) more ∙ (read_snoc w c.args.place c.args.number c.args.from (take k ws) x d
     ∙ ap (λ (z : ℕ). after_read w c.args.place c.args.number (c.args.from + z) x (read_all w c.args.place c.args.number c.args.from (take k ws) d)) deep)))) in
@@ -33,4 +33,4 @@ loop-k-preserved g c =
 
 pub returns-clause-member : goal.returns-clause-member
 returns-clause-member g c = let a = c.loop-k.auto.words in let f = c.loop-k-test.false in
-    c.loop-k.invariant.member ∙ ap (λ (l : List ℕ). led (scanned (read_all (width g.row.C g.row.H g.row.G) c.args.place c.args.number c.args.from l)) (members_of (g.S.ScanSeat.bundle c.args.seat.now))) (take_all c.loop-k.words c.loop-k.k (omega arith))
+    c.loop-k.invariant.member ∙ ap (λ (l : List ℕ). led (scan_changed (read_all (width g.row.C g.row.H g.row.G) c.args.place c.args.number c.args.from l)) (members_of (g.S.ScanSeat.bundle c.args.seat.now))) (take_all c.loop-k.words c.loop-k.k (omega arith))

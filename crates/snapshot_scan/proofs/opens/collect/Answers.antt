@@ -6,7 +6,7 @@ use Rattle.register_rule.proofs.Words.{at_below}
 use Rattle.register_rule.specs.declared.view.Scan.{Scan}
 use Rattle.register_rule.specs.Seats.{members_of}
 use Rattle.snapshot_scan.specs.Shape.{scan_of, with_scan}
-use Rattle.snapshot_scan.specs.Memory.{version_of, opening}
+use Rattle.snapshot_scan.specs.RememberedRows.{version_of, opening}
 use Rattle.snapshot_scan.specs.Collecting.{HasOpened}
 use Rattle.snapshot_scan.proofs.Words.{take_all, with_same, at_map}
 use Rattle.snapshot_scan.proofs.Opening.{opening_starts}

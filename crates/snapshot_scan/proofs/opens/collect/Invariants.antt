@@ -1,7 +1,7 @@
 use Rattle.std.proofs.Common.{◌≡◌, ◌*◌, ℕ}
 use Rattle.ledger_core.specs.Ops.{width}
 use Rattle.register_rule.specs.Seats.{HasMember, table_of, members_of}
-use Rattle.snapshot_scan.specs.Memory.{AreWide}
+use Rattle.snapshot_scan.specs.RememberedRows.{AreWide}
 use Rattle.snapshot_scan.specs.Collecting.{HasOpened}
 use Rattle.snapshot_scan.proofs.opens.collect.Given as goal
 

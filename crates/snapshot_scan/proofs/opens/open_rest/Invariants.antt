@@ -2,8 +2,8 @@ use Rattle.std.proofs.Common.{◌≡◌, ℕ, List}
 use Rattle.ledger_core.specs.Ops.{width}
 use Rattle.register_rule.specs.declared.view.Member.{Member}
 use Rattle.register_rule.specs.Seats.{HasMember, table_of, members_of}
-use Rattle.snapshot_scan.specs.declared.kept.Kept.{Kept}
-use Rattle.snapshot_scan.specs.Memory.{AreWide}
+use Rattle.snapshot_scan.specs.declared.remembered_row.RememberedRow.{RememberedRow}
+use Rattle.snapshot_scan.specs.RememberedRows.{AreWide}
 use Rattle.snapshot_scan.specs.Collecting.{HasOpened}
 use Rattle.snapshot_scan.proofs.opens.open_rest.Given as goal
 
@@ -12,6 +12,6 @@ invariant-loop-place g l = let bundle = g.S.ScanSeat.bundle in let w : ℕ = wid
   own : table_of (bundle l.seat) ≡ table_of (bundle l.fn.seat);
   leads : HasMember (members_of (bundle l.seat));
   wide : AreWide w l.kept;
-  opened : (ms : List Member) (rows : List Kept) → HasOpened w l.from ms rows (members_of (bundle l.fn.seat)) l.fn.kept l.fn.opened l.known
+  opened : (ms : List Member) (rows : List RememberedRow) → HasOpened w l.from ms rows (members_of (bundle l.fn.seat)) l.fn.kept l.fn.opened l.known
       → HasOpened w l.place ms rows (members_of (bundle l.seat)) l.kept l.opened l.all;
 }

@@ -5,12 +5,12 @@ use Rattle.register_rule.specs.declared.view.Member.{Member}
 use Rattle.register_rule.specs.declared.view.Who.TheVariants.{Worker, Reader}
 use Rattle.register_rule.specs.Members.{first_of, raised, greatest, met}
 use Rattle.register_rule.specs.Seats.{members_of}
-use Rattle.snapshot_scan.specs.declared.kept.Kept.{Kept}
-use Rattle.snapshot_scan.specs.Lent.{behind, Stands}
+use Rattle.snapshot_scan.specs.declared.remembered_row.RememberedRow.{RememberedRow}
+use Rattle.snapshot_scan.specs.Lent.{behind, IsWorkerAmong}
 use Rattle.snapshot_scan.specs.Moments.{AreMoments}
 use Rattle.snapshot_scan.specs.Order.{IsOrder}
 use Rattle.snapshot_scan.specs.Scanned.{IsIdle}
-use Rattle.snapshot_scan.specs.Snapshots.{entry_of}
+use Rattle.snapshot_scan.specs.Snapshots.{as_answer}
 use Rattle.snapshot_scan.proofs.Standing.{IsLed}
 use Rattle.snapshot_scan.proofs.ordering.order.Goals as goal
 
@@ -21,12 +21,12 @@ alone_is (m ∷ ms) lt none = ap (λ (l : List Member). m ∷ l) none
 not_worker : (k i : ℕ) → Reader k ≡ Worker i → ⊥
 not_worker k i e = cc
 
-no_worker : (k i : ℕ) (m x : Member) → m.who ≡ Reader k → Stands i x (m ∷ []) → ⊥
+no_worker : (k i : ℕ) (m x : Member) → m.who ≡ Reader k → IsWorkerAmong i x (m ∷ []) → ⊥
 no_worker k i m x is (zero, at, who) = not_worker k i (sym is ∙ (ap (λ (y : Member). y.who) (some-injective m x at) ∙ who))
 no_worker k i m x is (suc p, at, who) = some-ne-none x (sym at)
 
 -- a reader alone, raised to what others have seen
-led_raised : (k : ℕ) (gs : List Kept) (s : List ℕ) (m : Member) (ms : List Member) → ms ≡ raised s m ∷ [] → m.who ≡ Reader k → IsIdle m.scan gs → IsLed k gs ms
+led_raised : (k : ℕ) (gs : List RememberedRow) (s : List ℕ) (m : Member) (ms : List Member) → ms ≡ raised s m ∷ [] → m.who ≡ Reader k → IsIdle m.scan gs → IsLed k gs ms
 led_raised k gs s m ms e is idle = subst (IsLed k gs) (sym e)
     (omega arith, is, record { kept = idle.kept; rest = idle.rest }, λ p j x at. absurd (some-ne-none x (sym at)), λ i x stands. absurd (no_worker k i (raised s m) x is stands))
 
@@ -77,7 +77,7 @@ invariant_of-of_other g c =
 pub compare-requires-clause-comparable : goal.compare-requires-clause-comparable
 compare-requires-clause-comparable g c =
     let one = c.requires.recorded.0 in let other = c.requires.recorded.1 in
-    let t = c.meet.ensures.comparable (entry_of c.args.one.now) (entry_of c.args.other.now) one.0 other.0 one.1 other.1 in
+    let t = c.meet.ensures.comparable (as_answer c.args.one.now) (as_answer c.args.other.now) one.0 other.0 one.1 other.1 in
     subst (λ (l : List ℕ). Comparable l c.vector-2.result.now) (sym c.vector.ensures.numbers) (subst (λ (l : List ℕ). Comparable c.args.one.now.vector l) (sym c.vector-2.ensures.numbers) t)
 
 pub returns-clause-order : goal.returns-clause-order

@@ -4,8 +4,8 @@ use lib.ListN.{get_elem?}
 use Rattle.ledger_core.specs.Ops.{width}
 use Rattle.register_rule.specs.declared.view.Version.{Version}
 use Rattle.register_rule.proofs.Words.{there}
-use Rattle.snapshot_scan.specs.declared.kept.Kept.{Kept}
-use Rattle.snapshot_scan.specs.Memory.{version_of}
+use Rattle.snapshot_scan.specs.declared.remembered_row.RememberedRow.{RememberedRow}
+use Rattle.snapshot_scan.specs.RememberedRows.{version_of}
 use Rattle.snapshot_scan.proofs.Words.{map_set}
 use Rattle.snapshot_scan.proofs.OwnRow.{own_wide, own_part, own_totals}
 use Rattle.snapshot_scan.proofs.own_row.remember_all.Goals as goal
@@ -13,7 +13,7 @@ use Rattle.snapshot_scan.proofs.own_row.remember_all.Goals as goal
 pub learn-requires : goal.learn-requires
 learn-requires g c =
     let w : ℕ = width g.row.C g.row.H g.row.G in let gs = c.args.kept.now in let i = c.args.place in
-    let old : Kept = get_or gs i c.index-kept-place.result in
+    let old : RememberedRow = get_or gs i c.index-kept-place.result in
     let at : get_elem? gs i ≡ some old = there gs i c.index-kept-place.result c.requires.inside.0 in
     (search rules, (c.requires.long, (c.requires.wide i old at, own_part w gs c.args.totals.now i old at c.requires.inside.1 c.requires.wide c.requires.totals)))
 
@@ -23,7 +23,7 @@ returns-clause-wide g c = own_wide (width g.row.C g.row.H g.row.G) c.args.kept.n
 pub returns-clause-totals : goal.returns-clause-totals
 returns-clause-totals g c =
     let gs = c.args.kept.now in let i = c.args.place in
-    let old : Kept = get_or gs i c.index-kept-place.result in
+    let old : RememberedRow = get_or gs i c.index-kept-place.result in
     own_totals (width g.row.C g.row.H g.row.G) gs c.args.totals.now c.learn.new.totals i old c.learn.new.self c.args.row.now (there gs i c.index-kept-place.result c.requires.inside.0) c.requires.totals
     (ap (λ (v : Version). v.row) c.learn.ensures.version) c.learn.ensures.totals
 

@@ -1,5 +1,5 @@
 use Rattle.std.proofs.Common.{◌≡◌, length}
-use Rattle.snapshot_scan.specs.Memory.{AreBlank}
+use Rattle.snapshot_scan.specs.RememberedRows.{AreBlank}
 use Rattle.snapshot_scan.proofs.remembering.blank_rows.Given as goal
 
 abbrev pub invariant-loop-k : goal.invariant-loop-k

@@ -1,10 +1,10 @@
 use Rattle.std.proofs.Common.{◌≡◌, ◌≢◌, ◌<◌, ◌+◌, ◌≤◌, ℕ, List, [], ◌∷◌, ◌++◌, take, length, get_or, set, arith, sym, ap, ◌∙◌, subst, below_more, get_or-set_other, get_or-set_same}
 use Rattle.ledger_core.specs.Ops.{width}
-use Rattle.register_rule.specs.Members.{led, scanned}
+use Rattle.register_rule.specs.Members.{led, scan_changed}
 use Rattle.register_rule.specs.Steps.{after_read}
 use Rattle.register_rule.specs.Seats.{HasMember, members_of}
 use Rattle.snapshot_scan.specs.Shape.{read_all}
-use Rattle.snapshot_scan.specs.Changes.{Moves}
+use Rattle.snapshot_scan.specs.ChangedItems.{Moves}
 use Rattle.snapshot_scan.proofs.Words.{take_next, length_take, read_snoc, led_led, led_some}
 use Rattle.snapshot_scan.proofs.Moving.{moves_then}
 use Rattle.snapshot_scan.proofs.rows.read_one.Goals as goal
@@ -21,7 +21,7 @@ returns-clause-read g c = λ ms row listed is.
     let more : take (k + 1) new ≡ take k ws ++ x ∷ [] = ap (take (k + 1)) written ∙ take_next ws k x lt in
     let long' = length_take ws k (omega (arith, lt)) in let deep : 0 + length (take k ws) ≡ k = omega (arith, long') in
     record {
-      member = c.read_word-word.ensures.learns.member ∙ (ap (led (scanned (after_read w i s k x))) is.member
+      member = c.read_word-word.ensures.learns.member ∙ (ap (led (scan_changed (after_read w i s k x))) is.member
           ∙ led_led (after_read w i s k x) (read_all w i s 0 (take k ws)) (read_all w i s 0 (take (k + 1) new)) ms
           (λ d. sym (ap (λ (l : List ℕ). read_all w i s 0 l d) more ∙ (read_snoc w i s 0 (take k ws) x d ∙ ap (λ (z : ℕ). after_read w i s z x (read_all w i s 0 (take k ws) d)) deep))));
       low = subst (λ (l : List ℕ). (j : ℕ) → j < k + 1 → get_or l j 0 ≤ 281474976710655) (sym written)

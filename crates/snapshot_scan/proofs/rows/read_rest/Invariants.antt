@@ -2,7 +2,7 @@ use Rattle.std.proofs.Common.{◌≡◌, ℕ, List}
 use Rattle.ledger_core.specs.Ops.{width}
 use Rattle.register_rule.specs.declared.view.Member.{Member}
 use Rattle.register_rule.specs.Seats.{HasMember, table_of, members_of}
-use Rattle.snapshot_scan.specs.Changes.{Changed}
+use Rattle.snapshot_scan.specs.ChangedItems.{Changed}
 use Rattle.snapshot_scan.specs.Reading.{IsReadTo}
 use Rattle.snapshot_scan.proofs.rows.read_rest.Given as goal
 

@@ -1,10 +1,10 @@
 use Rattle.std.proofs.Common.{refl, ◌≡◌, ◌*◌, ◌/◌, ℕ, List, [], ◌∷◌, take, length, arith, ap, ◌∙◌, subst}
 use Rattle.ledger_core.specs.Ops.{width}
 use Rattle.register_rule.specs.declared.view.Member.{Member}
-use Rattle.register_rule.specs.Members.{led, scanned}
+use Rattle.register_rule.specs.Members.{led, scan_changed}
 use Rattle.register_rule.specs.Seats.{members_of}
 use Rattle.snapshot_scan.specs.Shape.{read_all}
-use Rattle.snapshot_scan.specs.Changes.{Changed}
+use Rattle.snapshot_scan.specs.ChangedItems.{Changed}
 use Rattle.snapshot_scan.specs.Reading.{IsReadTo}
 use Rattle.snapshot_scan.proofs.Words.{take_all}
 use Rattle.snapshot_scan.proofs.Moving.{moves_none}
@@ -14,7 +14,7 @@ use Rattle.snapshot_scan.proofs.rows.read_row.Goals as goal
 none_read : (w i s : ℕ) (ms : List Member) (words : List ℕ) (listed : Changed) → IsReadTo w i s 0 ms ms words words listed listed
 none_read w i s ms words listed = record { member = stays ms; low = λ j lt. absurd (omega (arith, lt)); moves = moves_none w words listed }
   where
-    stays : (ms : List Member) → ms ≡ led (scanned (read_all w i s 0 (take 0 words))) ms
+    stays : (ms : List Member) → ms ≡ led (scan_changed (read_all w i s 0 (take 0 words))) ms
     stays [] = refl
     stays (m ∷ ms) = refl
 
@@ -47,7 +47,7 @@ returns g c =
     let a = c.read_rest.auto.words in let b = c.loop-turn.auto.words in let long = c.requires.inside.1 in
     record {
       own = c.read_rest.ensures.own ∙ inv.own;
-      member = all.member ∙ ap (λ (l : List ℕ). led (scanned (read_all w i s 0 l)) ms) (take_all r.words w (omega (arith, a, b, long)));
+      member = all.member ∙ ap (λ (l : List ℕ). led (scan_changed (read_all w i s 0 l)) ms) (take_all r.words w (omega (arith, a, b, long)));
       bounded = all.low;
       moves = all.moves;
     }

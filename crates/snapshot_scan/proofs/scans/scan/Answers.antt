@@ -7,11 +7,11 @@ use Rattle.register_rule.specs.Seats.{members_of}
 use Rattle.register_rule.specs.History.{Below}
 use Rattle.register_rule.proofs.Words.{each_push}
 use mathlib.Core.Option.{some-ne-none}
-use Rattle.snapshot_scan.specs.declared.ending.Ended.{Ended}
-use Rattle.snapshot_scan.specs.declared.ending.Ended.TheVariants as End
+use Rattle.snapshot_scan.specs.declared.scan_end.ScanEnd.{ScanEnd}
+use Rattle.snapshot_scan.specs.declared.scan_end.ScanEnd.TheVariants as End
 use Rattle.snapshot_scan.specs.Shape.{scan_of, with_scan}
-use Rattle.snapshot_scan.specs.Memory.{version_of, opening, settling, IsLoaded}
-use Rattle.snapshot_scan.specs.Asking.{due_from, worker_of, MayAsk}
+use Rattle.snapshot_scan.specs.RememberedRows.{version_of, opening, settling, IsLoaded}
+use Rattle.snapshot_scan.specs.Asking.{due_from, asked_worker, MayAsk}
 use Rattle.snapshot_scan.specs.Scanned.{Tried, FailedTry, IsAnswered, IsGivenUp}
 use Rattle.snapshot_scan.proofs.Asking.{vector_long}
 use Rattle.snapshot_scan.proofs.Trying.{stood, AreTries, given_last, none_due}
@@ -19,7 +19,7 @@ use Rattle.snapshot_scan.proofs.Scanning.{now_is, still_some, others_same, then_
 use Rattle.snapshot_core.specs.declared.next.Next.TheVariants.{GaveUp}
 use Rattle.snapshot_scan.specs.Core.{CameTo, AnswersBy}
 use Rattle.snapshot_scan.proofs.Arriving.{came_first, came_later, came_lending, came_up}
-use Rattle.snapshot_scan.specs.Changes.{Changed, Lists}
+use Rattle.snapshot_scan.specs.ChangedItems.{Changed, Lists}
 use Rattle.snapshot_scan.proofs.Noted.{none_listed}
 use Rattle.snapshot_scan.proofs.Moving.{lists_none, lists_then}
 use Rattle.snapshot_scan.proofs.scans.scan.Goals as goal
@@ -32,7 +32,7 @@ returns-then-clean-clause-direct g c = λ _ _.
     subst (λ (x : Scan). IsAnswered g.row.N (scan_of ms) x (record { vector = r.opened; totals = r.totals })) (sym (now_is _ ms _ c.requires.own.1 (c.try_once-clean.ensures.clean c.if-clean.true)))
     (direct_first g.row.N r.opened r.found r.totals r.kept (scan_of ms) (c.try_once-clean.auto.opened ∙ lens.2) c.try_once-clean.ensures.told)
 
-abbrev quiet_in : Ended → Bool
+abbrev quiet_in : ScanEnd → Bool
 quiet_in (End.Direct quiet) = quiet
 quiet_in End.Lent = false
 quiet_in End.GaveUp = false
@@ -254,7 +254,7 @@ returns-then-lends-clause-lent g c = λ _.
     let a = lent_in n w c.ask_all-lends.new.lent in
     let end = loop_lends n w c.loop-k._k r.opened r.found r.kept c.loop-k.kept few long deep tries fl ba ms _ _ c.requires.own.1 inv.count view _ a l.1 l.0 l.2 fails l.3 l.7 in
     subst (λ (x : Scan). IsAnswered n (scan_of ms) x a) (sym (now_is _ ms _ c.requires.own.1 end))
-    (lent_later n fl ba c.loop-k.opened c.loop-k.found tries inv.tried c.loop-k.kept (scan_of ms) r.opened r.found r.kept a l.1 l.0 (worker_of l.1 ∷ l.2) inv.lengths.0
+    (lent_later n fl ba c.loop-k.opened c.loop-k.found tries inv.tried c.loop-k.kept (scan_of ms) r.opened r.found r.kept a l.1 l.0 (asked_worker l.1 ∷ l.2) inv.lengths.0
     (vector_long n w c.ask_all-lends.new.lent (c.ask_all-lends.auto.lent ∙ (c.loop-k.auto.lent ∙ lens.4))) inv.seen (ap (λ (ws : List ℕ). is_above fl (take n (drop 1 ws))) (sym l.5) ∙ l.6.above))
 
 pub loop-k-preserved : goal.loop-k-preserved
@@ -364,7 +364,7 @@ returns-then-lends-clause-came_lent g c = λ _.
     let end = loop_lends n w c.loop-k._k r.opened r.found r.kept c.loop-k.kept few long deep tries fl ba ms _ _ c.requires.own.1 inv.count view _ a l.1 l.0 l.2 fails l.3 l.7 in
     let count = inv.count in let lt = c.loop-k-test.true in
     subst (λ (x : Scan). AnswersBy n w (scan_of ms) x a) (sym (now_is _ ms _ c.requires.own.1 end))
-    (came_lending n w fl ba c.loop-k.opened c.loop-k.found tries inv.tried c.loop-k.kept (scan_of ms) r.opened r.found r.kept a l.1 l.0 l.2 (worker_of l.1 ∷ l.2) long deep (omega (arith, count, lt))
+    (came_lending n w fl ba c.loop-k.opened c.loop-k.found tries inv.tried c.loop-k.kept (scan_of ms) r.opened r.found r.kept a l.1 l.0 l.2 (asked_worker l.1 ∷ l.2) long deep (omega (arith, count, lt))
     (c.try_again-clean.ensures.rose c.if-clean-2.false) l.3 l.4 l.6 (ap (lent_in n w) (sym l.5)))
 
 pub returns-clause-came_up : goal.returns-clause-came_up

@@ -3,8 +3,8 @@ use Rattle.ledger_core.specs.Ops.{width}
 use Rattle.register_rule.specs.Steps.{gives_up}
 use Rattle.register_rule.specs.Seats.{HasMember, table_of, members_of}
 use Rattle.snapshot_scan.specs.Shape.{scan_of, with_scan, IsRuled}
-use Rattle.snapshot_scan.specs.Changes.{Lists}
-use Rattle.snapshot_scan.specs.Memory.{AreWide, AreTotals}
+use Rattle.snapshot_scan.specs.ChangedItems.{Lists}
+use Rattle.snapshot_scan.specs.RememberedRows.{AreWide, AreTotals}
 use Rattle.register_rule.specs.History.{Below}
 use Rattle.snapshot_scan.specs.Scanned.{Tried}
 use Rattle.snapshot_scan.proofs.Trying.{stood, AreTries}

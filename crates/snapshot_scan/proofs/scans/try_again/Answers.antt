@@ -6,7 +6,7 @@ use Rattle.register_rule.specs.declared.view.Scan.{Scan}
 use Rattle.register_rule.specs.Steps.{ended}
 use Rattle.register_rule.specs.Seats.{HasMember, members_of}
 use Rattle.snapshot_scan.specs.Shape.{scan_of, with_scan}
-use Rattle.snapshot_scan.specs.Memory.{opening, settling}
+use Rattle.snapshot_scan.specs.RememberedRows.{opening, settling}
 use Rattle.snapshot_scan.proofs.Words.{scan_with, with_led, led_some}
 use Rattle.snapshot_scan.proofs.Trying.{ends_clean, ends_failed, rose_some, loads_at, true_not_false, sums_same}
 use Rattle.snapshot_scan.proofs.scans.try_again.Goals as goal

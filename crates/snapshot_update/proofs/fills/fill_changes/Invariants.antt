@@ -1,6 +1,6 @@
 use Rattle.std.proofs.Common.{◌≡◌, ◌<◌, ℕ, get_or}
 use Rattle.register_rule.specs.Seats.{worker_of, index_of, HasWorker}
-use Rattle.snapshot_update.specs.Images.{with_hidden}
+use Rattle.snapshot_update.specs.BufferImages.{with_hidden}
 use Rattle.snapshot_update.specs.Target.{target_of}
 use Rattle.snapshot_update.proofs.fills.fill_changes.Given as goal
 

@@ -1,10 +1,10 @@
 use Rattle.std.proofs.Common.{◌≡◌, ℕ, ◌<◌, ◌+◌, length, sym, ap, ◌∙◌, subst, arith}
 use Rattle.ledger_core.specs.Ops.{width}
 use Rattle.segment_layout.specs.Layout.{depth}
-use Rattle.snapshot_scan.specs.Changes.{Changed}
-use Rattle.snapshot_update.specs.Images.{with_hidden}
+use Rattle.snapshot_scan.specs.ChangedItems.{Changed}
+use Rattle.snapshot_update.specs.BufferImages.{with_hidden}
 use Rattle.snapshot_update.specs.Target.{target_of}
-use Rattle.snapshot_update.specs.Changes.{SoFar}
+use Rattle.snapshot_update.specs.Noting.{SoFar}
 use Rattle.snapshot_update.proofs.Filling.{so_far_same, so_far_noted, below_set}
 use Rattle.snapshot_update.proofs.fills.fill_some.Goals as goal
 use Rattle.snapshot_update.proofs.fills.fill_some.Goals.{then-shown-item, else-shown-item}

@@ -1,8 +1,8 @@
 use Rattle.std.proofs.Common.{◌≡◌, ◌<◌, ℕ, get_or}
 use Rattle.register_rule.specs.Seats.{worker_of, index_of, HasWorker}
-use Rattle.snapshot_update.specs.Images.{with_hidden}
+use Rattle.snapshot_update.specs.BufferImages.{with_hidden}
 use Rattle.snapshot_update.specs.Target.{target_of}
-use Rattle.snapshot_update.specs.Changes.{SoFar}
+use Rattle.snapshot_update.specs.Noting.{SoFar}
 use Rattle.snapshot_update.proofs.fills.fill_some.Given as goal
 
 abbrev pub invariant-loop-item : goal.invariant-loop-item

@@ -1,6 +1,6 @@
 use Rattle.std.proofs.Common.{◌≡◌, List, get_or, sym, ◌∙◌, subst}
 use Rattle.ledger_core.specs.Ops.{width}
-use Rattle.snapshot_scan.specs.Changes.{Changed}
+use Rattle.snapshot_scan.specs.ChangedItems.{Changed}
 use Rattle.snapshot_update.specs.Fit.{AreInside}
 use Rattle.snapshot_update.specs.Known.{ListsMoved}
 use Rattle.snapshot_update.proofs.known.follow.Goals as goal

@@ -1,6 +1,6 @@
 use Rattle.std.proofs.Common.{◌≡◌, ◌+◌, ℕ, Contains, ap, sym, ◌∙◌, subst, arith}
 use Rattle.ledger_core.specs.Ops.{width}
-use Rattle.snapshot_scan.specs.Changes.{Changed, NotesEach}
+use Rattle.snapshot_scan.specs.ChangedItems.{Changed, NotesEach}
 use Rattle.snapshot_update.specs.Known.{NotesRange, ListsMoved}
 use Rattle.snapshot_update.proofs.Following.{lists_moved, lists_all}
 use Rattle.snapshot_update.proofs.known.list_moved.Goals as goal

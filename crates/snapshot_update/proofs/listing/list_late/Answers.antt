@@ -1,5 +1,5 @@
 use Rattle.std.proofs.Common.{◌≡◌, ◌⊎◌, inl, inr, ⊎_elim, ◌+◌, ℕ, List, [], Contains, subst}
-use Rattle.snapshot_scan.specs.Changes.{Changed, Notes, NotesEach}
+use Rattle.snapshot_scan.specs.ChangedItems.{Changed, Notes, NotesEach}
 use Rattle.snapshot_scan.proofs.Noted.{none_listed}
 use Rattle.snapshot_update.proofs.listing.list_late.Goals as goal
 

@@ -1,5 +1,5 @@
 use Rattle.std.proofs.Common.{◌≡◌, ◌+◌, ◌-◌, ◌≤◌, ℕ, subst, arith}
-use Rattle.snapshot_scan.specs.Changes.{Notes}
+use Rattle.snapshot_scan.specs.ChangedItems.{Notes}
 use Rattle.snapshot_update.specs.Known.{NotesRange}
 use Rattle.snapshot_update.proofs.Following.{range_none, range_more}
 use Rattle.snapshot_update.proofs.listing.note_range.Goals as goal

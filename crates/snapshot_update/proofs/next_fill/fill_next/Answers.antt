@@ -1,7 +1,7 @@
 use Rattle.std.proofs.Common.{◌≡◌, ⊎_elim, ◌+◌, ◌<◌, ℕ, false, List, [], Contains, sym, ◌∙◌, subst, arith}
 use Rattle.ledger_core.specs.Ops.{width}
 use Rattle.segment_layout.specs.Layout.{depth}
-use Rattle.snapshot_scan.specs.Changes.{Changed, NotesEach}
+use Rattle.snapshot_scan.specs.ChangedItems.{Changed, NotesEach}
 use Rattle.snapshot_update.specs.Target.{target_of}
 use Rattle.snapshot_update.proofs.Filling.{listed_or, all_filled}
 use Rattle.snapshot_scan.proofs.Noted.{none_listed}

@@ -1,6 +1,6 @@
 use Rattle.std.proofs.Common.{◌≡◌, ℕ, ◌+◌, ◌*◌, subst, arith}
 use Rattle.ledger_core.specs.Ops.{width, only}
-use Rattle.snapshot_update.specs.Changes.{Touches}
+use Rattle.snapshot_update.specs.Noting.{Touches}
 use Rattle.snapshot_update.proofs.Touching.{touches_one, touches_few, touches_three, run_still}
 use Rattle.snapshot_update.proofs.touched.touch_one.Goals as goal
 

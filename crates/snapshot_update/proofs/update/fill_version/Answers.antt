@@ -2,15 +2,15 @@ use Rattle.std.proofs.Common.{◌≡◌, ℕ, Bool, true, false, cond, List, len
 use Rattle.std.proofs.lemmas.Bool.{and_parts, not-true}
 use Rattle.ledger_core.specs.Ops.{width}
 use Rattle.segment_layout.specs.Layout.{depth}
-use Rattle.snapshot_scan.specs.declared.ending.Ended.{Ended}
-use Rattle.snapshot_scan.specs.declared.ending.Ended.TheVariants.{Direct, GaveUp}
-use Rattle.snapshot_scan.specs.Memories.{answer_of}
-use Rattle.snapshot_update.specs.Images.{version_words}
+use Rattle.snapshot_scan.specs.declared.scan_end.ScanEnd.{ScanEnd}
+use Rattle.snapshot_scan.specs.declared.scan_end.ScanEnd.TheVariants.{Direct, GaveUp}
+use Rattle.snapshot_scan.specs.ScanMemories.{answer_of}
+use Rattle.snapshot_update.specs.BufferImages.{version_words}
 use Rattle.snapshot_update.specs.Target.{target_of}
 use Rattle.snapshot_update.proofs.update.fill_version.Goals as goal
 
 -- a scan that ended direct has a view
-direct_views : (b : Bool) (e : Ended) (quiet : Bool) → (b ≡ false → e ≡ GaveUp) → e ≡ Direct quiet → b ≡ true
+direct_views : (b : Bool) (e : ScanEnd) (quiet : Bool) → (b ≡ false → e ≡ GaveUp) → e ≡ Direct quiet → b ≡ true
 direct_views true e quiet none direct = refl
 direct_views false e quiet none direct = absurd (let h = sym (none refl) ∙ direct in cc)
 

@@ -14,11 +14,11 @@ use Rattle.register_rule.specs.Members.{made_of, published}
 use Rattle.register_rule.specs.declared.view.Made.{Made}
 use Rattle.register_rule.specs.Told.{HoldsNext}
 use Rattle.register_rule.specs.Seats.{worker_of, index_of}
-use Rattle.snapshot_scan.specs.declared.ending.Ended.{Ended}
-use Rattle.snapshot_scan.specs.declared.ending.Ended.TheVariants.{Direct, GaveUp}
-use Rattle.snapshot_scan.specs.Memories.{rows_of, sums_of, answer_of}
-use Rattle.snapshot_scan.specs.Changes.{Changed}
-use Rattle.snapshot_update.specs.Images.{DifferAt, version_words, with_hidden}
+use Rattle.snapshot_scan.specs.declared.scan_end.ScanEnd.{ScanEnd}
+use Rattle.snapshot_scan.specs.declared.scan_end.ScanEnd.TheVariants.{Direct, GaveUp}
+use Rattle.snapshot_scan.specs.ScanMemories.{rows_of, sums_of, answer_of}
+use Rattle.snapshot_scan.specs.ChangedItems.{Changed}
+use Rattle.snapshot_update.specs.BufferImages.{DifferAt, version_words, with_hidden}
 use Rattle.snapshot_update.specs.Fit.{AreInside, AreImages, number_in, next_words}
 use Rattle.snapshot_update.specs.Updated.{ScanMeets, IsRuledAlone}
 use Rattle.snapshot_update.proofs.VersionWords.{known_words, late_words, words_long, row_taken, numbers_long}
@@ -143,7 +143,7 @@ learn-requires g c =
     )
 
 -- a scan that ended direct lends
-lends_direct : (b : Bool) (e : Ended) (quiet : Bool) → (b ≡ false → e ≡ GaveUp) → e ≡ Direct quiet → b ≡ true
+lends_direct : (b : Bool) (e : ScanEnd) (quiet : Bool) → (b ≡ false → e ≡ GaveUp) → e ≡ Direct quiet → b ≡ true
 lends_direct true e quiet none direct = refl
 lends_direct false e quiet none direct = absurd (let h = sym (none refl) ∙ direct in cc)
 

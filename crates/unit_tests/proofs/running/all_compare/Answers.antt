@@ -1,6 +1,6 @@
 use Rattle.std.proofs.Common.{rules, sym, subst}
 use Rattle.snapshot_scan.specs.Order.{HasRecorded}
-use Rattle.snapshot_scan.specs.Snapshots.{Taken, entry_of}
+use Rattle.snapshot_scan.specs.Snapshots.{Taken, as_answer}
 use Rattle.chain_law.proofs.Recorded.{recorded_still}
 use Rattle.unit_tests.proofs.running.all_compare.Goals as goal
 
@@ -18,8 +18,8 @@ order-found-requires g c =
             inv.own,
             (
               (
-                subst (λ (s : Taken). HasRecorded c.loop-i.one (entry_of s)) (sym c.index-ones-i.is) (one c.loop-i.i c.index-ones-i.result c.loop-i-test.true),
-                subst (λ (s : Taken). HasRecorded c.loop-i.other (entry_of s)) (sym c.index-others-j.is) (other c.loop-i.j c.index-others-j.result c.if-j-others.true),
+                subst (λ (s : Taken). HasRecorded c.loop-i.one (as_answer s)) (sym c.index-ones-i.is) (one c.loop-i.i c.index-ones-i.result c.loop-i-test.true),
+                subst (λ (s : Taken). HasRecorded c.loop-i.other (as_answer s)) (sym c.index-others-j.is) (other c.loop-i.j c.index-others-j.result c.if-j-others.true),
               ),
               inv.alone,
             ),

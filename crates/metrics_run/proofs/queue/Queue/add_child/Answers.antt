@@ -1,7 +1,7 @@
 use Rattle.std.proofs.Common.{◌∙◌, ap, map, List}
 use Rattle.registry_state.specs.declared.handle.Handle.{Handle}
-use Rattle.metrics_run.specs.Entries.{jobs_of}
-use Rattle.metrics_run.proofs.Entries.{lists_kept}
+use Rattle.metrics_run.specs.QueuedJobs.{jobs_of}
+use Rattle.metrics_run.proofs.QueuedJobs.{lists_kept}
 use Rattle.metrics_run.proofs.queue.Queue.add_child.Goals as goal
 
 pub returns-clause-lists : goal.returns-clause-lists

@@ -1,7 +1,7 @@
 use Rattle.std.proofs.Common.{ℕ, [], ap, length, map, replicate, sym, ◌∙◌}
 use Rattle.std.proofs.lemmas.List.{length-map, with_items_is}
-use Rattle.metrics_run.specs.Entries.{jobs_of}
-use Rattle.metrics_run.proofs.Entries.{none_left}
+use Rattle.metrics_run.specs.QueuedJobs.{jobs_of}
+use Rattle.metrics_run.proofs.QueuedJobs.{none_left}
 use Rattle.metrics_run.proofs.queue.Queue.clear.Goals as goal
 
 pub returns-clause-none : goal.returns-clause-none

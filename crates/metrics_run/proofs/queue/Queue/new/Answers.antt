@@ -1,5 +1,5 @@
 use Rattle.std.proofs.Common.{ℕ, [], ap, replicate, ◌∙◌}
-use Rattle.metrics_run.proofs.Entries.{none_left}
+use Rattle.metrics_run.proofs.QueuedJobs.{none_left}
 use Rattle.metrics_run.proofs.queue.Queue.new.Goals as goal
 
 pub returns-clause-lists : goal.returns-clause-lists

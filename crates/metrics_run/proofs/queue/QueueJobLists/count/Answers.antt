@@ -1,7 +1,7 @@
 use Rattle.std.proofs.Common.{rules, ◌≡◌, ◌<◌, length, sym, ◌∙◌, arith}
 use Rattle.std.proofs.lemmas.List.{length-map}
-use Rattle.metrics_run.specs.Entries.{jobs_of}
-use Rattle.metrics_run.proofs.Entries.{as_many_there}
+use Rattle.metrics_run.specs.QueuedJobs.{jobs_of}
+use Rattle.metrics_run.proofs.QueuedJobs.{as_many_there}
 use Rattle.metrics_run.proofs.queue.QueueJobLists.count.Goals as goal
 
 pub returns : goal.returns

@@ -2,8 +2,8 @@ use Rattle.std.proofs.Common.{rules, ◌≡◌, ◌<◌, length, sym, ap, subst,
 use Rattle.std.specs.Prelude.{Some, is_some, true}
 use Rattle.std.proofs.lemmas.List.{length-map}
 use Rattle.std.proofs.lemmas.List.Elements.{All-get_or}
-use Rattle.metrics_run.specs.Entries.{Fits, job_of, jobs_of}
-use Rattle.metrics_run.proofs.Entries.{as_many_there, fits_there, job_there}
+use Rattle.metrics_run.specs.QueuedJobs.{Fits, job_of, jobs_of}
+use Rattle.metrics_run.proofs.QueuedJobs.{as_many_there, fits_there, job_there}
 use Rattle.metrics_run.proofs.queue.QueueJobLists.job.Goals as goal
 
 pub index-requires-2 : goal.index-requires-2

@@ -1,7 +1,7 @@
 use Rattle.std.proofs.Common.{◌≡◌, refl, length, map, ap, sym, ◌∙◌}
 use Rattle.std.proofs.lemmas.List.{length-map, with_items_is}
 use Rattle.snapshot_update.specs.Workers.{index_of, lists_of}
-use Rattle.metrics_serve.proofs.Gathered.{has_all, count_of, settled_numbers}
+use Rattle.metrics_serve.proofs.SettledFour.{has_all, count_of, settled_numbers}
 use Rattle.metrics_run.proofs.state.State.settle.Goals as goal
 
 pub unreachable-requires : goal.unreachable-requires

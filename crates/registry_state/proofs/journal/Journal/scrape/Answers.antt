@@ -1,6 +1,6 @@
 use Rattle.std.proofs.Common.{◌≡◌, sym, ◌∙◌, ap, subst, ◌∷◌, [], ◌++◌, ◌-◌, ◌+◌, length, map, drop, rules, List, ℕ}
 use Rattle.std.proofs.lemmas.List.{length-map, length_push}
-use Rattle.snapshot_scan.specs.Snapshots.{Taken, entry_of}
+use Rattle.snapshot_scan.specs.Snapshots.{Taken, as_answer}
 use Rattle.registry_state.specs.Journal.{Scraped, within}
 use Rattle.registry_state.specs.Merged.{merged, AreNoted}
 use Rattle.registry_state.specs.Notes.{change_of}
@@ -31,12 +31,12 @@ returns-clause-scraped g c =
     let e : length c.self.inside.notes.items ≡ length cs = sym (length-map c.self.inside.notes.items change_of) in
     let noted : AreNoted (length cs) 0 c.self.inside.kept.scrapes = subst (λ n. AreNoted n 0 c.self.inside.kept.scrapes) e c.self.invariant.1 in
     let all : List (Taken × ℕ) = c.self.inside.kept.scrapes ++ (c.scan.new.out, length cs) ∷ [] in (
-      entry_of c.scan.new.out,
+      as_answer c.scan.new.out,
       search rules,
       search rules,
       ap (λ kept. merged cs 0 kept) (kept_is g c)
           ∙ ap (λ n. merged cs 0 (drop (length (c.self.inside.kept.scrapes ++ (c.scan.new.out, n) ∷ []) - c.args.window) (c.self.inside.kept.scrapes ++ (c.scan.new.out, n) ∷ []))) e
           ∙ merged_within cs c.args.window all (noted_scrape (length cs) 0 c.self.inside.kept.scrapes c.scan.new.out noted)
           ∙ ap (within c.args.window) (merged_scrape cs 0 c.self.inside.kept.scrapes c.scan.new.out noted)
-          ∙ ap (λ journal. within c.args.window (journal ++ Scraped (entry_of c.scan.new.out) ∷ [])) c.self.view_is,
+          ∙ ap (λ journal. within c.args.window (journal ++ Scraped (as_answer c.scan.new.out) ∷ [])) c.self.view_is,
     )

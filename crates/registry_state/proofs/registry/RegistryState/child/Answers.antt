@@ -3,7 +3,7 @@ use Rattle.std.proofs.lemmas.Option.{slice_get_read}
 use Rattle.metric_desc.specs.Desc.{Descriptor}
 use Rattle.registry_state.specs.Replay.{Child, Family}
 use Rattle.registry_state.specs.Kept.{Registry}
-use Rattle.registry_state.specs.Held.{AreChildren, IsChildBefore, IsPlaceOf, used_of}
+use Rattle.registry_state.specs.Held.{AreChildren, IsChildBefore, IsPlaceOfValues, used_of}
 use Rattle.registry_state.specs.Faults.{IsWanted}
 use Rattle.registry_state.specs.Changed.{IsHandle, IsGiven}
 use Rattle.registry_state.proofs.Holding.{all_at}
@@ -39,12 +39,12 @@ make-requires g c =
     sym c.if-want-got.false ∙ ap length (c.labels.ensures.labels ∙ ap (λ (d : Descriptor). d.labels) desc) in
     let new : All (λ (child : Child). child.values ≢ c.args.values.now) it.children =
     subst (All (λ (child : Child). child.values ≢ c.args.values.now)) children c.in-Err.ensures.new in
-    let place : IsPlaceOf it.children c.args.values.now c.in-Err.place =
-    subst (λ (cs : List Child). IsPlaceOf cs c.args.values.now c.in-Err.place) children c.in-Err.ensures.place in (
+    let place : IsPlaceOfValues it.children c.args.values.now c.in-Err.place =
+    subst (λ (cs : List Child). IsPlaceOfValues cs c.args.values.now c.in-Err.place) children c.in-Err.ensures.place in (
       search rules,
       (
         some_at (λ (family : Family). IsWanted family c.args.values.now) c.args.self.now.state.families c.args.family.number it now (fit, new),
-        some_at (λ (family : Family). IsPlaceOf family.children c.args.values.now c.in-Err.place) c.args.self.now.state.families c.args.family.number it now place,
+        some_at (λ (family : Family). IsPlaceOfValues family.children c.args.values.now c.in-Err.place) c.args.self.now.state.families c.args.family.number it now place,
       ),
     )
 

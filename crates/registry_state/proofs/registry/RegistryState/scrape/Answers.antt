@@ -1,13 +1,13 @@
 use Rattle.std.proofs.Common.{◌≡◌, ℕ, List, sym, subst, ◌∙◌, arith}
-use Rattle.snapshot_scan.specs.Snapshots.{entry_of}
+use Rattle.snapshot_scan.specs.Snapshots.{as_answer}
 use Rattle.snapshot_scan.specs.Sources.{newest, IsWhole}
 use Rattle.registry_state.specs.Journal.{scrapes}
-use Rattle.register_rule.specs.declared.view.Entry.{Entry as Answer}
+use Rattle.register_rule.specs.declared.view.Answer.{Answer}
 use Rattle.registry_state.specs.Replay.{Family}
 use Rattle.registry_state.specs.Kept.{Registry}
 use Rattle.registry_state.specs.Held.{AreShowable, IsOrder}
 use Rattle.registry_state.specs.Filled.{blanks}
-use Rattle.registry_state.specs.Changed.{Keeps}
+use Rattle.registry_state.specs.Changed.{KeepsScrape}
 use Rattle.registry_state.proofs.Windowed.{is_newest, is_some, held_scrape, keeps_scrape}
 use Rattle.registry_state.proofs.Showing.{showable}
 use Rattle.registry_state.proofs.registry.RegistryState.scrape.Goals as goal
@@ -30,8 +30,8 @@ fill-requires g c =
     let ordered : IsOrder c.deref-3.result.now c.deref-4.result.now =
     subst (λ (l : List Family). IsOrder l c.deref-4.result.now) (sym c.deref-3.ensures.value)
     (subst (λ (o : List ℕ). IsOrder c.self.inside.families.items o) (sym c.deref-4.ensures.value) c.self.invariant.ordered) in
-    let same : scraped.0 ≡ entry_of c.in-Some.newest.now = is_newest c.self.inside.window c.self.inside.journal c.scrape.new.self scraped.0 (entry_of c.in-Some.newest.now) c.self.invariant.kept.room.0 scraped.3 c.in-Some.ensures in
-    let whole : IsWhole g.row.N g.row.C g.row.H g.row.G (entry_of c.in-Some.newest.now) =
+    let same : scraped.0 ≡ as_answer c.in-Some.newest.now = is_newest c.self.inside.window c.self.inside.journal c.scrape.new.self scraped.0 (as_answer c.in-Some.newest.now) c.self.invariant.kept.room.0 scraped.3 c.in-Some.ensures in
+    let whole : IsWhole g.row.N g.row.C g.row.H g.row.G (as_answer c.in-Some.newest.now) =
     subst (λ (a : Answer). IsWhole g.row.N g.row.C g.row.H g.row.G a) same scraped.1.whole in
     (omega arith, (c.in-Ok.ensures.vector, (blank, (shown, (ordered, (c.self.invariant.geometry.slots, whole))))))
 
@@ -51,6 +51,6 @@ returns-clause-kept g c =
       journal = c.scrape.new.self;
       state = record { families = c.self.inside.families.items; last = newest (scrapes c.scrape.new.self) };
     } in
-    subst (λ (old : Registry g.row.S.Denot). Keeps g.row.N g.row.C g.row.H g.row.G g.S.Source.recorded g.S.Source.gave old now) c.self.view_is
+    subst (λ (old : Registry g.row.S.Denot). KeepsScrape g.row.N g.row.C g.row.H g.row.G g.S.Source.recorded g.S.Source.gave old now) c.self.view_is
     (keeps_scrape g.row.N g.row.C g.row.H g.row.G g.S.Source.recorded g.S.Source.gave c.self.inside.id c.self.inside.window c.self.inside.source c.scrape.new.source c.self.inside.journal
     c.scrape.new.self c.self.inside.families.items scraped.0 c.self.invariant.kept.room.0 scraped.1 scraped.2 scraped.3 held.kept.moments)

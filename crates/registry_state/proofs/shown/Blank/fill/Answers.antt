@@ -2,7 +2,7 @@ use Rattle.std.proofs.Common.{rules, ◌≡◌, List, ℕ, ◌++◌, length, tak
 use Rattle.std.proofs.lemmas.List.{take_at}
 use Rattle.expo_text.specs.Scraped.{Family as FamilyShown, Scraped}
 use Rattle.expo_text.specs.Order.{IsScrape}
-use Rattle.snapshot_scan.specs.Snapshots.{entry_of}
+use Rattle.snapshot_scan.specs.Snapshots.{as_answer}
 use Rattle.registry_state.specs.Shown.{IsShown}
 use Rattle.registry_state.proofs.Ordered.{order_below}
 use Rattle.registry_state.proofs.Showing.{is_scrape, is_shown, showable_within}
@@ -36,16 +36,16 @@ new-requires g c =
     (c.copy_from_slice.ensures.len ∙ c.as_mut_slice.ensures.len) (c.copy_from_slice.ensures.after ∙ c.vector.ensures.numbers))
     (written c.fill_families.new.shown c.args.self.families.items _ c.args.self.families.len
     (c.fill_families.auto.shown ∙ c.deref_mut.ensures.len) c.fill_families.ensures)
-    (is_scrape g.row.N g.row.C g.row.H g.row.G c.args.families.now c.args.order.now (entry_of c.args.snapshot.now)
+    (is_scrape g.row.N g.row.C g.row.H g.row.G c.args.families.now c.args.order.now (as_answer c.args.snapshot.now)
     c.requires.slots c.requires.showable c.requires.order c.requires.whole)
 
 pub returns : goal.returns
 returns g c =
-    let P : Scraped → Type 0 = IsShown g.row.C g.row.H c.args.families.now (entry_of c.args.snapshot.now) in
+    let P : Scraped → Type 0 = IsShown g.row.C g.row.H c.args.families.now (as_answer c.args.snapshot.now) in
     subst P (sym c.new.ensures)
     (same P _ _ _ _
     (written c.copy_from_slice.new.self c.args.self.vector.items c.args.snapshot.now.vector c.args.self.vector.len
     (c.copy_from_slice.ensures.len ∙ c.as_mut_slice.ensures.len) (c.copy_from_slice.ensures.after ∙ c.vector.ensures.numbers))
     (written c.fill_families.new.shown c.args.self.families.items _ c.args.self.families.len
     (c.fill_families.auto.shown ∙ c.deref_mut.ensures.len) c.fill_families.ensures)
-    (is_shown g.row.C g.row.H c.args.families.now c.args.order.now (entry_of c.args.snapshot.now) c.requires.order))
+    (is_shown g.row.C g.row.H c.args.families.now c.args.order.now (as_answer c.args.snapshot.now) c.requires.order))

@@ -1,6 +1,6 @@
 use Rattle.std.proofs.Common.{◌<◌, ◌∙◌, ap, sym, subst, arith, rules, length, take}
 use Rattle.std.specs.Prelude.{Some, slice_get}
-use Rattle.snapshot_scan.specs.Snapshots.{Taken, entry_of}
+use Rattle.snapshot_scan.specs.Snapshots.{Taken, as_answer}
 use Rattle.ledger_core.specs.Ops.{width}
 use Rattle.scrape_history.specs.Increases.{raised_by, AreFor}
 use Rattle.scrape_history.specs.History.{Stored, answers_of}
@@ -31,6 +31,6 @@ returns g c =
     let lt : c.args.number < length c.args.self.now.scrapes = c.requires in
     ap (λ (h : Stored). slice_get (answers_of h.scrapes) c.args.number) (sym c.self.view_is)
     ∙ read_held c.self.inside.first c.self.inside.oldest c.self.inside.later.items c.self.inside.increases.items c.args.number (omega (arith, seen, lt))
-    ∙ ap (λ (t : Taken). Some (entry_of t))
+    ∙ ap (λ (t : Taken). Some (as_answer t))
     (sym (c.raise.ensures ∙ ap (λ t. raised_by t (take c.changed_to-changed.result c.self.inside.increases.items)) c.copy_from.ensures
     ∙ ap (λ n. raised_by c.self.inside.oldest (take n c.self.inside.increases.items)) c.changed_to-changed.ensures))

@@ -1,5 +1,5 @@
 use Rattle.std.proofs.Common.{List, ap, sym, subst}
-use Rattle.register_rule.specs.declared.view.Entry.{Entry}
+use Rattle.register_rule.specs.declared.view.Answer.{Answer}
 use Rattle.register_rule.specs.declared.view.Scan.{Scan}
 use Rattle.register_rule.specs.Seats.{members_of}
 use Rattle.snapshot_scan.specs.Moments.{AreMoments}
@@ -17,5 +17,5 @@ invariant_of-self g c =
       ready = t.2;
       lent = t.3;
       seen = t.4;
-      moments = subst (λ (l : List Entry). AreMoments g.row.N g.row.C g.row.H g.row.G l) (sym (ap (λ (x : Scan). x.recorded) more.only)) r.moments;
+      moments = subst (λ (l : List Answer). AreMoments g.row.N g.row.C g.row.H g.row.G l) (sym (ap (λ (x : Scan). x.recorded) more.only)) r.moments;
     }

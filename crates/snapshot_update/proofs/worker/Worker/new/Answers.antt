@@ -2,7 +2,7 @@ use Rattle.std.proofs.Common.{◌≡◌, ℕ, length, sym, ap, subst, arith}
 use Rattle.register_rule.specs.declared.seats.WorkSeat.{WorkSeat}
 use Rattle.register_rule.specs.declared.view.Member.{Member}
 use Rattle.register_rule.specs.Seats.{worker_of, index_of}
-use Rattle.snapshot_update.specs.Fit.{HoldsFor, HasSeenOwn}
+use Rattle.snapshot_update.specs.Fit.{IsFitOfSeat, HasSeenOwn}
 use Rattle.snapshot_update.proofs.FirstFit.{first_fit, first_seen}
 use Rattle.snapshot_update.proofs.Lending.{same_seat}
 use Rattle.snapshot_update.proofs.worker.Worker.new.Goals as goal
@@ -13,7 +13,7 @@ invariant_of-result g c =
     let index : c.worker-index.result ≡ index_of seat = c.worker-index.ensures.index in record {
       geometry = c.requires.geometry;
       inside = let lt = c.requires.inside in omega (arith, lt, index);
-      holds = λ x e. subst (λ (s : WorkSeat). HoldsFor g.row.N g.row.C g.row.H g.row.G c.worker-index.result 0 c.in-Ok.row.value c.in-Ok.memory im.hidden.items im.shown.items im.recent im.late im.own (index_of s) (worker_of s))
+      holds = λ x e. subst (λ (s : WorkSeat). IsFitOfSeat g.row.N g.row.C g.row.H g.row.G c.worker-index.result 0 c.in-Ok.row.value c.in-Ok.memory im.hidden.items im.shown.items im.recent im.late im.own (index_of s) (worker_of s))
           (same_seat seat x e) (
             sym index,
             sym (ap (λ (m : Member). length m.work.made) c.requires.fresh),

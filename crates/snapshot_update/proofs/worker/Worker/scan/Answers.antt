@@ -4,7 +4,7 @@ use Rattle.register_rule.specs.declared.view.Member.{Member}
 use Rattle.register_rule.specs.declared.view.Scan.{Scan}
 use Rattle.register_rule.specs.declared.view.Who.TheVariants.{Worker}
 use Rattle.register_rule.specs.Seats.{worker_of, index_of}
-use Rattle.snapshot_update.specs.Fit.{HoldsFor, IsFit, HasSeenOwn}
+use Rattle.snapshot_update.specs.Fit.{IsFitOfSeat, IsFit, HasSeenOwn}
 use Rattle.snapshot_update.proofs.Lending.{same_seat, told_own}
 use Rattle.snapshot_update.proofs.ScannedFit.{scanned_fit}
 use Rattle.snapshot_update.proofs.worker.Worker.scan.Goals as goal
@@ -21,9 +21,9 @@ invariant_of-self g c =
     record {
       geometry = w.geometry;
       inside = w.inside;
-      holds = λ x e. subst (λ (y : WorkSeat). HoldsFor n cs hs gs w.index w.number row s.memory im.hidden.items im.shown.items im.recent late' false (index_of y) (worker_of y))
+      holds = λ x e. subst (λ (y : WorkSeat). IsFitOfSeat n cs hs gs w.index w.number row s.memory im.hidden.items im.shown.items im.recent late' false (index_of y) (worker_of y))
           (same_seat s.seat x e)
-          (subst (λ (y : Member). HoldsFor n cs hs gs w.index w.number row s.memory im.hidden.items im.shown.items im.recent late' false (index_of s.seat) y) (sym told.others) (
+          (subst (λ (y : Member). IsFitOfSeat n cs hs gs w.index w.number row s.memory im.hidden.items im.shown.items im.recent late' false (index_of s.seat) y) (sym told.others) (
             told.index ∙ old.0,
             old.1,
             subst (λ (i : ℕ). IsFit n cs hs gs i (length m.work.made) row s.memory im.hidden.items im.shown.items im.recent late' false (record m { scan = scan })) (sym told.index) fit,

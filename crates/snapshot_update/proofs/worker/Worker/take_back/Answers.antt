@@ -7,17 +7,17 @@ use Rattle.register_rule.specs.declared.view.Made.{Made}
 use Rattle.register_rule.specs.declared.view.Member.{Member}
 use Rattle.register_rule.specs.Members.{first_of}
 use Rattle.register_rule.specs.Seats.{worker_of, index_of, members_of}
-use Rattle.snapshot_scan.specs.Lent.{Stands}
+use Rattle.snapshot_scan.specs.Lent.{IsWorkerAmong}
 use Rattle.snapshot_scan.specs.Readers.{members_with}
 use Rattle.register_rule.specs.Rule.{AreApart}
 use Rattle.snapshot_scan.specs.Shape.{scan_of}
 use Rattle.snapshot_scan.proofs.Standing.{sees_still}
-use Rattle.snapshot_update.specs.Fit.{HoldsFor, HasSeenOwn}
+use Rattle.snapshot_update.specs.Fit.{IsFitOfSeat, HasSeenOwn}
 use Rattle.snapshot_update.proofs.Lending.{one_picked, same_seat}
 use Rattle.snapshot_update.proofs.worker.Worker.take_back.Goals as goal
 
 -- it stands there still, after the load that changes nothing
-still : (i : ℕ) (m : Member) (ms ms' : List Member) → ms' ≡ ms → Stands i m ms → Stands i m ms'
+still : (i : ℕ) (m : Member) (ms ms' : List Member) → ms' ≡ ms → IsWorkerAmong i m ms → IsWorkerAmong i m ms'
 still i m ms ms' same (p, e, is) = (p, ap (λ (l : List Member). get_elem? l p) same ∙ e, is)
 
 pub release-bundle-requires : goal.release-bundle-requires
@@ -54,9 +54,9 @@ invariant_of-self g c =
     let own = c.tell.ensures.ruled.own stands.0 i m stands.1 stands.2 in record {
       geometry = w.geometry;
       inside = w.inside;
-      holds = λ x e. subst (λ (y : WorkSeat). HoldsFor g.row.N g.row.C g.row.H g.row.G i w.number w.row.value w.memory im.hidden.items im.shown.items im.recent im.late im.own (index_of y) (worker_of y)) (same_seat seat x e)
-          (subst (λ (k : ℕ). HoldsFor g.row.N g.row.C g.row.H g.row.G i w.number w.row.value w.memory im.hidden.items im.shown.items im.recent im.late im.own k (worker_of seat)) (sym c.into_work.ensures.worker)
-          (subst (HoldsFor g.row.N g.row.C g.row.H g.row.G i w.number w.row.value w.memory im.hidden.items im.shown.items im.recent im.late im.own i) (sym is) c.requires.lent.1.fits));
+      holds = λ x e. subst (λ (y : WorkSeat). IsFitOfSeat g.row.N g.row.C g.row.H g.row.G i w.number w.row.value w.memory im.hidden.items im.shown.items im.recent im.late im.own (index_of y) (worker_of y)) (same_seat seat x e)
+          (subst (λ (k : ℕ). IsFitOfSeat g.row.N g.row.C g.row.H g.row.G i w.number w.row.value w.memory im.hidden.items im.shown.items im.recent im.late im.own k (worker_of seat)) (sym c.into_work.ensures.worker)
+          (subst (IsFitOfSeat g.row.N g.row.C g.row.H g.row.G i w.number w.row.value w.memory im.hidden.items im.shown.items im.recent im.late im.own i) (sym is) c.requires.lent.1.fits));
       seen = λ x e. subst (λ (y : WorkSeat). HasSeenOwn i (worker_of y)) (same_seat seat x e)
           (subst (HasSeenOwn i) (sym is) (own.2 ∙ ap (λ (l : List Made). some (length l)) (sym own.1)));
     }

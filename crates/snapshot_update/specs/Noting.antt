@@ -1,0 +1,21 @@
+-- Noting items at which something changes.
+use Rattle.std.specs.Prelude.{◌≡◌, ℕ, ◌+◌, ◌<◌, ◌≤◌, ◌⊎◌, false, List, length, slice_index, Contains}
+use Rattle.snapshot_scan.specs.ChangedItems.{Changed}
+
+-- the words that rise are listed, of a row of w words: all stay all; else the old items are listed, and behind them n more
+-- at most, words of the row, with each word k at which `by k` is not 0
+pub record Touches (n w : ℕ) (by : ℕ → ℕ) (old new : Changed) : Type 0 where
+  pub listed : new.all ≡ false → old.all ≡ false
+  pub keeps : new.all ≡ false → (j : ℕ) → Contains old.items j → Contains new.items j
+  pub rises : new.all ≡ false → (k : ℕ) → ¬ (Contains new.items k) → by k ≡ 0
+  pub inside : (j : ℕ) → Contains new.items j → Contains old.items j ⊎ (j < w)
+  pub longer : length new.items ≤ length old.items + n
+  pub fits : old.all ≡ false → length old.items + n ≤ 256 → new.all ≡ false
+
+-- where two images differ is listed, of their items below n
+pub record SoFar (n : ℕ) (changed : Changed) (old new : List ℕ) : Type 0 where
+  pub differ : changed.all ≡ false → (j : ℕ) → j < n → ¬ (Contains changed.items j) → slice_index old j ≡ slice_index new j
+  pub inside : (j : ℕ) → Contains changed.items j → j < n
+  pub listed : (j : ℕ) → Contains changed.items j → ¬ (slice_index old j ≡ slice_index new j)
+  pub longer : length changed.items ≤ n
+  pub fits : n ≤ 256 → changed.all ≡ false
