@@ -78,7 +78,8 @@ impl Display for Tenths {
 
 /// The amount for each of `parts`, in tenths, of which the nearest is taken. Both count as 10^18 where they are more.
 fn in_tenths(amount: u64, parts: u64) -> Tenths
-    ensures { result.0 ≡ (min amount 1000000000000000000 * 10 + max (min parts 1000000000000000000) 1 / 2) / max (min parts 1000000000000000000) 1 }
+    ensures { result.0 ≡ (min amount 1000000000000000000 * 10 + max (min parts 1000000000000000000) 1 / 2) / max
+        (min parts 1000000000000000000) 1 }
 {
     let parts = parts.min(LONGEST).max(1);
     Tenths((amount.min(LONGEST) * 10 + parts / 2) / parts)

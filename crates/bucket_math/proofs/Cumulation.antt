@@ -1,5 +1,6 @@
 -- Values counted by their places: the buckets added up count the values up to a place.
-use Rattle.std.proofs.Common.{◌≡◌, ℕ, zero, suc, ◌+◌, ◌<◌, ◌≤◌, Bool, true, false, cond, ltb, eqb, List, [], ◌∷◌, length, take, refl, sym, ap, ◌∙◌, arith}
+use Rattle.std.proofs.Common.{◌≡◌, ℕ, zero, suc, ◌+◌, ◌<◌, ◌≤◌, Bool, true, false, cond, ltb, eqb, List, [], ◌∷◌, length, take}
+use Rattle.std.proofs.Common.{refl, sym, ap, ◌∙◌, arith}
 use Rattle.std.specs.Prelude.{◌==◌, nat_lt, nat_le, count_by, sum, slice_index}
 use Rattle.std.proofs.lemmas.Bool.{lt-ltb, le-ltb}
 use Rattle.std.proofs.lemmas.Bool.Decides.{nat_tests}
@@ -66,7 +67,8 @@ module _ (place : ℕ → ℕ) (values buckets : List ℕ) (long : length bucket
   sum-all low =
       ap sum (sym (take_all 25 buckets (omega arith)))
       ∙ sum-take 25 (omega arith)
-      ∙ count_by-all (λ value. nat_lt (place value) 25) values (λ value. let le = low value in lt-ltb (place value) 25 (omega arith))
+      ∙ count_by-all (λ value. nat_lt (place value) 25) values (λ value. let le = low value in
+      lt-ltb (place value) 25 (omega arith))
 
 -- a place below k + 1 is a value that is not above the bound at k
 same_test : (bounds : List ℕ) (k : ℕ) → AreRising bounds → k < length bounds → (value : ℕ)
@@ -79,11 +81,13 @@ same_test bounds k rising within value =
 pub law : (bounds : List ℕ) → AreBounds bounds → CumulationLaw bounds
 law bounds are values buckets counted =
     let few = are.few in
-    let low : (value : ℕ) → place_of bounds value ≤ 24 = λ value. let le = count_by-le-length (λ bound. nat_lt bound value) bounds in omega arith in (
+    let low : (value : ℕ) → place_of bounds value ≤ 24 = λ value. let le = count_by-le-length (λ bound. nat_lt bound value)
+    bounds in omega arith in (
       λ k within.
           rw (lt-ltb k (length bounds) within)
           (sum-take (place_of bounds) values buckets counted.all_buckets counted.counts (k + 1) (omega arith)
-          ∙ count_by-same (λ value. nat_lt (place_of bounds value) (k + 1)) (λ value. nat_le value (slice_index bounds k)) values (same_test bounds k are.rising within)),
+          ∙ count_by-same (λ value. nat_lt (place_of bounds value) (k + 1)) (λ value. nat_le value (slice_index bounds k)) values
+          (same_test bounds k are.rising within)),
       rw (le-ltb (length bounds) (length bounds) (omega arith))
           (sum-all (place_of bounds) values buckets counted.all_buckets counted.counts low),
     )

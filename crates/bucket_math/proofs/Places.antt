@@ -1,5 +1,6 @@
 -- The place of a value among rising bounds.
-use Rattle.std.proofs.Common.{◌≡◌, ℕ, zero, suc, ◌+◌, ◌<◌, ◌≤◌, ◌↔◌, cond, ltb, List, [], ◌∷◌, length, get_or, ◌∙◌, ap, refl, arith, inl, inr}
+use Rattle.std.proofs.Common.{◌≡◌, ℕ, zero, suc, ◌+◌, ◌<◌, ◌≤◌, ◌↔◌, cond, ltb, List, [], ◌∷◌, length, get_or, ◌∙◌, ap, refl}
+use Rattle.std.proofs.Common.{arith, inl, inr}
 use Rattle.std.specs.Prelude.{AllPairs, slice_index}
 use Rattle.std.proofs.lemmas.Bool.{lt-ltb, le-ltb, cases_lt}
 use Rattle.std.proofs.lemmas.List.Sums.{sum_by-cons}
@@ -14,7 +15,8 @@ rising-tail bound bounds rising i j d lt within = rising (suc i) (suc j) d (omeg
 rising-head : (bound : ℕ) (bounds : List ℕ) → AreRising (bound ∷ bounds) → (k : ℕ) → k < length bounds → bound < get_or bounds k 0
 rising-head bound bounds rising k within = rising zero (suc k) 0 (omega arith) (omega arith)
 
-place_of-below : (bound value : ℕ) (bounds : List ℕ) → bound < value → place_of (bound ∷ bounds) value ≡ suc (place_of bounds value)
+place_of-below : (bound value : ℕ) (bounds : List ℕ) → bound < value
+    → place_of (bound ∷ bounds) value ≡ suc (place_of bounds value)
 place_of-below bound value bounds lt =
     sum_by-cons (λ b. cond (ltb b value) 1 0) bound bounds
     ∙ ap (λ t. cond t 1 0 + place_of bounds value) (lt-ltb bound value lt)
@@ -27,14 +29,16 @@ place_of-above bound value bounds le =
     ∙ omega arith
 
 -- no bound is below the value where each is at least as large
-place_of-none : (bounds : List ℕ) (value : ℕ) → ((k : ℕ) → k < length bounds → value ≤ get_or bounds k 0) → place_of bounds value ≡ 0
+place_of-none : (bounds : List ℕ) (value : ℕ) → ((k : ℕ) → k < length bounds → value ≤ get_or bounds k 0)
+    → place_of bounds value ≡ 0
 place_of-none [] value large = refl
 place_of-none (bound ∷ bounds) value large =
     place_of-above bound value bounds (large zero (omega arith))
     ∙ place_of-none bounds value (λ k within. large (suc k) (omega arith))
 
 -- a value is at most a bound where its place is at most the bound's
-pub at_most-bound : (bounds : List ℕ) (value k : ℕ) → AreRising bounds → k < length bounds → place_of bounds value ≤ k → value ≤ get_or bounds k 0
+pub at_most-bound : (bounds : List ℕ) (value k : ℕ) → AreRising bounds → k < length bounds → place_of bounds value ≤ k
+    → value ≤ get_or bounds k 0
 at_most-bound [] value k rising within le = absurd (omega arith)
 at_most-bound (bound ∷ bounds) value zero rising within le =
     elim (cases_lt bound value) [
@@ -49,7 +53,8 @@ at_most-bound (bound ∷ bounds) value (suc k) rising within le =
       | inr above ↦ let head = rising-head bound bounds rising k (omega arith) in omega arith
     ]
 
-pub at_most-place : (bounds : List ℕ) (value k : ℕ) → AreRising bounds → k < length bounds → value ≤ get_or bounds k 0 → place_of bounds value ≤ k
+pub at_most-place : (bounds : List ℕ) (value k : ℕ) → AreRising bounds → k < length bounds → value ≤ get_or bounds k 0
+    → place_of bounds value ≤ k
 at_most-place [] value k rising within le = absurd (omega arith)
 at_most-place (bound ∷ bounds) value zero rising within le =
     let none = place_of-none bounds value (λ k lt. let head = rising-head bound bounds rising k lt in omega arith) in
@@ -62,6 +67,7 @@ at_most-place (bound ∷ bounds) value (suc k) rising within le =
       | inr above ↦ let e = place_of-above bound value bounds above in omega arith
     ]
 
-pub inclusive : (bounds : List ℕ) (value k : ℕ) → AreRising bounds → k < length bounds → (place_of bounds value ≤ k) ↔ (value ≤ slice_index bounds k)
+pub inclusive : (bounds : List ℕ) (value k : ℕ) → AreRising bounds → k < length bounds
+    → (place_of bounds value ≤ k) ↔ (value ≤ slice_index bounds k)
 inclusive bounds value k rising within =
     (at_most-bound bounds value k rising within, at_most-place bounds value k rising within)

@@ -7,13 +7,17 @@ use Rattle.std.proofs.lemmas.List.Elements.{All-more}
 use Rattle.std.proofs.lemmas.List.Quantifiers.{all_pairs_push}
 use Rattle.bucket_math.specs.Bounds.{AreBounds, IsBadBound}
 
-module _ (bounds : List ℕ) (n : ℕ) (within : n < length bounds) (so_far : AreBounds (take n bounds)) (good : IsBadBound bounds n → ⊥) where
+module _ (bounds : List ℕ) (n : ℕ) (within : n < length bounds) (so_far : AreBounds (take n bounds))
+    (good : IsBadBound bounds n → ⊥) where
   small : slice_index bounds n ≤ 281474976710655
   small = elim (cases_lt 281474976710655 (slice_index bounds n)) [ inl over ↦ absurd (good (inr (inl over))) | inr le ↦ le ]
 
   above_last : 0 < n → slice_index bounds (n - 1) < slice_index bounds n
   above_last some =
-      elim (cases_lt (slice_index bounds (n - 1)) (slice_index bounds n)) [ inl lt ↦ lt | inr le ↦ absurd (good (inr (inr (some, le)))) ]
+      elim (cases_lt (slice_index bounds (n - 1)) (slice_index bounds n)) [
+        | inl lt ↦ lt
+        | inr le ↦ absurd (good (inr (inr (some, le))))
+      ]
 
   length-so_far : length (take n bounds) ≡ n
   length-so_far = length-take-le n bounds (omega arith)
@@ -37,6 +41,7 @@ module _ (bounds : List ℕ) (n : ℕ) (within : n < length bounds) (so_far : Ar
       let longer = length-take-le (n + 1) bounds (omega arith) in
       record {
         few = omega arith;
-        rising = rw (take_more bounds n 0 within) (all_pairs_push (λ a b. a < b) (take n bounds) (get_or bounds n 0) so_far.rising above_all);
+        rising = rw (take_more bounds n 0 within)
+            (all_pairs_push (λ a b. a < b) (take n bounds) (get_or bounds n 0) so_far.rising above_all);
         bounded = All-more (λ bound. bound ≤ 281474976710655) bounds n 0 within so_far.bounded small;
       }

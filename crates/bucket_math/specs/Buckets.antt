@@ -1,5 +1,6 @@
 -- Buckets and their cumulated values.
-use Rattle.std.specs.Prelude.{◌≡◌, ℕ, ◌+◌, ◌<◌, ◌==◌, if◌then◌else◌, List, length, take, slice_index, sum, count_by, nat_lt, nat_le}
+use Rattle.std.specs.Prelude.{◌≡◌, ℕ, ◌+◌, ◌<◌, ◌==◌, if◌then◌else◌, List, length, take, slice_index, sum, count_by, nat_lt}
+use Rattle.std.specs.Prelude.{nat_le}
 use Rattle.bucket_math.specs.Bounds.{place_of}
 
 -- the cumulated value at a place: the sum of the buckets up to it, and from the place `len` on the sum of all

@@ -6,7 +6,8 @@ use Rattle.snapshot_scan.proofs.Publishing.{along_later}
 use Rattle.snapshot_update.specs.declared.worker.Worker.{Worker}
 use Rattle.chain_law.specs.Settled.{AreMomentsOf}
 
-pub moments_of_later : {N C H G : ℕ} (ws : List (Worker N C H G)) (older l : List Answer) → AreMomentsOf ws (older ++ l) → AreMomentsOf ws l
+pub moments_of_later : {N C H G : ℕ} (ws : List (Worker N C H G)) (older l : List Answer) → AreMomentsOf ws (older ++ l)
+    → AreMomentsOf ws l
 moments_of_later {N} {C} {H} {G} ws older l moments = ∥∥₁_map moments (λ was. record {
   history = was.history;
   accepted = was.accepted;

@@ -22,26 +22,33 @@ length_met [] (w ∷ ws) f = let e = length_met [] ws f in omega (arith, e)
 length_met (m ∷ ms) ws f = let e = length_met ms ws f in omega (arith, e)
 
 module _ {N C H G : ℕ} (vs ws : List (Worker N C H G)) (k place : ℕ) (x y : Worker N C H G) (r r' : Reader N C H G)
-    (here : get_elem? vs k ≡ some x) (full : length (members_with r) ≡ place + k) (joins : members_with r' ≡ met (members_with r ++ member_of x ∷ []))
-    (index : index_of y ≡ index_of x) (lent : IsLentAs (raised (greatest (members_with r ++ member_of x ∷ [])) (member_of x)) y r') where
+    (here : get_elem? vs k ≡ some x) (full : length (members_with r) ≡ place + k)
+    (joins : members_with r' ≡ met (members_with r ++ member_of x ∷ []))
+    (index : index_of y ≡ index_of x)
+    (lent : IsLentAs (raised (greatest (members_with r ++ member_of x ∷ [])) (member_of x)) y r') where
   pub long_more : length (members_with r') ≡ place + (k + 1)
-  long_more = let e = length_met (members_with r) (member_of x ∷ []) (raised (greatest (members_with r ++ member_of x ∷ []))) in let d = ap (λ (l : List Member). length l) joins in omega (arith, e, d, full)
+  long_more = let e = length_met (members_with r) (member_of x ∷ []) (raised (greatest (members_with r ++ member_of x ∷ []))) in
+      let d = ap (λ (l : List Member). length l) joins in omega (arith, e, d, full)
 
   pub lent_more : AreLentFrom place k vs ws r → AreLentFrom place (k + 1) vs (set ws k y) r'
   lent_more done p v w below its now = ⊎_elim
       (λ h. let same : x ≡ v = some-injective x v (sym here ∙ (ap (get_elem? vs) (sym h.0) ∙ its)) in
       let at : length (members_with r) ≡ place + p = full ∙ ap (λ (q : ℕ). place + q) (sym h.0) in
-      subst (λ (u : Worker N C H G). IsLentFrom (place + p) v u r') h.1 (subst (λ (u : Worker N C H G). IsLentFrom (place + p) u y r') same (record {
+      subst (λ (u : Worker N C H G). IsLentFrom (place + p) v u r') h.1
+      (subst (λ (u : Worker N C H G). IsLentFrom (place + p) u y r') same (record {
         index = index;
         member = raised (greatest (members_with r ++ member_of x ∷ [])) (member_of x);
-        at = ap (λ (l : List Member). get_elem? l (place + p)) joins ∙ (ap (get_elem? (met (members_with r ++ member_of x ∷ []))) (sym at) ∙ last_mapped (raised (greatest (members_with r ++ member_of x ∷ []))) (members_with r) (member_of x));
+        at = ap (λ (l : List Member). get_elem? l (place + p)) joins
+            ∙ (ap (get_elem? (met (members_with r ++ member_of x ∷ []))) (sym at)
+            ∙ last_mapped (raised (greatest (members_with r ++ member_of x ∷ []))) (members_with r) (member_of x));
         made = refl;
         lent = lent;
       })))
       (λ h. let d = done p v w (let n = h.0 in omega (arith, below, n)) its h.1 in record {
         index = d.index;
         member = raised (greatest (members_with r ++ member_of x ∷ [])) d.member;
-        at = ap (λ (l : List Member). get_elem? l (place + p)) joins ∙ met_at (members_with r) (member_of x ∷ []) (place + p) d.member d.at;
+        at = ap (λ (l : List Member). get_elem? l (place + p)) joins ∙ met_at (members_with r) (member_of x ∷ [])
+            (place + p) d.member d.at;
         made = d.made;
         lent = lent_met w r r' d.member d.lent (member_of x ∷ []) joins;
       })
@@ -49,4 +56,7 @@ module _ {N C H G : ℕ} (vs ws : List (Worker N C H G)) (k place : ℕ) (x y : 
 
 -- what has seen more than what has seen more
 pub seen_then : (a b c : Scan) → HasSeenMore a b → HasSeenMore b c → HasSeenMore a c
-seen_then a b c f g = record { only = g.only ∙ ap (λ (x : Scan). record x { seen = c.seen }) f.only; more = sees_then a.seen b.seen c.seen f.more g.more }
+seen_then a b c f g = record {
+  only = g.only ∙ ap (λ (x : Scan). record x { seen = c.seen }) f.only;
+  more = sees_then a.seen b.seen c.seen f.more g.more;
+}

@@ -11,7 +11,8 @@ use Rattle.snapshot_scan.specs.Snapshots.{Taken, as_answer}
 module _ {N C H G : ℕ} (r r' : Reader N C H G) where
   pub recorded_on : (more : List Answer) → (scan_by r').recorded ≡ (scan_by r).recorded ++ more → (l : List Taken)
       → All (λ s. HasRecorded r (as_answer s)) l → All (λ s. HasRecorded r' (as_answer s)) l
-  recorded_on more grew l all k d lt = let t = all k d lt in (t.0, ap (λ (es : List Answer). get_elem? es t.0) grew ∙ front_at (scan_by r).recorded more t.0 _ t.1)
+  recorded_on more grew l all k d lt = let t = all k d lt in
+      (t.0, ap (λ (es : List Answer). get_elem? es t.0) grew ∙ front_at (scan_by r).recorded more t.0 _ t.1)
 
   pub recorded_still : (scan_by r').recorded ≡ (scan_by r).recorded → (l : List Taken)
       → All (λ s. HasRecorded r (as_answer s)) l → All (λ s. HasRecorded r' (as_answer s)) l

@@ -23,21 +23,30 @@ module _ {N C H G : ℕ} (vs ws : List (Worker N C H G)) (k : ℕ) (x y : Worker
     (others : (p : ℕ) → k ≤ p → get_elem? ws p ≡ get_elem? vs p)
     (left : members_with r' ≡ without (is_worker (index_of x)) (members_with r)) where
   -- those behind it are lent still
-  pub lent_still : ((p : ℕ) (w : Worker N C H G) → k ≤ p → get_elem? ws p ≡ some w → (m : Member) × IsLentAs m w r × IsWorkerAmong (index_of w) m (members_with first))
-      → (p : ℕ) (w : Worker N C H G) → k + 1 ≤ p → get_elem? (set ws k y) p ≡ some w → (m : Member) × IsLentAs m w r' × IsWorkerAmong (index_of w) m (members_with first)
+  pub lent_still : ((p : ℕ) (w : Worker N C H G) → k ≤ p → get_elem? ws p ≡ some w → (m : Member) × IsLentAs m w r
+      × IsWorkerAmong (index_of w) m (members_with first))
+      → (p : ℕ) (w : Worker N C H G) → k + 1 ≤ p → get_elem? (set ws k y) p ≡ some w → (m : Member) × IsLentAs m w r'
+      × IsWorkerAmong (index_of w) m (members_with first)
   lent_still lent p w le now = ⊎_elim (λ h. absurd (let e = h.0 in omega (arith, le, e)))
-      (λ h. let t = lent p w (omega (arith, le)) h.1 in
-      (t.0, lent_left w r r' t.0 t.1 (index_of x) (λ e. distinct k p x w (omega (arith, le)) here (sym (others p (omega (arith, le))) ∙ h.1) (sym e)) left, t.2))
+      (λ h. let t = lent p w (omega (arith, le)) h.1 in (
+        t.0,
+        lent_left w r r' t.0 t.1 (index_of x)
+            (λ e. distinct k p x w (omega (arith, le)) here (sym (others p (omega (arith, le))) ∙ h.1) (sym e)) left,
+        t.2,
+      ))
       (from_set ws k p y w now)
 
-  pub back_more : IsWorkerAmong (index_of x) (member_of y) (members_with first) → AreBackFrom k vs ws first → AreBackFrom (k + 1) vs (set ws k y) first
+  pub back_more : IsWorkerAmong (index_of x) (member_of y) (members_with first) → AreBackFrom k vs ws first
+      → AreBackFrom (k + 1) vs (set ws k y) first
   back_more stood done p v w below its now = ⊎_elim
       (λ h. let same : x ≡ v = some-injective x v (sym here ∙ (ap (get_elem? vs) (sym h.0) ∙ its)) in
-      subst (λ (u : Worker N C H G). IsBackFrom v u first) h.1 (subst (λ (u : Worker N C H G). IsBackFrom u y first) same (record { index = index; stood = stood })))
+      subst (λ (u : Worker N C H G). IsBackFrom v u first) h.1
+      (subst (λ (u : Worker N C H G). IsBackFrom u y first) same (record { index = index; stood = stood })))
       (λ h. done p v w (let n = h.0 in omega (arith, below, n)) its h.1)
       (from_set ws k p y w now)
 
-module _ {N C H G : ℕ} (vs : List (Worker N C H G)) (k : ℕ) (x : Worker N C H G) (first r r' : Reader N C H G) (here : get_elem? vs k ≡ some x)
+module _ {N C H G : ℕ} (vs : List (Worker N C H G)) (k : ℕ) (x : Worker N C H G) (first r r' : Reader N C H G)
+    (here : get_elem? vs k ≡ some x)
     (left : members_with r' ≡ without (is_worker (index_of x)) (members_with r)) where
   -- and one more has left
   pub left_more : HaveLeft k vs first r → HaveLeft (k + 1) vs first r'

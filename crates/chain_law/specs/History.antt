@@ -43,7 +43,8 @@ pub record IsHistory (n : ℕ) (vectors : List (List ℕ)) (turns : List Turn) :
   -- nothing stands behind the last one
   pub whole : (j : ℕ) → suc j ≡ length vectors → get_elem? ends j ≡ some (length turns)
   pub none : vectors ≡ [] → turns ≡ []
-  pub numbers : (j e i x : ℕ) (v : List ℕ) → get_elem? vectors j ≡ some v → get_elem? ends j ≡ some e → get_elem? v i ≡ some x → by_of i (take e turns) ≡ x
+  pub numbers : (j e i x : ℕ) (v : List ℕ) → get_elem? vectors j ≡ some v → get_elem? ends j ≡ some e → get_elem? v i ≡ some x
+      → by_of i (take e turns) ≡ x
   pub wide : (j : ℕ) (v : List ℕ) → get_elem? vectors j ≡ some v → length v ≡ n
   pub turn : (p : ℕ) (t : Turn) → get_elem? turns p ≡ some t → (t.worker < n) × (0 < t.by)
   -- between two ends workers rise: each has one turn at most
@@ -56,7 +57,8 @@ Falls u v = (i x y : ℕ) × (get_elem? u i ≡ some x) × (get_elem? v i ≡ so
 
 -- of the first k vectors none is below the one before it at any place
 abbrev pub AreRising : (k : ℕ) → List (List ℕ) → Type 0
-AreRising k vectors = (j : ℕ) (u v : List ℕ) → suc j < k → get_elem? vectors j ≡ some u → get_elem? vectors (suc j) ≡ some v → Below u v
+AreRising k vectors = (j : ℕ) (u v : List ℕ) → suc j < k → get_elem? vectors j ≡ some u → get_elem? vectors (suc j) ≡ some v
+    → Below u v
 
 -- vector b is the first that is below the one before it at some place, which is a
 pub record IsFirstFall (vectors : List (List ℕ)) (a b : ℕ) : Type 0 where

@@ -21,11 +21,13 @@ module _ {N C H G : ℕ} where
 
   -- the first k of them are lent, one behind the other, from this place on
   abbrev pub AreLentFrom : (place k : ℕ) (vs ws : List (Worker N C H G)) → Reader N C H G → Type 0
-  AreLentFrom place k vs ws r = (p : ℕ) (v w : Worker N C H G) → p < k → get_elem? vs p ≡ some v → get_elem? ws p ≡ some w → IsLentFrom (place + p) v w r
+  AreLentFrom place k vs ws r = (p : ℕ) (v w : Worker N C H G) → p < k → get_elem? vs p ≡ some v → get_elem? ws p ≡ some w
+      → IsLentFrom (place + p) v w r
 
   -- no two of them are the same worker
   abbrev pub AreDistinct : List (Worker N C H G) → Type 0
-  AreDistinct ws = (p q : ℕ) (v w : Worker N C H G) → p < q → get_elem? ws p ≡ some v → get_elem? ws q ≡ some w → index_of v ≢ index_of w
+  AreDistinct ws = (p q : ℕ) (v w : Worker N C H G) → p < q → get_elem? ws p ≡ some v → get_elem? ws q ≡ some w
+      → index_of v ≢ index_of w
 
   -- those from place k on are lent to the reader
   abbrev pub AreLent : (k : ℕ) → List (Worker N C H G) → Reader N C H G → Type 0
@@ -43,4 +45,5 @@ module _ {N C H G : ℕ} where
 
   -- the first k of them are back
   abbrev pub AreBackFrom : (k : ℕ) (vs ws : List (Worker N C H G)) → Reader N C H G → Type 0
-  AreBackFrom k vs ws r = (p : ℕ) (v w : Worker N C H G) → p < k → get_elem? vs p ≡ some v → get_elem? ws p ≡ some w → IsBackFrom v w r
+  AreBackFrom k vs ws r = (p : ℕ) (v w : Worker N C H G) → p < k → get_elem? vs p ≡ some v → get_elem? ws p ≡ some w
+      → IsBackFrom v w r

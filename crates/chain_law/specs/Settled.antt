@@ -18,7 +18,8 @@ module _ {N C H G : ℕ} where
 
   -- the vector is how often each of them has published, and each total is exactly the sum of all that they published
   pub record IsSettled (ws : List (Worker N C H G)) (out : Taken) : Type 0 where
-    pub vector : (p : ℕ) (w : Worker N C H G) → get_elem? ws p ≡ some w → get_elem? out.vector (index_of w) ≡ some (length (lists_of w))
+    pub vector : (p : ℕ) (w : Worker N C H G) → get_elem? ws p ≡ some w
+        → get_elem? out.vector (index_of w) ≡ some (length (lists_of w))
     pub totals : (k : ℕ) → k < width C H G → get_elem? out.totals k ≡ some (sum_ops C H (made_all ws) k)
 
   -- worker i is the least of N that is none of them

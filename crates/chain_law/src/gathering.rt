@@ -21,7 +21,8 @@ fn present<const N: usize, const C: usize, const H: usize, const G: usize>(
 )
     requires all { length marks.old ≡ N }
     requires none { (i : ℕ) → i < N → get_elem? marks.old i ≡ some false }
-    ensures marks { (i : ℕ) → i < N → (get_elem? marks.new i ≡ some true → HasIndex workers.now i) × (get_elem? marks.new i ≡ some false → ¬ (HasIndex workers.now i)) }
+    ensures marks { (i : ℕ) → i < N → (get_elem? marks.new i ≡ some true → HasIndex workers.now i)
+        × (get_elem? marks.new i ≡ some false → ¬ (HasIndex workers.now i)) }
 {
     for k in 0..workers.len() {
         marks[workers[k].index()] = true;

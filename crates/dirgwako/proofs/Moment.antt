@@ -15,8 +15,10 @@ use Rattle.dirgwako.specs.Printing.{IsText}
 use Rattle.scrape_server.proofs.Askings.{at_end}
 
 -- the text of what a registry has just kept
-module _ {N C H G : ℕ} (quit : Scanner N C H G → ℕ) (gave : Scanner N C H G → Scanner N C H G → Answer → Type 0) (gave_up : Scanner N C H G → Scanner N C H G → Contended → Type 0) where
-  pub last_text_of : (old new : Registry (Scanner N C H G)) (scrape : Scraped) (bytes : List ℕ) → ShowsScrape N C H G recorded_in quit gave gave_up old new scrape
+module _ {N C H G : ℕ} (quit : Scanner N C H G → ℕ) (gave : Scanner N C H G → Scanner N C H G → Answer → Type 0)
+    (gave_up : Scanner N C H G → Scanner N C H G → Contended → Type 0) where
+  pub last_text_of : (old new : Registry (Scanner N C H G)) (scrape : Scraped) (bytes : List ℕ)
+      → ShowsScrape N C H G recorded_in quit gave gave_up old new scrape
       → IsKept N C H G (recorded_in new.source) new.journal new.window new.state → bytes ≡ text scrape → IsLastText bytes new
   last_text_of old new scrape bytes shows kept is = record {
     kept = kept;
@@ -28,7 +30,9 @@ module _ {N C H G : ℕ} (quit : Scanner N C H G → ℕ) (gave : Scanner N C H 
   }
 
   -- and what was asked again
-  pub last_text_seen : (old new : Registry (Scanner N C H G)) (bytes : List ℕ) → IsText (Scrapes N C H G recorded_in quit gave gave_up) old new bytes
+  pub last_text_seen : (old new : Registry (Scanner N C H G)) (bytes : List ℕ)
+      → IsText (Scrapes N C H G recorded_in quit gave gave_up) old new bytes
       → IsKept N C H G (recorded_in new.source) new.journal new.window new.state → IsLastText bytes new
   last_text_seen old new bytes (scrape, asked, is) kept =
-      let last = at_end (Scrapes N C H G recorded_in quit gave gave_up) 3 old new (Ok scrape) asked in last_text_of last.0 new scrape bytes last.1 kept is
+      let last = at_end (Scrapes N C H G recorded_in quit gave gave_up) 3 old new (Ok scrape) asked in
+      last_text_of last.0 new scrape bytes last.1 kept is

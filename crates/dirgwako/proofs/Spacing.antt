@@ -1,9 +1,11 @@
 -- Bounds by rule, one after the other.
-use Rattle.std.proofs.Common.{◌≡◌, ℕ, zero, suc, ◌+◌, ◌-◌, ◌*◌, ◌^◌, ◌<◌, ◌≤◌, ◌⊎◌, ⊎_elim, inl, inr, List, [], ◌∷◌, ◌++◌, take, length, sym, ap, ◌∙◌, subst, refl, arith}
+use Rattle.std.proofs.Common.{◌≡◌, ℕ, zero, suc, ◌+◌, ◌-◌, ◌*◌, ◌^◌, ◌<◌, ◌≤◌, ◌⊎◌, ⊎_elim, inl, inr, List, [], ◌∷◌, ◌++◌, take}
+use Rattle.std.proofs.Common.{length, sym, ap, ◌∙◌, subst, refl, arith}
 use Rattle.std.specs.Prelude.{slice_index, slice_set}
 use Rattle.std.proofs.Math.Nat.{pow-suc}
 use Rattle.std.proofs.lemmas.List.{length-take-le, get_or-take, take_more_set}
-use Rattle.std.proofs.lemmas.List.FromFn.{map-range_with_len_more, get_or-map-range_with_len, take-map-range_with_len, length-map-range_with_len}
+use Rattle.std.proofs.lemmas.List.FromFn.{map-range_with_len_more, get_or-map-range_with_len, take-map-range_with_len}
+use Rattle.std.proofs.lemmas.List.FromFn.{length-map-range_with_len}
 use Rattle.bucket_math.specs.Bounds.{AreBounds, FirstBadBound, IsBadBound}
 use Rattle.dirgwako.specs.declared.bounds.Growth.{Growth}
 use Rattle.dirgwako.specs.declared.bounds.Growth.TheVariants.{Add, Multiply}
@@ -22,7 +24,9 @@ pub more_made : (f : ℕ → ℕ) (places : List ℕ) (at bound : ℕ) → at < 
     → take (at + 1) (slice_set places at bound) ≡ bounds_by f (at + 1)
 more_made f places at bound lt made is =
     let low : 0 + at ≡ at = omega arith in
-    take_more_set places at bound lt ∙ (ap (λ (z : List ℕ). z ++ bound ∷ []) made ∙ (ap (λ (n : ℕ). bounds_by f at ++ n ∷ []) is ∙ sym (map-range_with_len_more f 0 at at low)))
+    take_more_set places at bound lt
+    ∙ (ap (λ (z : List ℕ). z ++ bound ∷ []) made
+    ∙ (ap (λ (n : ℕ). bounds_by f at ++ n ∷ []) is ∙ sym (map-range_with_len_more f 0 at at low)))
 
 -- the bound of a place
 pub bound_there : (f : ℕ → ℕ) (count at : ℕ) → at < count → slice_index (bounds_by f count) at ≡ f at
@@ -42,7 +46,8 @@ bad_too at k ys lt h =
     let here = there_too at k ys lt in
     let low : k - 1 < at = omega (arith, lt) in
     let before = there_too at (k - 1) ys low in
-    ⊎_elim (λ e. inl e) (λ rest. ⊎_elim (λ great. inr (inl (omega (arith, great, here)))) (λ falls. let a = falls.0 in let b = falls.1 in inr (inr (a, omega (arith, b, here, before)))) rest) h
+    ⊎_elim (λ e. inl e) (λ rest. ⊎_elim (λ great. inr (inl (omega (arith, great, here)))) (λ falls. let a = falls.0 in
+    let b = falls.1 in inr (inr (a, omega (arith, b, here, before)))) rest) h
 
 front_bad : (at k : ℕ) (ys : List ℕ) → at < length ys → FirstBadBound (take at ys) k → FirstBadBound ys k
 front_bad at k ys lt h =
@@ -56,7 +61,8 @@ front_bad at k ys lt h =
     }
 
 -- the first bad one, of a good front or of a bad one, behind which a bad bound stands
-pub stopped : (at k : ℕ) (xs ys : List ℕ) → xs ≡ take at ys → at < length ys → IsBadBound ys at → FirstBadBound xs k ⊎ (AreBounds xs × (k ≡ length xs)) → FirstBadBound ys k
+pub stopped : (at k : ℕ) (xs ys : List ℕ) → xs ≡ take at ys → at < length ys → IsBadBound ys at → FirstBadBound xs k
+    ⊎ (AreBounds xs × (k ≡ length xs)) → FirstBadBound ys k
 stopped at k xs ys is lt bad h =
     let long = ap (length {A = ℕ}) is ∙ length-take-le at ys (omega (arith, lt)) in
     ⊎_elim

@@ -14,7 +14,8 @@ use Rattle.registry_state.specs.declared.handle.Handle.{Handle}
 module _ {S : Type 0} (n c h g : ℕ) (old new : Registry S) (desc : Descriptor) where
   -- a registration: a family behind all that were there, of this descriptor; or nothing
   abbrev pub RegistersAlone : Result FamilyId RegisterFault → Type 0
-  RegistersAlone (Ok family) = (family.number ≡ length old.state.families) × IsAcceptedChange n c h g old.state.families (Registered desc) × (new ≡ changed (Registered desc) old)
+  RegistersAlone (Ok family) = (family.number ≡ length old.state.families) × IsAcceptedChange n c h g old.state.families
+      (Registered desc) × (new ≡ changed (Registered desc) old)
   RegistersAlone (Err fault) = IsRegisterFault old.state.families desc fault × (new ≡ old)
 
 module _ {S : Type 0} (c h g : ℕ) (old new : Registry S) (family : FamilyId) (values : List (List ℕ)) where

@@ -32,9 +32,11 @@ module _ {S : Type 0} (answered : S → S → Option Served → Type 0) where
   abbrev pub AreAnswered : (connections replies : ℕ) → (before after : S) → Type 0
   AreAnswered zero replies before after = (replies ≡ 0) × (after ≡ before)
   AreAnswered (suc more) replies before after = (mid : S)
-      × (((served : Served) × (fewer : ℕ) × (replies ≡ suc fewer) × AreAnswered more fewer before mid × answered mid after (Some served))
+      × (((served : Served) × (fewer : ℕ) × (replies ≡ suc fewer) × AreAnswered more fewer before mid
+      × answered mid after (Some served))
       ⊎ (AreAnswered more replies before mid × answered mid after None))
 
   -- so many connections were met, and then the next one was refused
   abbrev pub IsBroken : (failed : S → S → Type 0) → (connections : ℕ) → (before after : S) → Type 0
-  IsBroken failed connections before after = (replies : ℕ) × (mid : S) × AreAnswered connections replies before mid × failed mid after
+  IsBroken failed connections before after = (replies : ℕ) × (mid : S) × AreAnswered connections replies before mid
+      × failed mid after

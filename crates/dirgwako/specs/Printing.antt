@@ -28,4 +28,5 @@ module _ {S : Type 0} (gave : S → S → Result Scraped NoScrape → Type 0) (b
   -- the source has no scrape, or there is no memory for the text of the one that it gave
   abbrev pub IsTextFault : TextFault → Type 0
   IsTextFault Contended = AsksAgain gave 3 before after (Err none.Contended)
-  IsTextFault NoMemory = AsksAgain gave 3 before after (Err none.NoMemory) ⊎ ((scrape : Scraped) × AsksAgain gave 3 before after (Ok scrape))
+  IsTextFault NoMemory = AsksAgain gave 3 before after (Err none.NoMemory)
+      ⊎ ((scrape : Scraped) × AsksAgain gave 3 before after (Ok scrape))

@@ -35,7 +35,8 @@ module _ {N C H G : ℕ} where
   abbrev pub IsOn : Board N C H G → Recorder N C H G → Type 0
   IsOn b r = r.board.now ≡ b
 
-  -- one version was published, which adds all these changes; they are by handles of its board, the row accepts them, and the worker's
+  -- one version was published, which adds all these changes; they are by handles of its board, the row accepts them, and the
+  -- worker's
   -- number was not the greatest that there is
   pub record ArePublished (changes : List Change) (r r' : Recorder N C H G) : Type 0 where
     pub of_it : All (IsOf (id_in r)) changes
@@ -47,9 +48,11 @@ module _ {N C H G : ℕ} where
   -- why nothing was published: some change is not by a handle of its board, or else as for a list of operations
   abbrev pub IsPublishFault : List Change → Recorder N C H G → CountFault → Type 0
   IsPublishFault changes r WrongRegistry = ¬ (All (IsOf (id_in r)) changes)
-  IsPublishFault changes r (Apply fault) = All (IsOf (id_in r)) changes × IsApplyFault C H G (member_of r.worker) (map op_in changes) fault
+  IsPublishFault changes r (Apply fault) = All (IsOf (id_in r)) changes
+      × IsApplyFault C H G (member_of r.worker) (map op_in changes) fault
 
-  -- one version was published, which adds all that a tally had; it is of the registry of its board, the row accepts it, and each list
+  -- one version was published, which adds all that a tally had; it is of the registry of its board, the row accepts it, and each
+  -- list
   -- that it adds up to, and the worker's number was not the greatest that there is
   pub record IsFlushed (t : Tallied) (r r' : Recorder N C H G) : Type 0 where
     pub of_it : t.registry ≡ id_in r
@@ -69,4 +72,5 @@ module _ {N C H G : ℕ} where
   -- why a tally was not published: it is not of the registry of the board, or else as for a list of operations, but never 11
   abbrev pub IsFlushFault : Tallied → Recorder N C H G → CountFault → Type 0
   IsFlushFault t r WrongRegistry = t.registry ≢ id_in r
-  IsFlushFault t r (Apply fault) = (t.registry ≡ id_in r) × IsApplyFault C H G (member_of r.worker) t.ops fault × IsRefusedAlike t r fault
+  IsFlushFault t r (Apply fault) = (t.registry ≡ id_in r) × IsApplyFault C H G (member_of r.worker) t.ops fault
+      × IsRefusedAlike t r fault

@@ -24,7 +24,13 @@ use Rattle.dirgwako.specs.declared.fault.MetricRefusal.TheVariants as metric
 
 -- the family that these texts say
 abbrev pub family_of : Kind → (name help : List ℕ) → (labels : List (Bor (List ℕ))) → (bounds : List ℕ) → Descriptor
-family_of kind name help labels bounds = record { name = name; help = help; labels = texts_of labels; kind = kind; bounds = bounds }
+family_of kind name help labels bounds = record {
+  name = name;
+  help = help;
+  labels = texts_of labels;
+  kind = kind;
+  bounds = bounds;
+}
 
 -- its name, its help and its labels' names are such
 pub record AreGood (desc : Descriptor) : Type 0 where
@@ -38,16 +44,19 @@ IsUnread desc (family.Name fault) = IsMetricNameFault desc.name fault
 IsUnread desc (family.Help fault) = IsMetricName desc.name × IsHelpTextFault desc.help fault
 IsUnread desc (family.Label at fault) = IsMetricName desc.name × IsHelpText desc.help × IsBadLabel desc.labels at fault
 IsUnread desc (family.Labels fault) = AreGood desc × (desc.kind ≢ Kinds.Histogram) × IsLabelsFault desc.labels fault
-IsUnread desc (family.Histogram fault) = AreGood desc × (desc.kind ≡ Kinds.Histogram) × IsHistogramFault desc.labels desc.bounds fault
+IsUnread desc (family.Histogram fault) = AreGood desc × (desc.kind ≡ Kinds.Histogram)
+    × IsHistogramFault desc.labels desc.bounds fault
 IsUnread desc (family.Register fault) = ⊥
 
-module _ {S : Type 0} (registered : S → S → Descriptor → Result FamilyId RegisterFault → Type 0) (old new : S) (desc : Descriptor) where
-  -- What is done and answered where a family is asked for: it is registered once, by a descriptor of just these texts; or the texts are
-  -- none, and nothing is done.
-  abbrev pub AsksFamily : Result FamilyId FamilyRefusal → Type 0
-  AsksFamily (Ok id) = AreGood desc × registered old new desc (Ok id)
-  AsksFamily (Err (family.Register fault)) = AreGood desc × registered old new desc (Err fault)
-  AsksFamily (Err fault) = IsUnread desc fault × (new ≡ old)
+module _ {S : Type 0} (registered : S → S → Descriptor → Result FamilyId RegisterFault → Type 0) (old new : S) (desc : Descriptor)
+  where
+    -- What is done and answered where a family is asked for: it is registered once, by a descriptor of just these texts; or the
+    -- texts are
+    -- none, and nothing is done.
+    abbrev pub AsksFamily : Result FamilyId FamilyRefusal → Type 0
+    AsksFamily (Ok id) = AreGood desc × registered old new desc (Ok id)
+    AsksFamily (Err (family.Register fault)) = AreGood desc × registered old new desc (Err fault)
+    AsksFamily (Err fault) = IsUnread desc fault × (new ≡ old)
 
 -- another kind's handle
 abbrev pub IsOther : Kind → Handle → Type 0
@@ -56,8 +65,10 @@ IsOther Kinds.Histogram (Handle.Histogram _) = ⊥
 IsOther Kinds.Gauge (Handle.Gauge _) = ⊥
 IsOther kind handle = Unit {0}
 
-module _ {S : Type 0} (id_in : S → ℕ) (gave : S → S → FamilyId → List (List ℕ) → Result Handle ChildFault → Type 0) (old new : S) (registry : ℕ) (id : FamilyId) (values : List (List ℕ)) where
-  -- What is done and answered where a child is asked for: it is asked for once, with just these values; or the family is of a registry
+module _ {S : Type 0} (id_in : S → ℕ) (gave : S → S → FamilyId → List (List ℕ) → Result Handle ChildFault → Type 0) (old new : S)
+    (registry : ℕ) (id : FamilyId) (values : List (List ℕ)) where
+  -- What is done and answered where a child is asked for: it is asked for once, with just these values; or the family is of a
+  -- registry
   -- of another id, or else some value is none, and nothing is done.
   abbrev pub AsksHandle : Result Handle ChildRefusal → Type 0
   AsksHandle (Ok handle) = (registry ≡ id_in old) × All IsLabelValue values × gave old new id values (Ok handle)
@@ -68,13 +79,18 @@ module _ {S : Type 0} (id_in : S → ℕ) (gave : S → S → FamilyId → List 
 
   -- the same, of a child of a family of this kind
   abbrev pub AsksChild : Kind → Result Handle ChildRefusal → Type 0
-  AsksChild kind (Err child.OtherKind) = (registry ≡ id_in old) × All IsLabelValue values × ((handle : Handle) × gave old new id values (Ok handle) × IsOther kind handle)
+  AsksChild kind (Err child.OtherKind) = (registry ≡ id_in old) × All IsLabelValue values
+      × ((handle : Handle) × gave old new id values (Ok handle) × IsOther kind handle)
   AsksChild kind answer = AsksHandle answer
 
-module _ {S : Type 0} (id_in : S → ℕ) (registered : S → S → Descriptor → Result FamilyId RegisterFault → Type 0) (gave : S → S → FamilyId → List (List ℕ) → Result Handle ChildFault → Type 0) (old new : S) (desc : Descriptor) where
-  -- What is done and answered where a metric without labels is asked for: its family is registered, and then its one child is asked for.
+module _ {S : Type 0} (id_in : S → ℕ) (registered : S → S → Descriptor → Result FamilyId RegisterFault → Type 0)
+    (gave : S → S → FamilyId → List (List ℕ) → Result Handle ChildFault → Type 0) (old new : S) (desc : Descriptor) where
+  -- What is done and answered where a metric without labels is asked for: its family is registered, and then its one child is
+  -- asked for.
   -- Where that is refused, the family stands, and is told.
   abbrev pub AsksMetric : Result Handle MetricRefusal → Type 0
-  AsksMetric (Ok handle) = (mid : S) × (id : FamilyId) × AsksFamily registered old mid desc (Ok id) × AsksChild id_in gave mid new (id_in mid) id [] desc.kind (Ok handle)
+  AsksMetric (Ok handle) = (mid : S) × (id : FamilyId) × AsksFamily registered old mid desc (Ok id)
+      × AsksChild id_in gave mid new (id_in mid) id [] desc.kind (Ok handle)
   AsksMetric (Err (metric.Family fault)) = AsksFamily registered old new desc (Err fault)
-  AsksMetric (Err (metric.Child id fault)) = (mid : S) × AsksFamily registered old mid desc (Ok id) × AsksChild id_in gave mid new (id_in mid) id [] desc.kind (Err fault)
+  AsksMetric (Err (metric.Child id fault)) = (mid : S) × AsksFamily registered old mid desc (Ok id)
+      × AsksChild id_in gave mid new (id_in mid) id [] desc.kind (Err fault)

@@ -35,7 +35,8 @@ fn read_texts(
     ensures help { IfOk result (λ read. read.help ≡ help.now) }
     ensures labels { IfOk result (λ read. read.labels.items ≡ texts_of labels.now) }
     ensures good { OnOk result (AreGood (family_of (kind_of shape.entry) name.now help.now labels.now (bounds_of shape.entry))) }
-    ensures fault { IfErr result (IsUnread (family_of (kind_of shape.entry) name.now help.now labels.now (bounds_of shape.entry))) }
+    ensures fault { IfErr result
+        (IsUnread (family_of (kind_of shape.entry) name.now help.now labels.now (bounds_of shape.entry))) }
 {
     match MetricName::read(alloc, name) {
         Ok(name) => match HelpText::read(alloc, help) {
@@ -60,9 +61,11 @@ fn describe(
     help: &str,
     labels: &[&str],
 ) -> Result<Desc, FamilyRefusal>
-    ensures made { IfOk result (λ desc. desc ≡ family_of (kind_of shape.entry) name.now help.now labels.now (bounds_of shape.entry)) }
+    ensures made { IfOk result (λ desc. desc ≡ family_of (kind_of shape.entry) name.now help.now labels.now
+        (bounds_of shape.entry)) }
     ensures good { OnOk result (AreGood (family_of (kind_of shape.entry) name.now help.now labels.now (bounds_of shape.entry))) }
-    ensures fault { IfErr result (IsUnread (family_of (kind_of shape.entry) name.now help.now labels.now (bounds_of shape.entry))) }
+    ensures fault { IfErr result
+        (IsUnread (family_of (kind_of shape.entry) name.now help.now labels.now (bounds_of shape.entry))) }
 {
     let Texts { name, help, labels } = match read_texts(alloc, shape, name, help, labels) {
         Ok(read) => read,
@@ -86,7 +89,8 @@ pub(crate) fn ask_family<S: Registers>(
     help: &str,
     labels: &[&str],
 ) -> Result<FamilyId, FamilyRefusal>
-    ensures { AsksFamily S.registered at.old at.new (family_of (kind_of shape.entry) name.now help.now labels.now (bounds_of shape.entry)) result }
+    ensures { AsksFamily S.registered at.old at.new
+        (family_of (kind_of shape.entry) name.now help.now labels.now (bounds_of shape.entry)) result }
 {
     match describe(alloc, shape, name, help, labels) {
         Ok(desc) => at.register(desc).map_err(FamilyRefusal::Register),

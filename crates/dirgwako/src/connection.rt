@@ -66,7 +66,8 @@ fn reply<I: Read, O: Write, S: ScrapeFrom>(
     requires reader_unended { reader.old.ended ≡ false }
     requires writer_going { writer.old.failed ≡ false }
     ensures answers { Answers S.gave source.old.source source.new.source result }
-    ensures whole { IfSome result (λ served. IsServed (λ before after answer. AsksAgain S.gave 3 before.source after.source answer) source.old source.new
+    ensures whole { IfSome result
+        (λ served. IsServed (λ before after answer. AsksAgain S.gave 3 before.source after.source answer) source.old source.new
         (I.remaining reader.old.inner) (I.remaining reader.new.inner)
         (O.contents writer.old.inner) (O.contents writer.new.inner) reader.new.ended reader.new.latest (Ok served)) }
     ensures flushed { IsSome result → writer.new.flushed ≡ true }

@@ -89,7 +89,8 @@ impl<const N: usize, const C: usize, const H: usize, const G: usize> Crew<N, C, 
         ensures board { board_of self.new ≡ board_of self.old }
         ensures workers { IfOk result (λ t. t.0.items ≡ workers_of self.old) }
         ensures readers { IfOk result (λ t. readers_of self.old ≡ t.1.items ++ t.2 ∷ []) }
-        ensures own { IfOk result (λ t. All (IsWorkerOf (board_of self.old)) t.0.items × All (IsReaderOf (board_of self.old)) t.1.items × IsReaderOf (board_of self.old) t.2) }
+        ensures own { IfOk result (λ t. All (IsWorkerOf (board_of self.old)) t.0.items
+            × All (IsReaderOf (board_of self.old)) t.1.items × IsReaderOf (board_of self.old) t.2) }
         ensures spent { OnOk result (readers_of self.new ≡ []) }
         ensures kept { OnErr result ((workers_of self.new ≡ workers_of self.old) × (readers_of self.new ≡ readers_of self.old)) }
         ensures window { OnOk result (IsWindow window) }

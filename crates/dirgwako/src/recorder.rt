@@ -31,7 +31,8 @@ impl<'a, const N: usize, const C: usize, const H: usize, const G: usize> Drop
 }
 
 impl<'a, const N: usize, const C: usize, const H: usize, const G: usize> Recorder<'a, N, C, H, G> {
-    ghost use Rattle.dirgwako.specs.Recorders.{board_in, id_in, worker_in, IsOn, ArePublished, IsPublishFault, IsFlushed, IsFlushFault};
+    ghost use Rattle.dirgwako.specs.Recorders.{board_in, id_in, worker_in, IsOn, ArePublished, IsPublishFault, IsFlushed};
+    ghost use Rattle.dirgwako.specs.Recorders.{IsFlushFault};
 
     /// The recorder of this worker of this board.
     pub(crate) fn new(
@@ -63,8 +64,10 @@ impl<'a, const N: usize, const C: usize, const H: usize, const G: usize> Recorde
     pub fn inc(&mut self, counter: &Counter, by: u64) -> Result<(), CountFault>
         ensures board { board_in self.new ≡ board_in self.old }
         ensures index { index_of (worker_in self.new) ≡ index_of (worker_in self.old) }
-        ensures counted { OnOk result (IsCounted (id_in self.old) counter.now.registry (Inc counter.now.slot by) (worker_in self.old) (worker_in self.new)) }
-        ensures fault { IfErr result (IsCountFault C H G (id_in self.old) counter.now.registry (Inc counter.now.slot by) (member_of (worker_in self.old))) }
+        ensures counted { OnOk result (IsCounted (id_in self.old) counter.now.registry (Inc counter.now.slot by)
+            (worker_in self.old) (worker_in self.new)) }
+        ensures fault { IfErr result (IsCountFault C H G (id_in self.old) counter.now.registry (Inc counter.now.slot by)
+            (member_of (worker_in self.old))) }
         ensures unchanged { OnErr result (member_of (worker_in self.new) ≡ member_of (worker_in self.old)) }
     {
         self.worker.inc(self.board, counter, by)
@@ -78,8 +81,12 @@ impl<'a, const N: usize, const C: usize, const H: usize, const G: usize> Recorde
     pub fn observe(&mut self, hist: &Histogram, value: u64) -> Result<(), CountFault>
         ensures board { board_in self.new ≡ board_in self.old }
         ensures index { index_of (worker_in self.new) ≡ index_of (worker_in self.old) }
-        ensures counted { OnOk result (IsCounted (id_in self.old) hist.now.registry (Observe hist.now.slot (place_of hist.now.bounds value) value) (worker_in self.old) (worker_in self.new)) }
-        ensures fault { IfErr result (IsCountFault C H G (id_in self.old) hist.now.registry (Observe hist.now.slot (place_of hist.now.bounds value) value) (member_of (worker_in self.old))) }
+        ensures counted { OnOk result
+            (IsCounted (id_in self.old) hist.now.registry (Observe hist.now.slot (place_of hist.now.bounds value) value)
+            (worker_in self.old) (worker_in self.new)) }
+        ensures fault { IfErr result
+            (IsCountFault C H G (id_in self.old) hist.now.registry (Observe hist.now.slot (place_of hist.now.bounds value) value)
+            (member_of (worker_in self.old))) }
         ensures unchanged { OnErr result (member_of (worker_in self.new) ≡ member_of (worker_in self.old)) }
     {
         self.worker.observe(self.board, hist, value)
@@ -93,8 +100,10 @@ impl<'a, const N: usize, const C: usize, const H: usize, const G: usize> Recorde
     pub fn up(&mut self, gauge: &Gauge, by: u64) -> Result<(), CountFault>
         ensures board { board_in self.new ≡ board_in self.old }
         ensures index { index_of (worker_in self.new) ≡ index_of (worker_in self.old) }
-        ensures counted { OnOk result (IsCounted (id_in self.old) gauge.now.registry (Up gauge.now.slot by) (worker_in self.old) (worker_in self.new)) }
-        ensures fault { IfErr result (IsCountFault C H G (id_in self.old) gauge.now.registry (Up gauge.now.slot by) (member_of (worker_in self.old))) }
+        ensures counted { OnOk result (IsCounted (id_in self.old) gauge.now.registry (Up gauge.now.slot by) (worker_in self.old)
+            (worker_in self.new)) }
+        ensures fault { IfErr result (IsCountFault C H G (id_in self.old) gauge.now.registry (Up gauge.now.slot by)
+            (member_of (worker_in self.old))) }
         ensures unchanged { OnErr result (member_of (worker_in self.new) ≡ member_of (worker_in self.old)) }
     {
         self.worker.up(self.board, gauge, by)
@@ -108,8 +117,10 @@ impl<'a, const N: usize, const C: usize, const H: usize, const G: usize> Recorde
     pub fn down(&mut self, gauge: &Gauge, by: u64) -> Result<(), CountFault>
         ensures board { board_in self.new ≡ board_in self.old }
         ensures index { index_of (worker_in self.new) ≡ index_of (worker_in self.old) }
-        ensures counted { OnOk result (IsCounted (id_in self.old) gauge.now.registry (Down gauge.now.slot by) (worker_in self.old) (worker_in self.new)) }
-        ensures fault { IfErr result (IsCountFault C H G (id_in self.old) gauge.now.registry (Down gauge.now.slot by) (member_of (worker_in self.old))) }
+        ensures counted { OnOk result (IsCounted (id_in self.old) gauge.now.registry (Down gauge.now.slot by) (worker_in self.old)
+            (worker_in self.new)) }
+        ensures fault { IfErr result (IsCountFault C H G (id_in self.old) gauge.now.registry (Down gauge.now.slot by)
+            (member_of (worker_in self.old))) }
         ensures unchanged { OnErr result (member_of (worker_in self.new) ≡ member_of (worker_in self.old)) }
     {
         self.worker.down(self.board, gauge, by)

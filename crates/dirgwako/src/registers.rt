@@ -65,7 +65,8 @@ impl<R: Wait, const N: usize, const C: usize, const H: usize, const G: usize> Re
 
     ghost registered = { λ before after desc answer. (after ≡ before) × IfOk answer (λ family. family.number < 128) };
 
-    ghost gave = { λ before after family values answer. (after ≡ before) × IfOk answer (λ handle. HasId (id_of before.registry.now) handle × IsInside C H G handle) };
+    ghost gave = { λ before after family values answer. (after ≡ before)
+        × IfOk answer (λ handle. HasId (id_of before.registry.now) handle × IsInside C H G handle) };
 
     fn id(&self) -> u64 {
         self.registry.id()

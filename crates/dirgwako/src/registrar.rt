@@ -69,9 +69,13 @@ impl<S: Registers> Registrar<S> {
         help: &str,
         labels: &[&str],
     ) -> Result<CounterFamily, FamilyRefusal>
-        ensures made { IfOk result (λ family. AsksFamily S.registered self.old.at self.new.at (family_of Kinds.Counter name.now help.now labels.now []) (Result.Ok family.id)) }
+        ensures made { IfOk result
+            (λ family. AsksFamily S.registered self.old.at self.new.at (family_of Kinds.Counter name.now help.now labels.now [])
+            (Result.Ok family.id)) }
         ensures registry { IfOk result (λ family. family.registry ≡ S.id_in self.new.at) }
-        ensures fault { IfErr result (λ fault. AsksFamily S.registered self.old.at self.new.at (family_of Kinds.Counter name.now help.now labels.now []) (Result.Err fault)) }
+        ensures fault { IfErr result
+            (λ fault. AsksFamily S.registered self.old.at self.new.at (family_of Kinds.Counter name.now help.now labels.now [])
+            (Result.Err fault)) }
     {
         match ask_family(&mut self.at, self.alloc, Shape::Counter, name, help, labels) {
             Ok(id) => Ok(CounterFamily {
@@ -94,8 +98,10 @@ impl<S: Registers> Registrar<S> {
         family: &CounterFamily,
         values: &[&str],
     ) -> Result<Counter, ChildRefusal>
-        ensures given { IfOk result (λ handle. AsksChild S.id_in S.gave self.old.at self.new.at family.now.registry family.now.id (texts_of values.now) Kinds.Counter (Result.Ok (Handles.Counter handle))) }
-        ensures fault { IfErr result (λ fault. AsksChild S.id_in S.gave self.old.at self.new.at family.now.registry family.now.id (texts_of values.now) Kinds.Counter (Result.Err fault)) }
+        ensures given { IfOk result (λ handle. AsksChild S.id_in S.gave self.old.at self.new.at family.now.registry family.now.id
+            (texts_of values.now) Kinds.Counter (Result.Ok (Handles.Counter handle))) }
+        ensures fault { IfErr result (λ fault. AsksChild S.id_in S.gave self.old.at self.new.at family.now.registry family.now.id
+            (texts_of values.now) Kinds.Counter (Result.Err fault)) }
     {
         match ask_handle(&mut self.at, self.alloc, family.registry, family.id, values) {
             Ok(Handle::Counter(handle)) => Ok(handle),
@@ -111,8 +117,12 @@ impl<S: Registers> Registrar<S> {
     /// [`MetricRefusal::Family`], as [`Registrar::counter_family`] of no labels; then [`MetricRefusal::Child`], 22 or 6: the family stands,
     /// without a child.
     pub fn counter(&mut self, name: &str, help: &str) -> Result<Counter, MetricRefusal>
-        ensures made { IfOk result (λ handle. AsksMetric S.id_in S.registered S.gave self.old.at self.new.at (family_of Kinds.Counter name.now help.now [] []) (Result.Ok (Handles.Counter handle))) }
-        ensures fault { IfErr result (λ fault. AsksMetric S.id_in S.registered S.gave self.old.at self.new.at (family_of Kinds.Counter name.now help.now [] []) (Result.Err fault)) }
+        ensures made { IfOk result
+            (λ handle. AsksMetric S.id_in S.registered S.gave self.old.at self.new.at
+            (family_of Kinds.Counter name.now help.now [] []) (Result.Ok (Handles.Counter handle))) }
+        ensures fault { IfErr result
+            (λ fault. AsksMetric S.id_in S.registered S.gave self.old.at self.new.at
+            (family_of Kinds.Counter name.now help.now [] []) (Result.Err fault)) }
     {
         match self.counter_family(name, help, &[]) {
             Ok(family) => match self.counter_of(&family, &[]) {
@@ -139,9 +149,13 @@ impl<S: Registers> Registrar<S> {
         help: &str,
         labels: &[&str],
     ) -> Result<GaugeFamily, FamilyRefusal>
-        ensures made { IfOk result (λ family. AsksFamily S.registered self.old.at self.new.at (family_of Kinds.Gauge name.now help.now labels.now []) (Result.Ok family.id)) }
+        ensures made { IfOk result
+            (λ family. AsksFamily S.registered self.old.at self.new.at (family_of Kinds.Gauge name.now help.now labels.now [])
+            (Result.Ok family.id)) }
         ensures registry { IfOk result (λ family. family.registry ≡ S.id_in self.new.at) }
-        ensures fault { IfErr result (λ fault. AsksFamily S.registered self.old.at self.new.at (family_of Kinds.Gauge name.now help.now labels.now []) (Result.Err fault)) }
+        ensures fault { IfErr result
+            (λ fault. AsksFamily S.registered self.old.at self.new.at (family_of Kinds.Gauge name.now help.now labels.now [])
+            (Result.Err fault)) }
     {
         match ask_family(&mut self.at, self.alloc, Shape::Gauge, name, help, labels) {
             Ok(id) => Ok(GaugeFamily {
@@ -160,8 +174,10 @@ impl<S: Registers> Registrar<S> {
     /// the value's place, 3, 6; [`ChildRefusal::Child`], 21, 22, 6. Nothing has changed then. Of two registries of one id:
     /// [`ChildRefusal::Child`], 20, and [`ChildRefusal::OtherKind`], 28, after which a child of another kind may have been made.
     pub fn gauge_of(&mut self, family: &GaugeFamily, values: &[&str]) -> Result<Gauge, ChildRefusal>
-        ensures given { IfOk result (λ handle. AsksChild S.id_in S.gave self.old.at self.new.at family.now.registry family.now.id (texts_of values.now) Kinds.Gauge (Result.Ok (Handles.Gauge handle))) }
-        ensures fault { IfErr result (λ fault. AsksChild S.id_in S.gave self.old.at self.new.at family.now.registry family.now.id (texts_of values.now) Kinds.Gauge (Result.Err fault)) }
+        ensures given { IfOk result (λ handle. AsksChild S.id_in S.gave self.old.at self.new.at family.now.registry family.now.id
+            (texts_of values.now) Kinds.Gauge (Result.Ok (Handles.Gauge handle))) }
+        ensures fault { IfErr result (λ fault. AsksChild S.id_in S.gave self.old.at self.new.at family.now.registry family.now.id
+            (texts_of values.now) Kinds.Gauge (Result.Err fault)) }
     {
         match ask_handle(&mut self.at, self.alloc, family.registry, family.id, values) {
             Ok(Handle::Gauge(handle)) => Ok(handle),
@@ -177,8 +193,12 @@ impl<S: Registers> Registrar<S> {
     /// [`MetricRefusal::Family`], as [`Registrar::gauge_family`] of no labels; then [`MetricRefusal::Child`], 22 or 6: the family stands,
     /// without a child.
     pub fn gauge(&mut self, name: &str, help: &str) -> Result<Gauge, MetricRefusal>
-        ensures made { IfOk result (λ handle. AsksMetric S.id_in S.registered S.gave self.old.at self.new.at (family_of Kinds.Gauge name.now help.now [] []) (Result.Ok (Handles.Gauge handle))) }
-        ensures fault { IfErr result (λ fault. AsksMetric S.id_in S.registered S.gave self.old.at self.new.at (family_of Kinds.Gauge name.now help.now [] []) (Result.Err fault)) }
+        ensures made { IfOk result
+            (λ handle. AsksMetric S.id_in S.registered S.gave self.old.at self.new.at
+            (family_of Kinds.Gauge name.now help.now [] []) (Result.Ok (Handles.Gauge handle))) }
+        ensures fault { IfErr result
+            (λ fault. AsksMetric S.id_in S.registered S.gave self.old.at self.new.at
+            (family_of Kinds.Gauge name.now help.now [] []) (Result.Err fault)) }
     {
         match self.gauge_family(name, help, &[]) {
             Ok(family) => match self.gauge_of(&family, &[]) {
@@ -206,9 +226,13 @@ impl<S: Registers> Registrar<S> {
         labels: &[&str],
         bounds: &[u64],
     ) -> Result<HistogramFamily, FamilyRefusal>
-        ensures made { IfOk result (λ family. AsksFamily S.registered self.old.at self.new.at (family_of Kinds.Histogram name.now help.now labels.now bounds.now) (Result.Ok family.id)) }
+        ensures made { IfOk result
+            (λ family. AsksFamily S.registered self.old.at self.new.at
+            (family_of Kinds.Histogram name.now help.now labels.now bounds.now) (Result.Ok family.id)) }
         ensures registry { IfOk result (λ family. family.registry ≡ S.id_in self.new.at) }
-        ensures fault { IfErr result (λ fault. AsksFamily S.registered self.old.at self.new.at (family_of Kinds.Histogram name.now help.now labels.now bounds.now) (Result.Err fault)) }
+        ensures fault { IfErr result
+            (λ fault. AsksFamily S.registered self.old.at self.new.at
+            (family_of Kinds.Histogram name.now help.now labels.now bounds.now) (Result.Err fault)) }
     {
         match ask_family(
             &mut self.at,
@@ -238,8 +262,10 @@ impl<S: Registers> Registrar<S> {
         family: &HistogramFamily,
         values: &[&str],
     ) -> Result<Histogram, ChildRefusal>
-        ensures given { IfOk result (λ handle. AsksChild S.id_in S.gave self.old.at self.new.at family.now.registry family.now.id (texts_of values.now) Kinds.Histogram (Result.Ok (Handles.Histogram handle))) }
-        ensures fault { IfErr result (λ fault. AsksChild S.id_in S.gave self.old.at self.new.at family.now.registry family.now.id (texts_of values.now) Kinds.Histogram (Result.Err fault)) }
+        ensures given { IfOk result (λ handle. AsksChild S.id_in S.gave self.old.at self.new.at family.now.registry family.now.id
+            (texts_of values.now) Kinds.Histogram (Result.Ok (Handles.Histogram handle))) }
+        ensures fault { IfErr result (λ fault. AsksChild S.id_in S.gave self.old.at self.new.at family.now.registry family.now.id
+            (texts_of values.now) Kinds.Histogram (Result.Err fault)) }
     {
         match ask_handle(&mut self.at, self.alloc, family.registry, family.id, values) {
             Ok(Handle::Histogram(handle)) => Ok(handle),
@@ -260,8 +286,12 @@ impl<S: Registers> Registrar<S> {
         help: &str,
         bounds: &[u64],
     ) -> Result<Histogram, MetricRefusal>
-        ensures made { IfOk result (λ handle. AsksMetric S.id_in S.registered S.gave self.old.at self.new.at (family_of Kinds.Histogram name.now help.now [] bounds.now) (Result.Ok (Handles.Histogram handle))) }
-        ensures fault { IfErr result (λ fault. AsksMetric S.id_in S.registered S.gave self.old.at self.new.at (family_of Kinds.Histogram name.now help.now [] bounds.now) (Result.Err fault)) }
+        ensures made { IfOk result
+            (λ handle. AsksMetric S.id_in S.registered S.gave self.old.at self.new.at
+            (family_of Kinds.Histogram name.now help.now [] bounds.now) (Result.Ok (Handles.Histogram handle))) }
+        ensures fault { IfErr result
+            (λ fault. AsksMetric S.id_in S.registered S.gave self.old.at self.new.at
+            (family_of Kinds.Histogram name.now help.now [] bounds.now) (Result.Err fault)) }
     {
         match self.histogram_family(name, help, &[], bounds) {
             Ok(family) => match self.histogram_of(&family, &[]) {

@@ -23,9 +23,12 @@ pub fn histogram_totals<const N: usize, const C: usize, const H: usize, const G:
     snapshot: &Snapshot<N, C, H, G>,
     hist: &Histogram,
 ) -> Option<HistTotals>
-    ensures buckets { MatchOption result (H ≤ hist.now.slot) (λ totals. totals.buckets ≡ take 25 (drop (C + 27 * hist.now.slot) snapshot.now.totals)) }
-    ensures sum { MatchOption result (H ≤ hist.now.slot) (λ totals. totals.sum ≡ slice_index snapshot.now.totals (C + 27 * hist.now.slot + 25)) }
-    ensures count { MatchOption result (H ≤ hist.now.slot) (λ totals. totals.count ≡ slice_index snapshot.now.totals (C + 27 * hist.now.slot + 26)) }
+    ensures buckets { MatchOption result (H ≤ hist.now.slot)
+        (λ totals. totals.buckets ≡ take 25 (drop (C + 27 * hist.now.slot) snapshot.now.totals)) }
+    ensures sum { MatchOption result (H ≤ hist.now.slot)
+        (λ totals. totals.sum ≡ slice_index snapshot.now.totals (C + 27 * hist.now.slot + 25)) }
+    ensures count { MatchOption result (H ≤ hist.now.slot)
+        (λ totals. totals.count ≡ slice_index snapshot.now.totals (C + 27 * hist.now.slot + 26)) }
 {
     if hist.slot >= H {
         return None;
@@ -38,7 +41,9 @@ pub fn gauge_value<const N: usize, const C: usize, const H: usize, const G: usiz
     snapshot: &Snapshot<N, C, H, G>,
     gauge: &Gauge,
 ) -> Option<i64>
-    ensures { MatchOption result (G ≤ gauge.now.slot) (λ value. value ≡ pos (slice_index snapshot.now.totals (C + 27 * H + 2 * gauge.now.slot)) -ℤ pos (slice_index snapshot.now.totals (C + 27 * H + 2 * gauge.now.slot + 1))) }
+    ensures { MatchOption result (G ≤ gauge.now.slot)
+        (λ value. value ≡ pos (slice_index snapshot.now.totals (C + 27 * H + 2 * gauge.now.slot)) -ℤ pos
+        (slice_index snapshot.now.totals (C + 27 * H + 2 * gauge.now.slot + 1))) }
 {
     if gauge.slot >= G {
         return None;

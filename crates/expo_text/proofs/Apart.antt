@@ -21,7 +21,8 @@ use Rattle.expo_text.specs.Samples.{Sample, bound_samples, last_samples, samples
 use Rattle.expo_text.specs.Order.{IsChildBefore, IsNumberOf, IsFamily}
 use Rattle.expo_text.specs.Reads.{AreSameLabels, IsSameSeries}
 use Rattle.expo_text.proofs.LabelSets.{HasNoLe, le_is, le_there, zip_same, zip_no_le}
-use Rattle.expo_text.proofs.Pairs.{Each, Pairs, Across, each_weaker, each_both, pairs_recursion, pairs_append, pairs_flat_map, pairs_weaker, across_by}
+use Rattle.expo_text.proofs.Pairs.{Each, Pairs, Across, each_weaker, each_both, pairs_recursion, pairs_append, pairs_flat_map}
+use Rattle.expo_text.proofs.Pairs.{pairs_weaker, across_by}
 use Rattle.expo_text.proofs.Owned.{OwnedAs, each_bound, pairs_bounds, number_owned_as, owned_same}
 
 -- two samples are of different series
@@ -52,7 +53,8 @@ decimal_no_inf n few e =
     absurd (omega arith)
 
 -- buckets of one child with equal labels have equal bounds
-bounds_same : (own : List (List ℕ × List ℕ)) (a b : List ℕ) → HasNoLe own → AreSameLabels (own ++ ((codes "le", a) ∷ [])) (own ++ ((codes "le", b) ∷ [])) → a ≡ b
+bounds_same : (own : List (List ℕ × List ℕ)) (a b : List ℕ) → HasNoLe own → AreSameLabels (own ++ ((codes "le", a) ∷ []))
+    (own ++ ((codes "le", b) ∷ [])) → a ≡ b
 bounds_same own a b none same = sym (le_is own b a none (same.0 (codes "le", a) (le_there own a)))
 
 module _ (desc : Descriptor) (own : List (List ℕ × List ℕ)) (are : AreBounds desc.bounds) (none : HasNoLe own) where
@@ -64,7 +66,8 @@ module _ (desc : Descriptor) (own : List (List ℕ × List ℕ)) (are : AreBound
   bounds_apart : (buckets : List ℕ) → Pairs AreApart (bound_samples desc own buckets)
   bounds_apart buckets =
       pairs_bounds AreApart desc own buckets (λ j k lt within same.
-      let e = decimal_injective (slice_index desc.bounds j) (slice_index desc.bounds k) (bound_small j (omega arith)) (bound_small k within)
+      let e = decimal_injective (slice_index desc.bounds j) (slice_index desc.bounds k) (bound_small j (omega arith))
+      (bound_small k within)
       (bounds_same own (decimal (slice_index desc.bounds j)) (decimal (slice_index desc.bounds k)) none same.labels) in
       let rises = are.rising j k 0 lt within in
       absurd (omega arith))
@@ -79,26 +82,31 @@ module _ (desc : Descriptor) (own : List (List ℕ × List ℕ)) (are : AreBound
   -- the samples of a histogram
   histogram_apart : (totals : HistTotals) → Pairs AreApart (bound_samples desc own totals.buckets ++ last_samples desc own totals)
   histogram_apart totals =
-      pairs_append AreApart (bound_samples desc own totals.buckets) (last_samples desc own totals) (bounds_apart totals.buckets) (last_apart totals)
+      pairs_append AreApart (bound_samples desc own totals.buckets) (last_samples desc own totals) (bounds_apart totals.buckets)
+      (last_apart totals)
       (each_bound (λ s. Each (AreApart s) (last_samples desc own totals)) desc own totals.buckets (λ k within. (
-        λ same. decimal_no_inf (slice_index desc.bounds k) (bound_small k within) (bounds_same own (decimal (slice_index desc.bounds k)) (codes "+Inf") none same.labels),
+        λ same. decimal_no_inf (slice_index desc.bounds k) (bound_small k within)
+            (bounds_same own (decimal (slice_index desc.bounds k)) (codes "+Inf") none same.labels),
         (λ same. bucket_no_sum desc.name same.name, (λ same. bucket_no_count desc.name same.name, tt)),
       )))
 
 -- the samples of a number
 number_apart : (desc : Descriptor) (own : List (List ℕ × List ℕ)) (number : Number) → IsNumberOf desc.kind number
-    → (desc.kind ≡ HistogramKind → AreBounds desc.bounds) → (desc.kind ≡ HistogramKind → HasNoLe own) → Pairs AreApart (samples_of_number desc own number)
+    → (desc.kind ≡ HistogramKind → AreBounds desc.bounds) → (desc.kind ≡ HistogramKind → HasNoLe own)
+    → Pairs AreApart (samples_of_number desc own number)
 number_apart desc own (Counter total) is are none = (tt, tt)
 number_apart desc own (Histogram totals) is are none = histogram_apart desc own (are is.0) (none is.0) totals
 number_apart desc own (Gauge totals) is are none = (tt, tt)
 
 -- of two children, one before the other, the labels differ
-pub before_labels : (labels : List (List ℕ)) (a b : Child) → length a.values ≡ length labels → length b.values ≡ length labels → Pairs (λ x y. x ≢ y) labels
+pub before_labels : (labels : List (List ℕ)) (a b : Child) → length a.values ≡ length labels → length b.values ≡ length labels
+    → Pairs (λ x y. x ≢ y) labels
     → IsChildBefore a b → ¬ (AreSameLabels (zip labels a.values) (zip labels b.values))
 before_labels labels a b fit fits differ before same =
     let values : a.values ≡ b.values = zip_same labels a.values b.values fit fits differ same in
     let equal : slice_cmp (slice_cmp nat_cmp) b.values b.values ≡ Equal = tied_itself (lists_total nat_list_cmp_total) b.values in
-    let less : slice_cmp (slice_cmp nat_cmp) b.values b.values ≡ Less = ap (λ x. slice_cmp (slice_cmp nat_cmp) x b.values) (sym values) ∙ before in
+    let less : slice_cmp (slice_cmp nat_cmp) b.values b.values ≡ Less = ap (λ x. slice_cmp (slice_cmp nat_cmp) x b.values)
+    (sym values) ∙ before in
     cc
 
 -- a child that fits its family
@@ -108,9 +116,11 @@ pub record IsFit (desc : Descriptor) (child : Child) : Type 0 where
 
 pub all_fit : (family : Family) → IsFamily family → Each (IsFit family.desc) family.children
 all_fit family is =
-    each_weaker (λ (child : Child). (length child.values ≡ length family.desc.labels) × IsNumberOf family.desc.kind child.number) (IsFit family.desc)
+    each_weaker (λ (child : Child). (length child.values ≡ length family.desc.labels) × IsNumberOf family.desc.kind child.number)
+    (IsFit family.desc)
     (λ child both. record { fit = both.0; number = both.1 }) family.children
-    (each_both (λ (child : Child). length child.values ≡ length family.desc.labels) (λ (child : Child). IsNumberOf family.desc.kind child.number) family.children
+    (each_both (λ (child : Child). length child.values ≡ length family.desc.labels)
+    (λ (child : Child). IsNumberOf family.desc.kind child.number) family.children
     (recursion_from_All (λ (child : Child). length child.values ≡ length family.desc.labels) family.children is.fit)
     (recursion_from_All (λ (child : Child). IsNumberOf family.desc.kind child.number) family.children is.numbers))
 
@@ -124,22 +134,28 @@ module _ (desc : Descriptor) (kept : IsDescOf desc.kind desc.labels desc.bounds)
       → ((s t : Sample) → OwnedAs desc.kind (zip desc.labels a.values) s → OwnedAs desc.kind (zip desc.labels b.values) t → R s t)
       → Across R (samples_of_child desc a) (samples_of_child desc b)
   children_across R a b fit fits holds =
-      across_by (OwnedAs desc.kind (zip desc.labels a.values)) (OwnedAs desc.kind (zip desc.labels b.values)) R holds (samples_of_child desc a) (samples_of_child desc b)
-      (number_owned_as desc (zip desc.labels a.values) a.number fit.number (own_no_le a)) (number_owned_as desc (zip desc.labels b.values) b.number fits.number (own_no_le b))
+      across_by (OwnedAs desc.kind (zip desc.labels a.values)) (OwnedAs desc.kind (zip desc.labels b.values)) R holds
+      (samples_of_child desc a) (samples_of_child desc b)
+      (number_owned_as desc (zip desc.labels a.values) a.number fit.number (own_no_le a))
+      (number_owned_as desc (zip desc.labels b.values) b.number fits.number (own_no_le b))
 
 -- what holds between each two samples of a family, from within the children and across each two
-pub pairs_family : (R : Sample → Sample → Type 0) (family : Family) → IsFamily family → IsDescOf family.desc.kind family.desc.labels family.desc.bounds
+pub pairs_family : (R : Sample → Sample → Type 0) (family : Family) → IsFamily family
+    → IsDescOf family.desc.kind family.desc.labels family.desc.bounds
     → ((child : Child) → IsNumberOf family.desc.kind child.number → Pairs R (samples_of_child family.desc child))
     → ((a b : Child) → ¬ (AreSameLabels (zip family.desc.labels a.values) (zip family.desc.labels b.values))
-    → (s t : Sample) → OwnedAs family.desc.kind (zip family.desc.labels a.values) s → OwnedAs family.desc.kind (zip family.desc.labels b.values) t → R s t)
+    → (s t : Sample) → OwnedAs family.desc.kind (zip family.desc.labels a.values) s
+    → OwnedAs family.desc.kind (zip family.desc.labels b.values) t → R s t)
     → Pairs R (samples_of_family family)
 pairs_family R family is kept within across =
     let differ = pairs_recursion (λ x y. x ≢ y) family.desc.labels kept.good.distinct in
     pairs_flat_map R (samples_of_child family.desc) family.children
-    (each_weaker (IsFit family.desc) (λ child. Pairs R (samples_of_child family.desc child)) (λ child fit. within child fit.number) family.children (all_fit family is))
+    (each_weaker (IsFit family.desc) (λ child. Pairs R (samples_of_child family.desc child))
+    (λ child fit. within child fit.number) family.children (all_fit family is))
     (pairs_weaker (IsFit family.desc) IsChildBefore
     (λ a b. Across R (samples_of_child family.desc a) (samples_of_child family.desc b))
-    (λ a b fit fits before. children_across family.desc kept R a b fit fits (across a b (before_labels family.desc.labels a b fit.fit fits.fit differ before))) family.children
+    (λ a b fit fits before. children_across family.desc kept R a b fit fits
+    (across a b (before_labels family.desc.labels a b fit.fit fits.fit differ before))) family.children
     (all_fit family is)
     (pairs_recursion IsChildBefore family.children is.ordered))
 
@@ -148,5 +164,8 @@ pub family_apart : (family : Family) → IsFamily family → IsDescOf family.des
     → Pairs AreApart (samples_of_family family)
 family_apart family is kept =
     pairs_family AreApart family is kept
-    (λ child number. number_apart family.desc (zip family.desc.labels child.values) child.number number (λ e. (kept.histogram e).bounds_ok) (own_no_le family.desc kept child))
-    (λ a b differ s t left right same. differ (owned_same family.desc.kind (zip family.desc.labels a.values) (zip family.desc.labels b.values) s t left right same.labels))
+    (λ child number. number_apart family.desc (zip family.desc.labels child.values) child.number number
+    (λ e. (kept.histogram e).bounds_ok) (own_no_le family.desc kept child))
+    (λ a b differ s t left right same. differ
+    (owned_same family.desc.kind (zip family.desc.labels a.values) (zip family.desc.labels b.values) s t left right
+    same.labels))

@@ -27,14 +27,19 @@ NamesDiffer a b = a.0 ≢ b.0
 zip_differ : (names values : List (List ℕ)) → Pairs (λ a b. a ≢ b) names → Pairs NamesDiffer (zip names values)
 zip_differ [] values all = tt
 zip_differ (name ∷ names) [] all = tt
-zip_differ (name ∷ names) (value ∷ values) all = (each_zip (λ other. name ≢ other) names values all.0, zip_differ names values all.1)
+zip_differ (name ∷ names) (value ∷ values) all = (
+  each_zip (λ other. name ≢ other) names values all.0,
+  zip_differ names values all.1,
+)
 
 -- with the label `le` after them, labels of different names are still of different names, where none is named `le`
-with_le : (own : List (List ℕ × List ℕ)) (bound : List ℕ) → Pairs NamesDiffer own → Each (λ (label : List ℕ × List ℕ). label.0 ≢ le) own
+with_le : (own : List (List ℕ × List ℕ)) (bound : List ℕ) → Pairs NamesDiffer own
+    → Each (λ (label : List ℕ × List ℕ). label.0 ≢ le) own
     → Pairs NamesDiffer (own ++ ((codes "le", bound) ∷ []))
 with_le own bound differ none =
     pairs_append NamesDiffer own ((codes "le", bound) ∷ []) differ (tt, tt)
-    (each_weaker (λ (label : List ℕ × List ℕ). label.0 ≢ le) (λ label. Each (NamesDiffer label) ((codes "le", bound) ∷ [])) (λ label other. (other, tt)) own none)
+    (each_weaker (λ (label : List ℕ × List ℕ). label.0 ≢ le) (λ label. Each (NamesDiffer label) ((codes "le", bound) ∷ []))
+    (λ label other. (other, tt)) own none)
 
 -- a sample whose labels are its child's own, or these and `le`, has no two labels of one name
 owned_distinct : (own : List (List ℕ × List ℕ)) (sample : Sample) → Pairs NamesDiffer own
@@ -44,7 +49,8 @@ owned_distinct own sample differ none (inr e) =
     pairs_places NamesDiffer sample.labels (subst (Pairs NamesDiffer) (sym e.1) (with_le own e.0 differ none))
 
 -- no sample of a number has two labels of one name
-number_distinct : (desc : Descriptor) (own : List (List ℕ × List ℕ)) (number : Number) → IsNumberOf desc.kind number → Pairs NamesDiffer own
+number_distinct : (desc : Descriptor) (own : List (List ℕ × List ℕ)) (number : Number) → IsNumberOf desc.kind number
+    → Pairs NamesDiffer own
     → (desc.kind ≡ HistogramKind → Each (λ (label : List ℕ × List ℕ). label.0 ≢ le) own)
     → Each HasDistinctLabels (samples_of_number desc own number)
 number_distinct desc own (Counter total) is differ none = (pairs_places NamesDiffer own differ, tt)
@@ -54,7 +60,8 @@ number_distinct desc own (Histogram totals) is differ none =
 number_distinct desc own (Gauge totals) is differ none = (pairs_places NamesDiffer own differ, tt)
 
 -- no sample of a child has two labels of one name
-child_distinct : (desc : Descriptor) (child : Child) → IsDescOf desc.kind desc.labels desc.bounds → IsNumberOf desc.kind child.number
+child_distinct : (desc : Descriptor) (child : Child) → IsDescOf desc.kind desc.labels desc.bounds
+    → IsNumberOf desc.kind child.number
     → Each HasDistinctLabels (samples_of_child desc child)
 child_distinct desc child kept number =
     number_distinct desc (zip desc.labels child.values) child.number number
@@ -66,7 +73,8 @@ family_distinct : (family : Family) → IsFamily family → IsDescOf family.desc
     → Each HasDistinctLabels (samples_of_family family)
 family_distinct family is kept =
     each_flat_map HasDistinctLabels (samples_of_child family.desc) family.children
-    (each_weaker (λ (child : Child). IsNumberOf family.desc.kind child.number) (λ child. Each HasDistinctLabels (samples_of_child family.desc child))
+    (each_weaker (λ (child : Child). IsNumberOf family.desc.kind child.number)
+    (λ child. Each HasDistinctLabels (samples_of_child family.desc child))
     (λ child number. child_distinct family.desc child kept number) family.children
     (recursion_from_All (λ (child : Child). IsNumberOf family.desc.kind child.number) family.children is.numbers))
 

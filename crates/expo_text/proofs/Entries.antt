@@ -43,7 +43,12 @@ helps_of (byte ∷ bytes) = flat_map help_byte (byte ∷ bytes) ∷ []
 
 abbrev pub part_of : Group → Part
 part_of group =
-    record { name = group.name; helps = helps_of group.help; types = word_of group.kind ∷ []; samples = map written_of group.samples }
+    record {
+      name = group.name;
+      helps = helps_of group.help;
+      types = word_of group.kind ∷ [];
+      samples = map written_of group.samples;
+    }
 
 -- a sample that a scrape prints: its name has a byte or more, each a letter, a digit, `_` or `:`
 pub record IsPrintedSample (sample : Sample) : Type 0 where

@@ -17,7 +17,8 @@ filled : {X : Type 0} (x : X) (xs : List X) → ¬ ([] ≡ x ∷ xs)
 filled x xs e = cc
 
 -- a text of two lines, the second of which is none of the format
-bad_second : (bytes first second : List ℕ) (groups : List Group) → slice_split (λ b. b == 10) bytes ≡ first ∷ second ∷ [] ∷ [] → entry_of second ≡ Malformed → ¬ (Reads bytes groups)
+bad_second : (bytes first second : List ℕ) (groups : List Group) → slice_split (λ b. b == 10) bytes ≡ first ∷ second ∷ [] ∷ []
+    → entry_of second ≡ Malformed → ¬ (Reads bytes groups)
 bad_second bytes first second groups cut bad reads =
     let found = walked bytes groups reads in
     let same = same_from_push found.lines (first ∷ second ∷ []) [] [] (sym found.cut ∙ cut) in
@@ -30,23 +31,28 @@ no_value groups = bad_second (codes "# TYPE a counter\na\n") (codes "# TYPE a co
 
 -- and one value, after which no time may stand
 two_values : (groups : List Group) → ¬ (Reads (codes "# TYPE a counter\na 1 1395066363000\n") groups)
-two_values groups = bad_second (codes "# TYPE a counter\na 1 1395066363000\n") (codes "# TYPE a counter") (codes "a 1 1395066363000") groups refl refl
+two_values groups = bad_second (codes "# TYPE a counter\na 1 1395066363000\n") (codes "# TYPE a counter")
+    (codes "a 1 1395066363000") groups refl refl
 
 -- labels stand in braces
 open_brace : (groups : List Group) → ¬ (Reads (codes "# TYPE a counter\na{l=\"x\" 1\n") groups)
-open_brace groups = bad_second (codes "# TYPE a counter\na{l=\"x\" 1\n") (codes "# TYPE a counter") (codes "a{l=\"x\" 1") groups refl refl
+open_brace groups = bad_second (codes "# TYPE a counter\na{l=\"x\" 1\n") (codes "# TYPE a counter") (codes "a{l=\"x\" 1") groups
+    refl refl
 
 -- their values in quotes
 no_quotes : (groups : List Group) → ¬ (Reads (codes "# TYPE a counter\na{l=x} 1\n") groups)
-no_quotes groups = bad_second (codes "# TYPE a counter\na{l=x} 1\n") (codes "# TYPE a counter") (codes "a{l=x} 1") groups refl refl
+no_quotes groups = bad_second (codes "# TYPE a counter\na{l=x} 1\n") (codes "# TYPE a counter") (codes "a{l=x} 1") groups refl
+    refl
 
 -- which an escaped quote does not end
 open_quote : (groups : List Group) → ¬ (Reads (codes "# TYPE a counter\na{l=\"x\\\"} 1\n") groups)
-open_quote groups = bad_second (codes "# TYPE a counter\na{l=\"x\\\"} 1\n") (codes "# TYPE a counter") (codes "a{l=\"x\\\"} 1") groups refl refl
+open_quote groups = bad_second (codes "# TYPE a counter\na{l=\"x\\\"} 1\n") (codes "# TYPE a counter") (codes "a{l=\"x\\\"} 1")
+    groups refl refl
 
 -- with a comma between two of them
 no_comma : (groups : List Group) → ¬ (Reads (codes "# TYPE a counter\na{b=\"1\" c=\"2\"} 1\n") groups)
-no_comma groups = bad_second (codes "# TYPE a counter\na{b=\"1\" c=\"2\"} 1\n") (codes "# TYPE a counter") (codes "a{b=\"1\" c=\"2\"} 1") groups refl refl
+no_comma groups = bad_second (codes "# TYPE a counter\na{b=\"1\" c=\"2\"} 1\n") (codes "# TYPE a counter")
+    (codes "a{b=\"1\" c=\"2\"} 1") groups refl refl
 
 -- a type has a name and a word
 long_type : (groups : List Group) → ¬ (Reads (codes "\n# TYPE a counter x\n") groups)
@@ -60,7 +66,8 @@ no_end groups reads =
     filled 97 [] same.1
 
 -- a text of these lines, each of which is one of the format
-parts_are : (bytes : List ℕ) (lines : List (List ℕ)) (groups : List Group) → slice_split (λ b. b == 10) bytes ≡ lines ++ [] ∷ [] → Reads bytes groups → Match IsGroup (parts_of (map entry_of lines)) groups
+parts_are : (bytes : List ℕ) (lines : List (List ℕ)) (groups : List Group) → slice_split (λ b. b == 10) bytes ≡ lines ++ [] ∷ []
+    → Reads bytes groups → Match IsGroup (parts_of (map entry_of lines)) groups
 parts_are bytes lines groups cut reads =
     let found = walked bytes groups reads in
     let same = same_from_push found.lines lines [] [] (sym found.cut ∙ cut) in

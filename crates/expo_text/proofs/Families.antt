@@ -11,7 +11,8 @@ use Rattle.expo_text.specs.Samples.{Sample, samples_of_family}
 use Rattle.expo_text.specs.Order.{IsBefore, IsScrape}
 use Rattle.expo_text.specs.Spelled.{IsSpelledIfPrinted}
 use Rattle.expo_text.specs.Groups.{Group, group_of_children, group_of_family, groups_of}
-use Rattle.expo_text.proofs.Pairs.{Each, Pairs, Across, each_weaker, each_any, each_flat_map, pairs_recursion, pairs_places, pairs_flat_map, pairs_weaker}
+use Rattle.expo_text.proofs.Pairs.{Each, Pairs, Across, each_weaker, each_any, each_flat_map, pairs_recursion, pairs_places}
+use Rattle.expo_text.proofs.Pairs.{pairs_flat_map, pairs_weaker}
 
 -- the group of a family that has children
 abbrev pub group_for : Family → Group
@@ -56,13 +57,16 @@ across_groups R a b holds =
 
 -- what holds between the groups of each two printed families holds between each two groups
 pub pairs_groups : (R : Group → Group → Type 0) (families : List Family)
-    → Pairs (λ a b. IsPrinted a → IsPrinted b → R (group_for a) (group_for b)) families → Pairs R (flat_map group_of_family families)
+    → Pairs (λ a b. IsPrinted a → IsPrinted b → R (group_for a) (group_for b)) families
+    → Pairs R (flat_map group_of_family families)
 pairs_groups R families all =
     pairs_flat_map R group_of_family families
-    (each_any (λ family. Pairs R (group_of_family family)) (λ family. pairs_of_children R family.desc family.children (samples_of_family family)) families)
+    (each_any (λ family. Pairs R (group_of_family family))
+    (λ family. pairs_of_children R family.desc family.children (samples_of_family family)) families)
     (pairs_weaker (λ family. Pairs R (group_of_family family)) (λ a b. IsPrinted a → IsPrinted b → R (group_for a) (group_for b))
     (λ a b. Across R (group_of_family a) (group_of_family b)) (λ a b _ _ holds. across_groups R a b holds) families
-    (each_any (λ family. Pairs R (group_of_family family)) (λ family. pairs_of_children R family.desc family.children (samples_of_family family)) families)
+    (each_any (λ family. Pairs R (group_of_family family))
+    (λ family. pairs_of_children R family.desc family.children (samples_of_family family)) families)
     all)
 
 -- a text does not stand before itself

@@ -73,8 +73,11 @@ label_kept label named =
 -- labels after commas have none
 more_kept : (labels : List (List ℕ × List ℕ)) → AreNamed labels → Kept (flat_map (λ label. codes "," ++ label_text label) labels)
 more_kept [] named = tt
-more_kept (label ∷ labels) named =
-    (refl, each_append is_kept (label_text label) (flat_map (λ (other : List ℕ × List ℕ). codes "," ++ label_text other) labels) (label_kept label named.0) (more_kept labels named.1))
+more_kept (label ∷ labels) named = (
+  refl,
+  each_append is_kept (label_text label) (flat_map (λ (other : List ℕ × List ℕ). codes "," ++ label_text other) labels)
+      (label_kept label named.0) (more_kept labels named.1),
+)
 
 -- all the labels have none
 pub labels_kept : (labels : List (List ℕ × List ℕ)) → AreNamed labels → Kept (labels_text labels)

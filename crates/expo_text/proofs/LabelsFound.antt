@@ -1,11 +1,14 @@
 -- Where a walk over labels ends well, labels stand there.
-use Rattle.std.proofs.Common.{◌≡◌, ◌≢◌, ℕ, true, false, ◌==◌, List, [], ◌∷◌, ◌++◌, codes, refl, sym, ap, ◌∙◌, subst, inl, inr, append_assoc, append-nil, eqb-true, eq-eqb}
+use Rattle.std.proofs.Common.{◌≡◌, ◌≢◌, ℕ, true, false, ◌==◌, List, [], ◌∷◌, ◌++◌, codes, refl, sym, ap, ◌∙◌, subst, inl, inr}
+use Rattle.std.proofs.Common.{append_assoc, append-nil, eqb-true, eq-eqb}
 use Rattle.std.specs.Prelude.{All, ⊤}
 use Rattle.std.proofs.lemmas.Bool.{cases_Bool, both_ways}
 use Rattle.std.proofs.lemmas.List.Elements.{All-cons, All-nil}
 use Rattle.metric_names.specs.HelpText.{is_blank}
-use Rattle.expo_text.specs.Lines.{Malformed, AreBlanks, IsQuoted, NoByte, Plain, Escaped, IsLabelWord, IsLabelText, AreLabels, NoLabel, LastLabel, NextLabel}
-use Rattle.expo_text.specs.Walked.{Place, BeforeName, InName, AfterName, BeforeValue, InValue, InEscape, AfterValue, Ended, Failed, move, completed, has_ended, skip, value_entry, labels_entry}
+use Rattle.expo_text.specs.Lines.{Malformed, AreBlanks, IsQuoted, NoByte, Plain, Escaped, IsLabelWord, IsLabelText, AreLabels}
+use Rattle.expo_text.specs.Lines.{NoLabel, LastLabel, NextLabel}
+use Rattle.expo_text.specs.Walked.{Place, BeforeName, InName, AfterName, BeforeValue, InValue, InEscape, AfterValue, Ended}
+use Rattle.expo_text.specs.Walked.{Failed, move, completed, has_ended, skip, value_entry, labels_entry}
 use Rattle.expo_text.proofs.LabelsWalked.{IsInWord}
 
 -- one more blank in front of others
@@ -18,7 +21,8 @@ no_blanks = All-nil (λ (c : ℕ). is_blank c ≡ true)
 -- what follows a label: the closing brace, or a comma and labels
 data Follows : List ℕ → List (List ℕ × List ℕ) → Type 0 where
   Brace : (gap : List ℕ) → AreBlanks gap → Follows (gap ++ codes "}") []
-  Comma : (gap rest : List ℕ) (labels : List (List ℕ × List ℕ)) → AreBlanks gap → AreLabels rest labels → Follows (gap ++ codes "," ++ rest) labels
+  Comma : (gap rest : List ℕ) (labels : List (List ℕ × List ℕ)) → AreBlanks gap → AreLabels rest labels
+      → Follows (gap ++ codes "," ++ rest) labels
 
 -- what follows a part of a value
 record FollowsValue (label so_far text : List ℕ) (labels : List (List ℕ × List ℕ)) : Type 0 where
@@ -74,7 +78,8 @@ From Ended text labels = ⊤
 From Failed text labels = ⊥
 
 -- a blank in front of a label
-blank_label : (b : ℕ) → is_blank b ≡ true → (text : List ℕ) (label : List ℕ × List ℕ) → IsLabelText text label → IsLabelText (b ∷ text) label
+blank_label : (b : ℕ) → is_blank b ≡ true → (text : List ℕ) (label : List ℕ × List ℕ) → IsLabelText text label
+    → IsLabelText (b ∷ text) label
 blank_label b one text label is = record {
   before = b ∷ is.before;
   after_name = is.after_name;
@@ -87,18 +92,22 @@ blank_label b one text label is = record {
 }
 
 -- a blank in front of labels
-blank_labels : (b : ℕ) → is_blank b ≡ true → (text : List ℕ) (labels : List (List ℕ × List ℕ)) → AreLabels text labels → AreLabels (b ∷ text) labels
+blank_labels : (b : ℕ) → is_blank b ≡ true → (text : List ℕ) (labels : List (List ℕ × List ℕ)) → AreLabels text labels
+    → AreLabels (b ∷ text) labels
 blank_labels b one text labels (NoLabel gap blank) = NoLabel (b ∷ gap) (more_blank b gap one blank)
 blank_labels b one text labels (LastLabel front label is) = LastLabel (b ∷ front) label (blank_label b one front label is)
-blank_labels b one text labels (NextLabel front more label others is are) = NextLabel (b ∷ front) more label others (blank_label b one front label is) are
+blank_labels b one text labels (NextLabel front more label others is are) = NextLabel (b ∷ front) more label others
+    (blank_label b one front label is) are
 
 -- a blank in front of what follows a label
-blank_follows : (b : ℕ) → is_blank b ≡ true → (text : List ℕ) (labels : List (List ℕ × List ℕ)) → Follows text labels → Follows (b ∷ text) labels
+blank_follows : (b : ℕ) → is_blank b ≡ true → (text : List ℕ) (labels : List (List ℕ × List ℕ)) → Follows text labels
+    → Follows (b ∷ text) labels
 blank_follows b one text labels (Brace gap blank) = Brace (b ∷ gap) (more_blank b gap one blank)
 blank_follows b one text labels (Comma gap rest others blank are) = Comma (b ∷ gap) rest others (more_blank b gap one blank) are
 
 -- a label's text, put together
-label_of : (word gap gap' gap'' value : List ℕ) → IsLabelWord word → AreBlanks gap → AreBlanks gap' → AreBlanks gap'' → IsQuoted value
+label_of : (word gap gap' gap'' value : List ℕ) → IsLabelWord word → AreBlanks gap → AreBlanks gap' → AreBlanks gap''
+    → IsQuoted value
     → IsLabelText (word ++ gap ++ codes "=" ++ gap' ++ codes "\"" ++ value ++ codes "\"" ++ gap'') (word, value)
 label_of word gap gap' gap'' value is blank blank' blank'' quoted = record {
   before = [];
@@ -113,14 +122,16 @@ label_of word gap gap' gap'' value is blank blank' blank'' quoted = record {
 
 -- a label and what follows it
 labels_with : (front text : List ℕ) (label : List ℕ × List ℕ) (labels : List (List ℕ × List ℕ))
-    → ((gap : List ℕ) → AreBlanks gap → IsLabelText (front ++ gap) label) → Follows text labels → AreLabels (front ++ text) (label ∷ labels)
+    → ((gap : List ℕ) → AreBlanks gap → IsLabelText (front ++ gap) label) → Follows text labels
+    → AreLabels (front ++ text) (label ∷ labels)
 labels_with front text label labels is (Brace gap blank) =
     subst (λ t. AreLabels t (label ∷ [])) (append_assoc front gap (codes "}")) (LastLabel (front ++ gap) label (is gap blank))
 labels_with front text label labels is (Comma gap rest others blank are) =
     subst (λ t. AreLabels t (label ∷ others)) (simp append_assoc) (NextLabel (front ++ gap) rest label others (is gap blank) are)
 
 -- a name's first byte and what follows it
-first_byte : (b : ℕ) (text : List ℕ) (labels : List (List ℕ × List ℕ)) → b ≢ 125 → is_blank b ≡ false → FollowsPart (b ∷ []) text labels
+first_byte : (b : ℕ) (text : List ℕ) (labels : List (List ℕ × List ℕ)) → b ≢ 125 → is_blank b ≡ false
+    → FollowsPart (b ∷ []) text labels
     → AreLabels (b ∷ text) labels
 first_byte b text labels brace solid part =
     let named = part.follows in
@@ -129,16 +140,21 @@ first_byte b text labels brace solid part =
     let word = b ∷ part.more in
     let front : List ℕ = word ++ named.gap ++ codes "=" ++ equalled.gap ++ codes "\"" ++ valued.value ++ codes "\"" in
     let flat : front ++ valued.rest ≡ b ∷ text =
-    simp append_assoc (sym (ap (λ t. b ∷ t) (part.is ∙ ap (λ t. part.more ++ t) (named.is ∙ ap (λ t. named.gap ++ (61 ∷ t)) (equalled.is ∙ ap (λ t. equalled.gap ++ (34 ∷ t)) valued.is))))) in
+    simp append_assoc (sym (ap (λ t. b ∷ t)
+    (part.is ∙ ap (λ t. part.more ++ t)
+    (named.is ∙ ap (λ t. named.gap ++ (61 ∷ t)) (equalled.is ∙ ap (λ t. equalled.gap ++ (34 ∷ t)) valued.is))))) in
     let built : AreLabels (front ++ valued.rest) ((word, valued.value) ∷ valued.others) =
     labels_with front valued.rest (word, valued.value) valued.others
     (λ gap blank. subst (λ t. IsLabelText t (word, valued.value)) (simp append_assoc)
-    (label_of word named.gap equalled.gap gap valued.value (brace, solid, part.word) named.blank equalled.blank blank valued.quoted))
+    (label_of word named.gap equalled.gap gap valued.value (brace, solid, part.word) named.blank equalled.blank blank
+    valued.quoted))
     valued.follows in
-    subst (λ all. AreLabels (b ∷ text) all) (sym valued.all) (subst (λ t. AreLabels t ((word, valued.value) ∷ valued.others)) flat built)
+    subst (λ all. AreLabels (b ∷ text) all) (sym valued.all)
+    (subst (λ t. AreLabels t ((word, valued.value) ∷ valued.others)) flat built)
 
 -- a byte of a value and what follows it
-value_byte : (label so_far piece text : List ℕ) (labels : List (List ℕ × List ℕ)) → ((value : List ℕ) → IsQuoted value → IsQuoted (piece ++ value))
+value_byte : (label so_far piece text : List ℕ) (labels : List (List ℕ × List ℕ))
+    → ((value : List ℕ) → IsQuoted value → IsQuoted (piece ++ value))
     → FollowsValue label (so_far ++ piece) text labels → FollowsValue label so_far (piece ++ text) labels
 value_byte label so_far piece text labels longer is = record {
   value = piece ++ is.value;
@@ -160,7 +176,8 @@ slash_byte label so_far text labels is =
     (value_byte label so_far (92 ∷ is.byte ∷ []) is.rest labels (λ value quoted. Escaped is.byte value quoted) whole)
 
 -- the quote after a value
-end_quote : (label so_far text : List ℕ) (labels : List (List ℕ × List ℕ)) → Follows text labels → FollowsValue label so_far (34 ∷ text) ((label, so_far) ∷ labels)
+end_quote : (label so_far text : List ℕ) (labels : List (List ℕ × List ℕ)) → Follows text labels
+    → FollowsValue label so_far (34 ∷ text) ((label, so_far) ∷ labels)
 end_quote label so_far text labels is = record {
   value = [];
   rest = text;
@@ -172,7 +189,8 @@ end_quote label so_far text labels is = record {
 }
 
 -- a byte of a name and what follows it
-part_byte : (so_far text : List ℕ) (b : ℕ) (labels : List (List ℕ × List ℕ)) → IsInWord b → FollowsPart (so_far ++ (b ∷ [])) text labels → FollowsPart so_far (b ∷ text) labels
+part_byte : (so_far text : List ℕ) (b : ℕ) (labels : List (List ℕ × List ℕ)) → IsInWord b
+    → FollowsPart (so_far ++ (b ∷ [])) text labels → FollowsPart so_far (b ∷ text) labels
 part_byte so_far text b labels here is = record {
   more = b ∷ is.more;
   rest = is.rest;
@@ -182,7 +200,8 @@ part_byte so_far text b labels here is = record {
 }
 
 -- the end of a name
-part_end : (so_far text : List ℕ) (labels : List (List ℕ × List ℕ)) → FollowsName so_far text labels → FollowsPart so_far text labels
+part_end : (so_far text : List ℕ) (labels : List (List ℕ × List ℕ)) → FollowsName so_far text labels
+    → FollowsPart so_far text labels
 part_end so_far text labels is = record {
   more = [];
   rest = text;
@@ -192,7 +211,8 @@ part_end so_far text labels is = record {
 }
 
 -- a blank after a name
-name_blank : (b : ℕ) → is_blank b ≡ true → (label text : List ℕ) (labels : List (List ℕ × List ℕ)) → FollowsName label text labels → FollowsName label (b ∷ text) labels
+name_blank : (b : ℕ) → is_blank b ≡ true → (label text : List ℕ) (labels : List (List ℕ × List ℕ)) → FollowsName label text labels
+    → FollowsName label (b ∷ text) labels
 name_blank b one label text labels is = record {
   gap = b ∷ is.gap;
   rest = is.rest;
@@ -202,11 +222,13 @@ name_blank b one label text labels is = record {
 }
 
 -- `=` after a name
-name_equals : (label text : List ℕ) (labels : List (List ℕ × List ℕ)) → FollowsEquals label text labels → FollowsName label (61 ∷ text) labels
+name_equals : (label text : List ℕ) (labels : List (List ℕ × List ℕ)) → FollowsEquals label text labels
+    → FollowsName label (61 ∷ text) labels
 name_equals label text labels is = record { gap = []; rest = text; is = refl; blank = no_blanks; follows = is }
 
 -- a blank after `=`
-equals_blank : (b : ℕ) → is_blank b ≡ true → (label text : List ℕ) (labels : List (List ℕ × List ℕ)) → FollowsEquals label text labels → FollowsEquals label (b ∷ text) labels
+equals_blank : (b : ℕ) → is_blank b ≡ true → (label text : List ℕ) (labels : List (List ℕ × List ℕ))
+    → FollowsEquals label text labels → FollowsEquals label (b ∷ text) labels
 equals_blank b one label text labels is = record {
   gap = b ∷ is.gap;
   rest = is.rest;
@@ -216,7 +238,8 @@ equals_blank b one label text labels is = record {
 }
 
 -- a quote after `=`
-equals_quote : (label text : List ℕ) (labels : List (List ℕ × List ℕ)) → FollowsValue label [] text labels → FollowsEquals label (34 ∷ text) labels
+equals_quote : (label text : List ℕ) (labels : List (List ℕ × List ℕ)) → FollowsValue label [] text labels
+    → FollowsEquals label (34 ∷ text) labels
 equals_quote label text labels is = record { gap = []; rest = text; is = refl; blank = no_blanks; follows = is }
 
 -- no list ends at this byte
@@ -256,7 +279,8 @@ at_in_name so_far b text labels on from =
 at_after_name : (label : List ℕ) → IsBefore (AfterName label)
 at_after_name label b text labels on from =
     elim (cases_Bool (b == 61)) [
-      | inl here ↦ subst (λ c. FollowsName label (c ∷ text) labels) (sym (eqb-true b 61 here)) (name_equals label text labels (rw here at from))
+      | inl here ↦ subst (λ c. FollowsName label (c ∷ text) labels) (sym (eqb-true b 61 here))
+          (name_equals label text labels (rw here at from))
       | inr other ↦ elim (cases_Bool (is_blank b)) [
         | inl blank ↦ name_blank b blank label text labels (rw (other, blank) at from)
         | inr solid ↦ absurd (rw (other, solid) at from)
@@ -266,7 +290,8 @@ at_after_name label b text labels on from =
 at_before_value : (label : List ℕ) → IsBefore (BeforeValue label)
 at_before_value label b text labels on from =
     elim (cases_Bool (b == 34)) [
-      | inl here ↦ subst (λ c. FollowsEquals label (c ∷ text) labels) (sym (eqb-true b 34 here)) (equals_quote label text labels (rw here at from))
+      | inl here ↦ subst (λ c. FollowsEquals label (c ∷ text) labels) (sym (eqb-true b 34 here))
+          (equals_quote label text labels (rw here at from))
       | inr other ↦ elim (cases_Bool (is_blank b)) [
         | inl blank ↦ equals_blank b blank label text labels (rw (other, blank) at from)
         | inr solid ↦ absurd (rw (other, solid) at from)
@@ -276,20 +301,24 @@ at_before_value label b text labels on from =
 at_in_value : (label so_far : List ℕ) → IsBefore (InValue label so_far)
 at_in_value label so_far b text labels on from =
     elim (cases_Bool (b == 34)) [
-      | inl quote ↦ rw quote (subst (λ c. FollowsValue label so_far (c ∷ text) ((label, so_far) ∷ labels)) (sym (eqb-true b 34 quote))
+      | inl quote ↦ rw quote (subst (λ c. FollowsValue label so_far (c ∷ text) ((label, so_far) ∷ labels))
+          (sym (eqb-true b 34 quote))
           (end_quote label so_far text labels (rw quote at from)))
       | inr other ↦ rw other (elim (cases_Bool (b == 92)) [
         | inl slash ↦ let followed : FollowsSlash label (so_far ++ (b ∷ [])) text labels = rw (other, slash) at from in
             subst (λ c. FollowsValue label so_far (c ∷ text) labels) (sym (eqb-true b 92 slash))
-            (slash_byte label so_far text labels (subst (λ c. FollowsSlash label (so_far ++ (c ∷ [])) text labels) (eqb-true b 92 slash) followed))
-        | inr plain ↦ value_byte label so_far (b ∷ []) text labels (λ value quoted. Plain b value (differ b 34 other) (differ b 92 plain) quoted) (rw (other, plain) at from)
+            (slash_byte label so_far text labels
+            (subst (λ c. FollowsSlash label (so_far ++ (c ∷ [])) text labels) (eqb-true b 92 slash) followed))
+        | inr plain ↦ value_byte label so_far (b ∷ []) text labels
+            (λ value quoted. Plain b value (differ b 34 other) (differ b 92 plain) quoted) (rw (other, plain) at from)
       ])
     ]
 
 at_after_value : IsBefore AfterValue
 at_after_value b text labels on from =
     elim (cases_Bool (b == 44)) [
-      | inl comma ↦ subst (λ c. Follows (c ∷ text) labels) (sym (eqb-true b 44 comma)) (Comma [] text labels no_blanks (rw comma at from))
+      | inl comma ↦ subst (λ c. Follows (c ∷ text) labels) (sym (eqb-true b 44 comma))
+          (Comma [] text labels no_blanks (rw comma at from))
       | inr other ↦ elim (cases_Bool (b == 125)) [
         | inl brace ↦ absurd (both_ways true (rw (other, brace) at on) refl)
         | inr unclosed ↦ elim (cases_Bool (is_blank b)) [
@@ -390,7 +419,8 @@ found name (b ∷ bytes) place done formed =
         goes = rw (ended, append-nil done) refl;
       }
       | inr on ↦
-          let goes : labels_entry name place done (b ∷ bytes) ≡ labels_entry name (move place b) (done ++ completed place b) bytes = rw on refl in
+          let goes : labels_entry name place done (b ∷ bytes) ≡ labels_entry name (move place b) (done ++ completed place b)
+          bytes = rw on refl in
           let more = found name bytes (move place b) (done ++ completed place b) (λ e. formed (goes ∙ e)) in
           record {
             text = b ∷ more.text;
@@ -398,7 +428,8 @@ found name (b ∷ bytes) place done formed =
             labels = completed place b ++ more.labels;
             is = ap (λ t. b ∷ t) more.is;
             from = at_place place b more.text more.labels on more.from;
-            goes = goes ∙ more.goes ∙ ap (λ all. value_entry name all (skip more.rest)) (append_assoc done (completed place b) more.labels);
+            goes = goes ∙ more.goes ∙ ap (λ all. value_entry name all (skip more.rest))
+                (append_assoc done (completed place b) more.labels);
           }
     ]
 

@@ -1,5 +1,6 @@
 -- The labels of a sample read back, one byte at a time.
-use Rattle.std.proofs.Common.{◌≡◌, ℕ, Bool, true, false, ◌==◌, List, [], ◌∷◌, ◌++◌, map, codes, refl, sym, ap, ◌∙◌, inl, inr, append_assoc, append-nil}
+use Rattle.std.proofs.Common.{◌≡◌, ℕ, Bool, true, false, ◌==◌, List, [], ◌∷◌, ◌++◌, map, codes, refl, sym, ap, ◌∙◌, inl, inr}
+use Rattle.std.proofs.Common.{append_assoc, append-nil}
 use Rattle.std.specs.Prelude.{flat_map, ⊤}
 use Rattle.std.specs.List.{join_by}
 use Rattle.std.proofs.lemmas.Bool.{cases_Bool}
@@ -93,7 +94,9 @@ labels_after : (name rest : List ℕ) (done labels : List (List ℕ × List ℕ)
 labels_after name rest done [] named = ap (λ labels. value_entry name labels (skip rest)) (sym (append-nil done))
 labels_after name rest done (label ∷ labels) named =
     let more = flat_map (λ (other : List ℕ × List ℕ). codes "," ++ label_text other) labels ++ (125 ∷ rest) in
-    ap (λ s. labels_entry name AfterValue done (44 ∷ s)) (append_assoc (label_text label) (flat_map (λ (other : List ℕ × List ℕ). codes "," ++ label_text other) labels) (125 ∷ rest) ∙ label_parts label more)
+    ap (λ s. labels_entry name AfterValue done (44 ∷ s))
+    (append_assoc (label_text label) (flat_map (λ (other : List ℕ × List ℕ). codes "," ++ label_text other) labels)
+    (125 ∷ rest) ∙ label_parts label more)
     ∙ step name AfterValue BeforeName done 44 (label.0 ++ (61 ∷ 34 ∷ flat_map label_byte label.1 ++ (34 ∷ more))) refl refl refl
     ∙ label_read name label.0 label.1 more done named.0
     ∙ labels_after name rest (done ++ (written_label label ∷ [])) labels named.1
@@ -105,6 +108,8 @@ pub labels_read : (name rest : List ℕ) (label : List ℕ × List ℕ) (labels 
     ≡ value_entry name (map written_label (label ∷ labels)) (skip rest)
 labels_read name rest label labels named =
     let more = flat_map (λ (other : List ℕ × List ℕ). codes "," ++ label_text other) labels ++ (125 ∷ rest) in
-    ap (λ s. labels_entry name BeforeName [] s) (append_assoc (label_text label) (flat_map (λ (other : List ℕ × List ℕ). codes "," ++ label_text other) labels) (125 ∷ rest) ∙ label_parts label more)
+    ap (λ s. labels_entry name BeforeName [] s)
+    (append_assoc (label_text label) (flat_map (λ (other : List ℕ × List ℕ). codes "," ++ label_text other) labels)
+    (125 ∷ rest) ∙ label_parts label more)
     ∙ label_read name label.0 label.1 more [] named.0
     ∙ labels_after name rest (written_label label ∷ []) labels named.1

@@ -4,8 +4,10 @@ use Rattle.std.specs.Prelude.{All}
 use Rattle.std.proofs.lemmas.Bool.{ne_eqb}
 use Rattle.std.proofs.lemmas.List.Elements.{All-head, All-tail}
 use Rattle.metric_names.specs.HelpText.{is_blank}
-use Rattle.expo_text.specs.Lines.{AreBlanks, IsQuoted, NoByte, Plain, Escaped, IsLabelWord, IsLabelText, AreLabels, NoLabel, LastLabel, NextLabel}
-use Rattle.expo_text.specs.Walked.{Place, BeforeName, InName, AfterName, BeforeValue, InValue, InEscape, AfterValue, move, completed, has_ended, skip, value_entry, labels_entry}
+use Rattle.expo_text.specs.Lines.{AreBlanks, IsQuoted, NoByte, Plain, Escaped, IsLabelWord, IsLabelText, AreLabels, NoLabel}
+use Rattle.expo_text.specs.Lines.{LastLabel, NextLabel}
+use Rattle.expo_text.specs.Walked.{Place, BeforeName, InName, AfterName, BeforeValue, InValue, InEscape, AfterValue, move}
+use Rattle.expo_text.specs.Walked.{completed, has_ended, skip, value_entry, labels_entry}
 use Rattle.expo_text.proofs.Tokens.{other_byte}
 
 -- one byte that completes no label and ends no list
@@ -25,7 +27,8 @@ blank_other b c fails passes = other_byte is_blank b c fails passes
 
 -- the blanks where each leads back to the same place
 stay : (name : List ℕ) (place : Place) (done : List (List ℕ × List ℕ)) (gap rest : List ℕ)
-    → ((b : ℕ) → is_blank b ≡ true → move place b ≡ place) → has_ended place ≡ false → ((b : ℕ) → is_blank b ≡ true → completed place b ≡ [])
+    → ((b : ℕ) → is_blank b ≡ true → move place b ≡ place) → has_ended place ≡ false
+    → ((b : ℕ) → is_blank b ≡ true → completed place b ≡ [])
     → AreBlanks gap → labels_entry name place done (gap ++ rest) ≡ labels_entry name place done rest
 stay name place done [] rest back on none blank = refl
 stay name place done (b ∷ gap) rest back on none blank =
@@ -51,7 +54,8 @@ before_quote name word done gap rest blank =
 after_value : (name : List ℕ) (done : List (List ℕ × List ℕ)) (gap rest : List ℕ) → AreBlanks gap
     → labels_entry name AfterValue done (gap ++ rest) ≡ labels_entry name AfterValue done rest
 after_value name done gap rest blank =
-    stay name AfterValue done gap rest (λ b h. rw (blank_other b 44 refl h, blank_other b 125 refl h, h) refl) refl (λ b h. refl) blank
+    stay name AfterValue done gap rest (λ b h. rw (blank_other b 44 refl h, blank_other b 125 refl h, h) refl) refl
+    (λ b h. refl) blank
 
 -- the blanks after a name, and `=`
 equals : (name word : List ℕ) (done : List (List ℕ × List ℕ)) (gap rest : List ℕ) → AreBlanks gap
@@ -93,12 +97,14 @@ pub escaped : (name label value rest : List ℕ) (done : List (List ℕ × List 
     ≡ labels_entry name (InValue label (value ++ (92 ∷ c ∷ []))) done rest
 escaped name label value rest done c =
     step name (InValue label value) (InEscape label (value ++ (92 ∷ []))) done 92 (c ∷ rest) refl refl refl
-    ∙ step name (InEscape label (value ++ (92 ∷ []))) (InValue label ((value ++ (92 ∷ [])) ++ (c ∷ []))) done c rest refl refl refl
+    ∙ step name (InEscape label (value ++ (92 ∷ []))) (InValue label ((value ++ (92 ∷ [])) ++ (c ∷ []))) done c rest refl refl
+    refl
     ∙ ap (λ s. labels_entry name (InValue label s) done rest) (append_assoc value (92 ∷ []) (c ∷ []))
 
 -- a value and the quote after it
 quoted : (name label so_far rest : List ℕ) (done : List (List ℕ × List ℕ)) (value : List ℕ) → IsQuoted value
-    → labels_entry name (InValue label so_far) done (value ++ (34 ∷ rest)) ≡ labels_entry name AfterValue (done ++ ((label, so_far ++ value) ∷ [])) rest
+    → labels_entry name (InValue label so_far) done (value ++ (34 ∷ rest)) ≡ labels_entry name AfterValue
+    (done ++ ((label, so_far ++ value) ∷ [])) rest
 quoted name label so_far rest done value NoByte =
     ap (λ s. labels_entry name AfterValue (done ++ ((label, s) ∷ [])) rest) (sym (append-nil so_far))
 quoted name label so_far rest done value (Plain b more quote slash is) =
@@ -114,10 +120,12 @@ quoted name label so_far rest done value (Escaped b more is) =
 label_walked : (name text rest : List ℕ) (label : List ℕ × List ℕ) (done : List (List ℕ × List ℕ)) → IsLabelText text label
     → labels_entry name BeforeName done (text ++ rest) ≡ labels_entry name AfterValue (done ++ (label ∷ [])) rest
 label_walked name text rest label done is =
-    let flat : text ++ rest ≡ is.before ++ (label.0 ++ (is.after_name ++ (61 ∷ is.before_value ++ (34 ∷ label.1 ++ (34 ∷ is.after ++ rest))))) =
+    let flat : text ++ rest ≡ is.before
+    ++ (label.0 ++ (is.after_name ++ (61 ∷ is.before_value ++ (34 ∷ label.1 ++ (34 ∷ is.after ++ rest))))) =
     ap (λ t. t ++ rest) is.is ∙ simp append_assoc in
     ap (λ t. labels_entry name BeforeName done t) flat
-    ∙ before_name name done is.before (label.0 ++ (is.after_name ++ (61 ∷ is.before_value ++ (34 ∷ label.1 ++ (34 ∷ is.after ++ rest))))) is.blanks.0
+    ∙ before_name name done is.before
+    (label.0 ++ (is.after_name ++ (61 ∷ is.before_value ++ (34 ∷ label.1 ++ (34 ∷ is.after ++ rest))))) is.blanks.0
     ∙ whole_word name label.0 (is.after_name ++ (61 ∷ is.before_value ++ (34 ∷ label.1 ++ (34 ∷ is.after ++ rest)))) done is.name
     ∙ equals name label.0 done is.after_name (is.before_value ++ (34 ∷ label.1 ++ (34 ∷ is.after ++ rest))) is.blanks.1
     ∙ before_quote name label.0 done is.before_value (34 ∷ label.1 ++ (34 ∷ is.after ++ rest)) is.blanks.2
@@ -126,7 +134,8 @@ label_walked name text rest label done is =
     ∙ after_value name (done ++ (label ∷ [])) is.after rest is.blanks.3
 
 -- the labels that stand in a text are those that the walk finds
-pub labels_walked : (name rest : List ℕ) (done : List (List ℕ × List ℕ)) (text : List ℕ) (labels : List (List ℕ × List ℕ)) → AreLabels text labels
+pub labels_walked : (name rest : List ℕ) (done : List (List ℕ × List ℕ)) (text : List ℕ) (labels : List (List ℕ × List ℕ))
+    → AreLabels text labels
     → labels_entry name BeforeName done (text ++ rest) ≡ value_entry name (done ++ labels) (skip rest)
 labels_walked name rest done text labels (NoLabel gap blank) =
     ap (λ t. labels_entry name BeforeName done t) (append_assoc gap (125 ∷ []) rest)
@@ -136,7 +145,8 @@ labels_walked name rest done text labels (LastLabel front label is) =
     ap (λ t. labels_entry name BeforeName done t) (append_assoc front (125 ∷ []) rest)
     ∙ label_walked name front (125 ∷ rest) label done is
 labels_walked name rest done text labels (NextLabel front more label others is are) =
-    ap (λ t. labels_entry name BeforeName done t) (append_assoc (front ++ (44 ∷ [])) more rest ∙ append_assoc front (44 ∷ []) (more ++ rest))
+    ap (λ t. labels_entry name BeforeName done t) (append_assoc (front ++ (44 ∷ [])) more rest
+    ∙ append_assoc front (44 ∷ []) (more ++ rest))
     ∙ label_walked name front (44 ∷ (more ++ rest)) label done is
     ∙ step name AfterValue BeforeName (done ++ (label ∷ [])) 44 (more ++ rest) refl refl refl
     ∙ labels_walked name rest (done ++ (label ∷ [])) more others are

@@ -1,11 +1,13 @@
 -- How a scraper reads each line that a scrape prints.
-use Rattle.std.proofs.Common.{◌≡◌, ℕ, true, false, not, ◌==◌, if◌then◌else◌, List, [], ◌∷◌, ◌++◌, map, codes, refl, sym, ap, ap₂, ◌∙◌, append-nil, append_assoc}
+use Rattle.std.proofs.Common.{◌≡◌, ℕ, true, false, not, ◌==◌, if◌then◌else◌, List, [], ◌∷◌, ◌++◌, map, codes, refl, sym, ap, ap₂}
+use Rattle.std.proofs.Common.{◌∙◌, append-nil, append_assoc}
 use Rattle.std.specs.List.{join_by}
 use Rattle.std.proofs.lemmas.Bool.{not_from_false, and_from}
 use Rattle.metric_names.specs.HelpText.{is_blank}
 use Rattle.expo_text.specs.Text.{label_text, labels_text}
 use Rattle.expo_text.specs.Lines.{is_same_text, Help, Typed, Sampled, Malformed}
-use Rattle.expo_text.specs.Walked.{skip, in_token, first, after, value_entry, in_name, after_name, type_entry, entry_from, entry_of}
+use Rattle.expo_text.specs.Walked.{skip, in_token, first, after, value_entry, in_name, after_name, type_entry, entry_from}
+use Rattle.expo_text.specs.Walked.{entry_of}
 use Rattle.expo_text.proofs.Entries.{written_label}
 use Rattle.expo_text.proofs.Tokens.{Each, Stops, each_weaker, take_while_all, drop_while_all, other_byte}
 use Rattle.expo_text.proofs.LabelsRead.{is_name_byte, name_no_blank, IsNamed, AreNamed, labels_read}
@@ -79,7 +81,8 @@ type_tokens : (name word : List ℕ) → Each in_token name → Each in_token wo
     → type_entry (name ++ (32 ∷ word)) ≡ Typed name word
 type_tokens name word h k stops =
     let all = name ++ (32 ∷ word) in
-    ap (λ rest. if is_same_text (after rest) [] then Typed (first all) (first rest) else Malformed) (after_token name word h stops)
+    ap (λ rest. if is_same_text (after rest) [] then Typed (first all) (first rest) else Malformed)
+    (after_token name word h stops)
     ∙ ap (λ end. if is_same_text end [] then Typed (first all) (first word) else Malformed) (after_only word k)
     ∙ ap₂ Typed (first_token name word h) (only_token word k)
 
@@ -94,7 +97,8 @@ type_read name word named k stops =
 value_read : (name token : List ℕ) (labels : List (List ℕ × List ℕ)) → Each in_token token
     → value_entry name labels token ≡ Sampled (record { name = name; labels = labels; value = token })
 value_read name token labels h =
-    ap (λ end. if is_same_text end [] then Sampled (record { name = name; labels = labels; value = first token }) else Malformed) (after_only token h)
+    ap (λ end. if is_same_text end [] then Sampled (record { name = name; labels = labels; value = first token }) else Malformed)
+    (after_only token h)
     ∙ ap (λ value. Sampled (record { name = name; labels = labels; value = value })) (only_token token h)
 
 -- a line that begins with a name is that of a sample

@@ -1,5 +1,6 @@
 -- The lines of a scrape, and what a scraper finds in them.
-use Rattle.std.proofs.Common.{◌≡◌, ◌≢◌, ℕ, ◌==◌, List, [], ◌∷◌, ◌++◌, map, codes, All, refl, sym, ap, ap₂, ◌∙◌, append_assoc, append-nil}
+use Rattle.std.proofs.Common.{◌≡◌, ◌≢◌, ℕ, ◌==◌, List, [], ◌∷◌, ◌++◌, map, codes, All, refl, sym, ap, ap₂, ◌∙◌, append_assoc}
+use Rattle.std.proofs.Common.{append-nil}
 use Rattle.std.specs.Prelude.{flat_map}
 use Rattle.std.specs.List.{slice_split}
 use Rattle.std.specs.Fmt.{signed_decimal}
@@ -80,7 +81,8 @@ is_sample_line sample printed =
     let labels = labels_named sample.labels printed.labels in
     let token = value_token sample.value printed.value in
     record {
-      kept = each_append is_kept sample.name (labels_text sample.labels ++ (32 ∷ signed_decimal sample.value)) (named_kept sample.name named)
+      kept = each_append is_kept sample.name (labels_text sample.labels ++ (32 ∷ signed_decimal sample.value))
+          (named_kept sample.name named)
           (each_append is_kept (labels_text sample.labels) (32 ∷ signed_decimal sample.value) (labels_kept sample.labels labels)
           (refl, token_kept (signed_decimal sample.value) token));
       reads = sample_read sample.name (signed_decimal sample.value) sample.labels named labels token;
@@ -88,7 +90,8 @@ is_sample_line sample printed =
     }
 
 -- the lines of samples
-are_sample_lines : (samples : List Sample) → All IsPrintedSample samples → Match IsPrintedLine (map sample_body samples) (map sampled samples)
+are_sample_lines : (samples : List Sample) → All IsPrintedSample samples → Match IsPrintedLine (map sample_body samples)
+    (map sampled samples)
 are_sample_lines [] printed = tt
 are_sample_lines (sample ∷ samples) printed = (
   is_sample_line sample (All-head IsPrintedSample sample samples printed),
@@ -96,7 +99,8 @@ are_sample_lines (sample ∷ samples) printed = (
 )
 
 -- the line of a help, if there is one
-are_help_lines : (name help : List ℕ) → IsNamed name → IsHelpText help → Match IsPrintedLine (help_lines name help) (help_entries name help)
+are_help_lines : (name help : List ℕ) → IsNamed name → IsHelpText help → Match IsPrintedLine (help_lines name help)
+    (help_entries name help)
 are_help_lines name [] named is = tt
 are_help_lines name (byte ∷ bytes) named is =
     let written = flat_map help_byte (byte ∷ bytes) in (
@@ -141,7 +145,8 @@ is_type_line name kind named = record {
 are_group_lines : (group : Group) → IsPrintedGroup group → Match IsPrintedLine (group_lines group) (group_entries group)
 are_group_lines group printed =
     let named = metric_named group.name printed.name in
-    match_append IsPrintedLine (help_lines group.name group.help) (type_body group.name group.kind ∷ map sample_body group.samples)
+    match_append IsPrintedLine (help_lines group.name group.help)
+    (type_body group.name group.kind ∷ map sample_body group.samples)
     (help_entries group.name group.help) (Typed group.name (word_of group.kind) ∷ map sampled group.samples)
     (are_help_lines group.name group.help named printed.help)
     (is_type_line group.name group.kind named, are_sample_lines group.samples printed.samples)
@@ -173,7 +178,8 @@ read_back (line ∷ lines) [] h = absurd h
 read_back (line ∷ lines) (entry ∷ entries) h = ap₂ ◌∷◌ h.0.reads (read_back lines entries h.1)
 
 -- each line is one of the format
-formed_each : (lines : List (List ℕ)) (entries : List LineEntry) → Match IsPrintedLine lines entries → All (λ line. entry_of line ≢ Malformed) lines
+formed_each : (lines : List (List ℕ)) (entries : List LineEntry) → Match IsPrintedLine lines entries
+    → All (λ line. entry_of line ≢ Malformed) lines
 formed_each [] [] h = All-nil (λ line. entry_of line ≢ Malformed)
 formed_each [] (entry ∷ entries) h = absurd h
 formed_each (line ∷ lines) [] h = absurd h
@@ -236,7 +242,8 @@ lines_read scrape printed =
     let found : Match IsPrintedLine (lines_of groups) (entries_of groups) = are_lines groups printed in
     record {
       lines = lines_of groups;
-      cut = ap (λ bytes. slice_split (λ b. b == 10) bytes) (fed_families scrape.families) ∙ cut_back (lines_of groups) (entries_of groups) found;
+      cut = ap (λ bytes. slice_split (λ b. b == 10) bytes) (fed_families scrape.families)
+          ∙ cut_back (lines_of groups) (entries_of groups) found;
       read = read_back (lines_of groups) (entries_of groups) found;
       formed = formed_each (lines_of groups) (entries_of groups) found;
     }

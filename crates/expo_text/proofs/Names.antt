@@ -1,5 +1,6 @@
 -- Names, helps and values by their bytes.
-use Rattle.std.proofs.Common.{◌≡◌, ℕ, ◌<◌, ◌^◌, Bool, true, false, ◌-◌, suc, slice_index, ◌&&◌, ◌||◌, ◌==◌, nat_lt, IsTrue, List, [], ◌∷◌, ◌++◌, length, get_or, All, pos, nat_abs, decimal, refl, inl, inr, arith, le-leb}
+use Rattle.std.proofs.Common.{◌≡◌, ℕ, ◌<◌, ◌^◌, Bool, true, false, ◌-◌, suc, slice_index, ◌&&◌, ◌||◌, ◌==◌, nat_lt, IsTrue, List}
+use Rattle.std.proofs.Common.{[], ◌∷◌, ◌++◌, length, get_or, All, pos, nat_abs, decimal, refl, inl, inr, arith, le-leb}
 use Rattle.std.specs.Prelude.{ℤ, negsuc, flat_map}
 use Rattle.std.specs.Fmt.{signed_decimal}
 use Rattle.std.specs.Str.Parse.{AllDigits}
@@ -36,7 +37,8 @@ named_from [] some h = absurd (omega arith)
 named_from (c ∷ cs) some h = h
 
 -- a text that is spelled as a name, by its bytes
-spelled : (colon : Bool) (text : List ℕ) → ((k : ℕ) → k < length text → IsTrue (name_takes colon k (get_or text k 0))) → Each is_name_byte text
+spelled : (colon : Bool) (text : List ℕ) → ((k : ℕ) → k < length text → IsTrue (name_takes colon k (get_or text k 0)))
+    → Each is_name_byte text
 spelled colon text h =
     each_from_All is_name_byte text
     (All-from_get_or (λ b. IsTrue (is_name_byte b)) text 0 (λ k lt. takes_wider colon k (get_or text k 0) (h k lt)))
@@ -50,7 +52,8 @@ pub label_named : (text : List ℕ) → IsLabelName text → IsNamed text
 label_named text is = named_from text is.nonempty (spelled false text is.spelled)
 
 -- the names of labels
-pub labels_named : (labels : List (List ℕ × List ℕ)) → All (λ (label : List ℕ × List ℕ). IsLabelName label.0) labels → AreNamed labels
+pub labels_named : (labels : List (List ℕ × List ℕ)) → All (λ (label : List ℕ × List ℕ). IsLabelName label.0) labels
+    → AreNamed labels
 labels_named [] h = tt
 labels_named (label ∷ labels) h = (
   label_named label.0 (All-head (λ (label : List ℕ × List ℕ). IsLabelName label.0) label labels h),

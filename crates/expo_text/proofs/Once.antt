@@ -11,7 +11,8 @@ use Rattle.expo_text.specs.Order.{IsFamily, IsScrape}
 use Rattle.expo_text.specs.Spelled.{IsSpelledIfPrinted}
 use Rattle.expo_text.specs.Groups.{Group, groups_of}
 use Rattle.expo_text.specs.Reads.{IsSameSeries}
-use Rattle.expo_text.proofs.Pairs.{Each, Pairs, Across, each_weaker, each_both, pairs_recursion, pairs_places, pairs_flat_map, pairs_weaker, across_by}
+use Rattle.expo_text.proofs.Pairs.{Each, Pairs, Across, each_weaker, each_both, pairs_recursion, pairs_places, pairs_flat_map}
+use Rattle.expo_text.proofs.Pairs.{pairs_weaker, across_by}
 use Rattle.expo_text.proofs.Families.{IsPrinted, each_group, pairs_groups}
 use Rattle.expo_text.proofs.Owned.{IsOfNames, family_names}
 use Rattle.expo_text.proofs.Apart.{AreApart, family_apart}
@@ -41,7 +42,8 @@ kind_names name Gauge = record {
 }
 
 -- the samples of two families whose names do not clash
-families_across : (a b : Family) → IsFamily a → IsFamily b → ¬ (Clash a.desc b.desc) → Across AreApart (samples_of_family a) (samples_of_family b)
+families_across : (a b : Family) → IsFamily a → IsFamily b → ¬ (Clash a.desc b.desc)
+    → Across AreApart (samples_of_family a) (samples_of_family b)
 families_across a b is_a is_b apart =
     across_by (λ (s : Sample). Contains (names_of a.desc) s.name) (λ (t : Sample). Contains (names_of b.desc) t.name) AreApart
     (λ s t left right same. apart (t.name, subst (λ name. Contains (names_of a.desc) name) same.name left, right))
@@ -57,8 +59,10 @@ pub record IsKnown (family : Family) : Type 0 where
 -- this is known of all families of a scrape
 pub all_known : (scrape : Scraped) → IsScrape scrape → All IsSpelledIfPrinted scrape.families → Each IsKnown scrape.families
 all_known scrape is spelled =
-    each_weaker (λ family. IsFamily family × IsSpelledIfPrinted family) IsKnown (λ family both. record { kept = both.0; spelled = both.1 }) scrape.families
-    (each_both IsFamily IsSpelledIfPrinted scrape.families (recursion_from_All IsFamily scrape.families is.each) (recursion_from_All IsSpelledIfPrinted scrape.families spelled))
+    each_weaker (λ family. IsFamily family × IsSpelledIfPrinted family) IsKnown
+    (λ family both. record { kept = both.0; spelled = both.1 }) scrape.families
+    (each_both IsFamily IsSpelledIfPrinted scrape.families (recursion_from_All IsFamily scrape.families is.each)
+    (recursion_from_All IsSpelledIfPrinted scrape.families spelled))
 
 -- no series stands twice
 pub once : (scrape : Scraped) → IsScrape scrape → All IsSpelledIfPrinted scrape.families
@@ -71,6 +75,8 @@ once scrape is spelled =
     (λ family known printed. family_apart family known.kept (known.spelled printed).desc.kept) scrape.families
     (all_known scrape is spelled)))
     (pairs_groups (λ (a b : Group). Across AreApart a.samples b.samples) scrape.families
-    (pairs_weaker IsFamily (λ a b. ¬ (Clash a.desc b.desc)) (λ a b. IsPrinted a → IsPrinted b → Across AreApart (samples_of_family a) (samples_of_family b))
+    (pairs_weaker IsFamily (λ a b. ¬ (Clash a.desc b.desc)) (λ a b. IsPrinted a → IsPrinted b
+    → Across AreApart (samples_of_family a) (samples_of_family b))
     (λ a b is_a is_b apart _ _. families_across a b is_a is_b apart) scrape.families
-    (recursion_from_All IsFamily scrape.families is.each) (pairs_recursion (λ a b. ¬ (Clash a.desc b.desc)) scrape.families is.apart))))
+    (recursion_from_All IsFamily scrape.families is.each)
+    (pairs_recursion (λ a b. ¬ (Clash a.desc b.desc)) scrape.families is.apart))))

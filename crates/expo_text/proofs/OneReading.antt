@@ -30,7 +30,8 @@ label_one written a b is_a is_b =
 
 -- a number's digits do not begin with a minus
 no_minus : (digits token : List ℕ) → token ≡ 45 ∷ digits → IsNumeral 10 token → ⊥
-no_minus digits token is numeral = let h : IsNumeral 10 (45 ∷ digits) = subst (IsNumeral 10) is numeral in let low = h.1.0 in absurd (omega (arith, low))
+no_minus digits token is numeral = let h : IsNumeral 10 (45 ∷ digits) = subst (IsNumeral 10) is numeral in let low = h.1.0 in
+    absurd (omega (arith, low))
 
 value_one : (kind : Kind) (token : List ℕ) (y z : ℤ) → WritesValue kind token y → WritesValue kind token z → y ≡ z
 value_one kind token y z (inl m) (inl n) = m.1 ∙ sym n.1
@@ -67,16 +68,19 @@ group_one : (part : Part) (a b : Group) → IsGroup part a → IsGroup part b �
 group_one part a b is_a is_b =
     let make : List ℕ → List ℕ → Kind → List Sample → Group = λ n h k s. record { name = n; help = h; kind = k; samples = s } in
     let same_kind : a.kind ≡ b.kind = kind_one a.kind b.kind (ap (λ words. get_or words 0 []) (sym is_a.kind ∙ is_b.kind)) in
-    let in_kind : Match (IsSample b.kind) part.samples a.samples = subst (λ k. Match (IsSample k) part.samples a.samples) same_kind is_a.samples in
+    let in_kind : Match (IsSample b.kind) part.samples a.samples = subst (λ k. Match (IsSample k) part.samples a.samples)
+    same_kind is_a.samples in
     ap (λ n. make n a.help a.kind a.samples) (is_a.name ∙ sym is_b.name)
     ∙ ap (λ h. make b.name h a.kind a.samples) (help_one part.helps a.help b.help is_a.help is_b.help)
     ∙ ap (λ k. make b.name b.help k a.samples) same_kind
-    ∙ ap (λ s. make b.name b.help b.kind s) (match_one (IsSample b.kind) (sample_one b.kind) part.samples a.samples b.samples in_kind is_b.samples)
+    ∙ ap (λ s. make b.name b.help b.kind s)
+    (match_one (IsSample b.kind) (sample_one b.kind) part.samples a.samples b.samples in_kind is_b.samples)
 
 -- a walk over bytes finds one list of groups at most
 one_walked : (bytes : List ℕ) (a b : List Group) → ReadsWalked bytes a → ReadsWalked bytes b → a ≡ b
 one_walked bytes a b reads_a reads_b =
-    let same_lines : reads_a.lines ≡ reads_b.lines = append_cancel_right reads_a.lines reads_b.lines ([] ∷ []) (sym reads_a.cut ∙ reads_b.cut) in
+    let same_lines : reads_a.lines ≡ reads_b.lines = append_cancel_right reads_a.lines reads_b.lines ([] ∷ [])
+    (sym reads_a.cut ∙ reads_b.cut) in
     match_one IsGroup group_one (parts_of (map entry_of reads_b.lines)) a b
     (subst (λ lines. Match IsGroup (parts_of (map entry_of lines)) a) same_lines reads_a.parts) reads_b.parts
 

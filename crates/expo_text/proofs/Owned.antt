@@ -6,13 +6,16 @@ use Rattle.std.proofs.lemmas.List.Elements.{recursion_from_All}
 use Rattle.bucket_math.specs.Buckets.{cumulated}
 use Rattle.metric_desc.specs.Desc.{Descriptor}
 use Rattle.metric_desc.specs.declared.kind.Kind.{Kind}
-use Rattle.metric_desc.specs.declared.kind.Kind.TheVariants.{Counter as CounterKind, Histogram as HistogramKind, Gauge as GaugeKind}
+use Rattle.metric_desc.specs.declared.kind.Kind.TheVariants.{Counter as CounterKind, Histogram as HistogramKind}
+use Rattle.metric_desc.specs.declared.kind.Kind.TheVariants.{Gauge as GaugeKind}
 use Rattle.expo_text.specs.declared.number.Number.{Number}
 use Rattle.expo_text.specs.declared.number.Number.TheVariants.{Counter, Histogram, Gauge}
 use Rattle.expo_text.specs.Scraped.{Child, Family}
-use Rattle.expo_text.specs.Samples.{Sample, bucket_sample, bound_samples, last_samples, samples_of_number, samples_of_child, samples_of_family}
+use Rattle.expo_text.specs.Samples.{Sample, bucket_sample, bound_samples, last_samples, samples_of_number, samples_of_child}
+use Rattle.expo_text.specs.Samples.{samples_of_family}
 use Rattle.expo_text.specs.Order.{IsNumberOf, IsFamily}
-use Rattle.expo_text.proofs.Pairs.{Each, Pairs, each_weaker, each_append, each_map, each_flat_map, each_range, pairs_map, pairs_range}
+use Rattle.expo_text.proofs.Pairs.{Each, Pairs, each_weaker, each_append, each_map, each_flat_map, each_range, pairs_map}
+use Rattle.expo_text.proofs.Pairs.{pairs_range}
 use Rattle.expo_text.specs.Reads.{AreSameLabels}
 use Rattle.expo_text.proofs.LabelSets.{HasNoLe, one_le, turned, before_le}
 
@@ -26,7 +29,8 @@ pub record IsOfNames (P : List ℕ → Type 0) (name : List ℕ) (kind : Kind) :
 
 -- what holds of the samples of all bounds
 pub each_bound : (P : Sample → Type 0) (desc : Descriptor) (own : List (List ℕ × List ℕ)) (buckets : List ℕ)
-    → ((k : ℕ) → k < length desc.bounds → P (bucket_sample desc own (decimal (slice_index desc.bounds k)) (cumulated buckets (length desc.bounds) k)))
+    → ((k : ℕ) → k < length desc.bounds
+    → P (bucket_sample desc own (decimal (slice_index desc.bounds k)) (cumulated buckets (length desc.bounds) k)))
     → Each P (bound_samples desc own buckets)
 each_bound P desc own buckets holds =
     each_map P (λ k. bucket_sample desc own (decimal (slice_index desc.bounds k)) (cumulated buckets (length desc.bounds) k))
@@ -43,13 +47,15 @@ pub pairs_bounds : (R : Sample → Sample → Type 0) (desc : Descriptor) (own :
 pairs_bounds R desc own buckets holds =
     pairs_map R (λ k. bucket_sample desc own (decimal (slice_index desc.bounds k)) (cumulated buckets (length desc.bounds) k))
     (range_with_len 0 (length desc.bounds))
-    (pairs_range (λ j k. R (bucket_sample desc own (decimal (slice_index desc.bounds j)) (cumulated buckets (length desc.bounds) j))
+    (pairs_range (λ j k. R (bucket_sample desc own (decimal (slice_index desc.bounds j))
+    (cumulated buckets (length desc.bounds) j))
     (bucket_sample desc own (decimal (slice_index desc.bounds k)) (cumulated buckets (length desc.bounds) k)))
     0 (length desc.bounds) (λ j k _ lt within. holds j k lt (omega (arith, within))))
 
 -- the names of a number's samples
 pub number_names : (P : List ℕ → Type 0) (desc : Descriptor) (own : List (List ℕ × List ℕ)) (number : Number)
-    → IsNumberOf desc.kind number → IsOfNames P desc.name desc.kind → Each (λ (sample : Sample). P sample.name) (samples_of_number desc own number)
+    → IsNumberOf desc.kind number → IsOfNames P desc.name desc.kind → Each (λ (sample : Sample). P sample.name)
+    (samples_of_number desc own number)
 number_names P desc own (Counter total) is names = (names.counter is, tt)
 number_names P desc own (Histogram totals) is names =
     each_append (λ (sample : Sample). P sample.name) (bound_samples desc own totals.buckets) (last_samples desc own totals)
@@ -72,7 +78,8 @@ abbrev pub IsOwned : (own : List (List ℕ × List ℕ)) → Sample → Type 0
 IsOwned own sample = (sample.labels ≡ own) ⊎ ((bound : List ℕ) × (sample.labels ≡ own ++ ((codes "le", bound) ∷ [])))
 
 -- the samples of a number have their child's labels
-pub number_owned : (desc : Descriptor) (own : List (List ℕ × List ℕ)) (number : Number) → Each (IsOwned own) (samples_of_number desc own number)
+pub number_owned : (desc : Descriptor) (own : List (List ℕ × List ℕ)) (number : Number)
+    → Each (IsOwned own) (samples_of_number desc own number)
 number_owned desc own (Counter total) = (inl refl, tt)
 number_owned desc own (Histogram totals) =
     each_append (IsOwned own) (bound_samples desc own totals.buckets) (last_samples desc own totals)
@@ -88,12 +95,14 @@ OwnedAs GaugeKind own sample = sample.labels ≡ own
 
 pub number_owned_as : (desc : Descriptor) (own : List (List ℕ × List ℕ)) (number : Number) → IsNumberOf desc.kind number
     → (desc.kind ≡ HistogramKind → HasNoLe own) → Each (OwnedAs desc.kind own) (samples_of_number desc own number)
-number_owned_as desc own (Counter total) is none = subst (λ kind. Each (OwnedAs kind own) (samples_of_number desc own (Counter total))) (sym is) (refl, tt)
+number_owned_as desc own (Counter total) is none =
+    subst (λ kind. Each (OwnedAs kind own) (samples_of_number desc own (Counter total))) (sym is) (refl, tt)
 number_owned_as desc own (Histogram totals) is none =
     subst (λ kind. Each (OwnedAs kind own) (samples_of_number desc own (Histogram totals))) (sym is.0)
     (each_weaker (IsOwned own) (λ sample. IsOwned own sample × HasNoLe own) (λ sample owned. (owned, none is.0))
     (samples_of_number desc own (Histogram totals)) (number_owned desc own (Histogram totals)))
-number_owned_as desc own (Gauge totals) is none = subst (λ kind. Each (OwnedAs kind own) (samples_of_number desc own (Gauge totals))) (sym is) (refl, tt)
+number_owned_as desc own (Gauge totals) is none =
+    subst (λ kind. Each (OwnedAs kind own) (samples_of_number desc own (Gauge totals))) (sym is) (refl, tt)
 
 pub owned_so : (kind : Kind) (own : List (List ℕ × List ℕ)) (sample : Sample) → OwnedAs kind own sample → IsOwned own sample
 owned_so CounterKind own sample owned = inl owned
@@ -105,13 +114,16 @@ pub both_same : (a b x y : List (List ℕ × List ℕ)) → x ≡ a → y ≡ b 
 both_same a b x y p q same = subst (λ l. AreSameLabels l b) p (subst (AreSameLabels x) q same)
 
 -- the same labels of two samples are of one child
-pub owned_same : (kind : Kind) (a b : List (List ℕ × List ℕ)) (s t : Sample) → OwnedAs kind a s → OwnedAs kind b t → AreSameLabels s.labels t.labels → AreSameLabels a b
+pub owned_same : (kind : Kind) (a b : List (List ℕ × List ℕ)) (s t : Sample) → OwnedAs kind a s → OwnedAs kind b t
+    → AreSameLabels s.labels t.labels → AreSameLabels a b
 owned_same CounterKind a b s t p q same = both_same a b s.labels t.labels p q same
 owned_same GaugeKind a b s t p q same = both_same a b s.labels t.labels p q same
 owned_same HistogramKind a b s t (inl p, left) (inl q, right) same = both_same a b s.labels t.labels p q same
 owned_same HistogramKind a b s t (inl p, left) (inr q, right) same =
     absurd (one_le a b q.0 left (both_same a (b ++ ((codes "le", q.0) ∷ [])) s.labels t.labels p q.1 same))
 owned_same HistogramKind a b s t (inr p, left) (inl q, right) same =
-    absurd (one_le b a p.0 right (turned (a ++ ((codes "le", p.0) ∷ [])) b (both_same (a ++ ((codes "le", p.0) ∷ [])) b s.labels t.labels p.1 q same)))
+    absurd (one_le b a p.0 right
+    (turned (a ++ ((codes "le", p.0) ∷ [])) b (both_same (a ++ ((codes "le", p.0) ∷ [])) b s.labels t.labels p.1 q same)))
 owned_same HistogramKind a b s t (inr p, left) (inr q, right) same =
-    before_le a b p.0 q.0 left right (both_same (a ++ ((codes "le", p.0) ∷ [])) (b ++ ((codes "le", q.0) ∷ [])) s.labels t.labels p.1 q.1 same)
+    before_le a b p.0 q.0 left right
+    (both_same (a ++ ((codes "le", p.0) ∷ [])) (b ++ ((codes "le", q.0) ∷ [])) s.labels t.labels p.1 q.1 same)

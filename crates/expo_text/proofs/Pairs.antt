@@ -57,7 +57,8 @@ each_map P f [] all = tt
 each_map P f (x ∷ xs) all = (all.0, each_map P f xs all.1)
 
 -- the pieces that a function makes of each
-pub each_flat_map : {X Y : Type 0} (P : Y → Type 0) (f : X → List Y) (xs : List X) → Each (λ x. Each P (f x)) xs → Each P (flat_map f xs)
+pub each_flat_map : {X Y : Type 0} (P : Y → Type 0) (f : X → List Y) (xs : List X) → Each (λ x. Each P (f x)) xs
+    → Each P (flat_map f xs)
 each_flat_map P f [] all = tt
 each_flat_map P f (x ∷ xs) all = each_append P (f x) (flat_map f xs) all.0 (each_flat_map P f xs all.1)
 
@@ -76,13 +77,15 @@ pairs_both R S [] rs ss = tt
 pairs_both R S (x ∷ xs) rs ss = (each_both (R x) (S x) xs rs.0 ss.0, pairs_both R S xs rs.1 ss.1)
 
 -- a list after another
-pub pairs_append : {X : Type 0} (R : X → X → Type 0) (xs ys : List X) → Pairs R xs → Pairs R ys → Across R xs ys → Pairs R (xs ++ ys)
+pub pairs_append : {X : Type 0} (R : X → X → Type 0) (xs ys : List X) → Pairs R xs → Pairs R ys → Across R xs ys
+    → Pairs R (xs ++ ys)
 pairs_append R [] ys left right across = right
 pairs_append R (x ∷ xs) ys left right across =
     (each_append (R x) xs ys left.0 across.0, pairs_append R xs ys left.1 right across.1)
 
 -- what a function makes of each
-pub pairs_map : {X Y : Type 0} (R : Y → Y → Type 0) (f : X → Y) (xs : List X) → Pairs (λ a b. R (f a) (f b)) xs → Pairs R (map f xs)
+pub pairs_map : {X Y : Type 0} (R : Y → Y → Type 0) (f : X → Y) (xs : List X) → Pairs (λ a b. R (f a) (f b)) xs
+    → Pairs R (map f xs)
 pairs_map R f [] all = tt
 pairs_map R f (x ∷ xs) all = (each_map (R (f x)) f xs all.0, pairs_map R f xs all.1)
 

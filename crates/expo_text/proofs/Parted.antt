@@ -23,19 +23,23 @@ use Rattle.expo_text.proofs.Once.{IsKnown, all_known}
 
 -- each sample's name is one of its group
 abbrev pub IsNamed : Group → Type 0
-IsNamed group = Each (λ (sample : Sample). has_end sample.name group.name (ends_of (word_of group.kind ∷ [])) ≡ true) group.samples
+IsNamed group = Each (λ (sample : Sample). has_end sample.name group.name (ends_of (word_of group.kind ∷ [])) ≡ true)
+    group.samples
 
 -- the samples after the types of their group
 gathered-samples : (part : Part) (samples : List Sample) (rest : List LineEntry)
     → Each (λ (sample : Sample). has_end sample.name part.name (ends_of part.types) ≡ true) samples
-    → gathered part (map sampled samples ++ rest) ≡ gathered (record part { samples = part.samples ++ map written_of samples }) rest
-gathered-samples part [] rest named = ap (λ written. gathered (record part { samples = written }) rest) (sym (append-nil part.samples))
+    → gathered part (map sampled samples ++ rest) ≡ gathered (record part { samples = part.samples ++ map written_of samples })
+    rest
+gathered-samples part [] rest named = ap (λ written. gathered (record part { samples = written }) rest)
+    (sym (append-nil part.samples))
 gathered-samples part (sample ∷ samples) rest named =
     let more : Part = record part { samples = part.samples ++ (written_of sample ∷ []) } in
     cond-true (has_end sample.name part.name (ends_of part.types)) (gathered more (map sampled samples ++ rest))
     (part ∷ gathered (begun (sampled sample)) (map sampled samples ++ rest)) named.0
     ∙ gathered-samples more samples rest named.1
-    ∙ ap (λ written. gathered (record part { samples = written }) rest) (append_assoc part.samples (written_of sample ∷ []) (map written_of samples))
+    ∙ ap (λ written. gathered (record part { samples = written }) rest)
+    (append_assoc part.samples (written_of sample ∷ []) (map written_of samples))
 
 -- a group's part before its samples
 abbrev pub open_part : (name help : List ℕ) → Kind → Part
@@ -55,16 +59,20 @@ parts_of-first name (byte ∷ bytes) kind rest = rw (same_self name) refl
 
 -- the lines of a group after those of another
 gathered-next : (part : Part) (name help : List ℕ) (kind : Kind) (rest : List LineEntry) → is_same_text name part.name ≡ false
-    → gathered part (help_entries name help ++ (Typed name (word_of kind) ∷ rest)) ≡ part ∷ gathered (open_part name help kind) rest
+    → gathered part (help_entries name help ++ (Typed name (word_of kind) ∷ rest)) ≡ part ∷ gathered (open_part name help kind)
+    rest
 gathered-next part name [] kind rest differ = rw differ refl
 gathered-next part name (byte ∷ bytes) kind rest differ = rw (differ, same_self name) refl
 
 -- the lines of all groups after one whose lines are read
-gathered-groups : (group : Group) (groups : List Group) → Pairs (λ (a b : Group). a.name ≢ b.name) (group ∷ groups) → Each IsNamed groups
+gathered-groups : (group : Group) (groups : List Group) → Pairs (λ (a b : Group). a.name ≢ b.name) (group ∷ groups)
+    → Each IsNamed groups
     → gathered (part_of group) (entries_of groups) ≡ part_of group ∷ map part_of groups
 gathered-groups group [] differ named = refl
 gathered-groups group (next ∷ groups) differ named =
-    ap (λ entries. gathered (part_of group) entries) (append_assoc (help_entries next.name next.help) (Typed next.name (word_of next.kind) ∷ map sampled next.samples) (entries_of groups))
+    ap (λ entries. gathered (part_of group) entries)
+    (append_assoc (help_entries next.name next.help) (Typed next.name (word_of next.kind) ∷ map sampled next.samples)
+    (entries_of groups))
     ∙ gathered-next (part_of group) next.name next.help next.kind (map sampled next.samples ++ entries_of groups)
     (same_other next.name group.name (λ e. differ.0.0 (sym e)))
     ∙ ap (λ parts. part_of group ∷ parts)
@@ -76,7 +84,8 @@ pub parted_groups : (groups : List Group) → Pairs (λ (a b : Group). a.name �
     → parts_of (entries_of groups) ≡ map part_of groups
 parted_groups [] differ named = refl
 parted_groups (group ∷ groups) differ named =
-    ap parts_of (append_assoc (help_entries group.name group.help) (Typed group.name (word_of group.kind) ∷ map sampled group.samples) (entries_of groups))
+    ap parts_of (append_assoc (help_entries group.name group.help)
+    (Typed group.name (word_of group.kind) ∷ map sampled group.samples) (entries_of groups))
     ∙ parts_of-first group.name group.help group.kind (map sampled group.samples ++ entries_of groups)
     ∙ gathered-samples (open_part group.name group.help group.kind) group.samples (entries_of groups) named.0
     ∙ gathered-groups group groups differ named.1
@@ -115,7 +124,8 @@ pub all_named : (scrape : Scraped) → IsScrape scrape → All IsSpelledIfPrinte
 all_named scrape is spelled =
     each_group IsNamed scrape.families
     (each_weaker IsKnown (λ family. IsPrinted family → IsNamed (group_for family))
-    (λ family known _. family_names (λ other. has_end other family.desc.name (ends_of (word_of family.desc.kind ∷ [])) ≡ true) family known.kept (kind_ends family.desc.name family.desc.kind))
+    (λ family known _. family_names (λ other. has_end other family.desc.name (ends_of (word_of family.desc.kind ∷ [])) ≡ true)
+    family known.kept (kind_ends family.desc.name family.desc.kind))
     scrape.families (all_known scrape is spelled))
 
 -- the entries of a scrape's groups are parted into those groups

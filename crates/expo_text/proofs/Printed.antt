@@ -1,5 +1,6 @@
 -- The groups of a scrape are such as a scrape prints: names, labels, values and signs.
-use Rattle.std.proofs.Common.{◌≡◌, ◌≢◌, ℕ, zero, suc, ◌-◌, ◌<◌, ◌^◌, Bool, true, false, ltb, List, [], ◌∷◌, ◌++◌, length, ◌⊎◌, inl, inr, refl, sym, subst, arith, length-append}
+use Rattle.std.proofs.Common.{◌≡◌, ◌≢◌, ℕ, zero, suc, ◌-◌, ◌<◌, ◌^◌, Bool, true, false, ltb, List, [], ◌∷◌, ◌++◌, length, ◌⊎◌}
+use Rattle.std.proofs.Common.{inl, inr, refl, sym, subst, arith, length-append}
 use Rattle.std.specs.Prelude.{pos, negsuc, ◌-ℤ◌, nat_abs, All, IsTrue, ◌&&◌, ◌||◌, ◌==◌, nat_lt, sum, zip, codes, slice_index}
 use Rattle.std.proofs.lemmas.Bool.{cond_both}
 use Rattle.std.proofs.lemmas.List.Elements.{All-from_recursion, recursion_from_All, All-append, All-from_get_or}
@@ -9,7 +10,8 @@ use Rattle.metric_names.specs.MetricName.{IsMetricName}
 use Rattle.metric_names.specs.LabelName.{IsLabelName}
 use Rattle.metric_desc.specs.Desc.{Descriptor}
 use Rattle.metric_desc.specs.declared.kind.Kind.{Kind}
-use Rattle.metric_desc.specs.declared.kind.Kind.TheVariants.{Counter as CounterKind, Histogram as HistogramKind, Gauge as GaugeKind}
+use Rattle.metric_desc.specs.declared.kind.Kind.TheVariants.{Counter as CounterKind, Histogram as HistogramKind}
+use Rattle.metric_desc.specs.declared.kind.Kind.TheVariants.{Gauge as GaugeKind}
 use Rattle.expo_text.specs.declared.number.Number.{Number}
 use Rattle.expo_text.specs.declared.number.Number.TheVariants.{Counter, Histogram, Gauge}
 use Rattle.expo_text.specs.Scraped.{Child, Family, Scraped}
@@ -34,7 +36,8 @@ pub record IsSampleName (name : List ℕ) : Type 0 where
   pub spelled : All IsNameByte name
 
 -- what a name may have at some place it may have at a later one
-later : (letter digit place colon : Bool) → IsTrue (letter || (place && digit) || colon) → IsTrue (letter || (true && digit) || colon)
+later : (letter digit place colon : Bool) → IsTrue (letter || (place && digit) || colon)
+    → IsTrue (letter || (true && digit) || colon)
 later true digit place colon takes = refl
 later false true place colon takes = refl
 later false false true colon takes = takes
@@ -45,7 +48,8 @@ from_metric : (name : List ℕ) → IsMetricName name → IsSampleName name
 from_metric name is = record {
   nonempty = is.nonempty;
   spelled = All-from_get_or IsNameByte name 0 (λ k within.
-      later (is_letter (slice_index name k)) (is_digit (slice_index name k)) (nat_lt 0 k) (true && (slice_index name k == 58)) (is.spelled k within));
+      later (is_letter (slice_index name k)) (is_digit (slice_index name k)) (nat_lt 0 k) (true && (slice_index name k == 58))
+      (is.spelled k within));
 }
 
 -- and so is such a name with such bytes after it
@@ -61,9 +65,18 @@ metric_names name kind is =
     let own = from_metric name is in
     record {
       counter = λ _. own;
-      bucket = λ _. with_end name (codes "_bucket") own (All-from_recursion IsNameByte (codes "_bucket") (refl, (refl, (refl, (refl, (refl, (refl, (refl, tt))))))));
-      sum = λ _. with_end name (codes "_sum") own (All-from_recursion IsNameByte (codes "_sum") (refl, (refl, (refl, (refl, tt)))));
-      count = λ _. with_end name (codes "_count") own (All-from_recursion IsNameByte (codes "_count") (refl, (refl, (refl, (refl, (refl, (refl, tt)))))));
+      bucket = λ _. with_end name (codes "_bucket") own (All-from_recursion IsNameByte (codes "_bucket") (
+        refl,
+        (refl, (refl, (refl, (refl, (refl, (refl, tt)))))),
+      ));
+      sum = λ _. with_end name (codes "_sum") own (All-from_recursion IsNameByte (codes "_sum") (
+        refl,
+        (refl, (refl, (refl, tt))),
+      ));
+      count = λ _. with_end name (codes "_count") own (All-from_recursion IsNameByte (codes "_count") (
+        refl,
+        (refl, (refl, (refl, (refl, (refl, tt))))),
+      ));
       gauge = λ _. own;
     }
 
@@ -88,24 +101,28 @@ own_labels (label ∷ labels) [] names = tt
 own_labels (label ∷ labels) (value ∷ values) names = (names.0, own_labels labels values names.1)
 
 -- the labels of a child's samples have label names
-owned_labels : (own : List (List ℕ × List ℕ)) (sample : Sample) → All IsNamedLabel own → IsOwned own sample → All IsNamedLabel sample.labels
+owned_labels : (own : List (List ℕ × List ℕ)) (sample : Sample) → All IsNamedLabel own → IsOwned own sample
+    → All IsNamedLabel sample.labels
 owned_labels own sample names (inl e) = subst (All IsNamedLabel) (sym e) names
 owned_labels own sample names (inr e) =
     subst (All IsNamedLabel) (sym e.1)
-    (All-append IsNamedLabel own ((codes "le", e.0) ∷ []) names (All-from_recursion IsNamedLabel ((codes "le", e.0) ∷ []) (le_name, tt)))
+    (All-append IsNamedLabel own ((codes "le", e.0) ∷ []) names
+    (All-from_recursion IsNamedLabel ((codes "le", e.0) ∷ []) (le_name, tt)))
 
 -- the difference of two words is below 2^64 on either side
 difference : (up down : ℕ) → up < 2 ^ 64 → down < 2 ^ 64 → nat_abs (pos up -ℤ pos down) < 2 ^ 64
 difference up zero few fewer = omega arith
 difference up (suc down) few fewer =
-    cond_both (ltb up (suc down)) (negsuc (suc down - suc up)) (pos (up - suc down)) (λ z. nat_abs z < 2 ^ 64) (λ _. omega arith) (λ _. omega arith)
+    cond_both (ltb up (suc down)) (negsuc (suc down - suc up)) (pos (up - suc down)) (λ z. nat_abs z < 2 ^ 64) (λ _. omega arith)
+    (λ _. omega arith)
 
 -- a value below 2^64 on either side of zero
 abbrev pub IsSmall : Sample → Type 0
 IsSmall sample = nat_abs sample.value < 2 ^ 64
 
 -- the values of a number's samples are below 2^64 on either side
-number_small : (desc : Descriptor) (own : List (List ℕ × List ℕ)) (number : Number) → IsNumberOf desc.kind number → IsOfWords number
+number_small : (desc : Descriptor) (own : List (List ℕ × List ℕ)) (number : Number) → IsNumberOf desc.kind number
+    → IsOfWords number
     → Each IsSmall (samples_of_number desc own number)
 number_small desc own (Counter total) is words = (words, tt)
 number_small desc own (Histogram totals) is words =
@@ -119,7 +136,8 @@ number_small desc own (Histogram totals) is words =
 number_small desc own (Gauge totals) is words = (difference totals.up totals.down words.0 words.1, tt)
 
 -- the samples of a number are such as a scrape prints
-number_printed : (desc : Descriptor) (own : List (List ℕ × List ℕ)) (number : Number) → IsNumberOf desc.kind number → IsOfWords number
+number_printed : (desc : Descriptor) (own : List (List ℕ × List ℕ)) (number : Number) → IsNumberOf desc.kind number
+    → IsOfWords number
     → IsMetricName desc.name → All IsNamedLabel own → Each IsPrintedSample (samples_of_number desc own number)
 number_printed desc own number is words name labels =
     each_weaker (λ sample. (IsSampleName sample.name × IsOwned own sample) × IsSmall sample) IsPrintedSample
@@ -139,7 +157,8 @@ abbrev pub IsNatural : Sample → Type 0
 IsNatural sample = (n : ℕ) × (sample.value ≡ pos n)
 
 -- no value of another kind than a gauge is below zero
-number_natural : (desc : Descriptor) (own : List (List ℕ × List ℕ)) (number : Number) → IsNumberOf desc.kind number → desc.kind ≢ GaugeKind
+number_natural : (desc : Descriptor) (own : List (List ℕ × List ℕ)) (number : Number) → IsNumberOf desc.kind number
+    → desc.kind ≢ GaugeKind
     → Each IsNatural (samples_of_number desc own number)
 number_natural desc own (Counter total) is other = ((total, refl), tt)
 number_natural desc own (Histogram totals) is other =
@@ -156,11 +175,13 @@ gauge_or_not GaugeKind = inl refl
 
 -- what holds of each sample of a spelled family
 each_sample : (P : Sample → Type 0) (family : Family) → IsFamily family → IsSpelled family
-    → ((child : Child) → IsNumberOf family.desc.kind child.number → IsSpelledChild child → Each P (samples_of_child family.desc child))
+    → ((child : Child) → IsNumberOf family.desc.kind child.number → IsSpelledChild child
+    → Each P (samples_of_child family.desc child))
     → Each P (samples_of_family family)
 each_sample P family is spelled holds =
     each_flat_map P (samples_of_child family.desc) family.children
-    (each_weaker (λ (child : Child). IsNumberOf family.desc.kind child.number × IsSpelledChild child) (λ child. Each P (samples_of_child family.desc child))
+    (each_weaker (λ (child : Child). IsNumberOf family.desc.kind child.number × IsSpelledChild child)
+    (λ child. Each P (samples_of_child family.desc child))
     (λ child known. holds child known.0 known.1) family.children
     (each_both (λ (child : Child). IsNumberOf family.desc.kind child.number) IsSpelledChild family.children
     (recursion_from_All (λ (child : Child). IsNumberOf family.desc.kind child.number) family.children is.numbers)
@@ -188,9 +209,11 @@ family_printed family is spelled = record {
 }
 
 -- the groups of a scrape are such as a scrape prints
-pub printed : (scrape : Scraped) → IsScrape scrape → All IsSpelledIfPrinted scrape.families → All IsPrintedGroup (groups_of scrape)
+pub printed : (scrape : Scraped) → IsScrape scrape → All IsSpelledIfPrinted scrape.families
+    → All IsPrintedGroup (groups_of scrape)
 printed scrape is spelled =
     All-from_recursion IsPrintedGroup (groups_of scrape)
     (each_group IsPrintedGroup scrape.families
     (each_weaker IsKnown (λ family. IsPrinted family → IsPrintedGroup (group_for family))
-    (λ family known printed. family_printed family known.kept (known.spelled printed)) scrape.families (all_known scrape is spelled)))
+    (λ family known printed. family_printed family known.kept (known.spelled printed)) scrape.families
+    (all_known scrape is spelled)))

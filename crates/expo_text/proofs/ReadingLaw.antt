@@ -29,7 +29,8 @@ groups_read (group ∷ groups) all = (
   groups_read groups (All-tail IsPrintedGroup group groups all),
 )
 
-reads_walked : (scrape : Scraped) → IsScrape scrape → All IsSpelledIfPrinted scrape.families → ReadsWalked (text scrape) (groups_of scrape)
+reads_walked : (scrape : Scraped) → IsScrape scrape → All IsSpelledIfPrinted scrape.families
+    → ReadsWalked (text scrape) (groups_of scrape)
 reads_walked scrape is spelled =
     let all = printed scrape is spelled in
     let read = lines_read scrape all in

@@ -1,5 +1,6 @@
 -- What is written of a sample, and of a group, reads back as it.
-use Rattle.std.proofs.Common.{◌≡◌, ℕ, suc, ◌<◌, ◌^◌, List, [], ◌∷◌, map, pos, neg_ℤ, nat_abs, decimal, All, refl, sym, ap, inl, inr}
+use Rattle.std.proofs.Common.{◌≡◌, ℕ, suc, ◌<◌, ◌^◌, List, [], ◌∷◌, map, pos, neg_ℤ, nat_abs, decimal, All, refl, sym, ap, inl}
+use Rattle.std.proofs.Common.{inr}
 use Rattle.std.specs.Prelude.{ℤ, negsuc, ◌⊎◌}
 use Rattle.std.specs.Fmt.{signed_decimal}
 use Rattle.std.proofs.lemmas.Fmt.{decimal_is_IsNumeral}
@@ -37,7 +38,8 @@ labels_match (label ∷ labels) names = (
 )
 
 -- a printed sample reads back from what is written of it
-pub written_reads : (kind : Kind) (sample : Sample) → IsPrintedSample sample → ((kind ≡ Gauge) ⊎ ((n : ℕ) × (sample.value ≡ pos n)))
+pub written_reads : (kind : Kind) (sample : Sample) → IsPrintedSample sample
+    → ((kind ≡ Gauge) ⊎ ((n : ℕ) × (sample.value ≡ pos n)))
     → IsSample kind (written_of sample) sample
 written_reads kind sample printed sign = record {
   name = refl;
@@ -50,12 +52,14 @@ abbrev pub IsAbove : Sample → Type 0
 IsAbove sample = (n : ℕ) × (sample.value ≡ pos n)
 
 -- where a group may have signs, so may its first sample
-head_sign : (kind : Kind) (sample : Sample) (samples : List Sample) → ((kind ≡ Gauge) ⊎ All IsAbove (sample ∷ samples)) → (kind ≡ Gauge) ⊎ IsAbove sample
+head_sign : (kind : Kind) (sample : Sample) (samples : List Sample) → ((kind ≡ Gauge) ⊎ All IsAbove (sample ∷ samples))
+    → (kind ≡ Gauge) ⊎ IsAbove sample
 head_sign kind sample samples (inl gauge) = inl gauge
 head_sign kind sample samples (inr all) = inr (All-head IsAbove sample samples all)
 
 -- and so may the others
-tail_signs : (kind : Kind) (sample : Sample) (samples : List Sample) → ((kind ≡ Gauge) ⊎ All IsAbove (sample ∷ samples)) → (kind ≡ Gauge) ⊎ All IsAbove samples
+tail_signs : (kind : Kind) (sample : Sample) (samples : List Sample) → ((kind ≡ Gauge) ⊎ All IsAbove (sample ∷ samples))
+    → (kind ≡ Gauge) ⊎ All IsAbove samples
 tail_signs kind sample samples (inl gauge) = inl gauge
 tail_signs kind sample samples (inr all) = inr (All-tail IsAbove sample samples all)
 

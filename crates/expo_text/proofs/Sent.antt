@@ -20,7 +20,8 @@ sends-failed a bytes failed = record {
 }
 
 -- bytes that begin to wait
-pub sends-waiting : (a b : Sender) (bytes : List ℕ) → b.contents ≡ a.contents → b.failed ≡ a.failed → b.ended ≡ a.ended → b.sent ≡ a.sent → b.waiting ≡ a.waiting ++ bytes → Sends a b bytes
+pub sends-waiting : (a b : Sender) (bytes : List ℕ) → b.contents ≡ a.contents → b.failed ≡ a.failed → b.ended ≡ a.ended
+    → b.sent ≡ a.sent → b.waiting ≡ a.waiting ++ bytes → Sends a b bytes
 sends-waiting a b bytes contents failed ended sent waiting = record {
   gone = [];
   left = b.waiting;

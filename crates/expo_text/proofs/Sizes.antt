@@ -1,5 +1,6 @@
 -- How long the parts of a text are at most.
-use Rattle.std.proofs.Common.{rules, ◌≡◌, ℕ, zero, suc, ◌+◌, ◌-◌, ◌*◌, ◌<◌, ◌≤◌, ◌^◌, Bool, true, false, List, [], ◌∷◌, ◌++◌, length, get_or, codes, decimal, All, arith, length-append}
+use Rattle.std.proofs.Common.{rules, ◌≡◌, ℕ, zero, suc, ◌+◌, ◌-◌, ◌*◌, ◌<◌, ◌≤◌, ◌^◌, Bool, true, false, List, [], ◌∷◌, ◌++◌}
+use Rattle.std.proofs.Common.{length, get_or, codes, decimal, All, arith, length-append}
 use Rattle.std.specs.Prelude.{ℤ, pos, negsuc, ◌-ℤ◌, ◌==◌, if◌then◌else◌, nat_lt}
 use Rattle.std.specs.Fmt.{signed_decimal}
 use Rattle.std.specs.List.{flat_map, zip}
@@ -14,20 +15,24 @@ use Rattle.expo_text.specs.Text.{label_text, labels_text, sample_line}
 use Rattle.expo_text.specs.Walk.{mark, opened, bucket_front}
 
 -- pieces of at most `most` bytes
-pub flat_map-short : {X : Type 0} (f : X → List ℕ) (most : ℕ) (xs : List X) → All (λ x. length (f x) ≤ most) xs → length (flat_map f xs) ≤ most * length xs
+pub flat_map-short : {X : Type 0} (f : X → List ℕ) (most : ℕ) (xs : List X) → All (λ x. length (f x) ≤ most) xs
+    → length (flat_map f xs) ≤ most * length xs
 flat_map-short f most [] each = omega arith
 flat_map-short f most (x ∷ xs) each =
     let first : length (f x) ≤ most = All-head (λ y. length (f y) ≤ most) x xs each in
-    let rest : length (flat_map f xs) ≤ most * length xs = flat_map-short f most xs (All-tail (λ y. length (f y) ≤ most) x xs each) in
+    let rest : length (flat_map f xs) ≤ most * length xs =
+    flat_map-short f most xs (All-tail (λ y. length (f y) ≤ most) x xs each) in
     let next : most * suc (length xs) ≡ most * length xs + most = grind arith in
     rw length-append (omega (arith, first, rest, next))
 
 -- pieces of pieces
-pub nested-short : {X Y : Type 0} (f : Y → List ℕ) (g : X → List Y) (most : ℕ) (xs : List X) → All (λ x. length (flat_map f (g x)) ≤ most) xs → length (flat_map f (flat_map g xs)) ≤ most * length xs
+pub nested-short : {X Y : Type 0} (f : Y → List ℕ) (g : X → List Y) (most : ℕ) (xs : List X)
+    → All (λ x. length (flat_map f (g x)) ≤ most) xs → length (flat_map f (flat_map g xs)) ≤ most * length xs
 nested-short f g most [] each = omega arith
 nested-short f g most (x ∷ xs) each =
     let first : length (flat_map f (g x)) ≤ most = All-head (λ y. length (flat_map f (g y)) ≤ most) x xs each in
-    let rest : length (flat_map f (flat_map g xs)) ≤ most * length xs = nested-short f g most xs (All-tail (λ y. length (flat_map f (g y)) ≤ most) x xs each) in
+    let rest : length (flat_map f (flat_map g xs)) ≤ most * length xs =
+    nested-short f g most xs (All-tail (λ y. length (flat_map f (g y)) ≤ most) x xs each) in
     let next : most * suc (length xs) ≡ most * length xs + most = grind arith in
     rw (flat_map-append, length-append) (omega (arith, first, rest, next))
 
@@ -40,7 +45,8 @@ help_byte-short b =
     let slash : length (codes "\\\\") ≤ 2 = omega arith in
     let feed : length (codes "\\n") ≤ 2 = omega arith in
     let raw : length (b ∷ []) ≤ 2 = omega arith in
-    either-short (b == 92) (codes "\\\\") (if b == 10 then codes "\\n" else b ∷ []) 2 slash (either-short (b == 10) (codes "\\n") (b ∷ []) 2 feed raw)
+    either-short (b == 92) (codes "\\\\") (if b == 10 then codes "\\n" else b ∷ []) 2 slash
+    (either-short (b == 10) (codes "\\n") (b ∷ []) 2 feed raw)
 
 label_byte-short : (b : ℕ) → length (label_byte b) ≤ 2
 label_byte-short b =
@@ -56,7 +62,8 @@ label_text-short name value short_name short_value =
     let escaped = flat_map-short label_byte 2 value (λ k d within. label_byte-short (get_or value k d)) in
     simp length-append (omega (arith, short_name, short_value, escaped))
 
-pub zip-short : (names values : List (List ℕ)) → All IsLabelName names → All IsLabelValue values → All IsShortLabel (zip names values)
+pub zip-short : (names values : List (List ℕ)) → All IsLabelName names → All IsLabelValue values
+    → All IsShortLabel (zip names values)
 zip-short [] values spelled short = All-nil IsShortLabel
 zip-short (name ∷ names) [] spelled short = All-nil IsShortLabel
 zip-short (name ∷ names) (value ∷ values) spelled short =
@@ -64,15 +71,18 @@ zip-short (name ∷ names) (value ∷ values) spelled short =
     (label_text-short name value (All-head IsLabelName name names spelled).short (All-head IsLabelValue value values short))
     (zip-short names values (All-tail IsLabelName name names spelled) (All-tail IsLabelValue value values short))
 
-braces-short : (first rest : List ℕ) (n : ℕ) → length first ≤ 643 → length rest ≤ 644 * n → length (codes "{" ++ (first ++ rest) ++ codes "}") ≤ 2 + 644 * suc n
+braces-short : (first rest : List ℕ) (n : ℕ) → length first ≤ 643 → length rest ≤ 644 * n
+    → length (codes "{" ++ (first ++ rest) ++ codes "}") ≤ 2 + 644 * suc n
 braces-short first rest n short_first short_rest = simp length-append (omega (arith, short_first, short_rest))
 
-labels_text-short : (labels : List (List ℕ × List ℕ)) → All IsShortLabel labels → length (labels_text labels) ≤ 2 + 644 * length labels
+labels_text-short : (labels : List (List ℕ × List ℕ)) → All IsShortLabel labels
+    → length (labels_text labels) ≤ 2 + 644 * length labels
 labels_text-short [] each = omega arith
 labels_text-short (label ∷ labels) each =
     let part : List ℕ × List ℕ → List ℕ = λ y. codes "," ++ label_text y in
     let first : length (label_text label) ≤ 643 = All-head IsShortLabel label labels each in
-    let others = All-weaker IsShortLabel (λ y. length (part y) ≤ 644) (λ y short. omega (arith, short)) labels (All-tail IsShortLabel label labels each) in
+    let others = All-weaker IsShortLabel (λ y. length (part y) ≤ 644) (λ y short. omega (arith, short)) labels
+    (All-tail IsShortLabel label labels each) in
     braces-short (label_text label) (flat_map part labels) (length labels) first (flat_map-short part 644 labels others)
 
 -- what the lines of a child's buckets begin with
@@ -80,14 +90,16 @@ opened-short : (labels : List (List ℕ × List ℕ)) → All IsShortLabel label
 opened-short [] each = omega arith
 opened-short (label ∷ labels) each =
     let all = labels_text-short (label ∷ labels) each in
-    let closed : length (opened (label ∷ labels) ++ codes "}") ≡ length (opened (label ∷ labels)) + 1 = length-append (opened (label ∷ labels)) (codes "}") in
+    let closed : length (opened (label ∷ labels) ++ codes "}") ≡ length (opened (label ∷ labels)) + 1 =
+    length-append (opened (label ∷ labels)) (codes "}") in
     omega (arith, all, closed)
 
 mark-short : (n : ℕ) → length (mark n) ≤ 1
 mark-short zero = omega arith
 mark-short (suc n) = search rules
 
-pub front-short : (name : List ℕ) (labels : List (List ℕ × List ℕ)) → length name ≤ 128 → All IsShortLabel labels → length labels ≤ 8 → length (bucket_front name labels) ≤ 6144
+pub front-short : (name : List ℕ) (labels : List (List ℕ × List ℕ)) → length name ≤ 128 → All IsShortLabel labels
+    → length labels ≤ 8 → length (bucket_front name labels) ≤ 6144
 front-short name labels short_name each few =
     let all = opened-short labels each in
     let one = mark-short (length labels) in
@@ -109,7 +121,8 @@ sample_line-short sample short =
 pub decimal-short : (n : ℕ) → n < 2 ^ 64 → length (decimal n) ≤ 20
 decimal-short n small = length-decimal-le 20 n (omega arith) (omega (arith, small)) small
 
-either-value : (c : Bool) (a b : ℤ) → length (signed_decimal a) ≤ 21 → length (signed_decimal b) ≤ 21 → length (signed_decimal (if c then a else b)) ≤ 21
+either-value : (c : Bool) (a b : ℤ) → length (signed_decimal a) ≤ 21 → length (signed_decimal b) ≤ 21
+    → length (signed_decimal (if c then a else b)) ≤ 21
 either-value true a b first second = first
 either-value false a b first second = second
 
@@ -122,4 +135,5 @@ neg-short n small = let short = decimal-short (suc n) (omega (arith, small)) in 
 pub difference-short : (up down : ℕ) → up < 2 ^ 64 → down < 2 ^ 64 → length (signed_decimal (pos up -ℤ pos down)) ≤ 21
 difference-short up zero small_up small_down = pos-short (up + 0) (omega (arith, small_up))
 difference-short up (suc n) small_up small_down =
-    either-value (nat_lt up (suc n)) (negsuc (suc n - suc up)) (pos (up - suc n)) (neg-short (suc n - suc up) (omega (arith, small_down))) (pos-short (up - suc n) (omega (arith, small_up)))
+    either-value (nat_lt up (suc n)) (negsuc (suc n - suc up)) (pos (up - suc n))
+    (neg-short (suc n - suc up) (omega (arith, small_down))) (pos-short (up - suc n) (omega (arith, small_up)))

@@ -22,10 +22,12 @@ entries_walked : (lines : List (List ℕ)) (entries : List LineEntry) → Match 
 entries_walked [] [] are = refl
 entries_walked [] (_ ∷ _) are = absurd are
 entries_walked (_ ∷ _) [] are = absurd are
-entries_walked (line ∷ lines) (entry ∷ entries) are = ap₂ (λ e es. e ∷ es) (line_walked line entry are.0) (entries_walked lines entries are.1)
+entries_walked (line ∷ lines) (entry ∷ entries) are = ap₂ (λ e es. e ∷ es) (line_walked line entry are.0)
+    (entries_walked lines entries are.1)
 
 -- and each of them is one of the format
-all_formed : (lines : List (List ℕ)) (entries : List LineEntry) → Match IsLine lines entries → All (λ line. entry_of line ≢ Malformed) lines
+all_formed : (lines : List (List ℕ)) (entries : List LineEntry) → Match IsLine lines entries
+    → All (λ line. entry_of line ≢ Malformed) lines
 all_formed [] [] are = All-nil (λ (line : List ℕ). entry_of line ≢ Malformed)
 all_formed [] (_ ∷ _) are = absurd are
 all_formed (_ ∷ _) [] are = absurd are
@@ -54,10 +56,14 @@ each_typed : (parts : List Part) (groups : List Group) → Match IsGroup parts g
 each_typed [] [] are = tt
 each_typed [] (_ ∷ _) are = absurd are
 each_typed (_ ∷ _) [] are = absurd are
-each_typed (part ∷ parts) (group ∷ groups) are = (record { word = word_of group.kind; is = are.0.kind }, each_typed parts groups are.1)
+each_typed (part ∷ parts) (group ∷ groups) are = (
+  record { word = word_of group.kind; is = are.0.kind },
+  each_typed parts groups are.1,
+)
 
 -- a part's name is none of others
-each_apart : (part : Part) (group : Group) → group.name ≡ part.name → (parts : List Part) (groups : List Group) → Match IsGroup parts groups
+each_apart : (part : Part) (group : Group) → group.name ≡ part.name → (parts : List Part) (groups : List Group)
+    → Match IsGroup parts groups
     → Each (λ (other : Group). group.name ≢ other.name) groups → Each (AreApart part) parts
 each_apart part group same_name [] [] are apart = tt
 each_apart part group same_name [] (_ ∷ _) are apart = absurd are
@@ -66,18 +72,24 @@ each_apart part group same_name (next ∷ parts) (other ∷ groups) are apart =
     ((λ e. apart.0 (same_name ∙ e ∙ sym are.0.name)), each_apart part group same_name parts groups are.1 apart.1)
 
 -- where no two groups have one name, no two parts have
-pairs_apart : (parts : List Part) (groups : List Group) → Match IsGroup parts groups → Pairs (λ (a b : Group). a.name ≢ b.name) groups → Pairs AreApart parts
+pairs_apart : (parts : List Part) (groups : List Group) → Match IsGroup parts groups
+    → Pairs (λ (a b : Group). a.name ≢ b.name) groups → Pairs AreApart parts
 pairs_apart [] [] are apart = tt
 pairs_apart [] (_ ∷ _) are apart = absurd are
 pairs_apart (_ ∷ _) [] are apart = absurd are
-pairs_apart (part ∷ parts) (group ∷ groups) are apart = (each_apart part group are.0.name parts groups are.1 apart.0, pairs_apart parts groups are.1 apart.1)
+pairs_apart (part ∷ parts) (group ∷ groups) are apart = (
+  each_apart part group are.0.name parts groups are.1 apart.0,
+  pairs_apart parts groups are.1 apart.1,
+)
 
 -- an exposition is what the walk finds
 pub walked : (bytes : List ℕ) (groups : List Group) → Reads bytes groups → ReadsWalked bytes groups
 walked bytes groups reads =
-    let apart = pairs_apart reads.parts groups reads.matched (pairs_recursion (λ (a b : Group). a.name ≢ b.name) groups reads.unbroken) in
+    let apart = pairs_apart reads.parts groups reads.matched
+    (pairs_recursion (λ (a b : Group). a.name ≢ b.name) groups reads.unbroken) in
     let found : parts_of (map entry_of reads.lines) ≡ reads.parts =
-    ap parts_of (entries_walked reads.lines reads.entries reads.formed) ∙ parts_walked reads.entries reads.parts reads.blocks (each_typed reads.parts groups reads.matched) apart in
+    ap parts_of (entries_walked reads.lines reads.entries reads.formed) ∙ parts_walked reads.entries reads.parts reads.blocks
+    (each_typed reads.parts groups reads.matched) apart in
     record {
       lines = reads.lines;
       cut = reads.cut;
@@ -97,7 +109,8 @@ found bytes groups reads = record {
   entries = map entry_of reads.lines;
   formed = entries_found reads.lines reads.formed;
   parts = parts_of (map entry_of reads.lines);
-  blocks = parts_found (map entry_of reads.lines) (each_formed reads.lines reads.formed) (each_typed (parts_of (map entry_of reads.lines)) groups reads.parts);
+  blocks = parts_found (map entry_of reads.lines) (each_formed reads.lines reads.formed)
+      (each_typed (parts_of (map entry_of reads.lines)) groups reads.parts);
   matched = reads.parts;
   unbroken = reads.unbroken;
   once = reads.once;

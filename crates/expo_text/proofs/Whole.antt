@@ -1,10 +1,12 @@
 -- What a histogram's group keeps: buckets that rise, and for each child a bucket of all values that equals its count.
-use Rattle.std.proofs.Common.{◌≡◌, ℕ, zero, suc, ◌+◌, ◌<◌, ◌≤◌, ◌^◌, false, List, [], ◌∷◌, ◌++◌, length, take, get_or, inl, inr, refl, sym, ap, subst, ◌∙◌, arith, append-nil}
+use Rattle.std.proofs.Common.{◌≡◌, ℕ, zero, suc, ◌+◌, ◌<◌, ◌≤◌, ◌^◌, false, List, [], ◌∷◌, ◌++◌, length, take, get_or, inl, inr}
+use Rattle.std.proofs.Common.{refl, sym, ap, subst, ◌∙◌, arith, append-nil}
 use Rattle.std.specs.Prelude.{ℤ, Option, Some, None, decimal, slice_index, pos, All, Contains, not, sum, zip, flat_map, codes}
 use Rattle.std.proofs.lemmas.Bool.{lt-ltb, cond_both, cond-true, not_from_false, false_from_ne_true}
 use Rattle.std.proofs.lemmas.Int.{ints}
 use Rattle.std.proofs.lemmas.List.{take-take}
-use Rattle.std.proofs.lemmas.List.Elements.{All-from_recursion, recursion_from_All, All-contains_itself, Contains-append_left, Contains-append_right, Contains-push, filter-append}
+use Rattle.std.proofs.lemmas.List.Elements.{All-from_recursion, recursion_from_All, All-contains_itself, Contains-append_left}
+use Rattle.std.proofs.lemmas.List.Elements.{Contains-append_right, Contains-push, filter-append}
 use Rattle.std.proofs.lemmas.List.Sums.{sum_by-take-le}
 use Rattle.std.specs.Cmp.Lexicographic.{same_text}
 use Rattle.std.specs.Str.Parse.{AllDigits, digits_value}
@@ -18,7 +20,8 @@ use Rattle.metric_desc.specs.declared.kind.Kind.TheVariants.{Histogram as Histog
 use Rattle.expo_text.specs.declared.number.Number.{Number}
 use Rattle.expo_text.specs.declared.number.Number.TheVariants.{Counter, Histogram, Gauge}
 use Rattle.expo_text.specs.Scraped.{Child, Family, Scraped}
-use Rattle.expo_text.specs.Samples.{Sample, bucket_sample, bound_samples, last_samples, samples_of_number, samples_of_child, samples_of_family}
+use Rattle.expo_text.specs.Samples.{Sample, bucket_sample, bound_samples, last_samples, samples_of_number, samples_of_child}
+use Rattle.expo_text.specs.Samples.{samples_of_family}
 use Rattle.expo_text.specs.Order.{IsNumberOf, IsFamily, IsScrape}
 use Rattle.expo_text.specs.Spelled.{IsSpelledIfPrinted}
 use Rattle.expo_text.specs.Groups.{Group, groups_of}
@@ -28,7 +31,8 @@ use Rattle.expo_text.proofs.Pairs.{Each, Pairs, each_weaker, each_both, each_app
 use Rattle.expo_text.proofs.LabelSets.{HasNoLe, no_le_in, le_is, le_there, turned, same_list}
 use Rattle.expo_text.proofs.Families.{IsPrinted, group_for, each_group}
 use Rattle.expo_text.proofs.Owned.{IsOwned, OwnedAs, owned_so, both_same, each_bound, pairs_bounds, number_owned}
-use Rattle.expo_text.proofs.Apart.{bucket_no_sum, bucket_no_count, decimal_no_inf, bound_small, IsFit, all_fit, own_no_le, pairs_family}
+use Rattle.expo_text.proofs.Apart.{bucket_no_sum, bucket_no_count, decimal_no_inf, bound_small, IsFit, all_fit, own_no_le}
+use Rattle.expo_text.proofs.Apart.{pairs_family}
 use Rattle.expo_text.proofs.Once.{IsKnown, all_known}
 
 -- a cumulated value is at most each later one
@@ -49,12 +53,16 @@ others-own : (labels values : List (List ℕ)) → ¬ (Contains labels le) → o
 others-own [] values none = refl
 others-own (label ∷ labels) [] none = refl
 others-own (label ∷ labels) (value ∷ values) none =
-    let differ : is_same_text label le ≡ false = false_from_ne_true (is_same_text label le) (λ e. none (0, (omega arith), same_text label le (sym e))) in
-    cond-true (not (is_same_text label le)) ((label, value) ∷ others (zip labels values)) (others (zip labels values)) (not_from_false (is_same_text label le) differ)
-    ∙ ap (λ rest. (label, value) ∷ rest) (others-own labels values (λ found. none (suc found.0, (omega (arith, found.1)), found.2)))
+    let differ : is_same_text label le ≡ false = false_from_ne_true (is_same_text label le)
+    (λ e. none (0, (omega arith), same_text label le (sym e))) in
+    cond-true (not (is_same_text label le)) ((label, value) ∷ others (zip labels values)) (others (zip labels values))
+    (not_from_false (is_same_text label le) differ)
+    ∙ ap (λ rest. (label, value) ∷ rest)
+    (others-own labels values (λ found. none (suc found.0, (omega (arith, found.1)), found.2)))
 
 -- a sample's labels without `le` are its child's own
-others-owned : (own : List (List ℕ × List ℕ)) (sample : Sample) → others own ≡ own → IsOwned own sample → others sample.labels ≡ own
+others-owned : (own : List (List ℕ × List ℕ)) (sample : Sample) → others own ≡ own → IsOwned own sample
+    → others sample.labels ≡ own
 others-owned own sample kept (inl e) = ap others e ∙ kept
 others-owned own sample kept (inr e) =
     ap others e.1
@@ -69,7 +77,8 @@ bound_is desc own n value none few (Some m) is =
     let token : decimal n ≡ is.token = le_is own (decimal n) is.token none is.le in
     ap Some (sym is.writes.1 ∙ (ap (digits_value 10) (sym token) ∙ (decimal_is_IsNumeral n few).1))
 bound_is desc own n value none few None is =
-    let token : decimal n ≡ is.token = le_is own (decimal n) is.token none is.le in absurd (decimal_no_inf n few (token ∙ is.writes))
+    let token : decimal n ≡ is.token = le_is own (decimal n) is.token none is.le in
+    absurd (decimal_no_inf n few (token ∙ is.writes))
 
 -- the bucket of all values has no bound
 no_bound : (desc : Descriptor) (own : List (List ℕ × List ℕ)) (value : ℕ) → HasNoLe own
@@ -97,7 +106,8 @@ no_count : (desc : Descriptor) (own : List (List ℕ × List ℕ)) (value : ℤ)
     → ¬ (IsBucket desc.name x (record { name = desc.name ++ codes "_count"; labels = own; value = value }))
 no_count desc own value x is = bucket_no_count desc.name (sym is.named)
 
-module _ (desc : Descriptor) (own : List (List ℕ × List ℕ)) (totals : HistTotals) (are : AreBounds desc.bounds) (none : HasNoLe own) where
+module _ (desc : Descriptor) (own : List (List ℕ × List ℕ)) (totals : HistTotals) (are : AreBounds desc.bounds)
+    (none : HasNoLe own) where
   abbrev bound : ℕ → ℕ
   bound k = slice_index desc.bounds k
 
@@ -106,7 +116,8 @@ module _ (desc : Descriptor) (own : List (List ℕ × List ℕ)) (totals : HistT
 
   -- two buckets of one histogram
   two_rise : (j k : ℕ) → j < k → k < length desc.bounds
-      → Rises desc.name (bucket_sample desc own (decimal (slice_index desc.bounds j)) (cumulated totals.buckets (length desc.bounds) j))
+      → Rises desc.name (bucket_sample desc own (decimal (slice_index desc.bounds j))
+      (cumulated totals.buckets (length desc.bounds) j))
       (bucket_sample desc own (decimal (slice_index desc.bounds k)) (cumulated totals.buckets (length desc.bounds) k))
   two_rise j k lt within =
       let le = cumulated-le totals.buckets (length desc.bounds) j k lt within in
@@ -114,23 +125,35 @@ module _ (desc : Descriptor) (own : List (List ℕ × List ℕ)) (totals : HistT
         λ x y _ _ _ _. omega (arith, ints, le),
         λ x y is_x is_y _ no_lower. absurd (
             no_lower (lower_than (Some (bound j)) (Some (bound k)) y x
-            (sym (bound_is desc own (bound j) (value j) none (bound_small desc own are none j (omega (arith, lt, within))) y is_y))
+            (sym (bound_is desc own (bound j) (value j) none (bound_small desc own are none j (omega (arith, lt, within))) y
+            is_y))
             (sym (bound_is desc own (bound k) (value k) none (bound_small desc own are none k within) x is_x)) rises)),
       )
 
   -- a bucket and the last three samples
   last_rise : (k : ℕ) → k < length desc.bounds
-      → Each (Rises desc.name (bucket_sample desc own (decimal (slice_index desc.bounds k)) (cumulated totals.buckets (length desc.bounds) k))) (last_samples desc own totals)
+      → Each (Rises desc.name (bucket_sample desc own (decimal (slice_index desc.bounds k))
+      (cumulated totals.buckets (length desc.bounds) k))) (last_samples desc own totals)
   last_rise k within = (
     (
       λ x y _ _ _ _. let le = cumulated-le_sum totals.buckets (length desc.bounds) k in omega (arith, ints, le),
       λ x y is_x is_y _ no_lower. absurd (
           no_lower (lower_than (Some (bound k)) None y x
-          (sym (bound_is desc own (bound k) (value k) none (bound_small desc own are none k within) y is_y)) (sym (no_bound desc own (sum totals.buckets) none x is_x)) tt)),
+          (sym (bound_is desc own (bound k) (value k) none (bound_small desc own are none k within) y is_y))
+          (sym (no_bound desc own (sum totals.buckets) none x is_x)) tt)),
     ),
     (
-      (λ x y _ is_y _ _. absurd (no_sum desc own (pos totals.sum) y is_y), λ x y is_x _ _ _. absurd (no_sum desc own (pos totals.sum) x is_x)),
-      ((λ x y _ is_y _ _. absurd (no_count desc own (pos totals.count) y is_y), λ x y is_x _ _ _. absurd (no_count desc own (pos totals.count) x is_x)), tt),
+      (
+        λ x y _ is_y _ _. absurd (no_sum desc own (pos totals.sum) y is_y),
+        λ x y is_x _ _ _. absurd (no_sum desc own (pos totals.sum) x is_x),
+      ),
+      (
+        (
+          λ x y _ is_y _ _. absurd (no_count desc own (pos totals.count) y is_y),
+          λ x y is_x _ _ _. absurd (no_count desc own (pos totals.count) x is_x),
+        ),
+        tt,
+      ),
     ),
   )
 
@@ -140,11 +163,26 @@ module _ (desc : Descriptor) (own : List (List ℕ × List ℕ)) (totals : HistT
       pairs_append (Rises desc.name) (bound_samples desc own totals.buckets) (last_samples desc own totals)
       (pairs_bounds (Rises desc.name) desc own totals.buckets two_rise) (
         (
-          (λ x y _ is_y _ _. absurd (no_sum desc own (pos totals.sum) y is_y), λ x y is_x _ _ _. absurd (no_sum desc own (pos totals.sum) x is_x)),
-          ((λ x y _ is_y _ _. absurd (no_count desc own (pos totals.count) y is_y), λ x y is_x _ _ _. absurd (no_count desc own (pos totals.count) x is_x)), tt),
+          (
+            λ x y _ is_y _ _. absurd (no_sum desc own (pos totals.sum) y is_y),
+            λ x y is_x _ _ _. absurd (no_sum desc own (pos totals.sum) x is_x),
+          ),
+          (
+            (
+              λ x y _ is_y _ _. absurd (no_count desc own (pos totals.count) y is_y),
+              λ x y is_x _ _ _. absurd (no_count desc own (pos totals.count) x is_x),
+            ),
+            tt,
+          ),
         ),
         (
-          ((λ x y is_x _ _ _. absurd (no_sum desc own (pos totals.sum) x is_x), λ x y _ is_y _ _. absurd (no_sum desc own (pos totals.sum) y is_y)), tt),
+          (
+            (
+              λ x y is_x _ _ _. absurd (no_sum desc own (pos totals.sum) x is_x),
+              λ x y _ is_y _ _. absurd (no_sum desc own (pos totals.sum) y is_y),
+            ),
+            tt,
+          ),
           (tt, tt),
         ),
       )
@@ -169,42 +207,54 @@ module _ (desc : Descriptor) (own : List (List ℕ × List ℕ)) (totals : HistT
 
 -- the buckets of a number rise
 number_rises : (desc : Descriptor) (own : List (List ℕ × List ℕ)) (number : Number) → IsNumberOf desc.kind number
-    → (desc.kind ≡ HistogramKind → AreBounds desc.bounds) → (desc.kind ≡ HistogramKind → HasNoLe own) → Pairs (Rises desc.name) (samples_of_number desc own number)
+    → (desc.kind ≡ HistogramKind → AreBounds desc.bounds) → (desc.kind ≡ HistogramKind → HasNoLe own)
+    → Pairs (Rises desc.name) (samples_of_number desc own number)
 number_rises desc own (Counter total) is are none = (tt, tt)
 number_rises desc own (Histogram totals) is are none = histogram_rises desc own totals (are is.0) (none is.0)
 number_rises desc own (Gauge totals) is are none = (tt, tt)
 
 -- the labels of a child's samples without `le` are its own
-others_of : (desc : Descriptor) (kept : IsDescOf desc.kind desc.labels desc.bounds) → desc.kind ≡ HistogramKind → (child : Child) (sample : Sample)
+others_of : (desc : Descriptor) (kept : IsDescOf desc.kind desc.labels desc.bounds) → desc.kind ≡ HistogramKind
+    → (child : Child) (sample : Sample)
     → OwnedAs desc.kind (zip desc.labels child.values) sample → others sample.labels ≡ zip desc.labels child.values
 others_of desc kept kind child sample owned =
-    others-owned (zip desc.labels child.values) sample (others-own desc.labels child.values (kept.histogram kind).no_le) (owned_so desc.kind (zip desc.labels child.values) sample owned)
+    others-owned (zip desc.labels child.values) sample (others-own desc.labels child.values (kept.histogram kind).no_le)
+    (owned_so desc.kind (zip desc.labels child.values) sample owned)
 
 -- the buckets of each child of a family rise
-family_rises : (family : Family) → IsFamily family → family.desc.kind ≡ HistogramKind → IsDescOf family.desc.kind family.desc.labels family.desc.bounds
+family_rises : (family : Family) → IsFamily family → family.desc.kind ≡ HistogramKind
+    → IsDescOf family.desc.kind family.desc.labels family.desc.bounds
     → Pairs (Rises family.desc.name) (samples_of_family family)
 family_rises family is kind kept =
     pairs_family (Rises family.desc.name) family is kept
-    (λ child number. number_rises family.desc (zip family.desc.labels child.values) child.number number (λ e. (kept.histogram e).bounds_ok) (own_no_le family.desc kept child))
+    (λ child number. number_rises family.desc (zip family.desc.labels child.values) child.number number
+    (λ e. (kept.histogram e).bounds_ok) (own_no_le family.desc kept child))
     (λ a b differ s t left right.
     let own_s = others_of family.desc kept kind a s left in let own_t = others_of family.desc kept kind b t right in (
-      λ x y _ _ child _. absurd (differ (both_same (zip family.desc.labels a.values) (zip family.desc.labels b.values) (others s.labels) (others t.labels) own_s own_t child)),
-      λ x y _ _ child _. absurd (differ (both_same (zip family.desc.labels a.values) (zip family.desc.labels b.values) (others s.labels) (others t.labels) own_s own_t (turned (others t.labels) (others s.labels) child))),
+      λ x y _ _ child _. absurd
+          (differ (both_same (zip family.desc.labels a.values) (zip family.desc.labels b.values) (others s.labels)
+          (others t.labels) own_s own_t child)),
+      λ x y _ _ child _. absurd
+          (differ (both_same (zip family.desc.labels a.values) (zip family.desc.labels b.values) (others s.labels)
+          (others t.labels) own_s own_t (turned (others t.labels) (others s.labels) child))),
     ))
 
 -- each sample of a histogram's family is a bucket of some bound, or has none
-number_formed : (desc : Descriptor) (own : List (List ℕ × List ℕ)) (number : Number) → desc.kind ≡ HistogramKind → IsNumberOf desc.kind number
+number_formed : (desc : Descriptor) (own : List (List ℕ × List ℕ)) (number : Number) → desc.kind ≡ HistogramKind
+    → IsNumberOf desc.kind number
     → AreBounds desc.bounds → HasNoLe own → Each (IsOfHistogram desc.name) (samples_of_number desc own number)
 number_formed desc own (Counter total) kind is are none = cc
 number_formed desc own (Gauge totals) kind is are none = cc
 number_formed desc own (Histogram totals) kind is are none = histogram_formed desc own totals are none
 
-family_formed : (family : Family) → IsFamily family → family.desc.kind ≡ HistogramKind → IsDescOf family.desc.kind family.desc.labels family.desc.bounds
+family_formed : (family : Family) → IsFamily family → family.desc.kind ≡ HistogramKind
+    → IsDescOf family.desc.kind family.desc.labels family.desc.bounds
     → Each (IsOfHistogram family.desc.name) (samples_of_family family)
 family_formed family is kind kept =
     each_flat_map (IsOfHistogram family.desc.name) (samples_of_child family.desc) family.children
     (each_weaker (IsFit family.desc) (λ child. Each (IsOfHistogram family.desc.name) (samples_of_child family.desc child))
-    (λ child fit. number_formed family.desc (zip family.desc.labels child.values) child.number kind fit.number (kept.histogram kind).bounds_ok (own_no_le family.desc kept child kind))
+    (λ child fit. number_formed family.desc (zip family.desc.labels child.values) child.number kind fit.number
+    (kept.histogram kind).bounds_ok (own_no_le family.desc kept child kind))
     family.children (all_fit family is))
 
 -- what one of the pieces contains
@@ -217,8 +267,10 @@ contains_piece f (first ∷ xs) x y (suc k) within is there =
     Contains-append_right (f first) (flat_map f xs) y (contains_piece f xs x y k (omega arith) is there)
 
 -- a number of a histogram's family gives each of its samples a bucket of all values and a count
-number_whole : (group : Group) (desc : Descriptor) (own : List (List ℕ × List ℕ)) (number : Number) → group.name ≡ desc.name → desc.kind ≡ HistogramKind
-    → IsNumberOf desc.kind number → others own ≡ own → ((sample : Sample) → Contains (samples_of_number desc own number) sample → Contains group.samples sample)
+number_whole : (group : Group) (desc : Descriptor) (own : List (List ℕ × List ℕ)) (number : Number) → group.name ≡ desc.name
+    → desc.kind ≡ HistogramKind
+    → IsNumberOf desc.kind number → others own ≡ own → ((sample : Sample) → Contains (samples_of_number desc own number) sample
+    → Contains group.samples sample)
     → (sample : Sample) → IsOwned own sample → IsWhole group sample
 number_whole group desc own (Counter total) name kind is kept there sample owned = cc
 number_whole group desc own (Gauge totals) name kind is kept there sample owned = cc
@@ -227,14 +279,21 @@ number_whole group desc own (Histogram totals) name kind is kept there sample ow
     let count : Sample = record { name = desc.name ++ codes "_count"; labels = own; value = pos totals.count } in
     record {
       all = all;
-      all_there = there all (Contains-append_right (bound_samples desc own totals.buckets) (last_samples desc own totals) all (0, (omega arith), refl));
+      all_there = there all (Contains-append_right (bound_samples desc own totals.buckets) (last_samples desc own totals) all (
+        0,
+        (omega arith),
+        refl,
+      ));
       all_name = ap (λ text. text ++ codes "_bucket") (sym name);
       all_bound = Contains-push own (codes "le", codes "+Inf");
-      all_child = same_list (others all.labels) (others sample.labels) (others-owned own all kept (inr (codes "+Inf", refl)) ∙ sym (others-owned own sample kept owned));
+      all_child = same_list (others all.labels) (others sample.labels) (others-owned own all kept (inr (codes "+Inf", refl))
+          ∙ sym (others-owned own sample kept owned));
       count = count;
-      count_there = there count (Contains-append_right (bound_samples desc own totals.buckets) (last_samples desc own totals) count (2, (omega arith), refl));
+      count_there = there count (Contains-append_right (bound_samples desc own totals.buckets) (last_samples desc own totals)
+          count (2, (omega arith), refl));
       count_name = ap (λ text. text ++ codes "_count") (sym name);
-      count_child = same_list (others count.labels) (others sample.labels) (others-owned own count kept (inl refl) ∙ sym (others-owned own sample kept owned));
+      count_child = same_list (others count.labels) (others sample.labels) (others-owned own count kept (inl refl)
+          ∙ sym (others-owned own sample kept owned));
       equal = ap pos (sym is.1);
     }
 
@@ -248,8 +307,10 @@ family_whole family is kind none =
     (λ child known.
     let own : List (List ℕ × List ℕ) = zip family.desc.labels child.values in
     each_weaker (IsOwned own) (IsWhole (group_for family))
-    (number_whole (group_for family) family.desc own child.number refl kind known.1 (others-own family.desc.labels child.values none)
-    (λ sample found. contains_piece (samples_of_child family.desc) family.children child sample known.0.0 known.0.1 known.0.2 found))
+    (number_whole (group_for family) family.desc own child.number refl kind known.1
+    (others-own family.desc.labels child.values none)
+    (λ sample found. contains_piece (samples_of_child family.desc) family.children child sample known.0.0 known.0.1 known.0.2
+    found))
     (samples_of_child family.desc child) (number_owned family.desc own child.number))
     family.children
     (each_both (Contains family.children) (λ (child : Child). IsNumberOf family.desc.kind child.number) family.children
@@ -267,7 +328,9 @@ histograms scrape is spelled =
     let kept = (known.spelled printed).desc.kept in
     let none : ¬ (Contains family.desc.labels le) = (kept.histogram kind).no_le in
     record {
-      formed = All-from_recursion (IsOfHistogram family.desc.name) (samples_of_family family) (family_formed family known.kept kind kept);
+      formed = All-from_recursion (IsOfHistogram family.desc.name) (samples_of_family family)
+          (family_formed family known.kept kind kept);
       rising = pairs_places (Rises family.desc.name) (samples_of_family family) (family_rises family known.kept kind kept);
-      whole = All-from_recursion (IsWhole (group_for family)) (samples_of_family family) (family_whole family known.kept kind none);
+      whole = All-from_recursion (IsWhole (group_for family)) (samples_of_family family)
+          (family_whole family known.kept kind none);
     }) scrape.families (all_known scrape is spelled)))

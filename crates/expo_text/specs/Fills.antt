@@ -18,12 +18,16 @@ pub fills-chain : (a b c : List ℕ) (i j k : ℕ) (xs ys : List ℕ) → Fills 
 fills-chain a b c i j k xs ys first second =
     let lengths : length (xs ++ ys) ≡ length xs + length ys = length-append xs ys in
     let apart : i + length xs + length ys ≡ i + (length xs + length ys) = add_assoc i (length xs) (length ys) in
-    let all : i + length (xs ++ ys) ≤ length a → i + length xs + length ys ≤ length a = λ room. subst (λ n. n ≤ length a) (sym apart) (subst (λ n. i + n ≤ length a) lengths room) in
-    let start : i + length (xs ++ ys) ≤ length a → i + length xs ≤ length a = λ room. le_trans (le-add_right (i + length xs) (length ys)) (all room) in
+    let all : i + length (xs ++ ys) ≤ length a → i + length xs + length ys ≤ length a = λ room. subst (λ n. n ≤ length a)
+    (sym apart) (subst (λ n. i + n ≤ length a) lengths room) in
+    let start : i + length (xs ++ ys) ≤ length a → i + length xs ≤ length a =
+    λ room. le_trans (le-add_right (i + length xs) (length ys)) (all room) in
     let then : i + length (xs ++ ys) ≤ length a → j + length ys ≤ length b = λ room.
-    subst (λ n. n + length ys ≤ length b) (sym (first.count (start room))) (subst (λ n. i + length xs + length ys ≤ n) (sym first.places) (all room)) in
+    subst (λ n. n + length ys ≤ length b) (sym (first.count (start room)))
+    (subst (λ n. i + length xs + length ys ≤ n) (sym first.places) (all room)) in
     record {
       places = second.places ∙ first.places;
-      count = λ room. second.count (then room) ∙ ap (λ n. n + length ys) (first.count (start room)) ∙ apart ∙ ap (λ n. i + n) (sym lengths);
+      count = λ room. second.count (then room) ∙ ap (λ n. n + length ys) (first.count (start room)) ∙ apart
+          ∙ ap (λ n. i + n) (sym lengths);
       filled = λ room. second.filled (then room) ∙ ap (λ l. l ++ ys) (first.filled (start room)) ∙ append_assoc (take i a) xs ys;
     }

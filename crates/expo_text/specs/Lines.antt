@@ -52,7 +52,8 @@ HasNoBlankInFront (b ∷ _) = is_blank b ≡ false
 -- the first token of a text, and what follows it. A text of blanks alone has none: an empty one stands for it
 pub data IsFirst : (text token rest : List ℕ) → Type 0 where
   NoToken : (gap : List ℕ) → AreBlanks gap → IsFirst gap [] []
-  OneToken : (gap token rest : List ℕ) → AreBlanks gap → IsToken token → EndsToken rest → IsFirst (gap ++ token ++ rest) token rest
+  OneToken : (gap token rest : List ℕ) → AreBlanks gap → IsToken token → EndsToken rest
+      → IsFirst (gap ++ token ++ rest) token rest
 
 -- the only token of a text, with blanks around it. A text of blanks alone has none: an empty one stands for it
 pub record IsOnly (text token : List ℕ) : Type 0 where

@@ -1,6 +1,7 @@
 -- A text read as an exposition (Prometheus documentation, "Exposition formats", "Text-based format").
 -- That each group has a type, and that each value is a whole number, is this project's narrowing.
-use Rattle.std.specs.Prelude.{◌≡◌, ◌≢◌, ℕ, ◌<◌, ℤ, pos, neg_ℤ, ◌≤ℤ◌, ⊤, not, Option, Some, None, List, [], ◌∷◌, ◌++◌, All, AllPairs, Contains, filter, flat_map, codes, ◌⊎◌}
+use Rattle.std.specs.Prelude.{◌≡◌, ◌≢◌, ℕ, ◌<◌, ℤ, pos, neg_ℤ, ◌≤ℤ◌, ⊤, not, Option, Some, None, List, [], ◌∷◌, ◌++◌, All}
+use Rattle.std.specs.Prelude.{AllPairs, Contains, filter, flat_map, codes, ◌⊎◌}
 use Rattle.std.specs.Str.Parse.{IsNumeral, digits_value}
 use Rattle.metric_names.specs.MetricName.{IsMetricName}
 use Rattle.metric_names.specs.LabelName.{IsLabelName}
@@ -35,7 +36,8 @@ word_of Gauge = codes "gauge"
 abbrev pub WritesValue : Kind → List ℕ → ℤ → Type 0
 WritesValue kind token value =
     (IsNumeral 10 token × (value ≡ pos (digits_value 10 token)))
-    ⊎ ((digits : List ℕ) × (kind ≡ Gauge) × (token ≡ codes "-" ++ digits) × IsNumeral 10 digits × (value ≡ neg_ℤ (pos (digits_value 10 digits))))
+    ⊎ ((digits : List ℕ) × (kind ≡ Gauge) × (token ≡ codes "-" ++ digits) × IsNumeral 10 digits
+    × (value ≡ neg_ℤ (pos (digits_value 10 digits))))
 
 -- a label as it is written: a name of the grammar, and a value that is unescaped
 pub record IsLabel (written : List ℕ × List ℕ) (label : List ℕ × List ℕ) : Type 0 where
@@ -60,7 +62,8 @@ pub record IsGroup (part : Part) (group : Group) : Type 0 where
 -- the same labels, in any order
 abbrev pub AreSameLabels : (a b : List (List ℕ × List ℕ)) → Type 0
 AreSameLabels a b =
-    ((label : List ℕ × List ℕ) → Contains a label → Contains b label) × ((label : List ℕ × List ℕ) → Contains b label → Contains a label)
+    ((label : List ℕ × List ℕ) → Contains a label → Contains b label)
+    × ((label : List ℕ × List ℕ) → Contains b label → Contains a label)
 
 -- two samples are of one series: they have the same name and the same labels, in any order
 pub record IsSameSeries (a b : Sample) : Type 0 where
@@ -101,11 +104,13 @@ pub record IsBucket (name : List ℕ) (bound : Option ℕ) (sample : Sample) : T
 abbrev pub IsOfHistogram : (name : List ℕ) → Sample → Type 0
 IsOfHistogram name sample =
     ((bound : Option ℕ) × IsBucket name bound sample)
-    ⊎ (((sample.name ≡ name ++ codes "_sum") ⊎ (sample.name ≡ name ++ codes "_count")) × ((token : List ℕ) → ¬ (Contains sample.labels (codes "le", token))))
+    ⊎ (((sample.name ≡ name ++ codes "_sum") ⊎ (sample.name ≡ name ++ codes "_count"))
+    × ((token : List ℕ) → ¬ (Contains sample.labels (codes "le", token))))
 
 -- where both are buckets of one child, and the first one's bound is not above the other's, its value is not higher
 abbrev pub IsNoHigher : (name : List ℕ) → Sample → Sample → Type 0
-IsNoHigher name a b = (x y : Option ℕ) → IsBucket name x a → IsBucket name y b → IsOfOneChild a b → ¬ (IsLower y x) → a.value ≤ℤ b.value
+IsNoHigher name a b = (x y : Option ℕ) → IsBucket name x a → IsBucket name y b → IsOfOneChild a b → ¬ (IsLower y x)
+    → a.value ≤ℤ b.value
 
 -- the child of a sample has a bucket `+Inf` and a count, and the two are equal
 pub record IsWhole (group : Group) (sample : Sample) : Type 0 where

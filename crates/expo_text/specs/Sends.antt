@@ -58,15 +58,19 @@ sends-nothing a = record {
 }
 
 -- what is left of one text waits before the next: what went of both, and what is left then, are all bytes in order
-join : (gone left waiting waiting_then xs ys gone_then left_then : List ℕ) → gone ++ left ≡ waiting ++ xs → left ≡ waiting_then → gone_then ++ left_then ≡ waiting_then ++ ys → (gone ++ gone_then) ++ left_then ≡ waiting ++ (xs ++ ys)
+join : (gone left waiting waiting_then xs ys gone_then left_then : List ℕ) → gone ++ left ≡ waiting ++ xs → left ≡ waiting_then
+    → gone_then ++ left_then ≡ waiting_then ++ ys → (gone ++ gone_then) ++ left_then ≡ waiting ++ (xs ++ ys)
 join gone left waiting waiting_then xs ys gone_then left_then first same second =
-    append_assoc gone gone_then left_then ∙ ap (λ l. gone ++ l) (second ∙ ap (λ l. l ++ ys) (sym same)) ∙ sym (append_assoc gone left ys)
+    append_assoc gone gone_then left_then ∙ ap (λ l. gone ++ l) (second ∙ ap (λ l. l ++ ys) (sym same))
+    ∙ sym (append_assoc gone left ys)
     ∙ ap (λ l. l ++ ys) first ∙ append_assoc waiting xs ys
 
 -- the same where nothing more goes: all of the next text is left
-join-failed : (gone left waiting xs ys gone_then : List ℕ) → gone ++ left ≡ waiting ++ xs → gone_then ≡ [] → (gone ++ gone_then) ++ (left ++ ys) ≡ waiting ++ (xs ++ ys)
+join-failed : (gone left waiting xs ys gone_then : List ℕ) → gone ++ left ≡ waiting ++ xs → gone_then ≡ []
+    → (gone ++ gone_then) ++ (left ++ ys) ≡ waiting ++ (xs ++ ys)
 join-failed gone left waiting xs ys gone_then first none =
-    ap (λ l. l ++ (left ++ ys)) (ap (λ l. gone ++ l) none ∙ append-nil gone) ∙ sym (append_assoc gone left ys) ∙ ap (λ l. l ++ ys) first ∙ append_assoc waiting xs ys
+    ap (λ l. l ++ (left ++ ys)) (ap (λ l. gone ++ l) none ∙ append-nil gone) ∙ sym (append_assoc gone left ys)
+    ∙ ap (λ l. l ++ ys) first ∙ append_assoc waiting xs ys
 
 -- where the writer has not failed after the first text, two texts are sent as one
 chain-going : (a b c : Sender) (xs ys : List ℕ) → b.failed ≡ false → Sends a b xs → Sends b c ys → Sends a c (xs ++ ys)
@@ -97,7 +101,8 @@ chain-failed a b c xs ys failed p q = record {
 }
 
 -- so they are in both cases
-chain-either : (a b c : Sender) (xs ys : List ℕ) (failed : Bool) → b.failed ≡ failed → Sends a b xs → Sends b c ys → Sends a c (xs ++ ys)
+chain-either : (a b c : Sender) (xs ys : List ℕ) (failed : Bool) → b.failed ≡ failed → Sends a b xs → Sends b c ys
+    → Sends a c (xs ++ ys)
 chain-either a b c xs ys true is p q = chain-failed a b c xs ys is p q
 chain-either a b c xs ys false is p q = chain-going a b c xs ys is p q
 

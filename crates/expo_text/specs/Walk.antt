@@ -1,5 +1,6 @@
 -- The parts of a text in the order in which they are written.
-use Rattle.std.specs.Prelude.{ℕ, ◌==◌, Bool, true, false, if◌then◌else◌, List, [], ◌∷◌, ◌++◌, codes, length, map, slice_index, decimal}
+use Rattle.std.specs.Prelude.{ℕ, ◌==◌, Bool, true, false, if◌then◌else◌, List, [], ◌∷◌, ◌++◌, codes, length, map, slice_index}
+use Rattle.std.specs.Prelude.{decimal}
 use Rattle.std.specs.List.{flat_map, join_by, range_with_len}
 use Rattle.metric_names.specs.Escapes.{help_byte, label_byte}
 use Rattle.expo_text.specs.Text.{label_text, labels_text}
@@ -41,4 +42,5 @@ bucket_line front bound digits = front ++ bound ++ codes "\"} " ++ digits ++ cod
 -- the lines of the first `n` buckets, of these bounds and these cumulated values
 abbrev pub bucket_lines : (front : List ℕ) → (bounds cumulated : List ℕ) → (n : ℕ) → List ℕ
 bucket_lines front bounds cumulated n =
-    flat_map (λ line. line) (map (λ k. bucket_line front (decimal (slice_index bounds k)) (decimal (slice_index cumulated k))) (range_with_len 0 n))
+    flat_map (λ line. line) (map (λ k. bucket_line front (decimal (slice_index bounds k)) (decimal (slice_index cumulated k)))
+    (range_with_len 0 n))

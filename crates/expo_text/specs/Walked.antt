@@ -1,6 +1,7 @@
 -- How a reader walks over the bytes of a line and over the lines of a text. What it finds is said without it, by the lines
 -- and the parts of an exposition.
-use Rattle.std.specs.Prelude.{ℕ, Bool, true, false, not, ◌&&◌, ◌==◌, if◌then◌else◌, List, [], ◌∷◌, ◌++◌, drop, take_while, codes, ◌≡◌, ◌≢◌, map, All, AllPairs, flat_map}
+use Rattle.std.specs.Prelude.{ℕ, Bool, true, false, not, ◌&&◌, ◌==◌, if◌then◌else◌, List, [], ◌∷◌, ◌++◌, drop, take_while, codes}
+use Rattle.std.specs.Prelude.{◌≡◌, ◌≢◌, map, All, AllPairs, flat_map}
 use Rattle.std.specs.List.{prefix_len}
 use Rattle.metric_names.specs.HelpText.{is_blank}
 use Rattle.metric_desc.specs.declared.kind.Kind.TheVariants.{Histogram}
@@ -125,7 +126,8 @@ entry_of line = entry_from (skip line)
 -- what the names of a group's samples have after its name: of a histogram one of three, else nothing
 abbrev pub ends_of : (types : List (List ℕ)) → List (List ℕ)
 ends_of [] = [] ∷ []
-ends_of (word ∷ _) = if is_same_text word (codes "histogram") then (codes "_bucket" ∷ codes "_sum" ∷ codes "_count" ∷ []) else ([] ∷ [])
+ends_of (word ∷ _) = if is_same_text word (codes "histogram") then (codes "_bucket" ∷ codes "_sum" ∷ codes "_count" ∷ []) else
+    ([] ∷ [])
 
 -- the name is the group's with one of these after it
 abbrev pub has_end : (name group : List ℕ) → List (List ℕ) → Bool

@@ -1,4 +1,5 @@
-ghost use Rattle.std.specs.Prelude.{◌≡◌, ℕ, slice_index, ◌<◌, ◌≤◌, ◌^◌, ◌++◌, [], length, sum, take, zip, codes, decimal, pos, ◌-ℤ◌, All};
+ghost use Rattle.std.specs.Prelude.{◌≡◌, ℕ, slice_index, ◌<◌, ◌≤◌, ◌^◌, ◌++◌, [], length, sum, take, zip, codes, decimal, pos};
+ghost use Rattle.std.specs.Prelude.{◌-ℤ◌, All};
 ghost use Rattle.std.specs.Fmt.{signed_decimal};
 ghost use Rattle.std.specs.List.{flat_map};
 ghost use Rattle.metric_names.specs.LabelName.{IsLabelName};
@@ -44,7 +45,8 @@ fn put_value<S: Sink>(sink: &mut S, sign: &str, value: u64)
 /// Writes the line of a sample whose value has no sign.
 fn put_sample<S: Sink>(sink: &mut S, desc: &Desc, values: &[LabelValue], suffix: &str, value: u64)
     requires { length values.now ≡ length desc.now.labels }
-    ensures text { S.took sink.old sink.new (series (desc.now.name ++ suffix.now) (zip desc.now.labels values.now) ++ value_text [] (decimal value)) }
+    ensures text { S.took sink.old sink.new
+        (series (desc.now.name ++ suffix.now) (zip desc.now.labels values.now) ++ value_text [] (decimal value)) }
     ensures names { All IsLabelName desc.now.labels }
     ensures values { All IsLabelValue values.now }
 {
@@ -151,7 +153,8 @@ fn put_histogram<S: Sink>(
     requires fit { length values.now ≡ length desc.now.labels }
     requires kind { desc.now.kind ≡ Kind.Histogram }
     requires count { totals.now.count ≡ sum totals.now.buckets }
-    ensures text { S.took sink.old sink.new (flat_map sample_line (samples_of_number desc.now (zip desc.now.labels values.now) (Number.Histogram totals.now))) }
+    ensures text { S.took sink.old sink.new
+        (flat_map sample_line (samples_of_number desc.now (zip desc.now.labels values.now) (Number.Histogram totals.now))) }
     ensures names { All IsLabelName desc.now.labels }
     ensures values { All IsLabelValue values.now }
     ensures words { IsOfWords (Number.Histogram totals.now) }
@@ -180,7 +183,8 @@ fn difference(up: u64, down: u64) -> (&'static str, u64)
 /// Writes the line of a gauge: its ups less its downs.
 fn put_gauge<S: Sink>(sink: &mut S, desc: &Desc, values: &[LabelValue], totals: &GaugeTotals)
     requires { length values.now ≡ length desc.now.labels }
-    ensures text { S.took sink.old sink.new (flat_map sample_line (samples_of_number desc.now (zip desc.now.labels values.now) (Number.Gauge totals.now))) }
+    ensures text { S.took sink.old sink.new
+        (flat_map sample_line (samples_of_number desc.now (zip desc.now.labels values.now) (Number.Gauge totals.now))) }
     ensures names { All IsLabelName desc.now.labels }
     ensures values { All IsLabelValue values.now }
     ensures words { IsOfWords (Number.Gauge totals.now) }
@@ -193,7 +197,8 @@ fn put_gauge<S: Sink>(sink: &mut S, desc: &Desc, values: &[LabelValue], totals: 
 /// Writes the line of a counter.
 fn put_counter<S: Sink>(sink: &mut S, desc: &Desc, values: &[LabelValue], total: u64)
     requires { length values.now ≡ length desc.now.labels }
-    ensures text { S.took sink.old sink.new (flat_map sample_line (samples_of_number desc.now (zip desc.now.labels values.now) (Number.Counter total))) }
+    ensures text { S.took sink.old sink.new
+        (flat_map sample_line (samples_of_number desc.now (zip desc.now.labels values.now) (Number.Counter total))) }
     ensures names { All IsLabelName desc.now.labels }
     ensures values { All IsLabelValue values.now }
     ensures words { IsOfWords (Number.Counter total) }
@@ -211,7 +216,8 @@ pub(crate) fn put_number<S: Sink>(
 )
     requires fit { length values.now ≡ length desc.now.labels }
     requires kind { IsNumberOf desc.now.kind number.now }
-    ensures text { S.took sink.old sink.new (flat_map sample_line (samples_of_number desc.now (zip desc.now.labels values.now) number.now)) }
+    ensures text { S.took sink.old sink.new
+        (flat_map sample_line (samples_of_number desc.now (zip desc.now.labels values.now) number.now)) }
     ensures names { All IsLabelName desc.now.labels }
     ensures values { All IsLabelValue values.now }
     ensures words { IsOfWords number.now }

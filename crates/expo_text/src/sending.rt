@@ -65,7 +65,8 @@ fn send_piece<W: Write>(out: &mut Watched<W>, piece: &[u8]) -> usize
 pub fn send<W: Write>(bytes: &[u8], out: &mut Watched<W>) -> Result<(), WriteFailed>
     requires not_failed { out.old.failed ≡ false }
     ensures sent { OnOk result (Appends (W.contents out.old.inner) (W.contents out.new.inner) bytes.now) }
-    ensures part { IfErr result (λ fault. (fault.sent < length bytes.now) × Appends (W.contents out.old.inner) (W.contents out.new.inner) (take fault.sent bytes.now)) }
+    ensures part { IfErr result (λ fault. (fault.sent < length bytes.now)
+        × Appends (W.contents out.old.inner) (W.contents out.new.inner) (take fault.sent bytes.now)) }
     ensures failed { out.new.failed ≡ is_err result }
     ensures ended { out.new.ended ≡ out.old.ended }
 {
@@ -102,7 +103,8 @@ impl<W: Write> Sending<'_, W> {
     /// Sends the bytes that wait where there is no room for more.
     fn make_room(&mut self)
         ensures same { self.new.out.ghost_name ≡ self.old.out.ghost_name }
-        ensures sent { Sends (sender_of W.contents self.old.out.now self.old.waiting self.old.sent) (sender_of W.contents self.new.out.now self.new.waiting self.new.sent) [] }
+        ensures sent { Sends (sender_of W.contents self.old.out.now self.old.waiting self.old.sent)
+            (sender_of W.contents self.new.out.now self.new.waiting self.new.sent) [] }
         ensures room { length self.new.waiting < 16384 }
     {
         if self.waiting.is_full() {
@@ -116,7 +118,8 @@ impl<W: Write> Sending<'_, W> {
         ensures some { 0 < result }
         ensures within { result ≤ length bytes.now }
         ensures same { self.new.out.ghost_name ≡ self.old.out.ghost_name }
-        ensures sent { Sends (sender_of W.contents self.old.out.now self.old.waiting self.old.sent) (sender_of W.contents self.new.out.now self.new.waiting self.new.sent) (take result bytes.now) }
+        ensures sent { Sends (sender_of W.contents self.old.out.now self.old.waiting self.old.sent)
+            (sender_of W.contents self.new.out.now self.new.waiting self.new.sent) (take result bytes.now) }
     {
         self.make_room();
         self.waiting.take(bytes)
@@ -125,7 +128,8 @@ impl<W: Write> Sending<'_, W> {
     /// Takes these bytes part by part, until the writer fails.
     fn put_parts(&mut self, bytes: &[u8])
         ensures same { self.new.out.ghost_name ≡ self.old.out.ghost_name }
-        ensures sent { Sends (sender_of W.contents self.old.out.now self.old.waiting self.old.sent) (sender_of W.contents self.new.out.now self.new.waiting self.new.sent) bytes.now }
+        ensures sent { Sends (sender_of W.contents self.old.out.now self.old.waiting self.old.sent)
+            (sender_of W.contents self.new.out.now self.new.waiting self.new.sent) bytes.now }
     {
         let mut at = 0;
         while at < bytes.len() && !self.out.failed() {
@@ -172,7 +176,8 @@ pub fn write_after<W: Write>(
     requires not_failed { out.old.failed ≡ false }
     requires short { length front.now ≤ 16384 }
     ensures sent { OnOk result (Appends (W.contents out.old.inner) (W.contents out.new.inner) (front.now ++ text scrape.now)) }
-    ensures part { IfErr result (λ fault. (fault.sent < length (front.now ++ text scrape.now)) × Appends (W.contents out.old.inner) (W.contents out.new.inner) (take fault.sent (front.now ++ text scrape.now))) }
+    ensures part { IfErr result (λ fault. (fault.sent < length (front.now ++ text scrape.now))
+        × Appends (W.contents out.old.inner) (W.contents out.new.inner) (take fault.sent (front.now ++ text scrape.now))) }
     ensures failed { out.new.failed ≡ is_err result }
     ensures ended { out.new.ended ≡ out.old.ended }
 {
@@ -198,7 +203,8 @@ pub fn write_after<W: Write>(
 pub fn write_to<W: Write>(scrape: &Scrape, out: &mut Watched<W>) -> Result<(), WriteFailed>
     requires not_failed { out.old.failed ≡ false }
     ensures sent { OnOk result (Appends (W.contents out.old.inner) (W.contents out.new.inner) (text scrape.now)) }
-    ensures part { IfErr result (λ fault. (fault.sent < length (text scrape.now)) × Appends (W.contents out.old.inner) (W.contents out.new.inner) (take fault.sent (text scrape.now))) }
+    ensures part { IfErr result (λ fault. (fault.sent < length (text scrape.now))
+        × Appends (W.contents out.old.inner) (W.contents out.new.inner) (take fault.sent (text scrape.now))) }
     ensures failed { out.new.failed ≡ is_err result }
     ensures ended { out.new.ended ≡ out.old.ended }
 {

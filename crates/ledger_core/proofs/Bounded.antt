@@ -1,5 +1,6 @@
 -- No word is over 2^48 - 1 by what a tally has.
-use Rattle.std.proofs.Common.{◌≡◌, ℕ, suc, ◌+◌, ◌*◌, ◌-◌, ◌/◌, ◌%◌, ◌<◌, ◌≤◌, ◌⊎◌, inl, inr, ⊎_elim, List, [], ◌∷◌, Some, slice_get, refl, arith, All, length, div-add-mod', mod-lt}
+use Rattle.std.proofs.Common.{◌≡◌, ℕ, suc, ◌+◌, ◌*◌, ◌-◌, ◌/◌, ◌%◌, ◌<◌, ◌≤◌, ◌⊎◌, inl, inr, ⊎_elim, List, [], ◌∷◌, Some}
+use Rattle.std.proofs.Common.{slice_get, refl, arith, All, length, div-add-mod', mod-lt}
 use Rattle.std.specs.List.{sum_by}
 use Rattle.std.proofs.lemmas.List.Elements.{All-get_or, All-head, All-tail}
 use Rattle.std.proofs.lemmas.List.Sums.{sum_by-cons}
@@ -38,7 +39,8 @@ one_adds f n (x ∷ xs) one small =
           ]) in
           omega arith
       | inr low ↦
-          let rest = one_adds f n xs (λ i j a b ia jb fa fb. let e = one (suc i) (suc j) a b ia jb fa fb in omega arith) (λ i a is. small (suc i) a is) in
+          let rest = one_adds f n xs (λ i j a b ia jb fa fb. let e = one (suc i) (suc j) a b ia jb fa fb in omega arith)
+          (λ i a is. small (suc i) a is) in
           omega arith
     ]
 
@@ -59,7 +61,8 @@ sum_place i j p q lp lq e = (omega arith, omega arith)
 abbrev pub IsPlain : (c h k : ℕ) → Type 0
 IsPlain c h k = (k < c) ⊎ (c + 27 * h ≤ k)
 
-observes_nothing : (c h k hist place value : ℕ) → IsPlain c h k → hist < h → place < 25 → part c h (Observe hist place value) k ≡ 0
+observes_nothing : (c h k hist place value : ℕ) → IsPlain c h k → hist < h → place < 25
+    → part c h (Observe hist place value) k ≡ 0
 observes_nothing c h k hist place value plain lt lt' =
     let n1 : k ≡ c + 27 * hist + place → ⊥ = λ e. ⊎_elim (λ low. omega arith) (λ high. omega arith) plain in
     let n2 : k ≡ c + 27 * hist + 25 → ⊥ = λ e. ⊎_elim (λ low. omega arith) (λ high. omega arith) plain in
@@ -71,11 +74,13 @@ observes_nothing c h k hist place value plain lt lt' =
 
 small_part : (c h g k : ℕ) (a : Op) → IsPlain c h k → IsWithin c h g a → IsSmall a → part c h a k ≤ greatest_word
 small_part c h g k (Inc counter by) plain inside small = let e = only_le counter by k in omega arith
-small_part c h g k (Observe hist place value) plain inside small = rw (observes_nothing c h k hist place value plain inside.0 inside.1) (omega arith)
+small_part c h g k (Observe hist place value) plain inside small =
+    rw (observes_nothing c h k hist place value plain inside.0 inside.1) (omega arith)
 small_part c h g k (Up gauge by) plain inside small = let e = only_le (c + 27 * h + 2 * gauge) by k in omega arith
 small_part c h g k (Down gauge by) plain inside small = let e = only_le (c + 27 * h + 2 * gauge + 1) by k in omega arith
 
-same_word : (c h g k : ℕ) (a b : Op) → IsPlain c h k → IsWithin c h g a → IsWithin c h g b → 0 < part c h a k → 0 < part c h b k → IsSameSlot a b
+same_word : (c h g k : ℕ) (a b : Op) → IsPlain c h k → IsWithin c h g a → IsWithin c h g b → 0 < part c h a k → 0 < part c h b k
+    → IsSameSlot a b
 same_word c h g k (Inc x m) (Inc y n) plain ia ib fa fb =
     let ea : k ≡ x = only_there (x) m k fa in
     let eb : k ≡ y = only_there (y) n k fb in
@@ -134,7 +139,8 @@ plain_words c h g ops within small merged = λ k plain.
 
 -- at a word of a histogram's buckets or of its count each operation adds 1 at most
 one_part : (c h g i p : ℕ) (a : Op) → i < h → p < 27 → (p ≡ 25 → ⊥) → IsWithin c h g a → part c h a (c + 27 * i + p) ≤ 1
-one_part c h g i p (Inc counter by) hi hp not inside = rw (only_elsewhere counter by (c + 27 * i + p) (λ e. omega arith)) (omega arith)
+one_part c h g i p (Inc counter by) hi hp not inside = rw (only_elsewhere counter by (c + 27 * i + p) (λ e. omega arith))
+    (omega arith)
 one_part c h g i p (Observe hist place value) hi hp not inside =
     let n : c + 27 * i + p ≡ c + 27 * hist + 25 → ⊥ = λ e. not (sum_place i hist p 25 hp (omega arith) (omega arith)).1 in
     let b = only_elsewhere (c + 27 * hist + 25) value (c + 27 * i + p) n in
@@ -153,8 +159,10 @@ one_part c h g i p (Observe hist place value) hi hp not inside =
           let a' = only_elsewhere (c + 27 * hist + place) 1 (c + 27 * i + p) m in
           omega arith
     ]
-one_part c h g i p (Up gauge by) hi hp not inside = rw (only_elsewhere (c + 27 * h + 2 * gauge) by (c + 27 * i + p) (λ e. omega arith)) (omega arith)
-one_part c h g i p (Down gauge by) hi hp not inside = rw (only_elsewhere (c + 27 * h + 2 * gauge + 1) by (c + 27 * i + p) (λ e. omega arith)) (omega arith)
+one_part c h g i p (Up gauge by) hi hp not inside =
+    rw (only_elsewhere (c + 27 * h + 2 * gauge) by (c + 27 * i + p) (λ e. omega arith)) (omega arith)
+one_part c h g i p (Down gauge by) hi hp not inside =
+    rw (only_elsewhere (c + 27 * h + 2 * gauge + 1) by (c + 27 * i + p) (λ e. omega arith)) (omega arith)
 
 -- so that they add up to no more than there are operations
 few_words : (c h g i p : ℕ) (ops : List Op) → i < h → p < 27 → (p ≡ 25 → ⊥) → All (IsWithin c h g) ops

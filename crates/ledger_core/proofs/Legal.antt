@@ -1,5 +1,6 @@
 -- Legal rows: the row of zeros, what one operation and what a list of them adds, and two rows added.
-use Rattle.std.proofs.Common.{◌≡◌, ◌≢◌, ℕ, zero, suc, ◌+◌, ◌*◌, ◌<◌, ◌≤◌, List, [], ◌∷◌, cond, length, take, drop, replicate, refl, sym, subst, ap, ap₂, ◌∙◌, arith, inl, inr, slice_index, All}
+use Rattle.std.proofs.Common.{◌≡◌, ◌≢◌, ℕ, zero, suc, ◌+◌, ◌*◌, ◌<◌, ◌≤◌, List, [], ◌∷◌, cond, length, take, drop, replicate}
+use Rattle.std.proofs.Common.{refl, sym, subst, ap, ap₂, ◌∙◌, arith, inl, inr, slice_index, All}
 use Rattle.std.specs.Prelude.{sum, sum_by}
 use Rattle.std.specs.List.{range_with_len}
 use Rattle.std.proofs.lemmas.List.{drop_more}
@@ -40,7 +41,8 @@ sum_one place a zero low high = absurd (omega arith)
 sum_one place a (suc n) low high =
     sum_by-cons (only place 1) a (range_with_len (a + 1) n)
     ∙ elim (cases_eq a place) [
-      | inl here ↦ ap₂ ◌+◌ (only_same place 1 a here) (sum_none (only place 1) (a + 1) n (λ k after _. only_other place 1 k (omega arith)))
+      | inl here ↦ ap₂ ◌+◌ (only_same place 1 a here)
+          (sum_none (only place 1) (a + 1) n (λ k after _. only_other place 1 k (omega arith)))
       | inr later ↦ ap₂ ◌+◌ (only_other place 1 a later) (sum_one place (a + 1) n (omega arith) (omega arith))
     ]
 
@@ -76,7 +78,8 @@ legal_same c h old new same legal = record {
   counts = λ slot within.
       same (c + 27 * slot + 26)
       ∙ legal.counts slot within
-      ∙ sum_same (λ place. old (c + 27 * slot + place)) (λ place. new (c + 27 * slot + place)) 0 25 (λ k _ _. sym (same (c + 27 * slot + k)));
+      ∙ sum_same (λ place. old (c + 27 * slot + place)) (λ place. new (c + 27 * slot + place)) 0 25
+      (λ k _ _. sym (same (c + 27 * slot + k)));
 }
 
 pub legal_sums : (c h : ℕ) → LegalSumsAreLegal c h
@@ -125,18 +128,22 @@ module _ (c h hist place value slot : ℕ) (low : place < 25) where
       elim (cases_eq slot hist) [
         | inl here ↦
             count_there here
-            ∙ sym (sum_same observed (only place 1) 0 25 (λ k _ within. bucket_there here k (omega arith)) ∙ sum_one place 0 25 (omega arith) (omega arith))
+            ∙ sym (sum_same observed (only place 1) 0 25 (λ k _ within. bucket_there here k (omega arith))
+            ∙ sum_one place 0 25 (omega arith) (omega arith))
         | inr other ↦ nothing_at c slot (part c h (Observe hist place value)) (elsewhere other)
       ]
 
-counts_part : (c h g : ℕ) (op : Op) → IsWithin c h g op → (slot : ℕ) → slot < h → part c h op (c + 27 * slot + 26) ≡ bucket_sum c (part c h op) slot
+counts_part : (c h g : ℕ) (op : Op) → IsWithin c h g op → (slot : ℕ) → slot < h → part c h op (c + 27 * slot + 26) ≡ bucket_sum c
+    (part c h op) slot
 counts_part c h g (Inc counter by) within slot lt =
     nothing_at c slot (part c h (Inc counter by)) (λ item _. only_other counter by (c + 27 * slot + item) (omega arith))
 counts_part c h g (Observe hist place value) within slot lt = counts_at c h hist place value slot within.1
 counts_part c h g (Up gauge by) within slot lt =
-    nothing_at c slot (part c h (Up gauge by)) (λ item small. only_other (c + 27 * h + 2 * gauge) by (c + 27 * slot + item) (omega arith))
+    nothing_at c slot (part c h (Up gauge by)) (λ item small. only_other (c + 27 * h + 2 * gauge) by (c + 27 * slot + item)
+    (omega arith))
 counts_part c h g (Down gauge by) within slot lt =
-    nothing_at c slot (part c h (Down gauge by)) (λ item small. only_other (c + 27 * h + 2 * gauge + 1) by (c + 27 * slot + item) (omega arith))
+    nothing_at c slot (part c h (Down gauge by)) (λ item small. only_other (c + 27 * h + 2 * gauge + 1) by (c + 27 * slot + item)
+    (omega arith))
 
 pub legal_ops : (c h g : ℕ) → SumsAreLegal c h g
 legal_ops c h g [] all = record { counts = λ slot _. nothing_at c slot (sum_ops c h []) (λ item _. refl) }
@@ -170,7 +177,8 @@ pub legal_buckets : (c h slot : ℕ) (row : List ℕ) (count : ℕ) (buckets : L
     → count ≡ sum buckets
 legal_buckets c h slot row count buckets lt within legal count_is buckets_are =
     let e : c + 27 * slot + 0 ≡ c + 27 * slot = omega arith in
-    count_is ∙ legal.counts slot lt ∙ sym (ap sum buckets_are ∙ subst (λ a. sum (take 25 (drop a row)) ≡ bucket_sum c (slice_index row) slot) e
+    count_is ∙ legal.counts slot lt
+    ∙ sym (ap sum buckets_are ∙ subst (λ a. sum (take 25 (drop a row)) ≡ bucket_sum c (slice_index row) slot) e
     (sum_part row (c + 27 * slot) 0 25 (omega (arith, within))))
 
 -- a legal row is legal after a list that was accepted or refused

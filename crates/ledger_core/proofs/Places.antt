@@ -1,7 +1,9 @@
 -- The words of a row by their places: reading one, writing one, and the row of zeros.
-use Rattle.std.proofs.Common.{◌≡◌, ℕ, zero, suc, ◌+◌, ◌*◌, ◌-◌, ◌<◌, ◌≤◌, List, [], ◌∷◌, ◌++◌, length, get_or, set, take, drop, replicate, sym, refl, ap, ap₂, ◌∙◌, arith, length-append, length-set, length-drop, All}
+use Rattle.std.proofs.Common.{◌≡◌, ℕ, zero, suc, ◌+◌, ◌*◌, ◌-◌, ◌<◌, ◌≤◌, List, [], ◌∷◌, ◌++◌, length, get_or, set, take, drop}
+use Rattle.std.proofs.Common.{replicate, sym, refl, ap, ap₂, ◌∙◌, arith, length-append, length-set, length-drop, All}
 use Rattle.std.specs.List.{concat}
-use Rattle.std.proofs.lemmas.List.{get_or_append_left, get_or-append_right, get_or-take, get_or-drop, set-append_left, set-append_right, replicate-append-replicate, length-replicate, length-take-le}
+use Rattle.std.proofs.lemmas.List.{get_or_append_left, get_or-append_right, get_or-take, get_or-drop, set-append_left}
+use Rattle.std.proofs.lemmas.List.{set-append_right, replicate-append-replicate, length-replicate, length-take-le}
 use Rattle.std.proofs.lemmas.Grind.{same_number_lists}
 use Rattle.std.proofs.lemmas.List.Elements.{All-set, All-get_or, All-from_get_or, All-take, All-drop, All-replicate}
 use Rattle.bucket_math.specs.Words.{greatest_word}
@@ -31,7 +33,8 @@ module _ (c h g : ℕ) (counters : List ℕ) (hists gauges : List (List ℕ)) (s
   pub gauge-lt : (i j : ℕ) → i < g → j < 2 → c + 27 * h + 2 * i + j < length (words counters hists gauges)
   gauge-lt i j hi hj = let p = place-lt 2 i j g hi hj in rw length-words (omega arith)
 
-  pub read_hist : (i j : ℕ) → i < h → j < 27 → get_or (words counters hists gauges) (c + 27 * i + j) 0 ≡ get_or (get_or hists i []) j 0
+  pub read_hist : (i j : ℕ) → i < h → j < 27 → get_or (words counters hists gauges) (c + 27 * i + j) 0 ≡ get_or
+      (get_or hists i []) j 0
   read_hist i j hi hj =
       let p = place-lt 27 i j h hi hj in
       let e : c + 27 * i + j - c ≡ 27 * i + j = omega arith in
@@ -41,7 +44,8 @@ module _ (c h g : ℕ) (counters : List ℕ) (hists gauges : List (List ℕ)) (s
       ∙ get_or-concat 27 hists i j shape.hist_words (rw shape.all_hists hi) hj
 
   -- the first n words of a histogram, next to each other in the row
-  pub read_first : (i n : ℕ) → i < h → n ≤ 27 → take n (drop (c + 27 * i) (words counters hists gauges)) ≡ take n (get_or hists i [])
+  pub read_first : (i n : ℕ) → i < h → n ≤ 27 → take n (drop (c + 27 * i) (words counters hists gauges)) ≡ take n
+      (get_or hists i [])
   read_first i n hi le =
       let rest : List ℕ = drop (c + 27 * i) (words counters hists gauges) in
       let xs : List ℕ = get_or hists i [] in
@@ -56,10 +60,12 @@ module _ (c h g : ℕ) (counters : List ℕ) (hists gauges : List (List ℕ)) (s
       ∙ read_hist i k hi (omega arith)
       ∙ sym (get_or-take n xs k 0 (omega arith)))
 
-  pub read_gauge : (i j : ℕ) → i < g → j < 2 → get_or (words counters hists gauges) (c + 27 * h + 2 * i + j) 0 ≡ get_or (get_or gauges i []) j 0
+  pub read_gauge : (i j : ℕ) → i < g → j < 2 → get_or (words counters hists gauges) (c + 27 * h + 2 * i + j) 0 ≡ get_or
+      (get_or gauges i []) j 0
   read_gauge i j hi hj =
       let e : c + 27 * h + 2 * i + j - (c + 27 * h) ≡ 2 * i + j = omega arith in
-      get_or-append_right (counters ++ concat hists) (concat gauges) (c + 27 * h) (c + 27 * h + 2 * i + j) 0 length-front (omega arith)
+      get_or-append_right (counters ++ concat hists) (concat gauges) (c + 27 * h) (c + 27 * h + 2 * i + j) 0 length-front
+      (omega arith)
       ∙ ap (λ k. get_or (concat gauges) k 0) e
       ∙ get_or-concat 2 gauges i j shape.gauge_words (rw shape.all_gauges hi) hj
 
@@ -73,16 +79,21 @@ module _ (c h g : ℕ) (counters : List ℕ) (hists gauges : List (List ℕ)) (s
   write_hist i j v hi hj =
       let p = place-lt 27 i j h hi hj in
       let e : c + 27 * i + j - c ≡ 27 * i + j = omega arith in
-      ap (λ mid. counters ++ mid ++ concat gauges) (concat-set 27 hists i j v shape.hist_words (rw shape.all_hists hi) hj ∙ ap (λ k. set (concat hists) k v) (sym e))
-      ∙ ap (λ front. front ++ concat gauges) (sym (set-append_right counters (concat hists) c (c + 27 * i + j) v shape.all_counters (omega arith)))
+      ap (λ mid. counters ++ mid ++ concat gauges) (concat-set 27 hists i j v shape.hist_words (rw shape.all_hists hi) hj
+      ∙ ap (λ k. set (concat hists) k v) (sym e))
+      ∙ ap (λ front. front ++ concat gauges)
+      (sym (set-append_right counters (concat hists) c (c + 27 * i + j) v shape.all_counters (omega arith)))
       ∙ sym (set-append_left (counters ++ concat hists) (concat gauges) (c + 27 * i + j) v (rw length-front (omega arith)))
 
   pub write_gauge : (i j v : ℕ) → i < g → j < 2
-      → words counters hists (set gauges i (set (get_or gauges i []) j v)) ≡ set (words counters hists gauges) (c + 27 * h + 2 * i + j) v
+      → words counters hists (set gauges i (set (get_or gauges i []) j v)) ≡ set (words counters hists gauges)
+      (c + 27 * h + 2 * i + j) v
   write_gauge i j v hi hj =
       let e : c + 27 * h + 2 * i + j - (c + 27 * h) ≡ 2 * i + j = omega arith in
-      ap (λ rest. counters ++ concat hists ++ rest) (concat-set 2 gauges i j v shape.gauge_words (rw shape.all_gauges hi) hj ∙ ap (λ k. set (concat gauges) k v) (sym e))
-      ∙ sym (set-append_right (counters ++ concat hists) (concat gauges) (c + 27 * h) (c + 27 * h + 2 * i + j) v length-front (omega arith))
+      ap (λ rest. counters ++ concat hists ++ rest) (concat-set 2 gauges i j v shape.gauge_words (rw shape.all_gauges hi) hj
+      ∙ ap (λ k. set (concat gauges) k v) (sym e))
+      ∙ sym (set-append_right (counters ++ concat hists) (concat gauges) (c + 27 * h) (c + 27 * h + 2 * i + j) v length-front
+      (omega arith))
 
 -- where no word of a row is over m, none of the n words from i on is
 pub bounded_part : (xs : List ℕ) (m i n : ℕ) → ((k : ℕ) → get_or xs k 0 ≤ m) → All (λ x. x ≤ m) (take n (drop i xs))
@@ -90,7 +101,8 @@ bounded_part xs m i n h =
     All-take (λ x. x ≤ m) n (drop i xs) (All-drop (λ x. x ≤ m) i xs (All-from_get_or (λ x. x ≤ m) xs 0 (λ k _. h k)))
 
 -- a written word under the limit leaves every word under it
-below-set : (xs : List ℕ) (i v : ℕ) → v ≤ greatest_word → ((k : ℕ) → get_or xs k 0 ≤ greatest_word) → (k : ℕ) → get_or (set xs i v) k 0 ≤ greatest_word
+below-set : (xs : List ℕ) (i v : ℕ) → v ≤ greatest_word → ((k : ℕ) → get_or xs k 0 ≤ greatest_word) → (k : ℕ)
+    → get_or (set xs i v) k 0 ≤ greatest_word
 below-set [] i v hv h k = h k
 below-set (x ∷ xs) zero v hv h zero = hv
 below-set (x ∷ xs) zero v hv h (suc k) = h (suc k)
@@ -98,7 +110,8 @@ below-set (x ∷ xs) (suc i) v hv h zero = h zero
 below-set (x ∷ xs) (suc i) v hv h (suc k) = below-set xs i v hv (λ q. h (suc q)) k
 
 module _ (c h g : ℕ) (counters : List ℕ) (hists gauges : List (List ℕ)) (shape : HasShape c h g counters hists gauges) where
-  below-from : (old new : List ℕ) (i v : ℕ) → new ≡ set old i v → v ≤ greatest_word → ((k : ℕ) → get_or old k 0 ≤ greatest_word) → (k : ℕ) → get_or new k 0 ≤ greatest_word
+  below-from : (old new : List ℕ) (i v : ℕ) → new ≡ set old i v → v ≤ greatest_word → ((k : ℕ) → get_or old k 0 ≤ greatest_word)
+      → (k : ℕ) → get_or new k 0 ≤ greatest_word
   below-from old new i v e hv b k = rw e (below-set old i v hv b k)
 
   pub shape_counter : (i v : ℕ) → i < c → v ≤ greatest_word → HasShape c h g (set counters i v) hists gauges
@@ -108,10 +121,12 @@ module _ (c h g : ℕ) (counters : List ℕ) (hists gauges : List (List ℕ)) (s
     all_gauges = shape.all_gauges;
     hist_words = shape.hist_words;
     gauge_words = shape.gauge_words;
-    bounded = below-from (words counters hists gauges) _ i v (write_counter c h g counters hists gauges shape i v hi) hv shape.bounded;
+    bounded = below-from (words counters hists gauges) _ i v (write_counter c h g counters hists gauges shape i v hi) hv
+        shape.bounded;
   }
 
-  pub shape_hist : (i j v : ℕ) → i < h → j < 27 → v ≤ greatest_word → HasShape c h g counters (set hists i (set (get_or hists i []) j v)) gauges
+  pub shape_hist : (i j v : ℕ) → i < h → j < 27 → v ≤ greatest_word
+      → HasShape c h g counters (set hists i (set (get_or hists i []) j v)) gauges
   shape_hist i j v hi hj hv =
       let xs : List ℕ = get_or hists i [] in
       let same : length xs ≡ 27 = All-get_or (HasLength 27) hists i [] (rw shape.all_hists hi) shape.hist_words in
@@ -121,10 +136,12 @@ module _ (c h g : ℕ) (counters : List ℕ) (hists gauges : List (List ℕ)) (s
         all_gauges = shape.all_gauges;
         hist_words = All-set (HasLength 27) hists i (set xs j v) (length-set xs j v ∙ same) shape.hist_words;
         gauge_words = shape.gauge_words;
-        bounded = below-from (words counters hists gauges) _ (c + 27 * i + j) v (write_hist c h g counters hists gauges shape i j v hi hj) hv shape.bounded;
+        bounded = below-from (words counters hists gauges) _ (c + 27 * i + j) v
+            (write_hist c h g counters hists gauges shape i j v hi hj) hv shape.bounded;
       }
 
-  pub shape_gauge : (i j v : ℕ) → i < g → j < 2 → v ≤ greatest_word → HasShape c h g counters hists (set gauges i (set (get_or gauges i []) j v))
+  pub shape_gauge : (i j v : ℕ) → i < g → j < 2 → v ≤ greatest_word
+      → HasShape c h g counters hists (set gauges i (set (get_or gauges i []) j v))
   shape_gauge i j v hi hj hv =
       let xs : List ℕ = get_or gauges i [] in
       let same : length xs ≡ 2 = All-get_or (HasLength 2) gauges i [] (rw shape.all_gauges hi) shape.gauge_words in
@@ -134,7 +151,8 @@ module _ (c h g : ℕ) (counters : List ℕ) (hists gauges : List (List ℕ)) (s
         all_gauges = length-set gauges i (set xs j v) ∙ shape.all_gauges;
         hist_words = shape.hist_words;
         gauge_words = All-set (HasLength 2) gauges i (set xs j v) (length-set xs j v ∙ same) shape.gauge_words;
-        bounded = below-from (words counters hists gauges) _ (c + 27 * h + 2 * i + j) v (write_gauge c h g counters hists gauges shape i j v hi hj) hv shape.bounded;
+        bounded = below-from (words counters hists gauges) _ (c + 27 * h + 2 * i + j) v
+            (write_gauge c h g counters hists gauges shape i j v hi hj) hv shape.bounded;
       }
 
 -- a row of zeros
@@ -143,7 +161,8 @@ below-zeros zero k = omega arith
 below-zeros (suc n) zero = omega arith
 below-zeros (suc n) (suc k) = below-zeros n k
 
-pub zeros : (c h g : ℕ) → words (replicate c 0) (replicate h (replicate 27 0)) (replicate g (replicate 2 0)) ≡ replicate (width c h g) 0
+pub zeros : (c h g : ℕ) → words (replicate c 0) (replicate h (replicate 27 0)) (replicate g (replicate 2 0)) ≡ replicate
+    (width c h g) 0
 zeros c h g =
     ap₂ (λ xs ys. replicate c 0 ++ xs ++ ys) (concat-replicate 27 h) (concat-replicate 2 g)
     ∙ ap (λ front. front ++ replicate (2 * g) 0) (replicate-append-replicate c (27 * h) 0)

@@ -1,5 +1,6 @@
 -- Where the operations of a tally stand.
-use Rattle.std.proofs.Common.{◌≡◌, ◌≢◌, ℕ, zero, suc, ◌+◌, ◌<◌, ◌≤◌, ◌⊎◌, inl, inr, ⊎_elim, List, [], ◌∷◌, ◌++◌, Some, length, slice_get, get_or, set, refl, sym, ap, ◌∙◌, arith, length-set, Result, Ok, Err, OnOk, OnErr}
+use Rattle.std.proofs.Common.{◌≡◌, ◌≢◌, ℕ, zero, suc, ◌+◌, ◌<◌, ◌≤◌, ◌⊎◌, inl, inr, ⊎_elim, List, [], ◌∷◌, ◌++◌, Some, length}
+use Rattle.std.proofs.Common.{slice_get, get_or, set, refl, sym, ap, ◌∙◌, arith, length-set, Result, Ok, Err, OnOk, OnErr}
 use Rattle.std.proofs.lemmas.List.{get_or-set_same, get_or-set_other}
 use Rattle.std.proofs.lemmas.Option.{none-some, same_Some}
 use Rattle.bucket_math.specs.Words.{greatest_word}
@@ -13,12 +14,14 @@ use Rattle.ledger_core.proofs.Summing.{sums_stay, sums_observe, inc_beside, up_b
 use Rattle.ledger_core.specs.Tally.{AreMerged, IsKnownAt, AreKnown, AreSums, IsTally}
 
 -- what stands in a list after a write
-pub at_set : {A : Type 0} (l : List A) (i : ℕ) (x : A) (j : ℕ) (y : A) → slice_get (set l i x) j ≡ Some y → ((j ≡ i) × (x ≡ y)) ⊎ ((j ≢ i) × (slice_get l j ≡ Some y))
+pub at_set : {A : Type 0} (l : List A) (i : ℕ) (x : A) (j : ℕ) (y : A) → slice_get (set l i x) j ≡ Some y → ((j ≡ i) × (x ≡ y))
+    ⊎ ((j ≢ i) × (slice_get l j ≡ Some y))
 at_set [] i x j y e = inr (λ same. none-some y e, e)
 at_set (z ∷ l) zero x zero y e = inl (refl, same_Some x y e)
 at_set (z ∷ l) zero x (suc j) y e = inr ((λ same. absurd (omega arith)), e)
 at_set (z ∷ l) (suc i) x zero y e = inr ((λ same. absurd (omega arith)), e)
-at_set (z ∷ l) (suc i) x (suc j) y e = ⊎_elim (λ t. let t0 = t.0 in inl (omega arith, t.1)) (λ t. inr ((λ same. t.0 (omega arith)), t.1)) (at_set l i x j y e)
+at_set (z ∷ l) (suc i) x (suc j) y e = ⊎_elim (λ t. let t0 = t.0 in inl (omega arith, t.1))
+    (λ t. inr ((λ same. t.0 (omega arith)), t.1)) (at_set l i x j y e)
 
 -- what stands in a list with one more
 pub at_push : {A : Type 0} (xs : List A) (y : A) (i : ℕ) (o : A) → slice_get (xs ++ y ∷ []) i ≡ Some o
@@ -29,7 +32,8 @@ at_push (x ∷ xs) y zero o e = inr ((λ same. absurd (omega arith)), e)
 at_push (x ∷ xs) y (suc i) o e =
     ⊎_elim (λ t. let t0 = t.0 in inl (omega arith, t.1)) (λ t. inr ((λ same. t.0 (omega arith)), t.1)) (at_push xs y i o e)
 
-pub placed_at : (at : ℕ) (ops : List Op) (first second both : Op) → IsSumOf first second both → IsPlaced at ops second (set ops at both) at
+pub placed_at : (at : ℕ) (ops : List Op) (first second both : Op) → IsSumOf first second both
+    → IsPlaced at ops second (set ops at both) at
 placed_at at ops first second both joins = record {
   others = λ i o is. ⊎_elim (λ t. inl (t.0, inr (rw (← t.1) joins.same))) (λ t. inr t) (at_set ops at both i o is);
   joins = λ o is same. refl;
@@ -38,7 +42,8 @@ placed_at at ops first second both joins = record {
 pub placed_last : (hint : ℕ) (ops : List Op) (op : Op) (place : ℕ) → place ≡ length ops
     → ((o : Op) → slice_get ops hint ≡ Some o → IsSameSlot o op → ⊥) → IsPlaced hint ops op (ops ++ op ∷ []) place
 placed_last hint ops op place e none = record {
-  others = λ i o is. ⊎_elim (λ t. inl (t.0 ∙ sym e, inl (sym t.1))) (λ t. inr ((λ same. t.0 (same ∙ e)), t.1)) (at_push ops op i o is);
+  others = λ i o is. ⊎_elim (λ t. inl (t.0 ∙ sym e, inl (sym t.1))) (λ t. inr ((λ same. t.0 (same ∙ e)), t.1))
+      (at_push ops op i o is);
   joins = λ o is same. absurd (none o is same);
 }
 
@@ -75,7 +80,8 @@ there_inc counters ups downs slot by place i (Observe hist bucket value) was oth
 there_inc counters ups downs slot by place i (Up k more) was other = was
 there_inc counters ups downs slot by place i (Down k more) was other = was
 
-at_inc : (counters ups downs : List ℕ) (slot by place i : ℕ) (o : Op) → IsSameSlot o (Inc slot by) → IsKnownAt counters ups downs i o
+at_inc : (counters ups downs : List ℕ) (slot by place i : ℕ) (o : Op) → IsSameSlot o (Inc slot by)
+    → IsKnownAt counters ups downs i o
     → (get_or counters slot 0 ≡ i → place ≡ get_or counters slot 0) → place ≡ i
 at_inc counters ups downs slot by place i (Inc k more) same known joins =
     let e : get_or counters slot 0 ≡ i = ap (λ x. get_or counters x 0) (sym same) ∙ known in joins e ∙ e
@@ -111,7 +117,8 @@ there_up counters ups downs slot by place i (Observe hist bucket value) was othe
 there_up counters ups downs slot by place i (Up k more) was other = entry ups slot place i k was other
 there_up counters ups downs slot by place i (Down k more) was other = was
 
-at_up : (counters ups downs : List ℕ) (slot by place i : ℕ) (o : Op) → IsSameSlot o (Up slot by) → IsKnownAt counters ups downs i o
+at_up : (counters ups downs : List ℕ) (slot by place i : ℕ) (o : Op) → IsSameSlot o (Up slot by)
+    → IsKnownAt counters ups downs i o
     → (get_or ups slot 0 ≡ i → place ≡ get_or ups slot 0) → place ≡ i
 at_up counters ups downs slot by place i (Inc k more) same known joins = absurd same
 at_up counters ups downs slot by place i (Observe hist bucket value) same known joins = absurd same
@@ -147,7 +154,8 @@ there_down counters ups downs slot by place i (Observe hist bucket value) was ot
 there_down counters ups downs slot by place i (Up k more) was other = was
 there_down counters ups downs slot by place i (Down k more) was other = entry downs slot place i k was other
 
-at_down : (counters ups downs : List ℕ) (slot by place i : ℕ) (o : Op) → IsSameSlot o (Down slot by) → IsKnownAt counters ups downs i o
+at_down : (counters ups downs : List ℕ) (slot by place i : ℕ) (o : Op) → IsSameSlot o (Down slot by)
+    → IsKnownAt counters ups downs i o
     → (get_or downs slot 0 ≡ i → place ≡ get_or downs slot 0) → place ≡ i
 at_down counters ups downs slot by place i (Inc k more) same known joins = absurd same
 at_down counters ups downs slot by place i (Observe hist bucket value) same known joins = absurd same
@@ -175,15 +183,16 @@ pub tally_takes : (c h g : ℕ) (op : Op) (ops ops' : List Op) (counters ups dow
     → length counters' ≡ length counters → length ups' ≡ length ups → length downs' ≡ length downs → length sums' ≡ length sums
     → AreKnown ops' counters' ups' downs' → AreSums c h ops' sums'
     → IsTally c h g ops' counters' ups' downs' sums'
-tally_takes c h g op ops ops' counters ups downs sums counters' ups' downs' sums' was takes inside ec eu ed es known are = record {
-  all_counters = ec ∙ was.all_counters;
-  all_ups = eu ∙ was.all_ups;
-  all_downs = ed ∙ was.all_downs;
-  all_sums = es ∙ was.all_sums;
-  within = takes.within c h g was.within inside;
-  known = known;
-  summed = are;
-}
+tally_takes c h g op ops ops' counters ups downs sums counters' ups' downs' sums' was takes inside ec eu ed es known are =
+    record {
+      all_counters = ec ∙ was.all_counters;
+      all_ups = eu ∙ was.all_ups;
+      all_downs = ed ∙ was.all_downs;
+      all_sums = es ∙ was.all_sums;
+      within = takes.within c h g was.within inside;
+      known = known;
+      summed = are;
+    }
 
 -- A tally whose list was offered an operation, whether it took it or not: the table of its kind has the place afterwards.
 module _ {T : Type 0} (c h g : ℕ) (ops ops' : List Op) (counters ups downs sums places : List ℕ) (slot by : ℕ)

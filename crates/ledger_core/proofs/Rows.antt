@@ -1,7 +1,9 @@
 -- Lists of equal length joined end to end: reading and writing the j-th word of the i-th one.
-use Rattle.std.proofs.Common.{◌≡◌, ℕ, zero, suc, ◌+◌, ◌*◌, ◌-◌, ◌<◌, List, [], ◌∷◌, ◌++◌, length, get_or, set, replicate, sym, refl, ap, ◌∙◌, arith, length-append, All}
+use Rattle.std.proofs.Common.{◌≡◌, ℕ, zero, suc, ◌+◌, ◌*◌, ◌-◌, ◌<◌, List, [], ◌∷◌, ◌++◌, length, get_or, set, replicate, sym}
+use Rattle.std.proofs.Common.{refl, ap, ◌∙◌, arith, length-append, All}
 use Rattle.std.specs.List.{concat}
-use Rattle.std.proofs.lemmas.List.{get_or_append_left, get_or-append-add, set-append_left, set-append_right, replicate-append-replicate}
+use Rattle.std.proofs.lemmas.List.{get_or_append_left, get_or-append-add, set-append_left, set-append_right}
+use Rattle.std.proofs.lemmas.List.{replicate-append-replicate}
 use Rattle.std.proofs.lemmas.List.Elements.{All-head, All-tail}
 
 -- each list has n words
@@ -32,7 +34,8 @@ get_or-concat n (xs ∷ xss) zero j h hi hj =
 get_or-concat n (xs ∷ xss) (suc i) j h hi hj =
     let here : length xs ≡ n = All-head (HasLength n) xs xss h in
     let e : n * suc i + j ≡ length xs + (n * i + j) = omega arith in
-    rw e (get_or-append-add xs (concat xss) (n * i + j) 0 ∙ get_or-concat n xss i j (All-tail (HasLength n) xs xss h) (omega arith) hj)
+    rw e (get_or-append-add xs (concat xss) (n * i + j) 0 ∙ get_or-concat n xss i j (All-tail (HasLength n) xs xss h)
+    (omega arith) hj)
 
 pub concat-set : (n : ℕ) (xss : List (List ℕ)) (i j v : ℕ) → AllHave n xss → i < length xss → j < n
     → concat (set xss i (set (get_or xss i []) j v)) ≡ set (concat xss) (n * i + j) v

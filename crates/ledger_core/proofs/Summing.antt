@@ -24,7 +24,8 @@ up_beside c h gauge by = λ i hi. only_elsewhere (c + 27 * h + 2 * gauge) by (c 
 pub down_beside : (c h gauge by : ℕ) → IsBeside c h (Down gauge by)
 down_beside c h gauge by = λ i hi. only_elsewhere (c + 27 * h + 2 * gauge + 1) by (c + 27 * i + 25) (λ e. omega arith)
 
-pub sums_stay : (c h : ℕ) (op : Op) (ops ops' : List Op) (sums : List ℕ) → IsBeside c h op → Takes ops op ops' → AreSums c h ops sums
+pub sums_stay : (c h : ℕ) (op : Op) (ops ops' : List Op) (sums : List ℕ) → IsBeside c h op → Takes ops op ops'
+    → AreSums c h ops sums
     → AreSums c h ops' sums
 sums_stay c h op ops ops' sums beside takes was = record {
   are = λ i hi.
@@ -42,7 +43,8 @@ observed_here c h hist place value lt =
     let d = only_elsewhere (c + 27 * hist + 26) 1 (c + 27 * hist + 25) (λ e. omega arith) in
     omega arith
 
-observed_elsewhere : (c h hist place value i : ℕ) → place < 25 → (i ≡ hist → ⊥) → part c h (Observe hist place value) (c + 27 * i + 25) ≡ 0
+observed_elsewhere : (c h hist place value i : ℕ) → place < 25 → (i ≡ hist → ⊥)
+    → part c h (Observe hist place value) (c + 27 * i + 25) ≡ 0
 observed_elsewhere c h hist place value i lt ne =
     let a = only_elsewhere (c + 27 * hist + place) 1 (c + 27 * i + 25) (λ e. omega arith) in
     let b = only_elsewhere (c + 27 * hist + 25) value (c + 27 * i + 25) (λ e. ne (omega arith)) in

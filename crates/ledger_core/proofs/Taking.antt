@@ -1,5 +1,6 @@
 -- Lists of operations that are told one more.
-use Rattle.std.proofs.Common.{◌≡◌, ℕ, ◌+◌, ◌*◌, ◌<◌, List, [], ◌∷◌, ◌++◌, Some, length, slice_get, get_or, set, arith, subst, Result, Ok, Err, IfErr}
+use Rattle.std.proofs.Common.{◌≡◌, ℕ, ◌+◌, ◌*◌, ◌<◌, List, [], ◌∷◌, ◌++◌, Some, length, slice_get, get_or, set, arith, subst}
+use Rattle.std.proofs.Common.{Result, Ok, Err, IfErr}
 use Rattle.std.proofs.lemmas.List.Elements.{All-set, All-push}
 use Rattle.std.proofs.lemmas.List.Sums.{sum_by-set, sum_by_push, get_or-le-sum_by}
 use Rattle.std.proofs.lemmas.Option.{slice_get-get_or}
@@ -68,8 +69,16 @@ passes_alone ops (Inc counter by) lt = λ c h g inside. (counter, omega arith, (
 passes_alone ops (Observe hist place value) lt = λ c h g inside.
     let e = only_here (c + 27 * hist + 25) value in
     (c + 27 * hist + 25, omega (arith, inside.0), omega arith)
-passes_alone ops (Up gauge by) lt = λ c h g inside. (c + 27 * h + 2 * gauge, omega arith, (rw (only_here (c + 27 * h + 2 * gauge) by) (omega arith)))
-passes_alone ops (Down gauge by) lt = λ c h g inside. (c + 27 * h + 2 * gauge + 1, omega arith, (rw (only_here (c + 27 * h + 2 * gauge + 1) by) (omega arith)))
+passes_alone ops (Up gauge by) lt = λ c h g inside. (
+  c + 27 * h + 2 * gauge,
+  omega arith,
+  (rw (only_here (c + 27 * h + 2 * gauge) by) (omega arith)),
+)
+passes_alone ops (Down gauge by) lt = λ c h g inside. (
+  c + 27 * h + 2 * gauge + 1,
+  omega arith,
+  (rw (only_here (c + 27 * h + 2 * gauge + 1) by) (omega arith)),
+)
 
 pub ups_pass : (gauge had by : ℕ) → greatest_word < had + by → PassTogether (Up gauge had) (Up gauge by)
 ups_pass gauge had by lt = λ c h g inside.
@@ -102,7 +111,8 @@ pub fault_if : {T : Type 0} (c h g room registry : ℕ) (op : Op) (id : ℕ) (op
     → ◌≡◌ {A = Tallied} (record { registry = id; ops = ops }) t → registry ≡ id → IsWithin c h g op
     → IfErr r (IsListFault room ops op) → IfErr r (IsTallyFault c h g room registry op t)
 fault_if c h g room registry op id ops t (Ok v) e same inside why = tt
-fault_if c h g room registry op id ops t (Err fault) e same inside why = fault_told c h g room registry op id ops t fault e same inside why
+fault_if c h g room registry op id ops t (Err fault) e same inside why = fault_told c h g room registry op id ops t fault e same
+    inside why
 
 -- a value that takes its histogram's sum past the limit
 pub sum_passes : (c h g registry id hist place value room : ℕ) (ops : List Op) (sums : List ℕ) (t : Tallied)

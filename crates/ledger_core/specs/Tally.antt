@@ -73,7 +73,8 @@ pub record IsTally (c h g : ℕ) (ops : List Op) (counters ups downs sums : List
   pub known : AreKnown ops counters ups downs
   pub summed : AreSums c h ops sums
 
--- a row of these words accepts each list within it that the operations add up to: nothing hangs on the order, nor on what is joined
+-- a row of these words accepts each list within it that the operations add up to: nothing hangs on the order, nor on what is
+-- joined
 abbrev pub AcceptsAlike : (c h g : ℕ) → (ℕ → ℕ) → List Op → Type 0
 AcceptsAlike c h g word ops = (told : List Op) → AddsUpTo ops told → All (IsWithin c h g) told → Accepts c h g word told
 

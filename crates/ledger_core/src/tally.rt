@@ -86,8 +86,11 @@ impl<const C: usize, const H: usize, const G: usize, const K: usize> Tally<C, H,
     /// As [`Tally::inc`].
     #[inline]
     pub fn observe(&mut self, hist: &Histogram, value: u64) -> Result<(), TallyFault>
-        ensures tallied { OnOk result (IsTallied C H G hist.now.registry (Observe hist.now.slot (place_of hist.now.bounds value) value) self.old self.new) }
-        ensures fault { IfErr result (IsTallyFault C H G (min K 65536) hist.now.registry (Observe hist.now.slot (place_of hist.now.bounds value) value) self.old) }
+        ensures tallied { OnOk result
+            (IsTallied C H G hist.now.registry (Observe hist.now.slot (place_of hist.now.bounds value) value) self.old self.new) }
+        ensures fault { IfErr result
+            (IsTallyFault C H G (min K 65536) hist.now.registry (Observe hist.now.slot (place_of hist.now.bounds value) value)
+            self.old) }
         ensures unchanged { OnErr result (self.new ≡ self.old) }
     {
         if hist.registry != self.registry {

@@ -1,4 +1,5 @@
-ghost use Rattle.std.specs.Prelude.{◌≡◌, ℕ, ◌+◌, ◌*◌, ◌<◌, ◌≤◌, ◌↔◌, length, take, drop, slice_index, slice_set, replicate, IsTrue, OnOk, OnErr, IfErr, All};
+ghost use Rattle.std.specs.Prelude.{◌≡◌, ℕ, ◌+◌, ◌*◌, ◌<◌, ◌≤◌, ◌↔◌, length, take, drop, slice_index, slice_set, replicate};
+ghost use Rattle.std.specs.Prelude.{IsTrue, OnOk, OnErr, IfErr, All};
 ghost use Rattle.std.specs.Bool.{MatchBool};
 ghost use Rattle.ledger_core.specs.Ops.{width, only, part, sum_ops, IsWithin};
 ghost use Rattle.ledger_core.specs.Row.{Accepts, Adds};
@@ -210,7 +211,8 @@ impl<const C: usize, const H: usize, const G: usize> Words<C, H, G> {
     #[inline(always)]
     fn has_room(&self, op: &Op) -> bool
         requires { IsWithin C H G op.now }
-        ensures { MatchBool result (HasRoom (slice_index self.now) (part C H op.now)) (LacksRoom (width C H G) (slice_index self.now) (part C H op.now)) }
+        ensures { MatchBool result (HasRoom (slice_index self.now) (part C H op.now))
+            (LacksRoom (width C H G) (slice_index self.now) (part C H op.now)) }
     {
         match *op {
             Op::Inc { counter, by } => self.fits(Word::Counter(counter), by),

@@ -1,7 +1,8 @@
 -- What a descriptor keeps of its kind.
 use Rattle.std.specs.Prelude.{List, ℕ, []}
 use Rattle.metric_desc.specs.declared.kind.Kind.{Kind}
-use Rattle.metric_desc.specs.declared.kind.Kind.TheVariants.{Counter as CounterKind, Histogram as HistogramKind, Gauge as GaugeKind}
+use Rattle.metric_desc.specs.declared.kind.Kind.TheVariants.{Counter as CounterKind, Histogram as HistogramKind}
+use Rattle.metric_desc.specs.declared.kind.Kind.TheVariants.{Gauge as GaugeKind}
 use Rattle.metric_desc.specs.declared.kind.Shape.{Shape}
 use Rattle.metric_desc.specs.declared.kind.Shape.TheVariants.{Counter, Histogram, Gauge}
 

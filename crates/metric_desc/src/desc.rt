@@ -64,7 +64,13 @@ impl Desc {
         help: HelpText,
         labels: Vec<LabelName>,
     ) -> Result<Desc, LabelsFault>
-        ensures made { IfOk result (λ desc. desc ≡ record { name = name; help = help; labels = labels.items; kind = Kind.Counter; bounds = [] }) }
+        ensures made { IfOk result (λ desc. desc ≡ record {
+          name = name;
+          help = help;
+          labels = labels.items;
+          kind = Kind.Counter;
+          bounds = [];
+        }) }
         ensures labels { IfOk result (λ desc. AreLabels desc.labels) }
         ensures fault { IfErr result (IsLabelsFault labels.items) }
     {
@@ -85,7 +91,13 @@ impl Desc {
         help: HelpText,
         labels: Vec<LabelName>,
     ) -> Result<Desc, LabelsFault>
-        ensures made { IfOk result (λ desc. desc ≡ record { name = name; help = help; labels = labels.items; kind = Kind.Gauge; bounds = [] }) }
+        ensures made { IfOk result (λ desc. desc ≡ record {
+          name = name;
+          help = help;
+          labels = labels.items;
+          kind = Kind.Gauge;
+          bounds = [];
+        }) }
         ensures labels { IfOk result (λ desc. AreLabels desc.labels) }
         ensures fault { IfErr result (IsLabelsFault labels.items) }
     {
@@ -108,7 +120,13 @@ impl Desc {
         labels: Vec<LabelName>,
         bounds: &[u64],
     ) -> Result<Desc, HistogramFault>
-        ensures made { IfOk result (λ desc. desc ≡ record { name = name; help = help; labels = labels.items; kind = Kind.Histogram; bounds = bounds.now }) }
+        ensures made { IfOk result (λ desc. desc ≡ record {
+          name = name;
+          help = help;
+          labels = labels.items;
+          kind = Kind.Histogram;
+          bounds = bounds.now;
+        }) }
         ensures labels { IfOk result (λ desc. IsHistogram desc.labels desc.bounds) }
         ensures fault { IfErr result (IsHistogramFault labels.items bounds.now) }
     {

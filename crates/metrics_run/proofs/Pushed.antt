@@ -1,13 +1,16 @@
 -- A value behind a list, once more.
-use Rattle.std.proofs.Common.{◌≡◌, ℕ, ◌+◌, List, [], ◌∷◌, ◌++◌, Result, Ok, Err, OnErr, OnOk, IfErr, replicate, ap, ◌∙◌, append_assoc}
+use Rattle.std.proofs.Common.{◌≡◌, ℕ, ◌+◌, List, [], ◌∷◌, ◌++◌, Result, Ok, Err, OnErr, OnOk, IfErr, replicate, ap, ◌∙◌}
+use Rattle.std.proofs.Common.{append_assoc}
 use Rattle.std.specs.Prelude.{if◌then◌else◌, is_ok, IsOk}
 use Rattle.std.proofs.lemmas.List.{replicate-append-replicate}
 
 module _ {E : Type 0} where
-  pub pushed_more : {X : Type 0} (r : Result Unit E) (xs pushed start : List X) (v : X) (k : ℕ) → IsOk r → pushed ≡ (if is_ok r then xs ++ v ∷ [] else xs)
+  pub pushed_more : {X : Type 0} (r : Result Unit E) (xs pushed start : List X) (v : X) (k : ℕ) → IsOk r
+      → pushed ≡ (if is_ok r then xs ++ v ∷ [] else xs)
       → xs ≡ start ++ replicate k v → pushed ≡ start ++ replicate (k + 1) v
   pushed_more (Ok e) xs pushed start v k ok is before =
-      is ∙ ap (λ l. l ++ v ∷ []) before ∙ append_assoc start (replicate k v) (v ∷ []) ∙ ap (λ l. start ++ l) (replicate-append-replicate k 1 v)
+      is ∙ ap (λ l. l ++ v ∷ []) before ∙ append_assoc start (replicate k v) (v ∷ [])
+      ∙ ap (λ l. start ++ l) (replicate-append-replicate k 1 v)
   pushed_more (Err e) xs pushed start v k ok is before = absurd (cc (ok))
 
   pub one_longer : (r : Result Unit E) (m n : ℕ) → IsOk r → n ≡ (if is_ok r then m + 1 else m) → n ≡ m + 1

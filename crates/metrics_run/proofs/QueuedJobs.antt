@@ -1,5 +1,6 @@
 -- The jobs that the entries of a queue make.
-use Rattle.std.proofs.Common.{◌≡◌, ℕ, zero, suc, ◌<◌, List, [], ◌∷◌, ◌++◌, All, length, map, replicate, refl, sym, ap, ◌∙◌, subst, get_or}
+use Rattle.std.proofs.Common.{◌≡◌, ℕ, zero, suc, ◌<◌, List, [], ◌∷◌, ◌++◌, All, length, map, replicate, refl, sym, ap, ◌∙◌, subst}
+use Rattle.std.proofs.Common.{get_or}
 use Rattle.std.specs.Prelude.{Option, Some, None, is_some, option_map, slice_get, true}
 use Rattle.std.specs.List.{cons_option, filter_map}
 use Rattle.std.proofs.lemmas.List.{get_or-map}
@@ -35,7 +36,8 @@ module _ {X Y : Type 0} (f : X → Option Y) where
       ap length (makes_first x xs first.0 first.1) ∙ ap suc (as_many xs (All-tail P x xs all))
 
   -- and each stands at its place
-  pub made_at : (xs : List X) → EachMakes xs → (k : ℕ) (x : X) (y : Y) → slice_get xs k ≡ Some x → f x ≡ Some y → slice_get (filter_map f xs) k ≡ Some y
+  pub made_at : (xs : List X) → EachMakes xs → (k : ℕ) (x : X) (y : Y) → slice_get xs k ≡ Some x → f x ≡ Some y
+      → slice_get (filter_map f xs) k ≡ Some y
   made_at [] all k x y at is = absurd (none-some x at)
   made_at (z ∷ zs) all zero x y at is =
       ap (λ (l : List Y). slice_get l 0) (makes_first z zs y (ap f (same_Some z x at) ∙ is))
@@ -49,7 +51,8 @@ module _ {X Y : Type 0} (f : X → Option Y) where
   made_times (suc n) x y is = makes_first x (replicate n x) y is ∙ ap (λ (l : List Y). y ∷ l) (made_times n x y is)
 
   -- one more, so many times
-  pub made_more : (xs : List X) (n : ℕ) (x : X) (y : Y) → f x ≡ Some y → filter_map f (xs ++ replicate n x) ≡ filter_map f xs ++ replicate n y
+  pub made_more : (xs : List X) (n : ℕ) (x : X) (y : Y) → f x ≡ Some y
+      → filter_map f (xs ++ replicate n x) ≡ filter_map f xs ++ replicate n y
   made_more xs n x y is = filter_map-append f xs (replicate n x) ∙ ap (λ (l : List Y). filter_map f xs ++ l) (made_times n x y is)
 
   -- what makes the same at each of the list
@@ -74,25 +77,32 @@ stays (z ∷ zs) ys zero x at = at
 stays (z ∷ zs) ys (suc k) x at = stays zs ys k x at
 
 module _ (children : List Handle) (handle : Handle) where
-  same_job : (entry : QueuedJob) (old new : Option Handle) → ((child : Handle) → old ≡ Some child → new ≡ Some child) → is_some (job_with entry old) ≡ true
+  same_job : (entry : QueuedJob) (old new : Option Handle) → ((child : Handle) → old ≡ Some child → new ≡ Some child)
+      → is_some (job_with entry old) ≡ true
       → job_with entry new ≡ job_with entry old
   same_job entry None new there fits = absurd (cc)
   same_job entry (Some child) new there fits = ap (job_with entry) (there child refl)
 
   -- an entry makes the same job when there is one more child
   pub job_kept : (entry : QueuedJob) → Fits children entry → job_of (children ++ handle ∷ []) entry ≡ job_of children entry
-  job_kept entry fits = same_job entry (slice_get children entry.child) (slice_get (children ++ handle ∷ []) entry.child) (stays children (handle ∷ []) entry.child) fits
+  job_kept entry fits = same_job entry (slice_get children entry.child) (slice_get (children ++ handle ∷ []) entry.child)
+      (stays children (handle ∷ []) entry.child) fits
 
   -- so a list makes the same jobs
-  pub jobs_kept : (list : Vec QueuedJob Global) → ListFits children list → jobs_of (children ++ handle ∷ []) list ≡ jobs_of children list
-  jobs_kept list fits = made_same (job_of children) (job_of (children ++ handle ∷ [])) list.items (λ k d lt. job_kept _ (fits k d lt))
+  pub jobs_kept : (list : Vec QueuedJob Global) → ListFits children list
+      → jobs_of (children ++ handle ∷ []) list ≡ jobs_of children list
+  jobs_kept list fits = made_same (job_of children) (job_of (children ++ handle ∷ [])) list.items
+      (λ k d lt. job_kept _ (fits k d lt))
 
   -- of all lists
-  pub lists_kept : (lists : List (Vec QueuedJob Global)) → All (ListFits children) lists → map (jobs_of (children ++ handle ∷ [])) lists ≡ map (jobs_of children) lists
-  lists_kept lists fit = mapped_same (jobs_of children) (jobs_of (children ++ handle ∷ [])) lists (λ k d lt. jobs_kept (get_or lists k d) (fit k d lt))
+  pub lists_kept : (lists : List (Vec QueuedJob Global)) → All (ListFits children) lists
+      → map (jobs_of (children ++ handle ∷ [])) lists ≡ map (jobs_of children) lists
+  lists_kept lists fit = mapped_same (jobs_of children) (jobs_of (children ++ handle ∷ [])) lists
+      (λ k d lt. jobs_kept (get_or lists k d) (fit k d lt))
 
 -- a worker's list among all
-module _ (children : List Handle) (lists : List (Vec QueuedJob Global)) (fit : All (ListFits children) lists) (worker : ℕ) (list : Vec QueuedJob Global)
+module _ (children : List Handle) (lists : List (Vec QueuedJob Global)) (fit : All (ListFits children) lists) (worker : ℕ)
+    (list : Vec QueuedJob Global)
     (lt : worker < length lists) (here : list ≡ get_or lists worker list) where
   pub fits_there : ListFits children list
   fits_there = subst (ListFits children) (sym here) (All-get_or (ListFits children) lists worker list lt fit)
@@ -105,14 +115,17 @@ module _ (children : List Handle) (lists : List (Vec QueuedJob Global)) (fit : A
   as_many_there = ap length made_there ∙ as_many (job_of children) list.items fits_there
 
   -- and what the entry at a place makes is the job at that place
-  pub job_there : (place : ℕ) (entry : QueuedJob) (job : Job) → place < length list.items → entry ≡ get_or list.items place entry → job_of children entry ≡ Some job
+  pub job_there : (place : ℕ) (entry : QueuedJob) (job : Job) → place < length list.items → entry ≡ get_or list.items place entry
+      → job_of children entry ≡ Some job
       → slice_get (get_or (map (jobs_of children) lists) worker []) place ≡ Some job
   job_there place entry job below at is =
       ap (λ (l : List Job). slice_get l place) made_there
-      ∙ made_at (job_of children) list.items fits_there place entry job (slice_get_read list.items (length list.items) place entry refl below at) is
+      ∙ made_at (job_of children) list.items fits_there place entry job
+      (slice_get_read list.items (length list.items) place entry refl below at) is
 
 -- lists of no entries
-pub none_left : (children : List Handle) (lists : List (Vec QueuedJob Global)) → All (λ (list : Vec QueuedJob Global). list.items ≡ []) lists → map (jobs_of children) lists ≡ replicate (length lists) []
+pub none_left : (children : List Handle) (lists : List (Vec QueuedJob Global))
+    → All (λ (list : Vec QueuedJob Global). list.items ≡ []) lists → map (jobs_of children) lists ≡ replicate (length lists) []
 none_left children [] all = refl
 none_left children (list ∷ lists) all =
     let Empty : Vec QueuedJob Global → Type 0 = λ it. it.items ≡ [] in
@@ -120,6 +133,7 @@ none_left children (list ∷ lists) all =
     ∙ ap (λ (xs : List (List Job)). [] ∷ xs) (none_left children lists (All-tail Empty list lists all))
 
 -- what a job counts
-pub job_parts : (entry : QueuedJob) (o : Option JobOp) (job : Job) → option_map (on_line entry) o ≡ Some job → (what : JobOp) × (o ≡ Some what) × (job ≡ on_line entry what)
+pub job_parts : (entry : QueuedJob) (o : Option JobOp) (job : Job) → option_map (on_line entry) o ≡ Some job → (what : JobOp)
+    × (o ≡ Some what) × (job ≡ on_line entry what)
 job_parts entry None job is = absurd (none-some job is)
 job_parts entry (Some what) job is = (what, refl, sym (same_Some (on_line entry what) job is))

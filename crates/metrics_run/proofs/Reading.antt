@@ -1,5 +1,6 @@
 -- Words of a line that are read one by one.
-use Rattle.std.proofs.Common.{◌≡◌, ℕ, ◌+◌, ◌<◌, List, [], ◌∷◌, ◌++◌, Bor, All, map, take, length, get_or, ap, sym, subst, ◌∙◌, arith, inr}
+use Rattle.std.proofs.Common.{◌≡◌, ℕ, ◌+◌, ◌<◌, List, [], ◌∷◌, ◌++◌, Bor, All, map, take, length, get_or, ap, sym, subst, ◌∙◌}
+use Rattle.std.proofs.Common.{arith, inr}
 use Rattle.std.specs.Prelude.{Option, Some, slice_get, IsSomeAnd}
 use Rattle.std.proofs.lemmas.List.{take_more, take-map, get_or-map, length-map, map-append}
 use Rattle.std.proofs.lemmas.List.Elements.{All-nil, All-cons, All-head, All-tail}
@@ -30,13 +31,16 @@ written_push (t ∷ ts) [] text word are one = absurd are
 written_push (t ∷ ts) (w ∷ ws) text word are one = (are.0, written_push ts ws text word are.1 one)
 
 -- the word of this place among all
-pub word_at : (items : List (Bor (List ℕ))) (i : ℕ) (d : Bor (List ℕ)) → i < length items → slice_get (map now items) i ≡ Some (now (get_or items i d))
+pub word_at : (items : List (Bor (List ℕ))) (i : ℕ) (d : Bor (List ℕ)) → i < length items
+    → slice_get (map now items) i ≡ Some (now (get_or items i d))
 word_at items i d lt =
     let lt' : i < length (map now items) = omega (arith, lt, length-map items now) in
     slice_get-get_or (map now items) i [] lt' ∙ ap Some (get_or-map now items i d [] lt)
 
-pub first_bad : (labels : List ℕ) (items : List (Bor (List ℕ))) (i : ℕ) (d : Bor (List ℕ)) (wrong : LabelNameFault) → i < length items
-    → AreLabels labels (map now items) → All IsLabelName (map now (take i items)) → IsLabelNameFault (now (get_or items i d)) wrong
+pub first_bad : (labels : List ℕ) (items : List (Bor (List ℕ))) (i : ℕ) (d : Bor (List ℕ)) (wrong : LabelNameFault)
+    → i < length items
+    → AreLabels labels (map now items) → All IsLabelName (map now (take i items))
+    → IsLabelNameFault (now (get_or items i d)) wrong
     → IsFirstBadLabel labels wrong
 first_bad labels items i d wrong lt are good bad = (
   map now items,
@@ -47,13 +51,16 @@ first_bad labels items i d wrong lt are good bad = (
 )
 
 -- each word is a writing
-pub word_writes : (values : List ℕ) (items : List (Bor (List ℕ))) (i : ℕ) (d : Bor (List ℕ)) → i < length items → AreValues values (map now items)
+pub word_writes : (values : List ℕ) (items : List (Bor (List ℕ))) (i : ℕ) (d : Bor (List ℕ)) → i < length items
+    → AreValues values (map now items)
     → IsWriting (now (get_or items i d))
 word_writes values items i d lt are =
     subst IsWriting (get_or-map now items i d [] lt) (are.0 i [] (omega (arith, lt, length-map items now))).1
 
-pub first_bad_value : (values : List ℕ) (items : List (Bor (List ℕ))) (i : ℕ) (d : Bor (List ℕ)) (refusal : LineFault) → i < length items
-    → AreValues values (map now items) → All IsGoodValue (map now (take i items)) → IsValueRefusal (now (get_or items i d)) refusal
+pub first_bad_value : (values : List ℕ) (items : List (Bor (List ℕ))) (i : ℕ) (d : Bor (List ℕ)) (refusal : LineFault)
+    → i < length items
+    → AreValues values (map now items) → All IsGoodValue (map now (take i items))
+    → IsValueRefusal (now (get_or items i d)) refusal
     → AreValuesRefused values refusal
 first_bad_value values items i d refusal lt are good bad = inr (
   map now items,

@@ -6,7 +6,8 @@ use Rattle.register_rule.specs.declared.board.Board.{Board}
 use Rattle.registry_state.specs.Kept.{Registry}
 use Rattle.script_lines.specs.Line.{saying_of}
 use Rattle.script_lines.specs.declared.line.Line.{Line}
-use Rattle.script_lines.specs.declared.line.Line.TheVariants.{Nothing, Counter, Gauge, Histogram, Child, Count, Go, Scrape, Settle, Window}
+use Rattle.script_lines.specs.declared.line.Line.TheVariants.{Nothing, Counter, Gauge, Histogram, Child, Count, Go, Scrape}
+use Rattle.script_lines.specs.declared.line.Line.TheVariants.{Settle, Window}
 use Rattle.snapshot_scan.specs.Readers.{IsReaderOf}
 use Rattle.snapshot_scan.specs.Scanners.{board_in, reader_in}
 use Rattle.snapshot_update.specs.declared.worker.Worker.{Worker}
@@ -31,12 +32,14 @@ registered_ready old new desc is ready =
       scraper = subst (λ (b : Board 4 64 8 16). IsReaderOf b (reader_in new.registry.source)) (sym board)
           (subst (λ (r : Registry Scans). IsReaderOf old.board.now (reader_in r.source)) (sym is.registry) ready.scraper);
       id = ap (λ (r : Registry Scans). r.id) is.registry ∙ (ready.id ∙ ap board_id (sym board));
-      settler = subst (λ (b : Board 4 64 8 16). IsReaderOf b new.settler) (sym board) (subst (IsReaderOf old.board.now) (sym beside.settler) ready.settler);
+      settler = subst (λ (b : Board 4 64 8 16). IsReaderOf b new.settler) (sym board)
+          (subst (IsReaderOf old.board.now) (sym beside.settler) ready.settler);
       lists = ap length beside.queue ∙ ready.lists;
     }
 
 -- a line that prints nothing and counts nothing was done
-pub done_stepped : (old new : State) (number : ℕ) (line : Line) → (line ≡ Go → ⊥) → (line ≡ Scrape → ⊥) → (line ≡ Settle → ⊥) → ((size : ℕ) → line ≡ Window size → ⊥)
+pub done_stepped : (old new : State) (number : ℕ) (line : Line) → (line ≡ Go → ⊥) → (line ≡ Scrape → ⊥) → (line ≡ Settle → ⊥)
+    → ((size : ℕ) → line ≡ Window size → ⊥)
     → IsDone old number (saying_of line) new → IsStepped old number (saying_of line) [] new
 done_stepped old new number Nothing go scrape settle window done = (refl, done)
 done_stepped old new number (Counter name labels help) go scrape settle window done = (refl, done)
@@ -50,7 +53,8 @@ done_stepped old new number Settle go scrape settle window done = absurd (settle
 done_stepped old new number (Window size) go scrape settle window done = absurd (window size refl)
 
 -- or it was refused
-pub act_refused : (old new : State) (number : ℕ) (line : Line) (fault : LineFault) → IsActRefusal old (saying_of line) fault → IsSame old new
+pub act_refused : (old new : State) (number : ℕ) (line : Line) (fault : LineFault) → IsActRefusal old (saying_of line) fault
+    → IsSame old new
     → IsRefused old number (saying_of line) (record { line = number; fault = fault }) new
 act_refused old new number Nothing fault why same = absurd why
 act_refused old new number (Counter name labels help) fault why same = ((refl, why), same)

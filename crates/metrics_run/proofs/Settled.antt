@@ -1,5 +1,6 @@
 -- The line that tells how often each worker has counted, piece by piece.
-use Rattle.std.proofs.Common.{◌≡◌, ℕ, ◌+◌, ◌<◌, ◌≤◌, List, [], ◌∷◌, ◌++◌, length, take, drop, get_or, Option, codes, decimal, sym, ap, ◌∙◌, subst, append-nil, append_assoc, take-append-drop}
+use Rattle.std.proofs.Common.{◌≡◌, ℕ, ◌+◌, ◌<◌, ◌≤◌, List, [], ◌∷◌, ◌++◌, length, take, drop, get_or, Option, codes, decimal, sym}
+use Rattle.std.proofs.Common.{ap, ◌∙◌, subst, append-nil, append_assoc, take-append-drop}
 use Rattle.std.specs.Prelude.{flat_map}
 use Rattle.std.specs.Io.KnownBytes.{Appends}
 use Rattle.std.proofs.KnownBytes.{Appends-trans}
@@ -17,7 +18,8 @@ front numbers = codes "settled" ++ flat_map after_blank numbers
 abbrev pub blank_and : ℕ → List ℕ
 blank_and number = codes " " ++ decimal number ++ []
 
-one_more : (vector : List ℕ) (i : ℕ) → i < length vector → front (take i vector) ++ blank_and (get_or vector i 0) ≡ front (take (i + 1) vector)
+one_more : (vector : List ℕ) (i : ℕ) → i < length vector → front (take i vector) ++ blank_and (get_or vector i 0) ≡ front
+    (take (i + 1) vector)
 one_more vector i lt =
     let x = get_or vector i 0 in
     ap (λ (l : List ℕ). front (take i vector) ++ (codes " " ++ l)) (append-nil (decimal x))
@@ -27,19 +29,22 @@ one_more vector i lt =
     ∙ ap (flat_map after_blank) (sym (take_more vector i 0 lt)))
 
 -- the line is its front with the first numbers, and the rest
-parted : (vector : List ℕ) (i : ℕ) → front (take i vector) ++ (flat_map after_blank (drop i vector) ++ codes "\n") ≡ settled_line vector
+parted : (vector : List ℕ) (i : ℕ) → front (take i vector) ++ (flat_map after_blank (drop i vector) ++ codes "\n") ≡ settled_line
+    vector
 parted vector i =
     let first = flat_map after_blank (take i vector) in
     let rest = flat_map after_blank (drop i vector) in
     append_assoc (codes "settled") first (rest ++ codes "\n")
     ∙ ap (λ (l : List ℕ). codes "settled" ++ l) (sym (append_assoc first rest (codes "\n"))
-    ∙ ap (λ (l : List ℕ). l ++ codes "\n") (sym (flat_map-append after_blank (take i vector) (drop i vector)) ∙ ap (flat_map after_blank) (take-append-drop i vector)))
+    ∙ ap (λ (l : List ℕ). l ++ codes "\n") (sym (flat_map-append after_blank (take i vector) (drop i vector))
+    ∙ ap (flat_map after_blank) (take-append-drop i vector)))
 
 -- a blank and a number more
 pub settled_more : (s t v : Option (List ℕ)) (vector : List ℕ) (i : ℕ) → i < length vector → Appends s t (front (take i vector))
     → Appends t v (blank_and (get_or vector i 0)) → Appends s v (front (take (i + 1) vector))
 settled_more s t v vector i lt before number =
-    subst (Appends s v) (one_more vector i lt) (Appends-trans s t v (front (take i vector)) (blank_and (get_or vector i 0)) before number)
+    subst (Appends s v) (one_more vector i lt)
+    (Appends-trans s t v (front (take i vector)) (blank_and (get_or vector i 0)) before number)
 
 -- or a beginning of them
 pub settled_begun : (s t v : Option (List ℕ)) (vector : List ℕ) (i : ℕ) → i < length vector → Appends s t (front (take i vector))
@@ -47,9 +52,11 @@ pub settled_begun : (s t v : Option (List ℕ)) (vector : List ℕ) (i : ℕ) �
 settled_begun s t v vector i lt before begins =
     let more = begun_after s t v (front (take i vector)) (blank_and (get_or vector i 0)) before begins in
     let known = subst (Begins s v) (one_more vector i lt) more in
-    subst (Begins s v) (parted vector (i + 1)) (begun_before s v (front (take (i + 1) vector)) (flat_map after_blank (drop (i + 1) vector) ++ codes "\n") known)
+    subst (Begins s v) (parted vector (i + 1))
+    (begun_before s v (front (take (i + 1) vector)) (flat_map after_blank (drop (i + 1) vector) ++ codes "\n") known)
 
-module _ (s t u : Option (List ℕ)) (vector : List ℕ) (i : ℕ) (most : length vector ≤ i) (before : Appends s t (front (take i vector))) where
+module _ (s t u : Option (List ℕ)) (vector : List ℕ) (i : ℕ) (most : length vector ≤ i)
+    (before : Appends s t (front (take i vector))) where
   all_numbers : Appends s t (front vector)
   all_numbers = subst (λ l. Appends s t (front l)) (take_all i vector most) before
 

@@ -11,4 +11,5 @@ IsCount count = (0 < count) × (count ≤ 1000000)
 
 -- these words, after `serve`, are this port and this count
 abbrev pub AsksServe : (port_word count_word : List ℕ) → (port count : ℕ) → Type 0
-AsksServe port_word count_word port count = IsPort port × (port_word ≡ decimal port) × IsCount count × (count_word ≡ decimal count)
+AsksServe port_word count_word port count = IsPort port × (port_word ≡ decimal port) × IsCount count
+    × (count_word ≡ decimal count)

@@ -2,7 +2,8 @@
 use Rattle.std.specs.Prelude.{◌≡◌, ℕ, List, []}
 use Rattle.metric_desc.specs.Desc.{Descriptor}
 use Rattle.metric_desc.specs.declared.kind.Kind.TheVariants as kind
-use Rattle.script_lines.specs.Language.{Saying, Nothing, Counter, Gauge, Histogram, Child, Count, Go, Scrape, Settle, Window, AreBounds}
+use Rattle.script_lines.specs.Language.{Saying, Nothing, Counter, Gauge, Histogram, Child, Count, Go, Scrape, Settle, Window}
+use Rattle.script_lines.specs.Language.{AreBounds}
 use Rattle.metrics_run.specs.Parts.{IsDescribed}
 use Rattle.metrics_run.specs.Printed.{kept_line, settled_line}
 use Rattle.metrics_run.specs.State.{IsSame, IsRegistered, IsNumbered, IsQueued, IsGone, IsScraped, IsSettled, IsWindowed}
@@ -30,9 +31,11 @@ abbrev pub IsStepped : (old : State) (number : ℕ) → Saying → (printed : Li
 IsStepped old number Nothing printed new = (printed ≡ []) × IsDone old number Nothing new
 IsStepped old number (Counter name labels help) printed new = (printed ≡ []) × IsDone old number (Counter name labels help) new
 IsStepped old number (Gauge name labels help) printed new = (printed ≡ []) × IsDone old number (Gauge name labels help) new
-IsStepped old number (Histogram name labels bounds help) printed new = (printed ≡ []) × IsDone old number (Histogram name labels bounds help) new
+IsStepped old number (Histogram name labels bounds help) printed new = (printed ≡ [])
+    × IsDone old number (Histogram name labels bounds help) new
 IsStepped old number (Child name values) printed new = (printed ≡ []) × IsDone old number (Child name values) new
-IsStepped old number (Count what worker child by times) printed new = (printed ≡ []) × IsDone old number (Count what worker child by times) new
+IsStepped old number (Count what worker child by times) printed new = (printed ≡ [])
+    × IsDone old number (Count what worker child by times) new
 IsStepped old number Go printed new = (printed ≡ []) × IsGone old new
 IsStepped old number Scrape printed new = IsScraped old printed new
 IsStepped old number Settle printed new = (printed ≡ settled_line new.settled.vector) × IsSettled old new

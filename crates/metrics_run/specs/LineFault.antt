@@ -9,7 +9,9 @@ use Rattle.metric_desc.specs.Histogram as histogram
 use Rattle.registry_state.specs.Faults.{register_fault_number, child_fault_number, scrape_fault_number}
 use Rattle.worker_pool.specs.Faults.{pool_fault_number}
 use Rattle.metrics_run.specs.declared.line_fault.LineFault.{LineFault}
-use Rattle.metrics_run.specs.declared.line_fault.LineFault.TheVariants.{BadLine, Name, Label, Help, Labels, Histogram, Value, Register, NoSuchFamily, Child, NoSuchChild, Pool, Scrape, Window, NoMemory}
+use Rattle.metrics_run.specs.declared.line_fault.LineFault.TheVariants.{BadLine, Name, Label, Help, Labels, Histogram, Value}
+use Rattle.metrics_run.specs.declared.line_fault.LineFault.TheVariants.{Register, NoSuchFamily, Child, NoSuchChild, Pool, Scrape}
+use Rattle.metrics_run.specs.declared.line_fault.LineFault.TheVariants.{Window, NoMemory}
 
 -- the number of each fault
 abbrev pub number_of : LineFault → ℕ

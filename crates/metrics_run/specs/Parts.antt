@@ -59,12 +59,14 @@ IsLabelsRefusal labels refusal =
 -- why the help of a line is refused
 abbrev pub IsHelpRefusal : List ℕ → LineFault → Type 0
 IsHelpRefusal help refusal =
-    (refusal ≡ NoMemory) ⊎ ((wrong : HelpTextFault) × (text : List ℕ) × (refusal ≡ Help wrong) × Writes text help × IsHelpTextFault text wrong)
+    (refusal ≡ NoMemory) ⊎ ((wrong : HelpTextFault) × (text : List ℕ) × (refusal ≡ Help wrong) × Writes text help
+    × IsHelpTextFault text wrong)
 
 -- why a label value of a line is refused
 abbrev pub IsValueRefusal : List ℕ → LineFault → Type 0
 IsValueRefusal written refusal =
-    (refusal ≡ NoMemory) ⊎ ((wrong : LabelValueFault) × (text : List ℕ) × (refusal ≡ Value wrong) × Writes text written × IsLabelValueFault text wrong)
+    (refusal ≡ NoMemory) ⊎ ((wrong : LabelValueFault) × (text : List ℕ) × (refusal ≡ Value wrong) × Writes text written
+    × IsLabelValueFault text wrong)
 
 -- the value is good
 abbrev pub IsGoodValue : List ℕ → Type 0
@@ -94,7 +96,8 @@ pub record AreGoodParts (name labels help : List ℕ) : Type 0 where
 abbrev pub IsPlainRefusal : (name labels help : List ℕ) → LineFault → Type 0
 IsPlainRefusal name labels help refusal =
     IsPartsRefusal name labels help refusal
-    ⊎ ((wrong : LabelsFault) × (names : List (List ℕ)) × (refusal ≡ Labels wrong) × AreGoodParts name labels help × AreLabels labels names
+    ⊎ ((wrong : LabelsFault) × (names : List (List ℕ)) × (refusal ≡ Labels wrong) × AreGoodParts name labels help
+    × AreLabels labels names
     × desc.IsLabelsFault names wrong)
 
 -- why a line has no descriptor of a histogram
@@ -102,5 +105,6 @@ abbrev pub IsHistogramRefusal : (name labels help bounds : List ℕ) → LineFau
 IsHistogramRefusal name labels help bounds refusal =
     IsPartsRefusal name labels help refusal
     ⊎ (AreGoodParts name labels help × (refusal ≡ NoMemory))
-    ⊎ ((wrong : HistogramFault) × (names : List (List ℕ)) × (numbers : List ℕ) × (refusal ≡ Histogram wrong) × AreGoodParts name labels help × AreLabels labels names
+    ⊎ ((wrong : HistogramFault) × (names : List (List ℕ)) × (numbers : List ℕ) × (refusal ≡ Histogram wrong)
+    × AreGoodParts name labels help × AreLabels labels names
     × AreBounds bounds numbers × histogram.IsHistogramFault names numbers wrong)

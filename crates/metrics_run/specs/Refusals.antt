@@ -10,7 +10,8 @@ use Rattle.registry_state.specs.declared.fault.BadWindow.{BadWindow}
 use Rattle.registry_state.specs.declared.fault.RegisterFault.{RegisterFault}
 use Rattle.registry_state.specs.declared.fault.ChildFault.{ChildFault}
 use Rattle.registry_state.specs.declared.fault.ScrapeFault.{ScrapeFault}
-use Rattle.script_lines.specs.Language.{Saying, Nothing, Counter, Gauge, Histogram, Child, Count, Go, Scrape, Settle, Window, AreBounds, IsLine}
+use Rattle.script_lines.specs.Language.{Saying, Nothing, Counter, Gauge, Histogram, Child, Count, Go, Scrape, Settle, Window}
+use Rattle.script_lines.specs.Language.{AreBounds, IsLine}
 use Rattle.worker_pool.specs.Ends.{IsPoolFault}
 use Rattle.worker_pool.specs.declared.fault.PoolFault.{PoolFault}
 use Rattle.worker_pool.specs.declared.fault.PoolFault.TheVariants as pool
@@ -26,7 +27,8 @@ use Rattle.metrics_run.specs.declared.state.Count.{Count as Counted}
 
 -- why a family is not registered: the registry refuses it
 abbrev pub IsRegisterRefusal : State → Descriptor → LineFault → Type 0
-IsRegisterRefusal old desc refusal = (wrong : RegisterFault) × (refusal ≡ fault.Register wrong) × IsRegisterFault old.registry.state.families desc wrong
+IsRegisterRefusal old desc refusal = (wrong : RegisterFault) × (refusal ≡ fault.Register wrong)
+    × IsRegisterFault old.registry.state.families desc wrong
 
 -- no family of the registry has this name
 abbrev pub IsNoFamily : State → (name : List ℕ) → Type 0
@@ -40,7 +42,8 @@ pub record IsNotGiven (old : State) (name values : List ℕ) (wrong : ChildFault
   pub are_read : AreRead values read
   pub refused : IsChildFault 64 8 16 old.registry.state.families family read wrong
 
--- why there is no child: the values are refused, or there was no room; or they are good, and there is no family of that name, or it
+-- why there is no child: the values are refused, or there was no room; or they are good, and there is no family of that name, or
+-- it
 -- refuses them
 abbrev pub IsChildRefusal : State → (name values : List ℕ) → LineFault → Type 0
 IsChildRefusal old name values refusal =
@@ -51,7 +54,8 @@ IsChildRefusal old name values refusal =
 -- why nothing is queued: there is no such child, or there is no room
 abbrev pub IsQueueRefusal : State → Counted → LineFault → Type 0
 IsQueueRefusal old count refusal =
-    ((refusal ≡ fault.NoSuchChild) × (job_in old.queue.children.items count ≡ None)) ⊎ ((refusal ≡ fault.NoMemory) × (job_in old.queue.children.items count ≢ None))
+    ((refusal ≡ fault.NoSuchChild) × (job_in old.queue.children.items count ≡ None))
+    ⊎ ((refusal ≡ fault.NoMemory) × (job_in old.queue.children.items count ≢ None))
 
 -- the line by which a fault of the pool is told: that of the job that was refused, or that of the `go`
 abbrev pub told_at : (line : ℕ) → PoolFault → ℕ
@@ -102,7 +106,8 @@ IsPlainLineRefusal old of name labels help refusal =
 abbrev pub IsHistogramLineRefusal : State → (name labels bounds help : List ℕ) → LineFault → Type 0
 IsHistogramLineRefusal old name labels bounds help refusal =
     IsHistogramRefusal name labels help bounds refusal
-    ⊎ ((desc : Descriptor) × IsDescribed kind.Histogram name labels help (AreBounds bounds) desc × IsRegisterRefusal old desc refusal)
+    ⊎ ((desc : Descriptor) × IsDescribed kind.Histogram name labels help (AreBounds bounds) desc
+    × IsRegisterRefusal old desc refusal)
 
 -- a line that prints nothing and counts nothing is refused for this reason
 abbrev pub IsActRefusal : State → Saying → LineFault → Type 0
@@ -126,15 +131,19 @@ IsToldAt number Why refused = (refused.line ≡ number) × Why refused.fault
 -- what a scrape notes
 abbrev pub IsRefused : (old : State) (number : ℕ) → Saying → Refused → (new : State) → Type 0
 IsRefused old number Nothing refused new = ⊥
-IsRefused old number (Counter name labels help) refused new = IsToldAt number (IsActRefusal old (Counter name labels help)) refused × IsSame old new
-IsRefused old number (Gauge name labels help) refused new = IsToldAt number (IsActRefusal old (Gauge name labels help)) refused × IsSame old new
+IsRefused old number (Counter name labels help) refused new = IsToldAt number (IsActRefusal old (Counter name labels help))
+    refused × IsSame old new
+IsRefused old number (Gauge name labels help) refused new = IsToldAt number (IsActRefusal old (Gauge name labels help)) refused
+    × IsSame old new
 IsRefused old number (Histogram name labels bounds help) refused new =
     IsToldAt number (IsActRefusal old (Histogram name labels bounds help)) refused × IsSame old new
-IsRefused old number (Child name values) refused new = IsToldAt number (IsActRefusal old (Child name values)) refused × IsSame old new
+IsRefused old number (Child name values) refused new = IsToldAt number (IsActRefusal old (Child name values)) refused
+    × IsSame old new
 IsRefused old number (Count what worker child by times) refused new =
     IsToldAt number (IsActRefusal old (Count what worker child by times)) refused × IsSame old new
 IsRefused old number Go refused new =
-    ((wrong : PoolFault) × IsGoRefusal number wrong refused × IsPoolFault true old.board.now (lists_in old.queue) old.workers.items wrong) × IsLost old new
+    ((wrong : PoolFault) × IsGoRefusal number wrong refused
+    × IsPoolFault true old.board.now (lists_in old.queue) old.workers.items wrong) × IsLost old new
 IsRefused old number Scrape refused new = IsToldAt number (λ refusal. IsScrapeRefusal old refusal new) refused
 IsRefused old number Settle refused new = ⊥
 IsRefused old number (Window size) refused new = IsToldAt number (IsWindowRefusal size) refused × IsSame old new
@@ -143,7 +152,8 @@ IsRefused old number (Window size) refused new = IsToldAt number (IsWindowRefusa
 abbrev pub IsNoLine : (text : List ℕ) → Type 0
 IsNoLine text = (saying : Saying) → ¬ (IsLine text saying)
 
--- the line of this number, which has this text, is refused so: with 27 where no line has it, and else for a reason of what it says
+-- the line of this number, which has this text, is refused so: with 27 where no line has it, and else for a reason of what it
+-- says
 abbrev pub IsLineRefused : (old : State) (number : ℕ) (text : List ℕ) → Refused → (new : State) → Type 0
 IsLineRefused old number text refused new =
     (IsNoLine text × IsToldAt number (λ refusal. refusal ≡ fault.BadLine) refused × IsSame old new)

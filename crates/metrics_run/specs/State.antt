@@ -1,5 +1,6 @@
 -- What a script has made, before and after a line.
-use Rattle.std.specs.Prelude.{◌≡◌, ◌⊎◌, ℕ, List, [], ◌∷◌, ◌++◌, map, length, replicate, slice_get, option_and_then, Option, Some, All, IsSomeAnd}
+use Rattle.std.specs.Prelude.{◌≡◌, ◌⊎◌, ℕ, List, [], ◌∷◌, ◌++◌, map, length, replicate, slice_get, option_and_then, Option, Some}
+use Rattle.std.specs.Prelude.{All, IsSomeAnd}
 use Rattle.expo_text.specs.Scraped.{Scraped}
 use Rattle.expo_text.specs.Text.{text}
 use Rattle.metric_desc.specs.Desc.{Descriptor}
@@ -25,7 +26,8 @@ use Rattle.metrics_run.specs.Scans.{gave_in}
 use Rattle.metrics_run.specs.declared.state.State.{State}
 use Rattle.metrics_run.specs.declared.state.Count.{Count}
 
--- the workers are the four of the board, in order and at home; the registry scans the board and has its id; the reader that settles
+-- the workers are the four of the board, in order and at home; the registry scans the board and has its id; the reader that
+-- settles
 -- is of the board; and each worker has a list of jobs
 pub record IsReady (state : State) : Type 0 where
   pub workers : All (IsWorkerOf state.board.now) state.workers.items

@@ -16,13 +16,15 @@ status_of Done = 0
 status_of (Refused line number) = 1
 status_of Broken = 3
 
--- where the reader or the writer has failed, a beginning of the line that tells a refusal is written, if there was one, and else nothing
+-- where the reader or the writer has failed, a beginning of the line that tells a refusal is written, if there was one, and else
+-- nothing
 abbrev pub Breaks : (ran : Result Unit Stop) → (before after : Option (List ℕ)) → Type 0
 Breaks (Ok done) before after = Keeps before after
 Breaks (Err (stop.Refused refusal)) before after = Begins before after (refused_line refusal.line (number_of refusal.fault))
 Breaks (Err stop.Broken) before after = Keeps before after
 
--- a script that ran so ends so, and writes this beside what its lines printed: nothing after its last line, and the line that tells
+-- a script that ran so ends so, and writes this beside what its lines printed: nothing after its last line, and the line that
+-- tells
 -- the refusal, with the number of its cause, after a refused line
 abbrev pub IsEnd : (ran : Result Unit Stop) → (before after : Option (List ℕ)) → ScriptEnd → Type 0
 IsEnd ran before after Done = IsOk ran × Keeps before after

@@ -6,8 +6,10 @@ ghost use Rattle.worker_pool.specs.Ends.{IsPoolFault};
 ghost use Rattle.script_lines.specs.Language.{AreValues};
 ghost use Rattle.metrics_run.specs.LineFault.{number_of};
 ghost use Rattle.metrics_run.specs.Waiting.{lists_in};
-ghost use Rattle.metrics_run.specs.State.{IsReady, IsFresh, IsSame, IsRegistered, IsNumbered, IsQueued, IsGone, IsScraped, IsSettled, IsWindowed};
-ghost use Rattle.metrics_run.specs.Refusals.{IsRegisterRefusal, IsChildRefusal, IsQueueRefusal, IsGoRefusal, IsLost, IsScrapeRefusal, IsWindowRefusal};
+ghost use Rattle.metrics_run.specs.State.{IsReady, IsFresh, IsSame, IsRegistered, IsNumbered, IsQueued, IsGone, IsScraped};
+ghost use Rattle.metrics_run.specs.State.{IsSettled, IsWindowed};
+ghost use Rattle.metrics_run.specs.Refusals.{IsRegisterRefusal, IsChildRefusal, IsQueueRefusal, IsGoRefusal, IsLost};
+ghost use Rattle.metrics_run.specs.Refusals.{IsScrapeRefusal, IsWindowRefusal};
 
 use crate::children::has_number;
 use crate::line_fault::LineFault;
@@ -149,7 +151,8 @@ impl<'a> State<'a> {
         requires ready { IsReady self.old }
         ensures ready { OnOk result (IsReady self.new) }
         ensures gone { OnOk result (IsGone self.old self.new) }
-        ensures fault { IfErr result (λ refused. (fault : PoolFault) × IsGoRefusal line fault refused × IsPoolFault true self.old.board.now (lists_in self.old.queue) self.old.workers.items fault) }
+        ensures fault { IfErr result (λ refused. (fault : PoolFault) × IsGoRefusal line fault refused
+            × IsPoolFault true self.old.board.now (lists_in self.old.queue) self.old.workers.items fault) }
         ensures opened { IfErr result (λ refused. number_of refused.fault ≢ 29) }
         ensures lost { OnErr result (IsLost self.old self.new) }
     {

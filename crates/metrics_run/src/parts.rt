@@ -2,7 +2,9 @@
 ghost use Rattle.std.specs.Prelude.{◌≡◌, ℕ, List, [], IfErr, IfOk, OnOk};
 ghost use Rattle.metric_desc.specs.declared.kind.Kind.TheVariants as Kinds;
 ghost use Rattle.script_lines.specs.Language.{AreLabels, AreBounds, AreValues, IsWriting, Writes};
-ghost use Rattle.metrics_run.specs.Parts.{IsDescribed, AreRead, AreGoodLabels, AreGoodParts, IsGoodHelp, IsGoodValue, IsLabelsRefusal, IsHelpRefusal, IsValueRefusal, AreValuesRefused, IsPartsRefusal, IsPlainRefusal, IsHistogramRefusal};
+ghost use Rattle.metrics_run.specs.Parts.{IsDescribed, AreRead, AreGoodLabels, AreGoodParts, IsGoodHelp, IsGoodValue};
+ghost use Rattle.metrics_run.specs.Parts.{IsLabelsRefusal, IsHelpRefusal, IsValueRefusal, AreValuesRefused, IsPartsRefusal};
+ghost use Rattle.metrics_run.specs.Parts.{IsPlainRefusal, IsHistogramRefusal};
 
 use crate::line_fault::LineFault;
 use metric_desc::Desc;
@@ -134,7 +136,8 @@ fn read_parts(alloc: Global, parts: Parts<'_>) -> Result<Read, LineFault>
 /// The descriptor of a family of counters.
 pub(crate) fn counter_of(alloc: Global, parts: Parts<'_>) -> Result<Desc, LineFault>
     requires { IsWriting parts.help.now }
-    ensures read { IfOk result (IsDescribed Kinds.Counter parts.entry.name.now parts.entry.labels.now parts.entry.help.now (λ bounds. bounds ≡ [])) }
+    ensures read { IfOk result (IsDescribed Kinds.Counter parts.entry.name.now parts.entry.labels.now parts.entry.help.now
+        (λ bounds. bounds ≡ [])) }
     ensures fault { IfErr result (IsPlainRefusal parts.entry.name.now parts.entry.labels.now parts.entry.help.now) }
 {
     let read = match read_parts(alloc, parts) {
@@ -150,7 +153,8 @@ pub(crate) fn counter_of(alloc: Global, parts: Parts<'_>) -> Result<Desc, LineFa
 /// The descriptor of a family of gauges.
 pub(crate) fn gauge_of(alloc: Global, parts: Parts<'_>) -> Result<Desc, LineFault>
     requires { IsWriting parts.help.now }
-    ensures read { IfOk result (IsDescribed Kinds.Gauge parts.entry.name.now parts.entry.labels.now parts.entry.help.now (λ bounds. bounds ≡ [])) }
+    ensures read { IfOk result (IsDescribed Kinds.Gauge parts.entry.name.now parts.entry.labels.now parts.entry.help.now
+        (λ bounds. bounds ≡ [])) }
     ensures fault { IfErr result (IsPlainRefusal parts.entry.name.now parts.entry.labels.now parts.entry.help.now) }
 {
     let read = match read_parts(alloc, parts) {
@@ -167,8 +171,10 @@ pub(crate) fn gauge_of(alloc: Global, parts: Parts<'_>) -> Result<Desc, LineFaul
 pub(crate) fn histogram_of(alloc: Global, parts: Parts<'_>, bounds: &str) -> Result<Desc, LineFault>
     requires help { IsWriting parts.help.now }
     requires bounds { (numbers : List ℕ) × AreBounds bounds.now numbers }
-    ensures read { IfOk result (IsDescribed Kinds.Histogram parts.entry.name.now parts.entry.labels.now parts.entry.help.now (AreBounds bounds.now)) }
-    ensures fault { IfErr result (IsHistogramRefusal parts.entry.name.now parts.entry.labels.now parts.entry.help.now bounds.now) }
+    ensures read { IfOk result (IsDescribed Kinds.Histogram parts.entry.name.now parts.entry.labels.now parts.entry.help.now
+        (AreBounds bounds.now)) }
+    ensures fault { IfErr result
+        (IsHistogramRefusal parts.entry.name.now parts.entry.labels.now parts.entry.help.now bounds.now) }
 {
     let read = match read_parts(alloc, parts) {
         Ok(read) => read,

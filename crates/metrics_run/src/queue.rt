@@ -93,7 +93,8 @@ impl Queue {
         requires worker { worker < length (lists_in self.old) }
         requires fits { Fits self.old.children.items entry.now }
         ensures children { self.new.children.items ≡ self.old.children.items }
-        ensures added { OnOk result ((job : Job) → job_of self.old.children.items entry.now ≡ Some job → lists_in self.new ≡ with_jobs worker job times (lists_in self.old)) }
+        ensures added { OnOk result ((job : Job) → job_of self.old.children.items entry.now ≡ Some job
+            → lists_in self.new ≡ with_jobs worker job times (lists_in self.old)) }
         ensures unchanged { OnErr result (lists_in self.new ≡ lists_in self.old) }
     {
         match add_times(&mut self.lists[worker], entry, times) {

@@ -156,8 +156,10 @@ fn step<R: Threads + Wait, W: Write>(
 ) -> Result<(), Stop>
     requires ready { IsReady state.old }
     ensures ready { OnOk result (IsReady state.new) }
-    ensures stepped { OnOk result ((printed : List ℕ) × IsLineStepped state.old number text.now printed state.new × Appends (W.contents writer.old) (W.contents writer.new) printed) }
-    ensures stopped { IfErr result (StopsStep state.old number text.now (W.contents writer.old) (W.contents writer.new) state.new) }
+    ensures stepped { OnOk result ((printed : List ℕ) × IsLineStepped state.old number text.now printed state.new
+        × Appends (W.contents writer.old) (W.contents writer.new) printed) }
+    ensures stopped { IfErr result
+        (StopsStep state.old number text.now (W.contents writer.old) (W.contents writer.new) state.new) }
 {
     let Some(line) = read_line(text) else {
         return Err(stop_at(number, LineFault::BadLine));
@@ -195,10 +197,12 @@ fn run_lines<T: Threads + Wait, R: Read + Drop, W: Write>(
 ) -> Result<(), Stop>
     requires ready { IsReady state.old }
     ensures ready { OnOk result (IsReady state.new) }
-    ensures ran { OnOk result ((texts : List (List ℕ)) × (left : Known) × HasRun state.old (unread R.remaining lines.old) (W.contents writer.old) texts state.new left (W.contents writer.new)
+    ensures ran { OnOk result ((texts : List (List ℕ)) × (left : Known) × HasRun state.old (unread R.remaining lines.old)
+        (W.contents writer.old) texts state.new left (W.contents writer.new)
         × Keeps left (unread R.remaining lines.new)) }
     ensures ended { OnOk result (IsAtEnd (unread R.remaining lines.new)) }
-    ensures stopped { IfErr result (HasStopped state.old (unread R.remaining lines.old) (W.contents writer.old) state.new (unread R.remaining lines.new) (W.contents writer.new)) }
+    ensures stopped { IfErr result (HasStopped state.old (unread R.remaining lines.old) (W.contents writer.old) state.new
+        (unread R.remaining lines.new) (W.contents writer.new)) }
 {
     for done in 0..MAX_LINES {
         match lines.next()? {
@@ -219,7 +223,8 @@ fn run_lines<T: Threads + Wait, R: Read + Drop, W: Write>(
 /// Writes a word, a number, and what follows it. Where that fails, a beginning of them is written, and nothing else.
 fn tell_number<W: Write>(writer: &mut W, word: &[u8], number: u64, end: &[u8]) -> Result<(), Broken>
     ensures told { OnOk result (Appends (W.contents writer.old) (W.contents writer.new) (word.now ++ decimal number ++ end.now)) }
-    ensures front { OnErr result (Begins (W.contents writer.old) (W.contents writer.new) (word.now ++ decimal number ++ end.now)) }
+    ensures front { OnErr result
+        (Begins (W.contents writer.old) (W.contents writer.new) (word.now ++ decimal number ++ end.now)) }
 {
     let mut digits = itoa::Buffer::new();
     send(writer, word)?;
@@ -240,8 +245,10 @@ fn tell_settled<W: Write>(writer: &mut W, vector: &[u64]) -> Result<(), Broken>
 
 fn tell_refused<W: Write>(writer: &mut W, refused: Refused) -> Result<ScriptEnd, Broken>
     ensures end { IfOk result (λ end. end ≡ ScriptEnd.Refused refused.line (number_of refused.fault)) }
-    ensures told { OnOk result (Appends (W.contents writer.old) (W.contents writer.new) (refused_line refused.line (number_of refused.fault))) }
-    ensures front { OnErr result (Begins (W.contents writer.old) (W.contents writer.new) (refused_line refused.line (number_of refused.fault))) }
+    ensures told { OnOk result
+        (Appends (W.contents writer.old) (W.contents writer.new) (refused_line refused.line (number_of refused.fault))) }
+    ensures front { OnErr result
+        (Begins (W.contents writer.old) (W.contents writer.new) (refused_line refused.line (number_of refused.fault))) }
 {
     let line = refused.line;
     let number = refused.fault.number();
@@ -267,7 +274,8 @@ fn ended<W: Write>(writer: &mut W, ran: Result<(), Stop>) -> ScriptEnd
 
 /// Tells want of memory before the first line.
 pub fn refuse_all<W: Write>(writer: &mut W) -> ScriptEnd
-    ensures { IsEnd (Err (Stop.Refused (record { line = 0; fault = LineFault.NoMemory }))) (W.contents writer.old) (W.contents writer.new) result }
+    ensures { IsEnd (Err (Stop.Refused (record { line = 0; fault = LineFault.NoMemory }))) (W.contents writer.old)
+        (W.contents writer.new) result }
 {
     ended(writer, Err(stop_at(0, LineFault::NoMemory)))
 }

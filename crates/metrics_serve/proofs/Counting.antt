@@ -1,5 +1,6 @@
 -- Replies that a worker has counted.
-use Rattle.std.proofs.Common.{◌≡◌, ℕ, List, [], ◌∷◌, ◌++◌, Result, Ok, Err, OnOk, OnErr, IfErr, map, refl, sym, subst, ap, ap₂, ◌∙◌, append-nil, append_assoc, inl, inr}
+use Rattle.std.proofs.Common.{◌≡◌, ℕ, List, [], ◌∷◌, ◌++◌, Result, Ok, Err, OnOk, OnErr, IfErr, map, refl, sym, subst, ap, ap₂}
+use Rattle.std.proofs.Common.{◌∙◌, append-nil, append_assoc, inl, inr}
 use Rattle.std.proofs.lemmas.List.{map-append}
 use Rattle.std.proofs.lemmas.List.Elements.{All-nil, All-cons}
 use Rattle.ledger_core.specs.declared.op.Op.{Op}
@@ -20,7 +21,8 @@ module _ (b : Board 4 64 8 16) (m : Metrics) where
   none_yet w own = record { own = own; index = refl; replies = []; lists = sym (append-nil (lists_of w)) }
 
   -- a reply was counted, or the worker refused it and is as it was
-  pub applied : (w v : Worker 4 64 8 16) (served : Served) (ops : List Op) (r : Result Unit ApplyFault) → IsWorkerOf b v → index_of v ≡ index_of w
+  pub applied : (w v : Worker 4 64 8 16) (served : Served) (ops : List Op) (r : Result Unit ApplyFault) → IsWorkerOf b v
+      → index_of v ≡ index_of w
       → ops ≡ list_for m served → OnOk r (lists_of v ≡ lists_of w ++ ops ∷ []) → IfErr r (IsApplyFault 64 8 16 (member_of w) ops)
       → OnErr r (v ≡ w) → WasCounted b m w v (Ok served)
   applied w v served ops (Ok done) own index is lists why same = record {
@@ -60,7 +62,8 @@ module _ (b : Board 4 64 8 16) (m : Metrics) where
   -- some replies, and then some more
   pub counted_more : (w v u : Worker 4 64 8 16) → HasCounted b m w v → HasCounted b m v u → HasCounted b m w u
   counted_more w v u first second =
-      let more : map (list_for m) (first.replies ++ second.replies) ≡ map (list_for m) first.replies ++ map (list_for m) second.replies = map-append (list_for m) first.replies second.replies in
+      let more : map (list_for m) (first.replies ++ second.replies) ≡ map (list_for m) first.replies ++ map
+      (list_for m) second.replies = map-append (list_for m) first.replies second.replies in
       record {
         own = second.own;
         index = second.index ∙ first.index;
@@ -74,9 +77,11 @@ module _ (b : Board 4 64 8 16) (m : Metrics) where
   pub back_again : (was four : Four) → AreNewWorkers b was → HaveCounted b m was four → AreFour b four
   back_again was four new counted =
       let P = IsWorkerOf b in
-      let index : (i : ℕ) (w v : Worker 4 64 8 16) → IsNewWorker b i w → HasCounted b m w v → index_of v ≡ i = λ i w v is has. has.index ∙ is.index_is in
+      let index : (i : ℕ) (w v : Worker 4 64 8 16) → IsNewWorker b i w → HasCounted b m w v → index_of v ≡ i =
+      λ i w v is has. has.index ∙ is.index_is in
       record {
-        own = All-cons P four.a (four.b ∷ four.c ∷ four.d ∷ []) counted.0.own (All-cons P four.b (four.c ∷ four.d ∷ []) counted.1.own
+        own = All-cons P four.a (four.b ∷ four.c ∷ four.d ∷ []) counted.0.own
+            (All-cons P four.b (four.c ∷ four.d ∷ []) counted.1.own
             (All-cons P four.c (four.d ∷ []) counted.2.own (All-cons P four.d [] counted.3.own (All-nil P))));
         index = ap₂ (λ (i : ℕ) (is : List ℕ). i ∷ is) (index 0 was.a four.a new.0 counted.0)
             (ap₂ (λ (i : ℕ) (is : List ℕ). i ∷ is) (index 1 was.b four.b new.1 counted.1)

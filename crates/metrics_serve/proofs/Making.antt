@@ -21,12 +21,14 @@ abbrev of_kids : Descriptor → List Child → Family
 of_kids desc kids = record { desc = desc; children = kids }
 
 -- no child of a family of counters has the slot: so it is free
-free_in : (desc : Descriptor) (kids : List Child) (slot : ℕ) → All (HasNot slot) kids → IsFree (of_kids desc kids ∷ []) Counter slot
+free_in : (desc : Descriptor) (kids : List Child) (slot : ℕ) → All (HasNot slot) kids
+    → IsFree (of_kids desc kids ∷ []) Counter slot
 free_in desc kids slot none =
     let P : Family → Type 0 = λ family. family.desc.kind ≡ Counter → All (HasNot slot) family.children in
     All-cons P (of_kids desc kids) [] (λ _. none) (All-nil P)
 
-free_of : (desc : Descriptor) (kids : List Child) (slot : ℕ) → desc.kind ≡ Counter → IsFree (of_kids desc kids ∷ []) Counter slot → All (HasNot slot) kids
+free_of : (desc : Descriptor) (kids : List Child) (slot : ℕ) → desc.kind ≡ Counter → IsFree (of_kids desc kids ∷ []) Counter slot
+    → All (HasNot slot) kids
 free_of desc kids slot counters free =
     let P : Family → Type 0 = λ family. family.desc.kind ≡ Counter → All (HasNot slot) family.children in
     All-head P (of_kids desc kids) [] free counters
@@ -43,16 +45,20 @@ above : (n : ℕ) (kids : List Child) → All (λ (child : Child). child.slot < 
 above n [] below = All-nil (HasNot n)
 above n (child ∷ kids) below =
     let low = All-head (λ (it : Child). it.slot < n) child kids below in
-    All-cons (HasNot n) child kids (λ same. absurd (omega (arith, low, same))) (above n kids (All-tail (λ (it : Child). it.slot < n) child kids below))
+    All-cons (HasNot n) child kids (λ same. absurd (omega (arith, low, same)))
+    (above n kids (All-tail (λ (it : Child). it.slot < n) child kids below))
 
-wider : (n : ℕ) (kids : List Child) → All (λ (child : Child). child.slot < n) kids → All (λ (child : Child). child.slot < n + 1) kids
+wider : (n : ℕ) (kids : List Child) → All (λ (child : Child). child.slot < n) kids
+    → All (λ (child : Child). child.slot < n + 1) kids
 wider n [] below = All-nil (λ (child : Child). child.slot < n + 1)
 wider n (child ∷ kids) below =
     let low = All-head (λ (it : Child). it.slot < n) child kids below in
-    All-cons (λ (it : Child). it.slot < n + 1) child kids (omega (arith, low)) (wider n kids (All-tail (λ (it : Child). it.slot < n) child kids below))
+    All-cons (λ (it : Child). it.slot < n + 1) child kids (omega (arith, low))
+    (wider n kids (All-tail (λ (it : Child). it.slot < n) child kids below))
 
 -- the least free slot is the next
-least_is : (desc : Descriptor) (kids : List Child) (n slot : ℕ) → desc.kind ≡ Counter → AreFirst n kids → IsLeastFree (of_kids desc kids ∷ []) Counter slot → slot ≡ n
+least_is : (desc : Descriptor) (kids : List Child) (n slot : ℕ) → desc.kind ≡ Counter → AreFirst n kids
+    → IsLeastFree (of_kids desc kids ∷ []) Counter slot → slot ≡ n
 least_is desc kids n slot counters first least =
     let not_less : ¬ (slot < n) = λ low. first.taken slot low (free_of desc kids slot counters least.free) in
     let not_more : ¬ (n < slot) = λ high. least.least n high (free_in desc kids n (above n kids first.below)) in
@@ -80,7 +86,8 @@ pub record HasCodes {S : Type 0} (n : ℕ) (codes : List (List ℕ)) (r : Regist
 
 module _ {S : Type 0} where
   -- at first there is none
-  pub no_codes : (r r' : Registry S) (desc : Descriptor) → r.state ≡ nothing → r' ≡ changed (Registered desc) r → desc.kind ≡ Counter → HasCodes 0 [] r'
+  pub no_codes : (r r' : Registry S) (desc : Descriptor) → r.state ≡ nothing → r' ≡ changed (Registered desc) r
+      → desc.kind ≡ Counter → HasCodes 0 [] r'
   no_codes r r' desc none is counters = record {
     desc = desc;
     kids = [];
@@ -91,23 +98,27 @@ module _ {S : Type 0} where
   }
 
   -- a code that is none of them is new
-  pub new_code : (n : ℕ) (codes : List (List ℕ)) (r : Registry S) (code : List ℕ) → HasCodes n codes r → All (λ (old : List ℕ). old ≢ code) codes
+  pub new_code : (n : ℕ) (codes : List (List ℕ)) (r : Registry S) (code : List ℕ) → HasCodes n codes r
+      → All (λ (old : List ℕ). old ≢ code) codes
       → All (λ (it : Family). IsNew it (code ∷ [])) r.state.families
   new_code n codes r code has none =
       let P : Family → Type 0 = λ it. IsNew it (code ∷ []) in
       subst (All P) (sym has.only) (All-cons P (of_kids has.desc has.kids) [] (has.fresh code none) (All-nil P))
 
-  module _ (n : ℕ) (codes : List (List ℕ)) (r r' : Registry S) (number : ℕ) (code : List ℕ) (counter : Counting) (first_one : number ≡ 0) (has : HasCodes n codes r)
+  module _ (n : ℕ) (codes : List (List ℕ)) (r r' : Registry S) (number : ℕ) (code : List ℕ) (counter : Counting)
+      (first_one : number ≡ 0) (has : HasCodes n codes r)
       (made : WasMade 64 8 16 r r' number (code ∷ []) (handle.Counter counter)) where
     abbrev Says : List Family → ℕ → Type 0
     Says families of = IsSomeAnd (slice_get families of) (λ (it : Family).
-        MayMake 64 8 16 families (code ∷ []) made.slot it × IsLeastFree families it.desc.kind made.slot × IsHandle r.id it.desc made.slot (handle.Counter counter))
+        MayMake 64 8 16 families (code ∷ []) made.slot it × IsLeastFree families it.desc.kind made.slot
+        × IsHandle r.id it.desc made.slot (handle.Counter counter))
 
     said : Says (of_kids has.desc has.kids ∷ []) 0
     said = subst (λ (families : List Family). Says families 0) has.only (subst (Says r.state.families) first_one made.made)
 
     slot_is : made.slot ≡ n
-    slot_is = least_is has.desc has.kids n made.slot has.counters has.first (subst (λ (kind : Kind). IsLeastFree (of_kids has.desc has.kids ∷ []) kind made.slot) has.counters said.1)
+    slot_is = least_is has.desc has.kids n made.slot has.counters has.first
+        (subst (λ (kind : Kind). IsLeastFree (of_kids has.desc has.kids ∷ []) kind made.slot) has.counters said.1)
 
     -- the code's counter has the next slot
     pub next_slot : counter.slot ≡ n
@@ -139,7 +150,9 @@ abbrev pub Apart : (place : ℕ) (code : List ℕ) → List (List ℕ) → Type 
 Apart place code [] = ⊤
 Apart place code (old ∷ olds) = (slice_index old place ≢ slice_index code place) × Apart place code olds
 
-pub all_apart : (place : ℕ) (code : List ℕ) (olds : List (List ℕ)) → Apart place code olds → All (λ (old : List ℕ). old ≢ code) olds
+pub all_apart : (place : ℕ) (code : List ℕ) (olds : List (List ℕ)) → Apart place code olds
+    → All (λ (old : List ℕ). old ≢ code) olds
 all_apart place code [] apart = All-nil (λ (old : List ℕ). old ≢ code)
 all_apart place code (old ∷ olds) apart =
-    All-cons (λ (it : List ℕ). it ≢ code) old olds (λ same. apart.0 (ap (λ (l : List ℕ). slice_index l place) same)) (all_apart place code olds apart.1)
+    All-cons (λ (it : List ℕ). it ≢ code) old olds (λ same. apart.0 (ap (λ (l : List ℕ). slice_index l place) same))
+    (all_apart place code olds apart.1)

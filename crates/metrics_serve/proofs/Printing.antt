@@ -1,5 +1,6 @@
 -- Bytes that are printed, or a beginning of them.
-use Rattle.std.proofs.Common.{ℕ, Option, List, [], ◌++◌, take, drop, Result, Ok, Err, OnErr, inl, ◌<◌, refl, sym, ap, ◌∙◌, append-nil, append_assoc, take-append-drop}
+use Rattle.std.proofs.Common.{ℕ, Option, List, [], ◌++◌, take, drop, Result, Ok, Err, OnErr, inl, ◌<◌, refl, sym, ap, ◌∙◌}
+use Rattle.std.proofs.Common.{append-nil, append_assoc, take-append-drop}
 use Rattle.std.proofs.KnownBytes.{Appends-kept, Appends-nil, Appends-trans}
 use Rattle.std.specs.Io.KnownBytes.{Appends, Keeps}
 use Rattle.metrics_serve.specs.declared.sending.Broken.{Broken}
@@ -46,7 +47,8 @@ begun_kept a b c xs begins kept = record {
 }
 
 -- three parts of a line
-pub told : (a b c d : Option (List ℕ)) (xs ys zs : List ℕ) → Appends a b xs → Appends b c ys → Appends c d zs → Appends a d (xs ++ ys ++ zs)
+pub told : (a b c d : Option (List ℕ)) (xs ys zs : List ℕ) → Appends a b xs → Appends b c ys → Appends c d zs
+    → Appends a d (xs ++ ys ++ zs)
 told a b c d xs ys zs first second third = Appends-trans a c d (xs ++ ys) zs (Appends-trans a b c xs ys first second) third
 
 -- what is so in any case

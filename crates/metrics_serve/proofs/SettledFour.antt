@@ -11,7 +11,8 @@ use Rattle.chain_law.specs.Settled.{HasIndex, IsSettled}
 abbrev four : List ℕ
 four = 0 ∷ 1 ∷ 2 ∷ 3 ∷ []
 
-from_map : {X Y : Type 0} (f : X → Y) (xs : List X) (p : ℕ) (y : Y) → get_elem? (map f xs) p ≡ some y → (x : X) × (get_elem? xs p ≡ some x) × (f x ≡ y)
+from_map : {X Y : Type 0} (f : X → Y) (xs : List X) (p : ℕ) (y : Y) → get_elem? (map f xs) p ≡ some y → (x : X)
+    × (get_elem? xs p ≡ some x) × (f x ≡ y)
 from_map f [] p y at = absurd (some-ne-none y (sym at))
 from_map f (x ∷ xs) zero y at = (x, refl, some-injective (f x) y at)
 from_map f (x ∷ xs) (suc p) y at = from_map f xs p y at
@@ -43,7 +44,8 @@ module _ {N C H G : ℕ} where
   abbrev Counts : List (Worker N C H G) → List ℕ → Type 0
   Counts ws vector = (p : ℕ) (w : Worker N C H G) → get_elem? ws p ≡ some w → get_elem? vector p ≡ some (count_of w)
 
-  in_order : (ws : List (Worker N C H G)) (vector : List ℕ) → length vector ≡ length ws → Counts ws vector → vector ≡ map count_of ws
+  in_order : (ws : List (Worker N C H G)) (vector : List ℕ) → length vector ≡ length ws → Counts ws vector
+      → vector ≡ map count_of ws
   in_order [] [] all each = refl
   in_order [] (x ∷ xs) all each = absurd (omega (arith, all))
   in_order (w ∷ ws) [] all each = absurd (omega (arith, all))
@@ -53,7 +55,9 @@ module _ {N C H G : ℕ} where
       ap (λ (n : ℕ). n ∷ xs) first ∙ ap (λ (ns : List ℕ). count_of w ∷ ns) rest
 
   -- the numbers of a settled snapshot, worker by worker
-  pub settled_numbers : (ws : List (Worker N C H G)) (out : Taken) → map index_of ws ≡ four → length out.vector ≡ length ws → IsSettled ws out → out.vector ≡ map count_of ws
+  pub settled_numbers : (ws : List (Worker N C H G)) (out : Taken) → map index_of ws ≡ four → length out.vector ≡ length ws
+      → IsSettled ws out → out.vector ≡ map count_of ws
   settled_numbers ws out all long settled = in_order ws out.vector long (λ p w at.
-      let index : index_of w ≡ p = place_is p (index_of w) (subst (λ (l : List ℕ). get_elem? l p ≡ some (index_of w)) all (at_map index_of ws p w at)) in
+      let index : index_of w ≡ p =
+      place_is p (index_of w) (subst (λ (l : List ℕ). get_elem? l p ≡ some (index_of w)) all (at_map index_of ws p w at)) in
       subst (λ (i : ℕ). get_elem? out.vector i ≡ some (count_of w)) index (settled.vector p w at))

@@ -8,7 +8,8 @@ use Rattle.register_rule.specs.declared.board.Board.{Board}
 use Rattle.scrape_http.specs.declared.fault.WireFault.{WireFault}
 use Rattle.scrape_http.specs.declared.serve.Served.{Served}
 use Rattle.scrape_http.specs.declared.status.Status.{Status}
-use Rattle.scrape_http.specs.declared.status.Status.TheVariants.{Success, BadRequest, NotFound, MethodNotAllowed, TooLarge, Unavailable}
+use Rattle.scrape_http.specs.declared.status.Status.TheVariants.{Success, BadRequest, NotFound, MethodNotAllowed, TooLarge}
+use Rattle.scrape_http.specs.declared.status.Status.TheVariants.{Unavailable}
 use Rattle.snapshot_update.specs.declared.faults.ApplyFault.{ApplyFault}
 use Rattle.snapshot_update.specs.declared.worker.Worker.{Worker}
 use Rattle.snapshot_update.specs.Workers.{index_of, lists_of, member_of, IsApplyFault, IsWorkerOf}
@@ -59,14 +60,16 @@ pub record HasCounted (b : Board 4 64 8 16) (m : Metrics) (w v : Worker 4 64 8 1
   pub replies : List Served
   pub lists : lists_of v ≡ lists_of w ++ map (list_for m) replies
 
--- From w to v the worker counted what came of one request: a reply by its one list, or not at all where the worker refuses that list;
+-- From w to v the worker counted what came of one request: a reply by its one list, or not at all where the worker refuses that
+-- list;
 -- and a fault not at all.
-pub record WasCounted (b : Board 4 64 8 16) (m : Metrics) (w v : Worker 4 64 8 16) (result : Result Served WireFault) : Type 0 where
-  pub own : IsWorkerOf b v
-  pub index : index_of v ≡ index_of w
-  pub reply : IfOk result (λ served. (lists_of v ≡ lists_of w ++ list_for m served ∷ []) ⊎ ((member_of v ≡ member_of w)
-      × ((why : ApplyFault) × IsApplyFault 64 8 16 (member_of w) (list_for m served) why)))
-  pub fault : OnErr result (member_of v ≡ member_of w)
+pub record WasCounted (b : Board 4 64 8 16) (m : Metrics) (w v : Worker 4 64 8 16) (result : Result Served WireFault) : Type 0
+  where
+    pub own : IsWorkerOf b v
+    pub index : index_of v ≡ index_of w
+    pub reply : IfOk result (λ served. (lists_of v ≡ lists_of w ++ list_for m served ∷ []) ⊎ ((member_of v ≡ member_of w)
+        × ((why : ApplyFault) × IsApplyFault 64 8 16 (member_of w) (list_for m served) why)))
+    pub fault : OnErr result (member_of v ≡ member_of w)
 
 -- this is the worker of this index, at home, and it has published nothing
 pub record IsNewWorker (b : Board 4 64 8 16) (index : ℕ) (w : Worker 4 64 8 16) : Type 0 where
@@ -80,11 +83,13 @@ AreNewWorkers b four = IsNewWorker b 0 four.a × IsNewWorker b 1 four.b × IsNew
 
 -- each of the four has counted replies, and nothing else
 abbrev pub HaveCounted : Board 4 64 8 16 → Metrics → (was four : Four) → Type 0
-HaveCounted b m was four = HasCounted b m was.a four.a × HasCounted b m was.b four.b × HasCounted b m was.c four.c × HasCounted b m was.d four.d
+HaveCounted b m was four = HasCounted b m was.a four.a × HasCounted b m was.b four.b × HasCounted b m was.c four.c
+    × HasCounted b m was.d four.d
 
 -- how many replies these are, of all four
 abbrev pub replies_counted : {b : Board 4 64 8 16} {m : Metrics} {was four : Four} → HaveCounted b m was four → ℕ
-replies_counted counted = length counted.0.replies + length counted.1.replies + length counted.2.replies + length counted.3.replies
+replies_counted counted = length counted.0.replies + length counted.1.replies + length counted.2.replies + length
+    counted.3.replies
 
 -- the four workers, in order
 abbrev pub all_of : Four → List (Worker 4 64 8 16)
@@ -95,11 +100,15 @@ pub record AreFour (b : Board 4 64 8 16) (four : Four) : Type 0 where
   pub own : All (IsWorkerOf b) (all_of four)
   pub index : map index_of (all_of four) ≡ 0 ∷ 1 ∷ 2 ∷ 3 ∷ []
 
--- So many replies were counted: each of the four workers of a new board has counted replies, and nothing else, and these are so many
--- together; and that is the total of the counters of all statuses, of which no two are one, by a snapshot of all that the four have
--- counted. The scrapes that the registry kept, and that snapshot after them, are moments of the one history of what they counted; and
+-- So many replies were counted: each of the four workers of a new board has counted replies, and nothing else, and these are so
+-- many
+-- together; and that is the total of the counters of all statuses, of which no two are one, by a snapshot of all that the four
+-- have
+-- counted. The scrapes that the registry kept, and that snapshot after them, are moments of the one history of what they counted;
+-- and
 -- what was registered before the registry was served stands first in its journal.
-pub record AreReplies (b : Board 4 64 8 16) (m : Metrics) (first : Registry (Scanner 4 64 8 16)) (was : Four) (replies : ℕ) : Type 0 where
+pub record AreReplies (b : Board 4 64 8 16) (m : Metrics) (first : Registry (Scanner 4 64 8 16)) (was : Four) (replies : ℕ) : Type
+    0 where
   pub four : Four
   pub counted : HaveCounted b m was four
   pub number : replies ≡ replies_counted counted

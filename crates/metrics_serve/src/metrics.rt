@@ -54,7 +54,8 @@ fn counter_of(
     code: &str,
 ) -> Option<Counter>
     requires new { All (λ it. IsNew it (code.now ∷ [])) registry.old.state.families }
-    ensures made { IfSome result (λ counter. WasMade 64 8 16 registry.old registry.new family.number (code.now ∷ []) (handle.Counter counter)) }
+    ensures made { IfSome result (λ counter. WasMade 64 8 16 registry.old registry.new family.number (code.now ∷ [])
+        (handle.Counter counter)) }
     ensures inside { IfSome result (λ counter. counter.slot < 64) }
 {
     let value = [LabelValue::read(alloc, code).ok()?];

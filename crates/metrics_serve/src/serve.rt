@@ -1,5 +1,6 @@
 //! The server.
-ghost use Rattle.std.specs.Prelude.{◌≡◌, [], ◌∷◌, ◌++◌, codes, decimal, map, replicate, ◌<◌, All, OnErr, OnOk, IfOk, IfSome, Some};
+ghost use Rattle.std.specs.Prelude.{◌≡◌, [], ◌∷◌, ◌++◌, codes, decimal, map, replicate, ◌<◌, All, OnErr, OnOk, IfOk, IfSome};
+ghost use Rattle.std.specs.Prelude.{Some};
 ghost use Rattle.std.specs.Io.KnownBytes.{Appends};
 ghost use Rattle.snapshot_scan.specs.Readers.{IsReaderOf};
 ghost use Rattle.snapshot_update.specs.Workers.{index_of, lists_of, IsWorkerOf};
@@ -84,8 +85,10 @@ impl<'b> Service<'b> {
 
 /// Writes a word, a number and a line feed, and lets them go. Where that fails, a beginning of them is written, and nothing else.
 fn tell<W: Write>(writer: &mut W, word: &[u8], number: u64) -> Result<(), Broken>
-    ensures told { OnOk result (Appends (W.contents writer.old) (W.contents writer.new) (word.now ++ decimal number ++ codes "\n")) }
-    ensures front { OnErr result (Begins (W.contents writer.old) (W.contents writer.new) (word.now ++ decimal number ++ codes "\n")) }
+    ensures told { OnOk result
+        (Appends (W.contents writer.old) (W.contents writer.new) (word.now ++ decimal number ++ codes "\n")) }
+    ensures front { OnErr result
+        (Begins (W.contents writer.old) (W.contents writer.new) (word.now ++ decimal number ++ codes "\n")) }
 {
     let mut digits = itoa::Buffer::new();
     send(writer, word)?;

@@ -111,7 +111,8 @@ fn start<'s, E: 's, T: Threads + Wait + Sync, S: ScrapeFrom + Send + Drop + 's>(
     connections: Connections,
 ) -> Option<PromisedHandle<Worker, Counts<'s>>>
     requires own { IsWorkerOf shared.board.now worker }
-    ensures { IfSome result (λ h. (h.promise.board.now ≡ shared.entry.board.now) × (h.promise.metrics.now ≡ shared.entry.metrics.now) × (h.promise.was.value ≡ worker)) }
+    ensures { IfSome result (λ h. (h.promise.board.now ≡ shared.entry.board.now)
+        × (h.promise.metrics.now ≡ shared.entry.metrics.now) × (h.promise.was.value ≡ worker)) }
 {
     let Shared { rt, board, metrics } = shared;
     let promise = Counts {

@@ -1,5 +1,6 @@
 -- What publishes of others, and members that meet, leave true of a scan.
-use Rattle.std.proofs.Common.{◌≡◌, ℕ, suc, ◌+◌, ◌<◌, ◌≤◌, inl, inr, ⊎_elim, List, [], ◌∷◌, ◌++◌, length, map, take, slice_set, sym, refl, ap, ◌∙◌, subst, arith, length-set}
+use Rattle.std.proofs.Common.{◌≡◌, ℕ, suc, ◌+◌, ◌<◌, ◌≤◌, inl, inr, ⊎_elim, List, [], ◌∷◌, ◌++◌, length, map, take, slice_set}
+use Rattle.std.proofs.Common.{sym, refl, ap, ◌∙◌, subst, arith, length-set}
 use mathlib.Core.Option.{some}
 use lib.ListN.{get_elem?}
 use Rattle.atomic_table.proofs.Lists.{at_set}
@@ -13,17 +14,20 @@ use Rattle.register_rule.specs.declared.view.Scan.{Scan}
 use Rattle.register_rule.specs.History.{IsCut, Below}
 use Rattle.register_rule.specs.Sums.{total, row_sum}
 use Rattle.register_rule.specs.Shown.{Shows}
-use Rattle.register_rule.specs.Scans.{opened_at, AtMost, AreLoads, IsStale, IsLook, Doomed, IsVersion, IsOneMoment, IsAsked, IsSound}
+use Rattle.register_rule.specs.Scans.{opened_at, AtMost, AreLoads, IsStale, IsLook, Doomed, IsVersion, IsOneMoment, IsAsked}
+use Rattle.register_rule.specs.Scans.{IsSound}
 use Rattle.register_rule.specs.Steps.{upper}
 use Rattle.register_rule.proofs.Moments.{past_grows}
 use Rattle.register_rule.proofs.Upper.{length_upper, upper_from, upper_of}
 
 -- each worker has published more, or nothing
 abbrev pub Grows : (made made' : ℕ → List Made) → Type 0
-Grows made made' = (j : ℕ) → (length (made j) ≤ length (made' j)) × ((q : ℕ) → q ≤ length (made j) → take q (made' j) ≡ take q (made j))
+Grows made made' = (j : ℕ) → (length (made j) ≤ length (made' j))
+    × ((q : ℕ) → q ≤ length (made j) → take q (made' j) ≡ take q (made j))
 
 pub below_upper : (v s u : List ℕ) → length s ≡ length u → Below v s → Below v (upper s u)
-below_upper v s u len low i x z ex ez = let t = upper_of s u i z len ez in let p = low i x t.0 ex t.2 in let q = t.4 in omega arith
+below_upper v s u len low i x z ex ez = let t = upper_of s u i z len ez in let p = low i x t.0 ex t.2 in let q = t.4 in
+    omega arith
 
 module _ (n w : ℕ) (adds : List Op → ℕ → ℕ) where
   module _ (made made' : ℕ → List Made) (more : Grows made made') where
@@ -42,7 +46,8 @@ module _ (n w : ℕ) (adds : List Op → ℕ → ℕ) where
       old = let h = ok.old in omega arith;
       risen = ⊎_elim (λ none. inl none) (λ t. let h = t.1 in inr (t.0, omega arith)) ok.risen;
       right = λ k x e. ⊎_elim
-          (λ (t : Shows n w adds (take l.number (made l.place)) (from + k) x). inl (subst (λ (z : List Made). Shows n w adds z (from + k) x) (sym ((more l.place).1 l.number ok.old)) t))
+          (λ (t : Shows n w adds (take l.number (made l.place)) (from + k) x). inl
+          (subst (λ (z : List Made). Shows n w adds z (from + k) x) (sym ((more l.place).1 l.number ok.old)) t))
           (λ (t : IsStale n w adds made l). inr (moved_grows l t))
           (ok.right k x e);
     }
@@ -62,26 +67,33 @@ module _ (n w : ℕ) (adds : List Op → ℕ → ℕ) where
       inside = ok.inside;
       risen = ok.risen;
       old = let up = (more e.worker).0 in let h = ok.old in omega arith;
-      shown = λ same k x at. subst (λ (z : List Made). Shows n w adds z (w + k) x) (sym ((more e.worker).1 e.number (let h = ok.old in let r = ok.risen in omega arith))) (ok.shown same k x at);
+      shown = λ same k x at. subst (λ (z : List Made). Shows n w adds z (w + k) x)
+          (sym ((more e.worker).1 e.number (let h = ok.old in let r = ok.risen in omega arith))) (ok.shown same k x at);
     }
 
-    sums_grow : (i : ℕ) (v : List ℕ) (k : ℕ) → ((q s : ℕ) → get_elem? v q ≡ some s → s ≤ length (made (i + q))) → row_sum adds made' i v k ≡ row_sum adds made i v k
+    sums_grow : (i : ℕ) (v : List ℕ) (k : ℕ) → ((q s : ℕ) → get_elem? v q ≡ some s → s ≤ length (made (i + q)))
+        → row_sum adds made' i v k ≡ row_sum adds made i v k
     sums_grow i [] k low = refl
     sums_grow i (s ∷ v) k low =
         let e : i + 0 ≡ i = omega arith in
         let le : s ≤ length (made i) = subst (λ (z : ℕ). s ≤ length (made z)) e (low 0 s refl) in
         let here : take s (made' i) ≡ take s (made i) = (more i).1 s le in
-        let rest = sums_grow (suc i) v k (λ q x at. let e' : i + suc q ≡ suc i + q = omega arith in subst (λ (z : ℕ). x ≤ length (made z)) e' (low (suc q) x at)) in
+        let rest = sums_grow (suc i) v k (λ q x at. let e' : i + suc q ≡ suc i + q = omega arith in
+        subst (λ (z : ℕ). x ≤ length (made z)) e' (low (suc q) x at)) in
         λ c. total adds (here c) k + rest c
 
-  pub answer_grows : (made made' : ℕ → List Made) (h more : List ℕ) (a : Answer) → Grows made made' → IsOneMoment n w adds made h a → IsOneMoment n w adds made' (h ++ more) a
+  pub answer_grows : (made made' : ℕ → List Made) (h more : List ℕ) (a : Answer) → Grows made made'
+      → IsOneMoment n w adds made h a → IsOneMoment n w adds made' (h ++ more) a
   answer_grows made made' h more a grows ok = record {
     low = low_grows made made' grows a.vector ok.low;
     moment = past_grows n h more a.vector ok.moment;
-    sums = λ k lt. ok.sums k lt ∙ ap some (sym (sums_grow made made' grows 0 a.vector k (λ q s at. let e : q ≡ 0 + q = omega arith in subst (λ (z : ℕ). s ≤ length (made z)) e (ok.low q s at))));
+    sums = λ k lt. ok.sums k lt
+        ∙ ap some (sym (sums_grow made made' grows 0 a.vector k (λ q s at. let e : q ≡ 0 + q = omega arith in
+        subst (λ (z : ℕ). s ≤ length (made z)) e (ok.low q s at))));
   }
 
-  pub scan_grows : (made made' : ℕ → List Made) (h more : List ℕ) (c : Scan) → Grows made made' → IsSound n w adds made h c → IsSound n w adds made' (h ++ more) c
+  pub scan_grows : (made made' : ℕ → List Made) (h more : List ℕ) (c : Scan) → Grows made made' → IsSound n w adds made h c
+      → IsSound n w adds made' (h ++ more) c
   scan_grows made made' h more c grows ok = record {
     opened = loads_grow made made' grows c.opened ok.opened;
     confirmed = loads_grow made made' grows c.confirmed ok.confirmed;
@@ -94,13 +106,16 @@ module _ (n w : ℕ) (adds : List Op → ℕ → ℕ) where
     kept_wide = ok.kept_wide;
     looks = λ q l e. (look_grows made made' grows 0 l (ok.looks q l e).0, (ok.looks q l e).1);
     asks = λ q l e. look_grows made made' grows w l (ok.asks q l e);
-    whole = λ all. ⊎_elim (λ (d : Doomed n w adds made c.now.looks). inl (doomed_grows made made' grows c.now.looks d)) (λ (p : IsCut n h (map opened_at c.now.looks)). inr (past_grows n h more _ p)) (ok.whole all);
+    whole = λ all. ⊎_elim (λ (d : Doomed n w adds made c.now.looks). inl (doomed_grows made made' grows c.now.looks d))
+        (λ (p : IsCut n h (map opened_at c.now.looks)). inr (past_grows n h more _ p)) (ok.whole all);
   }
 
   module _ (made : ℕ → List Made) (h : List ℕ) where
     -- worker i at its publish has seen its own number and knows its new row
-    pub scan_published : (i : ℕ) (v : Version) (c : Scan) → i < n → IsVersion n w adds made i v → v.number ≡ length (made i) → (len : ℕ) → len ≡ length (made i)
-        → ((y : ℕ) → get_elem? c.seen i ≡ some y → y ≤ len) → IsSound n w adds made h c → IsSound n w adds made h (record c { seen = slice_set c.seen i len; kept = slice_set c.kept i v })
+    pub scan_published : (i : ℕ) (v : Version) (c : Scan) → i < n → IsVersion n w adds made i v → v.number ≡ length (made i)
+        → (len : ℕ) → len ≡ length (made i)
+        → ((y : ℕ) → get_elem? c.seen i ≡ some y → y ≤ len) → IsSound n w adds made h c
+        → IsSound n w adds made h (record c { seen = slice_set c.seen i len; kept = slice_set c.kept i v })
     scan_published i v c inside version new len is most ok = record {
       opened = ok.opened;
       confirmed = ok.confirmed;
@@ -109,7 +124,8 @@ module _ (n w : ℕ) (adds : List Op → ℕ → ℕ) where
       recorded = λ q a e. (
         (ok.recorded q a e).0,
         λ p x z ex ez. ⊎_elim
-            (λ t. let le : x ≤ length (made i) = subst (λ (y : ℕ). x ≤ length (made y)) t.0 ((ok.recorded q a e).0.low p x ex) in omega (arith, t.1, is, le))
+            (λ t. let le : x ≤ length (made i) = subst (λ (y : ℕ). x ≤ length (made y)) t.0 ((ok.recorded q a e).0.low p x ex) in
+            omega (arith, t.1, is, le))
             (λ t. (ok.recorded q a e).1 p x z ex t.1)
             (at_set c.seen i p len z ez),
       );
@@ -129,7 +145,8 @@ module _ (n w : ℕ) (adds : List Op → ℕ → ℕ) where
     }
 
     -- members that meet
-    pub scan_raised : (c : Scan) (v : List ℕ) → AtMost n w adds made v → length v ≡ n → IsSound n w adds made h c → IsSound n w adds made h (record c { seen = upper c.seen v })
+    pub scan_raised : (c : Scan) (v : List ℕ) → AtMost n w adds made v → length v ≡ n → IsSound n w adds made h c
+        → IsSound n w adds made h (record c { seen = upper c.seen v })
     scan_raised c v low wide ok = let same : length c.seen ≡ length v = ok.seen_wide ∙ sym wide in record {
       opened = ok.opened;
       confirmed = ok.confirmed;
@@ -146,5 +163,8 @@ module _ (n w : ℕ) (adds : List Op → ℕ → ℕ) where
     }
 
   -- what is seen at the own place is the own number; what is seen later is at least that, and not above it
-  pub own_rises : (made : ℕ → List Made) (u v : List ℕ) (i : ℕ) → AtMost n w adds made v → ((x : ℕ) → get_elem? u i ≡ some x → (z : ℕ) × (get_elem? v i ≡ some z) × (x ≤ z)) → get_elem? u i ≡ some (length (made i)) → get_elem? v i ≡ some (length (made i))
-  own_rises made u v i low rises e = let t = rises (length (made i)) e in let up = t.2 in let le = low i t.0 t.1 in let same : t.0 ≡ length (made i) = omega arith in t.1 ∙ ap some same
+  pub own_rises : (made : ℕ → List Made) (u v : List ℕ) (i : ℕ) → AtMost n w adds made v
+      → ((x : ℕ) → get_elem? u i ≡ some x → (z : ℕ) × (get_elem? v i ≡ some z) × (x ≤ z)) → get_elem? u i ≡ some (length (made i))
+      → get_elem? v i ≡ some (length (made i))
+  own_rises made u v i low rises e = let t = rises (length (made i)) e in let up = t.2 in let le = low i t.0 t.1 in
+      let same : t.0 ≡ length (made i) = omega arith in t.1 ∙ ap some same

@@ -1,5 +1,7 @@
 -- The loads of a scan: what each leaves true of it.
-use Rattle.std.proofs.Common.{◌≡◌, ℕ, zero, suc, ◌+◌, ◌<◌, ◌≤◌, ◌⊎◌, inl, inr, ⊎_elim, Bool, true, false, ◌&&◌, ◌||◌, not, ◌==◌, List, [], ◌∷◌, ◌++◌, length, map, take, get_or, slice_index, slice_set, sym, refl, ap, ◌∙◌, subst, arith, length-set, Some}
+use Rattle.std.proofs.Common.{◌≡◌, ℕ, zero, suc, ◌+◌, ◌<◌, ◌≤◌, ◌⊎◌, inl, inr, ⊎_elim, Bool, true, false, ◌&&◌, ◌||◌, not, ◌==◌}
+use Rattle.std.proofs.Common.{List, [], ◌∷◌, ◌++◌, length, map, take, get_or, slice_index, slice_set, sym, refl, ap, ◌∙◌, subst}
+use Rattle.std.proofs.Common.{arith, length-set, Some}
 use mathlib.Core.Logic.{dite}
 use mathlib.Core.Option.{some, some-injective, some-ne-none}
 use native.Mathlib.Decide.{ℕ_discrete}
@@ -21,7 +23,10 @@ use Rattle.register_rule.specs.Sums.{total, row_sum, last_lent}
 use Rattle.register_rule.specs.Shown.{Shows}
 use Rattle.register_rule.specs.Loads.{IsTried, AreOrdered}
 use Rattle.register_rule.specs.Scans.{opened_at, AreLoads, IsStale, IsLook, Doomed, IsVersion, IsOneMoment, IsSound}
-use Rattle.register_rule.specs.Steps.{every, answered, gives_up, words_kept, begun, unsure, opens_next, after_open, noted, after_read, settled, remembered, confirmed_at, clean, are_clean, sum_words, answer_of_try, with_base, failed_once_more, ended, after_confirm, is_lender, lent_in, answers, ask_ends, after}
+use Rattle.register_rule.specs.Steps.{every, answered, gives_up, words_kept, begun, unsure, opens_next, after_open, noted}
+use Rattle.register_rule.specs.Steps.{after_read, settled, remembered, confirmed_at, clean, are_clean, sum_words, answer_of_try}
+use Rattle.register_rule.specs.Steps.{with_base, failed_once_more, ended, after_confirm, is_lender, lent_in, answers, ask_ends}
+use Rattle.register_rule.specs.Steps.{after}
 use Rattle.register_rule.proofs.Words.{at_below, there, from_map, last_is, each_of, each_push}
 use Rattle.register_rule.proofs.Moments.{tab_at}
 use Rattle.register_rule.proofs.Finds.{Finds}
@@ -35,64 +40,86 @@ every_at p (y ∷ ys) e zero x at = ap p (sym (some-injective y x at)) ∙ (and_
 every_at p (y ∷ ys) e (suc q) x at = every_at p ys (and_parts (p y) (every p ys) e).1 q x at
 
 -- the numbers of a try, place by place
-as_tab : (i : ℕ) (ls : List Look) (f : ℕ → ℕ) → ((q : ℕ) (l : Look) → get_elem? ls q ≡ some l → l.number ≡ f (i + q)) → map opened_at ls ≡ tab i (length ls) f
+as_tab : (i : ℕ) (ls : List Look) (f : ℕ → ℕ) → ((q : ℕ) (l : Look) → get_elem? ls q ≡ some l → l.number ≡ f (i + q))
+    → map opened_at ls ≡ tab i (length ls) f
 as_tab i [] f h = refl
 as_tab i (l ∷ ls) f h = let e : i + 0 ≡ i = omega arith in let a : l.number ≡ f i = h 0 l refl ∙ ap f e in
-    let rest = as_tab (suc i) ls f (λ q x at. let e' : i + suc q ≡ suc i + q = omega arith in h (suc q) x at ∙ ap f e') in λ k. a k ∷ rest k
+    let rest = as_tab (suc i) ls f (λ q x at. let e' : i + suc q ≡ suc i + q = omega arith in h (suc q) x at ∙ ap f e') in
+    λ k. a k ∷ rest k
 
-map_same : (f : Look → Look) → ((l : Look) → (f l).number ≡ l.number) → (ls : List Look) → map opened_at (map f ls) ≡ map opened_at ls
+map_same : (f : Look → Look) → ((l : Look) → (f l).number ≡ l.number) → (ls : List Look)
+    → map opened_at (map f ls) ≡ map opened_at ls
 map_same f same [] = refl
 map_same f same (l ∷ ls) = λ k. same l k ∷ map_same f same ls k
 
 -- the words that are remembered are those of the version of this number, or there are none
-words_from : (P : List ℕ → Type 0) (i s : ℕ) (kept : List Version) → P [] → ((v : Version) → get_elem? kept i ≡ some v → v.number ≡ s → P v.row) → P (words_kept i s kept)
+words_from : (P : List ℕ → Type 0) (i s : ℕ) (kept : List Version) → P []
+    → ((v : Version) → get_elem? kept i ≡ some v → v.number ≡ s → P v.row) → P (words_kept i s kept)
 words_from P i s [] none each = none
-words_from P zero s (v ∷ vs) none each = cond_both (v.number == s) v.row [] P (λ same. each v refl (eqb-true _ _ same)) (λ _. none)
+words_from P zero s (v ∷ vs) none each = cond_both (v.number == s) v.row [] P (λ same. each v refl (eqb-true _ _ same))
+    (λ _. none)
 words_from P (suc i) s (v ∷ vs) none each = words_from P i s vs none each
 
 length_remembered : (w i : ℕ) (ls : List Look) (kept : List Version) → length (remembered w i ls kept) ≡ length kept
 length_remembered w i [] kept = refl
-length_remembered w i (l ∷ ls) kept = cond_both (l.place == i && l.sure && length l.words == w) (slice_set kept i (record { number = l.number; row = l.words })) (remembered w i ls kept) (λ (z : List Version). length z ≡ length kept)
+length_remembered w i (l ∷ ls) kept = cond_both (l.place == i && l.sure && length l.words == w)
+    (slice_set kept i (record { number = l.number; row = l.words })) (remembered w i ls kept)
+    (λ (z : List Version). length z ≡ length kept)
     (λ _. length-set kept i _) (λ _. length_remembered w i ls kept)
 
-module _ (n w : ℕ) (adds : List Op → ℕ → ℕ) (made : ℕ → List Made) (h : List ℕ) (counted : (i : ℕ) → i < n → count i h ≡ length (made i)) where
+module _ (n w : ℕ) (adds : List Op → ℕ → ℕ) (made : ℕ → List Made) (h : List ℕ)
+    (counted : (i : ℕ) → i < n → count i h ≡ length (made i)) where
   -- one more load, of the place i
-  loads_more : (xs : List (ℕ × ℕ)) (i x : ℕ) → i < n → x ≡ length (made i) → AreLoads n w adds made xs → AreLoads n w adds made (xs ++ (i, x) ∷ [])
-  loads_more xs i x inside is ok = each_push (λ (z : ℕ × ℕ). (z.0 < n) × (z.1 ≤ length (made z.0))) xs (i, x) ok (inside, omega (arith, is))
+  loads_more : (xs : List (ℕ × ℕ)) (i x : ℕ) → i < n → x ≡ length (made i) → AreLoads n w adds made xs
+      → AreLoads n w adds made (xs ++ (i, x) ∷ [])
+  loads_more xs i x inside is ok = each_push (λ (z : ℕ × ℕ). (z.0 < n) × (z.1 ≤ length (made z.0))) xs (i, x) ok (
+    inside,
+    omega (arith, is),
+  )
 
   -- no load of this place found more
-  topmost : (xs : List (ℕ × ℕ)) (i x : ℕ) → x ≡ length (made i) → AreLoads n w adds made xs → (q : ℕ) (y : ℕ × ℕ) → get_elem? xs q ≡ some y → y.0 ≡ i → y.1 ≤ x
-  topmost xs i x is ok q y e at = let h = (ok q y e).1 in let same = ap (λ (z : ℕ). length (made z)) at in omega (arith, is, h, same)
+  topmost : (xs : List (ℕ × ℕ)) (i x : ℕ) → x ≡ length (made i) → AreLoads n w adds made xs → (q : ℕ) (y : ℕ × ℕ)
+      → get_elem? xs q ≡ some y → y.0 ≡ i → y.1 ≤ x
+  topmost xs i x is ok q y e at = let h = (ok q y e).1 in let same = ap (λ (z : ℕ). length (made z)) at in
+      omega (arith, is, h, same)
 
   -- of places of which none is confirmed, one has moved, or all stand at their numbers
-  moved_or : (ls : List Look) → ((q : ℕ) (l : Look) → get_elem? ls q ≡ some l → (l.number ≤ length (made l.place)) × (l.sure ≡ false))
+  moved_or : (ls : List Look) → ((q : ℕ) (l : Look) → get_elem? ls q ≡ some l → (l.number ≤ length (made l.place))
+      × (l.sure ≡ false))
       → Doomed n w adds made ls ⊎ ((q : ℕ) (l : Look) → get_elem? ls q ≡ some l → l.number ≡ length (made l.place))
   moved_or [] ok = inr (λ q l e. absurd (some-ne-none l (sym e)))
   moved_or (l ∷ ls) ok = dite (ℕ_discrete l.number (length (made l.place)))
       (λ same. ⊎_elim (λ (d : Doomed n w adds made ls). inl (suc d.0, d.1, d.2, d.3))
-      (λ (all : (q : ℕ) (x : Look) → get_elem? ls q ≡ some x → x.number ≡ length (made x.place)). inr (each_of (λ (x : Look). x.number ≡ length (made x.place)) l ls same all))
+      (λ (all : (q : ℕ) (x : Look) → get_elem? ls q ≡ some x → x.number ≡ length (made x.place)). inr
+      (each_of (λ (x : Look). x.number ≡ length (made x.place)) l ls same all))
       (moved_or ls (λ q x e. ok (suc q) x e)))
       (λ other. let le = (ok 0 l refl).0 in inl (0, l, refl, ((ok 0 l refl).1, omega arith)))
 
   -- the numbers of this moment
-  moment_now : (ls : List Look) → length ls ≡ n → ((q : ℕ) (l : Look) → get_elem? ls q ≡ some l → IsLook n w adds made 0 l × (l.place ≡ q))
+  moment_now : (ls : List Look) → length ls ≡ n → ((q : ℕ) (l : Look) → get_elem? ls q ≡ some l → IsLook n w adds made 0 l
+      × (l.place ≡ q))
       → ((q : ℕ) (l : Look) → get_elem? ls q ≡ some l → l.number ≡ length (made l.place)) → IsCut n h (map opened_at ls)
   moment_now ls len ok same = (
     length h,
     omega arith,
-    as_tab 0 ls (λ i. count i h) (λ q l e. let t = ok q l e in let z : q ≡ 0 + q = omega arith in same q l e ∙ (sym (counted l.place t.0.inside) ∙ ap (λ (y : ℕ). count y h) (t.1 ∙ z)))
+    as_tab 0 ls (λ i. count i h) (λ q l e. let t = ok q l e in let z : q ≡ 0 + q = omega arith in
+        same q l e ∙ (sym (counted l.place t.0.inside) ∙ ap (λ (y : ℕ). count y h) (t.1 ∙ z)))
         ∙ (ap (λ (z : ℕ). tab 0 z (λ i. count i h)) len ∙ ap (numbers_after n) (sym (take-length h))),
   )
 
   -- a look begins with the row that is remembered, or with no words
-  begun_right : (i x : ℕ) (kept : List Version) → i < n → x ≡ length (made i) → ((p : ℕ) (v : Version) → get_elem? kept p ≡ some v → IsVersion n w adds made p v) → IsLook n w adds made 0 (begun i x (words_kept i x kept))
+  begun_right : (i x : ℕ) (kept : List Version) → i < n → x ≡ length (made i)
+      → ((p : ℕ) (v : Version) → get_elem? kept p ≡ some v → IsVersion n w adds made p v)
+      → IsLook n w adds made 0 (begun i x (words_kept i x kept))
   begun_right i x kept inside is ok = record {
     inside = inside;
     old = omega (arith, is);
     risen = inl refl;
-    right = words_from (λ (ws : List ℕ). (k y : ℕ) → get_elem? ws k ≡ some y → Shows n w adds (take x (made i)) (0 + k) y ⊎ IsStale n w adds made (begun i x (words_kept i x kept))) i x kept
+    right = words_from (λ (ws : List ℕ). (k y : ℕ) → get_elem? ws k ≡ some y → Shows n w adds (take x (made i)) (0 + k) y
+        ⊎ IsStale n w adds made (begun i x (words_kept i x kept))) i x kept
         (λ k y e. absurd (some-ne-none y (sym e)))
-        (λ v at new k y e. inl (let lt = at_below v.row k y e in let wide = (ok i v at).wide in let z : k ≡ 0 + k = omega arith in record {
+        (λ v at new k y e. inl (let lt = at_below v.row k y e in let wide = (ok i v at).wide in let z : k ≡ 0 + k = omega arith in
+        record {
           row = λ _. (ok i v at).row k y e ∙ (λ c. total adds (take (new c) (made i)) (z c));
           flag = λ is. absurd (omega arith);
           vector = λ a j _ _ is. absurd (omega arith);
@@ -101,26 +128,51 @@ module _ (n w : ℕ) (adds : List Op → ℕ → ℕ) (made : ℕ → List Made)
   }
 
   -- the opening load
-  after_open_right : (c : Scan) (i x : ℕ) → i < n → x ≡ length (made i) → IsSound n w adds made h c → IsSound n w adds made h (after_open i x c)
-  after_open_right c i x inside is ok = cond_both (opens_next i c.now) (record c.now { looks = c.now.looks ++ begun i x (words_kept i x c.kept) ∷ [] }) c.now (λ (t : Progress). IsSound n w adds made h (record c { opened = c.opened ++ (i, x) ∷ []; now = t }))
-      (λ hit. let t = and_parts _ _ hit in let at : i ≡ length c.now.looks = eqb-true _ _ t.0 in let free = (and_parts _ _ t.1).1 in
+  after_open_right : (c : Scan) (i x : ℕ) → i < n → x ≡ length (made i) → IsSound n w adds made h c
+      → IsSound n w adds made h (after_open i x c)
+  after_open_right c i x inside is ok = cond_both (opens_next i c.now)
+      (record c.now { looks = c.now.looks ++ begun i x (words_kept i x c.kept) ∷ [] }) c.now
+      (λ (t : Progress). IsSound n w adds made h (record c { opened = c.opened ++ (i, x) ∷ []; now = t }))
+      (λ hit. let t = and_parts _ _ hit in let at : i ≡ length c.now.looks = eqb-true _ _ t.0 in
+      let free = (and_parts _ _ t.1).1 in
       let new = begun i x (words_kept i x c.kept) in
-      let looks' : (q : ℕ) (l : Look) → get_elem? (c.now.looks ++ new ∷ []) q ≡ some l → IsLook n w adds made 0 l × (l.place ≡ q) =
+      let looks' : (q : ℕ) (l : Look) → get_elem? (c.now.looks ++ new ∷ []) q ≡ some l → IsLook n w adds made 0 l
+      × (l.place ≡ q) =
       λ q l e. ⊎_elim (ok.looks q l)
-      (λ (z : (new ≡ l) × (q ≡ length c.now.looks)). subst (λ (y : Look). IsLook n w adds made 0 y × (y.place ≡ q)) z.0 (begun_right i x c.kept inside is ok.kept, at ∙ sym z.1))
+      (λ (z : (new ≡ l) × (q ≡ length c.now.looks)). subst (λ (y : Look). IsLook n w adds made 0 y × (y.place ≡ q)) z.0
+      (begun_right i x c.kept inside is ok.kept, at ∙ sym z.1))
       (last_is c.now.looks _ l q e) in
-      let none : (q : ℕ) (l : Look) → get_elem? (c.now.looks ++ new ∷ []) q ≡ some l → (l.number ≤ length (made l.place)) × (l.sure ≡ false) =
-      λ q l e. ((looks' q l e).0.old, each_push (λ (y : Look). y.sure ≡ false) c.now.looks new (λ q y z. not-true y.sure (every_at unsure c.now.looks free q y z)) refl q l e) in
-      with_now n w adds made h c (c.opened ++ (i, x) ∷ []) c.asked c.quit (record c.now { looks = c.now.looks ++ new ∷ [] }) (loads_more c.opened i x inside is ok.opened)
-      (begin_ordered c.opened c.confirmed c.before c.now.looks i x (topmost c.opened i x is ok.opened) (topmost c.confirmed i x is ok.confirmed) ok.ordered new refl refl refl refl) ok.asked looks' ok.asks
-      (λ len. ⊎_elim (λ (d : Doomed n w adds made (c.now.looks ++ new ∷ [])). inl d) (λ all. inr (moment_now _ len looks' all)) (moved_or (c.now.looks ++ new ∷ []) none)) ok)
-      (λ _. with_now n w adds made h c (c.opened ++ (i, x) ∷ []) c.asked c.quit c.now (loads_more c.opened i x inside is ok.opened)
-      (open_ordered c.opened c.confirmed c.before c.now.looks i x (topmost c.opened i x is ok.opened) (topmost c.confirmed i x is ok.confirmed) ok.ordered) ok.asked ok.looks ok.asks ok.whole ok)
+      let none : (q : ℕ) (l : Look) → get_elem? (c.now.looks ++ new ∷ []) q ≡ some l → (l.number ≤ length (made l.place))
+      × (l.sure ≡ false) =
+      λ q l e. (
+        (looks' q l e).0.old,
+        each_push (λ (y : Look). y.sure ≡ false) c.now.looks new
+            (λ q y z. not-true y.sure (every_at unsure c.now.looks free q y z)) refl q l e,
+      ) in
+      with_now n w adds made h c (c.opened ++ (i, x) ∷ []) c.asked c.quit (record c.now { looks = c.now.looks ++ new ∷ [] })
+      (loads_more c.opened i x inside is ok.opened)
+      (begin_ordered c.opened c.confirmed c.before c.now.looks i x (topmost c.opened i x is ok.opened)
+      (topmost c.confirmed i x is ok.confirmed) ok.ordered new refl refl refl refl) ok.asked looks' ok.asks
+      (λ len. ⊎_elim (λ (d : Doomed n w adds made (c.now.looks ++ new ∷ [])). inl d) (λ all. inr (moment_now _ len looks' all))
+      (moved_or (c.now.looks ++ new ∷ []) none)) ok)
+      (λ _. with_now n w adds made h c (c.opened ++ (i, x) ∷ []) c.asked c.quit c.now
+      (loads_more c.opened i x inside is ok.opened)
+      (open_ordered c.opened c.confirmed c.before c.now.looks i x (topmost c.opened i x is ok.opened)
+      (topmost c.confirmed i x is ok.confirmed) ok.ordered) ok.asked ok.looks ok.asks ok.whole ok)
 
   -- a load that changes looks one by one, and no place or number
-  scan_maps : (c : Scan) (f g : Look → Look) (found : List (ℕ × ℕ)) (marks : List ℕ) → AreLoads n w adds made found → AreOrdered c.opened found marks (map f c.now.looks) → ((l : Look) → (f l).number ≡ l.number) → ((l : Look) → (f l).place ≡ l.place) → ((l : Look) → IsLook n w adds made 0 l → IsLook n w adds made 0 (f l))
-      → ((l : Look) → IsLook n w adds made w l → IsLook n w adds made w (g l)) → ((l : Look) → IsStale n w adds made l → (f l).sure ≡ false)
-      → IsSound n w adds made h c → IsSound n w adds made h (record c { confirmed = found; before = marks; now = record c.now { looks = map f c.now.looks; asks = map g c.now.asks } })
+  scan_maps : (c : Scan) (f g : Look → Look) (found : List (ℕ × ℕ)) (marks : List ℕ) → AreLoads n w adds made found
+      → AreOrdered c.opened found marks (map f c.now.looks) → ((l : Look) → (f l).number ≡ l.number)
+      → ((l : Look) → (f l).place ≡ l.place) → ((l : Look) → IsLook n w adds made 0 l → IsLook n w adds made 0 (f l))
+      → ((l : Look) → IsLook n w adds made w l → IsLook n w adds made w (g l))
+      → ((l : Look) → IsStale n w adds made l → (f l).sure ≡ false)
+      → IsSound n w adds made h c
+      → IsSound n w adds made h
+      (record c {
+        confirmed = found;
+        before = marks;
+        now = record c.now { looks = map f c.now.looks; asks = map g c.now.asks };
+      })
   scan_maps c f g found marks confirmed' ordered' number place look look' sure ok = record {
     opened = ok.opened;
     confirmed = confirmed';
@@ -131,32 +183,49 @@ module _ (n w : ℕ) (adds : List Op → ℕ → ℕ) (made : ℕ → List Made)
     seen_wide = ok.seen_wide;
     kept = ok.kept;
     kept_wide = ok.kept_wide;
-    looks = (λ q l e. let t = from_map f c.now.looks q l e in subst (λ (z : Look). IsLook n w adds made 0 z × (z.place ≡ q)) t.2 (look t.0 (ok.looks q t.0 t.1).0, place t.0 ∙ (ok.looks q t.0 t.1).1));
+    looks = (λ q l e. let t = from_map f c.now.looks q l e in
+        subst (λ (z : Look). IsLook n w adds made 0 z × (z.place ≡ q)) t.2 (
+          look t.0 (ok.looks q t.0 t.1).0,
+          place t.0 ∙ (ok.looks q t.0 t.1).1,
+        ));
     asks = (λ q l e. let t = from_map g c.now.asks q l e in subst (IsLook n w adds made w) t.2 (look' t.0 (ok.asks q t.0 t.1)));
     whole = (λ len. ⊎_elim
-        (λ (d : Doomed n w adds made c.now.looks). inl (d.0, f d.1, at_map f c.now.looks d.0 d.1 d.2, (sure d.1 d.3, subst (λ (z : ℕ × ℕ). z.0 < length (made z.1)) (λ k. (sym (number d.1) k, sym (place d.1) k)) d.3.1)))
+        (λ (d : Doomed n w adds made c.now.looks). inl (
+          d.0,
+          f d.1,
+          at_map f c.now.looks d.0 d.1 d.2,
+          (sure d.1 d.3, subst (λ (z : ℕ × ℕ). z.0 < length (made z.1)) (λ k. (sym (number d.1) k, sym (place d.1) k)) d.3.1),
+        ))
         (λ (p : IsCut n h (map opened_at c.now.looks)). inr (subst (IsCut n h) (sym (map_same f number c.now.looks)) p))
         (ok.whole (sym (length-map c.now.looks f) ∙ len)));
   }
 
   -- the load of a word, which is right as long as the number of the segment is s
-  after_read_right : (c : Scan) (i s k x : ℕ) → (s ≡ length (made i) → Shows n w adds (made i) k x) → IsSound n w adds made h c → IsSound n w adds made h (after_read w i s k x c)
+  after_read_right : (c : Scan) (i s k x : ℕ) → (s ≡ length (made i) → Shows n w adds (made i) k x) → IsSound n w adds made h c
+      → IsSound n w adds made h (after_read w i s k x c)
   after_read_right c i s k x right ok = scan_maps c (noted 0 i s k x) (noted w i s k x) c.confirmed c.before ok.confirmed
-      (map_ordered c.opened c.confirmed c.before c.now.looks (noted 0 i s k x) (λ l t. cond_both (test 0 l) (record l { words = l.words ++ x ∷ [] }) l (IsTried c.opened c.confirmed c.before) (λ _. t) (λ _. t)) ok.ordered)
+      (map_ordered c.opened c.confirmed c.before c.now.looks (noted 0 i s k x)
+      (λ l t. cond_both (test 0 l) (record l { words = l.words ++ x ∷ [] }) l (IsTried c.opened c.confirmed c.before) (λ _. t)
+      (λ _. t)) ok.ordered)
       (λ l. cond_both (test 0 l) _ _ (λ (y : Look). y.number ≡ l.number) (λ _. refl) (λ _. refl))
       (λ l. cond_both (test 0 l) _ _ (λ (y : Look). y.place ≡ l.place) (λ _. refl) (λ _. refl))
-      (λ l ok'. cond_both (test 0 l) (record l { words = l.words ++ x ∷ [] }) l (IsLook n w adds made 0) (λ hit. notes 0 l ok' hit) (λ _. ok'))
-      (λ l ok'. cond_both (test w l) (record l { words = l.words ++ x ∷ [] }) l (IsLook n w adds made w) (λ hit. notes w l ok' hit) (λ _. ok'))
+      (λ l ok'. cond_both (test 0 l) (record l { words = l.words ++ x ∷ [] }) l (IsLook n w adds made 0)
+      (λ hit. notes 0 l ok' hit) (λ _. ok'))
+      (λ l ok'. cond_both (test w l) (record l { words = l.words ++ x ∷ [] }) l (IsLook n w adds made w)
+      (λ hit. notes w l ok' hit) (λ _. ok'))
       (λ l moved. cond_both (test 0 l) _ _ (λ (y : Look). y.sure ≡ false) (λ _. moved.0) (λ _. moved.0))
       ok
     where
       test : ℕ → Look → Bool
       test from l = l.place == i && l.number == s && not l.sure && k == from + length l.words
 
-      notes : (from : ℕ) (l : Look) → IsLook n w adds made from l → (l.place == i && l.number == s && not l.sure && k == from + length l.words) ≡ true → IsLook n w adds made from (record l { words = l.words ++ x ∷ [] })
+      notes : (from : ℕ) (l : Look) → IsLook n w adds made from l
+          → (l.place == i && l.number == s && not l.sure && k == from + length l.words) ≡ true
+          → IsLook n w adds made from (record l { words = l.words ++ x ∷ [] })
       notes from l ok' hit =
           let t3 = and_parts _ _ hit in let t2 = and_parts _ _ t3.0 in let t1 = and_parts _ _ t2.0 in
-          let here : l.place ≡ i = eqb-true _ _ t1.0 in let this : l.number ≡ s = eqb-true _ _ t1.1 in let off : l.sure ≡ false = not-true _ t2.1 in let at : k ≡ from + length l.words = eqb-true _ _ t3.1 in record {
+          let here : l.place ≡ i = eqb-true _ _ t1.0 in let this : l.number ≡ s = eqb-true _ _ t1.1 in
+          let off : l.sure ≡ false = not-true _ t2.1 in let at : k ≡ from + length l.words = eqb-true _ _ t3.1 in record {
             inside = ok'.inside;
             old = ok'.old;
             risen = ok'.risen;
@@ -164,38 +233,49 @@ module _ (n w : ℕ) (adds : List Op → ℕ → ℕ) (made : ℕ → List Made)
                 (λ (t : (x ≡ y) × (q ≡ length l.words)). dite (ℕ_discrete l.number (length (made l.place)))
                 (λ is. let kq : k ≡ from + q = at ∙ ap (λ (z : ℕ). from + z) (sym t.1) in
                 let fresh : s ≡ length (made i) = sym this ∙ (is ∙ ap (λ (z : ℕ). length (made z)) here) in
-                let all : made i ≡ take l.number (made l.place) = ap made (sym here) ∙ sym (take_all l.number (made l.place) (omega (arith, is))) in
+                let all : made i ≡ take l.number (made l.place) = ap made (sym here)
+                ∙ sym (take_all l.number (made l.place) (omega (arith, is))) in
                 inl (subst (λ (z : List Made × ℕ × ℕ). Shows n w adds z.0 z.1 z.2) (λ c. (all c, kq c, t.0 c)) (right fresh)))
                 (λ other. let le = ok'.old in inr (off, omega arith)))
                 (last_is l.words x y q e);
           }
 
   -- the row of a place that is sure is that of the version of its number
-  remembers : (i : ℕ) (ls : List Look) (kept : List Version) → ((q : ℕ) (l : Look) → get_elem? ls q ≡ some l → IsLook n w adds made 0 l) → ((p : ℕ) (v : Version) → get_elem? kept p ≡ some v → IsVersion n w adds made p v)
+  remembers : (i : ℕ) (ls : List Look) (kept : List Version)
+      → ((q : ℕ) (l : Look) → get_elem? ls q ≡ some l → IsLook n w adds made 0 l)
+      → ((p : ℕ) (v : Version) → get_elem? kept p ≡ some v → IsVersion n w adds made p v)
       → (p : ℕ) (v : Version) → get_elem? (remembered w i ls kept) p ≡ some v → IsVersion n w adds made p v
   remembers i [] kept each ok = ok
-  remembers i (l ∷ ls) kept each ok = cond_both (l.place == i && l.sure && length l.words == w) (slice_set kept i (record { number = l.number; row = l.words })) (remembered w i ls kept) (λ (z : List Version). (p : ℕ) (v : Version) → get_elem? z p ≡ some v → IsVersion n w adds made p v)
+  remembers i (l ∷ ls) kept each ok = cond_both (l.place == i && l.sure && length l.words == w)
+      (slice_set kept i (record { number = l.number; row = l.words })) (remembered w i ls kept)
+      (λ (z : List Version). (p : ℕ) (v : Version) → get_elem? z p ≡ some v → IsVersion n w adds made p v)
       (λ hit p v e. ⊎_elim
       (λ t. subst (λ (z : ℕ × Version). IsVersion n w adds made z.0 z.1) (λ k. (sym t.0 k, t.1 k)) (new hit))
       (λ t. ok p v t.1)
       (at_set kept i p (record { number = l.number; row = l.words }) v e))
       (λ _. remembers i ls kept (λ q x e. each (suc q) x e) ok)
     where
-      new : (l.place == i && l.sure && length l.words == w) ≡ true → IsVersion n w adds made i (record { number = l.number; row = l.words })
+      new : (l.place == i && l.sure && length l.words == w) ≡ true
+          → IsVersion n w adds made i (record { number = l.number; row = l.words })
       new hit = let t2 = and_parts _ _ hit in let t1 = and_parts _ _ t2.0 in
-          let here : l.place ≡ i = eqb-true _ _ t1.0 in let on : l.sure ≡ true = t1.1 in let wide' : length l.words ≡ w = eqb-true _ _ t2.1 in let right = each 0 l refl in record {
+          let here : l.place ≡ i = eqb-true _ _ t1.0 in let on : l.sure ≡ true = t1.1 in
+          let wide' : length l.words ≡ w = eqb-true _ _ t2.1 in let right = each 0 l refl in record {
             old = let o = right.old in subst (λ (z : ℕ). l.number ≤ length (made z)) here o;
             wide = wide';
             row = λ k x e. let lt = at_below l.words k x e in let z : 0 + k ≡ k = omega arith in ⊎_elim
-                (λ (t : Shows n w adds (take l.number (made l.place)) (0 + k) x). t.row (omega arith) ∙ (λ c. total adds (take l.number (made (here c))) (z c)))
+                (λ (t : Shows n w adds (take l.number (made l.place)) (0 + k) x). t.row (omega arith)
+                ∙ (λ c. total adds (take l.number (made (here c))) (z c)))
                 (λ (t : IsStale n w adds made l). absurd (true≢false (sym on ∙ t.0)))
                 (right.right k x e);
           }
 
   -- a confirming load, but for the end of the try
-  confirmed_right : (c : Scan) (i x : ℕ) → i < n → x ≡ length (made i) → IsSound n w adds made h c → IsSound n w adds made h (confirmed_at w i x c)
-  confirmed_right c i x inside is ok = let m = scan_maps c (settled i x) (λ l. l) (c.confirmed ++ (i, x) ∷ []) (c.before ++ length c.opened ∷ []) (loads_more c.confirmed i x inside is ok.confirmed)
-      (confirm_ordered c.opened c.confirmed c.before c.now.looks i x (topmost c.opened i x is ok.opened) (topmost c.confirmed i x is ok.confirmed) ok.ordered)
+  confirmed_right : (c : Scan) (i x : ℕ) → i < n → x ≡ length (made i) → IsSound n w adds made h c
+      → IsSound n w adds made h (confirmed_at w i x c)
+  confirmed_right c i x inside is ok = let m = scan_maps c (settled i x) (λ l. l) (c.confirmed ++ (i, x) ∷ [])
+      (c.before ++ length c.opened ∷ []) (loads_more c.confirmed i x inside is ok.confirmed)
+      (confirm_ordered c.opened c.confirmed c.before c.now.looks i x (topmost c.opened i x is ok.opened)
+      (topmost c.confirmed i x is ok.confirmed) ok.ordered)
       (λ l. cond_both (l.place == i) _ _ (λ (y : Look). y.number ≡ l.number) (λ _. refl) (λ _. refl))
       (λ l. cond_both (l.place == i) _ _ (λ (y : Look). y.place ≡ l.place) (λ _. refl) (λ _. refl))
       (λ l ok'. cond_both (l.place == i) (record l { sure = l.sure || l.number == x; found = x }) l (IsLook n w adds made 0)
@@ -207,7 +287,8 @@ module _ (n w : ℕ) (adds : List Op → ℕ → ℕ) (made : ℕ → List Made)
       })
       (λ _. ok'))
       (λ l ok'. ok')
-      (λ l moved. cond_both (l.place == i) (record l { sure = l.sure || l.number == x; found = x }) l (λ (y : Look). y.sure ≡ false) (λ same. off l same moved) (λ _. moved.0))
+      (λ l moved. cond_both (l.place == i) (record l { sure = l.sure || l.number == x; found = x }) l
+      (λ (y : Look). y.sure ≡ false) (λ same. off l same moved) (λ _. moved.0))
       ok in record {
         opened = m.opened;
         confirmed = m.confirmed;
@@ -228,67 +309,95 @@ module _ (n w : ℕ) (adds : List Op → ℕ → ℕ) (made : ℕ → List Made)
 
       -- a number that has moved is not found again
       off : (l : Look) → (l.place == i) ≡ true → IsStale n w adds made l → (l.sure || l.number == x) ≡ false
-      off l same moved = or_from l.sure (l.number == x) moved.0 (ne_eqb l.number x (λ e. let end = still l same in let lt = moved.1 in omega (arith, e, end)))
+      off l same moved = or_from l.sure (l.number == x) moved.0
+          (ne_eqb l.number x (λ e. let end = still l same in let lt = moved.1 in omega (arith, e, end)))
 
   -- the sums of a clean try
-  sums_right : (k i : ℕ) (ls : List Look) → ((q : ℕ) (l : Look) → get_elem? ls q ≡ some l → (l.place ≡ i + q) × (slice_index l.words k ≡ total adds (take l.number (made l.place)) k))
+  sums_right : (k i : ℕ) (ls : List Look)
+      → ((q : ℕ) (l : Look) → get_elem? ls q ≡ some l → (l.place ≡ i + q)
+      × (slice_index l.words k ≡ total adds (take l.number (made l.place)) k))
       → sum_words k ls ≡ row_sum adds made i (map opened_at ls) k
   sums_right k i [] ok = refl
   sums_right k i (l ∷ ls) ok =
       let e : i + 0 ≡ i = omega arith in
       let t = ok 0 l refl in
-      let here : slice_index l.words k ≡ total adds (take l.number (made i)) k = t.1 ∙ ap (λ (z : ℕ). total adds (take l.number (made z)) k) (t.0 ∙ e) in
-      let rest = sums_right k (suc i) ls (λ q x at. let e' : i + suc q ≡ suc i + q = omega arith in ((ok (suc q) x at).0 ∙ e', (ok (suc q) x at).1)) in
+      let here : slice_index l.words k ≡ total adds (take l.number (made i)) k = t.1
+      ∙ ap (λ (z : ℕ). total adds (take l.number (made z)) k) (t.0 ∙ e) in
+      let rest = sums_right k (suc i) ls (λ q x at. let e' : i + suc q ≡ suc i + q = omega arith in
+      ((ok (suc q) x at).0 ∙ e', (ok (suc q) x at).1)) in
       λ c. here c + rest c
 
   -- the numbers of a try are at most those of the segments
-  low_of : (i : ℕ) (ls : List Look) → ((q : ℕ) (l : Look) → get_elem? ls q ≡ some l → (l.number ≤ length (made l.place)) × (l.place ≡ i + q)) → (q s : ℕ) → get_elem? (map opened_at ls) q ≡ some s → s ≤ length (made (i + q))
+  low_of : (i : ℕ) (ls : List Look) → ((q : ℕ) (l : Look) → get_elem? ls q ≡ some l → (l.number ≤ length (made l.place))
+      × (l.place ≡ i + q)) → (q s : ℕ) → get_elem? (map opened_at ls) q ≡ some s → s ≤ length (made (i + q))
   low_of i [] ok q s e = absurd (some-ne-none s (sym e))
-  low_of i (l ∷ ls) ok zero s e = let t = ok 0 l refl in subst (λ (z : ℕ × ℕ). z.0 ≤ length (made z.1)) (λ c. (some-injective l.number s e c, t.1 c)) t.0
+  low_of i (l ∷ ls) ok zero s e = let t = ok 0 l refl in
+      subst (λ (z : ℕ × ℕ). z.0 ≤ length (made z.1)) (λ c. (some-injective l.number s e c, t.1 c)) t.0
   low_of i (l ∷ ls) ok (suc q) s e = let e' : suc i + q ≡ i + suc q = omega arith in subst (λ (z : ℕ). s ≤ length (made z)) e'
-      (low_of (suc i) ls (λ p x at. let e'' : i + suc p ≡ suc i + p = omega arith in ((ok (suc p) x at).0, (ok (suc p) x at).1 ∙ e'')) q s e)
+      (low_of (suc i) ls (λ p x at. let e'' : i + suc p ≡ suc i + p = omega arith in
+      ((ok (suc p) x at).0, (ok (suc p) x at).1 ∙ e'')) q s e)
 
   -- the answer of a clean try
-  clean_right : (c : Scan) → IsSound n w adds made h c → are_clean n w c.now.looks ≡ true → IsOneMoment n w adds made h (answer_of_try w c.now.looks) × (length (map opened_at c.now.looks) ≡ n)
+  clean_right : (c : Scan) → IsSound n w adds made h c → are_clean n w c.now.looks ≡ true
+      → IsOneMoment n w adds made h (answer_of_try w c.now.looks) × (length (map opened_at c.now.looks) ≡ n)
   clean_right c ok hit =
       let t = and_parts _ _ hit in let len : length c.now.looks ≡ n = eqb-true _ _ t.0 in
-      let each : (q : ℕ) (l : Look) → get_elem? c.now.looks q ≡ some l → (l.sure ≡ true) × (length l.words ≡ w) = λ q l e. let p = and_parts _ _ (every_at (clean w) c.now.looks t.1 q l e) in (p.0, eqb-true _ _ p.1) in (
+      let each : (q : ℕ) (l : Look) → get_elem? c.now.looks q ≡ some l → (l.sure ≡ true) × (length l.words ≡ w) = λ q l e. let p =
+      and_parts _ _ (every_at (clean w) c.now.looks t.1 q l e) in (p.0, eqb-true _ _ p.1) in (
         record {
-          low = λ i s e. let z : 0 + i ≡ i = omega arith in subst (λ (y : ℕ). s ≤ length (made y)) z (low_of 0 c.now.looks (λ q l at. let z' : q ≡ 0 + q = omega arith in ((ok.looks q l at).0.old, (ok.looks q l at).1 ∙ z')) i s e);
-          moment = ⊎_elim (λ (d : Doomed n w adds made c.now.looks). absurd (true≢false (sym (each d.0 d.1 d.2).0 ∙ d.3.0))) (λ p. p) (ok.whole len);
-          sums = λ k lt. tab_at 0 w _ k lt ∙ ap some (let z : 0 + k ≡ k = omega arith in ap (λ (y : ℕ). sum_words y c.now.looks) z ∙ sums_right k 0 c.now.looks (λ q l at. let z' : q ≡ 0 + q = omega arith in (
-            (ok.looks q l at).1 ∙ z',
-            let long = (each q l at).1 in ⊎_elim (λ (r : Shows n w adds (take l.number (made l.place)) (0 + k) (get_or l.words k 0)). let z'' : 0 + k ≡ k = omega arith in r.row (omega arith) ∙ ap (total adds (take l.number (made l.place))) z'')
-                (λ (r : IsStale n w adds made l). absurd (true≢false (sym (each q l at).0 ∙ r.0)))
-                ((ok.looks q l at).0.right k (get_or l.words k 0) (there l.words k 0 (omega (arith, long)))),
-          )));
+          low = λ i s e. let z : 0 + i ≡ i = omega arith in
+              subst (λ (y : ℕ). s ≤ length (made y)) z (low_of 0 c.now.looks (λ q l at. let z' : q ≡ 0 + q = omega arith in
+              ((ok.looks q l at).0.old, (ok.looks q l at).1 ∙ z')) i s e);
+          moment = ⊎_elim (λ (d : Doomed n w adds made c.now.looks). absurd (true≢false (sym (each d.0 d.1 d.2).0 ∙ d.3.0)))
+              (λ p. p) (ok.whole len);
+          sums = λ k lt. tab_at 0 w _ k lt ∙ ap some (let z : 0 + k ≡ k = omega arith in ap (λ (y : ℕ). sum_words y c.now.looks) z
+              ∙ sums_right k 0 c.now.looks (λ q l at. let z' : q ≡ 0 + q = omega arith in (
+                (ok.looks q l at).1 ∙ z',
+                let long = (each q l at).1 in
+                    ⊎_elim (λ (r : Shows n w adds (take l.number (made l.place)) (0 + k) (get_or l.words k 0)). let z'' : 0 + k
+                    ≡ k =
+                    omega arith in r.row (omega arith) ∙ ap (total adds (take l.number (made l.place))) z'')
+                    (λ (r : IsStale n w adds made l). absurd (true≢false (sym (each q l at).0 ∙ r.0)))
+                    ((ok.looks q l at).0.right k (get_or l.words k 0) (there l.words k 0 (omega (arith, long)))),
+              )));
         },
         length-map c.now.looks opened_at ∙ len,
       )
 
   -- the end of a try
   ended_right : (c : Scan) → 0 < n → IsSound n w adds made h c → IsSound n w adds made h (ended n w c)
-  ended_right c some_n ok = cond_both (are_clean n w c.now.looks) (answered (answer_of_try w c.now.looks) c) (gives_up n (record c { now = failed_once_more (with_base c.now) })) (IsSound n w adds made h)
+  ended_right c some_n ok = cond_both (are_clean n w c.now.looks) (answered (answer_of_try w c.now.looks) c)
+      (gives_up n (record c { now = failed_once_more (with_base c.now) })) (IsSound n w adds made h)
       (λ hit. let t = clean_right c ok hit in scan_answered n w adds made h c (answer_of_try w c.now.looks) some_n t.1 t.0 ok)
       (λ _. scan_gives n w adds made h (record c { now = failed_once_more (with_base c.now) }) some_n
-      (with_now n w adds made h c c.opened c.asked c.quit (failed_once_more (with_base c.now)) ok.opened (rest_ordered c.opened c.confirmed c.before c.now.looks ok.ordered) ok.asked (λ q l e. absurd (some-ne-none l (sym e)))
-      (cond_both (c.now.failed == 0) (record c.now { floor = _; base = _ }) c.now (λ (t : Progress). (q : ℕ) (l : Look) → get_elem? t.asks q ≡ some l → IsLook n w adds made w l) (λ _. ok.asks) (λ _. ok.asks))
+      (with_now n w adds made h c c.opened c.asked c.quit (failed_once_more (with_base c.now)) ok.opened
+      (rest_ordered c.opened c.confirmed c.before c.now.looks ok.ordered) ok.asked (λ q l e. absurd (some-ne-none l (sym e)))
+      (cond_both (c.now.failed == 0) (record c.now { floor = _; base = _ }) c.now (λ (t : Progress). (q : ℕ) (l : Look)
+      → get_elem? t.asks q ≡ some l → IsLook n w adds made w l) (λ _. ok.asks) (λ _. ok.asks))
       (λ none. absurd (let z : 0 ≡ n = none in omega arith)) ok))
 
   -- the confirming load
-  after_confirm_right : (c : Scan) (i x : ℕ) → 0 < n → i < n → x ≡ length (made i) → IsSound n w adds made h c → IsSound n w adds made h (after_confirm n w i x c)
+  after_confirm_right : (c : Scan) (i x : ℕ) → 0 < n → i < n → x ≡ length (made i) → IsSound n w adds made h c
+      → IsSound n w adds made h (after_confirm n w i x c)
   after_confirm_right c i x some_n inside is ok = let new = confirmed_right c i x inside is ok in
-      cond_both (i + 1 == n) (ended n w (confirmed_at w i x c)) (confirmed_at w i x c) (IsSound n w adds made h) (λ _. ended_right (confirmed_at w i x c) some_n new) (λ _. new)
+      cond_both (i + 1 == n) (ended n w (confirmed_at w i x c)) (confirmed_at w i x c) (IsSound n w adds made h)
+      (λ _. ended_right (confirmed_at w i x c) some_n new) (λ _. new)
 
 -- a load of a scan
-pub scan_after : (n w : ℕ) (adds : List Op → ℕ → ℕ) (made : ℕ → List Made) (h : List ℕ) → ((i : ℕ) → i < n → count i h ≡ length (made i))
+pub scan_after : (n w : ℕ) (adds : List Op → ℕ → ℕ) (made : ℕ → List Made) (h : List ℕ)
+    → ((i : ℕ) → i < n → count i h ≡ length (made i))
     → ((i : ℕ) (a : Answer) → i < n → last_lent (made i) ≡ Some a → IsOneMoment n w adds made h a)
-    → (what : Load) (x : ℕ) (c : Scan) → 0 < n → Finds n w adds made what x → IsSound n w adds made h c → IsSound n w adds made h (after n w what x c)
-scan_after n w adds made h counted lent (Open place) x c some_n found ok = after_open_right n w adds made h counted c place x found.0 found.1 ok
-scan_after n w adds made h counted lent (Read place number item) x c some_n found ok = after_read_right n w adds made h counted c place number item x found ok
-scan_after n w adds made h counted lent (Confirm place) x c some_n found ok = after_confirm_right n w adds made h counted c place x some_n found.0 found.1 ok
+    → (what : Load) (x : ℕ) (c : Scan) → 0 < n → Finds n w adds made what x → IsSound n w adds made h c
+    → IsSound n w adds made h (after n w what x c)
+scan_after n w adds made h counted lent (Open place) x c some_n found ok = after_open_right n w adds made h counted c place x
+    found.0 found.1 ok
+scan_after n w adds made h counted lent (Read place number item) x c some_n found ok =
+    after_read_right n w adds made h counted c place number item x found ok
+scan_after n w adds made h counted lent (Confirm place) x c some_n found ok = after_confirm_right n w adds made h counted c place
+    x some_n found.0 found.1 ok
 scan_after n w adds made h counted lent (Ask place) x c some_n found ok = ask_right n w adds made h c place x found.0 found.1 ok
-scan_after n w adds made h counted lent (EndAsk place) x c some_n found ok = end_ask_right n w adds made h c place x some_n found.1 (λ a e. lent place a found.0 e) ok
+scan_after n w adds made h counted lent (EndAsk place) x c some_n found ok = end_ask_right n w adds made h c place x some_n
+    found.1 (λ a e. lent place a found.0 e) ok
 
 -- no answer is lost, and nothing that was seen falls
 record Stays (c d : Scan) : Type 0 where
@@ -297,7 +406,10 @@ record Stays (c d : Scan) : Type 0 where
 
 -- where both are as they were
 as_was : (c d : Scan) → d.recorded ≡ c.recorded → d.seen ≡ c.seen → Stays c d
-as_was c d r s = record { answer = λ p a e. ap (λ (z : List Answer). get_elem? z p) r ∙ e; seen = λ i x e. (x, ap (λ (z : List ℕ). get_elem? z i) s ∙ e, omega arith) }
+as_was c d r s = record {
+  answer = λ p a e. ap (λ (z : List Answer). get_elem? z p) r ∙ e;
+  seen = λ i x e. (x, ap (λ (z : List ℕ). get_elem? z i) s ∙ e, omega arith);
+}
 
 answer_stays : (c d : Scan) (a : Answer) → d.recorded ≡ c.recorded → d.seen ≡ c.seen → Stays c (answered a d)
 answer_stays c d a r s = let was = as_was c d r s in record {
@@ -306,29 +418,37 @@ answer_stays c d a r s = let was = as_was c d r s in record {
 }
 
 give_stays : (n : ℕ) (c d : Scan) → d.recorded ≡ c.recorded → d.seen ≡ c.seen → Stays c (gives_up n d)
-give_stays n c d r s = cond_both (length d.now.due == 0 && d.now.failed == n + 2) _ d (Stays c) (λ _. as_was c _ r s) (λ _. as_was c d r s)
+give_stays n c d r s = cond_both (length d.now.due == 0 && d.now.failed == n + 2) _ d (Stays c) (λ _. as_was c _ r s)
+    (λ _. as_was c d r s)
 
 ask_stays : (n w i x : ℕ) (ls : List Look) (c : Scan) → Stays c (ask_ends n w i x ls c)
 ask_stays n w i x [] c = as_was c c refl refl
 ask_stays n w i x (l ∷ ls) c = cond_both (l.place == i) (answers n w x l c) c (Stays c)
-    (λ _. cond_both (is_lender n w x c.now.floor l) (answered (lent_in n w l.words) (once_asked n x l c)) (gives_up n (nothing_lent n x l c)) (Stays c)
+    (λ _. cond_both (is_lender n w x c.now.floor l) (answered (lent_in n w l.words) (once_asked n x l c))
+    (gives_up n (nothing_lent n x l c)) (Stays c)
     (λ _. answer_stays c (once_asked n x l c) (lent_in n w l.words) refl refl)
     (λ _. give_stays n c (nothing_lent n x l c) refl refl))
     (λ _. as_was c c refl refl)
 
 end_stays : (n w i x : ℕ) (c : Scan) → Stays c (ended n w (confirmed_at w i x c))
-end_stays n w i x c = let d = confirmed_at w i x c in cond_both (are_clean n w d.now.looks) (answered (answer_of_try w d.now.looks) d) (gives_up n (record d { now = failed_once_more (with_base d.now) })) (Stays c)
-    (λ _. answer_stays c d (answer_of_try w d.now.looks) refl refl) (λ _. give_stays n c (record d { now = failed_once_more (with_base d.now) }) refl refl)
+end_stays n w i x c = let d = confirmed_at w i x c in
+    cond_both (are_clean n w d.now.looks) (answered (answer_of_try w d.now.looks) d)
+    (gives_up n (record d { now = failed_once_more (with_base d.now) })) (Stays c)
+    (λ _. answer_stays c d (answer_of_try w d.now.looks) refl refl)
+    (λ _. give_stays n c (record d { now = failed_once_more (with_base d.now) }) refl refl)
 
 stays : (n w : ℕ) (what : Load) (x : ℕ) (c : Scan) → Stays c (after n w what x c)
 stays n w (Open place) x c = as_was c _ refl refl
 stays n w (Read place number item) x c = as_was c _ refl refl
-stays n w (Confirm place) x c = cond_both (place + 1 == n) (ended n w (confirmed_at w place x c)) (confirmed_at w place x c) (Stays c) (λ _. end_stays n w place x c) (λ _. as_was c _ refl refl)
+stays n w (Confirm place) x c = cond_both (place + 1 == n) (ended n w (confirmed_at w place x c)) (confirmed_at w place x c)
+    (Stays c) (λ _. end_stays n w place x c) (λ _. as_was c _ refl refl)
 stays n w (Ask place) x c = as_was c _ refl refl
 stays n w (EndAsk place) x c = ask_stays n w place x c.now.asks c
 
-pub records_stay : (n w : ℕ) (what : Load) (x : ℕ) (c : Scan) (p : ℕ) (a : Answer) → get_elem? c.recorded p ≡ some a → get_elem? (after n w what x c).recorded p ≡ some a
+pub records_stay : (n w : ℕ) (what : Load) (x : ℕ) (c : Scan) (p : ℕ) (a : Answer) → get_elem? c.recorded p ≡ some a
+    → get_elem? (after n w what x c).recorded p ≡ some a
 records_stay n w what x c p a e = (stays n w what x c).answer p a e
 
-pub seen_stays : (n w : ℕ) (what : Load) (x : ℕ) (c : Scan) (i y : ℕ) → get_elem? c.seen i ≡ some y → (z : ℕ) × (get_elem? (after n w what x c).seen i ≡ some z) × (y ≤ z)
+pub seen_stays : (n w : ℕ) (what : Load) (x : ℕ) (c : Scan) (i y : ℕ) → get_elem? c.seen i ≡ some y → (z : ℕ)
+    × (get_elem? (after n w what x c).seen i ≡ some z) × (y ≤ z)
 seen_stays n w what x c i y e = (stays n w what x c).seen i y e

@@ -1,5 +1,6 @@
 -- The greater number at each place of two vectors.
-use Rattle.std.proofs.Common.{◌≡◌, ℕ, zero, suc, ◌≤◌, ◌⊎◌, inl, inr, ⊎_elim, max, List, [], ◌∷◌, length, sym, refl, ap, ◌∙◌, arith}
+use Rattle.std.proofs.Common.{◌≡◌, ℕ, zero, suc, ◌≤◌, ◌⊎◌, inl, inr, ⊎_elim, max, List, [], ◌∷◌, length, sym, refl, ap, ◌∙◌}
+use Rattle.std.proofs.Common.{arith}
 use mathlib.Core.Logic.{dite}
 use mathlib.Core.Option.{some, some-injective, some-ne-none}
 use native.Mathlib.Decide.{dec_le}
@@ -22,7 +23,8 @@ upper_from (x ∷ u) (y ∷ v) zero z e = ⊎_elim (λ h. inl (ap some (sym h) �
 upper_from (x ∷ u) (y ∷ v) (suc i) z e = upper_from u v i z e
 
 -- and the greater of the two
-pub upper_of : (u v : List ℕ) (i z : ℕ) → length u ≡ length v → get_elem? (upper u v) i ≡ some z → (x : ℕ) × (y : ℕ) × (get_elem? u i ≡ some x) × (get_elem? v i ≡ some y) × (max x y ≡ z)
+pub upper_of : (u v : List ℕ) (i z : ℕ) → length u ≡ length v → get_elem? (upper u v) i ≡ some z → (x : ℕ) × (y : ℕ)
+    × (get_elem? u i ≡ some x) × (get_elem? v i ≡ some y) × (max x y ≡ z)
 upper_of [] [] i z len e = absurd (some-ne-none z (sym e))
 upper_of [] (y ∷ v) i z len e = absurd (omega (arith, len))
 upper_of (x ∷ u) [] i z len e = absurd (omega (arith, len))

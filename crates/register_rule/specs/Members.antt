@@ -1,5 +1,6 @@
 -- What steps do to members and to views.
-use Rattle.std.specs.Prelude.{ℕ, zero, suc, ◌+◌, ◌==◌, max, Bool, false, cond, Option, Some, None, List, [], ◌∷◌, ◌++◌, map, length, take, replicate, slice_index, slice_set}
+use Rattle.std.specs.Prelude.{ℕ, zero, suc, ◌+◌, ◌==◌, max, Bool, false, cond, Option, Some, None, List, [], ◌∷◌, ◌++◌, map}
+use Rattle.std.specs.Prelude.{length, take, replicate, slice_index, slice_set}
 use Rattle.ledger_core.specs.declared.op.Op.{Op}
 use Rattle.register_rule.specs.declared.view.Who.{Who}
 use Rattle.register_rule.specs.declared.view.Who.TheVariants.{Worker, Reader}
@@ -16,11 +17,25 @@ group ms = record { members = ms }
 
 -- the scans of a member that has made no step: n workers, rows of w words
 abbrev pub fresh_scan : (n w : ℕ) → Scan
-fresh_scan n w = record { opened = []; confirmed = []; before = []; asked = []; recorded = []; quit = 0; seen = replicate n 0; kept = replicate n (record { number = 0; row = replicate w 0 }); now = at_rest }
+fresh_scan n w = record {
+  opened = [];
+  confirmed = [];
+  before = [];
+  asked = [];
+  recorded = [];
+  quit = 0;
+  seen = replicate n 0;
+  kept = replicate n (record { number = 0; row = replicate w 0 });
+  now = at_rest;
+}
 
 -- worker i, which has made no step: both its buffers are b zeros
 abbrev pub new_worker : (n w b i : ℕ) → Member
-new_worker n w b i = record { who = Worker i; work = record { made = []; hidden = replicate b 0; shown = replicate b 0 }; scan = fresh_scan n w }
+new_worker n w b i = record {
+  who = Worker i;
+  work = record { made = []; hidden = replicate b 0; shown = replicate b 0 };
+  scan = fresh_scan n w;
+}
 
 -- reader i, which has made no step: it has no buffers
 abbrev pub new_reader : (n w i : ℕ) → Member

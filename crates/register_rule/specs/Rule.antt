@@ -58,7 +58,8 @@ module _ (n w b : ℕ) (adds : List Op → ℕ → ℕ) (made : ℕ → List Mad
     pub scan : IsSound n w adds made history m.scan
 
 -- `accepts` tells which lists a row of these words accepts
-pub record Rule (n w b : ℕ) (adds : List Op → ℕ → ℕ) (accepts : (ℕ → ℕ) → List Op → Type 0) (s : State (Unit {0}) SeatView) : Type 0 where
+pub record Rule (n w b : ℕ) (adds : List Op → ℕ → ℕ) (accepts : (ℕ → ℕ) → List Op → Type 0) (s : State (Unit {0}) SeatView) : Type
+    0 where
   -- what each worker has published, the seat of each member, and the workers that published, in order
   pub made : ℕ → List Made
   pub owner : Who → ℕ

@@ -62,7 +62,8 @@ module _ (n w : ℕ) (adds : List Op → ℕ → ℕ) (made : ℕ → List Made)
     pub risen : e.number ≤ e.again
     pub old : e.again ≤ length (made e.worker)
     -- where the number was found again, the words are those of its version, from the flag on
-    pub shown : e.number ≡ e.again → (k x : ℕ) → get_elem? e.words k ≡ some x → Shows n w adds (take e.number (made e.worker)) (w + k) x
+    pub shown : e.number ≡ e.again → (k x : ℕ) → get_elem? e.words k ≡ some x → Shows n w adds (take e.number (made e.worker))
+        (w + k) x
 
   -- all that a member has loaded, remembers, asked and recorded is right
   pub record IsSound (history : List ℕ) (c : Scan) : Type 0 where

@@ -1,6 +1,7 @@
 -- What each load of a scan does to what its member knows. n workers, rows of w words. Each is a function of every
 -- scan, with its tests inside, so that a load out of its turn does no harm to the rule.
-use Rattle.std.specs.Prelude.{ℕ, zero, suc, ◌+◌, ◌==◌, ◌&&◌, ◌||◌, not, max, nat_le, Bool, true, false, cond, List, [], ◌∷◌, ◌++◌, map, length, take, drop, slice_index, slice_set}
+use Rattle.std.specs.Prelude.{ℕ, zero, suc, ◌+◌, ◌==◌, ◌&&◌, ◌||◌, not, max, nat_le, Bool, true, false, cond, List, [], ◌∷◌, ◌++◌}
+use Rattle.std.specs.Prelude.{map, length, take, drop, slice_index, slice_set}
 use Rattle.ledger_core.specs.Vectors.{is_above}
 use Rattle.register_rule.specs.declared.view.Look.{Look}
 use Rattle.register_rule.specs.declared.view.Version.{Version}
@@ -69,11 +70,13 @@ after_open i s c = record c {
 
 -- the look with this word, if it is the next one of its version
 abbrev pub noted : (from i s k x : ℕ) → Look → Look
-noted from i s k x l = cond (l.place == i && l.number == s && not l.sure && k == from + length l.words) (record l { words = l.words ++ x ∷ [] }) l
+noted from i s k x l = cond (l.place == i && l.number == s && not l.sure && k == from + length l.words)
+    (record l { words = l.words ++ x ∷ [] }) l
 
 -- a scan after the load of a word, which a try or an asked worker may take
 abbrev pub after_read : (w i s k x : ℕ) → Scan → Scan
-after_read w i s k x c = record c { now = record c.now { looks = map (noted 0 i s k x) c.now.looks; asks = map (noted w i s k x) c.now.asks } }
+after_read w i s k x c =
+    record c { now = record c.now { looks = map (noted 0 i s k x) c.now.looks; asks = map (noted w i s k x) c.now.asks } }
 
 -- **The confirming load** of the place i found the number s. A place whose number is found again is sure, and its row
 -- is remembered. That of the last place ends the try.
@@ -85,7 +88,8 @@ settled i s l = cond (l.place == i) (record l { sure = l.sure || l.number == s; 
 -- the remembered rows, in which a sure row of the place i, if it was read whole, takes the old one's place
 abbrev pub remembered : (w i : ℕ) → List Look → List Version → List Version
 remembered w i [] kept = kept
-remembered w i (l ∷ ls) kept = cond (l.place == i && l.sure && length l.words == w) (slice_set kept i (record { number = l.number; row = l.words })) (remembered w i ls kept)
+remembered w i (l ∷ ls) kept = cond (l.place == i && l.sure && length l.words == w)
+    (slice_set kept i (record { number = l.number; row = l.words })) (remembered w i ls kept)
 
 -- a scan after the confirming load of the place i, before that ends a try
 abbrev pub confirmed_at : (w i s : ℕ) → Scan → Scan
@@ -133,7 +137,8 @@ failed_once_more t = record t { failed = t.failed + 1; looks = []; due = due_of 
 
 -- the end of a try: a clean one gives the answer, and any other one has failed
 abbrev pub ended : (n w : ℕ) → Scan → Scan
-ended n w c = cond (are_clean n w c.now.looks) (answered (answer_of_try w c.now.looks) c) (gives_up n (record c { now = failed_once_more (with_base c.now) }))
+ended n w c = cond (are_clean n w c.now.looks) (answered (answer_of_try w c.now.looks) c)
+    (gives_up n (record c { now = failed_once_more (with_base c.now) }))
 
 -- a scan after the confirming load of the place i, of n
 abbrev pub after_confirm : (n w i s : ℕ) → Scan → Scan
@@ -160,7 +165,8 @@ lent_in n w words = record { vector = take n (drop 1 words); totals = take w (dr
 
 -- the worker that was asked lends
 abbrev pub is_lender : (n w s : ℕ) → (floor : List ℕ) → Look → Bool
-is_lender n w s floor l = l.number == s && length l.words == 1 + n + w && slice_index l.words 0 == 1 && is_above floor (take n (drop 1 l.words))
+is_lender n w s floor l = l.number == s && length l.words == 1 + n + w && slice_index l.words 0 == 1 && is_above floor
+    (take n (drop 1 l.words))
 
 -- the worker that was asked, as it is recorded
 abbrev pub asked_of : (s : ℕ) → Look → Asked

@@ -63,7 +63,8 @@ pub record AreRuled (n w : ℕ) (adds : List Op → ℕ → ℕ) (accepts : (ℕ
   pub history : List ℕ
   pub counted : (i : ℕ) → i < n → count i history ≡ length (made i)
   pub legal : (i : ℕ) → i < n → Legal adds accepts [] (made i)
-  pub own : (p i : ℕ) (m : Member) → get_elem? ms p ≡ some m → m.who ≡ Worker i → (i < n) × (m.work.made ≡ made i) × (get_elem? m.scan.seen i ≡ some (length (made i)))
+  pub own : (p i : ℕ) (m : Member) → get_elem? ms p ≡ some m → m.who ≡ Worker i → (i < n) × (m.work.made ≡ made i)
+      × (get_elem? m.scan.seen i ≡ some (length (made i)))
   pub scans : (p : ℕ) (m : Member) → get_elem? ms p ≡ some m → IsSound n w adds made history m.scan
   pub apart : AreApart ms
 
@@ -85,8 +86,10 @@ module _ (n : ℕ) (number : ℕ → ℕ) (Is : Member → Type 0) where
   -- doomed or its vector is comparable with each recorded one
   pub record AreComparable : Type 0 where
     pub recorded : (a c : Answer) → HaveRecorded a → HaveRecorded c → Comparable a.vector c.vector
-    pub tries : (looks others : List Look) → Tries looks → Tries others → (IsDoomed looks ⊎ IsDoomed others) ⊎ Comparable (map opened_at looks) (map opened_at others)
-    pub between : (looks : List Look) (a : Answer) → Tries looks → HaveRecorded a → IsDoomed looks ⊎ Comparable (map opened_at looks) a.vector
+    pub tries : (looks others : List Look) → Tries looks → Tries others → (IsDoomed looks ⊎ IsDoomed others)
+        ⊎ Comparable (map opened_at looks) (map opened_at others)
+    pub between : (looks : List Look) (a : Answer) → Tries looks → HaveRecorded a → IsDoomed looks
+        ⊎ Comparable (map opened_at looks) a.vector
 
 -- m is a member of some seat's view
 abbrev pub Sits : State (Unit {0}) SeatView → Member → Type 0
@@ -98,11 +101,13 @@ AllCompare n b s = AreComparable n (λ i. seg b s.words i 0) (Sits s)
 
 -- the same, at one moment: x is the number of the segment i, and these members compare, by the numbers of that moment
 abbrev pub AreRuledAt : (n w : ℕ) → (List Op → ℕ → ℕ) → ((ℕ → ℕ) → List Op → Type 0) → (i : ℕ) → List Member → (x : ℕ) → Type 0
-AreRuledAt n w adds accepts i ms x = (r : AreRuled n w adds accepts ms) × (x ≡ length (r.made i)) × AreComparable n (λ j. length (r.made j)) (λ m. (p : ℕ) × (get_elem? ms p ≡ some m))
+AreRuledAt n w adds accepts i ms x = (r : AreRuled n w adds accepts ms) × (x ≡ length (r.made i))
+    × AreComparable n (λ j. length (r.made j)) (λ m. (p : ℕ) × (get_elem? ms p ≡ some m))
 
 -- the hidden buffer of b words holds the version that this publish makes
 abbrev pub HoldsNext : (n w b : ℕ) → (List Op → ℕ → ℕ) → List Op → (lends : Bool) → Member → Type 0
-HoldsNext n w b adds ops lends m = (k : ℕ) → k < b → Shows n w adds (m.work.made ++ made_of ops lends m ∷ []) k (slice_index m.work.hidden k)
+HoldsNext n w b adds ops lends m = (k : ℕ) → k < b → Shows n w adds (m.work.made ++ made_of ops lends m ∷ []) k
+    (slice_index m.work.hidden k)
 
 -- the rule, and what it says of members in pairs
 abbrev pub KeepsRule : (n w b : ℕ) → (List Op → ℕ → ℕ) → ((ℕ → ℕ) → List Op → Type 0) → State (Unit {0}) SeatView → Type 0

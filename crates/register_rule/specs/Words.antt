@@ -3,7 +3,8 @@ use Rattle.std.specs.Prelude.{◌≡◌, ℕ, ◌+◌, ◌*◌, ◌%◌, List, s
 use Rattle.segment_layout.specs.declared.part.Part.{Part}
 use Rattle.segment_layout.specs.declared.part.Part.TheVariants.{Row, Flag, Vector, Lent}
 use Rattle.segment_layout.specs.declared.part.Item.{Item}
-use Rattle.segment_layout.specs.declared.part.Item.TheVariants.{Row as RowItem, Flag as FlagItem, Vector as VectorItem, Lent as LentItem}
+use Rattle.segment_layout.specs.declared.part.Item.TheVariants.{Row as RowItem, Flag as FlagItem, Vector as VectorItem}
+use Rattle.segment_layout.specs.declared.part.Item.TheVariants.{Lent as LentItem}
 use Rattle.segment_layout.specs.Layout.{span, item_at, place}
 
 -- a segment has its number at item 0, and the word k of the version s at this item; b is the length of a buffer

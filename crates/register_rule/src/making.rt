@@ -28,8 +28,10 @@ impl<const N: usize, const C: usize, const H: usize, const G: usize> Board<N, C,
     /// `readers` 1 to 4; then [`BoardFault::NoMemory`], 6.
     pub fn new(alloc: Global, id: u64, readers: usize) -> Result<Parts<N, C, H, G>, BoardFault>
         ensures id { IfOk result (λ p. board_id p.board ≡ id) }
-        ensures work { IfOk result (λ p. All (HasWorker p.board) p.work.items × (map worker_of p.work.items ≡ workers_from N (width C H G) (depth N (width C H G)) 0 N)) }
-        ensures read { IfOk result (λ p. All (HasReader p.board) p.read.items × (map reader_of p.read.items ≡ readers_from N (width C H G) 0 readers)) }
+        ensures work { IfOk result (λ p. All (HasWorker p.board) p.work.items
+            × (map worker_of p.work.items ≡ workers_from N (width C H G) (depth N (width C H G)) 0 N)) }
+        ensures read { IfOk result (λ p. All (HasReader p.board) p.read.items
+            × (map reader_of p.read.items ≡ readers_from N (width C H G) 0 readers)) }
         ensures geometry { IfOk result (λ _. IsBoardSize N C H G readers) }
         ensures fault { IfErr result (IsBoardFault N C H G readers) }
     {
@@ -53,10 +55,12 @@ impl<const N: usize, const C: usize, const H: usize, const G: usize> Board<N, C,
         readers: usize,
     ) -> Result<Vec<WorkSeat>, AllocError>
         requires own { Has self.now rest.old }
-        requires all { members_of rest.old ≡ workers_from N (width C H G) (depth N (width C H G)) 0 N ++ readers_from N (width C H G) 0 readers }
+        requires all { members_of rest.old ≡ workers_from N (width C H G) (depth N (width C H G)) 0 N ++ readers_from N
+            (width C H G) 0 readers }
         ensures own { table_of rest.new ≡ table_of rest.old }
         ensures rest { OnOk result (members_of rest.new ≡ readers_from N (width C H G) 0 readers) }
-        ensures work { IfOk result (λ v. All (HasWorker self.now) v.items × (map worker_of v.items ≡ workers_from N (width C H G) (depth N (width C H G)) 0 N)) }
+        ensures work { IfOk result (λ v. All (HasWorker self.now) v.items
+            × (map worker_of v.items ≡ workers_from N (width C H G) (depth N (width C H G)) 0 N)) }
     {
         let mut work = Vec::new(alloc);
         for i in 0..N {
@@ -75,7 +79,8 @@ impl<const N: usize, const C: usize, const H: usize, const G: usize> Board<N, C,
         requires own { Has self.now rest.old }
         requires all { members_of rest.old ≡ readers_from N (width C H G) 0 readers }
         ensures own { table_of rest.new ≡ table_of rest.old }
-        ensures read { IfOk result (λ v. All (HasReader self.now) v.items × (map reader_of v.items ≡ readers_from N (width C H G) 0 readers)) }
+        ensures read { IfOk result (λ v. All (HasReader self.now) v.items
+            × (map reader_of v.items ≡ readers_from N (width C H G) 0 readers)) }
     {
         let mut read = Vec::new(alloc);
         for i in 0..readers {

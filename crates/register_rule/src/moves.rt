@@ -15,8 +15,11 @@ pub(crate) fn load_as<X, K, J: Play<(), SeatView>, P: TableRule<(), SeatView, K>
     word: usize,
     _about: &X,
 ) -> u64
-    requires { (seat.old.table_id ≡ shared.now.table_id) × (word < shared.now.table_id.words) × Allows (P.holds shared.now.key) shared.now.table_id.slots seat.old.id seat.old.me word (λ n. n) (J.then (step shared.now.table_id.slots word 0 0 none) seat.old.me) }
-    ensures { (seat.new.table_id ≡ seat.old.table_id) × (seat.new.id ≡ seat.old.id) × J.then (step shared.now.table_id.slots word 0 0 none) seat.old.me result seat.new.me }
+    requires { (seat.old.table_id ≡ shared.now.table_id) × (word < shared.now.table_id.words)
+        × Allows (P.holds shared.now.key) shared.now.table_id.slots seat.old.id seat.old.me word (λ n. n)
+        (J.then (step shared.now.table_id.slots word 0 0 none) seat.old.me) }
+    ensures { (seat.new.table_id ≡ seat.old.table_id) × (seat.new.id ≡ seat.old.id)
+        × J.then (step shared.now.table_id.slots word 0 0 none) seat.old.me result seat.new.me }
 {
     shared.load::<J>(seat, word)
 }
@@ -29,8 +32,11 @@ pub(crate) fn store_as<X, K, J: Play<(), SeatView>, P: TableRule<(), SeatView, K
     new: u64,
     _about: &X,
 )
-    requires { (seat.old.table_id ≡ shared.now.table_id) × (word < shared.now.table_id.words) × Allows (P.holds shared.now.key) shared.now.table_id.slots seat.old.id seat.old.me word (λ _. new) (λ _. J.then (step shared.now.table_id.slots word new 0 none) seat.old.me new) }
-    ensures { (seat.new.table_id ≡ seat.old.table_id) × (seat.new.id ≡ seat.old.id) × J.then (step shared.now.table_id.slots word new 0 none) seat.old.me new seat.new.me }
+    requires { (seat.old.table_id ≡ shared.now.table_id) × (word < shared.now.table_id.words)
+        × Allows (P.holds shared.now.key) shared.now.table_id.slots seat.old.id seat.old.me word (λ _. new)
+        (λ _. J.then (step shared.now.table_id.slots word new 0 none) seat.old.me new) }
+    ensures { (seat.new.table_id ≡ seat.old.table_id) × (seat.new.id ≡ seat.old.id)
+        × J.then (step shared.now.table_id.slots word new 0 none) seat.old.me new seat.new.me }
 {
     shared.store::<J>(seat, word, new);
 }
@@ -40,8 +46,11 @@ pub(crate) fn split_as<X, K, J: Split<SeatView>, P: TableRule<(), SeatView, K>>(
     seat: &mut Seat<(), SeatView>,
     _about: &X,
 ) -> Seat<(), SeatView>
-    requires { (seat.old.table_id ≡ shared.now.table_id) × (0 < shared.now.table_id.words) × Splits (P.holds shared.now.key) seat.old.id seat.old.me.0 (J.left seat.old.me.0) (J.right seat.old.me.0) }
-    ensures { (seat.new.table_id ≡ seat.old.table_id) × (seat.new.id ≡ seat.old.id) × (seat.new.me ≡ (J.left seat.old.me.0, seat.old.me.1)) × (result.table_id ≡ seat.old.table_id) × (result.me ≡ (J.right seat.old.me.0, [])) }
+    requires { (seat.old.table_id ≡ shared.now.table_id) × (0 < shared.now.table_id.words)
+        × Splits (P.holds shared.now.key) seat.old.id seat.old.me.0 (J.left seat.old.me.0) (J.right seat.old.me.0) }
+    ensures { (seat.new.table_id ≡ seat.old.table_id) × (seat.new.id ≡ seat.old.id)
+        × (seat.new.me ≡ (J.left seat.old.me.0, seat.old.me.1)) × (result.table_id ≡ seat.old.table_id)
+        × (result.me ≡ (J.right seat.old.me.0, [])) }
 {
     shared.split_seat::<J>(seat)
 }

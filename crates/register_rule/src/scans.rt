@@ -85,7 +85,8 @@ impl<const N: usize, const C: usize, const H: usize, const G: usize> Board<N, C,
     ) -> u64
         requires own { MayScan self.now (S.bundle seat.old) }
         requires inside { (place < N) × (item < depth N (width C H G)) }
-        ensures learns { ScanChangesBy N C H G (after_read (width C H G) place number item result) (S.bundle seat.old) (S.bundle seat.new) }
+        ensures learns { ScanChangesBy N C H G (after_read (width C H G) place number item result) (S.bundle seat.old)
+            (S.bundle seat.new) }
         ensures bounded { item < width C H G → result ≤ greatest_word }
     {
         seat.load(
@@ -105,7 +106,8 @@ impl<const N: usize, const C: usize, const H: usize, const G: usize> Board<N, C,
     pub fn confirm<S: ScanSeat<N, C, H, G>>(&self, seat: &mut S, place: usize) -> u64
         requires own { MayScan self.now (S.bundle seat.old) }
         requires inside { place < N }
-        ensures learns { ScanChangesBy N C H G (after_confirm N (width C H G) place result) (S.bundle seat.old) (S.bundle seat.new) }
+        ensures learns { ScanChangesBy N C H G (after_confirm N (width C H G) place result) (S.bundle seat.old)
+            (S.bundle seat.new) }
         ensures told { IsNumber place (members_of (S.bundle seat.old)) result }
     {
         seat.load(self, Load::Confirm { place })
@@ -128,7 +130,8 @@ impl<const N: usize, const C: usize, const H: usize, const G: usize> Board<N, C,
     pub fn end_ask<S: ScanSeat<N, C, H, G>>(&self, seat: &mut S, place: usize) -> u64
         requires own { MayScan self.now (S.bundle seat.old) }
         requires inside { place < N }
-        ensures learns { ScanChangesBy N C H G (after_end_ask N (width C H G) place result) (S.bundle seat.old) (S.bundle seat.new) }
+        ensures learns { ScanChangesBy N C H G (after_end_ask N (width C H G) place result) (S.bundle seat.old)
+            (S.bundle seat.new) }
         ensures told { IsNumber place (members_of (S.bundle seat.old)) result }
     {
         seat.load(self, Load::EndAsk { place })

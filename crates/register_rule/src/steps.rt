@@ -41,7 +41,8 @@ impl<const N: usize, const C: usize, const H: usize, const G: usize> Board<N, C,
     #[inline]
     fn item_at(&self, segment: usize, version: u64, item: usize) -> usize
         requires { (segment < N) × (item < depth N (width C H G)) }
-        ensures place { (result ≡ segment * span (depth N (width C H G)) + item_of (depth N (width C H G)) version item) × (result < self.now.table.shared.table_id.words) }
+        ensures place { (result ≡ segment * span (depth N (width C H G)) + item_of (depth N (width C H G)) version item)
+            × (result < self.now.table.shared.table_id.words) }
         ensures part { IsPlaceOf N (width C H G) segment version item result }
     {
         self.number_at(segment) + 1 + (version % 2) as usize * buffer_words(N, C, H, G) + item

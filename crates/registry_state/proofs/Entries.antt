@@ -8,7 +8,8 @@ use Rattle.snapshot_scan.specs.Sources.{newest}
 use Rattle.registry_state.specs.Journal.{Change, Entry, Changed, Scraped, changes, scrapes, without_oldest, without, within}
 
 -- one change more
-pub changes_change : (journal : List Entry) (change : Change) → changes (journal ++ Changed change ∷ []) ≡ changes journal ++ change ∷ []
+pub changes_change : (journal : List Entry) (change : Change)
+    → changes (journal ++ Changed change ∷ []) ≡ changes journal ++ change ∷ []
 changes_change [] change = refl
 changes_change (Changed first ∷ journal) change = ap (λ rest. first ∷ rest) (changes_change journal change)
 changes_change (Scraped first ∷ journal) change = changes_change journal change
@@ -24,7 +25,8 @@ changes_scrape [] answer = refl
 changes_scrape (Changed first ∷ journal) answer = ap (λ rest. first ∷ rest) (changes_scrape journal answer)
 changes_scrape (Scraped first ∷ journal) answer = changes_scrape journal answer
 
-pub scrapes_scrape : (journal : List Entry) (answer : Answer) → scrapes (journal ++ Scraped answer ∷ []) ≡ scrapes journal ++ answer ∷ []
+pub scrapes_scrape : (journal : List Entry) (answer : Answer)
+    → scrapes (journal ++ Scraped answer ∷ []) ≡ scrapes journal ++ answer ∷ []
 scrapes_scrape [] answer = refl
 scrapes_scrape (Changed first ∷ journal) answer = scrapes_scrape journal answer
 scrapes_scrape (Scraped first ∷ journal) answer = ap (λ rest. first ∷ rest) (scrapes_scrape journal answer)
@@ -75,7 +77,8 @@ newest_drop (suc k) [] le = absurd (omega (arith, le))
 newest_drop (suc k) (a ∷ []) le = absurd (omega (arith, le))
 newest_drop (suc k) (a ∷ b ∷ rest) le = newest_drop k (b ∷ rest) (omega (arith, le))
 
-pub newest_within : (window : ℕ) (journal : List Entry) → 1 ≤ window → newest (scrapes (within window journal)) ≡ newest (scrapes journal)
+pub newest_within : (window : ℕ) (journal : List Entry) → 1 ≤ window → newest (scrapes (within window journal)) ≡ newest
+    (scrapes journal)
 newest_within window journal some =
     ap newest (scrapes_within window journal)
     ∙ newest_drop (length (scrapes journal) - window) (scrapes journal) (omega (arith, some))
@@ -101,5 +104,6 @@ newest_scrape window journal answer some =
     ∙ newest_last (scrapes journal) answer
 
 -- a change leaves the newest
-pub newest_change : (journal : List Entry) (change : Change) → newest (scrapes (journal ++ Changed change ∷ [])) ≡ newest (scrapes journal)
+pub newest_change : (journal : List Entry) (change : Change) → newest (scrapes (journal ++ Changed change ∷ [])) ≡ newest
+    (scrapes journal)
 newest_change journal change = ap newest (scrapes_change journal change)

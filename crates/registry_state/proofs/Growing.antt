@@ -19,7 +19,8 @@ use Rattle.registry_state.proofs.Holding.{held_registered, held_none}
 use Rattle.registry_state.proofs.Ordered.{order_more, order_none}
 
 -- a new registry
-pub held_new : (n c h g : ℕ) (recorded : List Answer) (window : ℕ) (journal : List Entry) (families : List Family) (order : List ℕ)
+pub held_new : (n c h g : ℕ) (recorded : List Answer) (window : ℕ) (journal : List Entry) (families : List Family)
+    (order : List ℕ)
     → IsGeometry n c h g → IsWindow window → journal ≡ [] → families ≡ [] → order ≡ []
     → IsHeld n c h g recorded journal window families order (used_of 0 0 0)
 held_new n c h g recorded window journal families order geometry room none no_families no_order =
@@ -33,10 +34,12 @@ held_new n c h g recorded window journal families order geometry room none no_fa
       ordered = order_none;
     })))
 
-module _ (n c h g : ℕ) (recorded : List Answer) (journal : List Entry) (window : ℕ) (families : List Family) (order : List ℕ) (used : Kind → ℕ)
+module _ (n c h g : ℕ) (recorded : List Answer) (journal : List Entry) (window : ℕ) (families : List Family) (order : List ℕ)
+    (used : Kind → ℕ)
     (is : IsHeld n c h g recorded journal window families order used) where
   -- the same, in other words
-  pub held_same : (journal' : List Entry) (families' : List Family) (order' : List ℕ) → journal' ≡ journal → families' ≡ families → order' ≡ order
+  pub held_same : (journal' : List Entry) (families' : List Family) (order' : List ℕ) → journal' ≡ journal → families' ≡ families
+      → order' ≡ order
       → IsHeld n c h g recorded journal' window families' order' used
   held_same journal' families' order' one two three =
       subst (λ (j : List Entry). IsHeld n c h g recorded j window families' order' used) (sym one)
@@ -44,8 +47,10 @@ module _ (n c h g : ℕ) (recorded : List Answer) (journal : List Entry) (window
       (subst (λ (o : List ℕ). IsHeld n c h g recorded journal window families o used) (sym three) is))
 
   -- a family more
-  pub held_added : (desc : Descriptor) (place : ℕ) → IsAcceptedChange n c h g families (Registered desc) → IsPlaceOfName families order desc.name place
-      → IsHeld n c h g recorded (journal ++ Changed (Registered desc) ∷ []) window (families ++ record { desc = desc; children = [] } ∷ [])
+  pub held_added : (desc : Descriptor) (place : ℕ) → IsAcceptedChange n c h g families (Registered desc)
+      → IsPlaceOfName families order desc.name place
+      → IsHeld n c h g recorded (journal ++ Changed (Registered desc) ∷ []) window
+      (families ++ record { desc = desc; children = [] } ∷ [])
       (insert order place (length families)) used
   held_added desc place accepted at = record {
     geometry = is.geometry;
@@ -62,14 +67,23 @@ module _ (n c h g : ℕ) (recorded : List Answer) (journal : List Entry) (window
       → IsHeld n c h g recorded journal' window families' order' used
   held_more desc place journal' families' order' accepted at one two three =
       subst (λ (j : List Entry). IsHeld n c h g recorded j window families' order' used) (sym one)
-      (subst (λ (f : List Family). IsHeld n c h g recorded (journal ++ Changed (Registered desc) ∷ []) window f order' used) (sym two)
-      (subst (λ (o : List ℕ). IsHeld n c h g recorded (journal ++ Changed (Registered desc) ∷ []) window (families ++ record { desc = desc; children = [] } ∷ []) o used)
+      (subst (λ (f : List Family). IsHeld n c h g recorded (journal ++ Changed (Registered desc) ∷ []) window f order' used)
+      (sym two)
+      (subst (λ (o : List ℕ). IsHeld n c h g recorded (journal ++ Changed (Registered desc) ∷ []) window
+      (families ++ record { desc = desc; children = [] } ∷ []) o used)
       (sym three) (held_added desc place accepted at)))
 
 -- what contracts see of a registry after a change
-pub seen_changed : {S : Type 0} (id window : ℕ) (source : S) (journal journal' : List Entry) (families families' : List Family) (change : Change)
+pub seen_changed : {S : Type 0} (id window : ℕ) (source : S) (journal journal' : List Entry) (families families' : List Family)
+    (change : Change)
     → journal' ≡ journal ++ Changed change ∷ [] → families' ≡ after families change
-    → record { id = id; window = window; source = source; journal = journal'; state = record { families = families'; last = newest (scrapes journal') } }
+    → record {
+      id = id;
+      window = window;
+      source = source;
+      journal = journal';
+      state = record { families = families'; last = newest (scrapes journal') };
+    }
     ≡ changed change (record {
       id = id;
       window = window;

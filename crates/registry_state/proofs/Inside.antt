@@ -1,5 +1,6 @@
 -- The slots of handles are there.
-use Rattle.std.proofs.Common.{◌≡◌, ℕ, ◌<◌, List, Option, Some, None, length, slice_get, IsSomeAnd, Contains, refl, sym, subst, arith}
+use Rattle.std.proofs.Common.{◌≡◌, ℕ, ◌<◌, List, Option, Some, None, length, slice_get, IsSomeAnd, Contains, refl, sym, subst}
+use Rattle.std.proofs.Common.{arith}
 use Rattle.std.proofs.lemmas.Option.{slice_get_within}
 use Rattle.std.proofs.lemmas.List.Elements.{All-contains}
 use Rattle.metric_desc.specs.Desc.{Descriptor}
@@ -12,14 +13,20 @@ use Rattle.registry_state.proofs.Holding.{all_at}
 
 module _ (c h g : ℕ) where
   -- there are so many slots of the kind
-  pub is_inside : (id : ℕ) (desc : Descriptor) (slot : ℕ) (handle : Handle) → IsHandle id desc slot handle → slot < slots c h g desc.kind → IsInside c h g handle
-  is_inside id desc slot (Handle.Counter counter) (kind, its, at) low = subst (λ s. s < c) (sym at) (subst (λ (k : Kind). slot < slots c h g k) kind low)
-  is_inside id desc slot (Handle.Histogram hist) (kind, its, at, bounds) low = subst (λ s. s < h) (sym at) (subst (λ (k : Kind). slot < slots c h g k) kind low)
-  is_inside id desc slot (Handle.Gauge gauge) (kind, its, at) low = subst (λ s. s < g) (sym at) (subst (λ (k : Kind). slot < slots c h g k) kind low)
+  pub is_inside : (id : ℕ) (desc : Descriptor) (slot : ℕ) (handle : Handle) → IsHandle id desc slot handle
+      → slot < slots c h g desc.kind → IsInside c h g handle
+  is_inside id desc slot (Handle.Counter counter) (kind, its, at) low = subst (λ s. s < c) (sym at)
+      (subst (λ (k : Kind). slot < slots c h g k) kind low)
+  is_inside id desc slot (Handle.Histogram hist) (kind, its, at, bounds) low = subst (λ s. s < h) (sym at)
+      (subst (λ (k : Kind). slot < slots c h g k) kind low)
+  is_inside id desc slot (Handle.Gauge gauge) (kind, its, at) low = subst (λ s. s < g) (sym at)
+      (subst (λ (k : Kind). slot < slots c h g k) kind low)
 
   -- a child that is there has one of them
-  pub is_inside_there : (id : ℕ) (families : List Family) (used : Kind → ℕ) → AreHeld c h g families used → (number : ℕ) (it : Family) → slice_get families number ≡ Some it
-      → (child : Child) → Contains it.children child → (handle : Handle) → IsHandle id it.desc child.slot handle → IsInside c h g handle
+  pub is_inside_there : (id : ℕ) (families : List Family) (used : Kind → ℕ) → AreHeld c h g families used
+      → (number : ℕ) (it : Family) → slice_get families number ≡ Some it
+      → (child : Child) → Contains it.children child → (handle : Handle) → IsHandle id it.desc child.slot handle
+      → IsInside c h g handle
   is_inside_there id families used held number it there child has handle is =
       let are : AreChildren used it = all_at (AreChildren used) families number it there held.each in
       let low = All-contains (λ (its : Child). its.slot < used it.desc.kind) it.children child are.below has in
@@ -27,7 +34,8 @@ module _ (c h g : ℕ) where
       is_inside id it.desc child.slot handle is (omega (arith, low, room))
 
 -- a family that is there has a number below how many there are
-pub within_some : (P : Family → Type 0) (families : List Family) (number : ℕ) → IsSomeAnd (slice_get families number) P → number < length families
+pub within_some : (P : Family → Type 0) (families : List Family) (number : ℕ) → IsSomeAnd (slice_get families number) P
+    → number < length families
 within_some P families number is = go (slice_get families number) refl is
   where
     go : (o : Option Family) → slice_get families number ≡ o → IsSomeAnd o P → number < length families

@@ -10,7 +10,8 @@ use Rattle.registry_state.specs.Journal.{Change, Entry, Changed, Scraped, scrape
 use Rattle.registry_state.specs.Replay.{Family, State, nothing, IsAcceptedChange, IsNext, after, Replays}
 use Rattle.registry_state.specs.Kept.{AreLast, IsKept}
 use Rattle.registry_state.specs.Faults.{IsWindow}
-use Rattle.registry_state.proofs.Entries.{scrapes_change, scrapes_scrape, scrapes_within, few_within, newest_behind, newest_change, newest_within}
+use Rattle.registry_state.proofs.Entries.{scrapes_change, scrapes_scrape, scrapes_within, few_within, newest_behind}
+use Rattle.registry_state.proofs.Entries.{newest_change, newest_within}
 use Rattle.registry_state.proofs.Replayed.{parts_of_replay, replays_change, replays_scrape, replays_within}
 
 -- no answers are the last of any
@@ -18,7 +19,8 @@ pub last_none : (recorded : List Answer) → AreLast [] recorded
 last_none recorded = record { older = recorded; is = sym (append-nil recorded) }
 
 -- one answer more
-pub last_more : (kept recorded : List Answer) (answer : Answer) → AreLast kept recorded → AreLast (kept ++ answer ∷ []) (recorded ++ answer ∷ [])
+pub last_more : (kept recorded : List Answer) (answer : Answer) → AreLast kept recorded
+    → AreLast (kept ++ answer ∷ []) (recorded ++ answer ∷ [])
 last_more kept recorded answer last = record {
   older = last.older;
   is = ap (λ (l : List Answer). l ++ answer ∷ []) last.is ∙ append_assoc last.older kept (answer ∷ []);
@@ -29,11 +31,14 @@ pub last_drop : (k : ℕ) (kept recorded : List Answer) → AreLast kept recorde
 last_drop zero kept recorded last = last
 last_drop (suc k) [] recorded last = last
 last_drop (suc k) (a ∷ kept) recorded last =
-    last_drop k kept recorded (record { older = last.older ++ a ∷ []; is = last.is ∙ sym (append_assoc last.older (a ∷ []) kept) })
+    last_drop k kept recorded
+    (record { older = last.older ++ a ∷ []; is = last.is ∙ sym (append_assoc last.older (a ∷ []) kept) })
 
 -- the last of some moments are moments
-pub moments_last : (n c h g : ℕ) (kept recorded : List Answer) → AreLast kept recorded → AreMoments n c h g recorded → AreMoments n c h g kept
-moments_last n c h g kept recorded last moments = moments_later n c h g last.older kept (subst (AreMoments n c h g) last.is moments)
+pub moments_last : (n c h g : ℕ) (kept recorded : List Answer) → AreLast kept recorded → AreMoments n c h g recorded
+    → AreMoments n c h g kept
+moments_last n c h g kept recorded last moments = moments_later n c h g last.older kept
+    (subst (AreMoments n c h g) last.is moments)
 
 module _ (n c h g : ℕ) where
   -- an answer that the source recorded is accepted by the journal
@@ -43,17 +48,25 @@ module _ (n c h g : ℕ) where
   next_recorded recorded recorded' journal state answer replays last records = record {
     whole = records.whole;
     rises = λ before is. records.rises before
-        (ap newest last.is ∙ newest_behind last.older (scrapes journal) before (sym (parts_of_replay n c h g journal state replays).last ∙ is));
+        (ap newest last.is ∙ newest_behind last.older (scrapes journal) before
+        (sym (parts_of_replay n c h g journal state replays).last ∙ is));
   }
 
   -- nothing is kept at first
   pub kept_new : (recorded : List Answer) (window : ℕ) → IsWindow window → IsKept n c h g recorded [] window nothing
-  kept_new recorded window room = record { replays = refl; room = room; few = omega arith; newest = last_none recorded; moments = no_moments n c h g }
+  kept_new recorded window room = record {
+    replays = refl;
+    room = room;
+    few = omega arith;
+    newest = last_none recorded;
+    moments = no_moments n c h g;
+  }
 
   -- a change
   pub kept_change : (recorded : List Answer) (journal : List Entry) (window : ℕ) (state : State) (change : Change)
       → IsKept n c h g recorded journal window state → IsAcceptedChange n c h g state.families change
-      → IsKept n c h g recorded (journal ++ Changed change ∷ []) window (record { families = after state.families change; last = state.last })
+      → IsKept n c h g recorded (journal ++ Changed change ∷ []) window
+      (record { families = after state.families change; last = state.last })
   kept_change recorded journal window state change kept accepted =
       let same : scrapes journal ≡ scrapes (journal ++ Changed change ∷ []) = sym (scrapes_change journal change) in
       record {
@@ -76,23 +89,29 @@ module _ (n c h g : ℕ) where
         (last_drop (length (scrapes journal) - window) (scrapes journal) recorded kept.newest);
     moments = subst (AreMoments n c h g) (sym (scrapes_within window journal))
         (moments_last n c h g (drop (length (scrapes journal) - window) (scrapes journal)) (scrapes journal)
-        (last_drop (length (scrapes journal) - window) (scrapes journal) (scrapes journal) (record { older = []; is = refl })) kept.moments);
+        (last_drop (length (scrapes journal) - window) (scrapes journal) (scrapes journal) (record { older = []; is = refl }))
+        kept.moments);
   }
 
   -- a scrape
   pub kept_scrape : (recorded recorded' : List Answer) (journal : List Entry) (window : ℕ) (state : State) (answer : Answer)
       → IsKept n c h g recorded journal window state → Records n c h g recorded recorded' answer
-      → IsKept n c h g recorded' (within window (journal ++ Scraped answer ∷ [])) window (record { families = state.families; last = Some answer })
+      → IsKept n c h g recorded' (within window (journal ++ Scraped answer ∷ [])) window
+      (record { families = state.families; last = Some answer })
   kept_scrape recorded recorded' journal window state answer kept records =
-      let next : IsNext n c h g state.last answer = next_recorded recorded recorded' journal state answer kept.replays kept.newest records in
+      let next : IsNext n c h g state.last answer = next_recorded recorded recorded' journal state answer kept.replays kept.newest
+      records in
       let last : AreLast (scrapes (journal ++ Scraped answer ∷ [])) recorded' =
       subst (λ (l : List Answer). AreLast l recorded') (sym (scrapes_scrape journal answer))
-      (subst (λ (l : List Answer). AreLast (scrapes journal ++ answer ∷ []) l) (sym records.recorded) (last_more (scrapes journal) recorded answer kept.newest)) in
+      (subst (λ (l : List Answer). AreLast (scrapes journal ++ answer ∷ []) l) (sym records.recorded)
+      (last_more (scrapes journal) recorded answer kept.newest)) in
       let now : AreLast (scrapes (within window (journal ++ Scraped answer ∷ []))) recorded' =
       subst (λ (l : List Answer). AreLast l recorded') (sym (scrapes_within window (journal ++ Scraped answer ∷ [])))
-      (last_drop (length (scrapes (journal ++ Scraped answer ∷ [])) - window) (scrapes (journal ++ Scraped answer ∷ [])) recorded' last) in
+      (last_drop (length (scrapes (journal ++ Scraped answer ∷ [])) - window) (scrapes (journal ++ Scraped answer ∷ [])) recorded'
+      last) in
       record {
-        replays = replays_within n c h g window (journal ++ Scraped answer ∷ []) (record { families = state.families; last = Some answer }) kept.room.0
+        replays = replays_within n c h g window (journal ++ Scraped answer ∷ [])
+            (record { families = state.families; last = Some answer }) kept.room.0
             (replays_scrape n c h g journal state answer kept.replays next);
         room = kept.room;
         few = few_within window (journal ++ Scraped answer ∷ []);
@@ -107,15 +126,18 @@ module _ (n c h g : ℕ) where
       → IsKept n c h g recorded (journal ++ Changed change ∷ []) window
       (record { families = after families change; last = newest (scrapes (journal ++ Changed change ∷ [])) })
   keeps_at_change recorded journal window families change kept accepted =
-      subst (λ (last : Option Answer). IsKept n c h g recorded (journal ++ Changed change ∷ []) window (record { families = after families change; last = last }))
+      subst (λ (last : Option Answer). IsKept n c h g recorded (journal ++ Changed change ∷ []) window
+      (record { families = after families change; last = last }))
       (sym (newest_change journal change))
       (kept_change recorded journal window (record { families = families; last = newest (scrapes journal) }) change kept accepted)
 
   -- another window
   pub keeps_at_window : (recorded : List Answer) (journal : List Entry) (old window : ℕ) (families : List Family)
       → IsKept n c h g recorded journal old (record { families = families; last = newest (scrapes journal) }) → IsWindow window
-      → IsKept n c h g recorded (within window journal) window (record { families = families; last = newest (scrapes (within window journal)) })
+      → IsKept n c h g recorded (within window journal) window
+      (record { families = families; last = newest (scrapes (within window journal)) })
   keeps_at_window recorded journal old window families kept room =
-      subst (λ (last : Option Answer). IsKept n c h g recorded (within window journal) window (record { families = families; last = last }))
+      subst (λ (last : Option Answer). IsKept n c h g recorded (within window journal) window
+      (record { families = families; last = last }))
       (sym (newest_within window journal room.0))
       (kept_window recorded journal old window (record { families = families; last = newest (scrapes journal) }) kept room)

@@ -1,5 +1,6 @@
 -- Lists: pairs of elements, and one element more in the middle.
-use Rattle.std.proofs.Common.{◌≡◌, ℕ, zero, suc, ◌+◌, ◌<◌, ◌≤◌, List, [], ◌∷◌, ◌++◌, length, map, get_or, set, take, drop, All, AllPairs, refl, ap, sym, subst, ◌∙◌, arith, inl, inr}
+use Rattle.std.proofs.Common.{◌≡◌, ℕ, zero, suc, ◌+◌, ◌<◌, ◌≤◌, List, [], ◌∷◌, ◌++◌, length, map, get_or, set, take, drop, All}
+use Rattle.std.proofs.Common.{AllPairs, refl, ap, sym, subst, ◌∙◌, arith, inl, inr}
 use Rattle.std.specs.Prelude.{◌⊎◌, Bool, true, false, if◌then◌else◌}
 use Rattle.std.specs.List.{insert, AllWithin, range_with_len}
 use Rattle.std.proofs.lemmas.List.{get_or-map, length-map, length-take-le, drop_more, get_or_at, set_at, append_assoc, map_more}
@@ -9,10 +10,15 @@ pub cases_order : (i j : ℕ) → (i < j) ⊎ (i ≡ j) ⊎ (j < i)
 cases_order zero zero = inr (inl refl)
 cases_order zero (suc j) = inl (omega arith)
 cases_order (suc i) zero = inr (inr (omega arith))
-cases_order (suc i) (suc j) = elim (cases_order i j) [ inl l ↦ inl (omega (arith, l)) | inr r ↦ elim r [ inl e ↦ inr (inl (ap suc e)) | inr g ↦ inr (inr (omega (arith, g))) ] ]
+cases_order (suc i) (suc j) =
+    elim (cases_order i j) [
+      | inl l ↦ inl (omega (arith, l))
+      | inr r ↦ elim r [ inl e ↦ inr (inl (ap suc e)) | inr g ↦ inr (inr (omega (arith, g))) ]
+    ]
 
 pub all_insert : {X : Type 0} (P : X → Type 0) (xs : List X) (i : ℕ) (y : X) → All P xs → P y → All P (insert xs i y)
-all_insert P xs i y all here = All-append P (take i xs) (y ∷ drop i xs) (All-take P i xs all) (All-cons P y (drop i xs) here (All-drop P i xs all))
+all_insert P xs i y all here = All-append P (take i xs) (y ∷ drop i xs) (All-take P i xs all)
+    (All-cons P y (drop i xs) here (All-drop P i xs all))
 
 pub pairs_tail : {X : Type 0} (R : X → X → Type 0) (x : X) (xs : List X) → AllPairs R (x ∷ xs) → AllPairs R xs
 pairs_tail R x xs pairs i j d lt within = pairs (suc i) (suc j) d (omega (arith, lt)) (omega (arith, within))
@@ -20,7 +26,8 @@ pairs_tail R x xs pairs i j d lt within = pairs (suc i) (suc j) d (omega (arith,
 pub pairs_head : {X : Type 0} (R : X → X → Type 0) (x : X) (xs : List X) → AllPairs R (x ∷ xs) → All (R x) xs
 pairs_head R x xs pairs k d within = pairs zero (suc k) d (omega arith) (omega (arith, within))
 
-pub pairs_map : {X Y : Type 0} (R : Y → Y → Type 0) (f : X → Y) (xs : List X) → AllPairs (λ a b. R (f a) (f b)) xs → AllPairs R (map f xs)
+pub pairs_map : {X Y : Type 0} (R : Y → Y → Type 0) (f : X → Y) (xs : List X) → AllPairs (λ a b. R (f a) (f b)) xs
+    → AllPairs R (map f xs)
 pairs_map R f [] pairs i j d lt within = absurd (omega (arith, within))
 pairs_map R f (x ∷ xs) pairs i j d lt within =
     let n : length (map f (x ∷ xs)) ≡ length (x ∷ xs) = length-map (x ∷ xs) f in
@@ -28,7 +35,8 @@ pairs_map R f (x ∷ xs) pairs i j d lt within =
     let in_i : i < length (x ∷ xs) = omega (arith, in_j, lt) in
     let e : get_or (map f (x ∷ xs)) i d ≡ f (get_or (x ∷ xs) i x) = get_or-map f (x ∷ xs) i x d in_i in
     let h : get_or (map f (x ∷ xs)) j d ≡ f (get_or (x ∷ xs) j x) = get_or-map f (x ∷ xs) j x d in_j in
-    subst (λ v. R v (get_or (map f (x ∷ xs)) j d)) (sym e) (subst (λ v. R (f (get_or (x ∷ xs) i x)) v) (sym h) (pairs i j x lt in_j))
+    subst (λ v. R v (get_or (map f (x ∷ xs)) j d)) (sym e)
+    (subst (λ v. R (f (get_or (x ∷ xs) i x)) v) (sym h) (pairs i j x lt in_j))
 
 -- pairs of which more is known than the relation asks
 pub pairs_weaker : {X : Type 0} (P : X → Type 0) (R Q : X → X → Type 0) (xs : List X) → ((a b : X) → P a → P b → R a b → Q a b)
@@ -44,7 +52,8 @@ pairs_insert R [] (suc i) y le pairs front back j k d lt within = absurd (omega 
 pairs_insert R (x ∷ xs) zero y le pairs front back zero zero d lt within = absurd (omega (arith, lt))
 pairs_insert R (x ∷ xs) zero y le pairs front back zero (suc k) d lt within = back k d (omega arith) (omega (arith, within))
 pairs_insert R (x ∷ xs) zero y le pairs front back (suc j) zero d lt within = absurd (omega (arith, lt))
-pairs_insert R (x ∷ xs) zero y le pairs front back (suc j) (suc k) d lt within = pairs j k d (omega (arith, lt)) (omega (arith, within))
+pairs_insert R (x ∷ xs) zero y le pairs front back (suc j) (suc k) d lt within = pairs j k d (omega (arith, lt))
+    (omega (arith, within))
 pairs_insert R (x ∷ xs) (suc i) y le pairs front back zero zero d lt within = absurd (omega (arith, lt))
 pairs_insert R (x ∷ xs) (suc i) y le pairs front back zero (suc k) d lt within =
     all_insert (R x) xs i y (pairs_head R x xs pairs) (front zero x (omega arith) (omega arith)) k d (omega (arith, within))
@@ -59,7 +68,8 @@ below_from : (a m : ℕ) → All (λ i. i < a + m) (range_with_len a m)
 below_from a zero k d within = absurd (omega (arith, within))
 below_from a (suc m) zero d within = omega arith
 below_from a (suc m) (suc k) d within =
-    let rest : get_or (range_with_len (a + 1) m) k d < a + 1 + m = below_from (a + 1) m k d (omega (arith, within)) in omega (arith, rest)
+    let rest : get_or (range_with_len (a + 1) m) k d < a + 1 + m = below_from (a + 1) m k d (omega (arith, within)) in
+    omega (arith, rest)
 
 -- the numbers from 0 on are below how many they are
 pub range_below : (n : ℕ) → All (λ i. i < n) (range_with_len 0 n)

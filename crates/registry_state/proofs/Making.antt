@@ -1,5 +1,6 @@
 -- What a registry keeps, where a child is made, and what contracts see of it.
-use Rattle.std.proofs.Common.{◌≡◌, ℕ, zero, suc, ◌<◌, ◌≤◌, List, [], ◌∷◌, ◌++◌, Some, length, get_or, set, Contains, ap, sym, subst, ◌∙◌}
+use Rattle.std.proofs.Common.{◌≡◌, ℕ, zero, suc, ◌<◌, ◌≤◌, List, [], ◌∷◌, ◌++◌, Some, length, get_or, set, Contains, ap, sym}
+use Rattle.std.proofs.Common.{subst, ◌∙◌}
 use Rattle.std.specs.Prelude.{slice_get, IsSomeAnd, Result, Ok, Err, IfErr, IsErrAnd}
 use Rattle.std.proofs.lemmas.List.{get_or_default}
 use Rattle.metric_desc.specs.Desc.{Descriptor}
@@ -22,14 +23,17 @@ use Rattle.registry_state.proofs.Ordered.{order_made}
 use Rattle.registry_state.proofs.Holding.{grown, held_made, least_free, none_free}
 
 -- what holds of an element holds of what the list has at its number, and the other way round
-pub some_at : {X : Type 0} (P : X → Type 0) (xs : List X) (i : ℕ) (x : X) → slice_get xs i ≡ Some x → P x → IsSomeAnd (slice_get xs i) P
+pub some_at : {X : Type 0} (P : X → Type 0) (xs : List X) (i : ℕ) (x : X) → slice_get xs i ≡ Some x → P x
+    → IsSomeAnd (slice_get xs i) P
 some_at P xs i x is here = subst (λ o. IsSomeAnd o P) (sym is) here
 
-pub at_some : {X : Type 0} (P : X → Type 0) (xs : List X) (i : ℕ) (x : X) → slice_get xs i ≡ Some x → IsSomeAnd (slice_get xs i) P → P x
+pub at_some : {X : Type 0} (P : X → Type 0) (xs : List X) (i : ℕ) (x : X) → slice_get xs i ≡ Some x → IsSomeAnd (slice_get xs i) P
+    → P x
 at_some P xs i x is here = subst (λ o. IsSomeAnd o P) is here
 
 -- an element that was read where there is one
-pub there_at : {X : Type 0} (P : X → Type 0) (xs : List X) (i : ℕ) (x : X) → IsSomeAnd (slice_get xs i) P → x ≡ get_or xs i x → slice_get xs i ≡ Some x
+pub there_at : {X : Type 0} (P : X → Type 0) (xs : List X) (i : ℕ) (x : X) → IsSomeAnd (slice_get xs i) P → x ≡ get_or xs i x
+    → slice_get xs i ≡ Some x
 there_at P [] i x some is = absurd some
 there_at P (y ∷ xs) zero x some is = ap Some (sym is)
 there_at P (y ∷ xs) (suc i) x some is = there_at P xs i x some is
@@ -39,9 +43,11 @@ with_child_is : (families : List Family) (number : ℕ) (child : Child) (it : Fa
     → with_child families number child ≡ set families number (grown child it)
 with_child_is [] number child it is = absurd (cc)
 with_child_is (family ∷ families) zero child it is = let same : family ≡ it = cc in ap (λ f. grown child f ∷ families) same
-with_child_is (family ∷ families) (suc number) child it is = ap (λ rest. family ∷ rest) (with_child_is families number child it is)
+with_child_is (family ∷ families) (suc number) child it is = ap (λ rest. family ∷ rest)
+    (with_child_is families number child it is)
 
-pub with_child_at : (families : List Family) (number : ℕ) (child : Child) (it : Family) (desc : Descriptor) (children : List Child)
+pub with_child_at : (families : List Family) (number : ℕ) (child : Child) (it : Family) (desc : Descriptor)
+    (children : List Child)
     → slice_get families number ≡ Some it → desc ≡ it.desc → children ≡ put child it.children
     → set families number (record { desc = desc; children = children }) ≡ with_child families number child
 with_child_at families number child it desc children there same new =
@@ -50,17 +56,20 @@ with_child_at families number child it desc children there same new =
     ∙ sym (with_child_is families number child it there)
 
 -- a child of these values that was found at this place
-pub found_child : (children : List Child) (place : ℕ) (child : Child) (values : List (List ℕ)) (slot : ℕ) → place < length children
+pub found_child : (children : List Child) (place : ℕ) (child : Child) (values : List (List ℕ)) (slot : ℕ)
+    → place < length children
     → child ≡ get_or children place child → ((d : Child) → (get_or children place d).values ≡ values) → slot ≡ child.slot
     → Contains children (record { values = values; slot = slot })
 found_child children place child values slot lt read found same =
     let wanted : Child = record { values = values; slot = slot } in
     let e : child.values ≡ values = ap (λ (c : Child). c.values) read ∙ found child in
-    let is : child ≡ wanted = ap (λ v. record { values = v; slot = child.slot }) e ∙ ap (λ s. record { values = values; slot = s }) (sym same) in
+    let is : child ≡ wanted = ap (λ v. record { values = v; slot = child.slot }) e
+    ∙ ap (λ s. record { values = values; slot = s }) (sym same) in
     (place, lt, get_or_default children place wanted child lt ∙ sym read ∙ is)
 
 -- a refusal for want of memory, whatever it is made from
-pub only_memory : {T : Type 0} (P : ChildFault → Type 0) (r : Result T ChildFault) → IsErrAnd r (λ fault. fault ≡ NoMemory) → P NoMemory → IfErr r P
+pub only_memory : {T : Type 0} (P : ChildFault → Type 0) (r : Result T ChildFault) → IsErrAnd r (λ fault. fault ≡ NoMemory)
+    → P NoMemory → IfErr r P
 only_memory P (Ok x) is here = tt
 only_memory P (Err fault) is here = subst P (sym is) here
 
@@ -78,7 +87,8 @@ module _ (c h g : ℕ) (families : List Family) (used : Kind → ℕ) (held : Ar
   -- every slot of its kind is used
   pub is_full : slots c h g kind ≤ used kind → IsChildFault c h g families number values (Full kind)
   is_full full =
-      some_at (λ (family : Family). IsWanted family values × (kind ≡ family.desc.kind) × (¬ (HasSlot c h g families kind))) families number it there
+      some_at (λ (family : Family). IsWanted family values × (kind ≡ family.desc.kind) × (¬ (HasSlot c h g families kind)))
+      families number it there
       (wanted, same, none_free c h g families used kind held full)
 
   -- there is one, and no memory
@@ -96,12 +106,26 @@ module _ (c h g : ℕ) (families : List Family) (used : Kind → ℕ) (held : Ar
   }
 
   -- what contracts see of a registry in which it is made
-  pub was_made : {S : Type 0} (id window : ℕ) (source : S) (journal journal' : List Entry) (families' : List Family) (slot : ℕ) (handle : Handle)
+  pub was_made : {S : Type 0} (id window : ℕ) (source : S) (journal journal' : List Entry) (families' : List Family) (slot : ℕ)
+      (handle : Handle)
       → used kind < slots c h g kind → slot ≡ used kind → IsHandle id it.desc slot handle
-      → journal' ≡ journal ++ Changed (Made number values slot) ∷ [] → families' ≡ with_child families number (record { values = values; slot = slot })
+      → journal' ≡ journal ++ Changed (Made number values slot) ∷ []
+      → families' ≡ with_child families number (record { values = values; slot = slot })
       → WasMade c h g
-      (record { id = id; window = window; source = source; journal = journal; state = record { families = families; last = newest (scrapes journal) } })
-      (record { id = id; window = window; source = source; journal = journal'; state = record { families = families'; last = newest (scrapes journal') } })
+      (record {
+        id = id;
+        window = window;
+        source = source;
+        journal = journal;
+        state = record { families = families; last = newest (scrapes journal) };
+      })
+      (record {
+        id = id;
+        window = window;
+        source = source;
+        journal = journal';
+        state = record { families = families'; last = newest (scrapes journal') };
+      })
       number values handle
   was_made {S} id window source journal journal' families' slot handle room at is noted new =
       let used_at : used it.desc.kind ≡ slot = ap used (sym same) ∙ sym at in
@@ -114,7 +138,8 @@ module _ (c h g : ℕ) (families : List Family) (used : Kind → ℕ) (held : Ar
       } in
       record {
         slot = slot;
-        made = some_at (λ (family : Family). MayMake c h g families values slot family × IsLeastFree families family.desc.kind slot × IsHandle id family.desc slot handle)
+        made = some_at (λ (family : Family). MayMake c h g families values slot family
+            × IsLeastFree families family.desc.kind slot × IsHandle id family.desc slot handle)
             families number it there (
               subst (λ s. MayMake c h g families values s it) used_at (may_make room),
               subst (IsLeastFree families it.desc.kind) used_at (least_free c h g families used it.desc.kind held),
@@ -131,7 +156,8 @@ module _ (c h g : ℕ) (families : List Family) (used : Kind → ℕ) (held : Ar
             }) (newest_change journal (Made number values slot));
       }
 
-module _ (n c h g : ℕ) (recorded : List Answer) (journal : List Entry) (window : ℕ) (families : List Family) (order : List ℕ) (used : Kind → ℕ)
+module _ (n c h g : ℕ) (recorded : List Answer) (journal : List Entry) (window : ℕ) (families : List Family) (order : List ℕ)
+    (used : Kind → ℕ)
     (is : IsHeld n c h g recorded journal window families order used) where
   -- nothing has changed
   pub held_still : (journal' : List Entry) (families' : List Family) → journal' ≡ journal → families' ≡ families
@@ -142,31 +168,39 @@ module _ (n c h g : ℕ) (recorded : List Answer) (journal : List Entry) (window
 
   -- a child is made of this family
   module _ (number : ℕ) (values : List (List ℕ)) (it : Family) (at : slice_get families number ≡ Some it)
-      (may : MayMake c h g families values (used it.desc.kind) it) (used' : Kind → ℕ) (more : IsOneMore it.desc.kind used used') where
-    abbrev child : Child
-    child = record { values = values; slot = used it.desc.kind }
+      (may : MayMake c h g families values (used it.desc.kind) it) (used' : Kind → ℕ) (more : IsOneMore it.desc.kind used used')
+    where
+      abbrev child : Child
+      child = record { values = values; slot = used it.desc.kind }
 
-    pub held_grown : IsHeld n c h g recorded (journal ++ Changed (Made number values (used it.desc.kind)) ∷ []) window (with_child families number child) order used'
-    held_grown = record {
-      geometry = is.geometry;
-      kept = keeps_at_change n c h g recorded journal window families (Made number values (used it.desc.kind)) is.kept
-          (some_at (MayMake c h g families values (used it.desc.kind)) families number it at may);
-      held = held_made c h g families used used' number values it is.held at may more;
-      ordered = order_made families order number child is.ordered;
-    }
+      pub held_grown : IsHeld n c h g recorded (journal ++ Changed (Made number values (used it.desc.kind)) ∷ []) window
+          (with_child families number child) order used'
+      held_grown = record {
+        geometry = is.geometry;
+        kept = keeps_at_change n c h g recorded journal window families (Made number values (used it.desc.kind)) is.kept
+            (some_at (MayMake c h g families values (used it.desc.kind)) families number it at may);
+        held = held_made c h g families used used' number values it is.held at may more;
+        ordered = order_made families order number child is.ordered;
+      }
 
   -- the same, in other words
-  pub held_more : (number : ℕ) (values : List (List ℕ)) (it : Family) (kind : Kind) (slot : ℕ) (journal' : List Entry) (families' : List Family) (used' : Kind → ℕ)
-      → IsSomeAnd (slice_get families number) (λ (family : Family). IsWanted family values) → it ≡ get_or families number it → kind ≡ it.desc.kind
+  pub held_more : (number : ℕ) (values : List (List ℕ)) (it : Family) (kind : Kind) (slot : ℕ) (journal' : List Entry)
+      (families' : List Family) (used' : Kind → ℕ)
+      → IsSomeAnd (slice_get families number) (λ (family : Family). IsWanted family values) → it ≡ get_or families number it
+      → kind ≡ it.desc.kind
       → used kind < slots c h g kind → slot ≡ used kind
-      → journal' ≡ journal ++ Changed (Made number values slot) ∷ [] → families' ≡ with_child families number (record { values = values; slot = slot })
+      → journal' ≡ journal ++ Changed (Made number values slot) ∷ []
+      → families' ≡ with_child families number (record { values = values; slot = slot })
       → IsOneMore kind used used' → IsHeld n c h g recorded journal' window families' order used'
   held_more number values it kind slot journal' families' used' some read same room at noted new more =
       let used_at : used it.desc.kind ≡ slot = ap used (sym same) ∙ sym at in
-      let made : IsHeld n c h g recorded (journal ++ Changed (Made number values slot) ∷ []) window (with_child families number (record { values = values; slot = slot })) order used' =
-      subst (λ s. IsHeld n c h g recorded (journal ++ Changed (Made number values s) ∷ []) window (with_child families number (record { values = values; slot = s })) order used') used_at
+      let made : IsHeld n c h g recorded (journal ++ Changed (Made number values slot) ∷ []) window
+      (with_child families number (record { values = values; slot = slot })) order used' =
+      subst (λ s. IsHeld n c h g recorded (journal ++ Changed (Made number values s) ∷ []) window
+      (with_child families number (record { values = values; slot = s })) order used') used_at
       (held_grown number values it (there c h g families used is.held number values it kind some read same)
       (may_make c h g families used is.held number values it kind some read same room) used'
       (subst (λ k. IsOneMore k used used') same more)) in
       subst (λ j. IsHeld n c h g recorded j window families' order used') (sym noted)
-      (subst (λ l. IsHeld n c h g recorded (journal ++ Changed (Made number values slot) ∷ []) window l order used') (sym new) made)
+      (subst (λ l. IsHeld n c h g recorded (journal ++ Changed (Made number values slot) ∷ []) window l order used')
+      (sym new) made)

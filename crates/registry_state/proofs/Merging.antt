@@ -1,7 +1,9 @@
 -- The journal that changes and kept scrapes make together.
-use Rattle.std.proofs.Common.{◌≡◌, ℕ, zero, suc, ◌≤◌, ◌-◌, ◌+◌, List, [], ◌∷◌, ◌++◌, length, map, take, drop, refl, ap, sym, ◌∙◌, arith}
+use Rattle.std.proofs.Common.{◌≡◌, ℕ, zero, suc, ◌≤◌, ◌-◌, ◌+◌, List, [], ◌∷◌, ◌++◌, length, map, take, drop, refl, ap, sym, ◌∙◌}
+use Rattle.std.proofs.Common.{arith}
 use Rattle.std.specs.Prelude.{◌<◌, false, true, Some, None, slice_index_or}
-use Rattle.std.proofs.lemmas.List.{drop-append-le, take-append-le, append_assoc, map-append, take_rest, drop-drop, length-drop, length-map, length-append, length-take-le, take-append-drop}
+use Rattle.std.proofs.lemmas.List.{drop-append-le, take-append-le, append_assoc, map-append, take_rest, drop-drop, length-drop}
+use Rattle.std.proofs.lemmas.List.{length-map, length-append, length-take-le, take-append-drop}
 use Rattle.std.proofs.Math.Seq.{drop-length, take-add}
 use Rattle.snapshot_scan.specs.Snapshots.{Taken, as_answer}
 use Rattle.snapshot_scan.specs.Sources.{newest}
@@ -24,7 +26,8 @@ pub noted_scrape : (all from : ℕ) (kept : List (Taken × ℕ)) (snapshot : Tak
 noted_scrape all from [] snapshot noted = (noted, omega arith)
 noted_scrape all from (scrape ∷ kept) snapshot noted = (noted.0, noted_scrape all scrape.1 kept snapshot noted.1)
 
-noted_less : (all from : ℕ) (scrape : Taken × ℕ) (kept : List (Taken × ℕ)) → AreNoted all from (scrape ∷ kept) → AreNoted all from kept
+noted_less : (all from : ℕ) (scrape : Taken × ℕ) (kept : List (Taken × ℕ)) → AreNoted all from (scrape ∷ kept)
+    → AreNoted all from kept
 noted_less all from scrape [] noted = noted_within all from (scrape ∷ []) noted
 noted_less all from scrape (second ∷ kept) noted = (omega (arith, noted.0, noted.1.0), noted.1.1)
 
@@ -61,9 +64,11 @@ merged_change cs from (scrape ∷ kept) change noted =
     let inside : scrape.1 ≤ length cs = noted_within (length cs) scrape.1 kept noted.1 in
     let inner : scrape.1 - from ≤ length (drop from cs) = rw length-drop (omega (arith, inside)) in
     let piece : take (scrape.1 - from) (drop from (cs ++ change ∷ [])) ≡ take (scrape.1 - from) (drop from cs) =
-    ap (take (scrape.1 - from)) (drop-append-le from cs (change ∷ []) le) ∙ take-append-le (scrape.1 - from) (drop from cs) (change ∷ []) inner in
+    ap (take (scrape.1 - from)) (drop-append-le from cs (change ∷ []) le) ∙ take-append-le (scrape.1 - from) (drop from cs)
+    (change ∷ []) inner in
     rw (piece, merged_change cs scrape.1 kept change noted.1)
-    (sym (append_assoc (map Changed (take (scrape.1 - from) (drop from cs))) (Scraped (as_answer scrape.0) ∷ merged cs scrape.1 kept) (Changed change ∷ [])))
+    (sym (append_assoc (map Changed (take (scrape.1 - from) (drop from cs)))
+    (Scraped (as_answer scrape.0) ∷ merged cs scrape.1 kept) (Changed change ∷ [])))
 
 -- one scrape more
 pub merged_scrape : (cs : List Change) (from : ℕ) (kept : List (Taken × ℕ)) (snapshot : Taken) → AreNoted (length cs) from kept
@@ -71,7 +76,8 @@ pub merged_scrape : (cs : List Change) (from : ℕ) (kept : List (Taken × ℕ))
 merged_scrape cs from [] snapshot noted = rw (take_rest, drop-length) refl
 merged_scrape cs from (scrape ∷ kept) snapshot noted =
     rw (merged_scrape cs scrape.1 kept snapshot noted.1)
-    (sym (append_assoc (map Changed (take (scrape.1 - from) (drop from cs))) (Scraped (as_answer scrape.0) ∷ merged cs scrape.1 kept) (Scraped (as_answer snapshot) ∷ [])))
+    (sym (append_assoc (map Changed (take (scrape.1 - from) (drop from cs)))
+    (Scraped (as_answer scrape.0) ∷ merged cs scrape.1 kept) (Scraped (as_answer snapshot) ∷ [])))
 
 without_front : (cs : List Change) (entries : List Entry)
     → without_oldest (map Changed cs ++ entries) ≡ map Changed cs ++ without_oldest entries
@@ -87,7 +93,8 @@ without_all zero cs = refl
 without_all (suc k) cs = without_all k cs ∙ ap (without k) (sym (without_none cs))
 
 -- the oldest scrape dropped
-merged_less : (cs : List Change) (from : ℕ) (scrape : Taken × ℕ) (kept : List (Taken × ℕ)) → AreNoted (length cs) from (scrape ∷ kept)
+merged_less : (cs : List Change) (from : ℕ) (scrape : Taken × ℕ) (kept : List (Taken × ℕ))
+    → AreNoted (length cs) from (scrape ∷ kept)
     → merged cs from kept ≡ without_oldest (merged cs from (scrape ∷ kept))
 merged_less cs from scrape [] noted = sym (
     without_front (take (scrape.1 - from) (drop from cs)) (Scraped (as_answer scrape.0) ∷ merged cs scrape.1 [])
@@ -95,7 +102,8 @@ merged_less cs from scrape [] noted = sym (
     ∙ ap (map Changed) (joined_rest cs from scrape.1 noted.0))
 merged_less cs from scrape (second ∷ kept) noted = sym (
     without_front (take (scrape.1 - from) (drop from cs)) (Scraped (as_answer scrape.0) ∷ merged cs scrape.1 (second ∷ kept))
-    ∙ sym (append_assoc (map Changed (take (scrape.1 - from) (drop from cs))) (map Changed (take (second.1 - scrape.1) (drop scrape.1 cs))) (Scraped (as_answer second.0) ∷ merged cs second.1 kept))
+    ∙ sym (append_assoc (map Changed (take (scrape.1 - from) (drop from cs)))
+    (map Changed (take (second.1 - scrape.1) (drop scrape.1 cs))) (Scraped (as_answer second.0) ∷ merged cs second.1 kept))
     ∙ ap (λ front. front ++ Scraped (as_answer second.0) ∷ merged cs second.1 kept)
     (sym (map-append Changed (take (scrape.1 - from) (drop from cs)) (take (second.1 - scrape.1) (drop scrape.1 cs)))
     ∙ ap (map Changed) (joined cs from scrape.1 second.1 noted.0 noted.1.0)))
@@ -106,7 +114,8 @@ merged_drop : (cs : List Change) (from k : ℕ) (kept : List (Taken × ℕ)) →
 merged_drop cs from zero kept noted = refl
 merged_drop cs from (suc k) [] noted = without_all (suc k) (drop from cs)
 merged_drop cs from (suc k) (scrape ∷ kept) noted =
-    merged_drop cs from k kept (noted_less (length cs) from scrape kept noted) ∙ ap (without k) (merged_less cs from scrape kept noted)
+    merged_drop cs from k kept (noted_less (length cs) from scrape kept noted)
+    ∙ ap (without k) (merged_less cs from scrape kept noted)
 
 scrapes_front : (cs : List Change) (entries : List Entry) → scrapes (map Changed cs ++ entries) ≡ scrapes entries
 scrapes_front [] entries = refl
@@ -146,12 +155,15 @@ merged_length cs from (scrape ∷ kept) noted =
     let inner : scrape.1 - from ≤ length (drop from cs) = rw length-drop (omega (arith, inside)) in
     let front : length (map Changed (take (scrape.1 - from) (drop from cs))) ≡ scrape.1 - from =
     length-map (take (scrape.1 - from) (drop from cs)) Changed ∙ length-take-le (scrape.1 - from) (drop from cs) inner in
-    let e : length (merged cs from (scrape ∷ kept)) ≡ length (map Changed (take (scrape.1 - from) (drop from cs))) + suc (length (merged cs scrape.1 kept)) =
-    length-append (map Changed (take (scrape.1 - from) (drop from cs))) (Scraped (as_answer scrape.0) ∷ merged cs scrape.1 kept) in
+    let e : length (merged cs from (scrape ∷ kept)) ≡ length (map Changed (take (scrape.1 - from) (drop from cs))) + suc
+    (length (merged cs scrape.1 kept)) =
+    length-append (map Changed (take (scrape.1 - from) (drop from cs)))
+    (Scraped (as_answer scrape.0) ∷ merged cs scrape.1 kept) in
     omega (arith, rest, inside, front, e, noted.0)
 
 -- the answer that is kept last is the newest
-pub newest_kept : (kept : List (Taken × ℕ)) (i : ℕ) (scrape : Taken × ℕ) → suc i ≡ length kept → scrape ≡ slice_index_or kept i scrape
+pub newest_kept : (kept : List (Taken × ℕ)) (i : ℕ) (scrape : Taken × ℕ) → suc i ≡ length kept
+    → scrape ≡ slice_index_or kept i scrape
     → newest (answers_of kept) ≡ Some (as_answer scrape.0)
 newest_kept [] i scrape e last = absurd (omega (arith, e))
 newest_kept (first ∷ []) zero scrape e last = ap (λ (s : Taken × ℕ). Some (as_answer s.0)) (sym last)

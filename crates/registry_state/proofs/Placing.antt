@@ -1,5 +1,6 @@
 -- Where a child goes among the children of its family.
-use Rattle.std.proofs.Common.{◌≡◌, ℕ, zero, suc, ◌<◌, ◌≤◌, List, [], ◌∷◌, length, get_or, All, AllPairs, ◌≢◌, refl, ap, sym, subst, ◌∙◌, arith}
+use Rattle.std.proofs.Common.{◌≡◌, ℕ, zero, suc, ◌<◌, ◌≤◌, List, [], ◌∷◌, length, get_or, All, AllPairs, ◌≢◌, refl, ap, sym}
+use Rattle.std.proofs.Common.{subst, ◌∙◌, arith}
 use Rattle.std.specs.Prelude.{◌⊎◌, Result, Ok, Err, IfOk, IfErr, OnErr}
 use Rattle.std.proofs.Common.{inl, inr}
 use Rattle.std.specs.List.{insert, AllWithin, HoldsAt}
@@ -39,7 +40,8 @@ exact_values (x ∷ xs) (y ∷ ys) e =
 
 -- a child is put where a search by halves would insert it
 pub put_is : (child : Child) (xs : List Child) (i : ℕ) → i ≤ length xs
-    → AllWithin (λ (y : Child). stands y child ≡ Less) xs 0 i → AllWithin (λ (y : Child). stands y child ≡ Greater) xs i (length xs)
+    → AllWithin (λ (y : Child). stands y child ≡ Less) xs 0 i → AllWithin (λ (y : Child). stands y child ≡ Greater) xs i
+    (length xs)
     → put child xs ≡ insert xs i child
 put_is child [] zero le less greater = refl
 put_is child [] (suc i) le less greater = absurd (omega (arith, le))
@@ -69,13 +71,15 @@ before_equal x y z less equal =
     ∙ sym (values_total.antisymm x.values y.values) ∙ less
 
 -- what a search by halves asks of children in order
-pub rising : (child : Child) (xs : List Child) → AllPairs IsChildBefore xs → IsNonDecreasingBy (λ (y : Child). ordering_index (stands y child)) xs
+pub rising : (child : Child) (xs : List Child) → AllPairs IsChildBefore xs
+    → IsNonDecreasingBy (λ (y : Child). ordering_index (stands y child)) xs
 rising child xs ordered i j d le within =
     elim (i_or i j le) [
       | inl lt ↦ index_le _ _
           (λ less. values_total.trans (get_or xs i d).values (get_or xs j d).values child.values (ordered i j d lt within) less)
           (λ equal. before_equal (get_or xs i d) (get_or xs j d) child (ordered i j d lt within) equal)
-      | inr e ↦ subst (λ k. ordering_index (stands (get_or xs i d) child) ≤ ordering_index (stands (get_or xs k d) child)) e (omega arith)
+      | inr e ↦ subst (λ k. ordering_index (stands (get_or xs i d) child) ≤ ordering_index (stands (get_or xs k d) child)) e
+          (omega arith)
     ]
 
 -- what a search by halves finds among children in order
@@ -83,7 +87,8 @@ pub found_at : (children : List Child) (values : List (List ℕ)) (result : Resu
     → IsSearchInRange result (length children)
     → IsBinarySearchResult (λ (child : Child). slice_cmp (slice_cmp nat_cmp) child.values values) children result
     → IfOk result (λ place. (place < length children) × HoldsAt (λ (child : Child). child.values ≡ values) children place)
-found_at children values (Ok place) ordered within found = (within, λ d. exact_values (get_or children place d).values values (found d))
+found_at children values (Ok place) ordered within found =
+    (within, λ d. exact_values (get_or children place d).values values (found d))
 found_at children values (Err place) ordered within found = tt
 
 pub place_at : (children : List Child) (values : List (List ℕ)) (result : Result ℕ ℕ) → AllPairs IsChildBefore children
@@ -100,19 +105,23 @@ pub place_is_new : (children : List Child) (values : List (List ℕ)) (place : �
     → All (λ (child : Child). child.values ≢ values) children
 place_is_new children values place at k d within same =
     let child : Child = get_or children k d in
-    let equal : slice_cmp (slice_cmp nat_cmp) child.values values ≡ Equal = subst (λ v. slice_cmp (slice_cmp nat_cmp) child.values v ≡ Equal) same (tied_itself values_total child.values) in
+    let equal : slice_cmp (slice_cmp nat_cmp) child.values values ≡ Equal =
+    subst (λ v. slice_cmp (slice_cmp nat_cmp) child.values v ≡ Equal) same (tied_itself values_total child.values) in
     elim (cases_order k place) [
       | inl lt ↦ not_both Less (λ e. cc) (at.front k d (omega arith) lt) equal
-      | inr rest ↦ not_both Greater (λ e. cc) (at.back k d (elim rest [ inl e ↦ omega (arith, e) | inr gt ↦ omega (arith, gt) ]) within) equal
+      | inr rest ↦ not_both Greater (λ e. cc)
+          (at.back k d (elim rest [ inl e ↦ omega (arith, e) | inr gt ↦ omega (arith, gt) ]) within) equal
     ]
   where
     not_both : {o : Ordering} (p : Ordering) → (p ≡ Equal → ⊥) → o ≡ p → o ≡ Equal → ⊥
     not_both p other e f = other (sym e ∙ f)
 
-pub put_at : (child : Child) (children : List Child) (place : ℕ) → IsPlaceOfValues children child.values place → put child children ≡ insert children place child
+pub put_at : (child : Child) (children : List Child) (place : ℕ) → IsPlaceOfValues children child.values place
+    → put child children ≡ insert children place child
 put_at child children place at = put_is child children place at.within at.front at.back
 
-pub new_at : (children : List Child) (values : List (List ℕ)) (result : Result ℕ ℕ) → IfErr result (IsPlaceOfValues children values)
+pub new_at : (children : List Child) (values : List (List ℕ)) (result : Result ℕ ℕ)
+    → IfErr result (IsPlaceOfValues children values)
     → OnErr result (All (λ (child : Child). child.values ≢ values) children)
 new_at children values (Ok place) at = tt
 new_at children values (Err place) at = place_is_new children values place at

@@ -31,7 +31,8 @@ record Parts (n c h g : ℕ) (from : State) (entries : List Entry) (to : State) 
   last : to.last ≡ last_of from.last (scrapes entries)
 
 module _ (n c h g : ℕ) where
-  leads_by_parts : (from : State) (entries : List Entry) (to : State) → Parts n c h g from entries to → Leads n c h g from entries to
+  leads_by_parts : (from : State) (entries : List Entry) (to : State) → Parts n c h g from entries to
+      → Leads n c h g from entries to
   leads_by_parts from [] to parts =
       ap (λ (families : List Family). record { families = families; last = from.last }) (sym parts.families)
       ∙ ap (λ (last : Option Answer). record { families = to.families; last = last }) (sym parts.last)
@@ -46,7 +47,8 @@ module _ (n c h g : ℕ) where
         (record { accepted = parts.accepted; scraped = parts.scraped.1; families = parts.families; last = parts.last }),
   )
 
-  parts_of_leads : (from : State) (entries : List Entry) (to : State) → Leads n c h g from entries to → Parts n c h g from entries to
+  parts_of_leads : (from : State) (entries : List Entry) (to : State) → Leads n c h g from entries to
+      → Parts n c h g from entries to
   parts_of_leads from [] to leads = record {
     accepted = tt;
     scraped = tt;
@@ -61,7 +63,8 @@ module _ (n c h g : ℕ) where
       record { accepted = rest.accepted; scraped = (leads.0, rest.scraped); families = rest.families; last = rest.last }
 
   -- a journal replays to a state where its parts do
-  pub replays_by_parts : (journal : List Entry) (state : State) → ReplaysByParts n c h g journal state → Replays n c h g journal state
+  pub replays_by_parts : (journal : List Entry) (state : State) → ReplaysByParts n c h g journal state
+      → Replays n c h g journal state
   replays_by_parts journal state parts = leads_by_parts nothing journal state (record {
     accepted = parts.accepted;
     scraped = parts.scraped;
@@ -70,7 +73,8 @@ module _ (n c h g : ℕ) where
   })
 
   -- and only there
-  pub parts_of_replay : (journal : List Entry) (state : State) → Replays n c h g journal state → ReplaysByParts n c h g journal state
+  pub parts_of_replay : (journal : List Entry) (state : State) → Replays n c h g journal state
+      → ReplaysByParts n c h g journal state
   parts_of_replay journal state replays =
       let parts = parts_of_leads nothing journal state replays in
       record {
@@ -83,8 +87,11 @@ module _ (n c h g : ℕ) where
   leads_more : (from : State) (entries : List Entry) (middle : State) (more : List Entry) (to : State)
       → Leads n c h g from entries middle → Leads n c h g middle more to → Leads n c h g from (entries ++ more) to
   leads_more from [] middle more to leads rest = subst (λ (s : State). Leads n c h g s more to) (sym leads) rest
-  leads_more from (Changed change ∷ entries) middle more to leads rest =
-      (leads.0, leads_more (record { families = after from.families change; last = from.last }) entries middle more to leads.1 rest)
+  leads_more from (Changed change ∷ entries) middle more to leads rest = (
+    leads.0,
+    leads_more (record { families = after from.families change; last = from.last }) entries middle more to leads.1
+        rest,
+  )
   leads_more from (Scraped answer ∷ entries) middle more to leads rest =
       (leads.0, leads_more (record { families = from.families; last = Some answer }) entries middle more to leads.1 rest)
 
@@ -93,14 +100,16 @@ module _ (n c h g : ℕ) where
       → IsAcceptedChange n c h g state.families change
       → Replays n c h g (journal ++ Changed change ∷ []) (record { families = after state.families change; last = state.last })
   replays_change journal state change replays accepted =
-      leads_more nothing journal state (Changed change ∷ []) (record { families = after state.families change; last = state.last }) replays (accepted, refl)
+      leads_more nothing journal state (Changed change ∷ [])
+      (record { families = after state.families change; last = state.last }) replays (accepted, refl)
 
   -- one scrape further
   pub replays_scrape : (journal : List Entry) (state : State) (answer : Answer) → Replays n c h g journal state
       → IsNext n c h g state.last answer
       → Replays n c h g (journal ++ Scraped answer ∷ []) (record { families = state.families; last = Some answer })
   replays_scrape journal state answer replays next =
-      leads_more nothing journal state (Scraped answer ∷ []) (record { families = state.families; last = Some answer }) replays (next, refl)
+      leads_more nothing journal state (Scraped answer ∷ []) (record { families = state.families; last = Some answer }) replays
+      (next, refl)
 
   -- where another scrape follows, the first one may be left out
   leads_behind : (families : List Family) (first : Answer) (entries : List Entry) (to : State) → 0 < length (scrapes entries)
@@ -116,8 +125,10 @@ module _ (n c h g : ℕ) where
       → Leads n c h g (record { families = families; last = None }) entries to
       → Leads n c h g (record { families = families; last = None }) (without_oldest entries) to
   leads_less families [] to two leads = absurd (omega (arith, two))
-  leads_less families (Changed change ∷ entries) to two leads = (leads.0, leads_less (after families change) entries to two leads.1)
-  leads_less families (Scraped answer ∷ entries) to two leads = leads_behind families answer entries to (omega (arith, two)) leads.1
+  leads_less families (Changed change ∷ entries) to two leads =
+      (leads.0, leads_less (after families change) entries to two leads.1)
+  leads_less families (Scraped answer ∷ entries) to two leads = leads_behind families answer entries to (omega (arith, two))
+      leads.1
 
   -- the oldest scrapes may be left out, as long as one stays where there was one
   pub replays_without : (k : ℕ) (journal : List Entry) (state : State) → k ≤ length (scrapes journal) - 1
@@ -126,7 +137,8 @@ module _ (n c h g : ℕ) where
   replays_without (suc k) journal state le replays =
       let e : length (scrapes (without_oldest journal)) ≡ length (scrapes journal) - 1 =
       ap length (scrapes_less journal) ∙ length-drop 1 (scrapes journal) in
-      replays_without k (without_oldest journal) state (omega (arith, e, le)) (leads_less [] journal state (omega (arith, le)) replays)
+      replays_without k (without_oldest journal) state (omega (arith, e, le))
+      (leads_less [] journal state (omega (arith, le)) replays)
 
   pub replays_within : (window : ℕ) (journal : List Entry) (state : State) → 1 ≤ window
       → Replays n c h g journal state → Replays n c h g (within window journal) state

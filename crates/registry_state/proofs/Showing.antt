@@ -1,5 +1,6 @@
 -- The families with their numbers, in the order of their names, are a scrape of what the registry holds.
-use Rattle.std.proofs.Common.{◌≡◌, ◌≢◌, ℕ, zero, suc, ◌+◌, ◌*◌, ◌<◌, ◌≤◌, List, [], ◌∷◌, length, map, get_or, All, AllPairs, refl, ap, sym, subst, ◌∙◌, arith, inl, inr, add-one}
+use Rattle.std.proofs.Common.{◌≡◌, ◌≢◌, ℕ, zero, suc, ◌+◌, ◌*◌, ◌<◌, ◌≤◌, List, [], ◌∷◌, length, map, get_or, All, AllPairs, refl}
+use Rattle.std.proofs.Common.{ap, sym, subst, ◌∙◌, arith, inl, inr, add-one}
 use Rattle.std.specs.Prelude.{slice_index, take, drop}
 use Rattle.std.specs.List.{range_with_len}
 use Rattle.std.specs.List.Sorted.{IsPermutation}
@@ -47,7 +48,8 @@ few_children c h g family all are =
     let slot_of : Child → ℕ = λ (child : Child). child.slot in
     let n : length (map slot_of family.children) ≡ length family.children = length-map family.children slot_of in
     let few : length (map slot_of family.children) ≤ slots c h g family.desc.kind =
-    few_distinct (map slot_of family.children) (slots c h g family.desc.kind) (pairs_map (λ a b. a ≢ b) slot_of family.children are.distinct)
+    few_distinct (map slot_of family.children) (slots c h g family.desc.kind)
+    (pairs_map (λ a b. a ≢ b) slot_of family.children are.distinct)
     (All-map (λ x. x < slots c h g family.desc.kind) slot_of family.children are.below) in
     let most = few_slots c h g family.desc.kind all in
     omega (arith, n, few, most)
@@ -59,7 +61,8 @@ number_is n c h g answer Counter slot whole lt = refl
 number_is n c h g answer Histogram slot whole lt =
     let wide = whole.totals in (
       refl,
-      legal_buckets c h slot answer.totals (slice_index answer.totals (c + 27 * slot + 26)) (take 25 (drop (c + 27 * slot) answer.totals)) lt
+      legal_buckets c h slot answer.totals (slice_index answer.totals (c + 27 * slot + 26))
+          (take 25 (drop (c + 27 * slot) answer.totals)) lt
           (omega (arith, wide, lt)) whole.legal refl refl,
     )
 number_is n c h g answer Gauge slot whole lt = refl
@@ -74,14 +77,16 @@ family_is n c h g answer family all whole are =
           let few = few_children c h g family all are in omega (arith, same, few);
       fit = All-map (λ (child : ChildShown). length child.values ≡ length family.desc.labels) shown family.children are.fit;
       numbers = All-map (λ (child : ChildShown). IsNumberOf kind child.number) shown family.children
-          (All-weaker (λ (child : Child). child.slot < slots c h g kind) (λ (child : Child). IsNumberOf kind (number_at c h answer.totals kind child.slot))
+          (All-weaker (λ (child : Child). child.slot < slots c h g kind)
+          (λ (child : Child). IsNumberOf kind (number_at c h answer.totals kind child.slot))
           (λ child lt. number_is n c h g answer kind child.slot whole lt) family.children are.below);
       ordered = pairs_map IsShownBefore shown family.children are.ordered;
     }
 
 -- families of which one stands before the other by name are not the same
 not_itself : (name : List ℕ) → ¬ (IsBefore name name)
-not_itself name before = let tied : slice_cmp nat_cmp name name ≡ Equal = tied_itself nat_list_cmp_total name in absurd (less_equal (sym before ∙ tied))
+not_itself name before = let tied : slice_cmp nat_cmp name name ≡ Equal = tied_itself nat_list_cmp_total name in
+    absurd (less_equal (sym before ∙ tied))
   where
     less_equal : Less ≡ Equal → ⊥
     less_equal e = cc
@@ -91,17 +96,20 @@ turned a b not clash = not (clash.0, clash.2, clash.1)
 
 -- any two families, in whichever order, do not clash
 apart_at : (c h g : ℕ) (families : List Family) (i j : ℕ) → AreShowable c h g families → i < length families → j < length families
-    → IsBefore (family_at families i).desc.name (family_at families j).desc.name → ¬ (Clash (family_at families i).desc (family_at families j).desc)
+    → IsBefore (family_at families i).desc.name (family_at families j).desc.name
+    → ¬ (Clash (family_at families i).desc (family_at families j).desc)
 apart_at c h g families i j held i_lt j_lt before = elim (cases_order i j) [
   | inl lt ↦ held.apart i j no_family lt j_lt
   | inr rest ↦ elim rest [
-    | inl e ↦ absurd (not_itself (family_at families i).desc.name (subst (λ k. IsBefore (family_at families i).desc.name (family_at families k).desc.name) (sym e) before))
+    | inl e ↦ absurd (not_itself (family_at families i).desc.name
+        (subst (λ k. IsBefore (family_at families i).desc.name (family_at families k).desc.name) (sym e) before))
     | inr gt ↦ turned (family_at families j).desc (family_at families i).desc (held.apart j i no_family gt i_lt)
   ]
 ]
 
 pub length-order : (families : List Family) (order : List ℕ) → IsOrder families order → length order ≡ length families
-length-order families order is = length_permutation (range_with_len 0 (length families)) order is.each ∙ length-range_with_len 0 (length families)
+length-order families order is = length_permutation (range_with_len 0 (length families)) order is.each
+    ∙ length-range_with_len 0 (length families)
 
 pub is_scrape : (n c h g : ℕ) (families : List Family) (order : List ℕ) (answer : Answer) → AreSlots c h g
     → AreShowable c h g families → IsOrder families order → IsWhole n c h g answer
@@ -117,7 +125,8 @@ is_scrape n c h g families order answer all held is whole =
           (λ i lt. family_is n c h g answer (family_at families i) all whole (held.each i no_family lt)) order below);
       ordered = pairs_map (λ (a b : FamilyShown). IsBefore a.desc.name b.desc.name) shown order is.rising;
       apart = pairs_map (λ (a b : FamilyShown). ¬ (Clash a.desc b.desc)) shown order
-          (pairs_weaker (λ i. i < length families) (λ i j. IsBefore (family_at families i).desc.name (family_at families j).desc.name)
+          (pairs_weaker (λ i. i < length families)
+          (λ i j. IsBefore (family_at families i).desc.name (family_at families j).desc.name)
           (λ i j. ¬ (Clash (family_at families i).desc (family_at families j).desc)) order
           (λ i j i_lt j_lt before. apart_at c h g families i j held i_lt j_lt before) below is.rising);
     }
@@ -131,7 +140,8 @@ shifted f x xs d a (suc n) =
     ap (λ y. f y ∷ map (λ i. f (get_or (x ∷ xs) i d)) (range_with_len (a + 1 + 1) n)) e
     ∙ ap (λ rest. f (get_or xs a d) ∷ rest) (shifted f x xs d (a + 1) n)
 
-all_by_number : {X Y : Type 0} (f : X → Y) (xs : List X) (d : X) → map (λ i. f (get_or xs i d)) (range_with_len 0 (length xs)) ≡ map f xs
+all_by_number : {X Y : Type 0} (f : X → Y) (xs : List X) (d : X)
+    → map (λ i. f (get_or xs i d)) (range_with_len 0 (length xs)) ≡ map f xs
 all_by_number f [] d = refl
 all_by_number f (x ∷ xs) d = ap (λ rest. f x ∷ rest) (shifted f x xs d 0 (length xs) ∙ all_by_number f xs d)
 
@@ -141,7 +151,8 @@ is_shown c h families order answer is =
     let shown : ℕ → FamilyShown = λ number. family_shown c h answer.totals (family_at families number) in
     record {
       vector = refl;
-      families_are = subst (λ first. IsPermutation first (map shown order)) (all_by_number (family_shown c h answer.totals) families no_family)
+      families_are = subst (λ first. IsPermutation first (map shown order))
+          (all_by_number (family_shown c h answer.totals) families no_family)
           (IsPermutation-map shown (range_with_len 0 (length families)) order is.each);
     }
 
@@ -152,8 +163,10 @@ showable c h g families used held = record {
   apart = held.apart;
   each = All-weaker (AreChildren used) (AreChildren (slots c h g)) (λ family are. record {
     fit = are.fit;
-    below = All-weaker (λ (child : Child). child.slot < used family.desc.kind) (λ (child : Child). child.slot < slots c h g family.desc.kind)
-        (λ child lt. let le : used family.desc.kind ≤ slots c h g family.desc.kind = held.room family.desc.kind in omega (arith, lt, le)) family.children are.below;
+    below = All-weaker (λ (child : Child). child.slot < used family.desc.kind)
+        (λ (child : Child). child.slot < slots c h g family.desc.kind)
+        (λ child lt. let le : used family.desc.kind ≤ slots c h g family.desc.kind = held.room family.desc.kind in
+        omega (arith, lt, le)) family.children are.below;
     ordered = are.ordered;
     distinct = are.distinct;
   }) families held.each;
@@ -161,4 +174,5 @@ showable c h g families used held = record {
 
 -- the slots of their children are there
 pub showable_within : (c h g : ℕ) (families : List Family) → AreShowable c h g families → All (AreWithin c h g) families
-showable_within c h g families held = All-weaker (AreChildren (slots c h g)) (AreWithin c h g) (λ family are. are.below) families held.each
+showable_within c h g families held = All-weaker (AreChildren (slots c h g)) (AreWithin c h g) (λ family are. are.below) families
+    held.each

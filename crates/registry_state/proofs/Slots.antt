@@ -53,7 +53,8 @@ pub pairs_put : (R : Child → Child → Type 0) (child : Child) (xs : List Chil
 pairs_put R child [] front back pairs = AllPairs-cons R child [] back pairs
 pairs_put R child (x ∷ xs) front back pairs =
     either (AllPairs R) (is_lt (stands x child)) (x ∷ put child xs) (child ∷ x ∷ xs)
-    (λ _. AllPairs-cons R x (put child xs) (all_put (R x) child xs (All-head (λ y. R y child) x xs front) (pairs_head R x xs pairs))
+    (λ _. AllPairs-cons R x (put child xs)
+    (all_put (R x) child xs (All-head (λ y. R y child) x xs front) (pairs_head R x xs pairs))
     (pairs_put R child xs (All-tail (λ y. R y child) x xs front) (All-tail (R child) x xs back) (pairs_tail R x xs pairs)))
     (λ _. AllPairs-cons R child (x ∷ xs) back pairs)
 
@@ -63,10 +64,13 @@ pub ordered_put : (child : Child) (xs : List Child) → All (λ (x : Child). x.v
 ordered_put child [] new pairs = AllPairs-cons IsChildBefore child [] (All-nil (IsChildBefore child)) pairs
 ordered_put child (x ∷ xs) new pairs =
     either (AllPairs IsChildBefore) (is_lt (stands x child)) (x ∷ put child xs) (child ∷ x ∷ xs)
-    (λ less. AllPairs-cons IsChildBefore x (put child xs) (all_put (IsChildBefore x) child xs (is_less (stands x child) less) (pairs_head IsChildBefore x xs pairs))
+    (λ less. AllPairs-cons IsChildBefore x (put child xs)
+    (all_put (IsChildBefore x) child xs (is_less (stands x child) less) (pairs_head IsChildBefore x xs pairs))
     (ordered_put child xs (All-tail (λ (y : Child). y.values ≢ child.values) x xs new) (pairs_tail IsChildBefore x xs pairs)))
-    (λ not. let before : IsChildBefore child x = behind x child (All-head (λ (y : Child). y.values ≢ child.values) x xs new) not in
+    (λ not. let before : IsChildBefore child x = behind x child (All-head (λ (y : Child). y.values ≢ child.values) x xs new)
+    not in
     AllPairs-cons IsChildBefore child (x ∷ xs)
     (All-cons (IsChildBefore child) x xs before
-    (All-weaker (IsChildBefore x) (IsChildBefore child) (λ y after. values_total.trans child.values x.values y.values before after) xs (pairs_head IsChildBefore x xs pairs)))
+    (All-weaker (IsChildBefore x) (IsChildBefore child)
+    (λ y after. values_total.trans child.values x.values y.values before after) xs (pairs_head IsChildBefore x xs pairs)))
     pairs)

@@ -15,24 +15,28 @@ use Rattle.registry_state.proofs.Entries.{newest_within, newest_scrape}
 use Rattle.registry_state.proofs.Keeping.{keeps_at_window, kept_scrape}
 
 -- the newest scrape that is kept after a scrape
-pub newest_after : (window : ℕ) (journal journal' : List Entry) (answer : Answer) → 1 ≤ window → journal' ≡ within window (journal ++ Scraped answer ∷ [])
+pub newest_after : (window : ℕ) (journal journal' : List Entry) (answer : Answer) → 1 ≤ window
+    → journal' ≡ within window (journal ++ Scraped answer ∷ [])
     → newest (scrapes journal') ≡ Some answer
 newest_after window journal journal' answer some same =
     ap (λ (l : List Entry). newest (scrapes l)) same ∙ newest_scrape window journal answer some
 
-pub is_newest : (window : ℕ) (journal journal' : List Entry) (answer other : Answer) → 1 ≤ window → journal' ≡ within window (journal ++ Scraped answer ∷ [])
+pub is_newest : (window : ℕ) (journal journal' : List Entry) (answer other : Answer) → 1 ≤ window
+    → journal' ≡ within window (journal ++ Scraped answer ∷ [])
     → newest (scrapes journal') ≡ Some other → answer ≡ other
 is_newest window journal journal' answer other some same is =
     let e : Some answer ≡ Some other = sym (newest_after window journal journal' answer some same) ∙ is in
     cc
 
-pub is_some : (window : ℕ) (journal journal' : List Entry) (answer : Answer) → 1 ≤ window → journal' ≡ within window (journal ++ Scraped answer ∷ [])
+pub is_some : (window : ℕ) (journal journal' : List Entry) (answer : Answer) → 1 ≤ window
+    → journal' ≡ within window (journal ++ Scraped answer ∷ [])
     → ¬ (newest (scrapes journal') ≡ None)
 is_some window journal journal' answer some same is =
     let e : Some answer ≡ None = sym (newest_after window journal journal' answer some same) ∙ is in
     cc
 
-module _ (n c h g : ℕ) (recorded : List Answer) (journal : List Entry) (window : ℕ) (families : List Family) (order : List ℕ) (used : Kind → ℕ)
+module _ (n c h g : ℕ) (recorded : List Answer) (journal : List Entry) (window : ℕ) (families : List Family) (order : List ℕ)
+    (used : Kind → ℕ)
     (is : IsHeld n c h g recorded journal window families order used) where
   -- another window
   pub held_window : (window' : ℕ) (journal' : List Entry) → IsWindow window' → journal' ≡ within window' journal
@@ -47,7 +51,8 @@ module _ (n c h g : ℕ) (recorded : List Answer) (journal : List Entry) (window
       })
 
   -- a scrape
-  pub held_scrape : (recorded' : List Answer) (journal' : List Entry) (answer : Answer) → Records n c h g recorded recorded' answer
+  pub held_scrape : (recorded' : List Answer) (journal' : List Entry) (answer : Answer)
+      → Records n c h g recorded recorded' answer
       → journal' ≡ within window (journal ++ Scraped answer ∷ [])
       → IsHeld n c h g recorded' journal' window families order used
   held_scrape recorded' journal' answer records same =
@@ -57,7 +62,8 @@ module _ (n c h g : ℕ) (recorded : List Answer) (journal : List Entry) (window
       (record {
         geometry = is.geometry;
         kept = subst (λ (last : Option Answer). IsKept n c h g recorded' now window (record { families = families; last = last }))
-            (sym (newest_scrape window journal answer is.kept.room.0)) (kept_scrape n c h g recorded recorded' journal window before answer is.kept records);
+            (sym (newest_scrape window journal answer is.kept.room.0))
+            (kept_scrape n c h g recorded recorded' journal window before answer is.kept records);
         held = is.held;
         ordered = is.ordered;
       })
@@ -66,8 +72,20 @@ module _ (n c h g : ℕ) (recorded : List Answer) (journal : List Entry) (window
 pub seen_window : {S : Type 0} (id window' : ℕ) (source : S) (journal journal' : List Entry) (families : List Family)
     → 1 ≤ window' → journal' ≡ within window' journal
     → ◌≡◌ {A = Registry S}
-    (record { id = id; window = window'; source = source; journal = journal'; state = record { families = families; last = newest (scrapes journal') } })
-    (record { id = id; window = window'; source = source; journal = within window' journal; state = record { families = families; last = newest (scrapes journal) } })
+    (record {
+      id = id;
+      window = window';
+      source = source;
+      journal = journal';
+      state = record { families = families; last = newest (scrapes journal') };
+    })
+    (record {
+      id = id;
+      window = window';
+      source = source;
+      journal = within window' journal;
+      state = record { families = families; last = newest (scrapes journal) };
+    })
 seen_window {S} id window' source journal journal' families some same =
     let with_journal : List Entry → Registry S = λ j. record {
       id = id;
@@ -86,18 +104,34 @@ seen_window {S} id window' source journal journal' families some same =
     ap with_journal same ∙ ap with_last (newest_within window' journal some)
 
 -- what contracts see of a registry that has scraped
-pub keeps_scrape : {S : Type 0} (n c h g : ℕ) (recorded : S → List Answer) (gave : S → S → Answer → Type 0) (id window : ℕ) (source source' : S) (journal journal' : List Entry) (families : List Family)
+pub keeps_scrape : {S : Type 0} (n c h g : ℕ) (recorded : S → List Answer) (gave : S → S → Answer → Type 0) (id window : ℕ)
+    (source source' : S) (journal journal' : List Entry) (families : List Family)
     (answer : Answer) → 1 ≤ window → Records n c h g (recorded source) (recorded source') answer → gave source source' answer
-    → journal' ≡ within window (journal ++ Scraped answer ∷ []) → AreMoments n c h g (scrapes journal') → KeepsScrape n c h g recorded gave
-    (record { id = id; window = window; source = source; journal = journal; state = record { families = families; last = newest (scrapes journal) } })
-    (record { id = id; window = window; source = source'; journal = journal'; state = record { families = families; last = newest (scrapes journal') } })
-keeps_scrape n c h g recorded gave id window source source' journal journal' families answer some records given same moments = record {
-  answer = answer;
-  once = records;
-  given = given;
-  journal = same;
-  moments = moments;
-  state = ap (λ (last : Option Answer). record { families = families; last = last }) (newest_after window journal journal' answer some same);
-  id = refl;
-  window = refl;
-}
+    → journal' ≡ within window (journal ++ Scraped answer ∷ []) → AreMoments n c h g (scrapes journal')
+    → KeepsScrape n c h g recorded gave
+    (record {
+      id = id;
+      window = window;
+      source = source;
+      journal = journal;
+      state = record { families = families; last = newest (scrapes journal) };
+    })
+    (record {
+      id = id;
+      window = window;
+      source = source';
+      journal = journal';
+      state = record { families = families; last = newest (scrapes journal') };
+    })
+keeps_scrape n c h g recorded gave id window source source' journal journal' families answer some records given same moments =
+    record {
+      answer = answer;
+      once = records;
+      given = given;
+      journal = same;
+      moments = moments;
+      state = ap (λ (last : Option Answer). record { families = families; last = last })
+          (newest_after window journal journal' answer some same);
+      id = refl;
+      window = refl;
+    }

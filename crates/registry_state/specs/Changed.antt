@@ -26,7 +26,8 @@ pub record IsLeastFree (families : List Family) (kind : Kind) (slot : ℕ) : Typ
 -- the handle of a slot: of the registry of this id, and of a family of this kind and of these bounds
 abbrev pub IsHandle : (id : ℕ) → Descriptor → (slot : ℕ) → Handle → Type 0
 IsHandle id desc slot (Handle.Counter counter) = (desc.kind ≡ Kind.Counter) × (counter.registry ≡ id) × (counter.slot ≡ slot)
-IsHandle id desc slot (Handle.Histogram hist) = (desc.kind ≡ Kind.Histogram) × (hist.registry ≡ id) × (hist.slot ≡ slot) × (hist.bounds ≡ desc.bounds)
+IsHandle id desc slot (Handle.Histogram hist) = (desc.kind ≡ Kind.Histogram) × (hist.registry ≡ id) × (hist.slot ≡ slot)
+    × (hist.bounds ≡ desc.bounds)
 IsHandle id desc slot (Handle.Gauge gauge) = (desc.kind ≡ Kind.Gauge) × (gauge.registry ≡ id) × (gauge.slot ≡ slot)
 
 -- its slot is one of a row of c counters, h histograms and g gauges
@@ -47,16 +48,19 @@ module _ {S : Type 0} (c h g : ℕ) (old new : Registry S) (family : ℕ) (value
   pub record WasMade : Type 0 where
     pub slot : ℕ
     pub made : IsSomeAnd (slice_get old.state.families family) (λ (it : Family).
-        MayMake c h g old.state.families values slot it × IsLeastFree old.state.families it.desc.kind slot × IsHandle old.id it.desc slot handle)
+        MayMake c h g old.state.families values slot it × IsLeastFree old.state.families it.desc.kind slot
+        × IsHandle old.id it.desc slot handle)
     pub after_it : new ≡ changed (Made family values slot) old
 
   -- the handle of the child of these values of the family of this number
   abbrev pub IsGiven : Type 0
   IsGiven = WasThere ⊎ WasMade
 
--- one scan of the source was recorded, which the source gave, and it stands last in the journal, from which the oldest scrape went only
+-- one scan of the source was recorded, which the source gave, and it stands last in the journal, from which the oldest scrape
+-- went only
 -- if they were too many; all that are kept, with this one, are moments of one history of publishes
-pub record KeepsScrape {S : Type 0} (n c h g : ℕ) (recorded : S → List Answer) (gave : S → S → Answer → Type 0) (old new : Registry S) : Type 0 where
+pub record KeepsScrape {S : Type 0} (n c h g : ℕ) (recorded : S → List Answer) (gave : S → S → Answer → Type 0)
+    (old new : Registry S) : Type 0 where
   pub answer : Answer
   pub once : Records n c h g (recorded old.source) (recorded new.source) answer
   pub given : gave old.source new.source answer

@@ -48,18 +48,21 @@ IsChildFault c h g families family values Child.NoSuchFamily = length families �
 IsChildFault c h g families family values (Child.LabelCount want got) =
     IsSomeAnd (slice_get families family) (λ (it : Family). (want ≡ length it.desc.labels) × (got ≡ length values) × (want ≢ got))
 IsChildFault c h g families family values (Child.Full kind) =
-    IsSomeAnd (slice_get families family) (λ (it : Family). IsWanted it values × (kind ≡ it.desc.kind) × (¬ (HasSlot c h g families kind)))
+    IsSomeAnd (slice_get families family) (λ (it : Family). IsWanted it values × (kind ≡ it.desc.kind)
+    × (¬ (HasSlot c h g families kind)))
 IsChildFault c h g families family values Child.NoMemory =
     IsSomeAnd (slice_get families family) (λ (it : Family). IsWanted it values × HasSlot c h g families it.desc.kind)
 
--- what a refused scrape leaves of a source of n workers: all as it was, where nothing was scanned; and where a scan was given up, it
+-- what a refused scrape leaves of a source of n workers: all as it was, where nothing was scanned; and where a scan was given up,
+-- it
 -- recorded nothing, some worker's number rose, and the source gave it up
 module _ {S : Type 0} (n : ℕ) (recorded : S → List Answer) (quit : S → ℕ) (gave_up : S → S → Contended → Type 0) where
   -- this refusal leaves that of the source
   abbrev pub Leaves : (old new : S) → ScrapeFault → Type 0
   Leaves old new Scrape.NoMemory = new ≡ old
   Leaves old new (Scrape.Contended fault) =
-      (recorded new ≡ recorded old) × (quit new ≡ quit old + 1) × (fault.worker < n) × (fault.first < fault.last) × gave_up old new fault
+      (recorded new ≡ recorded old) × (quit new ≡ quit old + 1) × (fault.worker < n) × (fault.first < fault.last)
+      × gave_up old new fault
 
 -- the number of each reason why there is no registry
 abbrev pub new_fault_number : NewFault → ℕ

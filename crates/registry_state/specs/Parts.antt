@@ -21,7 +21,8 @@ module _ (n c h g : ℕ) where
   AreNext last [] = ⊤
   AreNext last (answer ∷ rest) = IsNext n c h g last answer × AreNext (Some answer) rest
 
-  -- the changes are accepted one after the other, and so are the scrapes; and the state has what the changes made, and the last scrape
+  -- the changes are accepted one after the other, and so are the scrapes; and the state has what the changes made, and the last
+  -- scrape
   pub record ReplaysByParts (journal : List Entry) (state : State) : Type 0 where
     pub accepted : AreAccepted [] (changes journal)
     pub scraped : AreNext None (scrapes journal)

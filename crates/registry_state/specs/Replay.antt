@@ -1,5 +1,6 @@
 -- The replay of a journal: what its entries make, where each of them is accepted.
-use Rattle.std.specs.Prelude.{◌≡◌, ◌≢◌, ℕ, zero, suc, ◌<◌, List, [], ◌∷◌, ◌++◌, Option, Some, None, length, slice_get, IsSomeAnd, All, if◌then◌else◌}
+use Rattle.std.specs.Prelude.{◌≡◌, ◌≢◌, ℕ, zero, suc, ◌<◌, List, [], ◌∷◌, ◌++◌, Option, Some, None, length, slice_get, IsSomeAnd}
+use Rattle.std.specs.Prelude.{All, if◌then◌else◌}
 use Rattle.std.specs.Option.{ForSome}
 use Rattle.std.specs.Ordering.{nat_cmp, is_lt}
 use Rattle.std.specs.Cmp.Lexicographic.{slice_cmp}
@@ -38,7 +39,8 @@ slots c h g Gauge = g
 
 -- no child of a family of this kind has this slot
 abbrev pub IsFree : List Family → Kind → ℕ → Type 0
-IsFree families kind slot = All (λ (family : Family). family.desc.kind ≡ kind → All (λ (child : Child). child.slot ≢ slot) family.children) families
+IsFree families kind slot =
+    All (λ (family : Family). family.desc.kind ≡ kind → All (λ (child : Child). child.slot ≢ slot) family.children) families
 
 -- no family clashes with the descriptor
 abbrev pub IsApart : List Family → Descriptor → Type 0

@@ -18,7 +18,8 @@ module _ (c h : ℕ) (totals : List ℕ) where
     sum = slice_index totals (c + 27 * slot + 25);
     count = slice_index totals (c + 27 * slot + 26);
   })
-  number_at Gauge slot = Number.Gauge (record { up = slice_index totals (c + 27 * h + 2 * slot); down = slice_index totals (c + 27 * h + 2 * slot + 1) })
+  number_at Gauge slot = Number.Gauge
+      (record { up = slice_index totals (c + 27 * h + 2 * slot); down = slice_index totals (c + 27 * h + 2 * slot + 1) })
 
   -- a child with the number of its slot
   abbrev pub child_shown : Kind → Child → ChildShown

@@ -10,7 +10,8 @@ use Rattle.registry_state.specs.Kept.{IsKept}
 use Rattle.registry_state.specs.Held.{AreHeld, IsOrder}
 
 -- the journal replays to the families and the last scrape; the families stand in this order by their names, and use so many slots
-pub record IsHeld (n c h g : ℕ) (recorded : List Answer) (journal : List Entry) (window : ℕ) (families : List Family) (order : List ℕ) (used : Kind → ℕ) : Type 0 where
+pub record IsHeld (n c h g : ℕ) (recorded : List Answer) (journal : List Entry) (window : ℕ) (families : List Family)
+    (order : List ℕ) (used : Kind → ℕ) : Type 0 where
   pub geometry : IsGeometry n c h g
   pub kept : IsKept n c h g recorded journal window (record { families = families; last = newest (scrapes journal) })
   pub held : AreHeld c h g families used

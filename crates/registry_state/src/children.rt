@@ -125,7 +125,8 @@ impl<
         values: &[LabelValue],
     ) -> Result<Handle, ChildFault>
         requires wanted { IsSomeAnd (slice_get self.old.state.families number) (λ it. IsWanted it values.now) }
-        requires place { IsSomeAnd (slice_get self.old.state.families number) (λ it. IsPlaceOfValues it.children values.now place) }
+        requires place { IsSomeAnd (slice_get self.old.state.families number)
+            (λ it. IsPlaceOfValues it.children values.now place) }
         ensures made { IfOk result (WasMade C H G self.old self.new number values.now) }
         ensures inside { IfOk result (IsInside C H G) }
         ensures fault { IfErr result (IsChildFault C H G self.old.state.families number values.now) }

@@ -1,5 +1,6 @@
 //! Families and their children.
-ghost use Rattle.std.specs.Prelude.{◌≡◌, ◌≢◌, ◌↔◌, ◌<◌, length, slice_get, All, AllPairs, IsSomeAnd, IsTrue, MatchOption, OnOk, OnErr, IfErr, IfOk, IsOk};
+ghost use Rattle.std.specs.Prelude.{◌≡◌, ◌≢◌, ◌↔◌, ◌<◌, length, slice_get, All, AllPairs, IsSomeAnd, IsTrue, MatchOption, OnOk};
+ghost use Rattle.std.specs.Prelude.{OnErr, IfErr, IfOk, IsOk};
 ghost use Rattle.std.specs.Ordering.{nat_cmp};
 ghost use Rattle.std.specs.List.{HoldsAt};
 ghost use Rattle.std.specs.Vec.{vec_len, vec_capacity};
@@ -68,7 +69,8 @@ fn is_named(family: &Family, name: &str) -> bool
 
 /// The number of the family of this name.
 pub(crate) fn number_named(families: &[Family], name: &str) -> Option<usize>
-    ensures { MatchOption result (All (λ family. family.desc.name ≢ name.now) families.now) (λ number. IsSomeAnd (slice_get families.now number) (λ family. family.desc.name ≡ name.now)) }
+    ensures { MatchOption result (All (λ family. family.desc.name ≢ name.now) families.now)
+        (λ number. IsSomeAnd (slice_get families.now number) (λ family. family.desc.name ≡ name.now)) }
 {
     for (place, family) in families.iter().enumerate() {
         if is_named(family, name) {
@@ -126,7 +128,8 @@ impl Child {
 /// The place of the child of these values, or else the place at which it would stand.
 pub(crate) fn place_of(children: &[Child], values: &[LabelValue]) -> Result<usize, usize>
     requires ordered { AllPairs IsChildBefore children.now }
-    ensures found { IfOk result (λ place. (place < length children.now) × HoldsAt (λ child. child.values ≡ values.now) children.now place) }
+    ensures found { IfOk result (λ place. (place < length children.now)
+        × HoldsAt (λ child. child.values ≡ values.now) children.now place) }
     ensures place { IfErr result (IsPlaceOfValues children.now values.now) }
     ensures new { OnErr result (All (λ child. child.values ≢ values.now) children.now) }
 {

@@ -119,7 +119,8 @@ impl<const N: usize, const C: usize, const H: usize, const G: usize> Journal<N, 
 
     /// The newest scrape that is kept.
     pub(crate) fn newest(&self) -> Option<&Snapshot<N, C, H, G>>
-        ensures { MatchOption result (newest (scrapes self.now) ≡ None) (λ snapshot. newest (scrapes self.now) ≡ Some (as_answer snapshot.now)) }
+        ensures { MatchOption result (newest (scrapes self.now) ≡ None)
+            (λ snapshot. newest (scrapes self.now) ≡ Some (as_answer snapshot.now)) }
     {
         self.kept.newest()
     }

@@ -20,11 +20,13 @@ impl<const N: usize, const C: usize, const H: usize, const G: usize> RegistrySta
     ///
     /// 15 [`PlainFault::Exhausted`] where 2^64 - 1 lists were applied; then 11 and 12 of the first operation that fails.
     pub fn apply(&mut self, ops: &[Op]) -> Result<(), PlainFault>
-        ensures applied { OnOk result (IsApplied C H G (row_of self.old.source) (count_of self.old.source) ops.now (row_of self.new.source) (count_of self.new.source)) }
+        ensures applied { OnOk result (IsApplied C H G (row_of self.old.source) (count_of self.old.source) ops.now
+            (row_of self.new.source) (count_of self.new.source)) }
         ensures recorded { recorded_by self.new.source ≡ recorded_by self.old.source }
         ensures same { self.new ≡ record self.old { source = self.new.source } }
         ensures fault { IfErr result (IsPlainFault C H G (row_of self.old.source) (count_of self.old.source) ops.now) }
-        ensures unchanged { OnErr result ((row_of self.new.source ≡ row_of self.old.source) × (count_of self.new.source ≡ count_of self.old.source)) }
+        ensures unchanged { OnErr result ((row_of self.new.source ≡ row_of self.old.source)
+            × (count_of self.new.source ≡ count_of self.old.source)) }
     {
         self.source.apply(ops)
     }

@@ -1,5 +1,6 @@
 //! Registries are made, and families are registered.
-ghost use Rattle.std.specs.Prelude.{◌≡◌, ◌≢◌, ◌<◌, ◌↔◌, [], length, slice_get, All, IfErr, IfOk, IfSome, IsSomeAnd, IsTrue, MatchOption, OnErr, OnOk};
+ghost use Rattle.std.specs.Prelude.{◌≡◌, ◌≢◌, ◌<◌, ◌↔◌, [], length, slice_get, All, IfErr, IfOk, IfSome, IsSomeAnd, IsTrue};
+ghost use Rattle.std.specs.Prelude.{MatchOption, OnErr, OnOk};
 ghost use Rattle.segment_layout.specs.Layout.{IsGeometry};
 ghost use Rattle.registry_state.specs.Journal.{Registered};
 ghost use Rattle.registry_state.specs.Replay.{nothing, IsAcceptedChange};
@@ -50,7 +51,13 @@ impl<
         window: usize,
     ) -> Result<RegistryState<S, N, C, H, G>, NotMade<S>>
         requires { IsGeometry N C H G }
-        ensures made { IfOk result (λ r. r ≡ record { id = id; window = window; source = source; journal = []; state = nothing }) }
+        ensures made { IfOk result (λ r. r ≡ record {
+          id = id;
+          window = window;
+          source = source;
+          journal = [];
+          state = nothing;
+        }) }
         ensures window { OnOk result (IsWindow window) }
         ensures fault { IfErr result (λ e. IsNewFault window e.fault) }
         ensures back { IfErr result (λ e. e.source ≡ source) }

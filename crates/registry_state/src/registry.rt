@@ -50,7 +50,8 @@ impl<S: Source<N, C, H, G>, const N: usize, const C: usize, const H: usize, cons
       state = record { families = r.families.items; last = newest (scrapes r.journal) };
     } };
 
-    ghost invariant = { λ r. IsHeld N C H G (S.recorded r.source) r.journal r.window r.families.items r.order.items (used_of r.used.counters r.used.hists r.used.gauges) };
+    ghost invariant = { λ r. IsHeld N C H G (S.recorded r.source) r.journal r.window r.families.items r.order.items
+        (used_of r.used.counters r.used.hists r.used.gauges) };
 }
 
 /// There is no registry. The source is handed back.

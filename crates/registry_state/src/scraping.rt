@@ -30,9 +30,11 @@ impl<
     pub fn scrape(&mut self) -> Result<Scrape, ScrapeFault>
         ensures kept { OnOk result (KeepsScrape N C H G S.recorded S.gave self.old self.new) }
         ensures quit { OnOk result (S.quit self.new.source ≡ S.quit self.old.source) }
-        ensures shown { IfOk result (λ scrape. IsSomeAnd self.new.state.last (λ answer. IsShown C H self.new.state.families answer scrape)) }
+        ensures shown { IfOk result
+            (λ scrape. IsSomeAnd self.new.state.last (λ answer. IsShown C H self.new.state.families answer scrape)) }
         ensures fault { IfErr result (Leaves N S.recorded S.quit S.gave_up self.old.source self.new.source) }
-        ensures unchanged { OnErr result ((self.new.journal ≡ self.old.journal) × (self.new.state ≡ self.old.state) × (self.new.id ≡ self.old.id) × (self.new.window ≡ self.old.window)) }
+        ensures unchanged { OnErr result ((self.new.journal ≡ self.old.journal) × (self.new.state ≡ self.old.state)
+            × (self.new.id ≡ self.old.id) × (self.new.window ≡ self.old.window)) }
     {
         let alloc = *self.families.allocator();
         let Ok(blank) = Blank::new(alloc, N, &self.families, &self.order) else {

@@ -34,7 +34,8 @@ impl Used {
     /// One slot of a kind more is used.
     pub(crate) fn with_one_more(self, kind: Kind) -> Used
         requires { used_of self.counters self.hists self.gauges kind < 2 ^ 64 - 1 }
-        ensures { IsOneMore kind (used_of self.counters self.hists self.gauges) (used_of result.counters result.hists result.gauges) }
+        ensures { IsOneMore kind (used_of self.counters self.hists self.gauges)
+            (used_of result.counters result.hists result.gauges) }
     {
         let mut used = self;
         match kind {

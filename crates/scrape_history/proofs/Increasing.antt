@@ -1,7 +1,9 @@
 -- Increases, one after another.
-use Rattle.std.proofs.Common.{◌≡◌, ℕ, zero, suc, ◌+◌, ◌-◌, ◌<◌, List, [], ◌∷◌, ◌++◌, length, get_or, set, take, drop, refl, ap, sym, subst, ◌∙◌, arith}
+use Rattle.std.proofs.Common.{◌≡◌, ℕ, zero, suc, ◌+◌, ◌-◌, ◌<◌, List, [], ◌∷◌, ◌++◌, length, get_or, set, take, drop, refl, ap}
+use Rattle.std.proofs.Common.{sym, subst, ◌∙◌, arith}
 use Rattle.std.specs.Prelude.{◌%◌, ◌^◌}
-use Rattle.std.proofs.lemmas.List.{take-append-drop, append_assoc, take_more, drop_more, length-take-le, get_or_at, set_at, append-nil}
+use Rattle.std.proofs.lemmas.List.{take-append-drop, append_assoc, take_more, drop_more, length-take-le, get_or_at, set_at}
+use Rattle.std.proofs.lemmas.List.{append-nil}
 use Rattle.snapshot_scan.specs.Snapshots.{Taken}
 use Rattle.scrape_history.specs.declared.increase.Increase.{Increase}
 use Rattle.scrape_history.specs.declared.increase.Increase.TheVariants.{Number, Total}
@@ -19,11 +21,13 @@ pub raised_rest : (t : Taken) (i : ℕ) (xs : List Increase) → raised_by (rais
 raised_rest t i xs = sym (raised_append t (take i xs) (drop i xs)) ∙ ap (raised_by t) (take-append-drop i xs)
 
 module _ (n w : ℕ) where
-  pub fit_append : (t : Taken) (xs ys : List Increase) → AreFor n w t xs → AreFor n w (raised_by t xs) ys → AreFor n w t (xs ++ ys)
+  pub fit_append : (t : Taken) (xs ys : List Increase) → AreFor n w t xs → AreFor n w (raised_by t xs) ys
+      → AreFor n w t (xs ++ ys)
   fit_append t [] ys front back = back
   fit_append t (x ∷ xs) ys front back = (front.0, fit_append (raised t x) xs ys front.1 back)
 
-  pub fit_at : (t : Taken) (xs : List Increase) (i : ℕ) (d : Increase) → AreFor n w t xs → i < length xs → IsFor n w (raised_by t (take i xs)) (get_or xs i d)
+  pub fit_at : (t : Taken) (xs : List Increase) (i : ℕ) (d : Increase) → AreFor n w t xs → i < length xs
+      → IsFor n w (raised_by t (take i xs)) (get_or xs i d)
   fit_at t [] i d fit lt = absurd (omega (arith, lt))
   fit_at t (x ∷ xs) zero d fit lt = fit.0
   fit_at t (x ∷ xs) (suc i) d fit lt = fit_at (raised t x) xs i d fit.1 (omega (arith, lt))
@@ -45,7 +49,8 @@ module _ (n w : ℕ) where
   pub adds_none : (t u : Taken) (old : List Increase) → t ≡ u → Adds n w t u old old
   adds_none t u old same = record { more = []; are = sym (append-nil old); lead = record { fit = tt; to = same } }
 
-  pub adds_both : (t u v : Taken) (old mid new : List Increase) → Adds n w t u old mid → Adds n w u v mid new → Adds n w t v old new
+  pub adds_both : (t u v : Taken) (old mid new : List Increase) → Adds n w t u old mid → Adds n w u v mid new
+      → Adds n w t v old new
   adds_both t u v old mid new first second = record {
     more = first.more ++ second.more;
     are = second.are ∙ ap (λ (l : List Increase). l ++ second.more) first.are ∙ append_assoc old first.more second.more;
@@ -53,7 +58,8 @@ module _ (n w : ℕ) where
   }
 
   -- one increase more
-  pub adds_one : (t u v : Taken) (old mid new : List Increase) (x : Increase) → Adds n w t u old mid → new ≡ mid ++ x ∷ [] → IsFor n w u x → raised u x ≡ v
+  pub adds_one : (t u v : Taken) (old mid new : List Increase) (x : Increase) → Adds n w t u old mid → new ≡ mid ++ x ∷ []
+      → IsFor n w u x → raised u x ≡ v
       → Adds n w t v old new
   adds_one t u v old mid new x first is fit to =
       adds_both t u v old mid new first (record { more = x ∷ []; are = is; lead = record { fit = (fit, tt); to = to } })
@@ -70,13 +76,15 @@ module _ (is was : List ℕ) (k : ℕ) (here : k < length is) (there : k < lengt
   split = ap (λ (l : List ℕ). take k is ++ l) (drop_more was k 0 there)
 
   further : take (k + 1) is ++ drop (k + 1) was ≡ take k is ++ get_or is k 0 ∷ drop (k + 1) was
-  further = ap (λ (l : List ℕ). l ++ drop (k + 1) was) (take_more is k 0 here) ∙ append_assoc (take k is) (get_or is k 0 ∷ []) (drop (k + 1) was)
+  further = ap (λ (l : List ℕ). l ++ drop (k + 1) was) (take_more is k 0 here) ∙ append_assoc (take k is) (get_or is k 0 ∷ [])
+      (drop (k + 1) was)
 
   pub mixed_at : get_or (take k is ++ drop k was) k 0 ≡ get_or was k 0
   mixed_at = ap (λ (l : List ℕ). get_or l k 0) split ∙ get_or_at (take k is) (get_or was k 0) (drop (k + 1) was) 0 k front
 
   pub mixed_set : set (take k is ++ drop k was) k (get_or is k 0) ≡ take (k + 1) is ++ drop (k + 1) was
-  mixed_set = ap (λ (l : List ℕ). set l k (get_or is k 0)) split ∙ set_at (take k is) (get_or was k 0) (drop (k + 1) was) (get_or is k 0) k front ∙ sym further
+  mixed_set = ap (λ (l : List ℕ). set l k (get_or is k 0)) split ∙ set_at (take k is) (get_or was k 0) (drop (k + 1) was)
+      (get_or is k 0) k front ∙ sym further
 
   pub mixed_same : get_or is k 0 ≡ get_or was k 0 → take k is ++ drop k was ≡ take (k + 1) is ++ drop (k + 1) was
   mixed_same same = split ∙ ap (λ (y : ℕ). take k is ++ y ∷ drop (k + 1) was) (sym same) ∙ sym further
@@ -85,16 +93,20 @@ module _ (is was : List ℕ) (k : ℕ) (here : k < length is) (there : k < lengt
 pub wraps_back : (a b : ℕ) → a < 2 ^ 64 → b < 2 ^ 64 → (a + (b + (2 ^ 64 - a)) % 2 ^ 64) % 2 ^ 64 ≡ b
 wraps_back a b la lb = omega arith
 
-pub mixed_raised : (is was : List ℕ) (k by : ℕ) → k < length is → k < length was → by ≡ (get_or is k 0 + (2 ^ 64 - get_or was k 0)) % 2 ^ 64
+pub mixed_raised : (is was : List ℕ) (k by : ℕ) → k < length is → k < length was
+    → by ≡ (get_or is k 0 + (2 ^ 64 - get_or was k 0)) % 2 ^ 64
     → get_or is k 0 < 2 ^ 64 → get_or was k 0 < 2 ^ 64 → (get_or (take k is ++ drop k was) k 0 + by) % 2 ^ 64 ≡ get_or is k 0
 mixed_raised is was k by here there e li lw =
-    ap (λ (x : ℕ). (x + by) % 2 ^ 64) (mixed_at is was k here there) ∙ ap (λ (x : ℕ). (get_or was k 0 + x) % 2 ^ 64) e ∙ wraps_back (get_or was k 0) (get_or is k 0) lw li
+    ap (λ (x : ℕ). (x + by) % 2 ^ 64) (mixed_at is was k here there) ∙ ap (λ (x : ℕ). (get_or was k 0 + x) % 2 ^ 64) e
+    ∙ wraps_back (get_or was k 0) (get_or is k 0) lw li
 
 -- one increase of many
-module _ (n w : ℕ) (t u : Taken) (xs : List Increase) (i : ℕ) (x : Increase) (was : u ≡ raised_by t (take i xs)) (here : x ≡ get_or xs i x) (lt : i < length xs) where
+module _ (n w : ℕ) (t u : Taken) (xs : List Increase) (i : ℕ) (x : Increase) (was : u ≡ raised_by t (take i xs))
+    (here : x ≡ get_or xs i x) (lt : i < length xs) where
   pub fit_here : AreFor n w t xs → IsFor n w u x
   fit_here fit =
-      subst (λ (v : Taken). IsFor n w v x) (sym was) (subst (λ (y : Increase). IsFor n w (raised_by t (take i xs)) y) (sym here) (fit_at n w t xs i x fit lt))
+      subst (λ (v : Taken). IsFor n w v x) (sym was) (subst (λ (y : Increase). IsFor n w (raised_by t (take i xs)) y) (sym here)
+      (fit_at n w t xs i x fit lt))
 
   pub raised_here : raised u x ≡ raised_by t (take (i + 1) xs)
   raised_here =
@@ -103,17 +115,21 @@ module _ (n w : ℕ) (t u : Taken) (xs : List Increase) (i : ℕ) (x : Increase)
 -- of two scrapes, one number more is compared
 module _ (n w : ℕ) (t u : Taken) (old mid : List Increase) (k : ℕ) (here : k < length u.vector) (there : k < length t.vector)
     (adds : Adds n w t (record t { vector = take k u.vector ++ drop k t.vector }) old mid) where
-  pub numbers_same : get_or u.vector k 0 ≡ get_or t.vector k 0 → Adds n w t (record t { vector = take (k + 1) u.vector ++ drop (k + 1) t.vector }) old mid
+  pub numbers_same : get_or u.vector k 0 ≡ get_or t.vector k 0
+      → Adds n w t (record t { vector = take (k + 1) u.vector ++ drop (k + 1) t.vector }) old mid
   numbers_same same =
       subst (λ (l : List ℕ). Adds n w t (record t { vector = l }) old mid) (mixed_same u.vector t.vector k here there same) adds
 
-  pub numbers_more : (new : List Increase) (by : ℕ) → k < n → new ≡ mid ++ Number k by ∷ [] → by ≡ (get_or u.vector k 0 + (2 ^ 64 - get_or t.vector k 0)) % 2 ^ 64
-      → get_or u.vector k 0 < 2 ^ 64 → get_or t.vector k 0 < 2 ^ 64 → Adds n w t (record t { vector = take (k + 1) u.vector ++ drop (k + 1) t.vector }) old new
+  pub numbers_more : (new : List Increase) (by : ℕ) → k < n → new ≡ mid ++ Number k by ∷ []
+      → by ≡ (get_or u.vector k 0 + (2 ^ 64 - get_or t.vector k 0)) % 2 ^ 64
+      → get_or u.vector k 0 < 2 ^ 64 → get_or t.vector k 0 < 2 ^ 64
+      → Adds n w t (record t { vector = take (k + 1) u.vector ++ drop (k + 1) t.vector }) old new
   numbers_more new by lt is e low low' =
       let mixed : List ℕ = take k u.vector ++ drop k t.vector in
       let to : set mixed k ((get_or mixed k 0 + by) % 2 ^ 64) ≡ take (k + 1) u.vector ++ drop (k + 1) t.vector =
       ap (set mixed k) (mixed_raised u.vector t.vector k by here there e low low') ∙ mixed_set u.vector t.vector k here there in
-      adds_one n w t (record t { vector = mixed }) (record t { vector = take (k + 1) u.vector ++ drop (k + 1) t.vector }) old mid new (Number k by) adds is lt
+      adds_one n w t (record t { vector = mixed }) (record t { vector = take (k + 1) u.vector ++ drop (k + 1) t.vector }) old mid
+      new (Number k by) adds is lt
       (ap (λ (l : List ℕ). record t { vector = l }) to)
 
 -- one total more
@@ -122,16 +138,20 @@ module _ (n w : ℕ) (t u : Taken) (old mid : List Increase) (k : ℕ) (here : k
   pub totals_same : get_or u.totals k 0 ≡ get_or t.totals k 0
       → Adds n w (record t { vector = u.vector }) (record u { totals = take (k + 1) u.totals ++ drop (k + 1) t.totals }) old mid
   totals_same same =
-      subst (λ (l : List ℕ). Adds n w (record t { vector = u.vector }) (record u { totals = l }) old mid) (mixed_same u.totals t.totals k here there same) adds
+      subst (λ (l : List ℕ). Adds n w (record t { vector = u.vector }) (record u { totals = l }) old mid)
+      (mixed_same u.totals t.totals k here there same) adds
 
-  pub totals_more : (new : List Increase) (by : ℕ) → k < w → new ≡ mid ++ Total k by ∷ [] → by ≡ (get_or u.totals k 0 + (2 ^ 64 - get_or t.totals k 0)) % 2 ^ 64
+  pub totals_more : (new : List Increase) (by : ℕ) → k < w → new ≡ mid ++ Total k by ∷ []
+      → by ≡ (get_or u.totals k 0 + (2 ^ 64 - get_or t.totals k 0)) % 2 ^ 64
       → get_or u.totals k 0 < 9007199254740992 → get_or t.totals k 0 < 2 ^ 64
       → Adds n w (record t { vector = u.vector }) (record u { totals = take (k + 1) u.totals ++ drop (k + 1) t.totals }) old new
   totals_more new by lt is e low low' =
       let mixed : List ℕ = take k u.totals ++ drop k t.totals in
-      let back : (get_or mixed k 0 + by) % 2 ^ 64 ≡ get_or u.totals k 0 = mixed_raised u.totals t.totals k by here there e (omega (arith, low)) low' in
+      let back : (get_or mixed k 0 + by) % 2 ^ 64 ≡ get_or u.totals k 0 = mixed_raised u.totals t.totals k by here there e
+      (omega (arith, low)) low' in
       let to : set mixed k ((get_or mixed k 0 + by) % 2 ^ 64) ≡ take (k + 1) u.totals ++ drop (k + 1) t.totals =
       ap (set mixed k) back ∙ mixed_set u.totals t.totals k here there in
-      adds_one n w (record t { vector = u.vector }) (record u { totals = mixed }) (record u { totals = take (k + 1) u.totals ++ drop (k + 1) t.totals }) old mid new (Total k by) adds is
+      adds_one n w (record t { vector = u.vector }) (record u { totals = mixed })
+      (record u { totals = take (k + 1) u.totals ++ drop (k + 1) t.totals }) old mid new (Total k by) adds is
       (lt, subst (λ (x : ℕ). x < 9007199254740992) (sym back) low)
       (ap (λ (l : List ℕ). record u { totals = l }) to)

@@ -29,7 +29,8 @@ held_of (Some before) oldest later increases = (oldest, before) ∷ later_of old
 abbrev pub answers_of : List (Taken × ℕ) → List Answer
 answers_of kept = map (λ (scrape : Taken × ℕ). as_answer scrape.0) kept
 
--- what contracts see of a history: its scrapes, each with how many changes were made before it; for how many scrapes there is room in
+-- what contracts see of a history: its scrapes, each with how many changes were made before it; for how many scrapes there is
+-- room in
 -- all, and for how many increases more
 pub record Stored : Type 0 where
   pub scrapes : List (Taken × ℕ)
@@ -37,7 +38,8 @@ pub record Stored : Type 0 where
   pub room : ℕ
 
 -- the increases lead from the oldest scrape to the newest, and no others are kept
-pub record IsHistory (n c h g : ℕ) (first : Option ℕ) (oldest newest : Taken) (later : List Later) (increases : List Increase) : Type 0 where
+pub record IsHistory (n c h g : ℕ) (first : Option ℕ) (oldest newest : Taken) (later : List Later)
+    (increases : List Increase) : Type 0 where
   pub geometry : IsGeometry n c h g
   pub none : first ≡ None → later ≡ []
   pub all : length increases ≡ changed_in later

@@ -1,5 +1,6 @@
 //! The scrapes that are kept, as increases.
-ghost use Rattle.std.specs.Prelude.{◌≡◌, ◌+◌, ◌-◌, ◌<◌, ◌≤◌, [], ◌∷◌, ◌++◌, None, Some, drop, length, slice_get, IfOk, MatchOption, OnOk};
+ghost use Rattle.std.specs.Prelude.{◌≡◌, ◌+◌, ◌-◌, ◌<◌, ◌≤◌, [], ◌∷◌, ◌++◌, None, Some, drop, length, slice_get, IfOk};
+ghost use Rattle.std.specs.Prelude.{MatchOption, OnOk};
 ghost use Rattle.segment_layout.specs.Layout.{IsGeometry};
 ghost use Rattle.ledger_core.specs.Ops.{width};
 ghost use Rattle.snapshot_scan.specs.Snapshots.{as_answer};
@@ -152,7 +153,8 @@ impl<const N: usize, const C: usize, const H: usize, const G: usize> History<N, 
 
     /// The newest scrape.
     pub fn newest(&self) -> Option<&Snapshot<N, C, H, G>>
-        ensures { MatchOption result (newest (answers_of self.now.scrapes) ≡ None) (λ snapshot. newest (answers_of self.now.scrapes) ≡ Some (as_answer snapshot.now)) }
+        ensures { MatchOption result (newest (answers_of self.now.scrapes) ≡ None)
+            (λ snapshot. newest (answers_of self.now.scrapes) ≡ Some (as_answer snapshot.now)) }
     {
         match self.first {
             Some(_before) => Some(&self.newest),

@@ -88,7 +88,8 @@ fn note_numbers<const N: usize, const C: usize, const H: usize, const G: usize>(
 )
     requires geometry { IsGeometry N C H G }
     requires room { length increases.old.items + N ≤ deque_capacity increases.old }
-    ensures added { Adds N (width C H G) before.now (record before.now { vector = after.now.vector }) increases.old.items increases.new.items }
+    ensures added { Adds N (width C H G) before.now (record before.now { vector = after.now.vector }) increases.old.items
+        increases.new.items }
     ensures few { length increases.new.items ≤ length increases.old.items + N }
     ensures room { deque_capacity increases.new ≡ deque_capacity increases.old }
 {
@@ -112,7 +113,8 @@ fn note_totals<const N: usize, const C: usize, const H: usize, const G: usize>(
 )
     requires geometry { IsGeometry N C H G }
     requires room { length increases.old.items + width C H G ≤ deque_capacity increases.old }
-    ensures { Adds N (width C H G) (record before.now { vector = after.now.vector }) after.now increases.old.items increases.new.items }
+    ensures { Adds N (width C H G) (record before.now { vector = after.now.vector }) after.now increases.old.items
+        increases.new.items }
 {
     let was = before.totals();
     let is = after.totals();

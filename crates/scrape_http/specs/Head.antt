@@ -1,5 +1,6 @@
 -- What the head of a request asks for (RFC 9112, sections 3 and 3.2; RFC 9110, section 9).
-use Rattle.std.specs.Prelude.{ℕ, ◌==◌, nat_lt, Bool, ◌||◌, ◌&&◌, not, List, count_by, codes, if◌then◌else◌, Option, Some, None, bytes_eq}
+use Rattle.std.specs.Prelude.{ℕ, ◌==◌, nat_lt, Bool, ◌||◌, ◌&&◌, not, List, count_by, codes, if◌then◌else◌, Option, Some, None}
+use Rattle.std.specs.Prelude.{bytes_eq}
 use Rattle.std.specs.Str.{str_eq_ignore_ascii_case}
 use Rattle.httparse.specs.Grammar.{RequestHead, Field}
 use Rattle.scrape_http.specs.declared.status.Status.{Status}
@@ -19,7 +20,8 @@ hosts head = count_by (λ (field : Field). is_host field.name) head.fields
 abbrev pub is_get_or_head : List ℕ → Bool
 is_get_or_head method = bytes_eq method (codes "GET") || bytes_eq method (codes "HEAD")
 
--- why a request is refused, if it is, by the first of these: several Host fields, or none in HTTP/1.1; another path; another method
+-- why a request is refused, if it is, by the first of these: several Host fields, or none in HTTP/1.1; another path; another
+-- method
 abbrev pub refusal_by : (hosts minor : ℕ) → (target method : List ℕ) → Option Status
 refusal_by hosts minor target method =
     if nat_lt 1 hosts || (minor == 1 && hosts == 0) then Some BadRequest

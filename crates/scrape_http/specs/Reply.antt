@@ -1,5 +1,6 @@
 -- The bytes of replies (RFC 9112, sections 4 and 9.6; RFC 9110, sections 8.3, 8.6 and 10.2.1; the exposition format's page).
-use Rattle.std.specs.Prelude.{◌≡◌, ℕ, ◌<◌, Bool, true, List, [], ◌++◌, length, codes, decimal, if◌then◌else◌, Option, Some, None, Result, Ok, Err}
+use Rattle.std.specs.Prelude.{◌≡◌, ℕ, ◌<◌, Bool, true, List, [], ◌++◌, length, codes, decimal, if◌then◌else◌, Option, Some, None}
+use Rattle.std.specs.Prelude.{Result, Ok, Err}
 use Rattle.httparse.specs.Ascii.{crlf_bytes}
 use Rattle.expo_text.specs.Scraped.{Scraped}
 use Rattle.expo_text.specs.Text.{text}

@@ -1,5 +1,6 @@
 -- What serving one request does to the ends of a connection and to the source.
-use Rattle.std.specs.Prelude.{◌≡◌, ℕ, ◌-◌, ◌<◌, ◌≤◌, Bool, true, false, List, [], ◌++◌, length, take, Option, Some, None, Result, Ok, Err}
+use Rattle.std.specs.Prelude.{◌≡◌, ℕ, ◌-◌, ◌<◌, ◌≤◌, Bool, true, false, List, [], ◌++◌, length, take, Option, Some, None, Result}
+use Rattle.std.specs.Prelude.{Ok, Err}
 use Rattle.std.specs.Io.KnownBytes.{Consumes, Appends, Keeps, IsAtEnd}
 use Rattle.scrape_http.specs.declared.fault.WireFault.{WireFault}
 use Rattle.scrape_http.specs.declared.fault.WireFault.TheVariants.{ReadFailed, WriteFailed, EndBeforeHead}
@@ -58,7 +59,8 @@ abbrev pub Answers : {S : Type 0} → (S → S → Outcome → Type 0) → S →
 Answers gave source source_then None = source_then ≡ source
 Answers gave source source_then (Some outcome) = gave source source_then outcome
 
--- What the writer took: after Ok all bytes of the reply, and the answer tells its status and how many they are; after 25 so many of
+-- What the writer took: after Ok all bytes of the reply, and the answer tells its status and how many they are; after 25 so many
+-- of
 -- its first bytes as the fault tells; and where there is no reply, nothing, and the answer is 26.
 abbrev pub Sends : (output output_then : Known) → Option Reply → Result Served WireFault → Type 0
 Sends output output_then (Some reply) (Ok served) =

@@ -1,7 +1,8 @@
 -- The statuses of replies (RFC 9110, section 15; 431 is of RFC 6585, section 5).
 use Rattle.std.specs.Prelude.{ℕ, List, codes}
 use Rattle.scrape_http.specs.declared.status.Status.{Status}
-use Rattle.scrape_http.specs.declared.status.Status.TheVariants.{Success, BadRequest, NotFound, MethodNotAllowed, TooLarge, Unavailable}
+use Rattle.scrape_http.specs.declared.status.Status.TheVariants.{Success, BadRequest, NotFound, MethodNotAllowed, TooLarge}
+use Rattle.scrape_http.specs.declared.status.Status.TheVariants.{Unavailable}
 
 -- the code
 abbrev pub code_of : Status → ℕ

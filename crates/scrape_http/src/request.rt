@@ -1,5 +1,6 @@
 //! Requests are read.
-ghost use Rattle.std.specs.Prelude.{◌≡◌, ℕ, ◌+◌, ◌<◌, ◌≤◌, ◌++◌, List, true, false, length, take, drop, IfOk, IfErr, MatchOption, Some};
+ghost use Rattle.std.specs.Prelude.{◌≡◌, ℕ, ◌+◌, ◌<◌, ◌≤◌, ◌++◌, List, true, false, length, take, drop, IfOk, IfErr, MatchOption};
+ghost use Rattle.std.specs.Prelude.{Some};
 ghost use Rattle.std.specs.Io.KnownBytes.{Consumes, IsAtEnd};
 ghost use Rattle.scrape_http.specs.Asks.{Asks, IsOpen};
 ghost use Rattle.scrape_http.specs.Serves.{Hears, is_read_failed};
@@ -64,7 +65,8 @@ fn read_more<R: Read>(
     requires room { filled < length buffer.old }
     ensures kept { take filled buffer.new ≡ take filled buffer.old }
     ensures within { IfOk result (λ count. filled + count ≤ length buffer.new) }
-    ensures bytes { IfOk result (λ count. Consumes (R.remaining reader.old.inner) (R.remaining reader.new.inner) (take count (drop filled buffer.new))) }
+    ensures bytes { IfOk result (λ count. Consumes (R.remaining reader.old.inner) (R.remaining reader.new.inner)
+        (take count (drop filled buffer.new))) }
     ensures ended { IfOk result (λ count. (count ≡ 0 → reader.new.ended ≡ true) × (0 < count → reader.new.ended ≡ false)) }
     ensures end { IfOk result (λ count. count ≡ 0 → IsAtEnd (R.remaining reader.new.inner)) }
     ensures latest { IfOk result (λ count. reader.new.latest ≡ count) }
@@ -81,7 +83,8 @@ fn read_more<R: Read>(
 pub(crate) fn hear<R: Read>(reader: &mut Watched<R>) -> Result<Asked, WireFault>
     requires going { reader.old.failed ≡ false }
     requires unended { reader.old.ended ≡ false }
-    ensures hears { Hears (R.remaining reader.old.inner) (R.remaining reader.new.inner) reader.new.ended reader.new.latest result }
+    ensures hears { Hears (R.remaining reader.old.inner) (R.remaining reader.new.inner) reader.new.ended reader.new.latest
+        result }
     ensures failed { reader.new.failed ≡ is_read_failed result }
 {
     let mut buffer = [0; MAX_HEAD];

@@ -100,7 +100,8 @@ fn send_scrape<W: Write>(
     body: bool,
 ) -> Result<Served, WireFault>
     requires { writer.old.failed ≡ false }
-    ensures sends { Sends (W.contents writer.old.inner) (W.contents writer.new.inner) (Some (scraped (Ok scrape.now) body)) result }
+    ensures sends { Sends (W.contents writer.old.inner) (W.contents writer.new.inner) (Some (scraped (Ok scrape.now) body))
+        result }
     ensures failed { writer.new.failed ≡ is_write_failed result }
     ensures flushed { IsOk result → writer.new.flushed ≡ true }
 {

@@ -14,4 +14,5 @@ module _ {S : Type 0} (gave : S → S → Result Scraped NoScrape → Type 0) wh
   -- the first answer by which no scan was given up, of at most so many more askings; or else the last one
   abbrev pub AsksAgain : (more : ℕ) → (before after : S) → Result Scraped NoScrape → Type 0
   AsksAgain zero before after answer = gave before after answer
-  AsksAgain (suc more) before after answer = (IsDone answer × gave before after answer) ⊎ ((mid : S) × gave before mid (Err Contended) × AsksAgain more mid after answer)
+  AsksAgain (suc more) before after answer = (IsDone answer × gave before after answer)
+      ⊎ ((mid : S) × gave before mid (Err Contended) × AsksAgain more mid after answer)

@@ -17,7 +17,8 @@ abbrev pub no_scrape_of : ScrapeFault → NoScrape
 no_scrape_of (fault.Contended wrong) = none.Contended
 no_scrape_of fault.NoMemory = none.NoMemory
 
-module _ {S : Type 0} (n c h g : ℕ) (recorded : S → List Answer) (quit : S → ℕ) (gave : S → S → Answer → Type 0) (gave_up : S → S → Contended → Type 0) (old new : Registry S) where
+module _ {S : Type 0} (n c h g : ℕ) (recorded : S → List Answer) (quit : S → ℕ) (gave : S → S → Answer → Type 0)
+    (gave_up : S → S → Contended → Type 0) (old new : Registry S) where
   -- one scan gave an answer, which is kept, and the scrape shows the families at it
   pub record ShowsScrape (scrape : Scraped) : Type 0 where
     pub kept : KeepsScrape n c h g recorded gave old new

@@ -53,7 +53,8 @@ pub struct FromState<'a, X: MakesScrapes> {
 }
 
 impl<X: MakesScrapes> ScrapeFrom for FromState<'_, X> {
-    ghost gave = { λ before after answer. (after.state.ghost_name ≡ before.state.ghost_name) × X.made before.state.now after.state.now answer };
+    ghost gave = { λ before after answer. (after.state.ghost_name ≡ before.state.ghost_name)
+        × X.made before.state.now after.state.now answer };
 
     /// The registry's scrape.
     fn scrape(&mut self) -> Result<Scrape, NoScrape> {

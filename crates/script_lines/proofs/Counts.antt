@@ -1,5 +1,6 @@
 -- What stands after the first word of a line that counts.
-use Rattle.std.proofs.Common.{◌≡◌, ℕ, ◌<◌, ◌≤◌, ◌^◌, true, cond, ltb, leb, List, [], ◌∷◌, ◌++◌, Option, Some, None, option_map, decimal, refl, sym, ap, ◌∙◌, subst, inl, inr, ⊎_elim, arith}
+use Rattle.std.proofs.Common.{◌≡◌, ℕ, ◌<◌, ◌≤◌, ◌^◌, true, cond, ltb, leb, List, [], ◌∷◌, ◌++◌, Option, Some, None, option_map}
+use Rattle.std.proofs.Common.{decimal, refl, sym, ap, ◌∙◌, subst, inl, inr, ⊎_elim, arith}
 use Rattle.std.specs.Prelude.{option_and_then, ◌⊎◌}
 use Rattle.std.specs.List.{join_with_byte}
 use Rattle.std.specs.Option.{option_map_or}
@@ -27,7 +28,8 @@ once_says text by is =
     let says = number_says text by is in
     record { small = says.0; some = omega arith; few = omega arith; is = inl (says.1, refl) }
 
-more_says : (text : List ℕ) (c : List ℕ × List ℕ) (by times : ℕ) → cut_of text ≡ Some c → number_written c.0 ≡ Some by → number_written c.1 ≡ Some times → is_times times ≡ true → IsAmount text by times
+more_says : (text : List ℕ) (c : List ℕ × List ℕ) (by times : ℕ) → cut_of text ≡ Some c → number_written c.0 ≡ Some by
+    → number_written c.1 ≡ Some times → is_times times ≡ true → IsAmount text by times
 more_says text c by times cut first next test =
     let both = and_parts (leb 1 times) (leb times 100000) test in
     let says = number_says c.0 by first in
@@ -43,7 +45,8 @@ more_says text c by times cut first next test =
 amount_is : (text : List ℕ) (by times : ℕ) (a : ℕ × ℕ) → IsAmount text by times → (by, times) ≡ a → IsAmount text a.0 a.1
 amount_is text by times a is same = subst (λ (a : ℕ × ℕ). IsAmount text a.0 a.1) same is
 
-repeated_says : (text : List ℕ) (c : List ℕ × List ℕ) (by times : ℕ) (a : ℕ × ℕ) → cut_of text ≡ Some c → number_written c.0 ≡ Some by → number_written c.1 ≡ Some times → times_step by times ≡ Some a → IsAmount text a.0 a.1
+repeated_says : (text : List ℕ) (c : List ℕ × List ℕ) (by times : ℕ) (a : ℕ × ℕ) → cut_of text ≡ Some c
+    → number_written c.0 ≡ Some by → number_written c.1 ≡ Some times → times_step by times ≡ Some a → IsAmount text a.0 a.1
 repeated_says text c by times a cut first next kept =
     let passed = when_some (is_times times) (by, times) a kept in
     amount_is text by times a (more_says text c by times cut first next passed.0) passed.1
@@ -51,13 +54,17 @@ repeated_says text c by times a cut first next kept =
 pub amount_says : (text : List ℕ) (a : ℕ × ℕ) → amount_of text ≡ Some a → IsAmount text a.0 a.1
 unfolding amount_of
 amount_says text a h =
-    let at : (o : Option (List ℕ × List ℕ)) → cut_of text ≡ o → option_map_or (λ (c : List ℕ × List ℕ). repeated c.0 c.1) o (option_map (λ n. (n, 1)) (number_written text)) ≡ Some a = λ o e. subst (λ o. option_map_or (λ (c : List ℕ × List ℕ). repeated c.0 c.1) o (option_map (λ n. (n, 1)) (number_written text)) ≡ Some a) e h in
+    let at : (o : Option (List ℕ × List ℕ)) → cut_of text ≡ o → option_map_or (λ (c : List ℕ × List ℕ). repeated c.0 c.1) o
+    (option_map (λ n. (n, 1)) (number_written text)) ≡ Some a =
+    λ o e. subst (λ o. option_map_or (λ (c : List ℕ × List ℕ). repeated c.0 c.1) o
+    (option_map (λ n. (n, 1)) (number_written text)) ≡ Some a) e h in
     ⊎_elim
     (λ none.
     let number = map_some (λ n. (n, 1)) (number_written text) a (at None none) in
     amount_is text number.0 1 a (once_says text number.0 number.1) number.2)
     (λ some.
-    let by = bind_some (λ n. option_and_then (times_step n) (number_written some.0.1)) (number_written some.0.0) a (at (Some some.0) some.1) in
+    let by = bind_some (λ n. option_and_then (times_step n) (number_written some.0.1)) (number_written some.0.0) a
+    (at (Some some.0) some.1) in
     let times = bind_some (times_step by.0) (number_written some.0.1) a by.2 in
     repeated_says text some.0 by.0 times.0 a some.1 by.1 times.1 times.2)
     (none_or_some (cut_of text))
@@ -68,16 +75,22 @@ amount_found text by times is =
     ⊎_elim
     (λ once.
     ap amount_of once.0
-    ∙ ap (λ o. option_map_or (λ (c : List ℕ × List ℕ). repeated c.0 c.1) o (option_map (λ n. (n, 1)) (number_written (decimal by)))) (cut_none (decimal by) (digits_lack 32 by (omega arith) is.small))
+    ∙ ap (λ o. option_map_or (λ (c : List ℕ × List ℕ). repeated c.0 c.1) o
+    (option_map (λ n. (n, 1)) (number_written (decimal by))))
+    (cut_none (decimal by) (digits_lack 32 by (omega arith) is.small))
     ∙ ap (option_map (λ n. (n, 1))) (number_found (decimal by) by is.small refl)
     ∙ ap (λ t. Some (by, t)) (sym once.1))
     (λ more.
     let small : times < 2 ^ 64 = omega (arith, is.few) in
     ap amount_of more
-    ∙ ap (λ o. option_map_or (λ (c : List ℕ × List ℕ). repeated c.0 c.1) o (option_map (λ n. (n, 1)) (number_written (decimal by ++ 32 ∷ decimal times)))) (cut_found (decimal by) (decimal times) (digits_lack 32 by (omega arith) is.small))
-    ∙ ap (option_and_then (λ n. option_and_then (times_step n) (number_written (decimal times)))) (number_found (decimal by) by is.small refl)
+    ∙ ap (λ o. option_map_or (λ (c : List ℕ × List ℕ). repeated c.0 c.1) o
+    (option_map (λ n. (n, 1)) (number_written (decimal by ++ 32 ∷ decimal times))))
+    (cut_found (decimal by) (decimal times) (digits_lack 32 by (omega arith) is.small))
+    ∙ ap (option_and_then (λ n. option_and_then (times_step n) (number_written (decimal times))))
+    (number_found (decimal by) by is.small refl)
     ∙ ap (option_and_then (times_step by)) (number_found (decimal times) times small refl)
-    ∙ ap (λ t. cond t (Some (by, times)) None) (and_from (leb 1 times) (leb times 100000) (le-leb 1 times is.some) (le-leb times 100000 is.few)))
+    ∙ ap (λ t. cond t (Some (by, times)) None)
+    (and_from (leb 1 times) (leb times 100000) (le-leb 1 times is.some) (le-leb times 100000 is.few)))
     is.is
 
 -- a worker, a child, how much and how many times
@@ -92,8 +105,10 @@ abbrev count_step : Counting → (worker child : ℕ × List ℕ) → ℕ × ℕ
 count_step what worker child amount = cond (ltb worker.0 4) (Some (Count what worker.0 child.0 amount.0 amount.1)) None
 
 step_says : (what : Counting) (text : List ℕ) (worker child : ℕ × List ℕ) (amount : ℕ × ℕ) (s : Saying)
-    → numbered_of text ≡ Some worker → numbered_of worker.1 ≡ Some child → amount_of child.1 ≡ Some amount → count_step what worker child amount ≡ Some s
-    → (worker : ℕ) × (child : ℕ) × (by : ℕ) × (times : ℕ) × (s ≡ Count what worker child by times) × IsCount text worker child by times
+    → numbered_of text ≡ Some worker → numbered_of worker.1 ≡ Some child → amount_of child.1 ≡ Some amount
+    → count_step what worker child amount ≡ Some s
+    → (worker : ℕ) × (child : ℕ) × (by : ℕ) × (times : ℕ) × (s ≡ Count what worker child by times)
+    × IsCount text worker child by times
 step_says what text worker child amount s first next last kept =
     let passed = when_some (ltb worker.0 4) (Count what worker.0 child.0 amount.0 amount.1) s kept in
     let front = numbered_says text worker first in
@@ -113,21 +128,29 @@ step_says what text worker child amount s first next last kept =
     )
 
 pub count_says : (what : Counting) (text : List ℕ) (s : Saying) → count_of what text ≡ Some s
-    → (worker : ℕ) × (child : ℕ) × (by : ℕ) × (times : ℕ) × (s ≡ Count what worker child by times) × IsCount text worker child by times
+    → (worker : ℕ) × (child : ℕ) × (by : ℕ) × (times : ℕ) × (s ≡ Count what worker child by times)
+    × IsCount text worker child by times
 unfolding count_of
 count_says what text s h =
-    let worker = bind_some (λ (w : ℕ × List ℕ). option_and_then (λ (c : ℕ × List ℕ). option_and_then (count_step what w c) (amount_of c.1)) (numbered_of w.1)) (numbered_of text) s h in
-    let child = bind_some (λ (c : ℕ × List ℕ). option_and_then (count_step what worker.0 c) (amount_of c.1)) (numbered_of worker.0.1) s worker.2 in
+    let worker = bind_some (λ (w : ℕ × List ℕ). option_and_then
+    (λ (c : ℕ × List ℕ). option_and_then (count_step what w c) (amount_of c.1)) (numbered_of w.1)) (numbered_of text) s h in
+    let child = bind_some (λ (c : ℕ × List ℕ). option_and_then (count_step what worker.0 c) (amount_of c.1))
+    (numbered_of worker.0.1) s worker.2 in
     let amount = bind_some (count_step what worker.0 child.0) (amount_of child.0.1) s child.2 in
     step_says what text worker.0 child.0 amount.0 s worker.1 child.1 amount.1 amount.2
 
-pub count_found : (what : Counting) (text : List ℕ) (worker child by times : ℕ) → IsCount text worker child by times → count_of what text ≡ Some (Count what worker child by times)
+pub count_found : (what : Counting) (text : List ℕ) (worker child by times : ℕ) → IsCount text worker child by times
+    → count_of what text ≡ Some (Count what worker child by times)
 unfolding count_of
 count_found what text worker child by times is =
     ap (count_of what) is.is
-    ∙ ap (option_and_then (λ (w : ℕ × List ℕ). option_and_then (λ (c : ℕ × List ℕ). option_and_then (count_step what w c) (amount_of c.1)) (numbered_of w.1))) (numbered_found worker (decimal child ++ 32 ∷ is.rest) (omega (arith, is.few)))
-    ∙ ap (option_and_then (λ (c : ℕ × List ℕ). option_and_then (count_step what (worker, decimal child ++ 32 ∷ is.rest) c) (amount_of c.1))) (numbered_found child is.rest is.small)
-    ∙ ap (option_and_then (count_step what (worker, decimal child ++ 32 ∷ is.rest) (child, is.rest))) (amount_found is.rest by times is.amount)
+    ∙ ap (option_and_then (λ (w : ℕ × List ℕ). option_and_then
+    (λ (c : ℕ × List ℕ). option_and_then (count_step what w c) (amount_of c.1)) (numbered_of w.1)))
+    (numbered_found worker (decimal child ++ 32 ∷ is.rest) (omega (arith, is.few)))
+    ∙ ap (option_and_then (λ (c : ℕ × List ℕ). option_and_then (count_step what (worker, decimal child ++ 32 ∷ is.rest) c)
+    (amount_of c.1))) (numbered_found child is.rest is.small)
+    ∙ ap (option_and_then (count_step what (worker, decimal child ++ 32 ∷ is.rest) (child, is.rest)))
+    (amount_found is.rest by times is.amount)
     ∙ ap (λ t. cond t (Some (Count what worker child by times)) None) (lt-ltb worker 4 is.few)
 
 -- the words of such a line
@@ -140,17 +163,30 @@ count_words first text worker child by times is =
     (λ more. inr (ap (λ r. first ++ 32 ∷ r) (is.is ∙ ap (λ r. decimal worker ++ 32 ∷ (decimal child ++ 32 ∷ r)) more)))
     is.amount.is
 
-pub words_count : (line first : List ℕ) (worker child by times : ℕ) → worker < 4 → child < 2 ^ 64 → by < 2 ^ 64 → 1 ≤ times → times ≤ 100000
+pub words_count : (line first : List ℕ) (worker child by times : ℕ) → worker < 4 → child < 2 ^ 64 → by < 2 ^ 64 → 1 ≤ times
+    → times ≤ 100000
     → ((line ≡ join_with_byte 32 (first ∷ decimal worker ∷ decimal child ∷ decimal by ∷ [])) × (times ≡ 1))
     ⊎ (line ≡ join_with_byte 32 (first ∷ decimal worker ∷ decimal child ∷ decimal by ∷ decimal times ∷ []))
     → (text : List ℕ) × (line ≡ first ++ 32 ∷ text) × IsCount text worker child by times
 words_count line first worker child by times few small less some most (inl once) = (
   decimal worker ++ 32 ∷ (decimal child ++ 32 ∷ decimal by),
   once.0,
-  record { few = few; small = small; rest = decimal by; is = refl; amount = record { small = less; some = some; few = most; is = inl (refl, once.1) } },
+  record {
+    few = few;
+    small = small;
+    rest = decimal by;
+    is = refl;
+    amount = record { small = less; some = some; few = most; is = inl (refl, once.1) };
+  },
 )
 words_count line first worker child by times few small less some most (inr more) = (
   decimal worker ++ 32 ∷ (decimal child ++ 32 ∷ (decimal by ++ 32 ∷ decimal times)),
   more,
-  record { few = few; small = small; rest = decimal by ++ 32 ∷ decimal times; is = refl; amount = record { small = less; some = some; few = most; is = inr refl } },
+  record {
+    few = few;
+    small = small;
+    rest = decimal by ++ 32 ∷ decimal times;
+    is = refl;
+    amount = record { small = less; some = some; few = most; is = inr refl };
+  },
 )

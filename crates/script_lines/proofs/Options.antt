@@ -6,7 +6,8 @@ pub none_or_some : {A : Type 0} (o : Option A) → (o ≡ None) ⊎ ((x : A) × 
 none_or_some None = inl refl
 none_or_some (Some x) = inr (x, refl)
 
-pub bind_some : {A B : Type 0} (f : A → Option B) (o : Option A) (y : B) → option_and_then f o ≡ Some y → (x : A) × (o ≡ Some x) × (f x ≡ Some y)
+pub bind_some : {A B : Type 0} (f : A → Option B) (o : Option A) (y : B) → option_and_then f o ≡ Some y → (x : A) × (o ≡ Some x)
+    × (f x ≡ Some y)
 bind_some f None y h = absurd (cc)
 bind_some f (Some x) y h = (x, refl, h)
 
@@ -25,6 +26,7 @@ unless_some true x y h = absurd (cc)
 unless_some false x y h = (refl, cc)
 
 -- an answer by one of two
-pub first_or_next : {A : Type 0} (b : Bool) (x y : A) (o : Option A) → cond b (Some x) o ≡ Some y → ((b ≡ true) × (x ≡ y)) ⊎ ((b ≡ false) × (o ≡ Some y))
+pub first_or_next : {A : Type 0} (b : Bool) (x y : A) (o : Option A) → cond b (Some x) o ≡ Some y → ((b ≡ true) × (x ≡ y))
+    ⊎ ((b ≡ false) × (o ≡ Some y))
 first_or_next true x y o h = inl (refl, cc)
 first_or_next false x y o h = inr (refl, h)

@@ -6,7 +6,8 @@ use Rattle.script_lines.specs.Language.{feed}
 use Rattle.script_lines.specs.declared.lines.Next.{Next}
 use Rattle.script_lines.specs.declared.lines.Next.TheVariants.{Line, TooLong, End}
 
--- the bytes that are left begin with the line and its line feed, or are the last line; or with more than a line may have; or are none
+-- the bytes that are left begin with the line and its line feed, or are the last line; or with more than a line may have; or are
+-- none
 abbrev pub Cuts : (old new : Option (List ℕ)) (line : List ℕ) → Next → Type 0
 Cuts old new line Line = Consumes old new (line ++ feed ∷ []) ⊎ ((line ≢ []) × Consumes old new line × IsAtEnd new)
 Cuts old new line TooLong = (length line ≡ 4096) × ((byte : ℕ) × (byte ≢ feed) × Consumes old new (line ++ byte ∷ []))
@@ -22,7 +23,8 @@ without_empty_end (part ∷ next ∷ parts) = part ∷ without_empty_end (next �
 abbrev pub lines_in : List ℕ → List (List ℕ)
 lines_in bytes = without_empty_end (slice_split (λ b. b == feed) bytes)
 
--- the line is the first of those in the bytes that were left, and the others are those in the bytes that are left; at the end there are none
+-- the line is the first of those in the bytes that were left, and the others are those in the bytes that are left; at the end
+-- there are none
 abbrev pub TakesLine : (old new : Option (List ℕ)) (line : List ℕ) → Next → Type 0
 TakesLine None new line next = ⊤
 TakesLine (Some before) None line next = ⊤

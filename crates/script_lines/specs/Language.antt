@@ -1,5 +1,6 @@
 -- The language of scripts: which texts are which line.
-use Rattle.std.specs.Prelude.{◌≡◌, ◌≢◌, ℕ, ◌<◌, ◌≤◌, ◌^◌, ◌⊎◌, List, [], ◌∷◌, ◌++◌, map, codes, decimal, flat_map, slice_get, All, Some, ⊤}
+use Rattle.std.specs.Prelude.{◌≡◌, ◌≢◌, ℕ, ◌<◌, ◌≤◌, ◌^◌, ◌⊎◌, List, [], ◌∷◌, ◌++◌, map, codes, decimal, flat_map, slice_get, All}
+use Rattle.std.specs.Prelude.{Some, ⊤}
 use Rattle.std.specs.List.{join_with_byte}
 use Rattle.script_lines.specs.declared.line.Counting.{Counting}
 use Rattle.script_lines.specs.declared.line.Counting.TheVariants.{Inc, Obs, Up, Down}
@@ -78,12 +79,14 @@ IsWriting written = (text : List ℕ) × Writes text written
 -- names joined by commas, or `-` for none
 abbrev pub AreLabels : (word : List ℕ) (names : List (List ℕ)) → Type 0
 AreLabels word names =
-    ((word ≡ codes "-") × (names ≡ [])) ⊎ ((word ≢ codes "-") × (names ≢ []) × All (Lacks comma) names × (word ≡ join_with_byte comma names))
+    ((word ≡ codes "-") × (names ≡ []))
+    ⊎ ((word ≢ codes "-") × (names ≢ []) × All (Lacks comma) names × (word ≡ join_with_byte comma names))
 
 -- numbers of 64 bits joined by commas, or `-` for none
 abbrev pub AreBounds : (word : List ℕ) (bounds : List ℕ) → Type 0
 AreBounds word bounds =
-    ((word ≡ codes "-") × (bounds ≡ [])) ⊎ ((bounds ≢ []) × All (λ bound. bound < 2 ^ 64) bounds × (word ≡ join_with_byte comma (map decimal bounds)))
+    ((word ≡ codes "-") × (bounds ≡ []))
+    ⊎ ((bounds ≢ []) × All (λ bound. bound < 2 ^ 64) bounds × (word ≡ join_with_byte comma (map decimal bounds)))
 
 -- writings of label values, one blank between two, or nothing for none
 abbrev pub AreValues : (text : List ℕ) (values : List (List ℕ)) → Type 0
@@ -125,7 +128,8 @@ IsLine text (Histogram name labels bounds help) =
     IsToken name × IsToken labels × ((numbers : List ℕ) × AreBounds bounds numbers) × IsWriting help
     × IsWordsAnd text (codes "histogram" ∷ name ∷ labels ∷ bounds ∷ []) help
 IsLine text (Child name values) =
-    IsToken name × ((words : List (List ℕ)) × AreValues values words × (text ≡ join_with_byte blank (codes "child" ∷ name ∷ words)))
+    IsToken name × ((words : List (List ℕ)) × AreValues values words
+    × (text ≡ join_with_byte blank (codes "child" ∷ name ∷ words)))
 IsLine text (Count what worker child by times) =
     (worker < 4) × (child < 2 ^ 64) × (by < 2 ^ 64) × (1 ≤ times) × (times ≤ 100000)
     × (((text ≡ join_with_byte blank (word_of what ∷ decimal worker ∷ decimal child ∷ decimal by ∷ [])) × (times ≡ 1))

@@ -2,7 +2,8 @@
 use Rattle.script_lines.specs.Language.{Saying}
 use Rattle.script_lines.specs.Language as language
 use Rattle.script_lines.specs.declared.line.Line.{Line}
-use Rattle.script_lines.specs.declared.line.Line.TheVariants.{Nothing, Counter, Gauge, Histogram, Child, Count, Go, Scrape, Settle, Window}
+use Rattle.script_lines.specs.declared.line.Line.TheVariants.{Nothing, Counter, Gauge, Histogram, Child, Count, Go, Scrape}
+use Rattle.script_lines.specs.declared.line.Line.TheVariants.{Settle, Window}
 
 -- what a line says
 abbrev pub saying_of : Line → Saying

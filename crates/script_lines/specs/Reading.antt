@@ -1,9 +1,12 @@
--- How a line is read, from its front to its end. What a line is stands in Language; of the public functions read_number alone cites this.
-use Rattle.std.specs.Prelude.{ℕ, ◌^◌, Bool, true, false, not, ◌&&◌, ◌||◌, ◌==◌, nat_lt, nat_le, is_some, bytes_eq, if◌then◌else◌, List, [], ◌∷◌, length, slice_index, codes, decimal, Option, Some, None, option_map, option_and_then}
+-- How a line is read, from its front to its end. What a line is stands in Language; of the public functions read_number alone
+-- cites this.
+use Rattle.std.specs.Prelude.{ℕ, ◌^◌, Bool, true, false, not, ◌&&◌, ◌||◌, ◌==◌, nat_lt, nat_le, is_some, bytes_eq, if◌then◌else◌}
+use Rattle.std.specs.Prelude.{List, [], ◌∷◌, length, slice_index, codes, decimal, Option, Some, None, option_map, option_and_then}
 use Rattle.std.specs.Option.{option_map_or}
 use Rattle.std.specs.List.{slice_split, list_all}
 use Rattle.std.specs.Str.Parse.{digits_value}
-use Rattle.script_lines.specs.Language.{Saying, Nothing, Counter, Gauge, Histogram, Child, Count, Go, Scrape, Settle, Window, blank, comma, hash, backslash}
+use Rattle.script_lines.specs.Language.{Saying, Nothing, Counter, Gauge, Histogram, Child, Count, Go, Scrape, Settle, Window}
+use Rattle.script_lines.specs.Language.{blank, comma, hash, backslash}
 use Rattle.script_lines.specs.declared.line.Counting.{Counting}
 use Rattle.script_lines.specs.declared.line.Counting.TheVariants.{Inc, Obs, Up, Down}
 use Rattle.script_lines.specs.declared.word.Word.{Word}
@@ -25,7 +28,8 @@ is_empty text = length text == 0
 
 -- the number that a text writes
 unfoldable pub number_written : List ℕ → Option ℕ
-number_written text = if nat_lt (digits_value 10 text) (2 ^ 64) && bytes_eq (decimal (digits_value 10 text)) text then Some (digits_value 10 text) else None
+number_written text = if nat_lt (digits_value 10 text) (2 ^ 64) && bytes_eq (decimal (digits_value 10 text)) text then Some
+    (digits_value 10 text) else None
 
 -- a byte that may stand after a backslash
 abbrev pub is_letter : ℕ → Bool
@@ -151,4 +155,5 @@ worded_of first text = do
 
 -- what a line says
 unfoldable pub line_of : List ℕ → Option Saying
-line_of text = if is_empty text || slice_index text 0 == hash then Some Nothing else option_map_or (λ c. worded_of c.0 c.1) (cut_of text) (alone_in text)
+line_of text = if is_empty text || slice_index text 0 == hash then Some Nothing else option_map_or (λ c. worded_of c.0 c.1)
+    (cut_of text) (alone_in text)

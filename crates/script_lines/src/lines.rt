@@ -30,7 +30,9 @@ pub struct Broken;
 
 /// The reader's next byte, or none at its end.
 fn read_byte<R: Read>(reader: &mut R) -> Result<Option<u8>, Broken>
-    ensures byte { IfOk result (λ byte. MatchOption byte (Keeps (R.remaining reader.old) (R.remaining reader.new) × IsAtEnd (R.remaining reader.new)) (λ b. Consumes (R.remaining reader.old) (R.remaining reader.new) (b ∷ []))) }
+    ensures byte { IfOk result
+        (λ byte. MatchOption byte (Keeps (R.remaining reader.old) (R.remaining reader.new) × IsAtEnd (R.remaining reader.new))
+        (λ b. Consumes (R.remaining reader.old) (R.remaining reader.new) (b ∷ []))) }
     ensures err { OnErr result (Keeps (R.remaining reader.old) (R.remaining reader.new)) }
 {
     let mut byte = [0];
@@ -103,8 +105,10 @@ impl<R: Read + Drop> Lines<R> {
     /// lack it. Where the reader fails, `bytes` gives what was read of the line so far, which the next call lets go.
     /// Takes no memory.
     pub fn next(&mut self) -> Result<Next, Broken>
-        ensures ok { IfOk result (λ next. Cuts (unread R.remaining self.old) (unread R.remaining self.new) (line_bytes self.new) next) }
-        ensures line { IfOk result (λ next. TakesLine (unread R.remaining self.old) (unread R.remaining self.new) (line_bytes self.new) next) }
+        ensures ok { IfOk result (λ next. Cuts (unread R.remaining self.old) (unread R.remaining self.new) (line_bytes self.new)
+            next) }
+        ensures line { IfOk result (λ next. TakesLine (unread R.remaining self.old) (unread R.remaining self.new)
+            (line_bytes self.new) next) }
         ensures err { OnErr result (Consumes (unread R.remaining self.old) (unread R.remaining self.new) (line_bytes self.new)) }
     {
         self.line.clear();

@@ -29,7 +29,8 @@ pub(crate) fn is_writing(text: &str) -> bool
 /// What an escape stands for, of which the backslash is cut off already, and what follows the escape.
 fn cut_escape(text: &str) -> (&str, &str)
     requires { IsWriting (backslash ∷ text.now) }
-    ensures escape { (piece : Piece) × IsPiece piece × (backslash ∷ text.now ≡ written_as piece ++ result.1.now) × (result.0.now ≡ stands_for piece) }
+    ensures escape { (piece : Piece) × IsPiece piece × (backslash ∷ text.now ≡ written_as piece ++ result.1.now)
+        × (result.0.now ≡ stands_for piece) }
     ensures shorter { length result.1.now < length text.now }
 {
     if let Some(rest) = text.strip_prefix('n') {

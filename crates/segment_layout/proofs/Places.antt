@@ -32,7 +32,8 @@ in_segment_lt n w (Vector b k) h = in_buffer_lt n w b (w + 1 + k) h.0 (omega (ar
 in_segment_lt n w (Lent b k) h = in_buffer_lt n w b (w + 1 + n + k) h.0 (omega (arith, h.1))
 
 -- two parts at one place of a segment are one part
-same_part : (n w : ℕ) (one other : Part) → IsPart n w one → IsPart n w other → in_segment n w one ≡ in_segment n w other → one ≡ other
+same_part : (n w : ℕ) (one other : Part) → IsPart n w one → IsPart n w other → in_segment n w one ≡ in_segment n w other
+    → one ≡ other
 same_part n w Number Number h g e = refl
 same_part n w Number (Row b k) h g e = absurd (omega (arith, e))
 same_part n w (Row b k) Number h g e = absurd (omega (arith, e))
@@ -47,9 +48,11 @@ same_part n w (Row b k) (Row b' k') h g e =
 same_part n w (Row b k) (Flag b') h g e =
     let s = in_buffers n w b k b' w (omega (arith, h.1)) (omega arith) e in absurd (omega (arith, s.1, h.1))
 same_part n w (Row b k) (Vector b' k') h g e =
-    let s = in_buffers n w b k b' (w + 1 + k') (omega (arith, h.1)) (omega (arith, g.1)) e in absurd (omega (arith, s.1, h.1, g.1))
+    let s = in_buffers n w b k b' (w + 1 + k') (omega (arith, h.1)) (omega (arith, g.1)) e in
+    absurd (omega (arith, s.1, h.1, g.1))
 same_part n w (Row b k) (Lent b' k') h g e =
-    let s = in_buffers n w b k b' (w + 1 + n + k') (omega (arith, h.1)) (omega (arith, g.1)) e in absurd (omega (arith, s.1, h.1, g.1))
+    let s = in_buffers n w b k b' (w + 1 + n + k') (omega (arith, h.1)) (omega (arith, g.1)) e in
+    absurd (omega (arith, s.1, h.1, g.1))
 same_part n w (Flag b) (Row b' k') h g e =
     let s = in_buffers n w b w b' k' (omega arith) (omega (arith, g.1)) e in absurd (omega (arith, s.1, g.1))
 same_part n w (Flag b) (Flag b') h g e =
@@ -59,21 +62,27 @@ same_part n w (Flag b) (Vector b' k') h g e =
 same_part n w (Flag b) (Lent b' k') h g e =
     let s = in_buffers n w b w b' (w + 1 + n + k') (omega arith) (omega (arith, g.1)) e in absurd (omega (arith, s.1, g.1))
 same_part n w (Vector b k) (Row b' k') h g e =
-    let s = in_buffers n w b (w + 1 + k) b' k' (omega (arith, h.1)) (omega (arith, g.1)) e in absurd (omega (arith, s.1, h.1, g.1))
+    let s = in_buffers n w b (w + 1 + k) b' k' (omega (arith, h.1)) (omega (arith, g.1)) e in
+    absurd (omega (arith, s.1, h.1, g.1))
 same_part n w (Vector b k) (Flag b') h g e =
     let s = in_buffers n w b (w + 1 + k) b' w (omega (arith, h.1)) (omega arith) e in absurd (omega (arith, s.1, h.1))
 same_part n w (Vector b k) (Vector b' k') h g e =
-    let s = in_buffers n w b (w + 1 + k) b' (w + 1 + k') (omega (arith, h.1)) (omega (arith, g.1)) e in ap₂ (λ b k. Vector b k) s.0 (omega (arith, s.1))
+    let s = in_buffers n w b (w + 1 + k) b' (w + 1 + k') (omega (arith, h.1)) (omega (arith, g.1)) e in
+    ap₂ (λ b k. Vector b k) s.0 (omega (arith, s.1))
 same_part n w (Vector b k) (Lent b' k') h g e =
-    let s = in_buffers n w b (w + 1 + k) b' (w + 1 + n + k') (omega (arith, h.1)) (omega (arith, g.1)) e in absurd (omega (arith, s.1, h.1, g.1))
+    let s = in_buffers n w b (w + 1 + k) b' (w + 1 + n + k') (omega (arith, h.1)) (omega (arith, g.1)) e in
+    absurd (omega (arith, s.1, h.1, g.1))
 same_part n w (Lent b k) (Row b' k') h g e =
-    let s = in_buffers n w b (w + 1 + n + k) b' k' (omega (arith, h.1)) (omega (arith, g.1)) e in absurd (omega (arith, s.1, h.1, g.1))
+    let s = in_buffers n w b (w + 1 + n + k) b' k' (omega (arith, h.1)) (omega (arith, g.1)) e in
+    absurd (omega (arith, s.1, h.1, g.1))
 same_part n w (Lent b k) (Flag b') h g e =
     let s = in_buffers n w b (w + 1 + n + k) b' w (omega (arith, h.1)) (omega arith) e in absurd (omega (arith, s.1, h.1))
 same_part n w (Lent b k) (Vector b' k') h g e =
-    let s = in_buffers n w b (w + 1 + n + k) b' (w + 1 + k') (omega (arith, h.1)) (omega (arith, g.1)) e in absurd (omega (arith, s.1, h.1, g.1))
+    let s = in_buffers n w b (w + 1 + n + k) b' (w + 1 + k') (omega (arith, h.1)) (omega (arith, g.1)) e in
+    absurd (omega (arith, s.1, h.1, g.1))
 same_part n w (Lent b k) (Lent b' k') h g e =
-    let s = in_buffers n w b (w + 1 + n + k) b' (w + 1 + n + k') (omega (arith, h.1)) (omega (arith, g.1)) e in ap₂ (λ b k. Lent b k) s.0 (omega (arith, s.1))
+    let s = in_buffers n w b (w + 1 + n + k) b' (w + 1 + n + k') (omega (arith, h.1)) (omega (arith, g.1)) e in
+    ap₂ (λ b k. Lent b k) s.0 (omega (arith, s.1))
 
 -- a part of a segment has its place alone
 pub alone : (n w segment : ℕ) (part : Part) → IsPart n w part → StandsAlone n w segment part (place n w segment part)

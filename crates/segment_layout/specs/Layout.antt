@@ -4,7 +4,8 @@ use Rattle.ledger_core.specs.Limits.{AreWorkers, AreSlots}
 use Rattle.segment_layout.specs.declared.part.Part.{Part}
 use Rattle.segment_layout.specs.declared.part.Part.TheVariants.{Number, Row, Flag, Vector, Lent}
 use Rattle.segment_layout.specs.declared.part.Item.{Item}
-use Rattle.segment_layout.specs.declared.part.Item.TheVariants.{Row as RowItem, Flag as FlagItem, Vector as VectorItem, Lent as LentItem}
+use Rattle.segment_layout.specs.declared.part.Item.TheVariants.{Row as RowItem, Flag as FlagItem, Vector as VectorItem}
+use Rattle.segment_layout.specs.declared.part.Item.TheVariants.{Lent as LentItem}
 
 -- 1 to 32 workers, and a row of at most 256 counters, 32 histograms and 64 gauges
 pub record IsGeometry (n c h g : ℕ) : Type 0 where

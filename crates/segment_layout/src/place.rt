@@ -1,6 +1,7 @@
 ghost use Rattle.std.specs.Prelude.{◌≡◌, ◌+◌, ◌<◌, ◌≤◌};
 ghost use Rattle.ledger_core.specs.Ops.{width};
-ghost use Rattle.segment_layout.specs.Layout.{IsGeometry, IsPart, StandsAlone, depth, span, words, IsItem, item_at, in_buffer, in_segment, place};
+ghost use Rattle.segment_layout.specs.Layout.{IsGeometry, IsPart, StandsAlone, depth, span, words, IsItem, item_at, in_buffer};
+ghost use Rattle.segment_layout.specs.Layout.{in_segment, place};
 
 use crate::part::{Item, Part};
 

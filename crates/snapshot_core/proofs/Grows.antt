@@ -1,5 +1,6 @@
 -- Publishes and answers are only ever appended, and in the order of their events.
-use Rattle.std.proofs.Common.{◌≡◌, ℕ, zero, suc, ◌+◌, ◌-◌, ◌^◌, ◌≤◌, ⊎_elim, Bool, true, false, ltb, List, [], ◌∷◌, ◌++◌, sym, refl, ap, ◌∙◌, subst, arith, Option, Some, None, append_assoc, append-nil}
+use Rattle.std.proofs.Common.{◌≡◌, ℕ, zero, suc, ◌+◌, ◌-◌, ◌^◌, ◌≤◌, ⊎_elim, Bool, true, false, ltb, List, [], ◌∷◌, ◌++◌, sym}
+use Rattle.std.proofs.Common.{refl, ap, ◌∙◌, subst, arith, Option, Some, None, append_assoc, append-nil}
 use Rattle.std.specs.Prelude.{slice_get, slice_set}
 use Rattle.std.proofs.lemmas.Bool.{cond_both}
 use mathlib.Core.Option.{some-ne-none}
@@ -12,8 +13,11 @@ use Rattle.snapshot_core.specs.declared.actor.Phase.TheVariants.{Rest, Scan, Rea
 use Rattle.snapshot_core.specs.Tries.{View}
 use Rattle.snapshot_core.specs.History.{Published}
 use Rattle.snapshot_core.specs.Turns.{Answered, ops_of}
-use Rattle.snapshot_core.specs.Machine.{Seg, Act, World, applied, place_in, read_by, end_by, accepts, begins_if, begins, ends, reads_from, reads_place, publishes_row, publishes_as, steps_in, steps, happens_at, world_at}
-use Rattle.snapshot_core.proofs.Lending.{Below, NotBelow, Rising, at_publish, at_answer, in_both, only_one, below_more, below_next, rising_more}
+use Rattle.snapshot_core.specs.Machine.{Seg, Act, World, applied, place_in, read_by, end_by, accepts, begins_if, begins, ends}
+use Rattle.snapshot_core.specs.Machine.{reads_from, reads_place, publishes_row, publishes_as, steps_in, steps, happens_at}
+use Rattle.snapshot_core.specs.Machine.{world_at}
+use Rattle.snapshot_core.proofs.Lending.{Below, NotBelow, Rising, at_publish, at_answer, in_both, only_one, below_more}
+use Rattle.snapshot_core.proofs.Lending.{below_next, rising_more}
 
 -- nothing, or one element that stands at k
 abbrev pub Sole : {A : Type 0} → (A → ℕ) → ℕ → List A → Type 0
@@ -76,11 +80,25 @@ with_publish k w who ops a s row = record w {
 module _ (c h g n : ℕ) (es : List Event) where
   module _ (k : ℕ) (w : World) where
     keeps : (y : World) → y.publishes ≡ w.publishes → y.answers ≡ w.answers → Grown k w y
-    keeps y e f = record { new = []; publishes = e ∙ sym (append-nil w.publishes); sole = tt; also = []; answers = f ∙ sym (append-nil w.answers); single = tt }
+    keeps y e f = record {
+      new = [];
+      publishes = e ∙ sym (append-nil w.publishes);
+      sole = tt;
+      also = [];
+      answers = f ∙ sym (append-nil w.answers);
+      single = tt;
+    }
 
     ends_grow : (who : ℕ) (a : Act) (o : Option (ScanEnd × Option View)) → Grown k w (ends c h g n w k who a o)
     ends_grow who a None = keeps _ refl refl
-    ends_grow who a (Some e) = record { new = []; publishes = sym (append-nil w.publishes); sole = tt; also = _ ∷ []; answers = refl; single = refl }
+    ends_grow who a (Some e) = record {
+      new = [];
+      publishes = sym (append-nil w.publishes);
+      sole = tt;
+      also = _ ∷ [];
+      answers = refl;
+      single = refl;
+    }
 
     reads_grow : (who : ℕ) (a : Act) (torn : Bool) (o : Option ℕ) → Grown k w (reads_place c h g n w k who a torn o)
     reads_grow who a torn None = keeps w refl refl
@@ -88,7 +106,8 @@ module _ (c h g n : ℕ) (es : List Event) where
       where
         go : (o : Option Seg) → Grown k w (reads_from c h g n w k who a torn o)
         go None = keeps w refl refl
-        go (Some s) = ends_grow who (read_by s torn a a.scan.next) (end_by s (read_by s torn a a.scan.next) (read_by s torn a a.scan.next).scan.next)
+        go (Some s) = ends_grow who (read_by s torn a a.scan.next)
+            (end_by s (read_by s torn a a.scan.next) (read_by s torn a a.scan.next).scan.next)
 
     publishes_grow : (who : ℕ) (ops : List Op) (a : Act) (o : Option Seg) → Grown k w (publishes_as c h g n w k who ops a o)
     publishes_grow who ops a None = keeps w refl refl
@@ -96,7 +115,15 @@ module _ (c h g n : ℕ) (es : List Event) where
       where
         go : (o : Option (List ℕ)) → Grown k w (publishes_row c h g n w k who ops a s o)
         go None = keeps w refl refl
-        go (Some row) = cond_both (ltb s.number (2 ^ 64 - 1)) (with_publish k w who ops a s row) w (Grown k w) (λ _. record { new = _ ∷ []; publishes = refl; sole = refl; also = []; answers = sym (append-nil w.answers); single = tt }) (λ _. keeps w refl refl)
+        go (Some row) = cond_both (ltb s.number (2 ^ 64 - 1)) (with_publish k w who ops a s row) w (Grown k w)
+            (λ _. record {
+              new = _ ∷ [];
+              publishes = refl;
+              sole = refl;
+              also = [];
+              answers = sym (append-nil w.answers);
+              single = tt;
+            }) (λ _. keeps w refl refl)
 
     steps_grow : (who : ℕ) (torn : Bool) (o : Option Act) → Grown k w (steps c h g n es w k who torn o)
     steps_grow who torn None = keeps w refl refl
@@ -105,14 +132,16 @@ module _ (c h g n : ℕ) (es : List Event) where
         go : (x : Phase) → Grown k w (steps_in c h g n es w k who torn a x)
         go Rest = keeps w refl refl
         go Scan = reads_grow who a torn (place_in a.scan.next)
-        go Ready = cond_both torn w _ (Grown k w) (λ _. keeps w refl refl) (λ _. publishes_grow who (ops_of (slice_get es a.begin)) a (slice_get w.segments who))
+        go Ready = cond_both torn w _ (Grown k w) (λ _. keeps w refl refl)
+            (λ _. publishes_grow who (ops_of (slice_get es a.begin)) a (slice_get w.segments who))
 
     begins_grow : (who : ℕ) (ops : List Op) (o : Option Act) → Grown k w (begins c h g n w k who ops o)
     begins_grow who ops None = keeps w refl refl
     begins_grow who ops (Some a) = go a.phase
       where
         go : (x : Phase) → Grown k w (begins_if c h g n w k who ops a x)
-        go Rest = cond_both (accepts c h g n ops (slice_get w.segments who)) _ w (Grown k w) (λ _. keeps _ refl refl) (λ _. keeps w refl refl)
+        go Rest = cond_both (accepts c h g n ops (slice_get w.segments who)) _ w (Grown k w) (λ _. keeps _ refl refl)
+            (λ _. keeps w refl refl)
         go Scan = keeps w refl refl
         go Ready = keeps w refl refl
 
@@ -126,20 +155,37 @@ module _ (c h g n : ℕ) (es : List Event) where
   world_grows k = happens_grow k (world_at c h g n es k) (slice_get es k)
 
   pub world_ordered : (k : ℕ) → Ordered k (world_at c h g n es k)
-  world_ordered zero = record { publishes = λ q x e. absurd (some-ne-none x (sym e)); publishes_rise = λ q r x y e f lt. absurd (some-ne-none x (sym e)); answers = λ q x e. absurd (some-ne-none x (sym e)); answers_rise = λ q r x y e f lt. absurd (some-ne-none x (sym e)) }
+  world_ordered zero = record {
+    publishes = λ q x e. absurd (some-ne-none x (sym e));
+    publishes_rise = λ q r x y e f lt. absurd (some-ne-none x (sym e));
+    answers = λ q x e. absurd (some-ne-none x (sym e));
+    answers_rise = λ q r x y e f lt. absurd (some-ne-none x (sym e));
+  }
   world_ordered (suc k) = let r = world_ordered k in let y = world_grows k in record {
     publishes = subst (Below at_publish (suc k)) (sym y.publishes) (sole_below at_publish k _ y.new y.sole r.publishes);
-    publishes_rise = subst (Rising at_publish) (sym y.publishes) (sole_rising at_publish k _ y.new y.sole r.publishes r.publishes_rise);
+    publishes_rise = subst (Rising at_publish) (sym y.publishes)
+        (sole_rising at_publish k _ y.new y.sole r.publishes r.publishes_rise);
     answers = subst (Below at_answer (suc k)) (sym y.answers) (sole_below at_answer k _ y.also y.single r.answers);
     answers_rise = subst (Rising at_answer) (sym y.answers) (sole_rising at_answer k _ y.also y.single r.answers r.answers_rise);
   }
 
   -- the lists of m events more
-  pub world_extends : (k m j : ℕ) → k + m ≡ j → Extends k (world_at c h g n es j).publishes (world_at c h g n es j).answers (world_at c h g n es k)
-  world_extends k zero j is = subst (λ (i : ℕ). Extends k (world_at c h g n es i).publishes (world_at c h g n es i).answers (world_at c h g n es k)) (let e : k ≡ j = omega arith in e)
-      (record { new = []; publishes = sym (append-nil _); later = λ q x e. absurd (some-ne-none x (sym e)); also = []; answers = sym (append-nil _); after = λ q x e. absurd (some-ne-none x (sym e)) })
+  pub world_extends : (k m j : ℕ) → k + m ≡ j → Extends k (world_at c h g n es j).publishes (world_at c h g n es j).answers
+      (world_at c h g n es k)
+  world_extends k zero j is =
+      subst (λ (i : ℕ). Extends k (world_at c h g n es i).publishes (world_at c h g n es i).answers (world_at c h g n es k))
+      (let e : k ≡ j = omega arith in e)
+      (record {
+        new = [];
+        publishes = sym (append-nil _);
+        later = λ q x e. absurd (some-ne-none x (sym e));
+        also = [];
+        answers = sym (append-nil _);
+        after = λ q x e. absurd (some-ne-none x (sym e));
+      })
   world_extends k (suc m) j is = let r = world_extends k m (k + m) refl in let y = world_grows (k + m) in
-      subst (λ (i : ℕ). Extends k (world_at c h g n es i).publishes (world_at c h g n es i).answers (world_at c h g n es k)) (let e : suc (k + m) ≡ j = omega arith in e)
+      subst (λ (i : ℕ). Extends k (world_at c h g n es i).publishes (world_at c h g n es i).answers (world_at c h g n es k))
+      (let e : suc (k + m) ≡ j = omega arith in e)
       (record {
         new = r.new ++ y.new;
         publishes = y.publishes ∙ ap (λ (z : List Published). z ++ y.new) r.publishes ∙ append_assoc _ r.new y.new;

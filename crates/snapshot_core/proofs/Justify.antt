@@ -1,5 +1,6 @@
 -- What is true of the machine before each event, by what the whole run came to.
-use Rattle.std.proofs.Common.{◌≡◌, ◌≢◌, ℕ, suc, ◌+◌, ◌-◌, ◌<◌, ◌≤◌, ◌⊎◌, inl, inr, ⊎_elim, Bool, List, [], ◌∷◌, length, map, get_or, sym, ap, ◌∙◌, subst, arith, Some, None}
+use Rattle.std.proofs.Common.{◌≡◌, ◌≢◌, ℕ, suc, ◌+◌, ◌-◌, ◌<◌, ◌≤◌, ◌⊎◌, inl, inr, ⊎_elim, Bool, List, [], ◌∷◌, length, map}
+use Rattle.std.proofs.Common.{get_or, sym, ap, ◌∙◌, subst, arith, Some, None}
 use Rattle.std.specs.Prelude.{slice_get}
 use mathlib.Core.Logic.{dite}
 use mathlib.Core.Option.{some}
@@ -102,11 +103,14 @@ module _ (c h g n : ℕ) (es : List Event) (ps : List Published) (zs : List Answ
     pub segment : (i : ℕ) (s : Seg) → slice_get w.segments i ≡ Some s → SegOk k i s
     pub actor : (i : ℕ) (a : Act) → slice_get w.actors i ≡ Some a → ActOk k i a a.phase
     pub answer : (q : ℕ) (a : Answered) → get_elem? zs q ≡ some a → a.end < k → AnswerOk a
-    pub once : (q r : ℕ) (a b : Answered) → get_elem? zs q ≡ some a → get_elem? zs r ≡ some b → a.end < k → b.end < k → a.actor ≡ b.actor → a.begin ≡ b.begin → a.end ≡ b.end
+    pub once : (q r : ℕ) (a b : Answered) → get_elem? zs q ≡ some a → get_elem? zs r ≡ some b → a.end < k → b.end < k
+        → a.actor ≡ b.actor → a.begin ≡ b.begin → a.end ≡ b.end
     pub published : (q : ℕ) (p : Published) → get_elem? ps q ≡ some p → p.at < k → PublishOk p
     -- a worker that was answered and made no Step since is ready; its first Step is its publish
-    pub ready : (q : ℕ) (a : Answered) → get_elem? zs q ≡ some a → a.end < k → a.actor < n → ((e : ℕ) → a.end < e → e < k → slice_get es e ≢ Some (Step a.actor)) → IsReadyIn w a.actor
-    pub publishes : (q e : ℕ) (a : Answered) → get_elem? zs q ≡ some a → a.actor < n → IsFirstStep es a.actor a.end e → e < k → PublishesAt a.actor e
+    pub ready : (q : ℕ) (a : Answered) → get_elem? zs q ≡ some a → a.end < k → a.actor < n
+        → ((e : ℕ) → a.end < e → e < k → slice_get es e ≢ Some (Step a.actor)) → IsReadyIn w a.actor
+    pub publishes : (q e : ℕ) (a : Answered) → get_elem? zs q ≡ some a → a.actor < n → IsFirstStep es a.actor a.end e → e < k
+        → PublishesAt a.actor e
 
   -- An event that is none of the actor's.
   abbrev pub Idle : (k i : ℕ) → Phase → Type 0
@@ -117,7 +121,8 @@ module _ (c h g n : ℕ) (es : List Event) (ps : List Published) (zs : List Answ
   pub takes_on : (k i b : ℕ) → NoPublish ps k i → RowTakes k i b → RowTakes (suc k) i b
   takes_on k i b none t = record {
     below = (let s = t.below in let e = number_quiet ps k i none in omega arith);
-    accepts = accepts_same c h g (row_at (sum_ops c h) ps k i) (row_at (sum_ops c h) ps (suc k) i) (ops_of (slice_get es b)) (λ x lt. sym (row_quiet (sum_ops c h) ps k i x none)) t.accepts;
+    accepts = accepts_same c h g (row_at (sum_ops c h) ps k i) (row_at (sum_ops c h) ps (suc k) i) (ops_of (slice_get es b))
+        (λ x lt. sym (row_quiet (sum_ops c h) ps k i x none)) t.accepts;
   }
 
   pub seg_waits : (k i : ℕ) (s : Seg) → NoPublish ps k i → SegOk k i s → SegOk (suc k) i s
@@ -129,7 +134,8 @@ module _ (c h g n : ℕ) (es : List Event) (ps : List Published) (zs : List Answ
     small = ok.small;
   }
 
-  pub act_waits : (k i : ℕ) (a : Act) (x : Phase) → NoPublish ps k i → NoAnswer zs k i → Idle k i x → ActOk k i a x → ActOk (suc k) i a x
+  pub act_waits : (k i : ℕ) (a : Act) (x : Phase) → NoPublish ps k i → NoAnswer zs k i → Idle k i x → ActOk k i a x
+      → ActOk (suc k) i a x
   act_waits k i a Rest nop noz idle ok = closed_on n c h g es ps zs k i ok idle
   act_waits k i a Scan nop noz idle ok = record {
     is_open = open_on n c h g es ps zs k i a.begin ok.is_open (no_end n c h g es ps zs k i (λ _. nop) (λ _. noz));
@@ -153,7 +159,8 @@ module _ (c h g n : ℕ) (es : List Event) (ps : List Published) (zs : List Answ
     of_begin = ok.of_begin;
     over = (let l = ok.over in omega arith);
     view = view_quiet zs k i None noz ∙ ok.view;
-    no_step = λ e from lt. ⊎_elim (λ l. ok.no_step e from l) (λ same. subst (λ (y : ℕ). slice_get es y ≢ Some (Step i)) (sym same) idle) (before_or e k lt);
+    no_step = λ e from lt. ⊎_elim (λ l. ok.no_step e from l)
+        (λ same. subst (λ (y : ℕ). slice_get es y ≢ Some (Step i)) (sym same) idle) (before_or e k lt);
     accepted = takes_on k i a.begin nop ok.accepted;
   }
 
@@ -164,7 +171,8 @@ module _ (c h g n : ℕ) (es : List Event) (ps : List Published) (zs : List Answ
     pub segment : (i : ℕ) (s : Seg) → slice_get y.segments i ≡ Some s → SegOk (suc k) i s
     pub actor : (i : ℕ) (a : Act) → slice_get y.actors i ≡ Some a → ActOk (suc k) i a a.phase
     pub answer : (q : ℕ) (a : Answered) → get_elem? zs q ≡ some a → a.end ≡ k → AnswerOk a
-    pub new : (q r : ℕ) (a b : Answered) → get_elem? zs q ≡ some a → get_elem? zs r ≡ some b → a.end ≡ k → b.end < k → a.actor ≡ b.actor → a.begin ≢ b.begin
+    pub new : (q r : ℕ) (a b : Answered) → get_elem? zs q ≡ some a → get_elem? zs r ≡ some b → a.end ≡ k → b.end < k
+        → a.actor ≡ b.actor → a.begin ≢ b.begin
     pub published : (q : ℕ) (p : Published) → get_elem? ps q ≡ some p → p.at ≡ k → PublishOk p
     pub ready : (q : ℕ) (a : Answered) → get_elem? zs q ≡ some a → a.end ≡ k → a.actor < n → IsReadyIn y a.actor
     pub stays : (i : ℕ) → IsReadyIn w i → slice_get es k ≢ Some (Step i) → IsReadyIn y i
@@ -178,7 +186,8 @@ module _ (c h g n : ℕ) (es : List Event) (ps : List Published) (zs : List Answ
     actor = d.actor;
     answer = λ q a at lt. ⊎_elim (λ l. j.answer q a at l) (λ e. d.answer q a at e) (before_or a.end k lt);
     once = λ q r a b ea eb la lb same begin. ⊎_elim
-        (λ l. ⊎_elim (λ m. j.once q r a b ea eb l m same begin) (λ m. absurd (d.new r q b a eb ea m l (sym same) (sym begin))) (before_or b.end k lb))
+        (λ l. ⊎_elim (λ m. j.once q r a b ea eb l m same begin) (λ m. absurd (d.new r q b a eb ea m l (sym same) (sym begin)))
+        (before_or b.end k lb))
         (λ l. ⊎_elim (λ m. absurd (d.new q r a b ea eb l m same begin)) (λ m. l ∙ sym m) (before_or b.end k lb))
         (before_or a.end k la);
     published = λ q p at lt. ⊎_elim (λ l. j.published q p at l) (λ e. d.published q p at e) (before_or p.at k lt);

@@ -11,7 +11,8 @@ use Rattle.ledger_core.specs.contracts.op.OpPartialEq.TheImpl.{eq-value}
 pub op_decides : (a b : Op) → Decides (eq-value.it a b) (a ≡ b)
 op_decides (Inc c x) (Inc d y) = Decides-like _ (λ e. cc) (λ e. (cc, cc)) (Decides-and _ _ (Decides-eqb c d) (Decides-eqb x y))
 op_decides (Inc c x) b = (λ is. cc, λ same. cc)
-op_decides (Observe c p x) (Observe d q y) = Decides-like _ (λ e. cc) (λ e. (cc, (cc, cc))) (Decides-and _ _ (Decides-eqb c d) (Decides-and _ _ (Decides-eqb p q) (Decides-eqb x y)))
+op_decides (Observe c p x) (Observe d q y) = Decides-like _ (λ e. cc) (λ e. (cc, (cc, cc)))
+    (Decides-and _ _ (Decides-eqb c d) (Decides-and _ _ (Decides-eqb p q) (Decides-eqb x y)))
 op_decides (Observe c p x) b = (λ is. cc, λ same. cc)
 op_decides (Up c x) (Up d y) = Decides-like _ (λ e. cc) (λ e. (cc, cc)) (Decides-and _ _ (Decides-eqb c d) (Decides-eqb x y))
 op_decides (Up c x) b = (λ is. cc, λ same. cc)
@@ -30,8 +31,10 @@ module _ {A B : Type 0} (f : A → B) where
   pub same_there : (xs ys : List A) (k : ℕ) (x y : A) → k < length xs → k < length ys → x ≡ get_or xs k x → y ≡ get_or ys k y
       → map f xs ≡ map f ys → f x ≡ f y
   same_there xs ys k x y inx iny isx isy same =
-      ap f isx ∙ sym (get_or-map f xs k x (f x) inx) ∙ ap (λ (zs : List B). get_or zs k (f x)) same ∙ get_or-map f ys k y (f x) iny ∙ sym (ap f isy)
+      ap f isx ∙ sym (get_or-map f xs k x (f x) inx) ∙ ap (λ (zs : List B). get_or zs k (f x)) same
+      ∙ get_or-map f ys k y (f x) iny ∙ sym (ap f isy)
 
   -- two lists of which all elements are the same, are
-  pub same_all : (xs ys : List A) (k : ℕ) → length xs ≤ k → length ys ≤ k → map f (take k xs) ≡ map f (take k ys) → map f xs ≡ map f ys
+  pub same_all : (xs ys : List A) (k : ℕ) → length xs ≤ k → length ys ≤ k → map f (take k xs) ≡ map f (take k ys)
+      → map f xs ≡ map f ys
   same_all xs ys k lx ly same = ap (map f) (sym (take_all k xs lx)) ∙ same ∙ ap (map f) (take_all k ys ly)

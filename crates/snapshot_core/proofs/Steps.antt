@@ -21,16 +21,26 @@ start_ok adds w n least most = record {
   count = length-replicate n (blank_of w);
   people = length-replicate (n + 4) (idle_of w n);
   answers = λ q a e. absurd (some-ne-none a (sym e));
-  segment = λ i s is. subst (SegOk adds w n [] 0 i) (in_several n (blank_of w) i s is) (record { number = refl; words = length-replicate w 0; row = λ x l. get_or-replicate w x 0 0 l; small = λ x l. omega arith; lends = λ v e. absurd (none-some v e) });
+  segment = λ i s is. subst (SegOk adds w n [] 0 i) (in_several n (blank_of w) i s is)
+      (record {
+        number = refl;
+        words = length-replicate w 0;
+        row = λ x l. get_or-replicate w x 0 0 l;
+        small = λ x l. omega arith;
+        lends = λ v e. absurd (none-some v e);
+      });
   actor = λ i a is. subst (ActOk adds w n [] 0 i) (in_several (n + 4) (idle_of w n) i a is) (length-replicate w 0, tt);
 }
 
 -- the world before every event
-pub world_ok : (c h g n : ℕ) → 1 ≤ n → n ≤ 32 → (es : List Event) (k : ℕ) → Inv (sum_ops c h) (width c h g) n k (world_at c h g n es k)
+pub world_ok : (c h g n : ℕ) → 1 ≤ n → n ≤ 32 → (es : List Event) (k : ℕ)
+    → Inv (sum_ops c h) (width c h g) n k (world_at c h g n es k)
 world_ok c h g n least most es zero = start_ok (sum_ops c h) (width c h g) n least most
-world_ok c h g n least most es (suc k) = happens_ok c h g n k (world_at c h g n es k) (world_ok c h g n least most es k) (world_ordered c h g n es k) es (slice_get es k)
+world_ok c h g n least most es (suc k) = happens_ok c h g n k (world_at c h g n es k) (world_ok c h g n least most es k)
+    (world_ordered c h g n es k) es (slice_get es k)
 
-pub one_step : (c h g n : ℕ) (es : List Event) → 1 ≤ n → n ≤ 32 → (k : ℕ) → AreOneStep n c h g (world_at c h g n es k).publishes (world_at c h g n es k).answers
+pub one_step : (c h g n : ℕ) (es : List Event) → 1 ≤ n → n ≤ 32 → (k : ℕ) → AreOneStep n c h g (world_at c h g n es k).publishes
+    (world_at c h g n es k).answers
 one_step c h g n es least most k q a v is seen = ((world_ok c h g n least most es k).answers q a is).1.step v seen
 
 pub few_tries : (c h g n : ℕ) (es : List Event) → 1 ≤ n → n ≤ 32 → (k : ℕ) → AreFew n (world_at c h g n es k).answers

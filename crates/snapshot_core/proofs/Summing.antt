@@ -1,5 +1,6 @@
 -- Lists that a loop changes word by word.
-use Rattle.std.proofs.Common.{◌≡◌, ℕ, zero, suc, ◌+◌, ◌%◌, ◌^◌, ◌<◌, false, min, List, [], ◌∷◌, length, map, get_or, set, leb, sym, refl, ap, ◌∙◌, arith}
+use Rattle.std.proofs.Common.{◌≡◌, ℕ, zero, suc, ◌+◌, ◌%◌, ◌^◌, ◌<◌, false, min, List, [], ◌∷◌, length, map, get_or, set, leb}
+use Rattle.std.proofs.Common.{sym, refl, ap, ◌∙◌, arith}
 use Rattle.std.proofs.lemmas.Bool.{and_right}
 use Rattle.std.proofs.lemmas.List.{get_or_read}
 use Rattle.ledger_core.specs.Vectors.{is_above}
@@ -19,15 +20,19 @@ length_added_up (suc k) [] row = refl
 length_added_up (suc k) (x ∷ words) [] = refl
 length_added_up (suc k) (x ∷ words) (y ∷ row) = let e = length_added_up k words row in omega (arith, e)
 
-added_suc : (k : ℕ) (words row : List ℕ) → k < length words → k < length row → added_up (suc k) words row ≡ set (added_up k words row) k ((get_or (added_up k words row) k 0 + get_or row k 0) % 2 ^ 64)
+added_suc : (k : ℕ) (words row : List ℕ) → k < length words → k < length row
+    → added_up (suc k) words row ≡ set (added_up k words row) k ((get_or (added_up k words row) k 0 + get_or row k 0) % 2 ^ 64)
 added_suc k [] row a b = absurd (omega arith)
 added_suc k (x ∷ words) [] a b = absurd (omega arith)
 added_suc zero (x ∷ words) (y ∷ row) a b = refl
-added_suc (suc k) (x ∷ words) (y ∷ row) a b = ap (λ (z : List ℕ). (x + y) % 2 ^ 64 ∷ z) (added_suc k words row (omega arith) (omega arith))
+added_suc (suc k) (x ∷ words) (y ∷ row) a b = ap (λ (z : List ℕ). (x + y) % 2 ^ 64 ∷ z)
+    (added_suc k words row (omega arith) (omega arith))
 
 -- one more word
-pub added_next : (k : ℕ) (words row : List ℕ) → k < length words → k < length row → set (added_up k words row) k ((get_or (added_up k words row) k 0 + get_or row k 0) % 2 ^ 64) ≡ added_up (k + 1) words row
-added_next k words row a b = sym (added_suc k words row a b) ∙ (let e : suc k ≡ k + 1 = omega arith in ap (λ (z : ℕ). added_up z words row) e)
+pub added_next : (k : ℕ) (words row : List ℕ) → k < length words → k < length row
+    → set (added_up k words row) k ((get_or (added_up k words row) k 0 + get_or row k 0) % 2 ^ 64) ≡ added_up (k + 1) words row
+added_next k words row a b = sym (added_suc k words row a b) ∙ (let e : suc k ≡ k + 1 = omega arith in
+    ap (λ (z : ℕ). added_up z words row) e)
 
 -- all words that both lists have
 pub added_all : (k : ℕ) (words row : List ℕ) → k ≡ min (length words) (length row) → added_up k words row ≡ added words row
@@ -45,7 +50,8 @@ above_short f k (suc n) [] h = refl
 above_short f k (suc n) (y ∷ vector) h = and_right (leb (f k) y) _ (above_short f (suc k) n vector (omega arith))
 
 -- the sum that the loop writes
-pub added_step : (k : ℕ) (words now row : List ℕ) (x y : ℕ) → now ≡ added_up k words row → x ≡ get_or now k x → y ≡ get_or row k 0 → k < length words → k < length row → set now k ((x + y) % 2 ^ 64) ≡ added_up (k + 1) words row
+pub added_step : (k : ℕ) (words now row : List ℕ) (x y : ℕ) → now ≡ added_up k words row → x ≡ get_or now k x → y ≡ get_or row k 0
+    → k < length words → k < length row → set now k ((x + y) % 2 ^ 64) ≡ added_up (k + 1) words row
 added_step k words now row x y is at there a b =
     let l : length now ≡ length words = ap length is ∙ length_added_up k words row in
     let e : x ≡ get_or now k 0 = get_or_read now k x (omega arith) at 0 in

@@ -1,5 +1,6 @@
 -- Turns that are open, and an actor's own reads, over one more event.
-use Rattle.std.proofs.Common.{◌≡◌, ◌≢◌, ℕ, zero, suc, ◌+◌, ◌-◌, ◌<◌, ◌≤◌, inl, inr, ⊎_elim, Bool, true, false, cond, List, [], ◌∷◌, ◌++◌, eq-eqb, ne_eqb, sym, refl, ap, ◌∙◌, arith, Option, Some, append_assoc, append-nil, subst}
+use Rattle.std.proofs.Common.{◌≡◌, ◌≢◌, ℕ, zero, suc, ◌+◌, ◌-◌, ◌<◌, ◌≤◌, inl, inr, ⊎_elim, Bool, true, false, cond, List, []}
+use Rattle.std.proofs.Common.{◌∷◌, ◌++◌, eq-eqb, ne_eqb, sym, refl, ap, ◌∙◌, arith, Option, Some, append_assoc, append-nil, subst}
 use Rattle.std.specs.Prelude.{slice_get}
 use mathlib.Core.Logic.{dite}
 use native.Mathlib.Decide.{ℕ_discrete}
@@ -39,7 +40,8 @@ module _ (n c h g : ℕ) (es : List Event) (ps : List Published) (zs : List Answ
   pub open_on : (e i b : ℕ) → IsOpen n c h g es ps zs e i b → ¬ EndsAt n c h g es ps zs e i → IsOpen n c h g es ps zs (suc e) i b
   open_on e i b o none = inl (o, none)
 
-  pub open_begins : (e i : ℕ) → IsClosed e i → BeginsAt n c h g es ps zs e i (slice_get es e) → IsOpen n c h g es ps zs (suc e) i e
+  pub open_begins : (e i : ℕ) → IsClosed e i → BeginsAt n c h g es ps zs e i (slice_get es e)
+      → IsOpen n c h g es ps zs (suc e) i e
   open_begins e i closed begins = inr (refl, begins, closed)
 
   pub closed_by : (e i b : ℕ) → IsOpen n c h g es ps zs e i b → EndsAt n c h g es ps zs e i → IsClosed (suc e) i
@@ -57,18 +59,26 @@ pub own_front : (es : List Event) (i b m d : ℕ) → own_reads es i b (m + d) �
 own_front es i b zero d = let z : 0 + d ≡ d = omega arith in let y : b ≡ b + 0 = omega arith in λ k. own_reads es i (y k) (z k)
 own_front es i b (suc m) d =
     let z : suc m + d ≡ suc (m + d) = omega arith in let y : suc b + m ≡ b + suc m = omega arith in
-    ap (own_reads es i b) z ∙ (ap (λ (r : List (ℕ × Bool)). own i b (slice_get es b) ++ r) (own_front es i (suc b) m d ∙ ap (λ (r : ℕ). own_reads es i (suc b) m ++ own_reads es i r d) y)
+    ap (own_reads es i b) z ∙ (ap (λ (r : List (ℕ × Bool)). own i b (slice_get es b) ++ r)
+    (own_front es i (suc b) m d ∙ ap (λ (r : ℕ). own_reads es i (suc b) m ++ own_reads es i r d) y)
     ∙ sym (append_assoc (own i b (slice_get es b)) (own_reads es i (suc b) m) (own_reads es i (b + suc m) d)))
 
-pub own_snoc : (es : List Event) (i b m : ℕ) → own_reads es i b (suc m) ≡ own_reads es i b m ++ own i (b + m) (slice_get es (b + m))
-own_snoc es i b m = (let e : suc m ≡ m + 1 = omega arith in ap (own_reads es i b) e) ∙ own_front es i b m 1 ∙ ap (λ (z : List (ℕ × Bool)). own_reads es i b m ++ z) (append-nil (own i (b + m) (slice_get es (b + m))))
+pub own_snoc : (es : List Event) (i b m : ℕ) → own_reads es i b (suc m) ≡ own_reads es i b m ++ own i (b + m)
+    (slice_get es (b + m))
+own_snoc es i b m = (let e : suc m ≡ m + 1 = omega arith in ap (own_reads es i b) e) ∙ own_front es i b m 1
+    ∙ ap (λ (z : List (ℕ × Bool)). own_reads es i b m ++ z) (append-nil (own i (b + m) (slice_get es (b + m))))
 
 -- the reads of a turn that begins at b, one event later
-pub own_next : (es : List Event) (i b k : ℕ) → b < k → own_reads es i (suc b) (suc k - suc b) ≡ own_reads es i (suc b) (k - suc b) ++ own i k (slice_get es k)
-own_next es i b k lt = (let e : suc k - suc b ≡ suc (k - suc b) = omega arith in ap (own_reads es i (suc b)) e) ∙ own_snoc es i (suc b) (k - suc b) ∙ (let e : suc b + (k - suc b) ≡ k = omega arith in ap (λ (z : ℕ). own_reads es i (suc b) (k - suc b) ++ own i z (slice_get es z)) e)
+pub own_next : (es : List Event) (i b k : ℕ) → b < k → own_reads es i (suc b) (suc k - suc b) ≡ own_reads es i (suc b)
+    (k - suc b) ++ own i k (slice_get es k)
+own_next es i b k lt = (let e : suc k - suc b ≡ suc (k - suc b) = omega arith in ap (own_reads es i (suc b)) e)
+    ∙ own_snoc es i (suc b) (k - suc b) ∙ (let e : suc b + (k - suc b) ≡ k = omega arith in
+    ap (λ (z : ℕ). own_reads es i (suc b) (k - suc b) ++ own i z (slice_get es z)) e)
 
-pub own_none : (es : List Event) (i b k : ℕ) → b < k → own i k (slice_get es k) ≡ [] → own_reads es i (suc b) (suc k - suc b) ≡ own_reads es i (suc b) (k - suc b)
-own_none es i b k lt none = own_next es i b k lt ∙ ap (λ (z : List (ℕ × Bool)). own_reads es i (suc b) (k - suc b) ++ z) none ∙ append-nil (own_reads es i (suc b) (k - suc b))
+pub own_none : (es : List Event) (i b k : ℕ) → b < k → own i k (slice_get es k) ≡ []
+    → own_reads es i (suc b) (suc k - suc b) ≡ own_reads es i (suc b) (k - suc b)
+own_none es i b k lt none = own_next es i b k lt ∙ ap (λ (z : List (ℕ × Bool)). own_reads es i (suc b) (k - suc b) ++ z) none
+    ∙ append-nil (own_reads es i (suc b) (k - suc b))
 
 -- a Step or a Torn of `who`
 abbrev pub read_event : (who : ℕ) → Bool → Event
@@ -88,6 +98,7 @@ same_step who i e = cc
 torn_step : (who i : ℕ) → Some (Torn who) ≡ Some (Step i) → ⊥
 torn_step who i e = cc
 
-pub step_of : (who i : ℕ) (torn : Bool) (o : Option Event) → o ≡ Some (read_event who torn) → o ≡ Some (Step i) → (torn ≡ false) × (who ≡ i)
+pub step_of : (who i : ℕ) (torn : Bool) (o : Option Event) → o ≡ Some (read_event who torn) → o ≡ Some (Step i) → (torn ≡ false)
+    × (who ≡ i)
 step_of who i true o e f = absurd (torn_step who i (sym e ∙ f))
 step_of who i false o e f = (refl, same_step who i (sym e ∙ f))

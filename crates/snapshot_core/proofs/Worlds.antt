@@ -1,5 +1,6 @@
 -- What is true of the whole machine before each event.
-use Rattle.std.proofs.Common.{◌≡◌, ◌≢◌, ℕ, zero, suc, ◌+◌, ◌<◌, ◌≤◌, ◌⊎◌, inl, inr, ⊎_elim, List, [], ◌∷◌, ◌++◌, length, take, get_or, sym, refl, ap, ◌∙◌, subst, arith, Bool, Option, Some, length-set, replicate}
+use Rattle.std.proofs.Common.{◌≡◌, ◌≢◌, ℕ, zero, suc, ◌+◌, ◌<◌, ◌≤◌, ◌⊎◌, inl, inr, ⊎_elim, List, [], ◌∷◌, ◌++◌, length, take}
+use Rattle.std.proofs.Common.{get_or, sym, refl, ap, ◌∙◌, subst, arith, Bool, Option, Some, length-set, replicate}
 use Rattle.std.specs.Prelude.{slice_get}
 use Rattle.std.proofs.Math.ListN.{set}
 use Rattle.std.proofs.lemmas.Option.{none-some, same_Some}
@@ -59,7 +60,8 @@ module _ (adds : List Op → ℕ → ℕ) (w : ℕ) where
   abbrev pub PhaseOk : (n : ℕ) → List Published → (k i : ℕ) → Act → Phase → Type 0
   PhaseOk n ps k i a phase.Rest = Unit {0}
   PhaseOk n ps k i a phase.Scan = ScanOk n ps k a × (number_at ps a.begin i ≡ number_at ps k i)
-  PhaseOk n ps k i a phase.Ready = ((v : View) → a.view ≡ Some v → OneStep adds n w ps a.begin k v) × (a.begin < k) × (number_at ps a.begin i ≡ number_at ps k i)
+  PhaseOk n ps k i a phase.Ready = ((v : View) → a.view ≡ Some v → OneStep adds n w ps a.begin k v) × (a.begin < k)
+      × (number_at ps a.begin i ≡ number_at ps k i)
 
   abbrev pub ActOk : (n : ℕ) → List Published → (k i : ℕ) → Act → Type 0
   ActOk n ps k i a = (length a.totals ≡ w) × PhaseOk n ps k i a a.phase
@@ -88,7 +90,11 @@ pub same_self : (adds : List Op → ℕ → ℕ) (k : ℕ) (ps : List Published)
 same_self adds k ps = record { numbers = λ j i h. refl; rows = λ j i x h. refl; totals = λ j x h. refl }
 
 pub same_more : (adds : List Op → ℕ → ℕ) (k : ℕ) (ps : List Published) (p : Published) → p.at ≡ k → Same adds k ps (ps ++ p ∷ [])
-same_more adds k ps p e = record { numbers = λ j i h. number_grows ps p j i (omega arith); rows = λ j i x h. row_grows adds ps p j i x (omega arith); totals = λ j x h. total_grows adds ps p j x (omega arith) }
+same_more adds k ps p e = record {
+  numbers = λ j i h. number_grows ps p j i (omega arith);
+  rows = λ j i x h. row_grows adds ps p j i x (omega arith);
+  totals = λ j x h. total_grows adds ps p j x (omega arith);
+}
 
 -- more is published, at k or later
 module _ (adds : List Op → ℕ → ℕ) (w n k : ℕ) (ps qs : List Published) (same : Same adds k ps qs) where
@@ -105,48 +111,102 @@ module _ (adds : List Op → ℕ → ℕ) (w n k : ℕ) (ps qs : List Published)
     };
   }
 
-  firsts_grows : (b e p : ℕ) (o : List ℕ) (wh : List Bool) (t : List ℕ) → e ≤ k → Firsts adds w ps b e p o wh t → Firsts adds w qs b e p o wh t
-  firsts_grows b e p o wh t le r = record { moment = r.moment; after = r.after; by = r.by; number = λ q h. r.number q h ∙ sym (same.numbers (r.moment q) q (let y = r.by q h in omega arith)); sums = λ some all x hx. r.sums some all x hx ∙ sum_ap p _ _ (λ q l. sym (same.rows (r.moment q) q x (let y = r.by q l in omega arith))) }
+  firsts_grows : (b e p : ℕ) (o : List ℕ) (wh : List Bool) (t : List ℕ) → e ≤ k → Firsts adds w ps b e p o wh t
+      → Firsts adds w qs b e p o wh t
+  firsts_grows b e p o wh t le r = record {
+    moment = r.moment;
+    after = r.after;
+    by = r.by;
+    number = λ q h. r.number q h ∙ sym (same.numbers (r.moment q) q (let y = r.by q h in omega arith));
+    sums = λ some all x hx. r.sums some all x hx
+        ∙ sum_ap p _ _ (λ q l. sym (same.rows (r.moment q) q x (let y = r.by q l in omega arith)));
+  }
 
   seconds_grows : (b e p : ℕ) (s : Scan) (t : List ℕ) → e ≤ k → Seconds adds w n ps b e p s t → Seconds adds w n qs b e p s t
-  seconds_grows b e p s t le r = let y = r.by in record { mid = r.mid; after = r.after; by = r.by; firsts = firsts_grows b r.mid n s.opened s.whole t (omega arith) r.firsts; found = λ q l. let f = r.found q l in let f2 = f.2 in (f.0, f.1, f.2, f.3 ∙ sym (same.numbers f.0 q (omega arith))) }
+  seconds_grows b e p s t le r = let y = r.by in
+      record {
+        mid = r.mid;
+        after = r.after;
+        by = r.by;
+        firsts = firsts_grows b r.mid n s.opened s.whole t (omega arith) r.firsts;
+        found = λ q l. let f = r.found q l in let f2 = f.2 in (f.0, f.1, f.2, f.3 ∙ sym (same.numbers f.0 q (omega arith)));
+      }
 
   based_grows : (b e : ℕ) (s : Scan) → e ≤ k → Based n ps b e s → Based n qs b e s
-  based_grows b e s le base q l = let f = base q l in let f2 = f.2 in (f.0, f.1, f.2, f.3 ∙ sym (same.numbers f.0 q (omega arith)))
+  based_grows b e s le base q l = let f = base q l in let f2 = f.2 in
+      (f.0, f.1, f.2, f.3 ∙ sym (same.numbers f.0 q (omega arith)))
 
-  pub next_grows : (b e : ℕ) (s : Scan) (t : List ℕ) (v : Option View) (x : Next) → e ≤ k → NextOk adds w n ps b e s t v x → NextOk adds w n qs b e s t v x
-  next_grows b e s t v (First p) le (lt, r, base) = (lt, firsts_grows b e p s.opened s.whole t le r, λ ne. based_grows b e s le (base ne))
+  pub next_grows : (b e : ℕ) (s : Scan) (t : List ℕ) (v : Option View) (x : Next) → e ≤ k → NextOk adds w n ps b e s t v x
+      → NextOk adds w n qs b e s t v x
+  next_grows b e s t v (First p) le (lt, r, base) = (
+    lt,
+    firsts_grows b e p s.opened s.whole t le r,
+    λ ne. based_grows b e s le (base ne),
+  )
   next_grows b e s t v (Second p) le (lt, r, base) = (lt, seconds_grows b e p s t le r, λ ne. based_grows b e s le (base ne))
-  next_grows b e s t v (Ask p) le (lt, base, seen, up) = (lt, based_grows b e s le base, λ q l. let a = seen q l in let g = same.numbers e q le in omega arith, let g = same.numbers e p le in omega arith)
+  next_grows b e s t v (Ask p) le (lt, base, seen, up) = (
+    lt,
+    based_grows b e s le base,
+    λ q l. let a = seen q l in
+        let g = same.numbers e q le in omega arith,
+    let g = same.numbers e p le in omega arith,
+  )
   next_grows b e s t v Direct le st = step_grows b e e (record { vector = take s.n s.opened; totals = t }) le (omega arith) st
   next_grows b e s t v (Lent p) le (a, is, st) = (a, is, step_grows b e e a le (omega arith) st)
   next_grows b e s t v (GaveUp x y z) le st = tt
 
   pub answers_grow : (zs : List Answered) → AllAnswers adds w n ps k zs → AllAnswers adds w n qs (suc k) zs
-  answers_grow zs h q a is = let x = h q a is in let lt = x.0 in (omega arith, record { tries = x.1.tries; order = x.1.order; step = λ v seen. step_grows a.begin a.end a.end v (omega arith) (omega arith) (x.1.step v seen) })
+  answers_grow zs h q a is = let x = h q a is in let lt = x.0 in (
+    omega arith,
+    record {
+      tries = x.1.tries;
+      order = x.1.order;
+      step = λ v seen. step_grows a.begin a.end a.end v (omega arith) (omega arith) (x.1.step v seen);
+    },
+  )
 
   -- an actor whose number did not move
-  pub phase_grows : (i : ℕ) (a : Act) (ph : Phase) → number_at qs (suc k) i ≡ number_at ps k i → PhaseOk adds w n ps k i a ph → PhaseOk adds w n qs (suc k) i a ph
+  pub phase_grows : (i : ℕ) (a : Act) (ph : Phase) → number_at qs (suc k) i ≡ number_at ps k i → PhaseOk adds w n ps k i a ph
+      → PhaseOk adds w n qs (suc k) i a ph
   phase_grows i a phase.Rest still h = tt
   phase_grows i a phase.Scan still (ok, e) = let y = ok.by in let z = ok.after in (
-    record { last = ok.last; met = ok.met; by = (let g : ok.last < suc k = omega arith in g); after = ok.after; shape = ok.shape; good = (ok.good.0, next_grows a.begin ok.last a.scan a.totals ok.met a.scan.next (omega arith) ok.good.1) },
+    record {
+      last = ok.last;
+      met = ok.met;
+      by = (let g : ok.last < suc k = omega arith in g);
+      after = ok.after;
+      shape = ok.shape;
+      good = (ok.good.0, next_grows a.begin ok.last a.scan a.totals ok.met a.scan.next (omega arith) ok.good.1);
+    },
     same.numbers a.begin i (omega arith) ∙ e ∙ sym still,
   )
-  phase_grows i a phase.Ready still (ok, lt, e) = (λ v is. step_grows a.begin k (suc k) v (omega arith) (omega arith) (ok v is), omega arith, same.numbers a.begin i (omega arith) ∙ e ∙ sym still)
+  phase_grows i a phase.Ready still (ok, lt, e) = (
+    λ v is. step_grows a.begin k (suc k) v (omega arith) (omega arith) (ok v is),
+    omega arith,
+    same.numbers a.begin i (omega arith) ∙ e ∙ sym still,
+  )
 
   -- a segment whose number and row did not move
-  pub seg_grows : (i : ℕ) (s : Seg) → number_at qs (suc k) i ≡ number_at ps k i → ((x : ℕ) → row_at adds qs (suc k) i x ≡ row_at adds ps k i x) → SegOk adds w n ps k i s → SegOk adds w n qs (suc k) i s
+  pub seg_grows : (i : ℕ) (s : Seg) → number_at qs (suc k) i ≡ number_at ps k i
+      → ((x : ℕ) → row_at adds qs (suc k) i x ≡ row_at adds ps k i x) → SegOk adds w n ps k i s → SegOk adds w n qs (suc k) i s
   seg_grows i s still stays ok = record {
     number = ok.number ∙ sym still;
     words = ok.words;
     row = λ x h. ok.row x h ∙ sym (stays x);
     small = λ x h. let a = ok.small x h in let g = stays x in omega arith;
-    lends = λ v is. let l = ok.lends v is in let af = l.2.after in let y = l.2.by in (l.0, ap (λ (y : ℕ). y + 1) (same.numbers l.0 i (omega arith)) ∙ l.1, step_grows l.0 k (suc k) v (omega arith) (omega arith) l.2);
+    lends = λ v is. let l = ok.lends v is in let af = l.2.after in let y = l.2.by in (
+      l.0,
+      ap (λ (y : ℕ). y + 1) (same.numbers l.0 i (omega arith)) ∙ l.1,
+      step_grows l.0 k (suc k) v (omega arith) (omega arith) l.2,
+    );
   }
 
 module _ (adds : List Op → ℕ → ℕ) (w n k : ℕ) where
-  pub answers_more : (ps : List Published) (zs : List Answered) (a : Answered) → AllAnswers adds w n ps k zs → a.end < k → AnswerOk adds w n ps a → AllAnswers adds w n ps k (zs ++ a ∷ [])
-  answers_more ps zs a h lt ok q x is = ⊎_elim (λ t. h q x t) (λ t. subst (λ (y : Answered). (y.end < k) × AnswerOk adds w n ps y) (only_one a t.0 x t.2) (lt, ok)) (in_both zs (a ∷ []) q x is)
+  pub answers_more : (ps : List Published) (zs : List Answered) (a : Answered) → AllAnswers adds w n ps k zs → a.end < k
+      → AnswerOk adds w n ps a → AllAnswers adds w n ps k (zs ++ a ∷ [])
+  answers_more ps zs a h lt ok q x is =
+      ⊎_elim (λ t. h q x t) (λ t. subst (λ (y : Answered). (y.end < k) × AnswerOk adds w n ps y) (only_one a t.0 x t.2) (lt, ok))
+      (in_both zs (a ∷ []) q x is)
 
   -- time passes
   pub ticks : (m : World) → Below at_publish k m.publishes → Inv adds w n k m → Inv adds w n (suc k) m
@@ -156,13 +216,20 @@ module _ (adds : List Op → ℕ → ℕ) (w n k : ℕ) where
     inside = r.inside;
     count = r.count;
     people = r.people;
-    segment = λ i s is. seg_grows adds w n k m.publishes m.publishes same i s (number_quiet m.publishes k i (not_yet m.publishes k i early)) (λ x. row_quiet adds m.publishes k i x (not_yet m.publishes k i early)) (r.segment i s is);
-    actor = λ i a is. let ok = r.actor i a is in (ok.0, phase_grows adds w n k m.publishes m.publishes same i a a.phase (number_quiet m.publishes k i (not_yet m.publishes k i early)) ok.1);
+    segment = λ i s is. seg_grows adds w n k m.publishes m.publishes same i s
+        (number_quiet m.publishes k i (not_yet m.publishes k i early))
+        (λ x. row_quiet adds m.publishes k i x (not_yet m.publishes k i early)) (r.segment i s is);
+    actor = λ i a is. let ok = r.actor i a is in (
+      ok.0,
+      phase_grows adds w n k m.publishes m.publishes same i a a.phase
+          (number_quiet m.publishes k i (not_yet m.publishes k i early)) ok.1,
+    );
     answers = answers_grow adds w n k m.publishes m.publishes same m.answers r.answers;
   }
 
   -- one actor changes
-  pub one_actor : (m : World) (who : ℕ) (a : Act) → Inv adds w n k m → ActOk adds w n m.publishes k who a → Inv adds w n k (with_actor m who a)
+  pub one_actor : (m : World) (who : ℕ) (a : Act) → Inv adds w n k m → ActOk adds w n m.publishes k who a
+      → Inv adds w n k (with_actor m who a)
   one_actor m who a r ok = record {
     some = r.some;
     most = r.most;
@@ -171,5 +238,6 @@ module _ (adds : List Op → ℕ → ℕ) (w n k : ℕ) where
     people = length-set _ _ _ ∙ r.people;
     segment = r.segment;
     answers = r.answers;
-    actor = λ i b is. ⊎_elim (λ t. subst (λ (z : ℕ × Act). ActOk adds w n m.publishes k z.0 z.1) (λ c. (sym t.0 c, t.1 c)) ok) (λ t. r.actor i b t.1) (at_set m.actors who a i b is);
+    actor = λ i b is. ⊎_elim (λ t. subst (λ (z : ℕ × Act). ActOk adds w n m.publishes k z.0 z.1) (λ c. (sym t.0 c, t.1 c)) ok)
+        (λ t. r.actor i b t.1) (at_set m.actors who a i b is);
   }

@@ -1,5 +1,6 @@
 -- When what a list of events came to is right.
-use Rattle.std.specs.Prelude.{◌≡◌, ◌≢◌, ℕ, suc, ◌+◌, ◌-◌, ◌*◌, ◌<◌, ◌≤◌, ◌==◌, ◌&&◌, nat_lt, cond, Bool, false, Option, Some, None, List, [], ◌∷◌, ◌++◌, map, length, slice_get}
+use Rattle.std.specs.Prelude.{◌≡◌, ◌≢◌, ℕ, suc, ◌+◌, ◌-◌, ◌*◌, ◌<◌, ◌≤◌, ◌==◌, ◌&&◌, nat_lt, cond, Bool, false, Option, Some}
+use Rattle.std.specs.Prelude.{None, List, [], ◌∷◌, ◌++◌, map, length, slice_get}
 use mathlib.Core.Option.{some}
 use lib.ListN.{get_elem?}
 use Rattle.ledger_core.specs.Ops.{width, sum_ops}
@@ -7,7 +8,8 @@ use Rattle.snapshot_core.specs.declared.event.Event.{Event}
 use Rattle.snapshot_core.specs.declared.event.Event.TheVariants.{Step, Torn}
 use Rattle.snapshot_core.specs.declared.trace.ScanEnd.{ScanEnd}
 use Rattle.snapshot_core.specs.declared.trace.ScanEnd.TheVariants.{Direct, Lent, GaveUp}
-use Rattle.snapshot_core.specs.Tries.{View, Read, Try, number_met, reads_of, Failed, AllFailed, EndsDirectly, EndsLent, floor_of, base_of}
+use Rattle.snapshot_core.specs.Tries.{View, Read, Try, number_met, reads_of, Failed, AllFailed, EndsDirectly, EndsLent, floor_of}
+use Rattle.snapshot_core.specs.Tries.{base_of}
 use Rattle.snapshot_core.specs.History.{Published, number_at, OneStep}
 use Rattle.snapshot_core.specs.Turns.{Answered, IsOpen, IsTurn, own, own_reads, ops_of}
 
@@ -45,7 +47,8 @@ abbrev pub Ends : (n : ℕ) → List Try → Try → ScanEnd → Option View →
 Ends n before last Direct None = ⊥
 Ends n before last Direct (Some v) = EndsDirectly n last × (v.vector ≡ map number_met last.first)
 Ends n before last (Lent from) view = EndsLent n (floor_of before last) (base_of before last) from view last
-Ends n before last GaveUp view = Failed n (floor_of before last) (base_of before last) last × (length before ≡ n + 1) × (view ≡ None)
+Ends n before last GaveUp view = Failed n (floor_of before last) (base_of before last) last × (length before ≡ n + 1)
+    × (view ≡ None)
 
 -- these reads are a scan of so many tries, of which no other than the last ends it
 pub record IsScan (n : ℕ) (reads : List Read) (tries : ℕ) (how : ScanEnd) (view : Option View) : Type 0 where
@@ -57,7 +60,8 @@ pub record IsScan (n : ℕ) (reads : List Read) (tries : ℕ) (how : ScanEnd) (v
   pub ends : Ends n before last how view
 
 -- an actor's own reads, with what each of them meets, are such a scan
-pub record IsJustified (n : ℕ) (ps : List Published) (answers : List Answered) (reads : List (ℕ × Bool)) (tries : ℕ) (how : ScanEnd) (view : Option View) : Type 0 where
+pub record IsJustified (n : ℕ) (ps : List Published) (answers : List Answered) (reads : List (ℕ × Bool)) (tries : ℕ)
+    (how : ScanEnd) (view : Option View) : Type 0 where
   pub met : List Read
   pub same : map where_and_torn met ≡ reads
   pub meets : (q : ℕ) (r : Read) → get_elem? met q ≡ some r → Meets ps answers r
@@ -78,20 +82,26 @@ pub record IsFaithful (n c h g : ℕ) (es : List Event) (ps : List Published) (a
   -- each answer is of a turn that is open at its end, which is one of the actor's reads; no turn has two
   pub turns : (q : ℕ) (a : Answered) → get_elem? answers q ≡ some a → IsOpen n c h g es ps answers a.end a.actor a.begin
       × ((torn : Bool) × (own a.actor a.end (slice_get es a.end) ≡ (a.end, torn) ∷ []))
-  pub once : (q r : ℕ) (a b : Answered) → get_elem? answers q ≡ some a → get_elem? answers r ≡ some b → a.actor ≡ b.actor → a.begin ≡ b.begin → q ≡ r
+  pub once : (q r : ℕ) (a b : Answered) → get_elem? answers q ≡ some a → get_elem? answers r ≡ some b → a.actor ≡ b.actor
+      → a.begin ≡ b.begin → q ≡ r
   -- each answer is justified by its reads, and where a turn has none, no beginning of its reads would justify one
-  pub justified : (q : ℕ) (a : Answered) → get_elem? answers q ≡ some a → IsJustified n ps answers (reads_in es a) a.tries a.how a.view
-  pub unanswered : (actor b m : ℕ) → IsTurn n c h g es ps answers actor b → ((q : ℕ) (a : Answered) → get_elem? answers q ≡ some a → a.actor ≡ actor → a.begin ≢ b)
-      → b + m < length es → (tries : ℕ) (how : ScanEnd) (view : Option View) → ¬ IsJustified n ps answers (own_reads es actor (suc b) m) tries how view
+  pub justified : (q : ℕ) (a : Answered) → get_elem? answers q ≡ some a
+      → IsJustified n ps answers (reads_in es a) a.tries a.how a.view
+  pub unanswered : (actor b m : ℕ) → IsTurn n c h g es ps answers actor b
+      → ((q : ℕ) (a : Answered) → get_elem? answers q ≡ some a → a.actor ≡ actor → a.begin ≢ b)
+      → b + m < length es → (tries : ℕ) (how : ScanEnd) (view : Option View)
+      → ¬ IsJustified n ps answers (own_reads es actor (suc b) m) tries how view
   -- a publish is of a worker, has its Begin's operations and stands at the worker's first Step after its answer's end, and
   -- where there is such a Step there is a publish at it
-  pub published : (q : ℕ) (p : Published) → get_elem? ps q ≡ some p → (p.worker < n) × ((r : ℕ) × (a : Answered) × (get_elem? answers r ≡ some a) × (a.actor ≡ p.worker)
+  pub published : (q : ℕ) (p : Published) → get_elem? ps q ≡ some p → (p.worker < n)
+      × ((r : ℕ) × (a : Answered) × (get_elem? answers r ≡ some a) × (a.actor ≡ p.worker)
       × (p.ops ≡ ops_of (slice_get es a.begin)) × IsFirstStep es a.actor a.end p.at)
   pub publishes : (r e : ℕ) (a : Answered) → get_elem? answers r ≡ some a → a.actor < n → IsFirstStep es a.actor a.end e
       → (q : ℕ) × (p : Published) × (get_elem? ps q ≡ some p) × (p.worker ≡ a.actor) × (p.at ≡ e)
   -- publishes stand in the order of their events, and answers in that of their ends
   pub publishes_rise : (q r : ℕ) (p s : Published) → get_elem? ps q ≡ some p → get_elem? ps r ≡ some s → q < r → p.at < s.at
-  pub answers_rise : (q r : ℕ) (a b : Answered) → get_elem? answers q ≡ some a → get_elem? answers r ≡ some b → q < r → a.end < b.end
+  pub answers_rise : (q r : ℕ) (a b : Answered) → get_elem? answers q ≡ some a → get_elem? answers r ≡ some b → q < r
+      → a.end < b.end
 
 -- each answer that was not given up is all segments at one event of its turn
 abbrev pub AreOneStep : (n c h g : ℕ) → List Published → List Answered → Type 0
@@ -111,7 +121,8 @@ abbrev pub UndisturbedIsDirect : (n c h g : ℕ) → List Event → List Publish
 UndisturbedIsDirect n c h g es ps answers = (actor b m : ℕ) → IsTurn n c h g es ps answers actor b → b + m < length es
     → length (own_reads es actor (suc b) m) ≡ 2 * n → NoneTorn (own_reads es actor (suc b) m)
     → ((q : ℕ) (p : Published) → get_elem? ps q ≡ some p → b < p.at → ¬ (p.at ≤ b + m))
-    → (q : ℕ) × (a : Answered) × (get_elem? answers q ≡ some a) × (a.actor ≡ actor) × (a.begin ≡ b) × (a.how ≡ Direct) × (a.tries ≡ 1)
+    → (q : ℕ) × (a : Answered) × (get_elem? answers q ≡ some a) × (a.actor ≡ actor) × (a.begin ≡ b) × (a.how ≡ Direct)
+    × (a.tries ≡ 1)
 
 -- how many reads a scan of n workers has made in so many tries where it ended so; a scan that gave up is not counted
 abbrev pub reads_by : (n tries : ℕ) → ScanEnd → ℕ
@@ -123,7 +134,8 @@ reads_by n tries GaveUp = 0
 -- first worker that is asked lends. So every update publishes a view: a worker that has published lends one
 abbrev pub WholeReadsAnswer : List Event → (n : ℕ) → List Published → List Answered → Type 0
 WholeReadsAnswer es n ps answers = ((e actor : ℕ) → slice_get es e ≢ Some (Torn actor))
-    → ((q : ℕ) (a : Answered) → get_elem? answers q ≡ some a → (a.how ≢ GaveUp) × (length (reads_in es a) ≡ reads_by n a.tries a.how))
+    → ((q : ℕ) (a : Answered) → get_elem? answers q ≡ some a → (a.how ≢ GaveUp)
+    × (length (reads_in es a) ≡ reads_by n a.tries a.how))
     × ((e i : ℕ) → i < n → 0 < number_at ps e i → (v : View) × (lent_at ps answers e i ≡ Some v))
 
 -- the publishes and the answers are what the events come to: all that `run` promises of them. Of all lists, one of publishes

@@ -1,5 +1,7 @@
 -- The machine of events, as plain lists: what each of its private functions does. No public clause cites it.
-use Rattle.std.specs.Prelude.{ℕ, zero, suc, ◌+◌, ◌-◌, ◌%◌, ◌^◌, ◌==◌, ◌&&◌, not, nat_lt, nat_le, cond, Bool, true, false, Option, Some, None, option_map, List, [], ◌∷◌, ◌++◌, length, take, slice_get, slice_index, slice_set, map, replicate}
+use Rattle.std.specs.Prelude.{ℕ, zero, suc, ◌+◌, ◌-◌, ◌%◌, ◌^◌, ◌==◌, ◌&&◌, not, nat_lt, nat_le, cond, Bool, true, false, Option}
+use Rattle.std.specs.Prelude.{Some, None, option_map, List, [], ◌∷◌, ◌++◌, length, take, slice_get, slice_index, slice_set, map}
+use Rattle.std.specs.Prelude.{replicate}
 use Rattle.bucket_math.specs.Words.{greatest_word}
 use Rattle.ledger_core.specs.declared.op.Op.{Op}
 use Rattle.ledger_core.specs.declared.op.Op.TheVariants.{Inc, Observe, Up, Down}
@@ -55,11 +57,22 @@ seg_of s = record { number = s.number; row = s.row; view = option_map lent_of s.
 
 -- an actor of the machine by its values
 abbrev pub act_of : Actor → Act
-act_of a = record { phase = a.phase; begin = a.begin; scan = a.scan.scan; totals = a.totals.items; view = option_map lent_of a.view }
+act_of a = record {
+  phase = a.phase;
+  begin = a.begin;
+  scan = a.scan.scan;
+  totals = a.totals.items;
+  view = option_map lent_of a.view;
+}
 
 -- the whole machine by its values
 abbrev pub world_of : {C H G : ℕ} → Machine C H G → World
-world_of m = record { segments = map seg_of m.segments.items; actors = map act_of m.actors.items; publishes = map published_of m.publishes.items; answers = map answered_of m.answers.items }
+world_of m = record {
+  segments = map seg_of m.segments.items;
+  actors = map act_of m.actors.items;
+  publishes = map published_of m.publishes.items;
+  answers = map answered_of m.answers.items;
+}
 
 -- rows of c counters, h histograms and g gauges
 
@@ -82,7 +95,8 @@ raised c h g row op = map (λ k. slice_index row k + part c h op k) (from_on 0 (
 -- the row with the operations, if it accepts them
 abbrev pub applied : (c h g : ℕ) → List ℕ → List Op → Option (List ℕ)
 applied c h g row [] = Some row
-applied c h g row (op ∷ ops) = cond (is_within c h g op && has_room c h row op 0 (width c h g)) (applied c h g (raised c h g row op) ops) None
+applied c h g row (op ∷ ops) = cond (is_within c h g op && has_room c h row op 0 (width c h g))
+    (applied c h g (raised c h g row op) ops) None
 
 -- two lists word by word, as words of 64 bits
 abbrev pub added : List ℕ → List ℕ → List ℕ
@@ -113,7 +127,10 @@ not_torn false v = v
 
 -- the actor after its next read, of this segment
 abbrev pub read_by : Seg → (torn : Bool) → Act → Next → Act
-read_by s torn a (next.First place) = record a { scan = first_by s.number (not torn) a.scan a.scan.next; totals = cond torn a.totals (cond (place == 0) s.row (added a.totals s.row)) }
+read_by s torn a (next.First place) = record a {
+  scan = first_by s.number (not torn) a.scan a.scan.next;
+  totals = cond torn a.totals (cond (place == 0) s.row (added a.totals s.row));
+}
 read_by s torn a (next.Second place) = record a { scan = second_by s.number a.scan a.scan.next }
 read_by s torn a (next.Ask place) = record a { scan = asked_by (not_torn torn (vector_of s.view)) a.scan a.scan.next }
 read_by s torn a _ = a
@@ -186,7 +203,8 @@ module _ (c h g n : ℕ) where
 
   -- a Begin, of an actor that there is
   abbrev pub begins_if : World → (at who : ℕ) → List Op → Act → Phase → World
-  begins_if w at who ops a phase.Rest = cond (accepts ops (slice_get w.segments who)) (record w { actors = slice_set w.actors who (begun_of n at a) }) w
+  begins_if w at who ops a phase.Rest = cond (accepts ops (slice_get w.segments who))
+      (record w { actors = slice_set w.actors who (begun_of n at a) }) w
   begins_if w at who ops a _ = w
 
   -- a Begin of the actor of this number, which changes nothing where there is none
@@ -209,7 +227,8 @@ module _ (c h g n : ℕ) where
 
   -- the read of a segment, and the end of the scan where it ends
   abbrev pub reads_segment : World → (at who : ℕ) → Act → (torn : Bool) → Seg → World
-  reads_segment w at who a torn s = ends w at who (read_by s torn a a.scan.next) (end_by s (read_by s torn a a.scan.next) (read_by s torn a a.scan.next).scan.next)
+  reads_segment w at who a torn s = ends w at who (read_by s torn a a.scan.next)
+      (end_by s (read_by s torn a a.scan.next) (read_by s torn a a.scan.next).scan.next)
 
   -- a read of this segment, if there is one
   abbrev pub reads_from : World → (at who : ℕ) → Act → (torn : Bool) → Option Seg → World
@@ -249,7 +268,8 @@ module _ (c h g n : ℕ) where
   abbrev pub steps_in : List Event → World → (at who : ℕ) → (torn : Bool) → Act → Phase → World
   steps_in events w at who torn a phase.Rest = w
   steps_in events w at who torn a phase.Scan = reads_place w at who a torn (place_in a.scan.next)
-  steps_in events w at who torn a phase.Ready = cond torn w (publishes_as w at who (ops_of (slice_get events a.begin)) a (slice_get w.segments who))
+  steps_in events w at who torn a phase.Ready =
+      cond torn w (publishes_as w at who (ops_of (slice_get events a.begin)) a (slice_get w.segments who))
 
   -- the same, of the actor of this number, if there is one
   abbrev pub steps : List Event → World → (at who : ℕ) → (torn : Bool) → Option Act → World

@@ -4,7 +4,8 @@ use mathlib.Core.Option.{some}
 use lib.ListN.{get_elem?}
 use Rattle.snapshot_core.specs.declared.next.Next.{Next}
 use Rattle.snapshot_core.specs.declared.next.Next.TheVariants.{First, Second, Ask, Direct, Lent, GaveUp}
-use Rattle.snapshot_core.specs.Tries.{View, Read, Try, place_of, from_on, reads_of, TwoCollects, is_clean, to_ask, none_lends, Failed, AllFailed, EndsDirectly, EndsLent, floor_of, base_of}
+use Rattle.snapshot_core.specs.Tries.{View, Read, Try, place_of, from_on, reads_of, TwoCollects, is_clean, to_ask, none_lends}
+use Rattle.snapshot_core.specs.Tries.{Failed, AllFailed, EndsDirectly, EndsLent, floor_of, base_of}
 
 -- the place k of a try failed: its first read was torn, or its two reads met different numbers
 pub record FailedAt (t : Try) (k first last : ℕ) : Type 0 where
@@ -26,12 +27,16 @@ pub record HeldAt (t : Try) (k : ℕ) : Type 0 where
 -- with these tries before, all failed, and this one in progress or last, this comes next
 abbrev pub Follows : (n : ℕ) → List Try → Try → Next → Type 0
 Follows n before t (First place) = (place < n) × (map place_of t.first ≡ from_on 0 place) × (t.second ≡ []) × (t.asks ≡ [])
-Follows n before t (Second place) = (place < n) × (map place_of t.first ≡ from_on 0 n) × (map place_of t.second ≡ from_on 0 place) × (t.asks ≡ [])
-Follows n before t (Ask place) = (place < n) × TwoCollects n t × (is_clean t ≡ false) × (none_lends (floor_of before t) t.asks ≡ true)
+Follows n before t (Second place) = (place < n) × (map place_of t.first ≡ from_on 0 n) × (map place_of t.second ≡ from_on 0 place)
+    × (t.asks ≡ [])
+Follows n before t (Ask place) = (place < n) × TwoCollects n t × (is_clean t ≡ false)
+    × (none_lends (floor_of before t) t.asks ≡ true)
     × ((later : List ℕ) × (map place_of t.asks ++ place ∷ later ≡ to_ask (base_of before t) t.second))
 Follows n before t Direct = EndsDirectly n t
-Follows n before t (Lent from) = (from < n) × ((view : Option View) × EndsLent n (floor_of before t) (base_of before t) from view t)
-Follows n before t (GaveUp worker first last) = Failed n (floor_of before t) (base_of before t) t × (length before ≡ n + 1) × FailedAt t worker first last
+Follows n before t (Lent from) = (from < n)
+    × ((view : Option View) × EndsLent n (floor_of before t) (base_of before t) from view t)
+Follows n before t (GaveUp worker first last) = Failed n (floor_of before t) (base_of before t) t × (length before ≡ n + 1)
+    × FailedAt t worker first last
     × ((k : ℕ) → k < worker → HeldAt t k)
 
 -- the reads of a scan of n workers so far: this comes next

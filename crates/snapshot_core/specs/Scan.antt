@@ -1,5 +1,6 @@
 -- What each private step of a scan does to its fields.
-use Rattle.std.specs.Prelude.{ℕ, zero, suc, ◌+◌, ◌-◌, ◌==◌, ◌||◌, not, nat_lt, nat_le, cond, Bool, true, false, Option, Some, None, List, map, slice_index, slice_index_or, slice_set, replicate}
+use Rattle.std.specs.Prelude.{ℕ, zero, suc, ◌+◌, ◌-◌, ◌==◌, ◌||◌, not, nat_lt, nat_le, cond, Bool, true, false, Option, Some}
+use Rattle.std.specs.Prelude.{None, List, map, slice_index, slice_index_or, slice_set, replicate}
 use Rattle.snapshot_core.specs.declared.next.Next.{Next}
 use Rattle.snapshot_core.specs.declared.next.Next.TheVariants.{First, Second, Ask, Direct, Lent, GaveUp}
 use Rattle.snapshot_core.specs.declared.scan.Scan.{Scan}
@@ -26,7 +27,8 @@ failed_at opened whole found k = not (slice_index_or whole k false) || not (slic
 -- the least place that failed, of the m + 1 from k on; the last of them, where none of the others failed
 abbrev pub least_failed_of : (opened : List ℕ) (whole : List Bool) (found : List ℕ) (k m : ℕ) → ℕ
 least_failed_of opened whole found k zero = k
-least_failed_of opened whole found k (suc m) = cond (failed_at opened whole found k) k (least_failed_of opened whole found (suc k) m)
+least_failed_of opened whole found k (suc m) = cond (failed_at opened whole found k) k
+    (least_failed_of opened whole found (suc k) m)
 
 -- the least place that failed, where one did
 abbrev pub least_of : Scan → ℕ

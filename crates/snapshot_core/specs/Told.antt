@@ -1,5 +1,6 @@
 -- The reads that a scan was told.
-use Rattle.std.specs.Prelude.{◌≡◌, ℕ, ◌+◌, not, cond, false, Option, Some, None, List, [], ◌∷◌, ◌++◌, map, length, slice_index, slice_index_or}
+use Rattle.std.specs.Prelude.{◌≡◌, ℕ, ◌+◌, not, cond, false, Option, Some, None, List, [], ◌∷◌, ◌++◌, map, length, slice_index}
+use Rattle.std.specs.Prelude.{slice_index_or}
 use Rattle.snapshot_core.specs.declared.next.Next.{Next}
 use Rattle.snapshot_core.specs.declared.scan.Scan.{Scan}
 use Rattle.snapshot_core.specs.declared.scan_state.ScanState.{ScanState}

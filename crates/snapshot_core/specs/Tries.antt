@@ -1,7 +1,8 @@
 -- A scan as its reads: tries of two collects and of workers asked. Afek, Attiya, Dolev, Gafni, Merritt and Shavit, "Atomic
 -- Snapshots of Shared Memory", J. ACM 40(4), 1993, section 3; who is asked, who lends and how many tries there are, are
 -- this project's own.
-use Rattle.std.specs.Prelude.{◌≡◌, ℕ, zero, suc, ◌+◌, ◌==◌, ◌&&◌, not, nat_le, cond, Bool, true, false, Option, Some, None, List, [], ◌∷◌, ◌++◌, map, slice_index}
+use Rattle.std.specs.Prelude.{◌≡◌, ℕ, zero, suc, ◌+◌, ◌==◌, ◌&&◌, not, nat_le, cond, Bool, true, false, Option, Some, None, List}
+use Rattle.std.specs.Prelude.{[], ◌∷◌, ◌++◌, map, slice_index}
 use Rattle.ledger_core.specs.Vectors.{is_above}
 
 -- a vector, one number for each worker, and the totals of all rows at this vector

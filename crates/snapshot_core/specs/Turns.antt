@@ -1,5 +1,6 @@
 -- Turns: from a Begin that applies to the end of what it begins.
-use Rattle.std.specs.Prelude.{◌≡◌, ◌⊎◌, ℕ, zero, suc, ◌+◌, ◌<◌, ◌≤◌, ◌==◌, cond, Bool, true, false, Option, Some, None, List, [], ◌∷◌, ◌++◌, slice_get}
+use Rattle.std.specs.Prelude.{◌≡◌, ◌⊎◌, ℕ, zero, suc, ◌+◌, ◌<◌, ◌≤◌, ◌==◌, cond, Bool, true, false, Option, Some, None, List, []}
+use Rattle.std.specs.Prelude.{◌∷◌, ◌++◌, slice_get}
 use mathlib.Core.Option.{some}
 use lib.ListN.{get_elem?}
 use Rattle.ledger_core.specs.declared.op.Op.{Op}
@@ -31,7 +32,14 @@ view_of GaveUp v = None
 
 -- an answer of a trace by its values
 abbrev pub answered_of : Answer → Answered
-answered_of a = record { actor = a.actor; begin = a.begin; end = a.end; tries = a.tries; how = a.how; view = view_of a.how (record { vector = a.vector.items; totals = a.totals.items }) }
+answered_of a = record {
+  actor = a.actor;
+  begin = a.begin;
+  end = a.end;
+  tries = a.tries;
+  how = a.how;
+  view = view_of a.how (record { vector = a.vector.items; totals = a.totals.items });
+}
 
 -- a publish of a trace by its values
 abbrev pub published_of : Publish → Published
@@ -42,7 +50,8 @@ module _ (n c h g : ℕ) (es : List Event) (ps : List Published) (answers : List
   -- these operations may begin at the event e: a worker's row accepts them and its number is not the greatest, or a
   -- reader has none
   abbrev pub MayBegin : (e actor : ℕ) → List Op → Type 0
-  MayBegin e actor ops = ((actor < n) × (number_at ps e actor < 18446744073709551615) × Accepts c h g (row_at (sum_ops c h) ps e actor) ops)
+  MayBegin e actor ops = ((actor < n) × (number_at ps e actor < 18446744073709551615)
+      × Accepts c h g (row_at (sum_ops c h) ps e actor) ops)
       ⊎ ((n ≤ actor) × (actor < n + 4) × (ops ≡ []))
 
   -- the event is a Begin of the actor that may begin

@@ -4,7 +4,8 @@ ghost use Rattle.ledger_core.specs.Ops.{width};
 ghost use Rattle.ledger_core.specs.Limits.{AreWorkers};
 ghost use Rattle.ledger_core.specs.Limits.{AreSlots};
 ghost use Rattle.snapshot_core.specs.Turns.{ops_of};
-ghost use Rattle.snapshot_core.specs.Machine.{act_of, seg_of, world_of, idle_of, blank_of, start, accepts, begins, reads, publishes_by, steps, happens, world_at};
+ghost use Rattle.snapshot_core.specs.Machine.{act_of, seg_of, world_of, idle_of, blank_of, start, accepts, begins, reads};
+ghost use Rattle.snapshot_core.specs.Machine.{publishes_by, steps, happens, world_at};
 
 use crate::actor::{Actor, Machine, Phase, Segment};
 use crate::event::Event;
@@ -103,7 +104,8 @@ impl<const C: usize, const H: usize, const G: usize> Machine<C, H, G> {
         requires workers { AreWorkers self.old.n }
         requires geometry { AreSlots C H G }
         ensures same { self.new.n ≡ self.old.n }
-        ensures world { world_of self.new ≡ begins C H G self.old.n (world_of self.old) at who ops.now (slice_get (world_of self.old).actors who) }
+        ensures world { world_of self.new ≡ begins C H G self.old.n (world_of self.old) at who ops.now
+            (slice_get (world_of self.old).actors who) }
     {
         if who < self.actors.len() {
             if let Phase::Rest = self.actors[who].phase {
@@ -140,7 +142,8 @@ impl<const C: usize, const H: usize, const G: usize> Machine<C, H, G> {
     ) -> Result<(), AllocError>
         requires { AreSlots C H G }
         ensures same { self.new.n ≡ self.old.n }
-        ensures world { OnOk result (world_of self.new ≡ steps C H G self.old.n events.now (world_of self.old) at who torn (slice_get (world_of self.old).actors who)) }
+        ensures world { OnOk result (world_of self.new ≡ steps C H G self.old.n events.now (world_of self.old) at who torn
+            (slice_get (world_of self.old).actors who)) }
     {
         if who >= self.actors.len() {
             return Ok(());
@@ -163,7 +166,8 @@ impl<const C: usize, const H: usize, const G: usize> Machine<C, H, G> {
         requires known { who < length self.old.actors.items }
         requires geometry { AreSlots C H G }
         ensures same { self.new.n ≡ self.old.n }
-        ensures world { OnOk result (world_of self.new ≡ reads C H G self.old.n (world_of self.old) at who torn (slice_get (world_of self.old).actors who)) }
+        ensures world { OnOk result (world_of self.new ≡ reads C H G self.old.n (world_of self.old) at who torn
+            (slice_get (world_of self.old).actors who)) }
     {
         let Some(place) = place_of(self.actors[who].scan.next()) else {
             return Ok(());
@@ -195,7 +199,8 @@ impl<const C: usize, const H: usize, const G: usize> Machine<C, H, G> {
         requires known { who < length self.old.actors.items }
         requires geometry { AreSlots C H G }
         ensures same { self.new.n ≡ self.old.n }
-        ensures world { OnOk result (world_of self.new ≡ publishes_by C H G self.old.n (world_of self.old) at who ops.now (slice_get (world_of self.old).actors who)) }
+        ensures world { OnOk result (world_of self.new ≡ publishes_by C H G self.old.n (world_of self.old) at who ops.now
+            (slice_get (world_of self.old).actors who)) }
     {
         if who >= self.segments.len() {
             return Ok(());

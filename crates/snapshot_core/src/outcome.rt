@@ -33,7 +33,8 @@ pub fn is_outcome<const C: usize, const H: usize, const G: usize>(
     requires { AreSlots C H G }
     ensures fault { IfErr result (IsRunFault n) }
     ensures workers { IfOk result (λ _. AreWorkers n) }
-    ensures decided { IfOk result (λ b. IsTrue b ↔ IsOutcome n C H G events.now (map published_of trace.now.publishes.items) (map answered_of trace.now.answers.items)) }
+    ensures decided { IfOk result (λ b. IsTrue b ↔ IsOutcome n C H G events.now (map published_of trace.now.publishes.items)
+        (map answered_of trace.now.answers.items)) }
 {
     let came = run::<C, H, G>(alloc, n, events)?;
     Ok(same_trace(trace, &came))
@@ -41,7 +42,8 @@ pub fn is_outcome<const C: usize, const H: usize, const G: usize>(
 
 // Whether both have the same publishes and the same answers.
 fn same_trace(one: &Trace, two: &Trace) -> bool
-    ensures { IsTrue result ↔ ((map published_of one.now.publishes.items ≡ map published_of two.now.publishes.items) × (map answered_of one.now.answers.items ≡ map answered_of two.now.answers.items)) }
+    ensures { IsTrue result ↔ ((map published_of one.now.publishes.items ≡ map published_of two.now.publishes.items)
+        × (map answered_of one.now.answers.items ≡ map answered_of two.now.answers.items)) }
 {
     same_publishes(one.publishes.as_slice(), two.publishes.as_slice())
         && same_answers(one.answers.as_slice(), two.answers.as_slice())
@@ -78,7 +80,8 @@ fn same_publishes(one: &[Publish], two: &[Publish]) -> bool
 
 // Whether both are of one turn, in as many tries, and ended in one way.
 fn same_turn(one: &Answer, two: &Answer) -> bool
-    ensures { IsTrue result ↔ ((one.now.actor ≡ two.now.actor) × (one.now.begin ≡ two.now.begin) × (one.now.end ≡ two.now.end) × (one.now.tries ≡ two.now.tries) × (one.now.how ≡ two.now.how)) }
+    ensures { IsTrue result ↔ ((one.now.actor ≡ two.now.actor) × (one.now.begin ≡ two.now.begin) × (one.now.end ≡ two.now.end)
+        × (one.now.tries ≡ two.now.tries) × (one.now.how ≡ two.now.how)) }
 {
     one.actor == two.actor
         && one.begin == two.begin

@@ -6,7 +6,8 @@ ghost use Rattle.snapshot_core.specs.Scan.{asked_by};
 ghost use Rattle.ledger_core.specs.Limits.{AreWorkers};
 ghost use Rattle.ledger_core.specs.Limits.{AreSlots};
 ghost use Rattle.snapshot_core.specs.Turns.{view_of, answered_of};
-ghost use Rattle.snapshot_core.specs.Machine.{act_of, seg_of, lent_of, idle_of, begun_of, added, not_torn, read_by, place_in, end_by, ended_of, ended_by, told_by, or_blank};
+ghost use Rattle.snapshot_core.specs.Machine.{act_of, seg_of, lent_of, idle_of, begun_of, added, not_torn, read_by, place_in};
+ghost use Rattle.snapshot_core.specs.Machine.{end_by, ended_of, ended_by, told_by, or_blank};
 
 use crate::actor::{Actor, Lent, Phase, Segment};
 use crate::next::Next;
@@ -107,7 +108,8 @@ impl Actor {
     ) -> Result<(), AllocError>
         requires { (place : ℕ) × (place_in self.old.scan.scan.next ≡ Some place) }
         ensures actor { OnOk result (act_of self.new ≡ ended_by is_worker (act_of self.old) (seg_of segment.now) torn) }
-        ensures answers { OnOk result (map answered_of answers.new.items ≡ map answered_of answers.old.items ++ told_by at who (act_of self.old) (seg_of segment.now) torn) }
+        ensures answers { OnOk result (map answered_of answers.new.items ≡ map answered_of answers.old.items ++ told_by at who
+            (act_of self.old) (seg_of segment.now) torn) }
     {
         self.read(segment, torn)?;
         if let Some((how, view)) = self.end(alloc, segment)? {
@@ -146,7 +148,8 @@ impl Actor {
         row: &Row<C, H, G>,
         place: usize,
     ) -> Result<(), AllocError>
-        ensures { OnOk result (act_of self.new ≡ record (act_of self.old) { totals = cond (place == 0) row.now (added self.old.totals.items row.now) }) }
+        ensures { OnOk result (act_of self.new ≡ record (act_of self.old)
+            { totals = cond (place == 0) row.now (added self.old.totals.items row.now) }) }
     {
         if place == 0 {
             return write(&mut self.totals, row);
@@ -161,7 +164,10 @@ impl Actor {
         segment: &Segment<C, H, G>,
         torn: bool,
     )
-        ensures { act_of self.new ≡ record (act_of self.old) { scan = asked_by (not_torn torn (vector_of (option_map lent_of segment.now.view))) self.old.scan.scan self.old.scan.scan.next } }
+        ensures { act_of self.new ≡ record (act_of self.old) {
+          scan = asked_by (not_torn torn (vector_of (option_map lent_of segment.now.view))) self.old.scan.scan
+              self.old.scan.scan.next;
+        } }
     {
         if torn {
             self.scan.take_asked(None);
@@ -179,7 +185,8 @@ impl Actor {
         alloc: Global,
         segment: &Segment<C, H, G>,
     ) -> Result<Option<(ScanEnd, Option<Lent>)>, AllocError>
-        ensures { IfOk result (λ e. option_map ended_of e ≡ end_by (seg_of segment.now) (act_of self.now) self.now.scan.scan.next) }
+        ensures { IfOk result (λ e. option_map ended_of e ≡ end_by (seg_of segment.now)
+            (act_of self.now) self.now.scan.scan.next) }
     {
         match self.scan.next() {
             Next::Direct => Ok(Some((ScanEnd::Direct, Some(self.direct(alloc)?)))),
@@ -194,7 +201,10 @@ impl Actor {
 
     // The view that this try has read.
     fn direct(&self, alloc: Global) -> Result<Lent, AllocError>
-        ensures { IfOk result (λ l. lent_of l ≡ record { vector = take self.now.scan.scan.n self.now.scan.scan.opened; totals = self.now.totals.items }) }
+        ensures { IfOk result (λ l. lent_of l ≡ record {
+          vector = take self.now.scan.scan.n self.now.scan.scan.opened;
+          totals = self.now.totals.items;
+        }) }
     {
         Ok(Lent {
             vector: copied(alloc, self.scan.opened())?,
@@ -212,7 +222,14 @@ impl Actor {
         view: &Option<Lent>,
     ) -> Result<Answer, AllocError>
         requires { view_of how (or_blank (option_map lent_of view.now)) ≡ option_map lent_of view.now }
-        ensures { IfOk result (λ x. answered_of x ≡ record { actor = who; begin = self.now.begin; end = at; tries = self.now.scan.scan.tries; how = how; view = option_map lent_of view.now }) }
+        ensures { IfOk result (λ x. answered_of x ≡ record {
+          actor = who;
+          begin = self.now.begin;
+          end = at;
+          tries = self.now.scan.scan.tries;
+          how = how;
+          view = option_map lent_of view.now;
+        }) }
     {
         let Lent { vector, totals } = view_or_blank(alloc, view)?;
         Ok(Answer {

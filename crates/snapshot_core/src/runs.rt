@@ -32,11 +32,15 @@ pub fn run<const C: usize, const H: usize, const G: usize>(
     requires { AreSlots C H G }
     ensures fault { IfErr result (IsRunFault n) }
     ensures workers { IfOk result (λ _. AreWorkers n) }
-    ensures faithful { IfOk result (λ t. IsFaithful n C H G events.now (map published_of t.publishes.items) (map answered_of t.answers.items)) }
-    ensures one_step { IfOk result (λ t. AreOneStep n C H G (map published_of t.publishes.items) (map answered_of t.answers.items)) }
+    ensures faithful { IfOk result
+        (λ t. IsFaithful n C H G events.now (map published_of t.publishes.items) (map answered_of t.answers.items)) }
+    ensures one_step { IfOk result
+        (λ t. AreOneStep n C H G (map published_of t.publishes.items) (map answered_of t.answers.items)) }
     ensures few { IfOk result (λ t. AreFew n (map answered_of t.answers.items)) }
-    ensures direct { IfOk result (λ t. UndisturbedIsDirect n C H G events.now (map published_of t.publishes.items) (map answered_of t.answers.items)) }
-    ensures whole { IfOk result (λ t. WholeReadsAnswer events.now n (map published_of t.publishes.items) (map answered_of t.answers.items)) }
+    ensures direct { IfOk result (λ t. UndisturbedIsDirect n C H G events.now (map published_of t.publishes.items)
+        (map answered_of t.answers.items)) }
+    ensures whole { IfOk result
+        (λ t. WholeReadsAnswer events.now n (map published_of t.publishes.items) (map answered_of t.answers.items)) }
 {
     if n < 1 || n > MAX_WORKERS {
         return Err(RunFault::Geometry);

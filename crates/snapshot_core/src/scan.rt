@@ -1,5 +1,6 @@
 // The arrays of a scan, and its steps over them.
-ghost use Rattle.std.specs.Prelude.{◌≡◌, ℕ, ◌+◌, ◌-◌, ◌<◌, ◌≤◌, length, Option, Some, None, Bool, true, false, map, option_map, nat_lt, slice_index, MatchOption};
+ghost use Rattle.std.specs.Prelude.{◌≡◌, ℕ, ◌+◌, ◌-◌, ◌<◌, ◌≤◌, length, Option, Some, None, Bool, true, false, map, option_map};
+ghost use Rattle.std.specs.Prelude.{nat_lt, slice_index, MatchOption};
 
 use crate::next::Next;
 use ledger_core::MAX_WORKERS;
@@ -27,7 +28,8 @@ pub struct Scan {
 
 impl Scan {
     ghost use Rattle.snapshot_core.specs.Sized.{IsSized};
-    ghost use Rattle.snapshot_core.specs.Scan.{failed_at, least_failed_of, is_to_ask, next_asked_of, lends_to, failed_of, asked_from, collected, first_by, second_by, asked_by, new_scan};
+    ghost use Rattle.snapshot_core.specs.Scan.{failed_at, least_failed_of, is_to_ask, next_asked_of, lends_to, failed_of};
+    ghost use Rattle.snapshot_core.specs.Scan.{asked_from, collected, first_by, second_by, asked_by, new_scan};
 
     /// A scan of `n` workers that was told nothing.
     pub fn new(n: usize) -> Scan

@@ -39,7 +39,8 @@ impl ScanState {
     pub fn first(&mut self, number: u64, whole: bool)
         requires { (place : ℕ) × (next_of self.old ≡ Next.First place) }
         ensures size { workers_of self.new ≡ workers_of self.old }
-        ensures told { (reads : List Read) (r : Read) → WasTold self.old reads → next_of self.old ≡ Next.First r.place → r.number ≡ number
+        ensures told { (reads : List Read) (r : Read) → WasTold self.old reads → next_of self.old ≡ Next.First r.place
+            → r.number ≡ number
             → r.torn ≡ not whole → WasTold self.new (reads ++ r ∷ []) }
     {
         self.scan.first(number, whole);
@@ -49,7 +50,8 @@ impl ScanState {
     pub fn second(&mut self, number: u64)
         requires { (place : ℕ) × (next_of self.old ≡ Next.Second place) }
         ensures size { workers_of self.new ≡ workers_of self.old }
-        ensures told { (reads : List Read) (r : Read) → WasTold self.old reads → next_of self.old ≡ Next.Second r.place → r.number ≡ number
+        ensures told { (reads : List Read) (r : Read) → WasTold self.old reads → next_of self.old ≡ Next.Second r.place
+            → r.number ≡ number
             → WasTold self.new (reads ++ r ∷ []) }
     {
         self.scan.second(number);

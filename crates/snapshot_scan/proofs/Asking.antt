@@ -1,5 +1,7 @@
 -- Asking a worker.
-use Rattle.std.proofs.Common.{Option, Some, None, ◌≡◌, inl, inr, ℕ, zero, suc, ◌+◌, ◌<◌, ◌≤◌, eqb, Bool, true, false, cond, ◌&&◌, not, ◌==◌, nat_le, List, [], ◌∷◌, ◌++◌, length, take, drop, drop-cons, get_or, slice_index, sym, refl, ap, ◌∙◌, subst, arith, eq-eqb, append_assoc}
+use Rattle.std.proofs.Common.{Option, Some, None, ◌≡◌, inl, inr, ℕ, zero, suc, ◌+◌, ◌<◌, ◌≤◌, eqb, Bool, true, false, cond, ◌&&◌}
+use Rattle.std.proofs.Common.{not, ◌==◌, nat_le, List, [], ◌∷◌, ◌++◌, length, take, drop, drop-cons, get_or, slice_index, sym}
+use Rattle.std.proofs.Common.{refl, ap, ◌∙◌, subst, arith, eq-eqb, append_assoc}
 use Rattle.std.proofs.lemmas.List.{append-nil}
 use mathlib.Core.Logic.{dite}
 use native.Mathlib.Decide.{ℕ_discrete, dec_le}
@@ -17,16 +19,19 @@ use Rattle.register_rule.specs.declared.view.Scan.{Scan}
 use Rattle.register_rule.specs.declared.view.Member.{Member}
 use Rattle.register_rule.specs.Told.{AreRuled}
 use Rattle.register_rule.specs.Members.{led, scan_changed}
-use Rattle.register_rule.specs.Steps.{begun, noted, after_ask, after_end_ask, is_next, answers, asked_of, is_lender, answered, gives_up, rest, lent_in}
+use Rattle.register_rule.specs.Steps.{begun, noted, after_ask, after_end_ask, is_next, answers, asked_of, is_lender, answered}
+use Rattle.register_rule.specs.Steps.{gives_up, rest, lent_in}
 use Rattle.register_rule.specs.Seats.{HasMember}
 use Rattle.snapshot_scan.specs.Shape.{scan_of, with_scan, read_all}
 use Rattle.snapshot_scan.specs.Asking.{DoesNotLend, IsBelow, asked_too, refused, refused_all, MayAsk, due_from}
 use Rattle.snapshot_scan.proofs.Words.{scan_with, led_some, length_take}
 
-pub three : (f g h : Scan → Scan) (ms a b d : List Member) → a ≡ led (scan_changed f) ms → b ≡ led (scan_changed g) a → d ≡ led (scan_changed h) b → d ≡ with_scan (h (g (f (scan_of ms)))) ms
+pub three : (f g h : Scan → Scan) (ms a b d : List Member) → a ≡ led (scan_changed f) ms → b ≡ led (scan_changed g) a
+    → d ≡ led (scan_changed h) b → d ≡ with_scan (h (g (f (scan_of ms)))) ms
 three f g h ms a b d p q r = r ∙ (ap (led (scan_changed h)) (q ∙ ap (led (scan_changed g)) p) ∙ go ms)
   where
-    go : (ms : List Member) → led (scan_changed h) (led (scan_changed g) (led (scan_changed f) ms)) ≡ with_scan (h (g (f (scan_of ms)))) ms
+    go : (ms : List Member) → led (scan_changed h) (led (scan_changed g) (led (scan_changed f) ms)) ≡ with_scan
+        (h (g (f (scan_of ms)))) ms
     go [] = refl
     go (m ∷ ms) = refl
 
@@ -36,10 +41,12 @@ asks_now l c = record c { now = record c.now { looks = []; asks = l ∷ [] } }
 
 noted_here : (w i s k x : ℕ) (ws : List ℕ) → k ≡ w + length ws → noted w i s k x (begun i s ws) ≡ begun i s (ws ++ x ∷ [])
 noted_here w i s k x ws e =
-    let t : (eqb i i && eqb s s && not false && eqb k (w + length ws)) ≡ true = λ c. eq-eqb i i refl c && eq-eqb s s refl c && not false && eq-eqb k _ e c in
+    let t : (eqb i i && eqb s s && not false && eqb k (w + length ws)) ≡ true = λ c. eq-eqb i i refl c && eq-eqb s s refl c && not
+    false && eq-eqb k _ e c in
     ap (λ (z : Bool). cond z (begun i s (ws ++ x ∷ [])) (begun i s ws)) t
 
-reads_view : (w i s k : ℕ) (ws xs : List ℕ) (c : Scan) → k ≡ w + length ws → read_all w i s k xs (asks_now (begun i s ws) c) ≡ asks_now (begun i s (ws ++ xs)) c
+reads_view : (w i s k : ℕ) (ws xs : List ℕ) (c : Scan) → k ≡ w + length ws
+    → read_all w i s k xs (asks_now (begun i s ws) c) ≡ asks_now (begun i s (ws ++ xs)) c
 reads_view w i s k ws [] c e = ap (λ (z : List ℕ). asks_now (begun i s z) c) (sym (append-nil ws))
 reads_view w i s k ws (x ∷ xs) c e =
     let long = snoc_long ws x in
@@ -54,33 +61,56 @@ reads_view w i s k ws (x ∷ xs) c e =
 -- all that asking one worker comes to
 pub asks_view : (n w i s again : ℕ) (words more : List ℕ) (c : Scan) → c.now.due ≡ i ∷ more → c.now.looks ≡ []
     → after_end_ask n w i again (read_all w i s w words (after_ask i s c))
-    ≡ cond (is_lender n w again c.now.floor (begun i s words)) (answered (lent_in n w words) (asked_too (asked_of again (begun i s words)) c))
-    (gives_up n (record c { asked = c.asked ++ asked_of again (begun i s words) ∷ []; now = record c.now { looks = []; due = rest c.now.due; asks = [] } }))
+    ≡ cond (is_lender n w again c.now.floor (begun i s words))
+    (answered (lent_in n w words) (asked_too (asked_of again (begun i s words)) c))
+    (gives_up n (record c {
+      asked = c.asked ++ asked_of again (begun i s words) ∷ [];
+      now = record c.now { looks = []; due = rest c.now.due; asks = [] };
+    }))
 asks_view n w i s again words more c due looks =
     let t : is_next i c.now.due ≡ true = ap (is_next i) due ∙ eq-eqb i i refl in
-    let opens : after_ask i s c ≡ asks_now (begun i s []) c = λ z. record c { now = cond (t z) (record c.now { looks = looks z; asks = begun i s [] ∷ [] }) (record c.now { looks = looks z }) } in
+    let opens : after_ask i s c ≡ asks_now (begun i s []) c =
+    λ z. record c {
+      now = cond (t z) (record c.now { looks = looks z; asks = begun i s [] ∷ [] })
+          (record c.now { looks = looks z });
+    } in
     let e : w ≡ w + 0 = omega arith in
     ap (λ (d : Scan). after_end_ask n w i again (read_all w i s w words d)) opens
     ∙ (ap (after_end_ask n w i again) (reads_view w i s w [] words c e)
-    ∙ ap (λ (b : Bool). cond b (answers n w again (begun i s words) (asks_now (begun i s words) c)) (asks_now (begun i s words) c)) (eq-eqb i i refl))
+    ∙ ap (λ (b : Bool). cond b (answers n w again (begun i s words) (asks_now (begun i s words) c))
+    (asks_now (begun i s words) c)) (eq-eqb i i refl))
 
-looks_same : (c : Scan) (e : Asked) → c.now.looks ≡ [] → record c { asked = c.asked ++ e ∷ []; now = record c.now { looks = []; due = rest c.now.due; asks = [] } } ≡ refused e c
-looks_same c e looks = λ z. record c { asked = c.asked ++ e ∷ []; now = record c.now { looks = sym looks z; due = rest c.now.due; asks = [] } }
+looks_same : (c : Scan) (e : Asked) → c.now.looks ≡ [] → record c {
+  asked = c.asked ++ e ∷ [];
+  now = record c.now { looks = []; due = rest c.now.due; asks = [] };
+} ≡ refused e c
+looks_same c e looks = λ z. record c {
+  asked = c.asked ++ e ∷ [];
+  now = record c.now { looks = sym looks z; due = rest c.now.due; asks = [] };
+}
 
-pub view_refuses : (n w i s again : ℕ) (words more : List ℕ) (c : Scan) → c.now.due ≡ i ∷ more → c.now.looks ≡ [] → is_lender n w again c.now.floor (begun i s words) ≡ false
-    → after_end_ask n w i again (read_all w i s w words (after_ask i s c)) ≡ gives_up n (refused (asked_of again (begun i s words)) c)
+pub view_refuses : (n w i s again : ℕ) (words more : List ℕ) (c : Scan) → c.now.due ≡ i ∷ more → c.now.looks ≡ []
+    → is_lender n w again c.now.floor (begun i s words) ≡ false
+    → after_end_ask n w i again (read_all w i s w words (after_ask i s c)) ≡ gives_up n
+    (refused (asked_of again (begun i s words)) c)
 view_refuses n w i s again words more c due looks not_lent =
     let e = asked_of again (begun i s words) in
     asks_view n w i s again words more c due looks
-    ∙ (ap (λ (b : Bool). cond b (answered (lent_in n w words) (asked_too e c)) (gives_up n (record c { asked = c.asked ++ e ∷ []; now = record c.now { looks = []; due = rest c.now.due; asks = [] } }))) not_lent
+    ∙ (ap (λ (b : Bool). cond b (answered (lent_in n w words) (asked_too e c))
+    (gives_up n (record c { asked = c.asked ++ e ∷ []; now = record c.now { looks = []; due = rest c.now.due; asks = [] } })))
+    not_lent
     ∙ ap (gives_up n) (looks_same c e looks))
 
-pub view_lends : (n w i s again : ℕ) (words more : List ℕ) (c : Scan) → c.now.due ≡ i ∷ more → c.now.looks ≡ [] → is_lender n w again c.now.floor (begun i s words) ≡ true
-    → after_end_ask n w i again (read_all w i s w words (after_ask i s c)) ≡ answered (lent_in n w words) (asked_too (asked_of again (begun i s words)) c)
+pub view_lends : (n w i s again : ℕ) (words more : List ℕ) (c : Scan) → c.now.due ≡ i ∷ more → c.now.looks ≡ []
+    → is_lender n w again c.now.floor (begun i s words) ≡ true
+    → after_end_ask n w i again (read_all w i s w words (after_ask i s c)) ≡ answered (lent_in n w words)
+    (asked_too (asked_of again (begun i s words)) c)
 view_lends n w i s again words more c due looks hit =
     let e = asked_of again (begun i s words) in
     asks_view n w i s again words more c due looks
-    ∙ ap (λ (b : Bool). cond b (answered (lent_in n w words) (asked_too e c)) (gives_up n (record c { asked = c.asked ++ e ∷ []; now = record c.now { looks = []; due = rest c.now.due; asks = [] } }))) hit
+    ∙ ap (λ (b : Bool). cond b (answered (lent_in n w words) (asked_too e c))
+    (gives_up n (record c { asked = c.asked ++ e ∷ []; now = record c.now { looks = []; due = rest c.now.due; asks = [] } })))
+    hit
 
 pub at_end : {A : Type 0} (l : List A) (x : A) → get_elem? (l ++ x ∷ []) (length l) ≡ some x
 at_end [] x = refl
@@ -89,15 +119,20 @@ at_end (y ∷ l) x = at_end l x
 pub given_asked : (n : ℕ) (c : Scan) → (gives_up n c).asked ≡ c.asked
 given_asked n c = go (length c.now.due == 0 && c.now.failed == n + 2)
   where
-    go : (b : Bool) → (cond b (record c { quit = c.quit + 1; now = record { failed = 0; floor = []; base = []; looks = []; due = []; asks = [] } }) c).asked ≡ c.asked
+    go : (b : Bool) → (cond b
+        (record c { quit = c.quit + 1; now = record { failed = 0; floor = []; base = []; looks = []; due = []; asks = [] } })
+        c).asked ≡ c.asked
     go true = refl
     go false = refl
 
-pub flag_low : (n w : ℕ) (adds : List Op → ℕ → ℕ) (accepts : (ℕ → ℕ) → List Op → Type 0) (ms : List Member) (c : Scan) (e : Asked) → HasMember ms → AreRuled n w adds accepts ms → scan_of ms ≡ gives_up n (refused e c) → e.number ≡ e.again → (x : ℕ) → get_elem? e.words 0 ≡ some x → x ≤ 1
+pub flag_low : (n w : ℕ) (adds : List Op → ℕ → ℕ) (accepts : (ℕ → ℕ) → List Op → Type 0) (ms : List Member) (c : Scan) (e : Asked)
+    → HasMember ms → AreRuled n w adds accepts ms → scan_of ms ≡ gives_up n (refused e c) → e.number ≡ e.again → (x : ℕ)
+    → get_elem? e.words 0 ≡ some x → x ≤ 1
 flag_low n w adds accepts [] c e t ruled scan same x at = absurd (let h = t.2 in cc)
 flag_low n w adds accepts (m ∷ ms) c e t ruled scan same x at =
     let asked : m.scan.asked ≡ c.asked ++ e ∷ [] = ap (λ (d : Scan). d.asked) scan ∙ given_asked n (refused e c) in
-    let shows = ((ruled.scans 0 m refl).asked (length c.asked) e (ap (λ (l : List Asked). get_elem? l (length c.asked)) asked ∙ at_end c.asked e)).shown same 0 x at in
+    let shows = ((ruled.scans 0 m refl).asked (length c.asked) e (ap (λ (l : List Asked). get_elem? l (length c.asked)) asked
+    ∙ at_end c.asked e)).shown same 0 x at in
     let flag : x ≡ flag_of (last_lent (take e.number (ruled.made e.worker))) = shows.flag (omega arith) in
     let low = one_or_none (last_lent (take e.number (ruled.made e.worker))) in omega (arith, flag, low)
   where
@@ -106,55 +141,70 @@ flag_low n w adds accepts (m ∷ ms) c e t ruled scan same x at =
     one_or_none (Some a) = omega arith
 
 -- the vector is below the floor nowhere
-pub above_all : (floor vector : List ℕ) → length floor ≡ length vector → ((k : ℕ) → k < length floor → slice_index floor k ≤ slice_index vector k) → is_above floor vector ≡ true
+pub above_all : (floor vector : List ℕ) → length floor ≡ length vector
+    → ((k : ℕ) → k < length floor → slice_index floor k ≤ slice_index vector k) → is_above floor vector ≡ true
 above_all [] vector e h = refl
 above_all (x ∷ floor) [] e h = absurd (omega (arith, e))
 above_all (x ∷ floor) (y ∷ vector) e h =
     let a : nat_le x y ≡ true = le-leb x y (h 0 (omega arith)) in
     let rest = above_all floor vector (omega (arith, e)) (λ k lt. h (suc k) (omega (arith, lt))) in λ z. a z && rest z
 
-pub not_above : (floor vector : List ℕ) (k : ℕ) → k < length floor → slice_index vector k < slice_index floor k → is_above floor vector ≡ false
+pub not_above : (floor vector : List ℕ) (k : ℕ) → k < length floor → slice_index vector k < slice_index floor k
+    → is_above floor vector ≡ false
 not_above [] vector k lt h = absurd (omega (arith, lt))
 not_above (x ∷ floor) [] k lt h = refl
 not_above (x ∷ floor) (y ∷ vector) zero lt h = ap (λ (b : Bool). b && is_above floor vector) (lt-leb x y h)
-not_above (x ∷ floor) (y ∷ vector) (suc k) lt h = ap (λ (b : Bool). nat_le x y && b) (not_above floor vector k (omega (arith, lt)) h) ∙ and-false (nat_le x y)
+not_above (x ∷ floor) (y ∷ vector) (suc k) lt h = ap (λ (b : Bool). nat_le x y && b)
+    (not_above floor vector k (omega (arith, lt)) h) ∙ and-false (nat_le x y)
 
 pub below_at : (floor vector : List ℕ) → length floor ≡ length vector → is_above floor vector ≡ false → IsBelow floor vector
 below_at [] vector e h = absurd (let f : true ≡ false = h in cc)
 below_at (x ∷ floor) [] e h = absurd (omega (arith, e))
 below_at (x ∷ floor) (y ∷ vector) e h = dite (dec_le x y)
-    (λ le. let t = below_at floor vector (omega (arith, e)) (sym (ap (λ (b : Bool). b && is_above floor vector) (le-leb x y le)) ∙ h) in (suc t.0, t.1, t.2, t.3, t.4, t.5))
+    (λ le. let t = below_at floor vector (omega (arith, e)) (sym (ap (λ (b : Bool). b && is_above floor vector) (le-leb x y le))
+    ∙ h) in (suc t.0, t.1, t.2, t.3, t.4, t.5))
     (λ gt. (0, x, y, refl, refl, omega arith))
 
-pub above_below : (floor vector : List ℕ) → is_above floor vector ≡ true → (i x y : ℕ) → get_elem? floor i ≡ some x → get_elem? vector i ≡ some y → x ≤ y
+pub above_below : (floor vector : List ℕ) → is_above floor vector ≡ true → (i x y : ℕ) → get_elem? floor i ≡ some x
+    → get_elem? vector i ≡ some y → x ≤ y
 above_below [] vector e i x y p q = absurd (some-ne-none x (sym p))
 above_below (a ∷ floor) [] e i x y p q = absurd (some-ne-none y (sym q))
-above_below (a ∷ floor) (b ∷ vector) e zero x y p q = let l = leb-true a b (and_parts (nat_le a b) (is_above floor vector) e).0 in let p' = some-injective a x p in let q' = some-injective b y q in omega (arith, l, p', q')
-above_below (a ∷ floor) (b ∷ vector) e (suc i) x y p q = above_below floor vector (and_parts (nat_le a b) (is_above floor vector) e).1 i x y p q
+above_below (a ∷ floor) (b ∷ vector) e zero x y p q = let l = leb-true a b (and_parts (nat_le a b) (is_above floor vector) e).0 in
+    let p' = some-injective a x p in let q' = some-injective b y q in omega (arith, l, p', q')
+above_below (a ∷ floor) (b ∷ vector) e (suc i) x y p q =
+    above_below floor vector (and_parts (nat_le a b) (is_above floor vector) e).1 i x y p q
 
 pub vector_long : (n w : ℕ) (words : List ℕ) → length words ≡ 1 + n + w → length (take n (drop 1 words)) ≡ n
 vector_long n w [] e = absurd (omega (arith, e))
 vector_long n w (x ∷ words) e = length_take words n (omega (arith, e))
 
-pub refuses_of : (n w i s again : ℕ) (words more floor : List ℕ) (adds : List Op → ℕ → ℕ) (accepts : (ℕ → ℕ) → List Op → Type 0) (ms a b d : List Member) → HasMember ms
-    → a ≡ led (scan_changed (after_ask i s)) ms → b ≡ led (scan_changed (read_all w i s w words)) a → d ≡ led (scan_changed (after_end_ask n w i again)) b
-    → (scan_of ms).now.due ≡ i ∷ more → (scan_of ms).now.looks ≡ [] → (scan_of ms).now.floor ≡ floor → length words ≡ 1 + n + w → length floor ≡ n → AreRuled n w adds accepts d
+pub refuses_of : (n w i s again : ℕ) (words more floor : List ℕ) (adds : List Op → ℕ → ℕ) (accepts : (ℕ → ℕ) → List Op → Type 0)
+    (ms a b d : List Member) → HasMember ms
+    → a ≡ led (scan_changed (after_ask i s)) ms → b ≡ led (scan_changed (read_all w i s w words)) a
+    → d ≡ led (scan_changed (after_end_ask n w i again)) b
+    → (scan_of ms).now.due ≡ i ∷ more → (scan_of ms).now.looks ≡ [] → (scan_of ms).now.floor ≡ floor → length words ≡ 1 + n + w
+    → length floor ≡ n → AreRuled n w adds accepts d
     → is_lender n w again floor (begun i s words) ≡ false
     → (e : Asked) × (e.worker ≡ i) × DoesNotLend n floor e × (d ≡ with_scan (gives_up n (refused e (scan_of ms))) ms)
 refuses_of n w i s again words more floor adds accepts ms a b d t p q r due looks is_floor long few ruled not_lent =
     let c : Scan = scan_of ms in
     let e : Asked = asked_of again (begun i s words) in
-    let shape = view_refuses n w i s again words more c due looks (ap (λ (f : List ℕ). is_lender n w again f (begun i s words)) is_floor ∙ not_lent) in
-    let view : d ≡ with_scan (gives_up n (refused e c)) ms = three (after_ask i s) (read_all w i s w words) (after_end_ask n w i again) ms a b d p q r ∙ ap (λ (x : Scan). with_scan x ms) shape in
+    let shape = view_refuses n w i s again words more c due looks
+    (ap (λ (f : List ℕ). is_lender n w again f (begun i s words)) is_floor ∙ not_lent) in
+    let view : d ≡ with_scan (gives_up n (refused e c)) ms = three (after_ask i s) (read_all w i s w words)
+    (after_end_ask n w i again) ms a b d p q r ∙ ap (λ (x : Scan). with_scan x ms) shape in
     let there : HasMember d = subst HasMember (sym view) (led_some (λ _. gives_up n (refused e c)) ms t) in
     let scan : scan_of d ≡ gives_up n (refused e c) = ap scan_of view ∙ scan_with (gives_up n (refused e c)) ms t in
     let vec : length floor ≡ length (take n (drop 1 words)) = few ∙ sym (vector_long n w words long) in (
       e,
       refl,
       dite (ℕ_discrete s again)
-          (λ same. let at = flag_at words (omega (arith, long)) in let low = flag_low n w adds accepts d c e there ruled scan same (slice_index words 0) at in dite (ℕ_discrete (slice_index words 0) 1)
+          (λ same. let at = flag_at words (omega (arith, long)) in
+          let low = flag_low n w adds accepts d c e there ruled scan same (slice_index words 0) at in
+          dite (ℕ_discrete (slice_index words 0) 1)
           (λ one. inr (inr (below_at floor (take n (drop 1 words)) vec
-          (sym (λ z. eq-eqb s again same z && eq-eqb (length words) (1 + n + w) long z && eq-eqb (slice_index words 0) 1 one z && is_above floor (take n (drop 1 words))) ∙ not_lent))))
+          (sym (λ z. eq-eqb s again same z && eq-eqb (length words) (1 + n + w) long z && eq-eqb (slice_index words 0) 1 one z &&
+          is_above floor (take n (drop 1 words))) ∙ not_lent))))
           (λ other. inr (inl (at ∙ ap some (let none : slice_index words 0 ≡ 0 = omega (arith, low, other) in none)))))
           (λ other. inl other),
       view,
@@ -165,7 +215,8 @@ refuses_of n w i s again words more floor adds accepts ms a b d t p q r due look
     flag_at (x ∷ l) h = refl
 
 -- what is left to ask after a worker that does not lend
-pub may_next : (n i : ℕ) (e : Asked) (floor more : List ℕ) (c : Scan) → MayAsk floor (i ∷ more) c → MayAsk floor more (gives_up n (refused e c))
+pub may_next : (n i : ℕ) (e : Asked) (floor more : List ℕ) (c : Scan) → MayAsk floor (i ∷ more) c
+    → MayAsk floor more (gives_up n (refused e c))
 may_next n i e floor more c may = go (length (rest c.now.due) == 0 && c.now.failed == n + 2) refl
   where
     left : rest c.now.due ≡ more
@@ -174,7 +225,12 @@ may_next n i e floor more c may = go (length (rest c.now.due) == 0 && c.now.fail
     is_floor : c.now.floor ≡ floor
     is_floor = may.floor (λ h. let h' = h in cc)
 
-    go : (b : Bool) → (length (rest c.now.due) == 0 && c.now.failed == n + 2) ≡ b → MayAsk floor more (cond b (record (refused e c) { quit = c.quit + 1; now = record { failed = 0; floor = []; base = []; looks = []; due = []; asks = [] } }) (refused e c))
+    go : (b : Bool) → (length (rest c.now.due) == 0 && c.now.failed == n + 2) ≡ b
+        → MayAsk floor more (cond b
+        (record (refused e c) {
+          quit = c.quit + 1;
+          now = record { failed = 0; floor = []; base = []; looks = []; due = []; asks = [] };
+        }) (refused e c))
     go true t = let nil : length (rest c.now.due) ≡ 0 = eqb-true _ _ (and_parts _ _ t).0 in record {
       due = sym (sym left ∙ empty (rest c.now.due) nil);
       looks = refl;
@@ -187,12 +243,16 @@ may_next n i e floor more c may = go (length (rest c.now.due) == 0 && c.now.fail
         empty (x ∷ l) h = absurd (omega (arith, h))
     go false t = record { due = left; looks = may.looks; asks = refl; floor = λ _. is_floor }
 
-pub refused_snoc : (n : ℕ) (es : List Asked) (e : Asked) (c : Scan) → refused_all n (es ++ e ∷ []) c ≡ gives_up n (refused e (refused_all n es c))
+pub refused_snoc : (n : ℕ) (es : List Asked) (e : Asked) (c : Scan) → refused_all n (es ++ e ∷ []) c ≡ gives_up n
+    (refused e (refused_all n es c))
 refused_snoc n [] e c = refl
 refused_snoc n (x ∷ es) e c = refused_snoc n es e (gives_up n (refused x c))
 
 -- the workers to be asked, from one place on
-pub due_here : (p : ℕ) (base found : List ℕ) → p < length base → p < length found → get_or base p 0 + 2 ≤ get_or found p 0 → due_from p (drop p base) (drop p found) ≡ p ∷ due_from (p + 1) (drop (p + 1) base) (drop (p + 1) found)
+pub due_here : (p : ℕ) (base found : List ℕ) → p < length base → p < length found → get_or base p 0 + 2 ≤ get_or found p 0
+    → due_from p (drop p base) (drop p found) ≡ p ∷ due_from (p + 1) (drop (p + 1) base) (drop (p + 1) found)
 due_here p base found hb hf h = let e : suc p ≡ p + 1 = omega arith in
-    (λ z. due_from p (drop-cons base p 0 hb z) (drop-cons found p 0 hf z)) ∙ (ap (λ (b : Bool). cond b (p ∷ due_from (suc p) (drop (suc p) base) (drop (suc p) found)) (due_from (suc p) (drop (suc p) base) (drop (suc p) found))) (le-leb _ _ h)
+    (λ z. due_from p (drop-cons base p 0 hb z) (drop-cons found p 0 hf z))
+    ∙ (ap (λ (b : Bool). cond b (p ∷ due_from (suc p) (drop (suc p) base) (drop (suc p) found))
+    (due_from (suc p) (drop (suc p) base) (drop (suc p) found))) (le-leb _ _ h)
     ∙ ap (λ (k : ℕ). p ∷ due_from k (drop k base) (drop k found)) e)

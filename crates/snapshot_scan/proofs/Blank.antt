@@ -1,5 +1,6 @@
 -- Rows of zeros.
-use Rattle.std.proofs.Common.{◌≡◌, ℕ, zero, suc, List, [], ◌∷◌, length, map, replicate, slice_index, sym, refl, ap, ◌∙◌, subst, arith, Contains}
+use Rattle.std.proofs.Common.{◌≡◌, ℕ, zero, suc, List, [], ◌∷◌, length, map, replicate, slice_index, sym, refl, ap, ◌∙◌, subst}
+use Rattle.std.proofs.Common.{arith, Contains}
 use mathlib.Core.Option.{some, some-injective, some-ne-none}
 use lib.ListN.{get_elem?, length-replicate}
 use Rattle.register_rule.specs.declared.view.Version.{Version}
@@ -27,19 +28,23 @@ are_wide w gs is q g at = blank_wide w g (is q g at)
 
 no_sum : (w k : ℕ) (gs : List RememberedRow) → AreBlank w gs → sum_rows k gs ≡ 0
 no_sum w k [] is = refl
-no_sum w k (g ∷ gs) is = let e = ap (λ (l : List ℕ). slice_index l k) (is 0 g refl).row ∙ zero_in w k in let others = no_sum w k gs (λ q x at. is (suc q) x at) in omega (arith, e, others)
+no_sum w k (g ∷ gs) is = let e = ap (λ (l : List ℕ). slice_index l k) (is 0 g refl).row ∙ zero_in w k in
+    let others = no_sum w k gs (λ q x at. is (suc q) x at) in omega (arith, e, others)
 
 pub are_totals : (w : ℕ) (gs : List RememberedRow) → AreBlank w gs → AreTotals w gs (replicate w 0)
 are_totals w gs is k lt = zero_in w k ∙ sym (no_sum w k gs is)
 
-pub rows_blank : (w : ℕ) (gs : List RememberedRow) (n : ℕ) → length gs ≡ n → AreBlank w gs → map version_of gs ≡ replicate n (record { number = 0; row = replicate w 0 })
+pub rows_blank : (w : ℕ) (gs : List RememberedRow) (n : ℕ) → length gs ≡ n → AreBlank w gs
+    → map version_of gs ≡ replicate n (record { number = 0; row = replicate w 0 })
 rows_blank w [] zero e is = refl
 rows_blank w [] (suc n) e is = absurd (omega (arith, e))
 rows_blank w (g ∷ gs) zero e is = absurd (omega (arith, e))
-rows_blank w (g ∷ gs) (suc n) e is = let b = is 0 g refl in let others = rows_blank w gs n (omega (arith, e)) (λ q x at. is (suc q) x at) in
+rows_blank w (g ∷ gs) (suc n) e is = let b = is 0 g refl in
+    let others = rows_blank w gs n (omega (arith, e)) (λ q x at. is (suc q) x at) in
     λ z. record { number = b.number z; row = b.row z } ∷ others z
 
-pub from_rows : (gs : List RememberedRow) (q : ℕ) (v : Version) → get_elem? (map version_of gs) q ≡ some v → (g : RememberedRow) × (get_elem? gs q ≡ some g) × (version_of g ≡ v)
+pub from_rows : (gs : List RememberedRow) (q : ℕ) (v : Version) → get_elem? (map version_of gs) q ≡ some v → (g : RememberedRow)
+    × (get_elem? gs q ≡ some g) × (version_of g ≡ v)
 from_rows [] q v e = absurd (some-ne-none v (sym e))
 from_rows (g ∷ gs) zero v e = (g, refl, some-injective (version_of g) v e)
 from_rows (g ∷ gs) (suc q) v e = from_rows gs q v e

@@ -1,5 +1,6 @@
 -- Where sums change is listed.
-use Rattle.std.proofs.Common.{◌≡◌, ◌≢◌, ◌⊎◌, ⊎_elim, ℕ, ◌+◌, ◌-◌, ◌%◌, ◌<◌, ◌≤◌, false, List, [], length, get_or, set, inl, inr, sym, ap, ◌∙◌, subst, refl, arith, get_or-set_same, get_or-set_other}
+use Rattle.std.proofs.Common.{◌≡◌, ◌≢◌, ◌⊎◌, ⊎_elim, ℕ, ◌+◌, ◌-◌, ◌%◌, ◌<◌, ◌≤◌, false, List, [], length, get_or, set, inl, inr}
+use Rattle.std.proofs.Common.{sym, ap, ◌∙◌, subst, refl, arith, get_or-set_same, get_or-set_other}
 use Rattle.std.specs.List.{Contains}
 use mathlib.Core.Logic.{dite}
 use native.Mathlib.Decide.{dec_lt}
@@ -42,7 +43,8 @@ moves_one w k x s t old new lt is notes = record {
 pub lists_first : (w : ℕ) (s t : List ℕ) (old new : Changed) → old.items ≡ [] → Moves w s t old new → Lists w s t new
 lists_first w s t old new empty is = record {
   same = is.same;
-  inside = λ j h. ⊎_elim (λ was. absurd (none_listed j (subst (λ (l : List ℕ). Contains l j) empty was))) (λ lt. lt) (is.inside j h);
+  inside = λ j h. ⊎_elim (λ was. absurd (none_listed j (subst (λ (l : List ℕ). Contains l j) empty was))) (λ lt. lt)
+      (is.inside j h);
 }
 
 -- nothing changes
@@ -57,7 +59,8 @@ lists_then w s t u a b first second = record {
 }
 
 -- what is listed stays among the sums
-pub moves_inside : (w : ℕ) (s t : List ℕ) (old new : Changed) → ((j : ℕ) → Contains old.items j → j < w) → Moves w s t old new → (j : ℕ) → Contains new.items j → j < w
+pub moves_inside : (w : ℕ) (s t : List ℕ) (old new : Changed) → ((j : ℕ) → Contains old.items j → j < w) → Moves w s t old new
+    → (j : ℕ) → Contains new.items j → j < w
 moves_inside w s t old new inside is j h = ⊎_elim (λ was. inside j was) (λ lt. lt) (is.inside j h)
 
 below_or_not : (k n : ℕ) → (k < n) ⊎ (n ≤ k)
@@ -66,16 +69,19 @@ below_or_not k n = dite (dec_lt k n) (λ lt. inl lt) (λ not. inr (omega (arith,
 -- words in the place of others
 module _ (n : ℕ) (old new : List ℕ) where
   -- words that are the same
-  pub exchanges_same : (from to : ℕ) (s t : List ℕ) (a b : Changed) → ((k : ℕ) → from ≤ k → k < to → get_or old k 0 ≡ get_or new k 0) → t ≡ s → b ≡ a → Exchanges n from to old new s t a b
+  pub exchanges_same : (from to : ℕ) (s t : List ℕ) (a b : Changed)
+      → ((k : ℕ) → from ≤ k → k < to → get_or old k 0 ≡ get_or new k 0) → t ≡ s → b ≡ a → Exchanges n from to old new s t a b
   exchanges_same from to s t a b same is is' = record {
     inside = λ k lt lt'. let e = same k lt lt' in let f = ap (λ (l : List ℕ). get_or l k 0) is in omega (arith, e, f);
     low = λ k lt. ap (λ (l : List ℕ). get_or l k 0) is;
     high = λ k lt. ap (λ (l : List ℕ). get_or l k 0) is;
-    moves = subst (λ (x : Changed). Moves n s t a x) (sym is') (subst (λ (l : List ℕ). Moves n s l a a) (sym is) (moves_none n s a));
+    moves = subst (λ (x : Changed). Moves n s t a x) (sym is')
+        (subst (λ (l : List ℕ). Moves n s l a a) (sym is) (moves_none n s a));
   }
 
   -- these words, and then those behind them
-  pub exchanges_then : (from mid to : ℕ) (s t u : List ℕ) (a b c : Changed) → from ≤ mid → mid ≤ to → Exchanges n from mid old new s t a b → Exchanges n mid to old new t u b c → Exchanges n from to old new s u a c
+  pub exchanges_then : (from mid to : ℕ) (s t u : List ℕ) (a b c : Changed) → from ≤ mid → mid ≤ to
+      → Exchanges n from mid old new s t a b → Exchanges n mid to old new t u b c → Exchanges n from to old new s u a c
   exchanges_then from mid to s t u a b c le le' first second = record {
     inside = λ k lt lt'. ⊎_elim
         (λ below. let e = first.inside k lt below in let f = second.low k below in omega (arith, e, f))
@@ -87,7 +93,8 @@ module _ (n : ℕ) (old new : List ℕ) where
   }
 
   -- one word
-  pub exchanges_one : (k : ℕ) (s t : List ℕ) (a b : Changed) → k < n → n ≡ length s → get_or old k 0 ≤ get_or s k 0 → t ≡ set s k (get_or s k 0 - get_or old k 0 + get_or new k 0) → Notes k a b → Exchanges n k (k + 1) old new s t a b
+  pub exchanges_one : (k : ℕ) (s t : List ℕ) (a b : Changed) → k < n → n ≡ length s → get_or old k 0 ≤ get_or s k 0
+      → t ≡ set s k (get_or s k 0 - get_or old k 0 + get_or new k 0) → Notes k a b → Exchanges n k (k + 1) old new s t a b
   exchanges_one k s t a b lt long part is notes = let x = get_or s k 0 - get_or old k 0 + get_or new k 0 in record {
     inside = λ j le lt'. let e : j ≡ k = omega (arith, le, lt') in
         let at : get_or t k 0 ≡ x = ap (λ (l : List ℕ). get_or l k 0) is ∙ get_or-set_same s k x 0 (omega (arith, lt, long)) in
@@ -98,12 +105,15 @@ module _ (n : ℕ) (old new : List ℕ) where
   }
 
   -- the words behind them are parts of the sums still
-  pub parts_still : (from to : ℕ) (s t : List ℕ) (a b : Changed) → Exchanges n from to old new s t a b → from ≤ to → AreParts from n old s → AreParts to n old t
-  parts_still from to s t a b is le parts k above lt = let e = is.high k above in let p = parts k (omega (arith, le, above)) lt in (omega (arith, e, p.0), omega (arith, e, p.1))
+  pub parts_still : (from to : ℕ) (s t : List ℕ) (a b : Changed) → Exchanges n from to old new s t a b → from ≤ to
+      → AreParts from n old s → AreParts to n old t
+  parts_still from to s t a b is le parts k above lt = let e = is.high k above in let p = parts k (omega (arith, le, above)) lt in
+      (omega (arith, e, p.0), omega (arith, e, p.1))
 
 -- bits that two numbers do not share: where there are none they are the same
 pub no_bits : (a b : ℕ) → bit_xor a b ≡ 0 → a ≡ b
-no_bits a b none = same_from_bits a b (λ i. let e = ap (λ (x : ℕ). bit_at x i) none in let z = bit_at-zero i in let x = bit_at_xor a b i in let p = bit_at-lt a i in let q = bit_at-lt b i in
+no_bits a b none = same_from_bits a b (λ i. let e = ap (λ (x : ℕ). bit_at x i) none in let z = bit_at-zero i in
+    let x = bit_at_xor a b i in let p = bit_at-lt a i in let q = bit_at-lt b i in
     both (bit_at a i) (bit_at b i) p q (sym x ∙ (e ∙ z)))
   where
     both : (x y : ℕ) → x < 2 → y < 2 → (x + y) % 2 ≡ 0 → x ≡ y

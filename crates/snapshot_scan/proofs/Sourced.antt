@@ -1,5 +1,6 @@
 -- What a source records: a scan's answer is whole, and not below the one before it.
-use Rattle.std.proofs.Common.{◌≡◌, ℕ, zero, suc, ◌+◌, ◌<◌, ◌≤◌, max, List, [], ◌∷◌, ◌++◌, length, take, slice_index, sym, refl, ap, subst, ◌∙◌, arith, inl, inr}
+use Rattle.std.proofs.Common.{◌≡◌, ℕ, zero, suc, ◌+◌, ◌<◌, ◌≤◌, max, List, [], ◌∷◌, ◌++◌, length, take, slice_index, sym, refl}
+use Rattle.std.proofs.Common.{ap, subst, ◌∙◌, arith, inl, inr}
 use Rattle.std.specs.Prelude.{Option, Some, None, Result, Ok, Err, OnOk, IfErr}
 use mathlib.Core.Option.{some, some-injective, some-ne-none}
 use Rattle.std.proofs.lemmas.Bool.{cases_lt}
@@ -85,7 +86,8 @@ beyond [] i le = refl
 beyond (x ∷ l) zero le = absurd (omega (arith, le))
 beyond (x ∷ l) (suc i) le = beyond l i (omega (arith, le))
 
-module _ (n c h g : ℕ) (few : n ≤ 32) (ms : List Member) (ruled : AreRuled n (width c h g) (sum_ops c h) (Accepts c h g) ms) (t : HasMember ms)
+module _ (n c h g : ℕ) (few : n ≤ 32) (ms : List Member) (ruled : AreRuled n (width c h g) (sum_ops c h) (Accepts c h g) ms)
+    (t : HasMember ms)
     (before : Scan) (a : Answer) (answered : IsAnswered n before (scan_of ms) a) where
   sits : get_elem? ms 0 ≡ some t.0
   sits = ap (λ (l : List Member). get_elem? l 0) t.2
@@ -119,7 +121,8 @@ module _ (n c h g : ℕ) (few : n ≤ 32) (ms : List Member) (ruled : AreRuled n
         let long = sound.seen_wide in
         let z = elem_at t.0.scan.seen i (omega (arith, long, lt)) in
         let low = below i x.0 z.0 x.1 z.1 in
-        let high = upper_above before.seen a.vector i z.0 y.0 answered.seen_before (ap (λ (l : List ℕ). get_elem? l i) (sym seen) ∙ z.1) y.1 in
+        let high = upper_above before.seen a.vector i z.0 y.0 answered.seen_before (ap (λ (l : List ℕ). get_elem? l i) (sym seen)
+        ∙ z.1) y.1 in
         let xs = read_at b.vector i x.0 0 x.1 in
         let ys = read_at a.vector i y.0 0 y.1 in
         omega (arith, low, high, xs, ys)
@@ -146,7 +149,8 @@ module _ (n c h g : ℕ) (few : n ≤ 32) (ms : List Member) (ruled : AreRuled n
         let le = sum_front (sum_ops c h) ruled.made 0 b.vector a.vector k (b_long ∙ sym a_long) number_rises_at in
         omega (arith, x, y, le)
 
-  pub scan_records : length a.totals ≡ width c h g → AreMoments n c h g (scan_of ms).recorded → Records n c h g before.recorded (scan_of ms).recorded a
+  pub scan_records : length a.totals ≡ width c h g → AreMoments n c h g (scan_of ms).recorded
+      → Records n c h g before.recorded (scan_of ms).recorded a
   scan_records wide moments = record {
     recorded = answered.recorded;
     whole = record {
@@ -154,12 +158,14 @@ module _ (n c h g : ℕ) (few : n ≤ 32) (ms : List Member) (ruled : AreRuled n
       totals = wide;
       legal = totals_legal n c h g few ms ruled 0 (length before.recorded) t.0 a sits here;
     };
-    rises = λ b e. let at = newest_at before.recorded b e in record { numbers = number_rises b at.0 at.1; totals = total_rises b at.0 at.1 };
+    rises = λ b e. let at = newest_at before.recorded b e in
+        record { numbers = number_rises b at.0 at.1; totals = total_rises b at.0 at.1 };
     moments = moments;
   }
 
 -- a plain source: one worker, whose row is all there is
-pub plain_rises : (n c h g count count' : ℕ) (row row' : List ℕ) (ops : List Op) (entries : List Answer) → n ≡ 1 → Adds c h row ops row' → count' ≡ count + 1
+pub plain_rises : (n c h g count count' : ℕ) (row row' : List ℕ) (ops : List Op) (entries : List Answer) → n ≡ 1
+    → Adds c h row ops row' → count' ≡ count + 1
     → ForSome (newest entries) (λ a. NothingFalls n (width c h g) a (record { vector = count ∷ []; totals = row }))
     → ForSome (newest entries) (λ a. NothingFalls n (width c h g) a (record { vector = count' ∷ []; totals = row' }))
 plain_rises n c h g count count' row row' ops entries one adds more below a e =
@@ -170,13 +176,16 @@ plain_rises n c h g count count' row row' ops entries one adds more below a e =
       totals = λ k lt. let le = old.totals k lt in let s = adds.sums k in omega (arith, le, s);
     }
 
-pub plain_newest : (n w count : ℕ) (row : List ℕ) (entries entries' : List Answer) (a : Answer) → entries' ≡ entries ++ a ∷ [] → a.vector ≡ count ∷ [] → a.totals ≡ row
+pub plain_newest : (n w count : ℕ) (row : List ℕ) (entries entries' : List Answer) (a : Answer) → entries' ≡ entries ++ a ∷ []
+    → a.vector ≡ count ∷ [] → a.totals ≡ row
     → ForSome (newest entries') (λ b. NothingFalls n w b (record { vector = count ∷ []; totals = row }))
 plain_newest n w count row entries entries' a is vector totals b e =
     let same : a ≡ b = Some-injective a b (sym (ap newest is ∙ newest_last entries a) ∙ e) in
     subst (λ (x : Answer). NothingFalls n w x (record { vector = count ∷ []; totals = row })) same (record {
-      numbers = λ i _. let h : slice_index a.vector i ≡ slice_index (count ∷ []) i = ap (λ (l : List ℕ). slice_index l i) vector in omega (arith, h);
-      totals = λ k _. let h : slice_index a.totals k ≡ slice_index row k = ap (λ (l : List ℕ). slice_index l k) totals in omega (arith, h);
+      numbers = λ i _. let h : slice_index a.vector i ≡ slice_index (count ∷ []) i =
+          ap (λ (l : List ℕ). slice_index l i) vector in omega (arith, h);
+      totals = λ k _. let h : slice_index a.totals k ≡ slice_index row k = ap (λ (l : List ℕ). slice_index l k) totals in
+          omega (arith, h);
     })
 
 pub has_member : (ms : List Member) → 0 < length ms → HasMember ms
@@ -184,14 +193,18 @@ has_member [] lt = absurd (omega (arith, lt))
 has_member (m ∷ ms) lt = (m, ms, refl)
 
 -- a scan's answer, told by its result
-pub scan_tells : {T E : Type 0} (n c h g : ℕ) (few : n ≤ 32) (ms : List Member) → AreRuled n (width c h g) (sum_ops c h) (Accepts c h g) ms → HasMember ms
-    → AreMoments n c h g (scan_of ms).recorded → (before : Scan) (a : Answer) → length a.totals ≡ width c h g → (answer : Result T E) → OnOk answer (IsAnswered n before (scan_of ms) a)
+pub scan_tells : {T E : Type 0} (n c h g : ℕ) (few : n ≤ 32) (ms : List Member)
+    → AreRuled n (width c h g) (sum_ops c h) (Accepts c h g) ms → HasMember ms
+    → AreMoments n c h g (scan_of ms).recorded → (before : Scan) (a : Answer) → length a.totals ≡ width c h g
+    → (answer : Result T E) → OnOk answer (IsAnswered n before (scan_of ms) a)
     → OnOk answer (Records n c h g before.recorded (scan_of ms).recorded a)
-scan_tells n c h g few ms ruled t moments before a wide (Ok x) answered = scan_records n c h g few ms ruled t before a answered wide moments
+scan_tells n c h g few ms ruled t moments before a wide (Ok x) answered = scan_records n c h g few ms ruled t before a answered
+    wide moments
 scan_tells n c h g few ms ruled t moments before a wide (Err e) answered = tt
 
 -- and a scan that was given up names a worker whose number rose
-pub contended_rose : {T : Type 0} (n : ℕ) (before after : Scan) (answer : Result T Contended) → IfErr answer (IsContended n before after)
+pub contended_rose : {T : Type 0} (n : ℕ) (before after : Scan) (answer : Result T Contended)
+    → IfErr answer (IsContended n before after)
     → IfErr answer (λ e. (e.worker < n) × (e.first < e.last))
 contended_rose n before after (Ok x) contended = tt
 contended_rose n before after (Err e) contended =

@@ -1,5 +1,6 @@
 -- The totals of an answer: each is below 2^53, and of each histogram the buckets add up to the count.
-use Rattle.std.proofs.Common.{◌≡◌, ℕ, zero, suc, ◌+◌, ◌*◌, ◌<◌, ◌≤◌, List, [], ◌∷◌, ◌++◌, length, take, slice_index, sym, ap, ◌∙◌, subst, arith, append_assoc, append-nil}
+use Rattle.std.proofs.Common.{◌≡◌, ℕ, zero, suc, ◌+◌, ◌*◌, ◌<◌, ◌≤◌, List, [], ◌∷◌, ◌++◌, length, take, slice_index, sym, ap, ◌∙◌}
+use Rattle.std.proofs.Common.{subst, arith, append_assoc, append-nil}
 use mathlib.Core.Option.{some}
 use lib.ListN.{get_elem?}
 use Rattle.std.proofs.Math.Seq.{take-length}
@@ -25,13 +26,18 @@ module _ (c h g : ℕ) where
   AreAccepted before after = Legal (sum_ops c h) (Accepts c h g) before after
 
   -- each version of a worker has words of at most 2^48 - 1
-  row_low : (k : ℕ) → k < width c h g → (before after : List Made) (s : ℕ) → total (sum_ops c h) before k ≤ 281474976710655 → AreAccepted before after
+  row_low : (k : ℕ) → k < width c h g → (before after : List Made) (s : ℕ) → total (sum_ops c h) before k ≤ 281474976710655
+      → AreAccepted before after
       → total (sum_ops c h) (before ++ take s after) k ≤ 281474976710655
-  row_low k lt before after zero low legal = subst (λ (z : List Made). total (sum_ops c h) z k ≤ 281474976710655) (sym (append-nil before)) low
-  row_low k lt before [] (suc s) low legal = subst (λ (z : List Made). total (sum_ops c h) z k ≤ 281474976710655) (sym (append-nil before)) low
+  row_low k lt before after zero low legal = subst (λ (z : List Made). total (sum_ops c h) z k ≤ 281474976710655)
+      (sym (append-nil before)) low
+  row_low k lt before [] (suc s) low legal = subst (λ (z : List Made). total (sum_ops c h) z k ≤ 281474976710655)
+      (sym (append-nil before)) low
   row_low k lt before (x ∷ xs) (suc s) low legal =
-      let fits : total (sum_ops c h) before k + sum_ops c h (take (length x.ops) x.ops) k ≤ 281474976710655 = legal.0.fits (length x.ops) (omega arith) k lt in
-      let all : sum_ops c h (take (length x.ops) x.ops) k ≡ sum_ops c h x.ops k = ap (λ (z : List Op). sum_ops c h z k) (take-length x.ops) in
+      let fits : total (sum_ops c h) before k + sum_ops c h (take (length x.ops) x.ops) k ≤ 281474976710655 =
+      legal.0.fits (length x.ops) (omega arith) k lt in
+      let all : sum_ops c h (take (length x.ops) x.ops) k ≡ sum_ops c h x.ops k = ap (λ (z : List Op). sum_ops c h z k)
+      (take-length x.ops) in
       let one = total_last (sum_ops c h) before x k in
       subst (λ (z : List Made). total (sum_ops c h) z k ≤ 281474976710655) (append_assoc before (x ∷ []) (take s xs))
       (row_low k lt (before ++ x ∷ []) xs s (omega (arith, fits, all, one)) legal.1)
@@ -41,10 +47,12 @@ module _ (c h g : ℕ) where
   row_legal before after zero legal = legal_zeros c h 0
   row_legal before [] (suc s) legal = legal_zeros c h 0
   row_legal before (x ∷ xs) (suc s) legal =
-      legal_sums c h (sum_ops c h x.ops) (total (sum_ops c h) (take s xs)) (legal_ops c h g x.ops legal.0.within) (row_legal (before ++ x ∷ []) xs s legal.1)
+      legal_sums c h (sum_ops c h x.ops) (total (sum_ops c h) (take s xs)) (legal_ops c h g x.ops legal.0.within)
+      (row_legal (before ++ x ∷ []) xs s legal.1)
 
   module _ (n : ℕ) (made : ℕ → List Made) (legal : (i : ℕ) → i < n → AreAccepted [] (made i)) where
-    sum_low : (k : ℕ) → k < width c h g → (i : ℕ) (vector : List ℕ) → i + length vector ≤ n → row_sum (sum_ops c h) made i vector k ≤ length vector * 281474976710655
+    sum_low : (k : ℕ) → k < width c h g → (i : ℕ) (vector : List ℕ) → i + length vector ≤ n
+        → row_sum (sum_ops c h) made i vector k ≤ length vector * 281474976710655
     sum_low k lt i [] le = omega arith
     sum_low k lt i (s ∷ vector) le =
         let one = row_low k lt [] (made i) s (omega arith) (legal i (omega (arith, le))) in
@@ -63,7 +71,8 @@ module _ (c h g : ℕ) where
     counts = λ slot within.
         same (c + 27 * slot + 26) (omega (arith, within))
         ∙ (legal.counts slot within
-        ∙ sum_same (λ place. row (c + 27 * slot + place)) (λ place. words (c + 27 * slot + place)) 0 25 (λ k _ high. sym (same (c + 27 * slot + k) (omega (arith, within, high)))));
+        ∙ sum_same (λ place. row (c + 27 * slot + place)) (λ place. words (c + 27 * slot + place)) 0 25
+        (λ k _ high. sym (same (c + 27 * slot + k) (omega (arith, within, high)))));
   }
 
 -- an answer that a member of a board of n workers recorded

@@ -1,5 +1,6 @@
 -- Reading words one by one.
-use Rattle.std.proofs.Common.{get_or, Contains, ◌≡◌, ◌⊎◌, inl, inr, ⊎_elim, map, ℕ, zero, suc, ◌+◌, ◌<◌, ◌≤◌, List, [], ◌∷◌, ◌++◌, length, take, drop, set, sym, refl, ap, ◌∙◌, arith}
+use Rattle.std.proofs.Common.{get_or, Contains, ◌≡◌, ◌⊎◌, inl, inr, ⊎_elim, map, ℕ, zero, suc, ◌+◌, ◌<◌, ◌≤◌, List, [], ◌∷◌, ◌++◌}
+use Rattle.std.proofs.Common.{length, take, drop, set, sym, refl, ap, ◌∙◌, arith}
 use mathlib.Core.Option.{some, some-injective, some-ne-none}
 use mathlib.Core.Logic.{dite}
 use native.Mathlib.Decide.{ℕ_discrete}
@@ -14,15 +15,19 @@ use Rattle.snapshot_scan.specs.Shape.{with_scan, scan_of, read_all}
 pub take_next : {A : Type 0} (xs : List A) (k : ℕ) (x : A) → k < length xs → take (k + 1) (set xs k x) ≡ take k xs ++ x ∷ []
 take_next [] k x h = absurd (omega arith)
 take_next (y ∷ ys) zero x h = refl
-take_next (y ∷ ys) (suc k) x h = let e : suc k + 1 ≡ suc (k + 1) = omega arith in ap (λ (z : ℕ). take z (set (y ∷ ys) (suc k) x)) e ∙ ap (λ z. y ∷ z) (take_next ys k x (omega arith))
+take_next (y ∷ ys) (suc k) x h = let e : suc k + 1 ≡ suc (k + 1) = omega arith in
+    ap (λ (z : ℕ). take z (set (y ∷ ys) (suc k) x)) e ∙ ap (λ z. y ∷ z) (take_next ys k x (omega arith))
 
-pub read_snoc : (w i s from : ℕ) (xs : List ℕ) (x : ℕ) (c : Scan) → read_all w i s from (xs ++ x ∷ []) c ≡ after_read w i s (from + length xs) x (read_all w i s from xs c)
+pub read_snoc : (w i s from : ℕ) (xs : List ℕ) (x : ℕ) (c : Scan) → read_all w i s from (xs ++ x ∷ []) c ≡ after_read w i s
+    (from + length xs) x (read_all w i s from xs c)
 read_snoc w i s from [] x c = let e : from ≡ from + 0 = omega arith in ap (λ (z : ℕ). after_read w i s z x c) e
 read_snoc w i s from (y ∷ ys) x c = let e : suc from + length ys ≡ from + suc (length ys) = omega arith in
-    read_snoc w i s (suc from) ys x (after_read w i s from y c) ∙ ap (λ (z : ℕ). after_read w i s z x (read_all w i s (suc from) ys (after_read w i s from y c))) e
+    read_snoc w i s (suc from) ys x (after_read w i s from y c)
+    ∙ ap (λ (z : ℕ). after_read w i s z x (read_all w i s (suc from) ys (after_read w i s from y c))) e
 
 -- two steps of the first member
-pub led_led : (f g h : Scan → Scan) (ms : List Member) → ((c : Scan) → f (g c) ≡ h c) → led (scan_changed f) (led (scan_changed g) ms) ≡ led (scan_changed h) ms
+pub led_led : (f g h : Scan → Scan) (ms : List Member) → ((c : Scan) → f (g c) ≡ h c)
+    → led (scan_changed f) (led (scan_changed g) ms) ≡ led (scan_changed h) ms
 led_led f g h [] e = refl
 led_led f g h (m ∷ ms) e = ap (λ (c : Scan). record m { scan = c } ∷ ms) (e m.scan)
 
@@ -70,7 +75,8 @@ front_at [] ys q y e = absurd (some-ne-none y (sym e))
 front_at (x ∷ xs) ys zero y e = e
 front_at (x ∷ xs) ys (suc q) y e = front_at xs ys q y e
 
-pub from_set : {A : Type 0} (l : List A) (i : ℕ) (a : A) (q : ℕ) (y : A) → get_elem? (set l i a) q ≡ some y → (get_elem? l q ≡ some y) ⊎ ((a ≡ y) × (q ≡ i))
+pub from_set : {A : Type 0} (l : List A) (i : ℕ) (a : A) (q : ℕ) (y : A) → get_elem? (set l i a) q ≡ some y
+    → (get_elem? l q ≡ some y) ⊎ ((a ≡ y) × (q ≡ i))
 from_set [] i a q y e = inl e
 from_set (x ∷ l) zero a zero y e = inr (some-injective a y e, refl)
 from_set (x ∷ l) zero a (suc q) y e = inl e
@@ -97,7 +103,8 @@ pub same_words : (xs ys : List ℕ) → length xs ≡ length ys → ((k : ℕ) �
 same_words [] [] e h = refl
 same_words [] (y ∷ ys) e h = absurd (omega (arith, e))
 same_words (x ∷ xs) [] e h = absurd (omega (arith, e))
-same_words (x ∷ xs) (y ∷ ys) e h = let a : x ≡ y = h 0 (omega arith) in let others = same_words xs ys (omega (arith, e)) (λ k lt. h (suc k) (omega (arith, lt))) in λ z. a z ∷ others z
+same_words (x ∷ xs) (y ∷ ys) e h = let a : x ≡ y = h 0 (omega arith) in
+    let others = same_words xs ys (omega (arith, e)) (λ k lt. h (suc k) (omega (arith, lt))) in λ z. a z ∷ others z
 
 -- a list of numbers has a number, or has it not
 pub contains_or_not : (xs : List ℕ) (k : ℕ) → Contains xs k ⊎ (¬ (Contains xs k))

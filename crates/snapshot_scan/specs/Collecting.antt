@@ -12,9 +12,11 @@ use Rattle.snapshot_scan.specs.declared.remembered_row.RememberedRow.{Remembered
 use Rattle.snapshot_scan.specs.Shape.{scan_of, with_scan}
 use Rattle.snapshot_scan.specs.RememberedRows.{AreWide, AreKnown, IsLoaded, version_of, opening, settling}
 
--- a first collect, which the first one of the members `before` began when these rows were remembered, has opened the first p places, at these numbers; `all` says
+-- a first collect, which the first one of the members `before` began when these rows were remembered, has opened the first p
+-- places, at these numbers; `all` says
 -- that each of them is the one that is remembered
-pub record HasOpened (w p : ℕ) (before : List Member) (rows : List RememberedRow) (after : List Member) (gs : List RememberedRow) (opened : List ℕ) (all : Bool) : Type 0 where
+pub record HasOpened (w p : ℕ) (before : List Member) (rows : List RememberedRow) (after : List Member) (gs : List RememberedRow)
+    (opened : List ℕ) (all : Bool) : Type 0 where
   pub starts : HasMember before
   pub kept : (scan_of before).kept ≡ map version_of rows
   pub due : (scan_of before).now.due ≡ []
@@ -23,18 +25,22 @@ pub record HasOpened (w p : ℕ) (before : List Member) (rows : List RememberedR
   pub same : map version_of gs ≡ map version_of rows
   pub view : after ≡ with_scan (opening (take p opened) gs (scan_of before)) before
   pub known : all ≡ true → (q : ℕ) (g : RememberedRow) → q < p → get_elem? gs q ≡ some g → g.number ≡ slice_index opened q
-  pub unknown : all ≡ false → (q : ℕ) × (g : RememberedRow) × (q < p) × (get_elem? gs q ≡ some g) × (g.number ≢ slice_index opened q)
+  pub unknown : all ≡ false → (q : ℕ) × (g : RememberedRow) × (q < p) × (get_elem? gs q ≡ some g)
+      × (g.number ≢ slice_index opened q)
   pub told : (q : ℕ) → q < p → IsLoaded q (scan_of before) (slice_index opened q)
 
--- a second collect of a try whose n rows are all remembered, which the first one of the members `before` began, has confirmed the first p places, and found
+-- a second collect of a try whose n rows are all remembered, which the first one of the members `before` began, has confirmed the
+-- first p places, and found
 -- these numbers; `all` says that each of them is the one that was opened. A board of c counters, h histograms and g gauges
-pub record HasConfirmed (n c h g p : ℕ) (before : List Member) (gs : List RememberedRow) (opened : List ℕ) (after : List Member) (found : List ℕ) (all : Bool) : Type 0 where
+pub record HasConfirmed (n c h g p : ℕ) (before : List Member) (gs : List RememberedRow) (opened : List ℕ) (after : List Member)
+    (found : List ℕ) (all : Bool) : Type 0 where
   pub starts : HasMember before
   pub wide : AreWide (width c h g) gs
   pub known : AreKnown opened gs
   pub loaded : (q : ℕ) → q < n → (j : ℕ) × (get_elem? (scan_of before).opened j ≡ some (q, slice_index opened q))
   pub ruled : 0 < p → AreRuled n (width c h g) (sum_ops c h) (Accepts c h g) after
-  pub view : after ≡ with_scan (cond (p == n) (ended n (width c h g) (settling opened (take p found) gs (scan_of before))) (settling opened (take p found) gs (scan_of before))) before
+  pub view : after ≡ with_scan (cond (p == n) (ended n (width c h g) (settling opened (take p found) gs (scan_of before)))
+      (settling opened (take p found) gs (scan_of before))) before
   pub risen : (q : ℕ) → q < p → slice_index opened q ≤ slice_index found q
   pub held : all ≡ true → (q : ℕ) → q < p → slice_index opened q ≡ slice_index found q
   pub moved : all ≡ false → (q : ℕ) × (q < p) × (slice_index opened q ≢ slice_index found q)

@@ -28,7 +28,13 @@ view_in n w (flag ∷ words) = cond (flag == 1) (Some (record { vector = take n 
 
 -- a worker that was asked: torn where its number was not found again
 abbrev pub asked_read : (n w : ℕ) → Asked → Read
-asked_read n w e = record { place = e.worker; at = 0; torn = not (e.number == e.again); number = e.number; view = view_in n w e.words }
+asked_read n w e = record {
+  place = e.worker;
+  at = 0;
+  torn = not (e.number == e.again);
+  number = e.number;
+  view = view_in n w e.words;
+}
 
 -- a try as one of the core
 abbrev pub core_try : (n w : ℕ) → Tried → Try
@@ -55,7 +61,8 @@ pub record CameTo (n w : ℕ) (c c' : Scan) (next : Next) : Type 0 where
 -- the answer of a scan that ended so: the numbers that its last try opened, or the view that was lent to it last
 abbrev pub EndsWith : (n w : ℕ) → Tried → Next → Answer → Type 0
 EndsWith n w last Direct a = a.vector ≡ last.first
-EndsWith n w last (Lent from) a = (asks : List Asked) × (e : Asked) × (last.asks ≡ asks ++ e ∷ []) × (e.worker ≡ from) × (a ≡ lent_in n w e.words)
+EndsWith n w last (Lent from) a = (asks : List Asked) × (e : Asked) × (last.asks ≡ asks ++ e ∷ []) × (e.worker ≡ from)
+    × (a ≡ lent_in n w e.words)
 EndsWith n w last _ a = ⊥
 
 -- from c to c' a scan came to an end, direct or lent, with this answer

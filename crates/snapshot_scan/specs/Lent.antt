@@ -21,7 +21,8 @@ HasNumbers ms vector = (i : ℕ) (m : Member) → IsWorkerAmong i m ms → get_e
 
 -- the first of them has seen what each worker among them has published
 abbrev pub HasSeen : List Member → Type 0
-HasSeen ms = (i : ℕ) (m : Member) → IsWorkerAmong i m ms → (i < length (scan_of ms).seen) × (length m.work.made ≤ slice_index (scan_of ms).seen i)
+HasSeen ms = (i : ℕ) (m : Member) → IsWorkerAmong i m ms → (i < length (scan_of ms).seen)
+    × (length m.work.made ≤ slice_index (scan_of ms).seen i)
 
 -- all members but the first
 abbrev pub behind : List Member → List Member
@@ -38,7 +39,8 @@ StayLent old new = (i : ℕ) (m : Member) → IsWorkerAmong i m old → IsWorker
 
 -- one worker alone, which has seen its own number
 abbrev pub IsWorkerAlone : List Member → Type 0
-IsWorkerAlone ms = (i : ℕ) × (m : Member) × (ms ≡ m ∷ []) × (m.who ≡ Worker i) × (get_elem? m.scan.seen i ≡ some (length m.work.made))
+IsWorkerAlone ms = (i : ℕ) × (m : Member) × (ms ≡ m ∷ []) × (m.who ≡ Worker i)
+    × (get_elem? m.scan.seen i ≡ some (length m.work.made))
 
 -- what was seen is seen, or more
 abbrev pub SeesMore : (old new : List ℕ) → Type 0

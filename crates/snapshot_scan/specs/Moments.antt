@@ -29,7 +29,8 @@ module _ (n c h g : ℕ) where
   -- after those before it, each publish is of one of the workers, whose row of what it published before accepts the list
   abbrev pub AreAccepted : (before publishes : List Publish) → Type 0
   AreAccepted before [] = Unit {0}
-  AreAccepted before (p ∷ ps) = (p.worker < n) × Accepts c h g (sum_lists c h (lists_by p.worker before)) p.ops × AreAccepted (before ++ p ∷ []) ps
+  AreAccepted before (p ∷ ps) = (p.worker < n) × Accepts c h g (sum_lists c h (lists_by p.worker before)) p.ops
+      × AreAccepted (before ++ p ∷ []) ps
 
   -- the answer is what these publishes come to: how often each worker published, and of each word the plain sum of all lists
   pub record IsAfter (publishes : List Publish) (a : Answer) : Type 0 where
@@ -39,7 +40,8 @@ module _ (n c h g : ℕ) where
   -- each answer is what a beginning of the history comes to, which is no shorter than that of the answer before it
   abbrev pub AreAlong : (history : List Publish) → (from : ℕ) → List Answer → Type 0
   AreAlong history from [] = Unit {0}
-  AreAlong history from (a ∷ rest) = (t : ℕ) × (from ≤ t) × (t ≤ length history) × IsAfter (take t history) a × AreAlong history t rest
+  AreAlong history from (a ∷ rest) = (t : ℕ) × (from ≤ t) × (t ≤ length history) × IsAfter (take t history) a
+      × AreAlong history t rest
 
   -- a history of publishes along which these answers stand
   pub record HaveHistory (answers : List Answer) : Type 0 where
@@ -51,7 +53,8 @@ module _ (n c h g : ℕ) where
   abbrev pub AreMoments : List Answer → Type 0
   AreMoments answers = ∥ HaveHistory answers ∥₁
 
-  -- these answers stand along a history, and the numbers and totals of all of it are this count and this row: those of a source of
+  -- these answers stand along a history, and the numbers and totals of all of it are this count and this row: those of a source
+  -- of
   -- one worker
   pub record ComeTo (count : ℕ) (row : List ℕ) (answers : List Answer) : Type 0 where
     pub history : List Publish

@@ -1,5 +1,6 @@
 -- What a scan remembers, and what its looks are by it.
-use Rattle.std.specs.Prelude.{◌≡◌, ◌≢◌, ℕ, suc, ◌+◌, ◌<◌, ◌≤◌, ◌==◌, true, false, cond, List, [], ◌∷◌, ◌++◌, length, map, replicate, slice_index, Contains}
+use Rattle.std.specs.Prelude.{◌≡◌, ◌≢◌, ℕ, suc, ◌+◌, ◌<◌, ◌≤◌, ◌==◌, true, false, cond, List, [], ◌∷◌, ◌++◌, length, map}
+use Rattle.std.specs.Prelude.{replicate, slice_index, Contains}
 use Rattle.bucket_math.specs.Words.{greatest_word}
 use mathlib.Core.Option.{some}
 use lib.ListN.{get_elem?}
@@ -19,7 +20,8 @@ pub record IsWide (w : ℕ) (g : RememberedRow) : Type 0 where
   pub fresh : length g.fresh.items ≡ w
   pub row_low : (k : ℕ) → k < w → slice_index g.row.items k ≤ greatest_word
   pub fresh_low : (k : ℕ) → k < w → slice_index g.fresh.items k ≤ greatest_word
-  pub same : g.changed.all ≡ false → (k : ℕ) → k < w → ¬ (Contains g.changed.items k) → slice_index g.row.items k ≡ slice_index g.fresh.items k
+  pub same : g.changed.all ≡ false → (k : ℕ) → k < w → ¬ (Contains g.changed.items k)
+      → slice_index g.row.items k ≡ slice_index g.fresh.items k
   pub inside : (j : ℕ) → Contains g.changed.items j → j < w
 
 -- each of them has rows of w such words
@@ -71,7 +73,12 @@ opening opened gs c = record c { opened = c.opened ++ pairs 0 opened; now = reco
 
 -- and confirmed those
 abbrev pub settling : (opened found : List ℕ) → List RememberedRow → Scan → Scan
-settling opened found gs c = record c { confirmed = c.confirmed ++ pairs 0 found; before = c.before ++ map (λ _. length c.opened) found; kept = map version_of gs; now = record c.now { looks = looks_of 0 opened found gs } }
+settling opened found gs c = record c {
+  confirmed = c.confirmed ++ pairs 0 found;
+  before = c.before ++ map (λ _. length c.opened) found;
+  kept = map version_of gs;
+  now = record c.now { looks = looks_of 0 opened found gs };
+}
 
 -- the word k of all rows together
 abbrev pub sum_rows : (k : ℕ) → List RememberedRow → ℕ

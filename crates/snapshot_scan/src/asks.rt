@@ -1,5 +1,6 @@
 //! Asking a worker for the view that it lends.
-ghost use Rattle.std.specs.Prelude.{◌≡◌, ℕ, ◌+◌, ◌<◌, ◌≤◌, [], ◌∷◌, ◌++◌, ◌↔◌, IsTrue, Bool, true, false, length, List, take, drop, map};
+ghost use Rattle.std.specs.Prelude.{◌≡◌, ℕ, ◌+◌, ◌<◌, ◌≤◌, [], ◌∷◌, ◌++◌, ◌↔◌, IsTrue, Bool, true, false, length, List, take};
+ghost use Rattle.std.specs.Prelude.{drop, map};
 ghost use mathlib.Core.Option.{some};
 ghost use lib.ListN.{get_elem?};
 ghost use Rattle.ledger_core.specs.Ops.{width};
@@ -46,9 +47,12 @@ fn ask<S: ScanSeat<N, C, H, G>, const N: usize, const C: usize, const H: usize, 
     ensures own { table_of (S.bundle seat.new) ≡ table_of (S.bundle seat.old) }
     ensures ruled { IsRuled N C H G (S.bundle seat.new) }
     ensures lends { result ≡ true → (e : Asked) × (e.worker ≡ place) × (e.words ≡ lent.new) × Lends N (width C H G) floor.now e
-        × (members_of (S.bundle seat.new) ≡ with_scan (answered (lent_in N (width C H G) lent.new) (asked_too e (scan_in (S.bundle seat.old)))) (members_of (S.bundle seat.old))) }
+        × (members_of (S.bundle seat.new) ≡ with_scan
+        (answered (lent_in N (width C H G) lent.new) (asked_too e (scan_in (S.bundle seat.old))))
+        (members_of (S.bundle seat.old))) }
     ensures refuses { result ≡ false → (e : Asked) × (e.worker ≡ place) × DoesNotLend N floor.now e
-        × (members_of (S.bundle seat.new) ≡ with_scan (gives_up N (refused e (scan_in (S.bundle seat.old)))) (members_of (S.bundle seat.old))) }
+        × (members_of (S.bundle seat.new) ≡ with_scan (gives_up N (refused e (scan_in (S.bundle seat.old))))
+        (members_of (S.bundle seat.old))) }
 {
     let number = board.ask(seat, place);
     read_items(board, seat, place, number, row, lent);
@@ -89,7 +93,8 @@ pub(crate) fn ask_all<
     requires own { MayScan board.now (S.bundle seat.old) }
     requires ruled { IsRuled N C H G (S.bundle seat.old) }
     requires geometry { IsGeometry N C H G }
-    requires lengths { (row ≡ width C H G) × (length floor.now ≡ N) × (length base.now ≡ N) × (length found.now ≡ N) × (length lent.old ≡ 1 + N + width C H G) }
+    requires lengths { (row ≡ width C H G) × (length floor.now ≡ N) × (length base.now ≡ N) × (length found.now ≡ N)
+        × (length lent.old ≡ 1 + N + width C H G) }
     requires may_ask { MayAsk floor.now (due_from 0 base.now found.now) (scan_in (S.bundle seat.old)) }
     ensures own { table_of (S.bundle seat.new) ≡ table_of (S.bundle seat.old) }
     ensures ruled { IsRuled N C H G (S.bundle seat.new) }
@@ -97,11 +102,14 @@ pub(crate) fn ask_all<
         × (map asked_worker es ++ asked_worker e ∷ more ≡ due_from 0 base.now found.now)
         × ((q : ℕ) (x : Asked) → get_elem? es q ≡ some x → DoesNotLend N floor.now x)
         × (e.words ≡ lent.new) × Lends N (width C H G) floor.now e
-        × (members_of (S.bundle seat.new) ≡ with_scan (answered (lent_in N (width C H G) lent.new) (asked_too e (refused_all N es (scan_in (S.bundle seat.old))))) (members_of (S.bundle seat.old))) }
+        × (members_of (S.bundle seat.new) ≡ with_scan
+        (answered (lent_in N (width C H G) lent.new) (asked_too e (refused_all N es (scan_in (S.bundle seat.old)))))
+        (members_of (S.bundle seat.old))) }
     ensures refuses { result ≡ false → (es : List Asked)
         × (map asked_worker es ≡ due_from 0 base.now found.now)
         × ((q : ℕ) (e : Asked) → get_elem? es q ≡ some e → DoesNotLend N floor.now e)
-        × (members_of (S.bundle seat.new) ≡ with_scan (refused_all N es (scan_in (S.bundle seat.old))) (members_of (S.bundle seat.old))) }
+        × (members_of (S.bundle seat.new) ≡ with_scan (refused_all N es (scan_in (S.bundle seat.old)))
+        (members_of (S.bundle seat.old))) }
 {
     for place in 0..found.len() {
         let due = is_due(base[place], found[place]);

@@ -34,19 +34,24 @@ fn confirm_all<
 ) -> bool
     requires own { MayScan board.now (S.bundle seat.old) }
     requires geometry { IsGeometry N C H G }
-    requires lengths { (length kept.old ≡ N) × (length opened.now ≡ N) × (length found.old ≡ N) × (length totals.old ≡ width C H G) }
+    requires lengths { (length kept.old ≡ N) × (length opened.now ≡ N) × (length found.old ≡ N)
+        × (length totals.old ≡ width C H G) }
     requires wide { AreWide (width C H G) kept.old }
     requires totals { AreTotals (width C H G) kept.old totals.old }
     requires kept { (scan_in (S.bundle seat.old)).kept ≡ map version_of kept.old }
     requires looks { (scan_in (S.bundle seat.old)).now.looks ≡ looks_of 0 opened.now [] kept.old }
-    requires loaded { (q : ℕ) → q < N → (j : ℕ) × (get_elem? (scan_in (S.bundle seat.old)).opened j ≡ some (q, slice_index opened.now q)) }
+    requires loaded { (q : ℕ) → q < N → (j : ℕ)
+        × (get_elem? (scan_in (S.bundle seat.old)).opened j ≡ some (q, slice_index opened.now q)) }
     ensures own { table_of (S.bundle seat.new) ≡ table_of (S.bundle seat.old) }
     ensures ruled { IsRuled N C H G (S.bundle seat.new) }
     ensures wide { AreWide (width C H G) kept.new }
     ensures totals { AreTotals (width C H G) kept.new totals.new }
-    ensures view { members_of (S.bundle seat.new) ≡ with_scan (ended N (width C H G) (settling opened.now found.new kept.new (scan_in (S.bundle seat.old)))) (members_of (S.bundle seat.old)) }
+    ensures view { members_of (S.bundle seat.new) ≡ with_scan
+        (ended N (width C H G) (settling opened.now found.new kept.new (scan_in (S.bundle seat.old))))
+        (members_of (S.bundle seat.old)) }
     ensures risen { (q : ℕ) → q < N → slice_index opened.now q ≤ slice_index found.new q }
-    ensures held { (q : ℕ) (g : RememberedRow) → get_elem? kept.new q ≡ some g → slice_index opened.now q ≡ slice_index found.new q → g.number ≡ slice_index opened.now q }
+    ensures held { (q : ℕ) (g : RememberedRow) → get_elem? kept.new q ≡ some g
+        → slice_index opened.now q ≡ slice_index found.new q → g.number ≡ slice_index opened.now q }
     ensures clean { IsTrue result ↔ (opened.now ≡ found.new) }
     ensures listed { Moves (width C H G) totals.old totals.new moved.old moved.new }
 {
@@ -79,20 +84,25 @@ pub(crate) fn confirm<
 ) -> bool
     requires own { MayScan board.now (S.bundle seat.old) }
     requires geometry { IsGeometry N C H G }
-    requires lengths { (length kept.old ≡ N) × (length opened.now ≡ N) × (length found.old ≡ N) × (length totals.old ≡ width C H G) }
+    requires lengths { (length kept.old ≡ N) × (length opened.now ≡ N) × (length found.old ≡ N)
+        × (length totals.old ≡ width C H G) }
     requires wide { AreWide (width C H G) kept.old }
     requires totals { AreTotals (width C H G) kept.old totals.old }
     requires known { known ≡ true → AreKnown opened.now kept.old }
     requires kept { (scan_in (S.bundle seat.old)).kept ≡ map version_of kept.old }
     requires looks { (scan_in (S.bundle seat.old)).now.looks ≡ looks_of 0 opened.now [] kept.old }
-    requires loaded { (q : ℕ) → q < N → (j : ℕ) × (get_elem? (scan_in (S.bundle seat.old)).opened j ≡ some (q, slice_index opened.now q)) }
+    requires loaded { (q : ℕ) → q < N → (j : ℕ)
+        × (get_elem? (scan_in (S.bundle seat.old)).opened j ≡ some (q, slice_index opened.now q)) }
     ensures own { table_of (S.bundle seat.new) ≡ table_of (S.bundle seat.old) }
     ensures ruled { IsRuled N C H G (S.bundle seat.new) }
     ensures wide { AreWide (width C H G) kept.new }
     ensures totals { AreTotals (width C H G) kept.new totals.new }
-    ensures view { members_of (S.bundle seat.new) ≡ with_scan (ended N (width C H G) (settling opened.now found.new kept.new (scan_in (S.bundle seat.old)))) (members_of (S.bundle seat.old)) }
+    ensures view { members_of (S.bundle seat.new) ≡ with_scan
+        (ended N (width C H G) (settling opened.now found.new kept.new (scan_in (S.bundle seat.old))))
+        (members_of (S.bundle seat.old)) }
     ensures risen { (q : ℕ) → q < N → slice_index opened.now q ≤ slice_index found.new q }
-    ensures held { (q : ℕ) (g : RememberedRow) → get_elem? kept.new q ≡ some g → slice_index opened.now q ≡ slice_index found.new q → g.number ≡ slice_index opened.now q }
+    ensures held { (q : ℕ) (g : RememberedRow) → get_elem? kept.new q ≡ some g
+        → slice_index opened.now q ≡ slice_index found.new q → g.number ≡ slice_index opened.now q }
     ensures clean { IsTrue result ↔ (opened.now ≡ found.new) }
     ensures quiet { known ≡ true → (kept.new ≡ kept.old) × (totals.new ≡ totals.old) }
     ensures listed { Moves (width C H G) totals.old totals.new moved.old moved.new }

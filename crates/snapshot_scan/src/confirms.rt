@@ -39,7 +39,8 @@ fn confirm_one<
     requires inside { (place < N) × (length opened.now ≡ N) × (length found.old ≡ N) }
     ensures own { table_of (S.bundle seat.new) ≡ table_of (S.bundle seat.old) }
     ensures leads { HasMember (members_of (S.bundle seat.new)) }
-    ensures confirmed { (ms : List Member) (gs : List RememberedRow) → length gs ≡ N → HasConfirmed N C H G place ms gs opened.now (members_of (S.bundle seat.old)) found.old same
+    ensures confirmed { (ms : List Member) (gs : List RememberedRow) → length gs ≡ N → HasConfirmed N C H G place ms gs opened.now
+        (members_of (S.bundle seat.old)) found.old same
         → HasConfirmed N C H G (place + 1) ms gs opened.now (members_of (S.bundle seat.new)) found.new result }
 {
     let again = board.confirm(seat, place);
@@ -68,7 +69,8 @@ fn confirm_four<
     requires inside { (place + 4 ≤ N) × (length opened.now ≡ N) × (length found.old ≡ N) }
     ensures own { table_of (S.bundle seat.new) ≡ table_of (S.bundle seat.old) }
     ensures leads { HasMember (members_of (S.bundle seat.new)) }
-    ensures confirmed { (ms : List Member) (gs : List RememberedRow) → length gs ≡ N → HasConfirmed N C H G place ms gs opened.now (members_of (S.bundle seat.old)) found.old same
+    ensures confirmed { (ms : List Member) (gs : List RememberedRow) → length gs ≡ N → HasConfirmed N C H G place ms gs opened.now
+        (members_of (S.bundle seat.old)) found.old same
         → HasConfirmed N C H G (place + 4) ms gs opened.now (members_of (S.bundle seat.new)) found.new result }
 {
     let one = confirm_one(board, seat, opened, found, place, same);
@@ -97,7 +99,8 @@ fn confirm_rest<
     requires geometry { IsGeometry N C H G }
     requires inside { (from ≤ N) × (length opened.now ≡ N) × (length found.old ≡ N) }
     ensures own { table_of (S.bundle seat.new) ≡ table_of (S.bundle seat.old) }
-    ensures confirmed { (ms : List Member) (gs : List RememberedRow) → length gs ≡ N → HasConfirmed N C H G from ms gs opened.now (members_of (S.bundle seat.old)) found.old same
+    ensures confirmed { (ms : List Member) (gs : List RememberedRow) → length gs ≡ N → HasConfirmed N C H G from ms gs opened.now
+        (members_of (S.bundle seat.old)) found.old same
         → HasConfirmed N C H G N ms gs opened.now (members_of (S.bundle seat.new)) found.new result }
 {
     let mut all = same;
@@ -130,10 +133,13 @@ pub(crate) fn confirm_known<
     requires known { AreKnown opened.now kept.now }
     requires kept { (scan_in (S.bundle seat.old)).kept ≡ map version_of kept.now }
     requires looks { (scan_in (S.bundle seat.old)).now.looks ≡ looks_of 0 opened.now [] kept.now }
-    requires loaded { (q : ℕ) → q < N → (j : ℕ) × (get_elem? (scan_in (S.bundle seat.old)).opened j ≡ some (q, slice_index opened.now q)) }
+    requires loaded { (q : ℕ) → q < N → (j : ℕ)
+        × (get_elem? (scan_in (S.bundle seat.old)).opened j ≡ some (q, slice_index opened.now q)) }
     ensures own { table_of (S.bundle seat.new) ≡ table_of (S.bundle seat.old) }
     ensures ruled { IsRuled N C H G (S.bundle seat.new) }
-    ensures view { members_of (S.bundle seat.new) ≡ with_scan (ended N (width C H G) (settling opened.now found.new kept.now (scan_in (S.bundle seat.old)))) (members_of (S.bundle seat.old)) }
+    ensures view { members_of (S.bundle seat.new) ≡ with_scan
+        (ended N (width C H G) (settling opened.now found.new kept.now (scan_in (S.bundle seat.old))))
+        (members_of (S.bundle seat.old)) }
     ensures risen { (q : ℕ) → q < N → slice_index opened.now q ≤ slice_index found.new q }
     ensures clean { IsTrue result ↔ (opened.now ≡ found.new) }
 {

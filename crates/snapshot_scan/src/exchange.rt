@@ -21,11 +21,15 @@ pub(crate) fn exchange(
 )
     requires lengths { (length old.old ≡ length totals.old) × (length new.now ≡ length totals.old) }
     requires words { (j : ℕ) → Contains changed.now.items j → j < length totals.old }
-    requires others { changed.now.all ≡ false → (k : ℕ) → k < length totals.old → ¬ (Contains changed.now.items k) → slice_index old.old k ≡ slice_index new.now k }
-    requires part { (k : ℕ) → k < length totals.old → (slice_index old.old k ≤ slice_index totals.old k) × (slice_index totals.old k ≤ 9007199254740992) }
-    requires low { (k : ℕ) → k < length totals.old → (slice_index old.old k ≤ greatest_word) × (slice_index new.now k ≤ greatest_word) }
+    requires others { changed.now.all ≡ false → (k : ℕ) → k < length totals.old → ¬ (Contains changed.now.items k)
+        → slice_index old.old k ≡ slice_index new.now k }
+    requires part { (k : ℕ) → k < length totals.old → (slice_index old.old k ≤ slice_index totals.old k)
+        × (slice_index totals.old k ≤ 9007199254740992) }
+    requires low { (k : ℕ) → k < length totals.old → (slice_index old.old k ≤ greatest_word)
+        × (slice_index new.now k ≤ greatest_word) }
     ensures same { old.new ≡ new.now }
-    ensures sums { (k : ℕ) → k < length totals.old → slice_index totals.new k + slice_index old.old k ≡ slice_index totals.old k + slice_index new.now k }
+    ensures sums { (k : ℕ) → k < length totals.old → slice_index totals.new k + slice_index old.old k ≡ slice_index totals.old
+        k + slice_index new.now k }
     ensures moved { Moves (length totals.old) totals.old totals.new moved.old moved.new }
 {
     if changed.is_all() {
@@ -38,10 +42,12 @@ pub(crate) fn exchange(
 /// As [`exchange`], where the two rows may differ at any word.
 fn exchange_all(totals: &mut [u64], old: &mut [u64], new: &[u64], moved: &mut ChangedItems)
     requires lengths { (length old.old ≡ length totals.old) × (length new.now ≡ length totals.old) }
-    requires part { (k : ℕ) → k < length totals.old → (slice_index old.old k ≤ slice_index totals.old k) × (slice_index totals.old k ≤ 9007199254740992) }
+    requires part { (k : ℕ) → k < length totals.old → (slice_index old.old k ≤ slice_index totals.old k)
+        × (slice_index totals.old k ≤ 9007199254740992) }
     requires low { (k : ℕ) → k < length totals.old → slice_index new.now k ≤ greatest_word }
     ensures same { old.new ≡ new.now }
-    ensures sums { (k : ℕ) → k < length totals.old → slice_index totals.new k + slice_index old.old k ≡ slice_index totals.old k + slice_index new.now k }
+    ensures sums { (k : ℕ) → k < length totals.old → slice_index totals.new k + slice_index old.old k ≡ slice_index totals.old
+        k + slice_index new.now k }
     ensures moved { Moves (length totals.old) totals.old totals.new moved.old moved.new }
 {
     exchange_sums(totals, old, new, moved);
@@ -60,10 +66,13 @@ fn exchange_at(
     requires lengths { (length old.old ≡ length totals.old) × (length new.now ≡ length totals.old) }
     requires words { (j : ℕ) → Contains items.now j → j < length totals.old }
     requires others { (k : ℕ) → k < length totals.old → ¬ (Contains items.now k) → slice_index old.old k ≡ slice_index new.now k }
-    requires part { (k : ℕ) → k < length totals.old → (slice_index old.old k ≤ slice_index totals.old k) × (slice_index totals.old k ≤ 9007199254740992) }
-    requires low { (k : ℕ) → k < length totals.old → (slice_index old.old k ≤ greatest_word) × (slice_index new.now k ≤ greatest_word) }
+    requires part { (k : ℕ) → k < length totals.old → (slice_index old.old k ≤ slice_index totals.old k)
+        × (slice_index totals.old k ≤ 9007199254740992) }
+    requires low { (k : ℕ) → k < length totals.old → (slice_index old.old k ≤ greatest_word)
+        × (slice_index new.now k ≤ greatest_word) }
     ensures same { old.new ≡ new.now }
-    ensures sums { (k : ℕ) → k < length totals.old → slice_index totals.new k + slice_index old.old k ≡ slice_index totals.old k + slice_index new.now k }
+    ensures sums { (k : ℕ) → k < length totals.old → slice_index totals.new k + slice_index old.old k ≡ slice_index totals.old
+        k + slice_index new.now k }
     ensures moved { Moves (length totals.old) totals.old totals.new moved.old moved.new }
 {
     for &item in items {
@@ -84,7 +93,8 @@ fn exchange_word(
     requires part { slice_index old.old item ≤ slice_index totals.old item }
     requires room { slice_index totals.old item + slice_index new.now item < 18446744073709551616 }
     ensures old { old.new ≡ slice_set old.old item (slice_index new.now item) }
-    ensures totals { totals.new ≡ slice_set totals.old item (slice_index totals.old item - slice_index old.old item + slice_index new.now item) }
+    ensures totals { totals.new ≡ slice_set totals.old item
+        (slice_index totals.old item - slice_index old.old item + slice_index new.now item) }
     ensures notes { Notes item moved.old moved.new }
 {
     let word = new[item];
@@ -97,9 +107,11 @@ fn exchange_word(
 #[inline(never)]
 fn exchange_sums(totals: &mut [u64], old: &[u64], new: &[u64], moved: &mut ChangedItems)
     requires lengths { (length old.now ≡ length totals.old) × (length new.now ≡ length totals.old) }
-    requires part { (k : ℕ) → k < length totals.old → (slice_index old.now k ≤ slice_index totals.old k) × (slice_index totals.old k ≤ 9007199254740992) }
+    requires part { (k : ℕ) → k < length totals.old → (slice_index old.now k ≤ slice_index totals.old k)
+        × (slice_index totals.old k ≤ 9007199254740992) }
     requires low { (k : ℕ) → k < length totals.old → slice_index new.now k ≤ greatest_word }
-    ensures sums { (k : ℕ) → k < length totals.old → slice_index totals.new k + slice_index old.now k ≡ slice_index totals.old k + slice_index new.now k }
+    ensures sums { (k : ℕ) → k < length totals.old → slice_index totals.new k + slice_index old.now k ≡ slice_index totals.old
+        k + slice_index new.now k }
     ensures moved { Moves (length totals.old) totals.old totals.new moved.old moved.new }
 {
     let blocks = totals.len() / BLOCK;

@@ -29,7 +29,8 @@ pub(crate) fn read_items<
     requires inside { (place < N) × (from + length words.old ≤ depth N (width C H G)) }
     requires deep { depth N (width C H G) ≤ 2529 }
     ensures own { table_of (S.bundle seat.new) ≡ table_of (S.bundle seat.old) }
-    ensures member { members_of (S.bundle seat.new) ≡ led (scan_changed (read_all (width C H G) place number from words.new)) (members_of (S.bundle seat.old)) }
+    ensures member { members_of (S.bundle seat.new) ≡ led (scan_changed (read_all (width C H G) place number from words.new))
+        (members_of (S.bundle seat.old)) }
     ensures bounded { (k : ℕ) → k < length words.new → from + k < width C H G → slice_index words.new k ≤ greatest_word }
 {
     for k in 0..words.len() {

@@ -38,7 +38,8 @@ fn open_one<
     ensures own { table_of (S.bundle seat.new) ≡ table_of (S.bundle seat.old) }
     ensures leads { HasMember (members_of (S.bundle seat.new)) }
     ensures wide { AreWide (width C H G) kept.new }
-    ensures opened { (ms : List Member) (rows : List RememberedRow) → HasOpened (width C H G) place ms rows (members_of (S.bundle seat.old)) kept.old opened.old known
+    ensures opened { (ms : List Member) (rows : List RememberedRow)
+        → HasOpened (width C H G) place ms rows (members_of (S.bundle seat.old)) kept.old opened.old known
         → HasOpened (width C H G) (place + 1) ms rows (members_of (S.bundle seat.new)) kept.new opened.new result }
 {
     let number = kept[place].look(board, seat, place);
@@ -69,7 +70,8 @@ fn open_four<
     ensures own { table_of (S.bundle seat.new) ≡ table_of (S.bundle seat.old) }
     ensures leads { HasMember (members_of (S.bundle seat.new)) }
     ensures wide { AreWide (width C H G) kept.new }
-    ensures opened { (ms : List Member) (rows : List RememberedRow) → HasOpened (width C H G) place ms rows (members_of (S.bundle seat.old)) kept.old opened.old known
+    ensures opened { (ms : List Member) (rows : List RememberedRow)
+        → HasOpened (width C H G) place ms rows (members_of (S.bundle seat.old)) kept.old opened.old known
         → HasOpened (width C H G) (place + 4) ms rows (members_of (S.bundle seat.new)) kept.new opened.new result }
 {
     let one = open_one(board, seat, kept, opened, place, known);
@@ -99,7 +101,8 @@ fn open_rest<
     requires inside { (from ≤ N) × (length kept.old ≡ N) × (length opened.old ≡ N) }
     requires wide { AreWide (width C H G) kept.old }
     ensures own { table_of (S.bundle seat.new) ≡ table_of (S.bundle seat.old) }
-    ensures opened { (ms : List Member) (rows : List RememberedRow) → HasOpened (width C H G) from ms rows (members_of (S.bundle seat.old)) kept.old opened.old known
+    ensures opened { (ms : List Member) (rows : List RememberedRow)
+        → HasOpened (width C H G) from ms rows (members_of (S.bundle seat.old)) kept.old opened.old known
         → HasOpened (width C H G) N ms rows (members_of (S.bundle seat.new)) kept.new opened.new result }
 {
     let mut all = known;
@@ -123,11 +126,13 @@ pub(crate) fn collect<
     requires lengths { (length kept.old ≡ N) × (length opened.old ≡ N) }
     requires wide { AreWide (width C H G) kept.old }
     requires kept { (scan_in (S.bundle seat.old)).kept ≡ map version_of kept.old }
-    requires rest { ((scan_in (S.bundle seat.old)).now.looks ≡ []) × ((scan_in (S.bundle seat.old)).now.due ≡ []) × ((scan_in (S.bundle seat.old)).now.asks ≡ []) }
+    requires rest { ((scan_in (S.bundle seat.old)).now.looks ≡ []) × ((scan_in (S.bundle seat.old)).now.due ≡ [])
+        × ((scan_in (S.bundle seat.old)).now.asks ≡ []) }
     ensures own { table_of (S.bundle seat.new) ≡ table_of (S.bundle seat.old) }
     ensures wide { AreWide (width C H G) kept.new }
     ensures same { map version_of kept.new ≡ map version_of kept.old }
-    ensures view { members_of (S.bundle seat.new) ≡ with_scan (opening opened.new kept.new (scan_in (S.bundle seat.old))) (members_of (S.bundle seat.old)) }
+    ensures view { members_of (S.bundle seat.new) ≡ with_scan (opening opened.new kept.new (scan_in (S.bundle seat.old)))
+        (members_of (S.bundle seat.old)) }
     ensures told { (q : ℕ) → q < N → IsLoaded q (scan_in (S.bundle seat.old)) (slice_index opened.new q) }
     ensures known { result ≡ true → AreKnown opened.new kept.new }
     ensures unknown { result ≡ false → HasOther opened.new (map version_of kept.old) }

@@ -42,7 +42,8 @@ impl<const N: usize, const C: usize, const H: usize, const G: usize> ScanMemory<
     pub fn remember(&mut self, place: usize, number: u64, row: &Row<C, H, G>)
         requires inside { place < N }
         ensures rows { rows_of self.new ≡ slice_set (rows_of self.old) place (record { number = number; row = row.now }) }
-        ensures sums { (v : Version) → get_elem? (rows_of self.old) place ≡ some v → (k : ℕ) → k < width C H G → slice_index (sums_of self.new) k + slice_index v.row k ≡ slice_index (sums_of self.old) k + slice_index row.now k }
+        ensures sums { (v : Version) → get_elem? (rows_of self.old) place ≡ some v → (k : ℕ) → k < width C H G
+            → slice_index (sums_of self.new) k + slice_index v.row k ≡ slice_index (sums_of self.old) k + slice_index row.now k }
     {
         remember_all(
             self.kept.as_mut_slice(),
@@ -60,9 +61,11 @@ impl<const N: usize, const C: usize, const H: usize, const G: usize> ScanMemory<
     pub fn remember_at(&mut self, place: usize, number: u64, row: &Row<C, H, G>, items: &[usize])
         requires inside { place < N }
         requires words { (j : ℕ) → Contains items.now j → j < width C H G }
-        requires others { (v : Version) → get_elem? (rows_of self.old) place ≡ some v → (k : ℕ) → k < width C H G → ¬ (Contains items.now k) → slice_index v.row k ≡ slice_index row.now k }
+        requires others { (v : Version) → get_elem? (rows_of self.old) place ≡ some v → (k : ℕ) → k < width C H G
+            → ¬ (Contains items.now k) → slice_index v.row k ≡ slice_index row.now k }
         ensures rows { rows_of self.new ≡ slice_set (rows_of self.old) place (record { number = number; row = row.now }) }
-        ensures sums { (v : Version) → get_elem? (rows_of self.old) place ≡ some v → (k : ℕ) → k < width C H G → slice_index (sums_of self.new) k + slice_index v.row k ≡ slice_index (sums_of self.old) k + slice_index row.now k }
+        ensures sums { (v : Version) → get_elem? (rows_of self.old) place ≡ some v → (k : ℕ) → k < width C H G
+            → slice_index (sums_of self.new) k + slice_index v.row k ≡ slice_index (sums_of self.old) k + slice_index row.now k }
     {
         remember_some(
             self.kept.as_mut_slice(),
@@ -91,7 +94,8 @@ fn remember_all<const C: usize, const H: usize, const G: usize>(
     requires totals { AreTotals (width C H G) kept.old totals.old }
     ensures wide { AreWide (width C H G) kept.new }
     ensures totals { AreTotals (width C H G) kept.new totals.new }
-    ensures rows { map version_of kept.new ≡ slice_set (map version_of kept.old) place (record { number = number; row = row.now }) }
+    ensures rows { map version_of kept.new ≡ slice_set (map version_of kept.old) place
+        (record { number = number; row = row.now }) }
     ensures moved { Moves (width C H G) totals.old totals.new moved.old moved.new }
 {
     kept[place].learn(number, row, totals, moved);
@@ -112,10 +116,12 @@ fn remember_some<const C: usize, const H: usize, const G: usize>(
     requires wide { AreWide (width C H G) kept.old }
     requires totals { AreTotals (width C H G) kept.old totals.old }
     requires words { (j : ℕ) → Contains items.now j → j < width C H G }
-    requires others { (g : RememberedRow) → get_elem? kept.old place ≡ some g → (k : ℕ) → k < width C H G → ¬ (Contains items.now k) → slice_index g.row.items k ≡ slice_index row.now k }
+    requires others { (g : RememberedRow) → get_elem? kept.old place ≡ some g → (k : ℕ) → k < width C H G
+        → ¬ (Contains items.now k) → slice_index g.row.items k ≡ slice_index row.now k }
     ensures wide { AreWide (width C H G) kept.new }
     ensures totals { AreTotals (width C H G) kept.new totals.new }
-    ensures rows { map version_of kept.new ≡ slice_set (map version_of kept.old) place (record { number = number; row = row.now }) }
+    ensures rows { map version_of kept.new ≡ slice_set (map version_of kept.old) place
+        (record { number = number; row = row.now }) }
 {
     kept[place].change(number, row, items, totals);
 }

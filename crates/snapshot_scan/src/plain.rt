@@ -25,7 +25,8 @@ pub struct PlainSource<const N: usize, const C: usize, const H: usize, const G: 
     ghost wide: { length row ≡ width C H G },
     ghost legal: { IsLegal C H (slice_index row) },
     ghost comes_to: { ∥ ComeTo N C H G count row seat.me.0.entries ∥₁ },
-    ghost below: { ForSome (newest seat.me.0.entries) (λ a. NothingFalls N (width C H G) a (record { vector = count ∷ []; totals = row })) },
+    ghost below: { ForSome (newest seat.me.0.entries)
+        (λ a. NothingFalls N (width C H G) a (record { vector = count ∷ []; totals = row })) },
 }
 
 impl<const N: usize, const C: usize, const H: usize, const G: usize> Drop

@@ -45,7 +45,8 @@ impl<const N: usize, const C: usize, const H: usize, const G: usize> PlainSource
     ///
     /// 15 [`PlainFault::Exhausted`] where 2^64 - 1 lists were applied; then 11 and 12 of the first operation that fails.
     pub fn apply(&mut self, ops: &[Op]) -> Result<(), PlainFault>
-        ensures applied { OnOk result (IsApplied C H G (row_of self.old) (count_of self.old) ops.now (row_of self.new) (count_of self.new)) }
+        ensures applied { OnOk result (IsApplied C H G (row_of self.old) (count_of self.old) ops.now (row_of self.new)
+            (count_of self.new)) }
         ensures recorded { recorded_by self.new ≡ recorded_by self.old }
         ensures fault { IfErr result (IsPlainFault C H G (row_of self.old) (count_of self.old) ops.now) }
         ensures unchanged { OnErr result ((row_of self.new ≡ row_of self.old) × (count_of self.new ≡ count_of self.old)) }
@@ -92,7 +93,8 @@ impl<const N: usize, const C: usize, const H: usize, const G: usize> Source<N, C
         ensures recorded { OnOk result (Records N C H G (recorded_by self.old) (recorded_by self.new) (as_answer out.new)) }
         ensures gave { OnOk result (GivesRow self.old self.new (as_answer out.new)) }
         ensures kept { OnOk result (quit_by self.new ≡ quit_by self.old) }
-        ensures given_up { OnErr result ((recorded_by self.new ≡ recorded_by self.old) × (quit_by self.new ≡ quit_by self.old + 1)) }
+        ensures given_up { OnErr result ((recorded_by self.new ≡ recorded_by self.old)
+            × (quit_by self.new ≡ quit_by self.old + 1)) }
         ensures why { IfErr result (λ _. ⊥) }
         ensures rose { IfErr result (λ e. (e.worker < N) × (e.first < e.last)) }
         ensures unchanged { OnErr result (out.new ≡ out.old) }

@@ -38,8 +38,11 @@ pub(crate) fn load_as<X, J: Play<(), Recordings>, P: TableRule<(), Recordings, (
     word: usize,
     _about: &X,
 ) -> u64
-    requires { (seat.old.table_id ≡ shared.now.table_id) × (word < shared.now.table_id.words) × Allows (P.holds shared.now.key) shared.now.table_id.slots seat.old.id seat.old.me word (λ n. n) (J.then (step shared.now.table_id.slots word 0 0 none) seat.old.me) }
-    ensures { (seat.new.table_id ≡ seat.old.table_id) × (seat.new.id ≡ seat.old.id) × J.then (step shared.now.table_id.slots word 0 0 none) seat.old.me result seat.new.me }
+    requires { (seat.old.table_id ≡ shared.now.table_id) × (word < shared.now.table_id.words)
+        × Allows (P.holds shared.now.key) shared.now.table_id.slots seat.old.id seat.old.me word (λ n. n)
+        (J.then (step shared.now.table_id.slots word 0 0 none) seat.old.me) }
+    ensures { (seat.new.table_id ≡ seat.old.table_id) × (seat.new.id ≡ seat.old.id)
+        × J.then (step shared.now.table_id.slots word 0 0 none) seat.old.me result seat.new.me }
 {
     shared.load::<J>(seat, word)
 }

@@ -86,7 +86,8 @@ impl<const N: usize, const C: usize, const H: usize, const G: usize> Reader<N, C
         ensures answers { OnOk result (AnswersBy N (width C H G) (scan_by self.old) (scan_by self.new) (as_answer out.new)) }
         ensures legal { OnOk result (IsLegal C H (slice_index out.new.totals)) }
         ensures contended { IfErr result (IsContended N (scan_by self.old) (scan_by self.new)) }
-        ensures came_up { IfErr result (λ e. CameTo N (width C H G) (scan_by self.old) (scan_by self.new) (Next.GaveUp e.worker e.first e.last)) }
+        ensures came_up { IfErr result
+            (λ e. CameTo N (width C H G) (scan_by self.old) (scan_by self.new) (Next.GaveUp e.worker e.first e.last)) }
         ensures unchanged { OnErr result (out.new ≡ out.old) }
     {
         self.memory.scan_to(board, &mut self.bundle, out)

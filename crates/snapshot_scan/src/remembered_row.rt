@@ -60,7 +60,9 @@ impl RememberedRow {
         requires deep { depth N (width C H G) ≤ 2529 }
         requires wide { IsWide (width C H G) self.old }
         ensures own { table_of (S.bundle seat.new) ≡ table_of (S.bundle seat.old) }
-        ensures member { members_of (S.bundle seat.new) ≡ led (scan_changed (looked_at (width C H G) place result (self.old.number == result) self.new.fresh.items)) (members_of (S.bundle seat.old)) }
+        ensures member { members_of (S.bundle seat.new) ≡ led
+            (scan_changed (looked_at (width C H G) place result (self.old.number == result) self.new.fresh.items))
+            (members_of (S.bundle seat.old)) }
         ensures told { IsNumber place (members_of (S.bundle seat.old)) result }
         ensures wide { IsWide (width C H G) self.new }
         ensures same { version_of self.new ≡ version_of self.old }
@@ -84,11 +86,15 @@ impl RememberedRow {
     #[inline]
     pub fn settle(&mut self, opened: u64, found: u64, totals: &mut [u64], moved: &mut ChangedItems)
         requires wide { IsWide (length totals.old) self.old }
-        requires part { (k : ℕ) → k < length totals.old → (slice_index self.old.row.items k ≤ slice_index totals.old k) × (slice_index totals.old k ≤ 9007199254740992) }
+        requires part { (k : ℕ) → k < length totals.old → (slice_index self.old.row.items k ≤ slice_index totals.old k)
+            × (slice_index totals.old k ≤ 9007199254740992) }
         ensures wide { IsWide (length totals.old) self.new }
-        ensures version { version_of self.new ≡ cond (opened == found) (record { number = opened; row = words_of opened self.old }) (version_of self.old) }
+        ensures version { version_of self.new ≡ cond (opened == found)
+            (record { number = opened; row = words_of opened self.old }) (version_of self.old) }
         ensures words { words_of opened self.new ≡ words_of opened self.old }
-        ensures totals { (k : ℕ) → k < length totals.old → slice_index totals.new k + slice_index self.old.row.items k ≡ slice_index totals.old k + slice_index self.new.row.items k }
+        ensures totals { (k : ℕ) → k < length totals.old
+            → slice_index totals.new k + slice_index self.old.row.items k ≡ slice_index totals.old k + slice_index
+            self.new.row.items k }
         ensures moved { Moves (length totals.old) totals.old totals.new moved.old moved.new }
     {
         if found == opened && opened != self.number {
@@ -101,11 +107,14 @@ impl RememberedRow {
     #[inline]
     pub fn replace(&mut self, number: u64, totals: &mut [u64], moved: &mut ChangedItems)
         requires wide { IsWide (length totals.old) self.old }
-        requires part { (k : ℕ) → k < length totals.old → (slice_index self.old.row.items k ≤ slice_index totals.old k) × (slice_index totals.old k ≤ 9007199254740992) }
+        requires part { (k : ℕ) → k < length totals.old → (slice_index self.old.row.items k ≤ slice_index totals.old k)
+            × (slice_index totals.old k ≤ 9007199254740992) }
         ensures wide { IsWide (length totals.old) self.new }
         ensures version { version_of self.new ≡ record { number = number; row = self.old.fresh.items } }
         ensures fresh { self.new.fresh.items ≡ self.old.fresh.items }
-        ensures totals { (k : ℕ) → k < length totals.old → slice_index totals.new k + slice_index self.old.row.items k ≡ slice_index totals.old k + slice_index self.old.fresh.items k }
+        ensures totals { (k : ℕ) → k < length totals.old
+            → slice_index totals.new k + slice_index self.old.row.items k ≡ slice_index totals.old k + slice_index
+            self.old.fresh.items k }
         ensures moved { Moves (length totals.old) totals.old totals.new moved.old moved.new }
     {
         exchange(
@@ -129,10 +138,12 @@ impl RememberedRow {
     )
         requires long { length totals.old ≡ width C H G }
         requires wide { IsWide (width C H G) self.old }
-        requires part { (k : ℕ) → k < width C H G → (slice_index self.old.row.items k ≤ slice_index totals.old k) × (slice_index totals.old k ≤ 9007199254740992) }
+        requires part { (k : ℕ) → k < width C H G → (slice_index self.old.row.items k ≤ slice_index totals.old k)
+            × (slice_index totals.old k ≤ 9007199254740992) }
         ensures wide { IsWide (width C H G) self.new }
         ensures version { version_of self.new ≡ record { number = number; row = row.now } }
-        ensures totals { (k : ℕ) → k < width C H G → slice_index totals.new k + slice_index self.old.row.items k ≡ slice_index totals.old k + slice_index row.now k }
+        ensures totals { (k : ℕ) → k < width C H G → slice_index totals.new k + slice_index self.old.row.items k ≡ slice_index
+            totals.old k + slice_index row.now k }
         ensures moved { Moves (width C H G) totals.old totals.new moved.old moved.new }
     {
         copy_words(self.fresh.as_mut_slice(), row);
@@ -152,11 +163,14 @@ impl RememberedRow {
         requires long { length totals.old ≡ width C H G }
         requires wide { IsWide (width C H G) self.old }
         requires words { (j : ℕ) → Contains items.now j → j < width C H G }
-        requires others { (k : ℕ) → k < width C H G → ¬ (Contains items.now k) → slice_index self.old.row.items k ≡ slice_index row.now k }
-        requires part { (k : ℕ) → k < width C H G → (slice_index self.old.row.items k ≤ slice_index totals.old k) × (slice_index totals.old k ≤ 9007199254740992) }
+        requires others { (k : ℕ) → k < width C H G → ¬ (Contains items.now k)
+            → slice_index self.old.row.items k ≡ slice_index row.now k }
+        requires part { (k : ℕ) → k < width C H G → (slice_index self.old.row.items k ≤ slice_index totals.old k)
+            × (slice_index totals.old k ≤ 9007199254740992) }
         ensures wide { IsWide (width C H G) self.new }
         ensures version { version_of self.new ≡ record { number = number; row = row.now } }
-        ensures totals { (k : ℕ) → k < width C H G → slice_index totals.new k + slice_index self.old.row.items k ≡ slice_index totals.old k + slice_index row.now k }
+        ensures totals { (k : ℕ) → k < width C H G → slice_index totals.new k + slice_index self.old.row.items k ≡ slice_index
+            totals.old k + slice_index row.now k }
     {
         prove!(row.len() == self.row.len());
         change_words(totals, self.row.as_mut_slice(), row, items);
@@ -188,11 +202,13 @@ fn change_words<const C: usize, const H: usize, const G: usize>(
     requires lengths { (length totals.old ≡ width C H G) × (length old.old ≡ width C H G) }
     requires words { (j : ℕ) → Contains items.now j → j < width C H G }
     requires low { (k : ℕ) → k < width C H G → slice_index old.old k ≤ greatest_word }
-    requires part { (k : ℕ) → k < width C H G → (slice_index old.old k ≤ slice_index totals.old k) × (slice_index totals.old k ≤ 9007199254740992) }
+    requires part { (k : ℕ) → k < width C H G → (slice_index old.old k ≤ slice_index totals.old k)
+        × (slice_index totals.old k ≤ 9007199254740992) }
     ensures changed { (k : ℕ) → Contains items.now k → slice_index old.new k ≡ slice_index row.now k }
     ensures others { (k : ℕ) → ¬ (Contains items.now k) → slice_index old.new k ≡ slice_index old.old k }
     ensures low { (k : ℕ) → k < width C H G → slice_index old.new k ≤ greatest_word }
-    ensures sums { (k : ℕ) → k < width C H G → slice_index totals.new k + slice_index old.old k ≡ slice_index totals.old k + slice_index old.new k }
+    ensures sums { (k : ℕ) → k < width C H G → slice_index totals.new k + slice_index old.old k ≡ slice_index totals.old
+        k + slice_index old.new k }
 {
     for &item in items {
         change_word(totals, old, item, row.word_at(item));

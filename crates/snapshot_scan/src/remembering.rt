@@ -1,5 +1,6 @@
 //! A scan with the memory of its seat.
-ghost use Rattle.std.specs.Prelude.{◌≡◌, ℕ, ◌+◌, ◌<◌, ◌≤◌, [], ◌∷◌, ◌++◌, Bool, true, false, length, map, replicate, slice_index, take, drop, Contains, IfOk, IfErr, OnOk, OnErr};
+ghost use Rattle.std.specs.Prelude.{◌≡◌, ℕ, ◌+◌, ◌<◌, ◌≤◌, [], ◌∷◌, ◌++◌, Bool, true, false, length, map, replicate, slice_index};
+ghost use Rattle.std.specs.Prelude.{take, drop, Contains, IfOk, IfErr, OnOk, OnErr};
 ghost use Rattle.ledger_core.specs.Ops.{width};
 ghost use Rattle.segment_layout.specs.Layout.{IsGeometry};
 ghost use Rattle.register_rule.specs.Seats.{table_of, members_of, MayScan};
@@ -60,18 +61,28 @@ impl<const N: usize, const C: usize, const H: usize, const G: usize> ScanMemory<
         requires ready { IsReady (scan_in (S.bundle seat.old)) self.old }
         ensures own { table_of (S.bundle seat.new) ≡ table_of (S.bundle seat.old) }
         ensures ruled { IsRuled N C H G (S.bundle seat.new) }
-        ensures others { members_of (S.bundle seat.new) ≡ with_scan (scan_in (S.bundle seat.new)) (members_of (S.bundle seat.old)) }
+        ensures others { members_of (S.bundle seat.new) ≡ with_scan (scan_in (S.bundle seat.new))
+            (members_of (S.bundle seat.old)) }
         ensures ready { IsReady (scan_in (S.bundle seat.new)) self.new }
-        ensures answered { HasView result → IsAnswered N (scan_in (S.bundle seat.old)) (scan_in (S.bundle seat.new)) (answer_of self.new result) }
-        ensures answers { HasView result → AnswersBy N (width C H G) (scan_in (S.bundle seat.old)) (scan_in (S.bundle seat.new)) (answer_of self.new result) }
-        ensures quiet { result ≡ ScanEnd.Direct true → (rows_of self.new ≡ rows_of self.old) × (sums_of self.new ≡ sums_of self.old) × AreNumbers (opened_in self.new) (rows_of self.new) }
-        ensures once { result ≡ ScanEnd.Direct true → (scan_in (S.bundle seat.new)).opened ≡ (scan_in (S.bundle seat.old)).opened ++ pairs 0 (opened_in self.new) }
-        ensures moved { result ≡ ScanEnd.Direct false → HasMoved N (rows_of self.old) (scan_in (S.bundle seat.old)) (scan_in (S.bundle seat.new)) }
+        ensures answered { HasView result → IsAnswered N (scan_in (S.bundle seat.old)) (scan_in (S.bundle seat.new))
+            (answer_of self.new result) }
+        ensures answers { HasView result → AnswersBy N (width C H G) (scan_in (S.bundle seat.old)) (scan_in (S.bundle seat.new))
+            (answer_of self.new result) }
+        ensures quiet { result ≡ ScanEnd.Direct true → (rows_of self.new ≡ rows_of self.old)
+            × (sums_of self.new ≡ sums_of self.old) × AreNumbers (opened_in self.new) (rows_of self.new) }
+        ensures once { result ≡ ScanEnd.Direct true → (scan_in (S.bundle seat.new)).opened ≡ (scan_in (S.bundle seat.old)).opened
+            ++ pairs 0 (opened_in self.new) }
+        ensures moved { result ≡ ScanEnd.Direct false → HasMoved N (rows_of self.old) (scan_in (S.bundle seat.old))
+            (scan_in (S.bundle seat.new)) }
         ensures numbers { (q : Bool) → result ≡ ScanEnd.Direct q → AreNumbers (opened_in self.new) (rows_of self.new) }
-        ensures listed { (moved_in self.new).all ≡ false → (k : ℕ) → k < width C H G → ¬ (Contains (moved_in self.new).items k) → slice_index (sums_of self.new) k ≡ slice_index (sums_of self.old) k }
+        ensures listed { (moved_in self.new).all ≡ false → (k : ℕ) → k < width C H G → ¬ (Contains (moved_in self.new).items k)
+            → slice_index (sums_of self.new) k ≡ slice_index (sums_of self.old) k }
         ensures words { (j : ℕ) → Contains (moved_in self.new).items j → j < width C H G }
-        ensures gave_up { result ≡ ScanEnd.GaveUp → IsGivenUp N (scan_in (S.bundle seat.old)) (scan_in (S.bundle seat.new)) (opened_in self.new) (found_in self.new) }
-        ensures came_up { result ≡ ScanEnd.GaveUp → (e : Contended) → IsFirstMoved (opened_in self.new) (found_in self.new) e → CameTo N (width C H G) (scan_in (S.bundle seat.old)) (scan_in (S.bundle seat.new)) (Next.GaveUp e.worker e.first e.last) }
+        ensures gave_up { result ≡ ScanEnd.GaveUp → IsGivenUp N (scan_in (S.bundle seat.old)) (scan_in (S.bundle seat.new))
+            (opened_in self.new) (found_in self.new) }
+        ensures came_up { result ≡ ScanEnd.GaveUp → (e : Contended) → IsFirstMoved (opened_in self.new) (found_in self.new) e
+            → CameTo N (width C H G) (scan_in (S.bundle seat.old)) (scan_in (S.bundle seat.new))
+            (Next.GaveUp e.worker e.first e.last) }
     {
         scan(
             board,
@@ -102,13 +113,17 @@ impl<const N: usize, const C: usize, const H: usize, const G: usize> ScanMemory<
         requires ready { IsReady (scan_in (S.bundle seat.old)) self.old }
         ensures own { table_of (S.bundle seat.new) ≡ table_of (S.bundle seat.old) }
         ensures ruled { IsRuled N C H G (S.bundle seat.new) }
-        ensures others { members_of (S.bundle seat.new) ≡ with_scan (scan_in (S.bundle seat.new)) (members_of (S.bundle seat.old)) }
+        ensures others { members_of (S.bundle seat.new) ≡ with_scan (scan_in (S.bundle seat.new))
+            (members_of (S.bundle seat.old)) }
         ensures ready { IsReady (scan_in (S.bundle seat.new)) self.new }
-        ensures answered { OnOk result (IsAnswered N (scan_in (S.bundle seat.old)) (scan_in (S.bundle seat.new)) (as_answer out.new)) }
-        ensures answers { OnOk result (AnswersBy N (width C H G) (scan_in (S.bundle seat.old)) (scan_in (S.bundle seat.new)) (as_answer out.new)) }
+        ensures answered { OnOk result
+            (IsAnswered N (scan_in (S.bundle seat.old)) (scan_in (S.bundle seat.new)) (as_answer out.new)) }
+        ensures answers { OnOk result (AnswersBy N (width C H G) (scan_in (S.bundle seat.old)) (scan_in (S.bundle seat.new))
+            (as_answer out.new)) }
         ensures legal { OnOk result (IsLegal C H (slice_index out.new.totals)) }
         ensures contended { IfErr result (IsContended N (scan_in (S.bundle seat.old)) (scan_in (S.bundle seat.new))) }
-        ensures came_up { IfErr result (λ e. CameTo N (width C H G) (scan_in (S.bundle seat.old)) (scan_in (S.bundle seat.new)) (Next.GaveUp e.worker e.first e.last)) }
+        ensures came_up { IfErr result (λ e. CameTo N (width C H G) (scan_in (S.bundle seat.old)) (scan_in (S.bundle seat.new))
+            (Next.GaveUp e.worker e.first e.last)) }
         ensures unchanged { OnErr result (out.new ≡ out.old) }
     {
         let ended = self.scan(board, seat);

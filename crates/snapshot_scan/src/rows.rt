@@ -61,7 +61,8 @@ fn read_one<
     requires inside { (place < N) × (k < length words.old) × (length words.old ≡ width C H G) }
     ensures own { table_of (S.bundle seat.new) ≡ table_of (S.bundle seat.old) }
     ensures leads { HasMember (members_of (S.bundle seat.new)) }
-    ensures read { (ms : List Member) (row : List ℕ) (listed : Changed) → IsReadTo (width C H G) place number k ms (members_of (S.bundle seat.old)) row words.old listed changed.old
+    ensures read { (ms : List Member) (row : List ℕ) (listed : Changed)
+        → IsReadTo (width C H G) place number k ms (members_of (S.bundle seat.old)) row words.old listed changed.old
         → IsReadTo (width C H G) place number (k + 1) ms (members_of (S.bundle seat.new)) row words.new listed changed.new }
 {
     let word = board.read_word(seat, place, number, k);
@@ -89,7 +90,8 @@ fn read_four<
     requires inside { (place < N) × (k + 4 ≤ length words.old) × (length words.old ≡ width C H G) }
     ensures own { table_of (S.bundle seat.new) ≡ table_of (S.bundle seat.old) }
     ensures leads { HasMember (members_of (S.bundle seat.new)) }
-    ensures read { (ms : List Member) (row : List ℕ) (listed : Changed) → IsReadTo (width C H G) place number k ms (members_of (S.bundle seat.old)) row words.old listed changed.old
+    ensures read { (ms : List Member) (row : List ℕ) (listed : Changed)
+        → IsReadTo (width C H G) place number k ms (members_of (S.bundle seat.old)) row words.old listed changed.old
         → IsReadTo (width C H G) place number (k + 4) ms (members_of (S.bundle seat.new)) row words.new listed changed.new }
 {
     read_one(board, seat, place, number, k, words, changed);
@@ -118,7 +120,8 @@ fn read_rest<
     requires own { MayScan board.now (S.bundle seat.old) }
     requires inside { (place < N) × (from ≤ length words.old) × (length words.old ≡ width C H G) }
     ensures own { table_of (S.bundle seat.new) ≡ table_of (S.bundle seat.old) }
-    ensures read { (ms : List Member) (row : List ℕ) (listed : Changed) → IsReadTo (width C H G) place number from ms (members_of (S.bundle seat.old)) row words.old listed changed.old
+    ensures read { (ms : List Member) (row : List ℕ) (listed : Changed) → IsReadTo (width C H G) place number from ms
+        (members_of (S.bundle seat.old)) row words.old listed changed.old
         → IsReadTo (width C H G) place number (width C H G) ms (members_of (S.bundle seat.new)) row words.new listed changed.new }
 {
     for k in from..words.len() {
@@ -146,7 +149,8 @@ pub(crate) fn read_row<
     requires own { MayScan board.now (S.bundle seat.old) }
     requires inside { (place < N) × (length words.old ≡ width C H G) }
     ensures own { table_of (S.bundle seat.new) ≡ table_of (S.bundle seat.old) }
-    ensures member { members_of (S.bundle seat.new) ≡ led (scan_changed (read_all (width C H G) place number 0 words.new)) (members_of (S.bundle seat.old)) }
+    ensures member { members_of (S.bundle seat.new) ≡ led (scan_changed (read_all (width C H G) place number 0 words.new))
+        (members_of (S.bundle seat.old)) }
     ensures bounded { (k : ℕ) → k < width C H G → slice_index words.new k ≤ greatest_word }
     ensures moves { Moves (width C H G) words.old words.new changed.old changed.new }
 {

@@ -18,7 +18,8 @@ pub struct ScanMemory<const N: usize, const C: usize, const H: usize, const G: u
     pub(crate) lent: Vec<u64>,
     pub(crate) moved: ChangedItems,
     ghost geometry: { IsGeometry N C H G },
-    ghost sizes: { (length kept.items ≡ N) × (length totals.items ≡ width C H G) × (length opened.items ≡ N) × (length found.items ≡ N) × (length lent.items ≡ 1 + N + width C H G) },
+    ghost sizes: { (length kept.items ≡ N) × (length totals.items ≡ width C H G) × (length opened.items ≡ N)
+        × (length found.items ≡ N) × (length lent.items ≡ 1 + N + width C H G) },
     ghost wide: { AreWide (width C H G) kept.items },
     ghost sums: { AreTotals (width C H G) kept.items totals.items },
     ghost listed: { (j : ℕ) → Contains moved.items j → j < width C H G },

@@ -62,11 +62,15 @@ impl<'a, const N: usize, const C: usize, const H: usize, const G: usize> Source<
 
     /// The reader's scan.
     fn scan(&mut self, out: &mut Snapshot<N, C, H, G>) -> Result<(), Contended>
-        ensures recorded { OnOk result (Records N C H G (scan_by self.old.reader).recorded (scan_by self.new.reader).recorded (as_answer out.new)) }
-        ensures gave { OnOk result ((self.new.board.now ≡ self.old.board.now) × HasAnswered self.old.reader self.new.reader (as_answer out.new)) }
+        ensures recorded { OnOk result (Records N C H G (scan_by self.old.reader).recorded (scan_by self.new.reader).recorded
+            (as_answer out.new)) }
+        ensures gave { OnOk result ((self.new.board.now ≡ self.old.board.now) × HasAnswered self.old.reader self.new.reader
+            (as_answer out.new)) }
         ensures kept { OnOk result ((scan_by self.new.reader).quit ≡ (scan_by self.old.reader).quit) }
-        ensures given_up { OnErr result (((scan_by self.new.reader).recorded ≡ (scan_by self.old.reader).recorded) × ((scan_by self.new.reader).quit ≡ (scan_by self.old.reader).quit + 1)) }
-        ensures why { IfErr result (λ e. (self.new.board.now ≡ self.old.board.now) × HasGivenUp self.old.reader self.new.reader e) }
+        ensures given_up { OnErr result (((scan_by self.new.reader).recorded ≡ (scan_by self.old.reader).recorded)
+            × ((scan_by self.new.reader).quit ≡ (scan_by self.old.reader).quit + 1)) }
+        ensures why { IfErr result (λ e. (self.new.board.now ≡ self.old.board.now)
+            × HasGivenUp self.old.reader self.new.reader e) }
         ensures rose { IfErr result (λ e. (e.worker < N) × (e.first < e.last)) }
         ensures unchanged { OnErr result (out.new ≡ out.old) }
     {

@@ -6,7 +6,8 @@ ghost use Rattle.segment_layout.specs.Layout.{IsGeometry};
 ghost use Rattle.register_rule.specs.Seats.{table_of, members_of, MayScan};
 ghost use Rattle.snapshot_scan.specs.ChangedItems.{Moves, Lists};
 ghost use Rattle.snapshot_scan.specs.Shape.{scan_in, with_scan, IsRuled};
-ghost use Rattle.snapshot_scan.specs.RememberedRows.{AreWide, AreTotals, AreKnown, HasOther, IsLoaded, pairs, version_of, opening, settling, failing};
+ghost use Rattle.snapshot_scan.specs.RememberedRows.{AreWide, AreTotals, AreKnown, HasOther, IsLoaded, pairs, version_of};
+ghost use Rattle.snapshot_scan.specs.RememberedRows.{opening, settling, failing};
 ghost use Rattle.snapshot_core.specs.declared.next.Next.TheVariants as Next;
 ghost use Rattle.snapshot_scan.specs.declared.contended.Contended.{Contended};
 ghost use Rattle.snapshot_scan.specs.Contention.{IsFirstMoved};
@@ -42,20 +43,27 @@ fn try_once<
 ) -> bool
     requires own { MayScan board.now (S.bundle seat.old) }
     requires geometry { IsGeometry N C H G }
-    requires lengths { (length kept.old ≡ N) × (length totals.old ≡ width C H G) × (length opened.old ≡ N) × (length found.old ≡ N) }
+    requires lengths { (length kept.old ≡ N) × (length totals.old ≡ width C H G) × (length opened.old ≡ N)
+        × (length found.old ≡ N) }
     requires wide { AreWide (width C H G) kept.old }
     requires totals { AreTotals (width C H G) kept.old totals.old }
     requires kept { (scan_in (S.bundle seat.old)).kept ≡ map version_of kept.old }
     requires listed { (j : ℕ) → Contains moved.old.items j → j < width C H G }
-    requires rest { ((scan_in (S.bundle seat.old)).now.looks ≡ []) × ((scan_in (S.bundle seat.old)).now.due ≡ []) × ((scan_in (S.bundle seat.old)).now.asks ≡ []) }
+    requires rest { ((scan_in (S.bundle seat.old)).now.looks ≡ []) × ((scan_in (S.bundle seat.old)).now.due ≡ [])
+        × ((scan_in (S.bundle seat.old)).now.asks ≡ []) }
     ensures own { table_of (S.bundle seat.new) ≡ table_of (S.bundle seat.old) }
     ensures ruled { IsRuled N C H G (S.bundle seat.new) }
     ensures wide { AreWide (width C H G) kept.new }
     ensures totals { AreTotals (width C H G) kept.new totals.new }
     ensures told { (q : ℕ) → q < N → IsLoaded q (scan_in (S.bundle seat.old)) (slice_index opened.new q) }
-    ensures clean { result ≡ true → members_of (S.bundle seat.new) ≡ with_scan (answered (record { vector = opened.new; totals = totals.new }) (settling opened.new found.new kept.new (opening opened.new kept.new (scan_in (S.bundle seat.old))))) (members_of (S.bundle seat.old)) }
+    ensures clean { result ≡ true → members_of (S.bundle seat.new) ≡ with_scan
+        (answered (record { vector = opened.new; totals = totals.new })
+        (settling opened.new found.new kept.new (opening opened.new kept.new (scan_in (S.bundle seat.old)))))
+        (members_of (S.bundle seat.old)) }
     ensures same { result ≡ true → opened.new ≡ found.new }
-    ensures failed { result ≡ false → members_of (S.bundle seat.new) ≡ with_scan (gives_up N (failing (settling opened.new found.new kept.new (opening opened.new kept.new (scan_in (S.bundle seat.old)))))) (members_of (S.bundle seat.old)) }
+    ensures failed { result ≡ false → members_of (S.bundle seat.new) ≡ with_scan
+        (gives_up N (failing (settling opened.new found.new kept.new
+        (opening opened.new kept.new (scan_in (S.bundle seat.old)))))) (members_of (S.bundle seat.old)) }
     ensures risen { (q : ℕ) → q < N → slice_index opened.new q ≤ slice_index found.new q }
     ensures rose { result ≡ false → (q : ℕ) × (q < N) × (slice_index opened.new q < slice_index found.new q) }
     ensures quiet { known.new ≡ true → IsQuiet kept.old kept.new totals.old totals.new opened.new }
@@ -90,19 +98,26 @@ fn try_again<
 ) -> bool
     requires own { MayScan board.now (S.bundle seat.old) }
     requires geometry { IsGeometry N C H G }
-    requires lengths { (length kept.old ≡ N) × (length totals.old ≡ width C H G) × (length opened.old ≡ N) × (length found.old ≡ N) }
+    requires lengths { (length kept.old ≡ N) × (length totals.old ≡ width C H G) × (length opened.old ≡ N)
+        × (length found.old ≡ N) }
     requires wide { AreWide (width C H G) kept.old }
     requires totals { AreTotals (width C H G) kept.old totals.old }
     requires kept { (scan_in (S.bundle seat.old)).kept ≡ map version_of kept.old }
-    requires rest { ((scan_in (S.bundle seat.old)).now.looks ≡ []) × ((scan_in (S.bundle seat.old)).now.due ≡ []) × ((scan_in (S.bundle seat.old)).now.asks ≡ []) }
+    requires rest { ((scan_in (S.bundle seat.old)).now.looks ≡ []) × ((scan_in (S.bundle seat.old)).now.due ≡ [])
+        × ((scan_in (S.bundle seat.old)).now.asks ≡ []) }
     ensures own { table_of (S.bundle seat.new) ≡ table_of (S.bundle seat.old) }
     ensures ruled { IsRuled N C H G (S.bundle seat.new) }
     ensures wide { AreWide (width C H G) kept.new }
     ensures totals { AreTotals (width C H G) kept.new totals.new }
     ensures told { (q : ℕ) → q < N → IsLoaded q (scan_in (S.bundle seat.old)) (slice_index opened.new q) }
-    ensures clean { result ≡ true → members_of (S.bundle seat.new) ≡ with_scan (answered (record { vector = opened.new; totals = totals.new }) (settling opened.new found.new kept.new (opening opened.new kept.new (scan_in (S.bundle seat.old))))) (members_of (S.bundle seat.old)) }
+    ensures clean { result ≡ true → members_of (S.bundle seat.new) ≡ with_scan
+        (answered (record { vector = opened.new; totals = totals.new })
+        (settling opened.new found.new kept.new (opening opened.new kept.new (scan_in (S.bundle seat.old)))))
+        (members_of (S.bundle seat.old)) }
     ensures same { result ≡ true → opened.new ≡ found.new }
-    ensures failed { result ≡ false → members_of (S.bundle seat.new) ≡ with_scan (gives_up N (failing (settling opened.new found.new kept.new (opening opened.new kept.new (scan_in (S.bundle seat.old)))))) (members_of (S.bundle seat.old)) }
+    ensures failed { result ≡ false → members_of (S.bundle seat.new) ≡ with_scan
+        (gives_up N (failing (settling opened.new found.new kept.new
+        (opening opened.new kept.new (scan_in (S.bundle seat.old)))))) (members_of (S.bundle seat.old)) }
     ensures risen { (q : ℕ) → q < N → slice_index opened.new q ≤ slice_index found.new q }
     ensures rose { result ≡ false → (q : ℕ) × (q < N) × (slice_index opened.new q < slice_index found.new q) }
     ensures quiet { known.new ≡ true → IsQuiet kept.old kept.new totals.old totals.new opened.new }
@@ -138,7 +153,8 @@ pub(crate) fn scan<
 ) -> ScanEnd
     requires own { MayScan board.now (S.bundle seat.old) }
     requires geometry { IsGeometry N C H G }
-    requires lengths { (length kept.old ≡ N) × (length totals.old ≡ width C H G) × (length opened.old ≡ N) × (length found.old ≡ N) × (length lent.old ≡ 1 + N + width C H G) }
+    requires lengths { (length kept.old ≡ N) × (length totals.old ≡ width C H G) × (length opened.old ≡ N)
+        × (length found.old ≡ N) × (length lent.old ≡ 1 + N + width C H G) }
     requires wide { AreWide (width C H G) kept.old }
     requires totals { AreTotals (width C H G) kept.old totals.old }
     requires listed { (j : ℕ) → Contains moved.old.items j → j < width C H G }
@@ -149,17 +165,26 @@ pub(crate) fn scan<
     ensures totals { AreTotals (width C H G) kept.new totals.new }
     ensures idle { IsIdle (scan_in (S.bundle seat.new)) kept.new }
     ensures others { members_of (S.bundle seat.new) ≡ with_scan (scan_in (S.bundle seat.new)) (members_of (S.bundle seat.old)) }
-    ensures direct { (q : Bool) → result ≡ ScanEnd.Direct q → IsAnswered N (scan_in (S.bundle seat.old)) (scan_in (S.bundle seat.new)) (record { vector = opened.new; totals = totals.new }) }
-    ensures came_direct { (q : Bool) → result ≡ ScanEnd.Direct q → AnswersBy N (width C H G) (scan_in (S.bundle seat.old)) (scan_in (S.bundle seat.new)) (record { vector = opened.new; totals = totals.new }) }
+    ensures direct { (q : Bool) → result ≡ ScanEnd.Direct q → IsAnswered N (scan_in (S.bundle seat.old))
+        (scan_in (S.bundle seat.new)) (record { vector = opened.new; totals = totals.new }) }
+    ensures came_direct { (q : Bool) → result ≡ ScanEnd.Direct q → AnswersBy N (width C H G) (scan_in (S.bundle seat.old))
+        (scan_in (S.bundle seat.new)) (record { vector = opened.new; totals = totals.new }) }
     ensures quiet { result ≡ ScanEnd.Direct true → IsQuiet kept.old kept.new totals.old totals.new opened.new }
-    ensures once { result ≡ ScanEnd.Direct true → (scan_in (S.bundle seat.new)).opened ≡ (scan_in (S.bundle seat.old)).opened ++ pairs 0 opened.new }
-    ensures moved { result ≡ ScanEnd.Direct false → HasMoved N (map version_of kept.old) (scan_in (S.bundle seat.old)) (scan_in (S.bundle seat.new)) }
-    ensures lent { result ≡ ScanEnd.Lent → IsAnswered N (scan_in (S.bundle seat.old)) (scan_in (S.bundle seat.new)) (lent_in N (width C H G) lent.new) }
-    ensures came_lent { result ≡ ScanEnd.Lent → AnswersBy N (width C H G) (scan_in (S.bundle seat.old)) (scan_in (S.bundle seat.new)) (lent_in N (width C H G) lent.new) }
+    ensures once { result ≡ ScanEnd.Direct true → (scan_in (S.bundle seat.new)).opened ≡ (scan_in (S.bundle seat.old)).opened
+        ++ pairs 0 opened.new }
+    ensures moved { result ≡ ScanEnd.Direct false → HasMoved N (map version_of kept.old) (scan_in (S.bundle seat.old))
+        (scan_in (S.bundle seat.new)) }
+    ensures lent { result ≡ ScanEnd.Lent → IsAnswered N (scan_in (S.bundle seat.old)) (scan_in (S.bundle seat.new))
+        (lent_in N (width C H G) lent.new) }
+    ensures came_lent { result ≡ ScanEnd.Lent → AnswersBy N (width C H G) (scan_in (S.bundle seat.old))
+        (scan_in (S.bundle seat.new)) (lent_in N (width C H G) lent.new) }
     ensures numbers { (q : Bool) → result ≡ ScanEnd.Direct q → AreKnown opened.new kept.new }
     ensures listed { Lists (width C H G) totals.old totals.new moved.new }
-    ensures gave_up { result ≡ ScanEnd.GaveUp → IsGivenUp N (scan_in (S.bundle seat.old)) (scan_in (S.bundle seat.new)) opened.new found.new }
-    ensures came_up { result ≡ ScanEnd.GaveUp → (e : Contended) → IsFirstMoved opened.new found.new e → CameTo N (width C H G) (scan_in (S.bundle seat.old)) (scan_in (S.bundle seat.new)) (Next.GaveUp e.worker e.first e.last) }
+    ensures gave_up { result ≡ ScanEnd.GaveUp → IsGivenUp N (scan_in (S.bundle seat.old)) (scan_in (S.bundle seat.new)) opened.new
+        found.new }
+    ensures came_up { result ≡ ScanEnd.GaveUp → (e : Contended) → IsFirstMoved opened.new found.new e
+        → CameTo N (width C H G) (scan_in (S.bundle seat.old)) (scan_in (S.bundle seat.new))
+        (Next.GaveUp e.worker e.first e.last) }
 {
     let mut known = false;
     let clean = try_once(board, seat, kept, totals, opened, found, moved, &mut known);

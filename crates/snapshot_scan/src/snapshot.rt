@@ -1,5 +1,6 @@
 //! What a scan gives its caller.
-ghost use Rattle.std.specs.Prelude.{◌≡◌, ℕ, ◌+◌, ◌*◌, ◌<◌, ◌-ℤ◌, pos, length, take, drop, slice_index, replicate, sum, slice_set, IfOk, All, ◌∷◌, []};
+ghost use Rattle.std.specs.Prelude.{◌≡◌, ℕ, ◌+◌, ◌*◌, ◌<◌, ◌-ℤ◌, pos, length, take, drop, slice_index, replicate, sum, slice_set};
+ghost use Rattle.std.specs.Prelude.{IfOk, All, ◌∷◌, []};
 ghost use Rattle.ledger_core.specs.Ops.{width};
 ghost use Rattle.ledger_core.specs.Legal.{IsLegal};
 ghost use Rattle.segment_layout.specs.Layout.{IsGeometry};
@@ -96,7 +97,8 @@ impl<const N: usize, const C: usize, const H: usize, const G: usize> Snapshot<N,
         ensures buckets { result.buckets ≡ take 25 (drop (C + 27 * slot) self.now.totals) }
         ensures sum { result.sum ≡ slice_index self.now.totals (C + 27 * slot + 25) }
         ensures count { result.count ≡ slice_index self.now.totals (C + 27 * slot + 26) }
-        ensures low { All (λ bucket. bucket < 9007199254740992) result.buckets × (result.sum < 9007199254740992) × (result.count < 9007199254740992) }
+        ensures low { All (λ bucket. bucket < 9007199254740992) result.buckets × (result.sum < 9007199254740992)
+            × (result.count < 9007199254740992) }
         ensures legal { IsLegal C H (slice_index self.now.totals) → result.count ≡ sum result.buckets }
     {
         let totals = self.totals.as_slice();
@@ -128,7 +130,8 @@ impl<const N: usize, const C: usize, const H: usize, const G: usize> Snapshot<N,
     /// The value of a gauge: its ups less its downs. Asks that the slot is below `G`.
     pub fn gauge(&self, slot: usize) -> i64
         requires { slot < G }
-        ensures { result ≡ pos (slice_index self.now.totals (C + 27 * H + 2 * slot)) -ℤ pos (slice_index self.now.totals (C + 27 * H + 2 * slot + 1)) }
+        ensures { result ≡ pos (slice_index self.now.totals (C + 27 * H + 2 * slot)) -ℤ pos
+            (slice_index self.now.totals (C + 27 * H + 2 * slot + 1)) }
     {
         let totals = self.totals.as_slice();
         let first = C + HIST_WORDS * H + GAUGE_WORDS * slot;

@@ -1,5 +1,6 @@
 -- A buffer that is filled item by item.
-use Rattle.std.proofs.Common.{◌≡◌, ◌⊎◌, ⊎_elim, inl, inr, ℕ, ◌+◌, ◌<◌, ◌≤◌, false, List, [], ◌∷◌, length, set, get_or, sym, ap, ◌∙◌, subst, arith, get_or-set_same, get_or-set_other}
+use Rattle.std.proofs.Common.{◌≡◌, ◌⊎◌, ⊎_elim, inl, inr, ℕ, ◌+◌, ◌<◌, ◌≤◌, false, List, [], ◌∷◌, length, set, get_or, sym, ap}
+use Rattle.std.proofs.Common.{◌∙◌, subst, arith, get_or-set_same, get_or-set_other}
 use Rattle.std.specs.List.{Contains}
 use Rattle.std.proofs.lemmas.Bool.{cases_eq}
 use Rattle.std.proofs.lemmas.List.Elements.{Contains-append_right, Contains-append_cases}
@@ -12,7 +13,8 @@ only_one : (x j : ℕ) → Contains (x ∷ []) j → x ≡ j
 only_one x j h = let lt = h.1 in let zero : h.0 ≡ 0 = omega (arith, lt) in subst (λ (k : ℕ). get_or (x ∷ []) k j ≡ j) zero h.2
 
 -- an item at which they are the same
-pub so_far_same : (n : ℕ) (changed : Changed) (old new : List ℕ) → get_or old n 0 ≡ get_or new n 0 → SoFar n changed old new → SoFar (n + 1) changed old new
+pub so_far_same : (n : ℕ) (changed : Changed) (old new : List ℕ) → get_or old n 0 ≡ get_or new n 0 → SoFar n changed old new
+    → SoFar (n + 1) changed old new
 so_far_same n changed old new e is = record {
   differ = λ h j lt other. elim (cases_eq j n) [
     | inl here ↦ subst (λ (i : ℕ). get_or old i 0 ≡ get_or new i 0) (sym here) e
@@ -25,14 +27,16 @@ so_far_same n changed old new e is = record {
 }
 
 -- one at which they differ
-pub so_far_noted : (n : ℕ) (was now : Changed) (old new : List ℕ) → (get_or old n 0 ≡ get_or new n 0 → ⊥) → Notes n was now → SoFar n was old new → SoFar (n + 1) now old new
+pub so_far_noted : (n : ℕ) (was now : Changed) (old new : List ℕ) → (get_or old n 0 ≡ get_or new n 0 → ⊥) → Notes n was now
+    → SoFar n was old new → SoFar (n + 1) now old new
 so_far_noted n was now old new ne notes is = record {
   differ = λ h j lt other. elim (cases_eq j n) [
     | inl here ↦ absurd (other (subst (Contains now.items) (sym here) (notes.notes h)))
     | inr apart ↦ is.differ (notes.listed h) j (omega arith) (λ there. other (notes.keeps h j there))
   ];
   inside = λ j h. ⊎_elim (λ there. let lt = is.inside j there in omega arith) (λ here. omega (arith, here)) (notes.others j h);
-  listed = λ j h same. ⊎_elim (λ there. is.listed j there same) (λ here. ne (subst (λ (i : ℕ). get_or old i 0 ≡ get_or new i 0) here same)) (notes.others j h);
+  listed = λ j h same. ⊎_elim (λ there. is.listed j there same)
+      (λ here. ne (subst (λ (i : ℕ). get_or old i 0 ≡ get_or new i 0) here same)) (notes.others j h);
   longer = let l = is.longer in let m = notes.longer in omega arith;
   fits = λ few. let l = is.longer in notes.fits (is.fits (omega arith)) (omega arith);
 }
@@ -57,6 +61,7 @@ listed_or (x ∷ xs) j = elim (cases_eq x j) [
 ]
 
 -- a buffer that has the word that it should at each item
-pub all_filled : (xs ys : List ℕ) (n : ℕ) → length xs ≡ n → length ys ≡ n → ((j : ℕ) → j < n → get_or xs j 0 ≡ get_or ys j 0) → xs ≡ ys
+pub all_filled : (xs ys : List ℕ) (n : ℕ) → length xs ≡ n → length ys ≡ n → ((j : ℕ) → j < n → get_or xs j 0 ≡ get_or ys j 0)
+    → xs ≡ ys
 all_filled xs ys n long long' same = same_lists xs ys (long ∙ sym long') (λ k d lt.
     get_or_default xs k d 0 lt ∙ (same k (omega arith) ∙ get_or_default ys k 0 d (omega arith)))

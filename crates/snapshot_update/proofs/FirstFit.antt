@@ -1,5 +1,6 @@
 -- A worker's data fit its member at first.
-use Rattle.std.proofs.Common.{◌≡◌, ℕ, zero, suc, ◌<◌, List, [], length, map, replicate, slice_index, Contains, sym, refl, ap, ◌∙◌, subst, arith}
+use Rattle.std.proofs.Common.{◌≡◌, ℕ, zero, suc, ◌<◌, List, [], length, map, replicate, slice_index, Contains, sym, refl, ap, ◌∙◌}
+use Rattle.std.proofs.Common.{subst, arith}
 use mathlib.Core.Option.{some}
 use lib.ListN.{get_elem?, length-replicate}
 use Rattle.ledger_core.specs.Ops.{width}
@@ -26,8 +27,10 @@ same_at (suc n) (suc i) v h = same_at n i v (omega (arith, h))
 none_in : (b : ℕ) (c : Changed) → c.items ≡ [] → (j : ℕ) → Contains c.items j → j < b
 none_in b c e j has = absurd (none_listed j (subst (λ (l : List ℕ). Contains l j) e has))
 
-module _ (n c h g index : ℕ) (row : List ℕ) (memory : ScanMemory n c h g) (im : BufferImages) (inside : index < n) (zeros : row ≡ replicate (width c h g) 0)
-    (rows : rows_of memory ≡ replicate n (record { number = 0; row = replicate (width c h g) 0 })) (blank : AreBlank (depth n (width c h g)) im) where
+module _ (n c h g index : ℕ) (row : List ℕ) (memory : ScanMemory n c h g) (im : BufferImages) (inside : index < n)
+    (zeros : row ≡ replicate (width c h g) 0)
+    (rows : rows_of memory ≡ replicate n (record { number = 0; row = replicate (width c h g) 0 }))
+    (blank : AreBlank (depth n (width c h g)) im) where
   abbrev w : ℕ
   w = width c h g
 
@@ -43,12 +46,15 @@ module _ (n c h g index : ℕ) (row : List ℕ) (memory : ScanMemory n c h g) (i
     counts = refl;
     sums = λ k lt. ap (λ (l : List ℕ). slice_index l k) zeros ∙ zero_in w k;
     wide = wide;
-    own_row = λ _. ap (λ (l : List Version). get_elem? l index) rows ∙ (same_at n index (record { number = 0; row = replicate w 0 }) inside ∙ (λ z. some (record { number = 0; row = sym zeros z })));
+    own_row = λ _. ap (λ (l : List Version). get_elem? l index) rows
+        ∙ (same_at n index (record { number = 0; row = replicate w 0 }) inside
+        ∙ (λ z. some (record { number = 0; row = sym zeros z })));
     ready = record { kept = sym rows; rest = refl };
     hidden_is = sym blank.hidden;
     shown_is = sym blank.shown;
     images = record {
-      next_deep = (let e = words_long w n row 1 (map number_in (rows_of memory)) (sums_of memory) wide (numbers_long (rows_of memory) ∙ rows_many n c h g memory) w memory.sizes.1 in omega (arith, e));
+      next_deep = (let e = words_long w n row 1 (map number_in (rows_of memory)) (sums_of memory) wide
+          (numbers_long (rows_of memory) ∙ rows_many n c h g memory) w memory.sizes.1 in omega (arith, e));
       hidden_deep = ap (λ (l : List ℕ). length l) blank.hidden ∙ length-replicate b 0;
       shown_deep = ap (λ (l : List ℕ). length l) blank.shown ∙ length-replicate b 0;
       recent = λ listed. absurd (let e = sym blank.recent ∙ listed in cc);
@@ -58,8 +64,10 @@ module _ (n c h g index : ℕ) (row : List ℕ) (memory : ScanMemory n c h g) (i
     };
   }
 
-  pub first_fit : (m : Member) → m ≡ new_worker n (width c h g) (depth n (width c h g)) index → IsFit n c h g index (length m.work.made) row memory im.hidden.items im.shown.items im.recent im.late im.own m
-  first_fit m is = subst (λ (x : Member). IsFit n c h g index (length x.work.made) row memory im.hidden.items im.shown.items im.recent im.late im.own x) (sym is) at_first
+  pub first_fit : (m : Member) → m ≡ new_worker n (width c h g) (depth n (width c h g)) index
+      → IsFit n c h g index (length m.work.made) row memory im.hidden.items im.shown.items im.recent im.late im.own m
+  first_fit m is = subst (λ (x : Member). IsFit n c h g index (length x.work.made) row memory im.hidden.items im.shown.items
+      im.recent im.late im.own x) (sym is) at_first
 
 zero_at : (n i : ℕ) → i < n → get_elem? {A = ℕ} (replicate n 0) i ≡ some 0
 zero_at zero i h = absurd (omega (arith, h))

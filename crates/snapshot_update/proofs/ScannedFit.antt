@@ -11,8 +11,10 @@ use Rattle.snapshot_update.proofs.VersionWords.{words_long, numbers_long}
 use Rattle.snapshot_update.proofs.Fitting.{rows_many}
 
 -- all that is known of the next version is that all its items may differ
-pub scanned_fit : (n c h g index number : ℕ) (row : List ℕ) (memory memory' : ScanMemory n c h g) (hidden shown : List ℕ) (recent late late' : Changed) (own : Bool) (m : Member) (s : Scan)
-    → IsFit n c h g index number row memory hidden shown recent late own m → IsReady s memory' → late'.all ≡ true → late'.items ≡ late.items
+pub scanned_fit : (n c h g index number : ℕ) (row : List ℕ) (memory memory' : ScanMemory n c h g) (hidden shown : List ℕ)
+    (recent late late' : Changed) (own : Bool) (m : Member) (s : Scan)
+    → IsFit n c h g index number row memory hidden shown recent late own m → IsReady s memory' → late'.all ≡ true
+    → late'.items ≡ late.items
     → IsFit n c h g index number row memory' hidden shown recent late' false (record m { scan = s })
 scanned_fit n c h g index number row memory memory' hidden shown recent late late' own m s fit ready all items = record {
   who = fit.who;
@@ -24,7 +26,8 @@ scanned_fit n c h g index number row memory memory' hidden shown recent late lat
   hidden_is = fit.hidden_is;
   shown_is = fit.shown_is;
   images = record {
-    next_deep = (let e = words_long (width c h g) n row 1 (map number_in (rows_of memory')) (sums_of memory') fit.wide (numbers_long (rows_of memory') ∙ rows_many n c h g memory') (width c h g) memory'.sizes.1 in omega (arith, e));
+    next_deep = (let e = words_long (width c h g) n row 1 (map number_in (rows_of memory')) (sums_of memory') fit.wide
+        (numbers_long (rows_of memory') ∙ rows_many n c h g memory') (width c h g) memory'.sizes.1 in omega (arith, e));
     hidden_deep = fit.images.hidden_deep;
     shown_deep = fit.images.shown_deep;
     recent = fit.images.recent;

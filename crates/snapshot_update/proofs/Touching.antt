@@ -1,5 +1,6 @@
 -- The words that operations add to are listed.
-use Rattle.std.proofs.Common.{◌≡◌, ◌≢◌, ⊎_elim, ℕ, ◌+◌, ◌*◌, ◌<◌, ◌≤◌, false, cond, List, [], length, get_or, take, inl, inr, sym, ap, ◌∙◌, subst, arith}
+use Rattle.std.proofs.Common.{◌≡◌, ◌≢◌, ⊎_elim, ℕ, ◌+◌, ◌*◌, ◌<◌, ◌≤◌, false, cond, List, [], length, get_or, take, inl, inr, sym}
+use Rattle.std.proofs.Common.{ap, ◌∙◌, subst, arith}
 use Rattle.std.specs.List.{Contains}
 use Rattle.std.proofs.lemmas.List.Sums.{sum_by_more}
 use Rattle.std.proofs.lemmas.Bool.{ne_eqb, cases_eq}
@@ -27,7 +28,8 @@ touches_one w word by old new lt is = record {
 }
 
 -- first these words, then those
-pub touches_then : (m n w : ℕ) (f g : ℕ → ℕ) (a b c : Changed) → Touches m w f a b → Touches n w g b c → Touches (m + n) w (λ k. f k + g k) a c
+pub touches_then : (m n w : ℕ) (f g : ℕ → ℕ) (a b c : Changed) → Touches m w f a b → Touches n w g b c
+    → Touches (m + n) w (λ k. f k + g k) a c
 touches_then m n w f g a b c first second = record {
   listed = λ h. first.listed (second.listed h);
   keeps = λ h j was. second.keeps h j (first.keeps (second.listed h) j was);
@@ -63,7 +65,8 @@ touches_same n w f g a b same is = record {
 }
 
 -- nothing is noted: where not all count as changed, the words that rise are listed already
-pub touches_none : (n w : ℕ) (by : ℕ → ℕ) (c : Changed) → (c.all ≡ false → (k : ℕ) → ¬ (Contains c.items k) → by k ≡ 0) → Touches n w by c c
+pub touches_none : (n w : ℕ) (by : ℕ → ℕ) (c : Changed) → (c.all ≡ false → (k : ℕ) → ¬ (Contains c.items k) → by k ≡ 0)
+    → Touches n w by c c
 touches_none n w by c rises = record {
   listed = λ h. h;
   keeps = λ _ j h. h;
@@ -75,42 +78,53 @@ touches_none n w by c rises = record {
 
 -- one word that rises and is listed already
 pub touches_again : (w word by : ℕ) (c : Changed) → (c.all ≡ false → Contains c.items word) → Touches 1 w (only word by) c c
-touches_again w word by c there = touches_none 1 w (only word by) c (λ h k other. only_other word by k (λ e. other (subst (Contains c.items) (sym e) (there h))))
+touches_again w word by c there = touches_none 1 w (only word by) c
+    (λ h k other. only_other word by k (λ e. other (subst (Contains c.items) (sym e) (there h))))
 
 -- two words that rise, listed one after the other
-pub touches_two : (w a b x y : ℕ) (old one new : Changed) → a < w → b < w → Notes a old one → Notes b one new → Touches 2 w (λ k. only a x k + only b y k) old new
+pub touches_two : (w a b x y : ℕ) (old one new : Changed) → a < w → b < w → Notes a old one → Notes b one new
+    → Touches 2 w (λ k. only a x k + only b y k) old new
 touches_two w a b x y old one new la lb na nb =
     touches_then 1 1 w (only a x) (only b y) old one new (touches_one w a x old one la na) (touches_one w b y one new lb nb)
 
 -- an observation raises the sum and the count, and then the bucket
-pub touches_three : (w a b c x y z : ℕ) (old mid new : Changed) → Touches 2 w (λ k. only b y k + only c z k) old mid → Touches 1 w (only a x) mid new
+pub touches_three : (w a b c x y z : ℕ) (old mid new : Changed) → Touches 2 w (λ k. only b y k + only c z k) old mid
+    → Touches 1 w (only a x) mid new
     → Touches 3 w (λ k. only a x k + only b y k + only c z k) old new
 touches_three w a b c x y z old mid new first second =
-    touches_same 3 w (λ k. (only b y k + only c z k) + only a x k) (λ k. only a x k + only b y k + only c z k) old new (λ k e. omega (arith, e))
+    touches_same 3 w (λ k. (only b y k + only c z k) + only a x k) (λ k. only a x k + only b y k + only c z k) old new
+    (λ k e. omega (arith, e))
     (touches_then 2 1 w (λ k. only b y k + only c z k) (only a x) old mid new first second)
 
 -- the words of a run stay listed
-pub listed_still : (first seen : ℕ) (old new : List ℕ) → ((j : ℕ) → Contains old j → Contains new j) → AreListed first seen old → AreListed first seen new
+pub listed_still : (first seen : ℕ) (old new : List ℕ) → ((j : ℕ) → Contains old j → Contains new j) → AreListed first seen old
+    → AreListed first seen new
 listed_still first seen old new keeps are = record {
   sum = keeps (first + 25) are.sum;
   count = keeps (first + 26) are.count;
   buckets = λ p set. keeps (first + p) (are.buckets p set);
 }
 
-pub run_still : (c h : ℕ) (run : Run) (old new : Changed) → (new.all ≡ false → old.all ≡ false) → (new.all ≡ false → (j : ℕ) → Contains old.items j → Contains new.items j) → IsRun c h run old → IsRun c h run new
-run_still c h run old new listed keeps is = λ lt few. listed_still (c + 27 * run.hist) run.seen old.items new.items (keeps few) (is lt (listed few))
+pub run_still : (c h : ℕ) (run : Run) (old new : Changed) → (new.all ≡ false → old.all ≡ false)
+    → (new.all ≡ false → (j : ℕ) → Contains old.items j → Contains new.items j) → IsRun c h run old → IsRun c h run new
+run_still c h run old new listed keeps is = λ lt few. listed_still (c + 27 * run.hist) run.seen old.items new.items (keeps few)
+    (is lt (listed few))
 
 -- a run begins with no bucket
-pub run_begins : (c h hist : ℕ) (run : Run) (old one new : Changed) → run.hist ≡ hist → run.seen ≡ 0 → Notes (c + 27 * hist + 25) old one → Notes (c + 27 * hist + 26) one new → IsRun c h run new
+pub run_begins : (c h hist : ℕ) (run : Run) (old one new : Changed) → run.hist ≡ hist → run.seen ≡ 0
+    → Notes (c + 27 * hist + 25) old one → Notes (c + 27 * hist + 26) one new → IsRun c h run new
 run_begins c h hist run old one new here none na nb = λ lt few.
     let at : c + 27 * run.hist ≡ c + 27 * hist = ap (λ (k : ℕ). c + 27 * k) here in record {
-      sum = subst (λ (f : ℕ). Contains new.items (f + 25)) (sym at) (nb.keeps few (c + 27 * hist + 25) (na.notes (nb.listed few)));
+      sum = subst (λ (f : ℕ). Contains new.items (f + 25)) (sym at)
+          (nb.keeps few (c + 27 * hist + 25) (na.notes (nb.listed few)));
       count = subst (λ (f : ℕ). Contains new.items (f + 26)) (sym at) (nb.notes few);
-      buckets = λ p set. let z = sym (ap (λ (s : ℕ). bit_at s p) none) ∙ set in let zero = bit_at-zero p in absurd (omega (arith, z, zero));
+      buckets = λ p set. let z = sym (ap (λ (s : ℕ). bit_at s p) none) ∙ set in let zero = bit_at-zero p in
+          absurd (omega (arith, z, zero));
     }
 
 -- one bucket more
-pub run_more : (c h place : ℕ) (run run' : Run) (old new : Changed) → run'.hist ≡ run.hist → ((k : ℕ) → k ≢ place → bit_at run'.seen k ≡ bit_at run.seen k) → Notes (c + 27 * run.hist + place) old new
+pub run_more : (c h place : ℕ) (run run' : Run) (old new : Changed) → run'.hist ≡ run.hist
+    → ((k : ℕ) → k ≢ place → bit_at run'.seen k ≡ bit_at run.seen k) → Notes (c + 27 * run.hist + place) old new
     → IsRun c h run old → IsRun c h run' new
 run_more c h place run run' old new same others notes is = λ lt few.
     let at : c + 27 * run'.hist ≡ c + 27 * run.hist = ap (λ (k : ℕ). c + 27 * k) same in

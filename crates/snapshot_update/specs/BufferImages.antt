@@ -9,7 +9,8 @@ version_words row flag vector totals = row ++ flag ∷ (vector ++ totals)
 
 -- two images differ at no other items
 abbrev pub DifferAt : Changed → (old new : List ℕ) → Type 0
-DifferAt changed old new = changed.all ≡ false → (j : ℕ) → j < length new → ¬ (Contains changed.items j) → slice_index old j ≡ slice_index new j
+DifferAt changed old new = changed.all ≡ false → (j : ℕ) → j < length new → ¬ (Contains changed.items j)
+    → slice_index old j ≡ slice_index new j
 
 -- the hidden buffer has these words
 abbrev pub with_hidden : List ℕ → Member → Member

@@ -38,7 +38,8 @@ pub record AreImages (b : ℕ) (next hidden shown : List ℕ) (recently lately :
 
 -- the member is the worker of this index, which has published `number` times; this is its row, and these are its buffers. Where
 -- `own` is true, the row that is remembered of its own segment is this row
-pub record IsFit (n c h g index number : ℕ) (row : List ℕ) (memory : ScanMemory n c h g) (hidden shown : List ℕ) (recent late : Changed) (own : Bool) (m : Member) : Type 0 where
+pub record IsFit (n c h g index number : ℕ) (row : List ℕ) (memory : ScanMemory n c h g) (hidden shown : List ℕ)
+    (recent late : Changed) (own : Bool) (m : Member) : Type 0 where
   pub who : m.who ≡ Worker index
   pub counts : number ≡ length m.work.made
   pub sums : (k : ℕ) → k < width c h g → slice_index row k ≡ total (sum_ops c h) m.work.made k
@@ -50,9 +51,11 @@ pub record IsFit (n c h g index number : ℕ) (row : List ℕ) (memory : ScanMem
   pub images : AreImages (depth n (width c h g)) (next_words row (rows_of memory) (sums_of memory)) hidden shown recent late
 
 -- the same, of the member of a seat of this index
-abbrev pub IsFitOfSeat : (n c h g index number : ℕ) (row : List ℕ) (memory : ScanMemory n c h g) (hidden shown : List ℕ) (recent late : Changed) (own : Bool) (seat : ℕ) (m : Member) → Type 0
+abbrev pub IsFitOfSeat : (n c h g index number : ℕ) (row : List ℕ) (memory : ScanMemory n c h g) (hidden shown : List ℕ)
+    (recent late : Changed) (own : Bool) (seat : ℕ) (m : Member) → Type 0
 IsFitOfSeat n c h g index number row memory hidden shown recent late own seat m =
-    (seat ≡ index) × (number ≡ length m.work.made) × IsFit n c h g seat (length m.work.made) row memory hidden shown recent late own m
+    (seat ≡ index) × (number ≡ length m.work.made) × IsFit n c h g seat (length m.work.made) row memory hidden shown recent late
+    own m
 
 -- worker i has seen its own number
 abbrev pub HasSeenOwn : (i : ℕ) → Member → Type 0

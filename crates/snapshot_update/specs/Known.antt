@@ -30,7 +30,8 @@ pub record ListsMoved (n w : ℕ) (moved old new : Changed) : Type 0 where
   pub inside : (j : ℕ) → Contains new.items j → Contains old.items j ⊎ (j < 2 * w + 1 + n)
 
 -- the scan ended direct, and found the number of its own worker; where it moved the sums is late, too
-pub record IsFollowed (n c h g own number : ℕ) (memory : ScanMemory n c h g) (ended : ScanEnd) (late late' : Changed) : Type 0 where
-  pub direct : (quiet : Bool) × (ended ≡ Direct quiet)
-  pub found : slice_index (answer_of memory ended).vector own ≡ number
-  pub lists : ListsMoved n (width c h g) (moved_in memory) late late'
+pub record IsFollowed (n c h g own number : ℕ) (memory : ScanMemory n c h g) (ended : ScanEnd) (late late' : Changed) : Type 0
+  where
+    pub direct : (quiet : Bool) × (ended ≡ Direct quiet)
+    pub found : slice_index (answer_of memory ended).vector own ≡ number
+    pub lists : ListsMoved n (width c h g) (moved_in memory) late late'

@@ -12,7 +12,8 @@ module _ {N C H G : ℕ} where
   pub record IsLentAs (m : Member) (w : Worker N C H G) (r : Reader N C H G) : Type 0 where
     pub away : w.seat ≡ None
     pub there : IsWorkerAmong w.index m (members_with r)
-    pub fits : IsFitOfSeat N C H G w.index w.number w.row.value w.memory w.images.hidden.items w.images.shown.items w.images.recent w.images.late w.images.own w.index m
+    pub fits : IsFitOfSeat N C H G w.index w.number w.row.value w.memory w.images.hidden.items w.images.shown.items
+        w.images.recent w.images.late w.images.own w.index m
 
   -- the worker is lent to this reader
   abbrev pub IsLent : Worker N C H G → Reader N C H G → Type 0

@@ -66,7 +66,8 @@ after_scan c m = record m { scan = c }
 -- c counters, h histograms and g gauges
 abbrev pub IsApplyFault : (c h g : ℕ) → Member → List Op → ApplyFault → Type 0
 IsApplyFault c h g m ops Exhausted = length m.work.made ≡ 18446744073709551615
-IsApplyFault c h g m ops (Refused fault) = (length m.work.made < 18446744073709551615) × IsOpFault c h g (total (sum_ops c h) m.work.made) ops fault
+IsApplyFault c h g m ops (Refused fault) = (length m.work.made < 18446744073709551615)
+    × IsOpFault c h g (total (sum_ops c h) m.work.made) ops fault
 
 -- why a worker refuses an operation by a handle: the handle is not of the registry `id`, or else as above
 abbrev pub IsCountFault : (c h g id registry : ℕ) → Op → Member → CountFault → Type 0

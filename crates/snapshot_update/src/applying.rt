@@ -1,5 +1,6 @@
 //! What a worker does.
-ghost use Rattle.std.specs.Prelude.{◌≡◌, ◌+◌, ◌<◌, [], ◌∷◌, ◌++◌, Some, length, slice_index, replicate, IsSome, IfOk, IfErr, OnOk, OnErr};
+ghost use Rattle.std.specs.Prelude.{◌≡◌, ◌+◌, ◌<◌, [], ◌∷◌, ◌++◌, Some, length, slice_index, replicate, IsSome, IfOk, IfErr};
+ghost use Rattle.std.specs.Prelude.{OnOk, OnErr};
 ghost use Rattle.ledger_core.specs.Ops.{width, sum_ops};
 ghost use Rattle.ledger_core.specs.Row.{Accepts};
 ghost use Rattle.ledger_core.specs.Legal.{IsLegal};

@@ -11,7 +11,8 @@ ghost use Rattle.snapshot_scan.specs.Contention.{IsContended};
 ghost use Rattle.snapshot_scan.specs.Core.{CameTo, AnswersBy};
 ghost use Rattle.snapshot_scan.specs.Snapshots.{as_answer};
 ghost use Rattle.snapshot_update.specs.Updated.{IsRuledAlone};
-ghost use Rattle.snapshot_update.specs.Workers.{index_of, member_of, lists_of, scan_by, after_scan, IsWorkerOf, IsCounted, IsCountFault};
+ghost use Rattle.snapshot_update.specs.Workers.{index_of, member_of, lists_of, scan_by, after_scan, IsWorkerOf, IsCounted};
+ghost use Rattle.snapshot_update.specs.Workers.{IsCountFault};
 
 use crate::faults::CountFault;
 use crate::scanning::scan_to;
@@ -35,8 +36,10 @@ impl<const N: usize, const C: usize, const H: usize, const G: usize> Worker<N, C
         requires own { IsWorkerOf board.now self.old }
         ensures own { IsWorkerOf board.now self.new }
         ensures index { index_of self.new ≡ index_of self.old }
-        ensures counted { OnOk result (IsCounted (board_id board.now) counter.now.registry (Inc counter.now.slot by) self.old self.new) }
-        ensures fault { IfErr result (IsCountFault C H G (board_id board.now) counter.now.registry (Inc counter.now.slot by) (member_of self.old)) }
+        ensures counted { OnOk result
+            (IsCounted (board_id board.now) counter.now.registry (Inc counter.now.slot by) self.old self.new) }
+        ensures fault { IfErr result (IsCountFault C H G (board_id board.now) counter.now.registry (Inc counter.now.slot by)
+            (member_of self.old)) }
         ensures unchanged { OnErr result (self.new ≡ self.old) }
     {
         self.count(
@@ -63,8 +66,12 @@ impl<const N: usize, const C: usize, const H: usize, const G: usize> Worker<N, C
         requires own { IsWorkerOf board.now self.old }
         ensures own { IsWorkerOf board.now self.new }
         ensures index { index_of self.new ≡ index_of self.old }
-        ensures counted { OnOk result (IsCounted (board_id board.now) hist.now.registry (Observe hist.now.slot (place_of hist.now.bounds value) value) self.old self.new) }
-        ensures fault { IfErr result (IsCountFault C H G (board_id board.now) hist.now.registry (Observe hist.now.slot (place_of hist.now.bounds value) value) (member_of self.old)) }
+        ensures counted { OnOk result
+            (IsCounted (board_id board.now) hist.now.registry (Observe hist.now.slot (place_of hist.now.bounds value) value)
+            self.old self.new) }
+        ensures fault { IfErr result
+            (IsCountFault C H G (board_id board.now) hist.now.registry
+            (Observe hist.now.slot (place_of hist.now.bounds value) value) (member_of self.old)) }
         ensures unchanged { OnErr result (self.new ≡ self.old) }
     {
         let place = hist.bounds.place(value);
@@ -93,8 +100,10 @@ impl<const N: usize, const C: usize, const H: usize, const G: usize> Worker<N, C
         requires own { IsWorkerOf board.now self.old }
         ensures own { IsWorkerOf board.now self.new }
         ensures index { index_of self.new ≡ index_of self.old }
-        ensures counted { OnOk result (IsCounted (board_id board.now) gauge.now.registry (Up gauge.now.slot by) self.old self.new) }
-        ensures fault { IfErr result (IsCountFault C H G (board_id board.now) gauge.now.registry (Up gauge.now.slot by) (member_of self.old)) }
+        ensures counted { OnOk result
+            (IsCounted (board_id board.now) gauge.now.registry (Up gauge.now.slot by) self.old self.new) }
+        ensures fault { IfErr result (IsCountFault C H G (board_id board.now) gauge.now.registry (Up gauge.now.slot by)
+            (member_of self.old)) }
         ensures unchanged { OnErr result (self.new ≡ self.old) }
     {
         self.count(
@@ -121,8 +130,10 @@ impl<const N: usize, const C: usize, const H: usize, const G: usize> Worker<N, C
         requires own { IsWorkerOf board.now self.old }
         ensures own { IsWorkerOf board.now self.new }
         ensures index { index_of self.new ≡ index_of self.old }
-        ensures counted { OnOk result (IsCounted (board_id board.now) gauge.now.registry (Down gauge.now.slot by) self.old self.new) }
-        ensures fault { IfErr result (IsCountFault C H G (board_id board.now) gauge.now.registry (Down gauge.now.slot by) (member_of self.old)) }
+        ensures counted { OnOk result
+            (IsCounted (board_id board.now) gauge.now.registry (Down gauge.now.slot by) self.old self.new) }
+        ensures fault { IfErr result (IsCountFault C H G (board_id board.now) gauge.now.registry (Down gauge.now.slot by)
+            (member_of self.old)) }
         ensures unchanged { OnErr result (self.new ≡ self.old) }
     {
         self.count(
@@ -158,7 +169,8 @@ impl<const N: usize, const C: usize, const H: usize, const G: usize> Worker<N, C
         ensures answers { OnOk result (AnswersBy N (width C H G) (scan_by self.old) (scan_by self.new) (as_answer out.new)) }
         ensures legal { OnOk result (IsLegal C H (slice_index out.new.totals)) }
         ensures contended { IfErr result (IsContended N (scan_by self.old) (scan_by self.new)) }
-        ensures came_up { IfErr result (λ e. CameTo N (width C H G) (scan_by self.old) (scan_by self.new) (Next.GaveUp e.worker e.first e.last)) }
+        ensures came_up { IfErr result
+            (λ e. CameTo N (width C H G) (scan_by self.old) (scan_by self.new) (Next.GaveUp e.worker e.first e.last)) }
         ensures unchanged { OnErr result (out.new ≡ out.old) }
     {
         let Some(seat) = &mut self.seat else {

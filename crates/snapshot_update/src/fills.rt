@@ -54,7 +54,8 @@ pub(crate) fn fill_changes<const N: usize, const C: usize, const H: usize, const
     ensures index { index_of seat.new ≡ index_of seat.old }
     ensures member { worker_of seat.new ≡ with_hidden hidden.new (worker_of seat.old) }
     ensures filled { (j : ℕ) → Contains changes.now.items j → slice_index hidden.new j ≡ slice_index (target_of version.now) j }
-    ensures kept { (j : ℕ) → slice_index hidden.old j ≡ slice_index (target_of version.now) j → slice_index hidden.new j ≡ slice_index (target_of version.now) j }
+    ensures kept { (j : ℕ) → slice_index hidden.old j ≡ slice_index (target_of version.now) j
+        → slice_index hidden.new j ≡ slice_index (target_of version.now) j }
 {
     let items = changes.as_slice();
     for &item in items {
@@ -81,7 +82,8 @@ pub(crate) fn fill_known<const N: usize, const C: usize, const H: usize, const G
     requires recent { (j : ℕ) → Contains recent.now.items j → j < depth N (width C H G) }
     requires late { (j : ℕ) → Contains late.now.items j → j < depth N (width C H G) }
     requires touched { (j : ℕ) → Contains touched.now.items j → j < depth N (width C H G) }
-    requires known { (j : ℕ) → j < depth N (width C H G) → ¬ (Contains recent.now.items j) → ¬ (Contains late.now.items j) → ¬ (Contains touched.now.items j) → slice_index hidden.old j ≡ slice_index (target_of version.now) j }
+    requires known { (j : ℕ) → j < depth N (width C H G) → ¬ (Contains recent.now.items j) → ¬ (Contains late.now.items j)
+        → ¬ (Contains touched.now.items j) → slice_index hidden.old j ≡ slice_index (target_of version.now) j }
     ensures own { HasWorker board.now seat.new }
     ensures index { index_of seat.new ≡ index_of seat.old }
     ensures member { worker_of seat.new ≡ with_hidden hidden.new (worker_of seat.old) }
@@ -107,7 +109,8 @@ fn fill_some<const N: usize, const C: usize, const H: usize, const G: usize>(
 )
     requires own { HasWorker board.now seat.old }
     requires exact { (worker_of seat.old).work.hidden ≡ hidden.old }
-    requires lengths { (length hidden.old ≡ depth N (width C H G)) × (length shown.now ≡ depth N (width C H G)) × (length (target_of version.now) ≡ depth N (width C H G)) }
+    requires lengths { (length hidden.old ≡ depth N (width C H G)) × (length shown.now ≡ depth N (width C H G))
+        × (length (target_of version.now) ≡ depth N (width C H G)) }
     requires inside { (from ≤ to) × (to ≤ depth N (width C H G)) }
     requires filled { (j : ℕ) → j < from → slice_index hidden.old j ≡ slice_index (target_of version.now) j }
     requires noted { SoFar from recent.old shown.now (target_of version.now) }
@@ -138,7 +141,8 @@ pub(crate) fn fill_all<const N: usize, const C: usize, const H: usize, const G: 
 )
     requires own { HasWorker board.now seat.old }
     requires exact { (worker_of seat.old).work.hidden ≡ hidden.old }
-    requires lengths { (length hidden.old ≡ depth N (width C H G)) × (length shown.now ≡ depth N (width C H G)) × (length (target_of version.now) ≡ depth N (width C H G)) }
+    requires lengths { (length hidden.old ≡ depth N (width C H G)) × (length shown.now ≡ depth N (width C H G))
+        × (length (target_of version.now) ≡ depth N (width C H G)) }
     ensures own { HasWorker board.now seat.new }
     ensures index { index_of seat.new ≡ index_of seat.old }
     ensures member { worker_of seat.new ≡ with_hidden hidden.new (worker_of seat.old) }

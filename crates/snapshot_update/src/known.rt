@@ -30,7 +30,8 @@ pub(crate) fn know_next<const N: usize, const C: usize, const H: usize, const G:
     requires inside { index_of seat.now < N }
     requires words { AreInside (width C H G) (moved_in memory.now) }
     ensures touched { result ≡ true → touched.now.all ≡ false }
-    ensures known { result ≡ true → IsStill ended own late.old late.new ⊎ IsFollowed N C H G (index_of seat.now) (length (worker_of seat.now).work.made) memory.now ended late.old late.new }
+    ensures known { result ≡ true → IsStill ended own late.old late.new
+        ⊎ IsFollowed N C H G (index_of seat.now) (length (worker_of seat.now).work.made) memory.now ended late.old late.new }
     ensures unknown { result ≡ false → late.new ≡ late.old }
 {
     let quiet = is_quiet(ended) & !touched.is_all() & own;
@@ -54,7 +55,8 @@ fn follow<const N: usize, const C: usize, const H: usize, const G: usize>(
     requires inside { index_of seat.now < N }
     requires words { AreInside (width C H G) (moved_in memory.now) }
     ensures touched { result ≡ true → touched.now.all ≡ false }
-    ensures known { result ≡ true → IsFollowed N C H G (index_of seat.now) (length (worker_of seat.now).work.made) memory.now ended late.old late.new }
+    ensures known { result ≡ true → IsFollowed N C H G (index_of seat.now) (length (worker_of seat.now).work.made) memory.now
+        ended late.old late.new }
     ensures unknown { result ≡ false → late.new ≡ late.old }
 {
     if !is_direct(ended) || touched.is_all() {

@@ -25,7 +25,8 @@ impl<const N: usize, const C: usize, const H: usize, const G: usize> Worker<N, C
         ensures met { members_with reader.new ≡ met (members_with reader.old ++ member_of self.old ∷ []) }
         ensures kept { HasSeenMore (scan_of_reader reader.old) (scan_of_reader reader.new) }
         ensures seen { length (member_of self.old).work.made ≤ slice_index (scan_of_reader reader.new).seen (index_of self.old) }
-        ensures lent { IsLentAs (raised (greatest (members_with reader.old ++ member_of self.old ∷ [])) (member_of self.old)) self.new reader.new }
+        ensures lent { IsLentAs (raised (greatest (members_with reader.old ++ member_of self.old ∷ [])) (member_of self.old))
+            self.new reader.new }
     {
         let Some(seat) = self.seat.take() else {
             unreachable!()
@@ -55,12 +56,15 @@ impl<const N: usize, const C: usize, const H: usize, const G: usize> Worker<N, C
         requires own { IsWorkerOf board.now self.old × IsReaderOf board.now reader.old }
         ensures own { IsWorkerOf board.now self.new × IsReaderOf board.now reader.new }
         ensures index { (index_of self.new ≡ index_of self.old) × (reader_index reader.new ≡ reader_index reader.old) }
-        ensures worker { member_of self.new ≡ raised (greatest (members_with reader.old ++ member_of self.old ∷ [])) (member_of self.old) }
-        ensures reader { members_with reader.new ≡ without (Who.Worker (index_of self.old)) (met (members_with reader.old ++ member_of self.old ∷ [])) }
+        ensures worker { member_of self.new ≡ raised (greatest (members_with reader.old ++ member_of self.old ∷ []))
+            (member_of self.old) }
+        ensures reader { members_with reader.new ≡ without (Who.Worker (index_of self.old))
+            (met (members_with reader.old ++ member_of self.old ∷ [])) }
         ensures others { (i : ℕ) (m : Member) → IsWorkerAmong i m (members_with reader.old) → i ≢ index_of self.old }
         ensures kept { HasSeenMore (scan_of_reader reader.old) (scan_of_reader reader.new) }
         ensures alone { IsAlone reader.old → IsAlone reader.new }
-        ensures reader_sees { length (member_of self.old).work.made ≤ slice_index (scan_of_reader reader.new).seen (index_of self.old) }
+        ensures reader_sees { length (member_of self.old).work.made ≤ slice_index (scan_of_reader reader.new).seen
+            (index_of self.old) }
         ensures worker_sees { Below (scan_of_reader reader.old).seen (scan_by self.new).seen }
     {
         self.lend_to(board, reader);

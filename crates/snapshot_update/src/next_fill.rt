@@ -29,12 +29,15 @@ pub(crate) fn fill_next<const N: usize, const C: usize, const H: usize, const G:
 )
     requires own { HasWorker board.now seat.old }
     requires exact { (worker_of seat.old).work.hidden ≡ hidden.old }
-    requires lengths { (length hidden.old ≡ depth N (width C H G)) × (length shown.now ≡ depth N (width C H G)) × (length (target_of version.now) ≡ depth N (width C H G)) }
+    requires lengths { (length hidden.old ≡ depth N (width C H G)) × (length shown.now ≡ depth N (width C H G))
+        × (length (target_of version.now) ≡ depth N (width C H G)) }
     requires few { depth N (width C H G) ≤ 2529 }
-    requires inside { AreInside (depth N (width C H G)) recent.old × AreInside (depth N (width C H G)) late.now × AreInside (depth N (width C H G)) touched.now }
+    requires inside { AreInside (depth N (width C H G)) recent.old × AreInside (depth N (width C H G)) late.now
+        × AreInside (depth N (width C H G)) touched.now }
     requires listed { known ≡ true → (recent.old.all ≡ false) × (late.now.all ≡ false) × (touched.now.all ≡ false) }
     requires recent { DifferAt recent.old hidden.old shown.now }
-    requires known { known ≡ true → (j : ℕ) → j < depth N (width C H G) → ¬ (Contains late.now.items j) → ¬ (Contains touched.now.items j) → slice_index shown.now j ≡ slice_index (target_of version.now) j }
+    requires known { known ≡ true → (j : ℕ) → j < depth N (width C H G) → ¬ (Contains late.now.items j)
+        → ¬ (Contains touched.now.items j) → slice_index shown.now j ≡ slice_index (target_of version.now) j }
     ensures own { HasWorker board.now seat.new }
     ensures index { index_of seat.new ≡ index_of seat.old }
     ensures member { worker_of seat.new ≡ with_hidden hidden.new (worker_of seat.old) }

@@ -56,13 +56,18 @@ pub(crate) fn scan_own<const N: usize, const C: usize, const H: usize, const G: 
     ensures ruled { IsRuledAlone N C H G (worker_of seat.new) }
     ensures others { worker_of seat.new ≡ record (worker_of seat.old) { scan = (worker_of seat.new).scan } }
     ensures ready { IsReady (worker_of seat.new).scan memory.new }
-    ensures view { HasView result → IsAnswered N (worker_of seat.old).scan (worker_of seat.new).scan (answer_of memory.new result) }
+    ensures view { HasView result → IsAnswered N (worker_of seat.old).scan (worker_of seat.new).scan
+        (answer_of memory.new result) }
     ensures meets { HasView result → ScanMeets N (width C H G) (worker_of seat.old).scan (worker_of seat.new).scan true }
-    ensures quiet { result ≡ ScanEnd.Direct true → (rows_of memory.new ≡ rows_of memory.old) × (sums_of memory.new ≡ sums_of memory.old) × AreNumbers (answer_of memory.new result).vector (rows_of memory.new) }
-    ensures numbers { (q : Bool) → result ≡ ScanEnd.Direct q → AreNumbers (answer_of memory.new result).vector (rows_of memory.new) }
-    ensures listed { (moved_in memory.new).all ≡ false → (k : ℕ) → k < width C H G → ¬ (Contains (moved_in memory.new).items k) → slice_index (sums_of memory.new) k ≡ slice_index (sums_of memory.old) k }
+    ensures quiet { result ≡ ScanEnd.Direct true → (rows_of memory.new ≡ rows_of memory.old)
+        × (sums_of memory.new ≡ sums_of memory.old) × AreNumbers (answer_of memory.new result).vector (rows_of memory.new) }
+    ensures numbers { (q : Bool) → result ≡ ScanEnd.Direct q → AreNumbers (answer_of memory.new result).vector
+        (rows_of memory.new) }
+    ensures listed { (moved_in memory.new).all ≡ false → (k : ℕ) → k < width C H G → ¬ (Contains (moved_in memory.new).items k)
+        → slice_index (sums_of memory.new) k ≡ slice_index (sums_of memory.old) k }
     ensures words { AreInside (width C H G) (moved_in memory.new) }
-    ensures gave_up { result ≡ ScanEnd.GaveUp → ScanMeets N (width C H G) (worker_of seat.old).scan (worker_of seat.new).scan false }
+    ensures gave_up { result ≡ ScanEnd.GaveUp → ScanMeets N (width C H G) (worker_of seat.old).scan (worker_of seat.new).scan
+        false }
 {
     memory.scan(board, seat)
 }
@@ -82,10 +87,12 @@ pub(crate) fn scan_to<const N: usize, const C: usize, const H: usize, const G: u
     ensures others { worker_of seat.new ≡ record (worker_of seat.old) { scan = (worker_of seat.new).scan } }
     ensures ready { IsReady (worker_of seat.new).scan memory.new }
     ensures answered { OnOk result (IsAnswered N (worker_of seat.old).scan (worker_of seat.new).scan (as_answer out.new)) }
-    ensures answers { OnOk result (AnswersBy N (width C H G) (worker_of seat.old).scan (worker_of seat.new).scan (as_answer out.new)) }
+    ensures answers { OnOk result (AnswersBy N (width C H G) (worker_of seat.old).scan (worker_of seat.new).scan
+        (as_answer out.new)) }
     ensures legal { OnOk result (IsLegal C H (slice_index out.new.totals)) }
     ensures contended { IfErr result (IsContended N (worker_of seat.old).scan (worker_of seat.new).scan) }
-    ensures came_up { IfErr result (λ e. CameTo N (width C H G) (worker_of seat.old).scan (worker_of seat.new).scan (Next.GaveUp e.worker e.first e.last)) }
+    ensures came_up { IfErr result (λ e. CameTo N (width C H G) (worker_of seat.old).scan (worker_of seat.new).scan
+        (Next.GaveUp e.worker e.first e.last)) }
     ensures unchanged { OnErr result (out.new ≡ out.old) }
 {
     memory.scan_to(board, seat, out)

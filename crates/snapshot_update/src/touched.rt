@@ -72,7 +72,8 @@ fn touch_hist<const C: usize, const H: usize, const G: usize>(
     requires within { hist < H }
     requires slots { AreSlots C H G }
     requires run { IsRun C H run.old touched.old }
-    ensures touches { (by : ℕ) → Touches 2 (width C H G) (λ k. only (C + 27 * hist + 25) by k + only (C + 27 * hist + 26) 1 k) touched.old touched.new }
+    ensures touches { (by : ℕ) → Touches 2 (width C H G) (λ k. only (C + 27 * hist + 25) by k + only (C + 27 * hist + 26) 1 k)
+        touched.old touched.new }
     ensures run { IsRun C H run.new touched.new }
     ensures hist { run.new.hist ≡ hist }
 {

@@ -1,5 +1,6 @@
 //! An update: a scan, the fills, and the store of the number.
-ghost use Rattle.std.specs.Prelude.{◌≡◌, ℕ, ◌+◌, ◌<◌, ◌≤◌, List, Bool, true, false, cond, length, slice_index, slice_set, Contains, OnOk, OnErr, IfErr};
+ghost use Rattle.std.specs.Prelude.{◌≡◌, ℕ, ◌+◌, ◌<◌, ◌≤◌, List, Bool, true, false, cond, length, slice_index, slice_set};
+ghost use Rattle.std.specs.Prelude.{Contains, OnOk, OnErr, IfErr};
 ghost use Rattle.ledger_core.specs.Ops.{width, sum_ops};
 ghost use Rattle.ledger_core.specs.Row.{Accepts};
 ghost use Rattle.ledger_core.specs.OpFault.{IsOpFault};
@@ -53,14 +54,19 @@ fn fill_version<const N: usize, const C: usize, const H: usize, const G: usize>(
     requires geometry { IsGeometry N C H G }
     requires exact { (worker_of seat.old).work.hidden ≡ images.old.hidden.items }
     requires touched { AreInside (width C H G) images.old.touched }
-    requires images { (next : List ℕ) × AreImages (depth N (width C H G)) next images.old.hidden.items images.old.shown.items images.old.recent images.old.late
+    requires images { (next : List ℕ) × AreImages (depth N (width C H G)) next images.old.hidden.items images.old.shown.items
+        images.old.recent images.old.late
         × (known ≡ true → (images.old.touched.all ≡ false) × ((quiet : Bool) × (ended ≡ ScanEnd.Direct quiet))
-        × ((j : ℕ) → j < depth N (width C H G) → ¬ (Contains images.old.touched.items j) → slice_index next j ≡ slice_index (version_words row.now 1 (answer_of memory.now ended).vector (answer_of memory.now ended).totals) j)) }
+        × ((j : ℕ) → j < depth N (width C H G) → ¬ (Contains images.old.touched.items j)
+        → slice_index next j ≡ slice_index
+        (version_words row.now 1 (answer_of memory.now ended).vector (answer_of memory.now ended).totals) j)) }
     ensures own { HasWorker board.now seat.new }
     ensures index { index_of seat.new ≡ index_of seat.old }
     ensures member { worker_of seat.new ≡ with_hidden images.new.hidden.items (worker_of seat.old) }
-    ensures hidden { images.new.hidden.items ≡ version_words row.now (cond result 1 0) (answer_of memory.now ended).vector (answer_of memory.now ended).totals }
-    ensures others { (images.new.shown.items ≡ images.old.shown.items) × (images.new.late ≡ images.old.late) × (images.new.touched ≡ images.old.touched) × (images.new.own ≡ images.old.own) }
+    ensures hidden { images.new.hidden.items ≡ version_words row.now (cond result 1 0) (answer_of memory.now ended).vector
+        (answer_of memory.now ended).totals }
+    ensures others { (images.new.shown.items ≡ images.old.shown.items) × (images.new.late ≡ images.old.late)
+        × (images.new.touched ≡ images.old.touched) × (images.new.own ≡ images.old.own) }
     ensures recent { DifferAt images.new.recent images.old.shown.items images.new.hidden.items }
     ensures inside { AreInside (depth N (width C H G)) images.new.recent }
     ensures view { result ≡ true → HasView ended }
@@ -99,7 +105,8 @@ fn turn<const N: usize, const C: usize, const H: usize, const G: usize>(
     ensures others { (images.new.recent ≡ images.old.recent) × (images.new.touched ≡ images.old.touched) }
     ensures unknown { known ≡ false → images.new.late.all ≡ true }
     ensures own { images.new.late.all ≡ false → Contains images.new.late.items (width C H G + 1 + own) }
-    ensures lent { images.new.late.all ≡ false → (k : ℕ) → Contains images.old.touched.items k → Contains images.new.late.items (width C H G + 1 + N + k) }
+    ensures lent { images.new.late.all ≡ false → (k : ℕ) → Contains images.old.touched.items k
+        → Contains images.new.late.items (width C H G + 1 + N + k) }
     ensures inside { AreInside (depth N (width C H G)) images.new.late }
 {
     swap(&mut images.hidden, &mut images.shown);
@@ -121,9 +128,11 @@ fn learn<const N: usize, const C: usize, const H: usize, const G: usize>(
     requires geometry { IsGeometry N C H G }
     requires inside { own < N }
     requires touched { AreInside (width C H G) images.now.touched }
-    requires known { known ≡ true → (v : version) → get_elem? (rows_of memory.old) own ≡ some v → (k : ℕ) → k < width C H G → ¬ (Contains images.now.touched.items k) → slice_index v.row k ≡ slice_index row.now k }
+    requires known { known ≡ true → (v : version) → get_elem? (rows_of memory.old) own ≡ some v → (k : ℕ) → k < width C H G
+        → ¬ (Contains images.now.touched.items k) → slice_index v.row k ≡ slice_index row.now k }
     ensures rows { rows_of memory.new ≡ slice_set (rows_of memory.old) own (record { number = number; row = row.now }) }
-    ensures sums { (v : version) → get_elem? (rows_of memory.old) own ≡ some v → (k : ℕ) → k < width C H G → slice_index (sums_of memory.new) k + slice_index v.row k ≡ slice_index (sums_of memory.old) k + slice_index row.now k }
+    ensures sums { (v : version) → get_elem? (rows_of memory.old) own ≡ some v → (k : ℕ) → k < width C H G
+        → slice_index (sums_of memory.new) k + slice_index v.row k ≡ slice_index (sums_of memory.old) k + slice_index row.now k }
 {
     if known {
         memory.remember_at(own, number, row, images.touched.as_slice());
@@ -146,15 +155,18 @@ pub(crate) fn update<const N: usize, const C: usize, const H: usize, const G: us
     requires own { HasWorker board.now seat.old }
     requires geometry { IsGeometry N C H G }
     requires room { length (worker_of seat.old).work.made + 1 < 18446744073709551616 }
-    requires fit { IsFit N C H G (index_of seat.old) (length (worker_of seat.old).work.made) row.old memory.old images.old.hidden.items images.old.shown.items images.old.recent images.old.late images.old.own (worker_of seat.old) }
+    requires fit { IsFit N C H G (index_of seat.old) (length (worker_of seat.old).work.made) row.old memory.old
+        images.old.hidden.items images.old.shown.items images.old.recent images.old.late images.old.own (worker_of seat.old) }
     ensures own { HasWorker board.now seat.new }
     ensures index { index_of seat.new ≡ index_of seat.old }
-    ensures fit { IsFit N C H G (index_of seat.new) (length (worker_of seat.new).work.made) row.new memory.new images.new.hidden.items images.new.shown.items images.new.recent images.new.late images.new.own (worker_of seat.new) }
+    ensures fit { IsFit N C H G (index_of seat.new) (length (worker_of seat.new).work.made) row.new memory.new
+        images.new.hidden.items images.new.shown.items images.new.recent images.new.late images.new.own (worker_of seat.new) }
     ensures updated { OnOk result (IsUpdated N C H G (index_of seat.old) ops.now (worker_of seat.old) (worker_of seat.new)) }
     ensures accepted { OnOk result (Accepts C H G (total (sum_ops C H) (worker_of seat.old).work.made) ops.now) }
     ensures own_row { OnOk result (images.new.own ≡ true) }
     ensures fault { IfErr result (IsOpFault C H G (total (sum_ops C H) (worker_of seat.old).work.made) ops.now) }
-    ensures unchanged { OnErr result ((seat.new ≡ seat.old) × (row.new ≡ row.old) × (memory.new ≡ memory.old) × (images.new ≡ images.old)) }
+    ensures unchanged { OnErr result ((seat.new ≡ seat.old) × (row.new ≡ row.old) × (memory.new ≡ memory.old)
+        × (images.new ≡ images.old)) }
 {
     row.try_apply(ops)?;
     let ended = scan_own(board, seat, memory);

@@ -21,7 +21,8 @@ pub struct Worker<const N: usize, const C: usize, const H: usize, const G: usize
     pub(crate) images: BufferImages,
     ghost geometry: { IsGeometry N C H G },
     ghost inside: { index < N },
-    ghost holds: { ForSome seat (λ s. IsFitOfSeat N C H G index number row.value memory images.hidden.items images.shown.items images.recent images.late images.own (index_of s) (worker_of s)) },
+    ghost holds: { ForSome seat (λ s. IsFitOfSeat N C H G index number row.value memory images.hidden.items images.shown.items
+        images.recent images.late images.own (index_of s) (worker_of s)) },
     ghost seen: { ForSome seat (λ s. HasSeenOwn index (worker_of s)) },
 }
 

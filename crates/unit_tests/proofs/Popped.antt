@@ -22,5 +22,6 @@ module _ {Y : Type 0} where
       (both x y us vs (heads _ _ _ _ e) rest.0, rest.1)
 
 module _ {X Y : Type 0} where
-  pub popped : (f : X → Y) (xs ys : List X) (x : X) (us : List Y) (u : Y) → xs ≡ ys ++ x ∷ [] → map f xs ≡ us ++ u ∷ [] → (map f ys ≡ us) × (f x ≡ u)
+  pub popped : (f : X → Y) (xs ys : List X) (x : X) (us : List Y) (u : Y) → xs ≡ ys ++ x ∷ [] → map f xs ≡ us ++ u ∷ []
+      → (map f ys ≡ us) × (f x ≡ u)
   popped f xs ys x us u is all = lasts (map f ys) us (f x) u (sym (map-append f ys (x ∷ [])) ∙ (ap (map f) (sym is) ∙ all))

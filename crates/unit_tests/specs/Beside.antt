@@ -10,4 +10,5 @@ use Rattle.snapshot_update.specs.Workers.{IsWorkerOf}
 
 -- that it is of the board has at most one proof
 pub IsWorkerOf-prop : {N C H G : ℕ} (b : Board N C H G) (w : Worker N C H G) → IsProp (IsWorkerOf b w)
-IsWorkerOf-prop b w = IsSomeAnd-prop w.seat (HasWorker b) (λ s. ×_prop (Coded-set table_id_coded (table_of (work_bundle s)) b.table.shared.table_id) le_prop)
+IsWorkerOf-prop b w = IsSomeAnd-prop w.seat (HasWorker b)
+    (λ s. ×_prop (Coded-set table_id_coded (table_of (work_bundle s)) b.table.shared.table_id) le_prop)

@@ -79,18 +79,22 @@ fn two_scan(
 ) -> Watches
     requires left { IsReaderOf board.now left × IsAlone left }
     requires right { IsReaderOf board.now right × IsAlone right }
-    ensures left { IfOk result.0 (λ w. IsReaderOf board.now w.reader × All (λ s. HasRecorded w.reader (as_answer s)) w.taken.items) }
-    ensures right { IfOk result.1 (λ w. IsReaderOf board.now w.reader × All (λ s. HasRecorded w.reader (as_answer s)) w.taken.items) }
+    ensures left { IfOk result.0 (λ w. IsReaderOf board.now w.reader
+        × All (λ s. HasRecorded w.reader (as_answer s)) w.taken.items) }
+    ensures right { IfOk result.1 (λ w. IsReaderOf board.now w.reader
+        × All (λ s. HasRecorded w.reader (as_answer s)) w.taken.items) }
 {
     join(
         rt,
         || -> Result<Watch, AllocError>
             requires { IsReaderOf board.now left × IsAlone left }
-            ensures { IfOk result (λ w. IsReaderOf board.entry.now w.reader × All (λ s. HasRecorded w.reader (as_answer s)) w.taken.items) }
+            ensures { IfOk result (λ w. IsReaderOf board.entry.now w.reader
+                × All (λ s. HasRecorded w.reader (as_answer s)) w.taken.items) }
         { scan_often(alloc, board, left) },
         || -> Result<Watch, AllocError>
             requires { IsReaderOf board.now right × IsAlone right }
-            ensures { IfOk result (λ w. IsReaderOf board.entry.now w.reader × All (λ s. HasRecorded w.reader (as_answer s)) w.taken.items) }
+            ensures { IfOk result (λ w. IsReaderOf board.entry.now w.reader
+                × All (λ s. HasRecorded w.reader (as_answer s)) w.taken.items) }
         { scan_often(alloc, board, right) },
     )
 }
@@ -317,8 +321,10 @@ fn all_at_once(
     requires left { IsReaderOf board.now left × IsAlone left }
     requires right { IsReaderOf board.now right × IsAlone right }
     ensures workers { IfOk result.0 (λ v. All (IsWorkerOf board.now) v.items) }
-    ensures left { IfOk result.1.0 (λ w. IsReaderOf board.now w.reader × All (λ s. HasRecorded w.reader (as_answer s)) w.taken.items) }
-    ensures right { IfOk result.1.1 (λ w. IsReaderOf board.now w.reader × All (λ s. HasRecorded w.reader (as_answer s)) w.taken.items) }
+    ensures left { IfOk result.1.0 (λ w. IsReaderOf board.now w.reader
+        × All (λ s. HasRecorded w.reader (as_answer s)) w.taken.items) }
+    ensures right { IfOk result.1.1 (λ w. IsReaderOf board.now w.reader
+        × All (λ s. HasRecorded w.reader (as_answer s)) w.taken.items) }
 {
     join(
         rt,
@@ -328,7 +334,10 @@ fn all_at_once(
         { runs(rt, alloc, board, workers, jobs, &Open) },
         || -> Watches
             requires { IsReaderOf board.now left × IsAlone left × IsReaderOf board.now right × IsAlone right }
-            ensures { IfOk result.0 (λ w. IsReaderOf board.entry.now w.reader × All (λ s. HasRecorded w.reader (as_answer s)) w.taken.items) × IfOk result.1 (λ w. IsReaderOf board.entry.now w.reader × All (λ s. HasRecorded w.reader (as_answer s)) w.taken.items) }
+            ensures { IfOk result.0 (λ w. IsReaderOf board.entry.now w.reader
+                × All (λ s. HasRecorded w.reader (as_answer s)) w.taken.items)
+                × IfOk result.1 (λ w. IsReaderOf board.entry.now w.reader
+                × All (λ s. HasRecorded w.reader (as_answer s)) w.taken.items) }
         { two_scan(rt, alloc, board, left, right) },
     )
 }

@@ -1,5 +1,6 @@
 -- What the threads promised and kept is how the run ended.
-use Rattle.std.proofs.Common.{◌≡◌, ℕ, zero, suc, ◌<◌, ◌≤◌, List, [], ◌∷◌, length, map, All, get_or, Result, Ok, Err, IfOk, IfErr, refl, subst, arith, Bool}
+use Rattle.std.proofs.Common.{◌≡◌, ℕ, zero, suc, ◌<◌, ◌≤◌, List, [], ◌∷◌, length, map, All, get_or, Result, Ok, Err, IfOk, IfErr}
+use Rattle.std.proofs.Common.{refl, subst, arith, Bool}
 use Rattle.std.specs.declared.vec.Vec.{Vec}
 use Rattle.std.specs.declared.alloc.Global.{Global}
 use mathlib.Core.Option.{some}
@@ -26,19 +27,22 @@ item_at (x ∷ xs) zero lt = (x, refl)
 item_at (x ∷ xs) (suc i) lt = item_at xs i (omega (arith, lt))
 
 -- each of the workers that a pool hands back is the board's
-pub all_own : {N C H G : ℕ} (b : Board N C H G) (lists : List (List Job)) (ws vs : List (Worker N C H G)) → length lists ≡ length ws → DidAll b lists ws vs → All (IsWorkerOf b) vs
+pub all_own : {N C H G : ℕ} (b : Board N C H G) (lists : List (List Job)) (ws vs : List (Worker N C H G))
+    → length lists ≡ length ws → DidAll b lists ws vs → All (IsWorkerOf b) vs
 all_own b lists ws vs long did = λ k d lt.
     let whole = did.all in
     let jobs = item_at lists k (omega (arith, lt, whole, long)) in
     let w = item_at ws k (omega (arith, lt, whole)) in
     (did.each k jobs.0 w.0 (get_or vs k d) jobs.1 w.1 (there vs k d lt)).own
 
-pub own_back : {N C H G : ℕ} (b : Board N C H G) (lists : List (List Job)) (ws : List (Worker N C H G)) (r : Result (Vec (Worker N C H G) Global) PoolFault) → length lists ≡ length ws
+pub own_back : {N C H G : ℕ} (b : Board N C H G) (lists : List (List Job)) (ws : List (Worker N C H G))
+    (r : Result (Vec (Worker N C H G) Global) PoolFault) → length lists ≡ length ws
     → IfOk r (λ v. DidAll b lists ws v.items) → IfOk r (λ v. All (IsWorkerOf b) v.items)
 own_back b lists ws (Ok v) long did = all_own b lists ws v.items long did
 own_back b lists ws (Err f) long did = tt
 
-module _ {N C H G : ℕ} (always : Bool) (b : Board N C H G) (lists : List (List Job)) (ws : List (Worker N C H G)) {Q : Type 0} (lists_of : Q → List (List Job)) (hs : List (Handle Q N C H G)) (pledged : ArePledged lists_of always b lists ws hs) where
+module _ {N C H G : ℕ} (always : Bool) (b : Board N C H G) (lists : List (List Job)) (ws : List (Worker N C H G)) {Q : Type 0}
+    (lists_of : Q → List (List Job)) (hs : List (Handle Q N C H G)) (pledged : ArePledged lists_of always b lists ws hs) where
   ended : (ends : List (End N C H G)) → length hs ≤ length ws → HaveKept lists_of hs ends → AreEnds always b lists ws ends
   ended ends few kept =
       let same = kept.all in record {
@@ -50,9 +54,12 @@ module _ {N C H G : ℕ} (always : Bool) (b : Board N C H G) (lists : List (List
             let promise = h.0.promise in
             subst (λ (x : Worker N C H G). IsWorkEnd always b i jobs x end) p.worker
             (subst (λ (x : List Job). IsWorkEnd always b i x promise.was.value end) p.jobs_are
-            (subst (λ (x : ℕ). IsWorkEnd always b x (jobs_at (lists_of promise.lists.now) promise.place) promise.was.value end) p.place_is
-            (subst (λ (x : Board N C H G). IsWorkEnd always x promise.place (jobs_at (lists_of promise.lists.now) promise.place) promise.was.value end) p.board
-            (subst (λ (x : Bool). IsWorkEnd x promise.board.now promise.place (jobs_at (lists_of promise.lists.now) promise.place) promise.was.value end) p.always_open_is (kept.each i h.0 end h.1 came)))));
+            (subst (λ (x : ℕ). IsWorkEnd always b x (jobs_at (lists_of promise.lists.now) promise.place) promise.was.value end)
+            p.place_is
+            (subst (λ (x : Board N C H G). IsWorkEnd always x promise.place (jobs_at (lists_of promise.lists.now) promise.place)
+            promise.was.value end) p.board
+            (subst (λ (x : Bool). IsWorkEnd x promise.board.now promise.place (jobs_at (lists_of promise.lists.now) promise.place)
+            promise.was.value end) p.always_open_is (kept.each i h.0 end h.1 came)))));
       }
 
   did_all : (vs : List (Worker N C H G)) → length hs ≡ length ws → HaveKept lists_of hs (map Ok vs) → DidAll b lists ws vs
@@ -64,12 +71,14 @@ module _ {N C H G : ℕ} (always : Bool) (b : Board N C H G) (lists : List (List
       }
 
   -- where a pool of so many workers hands them back, all of them did their jobs
-  pub handed_back : (many : ℕ) (ends : List (End N C H G)) (r : Result (Vec (Worker N C H G) Global) PoolFault) → many ≡ length ws → HaveKept lists_of hs ends → length hs ≤ length ws
+  pub handed_back : (many : ℕ) (ends : List (End N C H G)) (r : Result (Vec (Worker N C H G) Global) PoolFault) → many ≡ length ws
+      → HaveKept lists_of hs ends → length hs ≤ length ws
       → IfOk r (λ v. (ends ≡ map Ok v.items) × (many ≤ length ends)) → IfOk r (λ v. DidAll b lists ws v.items)
   handed_back many ends (Err f) whole kept few out = tt
   handed_back many ends (Ok v) whole kept few out =
       let same = kept.all in let most = out.1 in
-      did_all v.items (omega (arith, whole, same, few, most)) (subst (λ (l : List (End N C H G)). HaveKept lists_of hs l) out.0 kept)
+      did_all v.items (omega (arith, whole, same, few, most))
+      (subst (λ (l : List (End N C H G)). HaveKept lists_of hs l) out.0 kept)
 
   fault_of : (f : PoolFault) → 0 < length ws → IsFirstFault always b lists ws f → IsPoolFault always b lists ws f
   fault_of (Refused line number) one first = first
@@ -78,8 +87,13 @@ module _ {N C H G : ℕ} (always : Bool) (b : Board N C H G) (lists : List (List
   fault_of NoMemory one first = one
 
   -- where it does not, its first fault is told
-  pub told : (many : ℕ) (ends : List (End N C H G)) (r : Result (Vec (Worker N C H G) Global) PoolFault) → many ≡ length ws → HaveKept lists_of hs ends → length hs ≤ length ws → 0 < length ws
+  pub told : (many : ℕ) (ends : List (End N C H G)) (r : Result (Vec (Worker N C H G) Global) PoolFault) → many ≡ length ws
+      → HaveKept lists_of hs ends → length hs ≤ length ws → 0 < length ws
       → IfErr r (IsLeast (Occurred many ends)) → IfErr r (IsPoolFault always b lists ws)
   told many ends (Ok v) whole kept few one least = tt
   told many ends (Err f) whole kept few one least =
-      fault_of f one (record { ends = ends; truly = ended ends few kept; told = subst (λ (n : ℕ). IsLeast (Occurred n ends) f) whole least })
+      fault_of f one (record {
+        ends = ends;
+        truly = ended ends few kept;
+        told = subst (λ (n : ℕ). IsLeast (Occurred n ends) f) whole least;
+      })

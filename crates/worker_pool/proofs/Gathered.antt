@@ -1,5 +1,6 @@
 -- Results that are gathered, one after the other.
-use Rattle.std.proofs.Common.{◌≡◌, ⊎_elim, inl, inr, ℕ, zero, suc, ◌<◌, ◌≤◌, List, [], ◌∷◌, ◌++◌, length, map, Option, Some, None, Ok, Err, sym, refl, ap, ◌∙◌, subst, append_assoc, arith}
+use Rattle.std.proofs.Common.{◌≡◌, ⊎_elim, inl, inr, ℕ, zero, suc, ◌<◌, ◌≤◌, List, [], ◌∷◌, ◌++◌, length, map, Option, Some, None}
+use Rattle.std.proofs.Common.{Ok, Err, sym, refl, ap, ◌∙◌, subst, append_assoc, arith}
 use mathlib.Core.Option.{some-injective, some-ne-none}
 use Rattle.std.proofs.lemmas.List.{append-nil, map-append}
 use Rattle.register_rule.proofs.Words.{at_below, last_is}
@@ -25,7 +26,8 @@ module _ {N C H G : ℕ} where
   none_at (v ∷ vs) zero f e = not_both v f (some-injective (Ok v) (Err f) e)
   none_at (v ∷ vs) (suc i) f e = none_at vs i f e
 
-  best_of : (ends : List (End N C H G)) (vs : List (Worker N C H G)) (o : Option PoolFault) → Gathers ends vs o → Best (EndedBy ends) o
+  best_of : (ends : List (End N C H G)) (vs : List (Worker N C H G)) (o : Option PoolFault) → Gathers ends vs o
+      → Best (EndedBy ends) o
   best_of ends vs None all = λ i g met. none_at vs i g (subst (λ (l : List (End N C H G)). EndedBy l i g) all met)
   best_of ends vs (Some f) least = least
 
@@ -71,7 +73,8 @@ module _ {N C H G : ℕ} where
     }
 
     -- one more fault was met
-    pub gathered_err : (h told : PoolFault) → AreGathered ends (Err h ∷ rest) vs o → IsEarlier o h told → AreGathered ends rest vs (Some told)
+    pub gathered_err : (h told : PoolFault) → AreGathered ends (Err h ∷ rest) vs o → IsEarlier o h told
+        → AreGathered ends rest vs (Some told)
     gathered_err h told was is = record {
       before = was.before ++ Err h ∷ [];
       split = was.split ∙ sym (append_assoc was.before (Err h ∷ []) rest);
@@ -84,7 +87,8 @@ module _ {N C H G : ℕ} where
     all_gathered o was = subst (λ (l : List (End N C H G)). Gathers l vs o) (sym (was.split ∙ append-nil was.before)) was.gathers
 
     -- there was no thread for the next worker
-    pub told_of_fewer : (n : ℕ) (o : Option PoolFault) (told : PoolFault) → length ends < n → AreGathered ends [] vs o → IsEarlier o (NoThread (length ends)) told
+    pub told_of_fewer : (n : ℕ) (o : Option PoolFault) (told : PoolFault) → length ends < n → AreGathered ends [] vs o
+        → IsEarlier o (NoThread (length ends)) told
         → IsLeast (Occurred n ends) told
     told_of_fewer n o told fewer was is =
         least_more (EndedBy ends) (Occurred n ends) (length ends) (NoThread (length ends))
@@ -98,7 +102,8 @@ module _ {N C H G : ℕ} where
     pub told_of_all : (n : ℕ) (f : PoolFault) → n ≤ length ends → AreGathered ends [] vs (Some f) → IsLeast (Occurred n ends) f
     told_of_all n f many was =
         let least : IsLeast (EndedBy ends) f = all_gathered (Some f) was in
-        let old : (i : ℕ) (g : PoolFault) → Occurred n ends i g → EndedBy ends i g = λ i g met. ⊎_elim (λ m. m) (λ t. absurd (let lt = t.1 in omega (arith, lt, many))) met in record {
+        let old : (i : ℕ) (g : PoolFault) → Occurred n ends i g → EndedBy ends i g = λ i g met. ⊎_elim (λ m. m)
+        (λ t. absurd (let lt = t.1 in omega (arith, lt, many))) met in record {
           place = least.place;
           met = inl least.met;
           first = λ i g met. least.first i g (old i g met);

@@ -20,7 +20,8 @@ Handle Q N C H G = PromisedHandle (Result (Worker N C H G) PoolFault) (Does Q N 
 
 module _ {N C H G : ℕ} {Q : Type 0} (lists_of : Q → List (List Job)) where
   abbrev pub Keeps : Handle Q N C H G → End N C H G → Type 0
-  Keeps h r = IsWorkEnd h.promise.always_open h.promise.board.now h.promise.place (jobs_at (lists_of h.promise.lists.now) h.promise.place) h.promise.was.value r
+  Keeps h r = IsWorkEnd h.promise.always_open h.promise.board.now h.promise.place
+      (jobs_at (lists_of h.promise.lists.now) h.promise.place) h.promise.was.value r
 
   -- of these threads those that stand before the rest are joined, and these are their results
   pub record HaveJoined (hs rest : List (Handle Q N C H G)) (ends : List (End N C H G)) : Type 0 where
@@ -62,4 +63,5 @@ module _ {N C H G : ℕ} {Q : Type 0} (lists_of : Q → List (List Job)) where
 
   -- all threads are joined
   pub all_joined : (hs : List (Handle Q N C H G)) (ends : List (End N C H G)) → HaveJoined hs [] ends → HaveKept lists_of hs ends
-  all_joined hs ends was = subst (λ (l : List (Handle Q N C H G)). HaveKept lists_of l ends) (sym (was.split ∙ append-nil was.before)) was.kept
+  all_joined hs ends was = subst (λ (l : List (Handle Q N C H G)). HaveKept lists_of l ends)
+      (sym (was.split ∙ append-nil was.before)) was.kept

@@ -1,5 +1,6 @@
 -- Behind a gate that is always open no fault has the number of a shut gate.
-use Rattle.std.proofs.Common.{◌≡◌, ◌≢◌, ⊎_elim, ℕ, List, length, Result, Ok, Err, IfErr, sym, subst, ◌∙◌, arith, Bool, true, false}
+use Rattle.std.proofs.Common.{◌≡◌, ◌≢◌, ⊎_elim, ℕ, List, length, Result, Ok, Err, IfErr, sym, subst, ◌∙◌, arith, Bool, true}
+use Rattle.std.proofs.Common.{false}
 use Rattle.std.specs.declared.vec.Vec.{Vec}
 use Rattle.std.specs.declared.alloc.Global.{Global}
 use Rattle.ledger_core.specs.declared.op_fault.OpFault.TheVariants.{OutOfGeometry, TooLarge}
@@ -28,9 +29,11 @@ of_worker (Apply (apply.Refused (TooLarge place))) e = omega (arith, e)
 no_thread : (place : ℕ) (f : PoolFault) → f ≡ NoThread place → pool_fault_number f ≢ 29
 no_thread place f e = subst (λ (x : PoolFault). pool_fault_number x ≢ 29) (sym e) (λ n. omega (arith, n))
 
-module _ {N C H G : ℕ} (b : Board N C H G) (lists : List (List Job)) (ws : List (Worker N C H G)) (long : length lists ≡ length ws) where
+module _ {N C H G : ℕ} (b : Board N C H G) (lists : List (List Job)) (ws : List (Worker N C H G))
+    (long : length lists ≡ length ws) where
   -- no worker ended by a fault of this number
-  not_by : (place : ℕ) (jobs : List Job) (w : Worker N C H G) (f : PoolFault) → IsWorkEnd true b place jobs w (Err f) → pool_fault_number f ≢ 29
+  not_by : (place : ℕ) (jobs : List Job) (w : Worker N C H G) (f : PoolFault) → IsWorkEnd true b place jobs w (Err f)
+      → pool_fault_number f ≢ 29
   not_by place jobs w (Refused line number) refused e = of_worker refused.fault (sym refused.number_is ∙ e)
   not_by place jobs w (GateShut worker) shut e = absurd (let t : true ≡ false = shut.1 in cc)
   not_by place jobs w (NoThread worker) end e = end
@@ -53,6 +56,7 @@ module _ {N C H G : ℕ} (b : Board N C H G) (lists : List (List Job)) (ws : Lis
   not_told NoMemory is = λ e. omega (arith, e)
 
   -- a pool behind a gate that is always open does not tell one that shut
-  pub never_shut : (always : Bool) (r : Result (Vec (Worker N C H G) Global) PoolFault) → IfErr r (IsPoolFault always b lists ws) → always ≡ true → IfErr r (λ f. pool_fault_number f ≢ 29)
+  pub never_shut : (always : Bool) (r : Result (Vec (Worker N C H G) Global) PoolFault) → IfErr r (IsPoolFault always b lists ws)
+      → always ≡ true → IfErr r (λ f. pool_fault_number f ≢ 29)
   never_shut always (Ok v) told opened = tt
   never_shut always (Err f) told opened = not_told f (subst (λ (x : Bool). IsPoolFault x b lists ws f) opened told)

@@ -26,7 +26,8 @@ module _ {A : Type 0} where
 
   -- one more item of the beginning of a list
   pub take_next : (k : ℕ) (xs : List A) (x : A) → get_elem? xs k ≡ some x → take (k + 1) xs ≡ take k xs ++ x ∷ []
-  take_next k xs x e = let h : suc k ≡ k + 1 = omega arith in subst (λ (j : ℕ). take j xs ≡ take k xs ++ x ∷ []) h (taken_then k xs x e)
+  take_next k xs x e = let h : suc k ≡ k + 1 = omega arith in
+      subst (λ (j : ℕ). take j xs ≡ take k xs ++ x ∷ []) h (taken_then k xs x e)
 
   -- what stands in a list stands there still when the list grows
   pub stays : (xs : List A) (y : A) (k : ℕ) (x : A) → get_elem? xs k ≡ some x → get_elem? (xs ++ y ∷ []) k ≡ some x

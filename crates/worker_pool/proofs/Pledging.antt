@@ -9,9 +9,12 @@ use Rattle.worker_pool.specs.declared.job.Job.{Job}
 use Rattle.worker_pool.specs.Pledges.{IsPledged, ArePledged}
 use Rattle.worker_pool.proofs.Joined.{Handle}
 
-module _ {N C H G : ℕ} {Q : Type 0} (lists_of : Q → List (List Job)) (always : Bool) (b : Board N C H G) (lists : List (List Job)) (ws : List (Worker N C H G)) (hs : List (Handle Q N C H G)) where
-  pub pledged_more : (h : Handle Q N C H G) (place : ℕ) (jobs : List Job) (w : Worker N C H G) → length hs ≡ place → get_elem? lists place ≡ some jobs → get_elem? ws place ≡ some w
-      → IsPledged lists_of always b place jobs w h.promise → ArePledged lists_of always b lists ws hs → ArePledged lists_of always b lists ws (hs ++ h ∷ [])
+module _ {N C H G : ℕ} {Q : Type 0} (lists_of : Q → List (List Job)) (always : Bool) (b : Board N C H G) (lists : List (List Job))
+    (ws : List (Worker N C H G)) (hs : List (Handle Q N C H G)) where
+  pub pledged_more : (h : Handle Q N C H G) (place : ℕ) (jobs : List Job) (w : Worker N C H G) → length hs ≡ place
+      → get_elem? lists place ≡ some jobs → get_elem? ws place ≡ some w
+      → IsPledged lists_of always b place jobs w h.promise → ArePledged lists_of always b lists ws hs
+      → ArePledged lists_of always b lists ws (hs ++ h ∷ [])
   pledged_more h place jobs w long at here new old i js v u at' here' there = ⊎_elim
       (λ was. old i js v u at' here' was)
       (λ last.

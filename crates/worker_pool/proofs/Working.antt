@@ -1,5 +1,6 @@
 -- One more job is done.
-use Rattle.std.proofs.Common.{refl, Bool, true, false, ◌≡◌, ℕ, ◌+◌, List, [], ◌∷◌, ◌++◌, take, map, All, sym, ap, ◌∙◌, subst, append_assoc}
+use Rattle.std.proofs.Common.{refl, Bool, true, false, ◌≡◌, ℕ, ◌+◌, List, [], ◌∷◌, ◌++◌, take, map, All, sym, ap, ◌∙◌, subst}
+use Rattle.std.proofs.Common.{append_assoc}
 use mathlib.Core.Option.{some}
 use lib.ListN.{get_elem?}
 use Rattle.std.proofs.lemmas.List.{map-append}
@@ -15,7 +16,8 @@ use Rattle.worker_pool.specs.Works.{Did}
 use Rattle.worker_pool.proofs.Places.{take_next}
 
 module _ {N C H G : ℕ} (b : Board N C H G) (jobs : List Job) (w u v : Worker N C H G) where
-  pub did_more : (k : ℕ) (job : Job) → get_elem? jobs k ≡ some job → Did b (take k jobs) w u → IsWorkerOf b v → index_of v ≡ index_of u
+  pub did_more : (k : ℕ) (job : Job) → get_elem? jobs k ≡ some job → Did b (take k jobs) w u → IsWorkerOf b v
+      → index_of v ≡ index_of u
       → IsCounted (board_id b) (registry_of job.what) (op_of job.what) u v → Did b (take (k + 1) jobs) w v
   did_more k job at did own index counted =
       let next = take_next k jobs job at in record {
@@ -23,8 +25,10 @@ module _ {N C H G : ℕ} (b : Board N C H G) (jobs : List Job) (w u v : Worker N
         index = index ∙ did.index;
         lists = counted.lists ∙ (ap (λ (l : List (List Op)). l ++ list_of_job job ∷ []) did.lists
             ∙ (append_assoc (lists_of w) (map list_of_job (take k jobs)) (list_of_job job ∷ [])
-            ∙ ap (λ (l : List (List Op)). lists_of w ++ l) (sym (ap (map list_of_job) next ∙ map-append list_of_job (take k jobs) (job ∷ [])))));
-        handles = subst (All (λ (j : Job). registry_of j.what ≡ board_id b)) (sym next) (All-push (λ (j : Job). registry_of j.what ≡ board_id b) (take k jobs) job did.handles counted.of_it);
+            ∙ ap (λ (l : List (List Op)). lists_of w ++ l)
+            (sym (ap (map list_of_job) next ∙ map-append list_of_job (take k jobs) (job ∷ [])))));
+        handles = subst (All (λ (j : Job). registry_of j.what ≡ board_id b)) (sym next)
+            (All-push (λ (j : Job). registry_of j.what ≡ board_id b) (take k jobs) job did.handles counted.of_it);
       }
 
 -- what is never false where the gate is always open was false, so it is not

@@ -14,22 +14,27 @@ module _ {N C H G : ℕ} where
   -- from ws to vs each worker did the jobs of the list at its place, and stands at its old place
   pub record DidAll (b : Board N C H G) (lists : List (List Job)) (ws vs : List (Worker N C H G)) : Type 0 where
     pub all : length vs ≡ length ws
-    pub each : (i : ℕ) (jobs : List Job) (w v : Worker N C H G) → get_elem? lists i ≡ some jobs → get_elem? ws i ≡ some w → get_elem? vs i ≡ some v
+    pub each : (i : ℕ) (jobs : List Job) (w v : Worker N C H G) → get_elem? lists i ≡ some jobs → get_elem? ws i ≡ some w
+        → get_elem? vs i ≡ some v
         → Did b jobs w v
 
   -- the ends of the workers that got a thread, which are the first ones: so each of them truly ended
-  pub record AreEnds (always_open : Bool) (b : Board N C H G) (lists : List (List Job)) (ws : List (Worker N C H G)) (ends : List (Result (Worker N C H G) PoolFault)) : Type 0 where
+  pub record AreEnds (always_open : Bool) (b : Board N C H G) (lists : List (List Job)) (ws : List (Worker N C H G))
+      (ends : List (Result (Worker N C H G) PoolFault)) : Type 0 where
     pub few : length ends ≤ length ws
-    pub each : (i : ℕ) (jobs : List Job) (w : Worker N C H G) (end : Result (Worker N C H G) PoolFault) → get_elem? lists i ≡ some jobs → get_elem? ws i ≡ some w
+    pub each : (i : ℕ) (jobs : List Job) (w : Worker N C H G) (end : Result (Worker N C H G) PoolFault)
+        → get_elem? lists i ≡ some jobs → get_elem? ws i ≡ some w
         → get_elem? ends i ≡ some end → IsWorkEnd always_open b i jobs w end
 
   -- this fault occurred at this place, in a run of n workers of which those that got a thread ended so: the worker there ended by
   -- it, or is the next one, for which there was no thread
   abbrev pub Occurred : (n : ℕ) → List (Result (Worker N C H G) PoolFault) → (place : ℕ) → PoolFault → Type 0
-  Occurred n ends place f = (get_elem? ends place ≡ some (Err f)) ⊎ ((place ≡ length ends) × (length ends < n) × (f ≡ NoThread place))
+  Occurred n ends place f = (get_elem? ends place ≡ some (Err f))
+      ⊎ ((place ≡ length ends) × (length ends < n) × (f ≡ NoThread place))
 
   -- the fault that is told: of those that occurred the one of the least kind, then of the least line, then of the least worker
-  pub record IsFirstFault (always_open : Bool) (b : Board N C H G) (lists : List (List Job)) (ws : List (Worker N C H G)) (f : PoolFault) : Type 0 where
+  pub record IsFirstFault (always_open : Bool) (b : Board N C H G) (lists : List (List Job)) (ws : List (Worker N C H G))
+      (f : PoolFault) : Type 0 where
     pub ends : List (Result (Worker N C H G) PoolFault)
     pub truly : AreEnds always_open b lists ws ends
     pub told : IsLeast (Occurred (length ws) ends) f

@@ -43,7 +43,8 @@ module _ {N C H G : ℕ} where
 
   -- how the work of the worker at this place, on its thread, ends: it did all its jobs, or was refused one, or was shut
   -- out, by a gate that is not always open
-  abbrev pub IsWorkEnd : (always_open : Bool) → Board N C H G → (place : ℕ) → List Job → Worker N C H G → Result (Worker N C H G) PoolFault → Type 0
+  abbrev pub IsWorkEnd : (always_open : Bool) → Board N C H G → (place : ℕ) → List Job → Worker N C H G
+      → Result (Worker N C H G) PoolFault → Type 0
   IsWorkEnd always_open b place jobs w (Ok v) = Did b jobs w v
   IsWorkEnd always_open b place jobs w (Err (Refused line number)) = WasRefused b jobs w line number
   IsWorkEnd always_open b place jobs w (Err (GateShut worker)) = (worker ≡ place) × (always_open ≡ false) × WasShutOut b jobs w

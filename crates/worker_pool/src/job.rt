@@ -44,8 +44,10 @@ impl Job {
         requires own { IsWorkerOf board.now worker.old }
         ensures own { IsWorkerOf board.now worker.new }
         ensures index { index_of worker.new ≡ index_of worker.old }
-        ensures counted { OnOk result (IsCounted (board_id board.now) (registry_of self.now.what) (op_of self.now.what) worker.old worker.new) }
-        ensures fault { IfErr result (IsCountFault C H G (board_id board.now) (registry_of self.now.what) (op_of self.now.what) (member_of worker.old)) }
+        ensures counted { OnOk result
+            (IsCounted (board_id board.now) (registry_of self.now.what) (op_of self.now.what) worker.old worker.new) }
+        ensures fault { IfErr result (IsCountFault C H G (board_id board.now) (registry_of self.now.what) (op_of self.now.what)
+            (member_of worker.old)) }
     {
         match &self.what {
             JobOp::Inc(counter, by) => worker.inc(board, counter, *by),

@@ -89,7 +89,10 @@ pub fn run_lists<
         rt,
         |scope| -> Result<Vec<Worker<N, C, H, G>>, PoolFault>
             requires { (length (Q.lists lists.now) ≡ vec_len workers) × All (IsWorkerOf board.now) workers.items }
-            ensures { IfOk result (λ v. DidAll board.entry.now (Q.lists lists.entry.now) workers.items v.items × All (IsWorkerOf board.entry.now) v.items) × IfErr result (IsPoolFault P.ALWAYS_OPEN board.entry.now (Q.lists lists.entry.now) workers.items) × (P.ALWAYS_OPEN ≡ true → IfErr result (λ f. pool_fault_number f ≢ 29)) }
+            ensures { IfOk result (λ v. DidAll board.entry.now (Q.lists lists.entry.now) workers.items v.items
+                × All (IsWorkerOf board.entry.now) v.items)
+                × IfErr result (IsPoolFault P.ALWAYS_OPEN board.entry.now (Q.lists lists.entry.now) workers.items)
+                × (P.ALWAYS_OPEN ≡ true → IfErr result (λ f. pool_fault_number f ≢ 29)) }
         { run_in(rt, scope, alloc, board, workers, lists, gate) },
     )
 }

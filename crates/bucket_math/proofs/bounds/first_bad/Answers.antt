@@ -4,4 +4,5 @@ use Rattle.bucket_math.proofs.bounds.first_bad.Goals as goal
 
 pub loop-at-preserved : goal.loop-at-preserved
 loop-at-preserved c =
-    bounds_more c.args.bounds.now c.loop-at.at c.loop-at-test.true c.loop-at.invariant (iff_false c.is_bad.ensures c.if-is_bad.false)
+    bounds_more c.args.bounds.now c.loop-at.at c.loop-at-test.true c.loop-at.invariant
+    (iff_false c.is_bad.ensures c.if-is_bad.false)

@@ -35,4 +35,5 @@ loop-i-preserved g c = λ j below.
     (λ other. c.loop-i.invariant j (omega (arith, below, other)))
 
 pub returns-clause-none : goal.returns-clause-none
-returns-clause-none g c = λ i lt. (c.present.ensures.marks i lt).0 (c.loop-i.invariant i (let f = c.loop-i-test.false in omega (arith, lt, f)))
+returns-clause-none g c = λ i lt. (c.present.ensures.marks i lt).0
+    (c.loop-i.invariant i (let f = c.loop-i-test.false in omega (arith, lt, f)))

@@ -9,4 +9,5 @@ use Rattle.chain_law.proofs.gathering.present.Given as goal
 abbrev pub invariant-loop-k : goal.invariant-loop-k
 invariant-loop-k g l = (i : ℕ) → i < g.row.N
     → (get_elem? l.marks i ≡ some true → HasIndex l.workers i)
-    × (get_elem? l.marks i ≡ some false → (p : ℕ) (w : Worker g.row.N g.row.C g.row.H g.row.G) → p < l.k → get_elem? l.workers p ≡ some w → index_of w ≢ i)
+    × (get_elem? l.marks i ≡ some false → (p : ℕ) (w : Worker g.row.N g.row.C g.row.H g.row.G) → p < l.k
+    → get_elem? l.workers p ≡ some w → index_of w ≢ i)

@@ -41,26 +41,35 @@ loop-k-preserved g c =
     let now : get_elem? ws k ≡ some x = there ws k c.index-workers-k.result (omega (arith, lt, long)) in
     let here : get_elem? vs k ≡ some x = sym (inv.others k (omega arith)) ∙ now in
     let t = inv.lent k x (omega arith) now in
-    let is : member_of b.new.self ≡ t.0 = is_picked (index_of x) t.0 (member_of b.new.self) (members_with r) t.1.there b.ensures.member in
+    let is : member_of b.new.self ≡ t.0 = is_picked (index_of x) t.0 (member_of b.new.self) (members_with r) t.1.there
+    b.ensures.member in
     record {
       own = b.ensures.own.1 ∙ sym c.requires.own;
       index = b.ensures.index.1 ∙ inv.index;
       scan = (ap scan_of b.ensures.others ∙ sees_still (index_of x) r.index (members_with r) r.leads r.is) ∙ inv.scan;
-      free = λ p w below at. ⊎_elim (λ h. subst (IsWorkerOf c.args.board.now) h.1 b.ensures.own.0) (λ h. inv.free p w (let n = h.0 in omega (arith, below, n)) h.1) (from_set ws k p b.new.self w at);
-      back = back_more vs ws k x b.new.self c.args.reader.now r b.new.reader here c.requires.distinct b.ensures.index.0 inv.others b.ensures.others
+      free = λ p w below at. ⊎_elim (λ h. subst (IsWorkerOf c.args.board.now) h.1 b.ensures.own.0)
+          (λ h. inv.free p w (let n = h.0 in omega (arith, below, n)) h.1) (from_set ws k p b.new.self w at);
+      back = back_more vs ws k x b.new.self c.args.reader.now r b.new.reader here c.requires.distinct b.ensures.index.0 inv.others
+          b.ensures.others
           (subst (λ (m : _). IsWorkerAmong (index_of x) m (members_with c.args.reader.now)) (sym is) t.2) inv.back;
       left = left_more vs k x c.args.reader.now r b.new.reader here b.ensures.others inv.left;
-      lent = lent_still vs ws k x b.new.self c.args.reader.now r b.new.reader here c.requires.distinct b.ensures.index.0 inv.others b.ensures.others inv.lent;
+      lent = lent_still vs ws k x b.new.self c.args.reader.now r b.new.reader here c.requires.distinct b.ensures.index.0
+          inv.others b.ensures.others inv.lent;
       others = λ p le. set_else ws k p b.new.self (λ e. omega (arith, le, e)) ∙ inv.others p (omega (arith, le));
     }
 
 pub returns-clause-own : goal.returns-clause-own
 returns-clause-own g c =
-    let f = c.loop-k-test.false in let long = c.loop-k.auto.workers in
-    (c.loop-k.invariant.own ∙ c.requires.own, all_from (IsWorkerOf c.args.board.now) c.loop-k.workers (λ p w at. c.loop-k.invariant.free p w (let h = at_below c.loop-k.workers p w at in omega (arith, h, f, long)) at))
+    let f = c.loop-k-test.false in let long = c.loop-k.auto.workers in (
+      c.loop-k.invariant.own ∙ c.requires.own,
+      all_from (IsWorkerOf c.args.board.now) c.loop-k.workers
+          (λ p w at. c.loop-k.invariant.free p w (let h = at_below c.loop-k.workers p w at in omega (arith, h, f, long)) at),
+    )
 
 pub returns-clause-left : goal.returns-clause-left
-returns-clause-left g c = λ i m s. let t = c.loop-k.invariant.left i m s in let f = c.loop-k-test.false in let long = c.loop-k.auto.workers in (t.0, λ p w below. t.1 p w (omega (arith, below, f, long)))
+returns-clause-left g c = λ i m s. let t = c.loop-k.invariant.left i m s in let f = c.loop-k-test.false in
+    let long = c.loop-k.auto.workers in (t.0, λ p w below. t.1 p w (omega (arith, below, f, long)))
 
 pub returns-clause-back : goal.returns-clause-back
-returns-clause-back g c = λ p v w below its now. let f = c.loop-k-test.false in c.loop-k.invariant.back p v w (omega (arith, below, f)) its now
+returns-clause-back g c = λ p v w below its now. let f = c.loop-k-test.false in
+    c.loop-k.invariant.back p v w (omega (arith, below, f)) its now

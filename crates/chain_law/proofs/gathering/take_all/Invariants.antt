@@ -16,9 +16,11 @@ invariant-loop-k g l = record {
   own : table_of (bundle_of l.reader) ≡ table_of (bundle_of l.fn.reader);
   index : index_of l.reader ≡ index_of l.fn.reader;
   scan : scan_by l.reader ≡ scan_by l.fn.reader;
-  free : (p : ℕ) (w : Worker g.row.N g.row.C g.row.H g.row.G) → p < l.k → get_elem? l.workers p ≡ some w → IsWorkerOf l.fn.board w;
+  free : (p : ℕ) (w : Worker g.row.N g.row.C g.row.H g.row.G) → p < l.k → get_elem? l.workers p ≡ some w
+      → IsWorkerOf l.fn.board w;
   back : AreBackFrom l.k l.fn.workers l.workers l.fn.reader;
   left : HaveLeft l.k l.fn.workers l.fn.reader l.reader;
-  lent : (p : ℕ) (w : Worker g.row.N g.row.C g.row.H g.row.G) → l.k ≤ p → get_elem? l.workers p ≡ some w → (m : Member) × IsLentAs m w l.reader × IsWorkerAmong (worker_index w) m (members_with l.fn.reader);
+  lent : (p : ℕ) (w : Worker g.row.N g.row.C g.row.H g.row.G) → l.k ≤ p → get_elem? l.workers p ≡ some w → (m : Member)
+      × IsLentAs m w l.reader × IsWorkerAmong (worker_index w) m (members_with l.fn.reader);
   others : (p : ℕ) → l.k ≤ p → get_elem? l.workers p ≡ get_elem? l.fn.workers p;
 }

@@ -17,15 +17,21 @@ add_turns-requires-clause-all g c = c.vector-to.ensures.all ∙ sym c.vector_bef
 pub add_turns-requires-clause-rises : goal.add_turns-requires-clause-rises
 add_turns-requires-clause-rises g c =
     let l = c.args.snapshots.now in let k : ℕ = c.loop-k.k in let long = length-map l (λ (s : Taken). s.vector) in
-    let at : get_elem? (vectors_of l) k ≡ some c.vector-to.result.now = vector_at l k c.index-snapshots-k.result c.loop-k-test.true c.index-snapshots-k.is ∙ ap some (sym c.vector-to.ensures.numbers) in
-    rises_from g.row.N (vectors_of l) (λ j u v lt. c.in_default.ensures.none j u v (omega (arith, lt, long))) k c.vector_before-from.result.now c.vector-to.result.now c.vector_before-from.ensures at
+    let at : get_elem? (vectors_of l) k ≡ some c.vector-to.result.now =
+    vector_at l k c.index-snapshots-k.result c.loop-k-test.true c.index-snapshots-k.is
+    ∙ ap some (sym c.vector-to.ensures.numbers) in
+    rises_from g.row.N (vectors_of l) (λ j u v lt. c.in_default.ensures.none j u v (omega (arith, lt, long))) k
+    c.vector_before-from.result.now c.vector-to.result.now c.vector_before-from.ensures at
 
 pub loop-k-preserved : goal.loop-k-preserved
 loop-k-preserved g c =
-    let l = c.args.snapshots.now in let k : ℕ = c.loop-k.k in let u = c.vector_before-from.result.now in let v = c.vector-to.result.now in let grown = c.in_ok-add_turns.ensures in
-    let at : get_elem? (vectors_of l) k ≡ some v = vector_at l k c.index-snapshots-k.result c.loop-k-test.true c.index-snapshots-k.is ∙ ap some (sym c.vector-to.ensures.numbers) in
+    let l = c.args.snapshots.now in let k : ℕ = c.loop-k.k in let u = c.vector_before-from.result.now in
+    let v = c.vector-to.result.now in let grown = c.in_ok-add_turns.ensures in
+    let at : get_elem? (vectors_of l) k ≡ some v = vector_at l k c.index-snapshots-k.result c.loop-k-test.true
+    c.index-snapshots-k.is ∙ ap some (sym c.vector-to.ensures.numbers) in
     subst (IsHistory g.row.N _) (sym grown.1)
-    (history_next g.row.N (vectors_of l) c.loop-k.turns.items k u v grown.0 c.loop-k.invariant c.vector_before-from.ensures at c.vector-to.ensures.all
+    (history_next g.row.N (vectors_of l) c.loop-k.turns.items k u v grown.0 c.loop-k.invariant c.vector_before-from.ensures at
+    c.vector-to.ensures.all
     (subst (λ (n : ℕ). IsPiece n u v grown.0) c.vector_before-from.ensures.all grown.2))
 
 all_of : {A : Type 0} (xs : List A) (n : ℕ) → length xs ≤ n → take n xs ≡ xs
@@ -37,7 +43,8 @@ all_of (x ∷ xs) (suc n) h = ap (λ l. x ∷ l) (all_of xs n (omega (arith, h))
 pub returns-clause-history : goal.returns-clause-history
 returns-clause-history g c =
     let l = c.args.snapshots.now in let f = c.loop-k-test.false in let long = length-map l (λ (s : Taken). s.vector) in
-    subst (λ v. IsHistory g.row.N v c.loop-k.turns.items) (all_of (vectors_of l) c.loop-k.k (omega (arith, f, long))) c.loop-k.invariant
+    subst (λ v. IsHistory g.row.N v c.loop-k.turns.items) (all_of (vectors_of l) c.loop-k.k (omega (arith, f, long)))
+    c.loop-k.invariant
 
 pub returns-in-Some-clause-fault : goal.returns-in-Some-clause-fault
 returns-in-Some-clause-fault g c = c.in-Some.ensures.some

@@ -7,4 +7,5 @@ pub returns-then-number-eq0 : goal.returns-then-number-eq0
 returns-then-number-eq0 c = let none = c.if-number-eq0.true in ap length (sym (decimal_digit c.args.number (omega (arith, none))))
 
 pub returns : goal.returns
-returns c = sym (digits-count c.args.number c.ilog10.result c.ranges.number.fits c.ilog10.ensures.power_le c.ilog10.ensures.next_power_gt)
+returns c = sym (digits-count c.args.number c.ilog10.result c.ranges.number.fits c.ilog10.ensures.power_le
+    c.ilog10.ensures.next_power_gt)

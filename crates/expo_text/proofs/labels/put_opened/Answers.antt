@@ -20,8 +20,11 @@ loop-place-preserved g c =
     let value_is = c.index-values-place.is in
     let label = rw (c.mark.ensures, c.as_str.ensures.text, c.as_str-in-loop-place.ensures.text) at c.put_label.ensures in
     let text = opened-next names values place _ _ in_names c.requires name_is value_is in
-    let took = g.met.S.Sink.chain _ _ _ _ _ before.0 label in
-    (rw text at took, All-next IsLabelName names place _ in_names name_is before.1 c.as_str.ensures.grammar, All-next IsLabelValue values place _ in_values value_is before.2 c.as_str-in-loop-place.ensures.grammar)
+    let took = g.met.S.Sink.chain _ _ _ _ _ before.0 label in (
+      rw text at took,
+      All-next IsLabelName names place _ in_names name_is before.1 c.as_str.ensures.grammar,
+      All-next IsLabelValue values place _ in_values value_is before.2 c.as_str-in-loop-place.ensures.grammar,
+    )
 
 pub returns : goal.returns
 returns g c =
@@ -31,6 +34,7 @@ returns g c =
     let done = c.loop-place-test.false in
     let all_names : take place names ≡ names = take_all place names done in
     let all_values : take place values ≡ values = take_all place values (omega (arith, done, c.requires)) in
-    let all : take place (zip names values) ≡ zip names values = take_all place (zip names values) (rw length-zip (omega (arith, done))) in
+    let all : take place (zip names values) ≡ zip names values = take_all place (zip names values)
+    (rw length-zip (omega (arith, done))) in
     let so_far = c.loop-place.invariant in
     record { text = rw all at so_far.0; names = rw all_names at so_far.1; values = rw all_values at so_far.2 }

@@ -8,4 +8,5 @@ use Rattle.expo_text.proofs.labels.put_opened.Given as goal
 -- the labels so far
 abbrev pub invariant-loop-place : goal.invariant-loop-place
 invariant-loop-place g l =
-    g.S.Sink.took l.fn.sink l.sink (opened (take l.place (zip l.names l.values))) × All IsLabelName (take l.place l.names) × All IsLabelValue (take l.place l.values)
+    g.S.Sink.took l.fn.sink l.sink (opened (take l.place (zip l.names l.values))) × All IsLabelName (take l.place l.names)
+    × All IsLabelValue (take l.place l.values)

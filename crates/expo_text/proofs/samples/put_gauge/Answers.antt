@@ -5,6 +5,7 @@ use Rattle.expo_text.proofs.samples.put_gauge.Goals as goal
 
 pub returns-clause-text : goal.returns-clause-text
 returns-clause-text g c =
-    let line = gauge-line c.args.desc.now (zip c.args.desc.now.labels c.args.values.now) c.args.totals.now c.difference-size.result.0.now (decimal c.difference-size.result.1) c.difference-size.ensures in
+    let line = gauge-line c.args.desc.now (zip c.args.desc.now.labels c.args.values.now) c.args.totals.now
+    c.difference-size.result.0.now (decimal c.difference-size.result.1) c.difference-size.ensures in
     let took = g.met.S.Sink.chain _ _ _ _ _ c.put_series.ensures.text c.put_value.ensures in
     rw line at took

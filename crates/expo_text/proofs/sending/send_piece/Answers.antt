@@ -12,5 +12,11 @@ loop-done-preserved g c =
     let appends = taken-more _ _ _ piece done _ before.1 after.taken in
     let within : done + c.write_once-done.result ≤ length piece = omega (arith, after.within, rest) in
     let test = c.loop-done-test.true in
-    let going : c.loop-done.out.failed ≡ false = sym c.failed.ensures ∙ c.if-not-failed.true in
-    (within, appends, λ _. before.2 going, λ end start. (let none = after.stopped end in omega (arith, none, test)), λ start. absurd (apart c.loop-done.out.failed (before.4 start).1 going), after.ended ∙ before.5)
+    let going : c.loop-done.out.failed ≡ false = sym c.failed.ensures ∙ c.if-not-failed.true in (
+      within,
+      appends,
+      λ _. before.2 going,
+      λ end start. (let none = after.stopped end in omega (arith, none, test)),
+      λ start. absurd (apart c.loop-done.out.failed (before.4 start).1 going),
+      after.ended ∙ before.5,
+    )

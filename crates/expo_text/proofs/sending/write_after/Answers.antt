@@ -11,7 +11,8 @@ returns-then-failed-clause-part g c =
     let text = text c.args.scrape.now in
     let bounded = text-bounded c.args.scrape.now c.put_groups.ensures.ordered c.put_groups.ensures.spelled in
     let short : length (front ++ text) < 2 ^ 64 = omega (arith, length-append front text, bounded, c.requires.short) in
-    let sends = sends-text _ _ _ (front ++ text) (sends-chain _ _ _ front text c.put.ensures.1 c.put_groups.ensures.text.1) c.send.ensures.sent in
+    let sends = sends-text _ _ _ (front ++ text) (sends-chain _ _ _ front text c.put.ensures.1 c.put_groups.ensures.text.1)
+    c.send.ensures.sent in
     let failed = sym c.failed.ensures ∙ c.if-failed.true in
     let part = sent-part _ _ (front ++ text) sends c.new.ensures refl c.requires.not_failed failed short in
     (part.0, search (rules, part))

@@ -9,5 +9,8 @@ loop-child-preserved g c =
     let before = c.loop-child.invariant in
     let within = c.loop-child-test.true in
     let next = lines-next c.args.desc.now children n _ within c.child-item.is in
-    let took = g.met.S.Sink.chain _ _ _ _ _ before.0 c.put_child.ensures.text in
-    (rw next took, All-next IsSpelledChild children n _ within c.child-item.is before.1 c.put_child.ensures.spelled, λ _. c.put_child.ensures.names)
+    let took = g.met.S.Sink.chain _ _ _ _ _ before.0 c.put_child.ensures.text in (
+      rw next took,
+      All-next IsSpelledChild children n _ within c.child-item.is before.1 c.put_child.ensures.spelled,
+      λ _. c.put_child.ensures.names,
+    )

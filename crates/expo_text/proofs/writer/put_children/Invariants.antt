@@ -7,4 +7,5 @@ use Rattle.expo_text.proofs.writer.put_children.Given as goal
 -- the lines of the children so far
 abbrev pub invariant-loop-child : goal.invariant-loop-child
 invariant-loop-child g l =
-    g.S.Sink.took l.fn.sink l.sink (lines l.desc (take l.child-index l.children)) × All IsSpelledChild (take l.child-index l.children) × (0 < l.child-index → All IsLabelName l.desc.labels)
+    g.S.Sink.took l.fn.sink l.sink (lines l.desc (take l.child-index l.children))
+    × All IsSpelledChild (take l.child-index l.children) × (0 < l.child-index → All IsLabelName l.desc.labels)

@@ -12,7 +12,8 @@ returns-in-Some c =
 pub returns-in-Some-strip_prefix : goal.returns-in-Some-strip_prefix
 returns-in-Some-strip_prefix c =
     let h = c.in-Some-strip_prefix.ensures.cases in
-    let is : c.args.b.now ≡ c.args.a.now ++ c.in-Some-strip_prefix.rest.now = h.1.1 ∙ ap (λ rest. c.args.a.now ++ rest) (sym h.2) in
+    let is : c.args.b.now ≡ c.args.a.now ++ c.in-Some-strip_prefix.rest.now = h.1.1
+    ∙ ap (λ rest. c.args.a.now ++ rest) (sym h.2) in
     let m = moved c.args.b.now c.args.b_suffix.now c.args.a.now c.args.a_suffix.now c.in-Some-strip_prefix.rest.now is in
     let joined = c.is_joined-in-Some-strip_prefix.ensures in
     (λ t. sym (m.0 (joined.0 t)), λ e. joined.1 (m.1 (sym e)))

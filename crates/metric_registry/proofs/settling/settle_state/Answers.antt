@@ -18,16 +18,24 @@ returns g c =
     let out = as_answer c.settle.new.out in
     let before : (scan_by c.into_reader-reader.result).recorded ≡ last.older ++ scrapes state.journal =
     ap (λ (r : Reader g.row.N g.row.C g.row.H g.row.G). (scan_by r).recorded) c.into_reader-reader.ensures.reader
-    ∙ (ap (λ (s : Scanner g.row.N g.row.C g.row.H g.row.G). (scan_by s.reader).recorded) c.into_parts-source.ensures.source ∙ last.is) in
+    ∙ (ap (λ (s : Scanner g.row.N g.row.C g.row.H g.row.G). (scan_by s.reader).recorded) c.into_parts-source.ensures.source
+    ∙ last.is) in
     let all : (scan_by c.settle.new.reader).recorded ≡ last.older ++ (scrapes state.journal ++ out ∷ []) =
-    c.in-Ok.ensures.recorded ∙ (ap (λ (l : List Answer). l ++ out ∷ []) before ∙ append_assoc last.older (scrapes state.journal) (out ∷ [])) in
+    c.in-Ok.ensures.recorded
+    ∙ (ap (λ (l : List Answer). l ++ out ∷ []) before ∙ append_assoc last.older (scrapes state.journal) (out ∷ [])) in
     record {
       own = c.settle.ensures.own.1;
       same = c.settle.ensures.same;
       journal = c.into_parts-source.ensures.journal;
-      replays = (state.state, subst (λ (j : List Entry). Replays g.row.N g.row.C g.row.H g.row.G j state.state) (sym c.into_parts-source.ensures.journal) c.into_parts-source.ensures.kept.replays);
-      moments = subst (λ (j : List Entry). AreMomentsOf c.args.workers.now (scrapes j ++ out ∷ [])) (sym c.into_parts-source.ensures.journal)
-          (moments_of_later c.args.workers.now last.older (scrapes state.journal ++ out ∷ []) (subst (AreMomentsOf c.args.workers.now) all c.in-Ok.ensures.moments));
+      replays = (
+        state.state,
+        subst (λ (j : List Entry). Replays g.row.N g.row.C g.row.H g.row.G j state.state)
+            (sym c.into_parts-source.ensures.journal) c.into_parts-source.ensures.kept.replays,
+      );
+      moments = subst (λ (j : List Entry). AreMomentsOf c.args.workers.now (scrapes j ++ out ∷ []))
+          (sym c.into_parts-source.ensures.journal)
+          (moments_of_later c.args.workers.now last.older (scrapes state.journal ++ out ∷ [])
+          (subst (AreMomentsOf c.args.workers.now) all c.in-Ok.ensures.moments));
       all = c.in-Ok.ensures.all;
       settled = c.in-Ok.ensures.settled;
       missing = tt;
@@ -37,9 +45,11 @@ returns g c =
 
 pub settle-requires : goal.settle-requires
 settle-requires g c =
-    let same = c.into_reader-reader.ensures.reader ∙ ap (λ (s : Scanner g.row.N g.row.C g.row.H g.row.G). reader_in s) c.into_parts-source.ensures.source in
+    let same = c.into_reader-reader.ensures.reader ∙ ap (λ (s : Scanner g.row.N g.row.C g.row.H g.row.G). reader_in s)
+    c.into_parts-source.ensures.source in
     let own = subst (IsReaderOf c.args.board.now) (sym same) c.requires.reader in
     (omega arith, (omega arith, (omega arith, (omega arith, (own, c.requires.own)))))
 
 pub unreachable-requires : goal.unreachable-requires
-unreachable-requires g c = let missing = c.in_default-settle.ensures.missing in missing.none (c.in_default.ensures.none _ missing.inside)
+unreachable-requires g c = let missing = c.in_default-settle.ensures.missing in
+    missing.none (c.in_default.ensures.none _ missing.inside)

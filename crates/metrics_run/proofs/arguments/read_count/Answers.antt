@@ -9,12 +9,14 @@ returns-in_default-clause-none c count small is =
 
 pub returns-then-number-eq0-clause-none : goal.returns-then-number-eq0-clause-none
 returns-then-number-eq0-clause-none c count small is =
-    let same = one_number c.args.word.now c.in-Some.number count (omega (arith, small.1)) (sym c.in-Some.is ∙ c.read_number.ensures) is in
+    let same = one_number c.args.word.now c.in-Some.number count (omega (arith, small.1))
+    (sym c.in-Some.is ∙ c.read_number.ensures) is in
     absurd (omega (arith, small.0, same, c.if-number-eq0.true))
 
 pub returns-then-number-gt1000000-clause-none : goal.returns-then-number-gt1000000-clause-none
 returns-then-number-gt1000000-clause-none c count small is =
-    let same = one_number c.args.word.now c.in-Some.number count (omega (arith, small.1)) (sym c.in-Some.is ∙ c.read_number.ensures) is in
+    let same = one_number c.args.word.now c.in-Some.number count (omega (arith, small.1))
+    (sym c.in-Some.is ∙ c.read_number.ensures) is in
     absurd (omega (arith, small.1, same, c.if-number-gt1000000.true))
 
 pub returns-clause-some : goal.returns-clause-some

@@ -9,7 +9,8 @@ returns-in_default-clause-none c port small is =
 
 pub returns-then-number-gt65535-clause-none : goal.returns-then-number-gt65535-clause-none
 returns-then-number-gt65535-clause-none c port small is =
-    let same = one_number c.args.word.now c.in-Some.number port (omega (arith, small)) (sym c.in-Some.is ∙ c.read_number.ensures) is in
+    let same = one_number c.args.word.now c.in-Some.number port (omega (arith, small)) (sym c.in-Some.is ∙ c.read_number.ensures)
+    is in
     absurd (omega (arith, small, same, c.if-number-gt65535.true))
 
 pub returns-clause-some : goal.returns-clause-some

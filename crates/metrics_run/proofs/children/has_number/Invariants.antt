@@ -6,4 +6,5 @@ use Rattle.metrics_run.proofs.children.has_number.Given as goal
 
 -- none of the children so far is that of the handle
 abbrev pub invariant-loop-child : goal.invariant-loop-child
-invariant-loop-child l = (number : ℕ) (child : Handle) → number < l.child-index → slice_get l.children number ≡ Some child → ¬ (AreOne child l.handle)
+invariant-loop-child l = (number : ℕ) (child : Handle) → number < l.child-index → slice_get l.children number ≡ Some child
+    → ¬ (AreOne child l.handle)

@@ -7,7 +7,8 @@ use Rattle.metrics_run.proofs.parts.read_labels.Goals as goal
 
 pub loop-word-init : goal.loop-word-init
 loop-word-init c = (
-  subst (λ (l : List (Bor (List ℕ))). AreLabels c.args.labels.now (map now l)) (sym c.deref-word-items.ensures.value) c.in-Ok.ensures,
+  subst (λ (l : List (Bor (List ℕ))). AreLabels c.args.labels.now (map now l)) (sym c.deref-word-items.ensures.value)
+      c.in-Ok.ensures,
   c.in-Ok-with_capacity.ensures.items,
   subst (All IsLabelName) (sym c.in-Ok-with_capacity.ensures.items) (All-nil IsLabelName),
 )
@@ -18,7 +19,8 @@ returns-in-Err-clause-fault c =
     inr (
       c.in-Err.fault,
       refl,
-      first_bad c.args.labels.now c.deref-word-items.result.now c.loop-word.word-index _ c.in-Err.fault c.loop-word-test.true kept.0
+      first_bad c.args.labels.now c.deref-word-items.result.now c.loop-word.word-index _ c.in-Err.fault c.loop-word-test.true
+          kept.0
           (subst (All IsLabelName) kept.1 kept.2) c.in-Err.ensures.fault,
     )
 
@@ -28,7 +30,9 @@ loop-word-preserved c =
     let pushed : c.push.new.self.items ≡ c.loop-word.names.items ++ c.in-Ok-read.name ∷ [] = search rules in (
       kept.0,
       pushed ∙ ap (λ (l : List (List ℕ)). l ++ c.in-Ok-read.name ∷ []) kept.1
-          ∙ ap (λ (n : List ℕ). map now (take c.loop-word.word-index c.deref-word-items.result.now) ++ n ∷ []) c.in-Ok-read.ensures.text
+          ∙ ap (λ (n : List ℕ). map now (take c.loop-word.word-index c.deref-word-items.result.now) ++ n ∷ [])
+          c.in-Ok-read.ensures.text
           ∙ sym (more_words c.deref-word-items.result.now c.loop-word.word-index _ c.loop-word-test.true),
-      subst (All IsLabelName) (sym pushed) (all_push IsLabelName c.loop-word.names.items c.in-Ok-read.name kept.2 c.in-Ok-read.ensures.grammar),
+      subst (All IsLabelName) (sym pushed)
+          (all_push IsLabelName c.loop-word.names.items c.in-Ok-read.name kept.2 c.in-Ok-read.ensures.grammar),
     )

@@ -7,18 +7,21 @@ use Rattle.metrics_run.proofs.parts.read_values.Goals as goal
 
 pub loop-word-init : goal.loop-word-init
 loop-word-init c = (
-  subst (λ (l : List (Bor (List ℕ))). AreValues c.args.values.now (map now l)) (sym c.deref-word-items.ensures.value) c.in-Ok.ensures,
+  subst (λ (l : List (Bor (List ℕ))). AreValues c.args.values.now (map now l)) (sym c.deref-word-items.ensures.value)
+      c.in-Ok.ensures,
   subst (λ (l : List (List ℕ)). AreWritten l []) (sym c.in-Ok-with_capacity.ensures.items) tt,
   All-nil IsGoodValue,
 )
 
 pub read_value-requires : goal.read_value-requires
-read_value-requires c = word_writes c.args.values.now c.deref-word-items.result.now c.loop-word.word-index _ c.loop-word-test.true c.loop-word.invariant.0
+read_value-requires c = word_writes c.args.values.now c.deref-word-items.result.now c.loop-word.word-index _ c.loop-word-test.true
+    c.loop-word.invariant.0
 
 pub returns-in-Err-clause-fault : goal.returns-in-Err-clause-fault
 returns-in-Err-clause-fault c =
     let kept = c.loop-word.invariant in
-    first_bad_value c.args.values.now c.deref-word-items.result.now c.loop-word.word-index _ c.in-Err.fault c.loop-word-test.true kept.0 kept.2 c.in-Err.ensures.fault
+    first_bad_value c.args.values.now c.deref-word-items.result.now c.loop-word.word-index _ c.in-Err.fault c.loop-word-test.true
+    kept.0 kept.2 c.in-Err.ensures.fault
 
 pub loop-word-preserved : goal.loop-word-preserved
 loop-word-preserved c =
@@ -26,7 +29,8 @@ loop-word-preserved c =
     let pushed : c.push.new.self.items ≡ c.loop-word.read.items ++ c.in-Ok-read_value.value ∷ [] = search rules in
     let more = more_words c.deref-word-items.result.now c.loop-word.word-index _ c.loop-word-test.true in (
       kept.0,
-      subst (λ (l : List (List ℕ)). AreWritten l (map now (take (c.loop-word.word-index + 1) c.deref-word-items.result.now))) (sym pushed)
+      subst (λ (l : List (List ℕ)). AreWritten l (map now (take (c.loop-word.word-index + 1) c.deref-word-items.result.now)))
+          (sym pushed)
           (subst (AreWritten (c.loop-word.read.items ++ c.in-Ok-read_value.value ∷ [])) (sym more)
           (written_push c.loop-word.read.items _ c.in-Ok-read_value.value _ kept.1 c.in-Ok-read_value.ensures.read)),
       subst (All IsGoodValue) (sym more) (all_push IsGoodValue _ _ kept.2 c.in-Ok-read_value.ensures.good),

@@ -15,4 +15,5 @@ loop-list-preserved c =
 
 pub returns-clause-none : goal.returns-clause-none
 returns-clause-none c =
-    subst (All (λ (list : Vec QueuedJob Global). list.items ≡ [])) (take_all c.loop-list.list-index c.loop-list.lists (omega arith)) c.loop-list.invariant
+    subst (All (λ (list : Vec QueuedJob Global). list.items ≡ []))
+    (take_all c.loop-list.list-index c.loop-list.lists (omega arith)) c.loop-list.invariant

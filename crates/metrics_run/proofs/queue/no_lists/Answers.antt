@@ -11,5 +11,7 @@ loop-worker-preserved c =
     let items = c.in_ok-push.ensures.items in
     let so_many = c.loop-worker.invariant.0 in
     let longer = ap length items ∙ length-append lists (c.new.result ∷ []) in
-    let is_empty : Vec QueuedJob Global → Type 0 = λ list. list.items ≡ [] in
-    (omega (arith, longer, so_many), subst (All is_empty) (sym items) (All-push is_empty lists c.new.result c.loop-worker.invariant.1 c.new.ensures.items))
+    let is_empty : Vec QueuedJob Global → Type 0 = λ list. list.items ≡ [] in (
+      omega (arith, longer, so_many),
+      subst (All is_empty) (sym items) (All-push is_empty lists c.new.result c.loop-worker.invariant.1 c.new.ensures.items),
+    )

@@ -6,4 +6,5 @@ use Rattle.metrics_run.proofs.queue.no_lists.Given as goal
 
 -- so many lists are there, and all are empty
 abbrev pub invariant-loop-worker : goal.invariant-loop-worker
-invariant-loop-worker l = (length l.lists.items ≡ l._worker) × All (λ (list : Vec QueuedJob Global). list.items ≡ []) l.lists.items
+invariant-loop-worker l = (length l.lists.items ≡ l._worker)
+    × All (λ (list : Vec QueuedJob Global). list.items ≡ []) l.lists.items

@@ -12,7 +12,8 @@ use Rattle.metrics_run.specs.declared.script.Stop.TheVariants as stop
 use Rattle.metrics_run.proofs.script.ended.Goals.{in-Ok, in-Err-Refused, in-Err-Broken}
 use Rattle.metrics_run.proofs.script.ended.Goals as goal
 
-begun_at_all : (a b : Option (List ℕ)) (xs : List ℕ) (r : Result ScriptEnd Broken) → OnOk r (Appends a b xs) → OnErr r (Begins a b xs) → Begins a b xs
+begun_at_all : (a b : Option (List ℕ)) (xs : List ℕ) (r : Result ScriptEnd Broken) → OnOk r (Appends a b xs)
+    → OnErr r (Begins a b xs) → Begins a b xs
 begun_at_all a b xs (Ok end) told front = begun_whole a b xs told
 begun_at_all a b xs (Err broken) told front = front
 
@@ -22,7 +23,8 @@ returns-in_default g c =
     let after = g.W.Write.contents c.flush.new.self in
     elim c.match-ran.branch [
       | in-Ok w ↦
-          subst (λ ran. Breaks ran before after) (sym w.in-Ok.is) (subst (λ it. Keeps (g.W.Write.contents it) after) w.writer-is c.flush.ensures.bytes)
+          subst (λ ran. Breaks ran before after) (sym w.in-Ok.is)
+          (subst (λ it. Keeps (g.W.Write.contents it) after) w.writer-is c.flush.ensures.bytes)
       | in-Err-Refused w ↦
           let refusal = w.in-Err-Refused.refused in
           let line = refused_line refusal.line (number_of refusal.fault) in
@@ -30,8 +32,11 @@ returns-in_default g c =
           let kept = subst (λ it. Keeps (g.W.Write.contents it) after) w.writer-is c.flush.ensures.bytes in
           let is : c.args.ran ≡ Err (stop.Refused refusal) = search rules in
           subst (λ ran. Breaks ran before after) (sym is)
-          (begun_kept before middle after line (begun_at_all before middle line w.tell_refused-end.result w.tell_refused-end.ensures.told w.tell_refused-end.ensures.front) kept)
+          (begun_kept before middle after line
+          (begun_at_all before middle line w.tell_refused-end.result w.tell_refused-end.ensures.told
+          w.tell_refused-end.ensures.front) kept)
       | in-Err-Broken w ↦
           let is : c.args.ran ≡ Err stop.Broken = search rules in
-          subst (λ ran. Breaks ran before after) (sym is) (subst (λ it. Keeps (g.W.Write.contents it) after) w.writer-is c.flush.ensures.bytes)
+          subst (λ ran. Breaks ran before after) (sym is)
+          (subst (λ it. Keeps (g.W.Write.contents it) after) w.writer-is c.flush.ensures.bytes)
     ]

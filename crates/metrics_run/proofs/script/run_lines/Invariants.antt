@@ -8,5 +8,6 @@ use Rattle.metrics_run.proofs.script.run_lines.Given as goal
 abbrev pub invariant-loop-done : goal.invariant-loop-done
 invariant-loop-done g l =
     IsReady l.state × ((texts : List (List ℕ)) × (l.done ≡ length texts)
-    × HasRun l.fn.state (unread g.R.Read.remaining l.fn.lines) (g.W.Write.contents l.fn.writer) texts l.state (unread g.R.Read.remaining l.lines)
+    × HasRun l.fn.state (unread g.R.Read.remaining l.fn.lines) (g.W.Write.contents l.fn.writer) texts l.state
+    (unread g.R.Read.remaining l.lines)
     (g.W.Write.contents l.writer))

@@ -17,7 +17,8 @@ returns-in_err-send-in-Ok-scrape-clause-stopped g c =
     let line = subst (λ it. IsLine c.args.text.now (saying_of it)) c.in-Scrape.is c.in-Some.ensures.some in
     let front = c.in_err-send-in-Ok-scrape.ensures.front in
     let begins = subst (Begins before after) c.deref.ensures.value (begun before after front.0 c.deref.result.now front.1) in
-    err_broken c.from_residual.result (StopsStep c.args.state.now c.args.number c.args.text.now before after c.scrape.new.self) c.from_residual.ensures.1
+    err_broken c.from_residual.result (StopsStep c.args.state.now c.args.number c.args.text.now before after c.scrape.new.self)
+    c.from_residual.ensures.1
     (c.in-Ok-scrape.text.items, (language.Scrape, line, c.in-Ok-scrape.ensures.scraped), begins)
 
 pub returns-in-Ok-clause-stepped : goal.returns-in-Ok-clause-stepped
@@ -38,7 +39,8 @@ returns-in-Ok-act g c =
         (
           saying_of this,
           line,
-          done_stepped old new c.args.number this c.in_default-line.not-Go c.in_default-line.not-Scrape c.in_default-line.not-Settle c.in_default-line.not-Window
+          done_stepped old new c.args.number this c.in_default-line.not-Go c.in_default-line.not-Scrape
+              c.in_default-line.not-Settle c.in_default-line.not-Window
               c.in-Ok-act.ensures.done,
         ),
         Appends-nil (g.W.Write.contents c.args.writer.now),
@@ -53,9 +55,11 @@ returns-in-Err-act g c =
     let new = c.act.new.state in
     let writer = g.W.Write.contents c.args.writer.now in
     let line = c.in-Some.ensures.some in
-    let refused = act_refused old new c.args.number this c.in-Err-act.fault c.in-Err-act.ensures.refused c.in-Err-act.ensures.unchanged in
+    let refused = act_refused old new c.args.number this c.in-Err-act.fault c.in-Err-act.ensures.refused
+    c.in-Err-act.ensures.unchanged in
     record {
       ready = tt;
       stepped = tt;
-      stopped = subst (StopsStep old c.args.number c.args.text.now writer writer new) (sym c.stop_at-in-Err-act.ensures) (inr (saying_of this, line, refused), Keeps-refl writer);
+      stopped = subst (StopsStep old c.args.number c.args.text.now writer writer new) (sym c.stop_at-in-Err-act.ensures)
+          (inr (saying_of this, line, refused), Keeps-refl writer);
     }

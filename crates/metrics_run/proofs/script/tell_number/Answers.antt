@@ -10,7 +10,8 @@ use Rattle.metrics_run.proofs.script.tell_number.Goals as goal
 pub returns-in_err-send-clause-front : goal.returns-in_err-send-clause-front
 returns-in_err-send-clause-front g c =
     let word = c.args.word.now in let digits = decimal c.args.number in
-    on_err _ _ (begun_before _ _ (word ++ digits) c.args.end.now (begun_before _ _ word digits (begun _ _ _ _ c.in_err-send.ensures.front.1)))
+    on_err _ _ (begun_before _ _ (word ++ digits) c.args.end.now
+    (begun_before _ _ word digits (begun _ _ _ _ c.in_err-send.ensures.front.1)))
 
 pub returns-in_err-send-2-clause-front : goal.returns-in_err-send-2-clause-front
 returns-in_err-send-2-clause-front g c =
@@ -25,4 +26,5 @@ returns-clause-front g c =
     let text : c.as_bytes.result.now ≡ digits = c.as_bytes.ensures.value ∙ c.format.ensures.text in
     let second = subst (Appends _ _) text c.in_ok-send-2.ensures.sent in
     let both = Appends-trans _ _ _ word digits c.in_ok-send.ensures.sent second in
-    on_err_from c.send-3.result (λ front. begun_after _ _ _ (word ++ digits) c.args.end.now both (begun _ _ _ _ front.1)) c.send-3.ensures.front
+    on_err_from c.send-3.result (λ front. begun_after _ _ _ (word ++ digits) c.args.end.now both (begun _ _ _ _ front.1))
+    c.send-3.ensures.front

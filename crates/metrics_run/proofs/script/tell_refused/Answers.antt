@@ -21,7 +21,8 @@ pub returns-in_err-tell_number-clause-front : goal.returns-in_err-tell_number-cl
 returns-in_err-tell_number-clause-front g c =
     let refused = c.args.refused in
     let number = number_of refused.fault in
-    on_err_end _ _ (subst (Begins _ _) (parted refused.line number) (begun_before _ _ (first refused.line) (second number) c.in_err-tell_number.ensures.front))
+    on_err_end _ _ (subst (Begins _ _) (parted refused.line number)
+    (begun_before _ _ (first refused.line) (second number) c.in_err-tell_number.ensures.front))
 
 pub returns-in_err-tell_number-2-clause-front : goal.returns-in_err-tell_number-2-clause-front
 returns-in_err-tell_number-2-clause-front g c =
@@ -30,8 +31,10 @@ returns-in_err-tell_number-2-clause-front g c =
     let before = g.W.Write.contents c.args.writer.now in
     let middle = g.W.Write.contents c.tell_number.new.writer in
     let after = g.W.Write.contents c.tell_number-2.new.writer in
-    let begins = subst (λ (n : ℕ). Begins middle after (second n)) (c.from.ensures ∙ c.number-number.ensures) c.in_err-tell_number-2.ensures.front in
-    on_err_end _ _ (subst (Begins before after) (parted refused.line number) (begun_after before middle after (first refused.line) (second number) c.in_ok-tell_number.ensures.told begins))
+    let begins = subst (λ (n : ℕ). Begins middle after (second n)) (c.from.ensures ∙ c.number-number.ensures)
+    c.in_err-tell_number-2.ensures.front in
+    on_err_end _ _ (subst (Begins before after) (parted refused.line number)
+    (begun_after before middle after (first refused.line) (second number) c.in_ok-tell_number.ensures.told begins))
 
 pub returns-clause-told : goal.returns-clause-told
 returns-clause-told g c =
@@ -40,5 +43,7 @@ returns-clause-told g c =
     let before = g.W.Write.contents c.args.writer.now in
     let middle = g.W.Write.contents c.tell_number.new.writer in
     let after = g.W.Write.contents c.tell_number-2.new.writer in
-    let told = subst (λ (n : ℕ). Appends middle after (second n)) (c.from.ensures ∙ c.number-number.ensures) c.in_ok-tell_number-2.ensures.told in
-    subst (Appends before after) (parted refused.line number) (Appends-trans before middle after (first refused.line) (second number) c.in_ok-tell_number.ensures.told told)
+    let told = subst (λ (n : ℕ). Appends middle after (second n)) (c.from.ensures ∙ c.number-number.ensures)
+    c.in_ok-tell_number-2.ensures.told in
+    subst (Appends before after) (parted refused.line number)
+    (Appends-trans before middle after (first refused.line) (second number) c.in_ok-tell_number.ensures.told told)

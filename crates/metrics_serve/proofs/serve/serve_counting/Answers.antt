@@ -16,13 +16,19 @@ lock-registry-requires g c =
     let served = c.requires.service in
     let named = c.requires.named in
     let scans = ap name_of served.scans in
-    let first = begins_itself g.B.Named.first c.args.service.registry.journal c.requires.first in
-    (omega arith, (omega arith, (omega arith, (((λ x e. scans ∙ same_Some _ x (sym named ∙ e)), served.id ∙ ap board_id (sym served.scans)), first))))
+    let first = begins_itself g.B.Named.first c.args.service.registry.journal c.requires.first in (
+      omega arith,
+      (
+        omega arith,
+        (omega arith, (((λ x e. scans ∙ same_Some _ x (sym named ∙ e)), served.id ∙ ap board_id (sym served.scans)), first)),
+      ),
+    )
 
 pub settle-requires : goal.settle-requires
 settle-requires g c =
     let named = c.requires.named in
-    let own = (back_again c.args.board.now c.args.service.metrics c.args.workers c.in-Some.four c.requires.new c.in-Some.ensures).own in (
+    let own = (back_again c.args.board.now c.args.service.metrics c.args.workers c.in-Some.four c.requires.new
+    c.in-Some.ensures).own in (
       omega arith,
       (
         omega arith,
@@ -32,7 +38,8 @@ settle-requires g c =
 
 pub unreachable-requires : goal.unreachable-requires
 unreachable-requires g c =
-    let four = back_again c.args.board.now c.args.service.metrics c.args.workers c.in-Some.four c.requires.new c.in-Some.ensures in
+    let four = back_again c.args.board.now c.args.service.metrics c.args.workers c.in-Some.four c.requires.new
+    c.in-Some.ensures in
     let missing = c.in_default-settle.ensures.missing in
     missing.none (has_all (all_of c.in-Some.four) four.index _ missing.inside)
 
@@ -42,7 +49,8 @@ returns g c = record {
   counted = c.in-Some.ensures;
   number =
       c.replies.ensures
-      ∙ all_counted c.args.service.metrics c.requires.service.six c.args.board.now c.args.workers c.in-Some.four c.requires.new c.in-Some.ensures
+      ∙ all_counted c.args.service.metrics c.requires.service.six c.args.board.now c.args.workers c.in-Some.four c.requires.new
+      c.in-Some.ensures
       c.settle.new.out c.in-Ok.ensures.settled;
   out = c.settle.new.out;
   settled = c.in-Ok.ensures.settled;

@@ -9,7 +9,8 @@ use Rattle.metrics_serve.proofs.serve.tell.Goals as goal
 pub returns-in_err-send-clause-front : goal.returns-in_err-send-clause-front
 returns-in_err-send-clause-front g c =
     let word = c.args.word.now in let digits = decimal c.args.number in
-    on_err _ _ (begun_before _ _ (word ++ digits) (10 ∷ []) (begun_before _ _ word digits (begun _ _ _ _ c.in_err-send.ensures.front.1)))
+    on_err _ _ (begun_before _ _ (word ++ digits) (10 ∷ [])
+    (begun_before _ _ word digits (begun _ _ _ _ c.in_err-send.ensures.front.1)))
 
 pub returns-in_err-send-2-clause-front : goal.returns-in_err-send-2-clause-front
 returns-in_err-send-2-clause-front g c =
@@ -31,4 +32,6 @@ returns-clause-front g c =
     let word = c.args.word.now in let digits = decimal c.args.number in
     let text : c.as_bytes.result.now ≡ digits = c.as_bytes.ensures.value ∙ c.format.ensures.text in
     let second = subst (Appends _ _) text c.in_ok-send-2.ensures.sent in
-    on_err _ _ (begun_kept _ _ _ _ (begun_whole _ _ _ (told _ _ _ _ word digits (10 ∷ []) c.in_ok-send.ensures.sent second c.in_ok-send-3.ensures.sent)) c.flush.ensures.bytes)
+    on_err _ _ (begun_kept _ _ _ _
+    (begun_whole _ _ _ (told _ _ _ _ word digits (10 ∷ []) c.in_ok-send.ensures.sent second c.in_ok-send-3.ensures.sent))
+    c.flush.ensures.bytes)

@@ -9,8 +9,10 @@ answer-requires g c = c.loop-stream.invariant.own
 
 pub loop-stream-preserved : goal.loop-stream-preserved
 loop-stream-preserved g c =
-    counted_more c.args.board.now c.args.metrics.now c.args.worker c.loop-stream.worker c.answer.new.worker c.loop-stream.invariant
-    (one_more c.args.board.now c.args.metrics.now c.loop-stream.worker c.answer.new.worker c.answer.result c.answer.ensures.counted)
+    counted_more c.args.board.now c.args.metrics.now c.args.worker c.loop-stream.worker c.answer.new.worker
+    c.loop-stream.invariant
+    (one_more c.args.board.now c.args.metrics.now c.loop-stream.worker c.answer.new.worker c.answer.result
+    c.answer.ensures.counted)
 
 pub returns : goal.returns
 returns g c = c.loop-stream.invariant

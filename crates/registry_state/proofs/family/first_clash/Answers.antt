@@ -9,10 +9,12 @@ pub loop-number-preserved : goal.loop-number-preserved
 loop-number-preserved c =
     let P : Family → Type 0 = λ (family : Family). ¬ (Clash family.desc c.args.desc.now) in
     let Q : Descriptor → Type 0 = λ desc. ¬ (Clash desc c.args.desc.now) in
-    let is : c.deref.result.now ≡ c.index-families-number.result.desc = c.deref.ensures ∙ ap (λ (family : Family). family.desc) c.family.view_is in
+    let is : c.deref.result.now ≡ c.index-families-number.result.desc = c.deref.ensures
+    ∙ ap (λ (family : Family). family.desc) c.family.view_is in
     let none : Clash c.deref.result.now c.args.desc.now → ⊥ = search rules in
     let here : P c.index-families-number.result = subst Q is none in
     All-more P _ _ c.index-families-number.result (omega arith) c.loop-number.invariant (subst P c.index-families-number.is here)
 
 pub returns : goal.returns
-returns c = subst (All (λ (family : Family). ¬ (Clash family.desc c.args.desc.now))) (take_all _ _ (omega arith)) c.loop-number.invariant
+returns c = subst (All (λ (family : Family). ¬ (Clash family.desc c.args.desc.now))) (take_all _ _ (omega arith))
+    c.loop-number.invariant

@@ -11,4 +11,5 @@ loop-place-preserved c =
     All-more P _ _ c.index-families-place.result (omega arith) c.loop-place.invariant (subst P c.index-families-place.is none)
 
 pub returns : goal.returns
-returns c = subst (All (λ (family : Family). family.desc.name ≢ c.args.name.now)) (take_all _ _ (omega arith)) c.loop-place.invariant
+returns c = subst (All (λ (family : Family). family.desc.name ≢ c.args.name.now)) (take_all _ _ (omega arith))
+    c.loop-place.invariant

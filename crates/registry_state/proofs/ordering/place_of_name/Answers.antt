@@ -12,10 +12,12 @@ pub returns-then-not-is_before : goal.returns-then-not-is_before
 returns-then-not-is_before c = record {
   within = omega arith;
   front = c.loop-place.invariant;
-  back = names_behind c.args.families.now c.args.order.now c.args.name.now c.loop-place.place c.requires.order c.requires.new (omega arith) (search rules);
+  back = names_behind c.args.families.now c.args.order.now c.args.name.now c.loop-place.place c.requires.order c.requires.new
+      (omega arith) (search rules);
 }
 
 pub loop-place-preserved : goal.loop-place-preserved
 loop-place-preserved c =
-    AllWithin-more (λ i. IsBefore (family_at c.args.families.now i).desc.name c.args.name.now) c.args.order.now 0 c.loop-place.place c.loop-place.invariant
+    AllWithin-more (λ i. IsBefore (family_at c.args.families.now i).desc.name c.args.name.now) c.args.order.now 0
+    c.loop-place.place c.loop-place.invariant
     (before_at c.args.families.now c.args.order.now c.args.name.now c.loop-place.place (omega arith) (search rules))

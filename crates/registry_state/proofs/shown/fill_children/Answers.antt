@@ -20,10 +20,13 @@ loop-place-preserved g c =
     let shown : Child → ChildShown = child_shown g.row.C g.row.H totals c.args.kind in
     let blank : Child → ChildShown = child_blank c.args.kind in
     let was : get_or c.loop-place.shown c.loop-place.place c.index-shown-place.result ≡ blank child =
-    filled_at shown blank c.args.children.now c.loop-place.shown c.loop-place.place child (omega arith) c.loop-place.invariant c.index-children-place.is c.index-shown-place.result in
-    let values : (arc_value c.one.inside.values).items ≡ child.values = ap (λ (it : ChildShown). it.values) (c.one.view_is ∙ was) in
+    filled_at shown blank c.args.children.now c.loop-place.shown c.loop-place.place child (omega arith) c.loop-place.invariant
+    c.index-children-place.is c.index-shown-place.result in
+    let values : (arc_value c.one.inside.values).items ≡ child.values = ap (λ (it : ChildShown). it.values)
+    (c.one.view_is ∙ was) in
     let slot : c.child.inside.slot ≡ child.slot = ap (λ (it : Child). it.slot) c.child.view_is in
     let number : c.number_of-one-inside.result ≡ number_at g.row.C g.row.H totals c.args.kind child.slot =
     c.number_of-one-inside.ensures ∙ ap (number_at g.row.C g.row.H totals c.args.kind) slot in
-    filled_more shown blank c.args.children.now c.loop-place.shown c.loop-place.place child (omega arith) c.loop-place.invariant c.index-children-place.is _
+    filled_more shown blank c.args.children.now c.loop-place.shown c.loop-place.place child (omega arith) c.loop-place.invariant
+    c.index-children-place.is _
     (both _ _ _ _ values number)

@@ -5,4 +5,5 @@ use Rattle.registry_state.proofs.shown.fill_children.Given as goal
 
 abbrev pub invariant-loop-place : goal.invariant-loop-place
 invariant-loop-place g l =
-    l.shown ≡ map (child_shown g.row.C g.row.H l.snapshot.totals l.kind) (take l.place l.children) ++ map (child_blank l.kind) (drop l.place l.children)
+    l.shown ≡ map (child_shown g.row.C g.row.H l.snapshot.totals l.kind) (take l.place l.children) ++ map (child_blank l.kind)
+    (drop l.place l.children)

@@ -30,7 +30,8 @@ loop-word-preserved g c =
     let k = c.loop-word.word in
     let inv = c.loop-word.invariant in
     let few = inv.few in
-    let at_was : get_or c.totals-was.result.now k 0 ≡ get_or c.args.before.now.totals k 0 = ap (λ (l : List ℕ). get_or l k 0) was in
+    let at_was : get_or c.totals-was.result.now k 0 ≡ get_or c.args.before.now.totals k 0 =
+    ap (λ (l : List ℕ). get_or l k 0) was in
     let at_is : get_or c.totals-is.result.now k 0 ≡ get_or c.args.after.now.totals k 0 = ap (λ (l : List ℕ). get_or l k 0) is in
     let lt : k < length c.args.after.now.totals = omega (arith, m, wide) in
     let lt' : k < length c.args.before.now.totals = omega (arith, n, long) in
@@ -41,15 +42,18 @@ loop-word-preserved g c =
           let pushed = items ∙ w.push_back_reserved.ensures.items in
           let fits_was = c.type_inv.was k in record {
             added =
-                totals_more g.row.N (width g.row.C g.row.H g.row.G) c.args.before.now c.args.after.now _ _ k lt lt' inv.added _ _ (omega (arith, n)) pushed
-                (λ i. (at_is i + (2 ^ 64 - at_was i)) % 2 ^ 64) (let low = c.totals-is.ensures.low k (omega (arith, n)) in omega (arith, low, at_is)) (omega (arith, fits_was, at_was));
+                totals_more g.row.N (width g.row.C g.row.H g.row.G) c.args.before.now c.args.after.now _ _ k lt lt' inv.added _ _
+                (omega (arith, n)) pushed
+                (λ i. (at_is i + (2 ^ 64 - at_was i)) % 2 ^ 64) (let low = c.totals-is.ensures.low k (omega (arith, n)) in
+                omega (arith, low, at_is)) (omega (arith, fits_was, at_was));
             few = let more = ap length pushed ∙ length_push _ _ in omega (arith, few, more);
             room = capacity ∙ w.push_back_reserved.ensures.capacity ∙ inv.room;
           }
       | else-is-word w ↦
           let items = ap (λ (d : VecDeque Increase Global). d.items) w.increases-is in
           let capacity = ap (λ (d : VecDeque Increase Global). deque_capacity d) w.increases-is in record {
-            added = rw items (totals_same g.row.N (width g.row.C g.row.H g.row.G) c.args.before.now c.args.after.now _ _ k lt lt' inv.added (sym at_is ∙ w.if-is-word.false ∙ at_was));
+            added = rw items (totals_same g.row.N (width g.row.C g.row.H g.row.G) c.args.before.now c.args.after.now _ _ k lt lt'
+                inv.added (sym at_is ∙ w.if-is-word.false ∙ at_was));
             few = rw items (omega (arith, few));
             room = capacity ∙ inv.room;
           }

@@ -5,7 +5,8 @@ use Rattle.scrape_server.proofs.again.scrape_again.Goals as goal
 
 pub returns-in-Err-NoMemory : goal.returns-in-Err-NoMemory
 returns-in-Err-NoMemory g c =
-    let given = subst (λ (why : NoScrape). g.S.ScrapeFrom.gave c.loop-again.source c.scrape.new.self (Err why)) c.in-Err-NoMemory.field-0-is c.in-Err-NoMemory.ensures in
+    let given = subst (λ (why : NoScrape). g.S.ScrapeFrom.gave c.loop-again.source c.scrape.new.self (Err why))
+    c.in-Err-NoMemory.field-0-is c.in-Err-NoMemory.ensures in
     c.loop-again.invariant _ _ (at_once g.S.ScrapeFrom.gave (3 - c.loop-again._again) _ _ _ tt given)
 
 pub returns-in-Ok : goal.returns-in-Ok
@@ -15,7 +16,8 @@ pub loop-again-preserved : goal.loop-again-preserved
 loop-again-preserved g c after answer rest =
     let lt = c.loop-again-test.true in
     let one : 3 - c.loop-again._again ≡ suc (3 - (c.loop-again._again + 1)) = omega (arith, lt) in
-    let given = subst (λ (why : NoScrape). g.S.ScrapeFrom.gave c.loop-again.source c.scrape.new.self (Err why)) c.in-Err-Contended.field-0-is c.in-Err-Contended.ensures in
+    let given = subst (λ (why : NoScrape). g.S.ScrapeFrom.gave c.loop-again.source c.scrape.new.self (Err why))
+    c.in-Err-Contended.field-0-is c.in-Err-Contended.ensures in
     c.loop-again.invariant after answer (again g.S.ScrapeFrom.gave _ _ one _ _ _ _ given rest)
 
 pub returns : goal.returns

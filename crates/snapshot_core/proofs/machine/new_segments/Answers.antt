@@ -9,10 +9,12 @@ map_push f [] x = refl
 map_push f (y ∷ l) x = ap (λ m. f y ∷ m) (map_push f l x)
 
 -- one more of what all are
-one_more : {A B : Type 0} (f : A → B) (old new : List A) (x : A) (k : ℕ) (b : B) → new ≡ old ++ x ∷ [] → map f old ≡ replicate k b → f x ≡ b → map f new ≡ replicate (k + 1) b
+one_more : {A B : Type 0} (f : A → B) (old new : List A) (x : A) (k : ℕ) (b : B) → new ≡ old ++ x ∷ [] → map f old ≡ replicate k b
+    → f x ≡ b → map f new ≡ replicate (k + 1) b
 one_more f old new x k b items all is = ap (map f) items ∙ (map_push f old x ∙ ((λ z. all z ++ is z ∷ []) ∙ replicate_more k b))
 
 pub loop-k-preserved : goal.loop-k-preserved
 loop-k-preserved g c =
-    one_more seg_of c.loop-k.segments.items _ _ c.loop-k._k (blank_of (width g.row.C g.row.H g.row.G)) c.in_ok-push.ensures.items c.loop-k.invariant
+    one_more seg_of c.loop-k.segments.items _ _ c.loop-k._k (blank_of (width g.row.C g.row.H g.row.G)) c.in_ok-push.ensures.items
+    c.loop-k.invariant
     (λ z. record { number = 0; row = c.new.ensures.zeros z; view = None })

@@ -7,7 +7,10 @@ pub loop-at-preserved : goal.loop-at-preserved
 loop-at-preserved g c = record {
   same = c.in_ok-happen.ensures.same ∙ c.loop-at.invariant.same;
   world = c.in_ok-happen.ensures.world
-      ∙ ap (λ (n : ℕ). happens g.row.C g.row.H g.row.G n c.args.events.now (world_of c.loop-at.machine) c.loop-at.at c.index-events-at.result) c.loop-at.invariant.same
-      ∙ ap (λ (w : World). happens g.row.C g.row.H g.row.G c.args.n c.args.events.now w c.loop-at.at c.index-events-at.result) c.loop-at.invariant.world
-      ∙ sym (world_next g.row.C g.row.H g.row.G c.args.n c.args.events.now c.loop-at.at c.index-events-at.result (search rules) c.index-events-at.is);
+      ∙ ap (λ (n : ℕ). happens g.row.C g.row.H g.row.G n c.args.events.now (world_of c.loop-at.machine) c.loop-at.at
+      c.index-events-at.result) c.loop-at.invariant.same
+      ∙ ap (λ (w : World). happens g.row.C g.row.H g.row.G c.args.n c.args.events.now w c.loop-at.at c.index-events-at.result)
+      c.loop-at.invariant.world
+      ∙ sym (world_next g.row.C g.row.H g.row.G c.args.n c.args.events.now c.loop-at.at c.index-events-at.result
+      (search rules) c.index-events-at.is);
 }

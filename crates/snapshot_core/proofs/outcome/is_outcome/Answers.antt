@@ -8,5 +8,8 @@ returns-clause-decided g c =
     let trace = c.args.trace.now in
     let came = c.in_ok-came.came in
     let run = c.in_ok-came.ensures in
-    decided c.args.n g.row.C g.row.H g.row.G c.args.events.now (map published_of trace.publishes.items) (map published_of came.publishes.items) (map answered_of trace.answers.items) (map answered_of came.answers.items) c.same_trace.result
-    (record { faithful = run.faithful; steps = run.one_step; few = run.few; direct = run.direct; whole = run.whole }) c.same_trace.ensures
+    decided c.args.n g.row.C g.row.H g.row.G c.args.events.now (map published_of trace.publishes.items)
+    (map published_of came.publishes.items) (map answered_of trace.answers.items) (map answered_of came.answers.items)
+    c.same_trace.result
+    (record { faithful = run.faithful; steps = run.one_step; few = run.few; direct = run.direct; whole = run.whole })
+    c.same_trace.ensures

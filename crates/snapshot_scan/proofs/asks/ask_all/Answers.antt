@@ -1,4 +1,5 @@
-use Rattle.std.proofs.Common.{◌≡◌, ◌<◌, ◌≤◌, ◌+◌, ℕ, zero, suc, Bool, true, false, cond, List, [], ◌∷◌, ◌++◌, length, drop, drop-cons, map, get_or, sym, refl, ap, ◌∙◌, subst, arith, rules}
+use Rattle.std.proofs.Common.{◌≡◌, ◌<◌, ◌≤◌, ◌+◌, ℕ, zero, suc, Bool, true, false, cond, List, [], ◌∷◌, ◌++◌, length, drop}
+use Rattle.std.proofs.Common.{drop-cons, map, get_or, sym, refl, ap, ◌∙◌, subst, arith, rules}
 use Rattle.std.proofs.lemmas.Bool.{lt-leb}
 use Rattle.std.proofs.lemmas.List.{append-nil, append_assoc}
 use mathlib.Core.Option.{some-ne-none}
@@ -42,8 +43,10 @@ ask-lends-requires g c =
     let h : get_or base p 0 + 2 ≤ get_or found p 0 = c.if-not-due.ensures.0 refl in
     let more = due_from (p + 1) (drop (p + 1) base) (drop (p + 1) found) in
     let e : due_from p (drop p base) (drop p found) ≡ p ∷ more = due_here p base found (omega (arith, lens.2, lens.3)) t h in
-    let may : MayAsk c.args.floor.now (p ∷ more) (refused_all g.row.N es (scan_of ms)) = subst (λ (l : List ℕ). MayAsk c.args.floor.now l (refused_all g.row.N es (scan_of ms))) e inv.may in
-    let scan : scan_of (members_of (g.S.ScanSeat.bundle c.loop-place.seat)) ≡ refused_all g.row.N es (scan_of ms) = ap scan_of inv.view ∙ scan_with _ ms c.requires.own.1 in (
+    let may : MayAsk c.args.floor.now (p ∷ more) (refused_all g.row.N es (scan_of ms)) =
+    subst (λ (l : List ℕ). MayAsk c.args.floor.now l (refused_all g.row.N es (scan_of ms))) e inv.may in
+    let scan : scan_of (members_of (g.S.ScanSeat.bundle c.loop-place.seat)) ≡ refused_all g.row.N es (scan_of ms) =
+    ap scan_of inv.view ∙ scan_with _ ms c.requires.own.1 in (
       search rules,
       (
         (inv.own ∙ c.requires.own.0, inv.leads),
@@ -57,7 +60,8 @@ ask-lends-requires g c =
                 (more, ap (λ (d : Scan). d.now.due) scan ∙ may.due),
                 (
                   (ap (λ (d : Scan). d.now.looks) scan ∙ may.looks, ap (λ (d : Scan). d.now.asks) scan ∙ may.asks),
-                  ap (λ (d : Scan). d.now.floor) scan ∙ floor_here c.args.floor.now more p (refused_all g.row.N es (scan_of ms)) may,
+                  ap (λ (d : Scan). d.now.floor) scan ∙ floor_here c.args.floor.now more p (refused_all g.row.N es (scan_of ms))
+                      may,
                 ),
               ),
             ),
@@ -76,7 +80,8 @@ returns-then-lends-clause-lends g c = λ _.
     let h : get_or base p 0 + 2 ≤ get_or found p 0 = c.if-not-due.ensures.0 refl in
     let more = due_from (p + 1) (drop (p + 1) base) (drop (p + 1) found) in
     let d : due_from p (drop p base) (drop p found) ≡ p ∷ more = due_here p base found (omega (arith, lens.2, lens.3)) t h in
-    let scan : scan_of (members_of (g.S.ScanSeat.bundle c.loop-place.seat)) ≡ refused_all n es (scan_of ms) = ap scan_of inv.view ∙ scan_with _ ms c.requires.own.1 in
+    let scan : scan_of (members_of (g.S.ScanSeat.bundle c.loop-place.seat)) ≡ refused_all n es (scan_of ms) = ap scan_of inv.view
+    ∙ scan_with _ ms c.requires.own.1 in
     let l = c.ask-lends.ensures.lends c.if-lends.true in
     let e : Asked = l.0 in
     let a = lent_in n w c.ask-lends.new.lent in (
@@ -88,7 +93,8 @@ returns-then-lends-clause-lends g c = λ _.
       l.2,
       l.3,
       l.4 ∙ (ap (λ (x : Scan). with_scan (answered a (asked_too e x)) (members_of (g.S.ScanSeat.bundle c.loop-place.seat))) scan
-          ∙ (ap (with_scan (answered a (asked_too e (refused_all n es (scan_of ms))))) inv.view ∙ with_led (λ _. answered a (asked_too e (refused_all n es (scan_of ms)))) (refused_all n es (scan_of ms)) ms)),
+          ∙ (ap (with_scan (answered a (asked_too e (refused_all n es (scan_of ms))))) inv.view
+          ∙ with_led (λ _. answered a (asked_too e (refused_all n es (scan_of ms)))) (refused_all n es (scan_of ms)) ms)),
     )
 
 pub loop-place-preserved : goal.loop-place-preserved
@@ -101,33 +107,41 @@ loop-place-preserved g c =
     let h : get_or base p 0 + 2 ≤ get_or found p 0 = c.if-not-due.ensures.0 refl in
     let more = due_from (p + 1) (drop (p + 1) base) (drop (p + 1) found) in
     let d : due_from p (drop p base) (drop p found) ≡ p ∷ more = due_here p base found (omega (arith, lens.2, lens.3)) t h in
-    let scan : scan_of (members_of (g.S.ScanSeat.bundle c.loop-place.seat)) ≡ refused_all n es (scan_of ms) = ap scan_of inv.view ∙ scan_with _ ms c.requires.own.1 in
+    let scan : scan_of (members_of (g.S.ScanSeat.bundle c.loop-place.seat)) ≡ refused_all n es (scan_of ms) = ap scan_of inv.view
+    ∙ scan_with _ ms c.requires.own.1 in
     let r = c.ask-lends.ensures.refuses c.if-lends.false in
     let e : Asked = r.0 in
     let snoc = refused_snoc n es e (scan_of ms) in
     let view : members_of (g.S.ScanSeat.bundle c.ask-lends.new.seat) ≡ with_scan (refused_all n (es ++ e ∷ []) (scan_of ms)) ms =
     r.3 ∙ (ap (λ (x : Scan). with_scan (gives_up n (refused e x)) (members_of (g.S.ScanSeat.bundle c.loop-place.seat))) scan
-    ∙ (ap (with_scan (gives_up n (refused e (refused_all n es (scan_of ms))))) inv.view ∙ (with_led (λ _. gives_up n (refused e (refused_all n es (scan_of ms)))) (refused_all n es (scan_of ms)) ms
+    ∙ (ap (with_scan (gives_up n (refused e (refused_all n es (scan_of ms))))) inv.view
+    ∙ (with_led (λ _. gives_up n (refused e (refused_all n es (scan_of ms)))) (refused_all n es (scan_of ms)) ms
     ∙ ap (λ (x : Scan). with_scan x ms) (sym snoc)))) in (
       es ++ e ∷ [],
       record {
         own = c.ask-lends.ensures.own ∙ inv.own;
         ruled = c.ask-lends.ensures.ruled;
         leads = subst HasMember (sym view) (led_some (λ _. refused_all n (es ++ e ∷ []) (scan_of ms)) ms c.requires.own.1);
-        asked = ap (λ (z : List ℕ). z ++ more) (map_both asked_worker es e) ∙ (append_assoc (map asked_worker es) (asked_worker e ∷ []) more
-            ∙ (ap (λ (z : ℕ). map asked_worker es ++ z ∷ more) r.1 ∙ (ap (λ (z : List ℕ). map asked_worker es ++ z) (sym d) ∙ inv.asked)));
+        asked = ap (λ (z : List ℕ). z ++ more) (map_both asked_worker es e)
+            ∙ (append_assoc (map asked_worker es) (asked_worker e ∷ []) more
+            ∙ (ap (λ (z : ℕ). map asked_worker es ++ z ∷ more) r.1
+            ∙ (ap (λ (z : List ℕ). map asked_worker es ++ z) (sym d) ∙ inv.asked)));
         refuses = each_push (DoesNotLend g.row.N c.args.floor.now) es e inv.refuses r.2;
-        may = subst (MayAsk c.args.floor.now more) (sym snoc) (may_next n p e c.args.floor.now more (refused_all n es (scan_of ms)) (subst (λ (l : List ℕ). MayAsk c.args.floor.now l
+        may = subst (MayAsk c.args.floor.now more) (sym snoc)
+            (may_next n p e c.args.floor.now more (refused_all n es (scan_of ms))
+            (subst (λ (l : List ℕ). MayAsk c.args.floor.now l
             (refused_all n es (scan_of ms))) d inv.may));
         view = view;
       },
     )
 
 -- a worker that is not to be asked
-not_due : (p : ℕ) (base found : List ℕ) → p < length base → p < length found → get_or found p 0 < get_or base p 0 + 2 → due_from p (drop p base) (drop p found) ≡ due_from (p + 1) (drop
+not_due : (p : ℕ) (base found : List ℕ) → p < length base → p < length found → get_or found p 0 < get_or base p 0 + 2
+    → due_from p (drop p base) (drop p found) ≡ due_from (p + 1) (drop
     (p + 1) base) (drop (p + 1) found)
 not_due p base found hb hf h = let e : suc p ≡ p + 1 = omega arith in
-    (λ z. due_from p (drop-cons base p 0 hb z) (drop-cons found p 0 hf z)) ∙ (ap (λ (b : Bool). cond b (p ∷ due_from (suc p) (drop (suc p) base) (drop (suc p) found)) (due_from (suc p)
+    (λ z. due_from p (drop-cons base p 0 hb z) (drop-cons found p 0 hf z))
+    ∙ (ap (λ (b : Bool). cond b (p ∷ due_from (suc p) (drop (suc p) base) (drop (suc p) found)) (due_from (suc p)
     (drop (suc p) base) (drop (suc p) found))) (lt-leb _ _ h)
     ∙ ap (λ (k : ℕ). due_from k (drop k base) (drop k found)) e)
 
@@ -165,5 +179,10 @@ returns-clause-refuses g c = λ _.
     let p = c.loop-place.place in let base = c.args.base.now in let found = c.args.found.now in
     let es = c.loop-place.invariant.0 in let inv = c.loop-place.invariant.1 in
     let lens = c.requires.lengths in let f = c.loop-place-test.false in
-    let end : due_from p (drop p base) (drop p found) ≡ [] = ap (λ (l : List ℕ). due_from p l (drop p found)) (none_left base p (omega (arith, lens.2, lens.3, f))) in
-    (es, sym (append-nil (map asked_worker es)) ∙ (ap (λ (l : List ℕ). map asked_worker es ++ l) (sym end) ∙ inv.asked), inv.refuses, inv.view)
+    let end : due_from p (drop p base) (drop p found) ≡ [] = ap (λ (l : List ℕ). due_from p l (drop p found))
+    (none_left base p (omega (arith, lens.2, lens.3, f))) in (
+      es,
+      sym (append-nil (map asked_worker es)) ∙ (ap (λ (l : List ℕ). map asked_worker es ++ l) (sym end) ∙ inv.asked),
+      inv.refuses,
+      inv.view,
+    )

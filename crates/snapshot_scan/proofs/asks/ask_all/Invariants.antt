@@ -8,12 +8,13 @@ use Rattle.snapshot_scan.specs.Asking.{DoesNotLend, due_from, refused_all, asked
 use Rattle.snapshot_scan.proofs.asks.ask_all.Given as goal
 
 abbrev pub invariant-loop-place : goal.invariant-loop-place
-invariant-loop-place g l = let bundle = g.S.ScanSeat.bundle in let ms = members_of (bundle l.fn.seat) in (es : List Asked) × record {
-  own : table_of (bundle l.seat) ≡ table_of (bundle l.fn.seat);
-  ruled : IsRuled g.row.N g.row.C g.row.H g.row.G (bundle l.seat);
-  leads : HasMember (members_of (bundle l.seat));
-  asked : map asked_worker es ++ due_from l.place (drop l.place l.base) (drop l.place l.found) ≡ due_from 0 l.base l.found;
-  refuses : (q : ℕ) (e : Asked) → get_elem? es q ≡ some e → DoesNotLend g.row.N l.floor e;
-  may : MayAsk l.floor (due_from l.place (drop l.place l.base) (drop l.place l.found)) (refused_all g.row.N es (scan_of ms));
-  view : members_of (bundle l.seat) ≡ with_scan (refused_all g.row.N es (scan_of ms)) ms;
-}
+invariant-loop-place g l = let bundle = g.S.ScanSeat.bundle in let ms = members_of (bundle l.fn.seat) in
+    (es : List Asked) × record {
+      own : table_of (bundle l.seat) ≡ table_of (bundle l.fn.seat);
+      ruled : IsRuled g.row.N g.row.C g.row.H g.row.G (bundle l.seat);
+      leads : HasMember (members_of (bundle l.seat));
+      asked : map asked_worker es ++ due_from l.place (drop l.place l.base) (drop l.place l.found) ≡ due_from 0 l.base l.found;
+      refuses : (q : ℕ) (e : Asked) → get_elem? es q ≡ some e → DoesNotLend g.row.N l.floor e;
+      may : MayAsk l.floor (due_from l.place (drop l.place l.base) (drop l.place l.found)) (refused_all g.row.N es (scan_of ms));
+      view : members_of (bundle l.seat) ≡ with_scan (refused_all g.row.N es (scan_of ms)) ms;
+    }

@@ -1,4 +1,6 @@
-use Rattle.std.proofs.Common.{refl, ◌≡◌, ◌≢◌, ◌<◌, ◌+◌, ◌≤◌, ◌==◌, Bool, true, false, cond, ℕ, zero, suc, List, [], ◌∷◌, ◌++◌, length, take, set, get_or, arith, sym, ap, ◌∙◌, subst, below_more, get_or-set_other, get_or-set_same, eq-eqb, ne_eqb, ⊎_elim}
+use Rattle.std.proofs.Common.{refl, ◌≡◌, ◌≢◌, ◌<◌, ◌+◌, ◌≤◌, ◌==◌, Bool, true, false, cond, ℕ, zero, suc, List, [], ◌∷◌, ◌++◌}
+use Rattle.std.proofs.Common.{length, take, set, get_or, arith, sym, ap, ◌∙◌, subst, below_more, get_or-set_other}
+use Rattle.std.proofs.Common.{get_or-set_same, eq-eqb, ne_eqb, ⊎_elim}
 use mathlib.Core.Option.{some}
 use Rattle.std.proofs.lemmas.Bool.{eqb-true, eqb-false, and_parts, and_cases}
 use lib.ListN.{get_elem?}
@@ -16,11 +18,15 @@ use Rattle.snapshot_scan.proofs.Settling.{confirms_more, words_wide}
 use Rattle.snapshot_scan.proofs.confirms.confirm_one.Goals as goal
 
 -- a row that is remembered is remembered again, or stays
-stays : (o s : ℕ) (x : RememberedRow) → x.number ≡ o → version_of x ≡ cond (o == s) (record { number = o; row = words_of o x }) (version_of x)
+stays : (o s : ℕ) (x : RememberedRow) → x.number ≡ o → version_of x ≡ cond (o == s) (record { number = o; row = words_of o x })
+    (version_of x)
 stays o s x e = go (o == s)
   where
     go : (b : Bool) → version_of x ≡ cond b (record { number = o; row = words_of o x }) (version_of x)
-    go true = λ z. record { number = e z; row = sym (ap (λ (t : Bool). cond t x.row.items x.fresh.items) (eq-eqb x.number o e)) z }
+    go true = λ z. record {
+      number = e z;
+      row = sym (ap (λ (t : Bool). cond t x.row.items x.fresh.items) (eq-eqb x.number o e)) z;
+    }
     go false = refl
 
 at_some : (l : List RememberedRow) (i : ℕ) → i < length l → (x : RememberedRow) × (get_elem? l i ≡ some x)
@@ -54,15 +60,19 @@ returns-clause-confirmed g c = λ ms gs few is.
     let z' : Scan = settling os (take (p + 1) (set fs p s)) gs c0 in
     let shape : confirmed_at w p s z ≡ z' =
     subst (λ (i : ℕ). confirmed_at w i s z ≡ settling os (take p fs ++ s ∷ []) (set gs i gg) c0) deep
-    (confirms_more w s o os (take p fs) gs gg gg c0 (ap (get_elem? os) deep ∙ ato) (ap (get_elem? gs) deep ∙ at) (words_wide w o gg (is.wide p gg at)) refl (stays o s gg (is.known p gg at)))
+    (confirms_more w s o os (take p fs) gs gg gg c0 (ap (get_elem? os) deep ∙ ato) (ap (get_elem? gs) deep ∙ at)
+    (words_wide w o gg (is.wide p gg at)) refl (stays o s gg (is.known p gg at)))
     ∙ (λ i. settling os (sym more i) (set_same gs p gg at i) c0) in
     let no : (p == n) ≡ false = ne_eqb p n (λ e. omega (arith, e, ltn)) in
-    let was : members_of (bundle c.args.seat.now) ≡ with_scan z ms = is.view ∙ ap (λ (b : Bool). with_scan (cond b (ended n w z) z) ms) no in
+    let was : members_of (bundle c.args.seat.now) ≡ with_scan z ms = is.view
+    ∙ ap (λ (b : Bool). with_scan (cond b (ended n w z) z) ms) no in
     let view : members_of (bundle c.confirm-again.new.seat) ≡ with_scan (cond ((p + 1) == n) (ended n w z') z') ms =
-    c.confirm-again.ensures.learns.member ∙ (ap (led (scan_changed (after_confirm n w p s))) was ∙ (with_led (after_confirm n w p s) z ms
+    c.confirm-again.ensures.learns.member
+    ∙ (ap (led (scan_changed (after_confirm n w p s))) was ∙ (with_led (after_confirm n w p s) z ms
     ∙ ap (λ (d : Scan). with_scan (cond ((p + 1) == n) (ended n w d) d) ms) shape)) in
     let scan : scan_of (members_of (bundle c.args.seat.now)) ≡ z = ap scan_of was ∙ scan_with z ms is.starts in
-    let risen : o ≤ s = let at_load = is.loaded p ltn in c.confirm-again.ensures.told.opened at_load.0 o (ap (λ (d : Scan). get_elem? d.opened at_load.0) scan ∙ at_load.1) in
+    let risen : o ≤ s = let at_load = is.loaded p ltn in
+    c.confirm-again.ensures.told.opened at_load.0 o (ap (λ (d : Scan). get_elem? d.opened at_load.0) scan ∙ at_load.1) in
     record {
       starts = is.starts;
       wide = is.wide;
@@ -71,7 +81,8 @@ returns-clause-confirmed g c = λ ms gs few is.
       ruled = λ _. c.confirm-again.ensures.learns.ruled;
       view = view;
       risen = below_more (λ (q : ℕ). get_or os q 0 ≤ get_or (set fs p s) q 0) p
-          (λ q h. let ne : q ≢ p = omega (arith, h) in let e = get_or-set_other fs p q s 0 ne in let r = is.risen q h in omega (arith, e, r))
+          (λ q h. let ne : q ≢ p = omega (arith, h) in let e = get_or-set_other fs p q s 0 ne in let r = is.risen q h in
+          omega (arith, e, r))
           (let e = get_or-set_same fs p s 0 ltf in omega (arith, e, risen));
       held = λ t. let both = and_parts c.args.same (o == s) t in below_more (λ (q : ℕ). get_or os q 0 ≡ get_or (set fs p s) q 0) p
           (λ q h. let ne : q ≢ p = omega (arith, h) in is.held both.0 q h ∙ sym (get_or-set_other fs p q s 0 ne))

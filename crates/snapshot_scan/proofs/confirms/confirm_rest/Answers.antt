@@ -13,4 +13,6 @@ loop-place-preserved g c = let inv = c.loop-place.invariant in record {
 pub returns-clause-confirmed : goal.returns-clause-confirmed
 returns-clause-confirmed g c = λ ms gs few is.
     let l = c.loop-place in let inside = c.requires.inside in let f = c.loop-place-test.false in let end = l.auto.place-end in
-    subst (λ (z : ℕ). HasConfirmed g.row.N g.row.C g.row.H g.row.G z ms gs c.args.opened.now (members_of (g.S.ScanSeat.bundle l.seat)) l.found l.all) (omega (arith, inside.0, f, end)) (l.invariant.confirmed ms gs few is)
+    subst (λ (z : ℕ). HasConfirmed g.row.N g.row.C g.row.H g.row.G z ms gs c.args.opened.now
+    (members_of (g.S.ScanSeat.bundle l.seat)) l.found l.all) (omega (arith, inside.0, f, end))
+    (l.invariant.confirmed ms gs few is)

@@ -9,6 +9,7 @@ abbrev pub invariant-loop-place : goal.invariant-loop-place
 invariant-loop-place g l = let bundle = g.S.ScanSeat.bundle in record {
   own : table_of (bundle l.seat) ≡ table_of (bundle l.fn.seat);
   leads : HasMember (members_of (bundle l.seat));
-  confirmed : (ms : List Member) (gs : List RememberedRow) → length gs ≡ g.row.N → HasConfirmed g.row.N g.row.C g.row.H g.row.G l.from ms gs l.opened (members_of (bundle l.fn.seat)) l.fn.found l.same
+  confirmed : (ms : List Member) (gs : List RememberedRow) → length gs ≡ g.row.N
+      → HasConfirmed g.row.N g.row.C g.row.H g.row.G l.from ms gs l.opened (members_of (bundle l.fn.seat)) l.fn.found l.same
       → HasConfirmed g.row.N g.row.C g.row.H g.row.G l.place ms gs l.opened (members_of (bundle l.seat)) l.found l.all;
 }

@@ -11,12 +11,15 @@ loop-block-preserved c =
     let from = 16 * c.loop-block.block in let to = from + 16 in let next = 16 * (c.loop-block.block + 1) in
     let after = c.if-differ.totals in let moved = c.if-differ.moved in let long = c.loop-block.auto.totals in
     let more : to ≡ next = omega arith in
-    let both = exchanges_then n old new 0 from to c.args.totals.now ts after c.args.moved.now c.loop-block.moved moved (omega arith) (omega arith) c.loop-block.invariant in
+    let both = exchanges_then n old new 0 from to c.args.totals.now ts after c.args.moved.now c.loop-block.moved moved
+    (omega arith) (omega arith) c.loop-block.invariant in
     subst (λ (k : ℕ). Exchanges n 0 k old new c.args.totals.now after c.args.moved.now moved) more (elim c.if-differ.branch [
       | then-differ w ↦ both (subst (λ (m : Changed). Exchanges n from to old new ts after c.loop-block.moved m) (sym w.moved-is)
           (subst (λ (l : List ℕ). Exchanges n from to old new ts l c.loop-block.moved w.exchange_some.new.moved) (sym w.totals-is)
-          (subst (λ (k : ℕ). Exchanges k from to old new ts w.exchange_some.new.totals c.loop-block.moved w.exchange_some.new.moved) long w.exchange_some.ensures)))
-      | else-differ w ↦ both (exchanges_same n old new from to ts after c.loop-block.moved moved (c.differ.ensures w.if-differ.false) w.totals-is w.moved-is)
+          (subst (λ (k : ℕ). Exchanges k from to old new ts w.exchange_some.new.totals c.loop-block.moved
+          w.exchange_some.new.moved) long w.exchange_some.ensures)))
+      | else-differ w ↦ both (exchanges_same n old new from to ts after c.loop-block.moved moved
+          (c.differ.ensures w.if-differ.false) w.totals-is w.moved-is)
     ])
 
 pub returns-clause-moved : goal.returns-clause-moved

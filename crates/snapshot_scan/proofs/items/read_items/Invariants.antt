@@ -9,6 +9,8 @@ abbrev pub invariant-loop-k : goal.invariant-loop-k
 invariant-loop-k g l = let bundle = g.S.ScanSeat.bundle in record {
   own : table_of (bundle l.seat) ≡ table_of (bundle l.fn.seat);
   some : HasMember (members_of (bundle l.seat));
-  member : members_of (bundle l.seat) ≡ led (scan_changed (read_all (width g.row.C g.row.H g.row.G) l.place l.number l.from (take l.k l.words))) (members_of (bundle l.fn.seat));
+  member : members_of (bundle l.seat) ≡ led
+      (scan_changed (read_all (width g.row.C g.row.H g.row.G) l.place l.number l.from (take l.k l.words)))
+      (members_of (bundle l.fn.seat));
   bounded : (k : ℕ) → k < l.k → l.from + k < width g.row.C g.row.H g.row.G → get_or l.words k 0 ≤ 281474976710655;
 }

@@ -25,7 +25,8 @@ loop-turn-init g c =
         asks = c.requires.rest.2;
         wide = c.requires.wide;
         same = refl;
-        view = sym (ap (λ (d : Scan). with_scan d ms) (opening_starts c.args.kept.now (scan_of ms) c.requires.rest.0) ∙ with_same ms);
+        view = sym (ap (λ (d : Scan). with_scan d ms) (opening_starts c.args.kept.now (scan_of ms) c.requires.rest.0)
+            ∙ with_same ms);
         known = λ e q x lt. absurd (omega (arith, lt));
         unknown = λ e. absurd (true≢false e);
         told = λ q lt. absurd (omega (arith, lt));
@@ -34,29 +35,36 @@ loop-turn-init g c =
 
 pub loop-turn-preserved : goal.loop-turn-preserved
 loop-turn-preserved g c =
-    let w : ℕ = width g.row.C g.row.H g.row.G in let bundle = g.S.ScanSeat.bundle in let ms = members_of (bundle c.args.seat.now) in
+    let w : ℕ = width g.row.C g.row.H g.row.G in let bundle = g.S.ScanSeat.bundle in
+    let ms = members_of (bundle c.args.seat.now) in
     let inv = c.loop-turn.invariant in let r = c.open_four-known.new in record {
       own = c.open_four-known.ensures.own ∙ inv.own;
       leads = c.open_four-known.ensures.leads;
       wide = c.open_four-known.ensures.wide;
-      opened = subst (λ (z : ℕ). HasOpened w z ms c.args.kept.now (members_of (bundle r.seat)) r.kept r.opened c.open_four-known.result) (omega arith) (c.open_four-known.ensures.opened ms c.args.kept.now inv.opened);
+      opened = subst (λ (z : ℕ). HasOpened w z ms c.args.kept.now (members_of (bundle r.seat)) r.kept r.opened
+          c.open_four-known.result) (omega arith) (c.open_four-known.ensures.opened ms c.args.kept.now inv.opened);
     }
 
 -- what the whole collect has opened
 pub returns : goal.returns
 returns g c =
-    let n : ℕ = g.row.N in let w : ℕ = width g.row.C g.row.H g.row.G in let bundle = g.S.ScanSeat.bundle in let ms = members_of (bundle c.args.seat.now) in
-    let l = c.loop-turn in let f = c.loop-turn-test.false in let end = l.auto.turn-end in let r = c.open_rest.new in let lens = c.requires.lengths in
+    let n : ℕ = g.row.N in let w : ℕ = width g.row.C g.row.H g.row.G in let bundle = g.S.ScanSeat.bundle in
+    let ms = members_of (bundle c.args.seat.now) in
+    let l = c.loop-turn in let f = c.loop-turn-test.false in let end = l.auto.turn-end in let r = c.open_rest.new in
+    let lens = c.requires.lengths in
     let so_far : HasOpened w (4 * (n / 4)) ms c.args.kept.now (members_of (bundle l.seat)) l.kept l.opened l.known =
-    subst (λ (z : ℕ). HasOpened w (4 * z) ms c.args.kept.now (members_of (bundle l.seat)) l.kept l.opened l.known) (omega (arith, f, end)) l.invariant.opened in
+    subst (λ (z : ℕ). HasOpened w (4 * z) ms c.args.kept.now (members_of (bundle l.seat)) l.kept l.opened l.known)
+    (omega (arith, f, end)) l.invariant.opened in
     let all = c.open_rest.ensures.opened ms c.args.kept.now so_far in
     let a = l.auto.kept in let b = l.auto.opened in let a' = c.open_rest.auto.kept in let b' = c.open_rest.auto.opened in
     record {
       own = c.open_rest.ensures.own ∙ l.invariant.own;
       wide = all.wide;
       same = all.same;
-      view = all.view ∙ ap (λ (z : List ℕ). with_scan (opening z r.kept (scan_of ms)) ms) (take_all r.opened n (omega (arith, b, b', lens.1)));
+      view = all.view ∙ ap (λ (z : List ℕ). with_scan (opening z r.kept (scan_of ms)) ms)
+          (take_all r.opened n (omega (arith, b, b', lens.1)));
       told = all.told;
       known = λ t q x at. all.known t q x (let h = at_below r.kept q x at in omega (arith, h, a, a', lens.0)) at;
-      unknown = λ t. let u = all.unknown t in (u.0, version_of u.1, (λ z. get_elem? (sym all.same z) u.0) ∙ at_map version_of r.kept u.0 u.1 u.3, u.4);
+      unknown = λ t. let u = all.unknown t in
+          (u.0, version_of u.1, (λ z. get_elem? (sym all.same z) u.0) ∙ at_map version_of r.kept u.0 u.1 u.3, u.4);
     }

@@ -10,5 +10,6 @@ invariant-loop-turn g l = let bundle = g.S.ScanSeat.bundle in let w : ℕ = widt
   own : table_of (bundle l.seat) ≡ table_of (bundle l.fn.seat);
   leads : HasMember (members_of (bundle l.seat));
   wide : AreWide w l.kept;
-  opened : HasOpened w (4 * l.turn) (members_of (bundle l.fn.seat)) l.fn.kept (members_of (bundle l.seat)) l.kept l.opened l.known;
+  opened : HasOpened w (4 * l.turn) (members_of (bundle l.fn.seat)) l.fn.kept (members_of (bundle l.seat)) l.kept l.opened
+      l.known;
 }

@@ -12,6 +12,7 @@ invariant-loop-place g l = let bundle = g.S.ScanSeat.bundle in let w : ℕ = wid
   own : table_of (bundle l.seat) ≡ table_of (bundle l.fn.seat);
   leads : HasMember (members_of (bundle l.seat));
   wide : AreWide w l.kept;
-  opened : (ms : List Member) (rows : List RememberedRow) → HasOpened w l.from ms rows (members_of (bundle l.fn.seat)) l.fn.kept l.fn.opened l.known
+  opened : (ms : List Member) (rows : List RememberedRow) → HasOpened w l.from ms rows (members_of (bundle l.fn.seat)) l.fn.kept
+      l.fn.opened l.known
       → HasOpened w l.place ms rows (members_of (bundle l.seat)) l.kept l.opened l.all;
 }

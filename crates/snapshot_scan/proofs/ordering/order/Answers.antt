@@ -26,19 +26,37 @@ no_worker k i m x is (zero, at, who) = not_worker k i (sym is ∙ (ap (λ (y : M
 no_worker k i m x is (suc p, at, who) = some-ne-none x (sym at)
 
 -- a reader alone, raised to what others have seen
-led_raised : (k : ℕ) (gs : List RememberedRow) (s : List ℕ) (m : Member) (ms : List Member) → ms ≡ raised s m ∷ [] → m.who ≡ Reader k → IsIdle m.scan gs → IsLed k gs ms
-led_raised k gs s m ms e is idle = subst (IsLed k gs) (sym e)
-    (omega arith, is, record { kept = idle.kept; rest = idle.rest }, λ p j x at. absurd (some-ne-none x (sym at)), λ i x stands. absurd (no_worker k i (raised s m) x is stands))
+led_raised : (k : ℕ) (gs : List RememberedRow) (s : List ℕ) (m : Member) (ms : List Member) → ms ≡ raised s m ∷ []
+    → m.who ≡ Reader k → IsIdle m.scan gs → IsLed k gs ms
+led_raised k gs s m ms e is idle = subst (IsLed k gs) (sym e) (
+  omega arith,
+  is,
+  record { kept = idle.kept; rest = idle.rest },
+  λ p j x at. absurd (some-ne-none x (sym at)),
+  λ i x stands. absurd (no_worker k i (raised s m) x is stands),
+)
 
 -- the two that met
-heads : (o o' n n' : List Member) → o ≡ first_of o ∷ [] → o' ≡ first_of o' ∷ [] → n ≡ first_of n ∷ [] → n' ≡ first_of n' ∷ [] → n ++ n' ≡ met (o ++ o')
+heads : (o o' n n' : List Member) → o ≡ first_of o ∷ [] → o' ≡ first_of o' ∷ [] → n ≡ first_of n ∷ [] → n' ≡ first_of n' ∷ []
+    → n ++ n' ≡ met (o ++ o')
     → first_of n ∷ first_of n' ∷ [] ≡ met (first_of o ∷ first_of o' ∷ [])
 heads o o' n n' eo eo' en en' e = sym (λ z. en z ++ en' z) ∙ (e ∙ (λ z. met (eo z ++ eo' z)))
 
 pub meet-requires : goal.meet-requires
 meet-requires g c =
-    let one = c.args.of_one.now in let other = c.args.of_other.now in
-    (omega arith, (c.requires.own, ((alone_is (members_of one.bundle) one.leads c.requires.alone.0, alone_is (members_of other.bundle) other.leads c.requires.alone.1), other.is)))
+    let one = c.args.of_one.now in let other = c.args.of_other.now in (
+      omega arith,
+      (
+        c.requires.own,
+        (
+          (
+            alone_is (members_of one.bundle) one.leads c.requires.alone.0,
+            alone_is (members_of other.bundle) other.leads c.requires.alone.1,
+          ),
+          other.is,
+        ),
+      ),
+    )
 
 pub invariant_of-of_one : goal.invariant_of-of_one
 invariant_of-of_one g c =
@@ -46,7 +64,8 @@ invariant_of-of_one g c =
     let o = members_of one.bundle in let o' = members_of other.bundle in let n = members_of c.meet.new.one in
     let both = heads o o' n (members_of c.meet.new.other) (alone_is o one.leads c.requires.alone.0)
     (alone_is o' other.leads c.requires.alone.1) c.meet.ensures.alone.0 c.meet.ensures.alone.1 c.meet.ensures.met in
-    let t = led_raised one.index one.memory.kept.items (greatest (first_of o ∷ first_of o' ∷ [])) (first_of o) n (c.meet.ensures.alone.0 ∙ ap (λ
+    let t = led_raised one.index one.memory.kept.items (greatest (first_of o ∷ first_of o' ∷ [])) (first_of o) n
+    (c.meet.ensures.alone.0 ∙ ap (λ
     (l : List Member). first_of l ∷ []) both) one.is one.ready in
     record {
       leads = t.0;
@@ -63,7 +82,8 @@ invariant_of-of_other g c =
     let o = members_of one.bundle in let o' = members_of other.bundle in let n' = members_of c.meet.new.other in
     let both = heads o o' (members_of c.meet.new.one) n' (alone_is o one.leads c.requires.alone.0)
     (alone_is o' other.leads c.requires.alone.1) c.meet.ensures.alone.0 c.meet.ensures.alone.1 c.meet.ensures.met in
-    let t = led_raised other.index other.memory.kept.items (greatest (first_of o ∷ first_of o' ∷ [])) (first_of o') n' (c.meet.ensures.alone.1 ∙ ap (λ (l : List Member). first_of
+    let t = led_raised other.index other.memory.kept.items (greatest (first_of o ∷ first_of o' ∷ [])) (first_of o') n'
+    (c.meet.ensures.alone.1 ∙ ap (λ (l : List Member). first_of
     (behind l) ∷ []) both) other.is other.ready in
     record {
       leads = t.0;
@@ -78,7 +98,8 @@ pub compare-requires-clause-comparable : goal.compare-requires-clause-comparable
 compare-requires-clause-comparable g c =
     let one = c.requires.recorded.0 in let other = c.requires.recorded.1 in
     let t = c.meet.ensures.comparable (as_answer c.args.one.now) (as_answer c.args.other.now) one.0 other.0 one.1 other.1 in
-    subst (λ (l : List ℕ). Comparable l c.vector-2.result.now) (sym c.vector.ensures.numbers) (subst (λ (l : List ℕ). Comparable c.args.one.now.vector l) (sym c.vector-2.ensures.numbers) t)
+    subst (λ (l : List ℕ). Comparable l c.vector-2.result.now) (sym c.vector.ensures.numbers)
+    (subst (λ (l : List ℕ). Comparable c.args.one.now.vector l) (sym c.vector-2.ensures.numbers) t)
 
 pub returns-clause-order : goal.returns-clause-order
 returns-clause-order g c =

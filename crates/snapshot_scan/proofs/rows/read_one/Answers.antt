@@ -1,4 +1,5 @@
-use Rattle.std.proofs.Common.{◌≡◌, ◌≢◌, ◌<◌, ◌+◌, ◌≤◌, ℕ, List, [], ◌∷◌, ◌++◌, take, length, get_or, set, arith, sym, ap, ◌∙◌, subst, below_more, get_or-set_other, get_or-set_same}
+use Rattle.std.proofs.Common.{◌≡◌, ◌≢◌, ◌<◌, ◌+◌, ◌≤◌, ℕ, List, [], ◌∷◌, ◌++◌, take, length, get_or, set, arith, sym, ap, ◌∙◌}
+use Rattle.std.proofs.Common.{subst, below_more, get_or-set_other, get_or-set_same}
 use Rattle.ledger_core.specs.Ops.{width}
 use Rattle.register_rule.specs.Members.{led, scan_changed}
 use Rattle.register_rule.specs.Steps.{after_read}
@@ -10,7 +11,8 @@ use Rattle.snapshot_scan.proofs.Moving.{moves_then}
 use Rattle.snapshot_scan.proofs.rows.read_one.Goals as goal
 
 pub returns-clause-leads : goal.returns-clause-leads
-returns-clause-leads g c = subst HasMember (sym c.read_word-word.ensures.learns.member) (led_some _ (members_of (g.S.ScanSeat.bundle c.args.seat.now)) c.requires.own.1)
+returns-clause-leads g c = subst HasMember (sym c.read_word-word.ensures.learns.member)
+    (led_some _ (members_of (g.S.ScanSeat.bundle c.args.seat.now)) c.requires.own.1)
 
 pub returns-clause-read : goal.returns-clause-read
 returns-clause-read g c = λ ms row listed is.
@@ -23,10 +25,15 @@ returns-clause-read g c = λ ms row listed is.
     record {
       member = c.read_word-word.ensures.learns.member ∙ (ap (led (scan_changed (after_read w i s k x))) is.member
           ∙ led_led (after_read w i s k x) (read_all w i s 0 (take k ws)) (read_all w i s 0 (take (k + 1) new)) ms
-          (λ d. sym (ap (λ (l : List ℕ). read_all w i s 0 l d) more ∙ (read_snoc w i s 0 (take k ws) x d ∙ ap (λ (z : ℕ). after_read w i s z x (read_all w i s 0 (take k ws) d)) deep))));
+          (λ d. sym (ap (λ (l : List ℕ). read_all w i s 0 l d) more
+          ∙ (read_snoc w i s 0 (take k ws) x d ∙ ap (λ (z : ℕ). after_read w i s z x (read_all w i s 0 (take k ws) d))
+          deep))));
       low = subst (λ (l : List ℕ). (j : ℕ) → j < k + 1 → get_or l j 0 ≤ 281474976710655) (sym written)
           (below_more (λ (j : ℕ). get_or (set ws k x) j 0 ≤ 281474976710655) k
-          (λ j h. let ne : j ≢ k = omega (arith, h) in subst (λ (z : ℕ). z ≤ 281474976710655) (sym (get_or-set_other ws k j x 0 ne)) (is.low j h))
-          (subst (λ (z : ℕ). z ≤ 281474976710655) (sym (get_or-set_same ws k x 0 lt)) (c.read_word-word.ensures.bounded (omega (arith, lt, long)))));
-      moves = moves_then w row ws new listed c.args.changed.now c.put_word.new.changed is.moves (subst (λ (n : ℕ). Moves n ws new c.args.changed.now c.put_word.new.changed) long c.put_word.ensures.moves);
+          (λ j h. let ne : j ≢ k = omega (arith, h) in
+          subst (λ (z : ℕ). z ≤ 281474976710655) (sym (get_or-set_other ws k j x 0 ne)) (is.low j h))
+          (subst (λ (z : ℕ). z ≤ 281474976710655) (sym (get_or-set_same ws k x 0 lt))
+          (c.read_word-word.ensures.bounded (omega (arith, lt, long)))));
+      moves = moves_then w row ws new listed c.args.changed.now c.put_word.new.changed is.moves
+          (subst (λ (n : ℕ). Moves n ws new c.args.changed.now c.put_word.new.changed) long c.put_word.ensures.moves);
     }

@@ -15,4 +15,5 @@ pub returns-clause-read : goal.returns-clause-read
 returns-clause-read g c = λ ms row listed is.
     let w : ℕ = width g.row.C g.row.H g.row.G in let l = c.loop-k in let inside = c.requires.inside in
     let f = c.loop-k-test.false in let end = c.loop-k.auto.k-end in
-    subst (λ (z : ℕ). IsReadTo w c.args.place c.args.number z ms (members_of (g.S.ScanSeat.bundle l.seat)) row l.words listed l.changed) (omega (arith, inside.1, inside.2, f, end)) (l.invariant.read ms row listed is)
+    subst (λ (z : ℕ). IsReadTo w c.args.place c.args.number z ms (members_of (g.S.ScanSeat.bundle l.seat)) row l.words listed
+    l.changed) (omega (arith, inside.1, inside.2, f, end)) (l.invariant.read ms row listed is)

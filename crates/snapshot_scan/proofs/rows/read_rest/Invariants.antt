@@ -10,6 +10,7 @@ abbrev pub invariant-loop-k : goal.invariant-loop-k
 invariant-loop-k g l = let bundle = g.S.ScanSeat.bundle in let w : ℕ = width g.row.C g.row.H g.row.G in record {
   own : table_of (bundle l.seat) ≡ table_of (bundle l.fn.seat);
   leads : HasMember (members_of (bundle l.seat));
-  read : (ms : List Member) (row : List ℕ) (listed : Changed) → IsReadTo w l.place l.number l.from ms (members_of (bundle l.fn.seat)) row l.fn.words listed l.fn.changed
+  read : (ms : List Member) (row : List ℕ) (listed : Changed)
+      → IsReadTo w l.place l.number l.from ms (members_of (bundle l.fn.seat)) row l.fn.words listed l.fn.changed
       → IsReadTo w l.place l.number l.k ms (members_of (bundle l.seat)) row l.words listed l.changed;
 }

@@ -12,7 +12,11 @@ use Rattle.snapshot_scan.proofs.rows.read_row.Goals as goal
 
 -- nothing is read
 none_read : (w i s : ℕ) (ms : List Member) (words : List ℕ) (listed : Changed) → IsReadTo w i s 0 ms ms words words listed listed
-none_read w i s ms words listed = record { member = stays ms; low = λ j lt. absurd (omega (arith, lt)); moves = moves_none w words listed }
+none_read w i s ms words listed = record {
+  member = stays ms;
+  low = λ j lt. absurd (omega (arith, lt));
+  moves = moves_none w words listed;
+}
   where
     stays : (ms : List Member) → ms ≡ led (scan_changed (read_all w i s 0 (take 0 words))) ms
     stays [] = refl
@@ -22,7 +26,8 @@ pub loop-turn-init : goal.loop-turn-init
 loop-turn-init g c = record {
   own = refl;
   leads = c.requires.own.1;
-  read = none_read (width g.row.C g.row.H g.row.G) c.args.place c.args.number (members_of (g.S.ScanSeat.bundle c.args.seat.now)) c.args.words.now c.args.changed.now;
+  read = none_read (width g.row.C g.row.H g.row.G) c.args.place c.args.number (members_of (g.S.ScanSeat.bundle c.args.seat.now))
+      c.args.words.now c.args.changed.now;
 }
 
 pub loop-turn-preserved : goal.loop-turn-preserved
@@ -32,22 +37,27 @@ loop-turn-preserved g c =
     record {
       own = c.read_four.ensures.own ∙ inv.own;
       leads = c.read_four.ensures.leads;
-      read = subst (λ (z : ℕ). IsReadTo w c.args.place c.args.number z ms (members_of (bundle r.seat)) c.args.words.now r.words c.args.changed.now r.changed) (omega arith)
+      read = subst (λ (z : ℕ). IsReadTo w c.args.place c.args.number z ms (members_of (bundle r.seat)) c.args.words.now r.words
+          c.args.changed.now r.changed) (omega arith)
           (c.read_four.ensures.read ms c.args.words.now c.args.changed.now inv.read);
     }
 
 pub returns : goal.returns
 returns g c =
-    let bundle = g.S.ScanSeat.bundle in let w : ℕ = width g.row.C g.row.H g.row.G in let i = c.args.place in let s = c.args.number in
+    let bundle = g.S.ScanSeat.bundle in let w : ℕ = width g.row.C g.row.H g.row.G in let i = c.args.place in
+    let s = c.args.number in
     let ms = members_of (bundle c.args.seat.now) in let inv = c.loop-turn.invariant in let r = c.read_rest.new in
     let f = c.loop-turn-test.false in let end = c.loop-turn.auto.turn-end in
-    let read : IsReadTo w i s (4 * (length c.args.words.now / 4)) ms (members_of (bundle c.loop-turn.seat)) c.args.words.now c.loop-turn.words c.args.changed.now c.loop-turn.changed =
-    subst (λ (z : ℕ). IsReadTo w i s (4 * z) ms (members_of (bundle c.loop-turn.seat)) c.args.words.now c.loop-turn.words c.args.changed.now c.loop-turn.changed) (omega (arith, f, end)) inv.read in
+    let read : IsReadTo w i s (4 * (length c.args.words.now / 4)) ms (members_of (bundle c.loop-turn.seat)) c.args.words.now
+    c.loop-turn.words c.args.changed.now c.loop-turn.changed =
+    subst (λ (z : ℕ). IsReadTo w i s (4 * z) ms (members_of (bundle c.loop-turn.seat)) c.args.words.now c.loop-turn.words
+    c.args.changed.now c.loop-turn.changed) (omega (arith, f, end)) inv.read in
     let all = c.read_rest.ensures.read ms c.args.words.now c.args.changed.now read in
     let a = c.read_rest.auto.words in let b = c.loop-turn.auto.words in let long = c.requires.inside.1 in
     record {
       own = c.read_rest.ensures.own ∙ inv.own;
-      member = all.member ∙ ap (λ (l : List ℕ). led (scan_changed (read_all w i s 0 l)) ms) (take_all r.words w (omega (arith, a, b, long)));
+      member = all.member ∙ ap (λ (l : List ℕ). led (scan_changed (read_all w i s 0 l)) ms)
+          (take_all r.words w (omega (arith, a, b, long)));
       bounded = all.low;
       moves = all.moves;
     }

@@ -1,4 +1,5 @@
-use Rattle.std.proofs.Common.{◌≡◌, ℕ, Bool, true, false, List, [], ◌∷◌, ◌++◌, Contains, length, map, take, drop, slice_index, sym, refl, ap, ◌∙◌, subst, arith, rules}
+use Rattle.std.proofs.Common.{◌≡◌, ℕ, Bool, true, false, List, [], ◌∷◌, ◌++◌, Contains, length, map, take, drop, slice_index, sym}
+use Rattle.std.proofs.Common.{refl, ap, ◌∙◌, subst, arith, rules}
 use Rattle.ledger_core.specs.Ops.{width}
 use Rattle.ledger_core.specs.Vectors.{is_above}
 use Rattle.register_rule.specs.declared.view.Scan.{Scan}
@@ -15,7 +16,9 @@ use Rattle.snapshot_scan.specs.Asking.{due_from, asked_worker, MayAsk}
 use Rattle.snapshot_scan.specs.Scanned.{Tried, FailedTry, IsAnswered, IsGivenUp}
 use Rattle.snapshot_scan.proofs.Asking.{vector_long}
 use Rattle.snapshot_scan.proofs.Trying.{stood, AreTries, given_last, none_due}
-use Rattle.snapshot_scan.proofs.Scanning.{now_is, still_some, others_same, then_is, seen_below, direct_first, direct_later, moved_first, moved_later, lent_later, all_failed, tries_more, tries_one, may_start, first_starts, at_loop, loop_fails, loop_lends, loop_refuses, count_more}
+use Rattle.snapshot_scan.proofs.Scanning.{now_is, still_some, others_same, then_is, seen_below, direct_first, direct_later}
+use Rattle.snapshot_scan.proofs.Scanning.{moved_first, moved_later, lent_later, all_failed, tries_more, tries_one, may_start}
+use Rattle.snapshot_scan.proofs.Scanning.{first_starts, at_loop, loop_fails, loop_lends, loop_refuses, count_more}
 use Rattle.snapshot_core.specs.declared.next.Next.TheVariants.{GaveUp}
 use Rattle.snapshot_scan.specs.Core.{CameTo, AnswersBy}
 use Rattle.snapshot_scan.proofs.Arriving.{came_first, came_later, came_lending, came_up}
@@ -29,8 +32,10 @@ pub returns-then-clean-clause-direct : goal.returns-then-clean-clause-direct
 returns-then-clean-clause-direct g c = λ _ _.
     let ms = members_of (g.S.ScanSeat.bundle c.args.seat.now) in
     let r = c.try_once-clean.new in let lens = c.requires.lengths in
-    subst (λ (x : Scan). IsAnswered g.row.N (scan_of ms) x (record { vector = r.opened; totals = r.totals })) (sym (now_is _ ms _ c.requires.own.1 (c.try_once-clean.ensures.clean c.if-clean.true)))
-    (direct_first g.row.N r.opened r.found r.totals r.kept (scan_of ms) (c.try_once-clean.auto.opened ∙ lens.2) c.try_once-clean.ensures.told)
+    subst (λ (x : Scan). IsAnswered g.row.N (scan_of ms) x (record { vector = r.opened; totals = r.totals }))
+    (sym (now_is _ ms _ c.requires.own.1 (c.try_once-clean.ensures.clean c.if-clean.true)))
+    (direct_first g.row.N r.opened r.found r.totals r.kept (scan_of ms) (c.try_once-clean.auto.opened ∙ lens.2)
+    c.try_once-clean.ensures.told)
 
 abbrev quiet_in : ScanEnd → Bool
 quiet_in (End.Direct quiet) = quiet
@@ -60,12 +65,14 @@ not_quiet : false ≡ true → ⊥
 not_quiet e = cc
 
 pub returns-then-clean-clause-once : goal.returns-then-clean-clause-once
-returns-then-clean-clause-once g c = λ _. ap (λ (x : Scan). x.opened) (now_is _ _ _ c.requires.own.1 (c.try_once-clean.ensures.clean c.if-clean.true))
+returns-then-clean-clause-once g c = λ _. ap (λ (x : Scan). x.opened)
+    (now_is _ _ _ c.requires.own.1 (c.try_once-clean.ensures.clean c.if-clean.true))
 
 pub returns-then-clean-clause-moved : goal.returns-then-clean-clause-moved
 returns-then-clean-clause-moved g c = λ e.
     let lens = c.requires.lengths in
-    moved_first g.row.N (map version_of c.args.kept.now) c.try_once-clean.new.opened _ _ (c.try_once-clean.auto.opened ∙ lens.2) (c.try_once-clean.ensures.unknown (ap quiet_in e))
+    moved_first g.row.N (map version_of c.args.kept.now) c.try_once-clean.new.opened _ _ (c.try_once-clean.auto.opened ∙ lens.2)
+    (c.try_once-clean.ensures.unknown (ap quiet_in e))
     (ap (λ (x : Scan). x.opened) (now_is _ _ _ c.requires.own.1 (c.try_once-clean.ensures.clean c.if-clean.true)))
 
 pub returns-then-clean-2-clause-moved : goal.returns-then-clean-2-clause-moved
@@ -77,8 +84,11 @@ returns-then-clean-2-clause-moved g c = λ _.
     let r = c.try_again-clean.new in
     let view = at_loop n c.loop-k._k tries c.loop-k.kept fl ba ms _ inv.count c.loop-k-test.true inv.view in
     let d : Scan = stood tries c.loop-k.kept fl ba (scan_of ms) in
-    let end = then_is (λ (x : Scan). answered (record { vector = r.opened; totals = r.totals }) (settling r.opened r.found r.kept (opening r.opened r.kept x))) d ms _ _ c.requires.own.1 view (c.try_again-clean.ensures.clean c.if-clean-2.true) in
-    moved_later n fl ba c.loop-k.opened c.loop-k.found tries inv.tried c.loop-k.kept (scan_of ms) (map version_of c.args.kept.now) r.opened _ c.requires.geometry.workers.0 inv.lengths.0
+    let end = then_is (λ (x : Scan). answered (record { vector = r.opened; totals = r.totals })
+    (settling r.opened r.found r.kept (opening r.opened r.kept x))) d ms _ _ c.requires.own.1 view
+    (c.try_again-clean.ensures.clean c.if-clean-2.true) in
+    moved_later n fl ba c.loop-k.opened c.loop-k.found tries inv.tried c.loop-k.kept (scan_of ms) (map version_of c.args.kept.now)
+    r.opened _ c.requires.geometry.workers.0 inv.lengths.0
     (c.try_again-clean.auto.opened ∙ (c.loop-k.auto.opened ∙ (c.try_once-clean.auto.opened ∙ lens.2)))
     (ap (λ (x : Scan). x.opened) (now_is _ ms _ c.requires.own.1 end))
 
@@ -93,9 +103,18 @@ loop-k-init g c =
     let deep : length r.found ≡ n = c.try_once-clean.auto.found ∙ lens.3 in
     let f : r.opened ≡ fl = sym c.copy_from_slice.ensures.after in let b : r.found ≡ ba = sym c.copy_from_slice-2.ensures.after in
     let one : Tried = record { first = r.opened; second = r.found; asks = [] } in
-    let view : members_of (g.S.ScanSeat.bundle r.seat) ≡ with_scan (gives_up n (stood (one ∷ []) r.kept r.opened r.found (scan_of ms))) ms =
-    c.try_once-clean.ensures.failed c.if-clean.false ∙ ap (λ (x : Scan). with_scan (gives_up n x) ms) (first_starts n w r.opened r.found r.kept (scan_of ms) few long deep c.requires.idle.rest) in
-    let failed : FailedTry n r.opened r.found one = record { opened = long; found = deep; risen = c.try_once-clean.ensures.risen; rose = c.try_once-clean.ensures.rose c.if-clean.false; asked = sym (none_due 0 r.found); none = λ q e at. absurd (some-ne-none e (sym at)) } in (
+    let view : members_of (g.S.ScanSeat.bundle r.seat) ≡ with_scan
+    (gives_up n (stood (one ∷ []) r.kept r.opened r.found (scan_of ms))) ms =
+    c.try_once-clean.ensures.failed c.if-clean.false ∙ ap (λ (x : Scan). with_scan (gives_up n x) ms)
+    (first_starts n w r.opened r.found r.kept (scan_of ms) few long deep c.requires.idle.rest) in
+    let failed : FailedTry n r.opened r.found one = record {
+      opened = long;
+      found = deep;
+      risen = c.try_once-clean.ensures.risen;
+      rose = c.try_once-clean.ensures.rose c.if-clean.false;
+      asked = sym (none_due 0 r.found);
+      none = λ q e at. absurd (some-ne-none e (sym at));
+    } in (
       one ∷ [],
       record {
         own = c.try_once-clean.ensures.own;
@@ -104,15 +123,20 @@ loop-k-init g c =
         wide = c.try_once-clean.ensures.wide;
         totals = c.try_once-clean.ensures.totals;
         listed = elim c.if-known.branch [
-          | then-known b ↦ lists_none w c.args.totals.now r.totals c.if-known.moved (c.try_once-clean.ensures.quiet b.if-known.true).totals
-              (λ j h. absurd (none_listed j (subst (λ (l : List ℕ). Contains l j) (ap (λ (x : Changed). x.items) b.moved-is ∙ b.clear.ensures.none.1) h)))
+          | then-known b ↦ lists_none w c.args.totals.now r.totals c.if-known.moved
+              (c.try_once-clean.ensures.quiet b.if-known.true).totals
+              (λ j h. absurd (none_listed j
+              (subst (λ (l : List ℕ). Contains l j) (ap (λ (x : Changed). x.items) b.moved-is ∙ b.clear.ensures.none.1) h)))
           | else-known b ↦ subst (Lists w c.args.totals.now r.totals) (sym b.moved-is) c.try_once-clean.ensures.listed
         ];
         count = refl;
-        above = each_push (λ (t : Tried). Below (scan_of ms).seen t.first) [] one (λ p y at. absurd (some-ne-none y (sym at))) (seen_below n (scan_of ms) r.opened long c.try_once-clean.ensures.told);
-        tried = subst (λ (x : List ℕ). AreTries n x ba r.opened r.found (one ∷ [])) f (subst (λ (x : List ℕ). AreTries n r.opened x r.opened r.found (one ∷ [])) b (tries_one n r.opened r.found failed));
+        above = each_push (λ (t : Tried). Below (scan_of ms).seen t.first) [] one (λ p y at. absurd (some-ne-none y (sym at)))
+            (seen_below n (scan_of ms) r.opened long c.try_once-clean.ensures.told);
+        tried = subst (λ (x : List ℕ). AreTries n x ba r.opened r.found (one ∷ [])) f
+            (subst (λ (x : List ℕ). AreTries n r.opened x r.opened r.found (one ∷ [])) b (tries_one n r.opened r.found failed));
         lengths = (ap (λ (l : List ℕ). length l) (sym f) ∙ long, ap (λ (l : List ℕ). length l) (sym b) ∙ deep);
-        seen = subst (λ (x : List ℕ). Below (scan_of ms).seen x) f (seen_below n (scan_of ms) r.opened long c.try_once-clean.ensures.told);
+        seen = subst (λ (x : List ℕ). Below (scan_of ms).seen x) f
+            (seen_below n (scan_of ms) r.opened long c.try_once-clean.ensures.told);
         view = view ∙ (λ z. with_scan (gives_up n (stood (one ∷ []) r.kept (f z) (b z) (scan_of ms))) ms);
       },
     )
@@ -131,8 +155,22 @@ try_again-clean-requires g c =
         (
           c.requires.geometry,
           (
-            (c.loop-k.auto.kept ∙ (c.try_once-clean.auto.kept ∙ lens.0), c.loop-k.auto.totals ∙ (c.try_once-clean.auto.totals ∙ lens.1), c.loop-k.auto.opened ∙ (c.try_once-clean.auto.opened ∙ lens.2), c.loop-k.auto.found ∙ (c.try_once-clean.auto.found ∙ lens.3)),
-            (inv.wide, (inv.totals, (ap (λ (d : Scan). d.kept) scan, (ap (λ (d : Scan). d.now.looks) scan, ap (λ (d : Scan). d.now.due) scan, ap (λ (d : Scan). d.now.asks) scan)))),
+            (
+              c.loop-k.auto.kept ∙ (c.try_once-clean.auto.kept ∙ lens.0),
+              c.loop-k.auto.totals ∙ (c.try_once-clean.auto.totals ∙ lens.1),
+              c.loop-k.auto.opened ∙ (c.try_once-clean.auto.opened ∙ lens.2),
+              c.loop-k.auto.found ∙ (c.try_once-clean.auto.found ∙ lens.3),
+            ),
+            (
+              inv.wide,
+              (
+                inv.totals,
+                (
+                  ap (λ (d : Scan). d.kept) scan,
+                  (ap (λ (d : Scan). d.now.looks) scan, ap (λ (d : Scan). d.now.due) scan, ap (λ (d : Scan). d.now.asks) scan),
+                ),
+              ),
+            ),
           ),
         ),
       ),
@@ -142,14 +180,18 @@ pub returns-then-clean-2-clause-own : goal.returns-then-clean-2-clause-own
 returns-then-clean-2-clause-own g c = c.try_again-clean.ensures.own ∙ c.loop-k.invariant.1.own
 
 pub returns-then-clean-2-clause-idle : goal.returns-then-clean-2-clause-idle
-returns-then-clean-2-clause-idle g c = let scan = now_is _ _ _ c.loop-k.invariant.1.leads (c.try_again-clean.ensures.clean c.if-clean-2.true) in
+returns-then-clean-2-clause-idle g c = let scan = now_is _ _ _ c.loop-k.invariant.1.leads
+    (c.try_again-clean.ensures.clean c.if-clean-2.true) in
     record { kept = ap (λ (d : Scan). d.kept) scan; rest = ap (λ (d : Scan). d.now) scan }
 
 pub returns-then-clean-2-clause-others : goal.returns-then-clean-2-clause-others
 returns-then-clean-2-clause-others g c =
     let ms = members_of (g.S.ScanSeat.bundle c.args.seat.now) in
     let inv = c.loop-k.invariant.1 in let r = c.try_again-clean.new in
-    others_same _ ms _ c.requires.own.1 (then_is (λ (d : Scan). answered (record { vector = r.opened; totals = r.totals }) (settling r.opened r.found r.kept (opening r.opened r.kept d))) _ ms _ _ c.requires.own.1 inv.view (c.try_again-clean.ensures.clean c.if-clean-2.true))
+    others_same _ ms _ c.requires.own.1
+    (then_is (λ (d : Scan). answered (record { vector = r.opened; totals = r.totals })
+    (settling r.opened r.found r.kept (opening r.opened r.kept d))) _ ms _ _ c.requires.own.1 inv.view
+    (c.try_again-clean.ensures.clean c.if-clean-2.true))
 
 pub returns-then-clean-2-clause-direct : goal.returns-then-clean-2-clause-direct
 returns-then-clean-2-clause-direct g c = λ _ _.
@@ -161,9 +203,13 @@ returns-then-clean-2-clause-direct g c = λ _ _.
     let view = at_loop n c.loop-k._k tries c.loop-k.kept fl ba ms _ inv.count c.loop-k-test.true inv.view in
     let d : Scan = stood tries c.loop-k.kept fl ba (scan_of ms) in
     let scan = now_is d ms _ c.requires.own.1 view in
-    let end = then_is (λ (x : Scan). answered (record { vector = r.opened; totals = r.totals }) (settling r.opened r.found r.kept (opening r.opened r.kept x))) d ms _ _ c.requires.own.1 view (c.try_again-clean.ensures.clean c.if-clean-2.true) in
-    subst (λ (x : Scan). IsAnswered n (scan_of ms) x (record { vector = r.opened; totals = r.totals })) (sym (now_is _ ms _ c.requires.own.1 end))
-    (direct_later n fl ba c.loop-k.opened c.loop-k.found tries inv.tried c.loop-k.kept (scan_of ms) r.opened r.found r.totals r.kept inv.lengths.0
+    let end = then_is (λ (x : Scan). answered (record { vector = r.opened; totals = r.totals })
+    (settling r.opened r.found r.kept (opening r.opened r.kept x))) d ms _ _ c.requires.own.1 view
+    (c.try_again-clean.ensures.clean c.if-clean-2.true) in
+    subst (λ (x : Scan). IsAnswered n (scan_of ms) x (record { vector = r.opened; totals = r.totals }))
+    (sym (now_is _ ms _ c.requires.own.1 end))
+    (direct_later n fl ba c.loop-k.opened c.loop-k.found tries inv.tried c.loop-k.kept (scan_of ms) r.opened r.found r.totals
+    r.kept inv.lengths.0
     (c.try_again-clean.auto.opened ∙ (c.loop-k.auto.opened ∙ (c.try_once-clean.auto.opened ∙ lens.2)))
     (λ q lt. subst (λ (x : Scan). IsLoaded q x (slice_index r.opened q)) scan (c.try_again-clean.ensures.told q lt)))
 
@@ -175,11 +221,14 @@ ask_all-lends-requires g c =
     let fl = c.copy_from_slice.new.self in let ba = c.copy_from_slice-2.new.self in
     let r = c.try_again-clean.new in
     let few : length r.kept ≡ n = c.try_again-clean.auto.kept ∙ (c.loop-k.auto.kept ∙ (c.try_once-clean.auto.kept ∙ lens.0)) in
-    let long : length r.opened ≡ n = c.try_again-clean.auto.opened ∙ (c.loop-k.auto.opened ∙ (c.try_once-clean.auto.opened ∙ lens.2)) in
-    let deep : length r.found ≡ n = c.try_again-clean.auto.found ∙ (c.loop-k.auto.found ∙ (c.try_once-clean.auto.found ∙ lens.3)) in
+    let long : length r.opened ≡ n = c.try_again-clean.auto.opened
+    ∙ (c.loop-k.auto.opened ∙ (c.try_once-clean.auto.opened ∙ lens.2)) in
+    let deep : length r.found ≡ n = c.try_again-clean.auto.found
+    ∙ (c.loop-k.auto.found ∙ (c.try_once-clean.auto.found ∙ lens.3)) in
     let view = at_loop n c.loop-k._k tries c.loop-k.kept fl ba ms _ inv.count c.loop-k-test.true inv.view in
     let d : Scan = stood tries c.loop-k.kept fl ba (scan_of ms) in
-    let fails = loop_fails n w c.loop-k._k r.opened r.found r.kept c.loop-k.kept few long deep tries fl ba ms _ _ c.requires.own.1 inv.count view (c.try_again-clean.ensures.failed c.if-clean-2.false) in
+    let fails = loop_fails n w c.loop-k._k r.opened r.found r.kept c.loop-k.kept few long deep tries fl ba ms _ _ c.requires.own.1
+    inv.count view (c.try_again-clean.ensures.failed c.if-clean-2.false) in
     let scan = now_is _ ms _ c.requires.own.1 fails in (
       search rules,
       (
@@ -190,7 +239,8 @@ ask_all-lends-requires g c =
             c.requires.geometry,
             (
               (c.try_once-clean.auto.totals ∙ lens.1, inv.lengths.0, inv.lengths.1, deep, c.loop-k.auto.lent ∙ lens.4),
-              subst (MayAsk fl (due_from 0 ba r.found)) (sym scan) (may_start n r.opened r.found r.kept fl ba (due_from 0 ba r.found) d),
+              subst (MayAsk fl (due_from 0 ba r.found)) (sym scan)
+                  (may_start n r.opened r.found r.kept fl ba (due_from 0 ba r.found) d),
             ),
           ),
         ),
@@ -208,14 +258,18 @@ returns-then-lends-clause-idle g c =
     let fl = c.copy_from_slice.new.self in let ba = c.copy_from_slice-2.new.self in
     let r = c.try_again-clean.new in
     let few : length r.kept ≡ n = c.try_again-clean.auto.kept ∙ (c.loop-k.auto.kept ∙ (c.try_once-clean.auto.kept ∙ lens.0)) in
-    let long : length r.opened ≡ n = c.try_again-clean.auto.opened ∙ (c.loop-k.auto.opened ∙ (c.try_once-clean.auto.opened ∙ lens.2)) in
-    let deep : length r.found ≡ n = c.try_again-clean.auto.found ∙ (c.loop-k.auto.found ∙ (c.try_once-clean.auto.found ∙ lens.3)) in
+    let long : length r.opened ≡ n = c.try_again-clean.auto.opened
+    ∙ (c.loop-k.auto.opened ∙ (c.try_once-clean.auto.opened ∙ lens.2)) in
+    let deep : length r.found ≡ n = c.try_again-clean.auto.found
+    ∙ (c.loop-k.auto.found ∙ (c.try_once-clean.auto.found ∙ lens.3)) in
     let view = at_loop n c.loop-k._k tries c.loop-k.kept fl ba ms _ inv.count c.loop-k-test.true inv.view in
     let d : Scan = stood tries c.loop-k.kept fl ba (scan_of ms) in
-    let fails = loop_fails n w c.loop-k._k r.opened r.found r.kept c.loop-k.kept few long deep tries fl ba ms _ _ c.requires.own.1 inv.count view (c.try_again-clean.ensures.failed c.if-clean-2.false) in
+    let fails = loop_fails n w c.loop-k._k r.opened r.found r.kept c.loop-k.kept few long deep tries fl ba ms _ _ c.requires.own.1
+    inv.count view (c.try_again-clean.ensures.failed c.if-clean-2.false) in
     let l = c.ask_all-lends.ensures.lends c.if-lends.true in
     let a = lent_in n w c.ask_all-lends.new.lent in
-    let end = loop_lends n w c.loop-k._k r.opened r.found r.kept c.loop-k.kept few long deep tries fl ba ms _ _ c.requires.own.1 inv.count view _ a l.1 l.0 l.2 fails l.3 l.7 in
+    let end = loop_lends n w c.loop-k._k r.opened r.found r.kept c.loop-k.kept few long deep tries fl ba ms _ _ c.requires.own.1
+    inv.count view _ a l.1 l.0 l.2 fails l.3 l.7 in
     let scan = now_is _ ms _ c.requires.own.1 end in
     record { kept = ap (λ (x : Scan). x.kept) scan; rest = ap (λ (x : Scan). x.now) scan }
 
@@ -227,14 +281,18 @@ returns-then-lends-clause-others g c =
     let fl = c.copy_from_slice.new.self in let ba = c.copy_from_slice-2.new.self in
     let r = c.try_again-clean.new in
     let few : length r.kept ≡ n = c.try_again-clean.auto.kept ∙ (c.loop-k.auto.kept ∙ (c.try_once-clean.auto.kept ∙ lens.0)) in
-    let long : length r.opened ≡ n = c.try_again-clean.auto.opened ∙ (c.loop-k.auto.opened ∙ (c.try_once-clean.auto.opened ∙ lens.2)) in
-    let deep : length r.found ≡ n = c.try_again-clean.auto.found ∙ (c.loop-k.auto.found ∙ (c.try_once-clean.auto.found ∙ lens.3)) in
+    let long : length r.opened ≡ n = c.try_again-clean.auto.opened
+    ∙ (c.loop-k.auto.opened ∙ (c.try_once-clean.auto.opened ∙ lens.2)) in
+    let deep : length r.found ≡ n = c.try_again-clean.auto.found
+    ∙ (c.loop-k.auto.found ∙ (c.try_once-clean.auto.found ∙ lens.3)) in
     let view = at_loop n c.loop-k._k tries c.loop-k.kept fl ba ms _ inv.count c.loop-k-test.true inv.view in
     let d : Scan = stood tries c.loop-k.kept fl ba (scan_of ms) in
-    let fails = loop_fails n w c.loop-k._k r.opened r.found r.kept c.loop-k.kept few long deep tries fl ba ms _ _ c.requires.own.1 inv.count view (c.try_again-clean.ensures.failed c.if-clean-2.false) in
+    let fails = loop_fails n w c.loop-k._k r.opened r.found r.kept c.loop-k.kept few long deep tries fl ba ms _ _ c.requires.own.1
+    inv.count view (c.try_again-clean.ensures.failed c.if-clean-2.false) in
     let l = c.ask_all-lends.ensures.lends c.if-lends.true in
     let a = lent_in n w c.ask_all-lends.new.lent in
-    let end = loop_lends n w c.loop-k._k r.opened r.found r.kept c.loop-k.kept few long deep tries fl ba ms _ _ c.requires.own.1 inv.count view _ a l.1 l.0 l.2 fails l.3 l.7 in
+    let end = loop_lends n w c.loop-k._k r.opened r.found r.kept c.loop-k.kept few long deep tries fl ba ms _ _ c.requires.own.1
+    inv.count view _ a l.1 l.0 l.2 fails l.3 l.7 in
     others_same _ ms _ c.requires.own.1 end
 
 pub returns-then-lends-clause-lent : goal.returns-then-lends-clause-lent
@@ -245,17 +303,23 @@ returns-then-lends-clause-lent g c = λ _.
     let fl = c.copy_from_slice.new.self in let ba = c.copy_from_slice-2.new.self in
     let r = c.try_again-clean.new in
     let few : length r.kept ≡ n = c.try_again-clean.auto.kept ∙ (c.loop-k.auto.kept ∙ (c.try_once-clean.auto.kept ∙ lens.0)) in
-    let long : length r.opened ≡ n = c.try_again-clean.auto.opened ∙ (c.loop-k.auto.opened ∙ (c.try_once-clean.auto.opened ∙ lens.2)) in
-    let deep : length r.found ≡ n = c.try_again-clean.auto.found ∙ (c.loop-k.auto.found ∙ (c.try_once-clean.auto.found ∙ lens.3)) in
+    let long : length r.opened ≡ n = c.try_again-clean.auto.opened
+    ∙ (c.loop-k.auto.opened ∙ (c.try_once-clean.auto.opened ∙ lens.2)) in
+    let deep : length r.found ≡ n = c.try_again-clean.auto.found
+    ∙ (c.loop-k.auto.found ∙ (c.try_once-clean.auto.found ∙ lens.3)) in
     let view = at_loop n c.loop-k._k tries c.loop-k.kept fl ba ms _ inv.count c.loop-k-test.true inv.view in
     let d : Scan = stood tries c.loop-k.kept fl ba (scan_of ms) in
-    let fails = loop_fails n w c.loop-k._k r.opened r.found r.kept c.loop-k.kept few long deep tries fl ba ms _ _ c.requires.own.1 inv.count view (c.try_again-clean.ensures.failed c.if-clean-2.false) in
+    let fails = loop_fails n w c.loop-k._k r.opened r.found r.kept c.loop-k.kept few long deep tries fl ba ms _ _ c.requires.own.1
+    inv.count view (c.try_again-clean.ensures.failed c.if-clean-2.false) in
     let l = c.ask_all-lends.ensures.lends c.if-lends.true in
     let a = lent_in n w c.ask_all-lends.new.lent in
-    let end = loop_lends n w c.loop-k._k r.opened r.found r.kept c.loop-k.kept few long deep tries fl ba ms _ _ c.requires.own.1 inv.count view _ a l.1 l.0 l.2 fails l.3 l.7 in
+    let end = loop_lends n w c.loop-k._k r.opened r.found r.kept c.loop-k.kept few long deep tries fl ba ms _ _ c.requires.own.1
+    inv.count view _ a l.1 l.0 l.2 fails l.3 l.7 in
     subst (λ (x : Scan). IsAnswered n (scan_of ms) x a) (sym (now_is _ ms _ c.requires.own.1 end))
-    (lent_later n fl ba c.loop-k.opened c.loop-k.found tries inv.tried c.loop-k.kept (scan_of ms) r.opened r.found r.kept a l.1 l.0 (asked_worker l.1 ∷ l.2) inv.lengths.0
-    (vector_long n w c.ask_all-lends.new.lent (c.ask_all-lends.auto.lent ∙ (c.loop-k.auto.lent ∙ lens.4))) inv.seen (ap (λ (ws : List ℕ). is_above fl (take n (drop 1 ws))) (sym l.5) ∙ l.6.above))
+    (lent_later n fl ba c.loop-k.opened c.loop-k.found tries inv.tried c.loop-k.kept (scan_of ms) r.opened r.found r.kept a l.1
+    l.0 (asked_worker l.1 ∷ l.2) inv.lengths.0
+    (vector_long n w c.ask_all-lends.new.lent (c.ask_all-lends.auto.lent ∙ (c.loop-k.auto.lent ∙ lens.4))) inv.seen
+    (ap (λ (ws : List ℕ). is_above fl (take n (drop 1 ws))) (sym l.5) ∙ l.6.above))
 
 pub loop-k-preserved : goal.loop-k-preserved
 loop-k-preserved g c =
@@ -265,15 +329,26 @@ loop-k-preserved g c =
     let fl = c.copy_from_slice.new.self in let ba = c.copy_from_slice-2.new.self in
     let r = c.try_again-clean.new in
     let few : length r.kept ≡ n = c.try_again-clean.auto.kept ∙ (c.loop-k.auto.kept ∙ (c.try_once-clean.auto.kept ∙ lens.0)) in
-    let long : length r.opened ≡ n = c.try_again-clean.auto.opened ∙ (c.loop-k.auto.opened ∙ (c.try_once-clean.auto.opened ∙ lens.2)) in
-    let deep : length r.found ≡ n = c.try_again-clean.auto.found ∙ (c.loop-k.auto.found ∙ (c.try_once-clean.auto.found ∙ lens.3)) in
+    let long : length r.opened ≡ n = c.try_again-clean.auto.opened
+    ∙ (c.loop-k.auto.opened ∙ (c.try_once-clean.auto.opened ∙ lens.2)) in
+    let deep : length r.found ≡ n = c.try_again-clean.auto.found
+    ∙ (c.loop-k.auto.found ∙ (c.try_once-clean.auto.found ∙ lens.3)) in
     let view = at_loop n c.loop-k._k tries c.loop-k.kept fl ba ms _ inv.count c.loop-k-test.true inv.view in
     let d : Scan = stood tries c.loop-k.kept fl ba (scan_of ms) in
-    let fails = loop_fails n w c.loop-k._k r.opened r.found r.kept c.loop-k.kept few long deep tries fl ba ms _ _ c.requires.own.1 inv.count view (c.try_again-clean.ensures.failed c.if-clean-2.false) in
+    let fails = loop_fails n w c.loop-k._k r.opened r.found r.kept c.loop-k.kept few long deep tries fl ba ms _ _ c.requires.own.1
+    inv.count view (c.try_again-clean.ensures.failed c.if-clean-2.false) in
     let q = c.ask_all-lends.ensures.refuses c.if-lends.false in
     let t : Tried = record { first = r.opened; second = r.found; asks = q.0 } in
-    let end = loop_refuses n w c.loop-k._k r.opened r.found r.kept c.loop-k.kept few long deep tries fl ba ms _ _ c.requires.own.1 inv.count view _ q.0 fails q.1 q.3 in
-    let failed : FailedTry n fl ba t = record { opened = long; found = deep; risen = c.try_again-clean.ensures.risen; rose = c.try_again-clean.ensures.rose c.if-clean-2.false; asked = q.1; none = q.2 } in (
+    let end = loop_refuses n w c.loop-k._k r.opened r.found r.kept c.loop-k.kept few long deep tries fl ba ms _ _ c.requires.own.1
+    inv.count view _ q.0 fails q.1 q.3 in
+    let failed : FailedTry n fl ba t = record {
+      opened = long;
+      found = deep;
+      risen = c.try_again-clean.ensures.risen;
+      rose = c.try_again-clean.ensures.rose c.if-clean-2.false;
+      asked = q.1;
+      none = q.2;
+    } in (
       tries ++ t ∷ [],
       record {
         own = c.ask_all-lends.ensures.own ∙ (c.try_again-clean.ensures.own ∙ inv.own);
@@ -281,11 +356,15 @@ loop-k-preserved g c =
         leads = still_some _ ms _ c.requires.own.1 end;
         wide = c.try_again-clean.ensures.wide;
         totals = c.try_again-clean.ensures.totals;
-        listed = lists_then w c.args.totals.now c.loop-k.totals r.totals c.loop-k.moved r.moved inv.listed c.try_again-clean.ensures.listed;
+        listed = lists_then w c.args.totals.now c.loop-k.totals r.totals c.loop-k.moved r.moved inv.listed
+            c.try_again-clean.ensures.listed;
         count = count_more tries t c.loop-k._k inv.count;
         above = each_push (λ (u : Tried). Below (scan_of ms).seen u.first) tries t inv.above
-            (seen_below n (stood tries c.loop-k.kept fl ba (scan_of ms)) r.opened long (λ p lt. subst (λ (x : Scan). IsLoaded p x (slice_index r.opened p)) (now_is d ms _ c.requires.own.1 view) (c.try_again-clean.ensures.told p lt)));
-        tried = tries_more n fl ba c.loop-k.opened c.loop-k.found tries inv.tried c.loop-k.kept (scan_of ms) r.opened r.found q.0 failed;
+            (seen_below n (stood tries c.loop-k.kept fl ba (scan_of ms)) r.opened long
+            (λ p lt. subst (λ (x : Scan). IsLoaded p x (slice_index r.opened p)) (now_is d ms _ c.requires.own.1 view)
+            (c.try_again-clean.ensures.told p lt)));
+        tried = tries_more n fl ba c.loop-k.opened c.loop-k.found tries inv.tried c.loop-k.kept (scan_of ms) r.opened r.found q.0
+            failed;
         lengths = inv.lengths;
         seen = inv.seen;
         view = end;
@@ -308,7 +387,8 @@ returns-clause-idle g c =
     let inv = c.loop-k.invariant.1 in let tries = c.loop-k.invariant.0 in
     let t = c.loop-k-test.false in let last = c.loop-k.auto._k-end in let count = inv.count in
     let fl = c.copy_from_slice.new.self in let ba = c.copy_from_slice-2.new.self in
-    let scan = now_is _ ms _ c.requires.own.1 inv.view ∙ given_last n (stood tries c.loop-k.kept fl ba (scan_of ms)) refl (omega (arith, count, t, last)) in
+    let scan = now_is _ ms _ c.requires.own.1 inv.view ∙ given_last n (stood tries c.loop-k.kept fl ba (scan_of ms)) refl
+    (omega (arith, count, t, last)) in
     record { kept = ap (λ (x : Scan). x.kept) scan; rest = ap (λ (x : Scan). x.now) scan }
 
 pub returns-clause-others : goal.returns-clause-others
@@ -321,16 +401,20 @@ returns-clause-gave_up g c = λ _.
     let inv = c.loop-k.invariant.1 in let tries = c.loop-k.invariant.0 in
     let t = c.loop-k-test.false in let last = c.loop-k.auto._k-end in let count = inv.count in
     let fl = c.copy_from_slice.new.self in let ba = c.copy_from_slice-2.new.self in
-    subst (λ (x : Scan). IsGivenUp n (scan_of ms) x c.loop-k.opened c.loop-k.found) (sym (now_is _ ms _ c.requires.own.1 inv.view))
-    (all_failed n fl ba c.loop-k.opened c.loop-k.found tries inv.tried c.loop-k.kept (scan_of ms) (omega (arith, count, t, last)) inv.above)
+    subst (λ (x : Scan). IsGivenUp n (scan_of ms) x c.loop-k.opened c.loop-k.found)
+    (sym (now_is _ ms _ c.requires.own.1 inv.view))
+    (all_failed n fl ba c.loop-k.opened c.loop-k.found tries inv.tried c.loop-k.kept (scan_of ms) (omega (arith, count, t, last))
+    inv.above)
 
 pub returns-then-clean-clause-came_direct : goal.returns-then-clean-clause-came_direct
 returns-then-clean-clause-came_direct g c = λ _ _.
     let ms = members_of (g.S.ScanSeat.bundle c.args.seat.now) in
     let r = c.try_once-clean.new in let lens = c.requires.lengths in
     let n : ℕ = g.row.N in let w : ℕ = width g.row.C g.row.H g.row.G in
-    subst (λ (x : Scan). AnswersBy n w (scan_of ms) x (record { vector = r.opened; totals = r.totals })) (sym (now_is _ ms _ c.requires.own.1 (c.try_once-clean.ensures.clean c.if-clean.true)))
-    (came_first n w r.opened r.found r.kept (scan_of ms) (record { vector = r.opened; totals = r.totals }) (c.try_once-clean.auto.opened ∙ lens.2) (c.try_once-clean.ensures.same c.if-clean.true) refl)
+    subst (λ (x : Scan). AnswersBy n w (scan_of ms) x (record { vector = r.opened; totals = r.totals }))
+    (sym (now_is _ ms _ c.requires.own.1 (c.try_once-clean.ensures.clean c.if-clean.true)))
+    (came_first n w r.opened r.found r.kept (scan_of ms) (record { vector = r.opened; totals = r.totals })
+    (c.try_once-clean.auto.opened ∙ lens.2) (c.try_once-clean.ensures.same c.if-clean.true) refl)
 
 pub returns-then-clean-2-clause-came_direct : goal.returns-then-clean-2-clause-came_direct
 returns-then-clean-2-clause-came_direct g c = λ _ _.
@@ -341,11 +425,16 @@ returns-then-clean-2-clause-came_direct g c = λ _ _.
     let r = c.try_again-clean.new in
     let view = at_loop n c.loop-k._k tries c.loop-k.kept fl ba ms _ inv.count c.loop-k-test.true inv.view in
     let d : Scan = stood tries c.loop-k.kept fl ba (scan_of ms) in
-    let end = then_is (λ (x : Scan). answered (record { vector = r.opened; totals = r.totals }) (settling r.opened r.found r.kept (opening r.opened r.kept x))) d ms _ _ c.requires.own.1 view (c.try_again-clean.ensures.clean c.if-clean-2.true) in
+    let end = then_is (λ (x : Scan). answered (record { vector = r.opened; totals = r.totals })
+    (settling r.opened r.found r.kept (opening r.opened r.kept x))) d ms _ _ c.requires.own.1 view
+    (c.try_again-clean.ensures.clean c.if-clean-2.true) in
     let count = inv.count in let lt = c.loop-k-test.true in
-    subst (λ (x : Scan). AnswersBy n w (scan_of ms) x (record { vector = r.opened; totals = r.totals })) (sym (now_is _ ms _ c.requires.own.1 end))
-    (came_later n w fl ba c.loop-k.opened c.loop-k.found tries inv.tried c.loop-k.kept (scan_of ms) r.opened r.found r.kept (record { vector = r.opened; totals = r.totals })
-    (c.try_again-clean.auto.opened ∙ (c.loop-k.auto.opened ∙ (c.try_once-clean.auto.opened ∙ lens.2))) (c.try_again-clean.ensures.same c.if-clean-2.true) (omega (arith, count, lt)) refl)
+    subst (λ (x : Scan). AnswersBy n w (scan_of ms) x (record { vector = r.opened; totals = r.totals }))
+    (sym (now_is _ ms _ c.requires.own.1 end))
+    (came_later n w fl ba c.loop-k.opened c.loop-k.found tries inv.tried c.loop-k.kept (scan_of ms) r.opened r.found r.kept
+    (record { vector = r.opened; totals = r.totals })
+    (c.try_again-clean.auto.opened ∙ (c.loop-k.auto.opened ∙ (c.try_once-clean.auto.opened ∙ lens.2)))
+    (c.try_again-clean.ensures.same c.if-clean-2.true) (omega (arith, count, lt)) refl)
 
 pub returns-then-lends-clause-came_lent : goal.returns-then-lends-clause-came_lent
 returns-then-lends-clause-came_lent g c = λ _.
@@ -355,16 +444,21 @@ returns-then-lends-clause-came_lent g c = λ _.
     let fl = c.copy_from_slice.new.self in let ba = c.copy_from_slice-2.new.self in
     let r = c.try_again-clean.new in
     let few : length r.kept ≡ n = c.try_again-clean.auto.kept ∙ (c.loop-k.auto.kept ∙ (c.try_once-clean.auto.kept ∙ lens.0)) in
-    let long : length r.opened ≡ n = c.try_again-clean.auto.opened ∙ (c.loop-k.auto.opened ∙ (c.try_once-clean.auto.opened ∙ lens.2)) in
-    let deep : length r.found ≡ n = c.try_again-clean.auto.found ∙ (c.loop-k.auto.found ∙ (c.try_once-clean.auto.found ∙ lens.3)) in
+    let long : length r.opened ≡ n = c.try_again-clean.auto.opened
+    ∙ (c.loop-k.auto.opened ∙ (c.try_once-clean.auto.opened ∙ lens.2)) in
+    let deep : length r.found ≡ n = c.try_again-clean.auto.found
+    ∙ (c.loop-k.auto.found ∙ (c.try_once-clean.auto.found ∙ lens.3)) in
     let view = at_loop n c.loop-k._k tries c.loop-k.kept fl ba ms _ inv.count c.loop-k-test.true inv.view in
-    let fails = loop_fails n w c.loop-k._k r.opened r.found r.kept c.loop-k.kept few long deep tries fl ba ms _ _ c.requires.own.1 inv.count view (c.try_again-clean.ensures.failed c.if-clean-2.false) in
+    let fails = loop_fails n w c.loop-k._k r.opened r.found r.kept c.loop-k.kept few long deep tries fl ba ms _ _ c.requires.own.1
+    inv.count view (c.try_again-clean.ensures.failed c.if-clean-2.false) in
     let l = c.ask_all-lends.ensures.lends c.if-lends.true in
     let a = lent_in n w c.ask_all-lends.new.lent in
-    let end = loop_lends n w c.loop-k._k r.opened r.found r.kept c.loop-k.kept few long deep tries fl ba ms _ _ c.requires.own.1 inv.count view _ a l.1 l.0 l.2 fails l.3 l.7 in
+    let end = loop_lends n w c.loop-k._k r.opened r.found r.kept c.loop-k.kept few long deep tries fl ba ms _ _ c.requires.own.1
+    inv.count view _ a l.1 l.0 l.2 fails l.3 l.7 in
     let count = inv.count in let lt = c.loop-k-test.true in
     subst (λ (x : Scan). AnswersBy n w (scan_of ms) x a) (sym (now_is _ ms _ c.requires.own.1 end))
-    (came_lending n w fl ba c.loop-k.opened c.loop-k.found tries inv.tried c.loop-k.kept (scan_of ms) r.opened r.found r.kept a l.1 l.0 l.2 (asked_worker l.1 ∷ l.2) long deep (omega (arith, count, lt))
+    (came_lending n w fl ba c.loop-k.opened c.loop-k.found tries inv.tried c.loop-k.kept (scan_of ms) r.opened r.found r.kept a
+    l.1 l.0 l.2 (asked_worker l.1 ∷ l.2) long deep (omega (arith, count, lt))
     (c.try_again-clean.ensures.rose c.if-clean-2.false) l.3 l.4 l.6 (ap (lent_in n w) (sym l.5)))
 
 pub returns-clause-came_up : goal.returns-clause-came_up
@@ -374,8 +468,10 @@ returns-clause-came_up g c = λ _ e moved.
     let inv = c.loop-k.invariant.1 in let tries = c.loop-k.invariant.0 in
     let t = c.loop-k-test.false in let last = c.loop-k.auto._k-end in let count = inv.count in
     let fl = c.copy_from_slice.new.self in let ba = c.copy_from_slice-2.new.self in
-    subst (λ (x : Scan). CameTo n w (scan_of ms) x (GaveUp e.worker e.first e.last)) (sym (now_is _ ms _ c.requires.own.1 inv.view))
-    (came_up n w fl ba c.loop-k.opened c.loop-k.found tries inv.tried c.loop-k.kept (scan_of ms) (omega (arith, count, t, last)) e moved)
+    subst (λ (x : Scan). CameTo n w (scan_of ms) x (GaveUp e.worker e.first e.last))
+    (sym (now_is _ ms _ c.requires.own.1 inv.view))
+    (came_up n w fl ba c.loop-k.opened c.loop-k.found tries inv.tried c.loop-k.kept (scan_of ms) (omega (arith, count, t, last)) e
+    moved)
 
 pub try_once-clean-requires : goal.try_once-clean-requires
 try_once-clean-requires g c = let lens = c.requires.lengths in let idle = c.requires.idle in (
@@ -384,7 +480,16 @@ try_once-clean-requires g c = let lens = c.requires.lengths in let idle = c.requ
     c.requires.own,
     (
       c.requires.geometry,
-      ((lens.0, lens.1, lens.2, lens.3), (c.requires.wide, (c.requires.totals, (idle.kept, (c.requires.listed, (λ z. (idle.rest z).looks, λ z. (idle.rest z).due, λ z. (idle.rest z).asks)))))),
+      (
+        (lens.0, lens.1, lens.2, lens.3),
+        (
+          c.requires.wide,
+          (
+            c.requires.totals,
+            (idle.kept, (c.requires.listed, (λ z. (idle.rest z).looks, λ z. (idle.rest z).due, λ z. (idle.rest z).asks))),
+          ),
+        ),
+      ),
     ),
   ),
 )
@@ -406,7 +511,8 @@ returns-then-clean-clause-idle g c = let scan = now_is _ _ _ c.requires.own.1 (c
     record { kept = ap (λ (d : Scan). d.kept) scan; rest = ap (λ (d : Scan). d.now) scan }
 
 pub returns-then-clean-clause-others : goal.returns-then-clean-clause-others
-returns-then-clean-clause-others g c = others_same _ (members_of (g.S.ScanSeat.bundle c.args.seat.now)) _ c.requires.own.1 (c.try_once-clean.ensures.clean c.if-clean.true)
+returns-then-clean-clause-others g c = others_same _ (members_of (g.S.ScanSeat.bundle c.args.seat.now)) _ c.requires.own.1
+    (c.try_once-clean.ensures.clean c.if-clean.true)
 
 pub returns-then-clean-clause-quiet : goal.returns-then-clean-clause-quiet
 returns-then-clean-clause-quiet g c = λ e. c.try_once-clean.ensures.quiet (ap quiet_in e)
@@ -521,11 +627,13 @@ returns-then-clean-clause-listed g c = c.try_once-clean.ensures.listed
 
 pub returns-then-clean-2-clause-listed : goal.returns-then-clean-2-clause-listed
 returns-then-clean-2-clause-listed g c = let w : ℕ = width g.row.C g.row.H g.row.G in let r = c.try_again-clean.new in
-    lists_then w c.args.totals.now c.loop-k.totals r.totals c.loop-k.moved r.moved c.loop-k.invariant.1.listed c.try_again-clean.ensures.listed
+    lists_then w c.args.totals.now c.loop-k.totals r.totals c.loop-k.moved r.moved c.loop-k.invariant.1.listed
+    c.try_again-clean.ensures.listed
 
 pub returns-then-lends-clause-listed : goal.returns-then-lends-clause-listed
 returns-then-lends-clause-listed g c = let w : ℕ = width g.row.C g.row.H g.row.G in let r = c.try_again-clean.new in
-    lists_then w c.args.totals.now c.loop-k.totals r.totals c.loop-k.moved r.moved c.loop-k.invariant.1.listed c.try_again-clean.ensures.listed
+    lists_then w c.args.totals.now c.loop-k.totals r.totals c.loop-k.moved r.moved c.loop-k.invariant.1.listed
+    c.try_again-clean.ensures.listed
 
 pub returns-clause-listed : goal.returns-clause-listed
 returns-clause-listed g c = c.loop-k.invariant.1.listed

@@ -13,17 +13,18 @@ use lib.ListN.{get_elem?}
 use Rattle.snapshot_scan.proofs.scans.scan.Given as goal
 
 abbrev pub invariant-loop-k : goal.invariant-loop-k
-invariant-loop-k g l = let bundle = g.S.ScanSeat.bundle in let ms = members_of (bundle l.fn.seat) in let w : ℕ = width g.row.C g.row.H g.row.G in (tries : List Tried) × record {
-  own : table_of (bundle l.seat) ≡ table_of (bundle l.fn.seat);
-  ruled : IsRuled g.row.N g.row.C g.row.H g.row.G (bundle l.seat);
-  leads : HasMember (members_of (bundle l.seat));
-  wide : AreWide w l.kept;
-  totals : AreTotals w l.kept l.totals;
-  listed : Lists w l.fn.totals l.totals l.moved;
-  count : length tries ≡ l._k + 1;
-  tried : AreTries g.row.N l.floor l.base l.opened l.found tries;
-  above : (q : ℕ) (t : Tried) → get_elem? tries q ≡ some t → Below (scan_of ms).seen t.first;
-  lengths : (length l.floor ≡ g.row.N) × (length l.base ≡ g.row.N);
-  seen : Below (scan_of ms).seen l.floor;
-  view : members_of (bundle l.seat) ≡ with_scan (gives_up g.row.N (stood tries l.kept l.floor l.base (scan_of ms))) ms;
-}
+invariant-loop-k g l = let bundle = g.S.ScanSeat.bundle in let ms = members_of (bundle l.fn.seat) in
+    let w : ℕ = width g.row.C g.row.H g.row.G in (tries : List Tried) × record {
+      own : table_of (bundle l.seat) ≡ table_of (bundle l.fn.seat);
+      ruled : IsRuled g.row.N g.row.C g.row.H g.row.G (bundle l.seat);
+      leads : HasMember (members_of (bundle l.seat));
+      wide : AreWide w l.kept;
+      totals : AreTotals w l.kept l.totals;
+      listed : Lists w l.fn.totals l.totals l.moved;
+      count : length tries ≡ l._k + 1;
+      tried : AreTries g.row.N l.floor l.base l.opened l.found tries;
+      above : (q : ℕ) (t : Tried) → get_elem? tries q ≡ some t → Below (scan_of ms).seen t.first;
+      lengths : (length l.floor ≡ g.row.N) × (length l.base ≡ g.row.N);
+      seen : Below (scan_of ms).seen l.floor;
+      view : members_of (bundle l.seat) ≡ with_scan (gives_up g.row.N (stood tries l.kept l.floor l.base (scan_of ms))) ms;
+    }

@@ -1,4 +1,5 @@
-use Rattle.std.proofs.Common.{◌≡◌, ◌≢◌, ◌+◌, ◌<◌, ℕ, Contains, List, [], length, slice_index, get_or, sym, ap, ◌∙◌, subst, arith, rules}
+use Rattle.std.proofs.Common.{◌≡◌, ◌≢◌, ◌+◌, ◌<◌, ℕ, Contains, List, [], length, slice_index, get_or, sym, ap, ◌∙◌, subst, arith}
+use Rattle.std.proofs.Common.{rules}
 use lib.ListN.{get_elem?}
 use Rattle.ledger_core.specs.Ops.{width}
 use Rattle.register_rule.proofs.Words.{there}
@@ -18,7 +19,8 @@ pub confirm-requires : goal.confirm-requires
 confirm-requires g c =
     let ms = members_of (g.S.ScanSeat.bundle c.args.seat.now) in
     let os = c.collect.new.opened in
-    let scan : scan_of (members_of (g.S.ScanSeat.bundle c.collect.new.seat)) ≡ opening os c.collect.new.kept (scan_of ms) = ap scan_of c.collect.ensures.view ∙ scan_with _ ms c.requires.own.1 in
+    let scan : scan_of (members_of (g.S.ScanSeat.bundle c.collect.new.seat)) ≡ opening os c.collect.new.kept (scan_of ms) =
+    ap scan_of c.collect.ensures.view ∙ scan_with _ ms c.requires.own.1 in
     let lens = c.requires.lengths in let a = c.collect.auto.opened in let b = c.collect.auto.kept in (
       search rules,
       (
@@ -37,7 +39,11 @@ confirm-requires g c =
                     ap (λ (d : Scan). d.kept) scan ∙ (c.requires.kept ∙ sym c.collect.ensures.same),
                     (
                       ap (λ (d : Scan). d.now.looks) scan,
-                      λ q lt. let e = there os q 0 (omega (arith, a, lens.2, lt)) in (length (scan_of ms).opened + q, ap (λ (d : Scan). get_elem? d.opened (length (scan_of ms).opened + q)) scan ∙ loads_at (scan_of ms).opened os [] q (get_or os q 0) e),
+                      λ q lt. let e = there os q 0 (omega (arith, a, lens.2, lt)) in (
+                        length (scan_of ms).opened + q,
+                        ap (λ (d : Scan). get_elem? d.opened (length (scan_of ms).opened + q)) scan
+                            ∙ loads_at (scan_of ms).opened os [] q (get_or os q 0) e,
+                      ),
                     ),
                   ),
                 ),
@@ -52,15 +58,20 @@ pub returns-clause-clean : goal.returns-clause-clean
 returns-clause-clean g c = λ t.
     let ms = members_of (g.S.ScanSeat.bundle c.args.seat.now) in
     let n : ℕ = g.row.N in let w : ℕ = width g.row.C g.row.H g.row.G in
-    let os = c.collect.new.opened in let fs = c.confirm.new.found in let gs = c.confirm.new.kept in let ts = c.confirm.new.totals in
+    let os = c.collect.new.opened in let fs = c.confirm.new.found in let gs = c.confirm.new.kept in
+    let ts = c.confirm.new.totals in
     let lens = c.requires.lengths in
     let same : os ≡ fs = c.confirm.ensures.clean.0 t in
     let d : Scan = opening os c.collect.new.kept (scan_of ms) in
-    let scan : scan_of (members_of (g.S.ScanSeat.bundle c.collect.new.seat)) ≡ d = ap scan_of c.collect.ensures.view ∙ scan_with d ms c.requires.own.1 in
-    let all = ends_clean n w os fs gs d (c.confirm.auto.kept ∙ (c.collect.auto.kept ∙ lens.0)) (c.collect.auto.opened ∙ lens.2) (c.confirm.auto.found ∙ lens.3) c.confirm.ensures.wide ts (c.confirm.auto.totals ∙ lens.1) same
+    let scan : scan_of (members_of (g.S.ScanSeat.bundle c.collect.new.seat)) ≡ d = ap scan_of c.collect.ensures.view
+    ∙ scan_with d ms c.requires.own.1 in
+    let all = ends_clean n w os fs gs d (c.confirm.auto.kept ∙ (c.collect.auto.kept ∙ lens.0)) (c.collect.auto.opened ∙ lens.2)
+    (c.confirm.auto.found ∙ lens.3) c.confirm.ensures.wide ts (c.confirm.auto.totals ∙ lens.1) same
     (λ p x at. c.confirm.ensures.held p x at (ap (λ (l : List ℕ). slice_index l p) same)) c.confirm.ensures.totals in
-    c.confirm.ensures.view ∙ (ap (λ (x : Scan). with_scan (ended n w (settling os fs gs x)) (members_of (g.S.ScanSeat.bundle c.collect.new.seat))) scan
-    ∙ (ap (with_scan (ended n w (settling os fs gs d))) c.collect.ensures.view ∙ (with_led (λ _. ended n w (settling os fs gs d)) d ms ∙ ap (λ (x : Scan). with_scan x ms) all)))
+    c.confirm.ensures.view ∙
+    (ap (λ (x : Scan). with_scan (ended n w (settling os fs gs x)) (members_of (g.S.ScanSeat.bundle c.collect.new.seat))) scan
+    ∙ (ap (with_scan (ended n w (settling os fs gs d))) c.collect.ensures.view
+    ∙ (with_led (λ _. ended n w (settling os fs gs d)) d ms ∙ ap (λ (x : Scan). with_scan x ms) all)))
 
 pub returns-clause-failed : goal.returns-clause-failed
 returns-clause-failed g c = λ t.
@@ -70,27 +81,37 @@ returns-clause-failed g c = λ t.
     let lens = c.requires.lengths in
     let differ : os ≢ fs = λ e. true_not_false (sym (c.confirm.ensures.clean.1 e) ∙ t) in
     let d : Scan = opening os c.collect.new.kept (scan_of ms) in
-    let scan : scan_of (members_of (g.S.ScanSeat.bundle c.collect.new.seat)) ≡ d = ap scan_of c.collect.ensures.view ∙ scan_with d ms c.requires.own.1 in
-    let all = ends_failed n w os fs gs d (c.confirm.auto.kept ∙ (c.collect.auto.kept ∙ lens.0)) (c.collect.auto.opened ∙ lens.2) (c.confirm.auto.found ∙ lens.3) c.confirm.ensures.wide differ in
-    c.confirm.ensures.view ∙ (ap (λ (x : Scan). with_scan (ended n w (settling os fs gs x)) (members_of (g.S.ScanSeat.bundle c.collect.new.seat))) scan
-    ∙ (ap (with_scan (ended n w (settling os fs gs d))) c.collect.ensures.view ∙ (with_led (λ _. ended n w (settling os fs gs d)) d ms ∙ ap (λ (x : Scan). with_scan x ms) all)))
+    let scan : scan_of (members_of (g.S.ScanSeat.bundle c.collect.new.seat)) ≡ d = ap scan_of c.collect.ensures.view
+    ∙ scan_with d ms c.requires.own.1 in
+    let all = ends_failed n w os fs gs d (c.confirm.auto.kept ∙ (c.collect.auto.kept ∙ lens.0)) (c.collect.auto.opened ∙ lens.2)
+    (c.confirm.auto.found ∙ lens.3) c.confirm.ensures.wide differ in
+    c.confirm.ensures.view ∙
+    (ap (λ (x : Scan). with_scan (ended n w (settling os fs gs x)) (members_of (g.S.ScanSeat.bundle c.collect.new.seat))) scan
+    ∙ (ap (with_scan (ended n w (settling os fs gs d))) c.collect.ensures.view
+    ∙ (with_led (λ _. ended n w (settling os fs gs d)) d ms ∙ ap (λ (x : Scan). with_scan x ms) all)))
 
 pub returns-clause-rose : goal.returns-clause-rose
 returns-clause-rose g c = λ t.
     let lens = c.requires.lengths in
     let os = c.collect.new.opened in let fs = c.confirm.new.found in
     let long : length os ≡ g.row.N = c.collect.auto.opened ∙ lens.2 in
-    let r = rose_some os fs (long ∙ sym (c.confirm.auto.found ∙ lens.3)) (λ q lt. c.confirm.ensures.risen q (omega (arith, long, lt))) (λ e. true_not_false (sym (c.confirm.ensures.clean.1 e) ∙ t)) in
+    let r = rose_some os fs (long ∙ sym (c.confirm.auto.found ∙ lens.3))
+    (λ q lt. c.confirm.ensures.risen q (omega (arith, long, lt)))
+    (λ e. true_not_false (sym (c.confirm.ensures.clean.1 e) ∙ t)) in
     (r.0, omega (arith, long, r.1), r.2)
 
 pub returns-clause-numbers : goal.returns-clause-numbers
-returns-clause-numbers g c = λ t q x at. c.confirm.ensures.held q x at (ap (λ (l : List ℕ). slice_index l q) (c.confirm.ensures.clean.0 t))
+returns-clause-numbers g c = λ t q x at. c.confirm.ensures.held q x at
+    (ap (λ (l : List ℕ). slice_index l q) (c.confirm.ensures.clean.0 t))
 
 pub returns-clause-listed : goal.returns-clause-listed
 returns-clause-listed g c =
     let w : ℕ = width g.row.C g.row.H g.row.G in let r = c.confirm.new in let s = c.args.totals.now in
     elim c.if-not-known.branch [
-      | then-not-known b ↦ lists_first w s r.totals c.if-not-known.moved r.moved (ap (λ (x : Changed). x.items) b.moved-is ∙ b.clear.ensures.none.1) c.confirm.ensures.listed
+      | then-not-known b ↦ lists_first w s r.totals c.if-not-known.moved r.moved (ap (λ (x : Changed). x.items) b.moved-is
+          ∙ b.clear.ensures.none.1) c.confirm.ensures.listed
       | else-not-known b ↦ lists_none w s r.totals r.moved (c.confirm.ensures.quiet b.if-not-known.false).1
-          (moves_inside w s r.totals c.if-not-known.moved r.moved (subst (λ (x : Changed). (j : ℕ) → Contains x.items j → j < w) (sym b.moved-is) c.requires.listed) c.confirm.ensures.listed)
+          (moves_inside w s r.totals c.if-not-known.moved r.moved
+          (subst (λ (x : Changed). (j : ℕ) → Contains x.items j → j < w) (sym b.moved-is) c.requires.listed)
+          c.confirm.ensures.listed)
     ]

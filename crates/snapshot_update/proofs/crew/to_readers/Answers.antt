@@ -15,12 +15,21 @@ pub loop-seat-init : goal.loop-seat-init
 loop-seat-init g c =
     let began = c.into_iter-seat-iterator.ensures.into_iter_gives.0 in
     let w = width g.row.C g.row.H g.row.G in
-    let long = sym (length-map c.args.seats.items reader_of) ∙ (ap length c.requires.fresh ∙ length-readers_from g.row.N w 0 c.args.all) in
+    let long = sym (length-map c.args.seats.items reader_of)
+    ∙ (ap length c.requires.fresh ∙ length-readers_from g.row.N w 0 c.args.all) in
     record {
       own = subst (λ (z : List ReadSeat). All (HasReader c.args.board.now) z) (sym began) c.requires.own;
-      count = omega (arith, ap (length {A = ReadSeat}) began, long, ap (length {A = Reader g.row.N g.row.C g.row.H g.row.G}) c.new-readers.ensures.items);
-      fresh = subst (λ (z : List (Reader g.row.N g.row.C g.row.H g.row.G)). map reader_of (into_iter_items c.into_iter-seat-iterator.result) ≡ readers_from g.row.N w (length z) (length (into_iter_items c.into_iter-seat-iterator.result))) (sym c.new-readers.ensures.items)
-          (subst (λ (z : List ReadSeat). map reader_of z ≡ readers_from g.row.N w 0 (length z)) (sym began) (c.requires.fresh ∙ ap (readers_from g.row.N w 0) (sym long)));
+      count = omega (
+        arith,
+        ap (length {A = ReadSeat}) began,
+        long,
+        ap (length {A = Reader g.row.N g.row.C g.row.H g.row.G}) c.new-readers.ensures.items,
+      );
+      fresh = subst (λ (z : List (Reader g.row.N g.row.C g.row.H g.row.G)). map reader_of
+          (into_iter_items c.into_iter-seat-iterator.result) ≡ readers_from g.row.N w (length z)
+          (length (into_iter_items c.into_iter-seat-iterator.result))) (sym c.new-readers.ensures.items)
+          (subst (λ (z : List ReadSeat). map reader_of z ≡ readers_from g.row.N w 0 (length z)) (sym began)
+          (c.requires.fresh ∙ ap (readers_from g.row.N w 0) (sym long)));
       made = search rules;
       alone = search rules;
     }
@@ -31,11 +40,13 @@ loop-seat-preserved g c =
     let step = c.in-Some.ensures.steps.0 in
     let w = width g.row.C g.row.H g.row.G in
     let rest = into_iter_items c.next.new.self in
-    let long = ap (length {A = Reader g.row.N g.row.C g.row.H g.row.G}) c.in_ok-push.ensures.items ∙ length_push c.loop-seat.readers.items c.in_ok-to_reader.field-0 in
+    let long = ap (length {A = Reader g.row.N g.row.C g.row.H g.row.G}) c.in_ok-push.ensures.items
+    ∙ length_push c.loop-seat.readers.items c.in_ok-to_reader.field-0 in
     record {
       own = (next_all (HasReader c.args.board.now) _ rest c.in-Some.seat step inv.own).1;
       count = omega (arith, ap (length {A = ReadSeat}) step, inv.count, long);
-      fresh = (next_reader g.row.N w (length c.loop-seat.readers.items) _ rest c.in-Some.seat step inv.fresh).1 ∙ ap (λ z. readers_from g.row.N w z (length rest)) (omega (arith, long));
+      fresh = (next_reader g.row.N w (length c.loop-seat.readers.items) _ rest c.in-Some.seat step inv.fresh).1
+          ∙ ap (λ z. readers_from g.row.N w z (length rest)) (omega (arith, long));
       made = all_more (IsReaderOf c.args.board.now) _ _ _ c.in_ok-push.ensures.items inv.made c.in_ok-to_reader.ensures.own;
       alone = all_more IsAlone _ _ _ c.in_ok-push.ensures.items inv.alone c.in_ok-to_reader.ensures.alone;
     }

@@ -11,7 +11,8 @@ abbrev pub invariant-loop-seat : goal.invariant-loop-seat
 invariant-loop-seat g l = record {
   own : All (HasReader l.board) (into_iter_items l.seat-iterator);
   count : length l.readers.items + length (into_iter_items l.seat-iterator) ≡ l.fn.all;
-  fresh : map reader_of (into_iter_items l.seat-iterator) ≡ readers_from g.row.N (width g.row.C g.row.H g.row.G) (length l.readers.items) (length (into_iter_items l.seat-iterator));
+  fresh : map reader_of (into_iter_items l.seat-iterator) ≡ readers_from g.row.N (width g.row.C g.row.H g.row.G)
+      (length l.readers.items) (length (into_iter_items l.seat-iterator));
   made : All (IsReaderOf l.board) l.readers.items;
   alone : All IsAlone l.readers.items;
 }

@@ -15,11 +15,13 @@ loop-seat-init g c =
     let began = c.into_iter-seat-iterator.ensures.into_iter_gives.0 in
     let w = width g.row.C g.row.H g.row.G in
     let d = depth g.row.N w in
-    let long = sym (length-map c.args.seats.items worker_of) ∙ (ap length c.requires.fresh ∙ length-workers_from g.row.N w d 0 g.row.N) in
+    let long = sym (length-map c.args.seats.items worker_of)
+    ∙ (ap length c.requires.fresh ∙ length-workers_from g.row.N w d 0 g.row.N) in
     record {
       own = subst (λ (z : List WorkSeat). All (HasWorker c.args.board.now) z) (sym began) c.requires.own;
       count = omega (arith, ap (length {A = WorkSeat}) began, long);
-      fresh = subst (λ (z : List WorkSeat). map worker_of z ≡ workers_from g.row.N w d 0 (length z)) (sym began) (c.requires.fresh ∙ ap (workers_from g.row.N w d 0) (sym long));
+      fresh = subst (λ (z : List WorkSeat). map worker_of z ≡ workers_from g.row.N w d 0 (length z)) (sym began)
+          (c.requires.fresh ∙ ap (workers_from g.row.N w d 0) (sym long));
       made = search rules;
       all = search rules;
       new = search rules;

@@ -12,7 +12,8 @@ abbrev pub invariant-loop-seat : goal.invariant-loop-seat
 invariant-loop-seat g l = record {
   own : All (HasWorker l.board) (into_iter_items l.seat-iterator);
   count : length (into_iter_items l.seat-iterator) + l.index ≡ g.row.N;
-  fresh : map worker_of (into_iter_items l.seat-iterator) ≡ workers_from g.row.N (width g.row.C g.row.H g.row.G) (depth g.row.N (width g.row.C g.row.H g.row.G)) l.index (length (into_iter_items l.seat-iterator));
+  fresh : map worker_of (into_iter_items l.seat-iterator) ≡ workers_from g.row.N (width g.row.C g.row.H g.row.G)
+      (depth g.row.N (width g.row.C g.row.H g.row.G)) l.index (length (into_iter_items l.seat-iterator));
   made : All (IsWorkerOf l.board) l.workers.items;
   all : map index_of l.workers.items ≡ range_with_len 0 l.index;
   new : map lists_of l.workers.items ≡ replicate l.index [];

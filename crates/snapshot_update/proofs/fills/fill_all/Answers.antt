@@ -9,7 +9,8 @@ use Rattle.snapshot_update.proofs.fills.fill_all.Goals as goal
 pub returns-clause-hidden : goal.returns-clause-hidden
 returns-clause-hidden g c =
     let a = c.fill_some.auto.hidden in let b = c.fill_some-2.auto.hidden in let d = c.fill_some-3.auto.hidden in
-    all_filled c.fill_some-3.new.hidden (target_of c.args.version.now) (depth g.row.N (width g.row.C g.row.H g.row.G)) (d ∙ (b ∙ (a ∙ c.requires.lengths.0))) c.requires.lengths.2
+    all_filled c.fill_some-3.new.hidden (target_of c.args.version.now) (depth g.row.N (width g.row.C g.row.H g.row.G))
+    (d ∙ (b ∙ (a ∙ c.requires.lengths.0))) c.requires.lengths.2
     (λ j lt. c.fill_some-3.ensures.filled j (omega (arith, lt, a, b, d, c.requires.lengths.0)))
 
 pub returns-clause-inside : goal.returns-clause-inside

@@ -12,16 +12,26 @@ pub word-requires : goal.word-requires
 word-requires g c =
     let items = c.as_slice-items.result.now in let k = c.loop-item.item-index in
     let lt : get_or items k 0 < depth g.row.N (width g.row.C g.row.H g.row.G) =
-    c.requires.inside (get_or items k 0) (subst (λ (l : List ℕ). Contains l (get_or items k 0)) c.as_slice-items.ensures.listed (Contains-get_or items k 0 c.loop-item-test.true)) in
+    c.requires.inside (get_or items k 0) (subst (λ (l : List ℕ). Contains l (get_or items k 0)) c.as_slice-items.ensures.listed
+    (Contains-get_or items k 0 c.loop-item-test.true)) in
     (search rules, omega (arith, lt, c.requires.lengths.1))
 
 pub fill_item-requires : goal.fill_item-requires
 fill_item-requires g c =
     let items = c.as_slice-items.result.now in let k = c.loop-item.item-index in
     let lt : get_or items k 0 < depth g.row.N (width g.row.C g.row.H g.row.G) =
-    c.requires.inside (get_or items k 0) (subst (λ (l : List ℕ). Contains l (get_or items k 0)) c.as_slice-items.ensures.listed (Contains-get_or items k 0 c.loop-item-test.true)) in
-    let long = c.loop-item.auto.hidden ∙ c.requires.lengths.0 in
-    (search rules, (c.loop-item.invariant.own, (ap (λ (m : Member). m.work.hidden) c.loop-item.invariant.member, ((omega (arith, lt, long), long), c.word.ensures.bounded))))
+    c.requires.inside (get_or items k 0) (subst (λ (l : List ℕ). Contains l (get_or items k 0)) c.as_slice-items.ensures.listed
+    (Contains-get_or items k 0 c.loop-item-test.true)) in
+    let long = c.loop-item.auto.hidden ∙ c.requires.lengths.0 in (
+      search rules,
+      (
+        c.loop-item.invariant.own,
+        (
+          ap (λ (m : Member). m.work.hidden) c.loop-item.invariant.member,
+          ((omega (arith, lt, long), long), c.word.ensures.bounded),
+        ),
+      ),
+    )
 
 pub returns-clause-filled : goal.returns-clause-filled
 returns-clause-filled g c = λ j h.

@@ -9,6 +9,8 @@ invariant-loop-item g l = record {
   own : HasWorker l.board l.seat;
   index : index_of l.seat ≡ index_of l.fn.seat;
   member : worker_of l.seat ≡ with_hidden l.hidden (worker_of l.fn.seat);
-  filled : (k : ℕ) → k < l.item-index → get_or l.hidden (get_or l.items k 0) 0 ≡ get_or (target_of l.version) (get_or l.items k 0) 0;
-  kept : (j : ℕ) → get_or l.fn.hidden j 0 ≡ get_or (target_of l.version) j 0 → get_or l.hidden j 0 ≡ get_or (target_of l.version) j 0;
+  filled : (k : ℕ) → k < l.item-index → get_or l.hidden (get_or l.items k 0) 0 ≡ get_or (target_of l.version) (get_or l.items k 0)
+      0;
+  kept : (j : ℕ) → get_or l.fn.hidden j 0 ≡ get_or (target_of l.version) j 0
+      → get_or l.hidden j 0 ≡ get_or (target_of l.version) j 0;
 }

@@ -11,6 +11,8 @@ list_moved-requires-clause-words g c = subst (AreInside (width g.row.C g.row.H g
 pub returns-clause-known : goal.returns-clause-known
 returns-clause-known g c = λ _. record {
   direct = c.is_direct.ensures.0 c.if-not-is_direct.false;
-  found = (λ z. get_or (sym c.answer.ensures.vector z) (sym c.worker.ensures.index z) 0) ∙ (c.if-vector-worker.false ∙ c.number.ensures);
-  lists = subst (λ (m : Changed). ListsMoved g.row.N (width g.row.C g.row.H g.row.G) m c.args.late.now c.list_moved.new.late) c.moved.ensures c.list_moved.ensures;
+  found = (λ z. get_or (sym c.answer.ensures.vector z) (sym c.worker.ensures.index z) 0)
+      ∙ (c.if-vector-worker.false ∙ c.number.ensures);
+  lists = subst (λ (m : Changed). ListsMoved g.row.N (width g.row.C g.row.H g.row.G) m c.args.late.now c.list_moved.new.late)
+      c.moved.ensures c.list_moved.ensures;
 }

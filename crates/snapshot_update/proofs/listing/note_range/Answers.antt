@@ -5,7 +5,8 @@ use Rattle.snapshot_update.proofs.Following.{range_none, range_more}
 use Rattle.snapshot_update.proofs.listing.note_range.Goals as goal
 
 pub loop-item-init : goal.loop-item-init
-loop-item-init c = let e : 0 ≡ c.args.first - c.args.first = omega arith in subst (λ (n : ℕ). NotesRange c.args.first n c.args.to.now c.args.to.now) e (range_none c.args.first c.args.to.now)
+loop-item-init c = let e : 0 ≡ c.args.first - c.args.first = omega arith in
+    subst (λ (n : ℕ). NotesRange c.args.first n c.args.to.now c.args.to.now) e (range_none c.args.first c.args.to.now)
 
 pub loop-item-preserved : goal.loop-item-preserved
 loop-item-preserved c =
@@ -13,7 +14,8 @@ loop-item-preserved c =
     let above = c.loop-item.auto.item in
     let here : item ≡ first + n = omega (arith, above) in let next : n + 1 ≡ item + 1 - first = omega (arith, above) in
     subst (λ (k : ℕ). NotesRange first k c.args.to.now c.note.new.self) next
-    (range_more first n c.args.to.now c.loop-item.to c.note.new.self c.loop-item.invariant (subst (λ (k : ℕ). Notes k c.loop-item.to c.note.new.self) here c.note.ensures.notes))
+    (range_more first n c.args.to.now c.loop-item.to c.note.new.self c.loop-item.invariant
+    (subst (λ (k : ℕ). Notes k c.loop-item.to c.note.new.self) here c.note.ensures.notes))
 
 pub returns : goal.returns
 returns c =

@@ -8,38 +8,50 @@ use Rattle.snapshot_scan.proofs.Noted.{none_listed}
 use Rattle.snapshot_update.proofs.next_fill.fill_next.Goals as goal
 
 pub note_each-requires : goal.note_each-requires
-note_each-requires g c = record { room = λ j has. let lt = c.requires.inside.1 j has in let few = c.requires.few in omega (arith, lt, few) }
+note_each-requires g c = record {
+  room = λ j has. let lt = c.requires.inside.1 j has in let few = c.requires.few in
+      omega (arith, lt, few);
+}
 
 pub note_each-requires-then-known : goal.note_each-requires-then-known
-note_each-requires-then-known g c = record { room = λ j has. let lt = c.requires.inside.2 j has in let few = c.requires.few in omega (arith, lt, few) }
+note_each-requires-then-known g c = record {
+  room = λ j has. let lt = c.requires.inside.2 j has in let few = c.requires.few in
+      omega (arith, lt, few);
+}
 
 -- the items of two lists
-both_listed : (one two : List ℕ) (cleared a b : Changed) → cleared.items ≡ [] → NotesEach 0 one cleared a → NotesEach 0 two a b → b.all ≡ false → (j : ℕ) → ¬ (Contains b.items j) → (¬ (Contains one j)) × (¬ (Contains two j))
+both_listed : (one two : List ℕ) (cleared a b : Changed) → cleared.items ≡ [] → NotesEach 0 one cleared a → NotesEach 0 two a b
+    → b.all ≡ false → (j : ℕ) → ¬ (Contains b.items j) → (¬ (Contains one j)) × (¬ (Contains two j))
 both_listed one two cleared a b empty x y listed j not =
     let e : j + 0 ≡ j = omega arith in (
       λ h. not (y.keeps listed j (subst (λ (k : ℕ). Contains a.items k) e (x.notes (y.listed listed) j h))),
       λ h. not (subst (λ (k : ℕ). Contains b.items k) e (y.notes listed j h)),
     )
 
-both_inside : (n : ℕ) (one two : List ℕ) (cleared a b : Changed) → cleared.items ≡ [] → NotesEach 0 one cleared a → NotesEach 0 two a b
+both_inside : (n : ℕ) (one two : List ℕ) (cleared a b : Changed) → cleared.items ≡ [] → NotesEach 0 one cleared a
+    → NotesEach 0 two a b
     → ((j : ℕ) → Contains one j → j < n) → ((j : ℕ) → Contains two j → j < n) → (j : ℕ) → Contains b.items j → j < n
 both_inside n one two cleared a b empty x y in_one in_two j has = ⊎_elim
-    (λ h. ⊎_elim (λ z. absurd (none_listed j (subst (λ (l : List ℕ). Contains l j) empty z))) (λ t. let lt = in_one t.0 t.1 in let e = t.2 in omega (arith, lt, e)) (x.others j h))
+    (λ h. ⊎_elim (λ z. absurd (none_listed j (subst (λ (l : List ℕ). Contains l j) empty z))) (λ t. let lt = in_one t.0 t.1 in
+    let e = t.2 in omega (arith, lt, e)) (x.others j h))
     (λ t. let lt = in_two t.0 t.1 in let e = t.2 in omega (arith, lt, e)) (y.others j has)
 
 pub returns-then-known-clause-recent : goal.returns-then-known-clause-recent
 returns-then-known-clause-recent g c = λ listed j lt not. let lens = c.requires.lengths in
-    let b = both_listed c.args.late.now.items c.args.touched.now.items c.clear.new.self c.note_each.new.to c.note_each-then-known.new.to c.clear.ensures.none.1 c.note_each.ensures c.note_each-then-known.ensures listed j not in
+    let b = both_listed c.args.late.now.items c.args.touched.now.items c.clear.new.self c.note_each.new.to
+    c.note_each-then-known.new.to c.clear.ensures.none.1 c.note_each.ensures c.note_each-then-known.ensures listed j not in
     c.requires.known c.if-known.true j (omega (arith, lens.2, lt)) b.0 b.1
 
 pub returns-then-known-clause-inside : goal.returns-then-known-clause-inside
 returns-then-known-clause-inside g c =
-    both_inside (depth g.row.N (width g.row.C g.row.H g.row.G)) c.args.late.now.items c.args.touched.now.items c.clear.new.self c.note_each.new.to c.note_each-then-known.new.to c.clear.ensures.none.1 c.note_each.ensures c.note_each-then-known.ensures
+    both_inside (depth g.row.N (width g.row.C g.row.H g.row.G)) c.args.late.now.items c.args.touched.now.items c.clear.new.self
+    c.note_each.new.to c.note_each-then-known.new.to c.clear.ensures.none.1 c.note_each.ensures c.note_each-then-known.ensures
     c.requires.inside.1 c.requires.inside.2
 
 pub returns-then-all_recent-clause-recent : goal.returns-then-all_recent-clause-recent
 returns-then-all_recent-clause-recent g c = λ _ j lt not. let lens = c.requires.lengths in
-    let r = c.as_slice.ensures.listed in let a = c.as_slice-then-known.ensures.listed in let b = c.as_slice-then-known-2.ensures.listed in
+    let r = c.as_slice.ensures.listed in let a = c.as_slice-then-known.ensures.listed in
+    let b = c.as_slice-then-known-2.ensures.listed in
     let both = c.are_both-all_recent.ensures in let yes = c.if-all_recent.true in
     c.requires.known c.if-known.true j (omega (arith, lens.2, lt))
     (λ h. not (subst (λ (l : List ℕ). Contains l j) r (both.first yes j (subst (λ (l : List ℕ). Contains l j) (sym a) h))))
@@ -48,7 +60,8 @@ returns-then-all_recent-clause-recent g c = λ _ j lt not. let lens = c.requires
 pub returns-then-all_recent-clause-hidden : goal.returns-then-all_recent-clause-hidden
 returns-then-all_recent-clause-hidden g c =
     let lens = c.requires.lengths in let fills = c.fill_changes.ensures in let listed = c.requires.listed c.if-known.true in
-    all_filled c.fill_changes.new.hidden (target_of c.args.version.now) (depth g.row.N (width g.row.C g.row.H g.row.G)) (c.fill_changes.auto.hidden ∙ lens.0) lens.2 (λ j lt.
+    all_filled c.fill_changes.new.hidden (target_of c.args.version.now) (depth g.row.N (width g.row.C g.row.H g.row.G))
+    (c.fill_changes.auto.hidden ∙ lens.0) lens.2 (λ j lt.
     ⊎_elim (fills.filled j) (λ not_recent. fills.kept j (c.requires.recent listed.0 j (omega (arith, lens.1, lt)) not_recent
     ∙ returns-then-all_recent-clause-recent g c listed.0 j (omega (arith, lens.2, lt)) not_recent))
     (listed_or c.args.recent.now.items j))

@@ -6,7 +6,8 @@ use Rattle.snapshot_update.proofs.touched.touch.Goals as goal
 
 pub loop-op-preserved : goal.loop-op-preserved
 loop-op-preserved g c = record {
-  touches = touches_more g.row.C g.row.H (width g.row.C g.row.H g.row.G) c.loop-op.touched c.touch_one.new.touched c.args.ops.now c.loop-op.op-index _ c.loop-op-test.true c.loop-op.invariant.touches c.touch_one.ensures.touches;
+  touches = touches_more g.row.C g.row.H (width g.row.C g.row.H g.row.G) c.loop-op.touched c.touch_one.new.touched c.args.ops.now
+      c.loop-op.op-index _ c.loop-op-test.true c.loop-op.invariant.touches c.touch_one.ensures.touches;
   run = c.touch_one.ensures.run;
 }
 

@@ -7,6 +7,7 @@ use Rattle.snapshot_update.proofs.touched.touch.Given as goal
 
 abbrev pub invariant-loop-op : goal.invariant-loop-op
 invariant-loop-op g l = record {
-  touches : Touches (3 * l.op-index) (width g.row.C g.row.H g.row.G) (sum_ops g.row.C g.row.H (take l.op-index l.ops)) none l.touched;
+  touches : Touches (3 * l.op-index) (width g.row.C g.row.H g.row.G) (sum_ops g.row.C g.row.H (take l.op-index l.ops)) none
+      l.touched;
   run : IsRun g.row.C g.row.H l.run l.touched;
 }

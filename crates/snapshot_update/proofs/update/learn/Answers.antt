@@ -10,7 +10,8 @@ remember_at-requires g c = let same = c.as_slice.ensures.listed in (
       c.requires.inside,
       (
         λ j has. c.requires.touched j (subst (λ (l : List ℕ). Contains l j) same has),
-        λ v at k lt none. c.requires.known c.if-known.true v at k lt (λ has. none (subst (λ (l : List ℕ). Contains l k) (sym same) has)),
+        λ v at k lt none. c.requires.known c.if-known.true v at k lt
+            (λ has. none (subst (λ (l : List ℕ). Contains l k) (sym same) has)),
       ),
     ),
   ),

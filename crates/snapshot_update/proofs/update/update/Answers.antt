@@ -1,4 +1,5 @@
-use Rattle.std.proofs.Common.{zero, ◌≡◌, ◌<◌, ◌+◌, ◌&&◌, ℕ, suc, Bool, true, false, cond, not, List, [], ◌∷◌, ◌++◌, length, map, take, set, slice_index, Contains, sym, refl, ap, ◌∙◌, subst, arith, rules}
+use Rattle.std.proofs.Common.{zero, ◌≡◌, ◌<◌, ◌+◌, ◌&&◌, ℕ, suc, Bool, true, false, cond, not, List, [], ◌∷◌, ◌++◌, length, map}
+use Rattle.std.proofs.Common.{take, set, slice_index, Contains, sym, refl, ap, ◌∙◌, subst, arith, rules}
 use mathlib.Core.Option.{some, some-injective}
 use lib.ListN.{get_elem?}
 use Rattle.std.proofs.lemmas.Bool.{and_parts, not-true}
@@ -53,21 +54,30 @@ fill_version-lends-requires g c =
                 (
                   c.touch.ensures.inside,
                   by_known known (λ yes.
-                      let next = next_is n g.row.C g.row.H g.row.G (index_of c.args.seat.now) row c.args.memory.now memory im.hidden.items im.shown.items im.recent im.late c.know_next-known.new.late im.own (worker_of c.args.seat.now) (worker_of s.new.seat) s.result
-                      fit c.requires.own.1 s.ensures.others s.ensures.ruled s.ensures.ready s.ensures.quiet s.ensures.numbers s.ensures.listed (index_of s.new.seat) _ s.ensures.index (ap (λ (x : Member). length x.work.made) s.ensures.others) (c.know_next-known.ensures.known yes) in
+                      let next = next_is n g.row.C g.row.H g.row.G (index_of c.args.seat.now) row c.args.memory.now memory
+                      im.hidden.items im.shown.items im.recent im.late c.know_next-known.new.late im.own
+                      (worker_of c.args.seat.now) (worker_of s.new.seat) s.result
+                      fit c.requires.own.1 s.ensures.others s.ensures.ruled s.ensures.ready s.ensures.quiet s.ensures.numbers
+                      s.ensures.listed (index_of s.new.seat) _ s.ensures.index
+                      (ap (λ (x : Member). length x.work.made) s.ensures.others) (c.know_next-known.ensures.known yes) in
                       let listed : c.touch.new.touched.all ≡ false = c.know_next-known.ensures.touched yes in (
                         next_words row (rows_of memory) (sums_of memory),
                         next.images,
                         λ _. (
                           listed,
                           next.direct,
-                          λ j lt none. known_words w n row row' (rows_of memory) (sums_of memory) a.vector a.totals wide (adds.width_stays ∙ wide) (rows_many n g.row.C g.row.H g.row.G memory) long.0 next.numbers next.totals c.touch.new.touched.items
-                              (λ k lt' none'. let e = adds.sums k in let z = c.touch.ensures.rises listed k none' in omega (arith, e, z)) j (omega (arith, lt)) none,
+                          λ j lt none. known_words w n row row' (rows_of memory) (sums_of memory) a.vector a.totals wide
+                              (adds.width_stays ∙ wide) (rows_many n g.row.C g.row.H g.row.G memory) long.0 next.numbers
+                              next.totals c.touch.new.touched.items
+                              (λ k lt' none'. let e = adds.sums k in let z = c.touch.ensures.rises listed k none' in
+                              omega (arith, e, z)) j (omega (arith, lt)) none,
                         ),
                       ))
                       (λ no. (
                         next_words row (rows_of c.args.memory.now) (sums_of c.args.memory.now),
-                        subst (λ (x : Changed). AreImages (depth n w) (next_words row (rows_of c.args.memory.now) (sums_of c.args.memory.now)) im.hidden.items im.shown.items im.recent x) (sym (c.know_next-known.ensures.unknown no)) fit.images,
+                        subst (λ (x : Changed). AreImages (depth n w)
+                            (next_words row (rows_of c.args.memory.now) (sums_of c.args.memory.now)) im.hidden.items
+                            im.shown.items im.recent x) (sym (c.know_next-known.ensures.unknown no)) fit.images,
                         λ yes. absurd (let h = sym yes ∙ no in cc),
                       )),
                 ),
@@ -87,12 +97,15 @@ publish-requires g c =
     let n : ℕ = g.row.N in let w : ℕ = width g.row.C g.row.H g.row.G in let b : ℕ = depth n w in
     let fit = c.requires.fit in let s = c.scan_own-ended in let f = c.fill_version-lends in let memory = s.new.memory in
     let m : Member = worker_of c.args.seat.now in let c' : Scan = (worker_of s.new.seat).scan in
-    let row = c.args.row.now in let row' = c.try_apply.new.self in let adds = c.in_ok-try_apply.ensures.ok in let ops = c.args.ops.now in
+    let row = c.args.row.now in let row' = c.try_apply.new.self in let adds = c.in_ok-try_apply.ensures.ok in
+    let ops = c.args.ops.now in
     let wide : length row ≡ w = fit.wide in
     let a = answer_of memory s.result in let long = answer_long n g.row.C g.row.H g.row.G memory s.result in
-    let is : worker_of f.new.seat ≡ ready_member f.new.images.hidden.items m c' = f.ensures.member ∙ ap (with_hidden f.new.images.hidden.items) s.ensures.others in
+    let is : worker_of f.new.seat ≡ ready_member f.new.images.hidden.items m c' = f.ensures.member
+    ∙ ap (with_hidden f.new.images.hidden.items) s.ensures.others in
     let full : HoldsNext n w b (sum_ops g.row.C g.row.H) ops f.result (ready_member f.new.images.hidden.items m c') =
-    holds n w b (sum_ops g.row.C g.row.H) ops (ready_member f.new.images.hidden.items m c') row' a.vector a.totals (adds.width_stays ∙ wide) long.0 long.1
+    holds n w b (sum_ops g.row.C g.row.H) ops (ready_member f.new.images.hidden.items m c') row' a.vector a.totals
+    (adds.width_stays ∙ wide) long.0 long.1
     (λ k lt. adds.sums k ∙ ap (λ (z : ℕ). z + sum_ops g.row.C g.row.H ops k) (fit.sums k lt)) f.result f.ensures.hidden
     (λ lends. (m.scan.recorded, (s.ensures.view (f.ensures.view lends)).recorded)) in (
       search rules,
@@ -103,22 +116,26 @@ publish-requires g c =
           (
             subst (HoldsNext n w b (sum_ops g.row.C g.row.H) ops f.result) (sym is) full,
             subst (λ (x : Member). Accepts g.row.C g.row.H g.row.G (total (sum_ops g.row.C g.row.H) x.work.made) ops) (sym is)
-                (accepts_same g.row.C g.row.H g.row.G (slice_index row) (total (sum_ops g.row.C g.row.H) m.work.made) ops fit.sums c.in_ok-try_apply.ensures.accepted),
+                (accepts_same g.row.C g.row.H g.row.G (slice_index row) (total (sum_ops g.row.C g.row.H) m.work.made) ops fit.sums
+                c.in_ok-try_apply.ensures.accepted),
           ),
         ),
       ),
     )
 
 pub turn-requires-clause-touched : goal.turn-requires-clause-touched
-turn-requires-clause-touched g c = subst (AreInside (width g.row.C g.row.H g.row.G)) (sym c.fill_version-lends.ensures.others.2) c.touch.ensures.inside
+turn-requires-clause-touched g c = subst (AreInside (width g.row.C g.row.H g.row.G)) (sym c.fill_version-lends.ensures.others.2)
+    c.touch.ensures.inside
 
 pub learn-requires : goal.learn-requires
 learn-requires g c =
     let n : ℕ = g.row.N in let w : ℕ = width g.row.C g.row.H g.row.G in
-    let fit = c.requires.fit in let s = c.scan_own-ended in let f = c.fill_version-lends in let memory = s.new.memory in let im = c.args.images.now in
+    let fit = c.requires.fit in let s = c.scan_own-ended in let f = c.fill_version-lends in let memory = s.new.memory in
+    let im = c.args.images.now in
     let row = c.args.row.now in let row' = c.try_apply.new.self in let adds = c.in_ok-try_apply.ensures.ok in
     let i : ℕ = index_of c.args.seat.now in
-    let same : c.worker-own.result ≡ i = c.worker-own.ensures.index ∙ (c.publish.ensures.index ∙ (f.ensures.index ∙ s.ensures.index)) in
+    let same : c.worker-own.result ≡ i = c.worker-own.ensures.index
+    ∙ (c.publish.ensures.index ∙ (f.ensures.index ∙ s.ensures.index)) in
     let touched : c.turn.new.images.touched ≡ c.touch.new.touched = c.turn.ensures.others.1 ∙ f.ensures.others.2 in (
       search rules,
       (
@@ -130,12 +147,19 @@ learn-requires g c =
             (
               subst (AreInside w) (sym touched) c.touch.ensures.inside,
               λ yes v at k lt none.
-                  let next = next_is n g.row.C g.row.H g.row.G (index_of c.args.seat.now) row c.args.memory.now memory im.hidden.items im.shown.items im.recent im.late c.know_next-known.new.late im.own (worker_of c.args.seat.now) (worker_of s.new.seat) s.result
-                  fit c.requires.own.1 s.ensures.others s.ensures.ruled s.ensures.ready s.ensures.quiet s.ensures.numbers s.ensures.listed (index_of s.new.seat) _ s.ensures.index (ap (λ (x : Member). length x.work.made) s.ensures.others) (c.know_next-known.ensures.known yes) in
+                  let next = next_is n g.row.C g.row.H g.row.G (index_of c.args.seat.now) row c.args.memory.now memory
+                  im.hidden.items im.shown.items im.recent im.late c.know_next-known.new.late im.own
+                  (worker_of c.args.seat.now) (worker_of s.new.seat) s.result
+                  fit c.requires.own.1 s.ensures.others s.ensures.ruled s.ensures.ready s.ensures.quiet s.ensures.numbers
+                  s.ensures.listed (index_of s.new.seat) _ s.ensures.index
+                  (ap (λ (x : Member). length x.work.made) s.ensures.others) (c.know_next-known.ensures.known yes) in
                   let listed : c.touch.new.touched.all ≡ false = c.know_next-known.ensures.touched yes in
-                  let here : some v ≡ some (record { number = length (worker_of c.args.seat.now).work.made; row = row }) = sym at ∙ (ap (get_elem? (rows_of memory)) same ∙ next.own) in
+                  let here : some v ≡ some (record { number = length (worker_of c.args.seat.now).work.made; row = row }) = sym at
+                  ∙ (ap (get_elem? (rows_of memory)) same ∙ next.own) in
                   let e = ap (λ (x : Version). slice_index x.row k) (some-injective v _ here) in
-                  let z = c.touch.ensures.rises listed k (λ has. none (subst (λ (t : Changed). Contains t.items k) (sym touched) has)) in let d = adds.sums k in omega (arith, e, z, d),
+                  let z = c.touch.ensures.rises listed k
+                  (λ has. none (subst (λ (t : Changed). Contains t.items k) (sym touched) has)) in let d = adds.sums k in
+                  omega (arith, e, z, d),
             ),
           ),
         ),
@@ -155,71 +179,103 @@ set_there (x ∷ l) (suc i) v h = set_there l i v (omega (arith, h))
 pub returns-clause-fit : goal.returns-clause-fit
 returns-clause-fit g c =
     let n : ℕ = g.row.N in let w : ℕ = width g.row.C g.row.H g.row.G in let b : ℕ = depth n w in
-    let fit = c.requires.fit in let s = c.scan_own-ended in let f = c.fill_version-lends in let memory = s.new.memory in let im = c.args.images.now in
+    let fit = c.requires.fit in let s = c.scan_own-ended in let f = c.fill_version-lends in let memory = s.new.memory in
+    let im = c.args.images.now in
     let m : Member = worker_of c.args.seat.now in let c' : Scan = (worker_of s.new.seat).scan in
-    let row = c.args.row.now in let row' = c.try_apply.new.self in let adds = c.in_ok-try_apply.ensures.ok in let ops = c.args.ops.now in
+    let row = c.args.row.now in let row' = c.try_apply.new.self in let adds = c.in_ok-try_apply.ensures.ok in
+    let ops = c.args.ops.now in
     let wide : length row ≡ w = fit.wide in
     let wide' : length row' ≡ w = adds.width_stays ∙ wide in
     let a = answer_of memory s.result in let long = answer_long n g.row.C g.row.H g.row.G memory s.result in
-    let is : worker_of f.new.seat ≡ ready_member f.new.images.hidden.items m c' = f.ensures.member ∙ ap (with_hidden f.new.images.hidden.items) s.ensures.others in
+    let is : worker_of f.new.seat ≡ ready_member f.new.images.hidden.items m c' = f.ensures.member
+    ∙ ap (with_hidden f.new.images.hidden.items) s.ensures.others in
     let i : ℕ = index_of f.new.seat in
     let own : c.worker-own.result ≡ i = c.worker-own.ensures.index ∙ c.publish.ensures.index in
     let m3 = worker_of c.publish.new.seat in
-    let is3 : m3 ≡ published w i ops f.result (ready_member f.new.images.hidden.items m c') = c.publish.ensures.member ∙ ap (published w i ops f.result) is in
+    let is3 : m3 ≡ published w i ops f.result (ready_member f.new.images.hidden.items m c') = c.publish.ensures.member
+    ∙ ap (published w i ops f.result) is in
     let last : Made = made_of ops f.result (ready_member f.new.images.hidden.items m c') in
     let made : m3.work.made ≡ m.work.made ++ last ∷ [] = ap (λ (x : Member). x.work.made) is3 in
-    let number : c.number-number.result ≡ suc (length m.work.made) = c.number-number.ensures ∙ (ap (λ (l : List Made). length l) made ∙ (let e = length_push m.work.made last in let one : length (m.work.made ++ last ∷ []) ≡ suc (length m.work.made) = omega (arith, e) in one)) in
+    let number : c.number-number.result ≡ suc (length m.work.made) = c.number-number.ensures
+    ∙ (ap (λ (l : List Made). length l) made ∙ (let e = length_push m.work.made last in
+    let one : length (m.work.made ++ last ∷ []) ≡ suc (length m.work.made) = omega (arith, e) in one)) in
     let target = version_words row' (cond f.result 1 0) a.vector a.totals in
     let hidden : f.new.images.hidden.items ≡ target = f.ensures.hidden in
     let v : Version = record { number = c.number-number.result; row = row' } in
     let rows' : rows_of c.learn.new.memory ≡ set (rows_of memory) c.worker-own.result v = c.learn.ensures.rows in
-    let lt : c.worker-own.result < n = (let h = c.publish.ensures.own.1 in let e = c.publish.ensures.index in omega (arith, h, own, e)) in
+    let lt : c.worker-own.result < n = (let h = c.publish.ensures.own.1 in let e = c.publish.ensures.index in
+    omega (arith, h, own, e)) in
     let many = rows_many n g.row.C g.row.H g.row.G memory in
     let own' : c.worker-own.result ≡ index_of c.args.seat.now = own ∙ (f.ensures.index ∙ s.ensures.index) in
-    let taken : take w f.new.images.hidden.items ≡ row' = ap (take w) hidden ∙ row_taken w n row' (cond f.result 1 0) a.vector a.totals wide' long.0 in
+    let taken : take w f.new.images.hidden.items ≡ row' = ap (take w) hidden
+    ∙ row_taken w n row' (cond f.result 1 0) a.vector a.totals wide' long.0 in
     let after = c.learn.new.memory in
-    let all_after : length (map number_in (rows_of after)) ≡ n = numbers_long (rows_of after) ∙ rows_many n g.row.C g.row.H g.row.G after in
+    let all_after : length (map number_in (rows_of after)) ≡ n = numbers_long (rows_of after)
+    ∙ rows_many n g.row.C g.row.H g.row.G after in
     let known = c.know_next-known.result in
     record {
       who = c.publish.new.seat.is;
       counts = refl;
-      sums = λ k lt'. adds.sums k ∙ (ap (λ (z : ℕ). z + sum_ops g.row.C g.row.H ops k) (fit.sums k lt') ∙ sym (ap (λ (l : List Made). total (sum_ops g.row.C g.row.H) l k) made ∙ total_last (sum_ops g.row.C g.row.H) m.work.made last k));
+      sums = λ k lt'. adds.sums k
+          ∙ (ap (λ (z : ℕ). z + sum_ops g.row.C g.row.H ops k) (fit.sums k lt')
+          ∙ sym (ap (λ (l : List Made). total (sum_ops g.row.C g.row.H) l k) made
+          ∙ total_last (sum_ops g.row.C g.row.H) m.work.made last k));
       wide = wide';
-      own_row = λ _. (λ z. get_elem? (rows' z) (index_of c.publish.new.seat)) ∙ (ap (get_elem? (set (rows_of memory) c.worker-own.result v)) (sym c.worker-own.ensures.index)
-          ∙ (set_there (rows_of memory) c.worker-own.result v (omega (arith, lt, many)) ∙ (λ z. some (record { number = c.number-number.ensures z; row = row' }))));
+      own_row = λ _. (λ z. get_elem? (rows' z) (index_of c.publish.new.seat))
+          ∙ (ap (get_elem? (set (rows_of memory) c.worker-own.result v)) (sym c.worker-own.ensures.index)
+          ∙ (set_there (rows_of memory) c.worker-own.result v (omega (arith, lt, many))
+          ∙ (λ z. some (record { number = c.number-number.ensures z; row = row' }))));
       ready = record {
-        kept = ap (λ (x : Member). x.scan.kept) is3 ∙ ((λ z. set (s.ensures.ready.kept z) (sym own z) (record { number = sym number z; row = taken z })) ∙ sym rows');
+        kept = ap (λ (x : Member). x.scan.kept) is3
+            ∙ ((λ z. set (s.ensures.ready.kept z) (sym own z) (record { number = sym number z; row = taken z })) ∙ sym rows');
         rest = ap (λ (x : Member). x.scan.now) is3 ∙ s.ensures.ready.rest;
       };
       hidden_is = ap (λ (x : Member). x.work.hidden) is3 ∙ (fit.shown_is ∙ sym (c.turn.ensures.buffers.0 ∙ f.ensures.others.0));
       shown_is = ap (λ (x : Member). x.work.shown) is3 ∙ sym c.turn.ensures.buffers.1;
       images = record {
-        next_deep = (let e = words_long w n row' 1 (map number_in (rows_of after)) (sums_of after) wide' all_after w after.sizes.1 in omega (arith, e));
+        next_deep = (let e = words_long w n row' 1 (map number_in (rows_of after)) (sums_of after) wide' all_after w
+            after.sizes.1 in omega (arith, e));
         hidden_deep = ap (λ (l : List ℕ). length l) (c.turn.ensures.buffers.0 ∙ f.ensures.others.0) ∙ fit.images.shown_deep;
-        shown_deep = (let e = words_long w n row' (cond f.result 1 0) a.vector a.totals wide' long.0 w long.1 in let d = ap (λ (l : List ℕ). length l) (c.turn.ensures.buffers.1 ∙ hidden) in omega (arith, e, d));
-        recent = subst (λ (x : Changed). DifferAt x c.turn.new.images.hidden.items c.turn.new.images.shown.items) (sym c.turn.ensures.others.0)
-            (subst (λ (x : List ℕ). DifferAt f.new.images.recent x c.turn.new.images.shown.items) (sym (c.turn.ensures.buffers.0 ∙ f.ensures.others.0))
+        shown_deep = (let e = words_long w n row' (cond f.result 1 0) a.vector a.totals wide' long.0 w long.1 in
+            let d = ap (λ (l : List ℕ). length l) (c.turn.ensures.buffers.1 ∙ hidden) in omega (arith, e, d));
+        recent = subst (λ (x : Changed). DifferAt x c.turn.new.images.hidden.items c.turn.new.images.shown.items)
+            (sym c.turn.ensures.others.0)
+            (subst (λ (x : List ℕ). DifferAt f.new.images.recent x c.turn.new.images.shown.items)
+            (sym (c.turn.ensures.buffers.0 ∙ f.ensures.others.0))
             (subst (DifferAt f.new.images.recent c.args.images.now.shown.items) (sym c.turn.ensures.buffers.1) f.ensures.recent));
         recent_inside = subst (AreInside b) (sym c.turn.ensures.others.0) f.ensures.inside;
         late = by_known known (λ yes.
-            let next = next_is n g.row.C g.row.H g.row.G (index_of c.args.seat.now) row c.args.memory.now memory im.hidden.items im.shown.items im.recent im.late c.know_next-known.new.late im.own (worker_of c.args.seat.now) (worker_of s.new.seat) s.result
-            fit c.requires.own.1 s.ensures.others s.ensures.ruled s.ensures.ready s.ensures.quiet s.ensures.numbers s.ensures.listed (index_of s.new.seat) _ s.ensures.index (ap (λ (x : Member). length x.work.made) s.ensures.others) (c.know_next-known.ensures.known yes) in
+            let next = next_is n g.row.C g.row.H g.row.G (index_of c.args.seat.now) row c.args.memory.now memory im.hidden.items
+            im.shown.items im.recent im.late c.know_next-known.new.late im.own (worker_of c.args.seat.now)
+            (worker_of s.new.seat) s.result
+            fit c.requires.own.1 s.ensures.others s.ensures.ruled s.ensures.ready s.ensures.quiet s.ensures.numbers
+            s.ensures.listed (index_of s.new.seat) _ s.ensures.index
+            (ap (λ (x : Member). length x.work.made) s.ensures.others) (c.know_next-known.ensures.known yes) in
             let listed : c.touch.new.touched.all ≡ false = c.know_next-known.ensures.touched yes in
             let touched : f.new.images.touched ≡ c.touch.new.touched = f.ensures.others.2 in
             let yes' : f.result ≡ true = lends_direct f.result s.result next.direct.0 f.ensures.none next.direct.1 in
-            let words : c.turn.new.images.shown.items ≡ version_words row' 1 a.vector a.totals = c.turn.ensures.buffers.1 ∙ (hidden ∙ ap (λ (t : Bool). version_words row' (cond t 1 0) a.vector a.totals) yes') in
-            let own_at : get_elem? (rows_of memory) c.worker-own.result ≡ some (record { number = length m.work.made; row = row }) = ap (get_elem? (rows_of memory)) own' ∙ next.own in
-            subst (λ (x : List Version). DifferAt c.turn.new.images.late c.turn.new.images.shown.items (next_words row' x (sums_of after))) (sym rows')
-            (subst (λ (x : List ℕ). DifferAt c.turn.new.images.late x (next_words row' (set (rows_of memory) c.worker-own.result v) (sums_of after))) (sym words)
-            (late_words w n row row' (rows_of memory) (sums_of memory) a.vector a.totals wide wide' many long.0 next.numbers next.totals f.new.images.touched.items
-            (λ k lt' none. let e = adds.sums k in let z = c.touch.ensures.rises listed k (λ has. none (subst (λ (t : Changed). Contains t.items k) (sym touched) has)) in omega (arith, e, z))
-            c.worker-own.result v (sums_of after) c.turn.new.images.late (c.learn.ensures.sums _ own_at) after.sizes.1 c.turn.ensures.own c.turn.ensures.lent)))
+            let words : c.turn.new.images.shown.items ≡ version_words row' 1 a.vector a.totals = c.turn.ensures.buffers.1
+            ∙ (hidden ∙ ap (λ (t : Bool). version_words row' (cond t 1 0) a.vector a.totals) yes') in
+            let own_at : get_elem? (rows_of memory) c.worker-own.result ≡ some
+            (record { number = length m.work.made; row = row }) = ap (get_elem? (rows_of memory)) own' ∙ next.own in
+            subst (λ (x : List Version). DifferAt c.turn.new.images.late c.turn.new.images.shown.items
+            (next_words row' x (sums_of after))) (sym rows')
+            (subst (λ (x : List ℕ). DifferAt c.turn.new.images.late x
+            (next_words row' (set (rows_of memory) c.worker-own.result v) (sums_of after))) (sym words)
+            (late_words w n row row' (rows_of memory) (sums_of memory) a.vector a.totals wide wide' many long.0 next.numbers
+            next.totals f.new.images.touched.items
+            (λ k lt' none. let e = adds.sums k in
+            let z = c.touch.ensures.rises listed k
+            (λ has. none (subst (λ (t : Changed). Contains t.items k) (sym touched) has)) in omega (arith, e, z))
+            c.worker-own.result v (sums_of after) c.turn.new.images.late (c.learn.ensures.sums _ own_at) after.sizes.1
+            c.turn.ensures.own c.turn.ensures.lent)))
             (λ unknown listed. absurd (let h = sym (c.turn.ensures.unknown unknown) ∙ listed in cc));
         late_inside = c.turn.ensures.inside;
       };
     }
 
-met : (n w : ℕ) (a b : Scan) (lends : Bool) → (lends ≡ true → ScanMeets n w a b true) → (lends ≡ false → ScanMeets n w a b false) → ScanMeets n w a b lends
+met : (n w : ℕ) (a b : Scan) (lends : Bool) → (lends ≡ true → ScanMeets n w a b true) → (lends ≡ false → ScanMeets n w a b false)
+    → ScanMeets n w a b lends
 met n w a b true lent none = lent refl
 met n w a b false lent none = none refl
 
@@ -228,15 +284,19 @@ returns-clause-updated g c =
     let n : ℕ = g.row.N in let w : ℕ = width g.row.C g.row.H g.row.G in
     let s = c.scan_own-ended in let f = c.fill_version-lends in
     let m : Member = worker_of c.args.seat.now in let c' : Scan = (worker_of s.new.seat).scan in let ops = c.args.ops.now in
-    let is : worker_of f.new.seat ≡ ready_member f.new.images.hidden.items m c' = f.ensures.member ∙ ap (with_hidden f.new.images.hidden.items) s.ensures.others in
+    let is : worker_of f.new.seat ≡ ready_member f.new.images.hidden.items m c' = f.ensures.member
+    ∙ ap (with_hidden f.new.images.hidden.items) s.ensures.others in
     let same : index_of f.new.seat ≡ index_of c.args.seat.now = f.ensures.index ∙ s.ensures.index in record {
       scan = c';
       lends = f.result;
       hidden = f.new.images.hidden.items;
       ruled = subst (λ (x : Member). IsRuledAlone n g.row.C g.row.H g.row.G x) s.ensures.others s.ensures.ruled;
-      meets = met n w m.scan c' f.result (λ lends. s.ensures.meets (f.ensures.view lends)) (λ none. s.ensures.gave_up (f.ensures.none none));
+      meets = met n w m.scan c' f.result (λ lends. s.ensures.meets (f.ensures.view lends))
+          (λ none. s.ensures.gave_up (f.ensures.none none));
       is = c.publish.ensures.member ∙ (λ z. published w (same z) ops f.result (is z));
     }
 
 pub returns-clause-accepted : goal.returns-clause-accepted
-returns-clause-accepted g c = accepts_same g.row.C g.row.H g.row.G (slice_index c.args.row.now) (total (sum_ops g.row.C g.row.H) (worker_of c.args.seat.now).work.made) c.args.ops.now c.requires.fit.sums c.in_ok-try_apply.ensures.accepted
+returns-clause-accepted g c = accepts_same g.row.C g.row.H g.row.G (slice_index c.args.row.now)
+    (total (sum_ops g.row.C g.row.H) (worker_of c.args.seat.now).work.made) c.args.ops.now c.requires.fit.sums
+    c.in_ok-try_apply.ensures.accepted

@@ -12,7 +12,8 @@ new_worker-requires c =
     let two = c.in_ok-board.field-0.work.items in
     let made = c.in_ok-board.ensures in
     let last = All-pop own two c.pop.new.self.items c.pop.result c.pop.ensures.items made.work.0 in
-    let fresh = popped worker_of two c.pop.new.self.items c.in-Some-Some.second (new_worker 2 1 5 0 ∷ []) (new_worker 2 1 5 1) c.in-Some-Some.ensures.items made.work.1 in
+    let fresh = popped worker_of two c.pop.new.self.items c.in-Some-Some.second (new_worker 2 1 5 0 ∷ []) (new_worker 2 1 5 1)
+    c.in-Some-Some.ensures.items made.work.1 in
     (omega arith, (omega arith, (subst (λ s. IfSome s own) c.in-Some-Some.is-0 last.1, (made.geometry.0, fresh.1))))
 
 pub returns-in_ok-worker-in-Some-Some-clause-own : goal.returns-in_ok-worker-in-Some-Some-clause-own
@@ -29,5 +30,7 @@ returns-in_ok-worker-in-Some-Some-clause-fresh c =
     let two = c.in_ok-board.field-0.work.items in
     let one = c.pop.new.self.items in
     let some = c.in-Some-Some in
-    let others = popped worker_of two one some.second (new_worker 2 1 5 0 ∷ []) (new_worker 2 1 5 1) some.ensures.items c.in_ok-board.ensures.work.1 in
-    ap (λ (m : Member). m.scan) (popped worker_of one c.pop-2.new.self.items some.first [] (new_worker 2 1 5 0) some.ensures'.items others.0).1
+    let others = popped worker_of two one some.second (new_worker 2 1 5 0 ∷ []) (new_worker 2 1 5 1) some.ensures.items
+    c.in_ok-board.ensures.work.1 in
+    ap (λ (m : Member). m.scan)
+    (popped worker_of one c.pop-2.new.self.items some.first [] (new_worker 2 1 5 0) some.ensures'.items others.0).1

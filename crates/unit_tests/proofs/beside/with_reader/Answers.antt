@@ -12,7 +12,8 @@ new_worker-requires c =
     let two = c.in_ok-board.field-0.work.items in
     let made = c.in_ok-board.ensures in
     let last = All-pop own two c.pop.new.self.items c.pop.result c.pop.ensures.items made.work.0 in
-    let fresh = popped worker_of two c.pop.new.self.items c.in-Some-Some.second (new_worker 2 1 5 0 ∷ []) (new_worker 2 1 5 1) c.in-Some-Some.ensures.items made.work.1 in
+    let fresh = popped worker_of two c.pop.new.self.items c.in-Some-Some.second (new_worker 2 1 5 0 ∷ []) (new_worker 2 1 5 1)
+    c.in-Some-Some.ensures.items made.work.1 in
     (omega arith, (omega arith, (subst (λ s. IfSome s own) c.in-Some-Some.is-0 last.1, (made.geometry.0, fresh.1))))
 
 pub returns-in_ok-worker-in-Some-Some-clause-own : goal.returns-in_ok-worker-in-Some-Some-clause-own
@@ -26,4 +27,5 @@ pub returns-in_ok-worker-in-Some-Some-clause-fresh : goal.returns-in_ok-worker-i
 returns-in_ok-worker-in-Some-Some-clause-fresh c =
     let one = c.in_ok-board.field-0.read.items in
     let some = c.in-Some-Some in
-    ap (λ (m : Member). m.scan) (popped reader_of one c.pop-2.new.self.items some.reader [] (new_reader 2 1 0) some.ensures'.items c.in_ok-board.ensures.read.1).1
+    ap (λ (m : Member). m.scan) (popped reader_of one c.pop-2.new.self.items some.reader [] (new_reader 2 1 0) some.ensures'.items
+    c.in_ok-board.ensures.read.1).1

@@ -6,7 +6,8 @@ use Rattle.unit_tests.proofs.crew.last_reader.Goals as goal
 
 pub returns-in-Some-clause-own : goal.returns-in-Some-clause-own
 returns-in-Some-clause-own g c = subst (λ r. IfSome r (IsReaderOf c.args.board.now)) c.in-Some.is
-    (All-pop (IsReaderOf c.args.board.now) c.args.readers.now.items c.pop.new.self.items c.pop.result c.pop.ensures.items c.requires.own).1
+    (All-pop (IsReaderOf c.args.board.now) c.args.readers.now.items c.pop.new.self.items c.pop.result c.pop.ensures.items
+    c.requires.own).1
 
 pub returns-in-Some-clause-alone : goal.returns-in-Some-clause-alone
 returns-in-Some-clause-alone g c = subst (λ r. IfSome r IsAlone) c.in-Some.is
@@ -14,12 +15,14 @@ returns-in-Some-clause-alone g c = subst (λ r. IfSome r IsAlone) c.in-Some.is
 
 pub returns-in-Some-clause-others : goal.returns-in-Some-clause-others
 returns-in-Some-clause-others g c = (
-  (All-pop (IsReaderOf c.args.board.now) c.args.readers.now.items c.pop.new.self.items c.pop.result c.pop.ensures.items c.requires.own).0,
+  (All-pop (IsReaderOf c.args.board.now) c.args.readers.now.items c.pop.new.self.items c.pop.result c.pop.ensures.items
+      c.requires.own).0,
   (All-pop IsAlone c.args.readers.now.items c.pop.new.self.items c.pop.result c.pop.ensures.items c.requires.alone).0,
 )
 
 pub returns-in-None-clause-others : goal.returns-in-None-clause-others
 returns-in-None-clause-others g c = (
-  (All-pop (IsReaderOf c.args.board.now) c.args.readers.now.items c.pop.new.self.items c.pop.result c.pop.ensures.items c.requires.own).0,
+  (All-pop (IsReaderOf c.args.board.now) c.args.readers.now.items c.pop.new.self.items c.pop.result c.pop.ensures.items
+      c.requires.own).0,
   (All-pop IsAlone c.args.readers.now.items c.pop.new.self.items c.pop.result c.pop.ensures.items c.requires.alone).0,
 )

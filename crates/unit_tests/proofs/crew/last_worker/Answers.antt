@@ -5,12 +5,15 @@ use Rattle.unit_tests.proofs.crew.last_worker.Goals as goal
 
 pub returns-in-Some-clause-own : goal.returns-in-Some-clause-own
 returns-in-Some-clause-own g c = subst (λ w. IfSome w (IsWorkerOf c.args.board.now)) c.in-Some.is
-    (All-pop (IsWorkerOf c.args.board.now) c.args.workers.now.items c.pop.new.self.items c.pop.result c.pop.ensures.items c.requires.own).1
+    (All-pop (IsWorkerOf c.args.board.now) c.args.workers.now.items c.pop.new.self.items c.pop.result c.pop.ensures.items
+    c.requires.own).1
 
 pub returns-in-Some-clause-others : goal.returns-in-Some-clause-others
 returns-in-Some-clause-others g c =
-    (All-pop (IsWorkerOf c.args.board.now) c.args.workers.now.items c.pop.new.self.items c.pop.result c.pop.ensures.items c.requires.own).0
+    (All-pop (IsWorkerOf c.args.board.now) c.args.workers.now.items c.pop.new.self.items c.pop.result c.pop.ensures.items
+    c.requires.own).0
 
 pub returns-in-None-clause-others : goal.returns-in-None-clause-others
 returns-in-None-clause-others g c =
-    (All-pop (IsWorkerOf c.args.board.now) c.args.workers.now.items c.pop.new.self.items c.pop.result c.pop.ensures.items c.requires.own).0
+    (All-pop (IsWorkerOf c.args.board.now) c.args.workers.now.items c.pop.new.self.items c.pop.result c.pop.ensures.items
+    c.requires.own).0

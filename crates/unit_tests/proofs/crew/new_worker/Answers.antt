@@ -15,5 +15,15 @@ number_of (Reader i) = i
 pub new-requires : goal.new-requires
 new-requires g c =
     let w : ℕ = width g.row.C g.row.H g.row.G in
-    let same : index_of c.args.seat ≡ c.args.index = ap number_of (sym c.args.seat.is ∙ ap (λ (m : Member). m.who) c.requires.fresh) in
-    (omega arith, (c.requires.geometry, (c.requires.own.1, subst (λ (i : ℕ). worker_of c.args.seat ≡ new_worker g.row.N w (depth g.row.N w) i) (sym same) c.requires.fresh)))
+    let same : index_of c.args.seat ≡ c.args.index =
+    ap number_of (sym c.args.seat.is ∙ ap (λ (m : Member). m.who) c.requires.fresh) in (
+      omega arith,
+      (
+        c.requires.geometry,
+        (
+          c.requires.own.1,
+          subst (λ (i : ℕ). worker_of c.args.seat ≡ new_worker g.row.N w (depth g.row.N w) i)
+              (sym same) c.requires.fresh,
+        ),
+      ),
+    )

@@ -9,18 +9,24 @@ use Rattle.unit_tests.proofs.crew.one_seat.Goals as goal
 pub returns-in-Some-Some-clause-own : goal.returns-in-Some-Some-clause-own
 returns-in-Some-Some-clause-own c =
     let made = c.in_ok-board.field-0 in
-    let worker = All-pop (HasWorker made.board) made.work.items c.pop.new.self.items c.pop.result c.pop.ensures.items c.in_ok-board.ensures.work.0 in
-    let reader = All-pop (HasReader made.board) made.read.items c.pop-2.new.self.items c.pop-2.result c.pop-2.ensures.items c.in_ok-board.ensures.read.0 in
-    (subst (λ s. IfSome s (HasWorker made.board)) c.in-Some-Some.is-0 worker.1, subst (λ s. IfSome s (HasReader made.board)) c.in-Some-Some.is-1 reader.1)
+    let worker = All-pop (HasWorker made.board) made.work.items c.pop.new.self.items c.pop.result c.pop.ensures.items
+    c.in_ok-board.ensures.work.0 in
+    let reader = All-pop (HasReader made.board) made.read.items c.pop-2.new.self.items c.pop-2.result c.pop-2.ensures.items
+    c.in_ok-board.ensures.read.0 in (
+      subst (λ s. IfSome s (HasWorker made.board)) c.in-Some-Some.is-0 worker.1,
+      subst (λ s. IfSome s (HasReader made.board)) c.in-Some-Some.is-1 reader.1,
+    )
 
 pub returns-in-Some-Some-clause-worker : goal.returns-in-Some-Some-clause-worker
 returns-in-Some-Some-clause-worker c =
     let one = c.in_ok-board.field-0.work.items in
     let some = c.in-Some-Some in
-    (popped worker_of one c.pop.new.self.items some.seat [] (new_worker 1 1 4 0) some.ensures.items c.in_ok-board.ensures.work.1).1
+    (popped worker_of one c.pop.new.self.items some.seat [] (new_worker 1 1 4 0) some.ensures.items
+    c.in_ok-board.ensures.work.1).1
 
 pub returns-in-Some-Some-clause-reader : goal.returns-in-Some-Some-clause-reader
 returns-in-Some-Some-clause-reader c =
     let one = c.in_ok-board.field-0.read.items in
     let some = c.in-Some-Some in
-    ap (λ (m : Member). m.scan) (popped reader_of one c.pop-2.new.self.items some.reader [] (new_reader 1 1 0) some.ensures'.items c.in_ok-board.ensures.read.1).1
+    ap (λ (m : Member). m.scan) (popped reader_of one c.pop-2.new.self.items some.reader [] (new_reader 1 1 0) some.ensures'.items
+    c.in_ok-board.ensures.read.1).1

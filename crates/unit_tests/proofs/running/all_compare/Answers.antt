@@ -18,8 +18,10 @@ order-found-requires g c =
             inv.own,
             (
               (
-                subst (λ (s : Taken). HasRecorded c.loop-i.one (as_answer s)) (sym c.index-ones-i.is) (one c.loop-i.i c.index-ones-i.result c.loop-i-test.true),
-                subst (λ (s : Taken). HasRecorded c.loop-i.other (as_answer s)) (sym c.index-others-j.is) (other c.loop-i.j c.index-others-j.result c.if-j-others.true),
+                subst (λ (s : Taken). HasRecorded c.loop-i.one (as_answer s)) (sym c.index-ones-i.is)
+                    (one c.loop-i.i c.index-ones-i.result c.loop-i-test.true),
+                subst (λ (s : Taken). HasRecorded c.loop-i.other (as_answer s)) (sym c.index-others-j.is)
+                    (other c.loop-i.j c.index-others-j.result c.if-j-others.true),
               ),
               inv.alone,
             ),

@@ -7,23 +7,27 @@ pub returns-clause-did : goal.returns-clause-did
 returns-clause-did g c =
     let s = c.start_all.ensures in
     let many : c.len-many.result ≡ length c.args.workers.items = search rules in
-    handed_back _ c.args.board.now (g.Q.JobLists.lists c.args.lists.now) c.args.workers.items g.Q.JobLists.lists c.start_all.new.threads.items s.pledged c.len-many.result c.join_all-ends.result.items c.outcome.result
+    handed_back _ c.args.board.now (g.Q.JobLists.lists c.args.lists.now) c.args.workers.items g.Q.JobLists.lists
+    c.start_all.new.threads.items s.pledged c.len-many.result c.join_all-ends.result.items c.outcome.result
     many c.join_all-ends.ensures s.few c.outcome.ensures.all
 
 pub returns-clause-own : goal.returns-clause-own
 returns-clause-own g c =
     let long : length (g.Q.JobLists.lists c.args.lists.now) ≡ length c.args.workers.items = search rules in
-    own_back c.args.board.now (g.Q.JobLists.lists c.args.lists.now) c.args.workers.items c.outcome.result long (returns-clause-did g c)
+    own_back c.args.board.now (g.Q.JobLists.lists c.args.lists.now) c.args.workers.items c.outcome.result long
+    (returns-clause-did g c)
 
 pub returns-clause-fault : goal.returns-clause-fault
 returns-clause-fault g c =
     let s = c.start_all.ensures in
     let many : c.len-many.result ≡ length c.args.workers.items = search rules in
     let some : 0 < length c.args.workers.items = search rules in
-    told _ c.args.board.now (g.Q.JobLists.lists c.args.lists.now) c.args.workers.items g.Q.JobLists.lists c.start_all.new.threads.items s.pledged c.len-many.result c.join_all-ends.result.items c.outcome.result
+    told _ c.args.board.now (g.Q.JobLists.lists c.args.lists.now) c.args.workers.items g.Q.JobLists.lists
+    c.start_all.new.threads.items s.pledged c.len-many.result c.join_all-ends.result.items c.outcome.result
     many c.join_all-ends.ensures s.few some c.outcome.ensures.told
 
 pub returns-clause-opened : goal.returns-clause-opened
 returns-clause-opened g c =
     let long : length (g.Q.JobLists.lists c.args.lists.now) ≡ length c.args.workers.items = search rules in
-    never_shut c.args.board.now (g.Q.JobLists.lists c.args.lists.now) c.args.workers.items long _ c.outcome.result (returns-clause-fault g c)
+    never_shut c.args.board.now (g.Q.JobLists.lists c.args.lists.now) c.args.workers.items long _ c.outcome.result
+    (returns-clause-fault g c)

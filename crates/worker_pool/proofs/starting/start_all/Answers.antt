@@ -23,8 +23,10 @@ loop-worker-preserved g c =
       count = omega (arith, shorter, count);
       many = search rules;
       room = search rules;
-      pledged = subst (λ (l : List (Handle g.row.Q.Denot g.row.N g.row.C g.row.H g.row.G)). ArePledged lists_of g.P.Gate.ALWAYS_OPEN c.args.board.now lists ws l) (sym pushed.items)
-          (pledged_more lists_of g.P.Gate.ALWAYS_OPEN c.args.board.now lists ws c.loop-worker.threads.items c.in-Ok.thread place (jobs_at lists place) c.in-Some.worker inv.many
+      pledged = subst (λ (l : List (Handle g.row.Q.Denot g.row.N g.row.C g.row.H g.row.G)). ArePledged lists_of
+          g.P.Gate.ALWAYS_OPEN c.args.board.now lists ws l) (sym pushed.items)
+          (pledged_more lists_of g.P.Gate.ALWAYS_OPEN c.args.board.now lists ws c.loop-worker.threads.items c.in-Ok.thread place
+          (jobs_at lists place) c.in-Some.worker inv.many
           (there lists place _ lt) next.0
           (record {
             board = ap (λ (p : D). p.board.now) ok;

@@ -7,12 +7,16 @@ use Rattle.worker_pool.proofs.thread_work.work.Goals as goal
 pub returns-then-not-opens : goal.returns-then-not-opens
 returns-then-not-opens g c =
     let jobs = jobs_at (g.Q.JobLists.lists c.args.lists.now) c.args.place in
-    let lt : c.loop-next.next < length jobs = search rules in
-    (refl, not_always g.P.Gate.ALWAYS_OPEN c.opens.result c.opens.ensures (search rules), record { k = c.loop-next.next; more = lt; v = c.loop-next.worker; did = c.loop-next.invariant })
+    let lt : c.loop-next.next < length jobs = search rules in (
+      refl,
+      not_always g.P.Gate.ALWAYS_OPEN c.opens.result c.opens.ensures (search rules),
+      record { k = c.loop-next.next; more = lt; v = c.loop-next.worker; did = c.loop-next.invariant },
+    )
 
 pub returns-in-Err : goal.returns-in-Err
 returns-in-Err g c =
-    let k = c.loop-next.next in let jobs = jobs_at (g.Q.JobLists.lists c.args.lists.now) c.args.place in let job = c.job-job.result in
+    let k = c.loop-next.next in let jobs = jobs_at (g.Q.JobLists.lists c.args.lists.now) c.args.place in
+    let job = c.job-job.result in
     record {
       k = k;
       job = job;
@@ -27,6 +31,8 @@ returns-in-Err g c =
 
 pub loop-next-preserved : goal.loop-next-preserved
 loop-next-preserved g c =
-    let k = c.loop-next.next in let jobs = jobs_at (g.Q.JobLists.lists c.args.lists.now) c.args.place in let job = c.job-job.result in
-    did_more c.args.board.now jobs c.args.worker c.loop-next.worker c.run.new.worker k job (item_is jobs k job c.job-job.ensures) c.loop-next.invariant
+    let k = c.loop-next.next in let jobs = jobs_at (g.Q.JobLists.lists c.args.lists.now) c.args.place in
+    let job = c.job-job.result in
+    did_more c.args.board.now jobs c.args.worker c.loop-next.worker c.run.new.worker k job (item_is jobs k job c.job-job.ensures)
+    c.loop-next.invariant
     c.in_default.ensures.own c.in_default.ensures.index c.in_default.ensures.counted

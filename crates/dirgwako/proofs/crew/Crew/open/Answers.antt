@@ -9,7 +9,8 @@ use Rattle.dirgwako.proofs.crew.Crew.open.Goals as goal
 
 pub new-requires : goal.new-requires
 new-requires g c =
-    let own = subst (λ b. IsReaderOf b c.in_ok-workers.reader) (sym c.in_ok-workers.ensures.board) c.in_ok-workers.ensures.own.2 in
+    let own = subst (λ b. IsReaderOf b c.in_ok-workers.reader) (sym c.in_ok-workers.ensures.board)
+    c.in_ok-workers.ensures.own.2 in
     (omega arith, (omega arith, (omega arith, (omega arith, (refl, (λ id none. absurd (none-some id none), own))))))
 
 pub returns-in-Err : goal.returns-in-Err
@@ -22,17 +23,22 @@ returns-in-Err g c =
       scanners = tt;
       readers = tt;
       window = tt;
-      fault = ((λ none. let few = ap length (sym none ∙ c.in_ok-workers.ensures.readers) in omega (arith, few, some)), c.in-Err.ensures.fault);
+      fault = (
+        (λ none. let few = ap length (sym none ∙ c.in_ok-workers.ensures.readers) in omega (arith, few, some)),
+        c.in-Err.ensures.fault,
+      );
     }
 
 pub all-requires : goal.all-requires
 all-requires g c =
-    let own = subst (λ b. All (IsWorkerOf b) c.in_ok-workers.workers.items) (sym c.in_ok-workers.ensures.board) c.in_ok-workers.ensures.own.0 in
+    let own = subst (λ b. All (IsWorkerOf b) c.in_ok-workers.workers.items) (sym c.in_ok-workers.ensures.board)
+    c.in_ok-workers.ensures.own.0 in
     (search rules, (search rules, (search rules, own)))
 
 pub all_scanners-requires : goal.all_scanners-requires
 all_scanners-requires g c =
-    let own = subst (λ b. All (IsReaderOf b) c.in_ok-workers.readers.items) (sym c.in_ok-workers.ensures.board) c.in_ok-workers.ensures.own.1 in
+    let own = subst (λ b. All (IsReaderOf b) c.in_ok-workers.readers.items) (sym c.in_ok-workers.ensures.board)
+    c.in_ok-workers.ensures.own.1 in
     (search rules, (search rules, (search rules, own)))
 
 pub returns-in-Ok-all_scanners : goal.returns-in-Ok-all_scanners
@@ -43,7 +49,11 @@ returns-in-Ok-all_scanners g c =
       boards = subst (λ b. All (IsOn b) c.in-Ok-all.recorders.items) same c.in-Ok-all.ensures.board;
       workers = c.in-Ok-all.ensures.workers ∙ c.in_ok-workers.ensures.workers;
       scanners = subst (λ b. All (ScansOn b) c.in-Ok-all_scanners.scanners.items) same c.in-Ok-all_scanners.ensures.boards;
-      readers = (c.in_ok-workers.reader, c.in_ok-workers.ensures.readers ∙ ap (λ readers. readers ++ c.in_ok-workers.reader ∷ []) (sym c.in-Ok-all_scanners.ensures.readers));
+      readers = (
+        c.in_ok-workers.reader,
+        c.in_ok-workers.ensures.readers ∙ ap (λ readers. readers ++ c.in_ok-workers.reader ∷ [])
+            (sym c.in-Ok-all_scanners.ensures.readers),
+      );
       window = c.in_ok-workers.ensures.window;
       fault = tt;
     }

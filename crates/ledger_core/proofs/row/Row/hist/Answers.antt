@@ -12,7 +12,8 @@ returns-clause-bounded g c = (
 
 pub returns-clause-legal : goal.returns-clause-legal
 returns-clause-legal g c =
-    legal_buckets g.row.C g.row.H c.args.slot c.self.inside.words c.word-2.result c.buckets.result c.requires c.word-2.ensures.within
+    legal_buckets g.row.C g.row.H c.args.slot c.self.inside.words c.word-2.result c.buckets.result c.requires
+    c.word-2.ensures.within
     c.self.invariant c.word-2.ensures.value c.buckets.ensures
 
 pub returns-clause-laws : goal.returns-clause-laws

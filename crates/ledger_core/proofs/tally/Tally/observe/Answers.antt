@@ -10,8 +10,10 @@ returns-then-value-self-clause-fault g c =
     let low = c.place-place.ensures.within in
     let lt : c.place-place.result < 25 = omega arith in
     rw (← c.place-place.ensures.place)
-    (sum_passes g.row.C g.row.H g.row.G c.args.hist.now.registry c.self.inside.registry c.args.hist.now.slot c.place-place.result c.args.value (min g.row.K 65536)
-    c.self.inside.list c.self.inside.sums c.args.self.now c.self.view_is c.if-hist-self.false (omega arith) lt c.self.invariant.summed (omega arith))
+    (sum_passes g.row.C g.row.H g.row.G c.args.hist.now.registry c.self.inside.registry c.args.hist.now.slot c.place-place.result
+    c.args.value (min g.row.K 65536)
+    c.self.inside.list c.self.inside.sums c.args.self.now c.self.view_is c.if-hist-self.false
+    (omega arith) lt c.self.invariant.summed (omega arith))
 
 pub invariant_of-self : goal.invariant_of-self
 invariant_of-self g c =
@@ -28,6 +30,7 @@ returns-in-Err-clause-fault g c =
     let low = c.place-place.ensures.within in
     let lt : c.place-place.result < 25 = omega arith in
     rw (← c.place-place.ensures.place)
-    (fault_told g.row.C g.row.H g.row.G (min g.row.K 65536) c.args.hist.now.registry (Observe c.args.hist.now.slot c.place-place.result c.args.value)
+    (fault_told g.row.C g.row.H g.row.G (min g.row.K 65536) c.args.hist.now.registry
+    (Observe c.args.hist.now.slot c.place-place.result c.args.value)
     c.self.inside.registry c.self.inside.list c.args.self.now c.in-Err.fault c.self.view_is c.if-hist-self.false
     (omega arith, lt) c.in-Err.ensures.fault)

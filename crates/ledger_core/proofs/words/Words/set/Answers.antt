@@ -24,9 +24,11 @@ returns-in-Counter g c =
 pub returns-in-Hist : goal.returns-in-Hist
 returns-in-Hist g c =
     let h = rw c.in-Hist.is at c.requires.known in
-    rw (c.in-Hist.is, ← c.self.view_is) (write_hist g.row.C g.row.H g.row.G _ _ _ c.self.invariant c.in-Hist.hist c.in-Hist.item _ h.0 h.1)
+    rw (c.in-Hist.is, ← c.self.view_is)
+    (write_hist g.row.C g.row.H g.row.G _ _ _ c.self.invariant c.in-Hist.hist c.in-Hist.item _ h.0 h.1)
 
 pub returns-in-Gauge : goal.returns-in-Gauge
 returns-in-Gauge g c =
     let h = rw c.in-Gauge.is at c.requires.known in
-    rw (c.in-Gauge.is, ← c.self.view_is) (write_gauge g.row.C g.row.H g.row.G _ _ _ c.self.invariant c.in-Gauge.gauge c.in-Gauge.item _ h.0 h.1)
+    rw (c.in-Gauge.is, ← c.self.view_is)
+    (write_gauge g.row.C g.row.H g.row.G _ _ _ c.self.invariant c.in-Gauge.gauge c.in-Gauge.item _ h.0 h.1)

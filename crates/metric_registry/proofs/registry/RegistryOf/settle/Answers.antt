@@ -3,7 +3,8 @@ use Rattle.metric_registry.specs.Naming.{BeginsWith}
 use Rattle.metric_registry.proofs.registry.RegistryOf.settle.Goals as goal
 
 pub unreachable-requires : goal.unreachable-requires
-unreachable-requires g c = let missing = c.in_default-settle_state.ensures.missing in missing.none (c.in_default.ensures.none _ missing.inside)
+unreachable-requires g c = let missing = c.in_default-settle_state.ensures.missing in
+    missing.none (c.in_default.ensures.none _ missing.inside)
 
 pub returns : goal.returns
 returns g c = record {

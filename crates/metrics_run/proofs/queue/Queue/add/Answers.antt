@@ -15,11 +15,13 @@ returns-in-Ok-clause-added c = λ job is.
     let lists = queue.lists.items in
     let worker = c.args.worker in
     let list = c.index_mut.result.now in
-    let below : worker < length lists = let lt = c.requires.worker in let long = length-map lists (jobs_of children) in omega (arith, lt, long) in
+    let below : worker < length lists = let lt = c.requires.worker in let long = length-map lists (jobs_of children) in
+    omega (arith, lt, long) in
     let was : jobs_of children list ≡ slice_index_or (lists_in queue) worker [] =
     ap (jobs_of children) c.index_mut.ensures.value ∙ sym (get_or-map (jobs_of children) lists worker list [] below) in
     map-set (jobs_of children) lists worker c.add_times.new.list
-    ∙ ap (slice_set (lists_in queue) worker) (ap (filter_map (job_of children)) c.in-Ok.ensures.added ∙ made_more (job_of children) list.items c.args.times c.args.entry.now job is
+    ∙ ap (slice_set (lists_in queue) worker) (ap (filter_map (job_of children)) c.in-Ok.ensures.added
+    ∙ made_more (job_of children) list.items c.args.times c.args.entry.now job is
     ∙ ap (λ (l : List Job). l ++ replicate c.args.times job) was)
 
 pub returns-in-Err-clause-unchanged : goal.returns-in-Err-clause-unchanged

@@ -7,4 +7,5 @@ use Rattle.metrics_run.proofs.queue.Queue.add_child.Goals as goal
 pub returns-clause-lists : goal.returns-clause-lists
 returns-clause-lists c =
     let queue = c.args.self.now in
-    ap (λ (children : List Handle). map (jobs_of children) queue.lists.items) c.in-Ok.ensures.items ∙ lists_kept queue.children.items c.args.handle queue.lists.items queue.fit
+    ap (λ (children : List Handle). map (jobs_of children) queue.lists.items) c.in-Ok.ensures.items
+    ∙ lists_kept queue.children.items c.args.handle queue.lists.items queue.fit

@@ -9,5 +9,7 @@ returns-clause-none c =
     let queue = c.args.self.now in
     let jobs = jobs_of queue.children.items in
     let lists = c.drop_entries.new.lists in
-    ap (map jobs) (with_items_is queue.lists lists (c.drop_entries.ensures.all ∙ c.deref_mut.ensures.len)) ∙ none_left queue.children.items lists c.drop_entries.ensures.none
-    ∙ ap (λ (n : ℕ). replicate n []) (c.drop_entries.ensures.all ∙ ap length c.deref_mut.ensures.value ∙ sym (length-map queue.lists.items jobs))
+    ap (map jobs) (with_items_is queue.lists lists (c.drop_entries.ensures.all ∙ c.deref_mut.ensures.len))
+    ∙ none_left queue.children.items lists c.drop_entries.ensures.none
+    ∙ ap (λ (n : ℕ). replicate n []) (c.drop_entries.ensures.all ∙ ap length c.deref_mut.ensures.value
+    ∙ sym (length-map queue.lists.items jobs))

@@ -16,7 +16,8 @@ returns-in-Err-child-clause-fault c =
         named = c.in-Some.ensures.found;
         read = c.in-Ok.values.items;
         are_read = c.in-Ok.ensures.read;
-        refused = subst (λ (read : List (List ℕ)). IsChildFault 64 8 16 families family.number read wrong) c.deref.ensures.value c.in-Err-child.ensures.fault;
+        refused = subst (λ (read : List (List ℕ)). IsChildFault 64 8 16 families family.number read wrong) c.deref.ensures.value
+            c.in-Err-child.ensures.fault;
       },
     ))
 
@@ -32,7 +33,8 @@ returns-clause-numbered c =
         named = c.in-Some.ensures.found;
         read = c.in-Ok.values.items;
         are_read = c.in-Ok.ensures.read;
-        given = subst (λ (read : List (List ℕ)). IsGiven 64 8 16 registry c.child.new.self family.number read handle) c.deref.ensures.value c.in-Ok-child.ensures.given;
+        given = subst (λ (read : List (List ℕ)). IsGiven 64 8 16 registry c.child.new.self family.number read handle)
+            c.deref.ensures.value c.in-Ok-child.ensures.given;
       };
       numbered = search rules;
       board = refl;

@@ -15,7 +15,8 @@ returns-in-Ok-add-clause-ready c =
     let count = c.args.count in
     let entry : QueuedJob = record { line = c.args.line; child = c.in-Ok.child; by = count.by; what = count.what } in
     let some = value_of c.job.result c.if-is_none.ensures in
-    let makes : job_of c.args.self.now.queue.children.items entry ≡ Some some.0 = ap (λ l. job_of l entry) (sym c.deref.ensures.value) ∙ sym c.job.ensures ∙ some.1 in
+    let makes : job_of c.args.self.now.queue.children.items entry ≡ Some some.0 =
+    ap (λ l. job_of l entry) (sym c.deref.ensures.value) ∙ sym c.job.ensures ∙ some.1 in
     let queue = c.in-Ok-add.ensures.added some.0 makes in
     let ready = c.requires.ready in
     record {
@@ -35,7 +36,8 @@ returns-in-Ok-add-clause-queued c =
     let lists = lists_in c.args.self.now.queue in
     let entry : QueuedJob = record { line = c.args.line; child = c.in-Ok.child; by = count.by; what = count.what } in
     let some = value_of c.job.result c.if-is_none.ensures in
-    let makes : job_of children entry ≡ Some some.0 = ap (λ l. job_of l entry) (sym c.deref.ensures.value) ∙ sym c.job.ensures ∙ some.1 in
+    let makes : job_of children entry ≡ Some some.0 = ap (λ l. job_of l entry) (sym c.deref.ensures.value) ∙ sym c.job.ensures
+    ∙ some.1 in
     let parts = counted children c.args.line c.in-Ok.child count some.0 c.in-Ok.ensures.1 makes in
     record {
       what = parts.0;
@@ -54,6 +56,7 @@ returns-in-Err-clause-fault c =
     let children = c.args.self.now.queue.children.items in
     let entry : QueuedJob = record { line = c.args.line; child = c.in-Ok.child; by = count.by; what = count.what } in
     let some = value_of c.job.result c.if-is_none.ensures in
-    let makes : job_of children entry ≡ Some some.0 = ap (λ l. job_of l entry) (sym c.deref.ensures.value) ∙ sym c.job.ensures ∙ some.1 in
+    let makes : job_of children entry ≡ Some some.0 = ap (λ l. job_of l entry) (sym c.deref.ensures.value) ∙ sym c.job.ensures
+    ∙ some.1 in
     let counts = (counted children c.args.line c.in-Ok.child count some.0 c.in-Ok.ensures.1 makes).1 in
     inr (refl, λ none. absurd (cc (counts, none)))

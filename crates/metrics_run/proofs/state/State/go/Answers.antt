@@ -11,9 +11,11 @@ returns-in-Ok-clause-ready g c =
     let self = c.args.self.now in
     let ready = c.requires.ready in
     let lists = lists_in self.queue in
-    let few : length lists ≡ length self.workers.items = ready.lists ∙ sym (sym (length-map self.workers.items index_of) ∙ ap length ready.all) in
+    let few : length lists ≡ length self.workers.items = ready.lists
+    ∙ sym (sym (length-map self.workers.items index_of) ∙ ap length ready.all) in
     let did : DidAll self.board.now lists self.workers.items c.in-Ok.workers.items =
-    subst (λ ws. DidAll self.board.now lists ws.items c.in-Ok.workers.items) c.replace-workers.ensures.value c.in-Ok.ensures.did in
+    subst (λ ws. DidAll self.board.now lists ws.items c.in-Ok.workers.items) c.replace-workers.ensures.value
+    c.in-Ok.ensures.did in
     record {
       workers = c.in-Ok.ensures.own;
       all = same_workers self.board.now lists self.workers.items c.in-Ok.workers.items few did ∙ ready.all;
@@ -29,7 +31,8 @@ returns-in-Ok-clause-gone g c =
     let self = c.args.self.now in
     let lists = lists_in self.queue in
     record {
-      did = subst (λ ws. DidAll self.board.now lists ws.items c.in-Ok.workers.items) c.replace-workers.ensures.value c.in-Ok.ensures.did;
+      did = subst (λ ws. DidAll self.board.now lists ws.items c.in-Ok.workers.items) c.replace-workers.ensures.value
+          c.in-Ok.ensures.did;
       emptied = c.clear.ensures.none ∙ ap (λ (n : ℕ). replicate n []) c.requires.ready.lists;
       board = refl;
       registry = refl;
@@ -40,5 +43,9 @@ returns-in-Ok-clause-gone g c =
 pub returns-in-Err-clause-fault : goal.returns-in-Err-clause-fault
 returns-in-Err-clause-fault g c =
     let self = c.args.self.now in
-    let fault = c.in-Err.fault in
-    (fault, c.told.ensures, subst (λ ws. IsPoolFault true self.board.now (lists_in self.queue) ws.items fault) c.replace-workers.ensures.value c.in-Err.ensures.fault)
+    let fault = c.in-Err.fault in (
+      fault,
+      c.told.ensures,
+      subst (λ ws. IsPoolFault true self.board.now (lists_in self.queue) ws.items fault)
+          c.replace-workers.ensures.value c.in-Err.ensures.fault,
+    )

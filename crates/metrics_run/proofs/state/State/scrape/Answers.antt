@@ -11,7 +11,8 @@ returns-clause-scraped c =
     record {
       kept = kept;
       scrape = scrape;
-      shown = subst (λ (s : State). IsSomeAnd s.last (λ answer. IsShown 64 8 s.families answer scrape)) kept.state c.in-Ok.ensures.shown;
+      shown = subst (λ (s : State). IsSomeAnd s.last (λ answer. IsShown 64 8 s.families answer scrape)) kept.state
+          c.in-Ok.ensures.shown;
       text_is = c.in_ok-render.ensures.text;
       beside = record { board = refl; workers = refl; settler = refl; children = refl; queue = refl };
     }

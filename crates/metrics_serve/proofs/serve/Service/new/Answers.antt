@@ -10,7 +10,9 @@ returns c =
     let made = c.in-Ok.ensures.made in
     record {
       scans = ap (λ (r : Registry (Scanner 4 64 8 16)). board_in r.source) c.registry.view_is
-          ∙ (ap board_in same.source ∙ (ap (λ (r : Registry (Scanner 4 64 8 16)). board_in r.source) made ∙ c.new-source.ensures.board));
-      id = ap (λ (r : Registry (Scanner 4 64 8 16)). r.id) c.registry.view_is ∙ (same.id ∙ (ap (λ (r : Registry (Scanner 4 64 8 16)). r.id) made ∙ c.id.ensures));
+          ∙ (ap board_in same.source
+          ∙ (ap (λ (r : Registry (Scanner 4 64 8 16)). board_in r.source) made ∙ c.new-source.ensures.board));
+      id = ap (λ (r : Registry (Scanner 4 64 8 16)). r.id) c.registry.view_is
+          ∙ (same.id ∙ (ap (λ (r : Registry (Scanner 4 64 8 16)). r.id) made ∙ c.id.ensures));
       six = c.in-Ok-new.ensures.six;
     }

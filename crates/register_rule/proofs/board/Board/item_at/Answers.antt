@@ -15,8 +15,13 @@ returns-clause-place g c =
     let i : ℕ = c.args.segment * span b in
     let number : c.number_at.result ≡ i + 0 = c.number_at.ensures.0 in
     let sum : c.number_at.result + 1 + p + c.args.item ≡ i + (1 + q + c.args.item) = omega arith in
-    let inside : i + item_of b c.args.version c.args.item < g.row.N * span b = digits_lt c.requires.0 (item_lt b c.args.version c.args.item c.requires.1) in
-    (sum, subst (λ (z : ℕ). z < c.args.self.now.table.shared.table_id.words) (sym sum) (subst (λ (z : ℕ). i + item_of b c.args.version c.args.item < z) (sym c.args.self.now.sized.1) inside))
+    let inside : i + item_of b c.args.version c.args.item < g.row.N * span b =
+    digits_lt c.requires.0 (item_lt b c.args.version c.args.item c.requires.1) in (
+      sum,
+      subst (λ (z : ℕ). z < c.args.self.now.table.shared.table_id.words) (sym sum)
+          (subst (λ (z : ℕ). i + item_of b c.args.version c.args.item < z) (sym c.args.self.now.sized.1) inside),
+    )
 
 pub returns-clause-part : goal.returns-clause-part
-returns-clause-part g c = place_is g.row.N (width g.row.C g.row.H g.row.G) c.args.segment c.args.version c.args.item _ (returns-clause-place g c).0
+returns-clause-part g c = place_is g.row.N (width g.row.C g.row.H g.row.G) c.args.segment c.args.version c.args.item _
+    (returns-clause-place g c).0

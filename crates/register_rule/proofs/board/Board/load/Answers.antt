@@ -3,4 +3,9 @@ use Rattle.register_rule.proofs.Keeping.{load_allows}
 use Rattle.register_rule.proofs.board.Board.load.Goals as goal
 
 pub load_as-requires : goal.load_as-requires
-load_as-requires g c = (search rules, search rules, load_allows _ _ _ _ _ _ _ _ c.requires.own.1.0 c.requires.own.1.1 c.args.what _ c.requires.own.1.2 c.requires.inside (search rules))
+load_as-requires g c = (
+  search rules,
+  search rules,
+  load_allows _ _ _ _ _ _ _ _ c.requires.own.1.0 c.requires.own.1.1 c.args.what _ c.requires.own.1.2 c.requires.inside
+      (search rules),
+)

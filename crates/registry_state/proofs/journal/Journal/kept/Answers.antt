@@ -5,4 +5,5 @@ use Rattle.registry_state.proofs.Merging.{merged_scrapes}
 use Rattle.registry_state.proofs.journal.Journal.kept.Goals as goal
 
 pub returns : goal.returns
-returns g c = sym (merged_scrapes (map change_of c.self.inside.notes.items) 0 c.self.inside.kept.scrapes) ∙ ap scrapes c.self.view_is
+returns g c = sym (merged_scrapes (map change_of c.self.inside.notes.items) 0 c.self.inside.kept.scrapes)
+    ∙ ap scrapes c.self.view_is

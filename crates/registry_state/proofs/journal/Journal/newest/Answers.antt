@@ -13,4 +13,5 @@ pub returns : goal.returns
 returns g c =
     let seen : answers_of c.self.inside.kept.scrapes ≡ scrapes c.args.self.now =
     sym (merged_scrapes (map change_of c.self.inside.notes.items) 0 c.self.inside.kept.scrapes) ∙ ap scrapes c.self.view_is in
-    subst (λ (l : List Answer). MatchOption c.newest.result (newest l ≡ None) (λ snapshot. newest l ≡ Some (as_answer snapshot.now))) seen c.newest.ensures
+    subst (λ (l : List Answer). MatchOption c.newest.result (newest l ≡ None)
+    (λ snapshot. newest l ≡ Some (as_answer snapshot.now))) seen c.newest.ensures

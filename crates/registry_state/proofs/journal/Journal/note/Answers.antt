@@ -7,11 +7,13 @@ use Rattle.registry_state.proofs.Merging.{noted_change, merged_change}
 use Rattle.registry_state.proofs.journal.Journal.note.Goals as goal
 
 pub invariant_of-self-2 : goal.invariant_of-self-2
-invariant_of-self-2 g c = (c.self.invariant.0, rw (c.in_ok-push.ensures.items, length-append) (noted_change _ _ _ c.self.invariant.1))
+invariant_of-self-2 g c =
+    (c.self.invariant.0, rw (c.in_ok-push.ensures.items, length-append) (noted_change _ _ _ c.self.invariant.1))
 
 pub returns-clause-noted : goal.returns-clause-noted
 returns-clause-noted g c =
     ap (λ items. merged (map change_of items) 0 c.self.inside.kept.scrapes) c.in_ok-push.ensures.items
     ∙ ap (λ cs. merged cs 0 c.self.inside.kept.scrapes) (map-append change_of c.self.inside.notes.items (c.args.note ∷ []))
-    ∙ merged_change (map change_of c.self.inside.notes.items) 0 c.self.inside.kept.scrapes (change_of c.args.note) (rw length-map c.self.invariant.1)
+    ∙ merged_change (map change_of c.self.inside.notes.items) 0 c.self.inside.kept.scrapes (change_of c.args.note)
+    (rw length-map c.self.invariant.1)
     ∙ ap (λ journal. journal ++ Changed (change_of c.args.note) ∷ []) c.self.view_is

@@ -16,7 +16,8 @@ kept_is : (g : Over) (c : goal.After-keep g) → c.keep.new.self.scrapes ≡ dro
 kept_is g c =
     c.keep.ensures
     ∙ ap (λ l. drop (length l + 1 - c.args.window) (l ++ (c.scan.new.out, c.len-before.result) ∷ [])) c.make_room.ensures.same
-    ∙ ap (λ n. drop (length c.self.inside.kept.scrapes + 1 - c.args.window) (c.self.inside.kept.scrapes ++ (c.scan.new.out, n) ∷ [])) (search rules)
+    ∙ ap (λ n. drop (length c.self.inside.kept.scrapes + 1 - c.args.window)
+    (c.self.inside.kept.scrapes ++ (c.scan.new.out, n) ∷ [])) (search rules)
     ∙ ap (λ n. drop (n - c.args.window) (c.self.inside.kept.scrapes ++ (c.scan.new.out, length c.self.inside.notes.items) ∷ []))
     (sym (length_push c.self.inside.kept.scrapes (c.scan.new.out, length c.self.inside.notes.items)))
 
@@ -29,13 +30,15 @@ pub returns-clause-scraped : goal.returns-clause-scraped
 returns-clause-scraped g c =
     let cs = map change_of c.self.inside.notes.items in
     let e : length c.self.inside.notes.items ≡ length cs = sym (length-map c.self.inside.notes.items change_of) in
-    let noted : AreNoted (length cs) 0 c.self.inside.kept.scrapes = subst (λ n. AreNoted n 0 c.self.inside.kept.scrapes) e c.self.invariant.1 in
+    let noted : AreNoted (length cs) 0 c.self.inside.kept.scrapes = subst (λ n. AreNoted n 0 c.self.inside.kept.scrapes) e
+    c.self.invariant.1 in
     let all : List (Taken × ℕ) = c.self.inside.kept.scrapes ++ (c.scan.new.out, length cs) ∷ [] in (
       as_answer c.scan.new.out,
       search rules,
       search rules,
       ap (λ kept. merged cs 0 kept) (kept_is g c)
-          ∙ ap (λ n. merged cs 0 (drop (length (c.self.inside.kept.scrapes ++ (c.scan.new.out, n) ∷ []) - c.args.window) (c.self.inside.kept.scrapes ++ (c.scan.new.out, n) ∷ []))) e
+          ∙ ap (λ n. merged cs 0 (drop (length (c.self.inside.kept.scrapes ++ (c.scan.new.out, n) ∷ []) - c.args.window)
+          (c.self.inside.kept.scrapes ++ (c.scan.new.out, n) ∷ []))) e
           ∙ merged_within cs c.args.window all (noted_scrape (length cs) 0 c.self.inside.kept.scrapes c.scan.new.out noted)
           ∙ ap (within c.args.window) (merged_scrape cs 0 c.self.inside.kept.scrapes c.scan.new.out noted)
           ∙ ap (λ journal. within c.args.window (journal ++ Scraped (as_answer c.scan.new.out) ∷ [])) c.self.view_is,

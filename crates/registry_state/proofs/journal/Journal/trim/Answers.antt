@@ -12,5 +12,6 @@ invariant_of-self g c = (c.self.invariant.0, rw c.drop_oldest.ensures.newest (no
 pub returns : goal.returns
 returns g c =
     ap (λ kept. merged (map change_of c.self.inside.notes.items) 0 kept) c.drop_oldest.ensures.newest
-    ∙ merged_within (map change_of c.self.inside.notes.items) c.args.window c.self.inside.kept.scrapes (rw length-map c.self.invariant.1)
+    ∙ merged_within (map change_of c.self.inside.notes.items) c.args.window c.self.inside.kept.scrapes
+    (rw length-map c.self.invariant.1)
     ∙ ap (within c.args.window) c.self.view_is

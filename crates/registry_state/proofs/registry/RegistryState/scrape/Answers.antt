@@ -15,7 +15,8 @@ use Rattle.registry_state.proofs.registry.RegistryState.scrape.Goals as goal
 pub unreachable-requires : goal.unreachable-requires
 unreachable-requires g c =
     let scraped = c.in_ok-scrape.ensures.scraped in
-    is_some c.self.inside.window c.self.inside.journal c.scrape.new.self scraped.0 c.self.invariant.kept.room.0 scraped.3 c.in_default-newest.ensures
+    is_some c.self.inside.window c.self.inside.journal c.scrape.new.self scraped.0 c.self.invariant.kept.room.0 scraped.3
+    c.in_default-newest.ensures
 
 pub fill-requires : goal.fill-requires
 fill-requires g c =
@@ -30,7 +31,8 @@ fill-requires g c =
     let ordered : IsOrder c.deref-3.result.now c.deref-4.result.now =
     subst (λ (l : List Family). IsOrder l c.deref-4.result.now) (sym c.deref-3.ensures.value)
     (subst (λ (o : List ℕ). IsOrder c.self.inside.families.items o) (sym c.deref-4.ensures.value) c.self.invariant.ordered) in
-    let same : scraped.0 ≡ as_answer c.in-Some.newest.now = is_newest c.self.inside.window c.self.inside.journal c.scrape.new.self scraped.0 (as_answer c.in-Some.newest.now) c.self.invariant.kept.room.0 scraped.3 c.in-Some.ensures in
+    let same : scraped.0 ≡ as_answer c.in-Some.newest.now = is_newest c.self.inside.window c.self.inside.journal c.scrape.new.self
+    scraped.0 (as_answer c.in-Some.newest.now) c.self.invariant.kept.room.0 scraped.3 c.in-Some.ensures in
     let whole : IsWhole g.row.N g.row.C g.row.H g.row.G (as_answer c.in-Some.newest.now) =
     subst (λ (a : Answer). IsWhole g.row.N g.row.C g.row.H g.row.G a) same scraped.1.whole in
     (omega arith, (c.in-Ok.ensures.vector, (blank, (shown, (ordered, (c.self.invariant.geometry.slots, whole))))))
@@ -43,7 +45,8 @@ invariant_of-self-2 g c =
 pub returns-clause-kept : goal.returns-clause-kept
 returns-clause-kept g c =
     let scraped = c.in_ok-scrape.ensures.scraped in
-    let held = held_scrape _ _ _ _ _ _ _ _ _ _ c.self.invariant (g.S.Source.recorded c.scrape.new.source) c.scrape.new.self scraped.0 scraped.1 scraped.3 in
+    let held = held_scrape _ _ _ _ _ _ _ _ _ _ c.self.invariant (g.S.Source.recorded c.scrape.new.source) c.scrape.new.self
+    scraped.0 scraped.1 scraped.3 in
     let now : Registry g.row.S.Denot = record {
       id = c.self.inside.id;
       window = c.self.inside.window;
@@ -51,6 +54,9 @@ returns-clause-kept g c =
       journal = c.scrape.new.self;
       state = record { families = c.self.inside.families.items; last = newest (scrapes c.scrape.new.self) };
     } in
-    subst (λ (old : Registry g.row.S.Denot). KeepsScrape g.row.N g.row.C g.row.H g.row.G g.S.Source.recorded g.S.Source.gave old now) c.self.view_is
-    (keeps_scrape g.row.N g.row.C g.row.H g.row.G g.S.Source.recorded g.S.Source.gave c.self.inside.id c.self.inside.window c.self.inside.source c.scrape.new.source c.self.inside.journal
-    c.scrape.new.self c.self.inside.families.items scraped.0 c.self.invariant.kept.room.0 scraped.1 scraped.2 scraped.3 held.kept.moments)
+    subst (λ (old : Registry g.row.S.Denot). KeepsScrape g.row.N g.row.C g.row.H g.row.G g.S.Source.recorded g.S.Source.gave old
+    now) c.self.view_is
+    (keeps_scrape g.row.N g.row.C g.row.H g.row.G g.S.Source.recorded g.S.Source.gave c.self.inside.id c.self.inside.window
+    c.self.inside.source c.scrape.new.source c.self.inside.journal
+    c.scrape.new.self c.self.inside.families.items scraped.0 c.self.invariant.kept.room.0 scraped.1 scraped.2 scraped.3
+    held.kept.moments)

@@ -13,5 +13,7 @@ invariant_of-self g c =
 pub returns-clause-set : goal.returns-clause-set
 returns-clause-set g c =
     let room : IsWindow c.args.window = search rules in
-    seen_window c.self.inside.id c.args.window c.self.inside.source c.self.inside.journal c.trim.new.self c.self.inside.families.items room.0 c.trim.ensures
-    ∙ ap (λ (r : Registry g.row.S.Denot). record r { window = c.args.window; journal = within c.args.window r.journal }) c.self.view_is
+    seen_window c.self.inside.id c.args.window c.self.inside.source c.self.inside.journal c.trim.new.self
+    c.self.inside.families.items room.0 c.trim.ensures
+    ∙ ap (λ (r : Registry g.row.S.Denot). record r { window = c.args.window; journal = within c.args.window r.journal })
+    c.self.view_is

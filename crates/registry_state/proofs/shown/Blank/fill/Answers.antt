@@ -21,13 +21,16 @@ fill_families-requires g c = (
 )
 
 -- what stands in a vector whose elements were all written over
-written : {X : Type 0} (new old want : List X) (len : ℕ) → length new ≡ len → new ≡ want → take len (new ++ drop (length new) old) ≡ want
+written : {X : Type 0} (new old want : List X) (len : ℕ) → length new ≡ len → new ≡ want
+    → take len (new ++ drop (length new) old) ≡ want
 written new old want len all is = take_at new (drop (length new) old) len all ∙ is
 
-same : (P : Scraped → Type 0) (vector numbers : List ℕ) (families others : List FamilyShown) → vector ≡ numbers → families ≡ others
+same : (P : Scraped → Type 0) (vector numbers : List ℕ) (families others : List FamilyShown) → vector ≡ numbers
+    → families ≡ others
     → P (record { vector = numbers; families = others }) → P (record { vector = vector; families = families })
 same P vector numbers families others e f here =
-    subst (λ v. P (record { vector = v; families = families })) (sym e) (subst (λ x. P (record { vector = numbers; families = x })) (sym f) here)
+    subst (λ v. P (record { vector = v; families = families })) (sym e)
+    (subst (λ x. P (record { vector = numbers; families = x })) (sym f) here)
 
 pub new-requires : goal.new-requires
 new-requires g c =

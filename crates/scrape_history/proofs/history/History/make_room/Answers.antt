@@ -22,7 +22,8 @@ returns-clause-places g c =
           let len = ap (λ (s : Inside g.row.N g.row.C g.row.H g.row.G). deque_len s.later) w.self-inside-is in
           λ lt. omega (arith, few, all, ok, capacity, len))
       | else-len-window w ↦
-          (let same = ap (λ (s : Inside g.row.N g.row.C g.row.H g.row.G). length (held_of s.first s.oldest s.later.items s.increases.items)) w.self-inside-is in
+          (let same = ap (λ (s : Inside g.row.N g.row.C g.row.H g.row.G). length
+          (held_of s.first s.oldest s.later.items s.increases.items)) w.self-inside-is in
           let most = w.if-len-window.false in
           λ lt. absurd (omega (arith, lt, any, same, seen, count, most)))
     ]

@@ -11,7 +11,8 @@ use Rattle.scrape_history.proofs.history.History.push.Goals.{in-Some, in-None}
 pub push_back_reserved-requires : goal.push_back_reserved-requires
 push_back_reserved-requires g c =
     let all : deque_len c.self.inside.later ≡ length c.self.inside.later.items = c.self.inside.later.ok.0 in
-    let count = held_some c.self.inside.first c.in-Some._before c.self.inside.oldest c.self.inside.later.items c.self.inside.increases.items c.in-Some.is in
+    let count = held_some c.self.inside.first c.in-Some._before c.self.inside.oldest c.self.inside.later.items
+    c.self.inside.increases.items c.in-Some.is in
     let seen = ap (λ (h : Stored). length h.scrapes) c.self.view_is in
     let places : deque_capacity c.self.inside.later + 1 ≡ c.args.self.now.places = ap (λ (h : Stored). h.places) c.self.view_is in
     let lt = c.requires.places in omega (arith, all, count, seen, places, lt)
@@ -23,16 +24,23 @@ invariant_of-self g c =
     elim c.match-self.branch [
       | in-Some w ↦
           subst P (sym w.self-inside-is)
-          (subst (λ (t : Taken). IsHistory g.row.N g.row.C g.row.H g.row.G c.self.inside.first c.self.inside.oldest t w.push_back_reserved.new.self.items w.note_increases.new.increases.items) (sym c.copy_from-2.ensures)
-          (history_more _ _ _ _ _ _ _ _ _ c.self.invariant c.args.scrape.now w.note_increases.new.increases.items w.push_back_reserved.new.self.items c.args.before _ w.note_increases.ensures
-          (let a = w.len.ensures in let b = w.len-start.ensures in let e : deque_len c.self.inside.increases ≡ length c.self.inside.increases.items = c.self.inside.increases.ok.0 in
-          let f : deque_len w.note_increases.new.increases ≡ length w.note_increases.new.increases.items = w.note_increases.new.increases.ok.0 in
-          let n : w.len.result - w.len-start.result ≡ length w.note_increases.new.increases.items - length c.self.inside.increases.items = omega (arith, a, b, e, f) in n)
+          (subst (λ (t : Taken). IsHistory g.row.N g.row.C g.row.H g.row.G c.self.inside.first c.self.inside.oldest t
+          w.push_back_reserved.new.self.items w.note_increases.new.increases.items) (sym c.copy_from-2.ensures)
+          (history_more _ _ _ _ _ _ _ _ _ c.self.invariant c.args.scrape.now w.note_increases.new.increases.items
+          w.push_back_reserved.new.self.items c.args.before _ w.note_increases.ensures
+          (let a = w.len.ensures in let b = w.len-start.ensures in
+          let e : deque_len c.self.inside.increases ≡ length c.self.inside.increases.items = c.self.inside.increases.ok.0 in
+          let f : deque_len w.note_increases.new.increases ≡ length w.note_increases.new.increases.items =
+          w.note_increases.new.increases.ok.0 in
+          let n : w.len.result - w.len-start.result ≡ length w.note_increases.new.increases.items - length
+          c.self.inside.increases.items = omega (arith, a, b, e, f) in n)
           w.push_back_reserved.ensures.items _ w.in-Some.is))
       | in-None w ↦
           subst P (sym w.self-inside-is)
-          (subst (λ (t : Taken). IsHistory g.row.N g.row.C g.row.H g.row.G (Some c.args.before) t c.copy_from-2.new.self c.self.inside.later.items c.self.inside.increases.items) (sym w.copy_from.ensures)
-          (subst (λ (t : Taken). IsHistory g.row.N g.row.C g.row.H g.row.G (Some c.args.before) c.args.scrape.now t c.self.inside.later.items c.self.inside.increases.items) (sym c.copy_from-2.ensures)
+          (subst (λ (t : Taken). IsHistory g.row.N g.row.C g.row.H g.row.G (Some c.args.before) t c.copy_from-2.new.self
+          c.self.inside.later.items c.self.inside.increases.items) (sym w.copy_from.ensures)
+          (subst (λ (t : Taken). IsHistory g.row.N g.row.C g.row.H g.row.G (Some c.args.before) c.args.scrape.now t
+          c.self.inside.later.items c.self.inside.increases.items) (sym c.copy_from-2.ensures)
           (history_first _ _ _ _ _ _ _ _ _ c.self.invariant w.in-None.is c.args.scrape.now c.args.before)))
     ]
 
@@ -45,14 +53,19 @@ returns g c =
     elim c.match-self.branch [
       | in-Some w ↦
           subst Q (sym w.self-inside-is)
-          (held_more _ _ _ _ _ _ _ _ _ c.self.invariant c.args.scrape.now w.note_increases.new.increases.items w.push_back_reserved.new.self.items c.args.before _ w.note_increases.ensures
-          (let a = w.len.ensures in let b = w.len-start.ensures in let e : deque_len c.self.inside.increases ≡ length c.self.inside.increases.items = c.self.inside.increases.ok.0 in
-          let f : deque_len w.note_increases.new.increases ≡ length w.note_increases.new.increases.items = w.note_increases.new.increases.ok.0 in
-          let n : w.len.result - w.len-start.result ≡ length w.note_increases.new.increases.items - length c.self.inside.increases.items = omega (arith, a, b, e, f) in n)
+          (held_more _ _ _ _ _ _ _ _ _ c.self.invariant c.args.scrape.now w.note_increases.new.increases.items
+          w.push_back_reserved.new.self.items c.args.before _ w.note_increases.ensures
+          (let a = w.len.ensures in let b = w.len-start.ensures in
+          let e : deque_len c.self.inside.increases ≡ length c.self.inside.increases.items = c.self.inside.increases.ok.0 in
+          let f : deque_len w.note_increases.new.increases ≡ length w.note_increases.new.increases.items =
+          w.note_increases.new.increases.ok.0 in
+          let n : w.len.result - w.len-start.result ≡ length w.note_increases.new.increases.items - length
+          c.self.inside.increases.items = omega (arith, a, b, e, f) in n)
           w.push_back_reserved.ensures.items _ w.in-Some.is)
       | in-None w ↦
           subst Q (sym w.self-inside-is)
-          (subst (λ (t : Taken). held_of (Some c.args.before) t c.self.inside.later.items c.self.inside.increases.items ≡ old ++ (c.args.scrape.now, c.args.before) ∷ []) (sym w.copy_from.ensures)
+          (subst (λ (t : Taken). held_of (Some c.args.before) t c.self.inside.later.items c.self.inside.increases.items ≡ old
+          ++ (c.args.scrape.now, c.args.before) ∷ []) (sym w.copy_from.ensures)
           (held_first _ _ _ _ _ _ _ _ _ c.self.invariant w.in-None.is c.args.scrape.now c.args.before))
     ] in
     pushed ∙ ap (λ (h : Stored). h.scrapes ++ (c.args.scrape.now, c.args.before) ∷ []) c.self.view_is

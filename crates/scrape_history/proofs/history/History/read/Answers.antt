@@ -21,7 +21,8 @@ raise-requires g c =
       search rules,
       (
         omega (arith, all, some, is),
-        subst (λ (t : Taken). AreFor g.row.N (width g.row.C g.row.H g.row.G) t c.self.inside.increases.items) (sym c.copy_from.ensures) c.self.invariant.lead.fit,
+        subst (λ (t : Taken). AreFor g.row.N (width g.row.C g.row.H g.row.G) t c.self.inside.increases.items)
+            (sym c.copy_from.ensures) c.self.invariant.lead.fit,
       ),
     )
 
@@ -30,7 +31,9 @@ returns g c =
     let seen = ap (λ (h : Stored). length h.scrapes) c.self.view_is in
     let lt : c.args.number < length c.args.self.now.scrapes = c.requires in
     ap (λ (h : Stored). slice_get (answers_of h.scrapes) c.args.number) (sym c.self.view_is)
-    ∙ read_held c.self.inside.first c.self.inside.oldest c.self.inside.later.items c.self.inside.increases.items c.args.number (omega (arith, seen, lt))
+    ∙ read_held c.self.inside.first c.self.inside.oldest c.self.inside.later.items c.self.inside.increases.items c.args.number
+    (omega (arith, seen, lt))
     ∙ ap (λ (t : Taken). Some (as_answer t))
-    (sym (c.raise.ensures ∙ ap (λ t. raised_by t (take c.changed_to-changed.result c.self.inside.increases.items)) c.copy_from.ensures
+    (sym (c.raise.ensures ∙ ap (λ t. raised_by t (take c.changed_to-changed.result c.self.inside.increases.items))
+    c.copy_from.ensures
     ∙ ap (λ n. raised_by c.self.inside.oldest (take n c.self.inside.increases.items)) c.changed_to-changed.ensures))

@@ -9,5 +9,6 @@ returns-in-Ok g c =
     let kept = c.in-Ok.ensures.kept in record {
       kept = kept;
       quit_is = c.in-Ok.ensures.quit;
-      shown = subst (λ (s : State). IsSomeAnd s.last (λ answer. IsShown g.row.C g.row.H s.families answer c.in-Ok.scrape)) kept.state c.in-Ok.ensures.shown;
+      shown = subst (λ (s : State). IsSomeAnd s.last (λ answer. IsShown g.row.C g.row.H s.families answer c.in-Ok.scrape))
+          kept.state c.in-Ok.ensures.shown;
     }

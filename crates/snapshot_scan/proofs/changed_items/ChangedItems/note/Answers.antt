@@ -6,7 +6,8 @@ use Rattle.snapshot_scan.proofs.Noted.{notes_all, notes_again, notes_full, notes
 use Rattle.snapshot_scan.proofs.changed_items.ChangedItems.note.Goals as goal
 
 pub returns-then-self-clause-notes : goal.returns-then-self-clause-notes
-returns-then-self-clause-notes c = notes_all c.args.item c.args.self.now (sym (ap (λ (x : Changed). x.all) c.self.view_is) ∙ c.if-self.true)
+returns-then-self-clause-notes c = notes_all c.args.item c.args.self.now (sym (ap (λ (x : Changed). x.all) c.self.view_is)
+    ∙ c.if-self.true)
 
 pub returns-then-index-item-clause-notes : goal.returns-then-index-item-clause-notes
 returns-then-index-item-clause-notes c = notes_again c.args.item c.args.self.now
@@ -15,11 +16,13 @@ returns-then-index-item-clause-notes c = notes_again c.args.item c.args.self.now
     (last_there c.self.inside.items.items c.self.inside.count c.index.result.now (omega arith) (omega arith) c.index.ensures)))
 
 pub returns-then-self-eq-ROOM-clause-notes : goal.returns-then-self-eq-ROOM-clause-notes
-returns-then-self-eq-ROOM-clause-notes c = notes_full c.args.item c.args.self.now _ (ap (λ (x : Changed). x.items) c.self.view_is) (λ _. true)
+returns-then-self-eq-ROOM-clause-notes c = notes_full c.args.item c.args.self.now _ (ap (λ (x : Changed). x.items) c.self.view_is)
+    (λ _. true)
     (let long = length-take-le c.self.inside.count c.self.inside.items.items (omega arith) in
     let same = ap (λ (x : Changed). length x.items) c.self.view_is in omega arith)
 
 pub returns-clause-notes : goal.returns-clause-notes
 returns-clause-notes c = notes_more c.args.item c.args.self.now _
-    (take_more_set c.self.inside.items.items c.self.inside.count c.args.item (omega arith) ∙ ap (λ (x : Changed). x.items ++ c.args.item ∷ []) c.self.view_is)
+    (take_more_set c.self.inside.items.items c.self.inside.count c.args.item (omega arith)
+    ∙ ap (λ (x : Changed). x.items ++ c.args.item ∷ []) c.self.view_is)
     (ap (λ (x : Changed). x.all) c.self.view_is)

@@ -8,18 +8,28 @@ pub write_each-requires-clause-fits : goal.write_each-requires-clause-fits
 write_each-requires-clause-fits c = λ k lt. c.requires.room (get_or c.args.items.now k 0) (from_place c.args.items.now k lt)
 
 pub returns-then-self : goal.returns-then-self
-returns-then-self c = record { notes = notes_each_all c.args.shift c.args.items.now c.args.self.now (sym (ap (λ (x : Changed). x.all) c.self.view_is) ∙ c.if-self.true) }
+returns-then-self c = record {
+  notes = notes_each_all c.args.shift c.args.items.now c.args.self.now
+      (sym (ap (λ (x : Changed). x.all) c.self.view_is) ∙ c.if-self.true);
+}
 
 pub returns-then-items-self : goal.returns-then-items-self
-returns-then-items-self c = record { notes = notes_each_full c.args.shift c.args.items.now c.args.self.now _ (ap (λ (x : Changed). x.items) c.self.view_is) refl }
+returns-then-items-self c =
+    record {
+      notes = notes_each_full c.args.shift c.args.items.now c.args.self.now _
+          (ap (λ (x : Changed). x.items) c.self.view_is) refl;
+    }
 
 pub returns : goal.returns
 returns c =
     let xs = c.self.inside.items.items in let ys = c.write_each.new.places in let n = c.self.inside.count in
-    let a = c.write_each.auto.places in let b = c.as_mut_slice.ensures.value in let v = c.self.invariant in let few = c.if-items-self.false in
+    let a = c.write_each.auto.places in let b = c.as_mut_slice.ensures.value in let v = c.self.invariant in
+    let few = c.if-items-self.false in
     record {
       notes = notes_each_behind c.args.shift n (length c.args.items.now) xs ys c.args.items.now c.args.self.now _
           (omega (arith, v.0, v.1, few)) (a ∙ ap length b) refl
-          (sym (ap (λ (x : Changed). x.items) c.self.view_is)) (ap (take (n + length c.args.items.now)) (with_items_is c.self.inside.items ys (a ∙ c.as_mut_slice.ensures.len))) (ap (λ (x : Changed). x.all) c.self.view_is)
+          (sym (ap (λ (x : Changed). x.items) c.self.view_is))
+          (ap (take (n + length c.args.items.now)) (with_items_is c.self.inside.items ys (a ∙ c.as_mut_slice.ensures.len)))
+          (ap (λ (x : Changed). x.all) c.self.view_is)
           (λ q lt. c.write_each.ensures.kept q lt ∙ ap (λ (l : List ℕ). get_or l q 0) b) c.write_each.ensures.written;
     }

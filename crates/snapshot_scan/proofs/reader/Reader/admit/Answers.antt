@@ -9,13 +9,16 @@ use Rattle.snapshot_scan.proofs.reader.Reader.admit.Goals as goal
 pub invariant_of-self : goal.invariant_of-self
 invariant_of-self g c =
     let r = c.args.self.now in
-    let t = led_joined r.index r.memory.kept.items (members_of r.bundle) (members_of c.args.worker) (members_of c.join.new.bundle) c.join.ensures.all c.requires.alone (r.leads, r.is, r.ready, r.lent, r.seen) in
-    let more = seen_met (members_of r.bundle) (members_of c.args.worker) (members_of c.join.new.bundle) r.leads c.join.ensures.all in
+    let t = led_joined r.index r.memory.kept.items (members_of r.bundle) (members_of c.args.worker) (members_of c.join.new.bundle)
+    c.join.ensures.all c.requires.alone (r.leads, r.is, r.ready, r.lent, r.seen) in
+    let more = seen_met (members_of r.bundle) (members_of c.args.worker) (members_of c.join.new.bundle) r.leads
+    c.join.ensures.all in
     record {
       leads = t.0;
       is = t.1;
       ready = t.2;
       lent = t.3;
       seen = t.4;
-      moments = subst (λ (l : List Answer). AreMoments g.row.N g.row.C g.row.H g.row.G l) (sym (ap (λ (x : Scan). x.recorded) more.only)) r.moments;
+      moments = subst (λ (l : List Answer). AreMoments g.row.N g.row.C g.row.H g.row.G l)
+          (sym (ap (λ (x : Scan). x.recorded) more.only)) r.moments;
     }

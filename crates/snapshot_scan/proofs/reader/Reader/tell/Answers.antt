@@ -15,5 +15,6 @@ invariant_of-self g c =
       ready = t.2;
       lent = t.3;
       seen = t.4;
-      moments = subst (λ (l : List Member). AreMoments g.row.N g.row.C g.row.H g.row.G (scan_of l).recorded) (sym c.tell-number.ensures.same) r.moments;
+      moments = subst (λ (l : List Member). AreMoments g.row.N g.row.C g.row.H g.row.G (scan_of l).recorded)
+          (sym c.tell-number.ensures.same) r.moments;
     }

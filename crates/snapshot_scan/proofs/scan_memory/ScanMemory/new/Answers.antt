@@ -19,9 +19,11 @@ invariant_of-result g c =
         ap (λ (l : List ℕ). length l) (c.in_ok-lent.ensures.items_if_clones_equal (λ y h. h)) ∙ length-replicate (1 + n + w) 0,
       );
       wide = are_wide w c.in_ok-kept.kept.items blank;
-      sums = subst (AreTotals w c.in_ok-kept.kept.items) (sym (c.in_ok-totals.ensures.items_if_clones_equal (λ y h. h))) (are_totals w c.in_ok-kept.kept.items blank);
+      sums = subst (AreTotals w c.in_ok-kept.kept.items) (sym (c.in_ok-totals.ensures.items_if_clones_equal (λ y h. h)))
+          (are_totals w c.in_ok-kept.kept.items blank);
       listed = λ j h. absurd (none_listed j (subst (λ (l : List ℕ). Contains l j) c.in_ok-moved.ensures.1 h));
     }
 
 pub returns : goal.returns
-returns g c = let w : ℕ = width g.row.C g.row.H g.row.G in record { rows = rows_blank w c.in_ok-kept.kept.items g.row.N c.in_ok-kept.ensures.0 c.in_ok-kept.ensures.1 }
+returns g c = let w : ℕ = width g.row.C g.row.H g.row.G in
+    record { rows = rows_blank w c.in_ok-kept.kept.items g.row.N c.in_ok-kept.ensures.0 c.in_ok-kept.ensures.1 }

@@ -29,7 +29,8 @@ pub set-requires : goal.set-requires
 set-requires g c =
     let n : ℕ = g.row.N in let s = c.scan-ended in
     let ms = members_of (g.S.ScanSeat.bundle c.args.seat.now) in let ms' = members_of (g.S.ScanSeat.bundle s.new.seat) in
-    let low = ends_low n g.row.C g.row.H g.row.G s.new.self.geometry.workers.1 ms' s.ensures.ruled (there ms ms' c.requires.own.1 s.ensures.others) _ _ (s.ensures.answered (seen s.result c.in_default.not-GaveUp)) in (
+    let low = ends_low n g.row.C g.row.H g.row.G s.new.self.geometry.workers.1 ms' s.ensures.ruled
+    (there ms ms' c.requires.own.1 s.ensures.others) _ _ (s.ensures.answered (seen s.result c.in_default.not-GaveUp)) in (
       search rules,
       (
         c.answer.ensures.lengths.0,
@@ -69,17 +70,22 @@ pub returns-clause-answered : goal.returns-clause-answered
 returns-clause-answered g c =
     let s = c.scan-ended in
     let ms = members_of (g.S.ScanSeat.bundle c.args.seat.now) in let ms' = members_of (g.S.ScanSeat.bundle s.new.seat) in
-    subst (IsAnswered g.row.N (scan_of ms) (scan_of ms')) (set_is _ _ _ _ c.answer.ensures.vector c.answer.ensures.totals c.set.ensures.vector c.set.ensures.totals) (s.ensures.answered (seen s.result c.in_default.not-GaveUp))
+    subst (IsAnswered g.row.N (scan_of ms) (scan_of ms'))
+    (set_is _ _ _ _ c.answer.ensures.vector c.answer.ensures.totals c.set.ensures.vector c.set.ensures.totals)
+    (s.ensures.answered (seen s.result c.in_default.not-GaveUp))
 
 pub returns-clause-answers : goal.returns-clause-answers
 returns-clause-answers g c =
     let s = c.scan-ended in
     let ms = members_of (g.S.ScanSeat.bundle c.args.seat.now) in let ms' = members_of (g.S.ScanSeat.bundle s.new.seat) in
-    subst (AnswersBy g.row.N (width g.row.C g.row.H g.row.G) (scan_of ms) (scan_of ms')) (set_is _ _ _ _ c.answer.ensures.vector c.answer.ensures.totals c.set.ensures.vector c.set.ensures.totals) (s.ensures.answers (seen s.result c.in_default.not-GaveUp))
+    subst (AnswersBy g.row.N (width g.row.C g.row.H g.row.G) (scan_of ms) (scan_of ms'))
+    (set_is _ _ _ _ c.answer.ensures.vector c.answer.ensures.totals c.set.ensures.vector c.set.ensures.totals)
+    (s.ensures.answers (seen s.result c.in_default.not-GaveUp))
 
 pub returns-clause-legal : goal.returns-clause-legal
 returns-clause-legal g c =
     let n : ℕ = g.row.N in let s = c.scan-ended in
     let ms = members_of (g.S.ScanSeat.bundle c.args.seat.now) in let ms' = members_of (g.S.ScanSeat.bundle s.new.seat) in
     subst (λ (l : List ℕ). IsLegal g.row.C g.row.H (slice_index l)) (sym (c.set.ensures.totals ∙ c.answer.ensures.totals))
-    (ends_legal n g.row.C g.row.H g.row.G s.new.self.geometry.workers.1 ms' s.ensures.ruled (there ms ms' c.requires.own.1 s.ensures.others) _ _ (s.ensures.answered (seen s.result c.in_default.not-GaveUp)))
+    (ends_legal n g.row.C g.row.H g.row.G s.new.self.geometry.workers.1 ms' s.ensures.ruled
+    (there ms ms' c.requires.own.1 s.ensures.others) _ _ (s.ensures.answered (seen s.result c.in_default.not-GaveUp)))

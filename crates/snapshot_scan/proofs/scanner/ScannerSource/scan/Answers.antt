@@ -7,8 +7,11 @@ use Rattle.snapshot_scan.proofs.scanner.ScannerSource.scan.Goals as goal
 pub returns-clause-recorded : goal.returns-clause-recorded
 returns-clause-recorded g c =
     let geometry = c.scan-answer.new.self.memory.geometry in
-    scan_tells g.row.N g.row.C g.row.H g.row.G (omega (arith, geometry)) (members_with c.scan-answer.new.self) c.scan-answer.ensures.ruled (has_member (members_with c.scan-answer.new.self) c.scan-answer.new.self.leads)
-    c.scan-answer.new.self.moments (scan_by c.args.self.now.reader) (as_answer c.scan-answer.new.out) (rw (← c.out.view_is) c.out.invariant.wide) c.scan-answer.result c.scan-answer.ensures.answered
+    scan_tells g.row.N g.row.C g.row.H g.row.G (omega (arith, geometry)) (members_with c.scan-answer.new.self)
+    c.scan-answer.ensures.ruled (has_member (members_with c.scan-answer.new.self) c.scan-answer.new.self.leads)
+    c.scan-answer.new.self.moments (scan_by c.args.self.now.reader) (as_answer c.scan-answer.new.out)
+    (rw (← c.out.view_is) c.out.invariant.wide) c.scan-answer.result c.scan-answer.ensures.answered
 
 pub returns-clause-rose : goal.returns-clause-rose
-returns-clause-rose g c = contended_rose g.row.N (scan_by c.args.self.now.reader) (scan_by c.scan-answer.new.self) c.scan-answer.result c.scan-answer.ensures.contended
+returns-clause-rose g c = contended_rose g.row.N (scan_by c.args.self.now.reader) (scan_by c.scan-answer.new.self)
+    c.scan-answer.result c.scan-answer.ensures.contended

@@ -7,4 +7,5 @@ pub returns-clause-legal : goal.returns-clause-legal
 returns-clause-legal g c legal =
     let long : length c.args.self.now.totals ≡ width g.row.C g.row.H g.row.G = rw (← c.self.view_is) c.self.invariant.wide in
     let lt = c.requires in
-    legal_buckets g.row.C g.row.H c.args.slot c.args.self.now.totals _ c.copy_from_slice.new.self c.requires (omega (arith, long, lt)) legal (search rules) (search rules)
+    legal_buckets g.row.C g.row.H c.args.slot c.args.self.now.totals _ c.copy_from_slice.new.self c.requires
+    (omega (arith, long, lt)) legal (search rules) (search rules)

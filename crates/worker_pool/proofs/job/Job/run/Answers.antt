@@ -7,5 +7,6 @@ use Rattle.worker_pool.proofs.job.Job.run.Goals as goal
 
 pub returns-in-Observe-clause-fault : goal.returns-in-Observe-clause-fault
 returns-in-Observe-clause-fault g c =
-    subst (λ (x : JobOp). IfErr c.observe.result (IsCountFault g.row.C g.row.H g.row.G (board_id c.args.board.now) (registry_of x) (op_of x) (member_of c.args.worker.now)))
+    subst (λ (x : JobOp). IfErr c.observe.result (IsCountFault g.row.C g.row.H g.row.G (board_id c.args.board.now) (registry_of x)
+    (op_of x) (member_of c.args.worker.now)))
     (sym c.in-Observe.is) c.observe.ensures.fault
