@@ -1,5 +1,5 @@
-"""The pages: the README shows each step of the tutorial word for word, each link of a page leads to a file, and a page of calls names no
-call that its crate does not have."""
+"""The pages: the README shows each step of the tutorial word for word, and the guide what stands in the tutorial and the example; each link
+of a page leads to a file, and a page of calls names no call that its crate does not have."""
 import re
 
 from started import check
@@ -18,10 +18,20 @@ def shown(root):
     return len(STEPS)
 
 
+def quoted(root):
+    """How many pieces the guide quotes, each of which stands word for word in a file of the tutorial or the example."""
+    files = [*root.glob("crates/tutorial/src/*.rt"), *root.glob("crates/example_service/src/*.rt"), *root.glob("crates/example_service/*.yml")]
+    texts = [file.read_text() for file in files]
+    pieces = re.findall(r"^```(?:rust|yaml)\n(.*?)^```$", (root / "docs/GUIDE.md").read_text(), re.M | re.S)
+    for piece in pieces:
+        check(any(piece in text for text in texts), f"docs/GUIDE.md quotes what stands in a file:\n{piece}")
+    return len(pieces)
+
+
 def links(root):
     """How many links to files of the repository the pages have."""
     count = 0
-    for page in [root / "README.md", *root.glob("docs/*.md"), *root.glob("crates/*/*.md"), *root.glob("checks/*.md")]:
+    for page in [root / "README.md", *root.glob("docs/*.md"), *root.glob("crates/*/*.md"), *root.glob("checks/*.md"), *root.glob("compare/*.md")]:
         for target in re.findall(r"\]\(([^)#\s]+)[^)]*\)", page.read_text()):
             if not target.startswith("http"):
                 check((page.parent / target).exists(), f"{page.relative_to(root)}: {target} is there")
@@ -44,4 +54,4 @@ def calls(root):
 
 
 def check_all(root):
-    return shown(root) + links(root) + calls(root)
+    return shown(root) + quoted(root) + links(root) + calls(root)

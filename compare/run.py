@@ -55,6 +55,7 @@ def draw(found, where):
         for name, it in found.items()
         if it.differences
     ]
+    (programs.OUT / "pictures.json").write_text(json.dumps(shown))
     pictures = [where / "torn.svg", where / "difference.svg"]
     out, err, status = run(programs.PYTHON, programs.HERE / "draw.py", *pictures, given=json.dumps(shown).encode())
     check(status == 0, f"the pictures are not drawn:\n{(out + err).decode()[-2000:]}")
