@@ -71,7 +71,7 @@ def asked():
 
 def compare(how):
     """Measures all, and writes it."""
-    lacks, load = programs.missing(), os.getloadavg()[0]
+    lacks, load = programs.missing(), table.busy()
     for line in lacks.values():
         print(line, flush=True)
     if table.cores() < 4:

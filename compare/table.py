@@ -1,8 +1,10 @@
 """The page of results."""
 import datetime
 import os
+import pathlib
 import platform
 import statistics
+import time
 
 from loads import CONNECTIONS
 from programs import BARE, GO, OURS, PEER_PYTHON, RUST, missing, versions
@@ -53,6 +55,20 @@ def head(*cells):
     return [row(*cells), "|" + "---|" * len(cells)]
 
 
+def ticks():
+    """How many ticks of all cores the system has counted, and how many of them idle."""
+    counted = [int(it) for it in pathlib.Path("/proc/stat").read_text().splitlines()[0].split()[1:9]]
+    return sum(counted), counted[3] + counted[4]
+
+
+def busy(seconds=2):
+    """The share of all cores' time that is busy for so long."""
+    (all_before, idle_before) = ticks()
+    time.sleep(seconds)
+    (all_after, idle_after) = ticks()
+    return 1 - (idle_after - idle_before) / max(all_after - all_before, 1)
+
+
 def machine(load, is_quick):
     """What was measured, where and when."""
     lines = [
@@ -61,13 +77,13 @@ def machine(load, is_quick):
         "`python3 compare/run.py` makes this page, and the pictures [torn.svg](../docs/torn.svg) and [difference.svg](../docs/difference.svg).",
         "What each line measures is told in [README.md](README.md). Two numbers, as `A to B`, are the least and the most of the turns of this run.",
         "",
-        f"{datetime.date.today()}: {processor()}, {cores()} cores, {platform.system()} {platform.release()}; load {load:.1f} before the run.",
+        f"{datetime.date.today()}: {processor()}, {cores()} cores, {platform.system()} {platform.release()}; {load:.0%} of them busy in the two seconds before the run.",
     ]
     if is_quick:
         lines += ["", "A quick run, with few rounds: these are no figures to tell."]
     if cores() < 4:
         lines += ["", f"With {cores()} cores, lines of four threads share them, and `wrk` takes one from what it asks: these are no figures to tell."]
-    if load > 0.5:
+    if load > 0.05:
         lines += ["", "Others used the machine too: these are no figures to tell."]
     lines += ["", *head("what", "version"), *(row(*it) for it in versions()), ""]
     for line in missing().values():
