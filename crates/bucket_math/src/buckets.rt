@@ -1,4 +1,4 @@
-ghost use Rattle.std.specs.Prelude.{◌≡◌, ℕ, ◌^◌, ◌<◌, ◌≤◌, length, slice_index, sum};
+ghost use Rattle.std.specs.Prelude.{◌≡◌, ℕ, ◌^◌, ◌<◌, ◌≤◌, slice_index, sum};
 ghost use Rattle.bucket_math.specs.Buckets.{cumulated};
 
 /// How many buckets a histogram has, whatever the number of its bounds.

@@ -1,11 +1,10 @@
 //! All workers are lent to one reader, and taken back.
-ghost use Rattle.std.specs.Prelude.{◌≡◌, ◌≢◌, ℕ, ◌<◌, length, All, IfSome, IfNone, true, false};
+ghost use Rattle.std.specs.Prelude.{◌≡◌, ℕ, ◌<◌, length, All, IfSome, IfNone, true, false};
 ghost use mathlib.Core.Option.{some};
 ghost use lib.ListN.{get_elem?};
 ghost use Rattle.segment_layout.specs.Layout.{IsGeometry};
 ghost use Rattle.snapshot_scan.specs.Readers.{members_with, scan_by, index_of as reader_index, IsReaderOf};
-ghost use Rattle.snapshot_update.specs.declared.worker.Worker.{Worker as worker};
-ghost use Rattle.snapshot_update.specs.Workers.{index_of, member_of, IsWorkerOf};
+ghost use Rattle.snapshot_update.specs.Workers.{IsWorkerOf};
 ghost use Rattle.chain_law.specs.Settled.{HasIndex, IsMissing};
 ghost use Rattle.snapshot_scan.specs.Lent.{HasSeenMore};
 ghost use Rattle.chain_law.specs.Lent.{AreLentFrom, AreLent, AreDistinct, AreBackFrom, HaveLeft};

@@ -35,9 +35,8 @@ module _ {N C H G : ℕ} where
   abbrev pub IsOn : Board N C H G → Recorder N C H G → Type 0
   IsOn b r = r.board.now ≡ b
 
-  -- one version was published, which adds all these changes; they are by handles of its board, the row accepts them, and the
-  -- worker's
-  -- number was not the greatest that there is
+  -- one version was published, which adds all these changes; they are by handles of its board, the row accepts them,
+  -- and the worker's number was not the greatest that there is
   pub record ArePublished (changes : List Change) (r r' : Recorder N C H G) : Type 0 where
     pub of_it : All (IsOf (id_in r)) changes
     pub updated : IsUpdated N C H G (index_of r.worker) (map op_in changes) (member_of r.worker) (member_of r'.worker)
@@ -51,9 +50,8 @@ module _ {N C H G : ℕ} where
   IsPublishFault changes r (Apply fault) = All (IsOf (id_in r)) changes
       × IsApplyFault C H G (member_of r.worker) (map op_in changes) fault
 
-  -- one version was published, which adds all that a tally had; it is of the registry of its board, the row accepts it, and each
-  -- list
-  -- that it adds up to, and the worker's number was not the greatest that there is
+  -- one version was published, which adds all that a tally had; it is of the registry of its board, the row accepts
+  -- it, and each list that it adds up to, and the worker's number was not the greatest that there is
   pub record IsFlushed (t : Tallied) (r r' : Recorder N C H G) : Type 0 where
     pub of_it : t.registry ≡ id_in r
     pub updated : IsUpdated N C H G (index_of r.worker) t.ops (member_of r.worker) (member_of r'.worker)

@@ -50,9 +50,8 @@ IsUnread desc (family.Register fault) = ⊥
 
 module _ {S : Type 0} (registered : S → S → Descriptor → Result FamilyId RegisterFault → Type 0) (old new : S) (desc : Descriptor)
   where
-    -- What is done and answered where a family is asked for: it is registered once, by a descriptor of just these texts; or the
-    -- texts are
-    -- none, and nothing is done.
+    -- What is done and answered where a family is asked for: it is registered once, by a descriptor of just these
+    -- texts; or the texts are none, and nothing is done.
     abbrev pub AsksFamily : Result FamilyId FamilyRefusal → Type 0
     AsksFamily (Ok id) = AreGood desc × registered old new desc (Ok id)
     AsksFamily (Err (family.Register fault)) = AreGood desc × registered old new desc (Err fault)
@@ -67,9 +66,8 @@ IsOther kind handle = Unit {0}
 
 module _ {S : Type 0} (id_in : S → ℕ) (gave : S → S → FamilyId → List (List ℕ) → Result Handle ChildFault → Type 0) (old new : S)
     (registry : ℕ) (id : FamilyId) (values : List (List ℕ)) where
-  -- What is done and answered where a child is asked for: it is asked for once, with just these values; or the family is of a
-  -- registry
-  -- of another id, or else some value is none, and nothing is done.
+  -- What is done and answered where a child is asked for: it is asked for once, with just these values; or the family
+  -- is of a registry of another id, or else some value is none, and nothing is done.
   abbrev pub AsksHandle : Result Handle ChildRefusal → Type 0
   AsksHandle (Ok handle) = (registry ≡ id_in old) × All IsLabelValue values × gave old new id values (Ok handle)
   AsksHandle (Err child.OtherRegistry) = (registry ≢ id_in old) × (new ≡ old)

@@ -1,7 +1,6 @@
 //! Families and children are asked for by plain texts.
-ghost use Rattle.std.specs.Prelude.{◌≡◌, [], Result, All, IfErr, IfOk, OnOk};
+ghost use Rattle.std.specs.Prelude.{◌≡◌, Result, IfErr, IfOk, OnOk};
 ghost use Rattle.registry_state.specs.declared.handle.Handle.{Handle};
-ghost use Rattle.metric_names.specs.LabelValue.{IsLabelValue};
 ghost use Rattle.dirgwako.specs.Registering.{AreGood, AsksFamily, AsksHandle, IsUnread, family_of};
 ghost use Rattle.dirgwako.specs.Shapes.{kind_of, bounds_of};
 ghost use Rattle.dirgwako.specs.Texts.{texts_of};

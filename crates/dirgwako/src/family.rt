@@ -1,6 +1,4 @@
 //! Families, by which their kind is known.
-ghost use Rattle.std.specs.Prelude.{◌≡◌, []};
-ghost use Rattle.dirgwako.specs.Shapes.{kind_of, bounds_of};
 
 use metric_desc::{Desc, Kind};
 use registry_state::FamilyId;

@@ -1,8 +1,6 @@
 //! The text of a scrape, by itself and printed.
-ghost use Rattle.std.specs.Prelude.{◌≡◌, ◌⊎◌, IfErr, IfOk, Ok, Err};
-ghost use Rattle.expo_text.specs.Scraped.{Scraped};
+ghost use Rattle.std.specs.Prelude.{◌≡◌, IfErr, IfOk, Ok, Err};
 ghost use Rattle.scrape_http.specs.declared.source.NoScrape.TheVariants as none;
-ghost use Rattle.scrape_server.specs.Again.{AsksAgain};
 ghost use Rattle.dirgwako.specs.Printing.{IsText, IsTextFault, text_fault_number, print_fault_number};
 
 use expo_text::render;

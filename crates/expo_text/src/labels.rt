@@ -1,4 +1,4 @@
-ghost use Rattle.std.specs.Prelude.{◌≡◌, ◌++◌, [], ◌∷◌, length, zip, codes, All, MatchOption};
+ghost use Rattle.std.specs.Prelude.{◌≡◌, ◌++◌, [], ◌∷◌, length, zip, All, MatchOption};
 ghost use Rattle.std.specs.List.{flat_map};
 ghost use Rattle.metric_names.specs.LabelName.{IsLabelName};
 ghost use Rattle.metric_names.specs.LabelValue.{IsLabelValue};

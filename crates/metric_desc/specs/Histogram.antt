@@ -1,4 +1,4 @@
--- Why there is no descriptor of a histogram.
+-- Labels and bounds of a histogram, and why there is no descriptor of one.
 use Rattle.std.specs.Prelude.{◌≡◌, ◌≢◌, ℕ, List, [], codes, Contains}
 use Rattle.bucket_math.specs.Bounds.{AreBounds, FirstBadBound}
 use Rattle.metric_desc.specs.Labels as of_labels

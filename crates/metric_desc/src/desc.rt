@@ -1,6 +1,5 @@
-ghost use Rattle.std.specs.Prelude.{◌≡◌, ◌≢◌, ◌↔◌, [], ◌∷◌, ◌++◌, map, IfOk, IfErr, IsSome, IfSome};
+ghost use Rattle.std.specs.Prelude.{◌≡◌, ◌≢◌, ◌↔◌, [], ◌++◌, map, IfOk, IfErr, IsSome, IfSome};
 ghost use Rattle.std.specs.String.{string_bytes};
-ghost use Rattle.bucket_math.specs.Bounds.{AreBounds};
 ghost use Rattle.metric_desc.specs.Labels.{AreLabels, IsLabelsFault};
 ghost use Rattle.metric_desc.specs.Histogram.{IsDescOf, IsHistogram, IsHistogramFault};
 ghost use Rattle.metric_desc.specs.Desc.{names_of};

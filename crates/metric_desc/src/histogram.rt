@@ -1,4 +1,4 @@
-ghost use Rattle.std.specs.Prelude.{◌≡◌, ◌↔◌, IsTrue, Contains};
+ghost use Rattle.std.specs.Prelude.{◌≡◌};
 ghost use Rattle.metric_desc.specs.Histogram.{le, number_of};
 
 use crate::labels::LabelsFault;

@@ -1,4 +1,4 @@
-ghost use Rattle.std.specs.Prelude.{◌≡◌, ◌↔◌, ◌<◌, IsTrue, Contains, MatchOption, MatchResult, IfErr, OnOk};
+ghost use Rattle.std.specs.Prelude.{◌≡◌, ◌↔◌, ◌<◌, IsTrue, Contains, MatchOption, IfErr, OnOk};
 ghost use Rattle.metric_desc.specs.Histogram.{le};
 ghost use Rattle.metric_desc.specs.Labels.{AreDistinct, AreLabels, FirstDuplicate, IsLabelsFault, number_of};
 

@@ -1,4 +1,4 @@
-ghost use Rattle.std.specs.Prelude.{◌≡◌, ◌↔◌, ◌++◌, [], ◌∷◌, map, Contains, IsTrue};
+ghost use Rattle.std.specs.Prelude.{◌≡◌, ◌↔◌, ◌++◌, map, Contains, IsTrue};
 ghost use Rattle.metric_desc.specs.Desc.{Clash, names_of, suffixes_of};
 
 use crate::desc::Desc;

@@ -1,4 +1,4 @@
-ghost use Rattle.std.specs.Prelude.{◌≡◌, [], length, slice_index, IfOk, IfErr};
+ghost use Rattle.std.specs.Prelude.{◌≡◌, [], slice_index, IfOk, IfErr};
 ghost use Rattle.metric_names.specs.HelpText.{IsHelpTextFault, is_blank, number_of};
 
 use crate::no_memory::NoMemory;

@@ -1,4 +1,4 @@
-ghost use Rattle.std.specs.Prelude.{◌≡◌, ℕ, ◌<◌, Bool, true, false, EachIndex, IsTrue, MatchOption, length, slice_index};
+ghost use Rattle.std.specs.Prelude.{◌≡◌, ◌<◌, true, false, EachIndex, IsTrue, MatchOption, slice_index};
 ghost use Rattle.metric_names.specs.Spelling.{name_takes, FirstWrong};
 
 /// Whether a name may have this byte at this place.

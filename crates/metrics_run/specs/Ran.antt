@@ -21,9 +21,8 @@ Known = Option (List ℕ)
 abbrev pub IsLineStepped : (old : State) (number : ℕ) (text printed : List ℕ) (new : State) → Type 0
 IsLineStepped old number text printed new = (saying : Saying) × IsLine text saying × IsStepped old number saying printed new
 
--- the lines of these texts, the first of them of this number, were done one after the other, each from the state that the one
--- before
--- it left, and this is what they printed together
+-- the lines of these texts, the first of them of this number, were done one after the other, each from the state that
+-- the one before it left, and this is what they printed together
 abbrev pub Runs : (old : State) (number : ℕ) (texts : List (List ℕ)) (printed : List ℕ) (new : State) → Type 0
 Runs old number [] printed new = (new ≡ old) × (printed ≡ [])
 Runs old number (text ∷ texts) printed new =
@@ -46,9 +45,8 @@ pub record HasRun (old : State) (input output : Known) (texts : List (List ℕ))
   pub runs : Runs old 1 texts printed new
   pub written : Appends output output_then printed
 
--- how a line of this text stops a script: it is refused, and nothing is written for it; or it was done, but the writer failed,
--- which
--- has taken a beginning of what the line prints
+-- how a line of this text stops a script: it is refused, and nothing is written for it; or it was done, but the
+-- writer failed, which has taken a beginning of what the line prints
 abbrev pub StopsStep : (old : State) (number : ℕ) (text : List ℕ) (output output_then : Known) (new : State) → Stop → Type 0
 StopsStep old number text output output_then new (stop.Refused refused) = IsLineRefused old number text refused new
     × Keeps output output_then

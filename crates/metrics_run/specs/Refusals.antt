@@ -42,9 +42,8 @@ pub record IsNotGiven (old : State) (name values : List ℕ) (wrong : ChildFault
   pub are_read : AreRead values read
   pub refused : IsChildFault 64 8 16 old.registry.state.families family read wrong
 
--- why there is no child: the values are refused, or there was no room; or they are good, and there is no family of that name, or
--- it
--- refuses them
+-- why there is no child: the values are refused, or there was no room; or they are good, and there is no family of
+-- that name, or it refuses them
 abbrev pub IsChildRefusal : State → (name values : List ℕ) → LineFault → Type 0
 IsChildRefusal old name values refusal =
     AreValuesRefused values refusal

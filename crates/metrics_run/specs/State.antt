@@ -26,9 +26,8 @@ use Rattle.metrics_run.specs.Scans.{gave_in}
 use Rattle.metrics_run.specs.declared.state.State.{State}
 use Rattle.metrics_run.specs.declared.state.Count.{Count}
 
--- the workers are the four of the board, in order and at home; the registry scans the board and has its id; the reader that
--- settles
--- is of the board; and each worker has a list of jobs
+-- the workers are the four of the board, in order and at home; the registry scans the board and has its id; the
+-- reader that settles is of the board; and each worker has a list of jobs
 pub record IsReady (state : State) : Type 0 where
   pub workers : All (IsWorkerOf state.board.now) state.workers.items
   pub all : map index_of state.workers.items ≡ 0 ∷ 1 ∷ 2 ∷ 3 ∷ []

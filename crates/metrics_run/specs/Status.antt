@@ -23,9 +23,8 @@ Breaks (Ok done) before after = Keeps before after
 Breaks (Err (stop.Refused refusal)) before after = Begins before after (refused_line refusal.line (number_of refusal.fault))
 Breaks (Err stop.Broken) before after = Keeps before after
 
--- a script that ran so ends so, and writes this beside what its lines printed: nothing after its last line, and the line that
--- tells
--- the refusal, with the number of its cause, after a refused line
+-- a script that ran so ends so, and writes this beside what its lines printed: nothing after its last line, and the
+-- line that tells the refusal, with the number of its cause, after a refused line
 abbrev pub IsEnd : (ran : Result Unit Stop) → (before after : Option (List ℕ)) → ScriptEnd → Type 0
 IsEnd ran before after Done = IsOk ran × Keeps before after
 IsEnd ran before after (Refused line number) =

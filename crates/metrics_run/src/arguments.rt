@@ -1,5 +1,5 @@
 //! The numbers among the program's arguments.
-ghost use Rattle.std.specs.Prelude.{◌≡◌, ◌≢◌, ℕ, ◌<◌, ◌≤◌, decimal, IfNone, IfSome};
+ghost use Rattle.std.specs.Prelude.{◌≡◌, ◌≢◌, ℕ, ◌<◌, decimal, IfNone, IfSome};
 ghost use Rattle.metrics_run.specs.Arguments.{AsksServe, IsCount, IsPort};
 
 use script_lines::read_number;

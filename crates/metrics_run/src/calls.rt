@@ -1,5 +1,5 @@
 //! What the lines of a script do.
-ghost use Rattle.std.specs.Prelude.{◌≡◌, ◌≢◌, true, ◌<◌, ℕ, List, [], ◌∷◌, map, length, All, IfErr, IfOk, OnErr, OnOk};
+ghost use Rattle.std.specs.Prelude.{◌≡◌, ◌≢◌, true, ◌<◌, ℕ, List, [], ◌∷◌, map, All, IfErr, IfOk, OnErr, OnOk};
 ghost use Rattle.snapshot_scan.specs.Readers.{IsReaderOf};
 ghost use Rattle.snapshot_update.specs.Workers.{index_of, IsWorkerOf};
 ghost use Rattle.worker_pool.specs.Ends.{IsPoolFault};

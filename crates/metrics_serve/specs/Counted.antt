@@ -60,9 +60,8 @@ pub record HasCounted (b : Board 4 64 8 16) (m : Metrics) (w v : Worker 4 64 8 1
   pub replies : List Served
   pub lists : lists_of v ≡ lists_of w ++ map (list_for m) replies
 
--- From w to v the worker counted what came of one request: a reply by its one list, or not at all where the worker refuses that
--- list;
--- and a fault not at all.
+-- From w to v the worker counted what came of one request: a reply by its one list, or not at all where the worker
+-- refuses that list; and a fault not at all.
 pub record WasCounted (b : Board 4 64 8 16) (m : Metrics) (w v : Worker 4 64 8 16) (result : Result Served WireFault) : Type 0
   where
     pub own : IsWorkerOf b v
@@ -100,13 +99,11 @@ pub record AreFour (b : Board 4 64 8 16) (four : Four) : Type 0 where
   pub own : All (IsWorkerOf b) (all_of four)
   pub index : map index_of (all_of four) ≡ 0 ∷ 1 ∷ 2 ∷ 3 ∷ []
 
--- So many replies were counted: each of the four workers of a new board has counted replies, and nothing else, and these are so
--- many
--- together; and that is the total of the counters of all statuses, of which no two are one, by a snapshot of all that the four
--- have
--- counted. The scrapes that the registry kept, and that snapshot after them, are moments of the one history of what they counted;
--- and
--- what was registered before the registry was served stands first in its journal.
+-- So many replies were counted: each of the four workers of a new board has counted replies, and nothing else, and
+-- these are so many together; and that is the total of the counters of all statuses, of which no two are one, by a
+-- snapshot of all that the four have counted. The scrapes that the registry kept, and that snapshot after them, are
+-- moments of the one history of what they counted; and what was registered before the registry was served stands
+-- first in its journal.
 pub record AreReplies (b : Board 4 64 8 16) (m : Metrics) (first : Registry (Scanner 4 64 8 16)) (was : Four) (replies : ℕ) : Type
     0 where
   pub four : Four

@@ -19,9 +19,8 @@ pub record Begins (before after : Option (List ℕ)) (bytes : List ℕ) : Type 0
   pub parts : bytes ≡ front ++ back
   pub grown : Appends before after front
 
--- What a server prints that ends so: its port, and at the end a number of replies; or that there was no memory, before it listens
--- to
--- anybody. Where it breaks off, it has printed a beginning of that.
+-- What a server prints that ends so: its port, and at the end a number of replies; or that there was no memory,
+-- before it listens to anybody. Where it breaks off, it has printed a beginning of that.
 abbrev pub Prints : (before after : Option (List ℕ)) → ServeEnd → Type 0
 Prints before after Done = (port replies : ℕ) × (port < 65536) × Appends before after (listening_line port ++ served_line replies)
 Prints before after NoMemory = Appends before after (codes "refused 0 6\n")

@@ -55,7 +55,7 @@ readers_from n w i (suc k) = new_reader n w i ∷ readers_from n w (i + 1) k
 abbrev pub everyone : (n w b readers : ℕ) → SeatView
 everyone n w b readers = group (workers_from n w b 0 n ++ readers_from n w 0 readers)
 
--- the first member of a view makes the seat's steps
+-- the first of the members that a seat has: its steps are this one's (with no members, a reader that has done nothing)
 abbrev pub first_of : List Member → Member
 first_of [] = new_reader 0 0 0
 first_of (m ∷ ms) = m

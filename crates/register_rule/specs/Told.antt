@@ -40,7 +40,7 @@ IsLoad n b (Confirm place) = place < n
 IsLoad n b (Ask place) = place < n
 IsLoad n b (EndAsk place) = place < n
 
--- the place of this word
+-- where the word of this load stands on the board, whose buffers have b words
 abbrev pub word_of : (b : ℕ) → Load → ℕ
 word_of b (Open place) = place * span b + 0
 word_of b (Read place number item) = place * span b + item_of b number item

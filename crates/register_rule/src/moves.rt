@@ -1,8 +1,8 @@
 //! The steps of the table with one more argument, for the proof alone: a call picks what its step tells, and may name
 //! it.
-ghost use Rattle.std.specs.Prelude.{◌≡◌, ℕ, ◌<◌, [], ◌∷◌, ◌++◌};
+ghost use Rattle.std.specs.Prelude.{◌≡◌, ◌<◌, [], ◌++◌};
 ghost use mathlib.Core.Option.{none};
-ghost use Rattle.atomic_table.specs.Table.{step, Allows, Splits, Joins};
+ghost use Rattle.atomic_table.specs.Table.{step, Allows, Splits};
 ghost use Rattle.register_rule.specs.Members.{group, met};
 
 use crate::view::SeatView;

@@ -56,9 +56,9 @@ module _ {S : Type 0} (c h g : ℕ) (old new : Registry S) (family : ℕ) (value
   abbrev pub IsGiven : Type 0
   IsGiven = WasThere ⊎ WasMade
 
--- one scan of the source was recorded, which the source gave, and it stands last in the journal, from which the oldest scrape
--- went only
--- if they were too many; all that are kept, with this one, are moments of one history of publishes
+-- one scan of the source was recorded, which the source gave, and it stands last in the journal, from which the
+-- oldest scrape went only if they were too many; all that are kept, with this one, are moments of one history of
+-- publishes
 pub record KeepsScrape {S : Type 0} (n c h g : ℕ) (recorded : S → List Answer) (gave : S → S → Answer → Type 0)
     (old new : Registry S) : Type 0 where
   pub answer : Answer

@@ -53,9 +53,8 @@ IsChildFault c h g families family values (Child.Full kind) =
 IsChildFault c h g families family values Child.NoMemory =
     IsSomeAnd (slice_get families family) (λ (it : Family). IsWanted it values × HasSlot c h g families it.desc.kind)
 
--- what a refused scrape leaves of a source of n workers: all as it was, where nothing was scanned; and where a scan was given up,
--- it
--- recorded nothing, some worker's number rose, and the source gave it up
+-- what a refused scrape leaves of a source of n workers: all as it was, where nothing was scanned; and where a scan
+-- was given up, it recorded nothing, some worker's number rose, and the source gave it up
 module _ {S : Type 0} (n : ℕ) (recorded : S → List Answer) (quit : S → ℕ) (gave_up : S → S → Contended → Type 0) where
   -- this refusal leaves that of the source
   abbrev pub Leaves : (old new : S) → ScrapeFault → Type 0

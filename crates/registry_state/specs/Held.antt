@@ -26,27 +26,24 @@ pub record IsOneMore (kind : Kind) (used used' : Kind → ℕ) : Type 0 where
 abbrev pub IsChildBefore : Child → Child → Type 0
 IsChildBefore a b = slice_cmp (slice_cmp nat_cmp) a.values b.values ≡ Less
 
--- the place at which a child of these values would stand: behind those whose values are before its own, and before the others,
--- none of
--- which has its values
+-- the place at which a child of these values would stand: behind those whose values are before its own, and before
+-- the others, none of which has its values
 pub record IsPlaceOfValues (children : List Child) (values : List (List ℕ)) (place : ℕ) : Type 0 where
   pub within : place ≤ length children
   pub front : AllWithin (λ (child : Child). slice_cmp (slice_cmp nat_cmp) child.values values ≡ Less) children 0 place
   pub back : AllWithin (λ (child : Child). slice_cmp (slice_cmp nat_cmp) child.values values ≡ Greater) children place
       (length children)
 
--- the children of a family: each has as many values as the family has labels, and one of the least slots of its kind, of as many
--- as
--- `used` says; they stand in strict order of their values, and no two have one slot
+-- the children of a family: each has as many values as the family has labels, and one of the least slots of its kind,
+-- of as many as `used` says; they stand in strict order of their values, and no two have one slot
 pub record AreChildren (used : Kind → ℕ) (family : Family) : Type 0 where
   pub fit : All (λ (child : Child). length child.values ≡ length family.desc.labels) family.children
   pub below : All (λ (child : Child). child.slot < used family.desc.kind) family.children
   pub ordered : AllPairs IsChildBefore family.children
   pub distinct : AllPairs (λ (a b : Child). a.slot ≢ b.slot) family.children
 
--- families that a scrape can show, of rows of c counters, h histograms and g gauges: at most 128, no two of which clash, and
--- whose
--- children have slots that are there
+-- families that a scrape can show, of rows of c counters, h histograms and g gauges: at most 128, no two of which
+-- clash, and whose children have slots that are there
 pub record AreShowable (c h g : ℕ) (families : List Family) : Type 0 where
   pub few : length families ≤ 128
   pub apart : AllPairs (λ (a b : Family). ¬ (Clash a.desc b.desc)) families

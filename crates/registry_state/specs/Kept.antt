@@ -5,9 +5,8 @@ use Rattle.snapshot_scan.specs.Moments.{AreMoments}
 use Rattle.registry_state.specs.Journal.{Entry, scrapes}
 use Rattle.registry_state.specs.Replay.{State, Replays}
 
--- what contracts see of a registry: the id of its handles, how many scrapes it keeps, its source, its journal, and its families
--- and
--- last scrape
+-- what contracts see of a registry: the id of its handles, how many scrapes it keeps, its source, its journal, and
+-- its families and last scrape
 pub record Registry (S : Type 0) : Type 0 where
   pub id : ℕ
   pub window : ℕ
@@ -20,9 +19,8 @@ pub record AreLast (kept recorded : List Answer) : Type 0 where
   pub older : List Answer
   pub is : recorded ≡ older ++ kept
 
--- the journal replays to the state; the kept scrapes are at most the window, and the last of what the source recorded, in order;
--- and
--- they are moments of one history of publishes
+-- the journal replays to the state; the kept scrapes are at most the window, and the last of what the source
+-- recorded, in order; and they are moments of one history of publishes
 pub record IsKept (n c h g : ℕ) (recorded : List Answer) (journal : List Entry) (window : ℕ) (state : State) : Type 0 where
   pub replays : Replays n c h g journal state
   pub room : (1 ≤ window) × (window ≤ 1024)

@@ -29,9 +29,8 @@ held_of (Some before) oldest later increases = (oldest, before) ∷ later_of old
 abbrev pub answers_of : List (Taken × ℕ) → List Answer
 answers_of kept = map (λ (scrape : Taken × ℕ). as_answer scrape.0) kept
 
--- what contracts see of a history: its scrapes, each with how many changes were made before it; for how many scrapes there is
--- room in
--- all, and for how many increases more
+-- what contracts see of a history: its scrapes, each with how many changes were made before it; for how many scrapes
+-- there is room in all, and for how many increases more
 pub record Stored : Type 0 where
   pub scrapes : List (Taken × ℕ)
   pub places : ℕ

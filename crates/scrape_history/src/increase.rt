@@ -1,5 +1,5 @@
 //! Increases from one scrape to the next.
-ghost use Rattle.std.specs.Prelude.{◌≡◌, ◌+◌, ◌≤◌, ◌<◌, List, length, take, drop, ◌++◌};
+ghost use Rattle.std.specs.Prelude.{◌≡◌, ◌+◌, ◌≤◌, ◌<◌, length, take, drop};
 ghost use Rattle.std.specs.VecDeque.{deque_capacity};
 ghost use Rattle.segment_layout.specs.Layout.{IsGeometry};
 ghost use Rattle.ledger_core.specs.Ops.{width};

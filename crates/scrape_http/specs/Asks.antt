@@ -17,7 +17,7 @@ pub record HeadStands (bytes : List ℕ) (head : RequestHead) : Type 0 where
 abbrev pub NoHeadStands : List ℕ → Type 0
 NoHeadStands bytes = (head : RequestHead) → ¬ (HeadStands bytes head)
 
--- there are 8,192 bytes, or a start line with more than 64 fields stands at their front
+-- there are 8,192 bytes or more, or a start line with more than 64 fields stands at their front
 abbrev pub IsTooLarge : List ℕ → Type 0
 IsTooLarge bytes = (8192 ≤ length bytes) ⊎ RequestExceeds 64 bytes
 
@@ -31,8 +31,8 @@ MayBeRefusedBy bytes ended (Some TooLarge) = IsTooLarge bytes
 MayBeRefusedBy bytes ended (Some BadRequest) = IsMalformed bytes ended
 MayBeRefusedBy bytes ended _ = ⊥
 
--- What the bytes ask for: what the head asks for that stands whole at their front; where none does, it is a refusal, and its body
--- is sent.
+-- What the bytes ask for: what the head asks for that stands whole at their front; where none does, they are refused by a status
+-- that may be, and the refusal is sent with its body.
 abbrev pub Asks : List ℕ → (ended : Bool) → Asked → Type 0
 Asks bytes ended asked =
     ((head : RequestHead) × HeadStands bytes head × (asked ≡ asked_of head))

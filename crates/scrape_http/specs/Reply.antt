@@ -24,7 +24,7 @@ line words = words ++ crlf_bytes
 abbrev pub status_line : Status → List ℕ
 status_line status = line (codes "HTTP/1.1 " ++ decimal (code_of status) ++ codes " " ++ phrase_of status)
 
--- the methods that there are, after one that is not
+-- the field that names the methods of `/metrics`, which the reply to another method has (RFC 9110, section 10.2.1)
 abbrev pub allow_line : Status → List ℕ
 allow_line MethodNotAllowed = line (codes "Allow: GET, HEAD")
 allow_line _ = []

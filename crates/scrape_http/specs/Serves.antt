@@ -59,9 +59,8 @@ abbrev pub Answers : {S : Type 0} → (S → S → Outcome → Type 0) → S →
 Answers gave source source_then None = source_then ≡ source
 Answers gave source source_then (Some outcome) = gave source source_then outcome
 
--- What the writer took: after Ok all bytes of the reply, and the answer tells its status and how many they are; after 25 so many
--- of
--- its first bytes as the fault tells; and where there is no reply, nothing, and the answer is 26.
+-- What the writer took: after Ok all bytes of the reply, and the answer tells its status and how many they are; after
+-- 25 so many of its first bytes as the fault tells; and where there is no reply, nothing, and the answer is 26.
 abbrev pub Sends : (output output_then : Known) → Option Reply → Result Served WireFault → Type 0
 Sends output output_then (Some reply) (Ok served) =
     (served.status ≡ reply.status) × (served.sent ≡ length reply.bytes) × Appends output output_then reply.bytes

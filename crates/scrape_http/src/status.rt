@@ -15,7 +15,7 @@ pub enum Status {
     NotFound,
     /// 405 Method Not Allowed: neither GET nor HEAD.
     MethodNotAllowed,
-    /// 431 Request Header Fields Too Large: over 8,192 bytes, or over 64 fields.
+    /// 431 Request Header Fields Too Large: no head within 8,192 bytes, or over 64 fields.
     TooLarge,
     /// 503 Service Unavailable: the source had no scrape.
     Unavailable,

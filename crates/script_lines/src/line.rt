@@ -1,7 +1,7 @@
 ghost use Rattle.std.specs.Prelude.{◌≡◌, option_map, IfSome, IfNone};
 ghost use Rattle.script_lines.specs.Language.{Saying, IsLine};
 ghost use Rattle.script_lines.specs.Line.{saying_of};
-ghost use Rattle.script_lines.specs.Reading.{numbered_of, repeated, amount_of, family_of, histogram_of, named, child_of};
+ghost use Rattle.script_lines.specs.Reading.{numbered_of, repeated, amount_of, family_of, histogram_of, child_of};
 ghost use Rattle.script_lines.specs.Reading.{count_of, after_word, alone_in, worded_of, line_of};
 
 use crate::list::{are_bounds, are_values};

@@ -1,5 +1,5 @@
 // Running a list of events.
-ghost use Rattle.std.specs.Prelude.{◌≡◌, length, map, IfOk, IfErr};
+ghost use Rattle.std.specs.Prelude.{map, IfOk, IfErr};
 ghost use Rattle.ledger_core.specs.Limits.{AreWorkers};
 ghost use Rattle.ledger_core.specs.Limits.{AreSlots};
 ghost use Rattle.snapshot_core.specs.Runs.{IsRunFault};

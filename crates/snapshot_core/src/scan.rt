@@ -1,6 +1,5 @@
 // The arrays of a scan, and its steps over them.
-ghost use Rattle.std.specs.Prelude.{◌≡◌, ℕ, ◌+◌, ◌-◌, ◌<◌, ◌≤◌, length, Option, Some, None, Bool, true, false, map, option_map};
-ghost use Rattle.std.specs.Prelude.{nat_lt, slice_index, MatchOption};
+ghost use Rattle.std.specs.Prelude.{◌≡◌, ◌+◌, ◌-◌, ◌<◌, Option, Some, None, true, false, option_map};
 
 use crate::next::Next;
 use ledger_core::MAX_WORKERS;

@@ -12,9 +12,8 @@ use Rattle.snapshot_scan.specs.declared.remembered_row.RememberedRow.{Remembered
 use Rattle.snapshot_scan.specs.Shape.{scan_of, with_scan}
 use Rattle.snapshot_scan.specs.RememberedRows.{AreWide, AreKnown, IsLoaded, version_of, opening, settling}
 
--- a first collect, which the first one of the members `before` began when these rows were remembered, has opened the first p
--- places, at these numbers; `all` says
--- that each of them is the one that is remembered
+-- a first collect, which the first one of the members `before` began when these rows were remembered, has opened the
+-- first p places, at these numbers; `all` says that each of them is the one that is remembered
 pub record HasOpened (w p : ℕ) (before : List Member) (rows : List RememberedRow) (after : List Member) (gs : List RememberedRow)
     (opened : List ℕ) (all : Bool) : Type 0 where
   pub starts : HasMember before
@@ -29,9 +28,9 @@ pub record HasOpened (w p : ℕ) (before : List Member) (rows : List RememberedR
       × (g.number ≢ slice_index opened q)
   pub told : (q : ℕ) → q < p → IsLoaded q (scan_of before) (slice_index opened q)
 
--- a second collect of a try whose n rows are all remembered, which the first one of the members `before` began, has confirmed the
--- first p places, and found
--- these numbers; `all` says that each of them is the one that was opened. A board of c counters, h histograms and g gauges
+-- a second collect of a try whose n rows are all remembered, which the first one of the members `before` began, has
+-- confirmed the first p places, and found these numbers; `all` says that each of them is the one that was opened. A
+-- board of c counters, h histograms and g gauges
 pub record HasConfirmed (n c h g p : ℕ) (before : List Member) (gs : List RememberedRow) (opened : List ℕ) (after : List Member)
     (found : List ℕ) (all : Bool) : Type 0 where
   pub starts : HasMember before

@@ -53,9 +53,8 @@ module _ (n c h g : ℕ) where
   abbrev pub AreMoments : List Answer → Type 0
   AreMoments answers = ∥ HaveHistory answers ∥₁
 
-  -- these answers stand along a history, and the numbers and totals of all of it are this count and this row: those of a source
-  -- of
-  -- one worker
+  -- these answers stand along a history, and the numbers and totals of all of it are this count and this row: those
+  -- of a source of one worker
   pub record ComeTo (count : ℕ) (row : List ℕ) (answers : List Answer) : Type 0 where
     pub history : List Publish
     pub accepted : AreAccepted [] history

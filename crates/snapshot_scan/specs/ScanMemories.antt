@@ -43,7 +43,8 @@ module _ {N C H G : ℕ} where
   abbrev pub moved_in : ScanMemory N C H G → Changed
   moved_in m = m.moved
 
-  -- the answer of the scan that ended so: its own numbers with the sums of the rows, or the view that was lent
+  -- the answer of the scan that ended so: its own numbers with the sums of the rows, or the view that was lent; after a scan that
+  -- gave up it is no answer, and nobody asks for it
   abbrev pub answer_of : ScanMemory N C H G → ScanEnd → Answer
   answer_of m (Direct quiet) = record { vector = m.opened.items; totals = m.totals.items }
   answer_of m Lent = lent_in N (width C H G) m.lent.items

@@ -24,9 +24,8 @@ pub record IsWhole (n c h g : ℕ) (a : Answer) : Type 0 where
   pub totals : length a.totals ≡ width c h g
   pub legal : IsLegal c h (slice_index a.totals)
 
--- a scan recorded one answer more, this one, which is whole and not below the one before it; all that is recorded are moments of
--- one
--- history of publishes
+-- a scan recorded one answer more, this one, which is whole and not below the one before it; all that is recorded are
+-- moments of one history of publishes
 pub record Records (n c h g : ℕ) (before after : List Answer) (a : Answer) : Type 0 where
   pub recorded : after ≡ before ++ a ∷ []
   pub whole : IsWhole n c h g a

@@ -1,10 +1,10 @@
 //! Asking a worker for the view that it lends.
-ghost use Rattle.std.specs.Prelude.{◌≡◌, ℕ, ◌+◌, ◌<◌, ◌≤◌, [], ◌∷◌, ◌++◌, ◌↔◌, IsTrue, Bool, true, false, length, List, take};
-ghost use Rattle.std.specs.Prelude.{drop, map};
+ghost use Rattle.std.specs.Prelude.{◌≡◌, ℕ, ◌+◌, ◌<◌, ◌≤◌, [], ◌∷◌, ◌++◌, ◌↔◌, IsTrue, true, false, length, List};
+ghost use Rattle.std.specs.Prelude.{map};
 ghost use mathlib.Core.Option.{some};
 ghost use lib.ListN.{get_elem?};
 ghost use Rattle.ledger_core.specs.Ops.{width};
-ghost use Rattle.segment_layout.specs.Layout.{IsGeometry, depth};
+ghost use Rattle.segment_layout.specs.Layout.{IsGeometry};
 ghost use Rattle.register_rule.specs.declared.view.Asked.{Asked};
 ghost use Rattle.ledger_core.specs.Vectors.{is_above};
 ghost use Rattle.register_rule.specs.Steps.{answered, gives_up, lent_in};

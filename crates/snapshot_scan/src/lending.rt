@@ -3,7 +3,7 @@ ghost use Rattle.std.specs.Prelude.{◌≡◌, [], ◌∷◌, ◌++◌};
 ghost use Rattle.register_rule.specs.declared.view.Member.{Member};
 ghost use Rattle.register_rule.specs.declared.view.Who.TheVariants as Who;
 ghost use Rattle.register_rule.specs.Members.{met, picked, without};
-ghost use Rattle.register_rule.specs.Seats.{table_of, members_of, Has};
+ghost use Rattle.register_rule.specs.Seats.{members_of, Has};
 ghost use Rattle.snapshot_scan.specs.Shape.{IsRuled};
 ghost use Rattle.snapshot_scan.specs.Lent.{IsWorkerAlone};
 ghost use Rattle.snapshot_scan.specs.Readers.{bundle_of, members_with, index_of, IsReaderOf};

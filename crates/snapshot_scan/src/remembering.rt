@@ -1,6 +1,6 @@
 //! A scan with the memory of its seat.
-ghost use Rattle.std.specs.Prelude.{◌≡◌, ℕ, ◌+◌, ◌<◌, ◌≤◌, [], ◌∷◌, ◌++◌, Bool, true, false, length, map, replicate, slice_index};
-ghost use Rattle.std.specs.Prelude.{take, drop, Contains, IfOk, IfErr, OnOk, OnErr};
+ghost use Rattle.std.specs.Prelude.{◌≡◌, ℕ, ◌+◌, ◌<◌, ◌≤◌, ◌++◌, Bool, true, false, length, replicate, slice_index};
+ghost use Rattle.std.specs.Prelude.{Contains, IfOk, IfErr, OnOk, OnErr};
 ghost use Rattle.ledger_core.specs.Ops.{width};
 ghost use Rattle.segment_layout.specs.Layout.{IsGeometry};
 ghost use Rattle.register_rule.specs.Seats.{table_of, members_of, MayScan};

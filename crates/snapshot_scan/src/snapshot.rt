@@ -1,5 +1,5 @@
 //! What a scan gives its caller.
-ghost use Rattle.std.specs.Prelude.{◌≡◌, ℕ, ◌+◌, ◌*◌, ◌<◌, ◌-ℤ◌, pos, length, take, drop, slice_index, replicate, sum, slice_set};
+ghost use Rattle.std.specs.Prelude.{◌≡◌, ◌+◌, ◌*◌, ◌<◌, ◌-ℤ◌, pos, length, take, drop, slice_index, replicate, sum, slice_set};
 ghost use Rattle.std.specs.Prelude.{IfOk, All, ◌∷◌, []};
 ghost use Rattle.ledger_core.specs.Ops.{width};
 ghost use Rattle.ledger_core.specs.Legal.{IsLegal};

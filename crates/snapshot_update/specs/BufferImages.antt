@@ -7,7 +7,7 @@ use Rattle.snapshot_scan.specs.ChangedItems.{Changed}
 abbrev pub version_words : (row : List ℕ) → (flag : ℕ) → (vector totals : List ℕ) → List ℕ
 version_words row flag vector totals = row ++ flag ∷ (vector ++ totals)
 
--- two images differ at no other items
+-- two images of a buffer differ at no items but the listed ones, where the list is not full
 abbrev pub DifferAt : Changed → (old new : List ℕ) → Type 0
 DifferAt changed old new = changed.all ≡ false → (j : ℕ) → j < length new → ¬ (Contains changed.items j)
     → slice_index old j ≡ slice_index new j

@@ -1,22 +1,17 @@
 //! What a worker does.
-ghost use Rattle.std.specs.Prelude.{◌≡◌, ◌+◌, ◌<◌, [], ◌∷◌, ◌++◌, Some, length, slice_index, replicate, IsSome, IfOk, IfErr};
+ghost use Rattle.std.specs.Prelude.{◌≡◌, ◌+◌, ◌<◌, [], ◌∷◌, ◌++◌, Some, length, replicate, IsSome, IfOk, IfErr};
 ghost use Rattle.std.specs.Prelude.{OnOk, OnErr};
 ghost use Rattle.ledger_core.specs.Ops.{width, sum_ops};
 ghost use Rattle.ledger_core.specs.Row.{Accepts};
-ghost use Rattle.ledger_core.specs.Legal.{IsLegal};
 ghost use Rattle.segment_layout.specs.Layout.{IsGeometry, depth};
 ghost use Rattle.register_rule.specs.Sums.{total};
 ghost use Rattle.register_rule.specs.Members.{new_worker};
 ghost use Rattle.register_rule.specs.Seats.{worker_of, index_of as seat_index};
 ghost use Rattle.snapshot_core.specs.declared.next.Next.TheVariants as Next;
-ghost use Rattle.snapshot_scan.specs.Scanned.{IsAnswered};
 ghost use Rattle.snapshot_scan.specs.ScanMemories.{rows_of};
 ghost use Rattle.snapshot_update.specs.Blank.{AreBlank};
-ghost use Rattle.snapshot_scan.specs.Contention.{IsContended};
-ghost use Rattle.snapshot_scan.specs.Core.{CameTo, AnswersBy};
-ghost use Rattle.snapshot_scan.specs.Snapshots.{as_answer};
 ghost use Rattle.snapshot_update.specs.Updated.{IsUpdated};
-ghost use Rattle.snapshot_update.specs.Workers.{index_of, member_of, lists_of, scan_by, IsWorkerOf, IsApplyFault};
+ghost use Rattle.snapshot_update.specs.Workers.{index_of, member_of, lists_of, IsWorkerOf, IsApplyFault};
 
 use crate::buffer_images::BufferImages;
 use crate::faults::ApplyFault;

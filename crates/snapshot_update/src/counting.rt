@@ -1,5 +1,5 @@
 //! What a worker counts by handles, and its scans.
-ghost use Rattle.std.specs.Prelude.{◌≡◌, ◌+◌, [], ◌∷◌, ◌++◌, slice_index, IfOk, IfErr, OnOk, OnErr};
+ghost use Rattle.std.specs.Prelude.{◌≡◌, slice_index, IfErr, OnOk, OnErr};
 ghost use Rattle.bucket_math.specs.Bounds.{place_of};
 ghost use Rattle.ledger_core.specs.Ops.{width};
 ghost use Rattle.ledger_core.specs.Legal.{IsLegal};
@@ -11,7 +11,7 @@ ghost use Rattle.snapshot_scan.specs.Contention.{IsContended};
 ghost use Rattle.snapshot_scan.specs.Core.{CameTo, AnswersBy};
 ghost use Rattle.snapshot_scan.specs.Snapshots.{as_answer};
 ghost use Rattle.snapshot_update.specs.Updated.{IsRuledAlone};
-ghost use Rattle.snapshot_update.specs.Workers.{index_of, member_of, lists_of, scan_by, after_scan, IsWorkerOf, IsCounted};
+ghost use Rattle.snapshot_update.specs.Workers.{index_of, member_of, scan_by, after_scan, IsWorkerOf, IsCounted};
 ghost use Rattle.snapshot_update.specs.Workers.{IsCountFault};
 
 use crate::faults::CountFault;

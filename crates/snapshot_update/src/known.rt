@@ -1,10 +1,10 @@
 //! Where the next version is known to differ from what the shown buffer holds.
-ghost use Rattle.std.specs.Prelude.{◌≡◌, ◌⊎◌, ℕ, ◌+◌, ◌<◌, Bool, true, false, length, slice_index, Contains};
+ghost use Rattle.std.specs.Prelude.{◌≡◌, ◌⊎◌, ◌+◌, ◌<◌, true, false, length};
 ghost use Rattle.ledger_core.specs.Ops.{width};
 ghost use Rattle.segment_layout.specs.Layout.{IsGeometry};
 ghost use Rattle.register_rule.specs.Seats.{worker_of, index_of};
 ghost use Rattle.snapshot_scan.specs.declared.scan_end.ScanEnd.TheVariants as ScanEnd;
-ghost use Rattle.snapshot_scan.specs.ScanMemories.{moved_in, answer_of};
+ghost use Rattle.snapshot_scan.specs.ScanMemories.{moved_in};
 ghost use Rattle.snapshot_update.specs.Fit.{AreInside};
 ghost use Rattle.snapshot_update.specs.Known.{IsStill, ListsMoved, IsFollowed};
 

@@ -1,5 +1,5 @@
 //! An update: a scan, the fills, and the store of the number.
-ghost use Rattle.std.specs.Prelude.{◌≡◌, ℕ, ◌+◌, ◌<◌, ◌≤◌, List, Bool, true, false, cond, length, slice_index, slice_set};
+ghost use Rattle.std.specs.Prelude.{◌≡◌, ℕ, ◌+◌, ◌<◌, List, Bool, true, false, cond, length, slice_index, slice_set};
 ghost use Rattle.std.specs.Prelude.{Contains, OnOk, OnErr, IfErr};
 ghost use Rattle.ledger_core.specs.Ops.{width, sum_ops};
 ghost use Rattle.ledger_core.specs.Row.{Accepts};

@@ -1,7 +1,5 @@
 //! Each call that takes memory, called again where it is refused.
 ghost use Rattle.std.specs.Prelude.{◌≡◌, ◌<◌, IfOk};
-ghost use Rattle.ledger_core.specs.Ops.{width};
-ghost use Rattle.segment_layout.specs.Layout.{depth, IsGeometry};
 ghost use Rattle.register_rule.specs.Members.{new_worker, fresh_scan};
 ghost use Rattle.register_rule.specs.Seats.{worker_of, reader_of, HasWorker, HasReader};
 ghost use Rattle.snapshot_scan.specs.Readers.{IsReaderOf};

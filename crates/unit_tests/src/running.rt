@@ -1,5 +1,5 @@
 //! Readers that scan while workers count.
-ghost use Rattle.std.specs.Prelude.{◌≡◌, IfOk, All};
+ghost use Rattle.std.specs.Prelude.{IfOk, All};
 ghost use Rattle.snapshot_scan.specs.Order.{HasRecorded, IsAlone};
 ghost use Rattle.snapshot_scan.specs.Readers.{IsReaderOf};
 ghost use Rattle.snapshot_scan.specs.Snapshots.{as_answer};

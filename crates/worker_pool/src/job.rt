@@ -1,5 +1,5 @@
 //! Jobs: what a worker of a pool is to do.
-ghost use Rattle.std.specs.Prelude.{◌≡◌, OnOk, OnErr, IfErr};
+ghost use Rattle.std.specs.Prelude.{◌≡◌, OnOk, IfErr};
 ghost use Rattle.register_rule.specs.Seats.{board_id};
 ghost use Rattle.snapshot_update.specs.Workers.{index_of, member_of, IsWorkerOf, IsCounted, IsCountFault};
 ghost use Rattle.worker_pool.specs.Jobs.{op_of, registry_of};
