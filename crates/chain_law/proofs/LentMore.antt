@@ -10,7 +10,7 @@ use Rattle.snapshot_scan.specs.Readers.{members_with}
 use Rattle.snapshot_scan.proofs.Standing.{sees_then}
 use Rattle.snapshot_update.specs.declared.worker.Worker.{Worker}
 use Rattle.snapshot_update.specs.Workers.{index_of, member_of}
-use Rattle.snapshot_update.specs.Lending.{IsLentAs}
+use Rattle.snapshot_update.specs.Workers.{IsLentAs}
 use Rattle.snapshot_update.proofs.Lending.{lent_met, met_at, last_mapped}
 use Rattle.snapshot_scan.specs.Lent.{HasSeenMore}
 use Rattle.chain_law.specs.Lent.{IsLentFrom, AreLentFrom}

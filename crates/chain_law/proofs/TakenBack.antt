@@ -13,7 +13,7 @@ use Rattle.snapshot_scan.specs.Readers.{members_with}
 use Rattle.snapshot_scan.proofs.Standing.{stood_before}
 use Rattle.snapshot_update.specs.declared.worker.Worker.{Worker}
 use Rattle.snapshot_update.specs.Workers.{index_of, member_of}
-use Rattle.snapshot_update.specs.Lending.{IsLentAs}
+use Rattle.snapshot_update.specs.Workers.{IsLentAs}
 use Rattle.snapshot_update.proofs.Lending.{lent_left}
 use Rattle.chain_law.specs.Lent.{AreDistinct, IsBackFrom, AreBackFrom, HaveLeft}
 use Rattle.chain_law.proofs.Places.{from_set}

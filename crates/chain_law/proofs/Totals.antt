@@ -10,7 +10,7 @@ use Rattle.register_rule.specs.declared.view.Made.{Made}
 use Rattle.register_rule.specs.Sums.{total, row_sum}
 use Rattle.snapshot_update.specs.declared.worker.Worker.{Worker}
 use Rattle.snapshot_update.specs.Workers.{index_of, member_of, lists_of, ops_in}
-use Rattle.chain_law.specs.Made.{joined, made_all}
+use Rattle.chain_law.specs.Settled.{joined, made_all}
 use Rattle.chain_law.proofs.Sums.{sums, sum_of}
 
 both_sum : (c h : ℕ) (xs ys : List Op) (k : ℕ) → sum_ops c h (xs ++ ys) k ≡ sum_ops c h xs k + sum_ops c h ys k

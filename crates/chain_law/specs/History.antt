@@ -74,3 +74,8 @@ pub record IsFirstFall (vectors : List (List ℕ)) (a b : ℕ) : Type 0 where
 abbrev pub IsChainFault : List (List ℕ) → ChainFault → Type 0
 IsChainFault vectors (NotChain a b) = IsFirstFall vectors a b
 IsChainFault vectors NoMemory = AreRising (length vectors) vectors
+
+-- the number of each fault
+abbrev pub chain_fault_number : ChainFault → ℕ
+chain_fault_number (NotChain a b) = 17
+chain_fault_number NoMemory = 6

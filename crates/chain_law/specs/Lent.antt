@@ -8,7 +8,7 @@ use Rattle.snapshot_scan.specs.Lent.{IsWorkerAmong}
 use Rattle.snapshot_scan.specs.Readers.{members_with}
 use Rattle.snapshot_update.specs.declared.worker.Worker.{Worker}
 use Rattle.snapshot_update.specs.Workers.{index_of, member_of}
-use Rattle.snapshot_update.specs.Lending.{IsLentAs, IsLent}
+use Rattle.snapshot_update.specs.Workers.{IsLentAs, IsLent}
 
 module _ {N C H G : ℕ} where
   -- worker v is now w, and is lent: it stands at this place of the reader's members, with all that it had made

@@ -1,5 +1,5 @@
 -- What a snapshot of all workers says.
-use Rattle.std.specs.Prelude.{◌≡◌, ℕ, ◌<◌, List, [], length, map}
+use Rattle.std.specs.Prelude.{◌≡◌, ℕ, ◌<◌, List, [], length, map, ◌∷◌, ◌++◌}
 use mathlib.Core.Option.{some}
 use lib.ListN.{get_elem?}
 use Rattle.ledger_core.specs.Ops.{width, sum_ops}
@@ -9,7 +9,18 @@ use Rattle.snapshot_scan.specs.Moments.{Publish, AreAccepted, AreAlong, lists_by
 use Rattle.snapshot_scan.specs.Snapshots.{Taken}
 use Rattle.snapshot_update.specs.declared.worker.Worker.{Worker}
 use Rattle.snapshot_update.specs.Workers.{index_of, lists_of, member_of}
-use Rattle.chain_law.specs.Made.{made_all}
+use Rattle.ledger_core.specs.declared.op.Op.{Op}
+
+-- lists of operations, joined
+abbrev pub joined : List (List Op) → List Op
+joined [] = []
+joined (ops ∷ lists) = ops ++ joined lists
+
+module _ {N C H G : ℕ} where
+  -- all operations that these workers have published
+  abbrev pub made_all : List (Worker N C H G) → List Op
+  made_all [] = []
+  made_all (w ∷ ws) = joined (lists_of w) ++ made_all ws
 
 module _ {N C H G : ℕ} where
   -- worker i is one of them

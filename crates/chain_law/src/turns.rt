@@ -1,6 +1,6 @@
 //! Turns of workers, and why a list of snapshots has no history.
 ghost use Rattle.std.specs.Prelude.{◌≡◌};
-ghost use Rattle.chain_law.specs.Numbers.{chain_fault_number};
+ghost use Rattle.chain_law.specs.History.{chain_fault_number};
 
 use std::alloc::AllocError;
 use thiserror::Error;

@@ -5,7 +5,7 @@ use Rattle.std.specs.Prelude.{◌==◌, nat_lt, ◌||◌, ◌&&◌, not, codes, 
 use Rattle.expo_text.specs.Scraped.{Scraped}
 use Rattle.scrape_http.specs.Asks.{Asks, MayBeRefusedBy}
 use Rattle.scrape_http.specs.Head.{is_get_or_head, refusal_by, hosts}
-use Rattle.scrape_http.specs.Target.{path_of}
+use Rattle.scrape_http.specs.Head.{path_of}
 use Rattle.scrape_http.specs.Reply.{Outcome, Reply, IsReply, Replies, refused, scraped}
 use Rattle.scrape_http.specs.Serves.{Known, IsServed, IsUnserved, Sends, is_read_failed, is_write_failed, Answers as Outcomes}
 use Rattle.scrape_http.specs.declared.fault.WireFault.{WireFault}

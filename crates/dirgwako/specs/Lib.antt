@@ -1,14 +1,10 @@
 pub mod Alone
 pub mod Answering
-pub mod Changes
-pub mod Closing
 pub mod Crews
 pub mod Printing
 pub mod Recorders
 pub mod Refused
 pub mod Registering
-pub mod Scanning
-pub mod Shapes
 pub mod Spaced
 pub mod Texts
 -- what the clauses of this library cite, for its callers
@@ -31,7 +27,6 @@ pub use Rattle.register_rule.specs.Seats
 pub use Rattle.register_rule.specs.Sums
 pub use Rattle.snapshot_scan.specs.Order
 pub use Rattle.snapshot_scan.specs.Readers
-pub use Rattle.snapshot_scan.specs.Scanners
 pub use Rattle.snapshot_update.specs.Workers
 pub use Rattle.snapshot_update.specs.Updated
 pub use Rattle.registry_state.specs.Changed
@@ -41,4 +36,3 @@ pub use Rattle.registry_state.specs.Kept
 pub use Rattle.registry_state.specs.Shown
 pub use Rattle.metric_registry.specs.Naming
 pub use Rattle.scrape_server.specs.Again
-pub use Rattle.metric_registry.specs.Names

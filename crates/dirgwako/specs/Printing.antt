@@ -3,12 +3,17 @@ use Rattle.std.specs.Prelude.{◌≡◌, ℕ, ◌⊎◌, List, Option, Some, Non
 use Rattle.expo_text.specs.Scraped.{Scraped}
 use Rattle.expo_text.specs.Text.{text}
 use Rattle.scrape_http.specs.declared.source.NoScrape.{NoScrape}
-use Rattle.scrape_http.specs.declared.source.NoScrape.TheVariants as none
 use Rattle.scrape_server.specs.Again.{AsksAgain}
 use Rattle.dirgwako.specs.declared.printing.TextFault.{TextFault}
 use Rattle.dirgwako.specs.declared.printing.TextFault.TheVariants.{NoMemory, Contended}
 use Rattle.dirgwako.specs.declared.printing.PrintFault.{PrintFault}
 use Rattle.dirgwako.specs.declared.printing.PrintFault.TheVariants.{Text, Output}
+use Rattle.register_rule.specs.declared.view.Answer.{Answer}
+use Rattle.snapshot_scan.specs.Readers.{recorded_in}
+use Rattle.snapshot_scan.specs.declared.scanner.Scanner.{Scanner}
+use Rattle.registry_state.specs.Kept.{IsKept, Registry}
+use Rattle.registry_state.specs.Shown.{IsShown}
+use Rattle.scrape_http.specs.declared.source.NoScrape.TheVariants as none
 
 -- the number of each fault
 abbrev pub text_fault_number : TextFault → ℕ
@@ -30,3 +35,14 @@ module _ {S : Type 0} (gave : S → S → Result Scraped NoScrape → Type 0) (b
   IsTextFault Contended = AsksAgain gave 3 before after (Err none.Contended)
   IsTextFault NoMemory = AsksAgain gave 3 before after (Err none.NoMemory)
       ⊎ ((scrape : Scraped) × AsksAgain gave 3 before after (Ok scrape))
+
+-- the journal replays to what the registry holds; the scrapes that it keeps are at most the window, the last of what
+-- its reader recorded, and moments of one history of publishes, in order; and these bytes are the text of its
+-- families at the newest of them
+pub record IsLastText {N C H G : ℕ} (bytes : List ℕ) (registry : Registry (Scanner N C H G)) : Type 0 where
+  pub kept : IsKept N C H G (recorded_in registry.source) registry.journal registry.window registry.state
+  pub answer : Answer
+  pub newest : registry.state.last ≡ Some answer
+  pub scrape : Scraped
+  pub shown : IsShown C H registry.state.families answer scrape
+  pub text_is : bytes ≡ text scrape

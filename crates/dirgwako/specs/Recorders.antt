@@ -16,7 +16,15 @@ use Rattle.snapshot_update.specs.Updated.{IsUpdated}
 use Rattle.snapshot_update.specs.Workers.{index_of, member_of, lists_of, IsApplyFault}
 use Rattle.dirgwako.specs.declared.change.Change.{Change}
 use Rattle.dirgwako.specs.declared.recorder.Recorder.{Recorder}
-use Rattle.dirgwako.specs.Changes.{op_in, IsOf}
+use Rattle.ledger_core.specs.declared.op.Op.{Op}
+
+-- what it adds
+abbrev pub op_in : Change → Op
+op_in change = change.op
+
+-- it was made with a handle of the registry of this id
+abbrev pub IsOf : (id : ℕ) → Change → Type 0
+IsOf id change = change.registry ≡ id
 
 module _ {N C H G : ℕ} where
   -- its board

@@ -9,17 +9,19 @@ use Rattle.metric_desc.specs.Desc.{Descriptor}
 use Rattle.metric_desc.specs.Labels.{IsLabelsFault}
 use Rattle.metric_desc.specs.Histogram.{IsHistogramFault}
 use Rattle.metric_desc.specs.declared.kind.Kind.{Kind}
-use Rattle.metric_desc.specs.declared.kind.Kind.TheVariants as Kinds
 use Rattle.registry_state.specs.declared.fault.ChildFault.{ChildFault}
 use Rattle.registry_state.specs.declared.fault.RegisterFault.{RegisterFault}
 use Rattle.registry_state.specs.declared.handle.FamilyId.{FamilyId}
 use Rattle.registry_state.specs.declared.handle.Handle.{Handle}
 use Rattle.dirgwako.specs.Texts.{texts_of, IsBadLabel, IsBadValue}
 use Rattle.dirgwako.specs.declared.fault.FamilyRefusal.{FamilyRefusal}
-use Rattle.dirgwako.specs.declared.fault.FamilyRefusal.TheVariants as family
 use Rattle.dirgwako.specs.declared.fault.ChildRefusal.{ChildRefusal}
-use Rattle.dirgwako.specs.declared.fault.ChildRefusal.TheVariants as child
 use Rattle.dirgwako.specs.declared.fault.MetricRefusal.{MetricRefusal}
+use Rattle.dirgwako.specs.declared.family.Shape.{Shape}
+use Rattle.dirgwako.specs.declared.family.Shape.TheVariants.{Counter, Gauge, Histogram}
+use Rattle.metric_desc.specs.declared.kind.Kind.TheVariants as Kinds
+use Rattle.dirgwako.specs.declared.fault.FamilyRefusal.TheVariants as family
+use Rattle.dirgwako.specs.declared.fault.ChildRefusal.TheVariants as child
 use Rattle.dirgwako.specs.declared.fault.MetricRefusal.TheVariants as metric
 
 -- the family that these texts say
@@ -92,3 +94,15 @@ module _ {S : Type 0} (id_in : S → ℕ) (registered : S → S → Descriptor �
   AsksMetric (Err (metric.Family fault)) = AsksFamily registered old new desc (Err fault)
   AsksMetric (Err (metric.Child id fault)) = (mid : S) × AsksFamily registered old mid desc (Ok id)
       × AsksChild id_in gave mid new (id_in mid) id [] desc.kind (Err fault)
+
+-- the kind of a family of this shape
+abbrev pub kind_of : Shape → Kind
+kind_of Counter = Kinds.Counter
+kind_of Gauge = Kinds.Gauge
+kind_of (Histogram bounds) = Kinds.Histogram
+
+-- its bounds: only a histogram has any
+abbrev pub bounds_of : Shape → List ℕ
+bounds_of Counter = []
+bounds_of Gauge = []
+bounds_of (Histogram bounds) = bounds.now

@@ -2,7 +2,7 @@
 ghost use Rattle.std.specs.Prelude.{◌≡◌, Result, IfErr, IfOk, OnOk};
 ghost use Rattle.registry_state.specs.declared.handle.Handle.{Handle};
 ghost use Rattle.dirgwako.specs.Registering.{AreGood, AsksFamily, AsksHandle, IsUnread, family_of};
-ghost use Rattle.dirgwako.specs.Shapes.{kind_of, bounds_of};
+ghost use Rattle.dirgwako.specs.Registering.{kind_of, bounds_of};
 ghost use Rattle.dirgwako.specs.Texts.{texts_of};
 
 use crate::family::Shape;

@@ -1,6 +1,6 @@
 //! A registry at its end.
 ghost use Rattle.std.specs.Prelude.{IfOk};
-ghost use Rattle.dirgwako.specs.Closing.{IsLastText};
+ghost use Rattle.dirgwako.specs.Printing.{IsLastText};
 ghost use Rattle.dirgwako.specs.Printing.{IsText};
 
 use crate::printing::{PrintFault, TextFault, print_text, text_from};

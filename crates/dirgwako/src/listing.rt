@@ -1,6 +1,6 @@
 //! Lists of changes.
 ghost use Rattle.std.specs.Prelude.{◌≡◌, ◌↔◌, map, All, IsTrue};
-ghost use Rattle.dirgwako.specs.Changes.{op_in, IsOf};
+ghost use Rattle.dirgwako.specs.Recorders.{op_in, IsOf};
 
 use crate::change::Change;
 use ledger_core::Op;

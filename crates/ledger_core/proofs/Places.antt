@@ -8,7 +8,7 @@ use Rattle.std.proofs.lemmas.Grind.{same_number_lists}
 use Rattle.std.proofs.lemmas.List.Elements.{All-set, All-get_or, All-from_get_or, All-take, All-drop, All-replicate}
 use Rattle.bucket_math.specs.Words.{greatest_word}
 use Rattle.ledger_core.specs.Ops.{width}
-use Rattle.ledger_core.specs.Shape.{HasShape}
+use Rattle.ledger_core.specs.Row.{HasShape}
 use Rattle.ledger_core.proofs.Rows.{HasLength, length-concat, place-lt, get_or-concat, concat-set, concat-replicate}
 
 abbrev pub words : List ℕ → List (List ℕ) → List (List ℕ) → List ℕ

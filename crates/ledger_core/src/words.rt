@@ -26,7 +26,7 @@ pub(crate) struct Words<const C: usize, const H: usize, const G: usize> {
 impl<const C: usize, const H: usize, const G: usize> Model for Words<C, H, G> {
     ghost use Rattle.std.specs.Prelude.{ℕ, List, ◌++◌};
     ghost use Rattle.std.specs.List.{concat};
-    ghost use Rattle.ledger_core.specs.Shape.{HasShape};
+    ghost use Rattle.ledger_core.specs.Row.{HasShape};
 
     ghost Value = { List ℕ };
 

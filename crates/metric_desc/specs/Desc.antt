@@ -1,7 +1,10 @@
 -- What a descriptor says of a family.
 use Rattle.std.specs.Prelude.{ℕ, List, [], ◌∷◌, ◌++◌, codes, map, Contains}
 use Rattle.metric_desc.specs.declared.kind.Kind.{Kind}
-use Rattle.metric_desc.specs.declared.kind.Kind.TheVariants.{Counter, Histogram, Gauge}
+use Rattle.metric_desc.specs.declared.kind.Kind.TheVariants.{Counter, Histogram, Gauge, Counter as CounterKind}
+use Rattle.metric_desc.specs.declared.kind.Kind.TheVariants.{Histogram as HistogramKind, Gauge as GaugeKind}
+use Rattle.metric_desc.specs.declared.kind.Shape.{Shape}
+use Rattle.metric_desc.specs.declared.kind.Shape.TheVariants.{Counter, Histogram, Gauge}
 
 -- the name, the help and the names of the labels, as bytes; the kind; and the bounds, which only a histogram has
 pub record Descriptor : Type 0 where
@@ -24,3 +27,15 @@ names_of desc = map (λ suffix. desc.name ++ suffix) (suffixes_of desc.kind)
 -- some name stands in both lists
 abbrev pub Clash : Descriptor → Descriptor → Type 0
 Clash a b = (name : List ℕ) × Contains (names_of a) name × Contains (names_of b) name
+
+-- the kind of a family of this shape
+abbrev pub kind_of : Shape → Kind
+kind_of Counter = CounterKind
+kind_of (Histogram bounds) = HistogramKind
+kind_of Gauge = GaugeKind
+
+-- its bounds: only a histogram has any
+abbrev pub bounds_of : Shape → List ℕ
+bounds_of Counter = []
+bounds_of (Histogram bounds) = bounds
+bounds_of Gauge = []

@@ -1,4 +1,3 @@
 pub mod Desc
 pub mod Labels
 pub mod Histogram
-pub mod Shape

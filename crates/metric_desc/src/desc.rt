@@ -39,7 +39,7 @@ impl Drop for Desc {
 impl Model for Desc {
     ghost use Rattle.metric_desc.specs.Desc.{Descriptor};
     ghost use Rattle.metric_desc.specs.Histogram.{IsDescOf};
-    ghost use Rattle.metric_desc.specs.Shape.{kind_of, bounds_of};
+    ghost use Rattle.metric_desc.specs.Desc.{kind_of, bounds_of};
 
     ghost Value = { Descriptor };
 

@@ -9,12 +9,12 @@ use Rattle.script_lines.specs.declared.line.Line.{Line}
 use Rattle.script_lines.specs.declared.line.Line.TheVariants.{Nothing, Counter, Gauge, Histogram, Child, Count, Go, Scrape}
 use Rattle.script_lines.specs.declared.line.Line.TheVariants.{Settle, Window}
 use Rattle.snapshot_scan.specs.Readers.{IsReaderOf}
-use Rattle.snapshot_scan.specs.Scanners.{board_in, reader_in}
+use Rattle.snapshot_scan.specs.Readers.{board_in, reader_in}
 use Rattle.snapshot_update.specs.declared.worker.Worker.{Worker}
 use Rattle.snapshot_update.specs.Workers.{index_of, IsWorkerOf}
 use Rattle.metrics_run.specs.Done.{IsDone, IsStepped}
 use Rattle.metrics_run.specs.Refusals.{IsActRefusal, IsRefused}
-use Rattle.metrics_run.specs.Scans.{Scans}
+use Rattle.metrics_run.specs.State.{Scans}
 use Rattle.metrics_run.specs.State.{IsReady, IsRegistered, IsSame}
 use Rattle.metrics_run.specs.declared.line_fault.LineFault.{LineFault}
 use Rattle.metrics_run.specs.declared.state.State.{State}

@@ -4,9 +4,7 @@ pub mod Printed
 pub mod Status
 pub mod Jobs
 pub mod QueuedJobs
-pub mod Waiting
 pub mod Children
-pub mod Scans
 pub mod State
 pub mod Refusals
 pub mod Done

@@ -3,7 +3,7 @@ use Rattle.std.specs.Prelude.{◌≡◌, ◌≢◌, ◌⊎◌, ℕ, true, List, 
 use Rattle.metric_desc.specs.Desc.{Descriptor}
 use Rattle.metric_desc.specs.declared.kind.Kind.{Kind}
 use Rattle.metric_desc.specs.declared.kind.Kind.TheVariants as kind
-use Rattle.snapshot_scan.specs.Scanners.{recorded_in}
+use Rattle.snapshot_scan.specs.Readers.{recorded_in}
 use Rattle.registry_state.specs.Changed.{KeepsScrape}
 use Rattle.registry_state.specs.Faults.{IsWindow, IsRegisterFault, IsChildFault, Leaves}
 use Rattle.registry_state.specs.declared.fault.BadWindow.{BadWindow}
@@ -15,9 +15,9 @@ use Rattle.script_lines.specs.Language.{AreBounds, IsLine}
 use Rattle.worker_pool.specs.Ends.{IsPoolFault}
 use Rattle.worker_pool.specs.declared.fault.PoolFault.{PoolFault}
 use Rattle.worker_pool.specs.declared.fault.PoolFault.TheVariants as pool
-use Rattle.metrics_run.specs.Waiting.{lists_in}
+use Rattle.metrics_run.specs.QueuedJobs.{lists_in}
 use Rattle.metrics_run.specs.Parts.{IsDescribed, AreRead, AreValuesRefused, IsPlainRefusal, IsHistogramRefusal}
-use Rattle.metrics_run.specs.Scans.{gave_in, gave_up_in, quit_in}
+use Rattle.metrics_run.specs.State.{gave_in, gave_up_in, quit_in}
 use Rattle.metrics_run.specs.State.{job_in, IsBeside, IsSame}
 use Rattle.metrics_run.specs.declared.line_fault.LineFault.{LineFault}
 use Rattle.metrics_run.specs.declared.line_fault.LineFault.TheVariants as fault

@@ -13,7 +13,7 @@ use Rattle.scrape_http.specs.declared.status.Status.TheVariants.{Unavailable}
 use Rattle.snapshot_scan.specs.Snapshots.{Taken}
 use Rattle.snapshot_update.specs.declared.worker.Worker.{Worker}
 use Rattle.snapshot_update.specs.Workers.{lists_of}
-use Rattle.chain_law.specs.Made.{joined, made_all}
+use Rattle.chain_law.specs.Settled.{joined, made_all}
 use Rattle.chain_law.specs.Settled.{IsSettled}
 use Rattle.metrics_serve.specs.declared.metrics.Metrics.{Metrics}
 use Rattle.metrics_serve.specs.declared.threads.Four.{Four}

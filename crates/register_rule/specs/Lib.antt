@@ -9,5 +9,4 @@ pub mod Steps
 pub mod Members
 pub mod Told
 pub mod Seats
-pub mod Learned
 pub mod Faults

@@ -19,9 +19,14 @@ use Rattle.register_rule.specs.Words.{item_of, seg}
 use Rattle.register_rule.specs.History.{count, Comparable}
 use Rattle.register_rule.specs.Sums.{Legal}
 use Rattle.register_rule.specs.Scans.{opened_at, IsSound}
-use Rattle.register_rule.specs.Members.{first_of, made_of}
+use Rattle.register_rule.specs.Members.{first_of, made_of, led, scan_changed}
 use Rattle.register_rule.specs.Shown.{Shows}
 use Rattle.register_rule.specs.Rule.{Rule, AreApart}
+use Rattle.ledger_core.specs.Ops.{width, sum_ops}
+use Rattle.ledger_core.specs.Row.{Accepts}
+use Rattle.register_rule.specs.declared.view.Scan.{Scan}
+use Rattle.register_rule.specs.declared.seats.Bundle.{Bundle}
+use Rattle.register_rule.specs.Seats.{table_of, members_of}
 
 -- x is the number of the segment i: it is at least each number that the first member found there before or has seen,
 -- and where worker i is among the members, it is how often that worker published
@@ -112,3 +117,10 @@ HoldsNext n w b adds ops lends m = (k : ℕ) → k < b → Shows n w adds (m.wor
 -- the rule, and what it says of members in pairs
 abbrev pub KeepsRule : (n w b : ℕ) → (List Op → ℕ → ℕ) → ((ℕ → ℕ) → List Op → Type 0) → State (Unit {0}) SeatView → Type 0
 KeepsRule n w b adds accepts s = Rule n w b adds accepts s × AllCompare n b s
+
+-- the first member's scans have changed by `f`, no other member has, and all that the rule says of the members is told:
+-- a board of n workers, c counters, h histograms and g gauges
+pub record ScanChangesBy (n c h g : ℕ) (f : Scan → Scan) (old new : Bundle) : Type 0 where
+  pub own : table_of new ≡ table_of old
+  pub member : members_of new ≡ led (scan_changed f) (members_of old)
+  pub ruled : AreRuled n (width c h g) (sum_ops c h) (Accepts c h g) (members_of new)

@@ -6,7 +6,7 @@ ghost use Rattle.segment_layout.specs.Layout.{depth};
 ghost use Rattle.register_rule.specs.Steps.{after, after_open, after_read, after_confirm, after_ask, after_end_ask};
 ghost use Rattle.register_rule.specs.Told.{IsLoad, LoadTells, IsNumber};
 ghost use Rattle.register_rule.specs.Seats.{members_of, MayScan};
-ghost use Rattle.register_rule.specs.Learned.{ScanChangesBy};
+ghost use Rattle.register_rule.specs.Told.{ScanChangesBy};
 
 use crate::board::Board;
 use crate::load::Load;

@@ -10,7 +10,7 @@ ghost use Rattle.register_rule.specs.Sums.{total};
 ghost use Rattle.register_rule.specs.Steps.{after};
 ghost use Rattle.register_rule.specs.Members.{filled, published, picked, without, met};
 ghost use Rattle.register_rule.specs.Told.{IsLoad, word_of, LoadTells, IsNumber, AreRuledAt, HoldsNext};
-ghost use Rattle.register_rule.specs.Learned.{ScanChangesBy};
+ghost use Rattle.register_rule.specs.Told.{ScanChangesBy};
 ghost use Rattle.register_rule.specs.Seats.{table_of, members_of, worker_of, index_of, board_id, Has, MayScan, HasWorker};
 
 use crate::board::{Board, Key, Law};

@@ -12,7 +12,7 @@ use Rattle.registry_state.specs.Faults.{IsWindow}
 use Rattle.registry_state.specs.Held.{IsPlaceOfName, used_of}
 use Rattle.registry_state.specs.Kept.{Registry}
 use Rattle.registry_state.specs.Changed.{changed}
-use Rattle.registry_state.specs.Whole.{IsHeld}
+use Rattle.registry_state.specs.Held.{IsHeld}
 use Rattle.registry_state.proofs.Entries.{newest_change}
 use Rattle.registry_state.proofs.Keeping.{keeps_at_change, kept_new}
 use Rattle.registry_state.proofs.Holding.{held_registered, held_none}

@@ -11,7 +11,7 @@ use Rattle.registry_state.specs.Journal.{Made, Entry, Changed, scrapes}
 use Rattle.registry_state.specs.Replay.{Child, Family, MayMake, put, with_child, slots}
 use Rattle.registry_state.specs.Kept.{Registry}
 use Rattle.registry_state.specs.Held.{AreHeld, IsOneMore}
-use Rattle.registry_state.specs.Whole.{IsHeld}
+use Rattle.registry_state.specs.Held.{IsHeld}
 use Rattle.registry_state.specs.Faults.{HasSlot, IsWanted, IsChildFault}
 use Rattle.registry_state.specs.Changed.{IsLeastFree, IsHandle, WasMade}
 use Rattle.registry_state.specs.declared.handle.Handle.{Handle}

@@ -10,7 +10,7 @@ use Rattle.registry_state.specs.Replay.{Family, State}
 use Rattle.registry_state.specs.Faults.{IsWindow}
 use Rattle.registry_state.specs.Kept.{Registry, IsKept}
 use Rattle.registry_state.specs.Changed.{KeepsScrape}
-use Rattle.registry_state.specs.Whole.{IsHeld}
+use Rattle.registry_state.specs.Held.{IsHeld}
 use Rattle.registry_state.proofs.Entries.{newest_within, newest_scrape}
 use Rattle.registry_state.proofs.Keeping.{keeps_at_window, kept_scrape}
 

@@ -10,6 +10,11 @@ use Rattle.metric_desc.specs.declared.kind.Kind.{Kind}
 use Rattle.metric_desc.specs.declared.kind.Kind.TheVariants.{Counter, Histogram, Gauge}
 use Rattle.expo_text.specs.Order.{IsBefore}
 use Rattle.registry_state.specs.Replay.{Child, Family, IsFree, slots}
+use Rattle.register_rule.specs.declared.view.Answer.{Answer}
+use Rattle.segment_layout.specs.Layout.{IsGeometry}
+use Rattle.snapshot_scan.specs.Sources.{newest}
+use Rattle.registry_state.specs.Journal.{Entry, scrapes}
+use Rattle.registry_state.specs.Kept.{IsKept}
 
 -- how many slots of each kind are used
 abbrev pub used_of : (counters hists gauges : ℕ) → Kind → ℕ
@@ -80,3 +85,11 @@ pub record IsPlaceOfName (families : List Family) (order : List ℕ) (name : Lis
 pub record IsOrder (families : List Family) (order : List ℕ) : Type 0 where
   pub each : IsPermutation (range_with_len 0 (length families)) order
   pub rising : AllPairs (λ (i j : ℕ). IsNamedBefore (family_at families i) (family_at families j)) order
+
+-- the journal replays to the families and the last scrape; the families stand in this order by their names, and use so many slots
+pub record IsHeld (n c h g : ℕ) (recorded : List Answer) (journal : List Entry) (window : ℕ) (families : List Family)
+    (order : List ℕ) (used : Kind → ℕ) : Type 0 where
+  pub geometry : IsGeometry n c h g
+  pub kept : IsKept n c h g recorded journal window (record { families = families; last = newest (scrapes journal) })
+  pub held : AreHeld c h g families used
+  pub ordered : IsOrder families order

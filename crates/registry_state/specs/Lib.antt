@@ -2,11 +2,9 @@ pub mod Journal
 pub mod Replay
 pub mod Parts
 pub mod Merged
-pub mod Notes
 pub mod Kept
 pub mod Shown
 pub mod Held
-pub mod Whole
 pub mod Filled
 pub mod Faults
 pub mod Changed

@@ -1,7 +1,9 @@
 -- How a journal is kept: all changes in order, and the kept scrapes, each with how many changes were made before it.
 use Rattle.std.specs.Prelude.{ℕ, ◌-◌, ◌≤◌, List, [], ◌∷◌, ◌++◌, map, take, drop}
 use Rattle.snapshot_scan.specs.Snapshots.{Taken, as_answer}
-use Rattle.registry_state.specs.Journal.{Change, Entry, Changed, Scraped}
+use Rattle.registry_state.specs.Journal.{Change, Entry, Changed, Scraped, Registered, Made}
+use Rattle.std.specs.Arc.{arc_value}
+use Rattle.registry_state.specs.declared.note.Note.{Note}
 
 -- the journal from the change at `from` on
 abbrev pub merged : (changes : List Change) → (from : ℕ) → (kept : List (Taken × ℕ)) → List Entry
@@ -13,3 +15,8 @@ merged changes from (scrape ∷ kept) =
 abbrev pub AreNoted : (all from : ℕ) → (kept : List (Taken × ℕ)) → Type 0
 AreNoted all from [] = from ≤ all
 AreNoted all from (scrape ∷ kept) = (from ≤ scrape.1) × AreNoted all scrape.1 kept
+
+-- the change that a note keeps
+abbrev pub change_of : Note → Change
+change_of (Note.Registered desc) = Registered (arc_value desc)
+change_of (Note.Made family values slot) = Made family ((arc_value values).items) slot

@@ -6,7 +6,7 @@ ghost use Rattle.snapshot_scan.specs.Snapshots.{as_answer};
 ghost use Rattle.snapshot_scan.specs.Sources.{newest, Records};
 ghost use Rattle.registry_state.specs.Faults.{Leaves};
 ghost use Rattle.registry_state.specs.Journal.{Changed, Scraped, scrapes, within};
-ghost use Rattle.registry_state.specs.Notes.{change_of};
+ghost use Rattle.registry_state.specs.Merged.{change_of};
 
 use crate::fault::ScrapeFault;
 use crate::kept::Kept;
@@ -35,7 +35,7 @@ impl<const N: usize, const C: usize, const H: usize, const G: usize> Model for J
 
     ghost Value = { List Entry };
 
-    ghost use Rattle.registry_state.specs.Notes.{change_of};
+    ghost use Rattle.registry_state.specs.Merged.{change_of};
     ghost use Rattle.registry_state.specs.Merged.{merged, AreNoted};
 
     ghost view = { λ j. merged (map change_of j.notes.items) 0 j.kept.scrapes };

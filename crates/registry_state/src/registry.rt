@@ -38,7 +38,7 @@ impl<S: Source<N, C, H, G>, const N: usize, const C: usize, const H: usize, cons
     ghost use Rattle.registry_state.specs.Journal.{scrapes};
     ghost use Rattle.registry_state.specs.Kept.{Registry};
     ghost use Rattle.registry_state.specs.Held.{used_of};
-    ghost use Rattle.registry_state.specs.Whole.{IsHeld};
+    ghost use Rattle.registry_state.specs.Held.{IsHeld};
 
     ghost Value = { Registry S };
 

@@ -1,12 +1,28 @@
 -- What the head of a request asks for (RFC 9112, sections 3 and 3.2; RFC 9110, section 9).
 use Rattle.std.specs.Prelude.{ℕ, ◌==◌, nat_lt, Bool, ◌||◌, ◌&&◌, not, List, count_by, codes, if◌then◌else◌, Option, Some, None}
-use Rattle.std.specs.Prelude.{bytes_eq}
-use Rattle.std.specs.Str.{str_eq_ignore_ascii_case}
+use Rattle.std.specs.Prelude.{bytes_eq, take, drop}
+use Rattle.std.specs.Str.{str_eq_ignore_ascii_case, byte}
 use Rattle.httparse.specs.Grammar.{RequestHead, Field}
 use Rattle.scrape_http.specs.declared.status.Status.{Status}
 use Rattle.scrape_http.specs.declared.status.Status.TheVariants.{BadRequest, NotFound, MethodNotAllowed}
 use Rattle.scrape_http.specs.declared.request.Asked.{Asked}
-use Rattle.scrape_http.specs.Target.{path_of}
+use Rattle.std.specs.List.{before_first, position_or_len}
+
+-- what stands before the first '?', or all
+abbrev pub before_query : List ℕ → List ℕ
+before_query target = before_first (λ b. b == byte "?") target
+
+-- the first '/' and what stands behind it, or nothing
+abbrev pub from_slash : List ℕ → List ℕ
+from_slash bytes = drop (position_or_len (λ b. b == byte "/") bytes) bytes
+
+-- it begins with "http://", in any case
+abbrev pub is_absolute : List ℕ → Bool
+is_absolute target = str_eq_ignore_ascii_case (take 7 target) (codes "http://")
+
+-- the path: what stands before the query, and of an absolute target the part of that from the first '/' behind the scheme on
+abbrev pub path_of : List ℕ → List ℕ
+path_of target = if is_absolute target then from_slash (drop 7 (before_query target)) else before_query target
 
 -- the name of a Host field, in any case
 abbrev pub is_host : List ℕ → Bool

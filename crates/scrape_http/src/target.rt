@@ -1,6 +1,6 @@
 //! The path of a request's target.
 ghost use Rattle.std.specs.Prelude.{◌≡◌, ◌==◌, position};
-ghost use Rattle.scrape_http.specs.Target.{before_query, from_slash, is_absolute, path_of};
+ghost use Rattle.scrape_http.specs.Head.{before_query, from_slash, is_absolute, path_of};
 
 /// The first place of a byte.
 fn place_of(bytes: &[u8], sought: u8) -> Option<usize>

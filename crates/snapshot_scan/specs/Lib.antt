@@ -12,10 +12,8 @@ pub mod ScanMemories
 pub mod Snapshots
 pub mod Readers
 pub mod Answered
-pub mod Scanners
 pub mod Lent
 pub mod Order
 pub mod Sources
-pub mod PlainNumber
 pub mod Plain
 pub mod Moments

@@ -1,6 +1,6 @@
 -- What a clause reads of a plain source, and why it refuses.
 use Rattle.std.specs.Prelude.{◌≡◌, ℕ, ◌+◌, ◌<◌, List, [], ◌∷◌, slice_index}
-use Rattle.ledger_core.specs.OpFault.{IsOpFault}
+use Rattle.ledger_core.specs.OpFault.{IsOpFault, number_of}
 use Rattle.ledger_core.specs.Row.{Accepts, Adds}
 use Rattle.ledger_core.specs.declared.op.Op.{Op}
 use Rattle.register_rule.specs.declared.view.Answer.{Answer}
@@ -43,3 +43,8 @@ pub record IsApplied (c h g : ℕ) (row : List ℕ) (count : ℕ) (ops : List Op
 abbrev pub IsPlainFault : (c h g : ℕ) → (row : List ℕ) → (count : ℕ) → List Op → PlainFault → Type 0
 IsPlainFault c h g row count ops Exhausted = count ≡ 18446744073709551615
 IsPlainFault c h g row count ops (Refused fault) = (count < 18446744073709551615) × IsOpFault c h g (slice_index row) ops fault
+
+-- the number of each fault
+abbrev pub plain_fault_number : PlainFault → ℕ
+plain_fault_number Exhausted = 15
+plain_fault_number (Refused fault) = number_of fault

@@ -1,6 +1,6 @@
 //! Why a plain source refuses.
 ghost use Rattle.std.specs.Prelude.{◌≡◌};
-ghost use Rattle.snapshot_scan.specs.PlainNumber.{plain_fault_number};
+ghost use Rattle.snapshot_scan.specs.Plain.{plain_fault_number};
 
 use ledger_core::OpFault;
 use thiserror::Error;

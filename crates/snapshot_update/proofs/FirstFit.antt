@@ -14,7 +14,7 @@ use Rattle.snapshot_scan.proofs.Blank.{zero_in}
 use Rattle.snapshot_update.specs.declared.buffer_images.BufferImages.{BufferImages}
 use Rattle.snapshot_scan.specs.ChangedItems.{Changed}
 use Rattle.snapshot_update.specs.Fit.{number_in, IsFit, HasSeenOwn}
-use Rattle.snapshot_update.specs.Blank.{AreBlank}
+use Rattle.snapshot_update.specs.BufferImages.{AreBlank}
 use Rattle.snapshot_scan.proofs.Noted.{none_listed}
 use Rattle.snapshot_update.proofs.VersionWords.{words_long, numbers_long}
 use Rattle.snapshot_update.proofs.Fitting.{rows_many}

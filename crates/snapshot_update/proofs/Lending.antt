@@ -21,7 +21,7 @@ use Rattle.snapshot_scan.specs.Shape.{with_scan}
 use Rattle.snapshot_scan.proofs.Standing.{stands_behind, stands_scanned}
 use Rattle.snapshot_scan.proofs.Words.{front_at, at_map}
 use Rattle.snapshot_update.specs.declared.worker.Worker.{Worker as worker}
-use Rattle.snapshot_update.specs.Lending.{IsLentAs}
+use Rattle.snapshot_update.specs.Workers.{IsLentAs}
 use Rattle.snapshot_scan.specs.ChangedItems.{Changed}
 use Rattle.snapshot_update.specs.BufferImages.{with_hidden}
 use Rattle.snapshot_update.specs.Fit.{IsFit, IsFitOfSeat, HasSeenOwn}

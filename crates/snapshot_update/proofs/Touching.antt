@@ -11,7 +11,7 @@ use Rattle.ledger_core.specs.Ops.{only, part, sum_ops}
 use Rattle.snapshot_scan.specs.ChangedItems.{Changed, Notes}
 use Rattle.snapshot_update.specs.Noting.{Touches}
 use Rattle.snapshot_update.specs.declared.run.Run.{Run}
-use Rattle.snapshot_update.specs.Run.{AreListed, IsRun}
+use Rattle.snapshot_update.specs.Noting.{AreListed, IsRun}
 
 only_other : (word by k : ℕ) → k ≢ word → only word by k ≡ 0
 only_other word by k ne = ap (λ t. cond t by 0) (ne_eqb k word ne)

@@ -1,11 +1,7 @@
 pub mod BufferImages
 pub mod Noting
-pub mod Run
 pub mod Known
-pub mod Target
 pub mod Fit
 pub mod Updated
 pub mod Workers
 pub mod Faults
-pub mod Blank
-pub mod Lending

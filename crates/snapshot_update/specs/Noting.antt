@@ -1,6 +1,8 @@
 -- Noting items at which something changes.
-use Rattle.std.specs.Prelude.{◌≡◌, ℕ, ◌+◌, ◌<◌, ◌≤◌, ◌⊎◌, false, List, length, slice_index, Contains}
+use Rattle.std.specs.Prelude.{◌≡◌, ℕ, ◌+◌, ◌<◌, ◌≤◌, ◌⊎◌, false, List, length, slice_index, Contains, ◌*◌}
 use Rattle.snapshot_scan.specs.ChangedItems.{Changed}
+use Rattle.std.specs.Int.{bit_at}
+use Rattle.snapshot_update.specs.declared.run.Run.{Run}
 
 -- the words that rise are listed, of a row of w words: all stay all; else the old items are listed, and behind them n more
 -- at most, words of the row, with each word k at which `by k` is not 0
@@ -19,3 +21,13 @@ pub record SoFar (n : ℕ) (changed : Changed) (old new : List ℕ) : Type 0 whe
   pub listed : (j : ℕ) → Contains changed.items j → ¬ (slice_index old j ≡ slice_index new j)
   pub longer : length changed.items ≤ n
   pub fits : n ≤ 256 → changed.all ≡ false
+
+-- of the histogram whose first word is `first`, the sum and the count are listed, and each bucket whose bit is 1
+pub record AreListed (first seen : ℕ) (items : List ℕ) : Type 0 where
+  pub sum : Contains items (first + 25)
+  pub count : Contains items (first + 26)
+  pub buckets : (p : ℕ) → bit_at seen p ≡ 1 → Contains items (first + p)
+
+-- in a row of c counters and h histograms: where a histogram has been observed, its words are listed so
+abbrev pub IsRun : (c h : ℕ) → Run → Changed → Type 0
+IsRun c h run touched = run.hist < h → touched.all ≡ false → AreListed (c + 27 * run.hist) run.seen touched.items

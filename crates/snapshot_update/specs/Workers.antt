@@ -18,6 +18,10 @@ use Rattle.snapshot_update.specs.declared.faults.ApplyFault.TheVariants.{Exhaust
 use Rattle.snapshot_update.specs.declared.faults.CountFault.{CountFault}
 use Rattle.snapshot_update.specs.declared.faults.CountFault.TheVariants.{WrongRegistry, Apply}
 use Rattle.snapshot_update.specs.Updated.{IsUpdated}
+use Rattle.snapshot_scan.specs.declared.reader.Reader.{Reader}
+use Rattle.snapshot_scan.specs.Lent.{IsWorkerAmong}
+use Rattle.snapshot_scan.specs.Readers.{members_with}
+use Rattle.snapshot_update.specs.Fit.{IsFitOfSeat}
 
 -- the member of a worker's seat; where the seat is away, a blank one stands for it
 abbrev pub member_in : Option WorkSeat → Member
@@ -73,3 +77,15 @@ IsApplyFault c h g m ops (Refused fault) = (length m.work.made < 184467440737095
 abbrev pub IsCountFault : (c h g id registry : ℕ) → Op → Member → CountFault → Type 0
 IsCountFault c h g id registry op m WrongRegistry = registry ≢ id
 IsCountFault c h g id registry op m (Apply fault) = (registry ≡ id) × IsApplyFault c h g m (op ∷ []) fault
+
+module _ {N C H G : ℕ} where
+  -- the worker is lent to this reader, behind which it stands as this member
+  pub record IsLentAs (m : Member) (w : Worker N C H G) (r : Reader N C H G) : Type 0 where
+    pub away : w.seat ≡ None
+    pub there : IsWorkerAmong w.index m (members_with r)
+    pub fits : IsFitOfSeat N C H G w.index w.number w.row.value w.memory w.images.hidden.items w.images.shown.items
+        w.images.recent w.images.late w.images.own w.index m
+
+  -- the worker is lent to this reader
+  abbrev pub IsLent : Worker N C H G → Reader N C H G → Type 0
+  IsLent w r = (m : Member) × IsLentAs m w r

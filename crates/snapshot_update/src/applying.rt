@@ -9,7 +9,7 @@ ghost use Rattle.register_rule.specs.Members.{new_worker};
 ghost use Rattle.register_rule.specs.Seats.{worker_of, index_of as seat_index};
 ghost use Rattle.snapshot_core.specs.declared.next.Next.TheVariants as Next;
 ghost use Rattle.snapshot_scan.specs.ScanMemories.{rows_of};
-ghost use Rattle.snapshot_update.specs.Blank.{AreBlank};
+ghost use Rattle.snapshot_update.specs.BufferImages.{AreBlank};
 ghost use Rattle.snapshot_update.specs.Updated.{IsUpdated};
 ghost use Rattle.snapshot_update.specs.Workers.{index_of, member_of, lists_of, IsWorkerOf, IsApplyFault};
 

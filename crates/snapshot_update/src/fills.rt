@@ -6,7 +6,7 @@ ghost use Rattle.segment_layout.specs.Layout.{depth};
 ghost use Rattle.register_rule.specs.Seats.{worker_of, index_of, HasWorker};
 ghost use Rattle.snapshot_update.specs.BufferImages.{DifferAt, with_hidden};
 ghost use Rattle.snapshot_update.specs.Noting.{SoFar};
-ghost use Rattle.snapshot_update.specs.Target.{target_of};
+ghost use Rattle.snapshot_update.specs.BufferImages.{target_of};
 
 use crate::version::Version;
 use register_rule::{Board, WorkSeat};

@@ -9,7 +9,7 @@ ghost use Rattle.snapshot_scan.specs.Lent.{IsWorkerAmong, HasSeenMore};
 ghost use Rattle.snapshot_scan.specs.Order.{IsAlone};
 ghost use Rattle.snapshot_scan.specs.Readers.{members_with, scan_by as scan_of_reader, index_of as reader_index, IsReaderOf};
 ghost use Rattle.snapshot_update.specs.Workers.{index_of, member_of, scan_by, IsWorkerOf};
-ghost use Rattle.snapshot_update.specs.Lending.{IsLent, IsLentAs};
+ghost use Rattle.snapshot_update.specs.Workers.{IsLent, IsLentAs};
 
 use crate::worker::Worker;
 use register_rule::Board;

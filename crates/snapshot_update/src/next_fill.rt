@@ -4,7 +4,7 @@ ghost use Rattle.ledger_core.specs.Ops.{width};
 ghost use Rattle.segment_layout.specs.Layout.{depth};
 ghost use Rattle.register_rule.specs.Seats.{worker_of, index_of, HasWorker};
 ghost use Rattle.snapshot_update.specs.BufferImages.{DifferAt, with_hidden};
-ghost use Rattle.snapshot_update.specs.Target.{target_of};
+ghost use Rattle.snapshot_update.specs.BufferImages.{target_of};
 ghost use Rattle.snapshot_update.specs.Fit.{AreInside};
 
 use crate::fills::{fill_all, fill_changes, fill_known};

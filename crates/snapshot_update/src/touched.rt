@@ -3,7 +3,7 @@ ghost use Rattle.std.specs.Prelude.{◌≡◌, ◌+◌, ◌*◌, ◌<◌, ◌≤
 ghost use Rattle.ledger_core.specs.Ops.{width, only, part, sum_ops, IsWithin};
 ghost use Rattle.ledger_core.specs.Limits.{AreSlots};
 ghost use Rattle.snapshot_update.specs.Noting.{Touches};
-ghost use Rattle.snapshot_update.specs.Run.{IsRun};
+ghost use Rattle.snapshot_update.specs.Noting.{IsRun};
 
 use crate::run::Run;
 use ledger_core::Op;

@@ -4,7 +4,7 @@ ghost use Rattle.bucket_math.specs.Words.{greatest_word};
 ghost use Rattle.ledger_core.specs.Ops.{width};
 ghost use Rattle.ledger_core.specs.Limits.{AreSlots};
 ghost use Rattle.snapshot_update.specs.BufferImages.{version_words};
-ghost use Rattle.snapshot_update.specs.Target.{target_of};
+ghost use Rattle.snapshot_update.specs.BufferImages.{target_of};
 
 use crate::version::Version;
 use ledger_core::Row;

@@ -3,7 +3,7 @@ ghost use Rattle.std.specs.Prelude.{◌≡◌, IfOk};
 ghost use Rattle.segment_layout.specs.Layout.{depth};
 ghost use Rattle.register_rule.specs.Steps.{after};
 ghost use Rattle.register_rule.specs.Told.{IsLoad, LoadTells};
-ghost use Rattle.register_rule.specs.Learned.{ScanChangesBy};
+ghost use Rattle.register_rule.specs.Told.{ScanChangesBy};
 ghost use Rattle.register_rule.specs.Members.{fresh_scan};
 ghost use Rattle.register_rule.specs.Seats.{members_of, reader_of, worker_of, MayScan, HasReader, HasWorker};
 ghost use Rattle.snapshot_scan.specs.Shape.{scan_in};

@@ -6,7 +6,7 @@ use Rattle.register_rule.specs.Seats.{table_of}
 use Rattle.snapshot_scan.specs.Lent.{IsWorkerAmong}
 use Rattle.snapshot_scan.specs.Readers.{members_with, bundle_of, scan_by, index_of}
 use Rattle.snapshot_update.specs.declared.worker.Worker.{Worker}
-use Rattle.snapshot_update.specs.Lending.{IsLentAs}
+use Rattle.snapshot_update.specs.Workers.{IsLentAs}
 use Rattle.snapshot_update.specs.Workers.{IsWorkerOf, index_of as worker_index}
 use Rattle.chain_law.specs.Lent.{AreBackFrom, HaveLeft}
 use Rattle.chain_law.proofs.gathering.take_all.Given as goal

@@ -1,5 +1,5 @@
 use Rattle.std.proofs.Common.{rules, ◌<◌, length}
-use Rattle.dirgwako.specs.Changes.{op_in}
+use Rattle.dirgwako.specs.Recorders.{op_in}
 use Rattle.dirgwako.proofs.Mapping.{more_set}
 use Rattle.dirgwako.proofs.listing.ops_of.Goals as goal
 

@@ -1,5 +1,5 @@
 use Rattle.std.proofs.Common.{◌≡◌, map, take, length}
-use Rattle.dirgwako.specs.Changes.{op_in}
+use Rattle.dirgwako.specs.Recorders.{op_in}
 use Rattle.dirgwako.proofs.listing.ops_of.Given as goal
 
 abbrev pub invariant-loop-at : goal.invariant-loop-at

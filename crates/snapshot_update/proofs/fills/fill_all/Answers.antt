@@ -2,7 +2,7 @@ use Rattle.std.proofs.Common.{◌<◌, length, sym, ap, ◌∙◌, arith}
 use Rattle.ledger_core.specs.Ops.{width}
 use Rattle.segment_layout.specs.Layout.{depth}
 use Rattle.snapshot_update.specs.BufferImages.{with_hidden}
-use Rattle.snapshot_update.specs.Target.{target_of}
+use Rattle.snapshot_update.specs.BufferImages.{target_of}
 use Rattle.snapshot_update.proofs.Filling.{all_filled}
 use Rattle.snapshot_update.proofs.fills.fill_all.Goals as goal
 

@@ -1,7 +1,7 @@
 use Rattle.std.proofs.Common.{◌≡◌, ◌<◌, ℕ, get_or}
 use Rattle.register_rule.specs.Seats.{worker_of, index_of, HasWorker}
 use Rattle.snapshot_update.specs.BufferImages.{with_hidden}
-use Rattle.snapshot_update.specs.Target.{target_of}
+use Rattle.snapshot_update.specs.BufferImages.{target_of}
 use Rattle.snapshot_update.proofs.fills.fill_changes.Given as goal
 
 abbrev pub invariant-loop-item : goal.invariant-loop-item

@@ -1,7 +1,7 @@
 use Rattle.std.proofs.Common.{◌∙◌, ⊎_elim}
 use Rattle.ledger_core.specs.Ops.{width}
 use Rattle.segment_layout.specs.Layout.{depth}
-use Rattle.snapshot_update.specs.Target.{target_of}
+use Rattle.snapshot_update.specs.BufferImages.{target_of}
 use Rattle.snapshot_update.proofs.Filling.{listed_or, all_filled}
 use Rattle.snapshot_update.proofs.fills.fill_known.Goals as goal
 

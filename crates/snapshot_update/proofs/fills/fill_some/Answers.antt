@@ -3,7 +3,7 @@ use Rattle.ledger_core.specs.Ops.{width}
 use Rattle.segment_layout.specs.Layout.{depth}
 use Rattle.snapshot_scan.specs.ChangedItems.{Changed}
 use Rattle.snapshot_update.specs.BufferImages.{with_hidden}
-use Rattle.snapshot_update.specs.Target.{target_of}
+use Rattle.snapshot_update.specs.BufferImages.{target_of}
 use Rattle.snapshot_update.specs.Noting.{SoFar}
 use Rattle.snapshot_update.proofs.Filling.{so_far_same, so_far_noted, below_set}
 use Rattle.snapshot_update.proofs.fills.fill_some.Goals as goal

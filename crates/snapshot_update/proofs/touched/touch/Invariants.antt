@@ -1,7 +1,7 @@
 use Rattle.std.proofs.Common.{◌*◌, take}
 use Rattle.ledger_core.specs.Ops.{width, sum_ops}
 use Rattle.snapshot_update.specs.Noting.{Touches}
-use Rattle.snapshot_update.specs.Run.{IsRun}
+use Rattle.snapshot_update.specs.Noting.{IsRun}
 use Rattle.snapshot_update.proofs.Touching.{none}
 use Rattle.snapshot_update.proofs.touched.touch.Given as goal
 

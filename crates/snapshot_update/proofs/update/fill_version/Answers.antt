@@ -6,7 +6,7 @@ use Rattle.snapshot_scan.specs.declared.scan_end.ScanEnd.{ScanEnd}
 use Rattle.snapshot_scan.specs.declared.scan_end.ScanEnd.TheVariants.{Direct, GaveUp}
 use Rattle.snapshot_scan.specs.ScanMemories.{answer_of}
 use Rattle.snapshot_update.specs.BufferImages.{version_words}
-use Rattle.snapshot_update.specs.Target.{target_of}
+use Rattle.snapshot_update.specs.BufferImages.{target_of}
 use Rattle.snapshot_update.proofs.update.fill_version.Goals as goal
 
 -- a scan that ended direct has a view

@@ -1,6 +1,6 @@
 use Rattle.std.proofs.Common.{refl, ap}
 use Rattle.registry_state.specs.Kept.{Registry}
-use Rattle.metrics_run.specs.Scans.{Scans}
+use Rattle.metrics_run.specs.State.{Scans}
 use Rattle.metrics_run.proofs.state.State.new.Goals as goal
 
 pub returns-in-Ok-clause-fresh : goal.returns-in-Ok-clause-fresh

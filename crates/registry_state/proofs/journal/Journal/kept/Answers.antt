@@ -1,6 +1,6 @@
 use Rattle.std.proofs.Common.{◌∙◌, sym, ap, map}
 use Rattle.registry_state.specs.Journal.{scrapes}
-use Rattle.registry_state.specs.Notes.{change_of}
+use Rattle.registry_state.specs.Merged.{change_of}
 use Rattle.registry_state.proofs.Merging.{merged_scrapes}
 use Rattle.registry_state.proofs.journal.Journal.kept.Goals as goal
 

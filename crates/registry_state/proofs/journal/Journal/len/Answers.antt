@@ -1,6 +1,6 @@
 use Rattle.std.proofs.Common.{◌≡◌, arith, ap, length, map}
 use Rattle.std.proofs.lemmas.List.{length-map}
-use Rattle.registry_state.specs.Notes.{change_of}
+use Rattle.registry_state.specs.Merged.{change_of}
 use Rattle.registry_state.proofs.Merging.{merged_length}
 use Rattle.registry_state.proofs.journal.Journal.len.Goals as goal
 

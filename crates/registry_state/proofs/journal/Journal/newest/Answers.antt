@@ -5,7 +5,7 @@ use Rattle.snapshot_scan.specs.Snapshots.{as_answer}
 use Rattle.snapshot_scan.specs.Sources.{newest}
 use Rattle.registry_state.specs.Journal.{scrapes}
 use Rattle.scrape_history.specs.History.{answers_of}
-use Rattle.registry_state.specs.Notes.{change_of}
+use Rattle.registry_state.specs.Merged.{change_of}
 use Rattle.registry_state.proofs.Merging.{merged_scrapes}
 use Rattle.registry_state.proofs.journal.Journal.newest.Goals as goal
 

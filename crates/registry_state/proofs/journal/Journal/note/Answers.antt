@@ -2,7 +2,7 @@ use Rattle.std.proofs.Common.{◌∙◌, ap, ◌∷◌, [], ◌++◌, map}
 use Rattle.std.proofs.lemmas.List.{map-append, length-append, length-map}
 use Rattle.registry_state.specs.Journal.{Changed}
 use Rattle.registry_state.specs.Merged.{merged}
-use Rattle.registry_state.specs.Notes.{change_of}
+use Rattle.registry_state.specs.Merged.{change_of}
 use Rattle.registry_state.proofs.Merging.{noted_change, merged_change}
 use Rattle.registry_state.proofs.journal.Journal.note.Goals as goal
 

@@ -3,7 +3,7 @@ use Rattle.std.proofs.lemmas.List.{length-map, length_push}
 use Rattle.snapshot_scan.specs.Snapshots.{Taken, as_answer}
 use Rattle.registry_state.specs.Journal.{Scraped, within}
 use Rattle.registry_state.specs.Merged.{merged, AreNoted}
-use Rattle.registry_state.specs.Notes.{change_of}
+use Rattle.registry_state.specs.Merged.{change_of}
 use Rattle.registry_state.proofs.Merging.{noted_scrape, noted_drop, merged_scrape, merged_within}
 use Rattle.registry_state.proofs.journal.Journal.scrape.Given.{Over}
 use Rattle.registry_state.proofs.journal.Journal.scrape.Goals as goal

@@ -2,7 +2,7 @@ use Rattle.std.proofs.Common.{◌∙◌, ap, map}
 use Rattle.std.proofs.lemmas.List.{length-map}
 use Rattle.registry_state.specs.Journal.{within}
 use Rattle.registry_state.specs.Merged.{merged}
-use Rattle.registry_state.specs.Notes.{change_of}
+use Rattle.registry_state.specs.Merged.{change_of}
 use Rattle.registry_state.proofs.Merging.{noted_drop, merged_within}
 use Rattle.registry_state.proofs.journal.Journal.trim.Goals as goal
 
