@@ -3,7 +3,7 @@ use Rattle.std.proofs.Common.{◌≡◌, ℕ, List, Ok, sym, ap, subst}
 use Rattle.expo_text.specs.Scraped.{Scraped}
 use Rattle.expo_text.specs.Text.{text}
 use Rattle.scrape_server.specs.Scrapes.{Scrapes, ShowsScrape}
-use Rattle.snapshot_scan.specs.Readers.{recorded_in}
+use Rattle.snapshot_scan.specs.Scanners.{recorded_in}
 use Rattle.snapshot_scan.specs.declared.contended.Contended.{Contended}
 use Rattle.snapshot_scan.specs.declared.scanner.Scanner.{Scanner}
 use Rattle.register_rule.specs.declared.view.Answer.{Answer}

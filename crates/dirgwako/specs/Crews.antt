@@ -12,7 +12,7 @@ use Rattle.dirgwako.specs.declared.crew.Crew.{Crew}
 use Rattle.dirgwako.specs.declared.opened.OpenFault.{OpenFault}
 use Rattle.dirgwako.specs.declared.recorder.Recorder.{Recorder}
 use Rattle.dirgwako.specs.declared.opened.OpenFault.TheVariants.{Opened, Registry}
-use Rattle.snapshot_scan.specs.Readers.{board_in}
+use Rattle.snapshot_scan.specs.Scanners.{board_in}
 
 module _ {N C H G : ℕ} where
   -- its board

@@ -27,6 +27,7 @@ pub use Rattle.register_rule.specs.Seats
 pub use Rattle.register_rule.specs.Sums
 pub use Rattle.snapshot_scan.specs.Order
 pub use Rattle.snapshot_scan.specs.Readers
+pub use Rattle.snapshot_scan.specs.Scanners
 pub use Rattle.snapshot_update.specs.Workers
 pub use Rattle.snapshot_update.specs.Updated
 pub use Rattle.registry_state.specs.Changed

@@ -9,7 +9,7 @@ use Rattle.dirgwako.specs.declared.printing.TextFault.TheVariants.{NoMemory, Con
 use Rattle.dirgwako.specs.declared.printing.PrintFault.{PrintFault}
 use Rattle.dirgwako.specs.declared.printing.PrintFault.TheVariants.{Text, Output}
 use Rattle.register_rule.specs.declared.view.Answer.{Answer}
-use Rattle.snapshot_scan.specs.Readers.{recorded_in}
+use Rattle.snapshot_scan.specs.Scanners.{recorded_in}
 use Rattle.snapshot_scan.specs.declared.scanner.Scanner.{Scanner}
 use Rattle.registry_state.specs.Kept.{IsKept, Registry}
 use Rattle.registry_state.specs.Shown.{IsShown}

@@ -7,7 +7,7 @@ ghost use Rattle.metric_registry.specs.Naming.{id_of};
 ghost use Rattle.registry_state.specs.Faults.{IsWindow};
 ghost use Rattle.snapshot_scan.specs.Order.{IsAlone};
 ghost use Rattle.snapshot_scan.specs.Readers.{IsReaderOf};
-ghost use Rattle.snapshot_scan.specs.Readers.{reader_in};
+ghost use Rattle.snapshot_scan.specs.Scanners.{reader_in};
 ghost use Rattle.dirgwako.specs.Crews.{ScansOn, IsFront};
 ghost use Rattle.snapshot_update.specs.Workers.{index_of, lists_of, IsWorkerOf};
 ghost use Rattle.std.proofs.Props.{props};

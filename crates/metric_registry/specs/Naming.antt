@@ -8,7 +8,7 @@ use Rattle.register_rule.specs.Seats.{board_id}
 use Rattle.register_rule.specs.declared.board.Board.{Board}
 use Rattle.register_rule.specs.declared.view.Answer.{Answer}
 use Rattle.snapshot_scan.specs.Moments.{AreMoments}
-use Rattle.snapshot_scan.specs.Readers.{board_in}
+use Rattle.snapshot_scan.specs.Scanners.{board_in}
 use Rattle.snapshot_scan.specs.declared.scanner.Scanner.{Scanner}
 use Rattle.registry_state.specs.Kept.{Registry}
 use Rattle.registry_state.specs.Journal.{Change, Entry, changes}

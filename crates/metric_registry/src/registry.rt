@@ -3,7 +3,7 @@ ghost use Rattle.std.specs.Prelude.{◌≡◌, ℕ, ◌<◌, ◌≤◌, IfErr, I
 ghost use Rattle.registry_state.specs.Changed.{IsInside};
 ghost use Rattle.registry_state.specs.Kept.{IsKept};
 ghost use Rattle.registry_state.specs.Faults.{IsWindow};
-ghost use Rattle.snapshot_scan.specs.Readers.{recorded_in};
+ghost use Rattle.snapshot_scan.specs.Scanners.{recorded_in};
 ghost use Rattle.metric_registry.specs.Naming.{IsOf, HasId, BeginsWith, ShowsMoment, IsScrapeFault};
 
 use crate::locked::Locked;

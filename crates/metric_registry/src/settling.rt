@@ -2,7 +2,7 @@
 ghost use Rattle.std.specs.Prelude.{◌≡◌, ℕ, ◌<◌, [], ◌∷◌, ◌++◌, All, IfErr, IfOk, IsSome, OnErr, OnOk};
 ghost use Rattle.chain_law.specs.Settled.{AreMomentsOf, AreSame, HasIndex, IsMissing, IsSettled};
 ghost use Rattle.snapshot_scan.specs.Readers.{IsReaderOf};
-ghost use Rattle.snapshot_scan.specs.Readers.{reader_in};
+ghost use Rattle.snapshot_scan.specs.Scanners.{reader_in};
 ghost use Rattle.snapshot_scan.specs.Snapshots.{as_answer};
 ghost use Rattle.snapshot_update.specs.Workers.{IsWorkerOf};
 ghost use Rattle.registry_state.specs.Journal.{scrapes};

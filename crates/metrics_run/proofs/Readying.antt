@@ -9,7 +9,7 @@ use Rattle.script_lines.specs.declared.line.Line.{Line}
 use Rattle.script_lines.specs.declared.line.Line.TheVariants.{Nothing, Counter, Gauge, Histogram, Child, Count, Go, Scrape}
 use Rattle.script_lines.specs.declared.line.Line.TheVariants.{Settle, Window}
 use Rattle.snapshot_scan.specs.Readers.{IsReaderOf}
-use Rattle.snapshot_scan.specs.Readers.{board_in, reader_in}
+use Rattle.snapshot_scan.specs.Scanners.{board_in, reader_in}
 use Rattle.snapshot_update.specs.declared.worker.Worker.{Worker}
 use Rattle.snapshot_update.specs.Workers.{index_of, IsWorkerOf}
 use Rattle.metrics_run.specs.Done.{IsDone, IsStepped}

@@ -6,7 +6,8 @@ use Rattle.expo_text.specs.Text.{text}
 use Rattle.metric_desc.specs.Desc.{Descriptor}
 use Rattle.register_rule.specs.Seats.{board_id}
 use Rattle.register_rule.specs.declared.board.Board.{Board}
-use Rattle.snapshot_scan.specs.Readers.{IsReaderOf, board_in, reader_in, recorded_in, scan_by}
+use Rattle.snapshot_scan.specs.Readers.{IsReaderOf, scan_by}
+use Rattle.snapshot_scan.specs.Scanners.{board_in, reader_in, recorded_in}
 use Rattle.snapshot_update.specs.declared.worker.Worker.{Worker}
 use Rattle.snapshot_update.specs.Workers.{index_of, lists_of, IsWorkerOf}
 use Rattle.registry_state.specs.Changed.{changed, IsGiven, KeepsScrape}

@@ -2,7 +2,7 @@
 use Rattle.std.specs.Prelude.{◌≡◌}
 use Rattle.register_rule.specs.Seats.{board_id}
 use Rattle.register_rule.specs.declared.board.Board.{Board}
-use Rattle.snapshot_scan.specs.Readers.{board_in}
+use Rattle.snapshot_scan.specs.Scanners.{board_in}
 use Rattle.registry_state.specs.Kept.{Registry}
 use Rattle.metrics_serve.specs.Counted.{AreSix}
 use Rattle.metrics_serve.specs.declared.serve.Service.{Service}

@@ -12,6 +12,7 @@ pub mod ScanMemories
 pub mod Snapshots
 pub mod Readers
 pub mod Answered
+pub mod Scanners
 pub mod Lent
 pub mod Order
 pub mod Sources

@@ -7,8 +7,6 @@ use Rattle.register_rule.specs.declared.board.Board.{Board}
 use Rattle.register_rule.specs.Seats.{Has, members_of}
 use Rattle.snapshot_scan.specs.Shape.{scan_in}
 use Rattle.snapshot_scan.specs.declared.reader.Reader.{Reader}
-use Rattle.register_rule.specs.declared.view.Answer.{Answer}
-use Rattle.snapshot_scan.specs.declared.scanner.Scanner.{Scanner}
 
 module _ {N C H G : ℕ} where
   -- its seat: the reader is its first member, and workers that are lent to it stand behind
@@ -30,16 +28,3 @@ module _ {N C H G : ℕ} where
   -- it is of this board's parts
   abbrev pub IsReaderOf : Board N C H G → Reader N C H G → Type 0
   IsReaderOf b r = Has b r.bundle
-
-module _ {N C H G : ℕ} where
-  -- its board
-  abbrev pub board_in : Scanner N C H G → Board N C H G
-  board_in s = s.board.now
-
-  -- its reader
-  abbrev pub reader_in : Scanner N C H G → Reader N C H G
-  reader_in s = s.reader
-
-  -- what its scans recorded, in order
-  abbrev pub recorded_in : Scanner N C H G → List Answer
-  recorded_in s = (scan_by s.reader).recorded

@@ -1,7 +1,7 @@
 use Rattle.std.proofs.Common.{arith, ◌≡◌, List, [], ◌∷◌, ◌++◌, ap, sym, subst, ◌∙◌, append_assoc}
 use Rattle.register_rule.specs.declared.view.Answer.{Answer}
 use Rattle.snapshot_scan.specs.Readers.{scan_by, IsReaderOf}
-use Rattle.snapshot_scan.specs.Readers.{reader_in}
+use Rattle.snapshot_scan.specs.Scanners.{reader_in}
 use Rattle.snapshot_scan.specs.Snapshots.{as_answer}
 use Rattle.snapshot_scan.specs.declared.reader.Reader.{Reader}
 use Rattle.snapshot_scan.specs.declared.scanner.Scanner.{Scanner}

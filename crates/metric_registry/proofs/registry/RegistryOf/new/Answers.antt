@@ -1,6 +1,6 @@
 use Rattle.std.proofs.Common.{◌≡◌, ap, sym, ◌∙◌}
 use Rattle.register_rule.specs.Seats.{board_id}
-use Rattle.snapshot_scan.specs.Readers.{board_in}
+use Rattle.snapshot_scan.specs.Scanners.{board_in}
 use Rattle.snapshot_scan.specs.declared.scanner.Scanner.{Scanner}
 use Rattle.registry_state.specs.Kept.{Registry}
 use Rattle.metric_registry.specs.Naming.{name_of}

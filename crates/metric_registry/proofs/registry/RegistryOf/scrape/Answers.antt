@@ -1,5 +1,5 @@
 use Rattle.std.proofs.Common.{◌≡◌, sym, subst, ◌∙◌}
-use Rattle.snapshot_scan.specs.Readers.{recorded_in}
+use Rattle.snapshot_scan.specs.Scanners.{recorded_in}
 use Rattle.snapshot_scan.specs.declared.scanner.Scanner.{Scanner}
 use Rattle.registry_state.specs.Kept.{Registry, IsKept}
 use Rattle.metric_registry.proofs.Showing.{scraped_begins, shows_moment}

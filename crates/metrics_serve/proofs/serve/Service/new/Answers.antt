@@ -1,5 +1,5 @@
 use Rattle.std.proofs.Common.{ap, ◌∙◌}
-use Rattle.snapshot_scan.specs.Readers.{board_in}
+use Rattle.snapshot_scan.specs.Scanners.{board_in}
 use Rattle.snapshot_scan.specs.declared.scanner.Scanner.{Scanner}
 use Rattle.registry_state.specs.Kept.{Registry}
 use Rattle.metrics_serve.proofs.serve.Service.new.Goals as goal
