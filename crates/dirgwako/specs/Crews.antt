@@ -1,5 +1,5 @@
 -- What a clause reads of a crew.
-use Rattle.std.specs.Prelude.{◌≡◌, ◌≢◌, ℕ, List, [], Vec, ◌∷◌, ◌++◌}
+use Rattle.std.specs.Prelude.{◌≡◌, ◌≢◌, ℕ, List, [], Vec}
 use Rattle.std.specs.declared.alloc.Global.{Global}
 use Rattle.register_rule.specs.declared.board.Board.{Board}
 use Rattle.metric_registry.specs.declared.naming.Named.{Ghosts}
@@ -12,7 +12,6 @@ use Rattle.dirgwako.specs.declared.crew.Crew.{Crew}
 use Rattle.dirgwako.specs.declared.opened.OpenFault.{OpenFault}
 use Rattle.dirgwako.specs.declared.recorder.Recorder.{Recorder}
 use Rattle.dirgwako.specs.declared.opened.OpenFault.TheVariants.{Opened, Registry}
-use Rattle.snapshot_scan.specs.Scanners.{board_in}
 
 module _ {N C H G : ℕ} where
   -- its board
@@ -46,12 +45,3 @@ module _ {N C H G : ℕ} where
 abbrev pub open_fault_number : OpenFault → ℕ
 open_fault_number Opened = 32
 open_fault_number (Registry fault) = new_fault_number fault
-
-module _ {N C H G : ℕ} where
-  -- it scans this board
-  abbrev pub ScansOn : Board N C H G → Scanner N C H G → Type 0
-  ScansOn b s = board_in s ≡ b
-
--- all but the last
-abbrev pub IsFront : {X : Type 0} → (front all : List X) → Type 0
-IsFront {X} front all = (x : X) × (all ≡ front ++ x ∷ [])

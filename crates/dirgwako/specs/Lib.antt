@@ -5,6 +5,7 @@ pub mod Printing
 pub mod Recorders
 pub mod Refused
 pub mod Registering
+pub mod Scanning
 pub mod Spaced
 pub mod Texts
 -- what the clauses of this library cite, for its callers
@@ -36,4 +37,5 @@ pub use Rattle.snapshot_scan.specs.Moments
 pub use Rattle.registry_state.specs.Kept
 pub use Rattle.registry_state.specs.Shown
 pub use Rattle.metric_registry.specs.Naming
+pub use Rattle.metric_registry.specs.Names
 pub use Rattle.scrape_server.specs.Again

@@ -3,12 +3,12 @@ ghost use Rattle.std.specs.Prelude.{◌≡◌, [], ◌∷◌, ◌++◌, map, len
 ghost use Rattle.std.specs.List.{range_with_len};
 ghost use Rattle.register_rule.specs.Faults.{IsBoardSize, IsBoardFault};
 ghost use Rattle.register_rule.specs.Seats.{board_id};
-ghost use Rattle.metric_registry.specs.Naming.{id_of};
+ghost use Rattle.metric_registry.specs.Names.{id_of};
 ghost use Rattle.registry_state.specs.Faults.{IsWindow};
 ghost use Rattle.snapshot_scan.specs.Order.{IsAlone};
 ghost use Rattle.snapshot_scan.specs.Readers.{IsReaderOf};
 ghost use Rattle.snapshot_scan.specs.Scanners.{reader_in};
-ghost use Rattle.dirgwako.specs.Crews.{ScansOn, IsFront};
+ghost use Rattle.dirgwako.specs.Scanning.{ScansOn, IsFront};
 ghost use Rattle.snapshot_update.specs.Workers.{index_of, lists_of, IsWorkerOf};
 ghost use Rattle.std.proofs.Props.{props};
 

@@ -5,7 +5,7 @@ ghost use Rattle.registry_state.specs.declared.fault.ChildFault.{ChildFault};
 ghost use Rattle.registry_state.specs.declared.fault.RegisterFault.{RegisterFault};
 ghost use Rattle.registry_state.specs.declared.handle.FamilyId.{FamilyId};
 ghost use Rattle.registry_state.specs.declared.handle.Handle.{Handle};
-ghost use Rattle.metric_registry.specs.Naming.{id_of};
+ghost use Rattle.metric_registry.specs.Names.{id_of};
 ghost use Rattle.metric_registry.specs.Naming.{HasId};
 ghost use Rattle.registry_state.specs.Changed.{IsInside};
 ghost use Rattle.dirgwako.specs.Alone.{RegistersAlone, GivesAlone};

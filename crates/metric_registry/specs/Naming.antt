@@ -15,10 +15,8 @@ use Rattle.registry_state.specs.Journal.{Change, Entry, changes}
 use Rattle.registry_state.specs.Parts.{AreAccepted, families_after}
 use Rattle.registry_state.specs.Shown.{IsShown}
 use Rattle.registry_state.specs.declared.fault.ScrapeFault.{ScrapeFault}
-use Rattle.registry_state.specs.declared.handle.Handle.{Handle}
-use Rattle.metric_registry.specs.declared.naming.Named.{Ghosts}
-use Rattle.metric_registry.specs.declared.registry.RegistryOf.{RegistryOf}
 use Rattle.registry_state.specs.declared.fault.ScrapeFault.TheVariants as Scrape
+use Rattle.registry_state.specs.declared.handle.Handle.{Handle}
 
 module _ {N C H G : ℕ} where
   -- what no other board has: its words
@@ -59,8 +57,3 @@ ShowsMoment n c h g first scrape = ∥ HasMoment n c h g first scrape ∥₁
 abbrev pub IsScrapeFault : (n : ℕ) → ScrapeFault → Type 0
 IsScrapeFault n Scrape.NoMemory = Unit {0}
 IsScrapeFault n (Scrape.Contended fault) = (fault.worker < n) × (fault.first < fault.last)
-
-module _ {B : Type 0} {N C H G : ℕ} {named : Ghosts B} where
-  -- the id of its board
-  abbrev pub id_of : RegistryOf B N C H G named → ℕ
-  id_of r = r.id

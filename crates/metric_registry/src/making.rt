@@ -32,7 +32,7 @@ impl<'a, B: Named, const N: usize, const C: usize, const H: usize, const G: usiz
     H,
     G,
 > {
-    ghost use Rattle.metric_registry.specs.Naming.{id_of};
+    ghost use Rattle.metric_registry.specs.Names.{id_of};
 
     /// A registry of this board, with an empty journal and without families, that scans with this reader, which has to be of this board, and
     /// keeps `window` scrapes. Its handles have the board's id. Where `B` names a board, it is this one.

@@ -81,7 +81,7 @@ impl<'a, B: Named, const N: usize, const C: usize, const H: usize, const G: usiz
     H,
     G,
 > {
-    ghost use Rattle.metric_registry.specs.Naming.{id_of};
+    ghost use Rattle.metric_registry.specs.Names.{id_of};
 
     /// The id of its board, which its handles have. It does not wait for the lock.
     pub fn id(&self) -> u64

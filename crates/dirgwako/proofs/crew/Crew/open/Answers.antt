@@ -4,7 +4,7 @@ use Rattle.register_rule.specs.Seats.{board_id}
 use Rattle.snapshot_scan.specs.Readers.{IsReaderOf}
 use Rattle.snapshot_update.specs.Workers.{IsWorkerOf}
 use Rattle.dirgwako.specs.Recorders.{IsOn}
-use Rattle.dirgwako.specs.Crews.{ScansOn}
+use Rattle.dirgwako.specs.Scanning.{ScansOn}
 use Rattle.dirgwako.proofs.crew.Crew.open.Goals as goal
 
 pub new-requires : goal.new-requires
