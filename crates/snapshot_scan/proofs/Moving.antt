@@ -1,5 +1,5 @@
 -- Where sums change is listed.
-use Rattle.std.proofs.Common.{◌≡◌, ◌≢◌, ◌⊎◌, ⊎_elim, ℕ, ◌+◌, ◌-◌, ◌%◌, ◌<◌, ◌≤◌, false, List, [], length, get_or, set, inl, inr}
+use Rattle.std.proofs.Common.{◌≡◌, ◌≢◌, ◌⊎◌, ⊎_elim, ℕ, ◌+◌, ◌-◌, ◌%◌, ◌<◌, ◌≤◌, List, [], length, get_or, set, inl, inr}
 use Rattle.std.proofs.Common.{sym, ap, ◌∙◌, subst, refl, arith, get_or-set_same, get_or-set_other}
 use Rattle.std.specs.List.{Contains}
 use mathlib.Core.Logic.{dite}

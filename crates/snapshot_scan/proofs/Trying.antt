@@ -22,7 +22,7 @@ use Rattle.snapshot_scan.specs.declared.remembered_row.RememberedRow.{Remembered
 use Rattle.snapshot_scan.specs.RememberedRows.{version_of, AreWide, AreTotals, words_of, looks_of, pairs, opening, settling}
 use Rattle.snapshot_scan.specs.RememberedRows.{sum_rows}
 use Rattle.snapshot_scan.specs.Asking.{refused, refused_all, due_from, asked_worker}
-use Rattle.snapshot_scan.specs.Scanned.{Tried, all_opened, all_confirmed, all_before, all_asked, FailedTry, IsIdle}
+use Rattle.snapshot_scan.specs.Scanned.{Tried, all_opened, all_confirmed, all_before, all_asked, FailedTry}
 use Rattle.snapshot_scan.proofs.Opening.{looks_long}
 use Rattle.snapshot_scan.proofs.Settling.{settled_here, words_wide}
 

@@ -1,5 +1,5 @@
 -- The two collects of a try, place by place.
-use Rattle.std.specs.Prelude.{◌≡◌, ◌≢◌, ℕ, ◌<◌, ◌≤◌, ◌==◌, Bool, true, false, cond, List, [], map, take, slice_index}
+use Rattle.std.specs.Prelude.{◌≡◌, ◌≢◌, ℕ, ◌<◌, ◌≤◌, ◌==◌, Bool, true, false, cond, List, [], length, map, take, slice_index}
 use mathlib.Core.Option.{some}
 use lib.ListN.{get_elem?}
 use Rattle.ledger_core.specs.Ops.{width, sum_ops}
@@ -7,10 +7,24 @@ use Rattle.ledger_core.specs.Row.{Accepts}
 use Rattle.register_rule.specs.declared.view.Member.{Member}
 use Rattle.register_rule.specs.Steps.{ended}
 use Rattle.register_rule.specs.Told.{AreRuled}
-use Rattle.register_rule.specs.Seats.{HasMember}
+use Rattle.register_rule.specs.declared.board.Board.{Board}
+use Rattle.register_rule.specs.declared.seats.Bundle.{Bundle}
+use Rattle.register_rule.specs.Seats.{HasMember, MayScan}
+use Rattle.segment_layout.specs.Layout.{IsGeometry}
 use Rattle.snapshot_scan.specs.declared.remembered_row.RememberedRow.{RememberedRow}
-use Rattle.snapshot_scan.specs.Shape.{scan_of, with_scan}
-use Rattle.snapshot_scan.specs.RememberedRows.{AreWide, AreKnown, IsLoaded, version_of, opening, settling}
+use Rattle.snapshot_scan.specs.Shape.{scan_of, scan_in, with_scan}
+use Rattle.snapshot_scan.specs.RememberedRows.{AreWide, AreKnown, IsLoaded, version_of, looks_of, opening, settling}
+
+-- a second collect may be made: by a seat that can make steps of a scan, whose member remembers these rows, and has opened all of its
+-- board's places at these numbers; what it finds has a place each
+pub record MayConfirm {N C H G : ℕ} (b : Board N C H G) (s : Bundle) (gs : List RememberedRow) (opened found : List ℕ) : Type 0 where
+  pub own : MayScan b s
+  pub geometry : IsGeometry N C H G
+  pub lengths : (length gs ≡ N) × (length opened ≡ N) × (length found ≡ N)
+  pub wide : AreWide (width C H G) gs
+  pub kept : (scan_in s).kept ≡ map version_of gs
+  pub looks : (scan_in s).now.looks ≡ looks_of 0 opened [] gs
+  pub loaded : (q : ℕ) → q < N → (j : ℕ) × (get_elem? (scan_in s).opened j ≡ some (q, slice_index opened q))
 
 -- a first collect, which the first one of the members `before` began when these rows were remembered, has opened the
 -- first p places, at these numbers; `all` says that each of them is the one that is remembered

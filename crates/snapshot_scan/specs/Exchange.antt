@@ -1,5 +1,5 @@
 -- One row in the place of another.
-use Rattle.std.specs.Prelude.{◌≡◌, ◌⊎◌, ℕ, ◌+◌, ◌<◌, ◌≤◌, List, slice_index}
+use Rattle.std.specs.Prelude.{◌≡◌, ℕ, ◌+◌, ◌<◌, ◌≤◌, List, slice_index}
 use Rattle.snapshot_scan.specs.ChangedItems.{Changed, Moves}
 
 -- from `from` on the words of the row are parts of the n sums, each of which is at most 2^53

@@ -8,6 +8,7 @@ pub mod Asking
 pub mod Scanned
 pub mod Contention
 pub mod Core
+pub mod Conditions
 pub mod ScanMemories
 pub mod Snapshots
 pub mod Readers

@@ -1,16 +1,16 @@
 //! Asking a worker for the view that it lends.
-ghost use Rattle.std.specs.Prelude.{◌≡◌, ℕ, ◌+◌, ◌<◌, ◌≤◌, [], ◌∷◌, ◌++◌, ◌↔◌, IsTrue, true, false, length, List};
+ghost use Rattle.std.specs.Prelude.{◌≡◌, ℕ, ◌+◌, ◌<◌, ◌≤◌, ◌∷◌, ◌++◌, ◌↔◌, IsTrue, true, false, length, List};
 ghost use Rattle.std.specs.Prelude.{map};
 ghost use mathlib.Core.Option.{some};
 ghost use lib.ListN.{get_elem?};
 ghost use Rattle.ledger_core.specs.Ops.{width};
-ghost use Rattle.segment_layout.specs.Layout.{IsGeometry};
 ghost use Rattle.register_rule.specs.declared.view.Asked.{Asked};
 ghost use Rattle.ledger_core.specs.Vectors.{is_above};
 ghost use Rattle.register_rule.specs.Steps.{answered, gives_up, lent_in};
-ghost use Rattle.register_rule.specs.Seats.{table_of, members_of, MayScan};
+ghost use Rattle.register_rule.specs.Seats.{table_of, members_of};
 ghost use Rattle.snapshot_scan.specs.Shape.{scan_in, with_scan, IsRuled};
-ghost use Rattle.snapshot_scan.specs.Asking.{DoesNotLend, Lends, asked_too, refused, due_from, refused_all, asked_worker, MayAsk};
+ghost use Rattle.snapshot_scan.specs.Asking.{DoesNotLend, Lends, asked_too, refused, due_from, refused_all, asked_worker};
+ghost use Rattle.snapshot_scan.specs.Conditions.{MayAskOne, MayAskAll};
 
 use crate::items::read_items;
 use register_rule::{Board, ScanSeat};
@@ -37,13 +37,7 @@ fn ask<S: ScanSeat<N, C, H, G>, const N: usize, const C: usize, const H: usize, 
     floor: &[u64],
     lent: &mut [u64],
 ) -> bool
-    requires own { MayScan board.now (S.bundle seat.old) }
-    requires geometry { IsGeometry N C H G }
-    requires inside { place < N }
-    requires lengths { (row ≡ width C H G) × (length floor.now ≡ N) × (length lent.old ≡ 1 + N + width C H G) }
-    requires next { (rest : List ℕ) × ((scan_in (S.bundle seat.old)).now.due ≡ place ∷ rest) }
-    requires rest { ((scan_in (S.bundle seat.old)).now.looks ≡ []) × ((scan_in (S.bundle seat.old)).now.asks ≡ []) }
-    requires floor { (scan_in (S.bundle seat.old)).now.floor ≡ floor.now }
+    requires { MayAskOne board.now (S.bundle seat.old) place row floor.now lent.old }
     ensures own { table_of (S.bundle seat.new) ≡ table_of (S.bundle seat.old) }
     ensures ruled { IsRuled N C H G (S.bundle seat.new) }
     ensures lends { result ≡ true → (e : Asked) × (e.worker ≡ place) × (e.words ≡ lent.new) × Lends N (width C H G) floor.now e
@@ -90,12 +84,7 @@ pub(crate) fn ask_all<
     found: &[u64],
     lent: &mut [u64],
 ) -> bool
-    requires own { MayScan board.now (S.bundle seat.old) }
-    requires ruled { IsRuled N C H G (S.bundle seat.old) }
-    requires geometry { IsGeometry N C H G }
-    requires lengths { (row ≡ width C H G) × (length floor.now ≡ N) × (length base.now ≡ N) × (length found.now ≡ N)
-        × (length lent.old ≡ 1 + N + width C H G) }
-    requires may_ask { MayAsk floor.now (due_from 0 base.now found.now) (scan_in (S.bundle seat.old)) }
+    requires { MayAskAll board.now (S.bundle seat.old) row floor.now base.now found.now lent.old }
     ensures own { table_of (S.bundle seat.new) ≡ table_of (S.bundle seat.old) }
     ensures ruled { IsRuled N C H G (S.bundle seat.new) }
     ensures lends { result ≡ true → (es : List Asked) × (e : Asked) × (more : List ℕ)

@@ -1,14 +1,14 @@
 //! The second collect of a try.
-ghost use Rattle.std.specs.Prelude.{◌≡◌, ℕ, ◌<◌, ◌≤◌, ◌↔◌, [], true, IsTrue, length, map, slice_index};
+ghost use Rattle.std.specs.Prelude.{◌≡◌, ℕ, ◌<◌, ◌≤◌, ◌↔◌, true, IsTrue, length, slice_index};
 ghost use mathlib.Core.Option.{some};
 ghost use lib.ListN.{get_elem?};
 ghost use Rattle.ledger_core.specs.Ops.{width};
-ghost use Rattle.segment_layout.specs.Layout.{IsGeometry};
 ghost use Rattle.register_rule.specs.Steps.{ended};
-ghost use Rattle.register_rule.specs.Seats.{table_of, members_of, MayScan};
+ghost use Rattle.register_rule.specs.Seats.{table_of, members_of};
 ghost use Rattle.snapshot_scan.specs.ChangedItems.{Moves};
 ghost use Rattle.snapshot_scan.specs.Shape.{scan_in, with_scan, IsRuled};
-ghost use Rattle.snapshot_scan.specs.RememberedRows.{AreWide, AreTotals, AreKnown, version_of, looks_of, settling};
+ghost use Rattle.snapshot_scan.specs.Collecting.{MayConfirm};
+ghost use Rattle.snapshot_scan.specs.RememberedRows.{AreWide, AreTotals, AreKnown, settling};
 
 use crate::changed_items::ChangedItems;
 use crate::confirms::confirm_known;
@@ -32,16 +32,8 @@ fn confirm_all<
     found: &mut [u64],
     moved: &mut ChangedItems,
 ) -> bool
-    requires own { MayScan board.now (S.bundle seat.old) }
-    requires geometry { IsGeometry N C H G }
-    requires lengths { (length kept.old ≡ N) × (length opened.now ≡ N) × (length found.old ≡ N)
-        × (length totals.old ≡ width C H G) }
-    requires wide { AreWide (width C H G) kept.old }
-    requires totals { AreTotals (width C H G) kept.old totals.old }
-    requires kept { (scan_in (S.bundle seat.old)).kept ≡ map version_of kept.old }
-    requires looks { (scan_in (S.bundle seat.old)).now.looks ≡ looks_of 0 opened.now [] kept.old }
-    requires loaded { (q : ℕ) → q < N → (j : ℕ)
-        × (get_elem? (scan_in (S.bundle seat.old)).opened j ≡ some (q, slice_index opened.now q)) }
+    requires may { MayConfirm board.now (S.bundle seat.old) kept.old opened.now found.old }
+    requires sums { (length totals.old ≡ width C H G) × AreTotals (width C H G) kept.old totals.old }
     ensures own { table_of (S.bundle seat.new) ≡ table_of (S.bundle seat.old) }
     ensures ruled { IsRuled N C H G (S.bundle seat.new) }
     ensures wide { AreWide (width C H G) kept.new }
@@ -82,17 +74,9 @@ pub(crate) fn confirm<
     moved: &mut ChangedItems,
     known: bool,
 ) -> bool
-    requires own { MayScan board.now (S.bundle seat.old) }
-    requires geometry { IsGeometry N C H G }
-    requires lengths { (length kept.old ≡ N) × (length opened.now ≡ N) × (length found.old ≡ N)
-        × (length totals.old ≡ width C H G) }
-    requires wide { AreWide (width C H G) kept.old }
-    requires totals { AreTotals (width C H G) kept.old totals.old }
+    requires may { MayConfirm board.now (S.bundle seat.old) kept.old opened.now found.old }
+    requires sums { (length totals.old ≡ width C H G) × AreTotals (width C H G) kept.old totals.old }
     requires known { known ≡ true → AreKnown opened.now kept.old }
-    requires kept { (scan_in (S.bundle seat.old)).kept ≡ map version_of kept.old }
-    requires looks { (scan_in (S.bundle seat.old)).now.looks ≡ looks_of 0 opened.now [] kept.old }
-    requires loaded { (q : ℕ) → q < N → (j : ℕ)
-        × (get_elem? (scan_in (S.bundle seat.old)).opened j ≡ some (q, slice_index opened.now q)) }
     ensures own { table_of (S.bundle seat.new) ≡ table_of (S.bundle seat.old) }
     ensures ruled { IsRuled N C H G (S.bundle seat.new) }
     ensures wide { AreWide (width C H G) kept.new }

@@ -1,15 +1,13 @@
 //! The second collect of a try whose rows are all remembered, four places in one turn.
-ghost use Rattle.std.specs.Prelude.{◌≡◌, ℕ, ◌+◌, ◌<◌, ◌≤◌, ◌↔◌, List, [], IsTrue, length, map, slice_index};
-ghost use mathlib.Core.Option.{some};
-ghost use lib.ListN.{get_elem?};
+ghost use Rattle.std.specs.Prelude.{◌≡◌, ℕ, ◌+◌, ◌<◌, ◌≤◌, ◌↔◌, List, IsTrue, length, slice_index};
 ghost use Rattle.ledger_core.specs.Ops.{width};
 ghost use Rattle.segment_layout.specs.Layout.{IsGeometry};
 ghost use Rattle.register_rule.specs.declared.view.Member.{Member};
 ghost use Rattle.register_rule.specs.Steps.{ended};
 ghost use Rattle.register_rule.specs.Seats.{table_of, members_of, HasMember, MayScan};
 ghost use Rattle.snapshot_scan.specs.Shape.{scan_in, with_scan, IsRuled};
-ghost use Rattle.snapshot_scan.specs.RememberedRows.{AreWide, AreKnown, version_of, looks_of, settling};
-ghost use Rattle.snapshot_scan.specs.Collecting.{HasConfirmed};
+ghost use Rattle.snapshot_scan.specs.RememberedRows.{AreKnown, settling};
+ghost use Rattle.snapshot_scan.specs.Collecting.{MayConfirm, HasConfirmed};
 
 use crate::remembered_row::RememberedRow;
 use register_rule::{Board, ScanSeat};
@@ -126,15 +124,8 @@ pub(crate) fn confirm_known<
     opened: &[u64],
     found: &mut [u64],
 ) -> bool
-    requires own { MayScan board.now (S.bundle seat.old) }
-    requires geometry { IsGeometry N C H G }
-    requires lengths { (length kept.now ≡ N) × (length opened.now ≡ N) × (length found.old ≡ N) }
-    requires wide { AreWide (width C H G) kept.now }
+    requires may { MayConfirm board.now (S.bundle seat.old) kept.now opened.now found.old }
     requires known { AreKnown opened.now kept.now }
-    requires kept { (scan_in (S.bundle seat.old)).kept ≡ map version_of kept.now }
-    requires looks { (scan_in (S.bundle seat.old)).now.looks ≡ looks_of 0 opened.now [] kept.now }
-    requires loaded { (q : ℕ) → q < N → (j : ℕ)
-        × (get_elem? (scan_in (S.bundle seat.old)).opened j ≡ some (q, slice_index opened.now q)) }
     ensures own { table_of (S.bundle seat.new) ≡ table_of (S.bundle seat.old) }
     ensures ruled { IsRuled N C H G (S.bundle seat.new) }
     ensures view { members_of (S.bundle seat.new) ≡ with_scan

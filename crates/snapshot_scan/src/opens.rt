@@ -1,5 +1,5 @@
 //! The first collect of a try, four places in one turn.
-ghost use Rattle.std.specs.Prelude.{◌≡◌, ℕ, ◌+◌, ◌<◌, ◌≤◌, List, [], true, false, length, map, slice_index};
+ghost use Rattle.std.specs.Prelude.{◌≡◌, ℕ, ◌+◌, ◌<◌, ◌≤◌, List, true, false, length, map, slice_index};
 ghost use Rattle.ledger_core.specs.Ops.{width};
 ghost use Rattle.segment_layout.specs.Layout.{IsGeometry};
 ghost use Rattle.register_rule.specs.declared.view.Member.{Member};
@@ -7,6 +7,7 @@ ghost use Rattle.register_rule.specs.Seats.{table_of, members_of, HasMember, May
 ghost use Rattle.snapshot_scan.specs.Shape.{scan_in, with_scan};
 ghost use Rattle.snapshot_scan.specs.RememberedRows.{AreWide, AreKnown, HasOther, IsLoaded, version_of, opening};
 ghost use Rattle.snapshot_scan.specs.Collecting.{HasOpened};
+ghost use Rattle.snapshot_scan.specs.Conditions.{MayTry};
 
 use crate::remembered_row::RememberedRow;
 use register_rule::{Board, ScanSeat};
@@ -121,13 +122,7 @@ pub(crate) fn collect<
     const H: usize,
     const G: usize,
 >(board: &Board<N, C, H, G>, seat: &mut S, kept: &mut [RememberedRow], opened: &mut [u64]) -> bool
-    requires own { MayScan board.now (S.bundle seat.old) }
-    requires geometry { IsGeometry N C H G }
-    requires lengths { (length kept.old ≡ N) × (length opened.old ≡ N) }
-    requires wide { AreWide (width C H G) kept.old }
-    requires kept { (scan_in (S.bundle seat.old)).kept ≡ map version_of kept.old }
-    requires rest { ((scan_in (S.bundle seat.old)).now.looks ≡ []) × ((scan_in (S.bundle seat.old)).now.due ≡ [])
-        × ((scan_in (S.bundle seat.old)).now.asks ≡ []) }
+    requires { MayTry board.now (S.bundle seat.old) kept.old opened.old }
     ensures own { table_of (S.bundle seat.new) ≡ table_of (S.bundle seat.old) }
     ensures wide { AreWide (width C H G) kept.new }
     ensures same { map version_of kept.new ≡ map version_of kept.old }

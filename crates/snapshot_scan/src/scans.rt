@@ -1,18 +1,15 @@
 //! A scan.
-ghost use Rattle.std.specs.Prelude.{◌≡◌, ℕ, ◌+◌, ◌<◌, ◌≤◌, [], ◌++◌, Bool, true, false, length, map, slice_index, Contains};
-ghost use Rattle.register_rule.specs.Steps.{answered, gives_up, lent_in};
+ghost use Rattle.std.specs.Prelude.{◌≡◌, ℕ, ◌+◌, ◌<◌, ◌≤◌, true, false, length, map, slice_index, Contains};
+ghost use Rattle.register_rule.specs.Steps.{answered, gives_up};
 ghost use Rattle.ledger_core.specs.Ops.{width};
-ghost use Rattle.segment_layout.specs.Layout.{IsGeometry};
-ghost use Rattle.register_rule.specs.Seats.{table_of, members_of, MayScan};
+ghost use Rattle.register_rule.specs.Seats.{table_of, members_of};
 ghost use Rattle.snapshot_scan.specs.ChangedItems.{Moves, Lists};
 ghost use Rattle.snapshot_scan.specs.Shape.{scan_in, with_scan, IsRuled};
-ghost use Rattle.snapshot_scan.specs.RememberedRows.{AreWide, AreTotals, AreKnown, HasOther, IsLoaded, pairs, version_of};
+ghost use Rattle.snapshot_scan.specs.RememberedRows.{AreWide, AreTotals, AreKnown, HasOther, IsLoaded, version_of};
 ghost use Rattle.snapshot_scan.specs.RememberedRows.{opening, settling, failing};
 ghost use Rattle.snapshot_core.specs.declared.next.Next.TheVariants as Next;
-ghost use Rattle.snapshot_scan.specs.declared.contended.Contended.{Contended};
-ghost use Rattle.snapshot_scan.specs.Contention.{IsFirstMoved};
-ghost use Rattle.snapshot_scan.specs.Scanned.{IsIdle, IsQuiet, HasMoved, IsAnswered, IsGivenUp};
-ghost use Rattle.snapshot_scan.specs.Core.{CameTo, AnswersBy};
+ghost use Rattle.snapshot_scan.specs.Scanned.{IsQuiet};
+ghost use Rattle.snapshot_scan.specs.Conditions.{MayTry, MayBegin, HasEnded};
 
 use crate::asks::ask_all;
 use crate::changed_items::ChangedItems;
@@ -41,16 +38,9 @@ fn try_once<
     moved: &mut ChangedItems,
     known: &mut bool,
 ) -> bool
-    requires own { MayScan board.now (S.bundle seat.old) }
-    requires geometry { IsGeometry N C H G }
-    requires lengths { (length kept.old ≡ N) × (length totals.old ≡ width C H G) × (length opened.old ≡ N)
-        × (length found.old ≡ N) }
-    requires wide { AreWide (width C H G) kept.old }
-    requires totals { AreTotals (width C H G) kept.old totals.old }
-    requires kept { (scan_in (S.bundle seat.old)).kept ≡ map version_of kept.old }
+    requires may { MayTry board.now (S.bundle seat.old) kept.old opened.old }
+    requires room { (length found.old ≡ N) × (length totals.old ≡ width C H G) × AreTotals (width C H G) kept.old totals.old }
     requires listed { (j : ℕ) → Contains moved.old.items j → j < width C H G }
-    requires rest { ((scan_in (S.bundle seat.old)).now.looks ≡ []) × ((scan_in (S.bundle seat.old)).now.due ≡ [])
-        × ((scan_in (S.bundle seat.old)).now.asks ≡ []) }
     ensures own { table_of (S.bundle seat.new) ≡ table_of (S.bundle seat.old) }
     ensures ruled { IsRuled N C H G (S.bundle seat.new) }
     ensures wide { AreWide (width C H G) kept.new }
@@ -96,15 +86,8 @@ fn try_again<
     moved: &mut ChangedItems,
     known: &mut bool,
 ) -> bool
-    requires own { MayScan board.now (S.bundle seat.old) }
-    requires geometry { IsGeometry N C H G }
-    requires lengths { (length kept.old ≡ N) × (length totals.old ≡ width C H G) × (length opened.old ≡ N)
-        × (length found.old ≡ N) }
-    requires wide { AreWide (width C H G) kept.old }
-    requires totals { AreTotals (width C H G) kept.old totals.old }
-    requires kept { (scan_in (S.bundle seat.old)).kept ≡ map version_of kept.old }
-    requires rest { ((scan_in (S.bundle seat.old)).now.looks ≡ []) × ((scan_in (S.bundle seat.old)).now.due ≡ [])
-        × ((scan_in (S.bundle seat.old)).now.asks ≡ []) }
+    requires may { MayTry board.now (S.bundle seat.old) kept.old opened.old }
+    requires room { (length found.old ≡ N) × (length totals.old ≡ width C H G) × AreTotals (width C H G) kept.old totals.old }
     ensures own { table_of (S.bundle seat.new) ≡ table_of (S.bundle seat.old) }
     ensures ruled { IsRuled N C H G (S.bundle seat.new) }
     ensures wide { AreWide (width C H G) kept.new }
@@ -151,40 +134,9 @@ pub(crate) fn scan<
     lent: &mut [u64],
     moved: &mut ChangedItems,
 ) -> ScanEnd
-    requires own { MayScan board.now (S.bundle seat.old) }
-    requires geometry { IsGeometry N C H G }
-    requires lengths { (length kept.old ≡ N) × (length totals.old ≡ width C H G) × (length opened.old ≡ N)
-        × (length found.old ≡ N) × (length lent.old ≡ 1 + N + width C H G) }
-    requires wide { AreWide (width C H G) kept.old }
-    requires totals { AreTotals (width C H G) kept.old totals.old }
-    requires listed { (j : ℕ) → Contains moved.old.items j → j < width C H G }
-    requires idle { IsIdle (scan_in (S.bundle seat.old)) kept.old }
-    ensures own { table_of (S.bundle seat.new) ≡ table_of (S.bundle seat.old) }
-    ensures ruled { IsRuled N C H G (S.bundle seat.new) }
-    ensures wide { AreWide (width C H G) kept.new }
-    ensures totals { AreTotals (width C H G) kept.new totals.new }
-    ensures idle { IsIdle (scan_in (S.bundle seat.new)) kept.new }
-    ensures others { members_of (S.bundle seat.new) ≡ with_scan (scan_in (S.bundle seat.new)) (members_of (S.bundle seat.old)) }
-    ensures direct { (q : Bool) → result ≡ ScanEnd.Direct q → IsAnswered N (scan_in (S.bundle seat.old))
-        (scan_in (S.bundle seat.new)) (record { vector = opened.new; totals = totals.new }) }
-    ensures came_direct { (q : Bool) → result ≡ ScanEnd.Direct q → AnswersBy N (width C H G) (scan_in (S.bundle seat.old))
-        (scan_in (S.bundle seat.new)) (record { vector = opened.new; totals = totals.new }) }
-    ensures quiet { result ≡ ScanEnd.Direct true → IsQuiet kept.old kept.new totals.old totals.new opened.new }
-    ensures once { result ≡ ScanEnd.Direct true → (scan_in (S.bundle seat.new)).opened ≡ (scan_in (S.bundle seat.old)).opened
-        ++ pairs 0 opened.new }
-    ensures moved { result ≡ ScanEnd.Direct false → HasMoved N (map version_of kept.old) (scan_in (S.bundle seat.old))
-        (scan_in (S.bundle seat.new)) }
-    ensures lent { result ≡ ScanEnd.Lent → IsAnswered N (scan_in (S.bundle seat.old)) (scan_in (S.bundle seat.new))
-        (lent_in N (width C H G) lent.new) }
-    ensures came_lent { result ≡ ScanEnd.Lent → AnswersBy N (width C H G) (scan_in (S.bundle seat.old))
-        (scan_in (S.bundle seat.new)) (lent_in N (width C H G) lent.new) }
-    ensures numbers { (q : Bool) → result ≡ ScanEnd.Direct q → AreKnown opened.new kept.new }
-    ensures listed { Lists (width C H G) totals.old totals.new moved.new }
-    ensures gave_up { result ≡ ScanEnd.GaveUp → IsGivenUp N (scan_in (S.bundle seat.old)) (scan_in (S.bundle seat.new)) opened.new
-        found.new }
-    ensures came_up { result ≡ ScanEnd.GaveUp → (e : Contended) → IsFirstMoved opened.new found.new e
-        → CameTo N (width C H G) (scan_in (S.bundle seat.old)) (scan_in (S.bundle seat.new))
-        (Next.GaveUp e.worker e.first e.last) }
+    requires { MayBegin board.now (S.bundle seat.old) kept.old totals.old opened.old found.old lent.old moved.old }
+    ensures { HasEnded N C H G (S.bundle seat.old) (S.bundle seat.new) kept.old kept.new totals.old totals.new opened.new
+        found.new lent.new moved.new result }
 {
     let mut known = false;
     let clean = try_once(board, seat, kept, totals, opened, found, moved, &mut known);

@@ -48,26 +48,15 @@ ask-lends-requires g c =
     let scan : scan_of (members_of (g.S.ScanSeat.bundle c.loop-place.seat)) ≡ refused_all g.row.N es (scan_of ms) =
     ap scan_of inv.view ∙ scan_with _ ms c.requires.own.1 in (
       search rules,
-      (
-        (inv.own ∙ c.requires.own.0, inv.leads),
-        (
-          c.requires.geometry,
-          (
-            omega (arith, lens.3, t),
-            (
-              (lens.0, lens.1, a ∙ lens.4),
-              (
-                (more, ap (λ (d : Scan). d.now.due) scan ∙ may.due),
-                (
-                  (ap (λ (d : Scan). d.now.looks) scan ∙ may.looks, ap (λ (d : Scan). d.now.asks) scan ∙ may.asks),
-                  ap (λ (d : Scan). d.now.floor) scan ∙ floor_here c.args.floor.now more p (refused_all g.row.N es (scan_of ms))
-                      may,
-                ),
-              ),
-            ),
-          ),
-        ),
-      ),
+      record {
+        own = (inv.own ∙ c.requires.own.0, inv.leads);
+        geometry = c.requires.geometry;
+        inside = omega (arith, lens.3, t);
+        lengths = (lens.0, lens.1, a ∙ lens.4);
+        next = (more, ap (λ (d : Scan). d.now.due) scan ∙ may.due);
+        rest = (ap (λ (d : Scan). d.now.looks) scan ∙ may.looks, ap (λ (d : Scan). d.now.asks) scan ∙ may.asks);
+        floor = ap (λ (d : Scan). d.now.floor) scan ∙ floor_here c.args.floor.now more p (refused_all g.row.N es (scan_of ms)) may;
+      },
     )
 
 pub returns-then-lends-clause-lends : goal.returns-then-lends-clause-lends

@@ -1,4 +1,4 @@
-use Rattle.std.proofs.Common.{◌≡◌, ◌≢◌, ℕ, ◌+◌, ◌<◌, set, length, get_or, refl, sym, ap, ◌∙◌, arith, below_more, get_or-set_same}
+use Rattle.std.proofs.Common.{◌≡◌, ◌≢◌, ℕ, ◌+◌, set, get_or, ◌∙◌, arith, below_more, get_or-set_same}
 use Rattle.std.proofs.Common.{get_or-set_other}
 use Rattle.snapshot_scan.proofs.changed_items.write_each.Goals as goal
 

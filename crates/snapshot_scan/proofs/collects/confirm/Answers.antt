@@ -13,10 +13,10 @@ pub returns-then-known-clause-ruled : goal.returns-then-known-clause-ruled
 returns-then-known-clause-ruled g c = c.confirm_known.ensures.ruled
 
 pub returns-then-known-clause-wide : goal.returns-then-known-clause-wide
-returns-then-known-clause-wide g c = c.requires.wide
+returns-then-known-clause-wide g c = c.requires.may.wide
 
 pub returns-then-known-clause-totals : goal.returns-then-known-clause-totals
-returns-then-known-clause-totals g c = c.requires.totals
+returns-then-known-clause-totals g c = c.requires.sums.1
 
 pub returns-then-known-clause-view : goal.returns-then-known-clause-view
 returns-then-known-clause-view g c = c.confirm_known.ensures.view

@@ -25,17 +25,17 @@ pub loop-place-init : goal.loop-place-init
 loop-place-init g c =
     let ms = members_of (g.S.ScanSeat.bundle c.args.seat.now) in
     let w : ℕ = width g.row.C g.row.H g.row.G in
-    let geo = c.requires.geometry.workers.0 in
+    let geo = c.requires.may.geometry.workers.0 in
     let z : Scan = settling c.args.opened.now [] c.args.kept.now (scan_of ms) in
-    let starts : scan_of ms ≡ z = settling_starts c.args.opened.now c.args.kept.now (scan_of ms) c.requires.kept
-    c.requires.looks in
+    let starts : scan_of ms ≡ z = settling_starts c.args.opened.now c.args.kept.now (scan_of ms) c.requires.may.kept
+    c.requires.may.looks in
     let no : (0 == g.row.N) ≡ false = ne_eqb 0 g.row.N (λ e. omega (arith, e)) in
     record {
       own = search rules;
       ruled = λ lt. absurd (omega (arith, lt));
-      leads = c.requires.own.1;
-      wide = c.requires.wide;
-      totals = c.requires.totals;
+      leads = c.requires.may.own.1;
+      wide = c.requires.may.wide;
+      totals = c.requires.sums.1;
       view = sym (ap (λ (b : Bool). with_scan (cond b (ended g.row.N w z) z) ms) no
           ∙ (ap (λ (d : Scan). with_scan d ms) (sym starts) ∙ with_same ms));
       moves = moves_none w c.args.totals.now c.args.moved.now;
@@ -44,20 +44,20 @@ loop-place-init g c =
     }
 
 pub confirm-number-requires : goal.confirm-number-requires
-confirm-number-requires g c = let lens = c.requires.lengths in let t = c.loop-place-test.true in
-    (search rules, ((c.loop-place.invariant.own ∙ c.requires.own.0, c.loop-place.invariant.leads), omega (arith, lens.0)))
+confirm-number-requires g c = let lens = c.requires.may.lengths in let t = c.loop-place-test.true in
+    (search rules, ((c.loop-place.invariant.own ∙ c.requires.may.own.0, c.loop-place.invariant.leads), omega (arith, lens.0)))
 
 pub settle-requires : goal.settle-requires
 settle-requires g c =
     let w : ℕ = width g.row.C g.row.H g.row.G in
     let p = c.loop-place.place in let gs = c.loop-place.kept in let gg : RememberedRow = get_or gs p c.index-kept-place.result in
     let inv = c.loop-place.invariant in
-    let lens = c.requires.lengths in let a1 = c.loop-place.auto.kept in let a3 = c.loop-place.auto.totals in
+    let lens = c.requires.may.lengths in let a1 = c.loop-place.auto.kept in let a3 = c.loop-place.auto.totals in
     let t = c.loop-place-test.true in
-    let geo = c.requires.geometry.workers.1 in
+    let geo = c.requires.may.geometry.workers.1 in
     let lt : p < length gs = omega arith in
     let at : get_elem? gs p ≡ some gg = there gs p c.index-kept-place.result lt in
-    let long : w ≡ length c.loop-place.totals = sym (a3 ∙ lens.3) in
+    let long : w ≡ length c.loop-place.totals = sym (a3 ∙ c.requires.sums.0) in
     record {
       wide = subst (λ (z : ℕ). IsWide z gg) long (inv.wide p gg at);
       part = λ k below. let low : k < w = omega (arith, long, below) in
@@ -78,7 +78,7 @@ loop-place-preserved g c =
     let ms = members_of (bundle c.args.seat.now) in
     let c0 : Scan = scan_of ms in
     let inv = c.loop-place.invariant in
-    let lens = c.requires.lengths in let a1 = c.loop-place.auto.kept in let a2 = c.loop-place.auto.found in
+    let lens = c.requires.may.lengths in let a1 = c.loop-place.auto.kept in let a2 = c.loop-place.auto.found in
     let a3 = c.loop-place.auto.totals in let t = c.loop-place-test.true in
     let ltn : p < n = omega (arith, lens.0) in
     let lt : p < length gs = omega arith in
@@ -102,10 +102,10 @@ loop-place-preserved g c =
     c.confirm-number.ensures.learns.member
     ∙ (ap (led (scan_changed (after_confirm n w p s))) was ∙ (with_led (after_confirm n w p s) z ms
     ∙ ap (λ (d : Scan). with_scan (cond ((p + 1) == n) (ended n w d) d) ms) shape)) in
-    let scan : scan_of (members_of (bundle c.loop-place.seat)) ≡ z = ap scan_of was ∙ scan_with z ms c.requires.own.1 in
-    let risen : o ≤ s = let at_load = c.requires.loaded p ltn in
+    let scan : scan_of (members_of (bundle c.loop-place.seat)) ≡ z = ap scan_of was ∙ scan_with z ms c.requires.may.own.1 in
+    let risen : o ≤ s = let at_load = c.requires.may.loaded p ltn in
     c.confirm-number.ensures.told.opened at_load.0 o (ap (λ (d : Scan). get_elem? d.opened at_load.0) scan ∙ at_load.1) in
-    let long : length c.loop-place.totals ≡ w = a3 ∙ lens.3 in
+    let long : length c.loop-place.totals ≡ w = a3 ∙ c.requires.sums.0 in
     record {
       own = c.confirm-number.ensures.learns.own ∙ inv.own;
       ruled = λ _. c.confirm-number.ensures.learns.ruled;
@@ -140,7 +140,7 @@ returns-clause-view g c =
     let ms = members_of (g.S.ScanSeat.bundle c.args.seat.now) in
     let w : ℕ = width g.row.C g.row.H g.row.G in
     let n : ℕ = g.row.N in
-    let lens = c.requires.lengths in let a1 = c.loop-place.auto.kept in let a2 = c.loop-place.auto.found in
+    let lens = c.requires.may.lengths in let a1 = c.loop-place.auto.kept in let a2 = c.loop-place.auto.found in
     let f = c.loop-place-test.false in let last = c.loop-place.auto.place-end in
     let p = c.loop-place.place in
     let e : p ≡ n = omega (arith, lens.0) in
@@ -156,7 +156,7 @@ returns-clause-held g c = λ q x e same.
     c.loop-place.invariant.held q x (omega arith) e same
 
 pub returns-clause-ruled : goal.returns-clause-ruled
-returns-clause-ruled g c = let f = c.loop-place-test.false in let lens = c.requires.lengths in
-    let some_worker = c.requires.geometry.workers.0 in let last = c.loop-place.auto.place-end in
+returns-clause-ruled g c = let f = c.loop-place-test.false in let lens = c.requires.may.lengths in
+    let some_worker = c.requires.may.geometry.workers.0 in let last = c.loop-place.auto.place-end in
     let a1 = c.loop-place.auto.kept in
     c.loop-place.invariant.ruled (omega (arith, lens.0))

@@ -17,19 +17,19 @@ pub loop-turn-init : goal.loop-turn-init
 loop-turn-init g c =
     let ms = members_of (g.S.ScanSeat.bundle c.args.seat.now) in
     let w : ℕ = width g.row.C g.row.H g.row.G in
-    let geo = c.requires.geometry.workers.0 in
+    let geo = c.requires.may.geometry.workers.0 in
     let z : Scan = settling c.args.opened.now [] c.args.kept.now (scan_of ms) in
-    let starts : scan_of ms ≡ z = settling_starts c.args.opened.now c.args.kept.now (scan_of ms) c.requires.kept
-    c.requires.looks in
+    let starts : scan_of ms ≡ z = settling_starts c.args.opened.now c.args.kept.now (scan_of ms) c.requires.may.kept
+    c.requires.may.looks in
     let no : (0 == g.row.N) ≡ false = ne_eqb 0 g.row.N (λ e. omega (arith, e)) in
     record {
       own = refl;
-      leads = c.requires.own.1;
+      leads = c.requires.may.own.1;
       confirmed = record {
-        starts = c.requires.own.1;
-        wide = c.requires.wide;
+        starts = c.requires.may.own.1;
+        wide = c.requires.may.wide;
         known = c.requires.known;
-        loaded = c.requires.loaded;
+        loaded = c.requires.may.loaded;
         ruled = λ lt. absurd (omega (arith, lt));
         view = sym (ap (λ (b : Bool). with_scan (cond b (ended g.row.N w z) z) ms) no
             ∙ (ap (λ (d : Scan). with_scan d ms) (sym starts) ∙ with_same ms));
@@ -47,7 +47,7 @@ loop-turn-preserved g c =
       leads = c.confirm_four-same.ensures.leads;
       confirmed = subst (λ (z : ℕ). HasConfirmed g.row.N g.row.C g.row.H g.row.G z ms c.args.kept.now c.args.opened.now
           (members_of (bundle r.seat)) r.found c.confirm_four-same.result) (omega arith)
-          (c.confirm_four-same.ensures.confirmed ms c.args.kept.now c.requires.lengths.0 inv.confirmed);
+          (c.confirm_four-same.ensures.confirmed ms c.args.kept.now c.requires.may.lengths.0 inv.confirmed);
     }
 
 true_by : (b : Bool) → (b ≡ false → ⊥) → b ≡ true
@@ -59,8 +59,8 @@ pub returns : goal.returns
 returns g c =
     let n : ℕ = g.row.N in let w : ℕ = width g.row.C g.row.H g.row.G in let bundle = g.S.ScanSeat.bundle in
     let ms = members_of (bundle c.args.seat.now) in
-    let l = c.loop-turn in let f = c.loop-turn-test.false in let end = l.auto.turn-end in let lens = c.requires.lengths in
-    let some_worker = c.requires.geometry.workers.0 in
+    let l = c.loop-turn in let f = c.loop-turn-test.false in let end = l.auto.turn-end in let lens = c.requires.may.lengths in
+    let some_worker = c.requires.may.geometry.workers.0 in
     let os = c.args.opened.now in let gs = c.args.kept.now in let fs = c.confirm_rest.new.found in
     let a = l.auto.found in let a' = c.confirm_rest.auto.found in
     let so_far : HasConfirmed n g.row.C g.row.H g.row.G (4 * (n / 4)) ms gs os (members_of (bundle l.seat)) l.found l.same =

@@ -1,8 +1,8 @@
-use Rattle.std.proofs.Common.{◌≡◌, ℕ, ◌+◌, ◌-◌, ◌<◌, ◌≤◌, not, nat_eq, true, false, Bool, get_or, subst, sym, ap, ◌∙◌, arith}
+use Rattle.std.proofs.Common.{◌≡◌, ℕ, ◌+◌, ◌-◌, not, nat_eq, true, false, Bool, get_or, subst, arith}
 use Rattle.std.proofs.Common.{below_more}
 use Rattle.std.proofs.lemmas.Nat.{le_or_l, le_or_r}
 use Rattle.std.proofs.lemmas.Bool.{eqb-true}
-use lib.Bits.{bit_xor, bit_or}
+use lib.Bits.{bit_xor}
 use Rattle.snapshot_scan.proofs.Moving.{no_bits}
 use Rattle.snapshot_scan.proofs.exchange.differ.Goals as goal
 

@@ -1,4 +1,4 @@
-use Rattle.std.proofs.Common.{◌≡◌, ◌<◌, ◌≤◌, ◌+◌, ℕ, length, get_or, subst, sym, ap, ◌∙◌, arith}
+use Rattle.std.proofs.Common.{◌≡◌, ◌<◌, ◌≤◌, ◌+◌, ℕ, length, get_or, subst, sym, arith}
 use Rattle.snapshot_scan.specs.ChangedItems.{Changed}
 use Rattle.snapshot_scan.specs.Exchange.{Exchanges}
 use Rattle.snapshot_scan.proofs.Moving.{exchanges_then, exchanges_one, exchanges_same}

@@ -28,15 +28,6 @@ use Rattle.snapshot_scan.proofs.Moving.{lists_none, lists_then}
 use Rattle.snapshot_scan.proofs.scans.scan.Goals as goal
 use Rattle.snapshot_scan.proofs.scans.scan.Goals.{then-known, else-known}
 
-pub returns-then-clean-clause-direct : goal.returns-then-clean-clause-direct
-returns-then-clean-clause-direct g c = λ _ _.
-    let ms = members_of (g.S.ScanSeat.bundle c.args.seat.now) in
-    let r = c.try_once-clean.new in let lens = c.requires.lengths in
-    subst (λ (x : Scan). IsAnswered g.row.N (scan_of ms) x (record { vector = r.opened; totals = r.totals }))
-    (sym (now_is _ ms _ c.requires.own.1 (c.try_once-clean.ensures.clean c.if-clean.true)))
-    (direct_first g.row.N r.opened r.found r.totals r.kept (scan_of ms) (c.try_once-clean.auto.opened ∙ lens.2)
-    c.try_once-clean.ensures.told)
-
 abbrev quiet_in : ScanEnd → Bool
 quiet_in (End.Direct quiet) = quiet
 quiet_in End.Lent = false
@@ -63,34 +54,6 @@ up_lent e = cc
 
 not_quiet : false ≡ true → ⊥
 not_quiet e = cc
-
-pub returns-then-clean-clause-once : goal.returns-then-clean-clause-once
-returns-then-clean-clause-once g c = λ _. ap (λ (x : Scan). x.opened)
-    (now_is _ _ _ c.requires.own.1 (c.try_once-clean.ensures.clean c.if-clean.true))
-
-pub returns-then-clean-clause-moved : goal.returns-then-clean-clause-moved
-returns-then-clean-clause-moved g c = λ e.
-    let lens = c.requires.lengths in
-    moved_first g.row.N (map version_of c.args.kept.now) c.try_once-clean.new.opened _ _ (c.try_once-clean.auto.opened ∙ lens.2)
-    (c.try_once-clean.ensures.unknown (ap quiet_in e))
-    (ap (λ (x : Scan). x.opened) (now_is _ _ _ c.requires.own.1 (c.try_once-clean.ensures.clean c.if-clean.true)))
-
-pub returns-then-clean-2-clause-moved : goal.returns-then-clean-2-clause-moved
-returns-then-clean-2-clause-moved g c = λ _.
-    let ms = members_of (g.S.ScanSeat.bundle c.args.seat.now) in
-    let n : ℕ = g.row.N in
-    let inv = c.loop-k.invariant.1 in let tries = c.loop-k.invariant.0 in let lens = c.requires.lengths in
-    let fl = c.copy_from_slice.new.self in let ba = c.copy_from_slice-2.new.self in
-    let r = c.try_again-clean.new in
-    let view = at_loop n c.loop-k._k tries c.loop-k.kept fl ba ms _ inv.count c.loop-k-test.true inv.view in
-    let d : Scan = stood tries c.loop-k.kept fl ba (scan_of ms) in
-    let end = then_is (λ (x : Scan). answered (record { vector = r.opened; totals = r.totals })
-    (settling r.opened r.found r.kept (opening r.opened r.kept x))) d ms _ _ c.requires.own.1 view
-    (c.try_again-clean.ensures.clean c.if-clean-2.true) in
-    moved_later n fl ba c.loop-k.opened c.loop-k.found tries inv.tried c.loop-k.kept (scan_of ms) (map version_of c.args.kept.now)
-    r.opened _ c.requires.geometry.workers.0 inv.lengths.0
-    (c.try_again-clean.auto.opened ∙ (c.loop-k.auto.opened ∙ (c.try_once-clean.auto.opened ∙ lens.2)))
-    (ap (λ (x : Scan). x.opened) (now_is _ ms _ c.requires.own.1 end))
 
 pub loop-k-init : goal.loop-k-init
 loop-k-init g c =
@@ -151,67 +114,24 @@ try_again-clean-requires g c =
     let scan = now_is (stood tries c.loop-k.kept fl ba (scan_of ms)) ms _ c.requires.own.1 view in (
       search rules,
       (
-        (inv.own ∙ c.requires.own.0, inv.leads),
+        record {
+          own = (inv.own ∙ c.requires.own.0, inv.leads);
+          geometry = c.requires.geometry;
+          lengths = (
+            c.loop-k.auto.kept ∙ (c.try_once-clean.auto.kept ∙ lens.0),
+            c.loop-k.auto.opened ∙ (c.try_once-clean.auto.opened ∙ lens.2),
+          );
+          wide = inv.wide;
+          kept = ap (λ (d : Scan). d.kept) scan;
+          rest = (ap (λ (d : Scan). d.now.looks) scan, ap (λ (d : Scan). d.now.due) scan, ap (λ (d : Scan). d.now.asks) scan);
+        },
         (
-          c.requires.geometry,
-          (
-            (
-              c.loop-k.auto.kept ∙ (c.try_once-clean.auto.kept ∙ lens.0),
-              c.loop-k.auto.totals ∙ (c.try_once-clean.auto.totals ∙ lens.1),
-              c.loop-k.auto.opened ∙ (c.try_once-clean.auto.opened ∙ lens.2),
-              c.loop-k.auto.found ∙ (c.try_once-clean.auto.found ∙ lens.3),
-            ),
-            (
-              inv.wide,
-              (
-                inv.totals,
-                (
-                  ap (λ (d : Scan). d.kept) scan,
-                  (ap (λ (d : Scan). d.now.looks) scan, ap (λ (d : Scan). d.now.due) scan, ap (λ (d : Scan). d.now.asks) scan),
-                ),
-              ),
-            ),
-          ),
+          c.loop-k.auto.found ∙ (c.try_once-clean.auto.found ∙ lens.3),
+          c.loop-k.auto.totals ∙ (c.try_once-clean.auto.totals ∙ lens.1),
+          inv.totals,
         ),
       ),
     )
-
-pub returns-then-clean-2-clause-own : goal.returns-then-clean-2-clause-own
-returns-then-clean-2-clause-own g c = c.try_again-clean.ensures.own ∙ c.loop-k.invariant.1.own
-
-pub returns-then-clean-2-clause-idle : goal.returns-then-clean-2-clause-idle
-returns-then-clean-2-clause-idle g c = let scan = now_is _ _ _ c.loop-k.invariant.1.leads
-    (c.try_again-clean.ensures.clean c.if-clean-2.true) in
-    record { kept = ap (λ (d : Scan). d.kept) scan; rest = ap (λ (d : Scan). d.now) scan }
-
-pub returns-then-clean-2-clause-others : goal.returns-then-clean-2-clause-others
-returns-then-clean-2-clause-others g c =
-    let ms = members_of (g.S.ScanSeat.bundle c.args.seat.now) in
-    let inv = c.loop-k.invariant.1 in let r = c.try_again-clean.new in
-    others_same _ ms _ c.requires.own.1
-    (then_is (λ (d : Scan). answered (record { vector = r.opened; totals = r.totals })
-    (settling r.opened r.found r.kept (opening r.opened r.kept d))) _ ms _ _ c.requires.own.1 inv.view
-    (c.try_again-clean.ensures.clean c.if-clean-2.true))
-
-pub returns-then-clean-2-clause-direct : goal.returns-then-clean-2-clause-direct
-returns-then-clean-2-clause-direct g c = λ _ _.
-    let ms = members_of (g.S.ScanSeat.bundle c.args.seat.now) in
-    let n : ℕ = g.row.N in
-    let inv = c.loop-k.invariant.1 in let tries = c.loop-k.invariant.0 in let lens = c.requires.lengths in
-    let fl = c.copy_from_slice.new.self in let ba = c.copy_from_slice-2.new.self in
-    let r = c.try_again-clean.new in
-    let view = at_loop n c.loop-k._k tries c.loop-k.kept fl ba ms _ inv.count c.loop-k-test.true inv.view in
-    let d : Scan = stood tries c.loop-k.kept fl ba (scan_of ms) in
-    let scan = now_is d ms _ c.requires.own.1 view in
-    let end = then_is (λ (x : Scan). answered (record { vector = r.opened; totals = r.totals })
-    (settling r.opened r.found r.kept (opening r.opened r.kept x))) d ms _ _ c.requires.own.1 view
-    (c.try_again-clean.ensures.clean c.if-clean-2.true) in
-    subst (λ (x : Scan). IsAnswered n (scan_of ms) x (record { vector = r.opened; totals = r.totals }))
-    (sym (now_is _ ms _ c.requires.own.1 end))
-    (direct_later n fl ba c.loop-k.opened c.loop-k.found tries inv.tried c.loop-k.kept (scan_of ms) r.opened r.found r.totals
-    r.kept inv.lengths.0
-    (c.try_again-clean.auto.opened ∙ (c.loop-k.auto.opened ∙ (c.try_once-clean.auto.opened ∙ lens.2)))
-    (λ q lt. subst (λ (x : Scan). IsLoaded q x (slice_index r.opened q)) scan (c.try_again-clean.ensures.told q lt)))
 
 pub ask_all-lends-requires : goal.ask_all-lends-requires
 ask_all-lends-requires g c =
@@ -231,95 +151,15 @@ ask_all-lends-requires g c =
     inv.count view (c.try_again-clean.ensures.failed c.if-clean-2.false) in
     let scan = now_is _ ms _ c.requires.own.1 fails in (
       search rules,
-      (
-        (c.try_again-clean.ensures.own ∙ (inv.own ∙ c.requires.own.0), still_some _ ms _ c.requires.own.1 fails),
-        (
-          c.try_again-clean.ensures.ruled,
-          (
-            c.requires.geometry,
-            (
-              (c.try_once-clean.auto.totals ∙ lens.1, inv.lengths.0, inv.lengths.1, deep, c.loop-k.auto.lent ∙ lens.4),
-              subst (MayAsk fl (due_from 0 ba r.found)) (sym scan)
-                  (may_start n r.opened r.found r.kept fl ba (due_from 0 ba r.found) d),
-            ),
-          ),
-        ),
-      ),
+      record {
+        own = (c.try_again-clean.ensures.own ∙ (inv.own ∙ c.requires.own.0), still_some _ ms _ c.requires.own.1 fails);
+        ruled = c.try_again-clean.ensures.ruled;
+        geometry = c.requires.geometry;
+        lengths = (c.try_once-clean.auto.totals ∙ lens.1, inv.lengths.0, inv.lengths.1, deep, c.loop-k.auto.lent ∙ lens.4);
+        may_ask = subst (MayAsk fl (due_from 0 ba r.found)) (sym scan)
+            (may_start n r.opened r.found r.kept fl ba (due_from 0 ba r.found) d);
+      },
     )
-
-pub returns-then-lends-clause-own : goal.returns-then-lends-clause-own
-returns-then-lends-clause-own g c = c.ask_all-lends.ensures.own ∙ (c.try_again-clean.ensures.own ∙ c.loop-k.invariant.1.own)
-
-pub returns-then-lends-clause-idle : goal.returns-then-lends-clause-idle
-returns-then-lends-clause-idle g c =
-    let ms = members_of (g.S.ScanSeat.bundle c.args.seat.now) in
-    let n : ℕ = g.row.N in let w : ℕ = width g.row.C g.row.H g.row.G in
-    let inv = c.loop-k.invariant.1 in let tries = c.loop-k.invariant.0 in let lens = c.requires.lengths in
-    let fl = c.copy_from_slice.new.self in let ba = c.copy_from_slice-2.new.self in
-    let r = c.try_again-clean.new in
-    let few : length r.kept ≡ n = c.try_again-clean.auto.kept ∙ (c.loop-k.auto.kept ∙ (c.try_once-clean.auto.kept ∙ lens.0)) in
-    let long : length r.opened ≡ n = c.try_again-clean.auto.opened
-    ∙ (c.loop-k.auto.opened ∙ (c.try_once-clean.auto.opened ∙ lens.2)) in
-    let deep : length r.found ≡ n = c.try_again-clean.auto.found
-    ∙ (c.loop-k.auto.found ∙ (c.try_once-clean.auto.found ∙ lens.3)) in
-    let view = at_loop n c.loop-k._k tries c.loop-k.kept fl ba ms _ inv.count c.loop-k-test.true inv.view in
-    let d : Scan = stood tries c.loop-k.kept fl ba (scan_of ms) in
-    let fails = loop_fails n w c.loop-k._k r.opened r.found r.kept c.loop-k.kept few long deep tries fl ba ms _ _ c.requires.own.1
-    inv.count view (c.try_again-clean.ensures.failed c.if-clean-2.false) in
-    let l = c.ask_all-lends.ensures.lends c.if-lends.true in
-    let a = lent_in n w c.ask_all-lends.new.lent in
-    let end = loop_lends n w c.loop-k._k r.opened r.found r.kept c.loop-k.kept few long deep tries fl ba ms _ _ c.requires.own.1
-    inv.count view _ a l.1 l.0 l.2 fails l.3 l.7 in
-    let scan = now_is _ ms _ c.requires.own.1 end in
-    record { kept = ap (λ (x : Scan). x.kept) scan; rest = ap (λ (x : Scan). x.now) scan }
-
-pub returns-then-lends-clause-others : goal.returns-then-lends-clause-others
-returns-then-lends-clause-others g c =
-    let ms = members_of (g.S.ScanSeat.bundle c.args.seat.now) in
-    let n : ℕ = g.row.N in let w : ℕ = width g.row.C g.row.H g.row.G in
-    let inv = c.loop-k.invariant.1 in let tries = c.loop-k.invariant.0 in let lens = c.requires.lengths in
-    let fl = c.copy_from_slice.new.self in let ba = c.copy_from_slice-2.new.self in
-    let r = c.try_again-clean.new in
-    let few : length r.kept ≡ n = c.try_again-clean.auto.kept ∙ (c.loop-k.auto.kept ∙ (c.try_once-clean.auto.kept ∙ lens.0)) in
-    let long : length r.opened ≡ n = c.try_again-clean.auto.opened
-    ∙ (c.loop-k.auto.opened ∙ (c.try_once-clean.auto.opened ∙ lens.2)) in
-    let deep : length r.found ≡ n = c.try_again-clean.auto.found
-    ∙ (c.loop-k.auto.found ∙ (c.try_once-clean.auto.found ∙ lens.3)) in
-    let view = at_loop n c.loop-k._k tries c.loop-k.kept fl ba ms _ inv.count c.loop-k-test.true inv.view in
-    let d : Scan = stood tries c.loop-k.kept fl ba (scan_of ms) in
-    let fails = loop_fails n w c.loop-k._k r.opened r.found r.kept c.loop-k.kept few long deep tries fl ba ms _ _ c.requires.own.1
-    inv.count view (c.try_again-clean.ensures.failed c.if-clean-2.false) in
-    let l = c.ask_all-lends.ensures.lends c.if-lends.true in
-    let a = lent_in n w c.ask_all-lends.new.lent in
-    let end = loop_lends n w c.loop-k._k r.opened r.found r.kept c.loop-k.kept few long deep tries fl ba ms _ _ c.requires.own.1
-    inv.count view _ a l.1 l.0 l.2 fails l.3 l.7 in
-    others_same _ ms _ c.requires.own.1 end
-
-pub returns-then-lends-clause-lent : goal.returns-then-lends-clause-lent
-returns-then-lends-clause-lent g c = λ _.
-    let ms = members_of (g.S.ScanSeat.bundle c.args.seat.now) in
-    let n : ℕ = g.row.N in let w : ℕ = width g.row.C g.row.H g.row.G in
-    let inv = c.loop-k.invariant.1 in let tries = c.loop-k.invariant.0 in let lens = c.requires.lengths in
-    let fl = c.copy_from_slice.new.self in let ba = c.copy_from_slice-2.new.self in
-    let r = c.try_again-clean.new in
-    let few : length r.kept ≡ n = c.try_again-clean.auto.kept ∙ (c.loop-k.auto.kept ∙ (c.try_once-clean.auto.kept ∙ lens.0)) in
-    let long : length r.opened ≡ n = c.try_again-clean.auto.opened
-    ∙ (c.loop-k.auto.opened ∙ (c.try_once-clean.auto.opened ∙ lens.2)) in
-    let deep : length r.found ≡ n = c.try_again-clean.auto.found
-    ∙ (c.loop-k.auto.found ∙ (c.try_once-clean.auto.found ∙ lens.3)) in
-    let view = at_loop n c.loop-k._k tries c.loop-k.kept fl ba ms _ inv.count c.loop-k-test.true inv.view in
-    let d : Scan = stood tries c.loop-k.kept fl ba (scan_of ms) in
-    let fails = loop_fails n w c.loop-k._k r.opened r.found r.kept c.loop-k.kept few long deep tries fl ba ms _ _ c.requires.own.1
-    inv.count view (c.try_again-clean.ensures.failed c.if-clean-2.false) in
-    let l = c.ask_all-lends.ensures.lends c.if-lends.true in
-    let a = lent_in n w c.ask_all-lends.new.lent in
-    let end = loop_lends n w c.loop-k._k r.opened r.found r.kept c.loop-k.kept few long deep tries fl ba ms _ _ c.requires.own.1
-    inv.count view _ a l.1 l.0 l.2 fails l.3 l.7 in
-    subst (λ (x : Scan). IsAnswered n (scan_of ms) x a) (sym (now_is _ ms _ c.requires.own.1 end))
-    (lent_later n fl ba c.loop-k.opened c.loop-k.found tries inv.tried c.loop-k.kept (scan_of ms) r.opened r.found r.kept a l.1
-    l.0 (asked_worker l.1 ∷ l.2) inv.lengths.0
-    (vector_long n w c.ask_all-lends.new.lent (c.ask_all-lends.auto.lent ∙ (c.loop-k.auto.lent ∙ lens.4))) inv.seen
-    (ap (λ (ws : List ℕ). is_above fl (take n (drop 1 ws))) (sym l.5) ∙ l.6.above))
 
 pub loop-k-preserved : goal.loop-k-preserved
 loop-k-preserved g c =
@@ -371,269 +211,297 @@ loop-k-preserved g c =
       },
     )
 
-pub returns-clause-own : goal.returns-clause-own
-returns-clause-own g c = c.loop-k.invariant.1.own
-
-pub returns-clause-wide : goal.returns-clause-wide
-returns-clause-wide g c = c.loop-k.invariant.1.wide
-
-pub returns-clause-totals : goal.returns-clause-totals
-returns-clause-totals g c = c.loop-k.invariant.1.totals
-
-pub returns-clause-idle : goal.returns-clause-idle
-returns-clause-idle g c =
-    let ms = members_of (g.S.ScanSeat.bundle c.args.seat.now) in
-    let n : ℕ = g.row.N in
-    let inv = c.loop-k.invariant.1 in let tries = c.loop-k.invariant.0 in
-    let t = c.loop-k-test.false in let last = c.loop-k.auto._k-end in let count = inv.count in
-    let fl = c.copy_from_slice.new.self in let ba = c.copy_from_slice-2.new.self in
-    let scan = now_is _ ms _ c.requires.own.1 inv.view ∙ given_last n (stood tries c.loop-k.kept fl ba (scan_of ms)) refl
-    (omega (arith, count, t, last)) in
-    record { kept = ap (λ (x : Scan). x.kept) scan; rest = ap (λ (x : Scan). x.now) scan }
-
-pub returns-clause-others : goal.returns-clause-others
-returns-clause-others g c = others_same _ _ _ c.requires.own.1 c.loop-k.invariant.1.view
-
-pub returns-clause-gave_up : goal.returns-clause-gave_up
-returns-clause-gave_up g c = λ _.
-    let ms = members_of (g.S.ScanSeat.bundle c.args.seat.now) in
-    let n : ℕ = g.row.N in
-    let inv = c.loop-k.invariant.1 in let tries = c.loop-k.invariant.0 in
-    let t = c.loop-k-test.false in let last = c.loop-k.auto._k-end in let count = inv.count in
-    let fl = c.copy_from_slice.new.self in let ba = c.copy_from_slice-2.new.self in
-    subst (λ (x : Scan). IsGivenUp n (scan_of ms) x c.loop-k.opened c.loop-k.found)
-    (sym (now_is _ ms _ c.requires.own.1 inv.view))
-    (all_failed n fl ba c.loop-k.opened c.loop-k.found tries inv.tried c.loop-k.kept (scan_of ms) (omega (arith, count, t, last))
-    inv.above)
-
-pub returns-then-clean-clause-came_direct : goal.returns-then-clean-clause-came_direct
-returns-then-clean-clause-came_direct g c = λ _ _.
-    let ms = members_of (g.S.ScanSeat.bundle c.args.seat.now) in
-    let r = c.try_once-clean.new in let lens = c.requires.lengths in
-    let n : ℕ = g.row.N in let w : ℕ = width g.row.C g.row.H g.row.G in
-    subst (λ (x : Scan). AnswersBy n w (scan_of ms) x (record { vector = r.opened; totals = r.totals }))
-    (sym (now_is _ ms _ c.requires.own.1 (c.try_once-clean.ensures.clean c.if-clean.true)))
-    (came_first n w r.opened r.found r.kept (scan_of ms) (record { vector = r.opened; totals = r.totals })
-    (c.try_once-clean.auto.opened ∙ lens.2) (c.try_once-clean.ensures.same c.if-clean.true) refl)
-
-pub returns-then-clean-2-clause-came_direct : goal.returns-then-clean-2-clause-came_direct
-returns-then-clean-2-clause-came_direct g c = λ _ _.
-    let ms = members_of (g.S.ScanSeat.bundle c.args.seat.now) in
-    let n : ℕ = g.row.N in let w : ℕ = width g.row.C g.row.H g.row.G in
-    let inv = c.loop-k.invariant.1 in let tries = c.loop-k.invariant.0 in let lens = c.requires.lengths in
-    let fl = c.copy_from_slice.new.self in let ba = c.copy_from_slice-2.new.self in
-    let r = c.try_again-clean.new in
-    let view = at_loop n c.loop-k._k tries c.loop-k.kept fl ba ms _ inv.count c.loop-k-test.true inv.view in
-    let d : Scan = stood tries c.loop-k.kept fl ba (scan_of ms) in
-    let end = then_is (λ (x : Scan). answered (record { vector = r.opened; totals = r.totals })
-    (settling r.opened r.found r.kept (opening r.opened r.kept x))) d ms _ _ c.requires.own.1 view
-    (c.try_again-clean.ensures.clean c.if-clean-2.true) in
-    let count = inv.count in let lt = c.loop-k-test.true in
-    subst (λ (x : Scan). AnswersBy n w (scan_of ms) x (record { vector = r.opened; totals = r.totals }))
-    (sym (now_is _ ms _ c.requires.own.1 end))
-    (came_later n w fl ba c.loop-k.opened c.loop-k.found tries inv.tried c.loop-k.kept (scan_of ms) r.opened r.found r.kept
-    (record { vector = r.opened; totals = r.totals })
-    (c.try_again-clean.auto.opened ∙ (c.loop-k.auto.opened ∙ (c.try_once-clean.auto.opened ∙ lens.2)))
-    (c.try_again-clean.ensures.same c.if-clean-2.true) (omega (arith, count, lt)) refl)
-
-pub returns-then-lends-clause-came_lent : goal.returns-then-lends-clause-came_lent
-returns-then-lends-clause-came_lent g c = λ _.
-    let ms = members_of (g.S.ScanSeat.bundle c.args.seat.now) in
-    let n : ℕ = g.row.N in let w : ℕ = width g.row.C g.row.H g.row.G in
-    let inv = c.loop-k.invariant.1 in let tries = c.loop-k.invariant.0 in let lens = c.requires.lengths in
-    let fl = c.copy_from_slice.new.self in let ba = c.copy_from_slice-2.new.self in
-    let r = c.try_again-clean.new in
-    let few : length r.kept ≡ n = c.try_again-clean.auto.kept ∙ (c.loop-k.auto.kept ∙ (c.try_once-clean.auto.kept ∙ lens.0)) in
-    let long : length r.opened ≡ n = c.try_again-clean.auto.opened
-    ∙ (c.loop-k.auto.opened ∙ (c.try_once-clean.auto.opened ∙ lens.2)) in
-    let deep : length r.found ≡ n = c.try_again-clean.auto.found
-    ∙ (c.loop-k.auto.found ∙ (c.try_once-clean.auto.found ∙ lens.3)) in
-    let view = at_loop n c.loop-k._k tries c.loop-k.kept fl ba ms _ inv.count c.loop-k-test.true inv.view in
-    let fails = loop_fails n w c.loop-k._k r.opened r.found r.kept c.loop-k.kept few long deep tries fl ba ms _ _ c.requires.own.1
-    inv.count view (c.try_again-clean.ensures.failed c.if-clean-2.false) in
-    let l = c.ask_all-lends.ensures.lends c.if-lends.true in
-    let a = lent_in n w c.ask_all-lends.new.lent in
-    let end = loop_lends n w c.loop-k._k r.opened r.found r.kept c.loop-k.kept few long deep tries fl ba ms _ _ c.requires.own.1
-    inv.count view _ a l.1 l.0 l.2 fails l.3 l.7 in
-    let count = inv.count in let lt = c.loop-k-test.true in
-    subst (λ (x : Scan). AnswersBy n w (scan_of ms) x a) (sym (now_is _ ms _ c.requires.own.1 end))
-    (came_lending n w fl ba c.loop-k.opened c.loop-k.found tries inv.tried c.loop-k.kept (scan_of ms) r.opened r.found r.kept a
-    l.1 l.0 l.2 (asked_worker l.1 ∷ l.2) long deep (omega (arith, count, lt))
-    (c.try_again-clean.ensures.rose c.if-clean-2.false) l.3 l.4 l.6 (ap (lent_in n w) (sym l.5)))
-
-pub returns-clause-came_up : goal.returns-clause-came_up
-returns-clause-came_up g c = λ _ e moved.
-    let ms = members_of (g.S.ScanSeat.bundle c.args.seat.now) in
-    let n : ℕ = g.row.N in let w : ℕ = width g.row.C g.row.H g.row.G in
-    let inv = c.loop-k.invariant.1 in let tries = c.loop-k.invariant.0 in
-    let t = c.loop-k-test.false in let last = c.loop-k.auto._k-end in let count = inv.count in
-    let fl = c.copy_from_slice.new.self in let ba = c.copy_from_slice-2.new.self in
-    subst (λ (x : Scan). CameTo n w (scan_of ms) x (GaveUp e.worker e.first e.last))
-    (sym (now_is _ ms _ c.requires.own.1 inv.view))
-    (came_up n w fl ba c.loop-k.opened c.loop-k.found tries inv.tried c.loop-k.kept (scan_of ms) (omega (arith, count, t, last)) e
-    moved)
-
 pub try_once-clean-requires : goal.try_once-clean-requires
-try_once-clean-requires g c = let lens = c.requires.lengths in let idle = c.requires.idle in (
-  search rules,
-  (
-    c.requires.own,
-    (
-      c.requires.geometry,
+try_once-clean-requires g c =
+    let lens = c.requires.lengths in let idle = c.requires.idle in (
+      search rules,
       (
-        (lens.0, lens.1, lens.2, lens.3),
-        (
-          c.requires.wide,
-          (
-            c.requires.totals,
-            (idle.kept, (c.requires.listed, (λ z. (idle.rest z).looks, λ z. (idle.rest z).due, λ z. (idle.rest z).asks))),
-          ),
-        ),
+        record {
+          own = c.requires.own;
+          geometry = c.requires.geometry;
+          lengths = (lens.0, lens.2);
+          wide = c.requires.wide;
+          kept = idle.kept;
+          rest = (λ z. (idle.rest z).looks, λ z. (idle.rest z).due, λ z. (idle.rest z).asks);
+        },
+        ((lens.3, lens.1, c.requires.totals), c.requires.listed),
       ),
-    ),
-  ),
-)
+    )
 
-pub returns-then-clean-clause-own : goal.returns-then-clean-clause-own
-returns-then-clean-clause-own g c = c.try_once-clean.ensures.own
+pub returns-then-clean : goal.returns-then-clean
+returns-then-clean g c =
+    record {
+      own = c.try_once-clean.ensures.own;
+      ruled = c.try_once-clean.ensures.ruled;
+      wide = c.try_once-clean.ensures.wide;
+      totals = c.try_once-clean.ensures.totals;
+      idle = let scan = now_is _ _ _ c.requires.own.1 (c.try_once-clean.ensures.clean c.if-clean.true) in
+          record { kept = ap (λ (d : Scan). d.kept) scan; rest = ap (λ (d : Scan). d.now) scan };
+      others = others_same _ (members_of (g.S.ScanSeat.bundle c.args.seat.now)) _ c.requires.own.1
+          (c.try_once-clean.ensures.clean c.if-clean.true);
+      direct = λ _ _.
+          let ms = members_of (g.S.ScanSeat.bundle c.args.seat.now) in
+          let r = c.try_once-clean.new in let lens = c.requires.lengths in
+          subst (λ (x : Scan). IsAnswered g.row.N (scan_of ms) x (record { vector = r.opened; totals = r.totals }))
+          (sym (now_is _ ms _ c.requires.own.1 (c.try_once-clean.ensures.clean c.if-clean.true)))
+          (direct_first g.row.N r.opened r.found r.totals r.kept (scan_of ms) (c.try_once-clean.auto.opened ∙ lens.2)
+          c.try_once-clean.ensures.told);
+      came_direct = λ _ _.
+          let ms = members_of (g.S.ScanSeat.bundle c.args.seat.now) in
+          let r = c.try_once-clean.new in let lens = c.requires.lengths in
+          let n : ℕ = g.row.N in let w : ℕ = width g.row.C g.row.H g.row.G in
+          subst (λ (x : Scan). AnswersBy n w (scan_of ms) x (record { vector = r.opened; totals = r.totals }))
+          (sym (now_is _ ms _ c.requires.own.1 (c.try_once-clean.ensures.clean c.if-clean.true)))
+          (came_first n w r.opened r.found r.kept (scan_of ms) (record { vector = r.opened; totals = r.totals })
+          (c.try_once-clean.auto.opened ∙ lens.2) (c.try_once-clean.ensures.same c.if-clean.true) refl);
+      quiet = λ e. c.try_once-clean.ensures.quiet (ap quiet_in e);
+      once = λ _. ap (λ (x : Scan). x.opened)
+          (now_is _ _ _ c.requires.own.1 (c.try_once-clean.ensures.clean c.if-clean.true));
+      moved = λ e.
+          let lens = c.requires.lengths in
+          moved_first g.row.N (map version_of c.args.kept.now) c.try_once-clean.new.opened _ _ (c.try_once-clean.auto.opened ∙ lens.2)
+          (c.try_once-clean.ensures.unknown (ap quiet_in e))
+          (ap (λ (x : Scan). x.opened) (now_is _ _ _ c.requires.own.1 (c.try_once-clean.ensures.clean c.if-clean.true)));
+      lent = λ e. absurd (direct_lent _ e);
+      came_lent = λ e. absurd (direct_lent _ e);
+      numbers = λ _ _. c.try_once-clean.ensures.numbers c.if-clean.true;
+      listed = c.try_once-clean.ensures.listed;
+      gave_up = λ e. absurd (direct_up _ e);
+      came_up = λ e. absurd (direct_up _ e);
+    }
 
-pub returns-then-clean-clause-ruled : goal.returns-then-clean-clause-ruled
-returns-then-clean-clause-ruled g c = c.try_once-clean.ensures.ruled
+pub returns-then-clean-2 : goal.returns-then-clean-2
+returns-then-clean-2 g c =
+    record {
+      own = c.try_again-clean.ensures.own ∙ c.loop-k.invariant.1.own;
+      ruled = c.try_again-clean.ensures.ruled;
+      wide = c.try_again-clean.ensures.wide;
+      totals = c.try_again-clean.ensures.totals;
+      idle = let scan = now_is _ _ _ c.loop-k.invariant.1.leads
+          (c.try_again-clean.ensures.clean c.if-clean-2.true) in
+          record { kept = ap (λ (d : Scan). d.kept) scan; rest = ap (λ (d : Scan). d.now) scan };
+      others =
+          let ms = members_of (g.S.ScanSeat.bundle c.args.seat.now) in
+          let inv = c.loop-k.invariant.1 in let r = c.try_again-clean.new in
+          others_same _ ms _ c.requires.own.1
+          (then_is (λ (d : Scan). answered (record { vector = r.opened; totals = r.totals })
+          (settling r.opened r.found r.kept (opening r.opened r.kept d))) _ ms _ _ c.requires.own.1 inv.view
+          (c.try_again-clean.ensures.clean c.if-clean-2.true));
+      direct = λ _ _.
+          let ms = members_of (g.S.ScanSeat.bundle c.args.seat.now) in
+          let n : ℕ = g.row.N in
+          let inv = c.loop-k.invariant.1 in let tries = c.loop-k.invariant.0 in let lens = c.requires.lengths in
+          let fl = c.copy_from_slice.new.self in let ba = c.copy_from_slice-2.new.self in
+          let r = c.try_again-clean.new in
+          let view = at_loop n c.loop-k._k tries c.loop-k.kept fl ba ms _ inv.count c.loop-k-test.true inv.view in
+          let d : Scan = stood tries c.loop-k.kept fl ba (scan_of ms) in
+          let scan = now_is d ms _ c.requires.own.1 view in
+          let end = then_is (λ (x : Scan). answered (record { vector = r.opened; totals = r.totals })
+          (settling r.opened r.found r.kept (opening r.opened r.kept x))) d ms _ _ c.requires.own.1 view
+          (c.try_again-clean.ensures.clean c.if-clean-2.true) in
+          subst (λ (x : Scan). IsAnswered n (scan_of ms) x (record { vector = r.opened; totals = r.totals }))
+          (sym (now_is _ ms _ c.requires.own.1 end))
+          (direct_later n fl ba c.loop-k.opened c.loop-k.found tries inv.tried c.loop-k.kept (scan_of ms) r.opened r.found r.totals
+          r.kept inv.lengths.0
+          (c.try_again-clean.auto.opened ∙ (c.loop-k.auto.opened ∙ (c.try_once-clean.auto.opened ∙ lens.2)))
+          (λ q lt. subst (λ (x : Scan). IsLoaded q x (slice_index r.opened q)) scan (c.try_again-clean.ensures.told q lt)));
+      came_direct = λ _ _.
+          let ms = members_of (g.S.ScanSeat.bundle c.args.seat.now) in
+          let n : ℕ = g.row.N in let w : ℕ = width g.row.C g.row.H g.row.G in
+          let inv = c.loop-k.invariant.1 in let tries = c.loop-k.invariant.0 in let lens = c.requires.lengths in
+          let fl = c.copy_from_slice.new.self in let ba = c.copy_from_slice-2.new.self in
+          let r = c.try_again-clean.new in
+          let view = at_loop n c.loop-k._k tries c.loop-k.kept fl ba ms _ inv.count c.loop-k-test.true inv.view in
+          let d : Scan = stood tries c.loop-k.kept fl ba (scan_of ms) in
+          let end = then_is (λ (x : Scan). answered (record { vector = r.opened; totals = r.totals })
+          (settling r.opened r.found r.kept (opening r.opened r.kept x))) d ms _ _ c.requires.own.1 view
+          (c.try_again-clean.ensures.clean c.if-clean-2.true) in
+          let count = inv.count in let lt = c.loop-k-test.true in
+          subst (λ (x : Scan). AnswersBy n w (scan_of ms) x (record { vector = r.opened; totals = r.totals }))
+          (sym (now_is _ ms _ c.requires.own.1 end))
+          (came_later n w fl ba c.loop-k.opened c.loop-k.found tries inv.tried c.loop-k.kept (scan_of ms) r.opened r.found r.kept
+          (record { vector = r.opened; totals = r.totals })
+          (c.try_again-clean.auto.opened ∙ (c.loop-k.auto.opened ∙ (c.try_once-clean.auto.opened ∙ lens.2)))
+          (c.try_again-clean.ensures.same c.if-clean-2.true) (omega (arith, count, lt)) refl);
+      quiet = λ e. absurd (not_quiet (ap quiet_in e));
+      once = λ e. absurd (not_quiet (ap quiet_in e));
+      moved = λ _.
+          let ms = members_of (g.S.ScanSeat.bundle c.args.seat.now) in
+          let n : ℕ = g.row.N in
+          let inv = c.loop-k.invariant.1 in let tries = c.loop-k.invariant.0 in let lens = c.requires.lengths in
+          let fl = c.copy_from_slice.new.self in let ba = c.copy_from_slice-2.new.self in
+          let r = c.try_again-clean.new in
+          let view = at_loop n c.loop-k._k tries c.loop-k.kept fl ba ms _ inv.count c.loop-k-test.true inv.view in
+          let d : Scan = stood tries c.loop-k.kept fl ba (scan_of ms) in
+          let end = then_is (λ (x : Scan). answered (record { vector = r.opened; totals = r.totals })
+          (settling r.opened r.found r.kept (opening r.opened r.kept x))) d ms _ _ c.requires.own.1 view
+          (c.try_again-clean.ensures.clean c.if-clean-2.true) in
+          moved_later n fl ba c.loop-k.opened c.loop-k.found tries inv.tried c.loop-k.kept (scan_of ms) (map version_of c.args.kept.now)
+          r.opened _ c.requires.geometry.workers.0 inv.lengths.0
+          (c.try_again-clean.auto.opened ∙ (c.loop-k.auto.opened ∙ (c.try_once-clean.auto.opened ∙ lens.2)))
+          (ap (λ (x : Scan). x.opened) (now_is _ ms _ c.requires.own.1 end));
+      lent = λ e. absurd (direct_lent _ e);
+      came_lent = λ e. absurd (direct_lent _ e);
+      numbers = λ _ _. c.try_again-clean.ensures.numbers c.if-clean-2.true;
+      listed = let w : ℕ = width g.row.C g.row.H g.row.G in let r = c.try_again-clean.new in
+          lists_then w c.args.totals.now c.loop-k.totals r.totals c.loop-k.moved r.moved c.loop-k.invariant.1.listed
+          c.try_again-clean.ensures.listed;
+      gave_up = λ e. absurd (direct_up _ e);
+      came_up = λ e. absurd (direct_up _ e);
+    }
 
-pub returns-then-clean-clause-wide : goal.returns-then-clean-clause-wide
-returns-then-clean-clause-wide g c = c.try_once-clean.ensures.wide
+pub returns-then-lends : goal.returns-then-lends
+returns-then-lends g c =
+    record {
+      own = c.ask_all-lends.ensures.own ∙ (c.try_again-clean.ensures.own ∙ c.loop-k.invariant.1.own);
+      ruled = c.ask_all-lends.ensures.ruled;
+      wide = c.try_again-clean.ensures.wide;
+      totals = c.try_again-clean.ensures.totals;
+      idle =
+          let ms = members_of (g.S.ScanSeat.bundle c.args.seat.now) in
+          let n : ℕ = g.row.N in let w : ℕ = width g.row.C g.row.H g.row.G in
+          let inv = c.loop-k.invariant.1 in let tries = c.loop-k.invariant.0 in let lens = c.requires.lengths in
+          let fl = c.copy_from_slice.new.self in let ba = c.copy_from_slice-2.new.self in
+          let r = c.try_again-clean.new in
+          let few : length r.kept ≡ n = c.try_again-clean.auto.kept ∙ (c.loop-k.auto.kept ∙ (c.try_once-clean.auto.kept ∙ lens.0)) in
+          let long : length r.opened ≡ n = c.try_again-clean.auto.opened
+          ∙ (c.loop-k.auto.opened ∙ (c.try_once-clean.auto.opened ∙ lens.2)) in
+          let deep : length r.found ≡ n = c.try_again-clean.auto.found
+          ∙ (c.loop-k.auto.found ∙ (c.try_once-clean.auto.found ∙ lens.3)) in
+          let view = at_loop n c.loop-k._k tries c.loop-k.kept fl ba ms _ inv.count c.loop-k-test.true inv.view in
+          let d : Scan = stood tries c.loop-k.kept fl ba (scan_of ms) in
+          let fails = loop_fails n w c.loop-k._k r.opened r.found r.kept c.loop-k.kept few long deep tries fl ba ms _ _ c.requires.own.1
+          inv.count view (c.try_again-clean.ensures.failed c.if-clean-2.false) in
+          let l = c.ask_all-lends.ensures.lends c.if-lends.true in
+          let a = lent_in n w c.ask_all-lends.new.lent in
+          let end = loop_lends n w c.loop-k._k r.opened r.found r.kept c.loop-k.kept few long deep tries fl ba ms _ _ c.requires.own.1
+          inv.count view _ a l.1 l.0 l.2 fails l.3 l.7 in
+          let scan = now_is _ ms _ c.requires.own.1 end in
+          record { kept = ap (λ (x : Scan). x.kept) scan; rest = ap (λ (x : Scan). x.now) scan };
+      others =
+          let ms = members_of (g.S.ScanSeat.bundle c.args.seat.now) in
+          let n : ℕ = g.row.N in let w : ℕ = width g.row.C g.row.H g.row.G in
+          let inv = c.loop-k.invariant.1 in let tries = c.loop-k.invariant.0 in let lens = c.requires.lengths in
+          let fl = c.copy_from_slice.new.self in let ba = c.copy_from_slice-2.new.self in
+          let r = c.try_again-clean.new in
+          let few : length r.kept ≡ n = c.try_again-clean.auto.kept ∙ (c.loop-k.auto.kept ∙ (c.try_once-clean.auto.kept ∙ lens.0)) in
+          let long : length r.opened ≡ n = c.try_again-clean.auto.opened
+          ∙ (c.loop-k.auto.opened ∙ (c.try_once-clean.auto.opened ∙ lens.2)) in
+          let deep : length r.found ≡ n = c.try_again-clean.auto.found
+          ∙ (c.loop-k.auto.found ∙ (c.try_once-clean.auto.found ∙ lens.3)) in
+          let view = at_loop n c.loop-k._k tries c.loop-k.kept fl ba ms _ inv.count c.loop-k-test.true inv.view in
+          let d : Scan = stood tries c.loop-k.kept fl ba (scan_of ms) in
+          let fails = loop_fails n w c.loop-k._k r.opened r.found r.kept c.loop-k.kept few long deep tries fl ba ms _ _ c.requires.own.1
+          inv.count view (c.try_again-clean.ensures.failed c.if-clean-2.false) in
+          let l = c.ask_all-lends.ensures.lends c.if-lends.true in
+          let a = lent_in n w c.ask_all-lends.new.lent in
+          let end = loop_lends n w c.loop-k._k r.opened r.found r.kept c.loop-k.kept few long deep tries fl ba ms _ _ c.requires.own.1
+          inv.count view _ a l.1 l.0 l.2 fails l.3 l.7 in
+          others_same _ ms _ c.requires.own.1 end;
+      direct = λ q e. absurd (lent_direct q e);
+      came_direct = λ q e. absurd (lent_direct q e);
+      quiet = λ e. absurd (lent_direct _ e);
+      once = λ e. absurd (lent_direct _ e);
+      moved = λ e. absurd (lent_direct _ e);
+      lent = λ _.
+          let ms = members_of (g.S.ScanSeat.bundle c.args.seat.now) in
+          let n : ℕ = g.row.N in let w : ℕ = width g.row.C g.row.H g.row.G in
+          let inv = c.loop-k.invariant.1 in let tries = c.loop-k.invariant.0 in let lens = c.requires.lengths in
+          let fl = c.copy_from_slice.new.self in let ba = c.copy_from_slice-2.new.self in
+          let r = c.try_again-clean.new in
+          let few : length r.kept ≡ n = c.try_again-clean.auto.kept ∙ (c.loop-k.auto.kept ∙ (c.try_once-clean.auto.kept ∙ lens.0)) in
+          let long : length r.opened ≡ n = c.try_again-clean.auto.opened
+          ∙ (c.loop-k.auto.opened ∙ (c.try_once-clean.auto.opened ∙ lens.2)) in
+          let deep : length r.found ≡ n = c.try_again-clean.auto.found
+          ∙ (c.loop-k.auto.found ∙ (c.try_once-clean.auto.found ∙ lens.3)) in
+          let view = at_loop n c.loop-k._k tries c.loop-k.kept fl ba ms _ inv.count c.loop-k-test.true inv.view in
+          let d : Scan = stood tries c.loop-k.kept fl ba (scan_of ms) in
+          let fails = loop_fails n w c.loop-k._k r.opened r.found r.kept c.loop-k.kept few long deep tries fl ba ms _ _ c.requires.own.1
+          inv.count view (c.try_again-clean.ensures.failed c.if-clean-2.false) in
+          let l = c.ask_all-lends.ensures.lends c.if-lends.true in
+          let a = lent_in n w c.ask_all-lends.new.lent in
+          let end = loop_lends n w c.loop-k._k r.opened r.found r.kept c.loop-k.kept few long deep tries fl ba ms _ _ c.requires.own.1
+          inv.count view _ a l.1 l.0 l.2 fails l.3 l.7 in
+          subst (λ (x : Scan). IsAnswered n (scan_of ms) x a) (sym (now_is _ ms _ c.requires.own.1 end))
+          (lent_later n fl ba c.loop-k.opened c.loop-k.found tries inv.tried c.loop-k.kept (scan_of ms) r.opened r.found r.kept a l.1
+          l.0 (asked_worker l.1 ∷ l.2) inv.lengths.0
+          (vector_long n w c.ask_all-lends.new.lent (c.ask_all-lends.auto.lent ∙ (c.loop-k.auto.lent ∙ lens.4))) inv.seen
+          (ap (λ (ws : List ℕ). is_above fl (take n (drop 1 ws))) (sym l.5) ∙ l.6.above));
+      came_lent = λ _.
+          let ms = members_of (g.S.ScanSeat.bundle c.args.seat.now) in
+          let n : ℕ = g.row.N in let w : ℕ = width g.row.C g.row.H g.row.G in
+          let inv = c.loop-k.invariant.1 in let tries = c.loop-k.invariant.0 in let lens = c.requires.lengths in
+          let fl = c.copy_from_slice.new.self in let ba = c.copy_from_slice-2.new.self in
+          let r = c.try_again-clean.new in
+          let few : length r.kept ≡ n = c.try_again-clean.auto.kept ∙ (c.loop-k.auto.kept ∙ (c.try_once-clean.auto.kept ∙ lens.0)) in
+          let long : length r.opened ≡ n = c.try_again-clean.auto.opened
+          ∙ (c.loop-k.auto.opened ∙ (c.try_once-clean.auto.opened ∙ lens.2)) in
+          let deep : length r.found ≡ n = c.try_again-clean.auto.found
+          ∙ (c.loop-k.auto.found ∙ (c.try_once-clean.auto.found ∙ lens.3)) in
+          let view = at_loop n c.loop-k._k tries c.loop-k.kept fl ba ms _ inv.count c.loop-k-test.true inv.view in
+          let fails = loop_fails n w c.loop-k._k r.opened r.found r.kept c.loop-k.kept few long deep tries fl ba ms _ _ c.requires.own.1
+          inv.count view (c.try_again-clean.ensures.failed c.if-clean-2.false) in
+          let l = c.ask_all-lends.ensures.lends c.if-lends.true in
+          let a = lent_in n w c.ask_all-lends.new.lent in
+          let end = loop_lends n w c.loop-k._k r.opened r.found r.kept c.loop-k.kept few long deep tries fl ba ms _ _ c.requires.own.1
+          inv.count view _ a l.1 l.0 l.2 fails l.3 l.7 in
+          let count = inv.count in let lt = c.loop-k-test.true in
+          subst (λ (x : Scan). AnswersBy n w (scan_of ms) x a) (sym (now_is _ ms _ c.requires.own.1 end))
+          (came_lending n w fl ba c.loop-k.opened c.loop-k.found tries inv.tried c.loop-k.kept (scan_of ms) r.opened r.found r.kept a
+          l.1 l.0 l.2 (asked_worker l.1 ∷ l.2) long deep (omega (arith, count, lt))
+          (c.try_again-clean.ensures.rose c.if-clean-2.false) l.3 l.4 l.6 (ap (lent_in n w) (sym l.5)));
+      numbers = λ q e. absurd (lent_direct q e);
+      listed = let w : ℕ = width g.row.C g.row.H g.row.G in let r = c.try_again-clean.new in
+          lists_then w c.args.totals.now c.loop-k.totals r.totals c.loop-k.moved r.moved c.loop-k.invariant.1.listed
+          c.try_again-clean.ensures.listed;
+      gave_up = λ e. absurd (lent_up e);
+      came_up = λ e. absurd (lent_up e);
+    }
 
-pub returns-then-clean-clause-totals : goal.returns-then-clean-clause-totals
-returns-then-clean-clause-totals g c = c.try_once-clean.ensures.totals
-
-pub returns-then-clean-clause-idle : goal.returns-then-clean-clause-idle
-returns-then-clean-clause-idle g c = let scan = now_is _ _ _ c.requires.own.1 (c.try_once-clean.ensures.clean c.if-clean.true) in
-    record { kept = ap (λ (d : Scan). d.kept) scan; rest = ap (λ (d : Scan). d.now) scan }
-
-pub returns-then-clean-clause-others : goal.returns-then-clean-clause-others
-returns-then-clean-clause-others g c = others_same _ (members_of (g.S.ScanSeat.bundle c.args.seat.now)) _ c.requires.own.1
-    (c.try_once-clean.ensures.clean c.if-clean.true)
-
-pub returns-then-clean-clause-quiet : goal.returns-then-clean-clause-quiet
-returns-then-clean-clause-quiet g c = λ e. c.try_once-clean.ensures.quiet (ap quiet_in e)
-
-pub returns-then-clean-clause-lent : goal.returns-then-clean-clause-lent
-returns-then-clean-clause-lent g c = λ e. absurd (direct_lent _ e)
-
-pub returns-then-clean-clause-came_lent : goal.returns-then-clean-clause-came_lent
-returns-then-clean-clause-came_lent g c = λ e. absurd (direct_lent _ e)
-
-pub returns-then-clean-clause-gave_up : goal.returns-then-clean-clause-gave_up
-returns-then-clean-clause-gave_up g c = λ e. absurd (direct_up _ e)
-
-pub returns-then-clean-clause-came_up : goal.returns-then-clean-clause-came_up
-returns-then-clean-clause-came_up g c = λ e. absurd (direct_up _ e)
-
-pub returns-then-clean-2-clause-ruled : goal.returns-then-clean-2-clause-ruled
-returns-then-clean-2-clause-ruled g c = c.try_again-clean.ensures.ruled
-
-pub returns-then-clean-2-clause-wide : goal.returns-then-clean-2-clause-wide
-returns-then-clean-2-clause-wide g c = c.try_again-clean.ensures.wide
-
-pub returns-then-clean-2-clause-totals : goal.returns-then-clean-2-clause-totals
-returns-then-clean-2-clause-totals g c = c.try_again-clean.ensures.totals
-
-pub returns-then-clean-2-clause-quiet : goal.returns-then-clean-2-clause-quiet
-returns-then-clean-2-clause-quiet g c = λ e. absurd (not_quiet (ap quiet_in e))
-
-pub returns-then-clean-2-clause-once : goal.returns-then-clean-2-clause-once
-returns-then-clean-2-clause-once g c = λ e. absurd (not_quiet (ap quiet_in e))
-
-pub returns-then-clean-2-clause-lent : goal.returns-then-clean-2-clause-lent
-returns-then-clean-2-clause-lent g c = λ e. absurd (direct_lent _ e)
-
-pub returns-then-clean-2-clause-came_lent : goal.returns-then-clean-2-clause-came_lent
-returns-then-clean-2-clause-came_lent g c = λ e. absurd (direct_lent _ e)
-
-pub returns-then-clean-2-clause-gave_up : goal.returns-then-clean-2-clause-gave_up
-returns-then-clean-2-clause-gave_up g c = λ e. absurd (direct_up _ e)
-
-pub returns-then-clean-2-clause-came_up : goal.returns-then-clean-2-clause-came_up
-returns-then-clean-2-clause-came_up g c = λ e. absurd (direct_up _ e)
-
-pub returns-then-lends-clause-ruled : goal.returns-then-lends-clause-ruled
-returns-then-lends-clause-ruled g c = c.ask_all-lends.ensures.ruled
-
-pub returns-then-lends-clause-wide : goal.returns-then-lends-clause-wide
-returns-then-lends-clause-wide g c = c.try_again-clean.ensures.wide
-
-pub returns-then-lends-clause-totals : goal.returns-then-lends-clause-totals
-returns-then-lends-clause-totals g c = c.try_again-clean.ensures.totals
-
-pub returns-then-lends-clause-direct : goal.returns-then-lends-clause-direct
-returns-then-lends-clause-direct g c = λ q e. absurd (lent_direct q e)
-
-pub returns-then-lends-clause-came_direct : goal.returns-then-lends-clause-came_direct
-returns-then-lends-clause-came_direct g c = λ q e. absurd (lent_direct q e)
-
-pub returns-then-lends-clause-quiet : goal.returns-then-lends-clause-quiet
-returns-then-lends-clause-quiet g c = λ e. absurd (lent_direct _ e)
-
-pub returns-then-lends-clause-once : goal.returns-then-lends-clause-once
-returns-then-lends-clause-once g c = λ e. absurd (lent_direct _ e)
-
-pub returns-then-lends-clause-moved : goal.returns-then-lends-clause-moved
-returns-then-lends-clause-moved g c = λ e. absurd (lent_direct _ e)
-
-pub returns-then-lends-clause-gave_up : goal.returns-then-lends-clause-gave_up
-returns-then-lends-clause-gave_up g c = λ e. absurd (lent_up e)
-
-pub returns-then-lends-clause-came_up : goal.returns-then-lends-clause-came_up
-returns-then-lends-clause-came_up g c = λ e. absurd (lent_up e)
-
-pub returns-clause-ruled : goal.returns-clause-ruled
-returns-clause-ruled g c = c.loop-k.invariant.1.ruled
-
-pub returns-clause-direct : goal.returns-clause-direct
-returns-clause-direct g c = λ q e. absurd (up_direct q e)
-
-pub returns-clause-came_direct : goal.returns-clause-came_direct
-returns-clause-came_direct g c = λ q e. absurd (up_direct q e)
-
-pub returns-clause-quiet : goal.returns-clause-quiet
-returns-clause-quiet g c = λ e. absurd (up_direct _ e)
-
-pub returns-clause-once : goal.returns-clause-once
-returns-clause-once g c = λ e. absurd (up_direct _ e)
-
-pub returns-clause-moved : goal.returns-clause-moved
-returns-clause-moved g c = λ e. absurd (up_direct _ e)
-
-pub returns-clause-lent : goal.returns-clause-lent
-returns-clause-lent g c = λ e. absurd (up_lent e)
-
-pub returns-clause-came_lent : goal.returns-clause-came_lent
-returns-clause-came_lent g c = λ e. absurd (up_lent e)
-
-pub returns-then-clean-clause-numbers : goal.returns-then-clean-clause-numbers
-returns-then-clean-clause-numbers g c = λ _ _. c.try_once-clean.ensures.numbers c.if-clean.true
-
-pub returns-then-clean-2-clause-numbers : goal.returns-then-clean-2-clause-numbers
-returns-then-clean-2-clause-numbers g c = λ _ _. c.try_again-clean.ensures.numbers c.if-clean-2.true
-
-pub returns-then-lends-clause-numbers : goal.returns-then-lends-clause-numbers
-returns-then-lends-clause-numbers g c = λ q e. absurd (lent_direct q e)
-
-pub returns-clause-numbers : goal.returns-clause-numbers
-returns-clause-numbers g c = λ q e. absurd (up_direct q e)
-
-pub returns-then-clean-clause-listed : goal.returns-then-clean-clause-listed
-returns-then-clean-clause-listed g c = c.try_once-clean.ensures.listed
-
-pub returns-then-clean-2-clause-listed : goal.returns-then-clean-2-clause-listed
-returns-then-clean-2-clause-listed g c = let w : ℕ = width g.row.C g.row.H g.row.G in let r = c.try_again-clean.new in
-    lists_then w c.args.totals.now c.loop-k.totals r.totals c.loop-k.moved r.moved c.loop-k.invariant.1.listed
-    c.try_again-clean.ensures.listed
-
-pub returns-then-lends-clause-listed : goal.returns-then-lends-clause-listed
-returns-then-lends-clause-listed g c = let w : ℕ = width g.row.C g.row.H g.row.G in let r = c.try_again-clean.new in
-    lists_then w c.args.totals.now c.loop-k.totals r.totals c.loop-k.moved r.moved c.loop-k.invariant.1.listed
-    c.try_again-clean.ensures.listed
-
-pub returns-clause-listed : goal.returns-clause-listed
-returns-clause-listed g c = c.loop-k.invariant.1.listed
+pub returns : goal.returns
+returns g c =
+    record {
+      own = c.loop-k.invariant.1.own;
+      ruled = c.loop-k.invariant.1.ruled;
+      wide = c.loop-k.invariant.1.wide;
+      totals = c.loop-k.invariant.1.totals;
+      idle =
+          let ms = members_of (g.S.ScanSeat.bundle c.args.seat.now) in
+          let n : ℕ = g.row.N in
+          let inv = c.loop-k.invariant.1 in let tries = c.loop-k.invariant.0 in
+          let t = c.loop-k-test.false in let last = c.loop-k.auto._k-end in let count = inv.count in
+          let fl = c.copy_from_slice.new.self in let ba = c.copy_from_slice-2.new.self in
+          let scan = now_is _ ms _ c.requires.own.1 inv.view ∙ given_last n (stood tries c.loop-k.kept fl ba (scan_of ms)) refl
+          (omega (arith, count, t, last)) in
+          record { kept = ap (λ (x : Scan). x.kept) scan; rest = ap (λ (x : Scan). x.now) scan };
+      others = others_same _ _ _ c.requires.own.1 c.loop-k.invariant.1.view;
+      direct = λ q e. absurd (up_direct q e);
+      came_direct = λ q e. absurd (up_direct q e);
+      quiet = λ e. absurd (up_direct _ e);
+      once = λ e. absurd (up_direct _ e);
+      moved = λ e. absurd (up_direct _ e);
+      lent = λ e. absurd (up_lent e);
+      came_lent = λ e. absurd (up_lent e);
+      numbers = λ q e. absurd (up_direct q e);
+      listed = c.loop-k.invariant.1.listed;
+      gave_up = λ _.
+          let ms = members_of (g.S.ScanSeat.bundle c.args.seat.now) in
+          let n : ℕ = g.row.N in
+          let inv = c.loop-k.invariant.1 in let tries = c.loop-k.invariant.0 in
+          let t = c.loop-k-test.false in let last = c.loop-k.auto._k-end in let count = inv.count in
+          let fl = c.copy_from_slice.new.self in let ba = c.copy_from_slice-2.new.self in
+          subst (λ (x : Scan). IsGivenUp n (scan_of ms) x c.loop-k.opened c.loop-k.found)
+          (sym (now_is _ ms _ c.requires.own.1 inv.view))
+          (all_failed n fl ba c.loop-k.opened c.loop-k.found tries inv.tried c.loop-k.kept (scan_of ms) (omega (arith, count, t, last))
+          inv.above);
+      came_up = λ _ e moved.
+          let ms = members_of (g.S.ScanSeat.bundle c.args.seat.now) in
+          let n : ℕ = g.row.N in let w : ℕ = width g.row.C g.row.H g.row.G in
+          let inv = c.loop-k.invariant.1 in let tries = c.loop-k.invariant.0 in
+          let t = c.loop-k-test.false in let last = c.loop-k.auto._k-end in let count = inv.count in
+          let fl = c.copy_from_slice.new.self in let ba = c.copy_from_slice-2.new.self in
+          subst (λ (x : Scan). CameTo n w (scan_of ms) x (GaveUp e.worker e.first e.last))
+          (sym (now_is _ ms _ c.requires.own.1 inv.view))
+          (came_up n w fl ba c.loop-k.opened c.loop-k.found tries inv.tried c.loop-k.kept (scan_of ms) (omega (arith, count, t, last)) e
+          moved);
+    }

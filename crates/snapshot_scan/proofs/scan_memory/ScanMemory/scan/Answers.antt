@@ -178,29 +178,22 @@ scan-requires g c =
     let old = c.args.self.now in let w : ℕ = width g.row.C g.row.H g.row.G in
     let kept = sym c.as_mut_slice.ensures.value in let totals = sym c.as_mut_slice-2.ensures.value in (
       omega arith,
-      (
-        c.requires.own,
-        (
-          old.geometry,
-          (
-            (
-              ap (λ (l : List RememberedRow). length l) c.as_mut_slice.ensures.value ∙ old.sizes.0,
-              ap (λ (l : List ℕ). length l) c.as_mut_slice-2.ensures.value ∙ old.sizes.1,
-              ap (λ (l : List ℕ). length l) c.as_mut_slice-3.ensures.value ∙ old.sizes.2,
-              ap (λ (l : List ℕ). length l) c.as_mut_slice-4.ensures.value ∙ old.sizes.3,
-              ap (λ (l : List ℕ). length l) c.as_mut_slice-5.ensures.value ∙ old.sizes.4,
-            ),
-            (
-              subst (AreWide w) kept old.wide,
-              (
-                subst (λ (l : List RememberedRow). AreTotals w l c.as_mut_slice-2.result.now) kept
-                    (subst (AreTotals w old.kept.items) totals old.sums),
-                (old.listed, subst (IsIdle (scan_in (g.S.ScanSeat.bundle c.args.seat.now))) kept c.requires.ready),
-              ),
-            ),
-          ),
-        ),
-      ),
+      record {
+        own = c.requires.own;
+        geometry = old.geometry;
+        lengths = (
+          ap (λ (l : List RememberedRow). length l) c.as_mut_slice.ensures.value ∙ old.sizes.0,
+          ap (λ (l : List ℕ). length l) c.as_mut_slice-2.ensures.value ∙ old.sizes.1,
+          ap (λ (l : List ℕ). length l) c.as_mut_slice-3.ensures.value ∙ old.sizes.2,
+          ap (λ (l : List ℕ). length l) c.as_mut_slice-4.ensures.value ∙ old.sizes.3,
+          ap (λ (l : List ℕ). length l) c.as_mut_slice-5.ensures.value ∙ old.sizes.4,
+        );
+        wide = subst (AreWide w) kept old.wide;
+        totals = subst (λ (l : List RememberedRow). AreTotals w l c.as_mut_slice-2.result.now) kept
+            (subst (AreTotals w old.kept.items) totals old.sums);
+        listed = old.listed;
+        idle = subst (IsIdle (scan_in (g.S.ScanSeat.bundle c.args.seat.now))) kept c.requires.ready;
+      },
     )
 
 pub returns-clause-numbers : goal.returns-clause-numbers
