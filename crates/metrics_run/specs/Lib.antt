@@ -4,6 +4,7 @@ pub mod Printed
 pub mod Status
 pub mod Jobs
 pub mod QueuedJobs
+pub mod Waiting
 pub mod Children
 pub mod State
 pub mod Refusals

@@ -1,5 +1,5 @@
 -- The entries of a queue, and the jobs that they make.
-use Rattle.std.specs.Prelude.{◌≡◌, List, All, Option, option_and_then, option_map, is_some, slice_get, true, map}
+use Rattle.std.specs.Prelude.{◌≡◌, List, All, Option, option_and_then, option_map, is_some, slice_get, true}
 use Rattle.std.specs.List.{filter_map}
 use Rattle.std.specs.declared.vec.Vec.{Vec}
 use Rattle.std.specs.declared.alloc.Global.{Global}
@@ -8,7 +8,6 @@ use Rattle.worker_pool.specs.declared.job.Job.{Job}
 use Rattle.worker_pool.specs.declared.job.JobOp.{JobOp}
 use Rattle.metrics_run.specs.Jobs.{job_for}
 use Rattle.metrics_run.specs.declared.queued_job.QueuedJob.{QueuedJob}
-use Rattle.metrics_run.specs.declared.queue.Queue.{Queue}
 
 -- the job of an entry's line that counts this
 abbrev pub on_line : QueuedJob → JobOp → Job
@@ -33,7 +32,3 @@ ListFits children list = All (Fits children) list.items
 -- the jobs that a worker's list makes
 abbrev pub jobs_of : List Handle → Vec QueuedJob Global → List Job
 jobs_of children list = filter_map (job_of children) list.items
-
--- the jobs that wait, a list for each worker
-abbrev pub lists_in : Queue → List (List Job)
-lists_in queue = map (jobs_of queue.children.items) queue.lists.items

@@ -15,7 +15,7 @@ use Rattle.script_lines.specs.Language.{AreBounds, IsLine}
 use Rattle.worker_pool.specs.Ends.{IsPoolFault}
 use Rattle.worker_pool.specs.declared.fault.PoolFault.{PoolFault}
 use Rattle.worker_pool.specs.declared.fault.PoolFault.TheVariants as pool
-use Rattle.metrics_run.specs.QueuedJobs.{lists_in}
+use Rattle.metrics_run.specs.Waiting.{lists_in}
 use Rattle.metrics_run.specs.Parts.{IsDescribed, AreRead, AreValuesRefused, IsPlainRefusal, IsHistogramRefusal}
 use Rattle.metrics_run.specs.State.{gave_in, gave_up_in, quit_in}
 use Rattle.metrics_run.specs.State.{job_in, IsBeside, IsSame}

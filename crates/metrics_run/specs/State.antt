@@ -21,7 +21,7 @@ use Rattle.worker_pool.specs.Ends.{DidAll}
 use Rattle.metrics_run.specs.Parts.{AreRead}
 use Rattle.metrics_run.specs.Children.{HasOne}
 use Rattle.metrics_run.specs.Jobs.{job_for, with_jobs}
-use Rattle.metrics_run.specs.QueuedJobs.{lists_in}
+use Rattle.metrics_run.specs.Waiting.{lists_in}
 use Rattle.metrics_run.specs.declared.state.State.{State}
 use Rattle.metrics_run.specs.declared.state.Count.{Count}
 use Rattle.register_rule.specs.declared.view.Answer.{Answer}

@@ -5,7 +5,7 @@ ghost use Rattle.snapshot_update.specs.Workers.{index_of, IsWorkerOf};
 ghost use Rattle.worker_pool.specs.Ends.{IsPoolFault};
 ghost use Rattle.script_lines.specs.Language.{AreValues};
 ghost use Rattle.metrics_run.specs.LineFault.{number_of};
-ghost use Rattle.metrics_run.specs.QueuedJobs.{lists_in};
+ghost use Rattle.metrics_run.specs.Waiting.{lists_in};
 ghost use Rattle.metrics_run.specs.State.{IsReady, IsFresh, IsSame, IsRegistered, IsNumbered, IsQueued, IsGone, IsScraped};
 ghost use Rattle.metrics_run.specs.State.{IsSettled, IsWindowed};
 ghost use Rattle.metrics_run.specs.Refusals.{IsRegisterRefusal, IsChildRefusal, IsQueueRefusal, IsGoRefusal, IsLost};

@@ -48,7 +48,7 @@ impl Queue {
     ghost use Rattle.worker_pool.specs.declared.job.Job.{Job};
     ghost use Rattle.metrics_run.specs.QueuedJobs.{job_of, Fits};
     ghost use Rattle.metrics_run.specs.Jobs.{with_jobs};
-    ghost use Rattle.metrics_run.specs.QueuedJobs.{lists_in};
+    ghost use Rattle.metrics_run.specs.Waiting.{lists_in};
 
     /// No children, and no jobs of any worker.
     pub(crate) fn new(alloc: Global) -> Result<Queue, NoMemory>
@@ -113,7 +113,7 @@ impl Queue {
 }
 
 impl JobLists for Queue {
-    ghost use Rattle.metrics_run.specs.QueuedJobs.{lists_in};
+    ghost use Rattle.metrics_run.specs.Waiting.{lists_in};
 
     ghost lists = { lists_in };
 

@@ -4,7 +4,7 @@ use Rattle.std.proofs.Math.Seq.{map-set_same}
 use Rattle.std.specs.List.{filter_map}
 use Rattle.worker_pool.specs.declared.job.Job.{Job}
 use Rattle.metrics_run.specs.QueuedJobs.{job_of, jobs_of}
-use Rattle.metrics_run.specs.QueuedJobs.{lists_in}
+use Rattle.metrics_run.specs.Waiting.{lists_in}
 use Rattle.metrics_run.proofs.QueuedJobs.{made_more}
 use Rattle.metrics_run.proofs.queue.Queue.add.Goals as goal
 

@@ -4,7 +4,7 @@ use Rattle.std.proofs.Math.ListN.{length-set}
 use Rattle.worker_pool.specs.declared.job.Job.{Job}
 use Rattle.metrics_run.specs.QueuedJobs.{job_of}
 use Rattle.metrics_run.specs.Jobs.{with_jobs}
-use Rattle.metrics_run.specs.QueuedJobs.{lists_in}
+use Rattle.metrics_run.specs.Waiting.{lists_in}
 use Rattle.metrics_run.specs.declared.queued_job.QueuedJob.{QueuedJob}
 use Rattle.metrics_run.proofs.Crew.{counted}
 use Rattle.metrics_run.proofs.QueuedJobs.{value_of}

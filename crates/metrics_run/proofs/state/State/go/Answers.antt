@@ -2,7 +2,7 @@ use Rattle.std.proofs.Common.{true, ◌≡◌, ℕ, refl, length, replicate, [],
 use Rattle.std.proofs.lemmas.List.{length-map, length-replicate}
 use Rattle.snapshot_update.specs.Workers.{index_of}
 use Rattle.worker_pool.specs.Ends.{DidAll, IsPoolFault}
-use Rattle.metrics_run.specs.QueuedJobs.{lists_in}
+use Rattle.metrics_run.specs.Waiting.{lists_in}
 use Rattle.metrics_run.proofs.Crew.{same_workers}
 use Rattle.metrics_run.proofs.state.State.go.Goals as goal
 
