@@ -10,23 +10,16 @@ fn have_places(rt: &impl Abort, bounds: &Bounds, placed: &[(u64, usize)]) {
     }
 }
 
+/// Values and their places among the bounds 10 and 20.
+static PLACED: [(u64, usize); 6] = [(0, 0), (10, 0), (11, 1), (20, 1), (21, 2), (u64::MAX, 2)];
+
 /// A value is placed by the first bound that is not below it.
 #[test]
 fn places(rt: HostRuntime) {
     let rt = &rt;
     let bounds = need(rt, Bounds::from_slice(&[10, 20]));
-    let placed = [(0, 0), (10, 0), (11, 1), (20, 1), (21, 2), (u64::MAX, 2)];
-    have_places(rt, &bounds, &placed);
+    have_places(rt, &bounds, &PLACED);
     same(rt, need(rt, Bounds::from_slice(&[])).place(u64::MAX), 0);
-}
-
-/// The bounds 0, 1, 2 and so on.
-fn rising<const N: usize>() -> [u64; N] {
-    let mut rising = [0; N];
-    for place in 0..N {
-        rising[place] = place as u64;
-    }
-    rising
 }
 
 /// Each of these is read as bounds, and is what was read.
@@ -46,39 +39,52 @@ fn are_no_bounds(rt: &impl Abort, refused: &[(&[u64], usize)]) {
     }
 }
 
+/// Bounds that rise, at most 24, up to the greatest one.
+static ACCEPTED: [&[u64]; 4] = [
+    &[],
+    &[0],
+    &[281_474_976_710_655],
+    &[
+        0, 1, 2, 3, 4, 5, 6, 7, 8, 9, 10, 11, 12, 13, 14, 15, 16, 17, 18, 19, 20, 21, 22, 23,
+    ],
+];
+
+/// What is refused as bounds, and the place of the first that is none.
+static REFUSED: [(&[u64], usize); 4] = [
+    (&[5, 5], 1),
+    (&[281_474_976_710_656], 0),
+    (&[1, 3, 2, 2], 2),
+    (
+        &[
+            0, 1, 2, 3, 4, 5, 6, 7, 8, 9, 10, 11, 12, 13, 14, 15, 16, 17, 18, 19, 20, 21, 22, 23,
+            24,
+        ],
+        24,
+    ),
+];
+
 /// Bounds that rise up to the greatest one are read as they are, and others are refused at the first that is none.
 #[test]
 fn bounds(rt: HostRuntime) {
-    let rt = &rt;
-    let (most, more) = (rising::<24>(), rising::<25>());
-    let accepted = [
-        [].as_slice(),
-        [0].as_slice(),
-        [281_474_976_710_655].as_slice(),
-        most.as_slice(),
-    ];
-    are_bounds(rt, &accepted);
-    same(rt, MAX_BOUND, 281_474_976_710_655);
-    let refused = [
-        ([5, 5].as_slice(), 1),
-        ([281_474_976_710_656].as_slice(), 0),
-        ([1, 3, 2, 2].as_slice(), 2),
-        (more.as_slice(), 24),
-    ];
-    are_no_bounds(rt, &refused);
+    are_bounds(&rt, &ACCEPTED);
+    same(&rt, MAX_BOUND, 281_474_976_710_655);
+    are_no_bounds(&rt, &REFUSED);
 }
+
+/// One in each of the first three buckets.
+static THREE: [u64; BUCKETS] = [
+    1, 1, 1, 0, 0, 0, 0, 0, 0, 0, 0, 0, 0, 0, 0, 0, 0, 0, 0, 0, 0, 0, 0, 0, 0,
+];
+
+/// They are cumulated, with two bounds.
+static CUMULATED: [u64; BUCKETS] = [
+    1, 2, 3, 3, 3, 3, 3, 3, 3, 3, 3, 3, 3, 3, 3, 3, 3, 3, 3, 3, 3, 3, 3, 3, 3,
+];
 
 #[test]
 fn cumulates(rt: HostRuntime) {
     let rt = &rt;
-    let mut buckets = [0; BUCKETS];
-    buckets[0] = 1;
-    buckets[1] = 1;
-    buckets[2] = 1;
-    let mut two = [3; BUCKETS];
-    two[0] = 1;
-    two[1] = 2;
-    same(rt, cumulate(&buckets, 2), two);
-    same(rt, cumulate(&buckets, 0), [3; BUCKETS]);
-    same(rt, cumulate(&buckets, 24)[24], 3);
+    same(rt, cumulate(&THREE, 2), CUMULATED);
+    same(rt, cumulate(&THREE, 0), [3; BUCKETS]);
+    same(rt, cumulate(&THREE, 24)[24], 3);
 }

@@ -1,30 +1,31 @@
 //! Places of a board's words.
+ghost use Rattle.segment_layout.specs.Layout.{IsGeometry};
+
 use crate::asserts::same;
 use segment_layout::{Item, Part, buffer_words, item_at, place_of, segment_words, words_needed};
+use std::process::Abort;
+
+/// So many words have a buffer, a segment and a board of this geometry.
+fn have_words(rt: &impl Abort, n: usize, c: usize, h: usize, g: usize, words: [usize; 3])
+    requires { IsGeometry n c h g }
+{
+    let buffer = buffer_words(n, c, h, g);
+    let segment = segment_words(n, c, h, g);
+    same(rt, [buffer, segment, words_needed(n, c, h, g)], words);
+}
 
 #[test]
 fn words_of_two_workers(rt: HostRuntime) {
-    let rt = &rt;
-    same(rt, buffer_words(2, 3, 1, 0), 63);
-    same(rt, segment_words(2, 3, 1, 0), 127);
-    same(rt, words_needed(2, 3, 1, 0), 254);
-    same(rt, buffer_words(2, 3, 1, 1), 67);
-    same(rt, segment_words(2, 3, 1, 1), 135);
-    same(rt, words_needed(2, 3, 1, 1), 270);
+    have_words(&rt, 2, 3, 1, 0, [63, 127, 254]);
+    have_words(&rt, 2, 3, 1, 1, [67, 135, 270]);
 }
 
 #[test]
 fn words_of_large_boards(rt: HostRuntime) {
     let rt = &rt;
-    same(rt, buffer_words(16, 256, 32, 0), 2257);
-    same(rt, segment_words(16, 256, 32, 0), 4515);
-    same(rt, words_needed(16, 256, 32, 0), 72_240);
-    same(rt, buffer_words(32, 256, 32, 0), 2273);
-    same(rt, segment_words(32, 256, 32, 0), 4547);
-    same(rt, words_needed(32, 256, 32, 0), 145_504);
-    same(rt, buffer_words(32, 256, 32, 64), 2529);
-    same(rt, segment_words(32, 256, 32, 64), 5059);
-    same(rt, words_needed(32, 256, 32, 64), 161_888);
+    have_words(rt, 16, 256, 32, 0, [2257, 4515, 72_240]);
+    have_words(rt, 32, 256, 32, 0, [2273, 4547, 145_504]);
+    have_words(rt, 32, 256, 32, 64, [2529, 5059, 161_888]);
 }
 
 #[test]

@@ -4,71 +4,69 @@ use ledger_core::Op;
 use snapshot_core::{
     Answer, Event, Next, Publish, RunFault, ScanEnd, ScanState, Trace, is_outcome, run,
 };
-use std::alloc::{AllocError, Global};
+use std::alloc::Global;
 use std::process::Abort;
 
 /// A Begin of the actor, by `by`; a reader's, where that is 0.
-fn begin(alloc: Global, actor: usize, by: u64) -> Result<Event, AllocError> {
+fn begin(rt: &impl Abort, alloc: Global, actor: usize, by: u64) -> Event {
     let mut ops = Vec::new(alloc);
     if by > 0 {
-        ops.push(Op::Inc { counter: 0, by })?;
+        need(rt, ops.push(Op::Inc { counter: 0, by }));
     }
-    Ok(Event::Begin { actor, ops })
+    Event::Begin { actor, ops }
 }
 
 /// The event of a letter: b begins the reader, B worker 0 and C worker 1 by `by`, s and t step and tear the reader, S and T
 /// step worker 0 and 1.
-fn event(alloc: Global, letter: u8, reader: usize, by: u64) -> Result<Event, AllocError> {
+fn event(rt: &impl Abort, alloc: Global, letter: u8, reader: usize, by: u64) -> Event {
     match letter {
-        b'b' => begin(alloc, reader, 0),
-        b'B' => begin(alloc, 0, by),
-        b'C' => begin(alloc, 1, by),
-        b's' => Ok(Event::Step { actor: reader }),
-        b't' => Ok(Event::Torn { actor: reader }),
-        b'S' => Ok(Event::Step { actor: 0 }),
-        _ => Ok(Event::Step { actor: 1 }),
+        b'b' => begin(rt, alloc, reader, 0),
+        b'B' => begin(rt, alloc, 0, by),
+        b'C' => begin(rt, alloc, 1, by),
+        b's' => Event::Step { actor: reader },
+        b't' => Event::Torn { actor: reader },
+        b'S' => Event::Step { actor: 0 },
+        _ => Event::Step { actor: 1 },
     }
 }
 
 /// A list of events, a letter each.
-pub(crate) fn events(
-    alloc: Global,
-    text: &str,
-    reader: usize,
-    by: u64,
-) -> Result<Vec<Event>, AllocError> {
+fn events(rt: &impl Abort, alloc: Global, text: &str, reader: usize, by: u64) -> Vec<Event> {
     let mut list = Vec::new(alloc);
     for letter in text.bytes() {
-        list.push(event(alloc, letter, reader, by)?)?;
+        need(rt, list.push(event(rt, alloc, letter, reader, by)));
     }
-    Ok(list)
+    list
 }
 
 /// What a run of these events comes to. The reader is the first one.
 fn traced(rt: &impl Abort, alloc: Global, n: usize, text: &str, by: u64) -> Trace {
-    let list = need(rt, events(alloc, text, n, by));
+    let list = events(rt, alloc, text, n, by);
     need(rt, run::<1, 0, 0>(alloc, n, list.as_slice()))
 }
 
 /// The turn of an answer: actor, begin, end and tries.
 type Turn = (usize, usize, usize, usize);
 
+/// An answer: its place, turn and end, its vector and the total.
+type Expected<'a> = (usize, Turn, ScanEnd, &'a [u64], &'a [u64]);
+
 /// An answer of the trace is this one.
-fn answers(
-    rt: &impl Abort,
-    trace: &Trace,
-    k: usize,
-    turn: Turn,
-    how: ScanEnd,
-    vector: &[u64],
-    totals: &[u64],
-) {
-    let found = there(rt, trace.answers.get(k));
+fn answer_is(rt: &impl Abort, trace: &Trace, expected: &Expected<'_>) {
+    let &(place, turn, how, vector, totals) = expected;
+    let found = there(rt, trace.answers.get(place));
     let of_turn = (found.actor, found.begin, found.end, found.tries);
-    same(rt, of_turn, turn);
-    same(rt, found.how, how);
+    same(rt, (of_turn, found.how), (turn, how));
     same(rt, found.vector.as_slice(), vector);
     same(rt, found.totals.as_slice(), totals);
+}
+
+/// These are among the trace's answers, which are so many.
+fn answers(rt: &impl Abort, trace: &Trace, many: usize, all: &[Expected<'_>]) {
+    same(rt, trace.answers.len(), many);
+    for expected in all {
+        answer_is(rt, trace, expected);
+    }
 }
 
 /// So many publishes, the last one by this event.
@@ -81,14 +79,18 @@ fn publishes(rt: &impl Abort, trace: &Trace, many: usize, last: usize) {
 /// The run of a publish in the first try of a reader.
 const SECOND_TRY: &str = "bssBSSSSSssssss";
 
+/// Its answers.
+static SECOND: [Expected; 2] = [
+    (0, (0, 3, 7, 1), ScanEnd::Direct, &[0, 0], &[0]),
+    (1, (2, 0, 14, 2), ScanEnd::Direct, &[1, 0], &[5]),
+];
+
 #[test]
 fn direct_in_the_second_try(rt: HostRuntime) {
     let rt = &rt;
     let trace = traced(rt, rt.alloc(), 2, SECOND_TRY, 5);
-    same(rt, trace.answers.len(), 2);
     publishes(rt, &trace, 1, 8);
-    answers(rt, &trace, 0, (0, 3, 7, 1), ScanEnd::Direct, &[0, 0], &[0]);
-    answers(rt, &trace, 1, (2, 0, 14, 2), ScanEnd::Direct, &[1, 0], &[5]);
+    answers(rt, &trace, 2, &SECOND);
 }
 
 /// How many reads of the reader stand in these events, from the Begin of this answer to its end.
@@ -109,78 +111,73 @@ const LENT: &str = "bsBSSSsBSSSsBSSSsBSSSs";
 /// The same with the asked worker's read torn, and one more try.
 const LENT_TORN: &str = "bsBSSSsBSSSsBSSSsBSSStss";
 
-/// The updates of the only worker make scans of their own: each finds those before it.
-fn own_scans(rt: &impl Abort, trace: &Trace) {
-    answers(rt, trace, 0, (0, 2, 4, 1), ScanEnd::Direct, &[0], &[0]);
-    answers(rt, trace, 1, (0, 7, 9, 1), ScanEnd::Direct, &[1], &[1]);
-    answers(rt, trace, 2, (0, 12, 14, 1), ScanEnd::Direct, &[2], &[2]);
-    answers(rt, trace, 3, (0, 17, 19, 1), ScanEnd::Direct, &[3], &[3]);
-}
+/// The updates of the only worker make scans of their own, of which each finds those before it, and the reader's scan is lent to;
+static OF_LENT: [Expected; 5] = [
+    (0, (0, 2, 4, 1), ScanEnd::Direct, &[0], &[0]),
+    (1, (0, 7, 9, 1), ScanEnd::Direct, &[1], &[1]),
+    (2, (0, 12, 14, 1), ScanEnd::Direct, &[2], &[2]),
+    (3, (0, 17, 19, 1), ScanEnd::Direct, &[3], &[3]),
+    (4, (1, 0, 21, 2), ScanEnd::Lent { from: 0 }, &[3], &[3]),
+];
 
-/// The fifth answer, the reader's, is this one, after so many reads.
-fn ends(
-    rt: &impl Abort,
-    (text, trace): (&str, &Trace),
-    turn: Turn,
-    how: ScanEnd,
-    number: u64,
-    many: usize,
-) {
-    answers(rt, trace, 4, turn, how, &[number], &[number]);
-    same(rt, reads(rt, text, trace, 4), many);
-}
+/// with the asked worker's read torn, it is not.
+static OF_TORN: [Expected; 1] = [(4, (1, 0, 23, 3), ScanEnd::Direct, &[4], &[4])];
 
-/// The only worker publishes four times, and lends to the reader, which makes 5 reads.
-fn lends(rt: &impl Abort, trace: &Trace) {
-    same(rt, trace.answers.len(), 5);
-    publishes(rt, trace, 4, 20);
-    own_scans(rt, trace);
-    let lent = ScanEnd::Lent { from: 0 };
-    ends(rt, (LENT, trace), (1, 0, 21, 2), lent, 3, 5);
-}
-
-/// The updates of the only worker make scans of their own, and the reader makes 5 reads. With the asked worker's read torn, it goes
+/// The only worker publishes four times, and lends to the reader, which makes 5 reads. With the asked worker's read torn, it goes
 /// on to 7.
 #[test]
 fn lent_by_the_only_worker(rt: HostRuntime) {
     let rt = &rt;
-    lends(rt, &traced(rt, rt.alloc(), 1, LENT, 1));
+    let trace = traced(rt, rt.alloc(), 1, LENT, 1);
+    publishes(rt, &trace, 4, 20);
+    answers(rt, &trace, 5, &OF_LENT);
+    same(rt, reads(rt, LENT, &trace, 4), 5);
     let torn = traced(rt, rt.alloc(), 1, LENT_TORN, 1);
-    let turn = (1, 0, 23, 3);
-    ends(rt, (LENT_TORN, &torn), turn, ScanEnd::Direct, 4, 7);
+    answers(rt, &torn, 5, &OF_TORN);
+    same(rt, reads(rt, LENT_TORN, &torn, 4), 7);
 }
+
+/// The answer of the reader, where nobody is asked,
+static UNASKED: [Expected; 1] = [(3, (2, 0, 34, 4), ScanEnd::Direct, &[2, 1], &[3])];
 
 #[test]
 fn nobody_is_asked(rt: HostRuntime) {
     let rt = &rt;
     let text = "bssBSSSSSssssBSSSSSssssCTTTTTssssss";
     let trace = traced(rt, rt.alloc(), 2, text, 1);
-    same(rt, trace.answers.len(), 4);
-    answers(rt, &trace, 3, (2, 0, 34, 4), ScanEnd::Direct, &[2, 1], &[3]);
+    answers(rt, &trace, 4, &UNASKED);
 }
+
+/// and where it gives up.
+static GIVEN_UP: [Expected; 1] = [(0, (1, 0, 6, 3), ScanEnd::GaveUp, &[], &[])];
 
 #[test]
 fn given_up(rt: HostRuntime) {
     let rt = &rt;
     let trace = traced(rt, rt.alloc(), 1, "btststs", 1);
-    same(rt, trace.answers.len(), 1);
-    answers(rt, &trace, 0, (1, 0, 6, 3), ScanEnd::GaveUp, &[], &[]);
+    answers(rt, &trace, 1, &GIVEN_UP);
 }
 
 /// A read is torn in the first try, or in the second one: the reader's answer has so many tries, and this end.
 fn is_torn(rt: &impl Abort, alloc: Global, text: &str, tries: usize, end: usize) {
     let trace = traced(rt, alloc, 2, text, 1);
     let turn = (2, 0, end, tries);
-    answers(rt, &trace, 0, turn, ScanEnd::Direct, &[0, 0], &[0]);
+    answer_is(rt, &trace, &(0, turn, ScanEnd::Direct, &[0, 0], &[0]));
 }
+
+/// Events with a read torn, the tries of the reader's answer, and its end.
+static TORN: [(&str, usize, usize); 4] = [
+    ("btsssssss", 2, 8),
+    ("bstssssss", 2, 8),
+    ("bsstsssss", 1, 4),
+    ("bssstssss", 1, 4),
+];
 
 #[test]
 fn torn_reads(rt: HostRuntime) {
-    let rt = &rt;
-    is_torn(rt, rt.alloc(), "btsssssss", 2, 8);
-    is_torn(rt, rt.alloc(), "bstssssss", 2, 8);
-    is_torn(rt, rt.alloc(), "bsstsssss", 1, 4);
-    is_torn(rt, rt.alloc(), "bssstssss", 1, 4);
+    for &(text, tries, end) in &TORN {
+        is_torn(&rt, rt.alloc(), text, tries, end);
+    }
 }
 
 /// A run of so many workers is refused so, or not.
@@ -214,7 +211,7 @@ fn direct(rt: &impl Abort, alloc: Global, turn: Turn, vector: [u64; 2], total: u
 
 /// What is said of the run of a publish in the first try of a reader, and of a trace by hand, in which its answer ends so.
 fn says(rt: &impl Abort, alloc: Global, end: usize, vector: [u64; 2], total: u64) -> bool {
-    let list = need(rt, events(alloc, SECOND_TRY, 2, 5));
+    let list = events(rt, alloc, SECOND_TRY, 2, 5);
     let publish = Publish {
         at: 8,
         worker: 0,

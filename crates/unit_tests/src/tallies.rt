@@ -12,15 +12,32 @@ const MAX: u64 = 281_474_976_710_655;
 /// A tally of two counters, a histogram and a gauge, with room for four operations.
 type Four = Tally<2, 1, 1, 4>;
 
-/// The counter of this slot.
-fn counter(slot: usize) -> Counter {
-    Counter { registry: ID, slot }
-}
+/// The counters, and one outside.
+static FIRST: Counter = Counter {
+    registry: ID,
+    slot: 0,
+};
 
-/// The gauge of this slot.
-fn gauge(slot: usize) -> Gauge {
-    Gauge { registry: ID, slot }
-}
+static SECOND: Counter = Counter {
+    registry: ID,
+    slot: 1,
+};
+
+static THIRD: Counter = Counter {
+    registry: ID,
+    slot: 2,
+};
+
+/// The gauge, and one outside.
+static LEVEL: Gauge = Gauge {
+    registry: ID,
+    slot: 0,
+};
+
+static NO_LEVEL: Gauge = Gauge {
+    registry: ID,
+    slot: 1,
+};
 
 /// The histogram of this slot of a registry, with the bounds 10 and 20.
 fn histogram(rt: &impl Abort, registry: u64, slot: usize) -> Histogram {
@@ -39,11 +56,13 @@ const SEEN: Op = Op::Observe {
     value: 11,
 };
 
-/// This is refused so, by this number.
-fn refused(rt: &impl Abort, answer: Result<(), TallyFault>, fault: TallyFault, number: u8) {
-    same(rt, answer, Err(fault));
-    same(rt, fault.number(), number);
-}
+/// What has joined.
+static JOINED: [Op; 4] = [
+    Op::Inc { counter: 0, by: 7 },
+    Op::Up { gauge: 0, by: 2 },
+    SEEN,
+    Op::Down { gauge: 0, by: 5 },
+];
 
 /// What names one counter is one operation, and what raises one gauge or lowers it; observations are listed each.
 #[test]
@@ -51,16 +70,16 @@ fn joins(rt: HostRuntime) {
     let rt = &rt;
     let mut tally = Four::new(ID);
     let seen = histogram(rt, ID, 0);
-    same(rt, tally.inc(&counter(0), 3), Ok(()));
-    same(rt, tally.up(&gauge(0), 1), Ok(()));
-    same(rt, tally.observe(&seen, 11), Ok(()));
-    same(rt, tally.inc(&counter(0), 4), Ok(()));
-    same(rt, tally.down(&gauge(0), 5), Ok(()));
-    same(rt, tally.up(&gauge(0), 1), Ok(()));
-    let first = Op::Inc { counter: 0, by: 7 };
-    let raised = Op::Up { gauge: 0, by: 2 };
-    let lowered = Op::Down { gauge: 0, by: 5 };
-    same(rt, tally.ops(), [first, raised, SEEN, lowered].as_slice());
+    let taken = [
+        tally.inc(&FIRST, 3),
+        tally.up(&LEVEL, 1),
+        tally.observe(&seen, 11),
+        tally.inc(&FIRST, 4),
+        tally.down(&LEVEL, 5),
+        tally.up(&LEVEL, 1),
+    ];
+    same(rt, taken, [Ok(()); 6]);
+    same(rt, tally.ops(), JOINED.as_slice());
 }
 
 /// Where it is full, what joins an operation is taken still, and nothing else is. Emptied it takes all again.
@@ -69,19 +88,30 @@ fn fills(rt: HostRuntime) {
     let rt = &rt;
     let mut tally = Four::new(ID);
     let seen = histogram(rt, ID, 0);
-    same(rt, tally.inc(&counter(1), 1), Ok(()));
+    same(rt, tally.inc(&SECOND, 1), Ok(()));
     for _value in 0..3 {
         same(rt, tally.is_full(), false);
         same(rt, tally.observe(&seen, 11), Ok(()));
     }
     same(rt, tally.is_full(), true);
-    refused(rt, tally.observe(&seen, 11), TallyFault::Full, 33);
-    refused(rt, tally.inc(&counter(0), 1), TallyFault::Full, 33);
-    same(rt, tally.inc(&counter(1), 1), Ok(()));
+    let found = [tally.observe(&seen, 11), tally.inc(&FIRST, 1)];
+    same(rt, found, [Err(TallyFault::Full); 2]);
+    same(rt, TallyFault::Full.number(), 33);
+    same(rt, tally.inc(&SECOND, 1), Ok(()));
     tally.clear();
     same(rt, tally.ops(), [].as_slice());
     same(rt, tally.observe(&seen, MAX), Ok(()));
 }
+
+/// How an empty tally refuses a handle of another registry, four slots outside, and an increment over 2^48 - 1.
+static REFUSED: [Result<(), TallyFault>; 6] = [
+    Err(TallyFault::WrongRegistry),
+    Err(TallyFault::Outside),
+    Err(TallyFault::Outside),
+    Err(TallyFault::Outside),
+    Err(TallyFault::Outside),
+    Err(TallyFault::TooLarge),
+];
 
 /// Handles of another registry, slots outside the row, and sums over 2^48 - 1, of a histogram's values too.
 #[test]
@@ -89,22 +119,27 @@ fn refuses(rt: HostRuntime) {
     let rt = &rt;
     let mut tally = Four::new(ID);
     let (other, outside) = (histogram(rt, 8, 1), histogram(rt, ID, 1));
-    refused(rt, tally.observe(&other, 1), TallyFault::WrongRegistry, 16);
-    refused(rt, tally.observe(&outside, 1), TallyFault::Outside, 11);
-    refused(rt, tally.inc(&counter(2), 1), TallyFault::Outside, 11);
-    refused(rt, tally.up(&gauge(1), 1), TallyFault::Outside, 11);
-    refused(rt, tally.down(&gauge(1), 1), TallyFault::Outside, 11);
-    refused(
-        rt,
-        tally.inc(&counter(0), MAX + 1),
-        TallyFault::TooLarge,
-        12,
-    );
-    same(rt, tally.inc(&counter(0), MAX), Ok(()));
-    refused(rt, tally.inc(&counter(0), 1), TallyFault::TooLarge, 12);
+    let found = [
+        tally.observe(&other, 1),
+        tally.observe(&outside, 1),
+        tally.inc(&THIRD, 1),
+        tally.up(&NO_LEVEL, 1),
+        tally.down(&NO_LEVEL, 1),
+        tally.inc(&FIRST, MAX + 1),
+    ];
+    same(rt, found, REFUSED);
     let seen = histogram(rt, ID, 0);
-    same(rt, tally.observe(&seen, MAX), Ok(()));
-    refused(rt, tally.observe(&seen, 1), TallyFault::TooLarge, 12);
-    same(rt, tally.observe(&seen, 0), Ok(()));
+    let found = [
+        tally.inc(&FIRST, MAX),
+        tally.inc(&FIRST, 1),
+        tally.observe(&seen, MAX),
+        tally.observe(&seen, 1),
+        tally.observe(&seen, 0),
+    ];
+    let large = Err(TallyFault::TooLarge);
+    same(rt, found, [Ok(()), large, Ok(()), large, Ok(())]);
     same(rt, tally.ops().len(), 3);
+    same(rt, TallyFault::WrongRegistry.number(), 16);
+    same(rt, TallyFault::Outside.number(), 11);
+    same(rt, TallyFault::TooLarge.number(), 12);
 }
