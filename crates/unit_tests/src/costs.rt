@@ -3,7 +3,7 @@ ghost use Rattle.std.specs.Prelude.{◌<◌};
 ghost use Rattle.segment_layout.specs.Layout.{IsGeometry};
 ghost use Rattle.snapshot_update.specs.Workers.{IsWorkerOf};
 
-use crate::asserts::{done, need, same};
+use crate::asserts::{need, same};
 use crate::crew::{counter, last_worker};
 use crate::jobs::make_team;
 use register_rule::Board;
@@ -51,8 +51,8 @@ fn least_on_new<const N: usize, const C: usize, const H: usize, const G: usize>(
 ) -> u128
     requires geometry { IsGeometry N C H G }
 {
-    let mut it = done(rt, make_team::<N, C, H, G>(alloc));
-    let mut worker = done(rt, last_worker(&it.board, &mut it.workers));
+    let mut it = make_team::<N, C, H, G>(rt, alloc);
+    let mut worker = last_worker(rt, &it.board, &mut it.workers);
     need(rt, least(rt, &it.board, &mut worker)).as_nanos()
 }
 

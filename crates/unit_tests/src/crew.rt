@@ -8,7 +8,7 @@ ghost use Rattle.snapshot_scan.specs.Order.{IsAlone};
 ghost use Rattle.snapshot_scan.specs.Readers.{IsReaderOf};
 ghost use Rattle.snapshot_update.specs.Workers.{IsWorkerOf};
 
-use crate::asserts::same;
+use crate::asserts::{need, same};
 use ledger_core::{Counter, Gauge};
 use register_rule::{Board, Parts, ReadSeat, WorkSeat};
 use snapshot_scan::{Contended, Reader, Snapshot};
@@ -32,33 +32,35 @@ pub(crate) fn gauge(slot: usize) -> Gauge {
 
 /// Takes the last reader, to which nobody is lent.
 pub(crate) fn last_reader<const N: usize, const C: usize, const H: usize, const G: usize>(
+    rt: &impl Abort,
     board: &Board<N, C, H, G>,
     readers: &mut Vec<Reader<N, C, H, G>>,
-) -> Result<Reader<N, C, H, G>, Fail>
+) -> Reader<N, C, H, G>
     requires own { All (IsReaderOf board.now) readers.old.items }
     requires alone { All IsAlone readers.old.items }
-    ensures own { IfOk result (IsReaderOf board.now) }
-    ensures alone { IfOk result IsAlone }
+    ensures own { IsReaderOf board.now result }
+    ensures alone { IsAlone result }
     ensures others { All (IsReaderOf board.now) readers.new.items × All IsAlone readers.new.items }
 {
     match readers.pop() {
-        Some(reader) => Ok(reader),
-        None => Err("no reader".into()),
+        Some(reader) => reader,
+        None => rt.panic("no reader"),
     }
 }
 
 /// Takes the last worker.
 pub(crate) fn last_worker<const N: usize, const C: usize, const H: usize, const G: usize>(
+    rt: &impl Abort,
     board: &Board<N, C, H, G>,
     workers: &mut Vec<Worker<N, C, H, G>>,
-) -> Result<Worker<N, C, H, G>, Fail>
+) -> Worker<N, C, H, G>
     requires own { All (IsWorkerOf board.now) workers.old.items }
-    ensures own { IfOk result (IsWorkerOf board.now) }
+    ensures own { IsWorkerOf board.now result }
     ensures others { All (IsWorkerOf board.now) workers.new.items }
 {
     match workers.pop() {
-        Some(worker) => Ok(worker),
-        None => Err("no worker".into()),
+        Some(worker) => worker,
+        None => rt.panic("no worker"),
     }
 }
 
@@ -140,20 +142,21 @@ pub(crate) fn one_seat(alloc: Global) -> Result<(Board<1, 1, 0, 0>, WorkSeat, Re
 }
 
 /// A snapshot of two workers that have published so often, whose rows have no words.
-fn snapshot(alloc: Global, numbers: [u64; 2]) -> Result<Snapshot<2, 0, 0, 0>, AllocError> {
-    let mut out = Snapshot::new(alloc)?;
+fn snapshot(rt: &impl Abort, alloc: Global, numbers: [u64; 2]) -> Snapshot<2, 0, 0, 0> {
+    let mut out = need(rt, Snapshot::new(alloc));
     out.set(&numbers, &[]);
-    Ok(out)
+    out
 }
 
 /// Snapshots with these vectors.
 pub(crate) fn snapshots(
+    rt: &impl Abort,
     alloc: Global,
     vectors: &[[u64; 2]],
-) -> Result<Vec<Snapshot<2, 0, 0, 0>>, AllocError> {
+) -> Vec<Snapshot<2, 0, 0, 0>> {
     let mut taken = Vec::new(alloc);
     for vector in vectors {
-        taken.push(snapshot(alloc, *vector)?)?;
+        need(rt, taken.push(snapshot(rt, alloc, *vector)));
     }
-    Ok(taken)
+    taken
 }

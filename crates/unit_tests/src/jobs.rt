@@ -4,14 +4,14 @@ ghost use Rattle.segment_layout.specs.Layout.{IsGeometry};
 ghost use Rattle.snapshot_scan.specs.Readers.{IsReaderOf};
 ghost use Rattle.snapshot_update.specs.Workers.{IsWorkerOf};
 
+use crate::asserts::need;
 use crate::crew::{ID, counter, finds, last_reader};
 use register_rule::Board;
 use snapshot_scan::{Reader, Snapshot};
 use snapshot_update::{Crew, Worker};
-use std::alloc::{AllocError, Global};
+use std::alloc::Global;
 use std::process::Abort;
 use std::sync::Wait;
-use std::test::Fail;
 use std::thread::Threads;
 use worker_pool::{Gate, Job, JobOp, PoolFault, run_pool};
 
@@ -24,13 +24,13 @@ pub(crate) fn job(line: u64, slot: usize, by: u64) -> Job {
 }
 
 /// A worker's list: so many increments of the counter 0.
-pub(crate) fn increments(alloc: Global, many: u64) -> Result<Vec<Job>, AllocError> {
+pub(crate) fn increments(rt: &impl Abort, alloc: Global, many: u64) -> Vec<Job> {
     let mut jobs = Vec::new(alloc);
     for line in 0..many {
         let what = JobOp::Inc(counter(0), 1);
-        jobs.push(Job { line, what })?;
+        need(rt, jobs.push(Job { line, what }));
     }
-    Ok(jobs)
+    jobs
 }
 
 /// A board with its workers, a reader, and what its scans find.
@@ -44,25 +44,26 @@ pub(crate) struct Team<const N: usize, const C: usize, const H: usize, const G: 
 
 /// Nobody has made a step.
 pub(crate) fn make_team<const N: usize, const C: usize, const H: usize, const G: usize>(
+    rt: &impl Abort,
     alloc: Global,
-) -> Result<Team<N, C, H, G>, Fail>
+) -> Team<N, C, H, G>
     requires geometry { IsGeometry N C H G }
-    ensures workers { IfOk result (λ t. All (IsWorkerOf t.board) t.workers.items) }
-    ensures reader { IfOk result (λ t. IsReaderOf t.board t.reader) }
+    ensures workers { All (IsWorkerOf result.board) result.workers.items }
+    ensures reader { IsReaderOf result.board result.reader }
 {
     let Crew {
         board,
         workers,
         mut readers,
-    } = Crew::<N, C, H, G>::new(alloc, ID, 1)?;
-    let reader = last_reader(&board, &mut readers)?;
-    let out = Snapshot::new(alloc)?;
-    Ok(Team {
+    } = need(rt, Crew::<N, C, H, G>::new(alloc, ID, 1));
+    let reader = last_reader(rt, &board, &mut readers);
+    let out = need(rt, Snapshot::new(alloc));
+    Team {
         board,
         workers,
         reader,
         out,
-    })
+    }
 }
 
 /// A scan of the team's reader is not refused, and finds this vector.
@@ -89,7 +90,9 @@ pub(crate) fn runs<P: Gate + Sync, const N: usize, const C: usize, const H: usiz
     requires own { All (IsWorkerOf board.now) workers.items }
     ensures own { IfOk result (λ v. All (IsWorkerOf board.now) v.items) }
 {
-    assert_eq!(rt; jobs.len(), workers.len());
+    if jobs.len() != workers.len() {
+        rt.panic("a list for each worker");
+    }
     run_pool(rt, alloc, board, workers, jobs, gate)
 }
 
@@ -135,28 +138,28 @@ pub(crate) fn team_after<
     alloc: Global,
     jobs: Vec<Vec<Job>>,
     gate: &P,
-) -> Result<(Team<N, C, H, G>, Option<PoolFault>), Fail>
+) -> (Team<N, C, H, G>, Option<PoolFault>)
     requires geometry { IsGeometry N C H G }
-    ensures own { IfOk result (λ r. All (IsWorkerOf r.0.board) r.0.workers.items × IsReaderOf r.0.board r.0.reader) }
+    ensures own { All (IsWorkerOf result.0.board) result.0.workers.items × IsReaderOf result.0.board result.0.reader }
 {
-    let team = make_team(alloc)?;
-    Ok(ran(rt, alloc, team, jobs.as_slice(), gate))
+    let team = make_team(rt, alloc);
+    ran(rt, alloc, team, jobs.as_slice(), gate)
 }
 
 /// The lists of so many workers, of so many increments each.
-pub(crate) fn lists(alloc: Global, workers: usize, many: u64) -> Result<Vec<Vec<Job>>, AllocError> {
+pub(crate) fn lists(rt: &impl Abort, alloc: Global, workers: usize, many: u64) -> Vec<Vec<Job>> {
     let mut lists = Vec::new(alloc);
     for _ in 0..workers {
-        lists.push(increments(alloc, many)?)?;
+        need(rt, lists.push(increments(rt, alloc, many)));
     }
-    Ok(lists)
+    lists
 }
 
 /// These lists, a worker's each.
-pub(crate) fn listed(alloc: Global, lists: &[&[Job]]) -> Result<Vec<Vec<Job>>, AllocError> {
+pub(crate) fn listed(rt: &impl Abort, alloc: Global, lists: &[&[Job]]) -> Vec<Vec<Job>> {
     let mut listed = Vec::new(alloc);
     for list in lists {
-        listed.push(Vec::from_slice(alloc, list)?)?;
+        need(rt, listed.push(need(rt, Vec::from_slice(alloc, list))));
     }
-    Ok(listed)
+    listed
 }

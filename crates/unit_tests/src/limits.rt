@@ -1,6 +1,6 @@
 //! Scrapes at their limits: 128 families of 256 children, and a family whose names, texts and bounds are as long and as many as they may be.
 //! And one family and one child too many.
-use crate::asserts::{done, need, same, there};
+use crate::asserts::{need, same, there};
 use crate::made::{COUNTER, Family, add_child, children, family_of};
 use expo_text::{ChildScrape, FamilyScrape, Number, Scrape, render, text_len};
 use ledger_core::HistTotals;
@@ -21,15 +21,20 @@ fn counted(rt: &impl Abort, alloc: Global, count: u64) -> Vec<ChildScrape> {
     all
 }
 
-/// A family of so many children, named by this number of three digits.
+/// A counter with a label.
+static LABELLED: Family = Family {
+    labels: &["l"],
+    ..COUNTER
+};
+
+/// It with so many children, named by this number of three digits.
 fn numbered(rt: &impl Abort, alloc: Global, number: u64, count: u64) -> FamilyScrape {
     let name = need(rt, format!(in alloc; "f{number:03}"));
     let written = Family {
         name: name.as_str(),
-        labels: &["l"],
-        ..COUNTER
+        ..LABELLED
     };
-    done(rt, family_of(alloc, &written, counted(rt, alloc, count)))
+    family_of(rt, alloc, &written, counted(rt, alloc, count))
 }
 
 /// A scrape of so many families of so many children, if there is one.
@@ -56,7 +61,7 @@ fn most_families_and_children(rt: HostRuntime) {
 }
 
 /// How many families of how many children each, and whether they are a scrape.
-const SIZES: [(u64, u64, bool); 4] = [
+static SIZES: [(u64, u64, bool); 4] = [
     (128, 0, true),
     (129, 0, false),
     (1, 256, true),
@@ -135,9 +140,10 @@ fn longest(rt: &impl Abort, alloc: Global) -> Option<Scrape> {
         count: 219_902_325_555_200,
     };
     let value = need(rt, "\"\n\\\n".repeat(alloc, 64));
-    let children = done(
+    let children = children(
         rt,
-        children(alloc, &[(&[value.as_str(); 8], Number::Histogram(totals))]),
+        alloc,
+        &[(&[value.as_str(); 8], Number::Histogram(totals))],
     );
     let desc = need(rt, Arc::new(alloc, longest_desc(rt, alloc)));
     let mut families = Vec::new(alloc);

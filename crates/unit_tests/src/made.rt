@@ -1,12 +1,11 @@
 //! Scrapes, made of plain texts.
-use crate::asserts::{done, need};
+use crate::asserts::need;
 use expo_text::{ChildScrape, FamilyScrape, Number, Scrape};
 use metric_desc::{Desc, Kind};
 use metric_names::{HelpText, LabelName, LabelValue, MetricName};
 use std::alloc::Global;
 use std::process::Abort;
 use std::sync::Arc;
-use std::test::Fail;
 
 /// A family as a test writes it. Only a histogram's bounds count.
 #[derive(Clone, Copy)]
@@ -29,47 +28,48 @@ pub const COUNTER: Family = Family {
     children: &[(&[], Number::Counter(0))],
 };
 
+/// It alone.
+pub static ALONE: [Family; 1] = [COUNTER];
+
 /// These label names.
-pub fn labels(alloc: Global, texts: &[&str]) -> Result<Vec<LabelName>, Fail> {
+pub fn labels(rt: &impl Abort, alloc: Global, texts: &[&str]) -> Vec<LabelName> {
     let mut labels = Vec::new(alloc);
     for text in texts {
-        labels.push(LabelName::read(alloc, text)?)?;
+        let label = need(rt, LabelName::read(alloc, text));
+        need(rt, labels.push(label));
     }
-    Ok(labels)
+    labels
 }
 
 /// The descriptor of a family.
-pub fn desc(alloc: Global, family: &Family<'_>) -> Result<Desc, Fail> {
-    let labels = labels(alloc, family.labels)?;
-    let name = MetricName::read(alloc, family.name)?;
-    let help = HelpText::read(alloc, family.help)?;
-    Ok(match family.kind {
-        Kind::Counter => Desc::counter(name, help, labels)?,
-        Kind::Gauge => Desc::gauge(name, help, labels)?,
-        Kind::Histogram => Desc::histogram(name, help, labels, family.bounds)?,
-    })
+pub fn desc(rt: &impl Abort, alloc: Global, family: &Family<'_>) -> Desc {
+    let labels = labels(rt, alloc, family.labels);
+    let name = need(rt, MetricName::read(alloc, family.name));
+    let help = need(rt, HelpText::read(alloc, family.help));
+    match family.kind {
+        Kind::Counter => need(rt, Desc::counter(name, help, labels)),
+        Kind::Gauge => need(rt, Desc::gauge(name, help, labels)),
+        Kind::Histogram => need(rt, Desc::histogram(name, help, labels, family.bounds)),
+    }
 }
 
 /// These label values.
-fn values(alloc: Global, texts: &[&str]) -> Result<Arc<Vec<LabelValue>>, Fail> {
+fn values(rt: &impl Abort, alloc: Global, texts: &[&str]) -> Arc<Vec<LabelValue>> {
     let mut values = Vec::new(alloc);
     for text in texts {
-        values.push(LabelValue::read(alloc, text)?)?;
+        let value = need(rt, LabelValue::read(alloc, text));
+        need(rt, values.push(value));
     }
-    Ok(Arc::new(alloc, values)?)
+    need(rt, Arc::new(alloc, values))
 }
 
 /// These children.
-pub fn children(alloc: Global, written: &[(&[&str], Number)]) -> Result<Vec<ChildScrape>, Fail> {
+pub fn children(rt: &impl Abort, alloc: Global, written: &[(&[&str], Number)]) -> Vec<ChildScrape> {
     let mut children = Vec::new(alloc);
     for (texts, number) in written {
-        let values = values(alloc, texts)?;
-        children.push(ChildScrape {
-            values,
-            number: *number,
-        })?;
+        add_child(rt, alloc, &mut children, texts, *number);
     }
-    Ok(children)
+    children
 }
 
 /// Adds a child with these values.
@@ -80,44 +80,45 @@ pub fn add_child(
     texts: &[&str],
     number: Number,
 ) {
-    let values = done(rt, values(alloc, texts));
+    let values = values(rt, alloc, texts);
     need(rt, all.push(ChildScrape { values, number }));
 }
 
 /// A family with these children.
 pub fn family_of(
+    rt: &impl Abort,
     alloc: Global,
     written: &Family<'_>,
     children: Vec<ChildScrape>,
-) -> Result<FamilyScrape, Fail> {
-    Ok(FamilyScrape {
-        desc: Arc::new(alloc, desc(alloc, written)?)?,
-        children,
-    })
+) -> FamilyScrape {
+    let desc = need(rt, Arc::new(alloc, desc(rt, alloc, written)));
+    FamilyScrape { desc, children }
 }
 
 /// These families.
-fn families(alloc: Global, written: &[Family<'_>]) -> Result<Vec<FamilyScrape>, Fail> {
+fn families(rt: &impl Abort, alloc: Global, written: &[Family<'_>]) -> Vec<FamilyScrape> {
     let mut families = Vec::new(alloc);
     for it in written {
-        families.push(family_of(alloc, it, children(alloc, it.children)?)?)?;
+        let children = children(rt, alloc, it.children);
+        need(rt, families.push(family_of(rt, alloc, it, children)));
     }
-    Ok(families)
+    families
 }
 
 /// A scrape of one family with these children, if it may be one.
 pub fn alone(
+    rt: &impl Abort,
     alloc: Global,
     written: &Family<'_>,
     children: Vec<ChildScrape>,
-) -> Result<Option<Scrape>, Fail> {
+) -> Option<Scrape> {
     let mut families = Vec::new(alloc);
-    families.push(family_of(alloc, written, children)?)?;
-    Ok(Scrape::checked(Vec::new(alloc), families))
+    need(rt, families.push(family_of(rt, alloc, written, children)));
+    Scrape::checked(Vec::new(alloc), families)
 }
 
 /// A scrape of these families, if they are those of a scrape. Two workers have published 3 times and never.
-pub fn scrape(alloc: Global, written: &[Family<'_>]) -> Result<Option<Scrape>, Fail> {
-    let vector = vec![in alloc; 3, 0]?;
-    Ok(Scrape::checked(vector, families(alloc, written)?))
+pub fn scrape(rt: &impl Abort, alloc: Global, written: &[Family<'_>]) -> Option<Scrape> {
+    let vector = need(rt, Vec::from_array(alloc, [3, 0]));
+    Scrape::checked(vector, families(rt, alloc, written))
 }

@@ -1,5 +1,5 @@
 //! Workers on threads of a pool.
-use crate::asserts::{done, need, same};
+use crate::asserts::{need, same};
 use crate::crew::{ID, counter, gauge};
 use crate::gates::{Meeting, ShutsBehind};
 use crate::jobs::{job, listed, make_team, runs, team_after, team_finds};
@@ -11,8 +11,8 @@ use worker_pool::{Gate, Job, JobOp, Open, PoolFault};
 fn two_workers_at_once(rt: HostRuntime) {
     let rt = &rt;
     let gate = Meeting::new(10_000_000);
-    let jobs = need(rt, listed(rt.alloc(), &[&[job(1, 0, 3)], &[job(2, 0, 4)]]));
-    let (mut it, fault) = done(rt, team_after::<_, 2, 1, 0, 0>(rt, rt.alloc(), jobs, &gate));
+    let jobs = listed(rt, rt.alloc(), &[&[job(1, 0, 3)], &[job(2, 0, 4)]]);
+    let (mut it, fault) = team_after::<_, 2, 1, 0, 0>(rt, rt.alloc(), jobs, &gate);
     same(rt, (fault, it.workers.len()), (None, 2));
     same(rt, gate.is_shut(), false);
     same(rt, gate.found(), ((true, 1), (true, 1)));
@@ -47,8 +47,8 @@ fn one_thread_does_not_get_on(rt: HostRuntime) {
 fn a_gate_shuts_behind_a_job(rt: HostRuntime) {
     let rt = &rt;
     let gate = ShutsBehind::new();
-    let jobs = need(rt, listed(rt.alloc(), &[&[job(1, 0, 5), job(2, 0, 7)]]));
-    let (mut it, fault) = done(rt, team_after::<_, 1, 1, 0, 0>(rt, rt.alloc(), jobs, &gate));
+    let jobs = listed(rt, rt.alloc(), &[&[job(1, 0, 5), job(2, 0, 7)]]);
+    let (mut it, fault) = team_after::<_, 1, 1, 0, 0>(rt, rt.alloc(), jobs, &gate);
     same(rt, fault, Some(PoolFault::GateShut { worker: 0 }));
     same(rt, gate.found(), (10_000_001, 1));
     team_finds(rt, &mut it, &[1]);
@@ -77,8 +77,8 @@ fn the_least_line_is_told(rt: HostRuntime) {
         &[job(7, 2, 1), job(8, 0, 1_000)],
         &[job(3, 1, 2), job(10, 1, 3), job(11, 1, 4)],
     ];
-    let jobs = need(rt, listed(rt.alloc(), &lists));
-    let (mut it, fault) = done(rt, team_after::<_, 4, 2, 0, 0>(rt, rt.alloc(), jobs, &Open));
+    let jobs = listed(rt, rt.alloc(), &lists);
+    let (mut it, fault) = team_after::<_, 4, 2, 0, 0>(rt, rt.alloc(), jobs, &Open);
     let refused = PoolFault::Refused {
         line: 5,
         number: 12,
@@ -115,8 +115,8 @@ fn jobs_of_all_kinds(rt: HostRuntime) {
         of(JobOp::Up(gauge(0), 5)),
         of(JobOp::Down(gauge(0), 7)),
     ];
-    let jobs = need(rt, listed(rt.alloc(), &[&kinds, &[]]));
-    let (mut it, fault) = done(rt, team_after::<_, 2, 1, 1, 1>(rt, rt.alloc(), jobs, &Open));
+    let jobs = listed(rt, rt.alloc(), &[&kinds, &[]]);
+    let (mut it, fault) = team_after::<_, 2, 1, 1, 1>(rt, rt.alloc(), jobs, &Open);
     same(rt, (fault, it.workers.len()), (None, 2));
     team_finds(rt, &mut it, &[4, 0]);
     same(rt, (it.out.counter(0), it.out.gauge(0)), (3, -2));
@@ -128,7 +128,7 @@ fn jobs_of_all_kinds(rt: HostRuntime) {
 #[test]
 fn no_workers(rt: HostRuntime) {
     let rt = &rt;
-    let it = done(rt, make_team::<2, 1, 0, 0>(rt.alloc()));
+    let it = make_team::<2, 1, 0, 0>(rt, rt.alloc());
     let none = need(
         rt,
         runs(rt, rt.alloc(), &it.board, Vec::new(rt.alloc()), &[], &Open),

@@ -5,7 +5,7 @@ ghost use Rattle.snapshot_scan.specs.Readers.{IsReaderOf};
 ghost use Rattle.snapshot_scan.specs.Snapshots.{as_answer};
 ghost use Rattle.snapshot_update.specs.Workers.{IsWorkerOf};
 
-use crate::asserts::{done, need, same};
+use crate::asserts::{need, same};
 use crate::crew::{ID, finds, last_reader};
 use crate::jobs::{increments, runs};
 use bucket_math::Bounds;
@@ -343,25 +343,25 @@ fn all_at_once(
 }
 
 /// A worker's list: 10,000 values, of each of the four buckets by turns.
-fn values(alloc: Global, hist: &Histogram) -> Result<Vec<Job>, AllocError> {
+fn values(rt: &impl Abort, alloc: Global, hist: &Histogram) -> Vec<Job> {
     let mut jobs = Vec::new(alloc);
     for line in 0..10_000u64 {
         let what = JobOp::Observe(*hist, line % 4 * 6);
-        jobs.push(Job { line, what })?;
+        need(rt, jobs.push(Job { line, what }));
     }
-    Ok(jobs)
+    jobs
 }
 
 /// The list of a worker: the first two increment the counter 10,000 times each, and the others observe 10,000 values each.
-fn list(alloc: Global, hist: &Histogram, worker: usize) -> Result<Vec<Job>, AllocError> {
+fn list(rt: &impl Abort, alloc: Global, hist: &Histogram, worker: usize) -> Vec<Job> {
     if worker < 2 {
-        return increments(alloc, 10_000);
+        return increments(rt, alloc, 10_000);
     }
-    values(alloc, hist)
+    values(rt, alloc, hist)
 }
 
 /// The lists of four workers.
-fn lists(alloc: Global, bounds: Bounds) -> Result<Vec<Vec<Job>>, AllocError> {
+fn lists(rt: &impl Abort, alloc: Global, bounds: Bounds) -> Vec<Vec<Job>> {
     let hist = Histogram {
         registry: ID,
         slot: 0,
@@ -369,9 +369,9 @@ fn lists(alloc: Global, bounds: Bounds) -> Result<Vec<Vec<Job>>, AllocError> {
     };
     let mut lists = Vec::new(alloc);
     for worker in 0..4usize {
-        lists.push(list(alloc, &hist, worker)?)?;
+        need(rt, lists.push(list(rt, alloc, &hist, worker)));
     }
-    Ok(lists)
+    lists
 }
 
 /// The workers count while two readers scan, to the end.
@@ -411,9 +411,9 @@ fn scan_and_count(
     requires workers { All (IsWorkerOf board.now) workers.items }
     requires readers { All (IsReaderOf board.now) readers.old.items × All IsAlone readers.old.items }
 {
-    let jobs = need(rt, lists(alloc, need(rt, Bounds::from_slice(&[5, 10, 15]))));
-    let right = done(rt, last_reader(board, readers));
-    let left = done(rt, last_reader(board, readers));
+    let jobs = lists(rt, alloc, need(rt, Bounds::from_slice(&[5, 10, 15])));
+    let right = last_reader(rt, board, readers);
+    let left = last_reader(rt, board, readers);
     count_and_end(rt, alloc, board, workers, &jobs, left, right);
 }
 

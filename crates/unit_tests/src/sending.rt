@@ -1,10 +1,9 @@
 //! Texts that are sent: whole, with a front, in few calls, and to writers that fail.
 ghost use Rattle.std.specs.Prelude.{◌≡◌, false};
 
-use crate::asserts::{done, need, same, there};
-use crate::made::{COUNTER, Family, add_child, alone, scrape};
+use crate::asserts::{need, same, there};
+use crate::made::{ALONE, COUNTER, Family, add_child, alone, scrape};
 use expo_text::{ChildScrape, Number, Scrape, WriteFailed, send, write_after, write_to};
-use metric_desc::Kind;
 use std::alloc::Global;
 use std::io::{self, Error, ErrorKind, Write};
 use std::process::Abort;
@@ -43,7 +42,7 @@ fn make_slow(rt: &impl Abort, alloc: Global, each: usize, calls: usize) -> Watch
 }
 
 fn small(rt: &impl Abort, alloc: Global) -> Scrape {
-    there(rt, done(rt, scrape(alloc, &[COUNTER])))
+    there(rt, scrape(rt, alloc, &ALONE))
 }
 
 const TEXT: &[u8] = b"# TYPE a counter\na 0\n";
@@ -103,7 +102,7 @@ fn pieces(rt: HostRuntime) {
 }
 
 /// What the five children of a long text have for their last value.
-const LAST: [&str; 5] = ["a", "b", "c", "d", "e"];
+static LAST: [&str; 5] = ["a", "b", "c", "d", "e"];
 
 /// Five children, each with this text for its first 7 values.
 fn five(rt: &impl Abort, alloc: Global, long: &str) -> Vec<ChildScrape> {
@@ -116,13 +115,10 @@ fn five(rt: &impl Abort, alloc: Global, long: &str) -> Vec<ChildScrape> {
 }
 
 /// Eight labels.
-const EIGHT: Family = Family {
-    kind: Kind::Counter,
-    name: "a",
-    help: "",
+static EIGHT: Family = Family {
     labels: &["a", "b", "c", "d", "e", "f", "g", "h"],
-    bounds: &[],
     children: &[],
+    ..COUNTER
 };
 
 // Each of 7 values of 256 line feeds stands in 512 bytes, and a child in 3,630, so that a buffer of 16,384 bytes is sent twice by five.
@@ -131,7 +127,7 @@ fn long_text_in_few_calls(rt: HostRuntime) {
     let rt = &rt;
     let alloc = rt.alloc();
     let all = five(rt, alloc, &need(rt, "\n".repeat(alloc, 256)));
-    let scrape = there(rt, done(rt, alone(alloc, &EIGHT, all)));
+    let scrape = there(rt, alone(rt, alloc, &EIGHT, all));
     let mut out = make_slow(rt, alloc, 100_000, 2);
     same(rt, write_to(&scrape, &mut out), Ok(()));
     same(rt, out.into_inner().taken.len(), 18_167);

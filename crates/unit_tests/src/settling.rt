@@ -1,5 +1,5 @@
 //! Exact totals.
-use crate::asserts::{done, need, same};
+use crate::asserts::same;
 use crate::crew::last_worker;
 use crate::jobs::{lists, make_team, team_after};
 use chain_law::{NotAll, settle};
@@ -9,7 +9,7 @@ use worker_pool::Open;
 #[test]
 fn nobody_settles(rt: HostRuntime) {
     let rt = &rt;
-    let mut it = done(rt, make_team::<4, 1, 0, 0>(rt.alloc()));
+    let mut it = make_team::<4, 1, 0, 0>(rt, rt.alloc());
     let missing = NotAll { missing: 0 };
     let found = settle(&it.board, &mut it.reader, &mut [], &mut it.out);
     same(rt, found, Err(missing));
@@ -20,11 +20,11 @@ fn nobody_settles(rt: HostRuntime) {
 #[test]
 fn the_third_worker_is_missing(rt: HostRuntime) {
     let rt = &rt;
-    let mut it = done(rt, make_team::<4, 1, 0, 0>(rt.alloc()));
-    let fourth = done(rt, last_worker(&it.board, &mut it.workers));
-    let _third = done(rt, last_worker(&it.board, &mut it.workers));
-    let second = done(rt, last_worker(&it.board, &mut it.workers));
-    let first = done(rt, last_worker(&it.board, &mut it.workers));
+    let mut it = make_team::<4, 1, 0, 0>(rt, rt.alloc());
+    let fourth = last_worker(rt, &it.board, &mut it.workers);
+    let _third = last_worker(rt, &it.board, &mut it.workers);
+    let second = last_worker(rt, &it.board, &mut it.workers);
+    let first = last_worker(rt, &it.board, &mut it.workers);
     let workers = &mut [fourth, first, second];
     let found = settle(&it.board, &mut it.reader, workers, &mut it.out);
     same(rt, found, Err(NotAll { missing: 2 }));
@@ -33,11 +33,8 @@ fn the_third_worker_is_missing(rt: HostRuntime) {
 #[test]
 fn thirty_two_workers_settle(rt: HostRuntime) {
     let rt = &rt;
-    let jobs = need(rt, lists(rt.alloc(), 32, 100));
-    let (mut it, fault) = done(
-        rt,
-        team_after::<_, 32, 1, 0, 0>(rt, rt.alloc(), jobs, &Open),
-    );
+    let jobs = lists(rt, rt.alloc(), 32, 100);
+    let (mut it, fault) = team_after::<_, 32, 1, 0, 0>(rt, rt.alloc(), jobs, &Open);
     same(rt, fault, None);
     let workers = it.workers.as_mut_slice();
     let found = settle(&it.board, &mut it.reader, workers, &mut it.out);

@@ -3,7 +3,7 @@ ghost use Rattle.std.specs.Prelude.{◌<◌};
 ghost use Rattle.snapshot_scan.specs.Readers.{IsReaderOf};
 ghost use Rattle.snapshot_update.specs.Workers.{IsWorkerOf};
 
-use crate::asserts::{done, need, same};
+use crate::asserts::{need, same};
 use crate::crew::{finds, inc, last_worker};
 use crate::jobs::{Team, make_team};
 use ledger_core::{MAX_WORD, Op, OpFault};
@@ -95,8 +95,8 @@ fn a_board_with_a_reader(rt: HostRuntime) {
         mut workers,
         reader,
         mut out,
-    } = done(rt, make_team::<1, 1, 0, 0>(rt.alloc()));
-    let mut worker = done(rt, last_worker(&board, &mut workers));
+    } = make_team::<1, 1, 0, 0>(rt, rt.alloc());
+    let mut worker = last_worker(rt, &board, &mut workers);
     is_found(rt, &board, &mut worker, reader, &mut out);
 }
 

@@ -1,5 +1,5 @@
 //! The text of scrapes, byte for byte.
-use crate::asserts::{done, need, same, there};
+use crate::asserts::{need, same, there};
 use crate::made::{COUNTER, Family, scrape};
 use expo_text::{Number, Scrape, render, text_len};
 use ledger_core::{GaugeTotals, HistTotals};
@@ -17,146 +17,161 @@ pub fn prints(rt: &impl Abort, scrape: &Scrape, expected: &[u8]) {
 
 /// These families have this text, which is so long.
 fn expect(rt: &impl Abort, alloc: Global, families: &[Family<'_>], text: &[u8], len: usize) {
-    let scrape = there(rt, done(rt, scrape(alloc, families)));
+    let scrape = there(rt, scrape(rt, alloc, families));
     same(rt, scrape.vector(), [3, 0].as_slice());
     same(rt, scrape.families().len(), families.len());
     same(rt, text.len(), len);
     prints(rt, &scrape, text);
 }
 
-/// A counter without children,
-const CHILDLESS: Family = Family {
-    kind: Kind::Counter,
-    name: "a",
-    help: "",
-    labels: &[],
-    bounds: &[],
-    children: &[],
-};
-
-/// one of the greatest value,
-const GREATEST: Family = Family {
-    kind: Kind::Counter,
-    name: "a:b_",
-    help: "",
-    labels: &[],
-    bounds: &[],
-    children: &[(&[], Number::Counter(u64::MAX))],
-};
-
-/// and one whose help and value have to be escaped.
+/// A counter whose help and value have to be escaped.
 const ESCAPED: Family = Family {
-    kind: Kind::Counter,
-    name: "a",
     help: "a\\b\nc",
     labels: &["l"],
-    bounds: &[],
     children: &[(&["\"\n\\"], Number::Counter(0))],
+    ..COUNTER
 };
+
+/// Families, their text and its length: a counter without children, one, one of the greatest value, and that one.
+static COUNTERS: [(&[Family], &[u8], usize); 4] = [
+    (
+        &[Family {
+            children: &[],
+            ..COUNTER
+        }],
+        b"",
+        0,
+    ),
+    (&[COUNTER], b"# TYPE a counter\na 0\n", 21),
+    (
+        &[Family {
+            name: "a:b_",
+            children: &[(&[], Number::Counter(u64::MAX))],
+            ..COUNTER
+        }],
+        b"# TYPE a:b_ counter\na:b_ 18446744073709551615\n",
+        46,
+    ),
+    (
+        &[ESCAPED],
+        b"# HELP a a\\\\b\\nc\n# TYPE a counter\na{l=\"\\\"\\n\\\\\"} 0\n",
+        50,
+    ),
+];
+
+/// Each of these families has this text.
+fn have_texts(rt: &impl Abort, alloc: Global, cases: &[(&[Family<'_>], &[u8], usize)]) {
+    for &(families, text, len) in cases {
+        expect(rt, alloc, families, text, len);
+    }
+}
 
 #[test]
 fn counters(rt: HostRuntime) {
-    let rt = &rt;
-    let alloc = rt.alloc();
-    expect(rt, alloc, &[CHILDLESS], b"", 0);
-    let one = b"# TYPE a counter\na 0\n";
-    expect(rt, alloc, &[COUNTER], one, 21);
-    let largest = b"# TYPE a:b_ counter\na:b_ 18446744073709551615\n";
-    expect(rt, alloc, &[GREATEST], largest, 46);
-    let marked = b"# HELP a a\\\\b\\nc\n# TYPE a counter\na{l=\"\\\"\\n\\\\\"} 0\n";
-    expect(rt, alloc, &[ESCAPED], marked, 50);
+    have_texts(&rt, rt.alloc(), &COUNTERS);
 }
 
-/// A histogram's family `h` and its text.
-fn histogram<'x>(
-    rt: &impl Abort,
-    alloc: Global,
-    labels: &'x [&'x str],
-    bounds: &'x [u64],
-    children: &'x [(&'x [&'x str], Number)],
-    text: &[u8],
-    len: usize,
-) {
-    let family = Family {
-        kind: Kind::Histogram,
-        name: "h",
-        help: "",
-        labels,
-        bounds,
-        children,
-    };
-    expect(rt, alloc, &[family], text, len);
-}
+/// A histogram.
+const HISTOGRAM: Family = Family {
+    kind: Kind::Histogram,
+    name: "h",
+    ..COUNTER
+};
 
-/// With the values 10, 11 and 99 in the first three buckets; and with 0 in the first.
+/// The value 0.
+const SINGLE: Number = Number::Histogram(HistTotals {
+    buckets: [
+        1, 0, 0, 0, 0, 0, 0, 0, 0, 0, 0, 0, 0, 0, 0, 0, 0, 0, 0, 0, 0, 0, 0, 0, 0,
+    ],
+    sum: 0,
+    count: 1,
+});
+
+/// The values 10, 11 and 99, one in each of the first three buckets.
+const THREE: Number = Number::Histogram(HistTotals {
+    buckets: [
+        1, 1, 1, 0, 0, 0, 0, 0, 0, 0, 0, 0, 0, 0, 0, 0, 0, 0, 0, 0, 0, 0, 0, 0, 0,
+    ],
+    sum: 120,
+    count: 3,
+});
+
+/// With two bounds, with none, and with a label.
+static HISTOGRAMS: [(&[Family], &[u8], usize); 3] = [
+    (
+        &[Family {
+            bounds: &[10, 20],
+            children: &[(&[], THREE)],
+            ..HISTOGRAM
+        }],
+        b"# TYPE h histogram\nh_bucket{le=\"10\"} 1\nh_bucket{le=\"20\"} 2\nh_bucket{le=\"+Inf\"} 3\nh_sum 120\nh_count 3\n",
+        101,
+    ),
+    (
+        &[Family {
+            children: &[(&[], SINGLE)],
+            ..HISTOGRAM
+        }],
+        b"# TYPE h histogram\nh_bucket{le=\"+Inf\"} 1\nh_sum 0\nh_count 1\n",
+        59,
+    ),
+    (
+        &[Family {
+            labels: &["z"],
+            bounds: &[10],
+            children: &[(&["x"], SINGLE)],
+            ..HISTOGRAM
+        }],
+        b"# TYPE h histogram\nh_bucket{z=\"x\",le=\"10\"} 1\nh_bucket{z=\"x\",le=\"+Inf\"} 1\nh_sum{z=\"x\"} 0\nh_count{z=\"x\"} 1\n",
+        105,
+    ),
+];
+
 #[test]
 fn histograms(rt: HostRuntime) {
-    let rt = &rt;
-    let alloc = rt.alloc();
-    let mut buckets = [0; 25];
-    buckets[0] = 1;
-    let single = Number::Histogram(HistTotals {
-        buckets,
-        sum: 0,
-        count: 1,
-    });
-    buckets[1] = 1;
-    buckets[2] = 1;
-    let three = Number::Histogram(HistTotals {
-        buckets,
-        sum: 120,
-        count: 3,
-    });
-    let text =
-        b"# TYPE h histogram\nh_bucket{le=\"10\"} 1\nh_bucket{le=\"20\"} 2\nh_bucket{le=\"+Inf\"} 3\nh_sum 120\nh_count 3\n";
-    histogram(rt, alloc, &[], &[10, 20], &[(&[], three)], text, 101);
-    let text = b"# TYPE h histogram\nh_bucket{le=\"+Inf\"} 1\nh_sum 0\nh_count 1\n";
-    histogram(rt, alloc, &[], &[], &[(&[], single)], text, 59);
-    let text =
-        b"# TYPE h histogram\nh_bucket{z=\"x\",le=\"10\"} 1\nh_bucket{z=\"x\",le=\"+Inf\"} 1\nh_sum{z=\"x\"} 0\nh_count{z=\"x\"} 1\n";
-    histogram(rt, alloc, &["z"], &[10], &[(&["x"], single)], text, 105);
+    have_texts(&rt, rt.alloc(), &HISTOGRAMS);
 }
 
 /// A counter with two children.
-const REQUESTS: Family = Family {
-    kind: Kind::Counter,
+static REQUESTS: [Family; 1] = [Family {
     name: "http_requests_total",
     help: "The total number of HTTP requests.",
     labels: &["method", "code"],
-    bounds: &[],
     children: &[
         (&["post", "200"], Number::Counter(1027)),
         (&["post", "400"], Number::Counter(3)),
     ],
-};
+    ..COUNTER
+}];
 
 #[test]
 fn two_children(rt: HostRuntime) {
     let text =
         b"# HELP http_requests_total The total number of HTTP requests.\n# TYPE http_requests_total counter\nhttp_requests_total{method=\"post\",code=\"200\"} 1027\nhttp_requests_total{method=\"post\",code=\"400\"} 3\n";
-    expect(&rt, rt.alloc(), &[REQUESTS], text, 196);
+    expect(&rt, rt.alloc(), &REQUESTS, text, 196);
 }
 
 /// Gauges below, at and above zero.
 const GAUGES: Family = Family {
     kind: Kind::Gauge,
     name: "g",
-    help: "",
     labels: &["l"],
-    bounds: &[],
     children: &[
         (&["x"], Number::Gauge(GaugeTotals { up: 5, down: 7 })),
         (&["y"], Number::Gauge(GaugeTotals { up: 7, down: 7 })),
         (&["z"], Number::Gauge(GaugeTotals { up: 9, down: 2 })),
     ],
+    ..COUNTER
 };
 
-/// Gauges below, at and above zero, behind a counter.
+/// These behind a counter.
+static BEHIND: [Family; 2] = [COUNTER, GAUGES];
+
 #[test]
 fn gauges(rt: HostRuntime) {
     let text =
         b"# TYPE a counter\na 0\n# TYPE g gauge\ng{l=\"x\"} -2\ng{l=\"y\"} 0\ng{l=\"z\"} 7\n";
-    expect(&rt, rt.alloc(), &[COUNTER, GAUGES], text, 70);
+    expect(&rt, rt.alloc(), &BEHIND, text, 70);
 }
 
 #[test]

@@ -1,5 +1,5 @@
 //! What a worker counts, and what scans find of it.
-use crate::asserts::{done, need, same};
+use crate::asserts::{need, same};
 use crate::crew::{ID, counter, finds, gauge, inc, last_worker};
 use crate::jobs::{make_team, team_finds};
 use bucket_math::Bounds;
@@ -13,9 +13,9 @@ const MAX: u64 = 281_474_976_710_655;
 #[test]
 fn workers_meet_a_reader(rt: HostRuntime) {
     let rt = &rt;
-    let mut it = done(rt, make_team::<4, 1, 0, 0>(rt.alloc()));
-    let mut first = done(rt, last_worker(&it.board, &mut it.workers));
-    let mut second = done(rt, last_worker(&it.board, &mut it.workers));
+    let mut it = make_team::<4, 1, 0, 0>(rt, rt.alloc());
+    let mut first = last_worker(rt, &it.board, &mut it.workers);
+    let mut second = last_worker(rt, &it.board, &mut it.workers);
     inc(rt, &it.board, &mut first, 0, 3);
     first.meet(&it.board, &mut it.reader);
     let scan = it.reader.scan(&it.board, &mut it.out);
@@ -34,9 +34,9 @@ fn workers_meet_a_reader(rt: HostRuntime) {
 #[test]
 fn another_worker_counts_while_one_is_lent(rt: HostRuntime) {
     let rt = &rt;
-    let mut it = done(rt, make_team::<4, 1, 0, 0>(rt.alloc()));
-    let mut lent = done(rt, last_worker(&it.board, &mut it.workers));
-    let mut other = done(rt, last_worker(&it.board, &mut it.workers));
+    let mut it = make_team::<4, 1, 0, 0>(rt, rt.alloc());
+    let mut lent = last_worker(rt, &it.board, &mut it.workers);
+    let mut other = last_worker(rt, &it.board, &mut it.workers);
     inc(rt, &it.board, &mut lent, 0, 3);
     lent.lend_to(&it.board, &mut it.reader);
     same(rt, other.inc(&it.board, &counter(0), 5), Ok(()));
@@ -52,8 +52,8 @@ fn another_worker_counts_while_one_is_lent(rt: HostRuntime) {
 #[test]
 fn a_word_does_not_overflow(rt: HostRuntime) {
     let rt = &rt;
-    let mut it = done(rt, make_team::<1, 1, 0, 0>(rt.alloc()));
-    let mut worker = done(rt, last_worker(&it.board, &mut it.workers));
+    let mut it = make_team::<1, 1, 0, 0>(rt, rt.alloc());
+    let mut worker = last_worker(rt, &it.board, &mut it.workers);
     inc(rt, &it.board, &mut worker, 0, MAX);
     let fault = CountFault::Apply(ApplyFault::Refused(OpFault::TooLarge { at: 0 }));
     same(rt, worker.inc(&it.board, &counter(0), 1), Err(fault));
@@ -66,8 +66,8 @@ fn a_word_does_not_overflow(rt: HostRuntime) {
 #[test]
 fn nothing_of_a_refused_list_is_applied(rt: HostRuntime) {
     let rt = &rt;
-    let mut it = done(rt, make_team::<1, 1, 1, 1>(rt.alloc()));
-    let mut worker = done(rt, last_worker(&it.board, &mut it.workers));
+    let mut it = make_team::<1, 1, 1, 1>(rt, rt.alloc());
+    let mut worker = last_worker(rt, &it.board, &mut it.workers);
     let ops = [Op::Inc { counter: 0, by: 1 }, Op::Inc { counter: 1, by: 1 }];
     let fault = ApplyFault::Refused(OpFault::OutOfGeometry { at: 1 });
     same(rt, worker.apply(&it.board, &ops), Err(fault));
@@ -80,8 +80,8 @@ fn nothing_of_a_refused_list_is_applied(rt: HostRuntime) {
 #[test]
 fn a_handle_of_another_registry(rt: HostRuntime) {
     let rt = &rt;
-    let mut it = done(rt, make_team::<1, 1, 1, 1>(rt.alloc()));
-    let mut worker = done(rt, last_worker(&it.board, &mut it.workers));
+    let mut it = make_team::<1, 1, 1, 1>(rt, rt.alloc());
+    let mut worker = last_worker(rt, &it.board, &mut it.workers);
     let other = Counter {
         registry: 2,
         slot: 0,
@@ -104,8 +104,8 @@ fn numbers_of_what_no_test_can_reach(rt: HostRuntime) {
 #[test]
 fn an_empty_list_is_a_version(rt: HostRuntime) {
     let rt = &rt;
-    let mut it = done(rt, make_team::<1, 1, 1, 1>(rt.alloc()));
-    let mut worker = done(rt, last_worker(&it.board, &mut it.workers));
+    let mut it = make_team::<1, 1, 1, 1>(rt, rt.alloc());
+    let mut worker = last_worker(rt, &it.board, &mut it.workers);
     finds(rt, worker.scan(&it.board, &mut it.out), &it.out, &[0]);
     same(rt, (it.out.counter(0), it.out.gauge(0)), (0, 0));
     same(rt, it.out.hist(0).count, 0);
@@ -124,13 +124,16 @@ fn values_fall_into_buckets(rt: HostRuntime) {
         slot: 0,
         bounds,
     };
-    let mut it = done(rt, make_team::<1, 1, 1, 1>(rt.alloc()));
-    let mut worker = done(rt, last_worker(&it.board, &mut it.workers));
-    same(rt, worker.observe(&it.board, &hist, 10), Ok(()));
-    same(rt, worker.observe(&it.board, &hist, 11), Ok(()));
-    same(rt, worker.observe(&it.board, &hist, 99), Ok(()));
-    same(rt, worker.up(&it.board, &gauge(0), 5), Ok(()));
-    same(rt, worker.down(&it.board, &gauge(0), 7), Ok(()));
+    let mut it = make_team::<1, 1, 1, 1>(rt, rt.alloc());
+    let mut worker = last_worker(rt, &it.board, &mut it.workers);
+    let taken = [
+        worker.observe(&it.board, &hist, 10),
+        worker.observe(&it.board, &hist, 11),
+        worker.observe(&it.board, &hist, 99),
+        worker.up(&it.board, &gauge(0), 5),
+        worker.down(&it.board, &gauge(0), 7),
+    ];
+    same(rt, taken, [Ok(()); 5]);
     team_finds(rt, &mut it, &[5]);
     let totals = it.out.hist(0);
     same(rt, (totals.sum, totals.count), (120, 3));

@@ -4,24 +4,17 @@ use Rattle.snapshot_scan.specs.Order.{IsAlone}
 use Rattle.snapshot_scan.specs.Readers.{IsReaderOf}
 use Rattle.unit_tests.proofs.crew.last_reader.Goals as goal
 
-pub returns-in-Some-clause-own : goal.returns-in-Some-clause-own
-returns-in-Some-clause-own g c = subst (λ r. IfSome r (IsReaderOf c.args.board.now)) c.in-Some.is
+pub returns-clause-own : goal.returns-clause-own
+returns-clause-own g c = subst (λ r. IfSome r (IsReaderOf c.args.board.now)) c.in-Some.is
     (All-pop (IsReaderOf c.args.board.now) c.args.readers.now.items c.pop.new.self.items c.pop.result c.pop.ensures.items
     c.requires.own).1
 
-pub returns-in-Some-clause-alone : goal.returns-in-Some-clause-alone
-returns-in-Some-clause-alone g c = subst (λ r. IfSome r IsAlone) c.in-Some.is
+pub returns-clause-alone : goal.returns-clause-alone
+returns-clause-alone g c = subst (λ r. IfSome r IsAlone) c.in-Some.is
     (All-pop IsAlone c.args.readers.now.items c.pop.new.self.items c.pop.result c.pop.ensures.items c.requires.alone).1
 
-pub returns-in-Some-clause-others : goal.returns-in-Some-clause-others
-returns-in-Some-clause-others g c = (
-  (All-pop (IsReaderOf c.args.board.now) c.args.readers.now.items c.pop.new.self.items c.pop.result c.pop.ensures.items
-      c.requires.own).0,
-  (All-pop IsAlone c.args.readers.now.items c.pop.new.self.items c.pop.result c.pop.ensures.items c.requires.alone).0,
-)
-
-pub returns-in-None-clause-others : goal.returns-in-None-clause-others
-returns-in-None-clause-others g c = (
+pub returns-clause-others : goal.returns-clause-others
+returns-clause-others g c = (
   (All-pop (IsReaderOf c.args.board.now) c.args.readers.now.items c.pop.new.self.items c.pop.result c.pop.ensures.items
       c.requires.own).0,
   (All-pop IsAlone c.args.readers.now.items c.pop.new.self.items c.pop.result c.pop.ensures.items c.requires.alone).0,
