@@ -3,13 +3,18 @@ ghost use Rattle.std.specs.Prelude.{All, IfOk};
 ghost use Rattle.snapshot_scan.specs.Readers.{IsReaderOf};
 ghost use Rattle.snapshot_update.specs.Workers.{IsWorkerOf};
 
-use crate::asserts::{done, same};
+use crate::asserts::{done, need, same};
+use crate::helpers::desc;
+use ledger_core::Counter;
+use metric_desc::Kind;
 use metric_registry::Registry;
 use register_rule::Board;
+use registry_state::{FamilyId, Handle};
 use snapshot_scan::Reader;
 use snapshot_update::{Crew, Worker};
 use std::alloc::Global;
 use std::process::Abort;
+use std::sync::Wait;
 use std::test::Fail;
 
 /// The id of the boards.
@@ -75,6 +80,32 @@ pub(crate) fn registry_of<'a, const N: usize, const C: usize, const H: usize, co
     match Registry::new(alloc, board, reader, window) {
         Ok(registry) => registry,
         Err(_) => rt.panic("no registry"),
+    }
+}
+
+/// Registers a family of this kind and name, without labels, and makes its one child.
+pub(crate) fn made<const N: usize, const C: usize, const H: usize, const G: usize>(
+    rt: &(impl Abort + Wait),
+    alloc: Global,
+    registry: &Registry<'_, N, C, H, G>,
+    kind: Kind,
+    name: &str,
+) -> (FamilyId, Handle) {
+    let desc = done(rt, desc(alloc, kind, name, &[]));
+    let family = need(rt, registry.register(rt, desc));
+    (family, need(rt, registry.child(rt, family, &[])))
+}
+
+/// The same of a counter.
+pub(crate) fn made_counter<const N: usize, const C: usize, const H: usize, const G: usize>(
+    rt: &(impl Abort + Wait),
+    alloc: Global,
+    registry: &Registry<'_, N, C, H, G>,
+    name: &str,
+) -> (FamilyId, Counter) {
+    match made(rt, alloc, registry, Kind::Counter, name) {
+        (family, Handle::Counter(counter)) => (family, counter),
+        _ => rt.panic("no counter"),
     }
 }
 

@@ -128,18 +128,23 @@ fn growth_of_values(rt: &impl Abort, alloc: Global) -> Result<(), Fail> {
     Ok(())
 }
 
-/// Two lines.
-fn growth_of_lines(rt: &impl Abort, alloc: Global) -> Result<(), Fail> {
-    let mut lines = match Lines::new(alloc, b"go\nscrape".as_slice()) {
-        Ok(lines) => lines,
-        Err(NoMemory) => once_more(Lines::new(alloc, b"go\nscrape".as_slice()))?,
-    };
+/// Two lines are read.
+fn has_lines(rt: &impl Abort, lines: &mut Lines<&[u8]>) -> Result<(), Fail> {
     same(rt, lines.next()?, Next::Line);
     same(rt, lines.bytes(), b"go".as_slice());
     same(rt, lines.next()?, Next::Line);
     same(rt, lines.bytes(), b"scrape".as_slice());
     same(rt, lines.next()?, Next::End);
     Ok(())
+}
+
+/// A reader of two lines.
+fn growth_of_lines(rt: &impl Abort, alloc: Global) -> Result<(), Fail> {
+    let mut lines = match Lines::new(alloc, b"go\nscrape".as_slice()) {
+        Ok(lines) => lines,
+        Err(NoMemory) => once_more(Lines::new(alloc, b"go\nscrape".as_slice()))?,
+    };
+    has_lines(rt, &mut lines)
 }
 
 /// The library for services: a crew, a family with a child, a metric without labels, and a scrape's text.

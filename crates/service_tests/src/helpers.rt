@@ -1,28 +1,29 @@
 //! Registries of one thread, and what is registered.
 use crate::asserts::{done, need, same};
 use crate::crew::ID;
+use dirgwako::Registers;
 use expo_text::render;
 use ledger_core::{Counter, Gauge};
 use metric_desc::{Desc, Kind};
 use metric_names::{HelpText, LabelName, LabelValue, MetricName};
-use registry_state::{Handle, RegistryState};
+use registry_state::{FamilyId, Handle, RegistryState};
 use snapshot_scan::PlainSource;
 use std::alloc::Global;
 use std::process::Abort;
 use std::test::Fail;
 
 /// A source of one thread, of a counter, a histogram and a gauge.
-pub(crate) type Source = PlainSource<1, 1, 1, 1>;
+pub(crate) type OnePlain = PlainSource<1, 1, 1, 1>;
 
 /// A registry over a source of as many slots.
 pub(crate) type Over<S> = RegistryState<S, 1, 1, 1, 1>;
 
 /// A registry of one thread.
-pub(crate) type Plain = Over<Source>;
+pub(crate) type Plain = Over<OnePlain>;
 
 /// A registry that keeps so many scrapes.
 pub(crate) fn plain(rt: &impl Abort, alloc: Global, window: usize) -> Plain {
-    match Plain::new(alloc, need(rt, Source::new(alloc)), ID, window) {
+    match Plain::new(alloc, need(rt, OnePlain::new(alloc)), ID, window) {
         Ok(registry) => registry,
         Err(_) => rt.panic("no registry"),
     }
@@ -64,6 +65,19 @@ pub(crate) fn values(alloc: Global, texts: &[&str]) -> Result<Vec<LabelValue>, F
     Ok(values)
 }
 
+/// Registers a family of this kind and name, with these labels.
+pub(crate) fn family<R: Registers>(
+    rt: &impl Abort,
+    registry: &mut R,
+    alloc: Global,
+    kind: Kind,
+    name: &str,
+    labels: &[&str],
+) -> FamilyId {
+    let desc = done(rt, desc(alloc, kind, name, labels));
+    need(rt, registry.register(desc))
+}
+
 /// Registers a family without labels, and makes its one child.
 pub(crate) fn made(
     rt: &impl Abort,
@@ -72,10 +86,7 @@ pub(crate) fn made(
     kind: Kind,
     name: &str,
 ) -> Handle {
-    let family = need(
-        rt,
-        registry.register(done(rt, desc(alloc, kind, name, &[]))),
-    );
+    let family = family(rt, registry, alloc, kind, name, &[]);
     need(rt, registry.child(family, &[]))
 }
 

@@ -1,31 +1,34 @@
 //! All that is seen of a registry.
 use crate::helpers::{Over, Plain, values};
+use dirgwako::{Behind, Registers};
+use expo_text::Scrape;
 use ledger_core::{GaugeTotals, HistTotals};
 use metric_names::LabelValue;
-use registry_state::{FamilyId, Handle, Journal};
+use registry_state::{FamilyId, Handle, Journal, ScrapeFault};
 use snapshot_scan::{Scanner, Snapshot};
 use std::alloc::Global;
+use std::sync::Wait;
 use std::test::Fail;
 
-/// A registry, as it is looked at. That takes no memory.
-pub(crate) trait Looked {
-    /// The family of this name.
-    fn family_named(&mut self, name: &str) -> Option<FamilyId>;
+/// A registry, shared or not, as it is used and looked at. To look at it takes no memory.
+pub(crate) trait Looked: Registers {
+    /// Makes a scrape.
+    fn scrape(&mut self) -> Result<Scrape, ScrapeFault>;
 
-    /// The child of these values, which was made.
-    fn child_found(&mut self, family: FamilyId, values: &[LabelValue]) -> Option<Handle>;
+    /// The family of this name.
+    fn family_named(&self, name: &str) -> Option<FamilyId>;
 
     /// Its journal, unless that is behind a lock.
     fn entries(&self) -> Option<&Journal<1, 1, 1, 1>>;
 }
 
 impl Looked for Plain {
-    fn family_named(&mut self, name: &str) -> Option<FamilyId> {
-        self.family(name)
+    fn scrape(&mut self) -> Result<Scrape, ScrapeFault> {
+        Plain::scrape(self)
     }
 
-    fn child_found(&mut self, family: FamilyId, values: &[LabelValue]) -> Option<Handle> {
-        self.child(family, values).ok()
+    fn family_named(&self, name: &str) -> Option<FamilyId> {
+        self.family(name)
     }
 
     fn entries(&self) -> Option<&Journal<1, 1, 1, 1>> {
@@ -34,16 +37,30 @@ impl Looked for Plain {
 }
 
 impl Looked for Over<Scanner<'_, 1, 1, 1, 1>> {
-    fn family_named(&mut self, name: &str) -> Option<FamilyId> {
-        self.family(name)
+    fn scrape(&mut self) -> Result<Scrape, ScrapeFault> {
+        Over::<Scanner<'_, 1, 1, 1, 1>>::scrape(self)
     }
 
-    fn child_found(&mut self, family: FamilyId, values: &[LabelValue]) -> Option<Handle> {
-        self.child(family, values).ok()
+    fn family_named(&self, name: &str) -> Option<FamilyId> {
+        self.family(name)
     }
 
     fn entries(&self) -> Option<&Journal<1, 1, 1, 1>> {
         Some(self.journal())
+    }
+}
+
+impl<T: Wait> Looked for Behind<'_, '_, T, 1, 1, 1, 1> {
+    fn scrape(&mut self) -> Result<Scrape, ScrapeFault> {
+        self.registry.scrape(self.rt)
+    }
+
+    fn family_named(&self, name: &str) -> Option<FamilyId> {
+        self.registry.family(self.rt, name)
+    }
+
+    fn entries(&self) -> Option<&Journal<1, 1, 1, 1>> {
+        None
     }
 }
 
@@ -114,8 +131,8 @@ impl Look {
         if child >= self.made {
             return (Some(family.number()), None);
         }
-        let found = registry.child_found(family, &self.values);
-        (Some(family.number()), found)
+        let found = registry.child(family, &self.values);
+        (Some(family.number()), found.ok())
     }
 
     /// What is seen of a registry.

@@ -95,22 +95,20 @@ fn prints(rt: &(impl Abort + Wait), registry: &Registry<'_, 1, 2, 0, 1>) -> Resu
 fn use_registry(
     rt: &(impl Abort + Wait + AllocGlobal),
     registry: &Registry<'_, 1, 2, 0, 1>,
-) -> Result<(), Fail> {
+) -> Result<bool, Fail> {
     let mut metrics = Registrar::new(rt, registry);
     let family = family(rt, &mut metrics)?;
     let counter = child(rt, &mut metrics, &family)?;
     let gauge = gauge(rt, &mut metrics)?;
     same(rt, (counter.slot, gauge.slot), (0, 0));
-    prints(rt, registry)
+    prints(rt, registry)?;
+    Ok(true)
 }
 
 /// Opens a crew and uses its registry, and tells whether it was opened. One that was not is spent.
 fn is_used(rt: &(impl Abort + Wait + AllocGlobal), team: &mut Team) -> Result<bool, Fail> {
     match team.open(2) {
-        Ok((registry, _, _)) => {
-            use_registry(rt, &registry)?;
-            Ok(true)
-        }
+        Ok((registry, _, _)) => use_registry(rt, &registry),
         Err(fault) => {
             same(rt, fault, OpenFault::Registry(NewFault::NoMemory));
             Ok(false)
@@ -118,14 +116,25 @@ fn is_used(rt: &(impl Abort + Wait + AllocGlobal), team: &mut Team) -> Result<bo
     }
 }
 
+/// A crew is opened and used, or else it is spent.
+fn is_used_or_spent(rt: &(impl Abort + Wait + AllocGlobal), team: &mut Team) -> Result<bool, Fail> {
+    let used = is_used(rt, team)?;
+    if !used {
+        same(rt, team.open(2).err(), Some(OpenFault::Opened));
+    }
+    Ok(used)
+}
+
+/// Makes a crew, and tells whether its registry was used.
+fn use_one(rt: &(impl Abort + Wait + AllocGlobal)) -> Result<bool, Fail> {
+    let mut team = new_team(rt, rt.alloc())?;
+    is_used_or_spent(rt, &mut team)
+}
+
 /// A crew, and another one where it is spent.
 pub(super) fn use_team(rt: &(impl Abort + Wait + AllocGlobal)) -> Result<(), Fail> {
-    let mut team = new_team(rt, rt.alloc())?;
-    if is_used(rt, &mut team)? {
-        return Ok(());
+    if !use_one(rt)? {
+        same(rt, use_one(rt)?, true);
     }
-    same(rt, team.open(2).err(), Some(OpenFault::Opened));
-    let mut team = new_team(rt, rt.alloc())?;
-    same(rt, is_used(rt, &mut team)?, true);
     Ok(())
 }

@@ -1,18 +1,20 @@
 //! A registry of one thread, and one behind its lock: their calls that take memory. Each that is refused leaves all as it was.
+ghost use Rattle.std.specs.Prelude.{All};
 ghost use Rattle.snapshot_scan.specs.Readers.{IsReaderOf};
 ghost use Rattle.snapshot_update.specs.Workers.{IsWorkerOf};
 
 use crate::asserts::{once_more, same};
 use crate::crew::{ID, last_reader, last_worker};
-use crate::helpers::{Plain, Source, desc, first_counter, first_gauge};
+use crate::helpers::{OnePlain, Plain, desc, first_counter, first_gauge};
 use crate::seen::{Look, Looked, Moment, Seen};
+use dirgwako::Behind;
 use expo_text::{Scrape, render};
 use ledger_core::{Counter, Gauge, GaugeTotals, HistTotals, Op};
-use metric_desc::{Desc, Kind};
-use metric_names::{LabelValue, NoMemory};
+use metric_desc::Kind;
+use metric_names::NoMemory;
 use metric_registry::Registry;
 use register_rule::Board;
-use registry_state::{ChildFault, FamilyId, Handle, Journal, NewFault, RegisterFault, ScrapeFault};
+use registry_state::{ChildFault, FamilyId, Handle, NewFault, RegisterFault, ScrapeFault};
 use snapshot_scan::Reader;
 use snapshot_update::{Crew, Worker};
 use std::alloc::Global;
@@ -22,7 +24,7 @@ use std::test::Fail;
 
 /// A registry that keeps two scrapes.
 pub(super) fn new_state(rt: &impl Abort, alloc: Global) -> Result<Plain, Fail> {
-    match Plain::new(alloc, Source::new(alloc)?, ID, 2) {
+    match Plain::new(alloc, OnePlain::new(alloc)?, ID, 2) {
         Ok(registry) => Ok(registry),
         Err(none) => {
             same(rt, none.fault, NewFault::NoMemory);
@@ -31,72 +33,11 @@ pub(super) fn new_state(rt: &impl Abort, alloc: Global) -> Result<Plain, Fail> {
     }
 }
 
-/// A registry, shared or not.
-trait Grows: Looked {
-    /// Registers a family.
-    fn register(&mut self, desc: Desc) -> Result<FamilyId, RegisterFault>;
-
-    /// Makes the child of a family.
-    fn child(&mut self, family: FamilyId, values: &[LabelValue]) -> Result<Handle, ChildFault>;
-
-    /// Makes a scrape.
-    fn scrape(&mut self) -> Result<Scrape, ScrapeFault>;
-}
-
-impl Grows for Plain {
-    fn register(&mut self, desc: Desc) -> Result<FamilyId, RegisterFault> {
-        Plain::register(self, desc)
-    }
-
-    fn child(&mut self, family: FamilyId, values: &[LabelValue]) -> Result<Handle, ChildFault> {
-        Plain::child(self, family, values)
-    }
-
-    fn scrape(&mut self) -> Result<Scrape, ScrapeFault> {
-        Plain::scrape(self)
-    }
-}
-
 /// A board whose row is a counter, a histogram and a gauge.
 type OneBoard = Board<1, 1, 1, 1>;
 
-/// A registry of it behind its lock, of which only families and children are seen.
-#[derive(Drop)]
-struct Shared<'r, 'b, T: Wait> {
-    rt: &'r T,
-    registry: &'r Registry<'b, 1, 1, 1, 1>,
-}
-
-impl<T: Wait> Looked for Shared<'_, '_, T> {
-    fn family_named(&mut self, name: &str) -> Option<FamilyId> {
-        self.registry.family(self.rt, name)
-    }
-
-    fn child_found(&mut self, family: FamilyId, values: &[LabelValue]) -> Option<Handle> {
-        self.registry.child(self.rt, family, values).ok()
-    }
-
-    fn entries(&self) -> Option<&Journal<1, 1, 1, 1>> {
-        None
-    }
-}
-
-impl<T: Wait> Grows for Shared<'_, '_, T> {
-    fn register(&mut self, desc: Desc) -> Result<FamilyId, RegisterFault> {
-        self.registry.register(self.rt, desc)
-    }
-
-    fn child(&mut self, family: FamilyId, values: &[LabelValue]) -> Result<Handle, ChildFault> {
-        self.registry.child(self.rt, family, values)
-    }
-
-    fn scrape(&mut self) -> Result<Scrape, ScrapeFault> {
-        self.registry.scrape(self.rt)
-    }
-}
-
 /// Registers a family by a label.
-fn register<G: Grows>(
+fn register<G: Looked>(
     rt: &impl Abort,
     alloc: Global,
     grown: &mut G,
@@ -114,7 +55,7 @@ fn register<G: Grows>(
 }
 
 /// Makes its child.
-fn child<G: Grows>(
+fn child<G: Looked>(
     rt: &impl Abort,
     grown: &mut G,
     look: &mut Look,
@@ -130,7 +71,7 @@ fn child<G: Grows>(
 }
 
 /// The text of a scrape is this.
-fn prints<G: Grows>(
+fn prints<G: Looked>(
     rt: &impl Abort,
     grown: &mut G,
     look: &mut Look,
@@ -149,23 +90,28 @@ fn prints<G: Grows>(
     Ok(())
 }
 
+/// Makes a scrape.
+fn scraped<G: Looked>(rt: &impl Abort, grown: &mut G, look: &mut Look) -> Result<Scrape, Fail> {
+    let before = look.at(grown);
+    match grown.scrape() {
+        Ok(scrape) => Ok(scrape),
+        Err(ScrapeFault::NoMemory) => {
+            same(rt, look.at(grown), before);
+            once_more(grown.scrape())
+        }
+        Err(fault) => Err(fault.into()),
+    }
+}
+
 /// Makes a scrape, and its text, which is this.
-fn scrape<G: Grows>(
+fn scrape<G: Looked>(
     rt: &impl Abort,
     grown: &mut G,
     look: &mut Look,
     expected: &str,
 ) -> Result<(), Fail> {
-    let before = look.at(grown);
-    match grown.scrape() {
-        Ok(scrape) => prints(rt, grown, look, &scrape, expected),
-        Err(ScrapeFault::NoMemory) => {
-            same(rt, look.at(grown), before);
-            let scrape = once_more(grown.scrape())?;
-            prints(rt, grown, look, &scrape, expected)
-        }
-        Err(fault) => Err(fault.into()),
-    }
+    let scrape = scraped(rt, grown, look)?;
+    prints(rt, grown, look, &scrape, expected)
 }
 
 /// What is counted when the first family has its child.
@@ -189,7 +135,7 @@ const SECOND: [Op; 2] = [
 ];
 
 /// A family of counters with a child, behind a scrape of nothing.
-fn grow_counter<G: Grows>(
+fn grow_counter<G: Looked>(
     rt: &impl Abort,
     alloc: Global,
     grown: &mut G,
@@ -203,7 +149,7 @@ fn grow_counter<G: Grows>(
 }
 
 /// A family of gauges with a child, behind a scrape of the counter.
-fn grow_gauge<G: Grows>(
+fn grow_gauge<G: Looked>(
     rt: &impl Abort,
     alloc: Global,
     grown: &mut G,
@@ -332,7 +278,7 @@ fn grow_both<R: Wait + Abort>(
     alloc: Global,
     board: &OneBoard,
     worker: &mut Worker<1, 1, 1, 1>,
-    grown: &mut Shared<'_, '_, R>,
+    grown: &mut Behind<'_, '_, R, 1, 1, 1, 1>,
     look: &mut Look,
 ) -> Result<(), Fail>
     requires { IsWorkerOf board.now worker.old }
@@ -355,7 +301,7 @@ fn grow_behind(
 ) -> Result<(), Fail>
     requires { IsWorkerOf board.now worker.old }
 {
-    let mut grown = Shared { rt, registry };
+    let mut grown = Behind { rt, registry };
     grow_both(rt, alloc, board, worker, &mut grown, look)?;
     scrape(rt, &mut grown, look, SHOWN)
 }
@@ -373,21 +319,36 @@ fn grow_over(
     board: &OneBoard,
     reader: Reader<1, 1, 1, 1>,
     worker: &mut Worker<1, 1, 1, 1>,
+    look: &mut Look,
 ) -> Result<(), Fail>
     requires reader { IsReaderOf board.now reader }
     requires worker { IsWorkerOf board.now worker.old }
 {
-    let mut look = Look::new(alloc)?;
     let registry = new_registry(rt, alloc, board, reader)?;
-    grow_behind(rt, alloc, board, worker, &registry, &mut look)?;
-    ends_so(rt, registry, &mut look);
+    grow_behind(rt, alloc, board, worker, &registry, look)?;
+    ends_so(rt, registry, look);
     Ok(())
+}
+
+/// One of this board grows, by the last reader, while the last worker counts.
+fn grow_of(
+    rt: &(impl Wait + Abort),
+    alloc: Global,
+    board: &OneBoard,
+    readers: &mut Vec<Reader<1, 1, 1, 1>>,
+    workers: &mut Vec<Worker<1, 1, 1, 1>>,
+) -> Result<(), Fail>
+    requires readers { All (IsReaderOf board.now) readers.old.items }
+    requires workers { All (IsWorkerOf board.now) workers.old.items }
+{
+    let mut look = Look::new(alloc)?;
+    let mut worker = last_worker(board, workers)?;
+    let reader = last_reader(board, readers)?;
+    grow_over(rt, alloc, board, reader, &mut worker, &mut look)
 }
 
 /// A registry behind its lock grows.
 pub(super) fn grow_shared(rt: &(impl Wait + Abort), alloc: Global) -> Result<(), Fail> {
     let mut crew = Crew::<1, 1, 1, 1>::new(alloc, ID, 1)?;
-    let reader = last_reader(&crew.board, &mut crew.readers)?;
-    let mut worker = last_worker(&crew.board, &mut crew.workers)?;
-    grow_over(rt, alloc, &crew.board, reader, &mut worker)
+    grow_of(rt, alloc, &crew.board, &mut crew.readers, &mut crew.workers)
 }

@@ -9,25 +9,7 @@ use std::process::Abort;
 use std::sync::Wait;
 use std::test::Fail;
 use std::thread::Threads;
-
-/// Keeps what is written, and how much of it was let go.
-#[derive(Drop)]
-struct LetGo {
-    written: Vec<u8>,
-    flushed: usize,
-}
-
-impl Write for LetGo {
-    fn write(&mut self, buf: &[u8]) -> io::Result<usize> {
-        self.written.extend_from_slice(buf)?;
-        Ok(buf.len())
-    }
-
-    fn flush(&mut self) -> io::Result<()> {
-        self.flushed = self.written.len();
-        Ok(())
-    }
-}
+use watched::Watched;
 
 /// A connection by which this is sent and no more.
 fn send<T: Net<Listener = TcpListener, Stream = TcpStream>>(
@@ -119,32 +101,29 @@ fn read_both(
     Ok(())
 }
 
-/// What the server wrote was let go. It has replied twice, or there was no memory before it listened.
-fn has_ended(rt: &impl Abort, end: ServeEnd, writer: &LetGo) -> Result<(), NoMemory> {
-    same(rt, writer.flushed, writer.written.len());
+/// The server has replied twice, or there was no memory before it listened.
+fn has_ended(rt: &impl Abort, end: ServeEnd, written: &[u8]) -> Result<(), NoMemory> {
     if end == ServeEnd::NoMemory {
         same(rt, end.status(), 1);
-        same(rt, writer.written.as_slice(), b"refused 0 6\n".as_slice());
+        same(rt, written, b"refused 0 6\n".as_slice());
         return Err(NoMemory);
     }
     same(rt, end, ServeEnd::Done);
-    ends_in(rt, &writer.written, b"served 2\n");
+    ends_in(rt, written, b"served 2\n");
     Ok(())
 }
 
-/// Serves so many connections by this listener.
+/// Serves so many connections by this listener. All that the server wrote was let go.
 fn serve_to_end<T: Abort + Threads + Wait + Sync>(
     rt: &T,
     alloc: Global,
     listener: TcpListener,
     count: u64,
 ) -> Result<(), Fail> {
-    let mut writer = LetGo {
-        written: Vec::with_capacity(alloc, 64)?,
-        flushed: 0,
-    };
+    let mut writer = Watched::new(Vec::with_capacity(alloc, 64)?);
     let end = serve_on(rt, alloc, listener, count, &mut writer);
-    has_ended(rt, end, &writer)?;
+    same(rt, writer.flushed(), true);
+    has_ended(rt, end, &writer.into_inner())?;
     Ok(())
 }
 

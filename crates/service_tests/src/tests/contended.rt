@@ -1,17 +1,17 @@
 //! A source that gives a scan up, as a registry and as a server of it meet that.
 ghost use Rattle.snapshot_scan.specs.Plain.{recorded_by};
 
-use super::ends::{Seen, USUAL, served, wide};
+use super::ends::{ALL, Pieces, USUAL, came_to, replied, wide};
 use super::failing::BUSY;
 use crate::asserts::{done, need, same, there};
 use crate::crew::ID;
-use crate::helpers::{self, Over, desc};
+use crate::helpers::{OnePlain, Over, family};
 use crate::seen::{Look, Looked};
-use expo_text::render;
+use expo_text::{Scrape, render};
 use ledger_core::Op;
 use metric_desc::Kind;
 use metric_names::LabelValue;
-use registry_state::{FamilyId, Handle, Journal, ScrapeFault};
+use registry_state::{FamilyId, Journal, ScrapeFault};
 use scrape_http::Status;
 use scrape_server::serve_state;
 use snapshot_scan::{Contended, Snapshot, Source};
@@ -22,7 +22,7 @@ use watched::Watched;
 /// A source of one thread, which counts a list before each scan. Behind so many scans it gives so many up.
 #[derive(Drop)]
 struct GivesUp {
-    plain: helpers::Source,
+    plain: OnePlain,
     before: usize,
     times: u64,
     given_up: u64,
@@ -67,12 +67,12 @@ impl Source<1, 1, 1, 1> for GivesUp {
 }
 
 impl Looked for Over<GivesUp> {
-    fn family_named(&mut self, name: &str) -> Option<FamilyId> {
-        self.family(name)
+    fn scrape(&mut self) -> Result<Scrape, ScrapeFault> {
+        Over::<GivesUp>::scrape(self)
     }
 
-    fn child_found(&mut self, family: FamilyId, values: &[LabelValue]) -> Option<Handle> {
-        self.child(family, values).ok()
+    fn family_named(&self, name: &str) -> Option<FamilyId> {
+        self.family(name)
     }
 
     fn entries(&self) -> Option<&Journal<1, 1, 1, 1>> {
@@ -89,10 +89,7 @@ fn made(
     name: &str,
     values: &[LabelValue],
 ) {
-    let family = need(
-        rt,
-        registry.register(done(rt, desc(alloc, kind, name, &["l"]))),
-    );
+    let family = family(rt, registry, alloc, kind, name, &["l"]);
     need(rt, registry.child(family, values));
 }
 
@@ -106,7 +103,7 @@ fn made_both(rt: &impl Abort, alloc: Global, registry: &mut Over<GivesUp>, look:
 /// A registry over such a source that keeps two scrapes.
 fn registry(rt: &impl Abort, alloc: Global, before: usize, times: u64) -> Over<GivesUp> {
     let source = GivesUp {
-        plain: need(rt, helpers::Source::new(alloc)),
+        plain: need(rt, OnePlain::new(alloc)),
         before,
         times,
         given_up: 0,
@@ -171,34 +168,29 @@ fn a_scrape_is_given_up(rt: HostRuntime) {
 const OK: &[u8] =
     b"HTTP/1.1 200 OK\r\nContent-Type: text/plain; version=0.0.4; charset=utf-8\r\nContent-Length: 55\r\nConnection: close\r\n\r\n# TYPE a counter\na{l=\"x\"} 3\n# TYPE b gauge\nb{l=\"x\"} -2\n";
 
-/// A request gets this reply, and then so many scrapes are kept.
+/// A request gets this reply.
 fn replies(
     rt: &impl Abort,
     alloc: Global,
     registry: &mut Over<GivesUp>,
-    mut request: &[u8],
-    reply: (Status, &[u8]),
-    kept: usize,
+    bytes: &[u8],
+    (status, reply): (Status, &[u8]),
 ) {
-    let mut reader = Watched::new(&mut request);
+    let (step, reads) = (ALL, ALL);
+    let mut reader = Watched::new(Pieces { bytes, step, reads });
     let mut writer = wide(rt, alloc);
     let answer = serve_state(&mut reader, &mut writer, registry);
-    let seen = Seen {
-        answer,
-        written: writer.into_inner().taken,
-        kept: registry.kept().len(),
-    };
-    served(rt, &seen, reply.0, reply.1);
-    same(rt, seen.kept, kept);
+    let kept = registry.kept().len();
+    came_to(rt, writer, answer, kept, replied(status, reply));
 }
 
 /// A request whose scan is given up, a HEAD likewise, and one more.
 fn replies_in_turn(rt: &impl Abort, alloc: Global, registry: &mut Over<GivesUp>) {
     let head = b"HEAD /metrics HTTP/1.0\r\n\r\n".as_slice();
     let busy = Status::Unavailable;
-    replies(rt, alloc, registry, USUAL, (busy, BUSY), 0);
-    replies(rt, alloc, registry, head, (busy, &BUSY[..116]), 0);
-    replies(rt, alloc, registry, USUAL, (Status::Success, OK), 1);
+    replies(rt, alloc, registry, USUAL, (busy, BUSY));
+    replies(rt, alloc, registry, head, (busy, &BUSY[..116]));
+    replies(rt, alloc, registry, USUAL, (Status::Success, OK));
 }
 
 /// Where the scan is given up, 503 is replied, to a HEAD by its head alone, and 200 to the next request.

@@ -85,65 +85,59 @@ pub(super) fn counting(rt: &impl Abort, alloc: Global) -> Plain {
     registry
 }
 
-/// What serving came to: the answer, the bytes that were written, and how many scrapes are kept.
-#[derive(Drop)]
-pub(super) struct Seen {
-    pub(super) answer: Result<Served, WireFault>,
-    pub(super) written: Vec<u8>,
-    pub(super) kept: usize,
+/// What serving comes to: the answer, the bytes that are written, and how many scrapes are kept.
+pub(super) type Outcome<'a> = (Result<Served, WireFault>, &'a [u8], usize);
+
+/// The whole reply is sent; a scrape is made for 200 alone, and once.
+pub(super) fn replied(status: Status, reply: &[u8]) -> Outcome<'_> {
+    let sent = reply.len();
+    let kept = if status == Status::Success { 1 } else { 0 };
+    (Ok(Served { status, sent }), reply, kept)
 }
 
-/// Serves from this registry a request that comes so many bytes a read, of which the `reads`th, from 0, fails. The writer takes one byte
-/// a write.
-pub(super) fn see_from(
+/// Nothing is sent, for this reason, and no scrape is made.
+pub(super) fn unserved(fault: WireFault) -> Outcome<'static> {
+    (Err(fault), b"", 0)
+}
+
+/// This writer was served by this answer, and so many scrapes are kept.
+pub(super) fn came_to(
     rt: &impl Abort,
+    writer: Watched<Narrow>,
+    answer: Result<Served, WireFault>,
+    kept: usize,
+    outcome: Outcome<'_>,
+) {
+    same(rt, writer.into_inner().taken.as_slice(), outcome.1);
+    same(rt, (answer, kept), (outcome.0, outcome.2));
+}
+
+/// Serves a request from this registry, which comes to this. The writer takes one byte a write.
+pub(super) fn comes_to(
+    rt: &impl Abort,
+    alloc: Global,
     registry: &mut Plain,
+    request: Pieces<'_>,
+    outcome: Outcome<'_>,
+) {
+    let mut reader = Watched::new(request);
+    let mut writer = wide(rt, alloc);
+    let answer = serve_state(&mut reader, &mut writer, registry);
+    let kept = registry.kept().len();
+    came_to(rt, writer, answer, kept, outcome);
+}
+
+/// The same from a new registry with a counter, of a request that comes so many bytes a read, of which the `reads`th, from 0, fails.
+pub(super) fn asks(
+    rt: &impl Abort,
     alloc: Global,
     bytes: &[u8],
     step: usize,
     reads: usize,
-) -> Seen {
-    let mut reader = Watched::new(Pieces { bytes, step, reads });
-    let mut writer = wide(rt, alloc);
-    let answer = serve_state(&mut reader, &mut writer, registry);
-    Seen {
-        answer,
-        written: writer.into_inner().taken,
-        kept: registry.kept().len(),
-    }
-}
-
-/// The same from a new registry with a counter.
-pub(super) fn see(rt: &impl Abort, alloc: Global, bytes: &[u8], step: usize, reads: usize) -> Seen {
-    see_from(rt, &mut counting(rt, alloc), alloc, bytes, step, reads)
-}
-
-/// The whole reply was sent, and is this.
-pub(super) fn served(rt: &impl Abort, seen: &Seen, status: Status, reply: &[u8]) {
-    same(rt, seen.written.as_slice(), reply);
-    let sent = reply.len();
-    same(rt, seen.answer, Ok(Served { status, sent }));
-}
-
-/// Nothing was sent, for this reason, and no scrape was made.
-pub(super) fn unserved(rt: &impl Abort, seen: &Seen, fault: WireFault, number: u8) {
-    same(rt, seen.answer, Err(fault));
-    same(rt, fault.number(), number);
-    same(rt, (seen.written.len(), seen.kept), (0, 0));
-}
-
-/// A request that comes so many bytes a read gets this reply; a scrape is made for 200 alone, and once.
-fn gets(
-    rt: &(impl Abort + AllocGlobal),
-    request: &[u8],
-    step: usize,
-    status: Status,
-    reply: &[u8],
+    outcome: Outcome<'_>,
 ) {
-    let seen = see(rt, rt.alloc(), request, step, ALL);
-    served(rt, &seen, status, reply);
-    let kept = if status == Status::Success { 1 } else { 0 };
-    same(rt, seen.kept, kept);
+    let request = Pieces { bytes, step, reads };
+    comes_to(rt, alloc, &mut counting(rt, alloc), request, outcome);
 }
 
 /// Each request gets this reply, whether it comes at once or byte by byte.
@@ -154,8 +148,8 @@ pub(super) fn get(
     reply: &[u8],
 ) {
     for request in requests {
-        gets(rt, request, ALL, status, reply);
-        gets(rt, request, 1, status, reply);
+        asks(rt, rt.alloc(), request, ALL, ALL, replied(status, reply));
+        asks(rt, rt.alloc(), request, 1, ALL, replied(status, reply));
     }
 }
 

@@ -1,6 +1,6 @@
 //! Ends that fail, heads that are cut, and a source that has no scrape.
 use super::ends::{
-    ALL, BAD, MISSING, Narrow, OK_A, USUAL, counting, get, see, served, unserved, wide,
+    ALL, BAD, MISSING, Narrow, OK_A, USUAL, asks, counting, get, replied, unserved, wide,
 };
 use crate::asserts::{need, same};
 use expo_text::Scrape;
@@ -17,8 +17,9 @@ pub(super) const BUSY: &[u8] =
 #[test]
 fn cut_heads(rt: HostRuntime) {
     let rt = &rt;
-    let seen = see(rt, rt.alloc(), b"", ALL, ALL);
-    unserved(rt, &seen, WireFault::EndBeforeHead, 26);
+    let none = WireFault::EndBeforeHead;
+    same(rt, none.number(), 26);
+    asks(rt, rt.alloc(), b"", ALL, ALL, unserved(none));
     for len in 1..USUAL.len() {
         get(rt, &[&USUAL[..len]], Status::BadRequest, BAD);
     }
@@ -30,14 +31,15 @@ fn cut_heads(rt: HostRuntime) {
 fn failing_reads(rt: HostRuntime) {
     let rt = &rt;
     let alloc = rt.alloc();
+    let failed = WireFault::ReadFailed;
+    same(rt, failed.number(), 24);
     for reads in 0..USUAL.len() {
-        let seen = see(rt, alloc, USUAL, 1, reads);
-        unserved(rt, &seen, WireFault::ReadFailed, 24);
+        asks(rt, alloc, USUAL, 1, reads, unserved(failed));
     }
-    let seen = see(rt, alloc, USUAL, 1, USUAL.len());
-    served(rt, &seen, Status::Success, OK_A);
-    let seen = see(rt, alloc, b"GET /", ALL, 2);
-    served(rt, &seen, Status::BadRequest, BAD);
+    let whole = replied(Status::Success, OK_A);
+    asks(rt, alloc, USUAL, 1, USUAL.len(), whole);
+    let bad = replied(Status::BadRequest, BAD);
+    asks(rt, alloc, b"GET /", ALL, 2, bad);
 }
 
 /// Serves `GET /` to a writer that takes so many bytes of the 116, at most so many a write.

@@ -10,7 +10,9 @@ mod shown;
 mod tallies;
 
 use crate::asserts::{need, same, there};
-use dirgwako::{Crew, Recorder, Registry, scrape_text};
+use crate::crew::ID;
+use dirgwako::{Crew, Recorder, Registrar, Registry, scrape_text};
+use std::alloc::Global;
 use std::process::Abort;
 use std::sync::Wait;
 
@@ -23,6 +25,11 @@ type Names<'a> = Registry<'a, 2, 4, 2, 2>;
 /// What counts.
 type Counts<'a> = Recorder<'a, 2, 4, 2, 2>;
 
+/// A crew of a board of this id.
+fn new_team(rt: &impl Abort, alloc: Global, id: u64) -> Team {
+    need(rt, Team::new(alloc, id, 1))
+}
+
 /// The registry of a crew that is opened here.
 fn opened<'a>(rt: &impl Abort, team: &'a mut Team, window: usize) -> Names<'a> {
     let (registry, _, _) = need(rt, team.open(window));
@@ -33,6 +40,43 @@ fn opened<'a>(rt: &impl Abort, team: &'a mut Team, window: usize) -> Names<'a> {
 fn opened_to_count<'a>(rt: &impl Abort, team: &'a mut Team) -> (Names<'a>, Counts<'a>) {
     let (registry, mut recorders, _) = need(rt, team.open(64));
     (registry, there(rt, recorders.pop()))
+}
+
+/// What is tried of a crew that is opened.
+#[derive(Clone, Copy)]
+enum Tried {
+    Families,
+    Children,
+    EachKind,
+    Refusals,
+    Tally,
+    TallyRefused,
+}
+
+/// It is tried of this registry and recorder.
+fn try_of(
+    rt: &(impl Wait + Abort + AllocGlobal),
+    tried: Tried,
+    registry: &Names<'_>,
+    recorder: &mut Counts<'_>,
+) {
+    match tried {
+        Tried::Families => refused::refuses_families(rt, &mut Registrar::new(rt, registry)),
+        Tried::Children => refused::shows_children(rt, registry),
+        Tried::EachKind => shown::counts_and_shows(rt, registry, recorder),
+        Tried::Refusals => counting::refuses_all(rt, registry, recorder),
+        Tried::Tally => tallies::publishes(rt, registry, recorder),
+        Tried::TallyRefused => tallies::refuses(rt, recorder),
+    }
+}
+
+/// It is tried of a crew. The recorder is the second worker, and has published so many versions then.
+fn try_out(rt: &(impl Wait + Abort + AllocGlobal), tried: Tried, versions: u64) {
+    let mut team = new_team(rt, rt.alloc(), ID);
+    let (registry, mut recorder) = opened_to_count(rt, &mut team);
+    try_of(rt, tried, &registry, &mut recorder);
+    let worker = recorder.into_worker();
+    same(rt, (worker.index(), worker.number()), (1, versions));
 }
 
 /// Makes a scrape, whose text is this.

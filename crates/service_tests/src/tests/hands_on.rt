@@ -2,11 +2,11 @@
 ghost use Rattle.snapshot_update.specs.Workers.{IsWorkerOf};
 
 use crate::asserts::{done, need, same, there};
-use crate::crew::{ID, Two, TwoBoard, TwoCrew, TwoWorker, last_worker, registry_of};
+use crate::crew::{ID, Two, TwoBoard, TwoCrew, TwoWorker, last_worker, made_counter, registry_of};
 use crate::helpers::desc;
 use expo_text::{Number, Scrape, render};
 use ledger_core::Counter;
-use metric_desc::{Desc, Kind};
+use metric_desc::Kind;
 use registry_state::{FamilyId, Handle, RegisterFault, RegistryState, ScrapeFault};
 use snapshot_scan::{Scanner, Snapshot};
 use snapshot_update::CountFault;
@@ -25,8 +25,8 @@ type State<'a> = RegistryState<Scanner<'a, 2, 4, 1, 1>, 2, 4, 1, 1>;
 /// The name of a family that a thread registered, its number, and its one child.
 type Counted = (&'static str, FamilyId, Counter);
 
-/// The name of a family to be, and its descriptor.
-type Named = (&'static str, Desc);
+/// The names of two families.
+type Names = (&'static str, &'static str);
 
 /// What a thread was given.
 #[derive(Drop)]
@@ -46,38 +46,28 @@ fn scrape_often(rt: &(impl Wait + Abort), registry: &Two<'_>, scrapes: &mut Vec<
     }
 }
 
-/// Registers a family, and makes its child.
-fn make(rt: &(impl Wait + Abort), registry: &Two<'_>, named: Named) -> Counted {
-    let (name, desc) = named;
-    let family = need(rt, registry.register(rt, desc));
-    match need(rt, registry.child(rt, family, &[])) {
-        Handle::Counter(counter) => (name, family, counter),
-        _ => rt.panic("no counter"),
-    }
-}
-
 /// Registers a family and makes its child, and scrapes before and after that.
-fn ask_once(rt: &(impl Wait + Abort), registry: &Two<'_>, named: Named, given: &mut Given) {
+fn ask_once(
+    rt: &(impl Wait + Abort),
+    alloc: Global,
+    registry: &Two<'_>,
+    name: &'static str,
+    given: &mut Given,
+) {
     scrape_often(rt, registry, &mut given.scrapes);
-    let made = make(rt, registry, named);
-    need(rt, given.counted.push(made));
+    let (family, counter) = made_counter(rt, alloc, registry, name);
+    need(rt, given.counted.push((name, family, counter)));
     scrape_often(rt, registry, &mut given.scrapes);
 }
 
 /// Asks for two families.
-fn ask(
-    rt: &(impl Wait + Abort),
-    alloc: Global,
-    registry: &Two<'_>,
-    names: (Named, Named),
-) -> Given {
+fn ask(rt: &(impl Wait + Abort), alloc: Global, registry: &Two<'_>, names: Names) -> Given {
     let mut given = Given {
         counted: Vec::new(alloc),
         scrapes: Vec::new(alloc),
     };
-    let (first, second) = names;
-    ask_once(rt, registry, first, &mut given);
-    ask_once(rt, registry, second, &mut given);
+    ask_once(rt, alloc, registry, names.0, &mut given);
+    ask_once(rt, alloc, registry, names.1, &mut given);
     given
 }
 
@@ -105,7 +95,7 @@ fn count_and_ask(
     board: &TwoBoard,
     registry: &Two<'_>,
     worker: TwoWorker,
-    names: (Named, Named),
+    names: Names,
 ) -> Side
     requires { IsWorkerOf board.now worker }
 {
@@ -118,20 +108,6 @@ fn count_and_ask(
     )
 }
 
-/// The names of two families with their descriptors of counters.
-fn named(
-    rt: &impl Abort,
-    alloc: Global,
-    first: &'static str,
-    second: &'static str,
-) -> (Named, Named) {
-    let one = done(rt, desc(alloc, Kind::Counter, first, &[]));
-    (
-        (first, one),
-        (second, done(rt, desc(alloc, Kind::Counter, second, &[]))),
-    )
-}
-
 /// Two workers and two threads that ask, at once.
 fn two_sides(
     rt: &(impl Threads + Wait + Abort + Sync),
@@ -139,20 +115,18 @@ fn two_sides(
     board: &TwoBoard,
     registry: &Two<'_>,
     workers: (TwoWorker, TwoWorker),
-    names: ((Named, Named), (Named, Named)),
 ) -> (Side, Side)
     requires { IsWorkerOf board.now workers.0 × IsWorkerOf board.now workers.1 }
 {
     let (first, second) = workers;
-    let (one, other) = names;
     join(
         rt,
         || -> Side
             requires { IsWorkerOf board.now first }
-        { count_and_ask(rt, alloc, board, registry, first, one) },
+        { count_and_ask(rt, alloc, board, registry, first, ("a", "c")) },
         || -> Side
             requires { IsWorkerOf board.now second }
-        { count_and_ask(rt, alloc, board, registry, second, other) },
+        { count_and_ask(rt, alloc, board, registry, second, ("b", "d")) },
     )
 }
 
@@ -162,11 +136,6 @@ fn taken_from(rt: &impl Abort, side: Side) -> Given {
     same(rt, counted, Ok(()));
     same(rt, given.scrapes.is_empty(), false);
     given
-}
-
-/// The names of the families that each of two threads asks for.
-fn all_names(rt: &impl Abort, alloc: Global) -> ((Named, Named), (Named, Named)) {
-    (named(rt, alloc, "a", "c"), named(rt, alloc, "b", "d"))
 }
 
 /// What each of the threads was given, where they ask at once.
@@ -179,8 +148,7 @@ fn all_at_once(
 ) -> (Given, Given)
     requires { IsWorkerOf board.now workers.0 × IsWorkerOf board.now workers.1 }
 {
-    let names = all_names(rt, alloc);
-    let (one, other) = two_sides(rt, alloc, board, registry, workers, names);
+    let (one, other) = two_sides(rt, alloc, board, registry, workers);
     (taken_from(rt, one), taken_from(rt, other))
 }
 

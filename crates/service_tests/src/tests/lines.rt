@@ -7,102 +7,109 @@ use std::process::Abort;
 /// The greatest number.
 const MOST: u64 = 18_446_744_073_709_551_615;
 
-/// A line `counter a`.
-const fn counter(labels: &'static str, help: &'static str) -> Line<'static> {
-    Line::Counter {
-        name: "a",
-        labels,
-        help,
-    }
-}
+/// Lines of a counter `a`, with its labels and its help.
+const COUNTERS: [(&str, &str, &str); 6] = [
+    ("counter a -", "-", ""),
+    ("counter a - ", "-", ""),
+    ("counter a -  ", "-", " "),
+    ("counter a b,,c", "b,,c", ""),
+    ("counter a , two  words ", ",", "two  words "),
+    ("counter a - größe\\\\\\n\\s", "-", "größe\\\\\\n\\s"),
+];
 
-/// A line `histogram h -`.
-const fn histogram(bounds: &'static str, help: &'static str) -> Line<'static> {
-    Line::Histogram {
-        name: "h",
-        labels: "-",
-        bounds,
-        help,
-    }
-}
+/// Lines of a histogram `h` without labels, with its bounds and its help.
+const HISTOGRAMS: [(&str, &str, &str); 3] = [
+    ("histogram h - -", "-", ""),
+    ("histogram h - 3,2,2 ", "3,2,2", ""),
+    (
+        "histogram h - 1,18446744073709551615 a b",
+        "1,18446744073709551615",
+        "a b",
+    ),
+];
 
-/// A line `child a`.
-const fn child(values: &'static str) -> Line<'static> {
-    Line::Child { name: "a", values }
-}
+/// Lines of a child of `a`, with its values.
+const CHILDREN: [(&str, &str); 3] = [
+    ("child a", ""),
+    ("child a \\e", "\\e"),
+    ("child a two\\swords é \\\\n", "two\\swords é \\\\n"),
+];
 
-/// A line that counts.
-const fn count(what: Counting, worker: usize, child: u64, by: u64, times: u64) -> Line<'static> {
-    Line::Count {
-        what,
-        worker,
-        child,
-        by,
-        times,
-    }
-}
+/// What is counted by a line: by which worker, of which child, how much, and how often.
+type Counted = (Counting, usize, u64, u64, u64);
+
+/// Lines that count.
+const COUNTS: [(&str, Counted); 4] = [
+    ("inc 0 0 0", (Counting::Inc, 0, 0, 0, 1)),
+    ("obs 3 12 7 1", (Counting::Obs, 3, 12, 7, 1)),
+    ("up 1 2 3 100000", (Counting::Up, 1, 2, 3, 100_000)),
+    (
+        "down 2 18446744073709551615 18446744073709551615",
+        (Counting::Down, 2, MOST, MOST, 1),
+    ),
+];
+
+/// Other lines.
+const OTHERS: [(&str, Line<'static>); 8] = [
+    (
+        "gauge http:x b the help",
+        Line::Gauge {
+            name: "http:x",
+            labels: "b",
+            help: "the help",
+        },
+    ),
+    ("go", Line::Go),
+    ("scrape", Line::Scrape),
+    ("settle", Line::Settle),
+    ("window 0", Line::Window { size: 0 }),
+    ("window 18446744073709551615", Line::Window { size: MOST }),
+    ("", Line::Nothing),
+    ("#go", Line::Nothing),
+];
 
 /// The text is this line.
 fn is_line(rt: &impl Abort, text: &str, line: Line<'_>) {
-    same(rt, read_line(text), Some(line));
+    same(rt, (text, read_line(text)), (text, Some(line)));
 }
 
 /// Lines of families.
 #[test]
 fn lines_of_families(rt: HostRuntime) {
-    let rt = &rt;
-    is_line(rt, "counter a -", counter("-", ""));
-    is_line(rt, "counter a - ", counter("-", ""));
-    is_line(rt, "counter a -  ", counter("-", " "));
-    is_line(rt, "counter a b,,c", counter("b,,c", ""));
-    is_line(rt, "counter a , two  words ", counter(",", "two  words "));
-    is_line(
-        rt,
-        "counter a - größe\\\\\\n\\s",
-        counter("-", "größe\\\\\\n\\s"),
-    );
-    is_line(rt, "histogram h - -", histogram("-", ""));
-    is_line(rt, "histogram h - 3,2,2 ", histogram("3,2,2", ""));
-    is_line(
-        rt,
-        "histogram h - 1,18446744073709551615 a b",
-        histogram("1,18446744073709551615", "a b"),
-    );
-    let (name, labels, help) = ("http:x", "b", "the help");
-    let gauge = Line::Gauge { name, labels, help };
-    same(rt, read_line("gauge http:x b the help"), Some(gauge));
+    for (text, labels, help) in COUNTERS {
+        let name = "a";
+        is_line(&rt, text, Line::Counter { name, labels, help });
+    }
+    for (text, bounds, help) in HISTOGRAMS {
+        let line = Line::Histogram {
+            name: "h",
+            labels: "-",
+            bounds,
+            help,
+        };
+        is_line(&rt, text, line);
+    }
 }
 
 /// Other lines.
 #[test]
 fn lines_of_children(rt: HostRuntime) {
-    let rt = &rt;
-    is_line(rt, "child a", child(""));
-    is_line(rt, "child a \\e", child("\\e"));
-    is_line(
-        rt,
-        "child a two\\swords é \\\\n",
-        child("two\\swords é \\\\n"),
-    );
-    is_line(rt, "inc 0 0 0", count(Counting::Inc, 0, 0, 0, 1));
-    is_line(rt, "obs 3 12 7 1", count(Counting::Obs, 3, 12, 7, 1));
-    is_line(rt, "up 1 2 3 100000", count(Counting::Up, 1, 2, 3, 100_000));
-    is_line(
-        rt,
-        "down 2 18446744073709551615 18446744073709551615",
-        count(Counting::Down, 2, MOST, MOST, 1),
-    );
-    is_line(rt, "go", Line::Go);
-    is_line(rt, "scrape", Line::Scrape);
-    is_line(rt, "settle", Line::Settle);
-    is_line(rt, "window 0", Line::Window { size: 0 });
-    is_line(
-        rt,
-        "window 18446744073709551615",
-        Line::Window { size: MOST },
-    );
-    is_line(rt, "", Line::Nothing);
-    is_line(rt, "#go", Line::Nothing);
+    for (text, values) in CHILDREN {
+        is_line(&rt, text, Line::Child { name: "a", values });
+    }
+    for (text, (what, worker, child, by, times)) in COUNTS {
+        let line = Line::Count {
+            what,
+            worker,
+            child,
+            by,
+            times,
+        };
+        is_line(&rt, text, line);
+    }
+    for (text, line) in OTHERS {
+        is_line(&rt, text, line);
+    }
 }
 
 /// Texts that are none, with a bar between two: of families,
@@ -136,49 +143,48 @@ fn no_lines(rt: HostRuntime) {
     are_no_lines(rt, NO_OTHERS);
 }
 
-/// The help of a counter's line, as it is meant.
-fn help_of(rt: &impl Abort, alloc: Global, text: &str) -> String {
+/// The help of a counter's line is meant so.
+fn has_help(rt: &impl Abort, alloc: Global, text: &str, expected: &str) {
     let Some(Line::Counter { help, .. }) = read_line(text) else {
         rt.panic("no counter")
     };
-    need(rt, unescape(alloc, help))
+    same(rt, need(rt, unescape(alloc, help)).as_str(), expected);
 }
 
-/// The bounds of a histogram's line.
-fn bounds_in(rt: &impl Abort, alloc: Global, text: &str) -> Vec<u64> {
+/// The bounds of a histogram's line are these.
+fn has_bounds(rt: &impl Abort, alloc: Global, text: &str, expected: &[u64]) {
     let Some(Line::Histogram { bounds, .. }) = read_line(text) else {
         rt.panic("no histogram")
     };
-    need(rt, bounds_of(alloc, bounds))
+    same(rt, need(rt, bounds_of(alloc, bounds)).as_slice(), expected);
 }
 
-/// The values of a child's line, each as it is meant and with a semicolon behind it.
-fn values_in(rt: &impl Abort, alloc: Global, text: &str) -> String {
+/// The values of a child's line are these.
+fn has_values(rt: &impl Abort, alloc: Global, text: &str, expected: &[&str]) {
     let Some(Line::Child { values, .. }) = read_line(text) else {
         rt.panic("no child")
     };
-    let mut told = String::new(alloc);
-    for value in need(rt, values_of(alloc, values)) {
-        need(rt, told.push_str(value));
-        need(rt, told.push(';'));
-    }
-    told
+    same(rt, need(rt, values_of(alloc, values)).as_slice(), expected);
+}
+
+/// These are the labels.
+fn are_labels(rt: &impl Abort, alloc: Global, text: &str, expected: &[&str]) {
+    same(rt, need(rt, labels_of(alloc, text)).as_slice(), expected);
 }
 
 #[test]
 fn what_stands_in_lines(rt: HostRuntime) {
     let rt = &rt;
     let alloc = rt.alloc();
-    let help = help_of(rt, alloc, "counter a - \\\\n\\n\\s\\e. größe\\\\\\\\");
-    same(rt, help.as_str(), "\\n\n . größe\\\\");
-    same(rt, help_of(rt, alloc, "counter a - ").len(), 0);
-    let bounds = bounds_in(rt, alloc, "histogram h - 3,2,2,18446744073709551615 help");
-    same(rt, bounds.as_slice(), [3, 2, 2, MOST].as_slice());
-    same(rt, bounds_in(rt, alloc, "histogram h - -").len(), 0);
-    let values = values_in(rt, alloc, "child a v \\e two\\swords");
-    same(rt, values.as_str(), "v;\\e;two\\swords;");
-    same(rt, values_in(rt, alloc, "child a").len(), 0);
-    let labels = need(rt, labels_of(alloc, "b,,c-"));
-    same(rt, labels.as_slice(), ["b", "", "c-"].as_slice());
-    same(rt, need(rt, labels_of(alloc, "-")).len(), 0);
+    let help = "counter a - \\\\n\\n\\s\\e. größe\\\\\\\\";
+    has_help(rt, alloc, help, "\\n\n . größe\\\\");
+    has_help(rt, alloc, "counter a - ", "");
+    let bounds = "histogram h - 3,2,2,18446744073709551615 help";
+    has_bounds(rt, alloc, bounds, &[3, 2, 2, MOST]);
+    has_bounds(rt, alloc, "histogram h - -", &[]);
+    let values = "child a v \\e two\\swords";
+    has_values(rt, alloc, values, &["v", "\\e", "two\\swords"]);
+    has_values(rt, alloc, "child a", &[]);
+    are_labels(rt, alloc, "b,,c-", &["b", "", "c-"]);
+    are_labels(rt, alloc, "-", &[]);
 }

@@ -3,14 +3,12 @@ ghost use Rattle.std.specs.Prelude.{◌≡◌, length, All};
 ghost use Rattle.snapshot_scan.specs.Readers.{IsReaderOf};
 ghost use Rattle.snapshot_update.specs.Workers.{IsWorkerOf};
 
-use crate::asserts::{done, need, same};
-use crate::crew::registry_of;
-use crate::helpers::desc;
+use crate::asserts::{need, same};
+use crate::crew::{made_counter, registry_of};
 use expo_text::{Number, Scrape};
 use ledger_core::Counter;
-use metric_desc::Kind;
 use register_rule::Board;
-use registry_state::{Handle, ScrapeFault};
+use registry_state::ScrapeFault;
 use snapshot_scan::Reader;
 use snapshot_update::{Crew, Worker};
 use std::alloc::{AllocError, Global};
@@ -30,18 +28,6 @@ type Registry<'a> = metric_registry::Registry<'a, 4, 1, 0, 0>;
 
 /// How often each worker counts 1.
 const TIMES: u64 = 10_000;
-
-/// A family `a` of counters, and its one child.
-fn one_counter(rt: &(impl Wait + Abort), alloc: Global, registry: &Registry<'_>) -> Counter {
-    let family = need(
-        rt,
-        registry.register(rt, done(rt, desc(alloc, Kind::Counter, "a", &[]))),
-    );
-    match need(rt, registry.child(rt, family, &[])) {
-        Handle::Counter(counter) => counter,
-        _ => rt.panic("no counter"),
-    }
-}
 
 /// A worker's list of jobs.
 fn list(rt: &impl Abort, alloc: Global, counter: Counter) -> Vec<Job> {
@@ -162,7 +148,8 @@ fn count_and_end(
     requires { All (IsReaderOf board.now) readers.old.items × All (IsWorkerOf board.now) workers.items }
 {
     let registry = registry_of(rt, alloc, board, readers, 64);
-    let jobs = lists(rt, alloc, one_counter(rt, alloc, &registry));
+    let (_, counter) = made_counter(rt, alloc, &registry, "a");
+    let jobs = lists(rt, alloc, counter);
     counted(rt, alloc, board, &registry, workers, &jobs);
     same(rt, scrape_often(rt, &registry), (1, true));
 }

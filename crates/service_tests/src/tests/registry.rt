@@ -1,8 +1,11 @@
 //! A registry behind its lock by its calls, over a board of two workers.
+ghost use Rattle.std.specs.Prelude.{All};
 ghost use Rattle.snapshot_update.specs.Workers.{IsWorkerOf};
 
 use crate::asserts::{done, need, same, there};
-use crate::crew::{ID, Two, TwoBoard, TwoCrew, TwoWorker, ends_with, last_worker, registry_of};
+use crate::crew::{
+    ID, Two, TwoBoard, TwoCrew, TwoWorker, ends_with, last_worker, made, registry_of,
+};
 use crate::helpers::{desc, values};
 use expo_text::render;
 use ledger_core::{Counter, Gauge, Histogram};
@@ -19,29 +22,14 @@ fn prints(rt: &(impl Wait + Abort), registry: &Two<'_>, expected: &str) {
     same(rt, text.as_slice(), expected.as_bytes());
 }
 
-/// Registers a family without labels, and makes its one child.
-fn made(
-    rt: &(impl Wait + Abort),
-    alloc: Global,
-    registry: &Two<'_>,
-    kind: Kind,
-    name: &str,
-) -> Handle {
-    let family = need(
-        rt,
-        registry.register(rt, done(rt, desc(alloc, kind, name, &[]))),
-    );
-    need(rt, registry.child(rt, family, &[]))
-}
-
 /// The handles of a counter, a histogram and a gauge.
 type Handles = (Counter, Histogram, Gauge);
 
 /// Those of families `c`, `h` and `g`.
 fn handles(rt: &(impl Wait + Abort), alloc: Global, registry: &Two<'_>) -> Handles {
-    let counter = made(rt, alloc, registry, Kind::Counter, "c");
-    let hist = made(rt, alloc, registry, Kind::Histogram, "h");
-    let gauge = made(rt, alloc, registry, Kind::Gauge, "g");
+    let (_, counter) = made(rt, alloc, registry, Kind::Counter, "c");
+    let (_, hist) = made(rt, alloc, registry, Kind::Histogram, "h");
+    let (_, gauge) = made(rt, alloc, registry, Kind::Gauge, "g");
     match (counter, hist, gauge) {
         (Handle::Counter(counter), Handle::Histogram(hist), Handle::Gauge(gauge)) => {
             (counter, hist, gauge)
@@ -90,22 +78,19 @@ fn shows_what_is_counted(
     prints(rt, registry, COUNTED);
 }
 
-#[test]
-fn workers_count_by_its_handles(rt: HostRuntime) {
-    let rt = &rt;
-    let mut crew = need(rt, TwoCrew::new(rt.alloc(), ID, 1));
-    let mut second = done(rt, last_worker(&crew.board, &mut crew.workers));
-    let mut first = done(rt, last_worker(&crew.board, &mut crew.workers));
-    let registry = registry_of(rt, rt.alloc(), &crew.board, &mut crew.readers, 64);
-    shows_what_is_counted(
-        rt,
-        rt.alloc(),
-        &registry,
-        &crew.board,
-        &mut first,
-        &mut second,
-    );
-    ends_with(rt, registry, 3, 9);
+/// The last two workers count.
+fn counts(
+    rt: &(impl Wait + Abort),
+    alloc: Global,
+    registry: &Two<'_>,
+    board: &TwoBoard,
+    workers: &mut Vec<TwoWorker>,
+)
+    requires own { All (IsWorkerOf board.now) workers.old.items }
+{
+    let mut second = done(rt, last_worker(board, workers));
+    let mut first = done(rt, last_worker(board, workers));
+    shows_what_is_counted(rt, alloc, registry, board, &mut first, &mut second);
 }
 
 /// The registry refuses a sample's name that it has.
@@ -149,16 +134,6 @@ fn refuses(rt: &(impl Wait + Abort), alloc: Global, registry: &Two<'_>) {
     same(rt, counter, Counter { registry, slot });
 }
 
-/// The answers are those of the registry behind the lock, and a refusal has changed nothing there.
-#[test]
-fn refusals_are_handed_on(rt: HostRuntime) {
-    let rt = &rt;
-    let mut crew = need(rt, TwoCrew::new(rt.alloc(), ID, 1));
-    let registry = registry_of(rt, rt.alloc(), &crew.board, &mut crew.readers, 64);
-    refuses(rt, rt.alloc(), &registry);
-    ends_with(rt, registry, 0, 7);
-}
-
 /// Makes 70 scrapes, of which 64 are kept, then other windows, and a scrape in each.
 fn windows(rt: &(impl Wait + Abort), registry: &Two<'_>) {
     for _ in 0..70 {
@@ -173,12 +148,53 @@ fn windows(rt: &(impl Wait + Abort), registry: &Two<'_>) {
     prints(rt, registry, "");
 }
 
+/// What a registry is tried by.
+#[derive(Clone, Copy)]
+enum Tried {
+    Counting,
+    Refusals,
+    Windows,
+}
+
+/// It is tried so.
+fn tries(
+    rt: &(impl Wait + Abort),
+    alloc: Global,
+    tried: Tried,
+    registry: &Two<'_>,
+    board: &TwoBoard,
+    workers: &mut Vec<TwoWorker>,
+)
+    requires own { All (IsWorkerOf board.now) workers.old.items }
+{
+    match tried {
+        Tried::Counting => counts(rt, alloc, registry, board, workers),
+        Tried::Refusals => refuses(rt, alloc, registry),
+        Tried::Windows => windows(rt, registry),
+    }
+}
+
+/// A registry is tried so, and keeps so many scrapes in the end, and so many entries of the journal.
+fn is_tried(rt: &(impl Wait + Abort), alloc: Global, tried: Tried, kept: usize, entries: usize) {
+    let mut crew = need(rt, TwoCrew::new(alloc, ID, 1));
+    let registry = registry_of(rt, alloc, &crew.board, &mut crew.readers, 64);
+    tries(rt, alloc, tried, &registry, &crew.board, &mut crew.workers);
+    ends_with(rt, registry, kept, entries);
+}
+
+#[test]
+fn workers_count_by_its_handles(rt: HostRuntime) {
+    is_tried(&rt, rt.alloc(), Tried::Counting, 3, 9);
+}
+
+/// The answers are those of the registry behind the lock, and a refusal has changed nothing there.
+#[test]
+fn refusals_are_handed_on(rt: HostRuntime) {
+    is_tried(&rt, rt.alloc(), Tried::Refusals, 0, 7);
+}
+
 /// The window is the one that was asked for, and a smaller one drops the oldest scrapes.
 #[test]
 fn the_window(rt: HostRuntime) {
-    let rt = &rt;
-    let mut crew = need(rt, TwoCrew::new(rt.alloc(), ID, 1));
-    let registry = registry_of(rt, rt.alloc(), &crew.board, &mut crew.readers, 64);
-    windows(rt, &registry);
-    ends_with(rt, registry, 4, 4);
+    is_tried(&rt, rt.alloc(), Tried::Windows, 4, 4);
 }

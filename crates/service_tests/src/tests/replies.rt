@@ -1,5 +1,5 @@
 //! Requests that come whole, and heads at their limits.
-use super::ends::{ALL, BAD, MISSING, OK_A, USUAL, get, see_from, served};
+use super::ends::{ALL, BAD, MISSING, OK_A, Pieces, USUAL, comes_to, get, replied};
 use crate::asserts::{need, same, there};
 use crate::helpers::plain;
 use scrape_http::Status;
@@ -70,11 +70,14 @@ fn an_empty_registry(rt: HostRuntime) {
     let rt = &rt;
     let alloc = rt.alloc();
     let mut registry = plain(rt, alloc, 1);
-    let request = b"GET /metrics HTTP/1.1\r\nHost: h\r\n\r\n";
-    let seen = see_from(rt, &mut registry, alloc, request, ALL, ALL);
+    let request = Pieces {
+        bytes: b"GET /metrics HTTP/1.1\r\nHost: h\r\n\r\n",
+        step: ALL,
+        reads: ALL,
+    };
     same(rt, EMPTY.len(), 113);
-    served(rt, &seen, Status::Success, EMPTY);
-    same(rt, seen.kept, 1);
+    let whole = replied(Status::Success, EMPTY);
+    comes_to(rt, alloc, &mut registry, request, whole);
 }
 
 #[test]

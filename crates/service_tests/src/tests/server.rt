@@ -181,11 +181,8 @@ fn bytes_of(replies: &[Vec<u8>]) -> usize {
     bytes
 }
 
-/// Replies of each status but 503, and then a scrape: what was counted by the threads of all of them.
-#[test]
-fn a_scrape_shows_the_replies_before_it(rt: HostRuntime) {
-    let rt = &rt;
-    let replies = replies_to(rt, rt.alloc(), &OF_EACH_STATUS, 9);
+/// The last reply shows those before it.
+fn shows_the_others(rt: &impl Abort, alloc: Global, replies: &[Vec<u8>]) {
     let (last, before) = there(rt, replies.split_last());
     begin(
         rt,
@@ -195,10 +192,17 @@ fn a_scrape_shows_the_replies_before_it(rt: HostRuntime) {
     let sent = bytes_of(before);
     let wanted = need(
         rt,
-        format!(in rt.alloc(); "scrape_reply_bytes_sum {sent}\n{COUNTS}"),
+        format!(in alloc; "scrape_reply_bytes_sum {sent}\n{COUNTS}"),
     );
     let shown = last.len().saturating_sub(wanted.len());
     same(rt, last.get(shown..), Some(wanted.as_bytes()));
+}
+
+/// Replies of each status but 503, and then a scrape: what was counted by the threads of all of them.
+#[test]
+fn a_scrape_shows_the_replies_before_it(rt: HostRuntime) {
+    let replies = replies_to(&rt, rt.alloc(), &OF_EACH_STATUS, 9);
+    shows_the_others(&rt, rt.alloc(), &replies);
 }
 
 const QUIET: [Step; 8] = [
@@ -330,6 +334,11 @@ impl Write for Fails {
     }
 }
 
+/// What was written is a front of what is printed.
+fn has_front(rt: &impl Abort, printed: &[u8], kept: &[u8]) {
+    same(rt, printed.get(..kept.len()), Some(kept));
+}
+
 /// After so many calls of its writer the server ends.
 fn ends_after<T>(rt: &T, alloc: Global, calls: u64)
 where
@@ -345,9 +354,7 @@ where
     let end = serve_on(rt, alloc, listener, 0, &mut writer);
     let status = if calls < 8 { 3 } else { 0 };
     same(rt, (calls, end.status()), (calls, status));
-    let kept = writer.kept.as_slice();
-    let front = printed.as_bytes().get(..kept.len());
-    same(rt, (calls, front), (calls, Some(kept)));
+    has_front(rt, printed.as_bytes(), &writer.kept);
 }
 
 /// Three writes and a flush are for the port, and as many for the replies.

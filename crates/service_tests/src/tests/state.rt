@@ -1,14 +1,17 @@
 //! A registry by its calls, over a source of one thread.
 use crate::asserts::{done, need, same};
 use crate::crew::ID;
-use crate::helpers::{Plain, desc, first_counter, first_gauge, holds, made, plain, prints, values};
+use crate::helpers::{
+    Plain, desc, family, first_counter, first_gauge, holds, made, plain, prints, values,
+};
 use bucket_math::Bounds;
 use ledger_core::{Histogram, Op};
-use metric_desc::{Desc, Kind};
+use metric_desc::Kind;
 use registry_state::{ChildFault, FamilyId, Handle, RegisterFault};
 use scrape_http::WireFault;
 use snapshot_scan::Snapshot;
 use std::alloc::Global;
+use std::fmt::Display;
 use std::process::Abort;
 
 /// Adds one to the counter.
@@ -17,10 +20,7 @@ const INC: Op = Op::Inc { counter: 0, by: 1 };
 /// A counter without help is shown when its child is made, and with all that was counted.
 fn shows_a_counter(rt: &impl Abort, alloc: Global, registry: &mut Plain) {
     prints(rt, registry, "");
-    let family = need(
-        rt,
-        registry.register(done(rt, desc(alloc, Kind::Counter, "a", &[]))),
-    );
+    let family = family(rt, registry, alloc, Kind::Counter, "a", &[]);
     prints(rt, registry, "");
     need(rt, registry.child(family, &[]));
     prints(rt, registry, "# TYPE a counter\na 0\n");
@@ -79,33 +79,28 @@ fn one_of_each_kind(rt: HostRuntime) {
     shows_each_kind(&rt, rt.alloc(), &mut registry);
 }
 
-/// The descriptor is refused for this family, and nothing has changed.
-fn clashes(rt: &impl Abort, registry: &mut Plain, desc: Desc, with: usize) {
+/// A descriptor of this kind and name is refused for this family, and nothing has changed.
+fn clashes(
+    rt: &impl Abort,
+    registry: &mut Plain,
+    alloc: Global,
+    (kind, name): (Kind, &str),
+    with: usize,
+) {
     let before = registry.journal().len();
-    let refused = registry.register(desc);
+    let refused = registry.register(done(rt, desc(alloc, kind, name, &[])));
     same(rt, refused, Err(RegisterFault::Clash { with }));
     same(rt, registry.journal().len(), before);
 }
 
 /// A histogram first, and then counters first.
 fn refuses_shared_names(rt: &impl Abort, alloc: Global, registry: &mut Plain) {
-    let family = need(
-        rt,
-        registry.register(done(rt, desc(alloc, Kind::Histogram, "x", &[]))),
-    );
-    same(rt, family.number(), 0);
-    let of_count = done(rt, desc(alloc, Kind::Counter, "x_count", &[]));
-    clashes(rt, registry, of_count, 0);
-    need(
-        rt,
-        registry.register(done(rt, desc(alloc, Kind::Counter, "y_count", &[]))),
-    );
-    need(
-        rt,
-        registry.register(done(rt, desc(alloc, Kind::Counter, "y_sum", &[]))),
-    );
-    let of_y = done(rt, desc(alloc, Kind::Histogram, "y", &[]));
-    clashes(rt, registry, of_y, 1);
+    let first = family(rt, registry, alloc, Kind::Histogram, "x", &[]);
+    same(rt, first.number(), 0);
+    clashes(rt, registry, alloc, (Kind::Counter, "x_count"), 0);
+    family(rt, registry, alloc, Kind::Counter, "y_count", &[]);
+    family(rt, registry, alloc, Kind::Counter, "y_sum", &[]);
+    clashes(rt, registry, alloc, (Kind::Histogram, "y"), 1);
     same(rt, RegisterFault::Clash { with: 1 }.number(), 19);
     prints(rt, registry, "");
     holds(rt, registry, 1, 4);
@@ -142,10 +137,7 @@ fn uses_the_slot(
     kind: Kind,
     name: &str,
 ) -> Handle {
-    let family = need(
-        rt,
-        registry.register(done(rt, desc(alloc, kind, name, &["l"]))),
-    );
+    let family = family(rt, registry, alloc, kind, name, &["l"]);
     let values = done(rt, values(alloc, &["x"]));
     let first = need(rt, registry.child(family, &values));
     let full = (ChildFault::Full { kind }, 22);
@@ -157,10 +149,7 @@ fn uses_the_slot(
 
 /// Children, each refused for one reason, and one of each kind that is made.
 fn uses_every_slot(rt: &impl Abort, alloc: Global, registry: &mut Plain) {
-    let family = need(
-        rt,
-        registry.register(done(rt, desc(alloc, Kind::Counter, "a", &["l"]))),
-    );
+    let family = family(rt, registry, alloc, Kind::Counter, "a", &["l"]);
     let absent = (ChildFault::NoSuchFamily, 20);
     refused(rt, &mut plain(rt, alloc, 1), family, alloc, &["x"], absent);
     let (want, got) = (1, 2);
@@ -214,27 +203,20 @@ fn the_65th_scrape(rt: HostRuntime) {
     same(rt, kept_counter(&registry, 63, &mut out), Some(64));
 }
 
+/// It is told so.
+fn is_told(rt: &(impl Abort + AllocGlobal), fault: &impl Display, expected: &str) {
+    let told = need(rt, format!(in rt.alloc(); "{fault}"));
+    same(rt, told.as_str(), expected);
+}
+
 /// What refusals are told as, where they tell of more than their cause.
 #[test]
 fn texts(rt: HostRuntime) {
     let rt = &rt;
-    let alloc = rt.alloc();
-    let clash = need(
-        rt,
-        format!(in alloc; "{}", RegisterFault::Clash { with: 3 }),
-    );
-    let expected = "a sample's name is shared with the family 3";
-    same(rt, clash.as_str(), expected);
-    let (want, got) = (2, 1);
-    let count = need(
-        rt,
-        format!(in alloc; "{}", ChildFault::LabelCount { want, got }),
-    );
-    same(rt, count.as_str(), "1 label values for 2 labels");
-    let sent = need(
-        rt,
-        format!(in alloc; "{}", WireFault::WriteFailed { sent: 50 }),
-    );
-    let expected = "the writer failed after 50 bytes of the reply";
-    same(rt, sent.as_str(), expected);
+    let clash = RegisterFault::Clash { with: 3 };
+    is_told(rt, &clash, "a sample's name is shared with the family 3");
+    let count = ChildFault::LabelCount { want: 2, got: 1 };
+    is_told(rt, &count, "1 label values for 2 labels");
+    let sent = WireFault::WriteFailed { sent: 50 };
+    is_told(rt, &sent, "the writer failed after 50 bytes of the reply");
 }

@@ -1,10 +1,8 @@
 //! A registry behind its lock, served over loopback, one connection after the other.
 use super::clients::{Step, begin, play};
 use super::ends::OK_A;
-use crate::asserts::{done, need, same};
-use crate::crew::{ID, Two, TwoCrew, ends_with, registry_of};
-use crate::helpers::desc;
-use metric_desc::Kind;
+use crate::asserts::{need, same};
+use crate::crew::{ID, Two, TwoCrew, ends_with, made_counter, registry_of};
 use scrape_http::{Served, Status, WireFault};
 use scrape_server::{FromRegistry, serve_stream};
 use std::alloc::Global;
@@ -23,15 +21,6 @@ const STEPS: [Step; 4] = [
     Step::Fill(1, b"GET /metrics HTTP/1.1\r\nHost: h\r\nX: ", 9_000),
     Step::Read(1),
 ];
-
-/// Registers the counter `a`, and makes its child.
-fn register(rt: &(impl Wait + Abort), alloc: Global, registry: &Two<'_>) {
-    let family = need(
-        rt,
-        registry.register(rt, done(rt, desc(alloc, Kind::Counter, "a", &[]))),
-    );
-    need(rt, registry.child(rt, family, &[]));
-}
 
 /// Serves a connection.
 fn serve_next(rt: &(impl Wait + Abort), registry: &Two<'_>, listener: &TcpListener) -> One {
@@ -74,7 +63,7 @@ fn asks_two<T>(rt: &T, alloc: Global, registry: &Two<'_>)
 where
     T: Abort + Threads + Wait + Sync + Net<Listener = TcpListener, Stream = TcpStream>,
 {
-    register(rt, alloc, registry);
+    made_counter(rt, alloc, registry, "a");
     let replies = serve_while_asked(rt, alloc, registry);
     let large = b"HTTP/1.1 431 Request Header Fields Too Large\r\n".as_slice();
     begin(rt, &replies, &[OK_A, large]);

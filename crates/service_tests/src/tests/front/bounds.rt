@@ -6,58 +6,78 @@ use std::process::Abort;
 /// 2^48 - 1, the greatest bound.
 const TOP: u64 = 281_474_976_710_655;
 
-/// These bounds were made.
-fn are(rt: &impl Abort, made: Result<Bounds, BadBounds>, bounds: &[u64]) {
-    same(rt, made.map(|made| made.as_slice() == bounds), Ok(true));
+/// What comes of a rule.
+#[derive(Clone, Copy)]
+enum Made {
+    /// These bounds.
+    Are(&'static [u64]),
+    /// So many bounds, of which this is the last.
+    EndIn(usize, u64),
+    /// None, for the one at this place.
+    FailAt(usize),
 }
 
-/// So many bounds were made, of which this is the last.
-fn end_in(rt: &impl Abort, made: Result<Bounds, BadBounds>, count: usize, last: u64) {
-    let end = made.map(|made| (made.as_slice().len(), made.as_slice().last().copied()));
-    same(rt, end, Ok((count, Some(last))));
+use Made::{Are, EndIn, FailAt};
+
+/// Where bounds begin, by how much they rise, how many there are, and what comes of that.
+type Rule = (u64, u64, usize, Made);
+
+/// This was made.
+fn is(rt: &impl Abort, made: &Result<Bounds, BadBounds>, wanted: Made) {
+    match (made, wanted) {
+        (Ok(made), Are(bounds)) => same(rt, made.as_slice(), bounds),
+        (Ok(made), EndIn(count, last)) => {
+            let made = made.as_slice();
+            same(rt, (made.len(), made.last().copied()), (count, Some(last)));
+        }
+        (Err(bad), FailAt(at)) => same(rt, bad.at, at),
+        _ => rt.panic("other bounds"),
+    }
 }
 
-/// No bounds were made, for the one at this place.
-fn fail_at(rt: &impl Abort, made: Result<Bounds, BadBounds>, at: usize) {
-    same(rt, made.err(), Some(BadBounds { at }));
-}
+/// By a width.
+const LINEAR: [Rule; 12] = [
+    (0, 10, 4, Are(&[0, 10, 20, 30])),
+    (TOP + 1, 0, 0, Are(&[])),
+    (7, 0, 1, Are(&[7])),
+    (3, 2, 24, EndIn(24, 49)),
+    (TOP - 23, 1, 24, EndIn(24, TOP)),
+    (7, 0, 2, FailAt(1)),
+    (3, 2, 25, FailAt(24)),
+    (3, 2, usize::MAX, FailAt(24)),
+    (TOP - 2, 1, 4, FailAt(3)),
+    (TOP + 1, 1, 1, FailAt(0)),
+    (1, u64::MAX, 2, FailAt(1)),
+    (u64::MAX, 1, 2, FailAt(0)),
+];
 
 #[test]
 fn linear_bounds(rt: HostRuntime) {
-    let rt = &rt;
-    are(rt, linear(0, 10, 4), &[0, 10, 20, 30]);
-    are(rt, linear(TOP + 1, 0, 0), &[]);
-    are(rt, linear(7, 0, 1), &[7]);
-    end_in(rt, linear(3, 2, 24), 24, 49);
-    end_in(rt, linear(TOP - 23, 1, 24), 24, TOP);
-    fail_at(rt, linear(7, 0, 2), 1);
-    fail_at(rt, linear(3, 2, 25), 24);
-    fail_at(rt, linear(3, 2, usize::MAX), 24);
-    fail_at(rt, linear(TOP - 2, 1, 4), 3);
-    fail_at(rt, linear(TOP + 1, 1, 1), 0);
-    fail_at(rt, linear(1, u64::MAX, 2), 1);
-    fail_at(rt, linear(u64::MAX, 1, 2), 0);
+    for (start, width, count, wanted) in &LINEAR {
+        is(&rt, &linear(*start, *width, *count), *wanted);
+    }
 }
 
-/// 2^48 - 1 is 2^24 - 1 times 2^24 + 1.
+/// By a factor. 2^48 - 1 is 2^24 - 1 times 2^24 + 1.
+const EXPONENTIAL: [Rule; 13] = [
+    (3, 10, 4, Are(&[3, 30, 300, 3_000])),
+    (0, 0, 0, Are(&[])),
+    (0, 2, 1, Are(&[0])),
+    (5, 0, 1, Are(&[5])),
+    (16_777_215, 16_777_217, 2, Are(&[16_777_215, TOP])),
+    (1, 2, 24, EndIn(24, 8_388_608)),
+    (0, 2, 2, FailAt(1)),
+    (5, 0, 2, FailAt(1)),
+    (5, 1, 2, FailAt(1)),
+    (1, 2, 25, FailAt(24)),
+    (16_777_215, 16_777_217, 3, FailAt(2)),
+    (4_294_967_296, 4_294_967_296, 2, FailAt(1)),
+    (TOP + 1, 2, 3, FailAt(0)),
+];
+
 #[test]
 fn exponential_bounds(rt: HostRuntime) {
-    let rt = &rt;
-    are(rt, exponential(3, 10, 4), &[3, 30, 300, 3_000]);
-    are(rt, exponential(0, 0, 0), &[]);
-    are(rt, exponential(0, 2, 1), &[0]);
-    are(rt, exponential(5, 0, 1), &[5]);
-    are(
-        rt,
-        exponential(16_777_215, 16_777_217, 2),
-        &[16_777_215, TOP],
-    );
-    end_in(rt, exponential(1, 2, 24), 24, 8_388_608);
-    fail_at(rt, exponential(0, 2, 2), 1);
-    fail_at(rt, exponential(5, 0, 2), 1);
-    fail_at(rt, exponential(5, 1, 2), 1);
-    fail_at(rt, exponential(1, 2, 25), 24);
-    fail_at(rt, exponential(16_777_215, 16_777_217, 3), 2);
-    fail_at(rt, exponential(4_294_967_296, 4_294_967_296, 2), 1);
-    fail_at(rt, exponential(TOP + 1, 2, 3), 0);
+    for (start, factor, count, wanted) in &EXPONENTIAL {
+        is(&rt, &exponential(*start, *factor, *count), *wanted);
+    }
 }

@@ -1,5 +1,5 @@
 //! What recorders refuse: handles that are none of their board, and too much. Nothing is counted then.
-use super::{Counts, Names, Team, opened_to_count, prints};
+use super::{Counts, Names, Tried, prints, try_out};
 use crate::asserts::{need, same};
 use crate::crew::ID;
 use dirgwako::{ApplyFault, Change, CountFault, Counter, OpFault, Registrar, inc};
@@ -59,7 +59,7 @@ fn refuses_changes(rt: &impl Abort, recorder: &mut Counts<'_>) {
 }
 
 /// A recorder refuses lists and changes, and a scrape shows that nothing is counted.
-fn refuses_all(
+pub(super) fn refuses_all(
     rt: &(impl Wait + Abort + AllocGlobal),
     registry: &Names<'_>,
     recorder: &mut Counts<'_>,
@@ -73,8 +73,5 @@ fn refuses_all(
 /// Nothing that a recorder refuses is counted.
 #[test]
 fn a_recorder_refuses(rt: HostRuntime) {
-    let rt = &rt;
-    let mut team = need(rt, Team::new(rt.alloc(), ID, 1));
-    let (registry, mut recorder) = opened_to_count(rt, &mut team);
-    refuses_all(rt, &registry, &mut recorder);
+    try_out(&rt, Tried::Refusals, 0);
 }

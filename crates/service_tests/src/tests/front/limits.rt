@@ -52,16 +52,18 @@ fn opened_once(rt: HostRuntime) {
     is_shut(rt, &mut team, 0, OpenFault::Opened, 32);
 }
 
-/// Each recorder has its place, and counts 1.
+/// Each recorder has its place, and counts 1 on the counter `a`.
 fn count<const N: usize, const C: usize, const H: usize, const G: usize>(
-    rt: &impl Abort,
+    rt: &(impl Wait + Abort + AllocGlobal),
+    registry: &Registry<'_, N, C, H, G>,
     recorders: &mut [Recorder<'_, N, C, H, G>],
-    counter: &Counter,
-) {
+) -> Counter {
+    let counter = need(rt, Registrar::new(rt, registry).counter("a", ""));
     for (at, recorder) in recorders.iter_mut().enumerate() {
         same(rt, recorder.index(), at);
-        need(rt, recorder.inc(counter, 1));
+        need(rt, recorder.inc(&counter, 1));
     }
+    counter
 }
 
 /// Each scanner finds so much of this counter.
@@ -85,13 +87,14 @@ fn the_greatest_crew(rt: HostRuntime) {
     let mut crew = need(rt, Crew::<32, 256, 32, 64>::new(rt.alloc(), u64::MAX, 4));
     let (registry, mut recorders, mut scanners) = need(rt, crew.open(1));
     same(rt, (recorders.len(), scanners.len()), (32, 3));
-    let counter = need(rt, Registrar::new(rt, &registry).counter("a", ""));
-    count(rt, &mut recorders, &counter);
+    let counter = count(rt, &registry, &mut recorders);
     scan(rt, rt.alloc(), &mut scanners, counter, 32);
 }
 
-/// A registry keeps the last two of its scrapes.
+/// A registry shows that 1 was counted, and keeps the last two of its scrapes.
 fn keeps_two<R: Abort + Wait>(rt: &R, registry: Registry<'_, 1, 1, 0, 0>) {
+    let text = need(rt, scrape_text(rt, &registry));
+    same(rt, text.as_slice(), b"# TYPE a counter\na 1\n".as_slice());
     need(rt, registry.scrape(rt));
     need(rt, registry.scrape(rt));
     same(rt, registry.into_state().kept().len(), 2);
@@ -103,9 +106,6 @@ fn the_least_crew(rt: HostRuntime) {
     let mut crew = need(rt, Crew::<1, 1, 0, 0>::new(rt.alloc(), 0, 1));
     let (registry, mut recorders, scanners) = need(rt, crew.open(2));
     same(rt, (recorders.len(), scanners.len()), (1, 0));
-    let counter = need(rt, Registrar::new(rt, &registry).counter("a", ""));
-    count(rt, &mut recorders, &counter);
-    let text = need(rt, scrape_text(rt, &registry));
-    same(rt, text.as_slice(), b"# TYPE a counter\na 1\n".as_slice());
+    count(rt, &registry, &mut recorders);
     keeps_two(rt, registry);
 }

@@ -1,5 +1,5 @@
 //! Metrics that are refused: which text it was, at which place, and by which number.
-use super::{Names, Team, opened, prints};
+use super::{Names, Tried, new_team, opened, prints, try_out};
 use crate::asserts::{need, same};
 use crate::crew::ID;
 use dirgwako::{
@@ -28,20 +28,33 @@ fn refuses_text<S: Registers>(
     is_refused(rt, got, fault, number);
 }
 
-/// Names and helps; the name is read first.
+/// Names and helps, of which the name is read first, and why they are refused, by which number.
+const TEXTS: [(&str, &str, FamilyRefusal, u8); 3] = [
+    ("", " x", FamilyRefusal::Name(MetricNameFault::Empty), 1),
+    (
+        "a-b",
+        "",
+        FamilyRefusal::Name(MetricNameFault::BadByte { at: 1 }),
+        2,
+    ),
+    ("a", " x", FamilyRefusal::Help(HelpTextFault::EdgeBlank), 5),
+];
+
+/// Why a name is too long,
+const LONG_NAME: FamilyRefusal = FamilyRefusal::Name(MetricNameFault::TooLong { limit: 128 });
+
+/// and a help.
+const LONG_HELP: FamilyRefusal = FamilyRefusal::Help(HelpTextFault::TooLong { limit: 1_024 });
+
+/// Names and helps.
 fn refuses_texts<S: Registers>(rt: &(impl Abort + AllocGlobal), metrics: &mut Registrar<S>) {
-    let empty = FamilyRefusal::Name(MetricNameFault::Empty);
-    refuses_text(rt, metrics, ("", " x"), empty, 1);
-    let bad = FamilyRefusal::Name(MetricNameFault::BadByte { at: 1 });
-    refuses_text(rt, metrics, ("a-b", ""), bad, 2);
+    for (name, help, fault, number) in &TEXTS {
+        refuses_text(rt, metrics, (name, help), *fault, *number);
+    }
     let name = need(rt, "a".repeat(rt.alloc(), 129));
-    let long = FamilyRefusal::Name(MetricNameFault::TooLong { limit: 128 });
-    refuses_text(rt, metrics, (&name, ""), long, 3);
+    refuses_text(rt, metrics, (&name, ""), LONG_NAME, 3);
     let help = need(rt, "a".repeat(rt.alloc(), 1_025));
-    let long = FamilyRefusal::Help(HelpTextFault::TooLong { limit: 1_024 });
-    refuses_text(rt, metrics, ("a", &help), long, 3);
-    let blank = FamilyRefusal::Help(HelpTextFault::EdgeBlank);
-    refuses_text(rt, metrics, ("a", " x"), blank, 5);
+    refuses_text(rt, metrics, ("a", &help), LONG_HELP, 3);
 }
 
 /// A family of these labels is refused for the one at this place.
@@ -57,28 +70,21 @@ fn refuses_label<S: Registers>(
     is_refused(rt, got, FamilyRefusal::Label { at, fault }, number);
 }
 
+/// Labels, and the one that is refused, why and by which number.
+const LABELS: [(&[&str], usize, LabelNameFault, u8); 3] = [
+    (&["", "-"], 0, LabelNameFault::Empty, 1),
+    (&["a", "b:c"], 1, LabelNameFault::BadByte { at: 1 }, 2),
+    (&["a", "__b"], 1, LabelNameFault::Reserved, 4),
+];
+
 /// Labels one by one, from the first on.
 fn refuses_a_label<S: Registers>(rt: &(impl Abort + AllocGlobal), metrics: &mut Registrar<S>) {
-    refuses_label(rt, metrics, &["", "-"], 0, LabelNameFault::Empty, 1);
-    let bad = LabelNameFault::BadByte { at: 1 };
-    refuses_label(rt, metrics, &["a", "b:c"], 1, bad, 2);
+    for (labels, at, fault, number) in &LABELS {
+        refuses_label(rt, metrics, labels, *at, *fault, *number);
+    }
     let long = need(rt, "l".repeat(rt.alloc(), 129));
     let fault = LabelNameFault::TooLong { limit: 128 };
     refuses_label(rt, metrics, &["a", &long], 1, fault, 3);
-    refuses_label(rt, metrics, &["a", "__b"], 1, LabelNameFault::Reserved, 4);
-}
-
-/// A histogram of these labels and bounds is refused so.
-fn refuses_histogram<S: Registers>(
-    rt: &impl Abort,
-    metrics: &mut Registrar<S>,
-    labels: &[&str],
-    bounds: &[u64],
-    fault: HistogramFault,
-    number: u8,
-) {
-    let got = metrics.histogram_family("h", "", labels, bounds).err();
-    is_refused(rt, got, FamilyRefusal::Histogram(fault), number);
 }
 
 /// Nine labels.
@@ -87,22 +93,45 @@ const NINE: [&str; 9] = ["a", "b", "c", "d", "e", "f", "g", "h", "i"];
 /// Bounds of which the second one does not rise.
 const LEVEL: [u64; 3] = [1, 1, 2];
 
-/// Labels together, of a gauge and a histogram, and bounds.
-fn refuses_shapes<S: Registers>(rt: &impl Abort, metrics: &mut Registrar<S>) {
-    let many = LabelsFault::TooManyLabels;
+/// Labels and bounds of histograms, why they are refused, and by which number.
+const HISTOGRAMS: [(&[&str], &[u64], HistogramFault, u8); 4] = [
+    (
+        &NINE,
+        &LEVEL,
+        HistogramFault::Labels(LabelsFault::TooManyLabels),
+        9,
+    ),
+    (&["a", "le"], &LEVEL, HistogramFault::LeOnHistogram, 8),
+    (
+        &["a"],
+        &LEVEL,
+        HistogramFault::Bounds(BadBounds { at: 1 }),
+        10,
+    ),
+    (
+        &["a"],
+        &[1, 2, 281_474_976_710_656],
+        HistogramFault::Bounds(BadBounds { at: 2 }),
+        10,
+    ),
+];
+
+/// Labels and bounds of histograms.
+fn refuses_histograms<S: Registers>(rt: &impl Abort, metrics: &mut Registrar<S>) {
+    for (labels, bounds, fault, number) in &HISTOGRAMS {
+        let got = metrics.histogram_family("h", "", labels, bounds).err();
+        is_refused(rt, got, FamilyRefusal::Histogram(*fault), *number);
+    }
+}
+
+/// Labels together, of a gauge and a counter.
+fn refuses_labels<S: Registers>(rt: &impl Abort, metrics: &mut Registrar<S>) {
+    let many = FamilyRefusal::Labels(LabelsFault::TooManyLabels);
     let got = metrics.gauge_family("g", "", &NINE).err();
-    is_refused(rt, got, FamilyRefusal::Labels(many), 9);
-    let twice = LabelsFault::DuplicateLabel { at: 2 };
+    is_refused(rt, got, many, 9);
+    let twice = FamilyRefusal::Labels(LabelsFault::DuplicateLabel { at: 2 });
     let got = metrics.counter_family("c", "", &["a", "b", "a"]).err();
-    is_refused(rt, got, FamilyRefusal::Labels(twice), 7);
-    refuses_histogram(rt, metrics, &NINE, &LEVEL, HistogramFault::Labels(many), 9);
-    let le = HistogramFault::LeOnHistogram;
-    refuses_histogram(rt, metrics, &["a", "le"], &LEVEL, le, 8);
-    let bad = HistogramFault::Bounds(BadBounds { at: 1 });
-    refuses_histogram(rt, metrics, &["a"], &LEVEL, bad, 10);
-    let bad = HistogramFault::Bounds(BadBounds { at: 2 });
-    let large = [1, 2, 281_474_976_710_656];
-    refuses_histogram(rt, metrics, &["a"], &large, bad, 10);
+    is_refused(rt, got, twice, 7);
 }
 
 /// The names of samples of a histogram `h`.
@@ -133,10 +162,14 @@ fn fills_up<S: Registers>(rt: &(impl Abort + AllocGlobal), metrics: &mut Registr
 }
 
 /// Families are refused for each of their texts and shapes, for names that are taken, and where there are too many.
-fn refuses_families<S: Registers>(rt: &(impl Abort + AllocGlobal), metrics: &mut Registrar<S>) {
+pub(super) fn refuses_families<S: Registers>(
+    rt: &(impl Abort + AllocGlobal),
+    metrics: &mut Registrar<S>,
+) {
     refuses_texts(rt, metrics);
     refuses_a_label(rt, metrics);
-    refuses_shapes(rt, metrics);
+    refuses_labels(rt, metrics);
+    refuses_histograms(rt, metrics);
     refuses_shared_names(rt, metrics);
     fills_up(rt, metrics);
 }
@@ -144,10 +177,7 @@ fn refuses_families<S: Registers>(rt: &(impl Abort + AllocGlobal), metrics: &mut
 /// Families are refused for each fault by its number, and register nothing.
 #[test]
 fn families(rt: HostRuntime) {
-    let rt = &rt;
-    let mut team = need(rt, Team::new(rt.alloc(), ID, 1));
-    let registry = opened(rt, &mut team, 64);
-    refuses_families(rt, &mut Registrar::new(rt, &registry));
+    try_out(&rt, Tried::Families, 0);
 }
 
 /// These label values are refused so, by this number.
@@ -173,10 +203,9 @@ fn refuses_children<S: Registers>(rt: &(impl Abort + AllocGlobal), metrics: &mut
     let (want, got) = (2, 1);
     let count = ChildRefusal::Child(ChildFault::LabelCount { want, got });
     refuses_values(rt, metrics, family, &["x"], count, 21);
-    need(rt, metrics.counter_of(family, &["x", "1"]));
-    need(rt, metrics.counter_of(family, &["x", "2"]));
-    need(rt, metrics.counter_of(family, &["x", "3"]));
-    need(rt, metrics.counter_of(family, &["x", "4"]));
+    for value in ["1", "2", "3", "4"] {
+        need(rt, metrics.counter_of(family, &["x", value]));
+    }
     refuses_values(rt, metrics, family, &["x", "5"], FULL, 22);
 }
 
@@ -203,7 +232,7 @@ const CHILDREN: &str = "# TYPE c counter\nc{a=\"x\",b=\"1\"} 0\nc{a=\"x\",b=\"2\
      c{a=\"x\",b=\"3\"} 0\nc{a=\"x\",b=\"4\"} 0\n# TYPE g gauge\ng 0\n";
 
 /// Children are refused for their values and where there are too many, and a scrape shows those that are not.
-fn shows_children(rt: &(impl Wait + Abort + AllocGlobal), registry: &Names<'_>) {
+pub(super) fn shows_children(rt: &(impl Wait + Abort + AllocGlobal), registry: &Names<'_>) {
     let mut metrics = Registrar::new(rt, registry);
     refuses_children(rt, &mut metrics);
     refuses_a_metric(rt, &mut metrics);
@@ -213,10 +242,7 @@ fn shows_children(rt: &(impl Wait + Abort + AllocGlobal), registry: &Names<'_>) 
 /// Children are refused for each fault by its number, and a scrape shows the others.
 #[test]
 fn children(rt: HostRuntime) {
-    let rt = &rt;
-    let mut team = need(rt, Team::new(rt.alloc(), ID, 1));
-    let registry = opened(rt, &mut team, 64);
-    shows_children(rt, &registry);
+    try_out(&rt, Tried::Children, 0);
 }
 
 /// A registry whose families are one of gauges and one of counters refuses a family of counters so, by this number.
@@ -240,7 +266,7 @@ fn asks_another(
     refusal: (ChildRefusal, u8),
     shown: &str,
 ) {
-    let mut team = need(rt, Team::new(rt.alloc(), id, 1));
+    let mut team = new_team(rt, rt.alloc(), id);
     let registry = opened(rt, &mut team, 1);
     refuses_a_family(rt, &mut Registrar::new(rt, &registry), family, refusal);
     prints(rt, &registry, shown);
@@ -261,7 +287,7 @@ fn two_families<S: Registers>(
 #[test]
 fn a_family_of_another_board(rt: HostRuntime) {
     let rt = &rt;
-    let mut team = need(rt, Team::new(rt.alloc(), ID, 1));
+    let mut team = new_team(rt, rt.alloc(), ID);
     let registry = opened(rt, &mut team, 1);
     let (first, second) = two_families(rt, &mut Registrar::new(rt, &registry));
     let shown = "# TYPE g gauge\ng 0\n";

@@ -1,12 +1,12 @@
 //! Connections that a server answers, whoever comes between them.
-use super::{Names, Team};
+use super::{Names, new_team, opened};
 use crate::asserts::{need, same, there};
 use crate::crew::ID;
 use crate::tests::clients::{Step, connect, play};
 use crate::tests::ends::{MISSING, OK_A};
 use dirgwako::{Answered, Registrar, listen, port_of, serve, serve_forever};
 use std::alloc::Global;
-use std::io::{ErrorKind, Write};
+use std::io::{self, ErrorKind, Write};
 use std::net::{Net, TcpListener, TcpStream};
 use std::process::Abort;
 use std::sync::Wait;
@@ -93,18 +93,12 @@ where
     same(rt, need(rt, answered), Answered { replies, faults });
 }
 
-/// A registry with the counter `a`.
-fn register(rt: &(impl Wait + Abort + AllocGlobal), registry: &Names<'_>) {
-    need(rt, Registrar::new(rt, registry).counter("a", ""));
-}
-
-#[test]
-fn whoever_comes(rt: HostRuntime) {
-    let rt = &rt;
-    let mut team = need(rt, Team::new(rt.alloc(), ID, 1));
-    let (registry, _, _) = need(rt, team.open(64));
-    register(rt, &registry);
-    serves(rt, rt.alloc(), &registry);
+/// A server ends by an error of this kind.
+fn ends_by<V: Drop>(rt: &impl Abort, end: io::Result<V>, kind: ErrorKind) {
+    match end {
+        Ok(_) => rt.panic("no error"),
+        Err(error) => same(rt, error.kind(), kind),
+    }
 }
 
 /// A listener that is not waited for fails at once where nobody has come.
@@ -124,41 +118,76 @@ where
         },
     );
     are(rt, &got, &[OK_A]);
-    same(
-        rt,
-        end.err().map(|error| error.kind()),
-        Some(ErrorKind::WouldBlock),
-    );
-}
-
-/// The server asks such a listener again, and after 64 failures in a row, some six seconds, it ends.
-#[test]
-fn a_listener_that_fails(rt: HostRuntime) {
-    let rt = &rt;
-    let mut team = need(rt, Team::new(rt.alloc(), ID, 1));
-    let (registry, _, _) = need(rt, team.open(64));
-    register(rt, &registry);
-    listens_in_vain(rt, rt.alloc(), &registry);
+    ends_by(rt, end, ErrorKind::WouldBlock);
 }
 
 /// No patience at all is refused before a connection is accepted, of which there is none.
-#[test]
-fn no_patience(rt: HostRuntime) {
-    let rt = &rt;
-    let mut team = need(rt, Team::new(rt.alloc(), ID, 1));
-    let (registry, _, _) = need(rt, team.open(64));
+fn has_no_patience<T>(rt: &T, registry: &Names<'_>)
+where
+    T: Abort + Clock + Threads + Wait + Sync + Net<Listener = TcpListener, Stream = TcpStream>,
+{
     let listener = need(rt, listen(rt, 0));
     let none = Duration::from_secs(0);
-    let end = serve(rt, &listener, &registry, none, 1);
-    same(
-        rt,
-        end.map_err(|error| error.kind()),
-        Err(ErrorKind::InvalidInput),
-    );
-    let end = serve_forever(rt, &listener, &registry, none);
-    same(
-        rt,
-        end.map_err(|error| error.kind()),
-        Err(ErrorKind::InvalidInput),
-    );
+    let invalid = ErrorKind::InvalidInput;
+    ends_by(rt, serve(rt, &listener, registry, none, 1), invalid);
+    ends_by(rt, serve_forever(rt, &listener, registry, none), invalid);
+}
+
+/// How a server is visited.
+#[derive(Clone, Copy)]
+enum Visited {
+    ByAnybody,
+    InVain,
+    WithoutPatience,
+}
+
+/// A server is visited so.
+fn visits<T>(rt: &T, visited: Visited, registry: &Names<'_>)
+where
+    T: Abort
+        + AllocGlobal
+        + Clock
+        + Threads
+        + Wait
+        + Sync
+        + Net<Listener = TcpListener, Stream = TcpStream>,
+{
+    need(rt, Registrar::new(rt, registry).counter("a", ""));
+    match visited {
+        Visited::ByAnybody => serves(rt, rt.alloc(), registry),
+        Visited::InVain => listens_in_vain(rt, rt.alloc(), registry),
+        Visited::WithoutPatience => has_no_patience(rt, registry),
+    }
+}
+
+/// A server of a registry with the counter `a` is visited so.
+fn is_visited<T>(rt: &T, visited: Visited)
+where
+    T: Abort
+        + AllocGlobal
+        + Clock
+        + Threads
+        + Wait
+        + Sync
+        + Net<Listener = TcpListener, Stream = TcpStream>,
+{
+    let mut team = new_team(rt, rt.alloc(), ID);
+    let registry = opened(rt, &mut team, 64);
+    visits(rt, visited, &registry);
+}
+
+#[test]
+fn whoever_comes(rt: HostRuntime) {
+    is_visited(&rt, Visited::ByAnybody);
+}
+
+/// The server asks a listener again that does not wait, and after 64 failures in a row, some six seconds, it ends.
+#[test]
+fn a_listener_that_fails(rt: HostRuntime) {
+    is_visited(&rt, Visited::InVain);
+}
+
+#[test]
+fn no_patience(rt: HostRuntime) {
+    is_visited(&rt, Visited::WithoutPatience);
 }

@@ -1,6 +1,6 @@
 //! Families with labels of each kind, what is counted, and what a scrape prints, which is written here by the format's rules: families by
 //! their names, children by their label values, a histogram's buckets with those below them.
-use super::{Counts, Names, Team, opened_to_count, prints};
+use super::{Counts, Names, Tried, prints, try_out};
 use crate::asserts::{need, same};
 use crate::crew::ID;
 use crate::helpers::{self, Plain, plain};
@@ -98,7 +98,7 @@ z_count 0
 "#;
 
 /// All families are registered and counted, and a scrape shows them.
-fn counts_and_shows(
+pub(super) fn counts_and_shows(
     rt: &(impl Wait + Abort + AllocGlobal),
     registry: &Names<'_>,
     recorder: &mut Counts<'_>,
@@ -108,15 +108,10 @@ fn counts_and_shows(
     prints(rt, registry, SHOWN);
 }
 
-/// A scrape shows what was counted of each kind, and the recorder is the second worker, which has published seven times.
+/// A scrape shows what was counted of each kind, by seven versions.
 #[test]
 fn metrics_of_each_kind(rt: HostRuntime) {
-    let rt = &rt;
-    let mut team = need(rt, Team::new(rt.alloc(), ID, 1));
-    let (registry, mut recorder) = opened_to_count(rt, &mut team);
-    counts_and_shows(rt, &registry, &mut recorder);
-    let worker = recorder.into_worker();
-    same(rt, (worker.index(), worker.number()), (1, 7));
+    try_out(&rt, Tried::EachKind, 7);
 }
 
 /// A child of a family of counters is the first counter.

@@ -1,5 +1,5 @@
 //! Tallies that recorders publish: no scrape sees what stands in one, and then all of it; and which are refused.
-use super::{Counts, Names, Team, opened_to_count, prints};
+use super::{Counts, Names, Tried, prints, try_out};
 use crate::asserts::{need, same};
 use crate::crew::ID;
 use dirgwako::{ApplyFault, CountFault, Counter, OpFault, Registrar, Tally};
@@ -16,7 +16,7 @@ const NOTHING: &str = "# TYPE a counter\na 0\n# TYPE b gauge\nb 0\n";
 const THREE: &str = "# TYPE a counter\na 3\n# TYPE b gauge\nb -2\n";
 
 /// A recorder publishes what a tally has in one version, and a scrape shows it from then on.
-fn publishes(
+pub(super) fn publishes(
     rt: &(impl Wait + Abort + AllocGlobal),
     registry: &Names<'_>,
     recorder: &mut Counts<'_>,
@@ -38,14 +38,11 @@ fn publishes(
 
 #[test]
 fn a_tally_is_one_version(rt: HostRuntime) {
-    let rt = &rt;
-    let mut team = need(rt, Team::new(rt.alloc(), ID, 1));
-    let (registry, mut recorder) = opened_to_count(rt, &mut team);
-    publishes(rt, &registry, &mut recorder);
+    try_out(&rt, Tried::Tally, 1);
 }
 
 /// A tally of another registry is not published, nor what would be too large; it has then what it had.
-fn refuses(rt: &impl Abort, recorder: &mut Counts<'_>) {
+pub(super) fn refuses(rt: &impl Abort, recorder: &mut Counts<'_>) {
     let mut other = Tally::<4, 2, 2, 8>::new(ID + 1);
     let fault = CountFault::WrongRegistry;
     same(rt, recorder.flush(&mut other), Err(fault));
@@ -65,8 +62,5 @@ fn refuses(rt: &impl Abort, recorder: &mut Counts<'_>) {
 
 #[test]
 fn a_tally_is_refused(rt: HostRuntime) {
-    let rt = &rt;
-    let mut team = need(rt, Team::new(rt.alloc(), ID, 1));
-    let (_registry, mut recorder) = opened_to_count(rt, &mut team);
-    refuses(rt, &mut recorder);
+    try_out(&rt, Tried::TallyRefused, 1);
 }
