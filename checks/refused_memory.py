@@ -108,14 +108,16 @@ fn {test}_at_{number}(rt: HostRuntime) -> Result<(), Fail> {{
 
 
 def remove_other_tests(crate, growth):
-    """Removes the modules that have tests, all but that of growths."""
+    """Removes the modules that have tests, or modules with tests, all but that of growths."""
     for path in [*crate.rglob("*.rt")]:
-        if path == growth or "#[test]" not in path.read_text():
+        within = path.with_suffix("")
+        if path == growth or not path.is_file() or not any("#[test]" in it.read_text() for it in [path, *within.rglob("*.rt")]):
             continue
         above = [path.parent / "lib.rt", path.parent.with_suffix(".rt")]
         for module in (it for it in above if it.is_file()):
             module.write_text(re.sub(rf"(#\[cfg\(test\)\]\n)?mod {path.stem};\n", "", module.read_text()))
         path.unlink()
+        shutil.rmtree(within, ignore_errors=True)
 
 
 def outcomes(said):
