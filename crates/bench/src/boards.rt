@@ -1,295 +1,331 @@
 //! Updates and scans of a board: of one worker, while nobody else publishes, and of four at once.
-ghost use Rattle.std.specs.Prelude.{◌<◌};
+ghost use Rattle.std.specs.Prelude.{◌<◌, All};
 ghost use Rattle.std.proofs.Props.{props};
 ghost use Rattle.snapshot_update.specs.Workers.{IsWorkerOf};
 
-use crate::measuring::{Floor, Lines, four_updates, nanos_since, timed, timed_each};
-use crate::registries::{CHILDREN, ID};
+use crate::counting::{Counting, Counts, Does, by_four};
+use crate::floors::{Floor, Steps};
+use crate::measuring::{Lines, Work, timed};
+use crate::registries::ID;
 use anyhow::{Context, Result, bail};
-use dirgwako::{
-    Board, Bounds, Change, Counter, Crew, Histogram, Op, Recorder, ServiceRuntime, Snapshot,
-    Worker, inc, observe,
-};
+use dirgwako::{Board, Crew, Op, Recorder, Registry, ServiceRuntime, Snapshot, Worker};
 use snapshot_scan::Source;
-use std::array;
-use std::thread::{Threads, map_vec};
-use std::time::{Clock, Instant};
+use std::time::Clock;
 
-/// What counts: a recorder, whatever its board.
-pub trait Counts {
-    fn raise(&mut self, slot: usize) -> Option<()>;
+/// A measurement by a worker: its name, what the worker makes, and how many words its floor stores.
+type Row = (&'static str, Does, usize);
 
-    fn watch(&mut self, hist: &Histogram, value: u64) -> Option<()>;
-}
-
-/// What publishes lists.
-pub trait Applies {
-    fn apply(&mut self, ops: [Op; CHILDREN]) -> Option<()>;
-}
-
-impl<const N: usize, const C: usize, const H: usize, const G: usize> Counts
-    for Recorder<'_, N, C, H, G> {
-    fn raise(&mut self, slot: usize) -> Option<()> {
-        let registry = ID;
-        self.inc(&Counter { registry, slot }, 1).ok()
-    }
-
-    fn watch(&mut self, hist: &Histogram, value: u64) -> Option<()> {
-        self.observe(hist, value).ok()
-    }
-}
-
-impl<const N: usize, const C: usize, const H: usize, const G: usize> Applies
-    for Recorder<'_, N, C, H, G> {
-    fn apply(&mut self, ops: [Op; CHILDREN]) -> Option<()> {
-        let registry = ID;
-        self.publish(&ops.map(|op| Change { registry, op })).ok()
-    }
-}
-
-/// A recorder that publishes the same ten changes again and again, or the first one of them alone if `is_one` says so.
+/// A worker with its board, which publishes the same list again and again.
 #[derive(Drop)]
-struct Publishing<'a, const N: usize, const C: usize, const H: usize, const G: usize> {
-    recorder: Recorder<'a, N, C, H, G>,
-    changes: [Change; 10],
-    is_one: bool,
-}
-
-impl<const N: usize, const C: usize, const H: usize, const G: usize> Counts
-    for Publishing<'_, N, C, H, G> {
-    fn raise(&mut self, _slot: usize) -> Option<()> {
-        if self.is_one {
-            return self.recorder.publish(&[self.changes[0]]).ok();
-        }
-        self.recorder.publish(&self.changes).ok()
-    }
-
-    fn watch(&mut self, hist: &Histogram, value: u64) -> Option<()> {
-        self.recorder.observe(hist, value).ok()
-    }
-}
-
-/// A worker with its board, which publishes lists of any length.
-#[derive(Drop)]
-struct Lists<'a, const N: usize, const C: usize, const H: usize, const G: usize> {
+struct Listing<'a, const N: usize, const C: usize, const H: usize, const G: usize> {
     board: &'a Board<N, C, H, G>,
     worker: Worker<N, C, H, G>,
+    ops: [Op; 100],
     ghost own: { IsWorkerOf board.now worker } by { Prim.hlevel props },
 }
 
-impl<const N: usize, const C: usize, const H: usize, const G: usize> Lists<'_, N, C, H, G> {
-    /// Publishes a list.
-    fn apply(&mut self, ops: &[Op]) -> Option<()> {
-        self.worker.apply(self.board, ops).ok()
+impl<'a, const N: usize, const C: usize, const H: usize, const G: usize> Listing<'a, N, C, H, G> {
+    /// A worker of this board.
+    fn new(board: &'a Board<N, C, H, G>, worker: Worker<N, C, H, G>) -> Listing<'a, N, C, H, G>
+        requires { IsWorkerOf board.now worker }
+    {
+        let ops = list(C);
+        Listing { board, worker, ops }
     }
+}
+
+impl<const N: usize, const C: usize, const H: usize, const G: usize> Work
+    for Listing<'_, N, C, H, G> {
+    fn repeat(&mut self, rounds: u64) -> Option<()> {
+        for _round in 0..rounds {
+            self.worker.apply(self.board, &self.ops).ok()?;
+        }
+        Some(())
+    }
+}
+
+/// A source, and memory for its scans.
+#[derive(Drop)]
+pub struct Scanning<'a, S, const N: usize, const C: usize, const H: usize, const G: usize> {
+    pub source: &'a mut S,
+    pub out: &'a mut Snapshot<N, C, H, G>,
+}
+
+impl<S: Source<N, C, H, G>, const N: usize, const C: usize, const H: usize, const G: usize> Work
+    for Scanning<'_, S, N, C, H, G> {
+    fn repeat(&mut self, rounds: u64) -> Option<()> {
+        for _round in 0..rounds {
+            self.source.scan(self.out).ok()?;
+        }
+        Some(())
+    }
+}
+
+/// The list of 100 increments by 1 of so many counters in turn.
+fn list(counters: usize) -> [Op; 100] {
+    let mut ops = [Op::Inc { counter: 0, by: 1 }; 100];
+    for place in 0..100 {
+        let (counter, by) = (place % counters.max(1), 1);
+        ops[place] = Op::Inc { counter, by };
+    }
+    ops
 }
 
 /// Each of these publishes one version.
-fn publish(workers: &mut [impl Counts]) -> Option<()> {
+fn raise_each(workers: &mut [impl Counts]) -> Option<()> {
     for worker in workers {
-        worker.raise(0)?;
+        worker.raise()?;
     }
     Some(())
-}
-
-/// So many increments of the first counter.
-fn raise_often(worker: &mut impl Counts, rounds: u64) -> Option<()> {
-    for _round in 0..rounds {
-        worker.raise(0)?;
-    }
-    Some(())
-}
-
-/// The first four count at once, each on a thread of its own. It gives the nanoseconds until all have ended.
-pub fn four_count<W: Counts + Send + Drop>(
-    rt: &(impl Threads + Clock + Sync),
-    mut workers: Vec<W>,
-    rounds: u64,
-) -> Result<u64> {
-    workers.truncate(4);
-    let start = Instant::now(rt)?;
-    for counted in map_vec(
-        rt,
-        workers,
-        &|mut worker: W| raise_often(&mut worker, rounds),
-    )? {
-        counted.context("a worker refused")?;
-    }
-    nanos_since(rt, start)
 }
 
 impl<R: ServiceRuntime> Lines<'_, R> {
-    /// Updates of one of so many workers, beside a floor that stores so many words.
-    fn update<F: FnMut(u64) -> Option<()>>(
+    /// An operation beside a floor of these steps, of so many workers and words.
+    fn beside(
         &self,
         name: &str,
         part: u64,
+        steps: Steps,
         all: usize,
         words: usize,
-        operation: F,
+        operation: &mut impl Work,
     ) -> Result<()>
-        requires part { 0 < part }
-        requires operation { (state : F) (x : _) → F.pre state x }
+        requires { 0 < part }
     {
-        let floor = Floor::new(self.rt.alloc(), all, words, 0)?;
-        self.measure(name, part, |k| floor.update(k), operation)
+        let floor = &mut Floor::new(self.rt.alloc(), steps, all, words, 0)?;
+        self.measure(name, part, floor, operation)
     }
 
-    /// Updates by one of so many workers. A buffer is two versions old when it is filled, so that where all counters are taken in
-    /// turn, two words of the row and two totals differ from it.
-    fn updates(&self, worker: &mut impl Counts, all: usize, counters: usize) -> Result<()> {
-        self.update("inc_one_counter", 10, all, 3, |_| worker.raise(0))?;
-        let in_turn = |round| worker.raise(round as usize % counters.max(1));
-        self.update("inc_in_turn", 10, all, 5, in_turn)?;
-        let hist = Histogram {
-            registry: ID,
-            slot: 0,
-            bounds: Bounds::from_slice(&[5, 10, 25, 50, 100, 250, 500, 1_000, 2_500, 5_000])?,
-        };
-        self.update("observe", 10, all, 7, |_| worker.watch(&hist, 7))
-    }
-
-    /// Lists of 100 increments by 1 of all counters in turn, by a worker of a new board, of which a word and a total of each counter
-    /// differ.
-    fn lists<const N: usize, const C: usize, const H: usize, const G: usize>(&self) -> Result<()> {
-        let alloc = self.rt.alloc();
-        let crew = snapshot_update::Crew::<N, C, H, G>::new(alloc, ID, 1)?;
-        let (made, mut workers) = (crew.board, crew.workers);
-        let board = &made;
-        let Some(worker) = workers.pop() else {
-            bail!("no worker")
-        };
-        let mut lists = Lists { board, worker };
-        let ops: [Op; 100] = array::from_fn(|place| {
-            let (counter, by) = (place % C.max(1), 1);
-            Op::Inc { counter, by }
-        });
-        let words = 2 * C.min(100) + 1;
-        self.update("apply_100", 100, N, words, |_| lists.apply(&ops))
-    }
-
-    /// Scans of a board of rows of so many words: where nobody publishes, and where the first workers have published before each.
-    fn scans<F: FnMut(u64) -> Option<()>>(
+    /// What one of the `N` workers of a board makes, beside its floor.
+    fn row<const N: usize, const C: usize, const H: usize, const G: usize>(
         &self,
-        workers: &mut [impl Counts],
-        mut scan: F,
-        words: usize,
+        worker: &mut Recorder<'_, N, C, H, G>,
+        part: u64,
+        steps: Steps,
+        row: &Row,
     ) -> Result<()>
-        requires { (state : F) (x : _) → F.pre state x }
+        requires { 0 < part }
     {
-        let (rt, all) = (self.rt, workers.len());
-        let copied = words.saturating_add(all);
-        let floor = &mut Floor::new(rt.alloc(), all, 0, copied)?;
-        self.measure("scan_quiet", 10, |_| floor.scan(), |_| scan(0))?;
-        for moved in [1, 4, 16] {
-            if let Some(moving) = workers.get_mut(..moved) {
-                let read = words.saturating_mul(moved);
-                let floor = &mut Floor::new(rt.alloc(), all, read, copied)?;
-                self.scans_after(moving, &mut scan, floor)?;
-            }
+        let (name, does, words) = *row;
+        let counting = &mut Counting::new(worker, does)?;
+        self.beside(name, part, steps, N, words, counting)
+    }
+
+    /// What the first of the `N` workers of a board makes, each beside its floor.
+    fn by_one<const N: usize, const C: usize, const H: usize, const G: usize>(
+        &self,
+        workers: &mut [Recorder<'_, N, C, H, G>],
+        part: u64,
+        steps: Steps,
+        rows: &[Row],
+    ) -> Result<()>
+        requires { 0 < part }
+    {
+        let worker = workers.first_mut().context("no worker")?;
+        for row in rows {
+            self.row(worker, part, steps, row)?;
         }
         Ok(())
     }
 
-    /// Scans of which each is made after these workers have published.
-    fn scans_after<F: FnMut(u64) -> Option<()>>(
+    /// What these workers make, of which four work at once. There is one batch: a worker whose scan meets numbers that move reads rows
+    /// and tries again.
+    fn busy(
         &self,
-        moving: &mut [impl Counts],
-        scan: &mut F,
-        floor: &mut Floor,
+        name: &str,
+        part: u64,
+        steps: Steps,
+        workers: Vec<impl Counts + Send + Drop>,
+        does: Does,
     ) -> Result<()>
-        requires { (state : F) (x : _) → F.pre state x }
+        requires { 0 < part }
     {
-        let rt = self.rt;
-        let name = format!(in rt.alloc(); "scan_moved_{}", moving.len())?;
-        let least = |rounds| timed(rt, rounds, &mut |_| floor.scan());
-        let batch = |rounds|
-            requires { (state : F) (x : _) → F.pre state x }
-        {
-            let make = &mut |_| publish(moving);
-            timed_each(rt, rounds, make, &mut |()| scan(0))
-        };
-        self.batches(name.as_str(), 1_000, least, batch)
+        let (rt, rounds) = (self.rt, self.one_in(part));
+        let floor = Floor::new(rt.alloc(), steps, workers.len(), 12, 0)?.by_four(rt, rounds)?;
+        let taken = by_four(rt, workers, does, rounds)?;
+        self.line(name, rounds, taken, floor)
     }
 
-    /// Scans by the source of a registry, whose rows have so many words.
-    fn scanned<const N: usize, const C: usize, const H: usize, const G: usize>(
+    /// Lists of 100 increments by the last worker of a board, of which a word and a total of each counter differ.
+    fn listed<const N: usize, const C: usize, const H: usize, const G: usize>(
+        &self,
+        board: &Board<N, C, H, G>,
+        workers: &mut Vec<Worker<N, C, H, G>>,
+    ) -> Result<()>
+        requires { All (IsWorkerOf board.now) workers.old.items }
+    {
+        let words = 2 * C.min(100) + 1;
+        let Some(worker) = workers.pop() else {
+            bail!("no worker")
+        };
+        let mut listing = Listing::new(board, worker);
+        self.beside("apply_100", 100, Steps::Update, N, words, &mut listing)
+    }
+
+    /// The same of a new board.
+    fn lists<const N: usize, const C: usize, const H: usize, const G: usize>(&self) -> Result<()> {
+        let crew = snapshot_update::Crew::<N, C, H, G>::new(self.rt.alloc(), ID, 1)?;
+        let (board, mut workers) = (crew.board, crew.workers);
+        self.listed(&board, &mut workers)
+    }
+
+    /// Scans of a board of so many workers and of rows of so many words, where nobody publishes.
+    fn scans_quiet(&self, all: usize, scanning: &mut impl Work, words: usize) -> Result<()> {
+        let copied = words.saturating_add(all);
+        let floor = &mut Floor::new(self.rt.alloc(), Steps::Scan, all, 0, copied)?;
+        self.measure("scan_quiet", 10, floor, scanning)
+    }
+
+    /// Scans of a board of rows of so many words: where nobody publishes, and where the first workers have published before each.
+    fn scans(
         &self,
         workers: &mut [impl Counts],
-        source: &mut impl Source<N, C, H, G>,
-        out: &mut Snapshot<N, C, H, G>,
+        scanning: &mut impl Work,
         words: usize,
     ) -> Result<()> {
-        self.scans(workers, |_| source.scan(out).ok(), words)
+        self.scans_quiet(workers.len(), scanning, words)?;
+        self.scans_after("scan_moved_1", 1, workers, scanning, words)?;
+        self.scans_after("scan_moved_4", 4, workers, scanning, words)?;
+        self.scans_after("scan_moved_16", 16, workers, scanning, words)
     }
 
-    /// Updates of so many workers, of which four count at once. There is one batch: a worker whose scan meets numbers that move reads
-    /// rows and tries again.
-    fn busy<W: Counts + Send + Drop>(&self, name: &str, workers: Vec<W>, all: usize) -> Result<()> {
-        let rounds = self.one_in(100);
-        let floor = four_updates(self.rt, all, rounds)?;
-        let taken = four_count(self.rt, workers, rounds)?;
-        self.line(name, rounds, taken, floor, None)
-    }
-
-    /// Publishes by the first of these, of whose buffer so many words differ, and then by all four at once.
-    fn publishing(
+    /// Scans of which each is made after so many workers have published; none where there are fewer.
+    fn scans_after(
         &self,
-        alone: &str,
-        busy: &str,
-        mut workers: Vec<impl Counts + Send + Drop>,
+        name: &str,
+        moved: usize,
+        workers: &mut [impl Counts],
+        scanning: &mut impl Work,
         words: usize,
     ) -> Result<()> {
-        let all = workers.len();
-        let first = workers.first_mut().context("no worker")?;
-        self.update(alone, 10, all, words, |_| first.raise(0))?;
-        self.busy(busy, workers, all)
+        let (alloc, all) = (self.rt.alloc(), workers.len());
+        let Some(moving) = workers.get_mut(..moved) else {
+            return Ok(());
+        };
+        let (read, copied) = (words.saturating_mul(moved), words.saturating_add(all));
+        let floor = &mut Floor::new(alloc, Steps::Scan, all, read, copied)?;
+        self.measure_after(name, moving, floor, scanning)
     }
 
-    /// The same changes again and again, by recorders of a new board; the first of them alone if `is_one` says so.
-    fn changing<const N: usize, const C: usize, const H: usize, const G: usize>(
+    /// Measures an operation that is made after these workers have published, and its floor, and prints the line.
+    fn measure_after(
         &self,
-        alone: &str,
-        busy: &str,
-        changes: [Change; 10],
-        is_one: bool,
-        words: usize,
+        name: &str,
+        moving: &mut [impl Counts],
+        floor: &mut Floor,
+        operation: &mut impl Work,
     ) -> Result<()> {
-        let alloc = self.rt.alloc();
-        let mut crew = Crew::<N, C, H, G>::new(alloc, ID, 1)?;
-        let (_registry, recorders, _) = crew.open(1)?;
-        let mut counting = Vec::with_capacity(alloc, recorders.len())?;
-        for recorder in recorders {
-            counting.push(Publishing {
-                recorder,
-                changes,
-                is_one,
-            })?;
+        let rounds = self.one_in(1_000);
+        let (mut least, mut taken) = (u64::MAX, u64::MAX);
+        for _batch in 0..10 {
+            least = least.min(timed(self.rt, rounds, floor)?);
+            taken = taken.min(timed_each(self.rt, rounds, moving, operation)?);
         }
-        self.publishing(alone, busy, counting, words)
+        self.line(name, rounds, taken, least)
+    }
+
+    /// What workers of a board make: one of them what each row says, and then four at once. It is as often as `parts` say.
+    fn counted_on<const N: usize, const C: usize, const H: usize, const G: usize>(
+        &self,
+        crew: &mut Crew<N, C, H, G>,
+        parts: (u64, u64),
+        steps: Steps,
+        rows: &[Row],
+        busy: (&'static str, Does),
+    ) -> Result<()>
+        requires { (0 < parts.0) × (0 < parts.1) }
+    {
+        let (_registry, mut recorders, _) = crew.open(1)?;
+        self.by_one(&mut recorders, parts.0, steps, rows)?;
+        self.busy(busy.0, parts.1, steps, recorders, busy.1)
+    }
+
+    /// The same of a new board.
+    fn counted<const N: usize, const C: usize, const H: usize, const G: usize>(
+        &self,
+        parts: (u64, u64),
+        steps: Steps,
+        rows: &[Row],
+        busy: (&'static str, Does),
+    ) -> Result<()>
+        requires { (0 < parts.0) × (0 < parts.1) }
+    {
+        let mut crew = Crew::<N, C, H, G>::new(self.rt.alloc(), ID, 1)?;
+        self.counted_on(&mut crew, parts, steps, rows, busy)
+    }
+
+    /// Counting in tallies of a new board.
+    pub fn tallies<const N: usize, const C: usize, const H: usize, const G: usize>(
+        &self,
+    ) -> Result<()> {
+        let rows = [
+            ("tally_inc", Does::TallyInc, 1),
+            ("tally_observe", Does::TallyObserve, 1),
+        ];
+        self.counted::<N, C, H, G>((1, 1), Steps::Add, &rows, ("tally_busy_4", Does::TallyInc))
+    }
+
+    /// Lists of changes of a new board, by one worker, whose floor stores so many words, and by four.
+    fn publishes<const N: usize, const C: usize, const H: usize, const G: usize>(
+        &self,
+        name: &'static str,
+        busy: &'static str,
+        does: Does,
+        words: usize,
+    ) -> Result<()> {
+        let rows = [(name, does, words)];
+        self.counted::<N, C, H, G>((10, 100), Steps::Update, &rows, (busy, does))
     }
 
     /// Lists of ten increments, of as many counters, and of ten observations, one in each bucket of a bound; and a single observation.
     pub fn published<const N: usize, const C: usize, const H: usize, const G: usize>(
         &self,
     ) -> Result<()> {
-        let values = [5, 10, 25, 50, 100, 250, 500, 1_000, 2_500, 5_000];
-        let hist = Histogram {
-            registry: ID,
-            slot: 0,
-            bounds: Bounds::from_slice(&values)?,
-        };
-        let raised: [Change; 10] = array::from_fn(|slot| inc(&Counter { registry: ID, slot }, 1));
-        self.changing::<N, C, H, G>("publish_10_inc", "busy_4_10_inc", raised, false, 21)?;
-        let observed = values.map(|value| observe(&hist, value));
-        self.changing::<N, C, H, G>(
-            "publish_10_observe",
-            "busy_4_10_observe",
-            observed,
-            false,
-            25,
-        )?;
-        self.changing::<N, C, H, G>("publish_observe", "busy_4_observe", observed, true, 7)
+        let (incs, observes, one) = (Does::PublishIncs, Does::PublishObserves, Does::PublishOne);
+        self.publishes::<N, C, H, G>("publish_10_inc", "busy_4_10_inc", incs, 21)?;
+        self.publishes::<N, C, H, G>("publish_10_observe", "busy_4_10_observe", observes, 25)?;
+        self.publishes::<N, C, H, G>("publish_observe", "busy_4_observe", one, 7)
+    }
+
+    /// Updates by one worker of a board, and lists of another.
+    fn updates<const N: usize, const C: usize, const H: usize, const G: usize>(
+        &self,
+        recorders: &mut [Recorder<'_, N, C, H, G>],
+    ) -> Result<()> {
+        // A buffer is two versions old when it is filled, so that where all counters are taken in turn, two words of the row and two
+        // totals differ from it.
+        let rows = [
+            ("inc_one_counter", Does::Inc, 3),
+            ("inc_in_turn", Does::IncNext, 5),
+            ("observe", Does::Observe, 7),
+        ];
+        self.by_one(recorders, 10, Steps::Update, &rows)?;
+        self.lists::<N, C, H, G>()
+    }
+
+    /// Scans of a board of rows of so many words, by the source of its registry.
+    fn scanned<const N: usize, const C: usize, const H: usize, const G: usize>(
+        &self,
+        registry: Registry<'_, N, C, H, G>,
+        workers: &mut [impl Counts],
+        out: &mut Snapshot<N, C, H, G>,
+        words: usize,
+    ) -> Result<()> {
+        let source = &mut registry.into_state().into_source();
+        self.scans(workers, &mut Scanning { source, out }, words)
+    }
+
+    /// Updates and scans of a board of rows of so many words, of which nobody has published.
+    fn on_board<const N: usize, const C: usize, const H: usize, const G: usize>(
+        &self,
+        crew: &mut Crew<N, C, H, G>,
+        out: &mut Snapshot<N, C, H, G>,
+        words: usize,
+    ) -> Result<()> {
+        let (registry, mut recorders, _) = crew.open(1)?;
+        self.updates(&mut recorders)?;
+        self.scanned(registry, &mut recorders, out, words)?;
+        self.busy("busy_4", 100, Steps::Update, recorders, Does::Inc)
     }
 
     /// Updates and scans of a new board of rows of so many words.
@@ -298,12 +334,24 @@ impl<R: ServiceRuntime> Lines<'_, R> {
         words: usize,
     ) -> Result<()> {
         let mut crew = Crew::<N, C, H, G>::new(self.rt.alloc(), ID, 1)?;
-        let (registry, mut recorders, _) = crew.open(1)?;
-        self.updates(recorders.first_mut().context("no worker")?, N, C)?;
-        self.lists::<N, C, H, G>()?;
         let mut out = Snapshot::new(self.rt.alloc())?;
-        let mut source = registry.into_state().into_source();
-        self.scanned(&mut recorders, &mut source, &mut out, words)?;
-        self.busy("busy_4", recorders, N)
+        self.on_board(&mut crew, &mut out, words)
     }
+}
+
+/// The nanoseconds of so many rounds of an operation, of which each is made after these workers have published. Each is timed by the
+/// clock, and so is nothing: what the clock itself takes is taken off.
+fn timed_each(
+    clock: &impl Clock,
+    rounds: u64,
+    moving: &mut [impl Counts],
+    operation: &mut impl Work,
+) -> Result<u64> {
+    let (mut taken, mut nothing) = (0u64, 0u64);
+    for _round in 0..rounds {
+        raise_each(moving).context("no preparation")?;
+        taken = taken.saturating_add(timed(clock, 1, operation)?);
+        nothing = nothing.saturating_add(timed(clock, 0, operation)?);
+    }
+    Ok(taken.saturating_sub(nothing))
 }

@@ -21,10 +21,11 @@
 #![tactic(auto)]
 
 mod boards;
+mod counting;
+mod floors;
 mod measuring;
 mod registries;
 mod served;
-mod tallies;
 mod texts;
 mod torn;
 
@@ -42,14 +43,22 @@ use torn::print_scrapes;
 const USAGE: &str =
     "usage: bench ROUNDS, at most 1000000000, or bench serve PORT REPLIES small|large, or bench torn SCRAPES apart|together";
 
-/// Measures three geometries, and the texts of two scrapes.
+/// Measures updates and scans of three geometries.
 fn measure_boards(lines: &mut Lines<'_, impl ServiceRuntime>) -> Result<()> {
     lines.on("4,64,8,0").board::<4, 64, 8, 0>(280)?;
     lines.on("16,256,32,0").board::<16, 256, 32, 0>(1_120)?;
-    lines.on("32,256,32,64").board::<32, 256, 32, 64>(1_248)?;
+    lines.on("32,256,32,64").board::<32, 256, 32, 64>(1_248)
+}
+
+/// Measures tallies, and lists of changes.
+fn measure_lists(lines: &mut Lines<'_, impl ServiceRuntime>) -> Result<()> {
     lines.on("4,64,8,0").tallies::<4, 64, 8, 0>()?;
     lines.on("16,256,32,0").tallies::<16, 256, 32, 0>()?;
-    lines.on("4,64,8,0").published::<4, 64, 8, 0>()?;
+    lines.on("4,64,8,0").published::<4, 64, 8, 0>()
+}
+
+/// Measures the texts of two scrapes.
+fn measure_texts(lines: &mut Lines<'_, impl ServiceRuntime>) -> Result<()> {
     lines.on("64,8").texts_of::<64, 8>(SMALL)?;
     lines.on("256,32").texts_of::<256, 32>(LARGE)
 }
@@ -66,11 +75,64 @@ fn measure_registries(lines: &mut Lines<'_, impl ServiceRuntime>) -> Result<()> 
 fn measure_all(rt: &impl ServiceRuntime, rounds: u64) -> Result<()> {
     let mut lines = Lines { rt, rounds, of: "" };
     measure_boards(&mut lines)?;
+    measure_lists(&mut lines)?;
+    measure_texts(&mut lines)?;
     measure_registries(&mut lines)?;
     if rounds == 0 {
         println!(rt; "measured 3 geometries, 2 texts and 2 registries")?;
     }
     Ok(())
+}
+
+/// Measures so many rounds, if that is a number of them.
+fn run_measures(rt: &impl ServiceRuntime, rounds: &str) -> Option<Result<()>> {
+    let rounds = rounds.parse().ok()?;
+    if rounds > 1_000_000_000 {
+        return None;
+    }
+    Some(measure_all(rt, rounds))
+}
+
+/// Serves so many replies by each thread at a port, if these words say so.
+fn run_server(
+    rt: &(impl ServiceRuntime + Eprint + Net<Listener = TcpListener, Stream = TcpStream>),
+    port: &str,
+    replies: &str,
+    size: &str,
+) -> Option<Result<()>> {
+    let (port, replies) = (port.parse().ok()?, replies.parse().ok()?);
+    match size {
+        "small" => Some(serve::<64, 8>(rt, port, replies, SMALL)),
+        "large" => Some(serve::<256, 32>(rt, port, replies, LARGE)),
+        _ => None,
+    }
+}
+
+/// Prints so many scrapes, if these words say so.
+fn run_scrapes(rt: &impl ServiceRuntime, scrapes: &str, how: &str) -> Option<Result<()>> {
+    let scrapes = scrapes.parse().ok()?;
+    match how {
+        "apart" => Some(print_scrapes(rt, scrapes, true)),
+        "together" => Some(print_scrapes(rt, scrapes, false)),
+        _ => None,
+    }
+}
+
+/// Does what the arguments say; nothing if they say none of it.
+fn run_words(
+    rt: &(impl ServiceRuntime + Eprint + Net<Listener = TcpListener, Stream = TcpStream>),
+    words: &[String],
+) -> Option<Result<()>> {
+    match words {
+        [_, rounds] => run_measures(rt, rounds.as_str()),
+        [_, word, port, replies, size] if word.as_str() == "serve" => {
+            run_server(rt, port.as_str(), replies.as_str(), size.as_str())
+        }
+        [_, word, scrapes, how] if word.as_str() == "torn" => {
+            run_scrapes(rt, scrapes.as_str(), how.as_str())
+        }
+        _ => None,
+    }
 }
 
 /// Measures so many rounds, serves so many replies by each thread at a port, or prints so many scrapes, as the arguments say; nothing if
@@ -79,29 +141,7 @@ fn run(
     rt: &(impl ServiceRuntime + Eprint + Env + Net<Listener = TcpListener, Stream = TcpStream>),
 ) -> Option<Result<()>> {
     let words = env::args(rt).ok()?.collect::<Vec<String>>(rt.alloc()).ok()?;
-    match words.as_slice() {
-        [_, rounds] => {
-            let rounds = rounds.as_str().parse().ok()?;
-            (rounds <= 1_000_000_000).then(|| measure_all(rt, rounds))
-        }
-        [_, word, port, replies, size] if word.as_str() == "serve" => {
-            let (port, replies) = (port.as_str().parse().ok()?, replies.as_str().parse().ok()?);
-            match size.as_str() {
-                "small" => Some(serve::<64, 8>(rt, port, replies, SMALL)),
-                "large" => Some(serve::<256, 32>(rt, port, replies, LARGE)),
-                _ => None,
-            }
-        }
-        [_, word, scrapes, how] if word.as_str() == "torn" => {
-            let scrapes = scrapes.as_str().parse().ok()?;
-            match how.as_str() {
-                "apart" => Some(print_scrapes(rt, scrapes, true)),
-                "together" => Some(print_scrapes(rt, scrapes, false)),
-                _ => None,
-            }
-        }
-        _ => None,
-    }
+    run_words(rt, words.as_slice())
 }
 
 fn main(rt: HostRuntime) -> ExitCode {

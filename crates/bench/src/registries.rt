@@ -2,18 +2,17 @@
 //! children each.
 ghost use Rattle.segment_layout.specs.Layout.{IsGeometry};
 
-use crate::boards::Applies;
-use crate::measuring::{Lines, keep};
+use crate::boards::Scanning;
+use crate::measuring::{Lines, Work, keep};
 use crate::served::filled;
+use crate::texts::Texts;
 use anyhow::{Context, Result};
-use dirgwako::{Crew, Desc, Op, Registers, ServiceRuntime, Snapshot, render};
-use metric_names::{HelpText, LabelName, LabelValue, MetricName};
+use dirgwako::{Change, Crew, Op, Registers, Registrar, ServiceRuntime, Snapshot, render};
 use registry_state::RegistryState;
 use scrape_http::ScrapeFrom;
 use scrape_server::FromState;
 use snapshot_scan::{PlainSource, Source};
-use std::alloc::Global;
-use std::array;
+use std::alloc::{AllocError, Global};
 use std::sync::atomic::AtomicU64;
 
 /// The id of all boards and registries.
@@ -23,18 +22,50 @@ pub const ID: u64 = 7;
 pub const WINDOW: usize = 64;
 
 /// How many children each family has.
-pub const CHILDREN: usize = 8;
+const CHILDREN: usize = 8;
+
+/// The values of their label.
+const VALUES: [&str; CHILDREN] = [
+    "/api/v1/0",
+    "/api/v1/1",
+    "/api/v1/2",
+    "/api/v1/3",
+    "/api/v1/4",
+    "/api/v1/5",
+    "/api/v1/6",
+    "/api/v1/7",
+];
 
 /// How often each bound of a histogram is observed.
 const TIMES: usize = 1_000;
 
-/// The bound at a place: they are 5, 10, 25, 50, 100, 250 and so on, of which each histogram has the first ones.
-fn bound(place: usize) -> u64 {
-    (0..place / 3).fold(
-        [5, 10, 25][place % 3],
-        |bound: u64, _| bound.saturating_mul(10),
-    )
-}
+/// The bounds, of which each histogram has the first ones.
+pub const BOUNDS: [u64; 24] = [
+    5,
+    10,
+    25,
+    50,
+    100,
+    250,
+    500,
+    1_000,
+    2_500,
+    5_000,
+    10_000,
+    25_000,
+    50_000,
+    100_000,
+    250_000,
+    500_000,
+    1_000_000,
+    2_500_000,
+    5_000_000,
+    10_000_000,
+    25_000_000,
+    50_000_000,
+    100_000_000,
+    250_000_000,
+];
 
 /// How many families of counters a service has, how many of histograms, and how many bounds each histogram has.
 #[derive(Clone, Copy)]
@@ -47,20 +78,14 @@ pub const SMALL: Service = Service(8, 1, 10);
 pub const LARGE: Service = Service(32, 4, 24);
 
 impl Service {
-    /// Registers its families with a registry, and makes their children.
-    pub fn register(self, alloc: Global, registry: &mut impl Registers) -> Result<()> {
-        for place in 0..self.0.saturating_add(self.1) {
-            let desc = match place.checked_sub(self.0) {
-                None => counter_desc(alloc, place)?,
-                Some(place) => histogram_desc(alloc, place, self.2)?,
-            };
-            add(alloc, registry, desc)?;
-        }
-        Ok(())
+    /// How many lists of changes are counted: an increment of each counter, and then each bound of each histogram [`TIMES`] times.
+    pub fn lists(self) -> usize {
+        let observed = self.1.saturating_mul(self.2).saturating_mul(TIMES);
+        self.0.saturating_add(observed)
     }
 
     /// One of the changes that are counted: an increment of each counter, and then observations of each bound of each histogram.
-    fn change(self, at: usize) -> Op {
+    fn op(self, at: usize) -> Op {
         let counters = self.0.saturating_mul(CHILDREN);
         let Some(at) = at.checked_sub(counters) else {
             let by = 10_007 * (at / CHILDREN % 32) + 1_009 * (at % CHILDREN + 1);
@@ -69,67 +94,81 @@ impl Service {
         };
         let (hists, bounds) = (self.1.saturating_mul(CHILDREN).max(1), self.2.max(1));
         let (hist, place) = (at / bounds % hists, at % bounds);
-        let value = bound(place);
+        let value = BOUNDS[place % 24];
         Op::Observe { hist, place, value }
     }
 
-    /// Raises each counter, and observes each bound of each histogram [`TIMES`] times: lists of changes, which `publish` publishes.
-    pub fn count<F: FnMut([Op; CHILDREN]) -> Option<()>>(self, mut publish: F) -> Result<()>
-        requires { (state : F) (x : _) → F.pre state x }
-    {
-        let observed = self.1.saturating_mul(self.2).saturating_mul(TIMES);
-        for list in 0..self.0.saturating_add(observed) {
-            let first = list.saturating_mul(CHILDREN);
-            let ops = array::from_fn(|place| self.change(first.saturating_add(place)));
-            publish(ops).context("not counted")?;
+    /// One of the lists of changes that are counted.
+    fn ops(self, list: usize) -> [Op; CHILDREN] {
+        let first = list.saturating_mul(CHILDREN);
+        let mut ops = [self.op(first); CHILDREN];
+        for place in 0..CHILDREN {
+            ops[place] = self.op(first.saturating_add(place));
+        }
+        ops
+    }
+
+    /// The same of a board.
+    pub fn changes(self, list: usize) -> [Change; CHILDREN] {
+        let (registry, ops) = (ID, self.ops(list));
+        let op = ops[0];
+        let mut changes = [Change { registry, op }; CHILDREN];
+        for place in 0..CHILDREN {
+            changes[place].op = ops[place];
+        }
+        changes
+    }
+
+    /// Registers its families, and makes their children.
+    pub fn register(self, alloc: Global, registrar: &mut Registrar<impl Registers>) -> Result<()> {
+        for family in 0..self.0 {
+            counters(alloc, registrar, family)?;
+        }
+        for family in 0..self.1 {
+            histograms(
+                alloc,
+                registrar,
+                family,
+                BOUNDS.get(..self.2).context("too many bounds")?,
+            )?;
         }
         Ok(())
     }
 }
 
-/// Counts all of a service.
-pub fn count_by(worker: &mut impl Applies, service: Service) -> Result<()> {
-    service.count(|ops| worker.apply(ops))
+/// A text with a number of two digits in it.
+fn numbered(alloc: Global, front: &str, number: usize, back: &str) -> Result<String, AllocError> {
+    Ok(format!(in alloc; "{front}{number:02}{back}")?)
 }
 
-/// The values of the labels of the child of this number.
-fn values(alloc: Global, child: usize) -> Result<Vec<LabelValue>> {
-    let value = format!(in alloc; "/api/v1/{child}")?;
-    let mut values = Vec::new(alloc);
-    values.push(LabelValue::read(alloc, value.as_str())?)?;
-    Ok(values)
+/// Registers the family of counters of this number, and makes its children.
+fn counters(alloc: Global, registrar: &mut Registrar<impl Registers>, number: usize) -> Result<()> {
+    let name = numbered(alloc, "requests_", number, "_total")?;
+    let help = numbered(
+        alloc,
+        "Requests answered so far by service part ",
+        number,
+        ".",
+    )?;
+    let family = registrar.counter_family(name.as_str(), help.as_str(), &["handler"])?;
+    for value in &VALUES {
+        let _counter = registrar.counter_of(&family, &[*value])?;
+    }
+    Ok(())
 }
 
-/// The name and the help of a family, and its label.
-fn named(alloc: Global, name: &str, help: &str) -> Result<(MetricName, HelpText, Vec<LabelName>)> {
-    let mut labels = Vec::new(alloc);
-    labels.push(LabelName::read(alloc, "handler")?)?;
-    let (name, help) = (MetricName::read(alloc, name)?, HelpText::read(alloc, help)?);
-    Ok((name, help, labels))
-}
-
-/// The descriptor of the family of counters at a place.
-fn counter_desc(alloc: Global, family: usize) -> Result<Desc> {
-    let name = format!(in alloc; "requests_{family:02}_total")?;
-    let help = format!(in alloc; "Requests answered so far by service part {family:02}.")?;
-    let (name, help, labels) = named(alloc, name.as_str(), help.as_str())?;
-    Ok(Desc::counter(name, help, labels)?)
-}
-
-/// The descriptor of the family of histograms at a place, which have so many bounds.
-fn histogram_desc(alloc: Global, family: usize, bounds: usize) -> Result<Desc> {
-    let name = format!(in alloc; "response_{family:02}_micros")?;
-    let help = format!(in alloc; "Microseconds taken by answers of part {family:02}.")?;
-    let (name, help, labels) = named(alloc, name.as_str(), help.as_str())?;
-    let bounds = (0..bounds).map(bound).collect::<Vec<u64>>(alloc)?;
-    Ok(Desc::histogram(name, help, labels, &bounds)?)
-}
-
-/// Registers a family, and makes its children.
-fn add(alloc: Global, registry: &mut impl Registers, desc: Desc) -> Result<()> {
-    let family = registry.register(desc)?;
-    for child in 0..CHILDREN {
-        let _handle = registry.child(family, &values(alloc, child)?)?;
+/// Registers the family of histograms of this number and these bounds, and makes its children.
+fn histograms(
+    alloc: Global,
+    registrar: &mut Registrar<impl Registers>,
+    number: usize,
+    bounds: &[u64],
+) -> Result<()> {
+    let name = numbered(alloc, "response_", number, "_micros")?;
+    let help = numbered(alloc, "Microseconds taken by answers of part ", number, ".")?;
+    let family = registrar.histogram_family(name.as_str(), help.as_str(), &["handler"], bounds)?;
+    for value in &VALUES {
+        let _histogram = registrar.histogram_of(&family, &[*value])?;
     }
     Ok(())
 }
@@ -141,23 +180,42 @@ type Plain<const C: usize, const H: usize> = RegistryState<PlainSource<1, C, H, 
 fn empty<const C: usize, const H: usize>(alloc: Global, window: usize) -> Result<Plain<C, H>>
     requires { IsGeometry 1 C H 0 }
 {
-    let made = RegistryState::new(alloc, PlainSource::new(alloc)?, ID, window);
-    Ok(made.map_err(|not_made| not_made.fault)?)
+    match RegistryState::new(alloc, PlainSource::new(alloc)?, ID, window) {
+        Ok(made) => Ok(made),
+        Err(not_made) => Err(not_made.fault.into()),
+    }
 }
 
-/// Counts all of a service in a registry, registers it, and makes so many scrapes.
+/// Counts all of a service in a registry.
+fn count<const C: usize, const H: usize>(
+    registry: &mut Plain<C, H>,
+    service: Service,
+) -> Option<()> {
+    for list in 0..service.lists() {
+        registry.apply(&service.ops(list)).ok()?;
+    }
+    Some(())
+}
+
+/// Makes so many scrapes.
+pub fn scrape_often(from: &mut impl ScrapeFrom, scrapes: usize) -> Option<()> {
+    for _scrape in 0..scrapes {
+        let _scrape = from.scrape().ok()?;
+    }
+    Some(())
+}
+
+/// Registers a service with a registry, after all of it is counted, and makes so many scrapes.
 fn fill<const C: usize, const H: usize>(
     alloc: Global,
-    registry: &mut Plain<C, H>,
+    registrar: &mut Registrar<Plain<C, H>>,
     service: Service,
     scrapes: usize,
 ) -> Result<()> {
-    service.count(|ops| registry.apply(&ops).ok())?;
-    service.register(alloc, registry)?;
-    for _scrape in 0..scrapes {
-        let _scrape = registry.scrape()?;
-    }
-    Ok(())
+    count(&mut registrar.at, service).context("not counted")?;
+    service.register(alloc, registrar)?;
+    let state = &mut registrar.at;
+    scrape_often(&mut FromState { state }, scrapes).context("no scrape")
 }
 
 /// A registry of a service, which has made as many scrapes as its window is, after all of the service was counted.
@@ -168,55 +226,92 @@ fn plain<const C: usize, const H: usize>(
 ) -> Result<Plain<C, H>>
     requires { IsGeometry 1 C H 0 }
 {
-    let mut registry = empty::<C, H>(alloc, window)?;
-    fill(alloc, &mut registry, service, window)?;
-    Ok(registry)
+    let mut registrar = Registrar::of(alloc, empty::<C, H>(alloc, window)?);
+    fill(alloc, &mut registrar, service, window)?;
+    Ok(registrar.at)
+}
+
+/// A registry that is scraped.
+#[derive(Drop)]
+struct Scraping<'a, F: ScrapeFrom> {
+    from: &'a mut F,
+    /// Whether a text is made of each scrape.
+    is_rendered: bool,
+    kept: AtomicU64,
+}
+
+impl<F: ScrapeFrom> Work for Scraping<'_, F> {
+    fn repeat(&mut self, rounds: u64) -> Option<()> {
+        for _round in 0..rounds {
+            let scrape = self.from.scrape().ok()?;
+            if self.is_rendered {
+                keep(&self.kept, render(&scrape).ok()?.len());
+            }
+        }
+        Some(())
+    }
 }
 
 impl<R: ServiceRuntime> Lines<'_, R> {
     /// Scrapes of a registry, and their texts, beside scans of a source that is equal to its own, and texts of one scrape.
-    fn scrapes<F: FnMut(u64) -> Option<()>>(
-        &self,
-        registry: &mut impl ScrapeFrom,
-        scan: F,
-    ) -> Result<()>
-        requires { (state : F) (x : _) → F.pre state x }
-    {
-        self.measure("scrape", 1_000, scan, |_| {
-            let _scrape = registry.scrape().ok()?;
-            Some(())
-        })?;
-        let (scrape, kept) = (
-            registry.scrape().ok().context("no scrape")?,
-            AtomicU64::new(0),
-        );
-        let floor = |_| keep(&kept, render(&scrape).ok()?.len());
-        let gather = |_| keep(&kept, render(&registry.scrape().ok()?).ok()?.len());
-        self.measure("gather", 1_000, floor, gather)
+    fn scrapes(&self, from: &mut impl ScrapeFrom, scans: &mut impl Work) -> Result<()> {
+        let scrape = from.scrape().ok().context("no scrape")?;
+        let texts = &mut Texts::new(self.rt.alloc(), &scrape)?;
+        let scraping = &mut Scraping {
+            from,
+            is_rendered: false,
+            kept: AtomicU64::new(0),
+        };
+        self.measure("scrape", 1_000, scans, scraping)?;
+        scraping.is_rendered = true;
+        self.measure("gather", 1_000, texts, scraping)
     }
 
-    /// Scrapes of a registry beside scans of a source that is equal to its own.
+    /// A registry beside scans of this source.
     fn beside_scans<const N: usize, const C: usize, const H: usize, const G: usize>(
         &self,
-        registry: &mut impl ScrapeFrom,
+        from: &mut impl ScrapeFrom,
         source: &mut impl Source<N, C, H, G>,
         out: &mut Snapshot<N, C, H, G>,
     ) -> Result<()> {
-        self.scrapes(registry, |_| source.scan(out).ok())
+        self.scrapes(from, &mut Scanning { source, out })
     }
 
-    /// A registry over a source of one thread.
+    /// A registry beside scans of the source of one over a source of one thread.
+    fn beside_plain<const C: usize, const H: usize>(
+        &self,
+        from: &mut impl ScrapeFrom,
+        out: &mut Snapshot<1, C, H, 0>,
+        service: Service,
+    ) -> Result<()>
+        requires { IsGeometry 1 C H 0 }
+    {
+        let equal = plain::<C, H>(self.rt.alloc(), service, WINDOW)?;
+        self.beside_scans(from, &mut equal.into_source(), out)
+    }
+
+    /// A registry over a source of one thread, beside scans of the source of one that is equal.
     pub fn alone<const C: usize, const H: usize>(&self, service: Service) -> Result<()>
         requires { IsGeometry 1 C H 0 }
     {
-        let alloc = self.rt.alloc();
-        let state = &mut plain::<C, H>(alloc, service, WINDOW)?;
-        let source = &mut plain::<C, H>(alloc, service, WINDOW)?.into_source();
-        let out = &mut Snapshot::new(alloc)?;
-        self.beside_scans(&mut FromState { state }, source, out)
+        let mut out = Snapshot::<1, C, H, 0>::new(self.rt.alloc())?;
+        let state = &mut plain::<C, H>(self.rt.alloc(), service, WINDOW)?;
+        self.beside_plain::<C, H>(&mut FromState { state }, &mut out, service)
     }
 
-    /// A registry over a board, and the source of another one that is equal.
+    /// A registry beside scans of the source of one over a board.
+    fn beside_board<const N: usize, const C: usize, const H: usize>(
+        &self,
+        from: &mut impl ScrapeFrom,
+        equal: &mut Crew<N, C, H, 0>,
+        out: &mut Snapshot<N, C, H, 0>,
+        service: Service,
+    ) -> Result<()> {
+        let equal = filled(self.rt, equal, service)?;
+        self.beside_scans(from, &mut equal.into_state().into_source(), out)
+    }
+
+    /// A registry over a board, beside scans of the source of another one that is equal.
     fn over_boards<const N: usize, const C: usize, const H: usize>(
         &self,
         crew: &mut Crew<N, C, H, 0>,
@@ -225,8 +320,7 @@ impl<R: ServiceRuntime> Lines<'_, R> {
         service: Service,
     ) -> Result<()> {
         let state = &mut filled(self.rt, crew, service)?.into_state();
-        let source = &mut filled(self.rt, equal, service)?.into_state().into_source();
-        self.beside_scans(&mut FromState { state }, source, out)
+        self.beside_board(&mut FromState { state }, equal, out, service)
     }
 
     /// A registry over a board.

@@ -1,9 +1,9 @@
 //! A registry of a service over a new board, and a server of it for a load tool.
 
-use crate::registries::{ID, Service, WINDOW, count_by};
+use crate::registries::{ID, Service, WINDOW, scrape_often};
 use anyhow::{Context, Result};
 use dirgwako::{
-    AnyBoard, Behind, Crew, FromRegistry, Recorder, Registry, ServiceRuntime, listen_aloud,
+    AnyBoard, Crew, FromRegistry, Recorder, Registrar, Registry, ServiceRuntime, listen_aloud,
     serve_stream,
 };
 use expo_text::text_len;
@@ -11,19 +11,26 @@ use std::net::{Net, TcpListener, TcpStream};
 use std::sync::Wait;
 use std::thread::map_indices;
 
-/// Counts all of a service by the first recorder, registers it, and makes as many scrapes as the registry keeps.
+/// Counts all of a service by the first recorder.
+fn count<const N: usize, const C: usize, const H: usize>(
+    recorders: &mut [Recorder<'_, N, C, H, 0>],
+    service: Service,
+) -> Option<()> {
+    let recorder = recorders.first_mut()?;
+    for list in 0..service.lists() {
+        recorder.publish(&service.changes(list)).ok()?;
+    }
+    Some(())
+}
+
+/// Registers a service, and makes as many scrapes as the registry keeps.
 fn fill<const N: usize, const C: usize, const H: usize>(
     rt: &impl ServiceRuntime,
     registry: &Registry<'_, N, C, H, 0>,
-    recorders: &mut [Recorder<'_, N, C, H, 0>],
     service: Service,
 ) -> Result<()> {
-    count_by(recorders.first_mut().context("no worker")?, service)?;
-    service.register(rt.alloc(), &mut Behind { rt, registry })?;
-    for _kept in 0..WINDOW {
-        let _scrape = registry.scrape(rt)?;
-    }
-    Ok(())
+    service.register(rt.alloc(), &mut Registrar::new(rt, registry))?;
+    scrape_often(&mut FromRegistry { rt, registry }, WINDOW).context("no scrape")
 }
 
 /// A new board's registry of a service that was counted, which has made as many scrapes as it keeps.
@@ -33,7 +40,8 @@ pub fn filled<'a, const N: usize, const C: usize, const H: usize>(
     service: Service,
 ) -> Result<Registry<'a, N, C, H, 0>> {
     let (registry, mut recorders, _) = crew.open(WINDOW)?;
-    fill(rt, &registry, &mut recorders, service)?;
+    count(&mut recorders, service).context("not counted")?;
+    fill(rt, &registry, service)?;
     Ok(registry)
 }
 
@@ -51,6 +59,43 @@ fn answer<const N: usize, const C: usize, const H: usize>(
     Ok(())
 }
 
+/// Answers so many connections by each of four threads.
+fn answer_all<const C: usize, const H: usize>(
+    rt: &impl ServiceRuntime,
+    registry: &Registry<'_, 4, C, H, 0>,
+    listener: &TcpListener,
+    replies: u64,
+) -> Result<()> {
+    let source = FromRegistry { rt, registry };
+    for answered in map_indices(rt, rt.alloc(), 4, &|_| answer(source, listener, replies))? {
+        answered?;
+    }
+    Ok(())
+}
+
+/// Prints how many bytes the text of a scrape has.
+fn print_len<const C: usize, const H: usize>(
+    rt: &impl ServiceRuntime,
+    registry: &Registry<'_, 4, C, H, 0>,
+) -> Result<()> {
+    let scrape = registry.scrape(rt)?;
+    println!(rt; "{} bytes", text_len(&scrape))?;
+    Ok(())
+}
+
+/// Serves as [`serve`], from a registry over this board.
+fn serve_crew<const C: usize, const H: usize>(
+    rt: &impl ServiceRuntime,
+    crew: &mut Crew<4, C, H, 0>,
+    listener: &TcpListener,
+    replies: u64,
+    service: Service,
+) -> Result<()> {
+    let registry = &filled(rt, crew, service)?;
+    answer_all(rt, registry, listener, replies)?;
+    print_len(rt, registry)
+}
+
 /// Answers so many connections to a port of 127.0.0.1 by each of four threads, from a registry of this service over a new board. At
 /// the start it tells which port it is, and at the end it prints how many bytes the text of a scrape has.
 pub fn serve<const C: usize, const H: usize>(
@@ -59,13 +104,7 @@ pub fn serve<const C: usize, const H: usize>(
     replies: u64,
     service: Service,
 ) -> Result<()> {
-    let listener = &listen_aloud(rt, port)?;
+    let listener = listen_aloud(rt, port)?;
     let mut crew = Crew::<4, C, H, 0>::new(rt.alloc(), ID, 1)?;
-    let registry = &filled(rt, &mut crew, service)?;
-    let source = FromRegistry { rt, registry };
-    for answered in map_indices(rt, rt.alloc(), 4, &|_| answer(source, listener, replies))? {
-        answered?;
-    }
-    println!(rt; "{} bytes", text_len(&registry.scrape(rt)?))?;
-    Ok(())
+    serve_crew(rt, &mut crew, &listener, replies, service)
 }

@@ -2,12 +2,12 @@
 //! as the text has lines.
 ghost use Rattle.std.specs.Prelude.{◌≡◌, ◌<◌, length};
 
-use crate::measuring::{Lines, keep, timed};
+use crate::measuring::{Lines, Work, keep, timed};
 use anyhow::Result;
 use dirgwako::ServiceRuntime;
 use expo_text::{Scrape, render, text_len, write_to};
 use itoa::Buffer;
-use std::alloc::Global;
+use std::alloc::{AllocError, Global};
 use std::sync::atomic::AtomicU64;
 use watched::Watched;
 
@@ -17,9 +17,21 @@ fn number(place: u64) -> u64 {
     (1_009 + 31 * (place % 256)).wrapping_mul(factors[(place % 6) as usize])
 }
 
+/// What a floor of a text does.
+#[derive(Clone, Copy)]
+enum Steps {
+    /// It copies the text to memory that is made for it.
+    CopyAnew,
+    /// It copies the text to memory that is there.
+    Copy,
+    /// It formats a number for each line.
+    Format,
+}
+
 /// What the floors of a text work on.
 #[derive(Drop)]
 struct Plain {
+    steps: Steps,
     /// The text.
     bytes: Vec<u8>,
     /// How many bytes a line of it has, rounded down.
@@ -28,6 +40,7 @@ struct Plain {
     numbers: Vec<u64>,
     /// Memory for the text.
     to: Vec<u8>,
+    kept: AtomicU64,
     ghost some: { 0 < piece },
     ghost room: { length bytes.items ≡ length to.items },
 }
@@ -48,20 +61,29 @@ fn copy_pieces(from: &[u8], to: &mut [u8], piece: usize)
     to[at..].copy_from_slice(&from[at..]);
 }
 
+/// A number for each line of a text.
+fn numbers(alloc: Global, bytes: &[u8]) -> Result<Vec<u64>, AllocError> {
+    let mut numbers = Vec::new(alloc);
+    for byte in bytes {
+        if *byte == b'\n' {
+            numbers.push(number(numbers.len() as u64))?;
+        }
+    }
+    Ok(numbers)
+}
+
 impl Plain {
     /// What the floors of this text work on.
-    fn of(alloc: Global, bytes: Vec<u8>) -> Result<Plain> {
-        let lines = bytes.iter().filter(|byte| **byte == b'\n').count();
-        let mut numbers = Vec::new(alloc);
-        for place in 0..lines {
-            numbers.push(number(place as u64))?;
-        }
+    fn of(alloc: Global, bytes: Vec<u8>) -> Result<Plain, AllocError> {
+        let numbers = numbers(alloc, &bytes)?;
         let to = vec![in alloc; 0u8; bytes.len()]?;
         Ok(Plain {
-            piece: (bytes.len() / lines.max(1)).max(1),
+            steps: Steps::Copy,
+            piece: (bytes.len() / numbers.len().max(1)).max(1),
             bytes,
             numbers,
             to,
+            kept: AtomicU64::new(0),
         })
     }
 
@@ -76,56 +98,124 @@ impl Plain {
         digits
     }
 
-    /// Copies the text to memory that is there, or that is made for it if `is_new` says so.
-    fn copy(&mut self, alloc: Global, is_new: bool) -> Option<()> {
-        if is_new {
-            let mut to = vec![in alloc; 0u8; self.bytes.len()].ok()?;
-            copy_pieces(&self.bytes, &mut to, self.piece);
-        } else {
-            copy_pieces(&self.bytes, &mut self.to, self.piece);
+    /// Copies the text, or formats the numbers.
+    fn once(&mut self) -> Option<()> {
+        match self.steps {
+            Steps::CopyAnew => {
+                let alloc = *self.bytes.allocator();
+                let mut to = vec![in alloc; 0u8; self.bytes.len()].ok()?;
+                copy_pieces(&self.bytes, &mut to, self.piece);
+            }
+            Steps::Copy => copy_pieces(&self.bytes, &mut self.to, self.piece),
+            Steps::Format => {
+                let digits = self.format();
+                keep(&self.kept, digits);
+            }
         }
         Some(())
     }
 }
 
-/// The text of a scrape, in place of what the memory had.
-fn write_once(scrape: &Scrape, memory: &mut Vec<u8>) -> Option<usize> {
-    memory.clear();
-    write_to(scrape, &mut Watched::new(&mut *memory)).ok()?;
-    Some(memory.len())
+impl Work for Plain {
+    fn repeat(&mut self, rounds: u64) -> Option<()> {
+        for _round in 0..rounds {
+            self.once()?;
+        }
+        Some(())
+    }
+}
+
+/// What is made of a scrape.
+#[derive(Clone, Copy)]
+enum Makes {
+    /// Its text, in memory of its own.
+    Render,
+    /// The length of its text.
+    Len,
+    /// Its text, in place of the one before it.
+    Write,
+}
+
+/// Texts of a scrape.
+#[derive(Drop)]
+pub struct Texts<'a> {
+    makes: Makes,
+    scrape: &'a Scrape,
+    memory: Vec<u8>,
+    kept: AtomicU64,
+}
+
+impl<'a> Texts<'a> {
+    /// Texts of this scrape, each of which is rendered.
+    pub fn new(alloc: Global, scrape: &'a Scrape) -> Result<Texts<'a>, AllocError> {
+        Ok(Texts {
+            makes: Makes::Render,
+            scrape,
+            memory: Vec::with_capacity(alloc, text_len(scrape))?,
+            kept: AtomicU64::new(0),
+        })
+    }
+
+    /// The text of the scrape, in place of what the memory had.
+    fn write(&mut self) -> Option<usize> {
+        self.memory.clear();
+        write_to(self.scrape, &mut Watched::new(&mut self.memory)).ok()?;
+        Some(self.memory.len())
+    }
+
+    /// Makes a text. It gives its length.
+    fn once(&mut self) -> Option<usize> {
+        match self.makes {
+            Makes::Render => Some(render(self.scrape).ok()?.len()),
+            Makes::Len => Some(text_len(self.scrape)),
+            Makes::Write => self.write(),
+        }
+    }
+}
+
+impl Work for Texts<'_> {
+    fn repeat(&mut self, rounds: u64) -> Option<()> {
+        for _round in 0..rounds {
+            let made = self.once()?;
+            keep(&self.kept, made);
+        }
+        Some(())
+    }
 }
 
 impl<R: ServiceRuntime> Lines<'_, R> {
-    /// A text that is made so often, beside copies, each to new memory if `is_new` says so, and beside its numbers.
-    fn text<F: FnMut(u64) -> Option<()>>(
+    /// Texts that are made so often, beside copies as `steps` says, and beside their numbers.
+    fn text(
         &self,
         name: &str,
         plain: &mut Plain,
-        is_new: bool,
-        make: &mut F,
-    ) -> Result<()>
-        requires { (state : F) (x : _) → F.pre state x }
-    {
-        let (rt, rounds, kept) = (self.rt, self.one_in(1_000), AtomicU64::new(0));
+        steps: Steps,
+        texts: &mut Texts<'_>,
+        makes: Makes,
+    ) -> Result<()> {
+        let (rt, rounds) = (self.rt, self.one_in(1_000));
         let (mut taken, mut floor, mut second) = (u64::MAX, u64::MAX, u64::MAX);
+        texts.makes = makes;
         for _batch in 0..10 {
-            floor = floor.min(timed(rt, rounds, &mut |_| plain.copy(rt.alloc(), is_new))?);
-            second = second.min(timed(rt, rounds, &mut |_| keep(&kept, plain.format()))?);
-            taken = taken.min(timed(rt, rounds, make)?);
+            plain.steps = steps;
+            floor = floor.min(timed(rt, rounds, plain)?);
+            plain.steps = Steps::Format;
+            second = second.min(timed(rt, rounds, plain)?);
+            taken = taken.min(timed(rt, rounds, texts)?);
         }
-        self.line(name, rounds, taken, floor, Some(second))
+        self.text_line(name, rounds, taken, floor, second)
+    }
+
+    /// Texts of each kind, beside these floors.
+    fn each_text(&self, plain: &mut Plain, texts: &mut Texts<'_>) -> Result<()> {
+        self.text("render", plain, Steps::CopyAnew, texts, Makes::Render)?;
+        self.text("text_len", plain, Steps::Copy, texts, Makes::Len)?;
+        self.text("write_to", plain, Steps::Copy, texts, Makes::Write)
     }
 
     /// Texts of a scrape.
     pub fn texts(&self, scrape: &Scrape) -> Result<()> {
-        let (alloc, kept) = (self.rt.alloc(), AtomicU64::new(0));
-        let plain = &mut Plain::of(alloc, render(scrape)?)?;
-        let make = &mut |_| keep(&kept, render(scrape).ok()?.len());
-        self.text("render", plain, true, make)?;
-        let make = &mut |_| keep(&kept, text_len(scrape));
-        self.text("text_len", plain, false, make)?;
-        let mut memory = Vec::with_capacity(alloc, text_len(scrape))?;
-        let make = &mut |_| keep(&kept, write_once(scrape, &mut memory)?);
-        self.text("write_to", plain, false, make)
+        let plain = &mut Plain::of(self.rt.alloc(), render(scrape)?)?;
+        self.each_text(plain, &mut Texts::new(self.rt.alloc(), scrape)?)
     }
 }

@@ -7,8 +7,8 @@
 use crate::registries::ID;
 use anyhow::{Context, Result};
 use dirgwako::{
-    Change, Crew, PrintFault, Recorder, Registrar, Registry, ServiceRuntime, TextFault, inc,
-    observe, print_scrape,
+    Change, Counter, CounterFamily, Crew, Histogram, PrintFault, Recorder, Registers, Registrar,
+    Registry, ServiceRuntime, TextFault, inc, observe, print_scrape,
 };
 use std::sync::Wait;
 use std::sync::atomic::{AtomicBool, Ordering};
@@ -17,16 +17,35 @@ use std::thread::{join, yield_now};
 /// The changes of a round, in order.
 type Chain = [Change; 5];
 
+/// Registers the metrics without labels.
+fn singles(metrics: &mut Registrar<impl Registers>) -> Result<(Counter, Counter, Histogram)> {
+    let first = metrics.counter("a_total", "First.")?;
+    let second = metrics.counter("b_total", "Second.")?;
+    let hist = metrics.histogram("c_bytes", "Bytes.", &[10, 100])?;
+    Ok((first, second, hist))
+}
+
+/// Makes the children of a family.
+fn both(
+    metrics: &mut Registrar<impl Registers>,
+    family: &CounterFamily,
+) -> Result<(Counter, Counter)> {
+    let first = metrics.counter_of(family, &["1"])?;
+    let second = metrics.counter_of(family, &["2"])?;
+    Ok((first, second))
+}
+
 /// Registers what is counted.
-fn register(rt: &impl ServiceRuntime, registry: &Registry<'_, 1, 4, 1, 0>) -> Result<Chain> {
-    let mut metrics = Registrar::new(rt, registry);
-    let children = metrics.counter_family("d_total", "Children.", &["child"])?;
+fn register(metrics: &mut Registrar<impl Registers>) -> Result<Chain> {
+    let family = metrics.counter_family("d_total", "Children.", &["child"])?;
+    let (a, b, c) = singles(metrics)?;
+    let (d, e) = both(metrics, &family)?;
     Ok([
-        inc(&metrics.counter("a_total", "First.")?, 1),
-        inc(&metrics.counter("b_total", "Second.")?, 1),
-        observe(&metrics.histogram("c_bytes", "Bytes.", &[10, 100])?, 7),
-        inc(&metrics.counter_of(&children, &["1"])?, 1),
-        inc(&metrics.counter_of(&children, &["2"])?, 1),
+        inc(&a, 1),
+        inc(&b, 1),
+        observe(&c, 7),
+        inc(&d, 1),
+        inc(&e, 1),
     ])
 }
 
@@ -99,7 +118,7 @@ fn print_beside(
     scrapes: u64,
     is_apart: bool,
 ) -> Result<()> {
-    let chain = &register(rt, registry)?;
+    let chain = &register(&mut Registrar::new(rt, registry))?;
     let (begun, ended) = &(AtomicBool::new(false), AtomicBool::new(false));
     let counted = || {
         let counted = count(rt, recorder, chain, is_apart, begun, ended);
@@ -117,10 +136,20 @@ fn print_beside(
     printed
 }
 
-/// Prints so many scrapes of a new board's registry, while a thread counts.
-pub fn print_scrapes(rt: &impl ServiceRuntime, scrapes: u64, is_apart: bool) -> Result<()> {
-    let mut crew = Crew::<1, 4, 1, 0>::new(rt.alloc(), ID, 1)?;
+/// Prints so many scrapes of this board's registry, while a thread counts.
+fn print_crew(
+    rt: &impl ServiceRuntime,
+    crew: &mut Crew<1, 4, 1, 0>,
+    scrapes: u64,
+    is_apart: bool,
+) -> Result<()> {
     let (registry, mut recorders, _) = crew.open(1)?;
     let recorder = recorders.first_mut().context("no recorder")?;
     print_beside(rt, &registry, recorder, scrapes, is_apart)
+}
+
+/// Prints so many scrapes of a new board's registry, while a thread counts.
+pub fn print_scrapes(rt: &impl ServiceRuntime, scrapes: u64, is_apart: bool) -> Result<()> {
+    let mut crew = Crew::<1, 4, 1, 0>::new(rt.alloc(), ID, 1)?;
+    print_crew(rt, &mut crew, scrapes, is_apart)
 }
