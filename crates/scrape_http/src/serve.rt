@@ -1,5 +1,5 @@
 //! Requests are served.
-ghost use Rattle.std.specs.Prelude.{◌≡◌, ◌≤◌, ◌++◌, true, false, length, IfOk, IfErr, Some, Ok, IsOk};
+ghost use Rattle.std.specs.Prelude.{◌≡◌, ◌<◌, ◌≤◌, ◌^◌, ◌++◌, true, false, length, IfOk, IfErr, Some, Ok, IsOk};
 ghost use Rattle.std.specs.Io.KnownBytes.{Keeps};
 ghost use Rattle.expo_text.specs.Text.{text};
 ghost use Rattle.scrape_http.specs.Reply.{refused, scraped};
@@ -60,14 +60,17 @@ fn send_bytes<W: Write>(
     finish(writer, status, bytes.len())
 }
 
-/// Sends a head and the text of a scrape, in as few writes as pieces of 16,384 bytes allow.
+/// Sends a head and the text of a scrape, which has `len` bytes, in as few writes as pieces of 16,384 bytes allow.
 fn send_text<W: Write>(
     writer: &mut Watched<W>,
     head: &[u8],
     scrape: &Scrape,
+    len: usize,
 ) -> Result<Served, WireFault>
     requires going { writer.old.failed ≡ false }
     requires short { length head.now ≤ 256 }
+    requires len { len ≡ length (text scrape.now) }
+    requires bounded { len < 2 ^ 33 }
     ensures sends { Sends (W.contents writer.old.inner) (W.contents writer.new.inner)
         (Some (record { status = Status.Success; bytes = head.now ++ text scrape.now })) result }
     ensures failed { writer.new.failed ≡ is_write_failed result }
@@ -76,7 +79,7 @@ fn send_text<W: Write>(
     if let Err(WriteFailed { sent }) = write_after(head, scrape, writer) {
         return Err(WireFault::WriteFailed { sent });
     }
-    finish(writer, Status::Success, head.len() + text_len(scrape))
+    finish(writer, Status::Success, head.len() + len)
 }
 
 /// Sends a refusal.
@@ -105,9 +108,10 @@ fn send_scrape<W: Write>(
     ensures failed { writer.new.failed ≡ is_write_failed result }
     ensures flushed { IsOk result → writer.new.flushed ≡ true }
 {
-    let head = head_of(Status::Success, text_len(scrape));
+    let len = text_len(scrape);
+    let head = head_of(Status::Success, len);
     if body {
-        send_text(writer, head.bytes(), scrape)
+        send_text(writer, head.bytes(), scrape, len)
     } else {
         send_bytes(writer, Status::Success, head.bytes())
     }
