@@ -6,14 +6,14 @@ use lib.ListN.{get_elem?}
 use Rattle.ledger_core.specs.Ops.{width, sum_ops}
 use Rattle.ledger_core.specs.Row.{Accepts}
 use Rattle.register_rule.specs.declared.view.Answer.{Answer}
-use Rattle.register_rule.specs.declared.view.Made.{Made}
+use Rattle.register_rule.specs.declared.view.PublishEntry.{PublishEntry}
 use Rattle.register_rule.specs.declared.view.Member.{Member}
-use Rattle.register_rule.specs.declared.view.Scan.{Scan}
+use Rattle.register_rule.specs.declared.view.ScanLog.{ScanLog}
 use Rattle.register_rule.specs.declared.view.Who.{Who}
 use Rattle.register_rule.specs.declared.view.Who.TheVariants.{Worker as is_worker, Reader as is_reader}
 use Rattle.register_rule.specs.Members.{first_of}
 use Rattle.register_rule.specs.Rule.{AreApart}
-use Rattle.register_rule.specs.Scans.{IsSound, IsOneMoment}
+use Rattle.register_rule.specs.SoundScans.{IsSound, IsOneMoment}
 use Rattle.register_rule.specs.Sums.{total}
 use Rattle.register_rule.specs.Told.{AreRuled}
 use Rattle.register_rule.proofs.Moments.{length_tab}
@@ -56,7 +56,7 @@ same_lists f (v ∷ vs) (w ∷ ws) e each = let a = each 0 v w refl refl in
     let later = same_lists f vs ws (omega (arith, e)) (λ p x y at now. each (suc p) x y at now) in λ z. a z ∷ later z
 
 -- who stands behind the reader stands there still after a scan
-scanned_at : (ms ms' : List Member) (c : Scan) (p : ℕ) (m : Member) → 0 < p → ms' ≡ with_scan c ms → get_elem? ms p ≡ some m
+scanned_at : (ms ms' : List Member) (c : ScanLog) (p : ℕ) (m : Member) → 0 < p → ms' ≡ with_scan c ms → get_elem? ms p ≡ some m
     → get_elem? ms' p ≡ some m
 scanned_at [] ms' c p m lt e at = absurd (some-ne-none m (sym at))
 scanned_at (x ∷ ms) ms' c zero m lt e at = absurd (omega (arith, lt))
@@ -176,7 +176,7 @@ module _ {N C H G : ℕ} (place : ℕ) (vs ws us : List (Worker N C H G)) (r1 r2
           let h = at_below vs p v at in let w = get_or ws p v in let e = there ws p v (omega (arith, h, long)) in
           let l = lent p v w h at e in
           ap (get_elem? out.vector) (sym l.index)
-          ∙ (numbers (index_of w) l.member l.lent.there ∙ ap (λ (m : List Made). some (length m)) l.made)
+          ∙ (numbers (index_of w) l.member l.lent.there ∙ ap (λ (m : List PublishEntry). some (length m)) l.made)
 
       -- what the rule says that it published
       made_is : (p : ℕ) (v : Worker N C H G) → get_elem? vs p ≡ some v → (index_of v < N)
@@ -214,7 +214,7 @@ module _ {N C H G : ℕ} (place : ℕ) (vs ws us : List (Worker N C H G)) (r1 r2
           let lt = at_below out.vector j s at in let (p, v, e, is) = all j (omega (arith, lt, wide)) in
           let z : index_of v ≡ 0 + j = is ∙ (let y : j ≡ 0 + j = omega arith in y) in
           some-injective s (length (member_of v).work.made) (sym at ∙ (ap (get_elem? out.vector) (sym is) ∙ number p v e))
-          ∙ ap (λ (m : List Made). length m) (sym (made_is p v e).1 ∙ ap ruled.made z)
+          ∙ ap (λ (m : List PublishEntry). length m) (sym (made_is p v e).1 ∙ ap ruled.made z)
 
       once : AreOnce (map index_of vs)
       once = once_from (map index_of vs) (λ p q x y lt e h same.
@@ -230,7 +230,7 @@ module _ {N C H G : ℕ} (place : ℕ) (vs ws us : List (Worker N C H G)) (r1 r2
         vector = λ p v at. number p v at ∙ ap some (sym (length-map (member_of v).work.made ops_in));
         totals = λ k lt.
             let f = λ (x : ℕ). total (sum_ops C H) (ruled.made x) k in
-            let e = all_sum C H k f vs (λ p v at. ap (λ (m : List Made). total (sum_ops C H) m k) (made_is p v at).1) in
+            let e = all_sum C H k f vs (λ p v at. ap (λ (m : List PublishEntry). total (sum_ops C H) m k) (made_is p v at).1) in
             let d = in_any_order f 0 N (map index_of vs) once
             (λ x h. let t = from_map index_of vs h.0 x h.1 in let low = (made_is h.0 t.0 t.1).0 in let is = t.2 in
             (omega arith, omega (arith, low, is)))

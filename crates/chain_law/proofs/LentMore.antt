@@ -4,7 +4,7 @@ use mathlib.Core.Option.{some, some-injective}
 use lib.ListN.{get_elem?}
 use Rattle.register_rule.specs.declared.view.Member.{Member}
 use Rattle.register_rule.specs.Members.{raised, greatest, met}
-use Rattle.register_rule.specs.declared.view.Scan.{Scan}
+use Rattle.register_rule.specs.declared.view.ScanLog.{ScanLog}
 use Rattle.snapshot_scan.specs.declared.reader.Reader.{Reader}
 use Rattle.snapshot_scan.specs.Readers.{members_with}
 use Rattle.snapshot_scan.proofs.Standing.{sees_then}
@@ -55,8 +55,8 @@ module _ {N C H G : ℕ} (vs ws : List (Worker N C H G)) (k place : ℕ) (x y : 
       (from_set ws k p y w now)
 
 -- what has seen more than what has seen more
-pub seen_then : (a b c : Scan) → HasSeenMore a b → HasSeenMore b c → HasSeenMore a c
+pub seen_then : (a b c : ScanLog) → HasSeenMore a b → HasSeenMore b c → HasSeenMore a c
 seen_then a b c f g = record {
-  only = g.only ∙ ap (λ (x : Scan). record x { seen = c.seen }) f.only;
+  only = g.only ∙ ap (λ (x : ScanLog). record x { seen = c.seen }) f.only;
   more = sees_then a.seen b.seen c.seen f.more g.more;
 }

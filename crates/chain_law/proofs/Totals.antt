@@ -6,7 +6,7 @@ use mathlib.Core.Option.{some}
 use lib.ListN.{get_elem?}
 use Rattle.ledger_core.specs.declared.op.Op.{Op}
 use Rattle.ledger_core.specs.Ops.{part, sum_ops}
-use Rattle.register_rule.specs.declared.view.Made.{Made}
+use Rattle.register_rule.specs.declared.view.PublishEntry.{PublishEntry}
 use Rattle.register_rule.specs.Sums.{total, row_sum}
 use Rattle.snapshot_update.specs.declared.worker.Worker.{Worker}
 use Rattle.snapshot_update.specs.Workers.{index_of, member_of, lists_of, ops_in}
@@ -16,7 +16,7 @@ use Rattle.chain_law.proofs.Sums.{sums, sum_of}
 both_sum : (c h : ℕ) (xs ys : List Op) (k : ℕ) → sum_ops c h (xs ++ ys) k ≡ sum_ops c h xs k + sum_ops c h ys k
 both_sum c h xs ys k = sum_by-append (λ op. part c h op k) xs ys
 
-joined_sum : (c h : ℕ) (xs : List Made) (k : ℕ) → sum_ops c h (joined (map ops_in xs)) k ≡ total (sum_ops c h) xs k
+joined_sum : (c h : ℕ) (xs : List PublishEntry) (k : ℕ) → sum_ops c h (joined (map ops_in xs)) k ≡ total (sum_ops c h) xs k
 joined_sum c h [] k = refl
 joined_sum c h (x ∷ xs) k = both_sum c h x.ops (joined (map ops_in xs)) k
     ∙ ap (λ (z : ℕ). sum_ops c h x.ops k + z) (joined_sum c h xs k)
@@ -35,7 +35,7 @@ module _ {N C H G : ℕ} (c h k : ℕ) (f : ℕ → ℕ) where
       omega (arith, e, d, a, b, s)
 
 -- the rows of all workers together, at the numbers of all that they published
-pub rows_sum : (adds : List Op → ℕ → ℕ) (made : ℕ → List Made) (k i : ℕ) (vector : List ℕ)
+pub rows_sum : (adds : List Op → ℕ → ℕ) (made : ℕ → List PublishEntry) (k i : ℕ) (vector : List ℕ)
     → ((j s : ℕ) → get_elem? vector j ≡ some s → s ≡ length (made (i + j)))
     → row_sum adds made i vector k ≡ sums (λ x. total adds (made x) k) i (length vector)
 rows_sum adds made k i [] all = refl

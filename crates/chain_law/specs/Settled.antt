@@ -4,7 +4,7 @@ use mathlib.Core.Option.{some}
 use lib.ListN.{get_elem?}
 use Rattle.ledger_core.specs.Ops.{width, sum_ops}
 use Rattle.register_rule.specs.declared.view.Answer.{Answer}
-use Rattle.register_rule.specs.declared.view.Made.{Made}
+use Rattle.register_rule.specs.declared.view.PublishEntry.{PublishEntry}
 use Rattle.snapshot_scan.specs.Moments.{Publish, AreAccepted, AreAlong, lists_by}
 use Rattle.snapshot_scan.specs.Snapshots.{Taken}
 use Rattle.snapshot_update.specs.declared.worker.Worker.{Worker}
@@ -40,7 +40,7 @@ module _ {N C H G : ℕ} where
     pub least : (j : ℕ) → j < i → HasIndex ws j
 
   -- what a worker has published, each list with what its version lends
-  abbrev pub made_by : Worker N C H G → List Made
+  abbrev pub made_by : Worker N C H G → List PublishEntry
   made_by w = (member_of w).work.made
 
   -- they are the workers that they were, and each has published what it had, and lends what it lent

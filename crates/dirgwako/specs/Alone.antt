@@ -4,21 +4,21 @@ use Rattle.metric_desc.specs.Desc.{Descriptor}
 use Rattle.registry_state.specs.Changed.{IsGiven, changed}
 use Rattle.registry_state.specs.Faults.{IsChildFault, IsRegisterFault}
 use Rattle.registry_state.specs.Journal.{Registered}
-use Rattle.registry_state.specs.Kept.{Registry}
+use Rattle.registry_state.specs.Kept.{RegistryView}
 use Rattle.registry_state.specs.Replay.{IsAcceptedChange}
 use Rattle.registry_state.specs.declared.fault.ChildFault.{ChildFault}
 use Rattle.registry_state.specs.declared.fault.RegisterFault.{RegisterFault}
 use Rattle.registry_state.specs.declared.handle.FamilyId.{FamilyId}
 use Rattle.registry_state.specs.declared.handle.Handle.{Handle}
 
-module _ {S : Type 0} (n c h g : ℕ) (old new : Registry S) (desc : Descriptor) where
+module _ {S : Type 0} (n c h g : ℕ) (old new : RegistryView S) (desc : Descriptor) where
   -- a registration: a family behind all that were there, of this descriptor; or nothing
   abbrev pub RegistersAlone : Result FamilyId RegisterFault → Type 0
   RegistersAlone (Ok family) = (family.number ≡ length old.state.families) × IsAcceptedChange n c h g old.state.families
       (Registered desc) × (new ≡ changed (Registered desc) old)
   RegistersAlone (Err fault) = IsRegisterFault old.state.families desc fault × (new ≡ old)
 
-module _ {S : Type 0} (c h g : ℕ) (old new : Registry S) (family : FamilyId) (values : List (List ℕ)) where
+module _ {S : Type 0} (c h g : ℕ) (old new : RegistryView S) (family : FamilyId) (values : List (List ℕ)) where
   -- the asking for a child: one that was there or is made, or nothing
   abbrev pub GivesAlone : Result Handle ChildFault → Type 0
   GivesAlone (Ok handle) = IsGiven c h g old new family.number values handle

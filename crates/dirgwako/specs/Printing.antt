@@ -11,7 +11,7 @@ use Rattle.dirgwako.specs.declared.printing.PrintFault.TheVariants.{Text, Output
 use Rattle.register_rule.specs.declared.view.Answer.{Answer}
 use Rattle.snapshot_scan.specs.Scanners.{recorded_in}
 use Rattle.snapshot_scan.specs.declared.scanner.Scanner.{Scanner}
-use Rattle.registry_state.specs.Kept.{IsKept, Registry}
+use Rattle.registry_state.specs.Kept.{IsKept, RegistryView}
 use Rattle.registry_state.specs.Shown.{IsShown}
 use Rattle.scrape_http.specs.declared.source.NoScrape.TheVariants as none
 
@@ -39,7 +39,7 @@ module _ {S : Type 0} (gave : S → S → Result Scraped NoScrape → Type 0) (b
 -- the journal replays to what the registry holds; the scrapes that it keeps are at most the window, the last of what
 -- its reader recorded, and moments of one history of publishes, in order; and these bytes are the text of its
 -- families at the newest of them
-pub record IsLastText {N C H G : ℕ} (bytes : List ℕ) (registry : Registry (Scanner N C H G)) : Type 0 where
+pub record IsLastText {N C H G : ℕ} (bytes : List ℕ) (registry : RegistryView (Scanner N C H G)) : Type 0 where
   pub kept : IsKept N C H G (recorded_in registry.source) registry.journal registry.window registry.state
   pub answer : Answer
   pub newest : registry.state.last ≡ Some answer

@@ -10,10 +10,10 @@ use Rattle.snapshot_scan.specs.Moments.{AreMoments}
 use Rattle.snapshot_scan.proofs.Publishing.{moments_later}
 use Rattle.metric_desc.specs.Desc.{Descriptor}
 use Rattle.registry_state.specs.Changed.{KeepsScrape, IsGiven, WasThere, WasMade, changed}
-use Rattle.registry_state.specs.Journal.{Change, Registered, Made, Entry, Changed, Scraped as Kept, changes, within}
-use Rattle.registry_state.specs.Kept.{Registry, IsKept}
+use Rattle.registry_state.specs.Journal.{RegistryChange, Registered, ChildMade, Entry, Changed, Scraped as Kept, changes, within}
+use Rattle.registry_state.specs.Kept.{RegistryView, IsKept}
 use Rattle.registry_state.specs.Parts.{AreAccepted, families_after}
-use Rattle.registry_state.specs.Replay.{Family, State}
+use Rattle.registry_state.specs.Replay.{Family, Contents}
 use Rattle.registry_state.specs.Shown.{IsShown}
 use Rattle.registry_state.specs.declared.fault.ScrapeFault.{ScrapeFault}
 use Rattle.registry_state.specs.declared.fault.RegisterFault.{RegisterFault}
@@ -26,29 +26,30 @@ use Rattle.registry_state.proofs.Replayed.{parts_of_replay}
 use Rattle.metric_registry.specs.Naming.{BeginsWith, ShowsMoment}
 
 -- a change more
-pub begins_change : (first : List Change) (journal journal' : List Entry) (change : Change)
+pub begins_change : (first : List RegistryChange) (journal journal' : List Entry) (change : RegistryChange)
     → journal' ≡ journal ++ Changed change ∷ [] → BeginsWith first journal → BeginsWith first journal'
 begins_change first journal journal' change same begins = ∥∥₁_map begins (λ (more, is). (
   more ++ change ∷ [],
   sym (append_assoc first more (change ∷ []))
-      ∙ (ap (λ (l : List Change). l ++ change ∷ []) is ∙ (sym (changes_change journal change) ∙ ap changes (sym same))),
+      ∙ (ap (λ (l : List RegistryChange). l ++ change ∷ []) is ∙ (sym (changes_change journal change) ∙ ap changes (sym same))),
 ))
 
 -- a scrape more, and the oldest dropped
-pub begins_scrape : (first : List Change) (journal journal' : List Entry) (window : ℕ) (answer : Answer)
+pub begins_scrape : (first : List RegistryChange) (journal journal' : List Entry) (window : ℕ) (answer : Answer)
     → journal' ≡ within window (journal ++ Kept answer ∷ []) → BeginsWith first journal
     → BeginsWith first journal'
 begins_scrape first journal journal' window answer same =
-    subst (λ (l : List Change). ∥ IsPrefix first l ∥₁)
+    subst (λ (l : List RegistryChange). ∥ IsPrefix first l ∥₁)
     (sym (ap changes same ∙ (changes_within window (journal ++ Kept answer ∷ []) ∙ changes_scrape journal answer)))
 
-pub begins_window : (first : List Change) (journal journal' : List Entry) (window : ℕ) → journal' ≡ within window journal
+pub begins_window : (first : List RegistryChange) (journal journal' : List Entry) (window : ℕ) → journal' ≡ within window journal
     → BeginsWith first journal → BeginsWith first journal'
-begins_window first journal journal' window same = subst (λ (l : List Change). ∥ IsPrefix first l ∥₁)
+begins_window first journal journal' window same = subst (λ (l : List RegistryChange). ∥ IsPrefix first l ∥₁)
     (sym (ap changes same ∙ changes_within window journal))
 
-pub shows_moment : {S : Type 0} (n c h g : ℕ) (first : List Change) (recorded : S → List Answer) (gave : S → S → Answer → Type 0)
-    (old new : Registry S) (r : Result Scraped ScrapeFault)
+pub shows_moment : {S : Type 0} (n c h g : ℕ) (first : List RegistryChange) (recorded : S → List Answer) (gave : S → S
+    → Answer → Type 0)
+    (old new : RegistryView S) (r : Result Scraped ScrapeFault)
     → BeginsWith first old.journal → IsKept n c h g (recorded old.source) old.journal old.window old.state
     → OnOk r (KeepsScrape n c h g recorded gave old new)
     → IfOk r (λ (scrape : Scraped). IsSomeAnd new.state.last (λ answer. IsShown c h new.state.families answer scrape))
@@ -56,7 +57,7 @@ pub shows_moment : {S : Type 0} (n c h g : ℕ) (first : List Change) (recorded 
 shows_moment n c h g first recorded gave old new (Ok scrape) begins was kept shown = ∥∥₁_map begins (λ (more, is).
     let parts = parts_of_replay n c h g old.journal old.state was.replays in
     let shown' : IsShown c h old.state.families kept.answer scrape =
-    subst (λ (s : State). IsSomeAnd s.last (λ answer. IsShown c h s.families answer scrape)) kept.state shown in
+    subst (λ (s : Contents). IsSomeAnd s.last (λ answer. IsShown c h s.families answer scrape)) kept.state shown in
     record {
       more = more;
       accepted = subst (AreAccepted n c h g []) (sym is) parts.accepted;
@@ -69,14 +70,14 @@ shows_moment n c h g first recorded gave old new (Ok scrape) begins was kept sho
 shows_moment n c h g first recorded gave old new (Err fault) begins was kept shown = tt
 
 -- what each call leaves begins as it began
-module _ {S : Type 0} (first : List Change) (old new : Registry S) (begins : BeginsWith first old.journal) where
+module _ {S : Type 0} (first : List RegistryChange) (old new : RegistryView S) (begins : BeginsWith first old.journal) where
   same_begins : new ≡ old → BeginsWith first new.journal
-  same_begins same = subst (λ (r : Registry S). BeginsWith first r.journal) (sym same) begins
+  same_begins same = subst (λ (r : RegistryView S). BeginsWith first r.journal) (sym same) begins
 
   pub registered_begins : (desc : Descriptor) (r : Result FamilyId RegisterFault) → OnOk r (new ≡ changed (Registered desc) old)
       → OnErr r (new ≡ old) → BeginsWith first new.journal
   registered_begins desc (Ok family) is same = begins_change first old.journal new.journal (Registered desc)
-      (ap (λ (r : Registry S). r.journal) is) begins
+      (ap (λ (r : RegistryView S). r.journal) is) begins
   registered_begins desc (Err fault) is same = same_begins same
 
   pub given_begins : (c h g family : ℕ) (values : List (List ℕ)) (r : Result Handle ChildFault)
@@ -84,7 +85,7 @@ module _ {S : Type 0} (first : List Change) (old new : Registry S) (begins : Beg
   given_begins c h g family values (Ok handle) is same =
       ⊎_elim (λ (was : WasThere c h g old new family values handle). same_begins was.same)
       (λ (made : WasMade c h g old new family values handle). begins_change first old.journal new.journal
-      (Made family values made.slot) (ap (λ (r : Registry S). r.journal) made.after_it) begins) is
+      (ChildMade family values made.slot) (ap (λ (r : RegistryView S). r.journal) made.after_it) begins) is
   given_begins c h g family values (Err fault) is same = same_begins same
 
   pub scraped_begins : (n c h g : ℕ) (recorded : S → List Answer) (gave : S → S → Answer → Type 0)
@@ -99,5 +100,5 @@ module _ {S : Type 0} (first : List Change) (old new : Registry S) (begins : Beg
       → OnOk r (new ≡ record old { window = window; journal = within window old.journal }) → OnErr r (new ≡ old)
       → BeginsWith first new.journal
   windowed_begins window (Ok kept) is same = begins_window first old.journal new.journal window
-      (ap (λ (r : Registry S). r.journal) is) begins
+      (ap (λ (r : RegistryView S). r.journal) is) begins
   windowed_begins window (Err fault) is same = same_begins same

@@ -10,8 +10,8 @@ use Rattle.register_rule.specs.declared.view.Answer.{Answer}
 use Rattle.snapshot_scan.specs.Moments.{AreMoments}
 use Rattle.snapshot_scan.specs.Scanners.{board_in}
 use Rattle.snapshot_scan.specs.declared.scanner.Scanner.{Scanner}
-use Rattle.registry_state.specs.Kept.{Registry}
-use Rattle.registry_state.specs.Journal.{Change, Entry, changes}
+use Rattle.registry_state.specs.Kept.{RegistryView}
+use Rattle.registry_state.specs.Journal.{RegistryChange, Entry, changes}
 use Rattle.registry_state.specs.Parts.{AreAccepted, families_after}
 use Rattle.registry_state.specs.Shown.{IsShown}
 use Rattle.registry_state.specs.declared.fault.ScrapeFault.{ScrapeFault}
@@ -28,7 +28,7 @@ module _ {N C H G : ℕ} where
   IsNamed name b = ForSome name (λ n. name_of b ≡ n)
 
   -- the registry scans the board that is named, and has the id of the board that it scans
-  abbrev pub IsOf : Option TableId → Registry (Scanner N C H G) → Type 0
+  abbrev pub IsOf : Option TableId → RegistryView (Scanner N C H G) → Type 0
   IsOf name r = IsNamed name (board_in r.source) × (r.id ≡ board_id (board_in r.source))
 
 -- the handle has this id
@@ -38,19 +38,19 @@ HasId id (Handle.Histogram hist) = hist.registry ≡ id
 HasId id (Handle.Gauge gauge) = gauge.registry ≡ id
 
 -- a journal's changes begin with these
-abbrev pub BeginsWith : List Change → List Entry → Type 0
+abbrev pub BeginsWith : List RegistryChange → List Entry → Type 0
 BeginsWith first journal = ∥ IsPrefix first (changes journal) ∥₁
 
 -- the scrape shows the families that the first changes and some more made, at one moment of a history of publishes
-pub record HasMoment (n c h g : ℕ) (first : List Change) (scrape : Scraped) : Type 0 where
-  pub more : List Change
+pub record HasMoment (n c h g : ℕ) (first : List RegistryChange) (scrape : Scraped) : Type 0 where
+  pub more : List RegistryChange
   pub accepted : AreAccepted n c h g [] (first ++ more)
   pub answer : Answer
   pub moment : AreMoments n c h g (answer ∷ [])
   pub shown : IsShown c h (families_after [] (first ++ more)) answer scrape
 
 -- there is such a moment
-abbrev pub ShowsMoment : (n c h g : ℕ) → (first : List Change) → Scraped → Type 0
+abbrev pub ShowsMoment : (n c h g : ℕ) → (first : List RegistryChange) → Scraped → Type 0
 ShowsMoment n c h g first scrape = ∥ HasMoment n c h g first scrape ∥₁
 
 -- what a refused scrape says of itself: a worker that is there, and two numbers that rise

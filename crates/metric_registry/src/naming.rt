@@ -1,6 +1,6 @@
 //! Which board a registry is of.
 ghost use Rattle.std.specs.Prelude.{List, [], Option, None};
-ghost use Rattle.registry_state.specs.Journal.{Change};
+ghost use Rattle.registry_state.specs.Journal.{RegistryChange};
 ghost use Rattle.atomic_table.specs.Seated.{TableId};
 
 use std::marker::Brand;
@@ -11,7 +11,7 @@ use std::marker::Brand;
 pub trait Named {
     ghost board: { Option TableId };
 
-    ghost first: { List Change };
+    ghost first: { List RegistryChange };
 }
 
 /// No board is named.

@@ -6,7 +6,7 @@ ghost use Rattle.snapshot_scan.specs.Scanners.{reader_in};
 ghost use Rattle.snapshot_scan.specs.Snapshots.{as_answer};
 ghost use Rattle.snapshot_update.specs.Workers.{IsWorkerOf};
 ghost use Rattle.registry_state.specs.Journal.{scrapes};
-ghost use Rattle.registry_state.specs.Replay.{Replays, State as Held};
+ghost use Rattle.registry_state.specs.Replay.{Replays, Contents as Held};
 ghost use Rattle.metric_registry.specs.Naming.{IsNamed, BeginsWith};
 
 use crate::naming::Named;

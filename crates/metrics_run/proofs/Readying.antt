@@ -3,7 +3,7 @@ use Rattle.std.proofs.Common.{◌≡◌, ℕ, List, [], All, map, length, refl, 
 use Rattle.metric_desc.specs.Desc.{Descriptor}
 use Rattle.register_rule.specs.Seats.{board_id}
 use Rattle.register_rule.specs.declared.board.Board.{Board}
-use Rattle.registry_state.specs.Kept.{Registry}
+use Rattle.registry_state.specs.Kept.{RegistryView}
 use Rattle.script_lines.specs.Line.{saying_of}
 use Rattle.script_lines.specs.declared.line.Line.{Line}
 use Rattle.script_lines.specs.declared.line.Line.TheVariants.{Nothing, Counter, Gauge, Histogram, Child, Count, Go, Scrape}
@@ -28,10 +28,10 @@ registered_ready old new desc is ready =
       workers = subst (λ (b : Board 4 64 8 16). All (IsWorkerOf b) new.workers.items) (sym board)
           (subst (λ (ws : List (Worker 4 64 8 16)). All (IsWorkerOf old.board.now) ws) (sym beside.workers) ready.workers);
       all = ap (map index_of) beside.workers ∙ ready.all;
-      scans = ap (λ (r : Registry Scans). board_in r.source) is.registry ∙ (ready.scans ∙ sym board);
+      scans = ap (λ (r : RegistryView Scans). board_in r.source) is.registry ∙ (ready.scans ∙ sym board);
       scraper = subst (λ (b : Board 4 64 8 16). IsReaderOf b (reader_in new.registry.source)) (sym board)
-          (subst (λ (r : Registry Scans). IsReaderOf old.board.now (reader_in r.source)) (sym is.registry) ready.scraper);
-      id = ap (λ (r : Registry Scans). r.id) is.registry ∙ (ready.id ∙ ap board_id (sym board));
+          (subst (λ (r : RegistryView Scans). IsReaderOf old.board.now (reader_in r.source)) (sym is.registry) ready.scraper);
+      id = ap (λ (r : RegistryView Scans). r.id) is.registry ∙ (ready.id ∙ ap board_id (sym board));
       settler = subst (λ (b : Board 4 64 8 16). IsReaderOf b new.settler) (sym board)
           (subst (IsReaderOf old.board.now) (sym beside.settler) ready.settler);
       lists = ap length beside.queue ∙ ready.lists;

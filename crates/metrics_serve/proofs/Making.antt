@@ -7,9 +7,9 @@ use Rattle.metric_desc.specs.Desc.{Descriptor}
 use Rattle.metric_desc.specs.declared.kind.Kind.{Kind}
 use Rattle.metric_desc.specs.declared.kind.Kind.TheVariants.{Counter}
 use Rattle.registry_state.specs.Changed.{changed, IsHandle, IsLeastFree, WasMade}
-use Rattle.registry_state.specs.Journal.{Registered, Made}
-use Rattle.registry_state.specs.Kept.{Registry}
-use Rattle.registry_state.specs.Replay.{Child, Family, State, IsFree, IsNew, MayMake, nothing, after, put}
+use Rattle.registry_state.specs.Journal.{Registered, ChildMade}
+use Rattle.registry_state.specs.Kept.{RegistryView}
+use Rattle.registry_state.specs.Replay.{Child, Family, Contents, IsFree, IsNew, MayMake, nothing, after, put}
 use Rattle.registry_state.specs.declared.handle.Handle.TheVariants as handle
 use Rattle.registry_state.proofs.Slots.{all_put, put_has, put_keeps}
 
@@ -76,7 +76,7 @@ one_more kids n child is first = record {
 }
 
 -- a registry of one family of counters, whose children have the first n slots, and these codes
-pub record HasCodes {S : Type 0} (n : ℕ) (codes : List (List ℕ)) (r : Registry S) : Type 0 where
+pub record HasCodes {S : Type 0} (n : ℕ) (codes : List (List ℕ)) (r : RegistryView S) : Type 0 where
   pub desc : Descriptor
   pub kids : List Child
   pub counters : desc.kind ≡ Counter
@@ -86,26 +86,26 @@ pub record HasCodes {S : Type 0} (n : ℕ) (codes : List (List ℕ)) (r : Regist
 
 module _ {S : Type 0} where
   -- at first there is none
-  pub no_codes : (r r' : Registry S) (desc : Descriptor) → r.state ≡ nothing → r' ≡ changed (Registered desc) r
+  pub no_codes : (r r' : RegistryView S) (desc : Descriptor) → r.state ≡ nothing → r' ≡ changed (Registered desc) r
       → desc.kind ≡ Counter → HasCodes 0 [] r'
   no_codes r r' desc none is counters = record {
     desc = desc;
     kids = [];
     counters = counters;
-    only = ap (λ (it : Registry S). it.state.families) is ∙ ap (λ (s : State). s.families ++ of_kids desc [] ∷ []) none;
+    only = ap (λ (it : RegistryView S). it.state.families) is ∙ ap (λ (s : Contents). s.families ++ of_kids desc [] ∷ []) none;
     first = none_yet;
     fresh = λ code _. All-nil (λ (child : Child). child.values ≢ code ∷ []);
   }
 
   -- a code that is none of them is new
-  pub new_code : (n : ℕ) (codes : List (List ℕ)) (r : Registry S) (code : List ℕ) → HasCodes n codes r
+  pub new_code : (n : ℕ) (codes : List (List ℕ)) (r : RegistryView S) (code : List ℕ) → HasCodes n codes r
       → All (λ (old : List ℕ). old ≢ code) codes
       → All (λ (it : Family). IsNew it (code ∷ [])) r.state.families
   new_code n codes r code has none =
       let P : Family → Type 0 = λ it. IsNew it (code ∷ []) in
       subst (All P) (sym has.only) (All-cons P (of_kids has.desc has.kids) [] (has.fresh code none) (All-nil P))
 
-  module _ (n : ℕ) (codes : List (List ℕ)) (r r' : Registry S) (number : ℕ) (code : List ℕ) (counter : Counting)
+  module _ (n : ℕ) (codes : List (List ℕ)) (r r' : RegistryView S) (number : ℕ) (code : List ℕ) (counter : Counting)
       (first_one : number ≡ 0) (has : HasCodes n codes r)
       (made : WasMade 64 8 16 r r' number (code ∷ []) (handle.Counter counter)) where
     abbrev Says : List Family → ℕ → Type 0
@@ -134,9 +134,9 @@ module _ {S : Type 0} where
       desc = has.desc;
       kids = put made_child has.kids;
       counters = has.counters;
-      only = ap (λ (it : Registry S). it.state.families) made.after_it
-          ∙ ap (λ (of : ℕ). after r.state.families (Made of (code ∷ []) made.slot)) first_one
-          ∙ ap (λ (families : List Family). after families (Made 0 (code ∷ []) made.slot)) has.only;
+      only = ap (λ (it : RegistryView S). it.state.families) made.after_it
+          ∙ ap (λ (of : ℕ). after r.state.families (ChildMade of (code ∷ []) made.slot)) first_one
+          ∙ ap (λ (families : List Family). after families (ChildMade 0 (code ∷ []) made.slot)) has.only;
       first = one_more has.kids n made_child slot_is has.first;
       fresh = λ other none.
           let P : List ℕ → Type 0 = λ old. old ≢ other in

@@ -17,7 +17,7 @@ use Rattle.chain_law.specs.Settled.{AreMomentsOf, IsSettled}
 use Rattle.snapshot_scan.specs.Snapshots.{Taken, as_answer}
 use Rattle.snapshot_scan.specs.declared.scanner.Scanner.{Scanner}
 use Rattle.registry_state.specs.Journal.{Entry, changes, scrapes}
-use Rattle.registry_state.specs.Kept.{Registry}
+use Rattle.registry_state.specs.Kept.{RegistryView}
 use Rattle.metric_registry.specs.Naming.{BeginsWith}
 use Rattle.metrics_serve.specs.declared.metrics.Metrics.{Metrics}
 use Rattle.metrics_serve.specs.declared.threads.Four.{Four}
@@ -104,7 +104,8 @@ pub record AreFour (b : Board 4 64 8 16) (four : Four) : Type 0 where
 -- snapshot of all that the four have counted. The scrapes that the registry kept, and that snapshot after them, are
 -- moments of the one history of what they counted; and what was registered before the registry was served stands
 -- first in its journal.
-pub record AreReplies (b : Board 4 64 8 16) (m : Metrics) (first : Registry (Scanner 4 64 8 16)) (was : Four) (replies : ℕ) : Type
+pub record AreReplies (b : Board 4 64 8 16) (m : Metrics) (first : RegistryView (Scanner 4 64 8 16)) (was : Four)
+    (replies : ℕ) : Type
     0 where
   pub four : Four
   pub counted : HaveCounted b m was four

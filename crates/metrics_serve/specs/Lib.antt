@@ -1,3 +1,3 @@
 pub mod Counted
-pub mod Made
+pub mod Services
 pub mod Printed

@@ -5,7 +5,7 @@ ghost use Rattle.registry_state.specs.Changed.{WasMade};
 ghost use Rattle.registry_state.specs.Replay.{nothing, IsNew};
 ghost use Rattle.registry_state.specs.declared.handle.Handle.TheVariants as handle;
 ghost use Rattle.metrics_serve.specs.Counted.{AreSix, counter_for, list_for, replies_in};
-ghost use Rattle.metrics_serve.specs.Made.{IsSameBoard};
+ghost use Rattle.metrics_serve.specs.Services.{IsSameBoard};
 
 use crate::board::{Registry, Snapshot};
 use ledger_core::{Counter, Histogram, Op};
@@ -17,7 +17,7 @@ use std::alloc::Global;
 
 /// The handles of the server's own metrics: the counters of `scrape_requests_total`, one for each status, and the histogram
 /// `scrape_reply_bytes`.
-#[derive(Clone, Copy, Debug)]
+#[derive(Clone, Copy)]
 pub(crate) struct Metrics {
     pub(crate) success: Counter,
     pub(crate) bad_request: Counter,

@@ -7,7 +7,7 @@ ghost use Rattle.snapshot_update.specs.Workers.{index_of, lists_of, IsWorkerOf};
 ghost use Rattle.registry_state.specs.Journal.{changes};
 ghost use Rattle.metric_registry.specs.Naming.{name_of};
 ghost use Rattle.metrics_serve.specs.Counted.{AreNewWorkers, AreReplies};
-ghost use Rattle.metrics_serve.specs.Made.{IsService};
+ghost use Rattle.metrics_serve.specs.Services.{IsService};
 ghost use Rattle.metrics_serve.specs.Printed.{Begins, Prints, listening_line, status_of};
 
 use crate::board::{Board, Reader, Registry, Snapshot, Staff, Worker, new_board};

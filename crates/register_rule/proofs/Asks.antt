@@ -6,19 +6,20 @@ use lib.ListN.{get_elem?}
 use Rattle.std.proofs.lemmas.List.{take_all, get_or-take, get_or-drop, ext_get_or, length-take-le}
 use Rattle.std.proofs.lemmas.Bool.{eqb-true, and_parts, cond_both}
 use Rattle.ledger_core.specs.declared.op.Op.{Op}
-use Rattle.register_rule.specs.declared.view.Made.{Made}
+use Rattle.register_rule.specs.declared.view.PublishEntry.{PublishEntry}
 use Rattle.register_rule.specs.declared.view.Look.{Look}
 use Rattle.register_rule.specs.declared.view.Answer.{Answer}
 use Rattle.register_rule.specs.declared.view.Asked.{Asked}
-use Rattle.register_rule.specs.declared.view.Progress.{Progress}
-use Rattle.register_rule.specs.declared.view.Scan.{Scan}
+use Rattle.register_rule.specs.declared.view.ScanInProgress.{ScanInProgress}
+use Rattle.register_rule.specs.declared.view.ScanLog.{ScanLog}
 use Rattle.register_rule.specs.History.{count, IsCut, Below}
 use Rattle.register_rule.specs.Sums.{row_sum, last_lent, flag_of}
 use Rattle.register_rule.specs.Shown.{Shows}
 use Rattle.register_rule.specs.Loads.{AreOrdered}
-use Rattle.register_rule.specs.Scans.{opened_at, AreLoads, IsStale, IsLook, Doomed, IsOneMoment, IsAsked, IsSound}
-use Rattle.register_rule.specs.Steps.{upper, at_rest, answered, gives_up, begun, is_next, after_ask, rest, lent_in, is_lender}
-use Rattle.register_rule.specs.Steps.{asked_of, answers, ask_ends, after_end_ask}
+use Rattle.register_rule.specs.SoundScans.{opened_at, AreLoads, IsStale, IsLook, HasStale, IsOneMoment, IsAsked, IsSound}
+use Rattle.register_rule.specs.ScanSteps.{upper, at_rest, answered, given_up_if_spent, begun, is_next, after_ask, rest, lent_in}
+use Rattle.register_rule.specs.ScanSteps.{is_lender}
+use Rattle.register_rule.specs.ScanSteps.{asked_of, lent_or_passed, lent_or_passed_at, after_end_ask}
 use Rattle.register_rule.proofs.Words.{there, read_at, from_replicate, each_push}
 use Rattle.register_rule.proofs.Moments.{length_tab}
 use Rattle.register_rule.proofs.Upper.{length_upper, upper_from, upper_of}
@@ -37,21 +38,22 @@ flag_low None = omega arith
 flag_low (Some a) = omega arith
 
 -- the scan once one more worker was asked, and where that one lent nothing
-abbrev pub once_asked : (n x : ℕ) → Look → Scan → Scan
+abbrev pub once_asked : (n x : ℕ) → Look → ScanLog → ScanLog
 once_asked n x l c = record c { asked = c.asked ++ asked_of x l ∷ [] }
 
-abbrev pub nothing_lent : (n x : ℕ) → Look → Scan → Scan
+abbrev pub nothing_lent : (n x : ℕ) → Look → ScanLog → ScanLog
 nothing_lent n x l c = record c { asked = c.asked ++ asked_of x l ∷ []; now = record c.now { due = rest c.now.due; asks = [] } }
 
-module _ (n w : ℕ) (adds : List Op → ℕ → ℕ) (made : ℕ → List Made) (h : List ℕ) where
+module _ (n w : ℕ) (adds : List Op → ℕ → ℕ) (made : ℕ → List PublishEntry) (h : List ℕ) where
   -- nothing changes but the loads that opened a place, the workers that were asked, how many scans were given up, and the
   -- try in progress
-  pub with_now : (c : Scan) (loads : List (ℕ × ℕ)) (asks : List Asked) (quit' : ℕ) (t : Progress) → AreLoads n w adds made loads
+  pub with_now : (c : ScanLog) (loads : List (ℕ × ℕ)) (asks : List Asked) (quit' : ℕ) (t : ScanInProgress)
+      → AreLoads n w adds made loads
       → AreOrdered loads c.confirmed c.before t.looks
       → ((q : ℕ) (e : Asked) → get_elem? asks q ≡ some e → IsAsked n w adds made e)
       → ((q : ℕ) (l : Look) → get_elem? t.looks q ≡ some l → IsLook n w adds made 0 l × (l.place ≡ q))
       → ((q : ℕ) (l : Look) → get_elem? t.asks q ≡ some l → IsLook n w adds made w l)
-      → (length t.looks ≡ n → Doomed n w adds made t.looks ⊎ IsCut n h (map opened_at t.looks)) → IsSound n w adds made h c
+      → (length t.looks ≡ n → HasStale n w adds made t.looks ⊎ IsCut n h (map opened_at t.looks)) → IsSound n w adds made h c
       → IsSound n w adds made h (record c { opened = loads; asked = asks; quit = quit'; now = t })
   with_now c loads asks quit' t opened' ordered' asked' looks' asks' whole' ok = record {
     opened = opened';
@@ -69,7 +71,7 @@ module _ (n w : ℕ) (adds : List Op → ℕ → ℕ) (made : ℕ → List Made)
   }
 
   -- a scan gives up
-  pub scan_gives : (c : Scan) → 0 < n → IsSound n w adds made h c → IsSound n w adds made h (gives_up n c)
+  pub scan_gives : (c : ScanLog) → 0 < n → IsSound n w adds made h c → IsSound n w adds made h (given_up_if_spent n c)
   scan_gives c some_n ok = cond_both (length c.now.due == 0 && c.now.failed == n + 2)
       (record c { quit = c.quit + 1; now = at_rest }) c (IsSound n w adds made h)
       (λ _. with_now c c.opened c.asked (c.quit + 1) at_rest ok.opened
@@ -78,7 +80,7 @@ module _ (n w : ℕ) (adds : List Op → ℕ → ℕ) (made : ℕ → List Made)
       (λ _. ok)
 
   -- a scan ends with an answer
-  pub scan_answered : (c : Scan) (a : Answer) → 0 < n → length a.vector ≡ n → IsOneMoment n w adds made h a
+  pub scan_answered : (c : ScanLog) (a : Answer) → 0 < n → length a.vector ≡ n → IsOneMoment n w adds made h a
       → IsSound n w adds made h c → IsSound n w adds made h (answered a c)
   scan_answered c a some_n wide answer ok = let same : length c.seen ≡ length a.vector = ok.seen_wide ∙ sym wide in record {
     opened = ok.opened;
@@ -102,10 +104,10 @@ module _ (n w : ℕ) (adds : List Op → ℕ → ℕ) (made : ℕ → List Made)
           let e : t.1 ≡ x = some-injective t.1 x (sym t.3 ∙ ex) in let le = t.4 in omega (arith, e)
 
   -- the opening load of a worker that is asked
-  pub ask_right : (c : Scan) (i x : ℕ) → i < n → x ≡ length (made i) → IsSound n w adds made h c
+  pub ask_right : (c : ScanLog) (i x : ℕ) → i < n → x ≡ length (made i) → IsSound n w adds made h c
       → IsSound n w adds made h (after_ask i x c)
   ask_right c i x inside is ok = cond_both (is_next i c.now.due) (record c.now { asks = begun i x [] ∷ [] }) c.now
-      (λ (t : Progress). IsSound n w adds made h (record c { now = t }))
+      (λ (t : ScanInProgress). IsSound n w adds made h (record c { now = t }))
       (λ _. with_now c c.opened c.asked c.quit (record c.now { asks = begun i x [] ∷ [] }) ok.opened ok.ordered ok.asked ok.looks
       (λ q l e. subst (IsLook n w adds made w) (from_replicate 1 _ q l e) record {
         inside = inside;
@@ -141,7 +143,7 @@ module _ (n w : ℕ) (adds : List Op → ℕ → ℕ) (made : ℕ → List Made)
       let still : l.number ≡ length (made l.place) = this ∙ (is ∙ ap (λ (z : ℕ). length (made z)) (sym at)) in
       let all : take l.number (made l.place) ≡ made i = take_all l.number (made l.place) (omega (arith, still)) ∙ ap made at in
       let shows : (p : ℕ) → p < length l.words → Shows n w adds (made i) (w + p) (get_or l.words p 0) =
-      λ p lt. subst (λ (z : List Made). Shows n w adds z (w + p) (get_or l.words p 0)) all
+      λ p lt. subst (λ (z : List PublishEntry). Shows n w adds z (w + p) (get_or l.words p 0)) all
       (⊎_elim (λ t. t) (λ (t : IsStale n w adds made l). let t' = t.1 in absurd (omega arith))
       (ok.right p (get_or l.words p 0) (there l.words p 0 lt))) in
       go shows len one (last_lent (made i)) refl
@@ -175,20 +177,20 @@ module _ (n w : ℕ) (adds : List Op → ℕ → ℕ) (made : ℕ → List Made)
           )
 
   -- the confirming load of the worker that is asked
-  pub end_ask_right : (c : Scan) (i x : ℕ) → 0 < n → x ≡ length (made i)
+  pub end_ask_right : (c : ScanLog) (i x : ℕ) → 0 < n → x ≡ length (made i)
       → ((a : Answer) → last_lent (made i) ≡ Some a → IsOneMoment n w adds made h a) → IsSound n w adds made h c
       → IsSound n w adds made h (after_end_ask n w i x c)
   end_ask_right c i x some_n is lent ok = by_asks c.now.asks ok.asks
     where
       by_asks : (ls : List Look) → ((q : ℕ) (l : Look) → get_elem? ls q ≡ some l → IsLook n w adds made w l)
-          → IsSound n w adds made h (ask_ends n w i x ls c)
+          → IsSound n w adds made h (lent_or_passed_at n w i x ls c)
       by_asks [] each = ok
-      by_asks (l ∷ ls) each = cond_both (l.place == i) (answers n w x l c) c (IsSound n w adds made h)
+      by_asks (l ∷ ls) each = cond_both (l.place == i) (lent_or_passed n w x l c) c (IsSound n w adds made h)
           (λ same. let at : l.place ≡ i = eqb-true _ _ same in
           let asked' = each_push (IsAsked n w adds made) c.asked (asked_of x l) ok.asked
           (asked_right i x l at is (each 0 l refl)) in
           cond_both (is_lender n w x c.now.floor l) (answered (lent_in n w l.words) (once_asked n x l c))
-          (gives_up n (nothing_lent n x l c)) (IsSound n w adds made h)
+          (given_up_if_spent n (nothing_lent n x l c)) (IsSound n w adds made h)
           (λ hit. let t = lent_right i x c.now.floor l at is lent (each 0 l refl) hit in
           scan_answered (once_asked n x l c) (lent_in n w l.words) some_n t.1 t.0
           (with_now c c.opened (c.asked ++ asked_of x l ∷ []) c.quit c.now ok.opened ok.ordered asked' ok.looks ok.asks

@@ -5,23 +5,24 @@ use mathlib.Core.Option.{some}
 use lib.ListN.{get_elem?}
 use Rattle.atomic_table.proofs.Lists.{at_set}
 use Rattle.ledger_core.specs.declared.op.Op.{Op}
-use Rattle.register_rule.specs.declared.view.Made.{Made}
+use Rattle.register_rule.specs.declared.view.PublishEntry.{PublishEntry}
 use Rattle.register_rule.specs.declared.view.Look.{Look}
 use Rattle.register_rule.specs.declared.view.Version.{Version}
 use Rattle.register_rule.specs.declared.view.Answer.{Answer}
 use Rattle.register_rule.specs.declared.view.Asked.{Asked}
-use Rattle.register_rule.specs.declared.view.Scan.{Scan}
+use Rattle.register_rule.specs.declared.view.ScanLog.{ScanLog}
 use Rattle.register_rule.specs.History.{IsCut, Below}
 use Rattle.register_rule.specs.Sums.{total, row_sum}
 use Rattle.register_rule.specs.Shown.{Shows}
-use Rattle.register_rule.specs.Scans.{opened_at, AtMost, AreLoads, IsStale, IsLook, Doomed, IsVersion, IsOneMoment, IsAsked}
-use Rattle.register_rule.specs.Scans.{IsSound}
-use Rattle.register_rule.specs.Steps.{upper}
+use Rattle.register_rule.specs.SoundScans.{opened_at, AtMost, AreLoads, IsStale, IsLook, HasStale, IsVersion, IsOneMoment}
+use Rattle.register_rule.specs.SoundScans.{IsAsked}
+use Rattle.register_rule.specs.SoundScans.{IsSound}
+use Rattle.register_rule.specs.ScanSteps.{upper}
 use Rattle.register_rule.proofs.Moments.{past_grows}
 use Rattle.register_rule.proofs.Upper.{length_upper, upper_from, upper_of}
 
 -- each worker has published more, or nothing
-abbrev pub Grows : (made made' : ℕ → List Made) → Type 0
+abbrev pub Grows : (made made' : ℕ → List PublishEntry) → Type 0
 Grows made made' = (j : ℕ) → (length (made j) ≤ length (made' j))
     × ((q : ℕ) → q ≤ length (made j) → take q (made' j) ≡ take q (made j))
 
@@ -30,7 +31,7 @@ below_upper v s u len low i x z ex ez = let t = upper_of s u i z len ez in let p
     omega arith
 
 module _ (n w : ℕ) (adds : List Op → ℕ → ℕ) where
-  module _ (made made' : ℕ → List Made) (more : Grows made made') where
+  module _ (made made' : ℕ → List PublishEntry) (more : Grows made made') where
     low_grows : (v : List ℕ) → AtMost n w adds made v → AtMost n w adds made' v
     low_grows v low i s e = let up = (more i).0 in let le = low i s e in omega arith
 
@@ -47,19 +48,19 @@ module _ (n w : ℕ) (adds : List Op → ℕ → ℕ) where
       risen = ⊎_elim (λ none. inl none) (λ t. let h = t.1 in inr (t.0, omega arith)) ok.risen;
       right = λ k x e. ⊎_elim
           (λ (t : Shows n w adds (take l.number (made l.place)) (from + k) x). inl
-          (subst (λ (z : List Made). Shows n w adds z (from + k) x) (sym ((more l.place).1 l.number ok.old)) t))
+          (subst (λ (z : List PublishEntry). Shows n w adds z (from + k) x) (sym ((more l.place).1 l.number ok.old)) t))
           (λ (t : IsStale n w adds made l). inr (moved_grows l t))
           (ok.right k x e);
     }
 
-    doomed_grows : (ls : List Look) → Doomed n w adds made ls → Doomed n w adds made' ls
+    doomed_grows : (ls : List Look) → HasStale n w adds made ls → HasStale n w adds made' ls
     doomed_grows ls d = (d.0, d.1, d.2, moved_grows d.1 d.3)
 
     version_grows : (i : ℕ) (v : Version) → IsVersion n w adds made i v → IsVersion n w adds made' i v
     version_grows i v ok = record {
       old = let up = (more i).0 in let h = ok.old in omega arith;
       wide = ok.wide;
-      row = λ k x e. ok.row k x e ∙ ap (λ (z : List Made). total adds z k) (sym ((more i).1 v.number ok.old));
+      row = λ k x e. ok.row k x e ∙ ap (λ (z : List PublishEntry). total adds z k) (sym ((more i).1 v.number ok.old));
     }
 
     asked_grows : (e : Asked) → IsAsked n w adds made e → IsAsked n w adds made' e
@@ -67,7 +68,7 @@ module _ (n w : ℕ) (adds : List Op → ℕ → ℕ) where
       inside = ok.inside;
       risen = ok.risen;
       old = let up = (more e.worker).0 in let h = ok.old in omega arith;
-      shown = λ same k x at. subst (λ (z : List Made). Shows n w adds z (w + k) x)
+      shown = λ same k x at. subst (λ (z : List PublishEntry). Shows n w adds z (w + k) x)
           (sym ((more e.worker).1 e.number (let h = ok.old in let r = ok.risen in omega arith))) (ok.shown same k x at);
     }
 
@@ -82,7 +83,7 @@ module _ (n w : ℕ) (adds : List Op → ℕ → ℕ) where
         subst (λ (z : ℕ). x ≤ length (made z)) e' (low (suc q) x at)) in
         λ c. total adds (here c) k + rest c
 
-  pub answer_grows : (made made' : ℕ → List Made) (h more : List ℕ) (a : Answer) → Grows made made'
+  pub answer_grows : (made made' : ℕ → List PublishEntry) (h more : List ℕ) (a : Answer) → Grows made made'
       → IsOneMoment n w adds made h a → IsOneMoment n w adds made' (h ++ more) a
   answer_grows made made' h more a grows ok = record {
     low = low_grows made made' grows a.vector ok.low;
@@ -92,7 +93,8 @@ module _ (n w : ℕ) (adds : List Op → ℕ → ℕ) where
         subst (λ (z : ℕ). s ≤ length (made z)) e (ok.low q s at))));
   }
 
-  pub scan_grows : (made made' : ℕ → List Made) (h more : List ℕ) (c : Scan) → Grows made made' → IsSound n w adds made h c
+  pub scan_grows : (made made' : ℕ → List PublishEntry) (h more : List ℕ) (c : ScanLog) → Grows made made'
+      → IsSound n w adds made h c
       → IsSound n w adds made' (h ++ more) c
   scan_grows made made' h more c grows ok = record {
     opened = loads_grow made made' grows c.opened ok.opened;
@@ -106,13 +108,13 @@ module _ (n w : ℕ) (adds : List Op → ℕ → ℕ) where
     kept_wide = ok.kept_wide;
     looks = λ q l e. (look_grows made made' grows 0 l (ok.looks q l e).0, (ok.looks q l e).1);
     asks = λ q l e. look_grows made made' grows w l (ok.asks q l e);
-    whole = λ all. ⊎_elim (λ (d : Doomed n w adds made c.now.looks). inl (doomed_grows made made' grows c.now.looks d))
+    whole = λ all. ⊎_elim (λ (d : HasStale n w adds made c.now.looks). inl (doomed_grows made made' grows c.now.looks d))
         (λ (p : IsCut n h (map opened_at c.now.looks)). inr (past_grows n h more _ p)) (ok.whole all);
   }
 
-  module _ (made : ℕ → List Made) (h : List ℕ) where
+  module _ (made : ℕ → List PublishEntry) (h : List ℕ) where
     -- worker i at its publish has seen its own number and knows its new row
-    pub scan_published : (i : ℕ) (v : Version) (c : Scan) → i < n → IsVersion n w adds made i v → v.number ≡ length (made i)
+    pub scan_published : (i : ℕ) (v : Version) (c : ScanLog) → i < n → IsVersion n w adds made i v → v.number ≡ length (made i)
         → (len : ℕ) → len ≡ length (made i)
         → ((y : ℕ) → get_elem? c.seen i ≡ some y → y ≤ len) → IsSound n w adds made h c
         → IsSound n w adds made h (record c { seen = slice_set c.seen i len; kept = slice_set c.kept i v })
@@ -145,7 +147,7 @@ module _ (n w : ℕ) (adds : List Op → ℕ → ℕ) where
     }
 
     -- members that meet
-    pub scan_raised : (c : Scan) (v : List ℕ) → AtMost n w adds made v → length v ≡ n → IsSound n w adds made h c
+    pub scan_raised : (c : ScanLog) (v : List ℕ) → AtMost n w adds made v → length v ≡ n → IsSound n w adds made h c
         → IsSound n w adds made h (record c { seen = upper c.seen v })
     scan_raised c v low wide ok = let same : length c.seen ≡ length v = ok.seen_wide ∙ sym wide in record {
       opened = ok.opened;
@@ -163,7 +165,7 @@ module _ (n w : ℕ) (adds : List Op → ℕ → ℕ) where
     }
 
   -- what is seen at the own place is the own number; what is seen later is at least that, and not above it
-  pub own_rises : (made : ℕ → List Made) (u v : List ℕ) (i : ℕ) → AtMost n w adds made v
+  pub own_rises : (made : ℕ → List PublishEntry) (u v : List ℕ) (i : ℕ) → AtMost n w adds made v
       → ((x : ℕ) → get_elem? u i ≡ some x → (z : ℕ) × (get_elem? v i ≡ some z) × (x ≤ z)) → get_elem? u i ≡ some (length (made i))
       → get_elem? v i ≡ some (length (made i))
   own_rises made u v i low rises e = let t = rises (length (made i)) e in let up = t.2 in let le = low i t.0 t.1 in

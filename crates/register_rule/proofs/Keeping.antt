@@ -11,20 +11,20 @@ use Rattle.atomic_table.specs.Table.{State, Me, keeps, Allows}
 use Rattle.atomic_table.proofs.Lists.{at_set, set_again}
 use Rattle.segment_layout.specs.Layout.{span}
 use Rattle.ledger_core.specs.declared.op.Op.{Op}
-use Rattle.register_rule.specs.declared.view.Made.{Made}
+use Rattle.register_rule.specs.declared.view.PublishEntry.{PublishEntry}
 use Rattle.register_rule.specs.declared.view.Who.{Who}
 use Rattle.register_rule.specs.declared.view.Who.TheVariants.{Worker, Reader}
 use Rattle.register_rule.specs.declared.view.Member.{Member}
 use Rattle.register_rule.specs.declared.view.SeatView.{SeatView}
 use Rattle.register_rule.specs.declared.load.Load.{Load}
 use Rattle.register_rule.specs.declared.load.Load.TheVariants.{Open, Read, Confirm, Ask, EndAsk}
-use Rattle.register_rule.specs.Words.{item_of, seg}
+use Rattle.register_rule.specs.Words.{version_item, seg}
 use Rattle.register_rule.specs.History.{count}
 use Rattle.register_rule.specs.Sums.{Legal}
 use Rattle.register_rule.specs.Shown.{Shows}
-use Rattle.register_rule.specs.Scans.{IsSound}
+use Rattle.register_rule.specs.SoundScans.{IsSound}
 use Rattle.register_rule.specs.Rule.{IsWorker, IsRole, IsMember, Rule, AreApart}
-use Rattle.register_rule.specs.Steps.{after}
+use Rattle.register_rule.specs.ScanSteps.{after}
 use Rattle.register_rule.specs.Members.{group, led, scan_changed, filled}
 use Rattle.register_rule.specs.Told.{IsNumber, IsLoad, word_of, LoadTells, AreRuled, AreRuledAt, Sits, AllCompare, KeepsRule}
 use Rattle.register_rule.proofs.Words.{item_lt, same_item, items_apart, seg_here, seg_else, seg_at, at_below, from_replicate}
@@ -76,12 +76,13 @@ module _ (n w b : ℕ) (adds : List Op → ℕ → ℕ) (accepts : (ℕ → ℕ)
       → get_elem? s.views id ≡ some v → v.members ≡ m ∷ ms → IsMember n w b adds r.made r.owner r.history s.words id m
   first s r id v m ms at one = r.each id v at 0 m (ap (λ (l : List Member). get_elem? l 0) one)
 
-  pub as_worker : (made : ℕ → List Made) (owner : Who → ℕ) (history words : List ℕ) (j i : ℕ) (m : Member) → m.who ≡ Worker i
+  pub as_worker : (made : ℕ → List PublishEntry) (owner : Who → ℕ) (history words : List ℕ) (j i : ℕ) (m : Member)
+      → m.who ≡ Worker i
       → IsMember n w b adds made owner history words j m → IsWorker n w b adds made words i m
   as_worker made owner history words j i m who ok = subst (IsRole n w b adds made words m) who ok.role
 
   -- the members of other seats, when the worker i of the seat id writes
-  module _ (made made' : ℕ → List Made) (owner : Who → ℕ) (history later words words' : List ℕ) (i id : ℕ)
+  module _ (made made' : ℕ → List PublishEntry) (owner : Who → ℕ) (history later words words' : List ℕ) (i id : ℕ)
       (own : owner (Worker i) ≡ id) (more : Grows made made')
       (same : (j : ℕ) → j ≢ i → made' j ≡ made j) (else_word : (j y : ℕ) → j ≢ i → y < span b
       → seg b words' j y ≡ seg b words j y) where
@@ -98,13 +99,13 @@ module _ (n w b : ℕ) (adds : List Op → ℕ → ℕ) (accepts : (ℕ → ℕ)
             hidden_deep = hidden_deep;
             shown_deep = shown_deep;
             hidden = λ k x e. let lt = at_below m.work.hidden k x e in
-                ap (λ (l : List Made). seg b words' h (item_of b (suc (length l)) k)) is
+                ap (λ (l : List PublishEntry). seg b words' h (version_item b (suc (length l)) k)) is
                 ∙ (else_word h _ apart (item_lt b (suc (length (made h))) k (omega arith)) ∙ ok.work.hidden k x e);
             shown = λ k x e. let lt = at_below m.work.shown k x e in
-                ap (λ (l : List Made). seg b words' h (item_of b (length l) k)) is
+                ap (λ (l : List PublishEntry). seg b words' h (version_item b (length l) k)) is
                 ∙ (else_word h _ apart (item_lt b (length (made h)) k (omega arith)) ∙ ok.work.shown k x e);
           };
-          own = ok.own ∙ ap (λ (l : List Made). some (length l)) (sym is);
+          own = ok.own ∙ ap (λ (l : List PublishEntry). some (length l)) (sym is);
           lends = ok.lends;
         }
     role_stays j m (Reader h) at other ok = tt
@@ -121,16 +122,16 @@ module _ (n w b : ℕ) (adds : List Op → ℕ → ℕ) (accepts : (ℕ → ℕ)
   module _ (slots id : ℕ) (me : Mine) (m : Member) (i k x at : ℕ) where
     -- a row's words stay at most 2^48 - 1, where the word that is stored is
     stays_small : (item : ℕ) (words : List ℕ) → w ≤ b → at ≡ i * span b + item → item < span b → at < length words
-        → ((v q : ℕ) → q < w → item_of b v q ≡ item → x ≤ 281474976710655)
-        → ((j v q : ℕ) → j < n → q < w → seg b words j (item_of b v q) ≤ 281474976710655) → (j v q : ℕ) → j < n → q < w
-        → seg b (set words at x) j (item_of b v q) ≤ 281474976710655
+        → ((v q : ℕ) → q < w → version_item b v q ≡ item → x ≤ 281474976710655)
+        → ((j v q : ℕ) → j < n → q < w → seg b words j (version_item b v q) ≤ 281474976710655) → (j v q : ℕ) → j < n → q < w
+        → seg b (set words at x) j (version_item b v q) ≤ 281474976710655
     stays_small item words room place item_lt' at_lt low was j v q h lt =
-        let was' : seg b words j (item_of b v q) ≤ 281474976710655 = was j v q h lt in
-        let inside : item_of b v q < span b = item_lt b v q (omega arith) in
-        let same : (j ≡ i → item_of b v q ≢ item) → seg b (set words at x) j (item_of b v q) ≤ 281474976710655 =
+        let was' : seg b words j (version_item b v q) ≤ 281474976710655 = was j v q h lt in
+        let inside : version_item b v q < span b = item_lt b v q (omega arith) in
+        let same : (j ≡ i → version_item b v q ≢ item) → seg b (set words at x) j (version_item b v q) ≤ 281474976710655 =
         λ ne. subst (λ (z : ℕ). z ≤ 281474976710655)
-        (sym (seg_else b words i item x at j (item_of b v q) place item_lt' inside ne)) was' in
-        dite (ℕ_discrete (item_of b v q) item)
+        (sym (seg_else b words i item x at j (version_item b v q) place item_lt' inside ne)) was' in
+        dite (ℕ_discrete (version_item b v q) item)
         (λ e. dite (ℕ_discrete j i)
         (λ ji. subst (λ (z : ℕ × ℕ). seg b (set words at x) z.0 z.1 ≤ 281474976710655) (λ c. (sym ji c, sym e c))
         (subst (λ (z : ℕ). z ≤ 281474976710655) (sym (seg_here b words i item x at place at_lt)) (low v q lt e)))
@@ -138,15 +139,15 @@ module _ (n w b : ℕ) (adds : List Op → ℕ → ℕ) (accepts : (ℕ → ℕ)
         (λ ne. same (λ _. ne))
 
     fills : me.0.members ≡ m ∷ [] → m.who ≡ Worker i → k < b → w ≤ b → (k < w → x ≤ 281474976710655)
-        → at ≡ i * span b + item_of b (suc (length m.work.made)) k
+        → at ≡ i * span b + version_item b (suc (length m.work.made)) k
         → Allows Ruled slots id me at (λ _. x) (λ _ me'. (me'.0 ≡ group (led (filled k x) me.0.members)) × (me'.1 ≡ me.1))
     fills one who inside room low place s r deep seat fits =
         let ok = first s r id me.0 m [] seat one in
         let was : IsWorker n w b adds r.made s.words i m = as_worker r.made r.owner r.history s.words id i m who ok in
         let own : r.owner (Worker i) ≡ id = sym (ap r.owner who) ∙ ok.here in
         let number : ℕ = length (r.made i) in
-        let place' : at ≡ i * span b + item_of b (suc number) k = place
-        ∙ ap (λ (l : List Made). i * span b + item_of b (suc (length l)) k) was.work.all in
+        let place' : at ≡ i * span b + version_item b (suc number) k = place
+        ∙ ap (λ (l : List PublishEntry). i * span b + version_item b (suc (length l)) k) was.work.all in
         let item = item_lt b (suc number) k inside in
         let at_lt : at < length s.words = subst (λ (z : ℕ × ℕ). z.0 < z.1) (λ c. (sym place' c, sym r.wide c))
         (digits_lt was.work.inside item) in
@@ -161,7 +162,7 @@ module _ (n w b : ℕ) (adds : List Op → ℕ → ℕ) (accepts : (ℕ → ℕ)
             hidden_deep = length-set m.work.hidden k x ∙ was.work.hidden_deep;
             shown_deep = was.work.shown_deep;
             hidden = λ j y e. ⊎_elim
-                (λ (t : (j ≡ k) × (x ≡ y)). ap (λ (z : ℕ). seg b words' i (item_of b (suc number) z)) t.0
+                (λ (t : (j ≡ k) × (x ≡ y)). ap (λ (z : ℕ). seg b words' i (version_item b (suc number) z)) t.0
                 ∙ (seg_here b s.words i _ x at place' at_lt ∙ t.1))
                 (λ (t : (j ≢ k) × (get_elem? m.work.hidden j ≡ some y)). let lt = at_below m.work.hidden j y t.1 in
                 seg_else b s.words i _ x at i _ place' item (item_lt b (suc number) j (omega arith))
@@ -189,10 +190,10 @@ module _ (n w b : ℕ) (adds : List Op → ℕ → ℕ) (accepts : (ℕ → ℕ)
           number = λ j h. seg_else b s.words i _ x at j 0 place' item (omega arith) (λ _ e. omega (arith, e)) ∙ r.number j h;
           shown = λ j k' h lt. subst (Shows n w adds (r.made j) k')
               (sym (seg_else b s.words i _ x at j _ place' item (item_lt b (length (r.made j)) k' lt)
-              (λ ji e. items_apart b number k k' inside lt (sym e ∙ ap (λ (z : ℕ). item_of b (length (r.made z)) k') ji))))
+              (λ ji e. items_apart b number k k' inside lt (sym e ∙ ap (λ (z : ℕ). version_item b (length (r.made z)) k') ji))))
               (r.shown j k' h lt);
           lent = r.lent;
-          bounded = stays_small (item_of b (suc number) k) s.words room place' item at_lt
+          bounded = stays_small (version_item b (suc number) k) s.words room place' item at_lt
               (λ v q lt e. low (subst (λ (z : ℕ). z < w) (same_item b (suc number) v k q inside (omega arith) e).1 lt)) r.bounded;
           apart = views_apart s.views id (group (new ∷ [])) (one_apart new) r.apart;
           each = everywhere (IsMember n w b adds r.made r.owner r.history words') s.views id new here
@@ -205,14 +206,14 @@ module _ (n w b : ℕ) (adds : List Op → ℕ → ℕ) (accepts : (ℕ → ℕ)
         (group (new ∷ []), keeps, tt, rule, (ap (λ (z : List Member). group (led (filled k x) z)) (sym one), refl))
 
     pub fill_allows : me.0.members ≡ m ∷ [] → m.who ≡ Worker i → k < b → w ≤ b → (k < w → x ≤ 281474976710655)
-        → at ≡ i * span b + item_of b (suc (length m.work.made)) k
+        → at ≡ i * span b + version_item b (suc (length m.work.made)) k
         → Allows (KeepsRule n w b adds accepts) slots id me at (λ _. x) (λ _ me'. (me'.0 ≡ group (led (filled k x) me.0.members))
         × (me'.1 ≡ me.1))
     fill_allows one who inside room low place = allows_both Ruled (AllCompare n b) (compares n w b adds accepts) slots id me at
         (λ _. x) (λ _ me'. (me'.0 ≡ group (led (filled k x) me.0.members)) × (me'.1 ≡ me.1)) (fills one who inside room low place)
 
   -- what the rule says of the members of one seat
-  module _ (made : ℕ → List Made) (owner : Who → ℕ) (history words : List ℕ) (id : ℕ) where
+  module _ (made : ℕ → List PublishEntry) (owner : Who → ℕ) (history words : List ℕ) (id : ℕ) where
     -- its number is at least all that they found of it
     number_told : (i x : ℕ) (ms : List Member) → x ≡ length (made i)
         → ((p : ℕ) (m : Member) → get_elem? ms p ≡ some m → IsMember n w b adds made owner history words id m) → IsNumber i ms x
@@ -229,7 +230,7 @@ module _ (n w b : ℕ) (adds : List Op → ℕ → ℕ) (accepts : (ℕ → ℕ)
       asked = λ q a e at. let h = (ok.asked q a e).old in let is' = ap (λ (z : ℕ). length (made z)) at in omega arith;
       seen = λ y e. let h = ok.seen i y e in omega arith;
       own = λ p o e who. let was = as_worker made owner history words id i o who (each p o e) in
-          is ∙ ap (λ (l : List Made). length l) (sym was.work.all);
+          is ∙ ap (λ (l : List PublishEntry). length l) (sym was.work.all);
     }
 
     ruled : (ms : List Member) → ((i : ℕ) → i < n → count i history ≡ length (made i))
@@ -270,7 +271,7 @@ module _ (n w b : ℕ) (adds : List Op → ℕ → ℕ) (accepts : (ℕ → ℕ)
     finds : (what : Load) (at : ℕ) → IsLoad n b what → at ≡ word_of b what → Finds n w adds r.made what (get_or s.words at 0)
     finds (Open place) at inside is = (inside, found_number place at inside is)
     finds (Read place number item) at inside is = λ e. subst (Shows n w adds (r.made place) item)
-        (sym (seg_at b s.words place _ at is ∙ ap (λ (z : ℕ). seg b s.words place (item_of b z item)) e))
+        (sym (seg_at b s.words place _ at is ∙ ap (λ (z : ℕ). seg b s.words place (version_item b z item)) e))
         (r.shown place item inside.0 inside.1)
     finds (Confirm place) at inside is = (inside, found_number place at inside is)
     finds (Ask place) at inside is = (inside, found_number place at inside is)

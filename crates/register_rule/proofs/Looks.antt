@@ -10,23 +10,26 @@ use lib.Seq.{take-length, take_all}
 use Rattle.std.proofs.lemmas.Bool.{and_parts, cond_both, eqb-true, not-true, ne_eqb, or_from, true≢false}
 use Rattle.atomic_table.proofs.Lists.{at_map, at_longer, at_set}
 use Rattle.ledger_core.specs.declared.op.Op.{Op}
-use Rattle.register_rule.specs.declared.view.Made.{Made}
+use Rattle.register_rule.specs.declared.view.PublishEntry.{PublishEntry}
 use Rattle.register_rule.specs.declared.view.Look.{Look}
 use Rattle.register_rule.specs.declared.view.Version.{Version}
 use Rattle.register_rule.specs.declared.view.Answer.{Answer}
-use Rattle.register_rule.specs.declared.view.Progress.{Progress}
-use Rattle.register_rule.specs.declared.view.Scan.{Scan}
+use Rattle.register_rule.specs.declared.view.ScanInProgress.{ScanInProgress}
+use Rattle.register_rule.specs.declared.view.ScanLog.{ScanLog}
 use Rattle.register_rule.specs.declared.load.Load.{Load}
 use Rattle.register_rule.specs.declared.load.Load.TheVariants.{Open, Read, Confirm, Ask, EndAsk}
 use Rattle.register_rule.specs.History.{tab, count, numbers_after, IsCut}
 use Rattle.register_rule.specs.Sums.{total, row_sum, last_lent}
 use Rattle.register_rule.specs.Shown.{Shows}
 use Rattle.register_rule.specs.Loads.{IsTried, AreOrdered}
-use Rattle.register_rule.specs.Scans.{opened_at, AreLoads, IsStale, IsLook, Doomed, IsVersion, IsOneMoment, IsSound}
-use Rattle.register_rule.specs.Steps.{every, answered, gives_up, words_kept, begun, unsure, opens_next, after_open, noted}
-use Rattle.register_rule.specs.Steps.{after_read, settled, remembered, confirmed_at, clean, are_clean, sum_words, answer_of_try}
-use Rattle.register_rule.specs.Steps.{with_base, failed_once_more, ended, after_confirm, is_lender, lent_in, answers, ask_ends}
-use Rattle.register_rule.specs.Steps.{after}
+use Rattle.register_rule.specs.SoundScans.{opened_at, AreLoads, IsStale, IsLook, HasStale, IsVersion, IsOneMoment, IsSound}
+use Rattle.register_rule.specs.ScanSteps.{every, answered, given_up_if_spent, words_kept, begun, unsure, opens_next, after_open}
+use Rattle.register_rule.specs.ScanSteps.{noted}
+use Rattle.register_rule.specs.ScanSteps.{after_read, settled, remembered, confirmed_at, clean, are_clean, sum_words}
+use Rattle.register_rule.specs.ScanSteps.{answer_of_try}
+use Rattle.register_rule.specs.ScanSteps.{with_base, failed_once_more, ended, after_confirm, is_lender, lent_in, lent_or_passed}
+use Rattle.register_rule.specs.ScanSteps.{lent_or_passed_at}
+use Rattle.register_rule.specs.ScanSteps.{after}
 use Rattle.register_rule.proofs.Words.{at_below, there, from_map, last_is, each_of, each_push}
 use Rattle.register_rule.proofs.Moments.{tab_at}
 use Rattle.register_rule.proofs.Finds.{Finds}
@@ -67,7 +70,7 @@ length_remembered w i (l ∷ ls) kept = cond_both (l.place == i && l.sure && len
     (λ (z : List Version). length z ≡ length kept)
     (λ _. length-set kept i _) (λ _. length_remembered w i ls kept)
 
-module _ (n w : ℕ) (adds : List Op → ℕ → ℕ) (made : ℕ → List Made) (h : List ℕ)
+module _ (n w : ℕ) (adds : List Op → ℕ → ℕ) (made : ℕ → List PublishEntry) (h : List ℕ)
     (counted : (i : ℕ) → i < n → count i h ≡ length (made i)) where
   -- one more load, of the place i
   loads_more : (xs : List (ℕ × ℕ)) (i x : ℕ) → i < n → x ≡ length (made i) → AreLoads n w adds made xs
@@ -86,10 +89,10 @@ module _ (n w : ℕ) (adds : List Op → ℕ → ℕ) (made : ℕ → List Made)
   -- of places of which none is confirmed, one has moved, or all stand at their numbers
   moved_or : (ls : List Look) → ((q : ℕ) (l : Look) → get_elem? ls q ≡ some l → (l.number ≤ length (made l.place))
       × (l.sure ≡ false))
-      → Doomed n w adds made ls ⊎ ((q : ℕ) (l : Look) → get_elem? ls q ≡ some l → l.number ≡ length (made l.place))
+      → HasStale n w adds made ls ⊎ ((q : ℕ) (l : Look) → get_elem? ls q ≡ some l → l.number ≡ length (made l.place))
   moved_or [] ok = inr (λ q l e. absurd (some-ne-none l (sym e)))
   moved_or (l ∷ ls) ok = dite (ℕ_discrete l.number (length (made l.place)))
-      (λ same. ⊎_elim (λ (d : Doomed n w adds made ls). inl (suc d.0, d.1, d.2, d.3))
+      (λ same. ⊎_elim (λ (d : HasStale n w adds made ls). inl (suc d.0, d.1, d.2, d.3))
       (λ (all : (q : ℕ) (x : Look) → get_elem? ls q ≡ some x → x.number ≡ length (made x.place)). inr
       (each_of (λ (x : Look). x.number ≡ length (made x.place)) l ls same all))
       (moved_or ls (λ q x e. ok (suc q) x e)))
@@ -128,11 +131,11 @@ module _ (n w : ℕ) (adds : List Op → ℕ → ℕ) (made : ℕ → List Made)
   }
 
   -- the opening load
-  after_open_right : (c : Scan) (i x : ℕ) → i < n → x ≡ length (made i) → IsSound n w adds made h c
+  after_open_right : (c : ScanLog) (i x : ℕ) → i < n → x ≡ length (made i) → IsSound n w adds made h c
       → IsSound n w adds made h (after_open i x c)
   after_open_right c i x inside is ok = cond_both (opens_next i c.now)
       (record c.now { looks = c.now.looks ++ begun i x (words_kept i x c.kept) ∷ [] }) c.now
-      (λ (t : Progress). IsSound n w adds made h (record c { opened = c.opened ++ (i, x) ∷ []; now = t }))
+      (λ (t : ScanInProgress). IsSound n w adds made h (record c { opened = c.opened ++ (i, x) ∷ []; now = t }))
       (λ hit. let t = and_parts _ _ hit in let at : i ≡ length c.now.looks = eqb-true _ _ t.0 in
       let free = (and_parts _ _ t.1).1 in
       let new = begun i x (words_kept i x c.kept) in
@@ -153,7 +156,7 @@ module _ (n w : ℕ) (adds : List Op → ℕ → ℕ) (made : ℕ → List Made)
       (loads_more c.opened i x inside is ok.opened)
       (begin_ordered c.opened c.confirmed c.before c.now.looks i x (topmost c.opened i x is ok.opened)
       (topmost c.confirmed i x is ok.confirmed) ok.ordered new refl refl refl refl) ok.asked looks' ok.asks
-      (λ len. ⊎_elim (λ (d : Doomed n w adds made (c.now.looks ++ new ∷ [])). inl d) (λ all. inr (moment_now _ len looks' all))
+      (λ len. ⊎_elim (λ (d : HasStale n w adds made (c.now.looks ++ new ∷ [])). inl d) (λ all. inr (moment_now _ len looks' all))
       (moved_or (c.now.looks ++ new ∷ []) none)) ok)
       (λ _. with_now n w adds made h c (c.opened ++ (i, x) ∷ []) c.asked c.quit c.now
       (loads_more c.opened i x inside is ok.opened)
@@ -161,7 +164,7 @@ module _ (n w : ℕ) (adds : List Op → ℕ → ℕ) (made : ℕ → List Made)
       (topmost c.confirmed i x is ok.confirmed) ok.ordered) ok.asked ok.looks ok.asks ok.whole ok)
 
   -- a load that changes looks one by one, and no place or number
-  scan_maps : (c : Scan) (f g : Look → Look) (found : List (ℕ × ℕ)) (marks : List ℕ) → AreLoads n w adds made found
+  scan_maps : (c : ScanLog) (f g : Look → Look) (found : List (ℕ × ℕ)) (marks : List ℕ) → AreLoads n w adds made found
       → AreOrdered c.opened found marks (map f c.now.looks) → ((l : Look) → (f l).number ≡ l.number)
       → ((l : Look) → (f l).place ≡ l.place) → ((l : Look) → IsLook n w adds made 0 l → IsLook n w adds made 0 (f l))
       → ((l : Look) → IsLook n w adds made w l → IsLook n w adds made w (g l))
@@ -190,7 +193,7 @@ module _ (n w : ℕ) (adds : List Op → ℕ → ℕ) (made : ℕ → List Made)
         ));
     asks = (λ q l e. let t = from_map g c.now.asks q l e in subst (IsLook n w adds made w) t.2 (look' t.0 (ok.asks q t.0 t.1)));
     whole = (λ len. ⊎_elim
-        (λ (d : Doomed n w adds made c.now.looks). inl (
+        (λ (d : HasStale n w adds made c.now.looks). inl (
           d.0,
           f d.1,
           at_map f c.now.looks d.0 d.1 d.2,
@@ -201,7 +204,7 @@ module _ (n w : ℕ) (adds : List Op → ℕ → ℕ) (made : ℕ → List Made)
   }
 
   -- the load of a word, which is right as long as the number of the segment is s
-  after_read_right : (c : Scan) (i s k x : ℕ) → (s ≡ length (made i) → Shows n w adds (made i) k x) → IsSound n w adds made h c
+  after_read_right : (c : ScanLog) (i s k x : ℕ) → (s ≡ length (made i) → Shows n w adds (made i) k x) → IsSound n w adds made h c
       → IsSound n w adds made h (after_read w i s k x c)
   after_read_right c i s k x right ok = scan_maps c (noted 0 i s k x) (noted w i s k x) c.confirmed c.before ok.confirmed
       (map_ordered c.opened c.confirmed c.before c.now.looks (noted 0 i s k x)
@@ -235,7 +238,8 @@ module _ (n w : ℕ) (adds : List Op → ℕ → ℕ) (made : ℕ → List Made)
                 let fresh : s ≡ length (made i) = sym this ∙ (is ∙ ap (λ (z : ℕ). length (made z)) here) in
                 let all : made i ≡ take l.number (made l.place) = ap made (sym here)
                 ∙ sym (take_all l.number (made l.place) (omega (arith, is))) in
-                inl (subst (λ (z : List Made × ℕ × ℕ). Shows n w adds z.0 z.1 z.2) (λ c. (all c, kq c, t.0 c)) (right fresh)))
+                inl (subst (λ (z : List PublishEntry × ℕ × ℕ). Shows n w adds z.0 z.1 z.2) (λ c. (all c, kq c, t.0 c))
+                (right fresh)))
                 (λ other. let le = ok'.old in inr (off, omega arith)))
                 (last_is l.words x y q e);
           }
@@ -270,7 +274,7 @@ module _ (n w : ℕ) (adds : List Op → ℕ → ℕ) (made : ℕ → List Made)
           }
 
   -- a confirming load, but for the end of the try
-  confirmed_right : (c : Scan) (i x : ℕ) → i < n → x ≡ length (made i) → IsSound n w adds made h c
+  confirmed_right : (c : ScanLog) (i x : ℕ) → i < n → x ≡ length (made i) → IsSound n w adds made h c
       → IsSound n w adds made h (confirmed_at w i x c)
   confirmed_right c i x inside is ok = let m = scan_maps c (settled i x) (λ l. l) (c.confirmed ++ (i, x) ∷ [])
       (c.before ++ length c.opened ∷ []) (loads_more c.confirmed i x inside is ok.confirmed)
@@ -338,7 +342,7 @@ module _ (n w : ℕ) (adds : List Op → ℕ → ℕ) (made : ℕ → List Made)
       ((ok (suc p) x at).0, (ok (suc p) x at).1 ∙ e'')) q s e)
 
   -- the answer of a clean try
-  clean_right : (c : Scan) → IsSound n w adds made h c → are_clean n w c.now.looks ≡ true
+  clean_right : (c : ScanLog) → IsSound n w adds made h c → are_clean n w c.now.looks ≡ true
       → IsOneMoment n w adds made h (answer_of_try w c.now.looks) × (length (map opened_at c.now.looks) ≡ n)
   clean_right c ok hit =
       let t = and_parts _ _ hit in let len : length c.now.looks ≡ n = eqb-true _ _ t.0 in
@@ -348,7 +352,7 @@ module _ (n w : ℕ) (adds : List Op → ℕ → ℕ) (made : ℕ → List Made)
           low = λ i s e. let z : 0 + i ≡ i = omega arith in
               subst (λ (y : ℕ). s ≤ length (made y)) z (low_of 0 c.now.looks (λ q l at. let z' : q ≡ 0 + q = omega arith in
               ((ok.looks q l at).0.old, (ok.looks q l at).1 ∙ z')) i s e);
-          moment = ⊎_elim (λ (d : Doomed n w adds made c.now.looks). absurd (true≢false (sym (each d.0 d.1 d.2).0 ∙ d.3.0)))
+          moment = ⊎_elim (λ (d : HasStale n w adds made c.now.looks). absurd (true≢false (sym (each d.0 d.1 d.2).0 ∙ d.3.0)))
               (λ p. p) (ok.whole len);
           sums = λ k lt. tab_at 0 w _ k lt ∙ ap some (let z : 0 + k ≡ k = omega arith in ap (λ (y : ℕ). sum_words y c.now.looks) z
               ∙ sums_right k 0 c.now.looks (λ q l at. let z' : q ≡ 0 + q = omega arith in (
@@ -365,29 +369,29 @@ module _ (n w : ℕ) (adds : List Op → ℕ → ℕ) (made : ℕ → List Made)
       )
 
   -- the end of a try
-  ended_right : (c : Scan) → 0 < n → IsSound n w adds made h c → IsSound n w adds made h (ended n w c)
+  ended_right : (c : ScanLog) → 0 < n → IsSound n w adds made h c → IsSound n w adds made h (ended n w c)
   ended_right c some_n ok = cond_both (are_clean n w c.now.looks) (answered (answer_of_try w c.now.looks) c)
-      (gives_up n (record c { now = failed_once_more (with_base c.now) })) (IsSound n w adds made h)
+      (given_up_if_spent n (record c { now = failed_once_more (with_base c.now) })) (IsSound n w adds made h)
       (λ hit. let t = clean_right c ok hit in scan_answered n w adds made h c (answer_of_try w c.now.looks) some_n t.1 t.0 ok)
       (λ _. scan_gives n w adds made h (record c { now = failed_once_more (with_base c.now) }) some_n
       (with_now n w adds made h c c.opened c.asked c.quit (failed_once_more (with_base c.now)) ok.opened
       (rest_ordered c.opened c.confirmed c.before c.now.looks ok.ordered) ok.asked (λ q l e. absurd (some-ne-none l (sym e)))
-      (cond_both (c.now.failed == 0) (record c.now { floor = _; base = _ }) c.now (λ (t : Progress). (q : ℕ) (l : Look)
+      (cond_both (c.now.failed == 0) (record c.now { floor = _; base = _ }) c.now (λ (t : ScanInProgress). (q : ℕ) (l : Look)
       → get_elem? t.asks q ≡ some l → IsLook n w adds made w l) (λ _. ok.asks) (λ _. ok.asks))
       (λ none. absurd (let z : 0 ≡ n = none in omega arith)) ok))
 
   -- the confirming load
-  after_confirm_right : (c : Scan) (i x : ℕ) → 0 < n → i < n → x ≡ length (made i) → IsSound n w adds made h c
+  after_confirm_right : (c : ScanLog) (i x : ℕ) → 0 < n → i < n → x ≡ length (made i) → IsSound n w adds made h c
       → IsSound n w adds made h (after_confirm n w i x c)
   after_confirm_right c i x some_n inside is ok = let new = confirmed_right c i x inside is ok in
       cond_both (i + 1 == n) (ended n w (confirmed_at w i x c)) (confirmed_at w i x c) (IsSound n w adds made h)
       (λ _. ended_right (confirmed_at w i x c) some_n new) (λ _. new)
 
 -- a load of a scan
-pub scan_after : (n w : ℕ) (adds : List Op → ℕ → ℕ) (made : ℕ → List Made) (h : List ℕ)
+pub scan_after : (n w : ℕ) (adds : List Op → ℕ → ℕ) (made : ℕ → List PublishEntry) (h : List ℕ)
     → ((i : ℕ) → i < n → count i h ≡ length (made i))
     → ((i : ℕ) (a : Answer) → i < n → last_lent (made i) ≡ Some a → IsOneMoment n w adds made h a)
-    → (what : Load) (x : ℕ) (c : Scan) → 0 < n → Finds n w adds made what x → IsSound n w adds made h c
+    → (what : Load) (x : ℕ) (c : ScanLog) → 0 < n → Finds n w adds made what x → IsSound n w adds made h c
     → IsSound n w adds made h (after n w what x c)
 scan_after n w adds made h counted lent (Open place) x c some_n found ok = after_open_right n w adds made h counted c place x
     found.0 found.1 ok
@@ -400,44 +404,44 @@ scan_after n w adds made h counted lent (EndAsk place) x c some_n found ok = end
     found.1 (λ a e. lent place a found.0 e) ok
 
 -- no answer is lost, and nothing that was seen falls
-record Stays (c d : Scan) : Type 0 where
+record Stays (c d : ScanLog) : Type 0 where
   answer : (p : ℕ) (a : Answer) → get_elem? c.recorded p ≡ some a → get_elem? d.recorded p ≡ some a
   seen : (i x : ℕ) → get_elem? c.seen i ≡ some x → (z : ℕ) × (get_elem? d.seen i ≡ some z) × (x ≤ z)
 
 -- where both are as they were
-as_was : (c d : Scan) → d.recorded ≡ c.recorded → d.seen ≡ c.seen → Stays c d
+as_was : (c d : ScanLog) → d.recorded ≡ c.recorded → d.seen ≡ c.seen → Stays c d
 as_was c d r s = record {
   answer = λ p a e. ap (λ (z : List Answer). get_elem? z p) r ∙ e;
   seen = λ i x e. (x, ap (λ (z : List ℕ). get_elem? z i) s ∙ e, omega arith);
 }
 
-answer_stays : (c d : Scan) (a : Answer) → d.recorded ≡ c.recorded → d.seen ≡ c.seen → Stays c (answered a d)
+answer_stays : (c d : ScanLog) (a : Answer) → d.recorded ≡ c.recorded → d.seen ≡ c.seen → Stays c (answered a d)
 answer_stays c d a r s = let was = as_was c d r s in record {
   answer = λ p b e. at_longer d.recorded (a ∷ []) p b (was.answer p b e);
   seen = λ i x e. let t = upper_at d.seen a.vector i x (ap (λ (z : List ℕ). get_elem? z i) s ∙ e) in t;
 }
 
-give_stays : (n : ℕ) (c d : Scan) → d.recorded ≡ c.recorded → d.seen ≡ c.seen → Stays c (gives_up n d)
+give_stays : (n : ℕ) (c d : ScanLog) → d.recorded ≡ c.recorded → d.seen ≡ c.seen → Stays c (given_up_if_spent n d)
 give_stays n c d r s = cond_both (length d.now.due == 0 && d.now.failed == n + 2) _ d (Stays c) (λ _. as_was c _ r s)
     (λ _. as_was c d r s)
 
-ask_stays : (n w i x : ℕ) (ls : List Look) (c : Scan) → Stays c (ask_ends n w i x ls c)
+ask_stays : (n w i x : ℕ) (ls : List Look) (c : ScanLog) → Stays c (lent_or_passed_at n w i x ls c)
 ask_stays n w i x [] c = as_was c c refl refl
-ask_stays n w i x (l ∷ ls) c = cond_both (l.place == i) (answers n w x l c) c (Stays c)
+ask_stays n w i x (l ∷ ls) c = cond_both (l.place == i) (lent_or_passed n w x l c) c (Stays c)
     (λ _. cond_both (is_lender n w x c.now.floor l) (answered (lent_in n w l.words) (once_asked n x l c))
-    (gives_up n (nothing_lent n x l c)) (Stays c)
+    (given_up_if_spent n (nothing_lent n x l c)) (Stays c)
     (λ _. answer_stays c (once_asked n x l c) (lent_in n w l.words) refl refl)
     (λ _. give_stays n c (nothing_lent n x l c) refl refl))
     (λ _. as_was c c refl refl)
 
-end_stays : (n w i x : ℕ) (c : Scan) → Stays c (ended n w (confirmed_at w i x c))
+end_stays : (n w i x : ℕ) (c : ScanLog) → Stays c (ended n w (confirmed_at w i x c))
 end_stays n w i x c = let d = confirmed_at w i x c in
     cond_both (are_clean n w d.now.looks) (answered (answer_of_try w d.now.looks) d)
-    (gives_up n (record d { now = failed_once_more (with_base d.now) })) (Stays c)
+    (given_up_if_spent n (record d { now = failed_once_more (with_base d.now) })) (Stays c)
     (λ _. answer_stays c d (answer_of_try w d.now.looks) refl refl)
     (λ _. give_stays n c (record d { now = failed_once_more (with_base d.now) }) refl refl)
 
-stays : (n w : ℕ) (what : Load) (x : ℕ) (c : Scan) → Stays c (after n w what x c)
+stays : (n w : ℕ) (what : Load) (x : ℕ) (c : ScanLog) → Stays c (after n w what x c)
 stays n w (Open place) x c = as_was c _ refl refl
 stays n w (Read place number item) x c = as_was c _ refl refl
 stays n w (Confirm place) x c = cond_both (place + 1 == n) (ended n w (confirmed_at w place x c)) (confirmed_at w place x c)
@@ -445,10 +449,10 @@ stays n w (Confirm place) x c = cond_both (place + 1 == n) (ended n w (confirmed
 stays n w (Ask place) x c = as_was c _ refl refl
 stays n w (EndAsk place) x c = ask_stays n w place x c.now.asks c
 
-pub records_stay : (n w : ℕ) (what : Load) (x : ℕ) (c : Scan) (p : ℕ) (a : Answer) → get_elem? c.recorded p ≡ some a
+pub records_stay : (n w : ℕ) (what : Load) (x : ℕ) (c : ScanLog) (p : ℕ) (a : Answer) → get_elem? c.recorded p ≡ some a
     → get_elem? (after n w what x c).recorded p ≡ some a
 records_stay n w what x c p a e = (stays n w what x c).answer p a e
 
-pub seen_stays : (n w : ℕ) (what : Load) (x : ℕ) (c : Scan) (i y : ℕ) → get_elem? c.seen i ≡ some y → (z : ℕ)
+pub seen_stays : (n w : ℕ) (what : Load) (x : ℕ) (c : ScanLog) (i y : ℕ) → get_elem? c.seen i ≡ some y → (z : ℕ)
     × (get_elem? (after n w what x c).seen i ≡ some z) × (y ≤ z)
 seen_stays n w what x c i y e = (stays n w what x c).seen i y e

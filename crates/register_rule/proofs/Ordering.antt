@@ -8,7 +8,7 @@ use Rattle.std.proofs.lemmas.List.{length_push}
 use Rattle.atomic_table.proofs.Lists.{at_longer, at_last}
 use Rattle.register_rule.specs.declared.view.Look.{Look}
 use Rattle.register_rule.specs.Loads.{AreRising, IsTried, AreOrdered}
-use Rattle.register_rule.specs.Steps.{settled}
+use Rattle.register_rule.specs.ScanSteps.{settled}
 use Rattle.register_rule.proofs.Words.{at_below, from_map, last_is}
 
 -- nothing is loaded yet

@@ -14,19 +14,19 @@ use Rattle.atomic_table.specs.Table.{State, Me, keeps, Allows}
 use Rattle.atomic_table.proofs.Lists.{set_here}
 use Rattle.segment_layout.specs.Layout.{span}
 use Rattle.ledger_core.specs.declared.op.Op.{Op}
-use Rattle.register_rule.specs.declared.view.Made.{Made}
+use Rattle.register_rule.specs.declared.view.PublishEntry.{PublishEntry}
 use Rattle.register_rule.specs.declared.view.Who.TheVariants.{Worker}
 use Rattle.register_rule.specs.declared.view.Answer.{Answer}
 use Rattle.register_rule.specs.declared.view.Version.{Version}
 use Rattle.register_rule.specs.declared.view.Member.{Member}
 use Rattle.register_rule.specs.declared.view.SeatView.{SeatView}
-use Rattle.register_rule.specs.Words.{item_of, seg}
+use Rattle.register_rule.specs.Words.{version_item, seg}
 use Rattle.register_rule.specs.History.{count}
 use Rattle.register_rule.specs.Sums.{total, Legal, last_lent}
 use Rattle.register_rule.specs.Shown.{Shows}
-use Rattle.register_rule.specs.Scans.{IsVersion}
+use Rattle.register_rule.specs.SoundScans.{IsVersion}
 use Rattle.register_rule.specs.Rule.{IsWorker, IsRole, IsMember, Rule}
-use Rattle.register_rule.specs.Members.{group, led, last_answer, made_of, published}
+use Rattle.register_rule.specs.Members.{group, led, newest, made_of, published}
 use Rattle.register_rule.specs.Told.{AllCompare, HoldsNext, KeepsRule}
 use Rattle.register_rule.proofs.Words.{item_lt, seg_here, seg_else, at_below, there, read_at, each_push, put, put_here, put_else}
 use Rattle.register_rule.proofs.Moments.{count_append}
@@ -35,40 +35,44 @@ use Rattle.register_rule.proofs.Pairs.{compares, allows_both}
 use Rattle.register_rule.proofs.Keeping.{everywhere, first, as_worker, stays, views_apart, one_apart}
 
 -- what is lent after one more publish
-pub lent_last : (xs : List Made) (x : Made) → last_lent (xs ++ x ∷ []) ≡ x.lends
+pub lent_last : (xs : List PublishEntry) (x : PublishEntry) → last_lent (xs ++ x ∷ []) ≡ x.lends
 lent_last [] x = refl
 lent_last (y ∷ []) x = refl
 lent_last (y ∷ z ∷ zs) x = lent_last (z ∷ zs) x
 
-at_last_entry : (l : List Answer) (a : Answer) → last_answer l ≡ Some a → (q : ℕ) × (get_elem? l q ≡ some a)
+at_last_entry : (l : List Answer) (a : Answer) → newest l ≡ Some a → (q : ℕ) × (get_elem? l q ≡ some a)
 at_last_entry [] a e = absurd (none-some a e)
 at_last_entry (x ∷ []) a e = (0, ap some (same_Some x a e))
 at_last_entry (x ∷ y ∷ ys) a e = let t = at_last_entry (y ∷ ys) a e in (suc t.0, t.1)
 
 -- what a publish lends is an answer that its worker recorded
-lent_recorded : (m : Member) (lends : Bool) (a : Answer) → cond lends (last_answer m.scan.recorded) None ≡ Some a → (q : ℕ)
+lent_recorded : (m : Member) (lends : Bool) (a : Answer) → cond lends (newest m.scan.recorded) None ≡ Some a → (q : ℕ)
     × (get_elem? m.scan.recorded q ≡ some a)
 lent_recorded m true a e = at_last_entry m.scan.recorded a e
 lent_recorded m false a e = absurd (none-some a e)
 
 -- what a list of versions adds, and one more
-pub total_last : (adds : List Op → ℕ → ℕ) (xs : List Made) (x : Made) (k : ℕ)
+pub total_last : (adds : List Op → ℕ → ℕ) (xs : List PublishEntry) (x : PublishEntry) (k : ℕ)
     → total adds (xs ++ x ∷ []) k ≡ total adds xs k + adds x.ops k
 total_last adds [] x k = omega arith
 total_last adds (y ∷ ys) x k = let e = total_last adds ys x k in omega (arith, e)
 
 -- a list that the row accepts may come next
-legal_more : (adds : List Op → ℕ → ℕ) (accepts : (ℕ → ℕ) → List Op → Type 0) (before xs : List Made) (x : Made)
+legal_more : (adds : List Op → ℕ → ℕ) (accepts : (ℕ → ℕ) → List Op → Type 0) (before xs : List PublishEntry) (x : PublishEntry)
     → Legal adds accepts before xs → accepts (total adds (before ++ xs)) x.ops → Legal adds accepts before (xs ++ x ∷ [])
-legal_more adds accepts before [] y h a = (subst (λ (z : List Made). accepts (total adds z) y.ops) (append-nil before) a, tt)
+legal_more adds accepts before [] y h a = (
+  subst (λ (z : List PublishEntry). accepts (total adds z) y.ops)
+      (append-nil before) a,
+  tt,
+)
 legal_more adds accepts before (x ∷ xs) y h a = (
   h.0,
   legal_more adds accepts (before ++ x ∷ []) xs y h.1
-      (subst (λ (z : List Made). accepts (total adds z) y.ops) (sym (append_assoc before (x ∷ []) xs)) a),
+      (subst (λ (z : List PublishEntry). accepts (total adds z) y.ops) (sym (append_assoc before (x ∷ []) xs)) a),
 )
 
 -- the version after the next one has its words where this one has them
-item_again : (b s k : ℕ) → item_of b (suc (suc s)) k ≡ item_of b s k
+item_again : (b s k : ℕ) → version_item b (suc (suc s)) k ≡ version_item b s k
 item_again b s k = let e : suc (suc s) % 2 ≡ s % 2 = omega arith in ap (λ (z : ℕ). 1 + z * b + k) e
 
 module _ (n w b : ℕ) (adds : List Op → ℕ → ℕ) (accepts : (ℕ → ℕ) → List Op → Type 0) (slots id : ℕ) (me : Me (Unit {0}) SeatView)
@@ -76,7 +80,7 @@ module _ (n w b : ℕ) (adds : List Op → ℕ → ℕ) (accepts : (ℕ → ℕ)
   abbrev Ruled : State (Unit {0}) SeatView → Type 0
   Ruled = Rule n w b adds accepts
 
-  abbrev last : Made
+  abbrev last : PublishEntry
   last = made_of ops lends m
 
   abbrev new : Member
@@ -86,21 +90,21 @@ module _ (n w b : ℕ) (adds : List Op → ℕ → ℕ) (accepts : (ℕ → ℕ)
   row = record { number = suc (length m.work.made); row = take w m.work.hidden }
 
   -- the worker's new row is that of its new version
-  row_right : (made : ℕ → List Made) → made i ≡ m.work.made ++ last ∷ [] → length m.work.hidden ≡ b → w ≤ b
+  row_right : (made : ℕ → List PublishEntry) → made i ≡ m.work.made ++ last ∷ [] → length m.work.hidden ≡ b → w ≤ b
       → HoldsNext n w b adds ops lends m → IsVersion n w adds made i row
   row_right made is deep room holds =
-      let longer : List Made = m.work.made ++ last ∷ [] in
+      let longer : List PublishEntry = m.work.made ++ last ∷ [] in
       let len : length longer ≡ suc (length m.work.made) = omega (arith, length-append m.work.made (last ∷ [])) in
       let whole : take (suc (length m.work.made)) (made i) ≡ longer = ap (take (suc (length m.work.made))) is
       ∙ take_all (suc (length m.work.made)) longer (omega arith) in record {
-        old = let e : length (made i) ≡ length longer = ap (λ (l : List Made). length l) is in omega arith;
+        old = let e : length (made i) ≡ length longer = ap (λ (l : List PublishEntry). length l) is in omega arith;
         wide = length-take-le w m.work.hidden (omega arith);
         row = λ k y e. let below = at_below (take w m.work.hidden) k y e in
             let len : length (take w m.work.hidden) ≡ w = length-take-le w m.work.hidden (omega arith) in
             let lt : k < w = omega arith in
             sym (read_at (take w m.work.hidden) k y 0 e)
             ∙ (get_or-take w m.work.hidden k 0 lt
-            ∙ ((holds k (omega arith)).row lt ∙ ap (λ (l : List Made). total adds l k) (sym whole)));
+            ∙ ((holds k (omega arith)).row lt ∙ ap (λ (l : List PublishEntry). total adds l k) (sym whole)));
       }
 
   -- the worker's segment shows the new version from now on, and the history has one more publish
@@ -114,15 +118,16 @@ module _ (n w b : ℕ) (adds : List Op → ℕ → ℕ) (accepts : (ℕ → ℕ)
       ok in
       let own : r.owner (Worker i) ≡ id = sym (ap r.owner who) ∙ ok.here in
       let inside = was.work.inside in
-      let old : List Made = r.made i in
-      let longer : List Made = old ++ last ∷ [] in
-      let made' : ℕ → List Made = put r.made i longer in
+      let old : List PublishEntry = r.made i in
+      let longer : List PublishEntry = old ++ last ∷ [] in
+      let made' : ℕ → List PublishEntry = put r.made i longer in
       let now : made' i ≡ longer = put_here r.made i longer in
       let all : m.work.made ≡ old = was.work.all in
-      let mine : m.work.made ++ last ∷ [] ≡ made' i = ap (λ (l : List Made). l ++ last ∷ []) all ∙ sym now in
+      let mine : m.work.made ++ last ∷ [] ≡ made' i = ap (λ (l : List PublishEntry). l ++ last ∷ []) all ∙ sym now in
       let len : length longer ≡ suc (length old) = omega (arith, length-append old (last ∷ [])) in
-      let number : length (made' i) ≡ suc (length old) = ap (λ (l : List Made). length l) now ∙ len in
-      let number' : suc (length m.work.made) ≡ length (made' i) = ap (λ (l : List Made). suc (length l)) all ∙ sym number in
+      let number : length (made' i) ≡ suc (length old) = ap (λ (l : List PublishEntry). length l) now ∙ len in
+      let number' : suc (length m.work.made) ≡ length (made' i) = ap (λ (l : List PublishEntry). suc (length l)) all
+      ∙ sym number in
       let at_lt : at < length s.words = subst (λ (z : ℕ × ℕ). z.0 < z.1) (λ c. (sym place c, sym r.wide c))
       (digits_lt inside (omega arith)) in
       let words' : List ℕ = set s.words at x in
@@ -130,12 +135,12 @@ module _ (n w b : ℕ) (adds : List Op → ℕ → ℕ) (accepts : (ℕ → ℕ)
       let more : Grows r.made made' = λ j. dite (ℕ_discrete j i)
       (λ e. subst (λ (z : ℕ). (length (r.made z) ≤ length (made' z))
       × ((q : ℕ) → q ≤ length (r.made z) → take q (made' z) ≡ take q (r.made z))) (sym e)
-      (subst (λ (z : List Made). (length old ≤ length z) × ((q : ℕ) → q ≤ length old → take q z ≡ take q old)) (sym now)
+      (subst (λ (z : List PublishEntry). (length old ≤ length z) × ((q : ℕ) → q ≤ length old → take q z ≡ take q old)) (sym now)
       (omega (arith, len), λ q h. take-append-le q old (last ∷ []) h)))
-      (λ other. subst (λ (z : List Made). (length (r.made j) ≤ length z)
+      (λ other. subst (λ (z : List PublishEntry). (length (r.made j) ≤ length z)
       × ((q : ℕ) → q ≤ length (r.made j) → take q z ≡ take q (r.made j))) (sym (same j other)) (omega arith, λ q h. refl)) in
       -- only the number of the segment changes
-      let item_stays : (j v k : ℕ) → k < b → seg b words' j (item_of b v k) ≡ seg b s.words j (item_of b v k) =
+      let item_stays : (j v k : ℕ) → k < b → seg b words' j (version_item b v k) ≡ seg b s.words j (version_item b v k) =
       λ j v k lt. seg_else b s.words i 0 x at j _ place (omega arith) (item_lt b v k lt) (λ _ z. omega (arith, z)) in
       let else_word : (j y : ℕ) → j ≢ i → y < span b → seg b words' j y ≡ seg b s.words j y =
       λ j y other lt. seg_else b s.words i 0 x at j y place (omega arith) lt (λ e. absurd (other e)) in
@@ -150,15 +155,16 @@ module _ (n w b : ℕ) (adds : List Op → ℕ → ℕ) (accepts : (ℕ → ℕ)
           hidden_deep = shown_deep;
           shown_deep = hidden_deep;
           hidden = λ k y e. let lt = at_below m.work.shown k y e in
-              ap (λ (z : ℕ). seg b words' i (item_of b (suc z) k)) number
+              ap (λ (z : ℕ). seg b words' i (version_item b (suc z) k)) number
               ∙ (ap (λ (z : ℕ). seg b words' i z) (item_again b (length old) k)
               ∙ (item_stays i (length old) k (omega arith) ∙ was.work.shown k y e));
           shown = λ k y e. let lt = at_below m.work.hidden k y e in
-              ap (λ (z : ℕ). seg b words' i (item_of b z k)) number
+              ap (λ (z : ℕ). seg b words' i (version_item b z k)) number
               ∙ (item_stays i (suc (length old)) k (omega arith) ∙ was.work.hidden k y e);
         };
         own = set_here m.scan.seen i (suc (length m.work.made)) (omega arith) ∙ ap some number';
-        lends = λ q y a. each_push (λ (z : Made). z.lends ≡ Some a → (p : ℕ) × (get_elem? m.scan.recorded p ≡ some a)) m.work.made
+        lends = λ q y a. each_push (λ (z : PublishEntry). z.lends ≡ Some a → (p : ℕ)
+            × (get_elem? m.scan.recorded p ≡ some a)) m.work.made
             last (λ p z. was.lends p z a) (lent_recorded m lends a) q y;
       } in
       let here : IsMember n w b adds made' r.owner later words' id new = record {
@@ -179,24 +185,27 @@ module _ (n w b : ℕ) (adds : List Op → ℕ → ℕ) (accepts : (ℕ → ℕ)
             let c = count_append i r.history (i ∷ []) in let c' = r.counted i inside in omega arith))
             (λ other. let none : count j (i ∷ []) ≡ 0 = ap (λ (z : Bool). cond z 1 0 + 0) (ne_eqb i j (λ e. other (sym e))) in
             let c = count_append j r.history (i ∷ []) in let c' = r.counted j h in
-            let l : length (made' j) ≡ length (r.made j) = ap (λ (z : List Made). length z) (same j other) in omega arith);
+            let l : length (made' j) ≡ length (r.made j) = ap (λ (z : List PublishEntry). length z)
+            (same j other) in omega arith);
         legal = λ j h. dite (ℕ_discrete j i)
             (λ e. subst (λ (z : ℕ). Legal adds accepts [] (made' z)) (sym e)
             (subst (Legal adds accepts []) (sym now)
             (legal_more adds accepts [] old last (r.legal i inside)
-            (subst (λ (z : List Made). accepts (total adds z) ops) all fine))))
+            (subst (λ (z : List PublishEntry). accepts (total adds z) ops) all fine))))
             (λ other. subst (Legal adds accepts []) (sym (same j other)) (r.legal j h));
         wide = length-set s.words at x ∙ r.wide;
         number = λ j h. dite (ℕ_discrete j i)
             (λ e. subst (λ (z : ℕ). seg b words' z 0 ≡ length (made' z)) (sym e) (seg_here b s.words i 0 x at place at_lt
             ∙ (next ∙ number')))
-            (λ other. else_word j 0 other (omega arith) ∙ (r.number j h ∙ ap (λ (l : List Made). length l) (sym (same j other))));
+            (λ other. else_word j 0 other (omega arith) ∙ (r.number j h
+            ∙ ap (λ (l : List PublishEntry). length l) (sym (same j other))));
         shown = λ j k h lt. dite (ℕ_discrete j i)
-            (λ e. subst (λ (z : ℕ). Shows n w adds (made' z) k (seg b words' z (item_of b (length (made' z)) k))) (sym e)
-            (subst (λ (z : List Made × ℕ). Shows n w adds z.0 k z.1)
+            (λ e. subst (λ (z : ℕ). Shows n w adds (made' z) k (seg b words' z (version_item b (length (made' z)) k))) (sym e)
+            (subst (λ (z : List PublishEntry × ℕ). Shows n w adds z.0 k z.1)
             (λ c. (mine c, sym (role.work.shown k (slice_index m.work.hidden k) (there m.work.hidden k 0 (omega arith))) c))
             (holds k lt)))
-            (λ other. subst (λ (l : List Made). Shows n w adds l k (seg b words' j (item_of b (length l) k))) (sym (same j other))
+            (λ other. subst (λ (l : List PublishEntry). Shows n w adds l k (seg b words' j (version_item b (length l) k)))
+            (sym (same j other))
             (subst (Shows n w adds (r.made j) k) (sym (item_stays j (length (r.made j)) k lt)) (r.shown j k h lt)));
         lent = λ j a h e. dite (ℕ_discrete j i)
             (λ ji. let e' : last_lent longer ≡ Some a = sym (ap last_lent now)

@@ -11,13 +11,13 @@ use Rattle.atomic_table.specs.Table.{Splits, Joins}
 use Rattle.atomic_table.proofs.Lists.{at_set, set_else}
 use Rattle.segment_layout.specs.Layout.{span}
 use Rattle.ledger_core.specs.declared.op.Op.{Op}
-use Rattle.register_rule.specs.declared.view.Made.{Made}
+use Rattle.register_rule.specs.declared.view.PublishEntry.{PublishEntry}
 use Rattle.register_rule.specs.declared.view.Who.{Who}
 use Rattle.register_rule.specs.declared.view.Who.TheVariants.{Worker, Reader}
 use Rattle.register_rule.specs.declared.view.Member.{Member}
 use Rattle.register_rule.specs.declared.view.SeatView.{SeatView}
-use Rattle.register_rule.specs.Scans.{AtMost, IsSound}
-use Rattle.register_rule.specs.Steps.{upper}
+use Rattle.register_rule.specs.SoundScans.{AtMost, IsSound}
+use Rattle.register_rule.specs.ScanSteps.{upper}
 use Rattle.register_rule.specs.Rule.{IsRole, IsMember, Rule, AreApart}
 use Rattle.register_rule.specs.Members.{group, same_who, picked, without, raised_by, reach, greatest, raised, met}
 use Rattle.register_rule.specs.Told.{KeepsRule, AllCompare}
@@ -95,7 +95,7 @@ same_is (Worker i) (Reader j) e = absurd (let f : false ≡ true = e in cc)
 same_is (Reader i) (Worker j) e = absurd (let f : false ≡ true = e in cc)
 
 module _ (n w b : ℕ) (adds : List Op → ℕ → ℕ) where
-  module _ (made : ℕ → List Made) (owner : Who → ℕ) (h ws : List ℕ) (j : ℕ) where
+  module _ (made : ℕ → List PublishEntry) (owner : Who → ℕ) (h ws : List ℕ) (j : ℕ) where
     -- the seat of a member changes, and what it knows stays
     moves : (owner' : Who → ℕ) (j' : ℕ) (m : Member) → owner' m.who ≡ j' → IsMember n w b adds made owner h ws j m
         → IsMember n w b adds made owner' h ws j' m
@@ -109,7 +109,7 @@ module _ (n w b : ℕ) (adds : List Op → ℕ → ℕ) where
         go (Worker i) t k x e = ⊎_elim
             (λ (q : (k ≡ i) × (max (get_or m.scan.seen i 0) (length m.work.made) ≡ x)).
             let len : ℕ = length (made i) in let a : get_or m.scan.seen i 0 ≡ len = read_at m.scan.seen i _ 0 t.own in
-            let c : length m.work.made ≡ len = ap (λ (z : List Made). length z) t.work.all in
+            let c : length m.work.made ≡ len = ap (λ (z : List PublishEntry). length z) t.work.all in
             let q1 = q.1 in let low : x ≤ len = omega arith in subst (λ (z : ℕ). x ≤ length (made z)) (sym q.0) low)
             (λ (q : (k ≢ i) × (get_elem? m.scan.seen k ≡ some x)). ok.scan.seen k x q.1)
             (at_set m.scan.seen i k _ x e)
@@ -138,7 +138,7 @@ module _ (n w b : ℕ) (adds : List Op → ℕ → ℕ) where
         }
         go (Reader i) t = tt
 
-  module _ (made : ℕ → List Made) where
+  module _ (made : ℕ → List PublishEntry) where
     -- what each of these members reaches is such a vector, of n numbers
     abbrev Reaches : List Member → Type 0
     Reaches ms = (p : ℕ) (m : Member) → get_elem? ms p ≡ some m → AtMost n w adds made (reach m) × (length (reach m) ≡ n)

@@ -12,13 +12,13 @@ use Rattle.std.proofs.lemmas.Option.{none-some}
 use Rattle.atomic_table.specs.Table.{opening}
 use Rattle.segment_layout.specs.Layout.{span}
 use Rattle.ledger_core.specs.declared.op.Op.{Op}
-use Rattle.register_rule.specs.declared.view.Made.{Made}
+use Rattle.register_rule.specs.declared.view.PublishEntry.{PublishEntry}
 use Rattle.register_rule.specs.declared.view.Who.{Who}
 use Rattle.register_rule.specs.declared.view.Who.TheVariants.{Worker, Reader}
 use Rattle.register_rule.specs.declared.view.Member.{Member}
 use Rattle.register_rule.specs.declared.view.SeatView.{SeatView}
 use Rattle.register_rule.specs.Shown.{Shows}
-use Rattle.register_rule.specs.Scans.{IsVersion, IsSound}
+use Rattle.register_rule.specs.SoundScans.{IsVersion, IsSound}
 use Rattle.register_rule.specs.Rule.{IsMember, Rule, AreApart}
 use Rattle.register_rule.specs.Members.{fresh_scan, new_worker, new_reader, workers_from, readers_from, everyone, first_of}
 use Rattle.register_rule.specs.Members.{same_who, picked, without}
@@ -77,7 +77,7 @@ module _ {f : ℕ → Member} {from : (i k : ℕ) → List Member} (order : InOr
   )
 
 -- nobody has published
-abbrev none_made : ℕ → List Made
+abbrev none_made : ℕ → List PublishEntry
 none_made i = []
 
 new_scan_is : (n w : ℕ) (adds : List Op → ℕ → ℕ) → 0 < n → IsSound n w adds none_made [] (fresh_scan n w)

@@ -5,7 +5,7 @@ use mathlib.Core.Logic.{dite}
 use mathlib.Core.Option.{some, some-injective, some-ne-none}
 use native.Mathlib.Decide.{dec_le}
 use lib.ListN.{get_elem?}
-use Rattle.register_rule.specs.Steps.{upper}
+use Rattle.register_rule.specs.ScanSteps.{upper}
 
 pub length_upper : (u v : List ℕ) → length v ≤ length u → length (upper u v) ≡ length u
 length_upper [] v h = omega arith

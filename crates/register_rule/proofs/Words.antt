@@ -12,26 +12,26 @@ use Rattle.atomic_table.proofs.Lists.{at_index, at_snoc}
 use Rattle.segment_layout.specs.declared.part.Item.TheVariants.{Row as RowItem, Flag as FlagItem, Vector as VectorItem}
 use Rattle.segment_layout.specs.declared.part.Item.TheVariants.{Lent as LentItem}
 use Rattle.segment_layout.specs.Layout.{depth, span}
-use Rattle.register_rule.specs.Words.{item_of, seg, IsPlaceOf}
+use Rattle.register_rule.specs.Words.{version_item, seg, IsPlaceOf}
 
 -- an item of a version is within the segment
-pub item_lt : (b s k : ℕ) → k < b → item_of b s k < span b
+pub item_lt : (b s k : ℕ) → k < b → version_item b s k < span b
 item_lt b s k h = omega (arith, mul-add-lt (s % 2) b k 2 (omega arith) h)
 
 -- two words of two versions stand at one item only where they are the same word of the row, in the same buffer
-pub same_item : (b s v k j : ℕ) → k < b → j < b → item_of b v j ≡ item_of b s k → (v % 2 ≡ s % 2) × (j ≡ k)
+pub same_item : (b s v k j : ℕ) → k < b → j < b → version_item b v j ≡ version_item b s k → (v % 2 ≡ s % 2) × (j ≡ k)
 same_item b s v k j hk hj e = same_from_place (v % 2) j (s % 2) k b hj hk (omega (arith, e))
 
 -- no item of the hidden buffer is one of the shown buffer
-pub items_apart : (b s k j : ℕ) → k < b → j < b → item_of b (suc s) k ≢ item_of b s j
+pub items_apart : (b s k j : ℕ) → k < b → j < b → version_item b (suc s) k ≢ version_item b s j
 items_apart b s k j hk hj e = let t = (same_item b s (suc s) j k hj hk e).0 in absurd (omega arith)
 
 -- an item of a version stands where its part does
-pub place_is : (n w i s k at : ℕ) → at ≡ i * span (depth n w) + item_of (depth n w) s k → IsPlaceOf n w i s k at
-place_is n w i s k at e (RowItem word) is = e ∙ ap (λ (z : ℕ). i * span (depth n w) + item_of (depth n w) s z) is
-place_is n w i s k at e FlagItem is = e ∙ ap (λ (z : ℕ). i * span (depth n w) + item_of (depth n w) s z) is
-place_is n w i s k at e (VectorItem worker) is = e ∙ ap (λ (z : ℕ). i * span (depth n w) + item_of (depth n w) s z) is
-place_is n w i s k at e (LentItem word) is = e ∙ ap (λ (z : ℕ). i * span (depth n w) + item_of (depth n w) s z) is
+pub place_is : (n w i s k at : ℕ) → at ≡ i * span (depth n w) + version_item (depth n w) s k → IsPlaceOf n w i s k at
+place_is n w i s k at e (RowItem word) is = e ∙ ap (λ (z : ℕ). i * span (depth n w) + version_item (depth n w) s z) is
+place_is n w i s k at e FlagItem is = e ∙ ap (λ (z : ℕ). i * span (depth n w) + version_item (depth n w) s z) is
+place_is n w i s k at e (VectorItem worker) is = e ∙ ap (λ (z : ℕ). i * span (depth n w) + version_item (depth n w) s z) is
+place_is n w i s k at e (LentItem word) is = e ∙ ap (λ (z : ℕ). i * span (depth n w) + version_item (depth n w) s z) is
 
 -- reading after a write
 pub seg_here : (b : ℕ) (ws : List ℕ) (i x v at : ℕ) → at ≡ i * span b + x → at < length ws → seg b (set ws at v) i x ≡ v

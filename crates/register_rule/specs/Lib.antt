@@ -3,9 +3,9 @@ pub mod History
 pub mod Sums
 pub mod Shown
 pub mod Loads
-pub mod Scans
+pub mod SoundScans
 pub mod Rule
-pub mod Steps
+pub mod ScanSteps
 pub mod Members
 pub mod Told
 pub mod Seats

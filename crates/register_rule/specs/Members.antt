@@ -5,18 +5,18 @@ use Rattle.ledger_core.specs.declared.op.Op.{Op}
 use Rattle.register_rule.specs.declared.view.Who.{Who}
 use Rattle.register_rule.specs.declared.view.Who.TheVariants.{Worker, Reader}
 use Rattle.register_rule.specs.declared.view.Answer.{Answer}
-use Rattle.register_rule.specs.declared.view.Made.{Made}
-use Rattle.register_rule.specs.declared.view.Scan.{Scan}
+use Rattle.register_rule.specs.declared.view.PublishEntry.{PublishEntry}
+use Rattle.register_rule.specs.declared.view.ScanLog.{ScanLog}
 use Rattle.register_rule.specs.declared.view.Member.{Member}
 use Rattle.register_rule.specs.declared.view.SeatView.{SeatView}
-use Rattle.register_rule.specs.Steps.{at_rest, upper}
+use Rattle.register_rule.specs.ScanSteps.{at_rest, upper}
 
 -- the view of these members
 abbrev pub group : List Member → SeatView
 group ms = record { members = ms }
 
 -- the scans of a member that has made no step: n workers, rows of w words
-abbrev pub fresh_scan : (n w : ℕ) → Scan
+abbrev pub fresh_scan : (n w : ℕ) → ScanLog
 fresh_scan n w = record {
   opened = [];
   confirmed = [];
@@ -66,7 +66,7 @@ led f [] = []
 led f (m ∷ ms) = f m ∷ ms
 
 -- this member, of which `f` has changed what it learned by its scans
-abbrev pub scan_changed : (Scan → Scan) → Member → Member
+abbrev pub scan_changed : (ScanLog → ScanLog) → Member → Member
 scan_changed f m = record m { scan = f m.scan }
 
 -- a store of x into the item k of the hidden buffer
@@ -74,14 +74,14 @@ abbrev pub filled : (k x : ℕ) → Member → Member
 filled k x m = record m { work = record m.work { hidden = slice_set m.work.hidden k x } }
 
 -- the last of these answers, if there is one
-abbrev pub last_answer : List Answer → Option Answer
-last_answer [] = None
-last_answer (a ∷ []) = Some a
-last_answer (a ∷ x ∷ xs) = last_answer (x ∷ xs)
+abbrev pub newest : List Answer → Option Answer
+newest [] = None
+newest (a ∷ []) = Some a
+newest (a ∷ x ∷ xs) = newest (x ∷ xs)
 
 -- a publish of these operations, which lends the last answer that the member recorded, or nothing
-abbrev pub made_of : List Op → (lends : Bool) → Member → Made
-made_of ops lends m = record { ops = ops; lends = cond lends (last_answer m.scan.recorded) None }
+abbrev pub made_of : List Op → (lends : Bool) → Member → PublishEntry
+made_of ops lends m = record { ops = ops; lends = cond lends (newest m.scan.recorded) None }
 
 -- the store of worker i's own number: the buffers change their roles, and the worker knows its new row
 abbrev pub published : (w i : ℕ) → List Op → (lends : Bool) → Member → Member

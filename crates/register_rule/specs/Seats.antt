@@ -46,17 +46,17 @@ module _ {N C H G : ℕ} where
   board_id b = b.table.shared.key.id
 
   -- the seat is of this board's parts
-  abbrev pub Has : Board N C H G → Bundle → Type 0
-  Has b s = table_of s ≡ b.table.shared.table_id
+  abbrev pub IsSeatOf : Board N C H G → Bundle → Type 0
+  IsSeatOf b s = table_of s ≡ b.table.shared.table_id
 
   -- and can make steps of a scan
   abbrev pub MayScan : Board N C H G → Bundle → Type 0
-  MayScan b s = Has b s × HasMember (members_of s)
+  MayScan b s = IsSeatOf b s × HasMember (members_of s)
 
   -- the seat is that of one of its workers
-  abbrev pub HasWorker : Board N C H G → WorkSeat → Type 0
-  HasWorker b s = Has b (work_bundle s) × (index_of s < N)
+  abbrev pub IsWorkSeatOf : Board N C H G → WorkSeat → Type 0
+  IsWorkSeatOf b s = IsSeatOf b (work_bundle s) × (index_of s < N)
 
   -- the seat is that of one of its readers
-  abbrev pub HasReader : Board N C H G → ReadSeat → Type 0
-  HasReader b s = Has b (read_bundle s)
+  abbrev pub IsReadSeatOf : Board N C H G → ReadSeat → Type 0
+  IsReadSeatOf b s = IsSeatOf b (read_bundle s)

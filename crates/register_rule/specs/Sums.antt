@@ -2,27 +2,27 @@
 -- and `accepts` which lists a row of these words accepts.
 use Rattle.std.specs.Prelude.{ℕ, suc, ◌+◌, Option, Some, None, List, [], ◌∷◌, ◌++◌, take}
 use Rattle.ledger_core.specs.declared.op.Op.{Op}
-use Rattle.register_rule.specs.declared.view.Made.{Made}
+use Rattle.register_rule.specs.declared.view.PublishEntry.{PublishEntry}
 use Rattle.register_rule.specs.declared.view.Answer.{Answer}
 
 module _ (adds : List Op → ℕ → ℕ) where
   -- the word k of the row after these publishes
-  abbrev pub total : List Made → ℕ → ℕ
+  abbrev pub total : List PublishEntry → ℕ → ℕ
   total [] k = 0
   total (x ∷ xs) k = adds x.ops k + total xs k
 
   -- the sum of the rows of the workers from i on, at the versions of this vector; made i is what worker i published
-  abbrev pub row_sum : (ℕ → List Made) → (i : ℕ) → List ℕ → (k : ℕ) → ℕ
+  abbrev pub row_sum : (ℕ → List PublishEntry) → (i : ℕ) → List ℕ → (k : ℕ) → ℕ
   row_sum made i [] k = 0
   row_sum made i (s ∷ vector) k = total (take s (made i)) k + row_sum made (suc i) vector k
 
   -- each list was accepted by the row of those before it
-  abbrev pub Legal : ((ℕ → ℕ) → List Op → Type 0) → (before after : List Made) → Type 0
+  abbrev pub Legal : ((ℕ → ℕ) → List Op → Type 0) → (before after : List PublishEntry) → Type 0
   Legal accepts before [] = Unit {0}
   Legal accepts before (x ∷ xs) = accepts (total before) x.ops × Legal accepts (before ++ x ∷ []) xs
 
 -- what the last version lends
-abbrev pub last_lent : List Made → Option Answer
+abbrev pub last_lent : List PublishEntry → Option Answer
 last_lent [] = None
 last_lent (m ∷ []) = m.lends
 last_lent (m ∷ x ∷ xs) = last_lent (x ∷ xs)

@@ -7,7 +7,7 @@ use Rattle.atomic_table.specs.Table.{State}
 use Rattle.ledger_core.specs.declared.op.Op.{Op}
 use Rattle.register_rule.specs.declared.view.Who.TheVariants.{Worker}
 use Rattle.register_rule.specs.declared.view.Look.{Look}
-use Rattle.register_rule.specs.declared.view.Made.{Made}
+use Rattle.register_rule.specs.declared.view.PublishEntry.{PublishEntry}
 use Rattle.register_rule.specs.declared.view.Asked.{Asked}
 use Rattle.register_rule.specs.declared.view.Answer.{Answer}
 use Rattle.register_rule.specs.declared.view.Member.{Member}
@@ -15,16 +15,16 @@ use Rattle.register_rule.specs.declared.view.SeatView.{SeatView}
 use Rattle.register_rule.specs.declared.load.Load.{Load}
 use Rattle.register_rule.specs.declared.load.Load.TheVariants.{Open, Read, Confirm, Ask, EndAsk}
 use Rattle.segment_layout.specs.Layout.{span}
-use Rattle.register_rule.specs.Words.{item_of, seg}
+use Rattle.register_rule.specs.Words.{version_item, seg}
 use Rattle.register_rule.specs.History.{count, Comparable}
 use Rattle.register_rule.specs.Sums.{Legal}
-use Rattle.register_rule.specs.Scans.{opened_at, IsSound}
+use Rattle.register_rule.specs.SoundScans.{opened_at, IsSound}
 use Rattle.register_rule.specs.Members.{first_of, made_of, led, scan_changed}
 use Rattle.register_rule.specs.Shown.{Shows}
 use Rattle.register_rule.specs.Rule.{Rule, AreApart}
 use Rattle.ledger_core.specs.Ops.{width, sum_ops}
 use Rattle.ledger_core.specs.Row.{Accepts}
-use Rattle.register_rule.specs.declared.view.Scan.{Scan}
+use Rattle.register_rule.specs.declared.view.ScanLog.{ScanLog}
 use Rattle.register_rule.specs.declared.seats.Bundle.{Bundle}
 use Rattle.register_rule.specs.Seats.{table_of, members_of}
 
@@ -48,7 +48,7 @@ IsLoad n b (EndAsk place) = place < n
 -- where the word of this load stands on the board, whose buffers have b words
 abbrev pub word_of : (b : ℕ) → Load → ℕ
 word_of b (Open place) = place * span b + 0
-word_of b (Read place number item) = place * span b + item_of b number item
+word_of b (Read place number item) = place * span b + version_item b number item
 word_of b (Confirm place) = place * span b + 0
 word_of b (Ask place) = place * span b + 0
 word_of b (EndAsk place) = place * span b + 0
@@ -64,7 +64,7 @@ LoadTells w (EndAsk place) ms x = IsNumber place ms x
 -- all that the rule says of these members: there are publishes of all workers, in one order, of which those of the
 -- workers among them are a part, and by which the scans of each of them are right
 pub record AreRuled (n w : ℕ) (adds : List Op → ℕ → ℕ) (accepts : (ℕ → ℕ) → List Op → Type 0) (ms : List Member) : Type 0 where
-  pub made : ℕ → List Made
+  pub made : ℕ → List PublishEntry
   pub history : List ℕ
   pub counted : (i : ℕ) → i < n → count i history ≡ length (made i)
   pub legal : (i : ℕ) → i < n → Legal adds accepts [] (made i)
@@ -83,7 +83,8 @@ module _ (n : ℕ) (number : ℕ → ℕ) (Is : Member → Type 0) where
   abbrev pub Tries : List Look → Type 0
   Tries looks = (m : Member) × Is m × (m.scan.now.looks ≡ looks) × (length looks ≡ n)
 
-  -- at a place that is not confirmed the number is no longer the one opened
+  -- at some place that is not confirmed the number that stands on the board is no longer the one opened: the try cannot become
+  -- clean
   abbrev pub IsDoomed : List Look → Type 0
   IsDoomed looks = (q : ℕ) × (l : Look) × (get_elem? looks q ≡ some l) × (l.sure ≡ false) × (number l.place ≢ l.number)
 
@@ -104,7 +105,8 @@ Sits s m = (j : ℕ) × (p : ℕ) × (v : SeatView) × (get_elem? s.views j ≡ 
 abbrev pub AllCompare : (n b : ℕ) → State (Unit {0}) SeatView → Type 0
 AllCompare n b s = AreComparable n (λ i. seg b s.words i 0) (Sits s)
 
--- the same, at one moment: x is the number of the segment i, and these members compare, by the numbers of that moment
+-- all that the rule says of these members at one moment, alone and in pairs: x is then the number of the segment i, and the
+-- members compare by the numbers of that moment
 abbrev pub AreRuledAt : (n w : ℕ) → (List Op → ℕ → ℕ) → ((ℕ → ℕ) → List Op → Type 0) → (i : ℕ) → List Member → (x : ℕ) → Type 0
 AreRuledAt n w adds accepts i ms x = (r : AreRuled n w adds accepts ms) × (x ≡ length (r.made i))
     × AreComparable n (λ j. length (r.made j)) (λ m. (p : ℕ) × (get_elem? ms p ≡ some m))
@@ -120,7 +122,7 @@ KeepsRule n w b adds accepts s = Rule n w b adds accepts s × AllCompare n b s
 
 -- the first member's scans have changed by `f`, no other member has, and all that the rule says of the members is told:
 -- a board of n workers, c counters, h histograms and g gauges
-pub record ScanChangesBy (n c h g : ℕ) (f : Scan → Scan) (old new : Bundle) : Type 0 where
+pub record ScanChangesBy (n c h g : ℕ) (f : ScanLog → ScanLog) (old new : Bundle) : Type 0 where
   pub own : table_of new ≡ table_of old
   pub member : members_of new ≡ led (scan_changed f) (members_of old)
   pub ruled : AreRuled n (width c h g) (sum_ops c h) (Accepts c h g) (members_of new)

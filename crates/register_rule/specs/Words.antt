@@ -8,8 +8,8 @@ use Rattle.segment_layout.specs.declared.part.Item.TheVariants.{Lent as LentItem
 use Rattle.segment_layout.specs.Layout.{span, item_at, place}
 
 -- a segment has its number at item 0, and the word k of the version s at this item; b is the length of a buffer
-abbrev pub item_of : (b s k : ℕ) → ℕ
-item_of b s k = 1 + s % 2 * b + k
+abbrev pub version_item : (b s k : ℕ) → ℕ
+version_item b s k = 1 + s % 2 * b + k
 
 -- the item x of the segment i
 abbrev pub seg : (b : ℕ) → List ℕ → (i x : ℕ) → ℕ

@@ -13,9 +13,7 @@
 
 mod board;
 mod board_fault;
-mod bundles;
 mod load;
-mod making;
 mod moves;
 mod scans;
 mod seats;
@@ -27,4 +25,7 @@ pub use board_fault::BoardFault;
 pub use load::Load;
 pub use scans::ScanSeat;
 pub use seats::{Bundle, ReadSeat, WorkSeat};
-pub use view::{Answer, Asked, Look, Made, Member, Progress, Scan, SeatView, Version, Who, Work};
+pub use view::{
+    Answer, Asked, Look, Member, PublishEntry, ScanInProgress, ScanLog, SeatView, Version, Who,
+    Work,
+};

@@ -3,7 +3,7 @@ ghost use Rattle.std.specs.Prelude.{◌<◌, ◌≤◌};
 ghost use Rattle.bucket_math.specs.Words.{greatest_word};
 ghost use Rattle.ledger_core.specs.Ops.{width};
 ghost use Rattle.segment_layout.specs.Layout.{depth};
-ghost use Rattle.register_rule.specs.Steps.{after, after_open, after_read, after_confirm, after_ask, after_end_ask};
+ghost use Rattle.register_rule.specs.ScanSteps.{after, after_open, after_read, after_confirm, after_ask, after_end_ask};
 ghost use Rattle.register_rule.specs.Told.{IsLoad, LoadTells, IsNumber};
 ghost use Rattle.register_rule.specs.Seats.{members_of, MayScan};
 ghost use Rattle.register_rule.specs.Told.{ScanChangesBy};

@@ -4,7 +4,7 @@ use ledger_core::Op;
 use std::collections::LinkedList;
 
 /// A member of a view: a worker, who writes one segment, or a reader.
-#[derive(Clone, Copy, Debug, PartialEq, Eq)]
+#[derive(Clone, Copy, Debug)]
 pub enum Who {
     /// The worker that writes the segment of this number.
     Worker(usize),
@@ -43,7 +43,7 @@ pub struct Answer {
 }
 
 /// One publish of a worker.
-pub struct Made {
+pub struct PublishEntry {
     /// The operations that it added.
     pub ops: LinkedList<Op>,
     /// The answer that its version lends, if it lends one.
@@ -64,7 +64,7 @@ pub struct Asked {
 }
 
 /// A scan in progress, at its present try.
-pub struct Progress {
+pub struct ScanInProgress {
     /// How many tries of the scan have failed.
     pub failed: u64,
     /// The numbers that the first try opened, once it has failed.
@@ -80,7 +80,7 @@ pub struct Progress {
 }
 
 /// What a member has loaded and learned by its scans.
-pub struct Scan {
+pub struct ScanLog {
     /// All opening loads of collects: place and number.
     pub opened: LinkedList<(usize, u64)>,
     /// All confirming loads of collects: place and number.
@@ -98,13 +98,13 @@ pub struct Scan {
     /// For each segment the row that was confirmed last.
     pub kept: LinkedList<Version>,
     /// The scan in progress.
-    pub now: Progress,
+    pub now: ScanInProgress,
 }
 
 /// What a worker has written.
 pub struct Work {
     /// What it published.
-    pub made: LinkedList<Made>,
+    pub made: LinkedList<PublishEntry>,
     /// The words of its segment's buffer that is not shown.
     pub hidden: LinkedList<u64>,
     /// The words of its segment's buffer that is shown.
@@ -118,7 +118,7 @@ pub struct Member {
     /// What it has written.
     pub work: Work,
     /// What it has loaded and learned.
-    pub scan: Scan,
+    pub scan: ScanLog,
 }
 
 /// What a seat knows: its members, of which the first one makes its steps.

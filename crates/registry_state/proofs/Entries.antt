@@ -4,17 +4,18 @@ use Rattle.std.specs.Prelude.{Some}
 use Rattle.std.proofs.lemmas.List.{length-drop}
 use Rattle.std.proofs.lemmas.Option.{none-some}
 use Rattle.register_rule.specs.declared.view.Answer.{Answer}
-use Rattle.snapshot_scan.specs.Sources.{newest}
-use Rattle.registry_state.specs.Journal.{Change, Entry, Changed, Scraped, changes, scrapes, without_oldest, without, within}
+use Rattle.register_rule.specs.Members.{newest}
+use Rattle.registry_state.specs.Journal.{RegistryChange, Entry, Changed, Scraped, changes, scrapes, without_oldest, without}
+use Rattle.registry_state.specs.Journal.{within}
 
 -- one change more
-pub changes_change : (journal : List Entry) (change : Change)
+pub changes_change : (journal : List Entry) (change : RegistryChange)
     → changes (journal ++ Changed change ∷ []) ≡ changes journal ++ change ∷ []
 changes_change [] change = refl
 changes_change (Changed first ∷ journal) change = ap (λ rest. first ∷ rest) (changes_change journal change)
 changes_change (Scraped first ∷ journal) change = changes_change journal change
 
-pub scrapes_change : (journal : List Entry) (change : Change) → scrapes (journal ++ Changed change ∷ []) ≡ scrapes journal
+pub scrapes_change : (journal : List Entry) (change : RegistryChange) → scrapes (journal ++ Changed change ∷ []) ≡ scrapes journal
 scrapes_change [] change = refl
 scrapes_change (Changed first ∷ journal) change = scrapes_change journal change
 scrapes_change (Scraped first ∷ journal) change = ap (λ rest. first ∷ rest) (scrapes_change journal change)
@@ -104,6 +105,6 @@ newest_scrape window journal answer some =
     ∙ newest_last (scrapes journal) answer
 
 -- a change leaves the newest
-pub newest_change : (journal : List Entry) (change : Change) → newest (scrapes (journal ++ Changed change ∷ [])) ≡ newest
+pub newest_change : (journal : List Entry) (change : RegistryChange) → newest (scrapes (journal ++ Changed change ∷ [])) ≡ newest
     (scrapes journal)
 newest_change journal change = ap newest (scrapes_change journal change)

@@ -5,12 +5,12 @@ use Rattle.metric_desc.specs.Desc.{Descriptor}
 use Rattle.metric_desc.specs.declared.kind.Kind.{Kind}
 use Rattle.register_rule.specs.declared.view.Answer.{Answer}
 use Rattle.segment_layout.specs.Layout.{IsGeometry}
-use Rattle.snapshot_scan.specs.Sources.{newest}
-use Rattle.registry_state.specs.Journal.{Change, Registered, Entry, Changed, scrapes}
+use Rattle.register_rule.specs.Members.{newest}
+use Rattle.registry_state.specs.Journal.{RegistryChange, Registered, Entry, Changed, scrapes}
 use Rattle.registry_state.specs.Replay.{Family, IsAcceptedChange, after}
 use Rattle.registry_state.specs.Faults.{IsWindow}
 use Rattle.registry_state.specs.Held.{IsPlaceOfName, used_of}
-use Rattle.registry_state.specs.Kept.{Registry}
+use Rattle.registry_state.specs.Kept.{RegistryView}
 use Rattle.registry_state.specs.Changed.{changed}
 use Rattle.registry_state.specs.Held.{IsHeld}
 use Rattle.registry_state.proofs.Entries.{newest_change}
@@ -75,7 +75,7 @@ module _ (n c h g : ℕ) (recorded : List Answer) (journal : List Entry) (window
 
 -- what contracts see of a registry after a change
 pub seen_changed : {S : Type 0} (id window : ℕ) (source : S) (journal journal' : List Entry) (families families' : List Family)
-    (change : Change)
+    (change : RegistryChange)
     → journal' ≡ journal ++ Changed change ∷ [] → families' ≡ after families change
     → record {
       id = id;
@@ -92,7 +92,7 @@ pub seen_changed : {S : Type 0} (id window : ℕ) (source : S) (journal journal'
       state = record { families = families; last = newest (scrapes journal) };
     })
 seen_changed {S} id window source journal journal' families families' change one two =
-    let now : (j : List Entry) (f : List Family) → Registry S = λ j f. record {
+    let now : (j : List Entry) (f : List Family) → RegistryView S = λ j f. record {
       id = id;
       window = window;
       source = source;

@@ -9,7 +9,7 @@ use Rattle.std.proofs.lemmas.Option.{get_or_from_slice_get, slice_get_within}
 use Rattle.metric_desc.specs.Desc.{Descriptor, Clash}
 use Rattle.metric_desc.specs.declared.kind.Kind.{Kind}
 use Rattle.metric_desc.specs.declared.kind.Kind.TheVariants.{Counter, Histogram, Gauge}
-use Rattle.registry_state.specs.Journal.{Registered, Made}
+use Rattle.registry_state.specs.Journal.{Registered, ChildMade}
 use Rattle.registry_state.specs.Replay.{Child, Family, IsFree, IsApart, MayMake, put, with_child, after, slots}
 use Rattle.registry_state.specs.Faults.{HasSlot}
 use Rattle.registry_state.specs.Changed.{IsLeastFree}
@@ -80,7 +80,7 @@ pub free_from : (c h g : ℕ) (families : List Family) (used : Kind → ℕ) (ki
     → used kind ≤ slot → IsFree families kind slot
 free_from c h g families used kind slot held le i d within same j e inner =
     let below : (get_or (get_or families i d).children j e).slot < used (get_or families i d).desc.kind =
-    (held.each i d within).below j e inner in
+    (held.are.each i d within).below j e inner in
     let here : (get_or (get_or families i d).children j e).slot < used kind =
     subst (λ k. (get_or (get_or families i d).children j e).slot < used k) same below in
     λ is. absurd (omega (arith, here, le, is))
@@ -99,9 +99,11 @@ none_free c h g families used kind held full has = held.taken kind has.0 (omega 
 
 pub held_none : (c h g : ℕ) → AreHeld c h g [] (used_of 0 0 0)
 held_none c h g = record {
-  few = omega arith;
-  apart = λ i j d lt within. absurd (omega (arith, within));
-  each = All-nil (AreChildren (used_of 0 0 0));
+  are = record {
+    few = omega arith;
+    apart = λ i j d lt within. absurd (omega (arith, within));
+    each = All-nil (AreChildren (used_of 0 0 0));
+  };
   taken = λ kind slot lt. absurd (nothing_used kind slot lt);
   room = nothing_more;
 }
@@ -122,16 +124,18 @@ pub held_registered : (c h g : ℕ) (families : List Family) (used : Kind → �
 held_registered c h g families used desc held accepted =
     let new : Family = record { desc = desc; children = [] } in
     record {
-      few = let more : length (families ++ new ∷ []) ≡ length families + 1 = length_push families new in let lt = accepted.0 in
-          omega (arith, more, lt);
-      apart = all_pairs_push (λ (a b : Family). ¬ (Clash a.desc b.desc)) families new held.apart
-          (λ k d within. accepted.1 k d within);
-      each = All-push (AreChildren used) families new held.each (record {
-        fit = λ k d within. absurd (omega (arith, within));
-        below = λ k d within. absurd (omega (arith, within));
-        ordered = λ i j d lt within. absurd (omega (arith, within));
-        distinct = λ i j d lt within. absurd (omega (arith, within));
-      });
+      are = record {
+        few = let more : length (families ++ new ∷ []) ≡ length families + 1 = length_push families new in let lt = accepted.0 in
+            omega (arith, more, lt);
+        apart = all_pairs_push (λ (a b : Family). ¬ (Clash a.desc b.desc)) families new held.are.apart
+            (λ k d within. accepted.1 k d within);
+        each = All-push (AreChildren used) families new held.are.each (record {
+          fit = λ k d within. absurd (omega (arith, within));
+          below = λ k d within. absurd (omega (arith, within));
+          ordered = λ i j d lt within. absurd (omega (arith, within));
+          distinct = λ i j d lt within. absurd (omega (arith, within));
+        });
+      };
       taken = λ kind slot lt free. held.taken kind slot lt
           (pushed_keeps (λ (f : Family). f.desc.kind ≡ kind → All (HasNot slot) f.children) families new free);
       room = held.room;
@@ -167,7 +171,7 @@ module _ (c h g : ℕ) (families : List Family) (used used' : Kind → ℕ) (num
 
   child_put : AreChildren used' (grown made it)
   child_put =
-      let are : AreChildren used it = all_at (AreChildren used) families number it is held.each in
+      let are : AreChildren used it = all_at (AreChildren used) families number it is held.are.each in
       let one = more.one in
       record {
         fit = all_put (λ (child : Child). length child.values ≡ length it.desc.labels) made it.children may.fit are.fit;
@@ -214,18 +218,20 @@ module _ (c h g : ℕ) (families : List Family) (used used' : Kind → ℕ) (num
   ]
 
   -- a child is made in the first slot that is not used
-  pub held_made : AreHeld c h g (after families (Made number values (used it.desc.kind))) used'
+  pub held_made : AreHeld c h g (after families (ChildMade number values (used it.desc.kind))) used'
   held_made = record {
-    few = let same : length (with_child families number made) ≡ length families = length-with_child families number made in
-        let few = held.few in omega (arith, same, few);
-    apart = λ i j d lt within.
-        let all : ℕ = length families in
-        let same : length (with_child families number made) ≡ all = length-with_child families number made in
-        let old : ¬ (Clash (get_or families i d).desc (get_or families j d).desc) =
-        held.apart i j d lt (omega (arith, same, within)) in
-        subst (λ a. ¬ (Clash a (get_or (with_child families number made) j d).desc)) (sym (desc_at families number made i d))
-        (subst (λ b. ¬ (Clash (get_or families i d).desc b)) (sym (desc_at families number made j d)) old);
-    each = all_made (AreChildren used) (AreChildren used') families number made it is children_kept child_put held.each;
+    are = record {
+      few = let same : length (with_child families number made) ≡ length families = length-with_child families number made in
+          let few = held.are.few in omega (arith, same, few);
+      apart = λ i j d lt within.
+          let all : ℕ = length families in
+          let same : length (with_child families number made) ≡ all = length-with_child families number made in
+          let old : ¬ (Clash (get_or families i d).desc (get_or families j d).desc) =
+          held.are.apart i j d lt (omega (arith, same, within)) in
+          subst (λ a. ¬ (Clash a (get_or (with_child families number made) j d).desc)) (sym (desc_at families number made i d))
+          (subst (λ b. ¬ (Clash (get_or families i d).desc b)) (sym (desc_at families number made j d)) old);
+      each = all_made (AreChildren used) (AreChildren used') families number made it is children_kept child_put held.are.each;
+    };
     taken = taken_made;
     room = room_made;
   }

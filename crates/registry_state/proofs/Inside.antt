@@ -28,7 +28,7 @@ module _ (c h g : ℕ) where
       → (child : Child) → Contains it.children child → (handle : Handle) → IsHandle id it.desc child.slot handle
       → IsInside c h g handle
   is_inside_there id families used held number it there child has handle is =
-      let are : AreChildren used it = all_at (AreChildren used) families number it there held.each in
+      let are : AreChildren used it = all_at (AreChildren used) families number it there held.are.each in
       let low = All-contains (λ (its : Child). its.slot < used it.desc.kind) it.children child are.below has in
       let room = held.room it.desc.kind in
       is_inside id it.desc child.slot handle is (omega (arith, low, room))

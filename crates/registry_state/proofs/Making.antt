@@ -6,10 +6,10 @@ use Rattle.std.proofs.lemmas.List.{get_or_default}
 use Rattle.metric_desc.specs.Desc.{Descriptor}
 use Rattle.metric_desc.specs.declared.kind.Kind.{Kind}
 use Rattle.register_rule.specs.declared.view.Answer.{Answer}
-use Rattle.snapshot_scan.specs.Sources.{newest}
-use Rattle.registry_state.specs.Journal.{Made, Entry, Changed, scrapes}
+use Rattle.register_rule.specs.Members.{newest}
+use Rattle.registry_state.specs.Journal.{ChildMade, Entry, Changed, scrapes}
 use Rattle.registry_state.specs.Replay.{Child, Family, MayMake, put, with_child, slots}
-use Rattle.registry_state.specs.Kept.{Registry}
+use Rattle.registry_state.specs.Kept.{RegistryView}
 use Rattle.registry_state.specs.Held.{AreHeld, IsOneMore}
 use Rattle.registry_state.specs.Held.{IsHeld}
 use Rattle.registry_state.specs.Faults.{HasSlot, IsWanted, IsChildFault}
@@ -109,7 +109,7 @@ module _ (c h g : ℕ) (families : List Family) (used : Kind → ℕ) (held : Ar
   pub was_made : {S : Type 0} (id window : ℕ) (source : S) (journal journal' : List Entry) (families' : List Family) (slot : ℕ)
       (handle : Handle)
       → used kind < slots c h g kind → slot ≡ used kind → IsHandle id it.desc slot handle
-      → journal' ≡ journal ++ Changed (Made number values slot) ∷ []
+      → journal' ≡ journal ++ Changed (ChildMade number values slot) ∷ []
       → families' ≡ with_child families number (record { values = values; slot = slot })
       → WasMade c h g
       (record {
@@ -129,7 +129,7 @@ module _ (c h g : ℕ) (families : List Family) (used : Kind → ℕ) (held : Ar
       number values handle
   was_made {S} id window source journal journal' families' slot handle room at is noted new =
       let used_at : used it.desc.kind ≡ slot = ap used (sym same) ∙ sym at in
-      let now : (j : List Entry) (f : List Family) → Registry S = λ j f. record {
+      let now : (j : List Entry) (f : List Family) → RegistryView S = λ j f. record {
         id = id;
         window = window;
         source = source;
@@ -146,14 +146,14 @@ module _ (c h g : ℕ) (families : List Family) (used : Kind → ℕ) (held : Ar
               is,
             );
         after_it = ap (λ j. now j families') noted
-            ∙ ap (now (journal ++ Changed (Made number values slot) ∷ [])) new
+            ∙ ap (now (journal ++ Changed (ChildMade number values slot) ∷ [])) new
             ∙ ap (λ last. record {
               id = id;
               window = window;
               source = source;
-              journal = journal ++ Changed (Made number values slot) ∷ [];
+              journal = journal ++ Changed (ChildMade number values slot) ∷ [];
               state = record { families = with_child families number (record { values = values; slot = slot }); last = last };
-            }) (newest_change journal (Made number values slot));
+            }) (newest_change journal (ChildMade number values slot));
       }
 
 module _ (n c h g : ℕ) (recorded : List Answer) (journal : List Entry) (window : ℕ) (families : List Family) (order : List ℕ)
@@ -173,11 +173,11 @@ module _ (n c h g : ℕ) (recorded : List Answer) (journal : List Entry) (window
       abbrev child : Child
       child = record { values = values; slot = used it.desc.kind }
 
-      pub held_grown : IsHeld n c h g recorded (journal ++ Changed (Made number values (used it.desc.kind)) ∷ []) window
+      pub held_grown : IsHeld n c h g recorded (journal ++ Changed (ChildMade number values (used it.desc.kind)) ∷ []) window
           (with_child families number child) order used'
       held_grown = record {
         geometry = is.geometry;
-        kept = keeps_at_change n c h g recorded journal window families (Made number values (used it.desc.kind)) is.kept
+        kept = keeps_at_change n c h g recorded journal window families (ChildMade number values (used it.desc.kind)) is.kept
             (some_at (MayMake c h g families values (used it.desc.kind)) families number it at may);
         held = held_made c h g families used used' number values it is.held at may more;
         ordered = order_made families order number child is.ordered;
@@ -189,18 +189,18 @@ module _ (n c h g : ℕ) (recorded : List Answer) (journal : List Entry) (window
       → IsSomeAnd (slice_get families number) (λ (family : Family). IsWanted family values) → it ≡ get_or families number it
       → kind ≡ it.desc.kind
       → used kind < slots c h g kind → slot ≡ used kind
-      → journal' ≡ journal ++ Changed (Made number values slot) ∷ []
+      → journal' ≡ journal ++ Changed (ChildMade number values slot) ∷ []
       → families' ≡ with_child families number (record { values = values; slot = slot })
       → IsOneMore kind used used' → IsHeld n c h g recorded journal' window families' order used'
   held_more number values it kind slot journal' families' used' some read same room at noted new more =
       let used_at : used it.desc.kind ≡ slot = ap used (sym same) ∙ sym at in
-      let made : IsHeld n c h g recorded (journal ++ Changed (Made number values slot) ∷ []) window
+      let made : IsHeld n c h g recorded (journal ++ Changed (ChildMade number values slot) ∷ []) window
       (with_child families number (record { values = values; slot = slot })) order used' =
-      subst (λ s. IsHeld n c h g recorded (journal ++ Changed (Made number values s) ∷ []) window
+      subst (λ s. IsHeld n c h g recorded (journal ++ Changed (ChildMade number values s) ∷ []) window
       (with_child families number (record { values = values; slot = s })) order used') used_at
       (held_grown number values it (there c h g families used is.held number values it kind some read same)
       (may_make c h g families used is.held number values it kind some read same room) used'
       (subst (λ k. IsOneMore k used used') same more)) in
       subst (λ j. IsHeld n c h g recorded j window families' order used') (sym noted)
-      (subst (λ l. IsHeld n c h g recorded (journal ++ Changed (Made number values slot) ∷ []) window l order used')
+      (subst (λ l. IsHeld n c h g recorded (journal ++ Changed (ChildMade number values slot) ∷ []) window l order used')
       (sym new) made)

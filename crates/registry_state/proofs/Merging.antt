@@ -6,8 +6,8 @@ use Rattle.std.proofs.lemmas.List.{drop-append-le, take-append-le, append_assoc,
 use Rattle.std.proofs.lemmas.List.{length-map, length-append, length-take-le, take-append-drop}
 use Rattle.std.proofs.Math.Seq.{drop-length, take-add}
 use Rattle.snapshot_scan.specs.Snapshots.{Taken, as_answer}
-use Rattle.snapshot_scan.specs.Sources.{newest}
-use Rattle.registry_state.specs.Journal.{Change, Entry, Changed, Scraped, scrapes, without_oldest, without, within}
+use Rattle.register_rule.specs.Members.{newest}
+use Rattle.registry_state.specs.Journal.{RegistryChange, Entry, Changed, Scraped, scrapes, without_oldest, without, within}
 use Rattle.scrape_history.specs.History.{answers_of}
 use Rattle.registry_state.specs.Merged.{merged, AreNoted}
 
@@ -55,7 +55,8 @@ joined xs from middle to le ge =
     ∙ ap (λ l. take (middle - from) (drop from xs) ++ take (to - middle) l) d)
 
 -- one change more
-pub merged_change : (cs : List Change) (from : ℕ) (kept : List (Taken × ℕ)) (change : Change) → AreNoted (length cs) from kept
+pub merged_change : (cs : List RegistryChange) (from : ℕ) (kept : List (Taken × ℕ)) (change : RegistryChange)
+    → AreNoted (length cs) from kept
     → merged (cs ++ change ∷ []) from kept ≡ merged cs from kept ++ Changed change ∷ []
 merged_change cs from [] change noted =
     ap (map Changed) (drop-append-le from cs (change ∷ []) noted) ∙ map-append Changed (drop from cs) (change ∷ [])
@@ -71,7 +72,8 @@ merged_change cs from (scrape ∷ kept) change noted =
     (Scraped (as_answer scrape.0) ∷ merged cs scrape.1 kept) (Changed change ∷ [])))
 
 -- one scrape more
-pub merged_scrape : (cs : List Change) (from : ℕ) (kept : List (Taken × ℕ)) (snapshot : Taken) → AreNoted (length cs) from kept
+pub merged_scrape : (cs : List RegistryChange) (from : ℕ) (kept : List (Taken × ℕ)) (snapshot : Taken)
+    → AreNoted (length cs) from kept
     → merged cs from (kept ++ (snapshot, length cs) ∷ []) ≡ merged cs from kept ++ Scraped (as_answer snapshot) ∷ []
 merged_scrape cs from [] snapshot noted = rw (take_rest, drop-length) refl
 merged_scrape cs from (scrape ∷ kept) snapshot noted =
@@ -79,21 +81,21 @@ merged_scrape cs from (scrape ∷ kept) snapshot noted =
     (sym (append_assoc (map Changed (take (scrape.1 - from) (drop from cs)))
     (Scraped (as_answer scrape.0) ∷ merged cs scrape.1 kept) (Scraped (as_answer snapshot) ∷ [])))
 
-without_front : (cs : List Change) (entries : List Entry)
+without_front : (cs : List RegistryChange) (entries : List Entry)
     → without_oldest (map Changed cs ++ entries) ≡ map Changed cs ++ without_oldest entries
 without_front [] entries = refl
 without_front (change ∷ cs) entries = ap (λ rest. Changed change ∷ rest) (without_front cs entries)
 
-without_none : (cs : List Change) → without_oldest (map Changed cs) ≡ map Changed cs
+without_none : (cs : List RegistryChange) → without_oldest (map Changed cs) ≡ map Changed cs
 without_none [] = refl
 without_none (change ∷ cs) = ap (λ rest. Changed change ∷ rest) (without_none cs)
 
-without_all : (k : ℕ) (cs : List Change) → map Changed cs ≡ without k (map Changed cs)
+without_all : (k : ℕ) (cs : List RegistryChange) → map Changed cs ≡ without k (map Changed cs)
 without_all zero cs = refl
 without_all (suc k) cs = without_all k cs ∙ ap (without k) (sym (without_none cs))
 
 -- the oldest scrape dropped
-merged_less : (cs : List Change) (from : ℕ) (scrape : Taken × ℕ) (kept : List (Taken × ℕ))
+merged_less : (cs : List RegistryChange) (from : ℕ) (scrape : Taken × ℕ) (kept : List (Taken × ℕ))
     → AreNoted (length cs) from (scrape ∷ kept)
     → merged cs from kept ≡ without_oldest (merged cs from (scrape ∷ kept))
 merged_less cs from scrape [] noted = sym (
@@ -109,7 +111,7 @@ merged_less cs from scrape (second ∷ kept) noted = sym (
     ∙ ap (map Changed) (joined cs from scrape.1 second.1 noted.0 noted.1.0)))
 
 -- the oldest scrapes dropped
-merged_drop : (cs : List Change) (from k : ℕ) (kept : List (Taken × ℕ)) → AreNoted (length cs) from kept
+merged_drop : (cs : List RegistryChange) (from k : ℕ) (kept : List (Taken × ℕ)) → AreNoted (length cs) from kept
     → merged cs from (drop k kept) ≡ without k (merged cs from kept)
 merged_drop cs from zero kept noted = refl
 merged_drop cs from (suc k) [] noted = without_all (suc k) (drop from cs)
@@ -117,34 +119,36 @@ merged_drop cs from (suc k) (scrape ∷ kept) noted =
     merged_drop cs from k kept (noted_less (length cs) from scrape kept noted)
     ∙ ap (without k) (merged_less cs from scrape kept noted)
 
-scrapes_front : (cs : List Change) (entries : List Entry) → scrapes (map Changed cs ++ entries) ≡ scrapes entries
+scrapes_front : (cs : List RegistryChange) (entries : List Entry) → scrapes (map Changed cs ++ entries) ≡ scrapes entries
 scrapes_front [] entries = refl
 scrapes_front (change ∷ cs) entries = scrapes_front cs entries
 
-scrapes_none : (cs : List Change) → scrapes (map Changed cs) ≡ []
+scrapes_none : (cs : List RegistryChange) → scrapes (map Changed cs) ≡ []
 scrapes_none [] = refl
 scrapes_none (change ∷ cs) = scrapes_none cs
 
 -- the scrapes of the journal are the answers that are kept
-pub merged_scrapes : (cs : List Change) (from : ℕ) (kept : List (Taken × ℕ)) → scrapes (merged cs from kept) ≡ answers_of kept
+pub merged_scrapes : (cs : List RegistryChange) (from : ℕ) (kept : List (Taken × ℕ))
+    → scrapes (merged cs from kept) ≡ answers_of kept
 merged_scrapes cs from [] = scrapes_none (drop from cs)
 merged_scrapes cs from (scrape ∷ kept) =
     scrapes_front (take (scrape.1 - from) (drop from cs)) (Scraped (as_answer scrape.0) ∷ merged cs scrape.1 kept)
     ∙ ap (λ rest. as_answer scrape.0 ∷ rest) (merged_scrapes cs scrape.1 kept)
 
 -- they are as many as are kept
-merged_count : (cs : List Change) (from : ℕ) (kept : List (Taken × ℕ)) → length (scrapes (merged cs from kept)) ≡ length kept
+merged_count : (cs : List RegistryChange) (from : ℕ) (kept : List (Taken × ℕ))
+    → length (scrapes (merged cs from kept)) ≡ length kept
 merged_count cs from kept = ap length (merged_scrapes cs from kept) ∙ length-map kept (λ (scrape : Taken × ℕ). as_answer scrape.0)
 
 -- the oldest scrapes over the window dropped
-pub merged_within : (cs : List Change) (window : ℕ) (kept : List (Taken × ℕ)) → AreNoted (length cs) 0 kept
+pub merged_within : (cs : List RegistryChange) (window : ℕ) (kept : List (Taken × ℕ)) → AreNoted (length cs) 0 kept
     → merged cs 0 (drop (length kept - window) kept) ≡ within window (merged cs 0 kept)
 merged_within cs window kept noted =
     merged_drop cs 0 (length kept - window) kept noted
     ∙ ap (λ n. without (n - window) (merged cs 0 kept)) (sym (merged_count cs 0 kept))
 
 -- the journal has an entry for each change and for each kept scrape
-pub merged_length : (cs : List Change) (from : ℕ) (kept : List (Taken × ℕ)) → AreNoted (length cs) from kept
+pub merged_length : (cs : List RegistryChange) (from : ℕ) (kept : List (Taken × ℕ)) → AreNoted (length cs) from kept
     → length (merged cs from kept) + from ≡ length cs + length kept
 merged_length cs from [] noted =
     let e : length (map Changed (drop from cs)) ≡ length cs - from = length-map (drop from cs) Changed ∙ length-drop from cs in

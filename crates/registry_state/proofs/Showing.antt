@@ -159,8 +159,8 @@ is_shown c h families order answer is =
 -- the families of a registry can be shown
 pub showable : (c h g : ℕ) (families : List Family) (used : Kind → ℕ) → AreHeld c h g families used → AreShowable c h g families
 showable c h g families used held = record {
-  few = held.few;
-  apart = held.apart;
+  few = held.are.few;
+  apart = held.are.apart;
   each = All-weaker (AreChildren used) (AreChildren (slots c h g)) (λ family are. record {
     fit = are.fit;
     below = All-weaker (λ (child : Child). child.slot < used family.desc.kind)
@@ -169,7 +169,7 @@ showable c h g families used held = record {
         omega (arith, lt, le)) family.children are.below;
     ordered = are.ordered;
     distinct = are.distinct;
-  }) families held.each;
+  }) families held.are.each;
 }
 
 -- the slots of their children are there

@@ -4,11 +4,12 @@ use Rattle.std.specs.Prelude.{Option, Some, None}
 use Rattle.metric_desc.specs.declared.kind.Kind.{Kind}
 use Rattle.register_rule.specs.declared.view.Answer.{Answer}
 use Rattle.snapshot_scan.specs.Moments.{AreMoments}
-use Rattle.snapshot_scan.specs.Sources.{newest, Records}
+use Rattle.snapshot_scan.specs.Sources.{Records}
+use Rattle.register_rule.specs.Members.{newest}
 use Rattle.registry_state.specs.Journal.{Entry, Scraped, scrapes, within}
-use Rattle.registry_state.specs.Replay.{Family, State}
+use Rattle.registry_state.specs.Replay.{Family, Contents}
 use Rattle.registry_state.specs.Faults.{IsWindow}
-use Rattle.registry_state.specs.Kept.{Registry, IsKept}
+use Rattle.registry_state.specs.Kept.{RegistryView, IsKept}
 use Rattle.registry_state.specs.Changed.{KeepsScrape}
 use Rattle.registry_state.specs.Held.{IsHeld}
 use Rattle.registry_state.proofs.Entries.{newest_within, newest_scrape}
@@ -56,7 +57,7 @@ module _ (n c h g : ℕ) (recorded : List Answer) (journal : List Entry) (window
       → journal' ≡ within window (journal ++ Scraped answer ∷ [])
       → IsHeld n c h g recorded' journal' window families order used
   held_scrape recorded' journal' answer records same =
-      let before : State = record { families = families; last = newest (scrapes journal) } in
+      let before : Contents = record { families = families; last = newest (scrapes journal) } in
       let now : List Entry = within window (journal ++ Scraped answer ∷ []) in
       subst (λ (j : List Entry). IsHeld n c h g recorded' j window families order used) (sym same)
       (record {
@@ -71,7 +72,7 @@ module _ (n c h g : ℕ) (recorded : List Answer) (journal : List Entry) (window
 -- what contracts see of a registry whose window is another
 pub seen_window : {S : Type 0} (id window' : ℕ) (source : S) (journal journal' : List Entry) (families : List Family)
     → 1 ≤ window' → journal' ≡ within window' journal
-    → ◌≡◌ {A = Registry S}
+    → ◌≡◌ {A = RegistryView S}
     (record {
       id = id;
       window = window';
@@ -87,14 +88,14 @@ pub seen_window : {S : Type 0} (id window' : ℕ) (source : S) (journal journal'
       state = record { families = families; last = newest (scrapes journal) };
     })
 seen_window {S} id window' source journal journal' families some same =
-    let with_journal : List Entry → Registry S = λ j. record {
+    let with_journal : List Entry → RegistryView S = λ j. record {
       id = id;
       window = window';
       source = source;
       journal = j;
       state = record { families = families; last = newest (scrapes j) };
     } in
-    let with_last : Option Answer → Registry S = λ last. record {
+    let with_last : Option Answer → RegistryView S = λ last. record {
       id = id;
       window = window';
       source = source;

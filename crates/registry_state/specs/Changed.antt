@@ -5,14 +5,14 @@ use Rattle.metric_desc.specs.declared.kind.Kind.{Kind}
 use Rattle.register_rule.specs.declared.view.Answer.{Answer}
 use Rattle.snapshot_scan.specs.Moments.{AreMoments}
 use Rattle.snapshot_scan.specs.Sources.{Records}
-use Rattle.registry_state.specs.Journal.{Change, Made, Changed, Scraped, scrapes, within}
+use Rattle.registry_state.specs.Journal.{RegistryChange, ChildMade, Changed, Scraped, scrapes, within}
 use Rattle.registry_state.specs.Replay.{Family, IsFree, MayMake, after}
-use Rattle.registry_state.specs.Kept.{Registry}
+use Rattle.registry_state.specs.Kept.{RegistryView}
 use Rattle.registry_state.specs.declared.handle.Handle.{Handle}
 
 module _ {S : Type 0} where
   -- the registry after a change
-  abbrev pub changed : Change → Registry S → Registry S
+  abbrev pub changed : RegistryChange → RegistryView S → RegistryView S
   changed change r = record r {
     journal = r.journal ++ Changed change ∷ [];
     state = record { families = after r.state.families change; last = r.state.last };
@@ -36,7 +36,7 @@ IsInside c h g (Handle.Counter counter) = counter.slot < c
 IsInside c h g (Handle.Histogram hist) = hist.slot < h
 IsInside c h g (Handle.Gauge gauge) = gauge.slot < g
 
-module _ {S : Type 0} (c h g : ℕ) (old new : Registry S) (family : ℕ) (values : List (List ℕ)) (handle : Handle) where
+module _ {S : Type 0} (c h g : ℕ) (old new : RegistryView S) (family : ℕ) (values : List (List ℕ)) (handle : Handle) where
   -- the child was there, and nothing changed
   pub record WasThere : Type 0 where
     pub slot : ℕ
@@ -50,7 +50,7 @@ module _ {S : Type 0} (c h g : ℕ) (old new : Registry S) (family : ℕ) (value
     pub made : IsSomeAnd (slice_get old.state.families family) (λ (it : Family).
         MayMake c h g old.state.families values slot it × IsLeastFree old.state.families it.desc.kind slot
         × IsHandle old.id it.desc slot handle)
-    pub after_it : new ≡ changed (Made family values slot) old
+    pub after_it : new ≡ changed (ChildMade family values slot) old
 
   -- the handle of the child of these values of the family of this number
   abbrev pub IsGiven : Type 0
@@ -60,7 +60,7 @@ module _ {S : Type 0} (c h g : ℕ) (old new : Registry S) (family : ℕ) (value
 -- oldest scrape went only if they were too many; all that are kept, with this one, are moments of one history of
 -- publishes
 pub record KeepsScrape {S : Type 0} (n c h g : ℕ) (recorded : S → List Answer) (gave : S → S → Answer → Type 0)
-    (old new : Registry S) : Type 0 where
+    (old new : RegistryView S) : Type 0 where
   pub answer : Answer
   pub once : Records n c h g (recorded old.source) (recorded new.source) answer
   pub given : gave old.source new.source answer

@@ -12,7 +12,7 @@ use Rattle.expo_text.specs.Order.{IsBefore}
 use Rattle.registry_state.specs.Replay.{Child, Family, IsFree, slots}
 use Rattle.register_rule.specs.declared.view.Answer.{Answer}
 use Rattle.segment_layout.specs.Layout.{IsGeometry}
-use Rattle.snapshot_scan.specs.Sources.{newest}
+use Rattle.register_rule.specs.Members.{newest}
 use Rattle.registry_state.specs.Journal.{Entry, scrapes}
 use Rattle.registry_state.specs.Kept.{IsKept}
 
@@ -47,19 +47,20 @@ pub record AreChildren (used : Kind → ℕ) (family : Family) : Type 0 where
   pub ordered : AllPairs IsChildBefore family.children
   pub distinct : AllPairs (λ (a b : Child). a.slot ≢ b.slot) family.children
 
--- families that a scrape can show, of rows of c counters, h histograms and g gauges: at most 128, no two of which
--- clash, and whose children have slots that are there
-pub record AreShowable (c h g : ℕ) (families : List Family) : Type 0 where
-  pub few : length families ≤ 128
-  pub apart : AllPairs (λ (a b : Family). ¬ (Clash a.desc b.desc)) families
-  pub each : All (AreChildren (slots c h g)) families
-
--- the families of a registry whose rows have c counters, h histograms and g gauges: at most 128, no two of which clash; the least
--- slots of each kind are used, as many as `used` says, and they are there
-pub record AreHeld (c h g : ℕ) (families : List Family) (used : Kind → ℕ) : Type 0 where
+-- families of one registry: at most 128, no two of which clash, and whose children have slots of as many as `used` says
+pub record AreFamilies (used : Kind → ℕ) (families : List Family) : Type 0 where
   pub few : length families ≤ 128
   pub apart : AllPairs (λ (a b : Family). ¬ (Clash a.desc b.desc)) families
   pub each : All (AreChildren used) families
+
+-- families that a scrape can show, of rows of c counters, h histograms and g gauges: their children's slots are there
+abbrev pub AreShowable : (c h g : ℕ) → List Family → Type 0
+AreShowable c h g families = AreFamilies (slots c h g) families
+
+-- the families of a registry whose rows have c counters, h histograms and g gauges: the least slots of each kind are used, as
+-- many as `used` says, and they are there
+pub record AreHeld (c h g : ℕ) (families : List Family) (used : Kind → ℕ) : Type 0 where
+  pub are : AreFamilies used families
   pub taken : (kind : Kind) (slot : ℕ) → slot < used kind → ¬ (IsFree families kind slot)
   pub room : (kind : Kind) → used kind ≤ slots c h g kind
 

@@ -5,17 +5,17 @@ use Rattle.register_rule.specs.declared.view.Answer.{Answer}
 
 -- a change of what is scraped: a family was registered; or a child of these label values was made of the family of this number,
 -- and this slot counts for it
-pub data Change : Type 0 where
-  Registered : (desc : Descriptor) → Change
-  Made : (family : ℕ) → (values : List (List ℕ)) → (slot : ℕ) → Change
+pub data RegistryChange : Type 0 where
+  Registered : (desc : Descriptor) → RegistryChange
+  ChildMade : (family : ℕ) → (values : List (List ℕ)) → (slot : ℕ) → RegistryChange
 
 -- one entry of the journal
 pub data Entry : Type 0 where
-  Changed : (change : Change) → Entry
+  Changed : (change : RegistryChange) → Entry
   Scraped : (answer : Answer) → Entry
 
 -- the changes of a journal
-abbrev pub changes : List Entry → List Change
+abbrev pub changes : List Entry → List RegistryChange
 changes [] = []
 changes (Changed change ∷ entries) = change ∷ changes entries
 changes (Scraped answer ∷ entries) = changes entries

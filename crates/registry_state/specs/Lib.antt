@@ -2,9 +2,9 @@ pub mod Journal
 pub mod Replay
 pub mod Parts
 pub mod Merged
+pub mod Faults
 pub mod Kept
 pub mod Shown
 pub mod Held
 pub mod Filled
-pub mod Faults
 pub mod Changed

@@ -1,18 +1,18 @@
 -- A journal by its parts: its changes by themselves, and its scrapes by themselves.
 use Rattle.std.specs.Prelude.{◌≡◌, ⊤, ℕ, List, [], ◌∷◌, Option, Some, None}
 use Rattle.register_rule.specs.declared.view.Answer.{Answer}
-use Rattle.snapshot_scan.specs.Sources.{newest}
-use Rattle.registry_state.specs.Journal.{Change, Entry, changes, scrapes}
-use Rattle.registry_state.specs.Replay.{Family, State, IsAcceptedChange, IsNext, after}
+use Rattle.register_rule.specs.Members.{newest}
+use Rattle.registry_state.specs.Journal.{RegistryChange, Entry, changes, scrapes}
+use Rattle.registry_state.specs.Replay.{Family, Contents, IsAcceptedChange, IsNext, after}
 
 -- the families after these changes
-abbrev pub families_after : List Family → List Change → List Family
+abbrev pub families_after : List Family → List RegistryChange → List Family
 families_after families [] = families
 families_after families (change ∷ rest) = families_after (after families change) rest
 
 module _ (n c h g : ℕ) where
   -- each change is accepted after those before it
-  abbrev pub AreAccepted : List Family → List Change → Type 0
+  abbrev pub AreAccepted : List Family → List RegistryChange → Type 0
   AreAccepted families [] = ⊤
   AreAccepted families (change ∷ rest) = IsAcceptedChange n c h g families change × AreAccepted (after families change) rest
 
@@ -23,7 +23,7 @@ module _ (n c h g : ℕ) where
 
   -- the changes are accepted one after the other, and so are the scrapes; and the state has what the changes made, and the last
   -- scrape
-  pub record ReplaysByParts (journal : List Entry) (state : State) : Type 0 where
+  pub record ReplaysByParts (journal : List Entry) (state : Contents) : Type 0 where
     pub accepted : AreAccepted [] (changes journal)
     pub scraped : AreNext None (scrapes journal)
     pub families : state.families ≡ families_after [] (changes journal)

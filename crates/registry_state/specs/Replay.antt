@@ -10,7 +10,7 @@ use Rattle.metric_desc.specs.declared.kind.Kind.TheVariants.{Counter, Histogram,
 use Rattle.ledger_core.specs.Ops.{width}
 use Rattle.register_rule.specs.declared.view.Answer.{Answer}
 use Rattle.snapshot_scan.specs.Sources.{IsWhole, NothingFalls}
-use Rattle.registry_state.specs.Journal.{Change, Registered, Made, Entry, Changed, Scraped}
+use Rattle.registry_state.specs.Journal.{RegistryChange, Registered, ChildMade, Entry, Changed, Scraped}
 
 -- a child: the values of its labels, and the slot that counts for it
 pub record Child : Type 0 where
@@ -23,12 +23,12 @@ pub record Family : Type 0 where
   pub children : List Child
 
 -- what a registry holds: its families in the order of their registration, and the last scrape, if there is one
-pub record State : Type 0 where
+pub record Contents : Type 0 where
   pub families : List Family
   pub last : Option Answer
 
 -- what a new registry holds: no family, and no scrape
-abbrev pub nothing : State
+abbrev pub nothing : Contents
 nothing = record { families = []; last = None }
 
 -- how many slots a row of c counters, h histograms and g gauges has for a kind
@@ -62,9 +62,10 @@ pub record MayMake (c h g : ℕ) (families : List Family) (values : List (List �
 module _ (n c h g : ℕ) where
   -- a change is accepted: a family, if there are fewer than 128 and it clashes with none of them; a child, if it may be made of a
   -- family that is there
-  abbrev pub IsAcceptedChange : List Family → Change → Type 0
+  abbrev pub IsAcceptedChange : List Family → RegistryChange → Type 0
   IsAcceptedChange families (Registered desc) = (length families < 128) × IsApart families desc
-  IsAcceptedChange families (Made family values slot) = IsSomeAnd (slice_get families family) (MayMake c h g families values slot)
+  IsAcceptedChange families (ChildMade family values slot) = IsSomeAnd (slice_get families family)
+      (MayMake c h g families values slot)
 
   -- a scrape is accepted: it is whole, and not below the one before it
   pub record IsNext (last : Option Answer) (answer : Answer) : Type 0 where
@@ -84,13 +85,13 @@ with_child (family ∷ families) zero child = record { desc = family.desc; child
 with_child (family ∷ families) (suc number) child = family ∷ with_child families number child
 
 -- the families after a change
-abbrev pub after : List Family → Change → List Family
+abbrev pub after : List Family → RegistryChange → List Family
 after families (Registered desc) = families ++ record { desc = desc; children = [] } ∷ []
-after families (Made family values slot) = with_child families family (record { values = values; slot = slot })
+after families (ChildMade family values slot) = with_child families family (record { values = values; slot = slot })
 
 module _ (n c h g : ℕ) where
   -- the entries lead from the one state to the other, each of them accepted where it stands
-  abbrev pub Leads : State → List Entry → State → Type 0
+  abbrev pub Leads : Contents → List Entry → Contents → Type 0
   Leads from [] to = from ≡ to
   Leads from (Changed change ∷ entries) to =
       IsAcceptedChange n c h g from.families change
@@ -99,5 +100,5 @@ module _ (n c h g : ℕ) where
       IsNext n c h g from.last answer × Leads (record { families = from.families; last = Some answer }) entries to
 
   -- the journal replays to this state
-  abbrev pub Replays : List Entry → State → Type 0
+  abbrev pub Replays : List Entry → Contents → Type 0
   Replays journal state = Leads nothing journal state

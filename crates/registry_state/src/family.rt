@@ -17,7 +17,7 @@ use std::marker::Model;
 use std::sync::Arc;
 
 /// A child: the values of its labels, which are shared, and the slot that counts for it.
-#[derive(Debug, Drop)]
+#[derive(Drop)]
 pub(crate) struct Child {
     pub(crate) values: Arc<Vec<LabelValue>>,
     pub(crate) slot: usize,
@@ -25,15 +25,15 @@ pub(crate) struct Child {
 
 impl Model for Child {
     ghost use Rattle.std.specs.Arc.{arc_value};
-    ghost use Rattle.registry_state.specs.Replay.{Child as Made};
+    ghost use Rattle.registry_state.specs.Replay.{Child as ChildModel};
 
-    ghost Value = { Made };
+    ghost Value = { ChildModel };
 
     ghost view = { λ c. record { values = (arc_value c.values).items; slot = c.slot } };
 }
 
 /// A family: its descriptor, which is shared, and its children in the order of their values.
-#[derive(Debug, Drop)]
+#[derive(Drop)]
 pub(crate) struct Family {
     pub(crate) desc: Arc<Desc>,
     pub(crate) children: Vec<Child>,
@@ -41,9 +41,9 @@ pub(crate) struct Family {
 
 impl Model for Family {
     ghost use Rattle.std.specs.Arc.{arc_value};
-    ghost use Rattle.registry_state.specs.Replay.{Family as Kin};
+    ghost use Rattle.registry_state.specs.Replay.{Family as FamilyModel};
 
-    ghost Value = { Kin };
+    ghost Value = { FamilyModel };
 
     ghost view = { λ f. record { desc = arc_value f.desc; children = f.children.items } };
 }

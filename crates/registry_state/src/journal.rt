@@ -3,14 +3,15 @@ ghost use Rattle.std.specs.Prelude.{◌≡◌, ◌+◌, ◌≤◌, [], ◌∷◌
 ghost use Rattle.register_rule.specs.declared.view.Answer.{Answer};
 ghost use Rattle.segment_layout.specs.Layout.{IsGeometry};
 ghost use Rattle.snapshot_scan.specs.Snapshots.{as_answer};
-ghost use Rattle.snapshot_scan.specs.Sources.{newest, Records};
+ghost use Rattle.snapshot_scan.specs.Sources.{Records};
+ghost use Rattle.register_rule.specs.Members.{newest};
 ghost use Rattle.registry_state.specs.Faults.{Leaves};
 ghost use Rattle.registry_state.specs.Journal.{Changed, Scraped, scrapes, within};
 ghost use Rattle.registry_state.specs.Merged.{change_of};
 
 use crate::fault::ScrapeFault;
 use crate::kept::Kept;
-use crate::note::Note;
+use crate::noted_change::NotedChange;
 use metric_names::NoMemory;
 use scrape_history::History;
 use snapshot_scan::{Snapshot, Source};
@@ -23,7 +24,7 @@ use std::marker::Model;
 /// Contracts see it as the list of its entries.
 #[derive(Drop)]
 pub struct Journal<const N: usize, const C: usize, const H: usize, const G: usize> {
-    notes: Vec<Note>,
+    notes: Vec<NotedChange>,
     kept: History<N, C, H, G>,
     scanned: Snapshot<N, C, H, G>,
 }
@@ -74,7 +75,7 @@ impl<const N: usize, const C: usize, const H: usize, const G: usize> Journal<N, 
     /// # Errors
     ///
     /// 6 [`NoMemory`]: nothing has changed.
-    pub(crate) fn note(&mut self, note: Note) -> Result<(), NoMemory>
+    pub(crate) fn note(&mut self, note: NotedChange) -> Result<(), NoMemory>
         ensures noted { OnOk result (self.new ≡ self.old ++ Changed (change_of note) ∷ []) }
         ensures unchanged { OnErr result (self.new ≡ self.old) }
     {

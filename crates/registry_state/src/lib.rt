@@ -8,12 +8,10 @@ mod fault;
 mod handle;
 mod journal;
 mod kept;
-mod note;
+mod noted_change;
 mod ordering;
 mod plain;
-mod registering;
 mod registry;
-mod scraping;
 mod shown;
 mod used;
 

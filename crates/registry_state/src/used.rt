@@ -5,7 +5,7 @@ ghost use Rattle.registry_state.specs.Held.{used_of, IsOneMore};
 use metric_desc::Kind;
 
 /// How many slots of each kind are used: the least ones are.
-#[derive(Clone, Copy, Debug, PartialEq, Eq, Drop)]
+#[derive(Clone, Copy, Drop)]
 pub(crate) struct Used {
     pub(crate) counters: usize,
     pub(crate) hists: usize,

@@ -8,7 +8,7 @@ use Rattle.std.proofs.lemmas.Bool.{cases_lt}
 use Rattle.std.proofs.Math.Seq.{take-add}
 use Rattle.ledger_core.specs.Ops.{width}
 use Rattle.snapshot_scan.specs.Snapshots.{Taken, as_answer}
-use Rattle.snapshot_scan.specs.Sources.{newest}
+use Rattle.register_rule.specs.Members.{newest}
 use Rattle.scrape_history.specs.declared.increase.Increase.{Increase}
 use Rattle.scrape_history.specs.declared.later.Later.{Later}
 use Rattle.scrape_history.specs.Increases.{raised_by, Lead, Adds}

@@ -4,7 +4,7 @@ ghost use Rattle.std.specs.Prelude.{MatchOption, OnOk};
 ghost use Rattle.segment_layout.specs.Layout.{IsGeometry};
 ghost use Rattle.ledger_core.specs.Ops.{width};
 ghost use Rattle.snapshot_scan.specs.Snapshots.{as_answer};
-ghost use Rattle.snapshot_scan.specs.Sources.{newest};
+ghost use Rattle.register_rule.specs.Members.{newest};
 ghost use Rattle.scrape_history.specs.History.{answers_of};
 
 use crate::increase::{Increase, drop_first, note_increases, raise};

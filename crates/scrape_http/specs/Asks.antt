@@ -22,13 +22,13 @@ abbrev pub IsTooLarge : List ℕ → Type 0
 IsTooLarge bytes = (8192 ≤ length bytes) ⊎ RequestExceeds 64 bytes
 
 -- no more bytes come, or no head begins with these
-abbrev pub IsMalformed : List ℕ → (ended : Bool) → Type 0
-IsMalformed bytes ended = IsTrue ended ⊎ NeverHasRequest bytes
+abbrev pub CannotBecomeHead : List ℕ → (ended : Bool) → Type 0
+CannotBecomeHead bytes ended = IsTrue ended ⊎ NeverHasRequest bytes
 
 -- bytes that are no head may be refused by this status
 abbrev pub MayBeRefusedBy : List ℕ → (ended : Bool) → Option Status → Type 0
 MayBeRefusedBy bytes ended (Some TooLarge) = IsTooLarge bytes
-MayBeRefusedBy bytes ended (Some BadRequest) = IsMalformed bytes ended
+MayBeRefusedBy bytes ended (Some BadRequest) = CannotBecomeHead bytes ended
 MayBeRefusedBy bytes ended _ = ⊥
 
 -- What the bytes ask for: what the head asks for that stands whole at their front; where none does, they are refused by a status

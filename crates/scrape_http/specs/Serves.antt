@@ -34,8 +34,8 @@ abbrev pub Known : Type 0
 Known = Option (List ℕ)
 
 -- what was read before the last read, if anything was, said nothing yet
-abbrev pub NoneBefore : (bytes : List ℕ) → (latest : ℕ) → Type 0
-NoneBefore bytes latest = latest < length bytes → IsOpen (take (length bytes - latest) bytes)
+abbrev pub WasOpenBefore : (bytes : List ℕ) → (latest : ℕ) → Type 0
+WasOpenBefore bytes latest = latest < length bytes → IsOpen (take (length bytes - latest) bytes)
 
 -- The bytes that a reader gave, at most 8,192, ask for this, and would, whatever came after them; no read was made once they did.
 pub record IsHeard (input input_then : Known) (ended : Bool) (latest : ℕ) (asked : Asked) : Type 0 where
@@ -44,7 +44,7 @@ pub record IsHeard (input input_then : Known) (ended : Bool) (latest : ℕ) (ask
   pub some : 0 < length bytes
   pub few : length bytes ≤ 8192
   pub end : ended ≡ true → IsAtEnd input_then
-  pub needed : NoneBefore bytes latest
+  pub needed : WasOpenBefore bytes latest
   pub asks : (more : List ℕ) → (ended ≡ true → more ≡ []) → Asks (bytes ++ more) ended asked
 
 -- what reading a request came to
@@ -78,7 +78,7 @@ pub record IsServed
   pub consumed : Consumes input input_then bytes
   pub few : length bytes ≤ 8192
   pub end : ended ≡ true → IsAtEnd input_then
-  pub needed : NoneBefore bytes latest
+  pub needed : WasOpenBefore bytes latest
   pub outcome : Option Outcome
   pub answers : Answers gave source source_then outcome
   pub reply : Option Reply

@@ -19,7 +19,7 @@ const MAX_HEAD: usize = 8192;
 const MAX_FIELDS: usize = 64;
 
 /// What a request asks for.
-#[derive(Clone, Copy, Debug, PartialEq, Eq)]
+#[derive(Clone, Copy)]
 pub(crate) struct Asked {
     /// Why it is refused; where it is not, it asks for a scrape.
     pub(crate) refusal: Option<Status>,

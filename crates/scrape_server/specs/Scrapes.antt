@@ -5,7 +5,7 @@ use Rattle.register_rule.specs.declared.view.Answer.{Answer}
 use Rattle.snapshot_scan.specs.declared.contended.Contended.{Contended}
 use Rattle.registry_state.specs.Changed.{KeepsScrape}
 use Rattle.registry_state.specs.Faults.{Leaves}
-use Rattle.registry_state.specs.Kept.{Registry}
+use Rattle.registry_state.specs.Kept.{RegistryView}
 use Rattle.registry_state.specs.Shown.{IsShown}
 use Rattle.registry_state.specs.declared.fault.ScrapeFault.{ScrapeFault}
 use Rattle.registry_state.specs.declared.fault.ScrapeFault.TheVariants as fault
@@ -18,7 +18,7 @@ no_scrape_of (fault.Contended wrong) = none.Contended
 no_scrape_of fault.NoMemory = none.NoMemory
 
 module _ {S : Type 0} (n c h g : ℕ) (recorded : S → List Answer) (quit : S → ℕ) (gave : S → S → Answer → Type 0)
-    (gave_up : S → S → Contended → Type 0) (old new : Registry S) where
+    (gave_up : S → S → Contended → Type 0) (old new : RegistryView S) where
   -- one scan gave an answer, which is kept, and the scrape shows the families at it
   pub record ShowsScrape (scrape : Scraped) : Type 0 where
     pub kept : KeepsScrape n c h g recorded gave old new

@@ -5,7 +5,7 @@ use crate::line::Counting;
 use crate::writing::is_writing;
 
 /// The word that begins a line of several words.
-#[derive(Clone, Copy, Debug, PartialEq, Eq)]
+#[derive(Clone, Copy)]
 pub(crate) enum Word {
     Counter,
     Gauge,

@@ -1,5 +1,5 @@
 /// What one word of a buffer is: a buffer has a row, a flag, a vector and the lent totals, in this order.
-#[derive(Clone, Copy, Debug, PartialEq, Eq)]
+#[derive(Clone, Copy, Debug)]
 pub enum Item {
     /// A word of the row, below `w`.
     Row { word: usize },
@@ -12,7 +12,7 @@ pub enum Item {
 }
 
 /// What one word of a segment is. Buffers are 0 and 1, and version `s` uses buffer `s` mod 2.
-#[derive(Clone, Copy, Debug, PartialEq, Eq)]
+#[derive(Clone, Copy, Debug)]
 pub enum Part {
     /// The segment's number, its first word.
     Number,

@@ -134,10 +134,10 @@ clean_of s before t o = clean_is s.opened s.whole s.found s.n t o.sized.some o.c
     o.arrays.1 o.arrays.2
 
 -- giving up names the least place that failed
-gives_up : (s : Scan) (before : List Try) (t : Try) → Over s before t → is_clean t ≡ false
+given_up_if_spent : (s : Scan) (before : List Try) (t : Try) → Over s before t → is_clean t ≡ false
     → FailedAt t (least_of s) (get_or s.opened (least_of s) 0) (get_or s.found (least_of s) 0)
     × ((k : ℕ) → k < least_of s → HeldAt t k)
-gives_up s before t o un = (failed, held)
+given_up_if_spent s before t o un = (failed, held)
   where
     below : least_of s < s.n
     below = let w = least_within s.opened s.whole s.found 0 (s.n - 1) in let one = o.sized.some in omega arith
@@ -184,7 +184,7 @@ told_fails s before t o fail = cond_both (ltb s.tries (s.n + 2)) (record s { tri
     (sym (first_snoc before t none_yet)) o.heads)
     ((let one = o.sized.some in omega arith), refl, refl, refl)))
     (λ h. told_of (given_up s (least_of s)) before t o.counted o.arrays o.heads
-    (let g = gives_up s before t o fail.unclean in
+    (let g = given_up_if_spent s before t o fail.unclean in
     (fail, (let c = o.counted.0 in let few = o.sized.few in let l = ltb-false s.tries (s.n + 2) h in omega arith), g.0, g.1)))
 
 told_asks : (k : ℕ) (s : Scan) (before : List Try) (t : Try) → k ≤ s.n → Over s before t → is_clean t ≡ false

@@ -191,7 +191,8 @@ module _ (n : ℕ) (floor base : List ℕ) where
       ∙ ap (λ (z : List ℕ). length z) (fu.asked ∙ ap (to_ask base) (sym two.second)) in
       omega (arith, len, l1, l2, l3, l4, l5, l6)
 
-  ask_ends : (t u : Try) (p : ℕ) (h : ScanEnd) (view : Option View) (before : ℕ) → InProgress t (Ask p) → EndsSo before u h view
+  ask_ends : (t u : Try) (p : ℕ) (h : ScanEnd) (view : Option View) (before : ℕ) → InProgress t (Ask p)
+      → EndsSo before u h view
       → AllAlike (t.first ++ t.second ++ t.asks ++ []) (u.first ++ u.second ++ u.asks ++ []) → ⊥
   ask_ends t u p how.Direct view before (lt, collects, unclean, none, (later, asked)) eu a =
       let two = same_two n t u [] [] collects eu.collects a in

@@ -6,8 +6,8 @@ use mathlib.Core.Option.{some, some-ne-none}
 use lib.ListN.{get_elem?}
 use Rattle.register_rule.specs.declared.view.Asked.{Asked}
 use Rattle.register_rule.specs.declared.view.Answer.{Answer}
-use Rattle.register_rule.specs.declared.view.Scan.{Scan}
-use Rattle.register_rule.specs.Steps.{answered, gives_up, lent_in}
+use Rattle.register_rule.specs.declared.view.ScanLog.{ScanLog}
+use Rattle.register_rule.specs.ScanSteps.{answered, given_up_if_spent, lent_in}
 use Rattle.snapshot_core.specs.declared.next.Next.TheVariants.{Direct, Lent, GaveUp}
 use Rattle.snapshot_core.specs.Next.{Comes}
 use Rattle.snapshot_scan.specs.declared.contended.Contended.{Contended}
@@ -22,7 +22,7 @@ use Rattle.snapshot_scan.proofs.Trying.{count_snoc}
 use Rattle.snapshot_scan.proofs.Coming.{AllFail, HeadIs, comes_direct, comes_lent, comes_gave_up}
 
 -- the first try is clean
-pub came_first : (n w : ℕ) (opened found : List ℕ) (gs : List RememberedRow) (c : Scan) (a : Answer) → length opened ≡ n
+pub came_first : (n w : ℕ) (opened found : List ℕ) (gs : List RememberedRow) (c : ScanLog) (a : Answer) → length opened ≡ n
     → opened ≡ found → a.vector ≡ opened
     → AnswersBy n w c (answered a (settling opened found gs (opening opened gs c))) a
 came_first n w opened found gs c a long same is = record {
@@ -43,7 +43,7 @@ came_first n w opened found gs c a long same is = record {
 }
 
 module _ (n w : ℕ) (floor base first last : List ℕ) (tries : List Tried) (tried : AreTries n floor base first last tries)
-    (gs0 : List RememberedRow) (c : Scan) where
+    (gs0 : List RememberedRow) (c : ScanLog) where
   head_is : HeadIs floor base tries
   head_is = subst (HeadIs floor base) (sym tried.all) (tried.is_floor, tried.is_base)
 
@@ -109,8 +109,8 @@ module _ (n w : ℕ) (floor base first last : List ℕ) (tries : List Tried) (tr
 
   -- all tries have failed
   pub came_up : length tries ≡ n + 2 → (e : Contended) → IsFirstMoved first last e
-      → CameTo n w c (gives_up n (stood tries gs0 floor base c)) (GaveUp e.worker e.first e.last)
-  came_up count e moved = subst (λ (x : Scan). CameTo n w c x (GaveUp e.worker e.first e.last))
+      → CameTo n w c (given_up_if_spent n (stood tries gs0 floor base c)) (GaveUp e.worker e.first e.last)
+  came_up count e moved = subst (λ (x : ScanLog). CameTo n w c x (GaveUp e.worker e.first e.last))
       (sym (given_last n (stood tries gs0 floor base c) refl count)) (record {
         before = tried.ends.0;
         last = tried.ends.1;

@@ -15,18 +15,19 @@ use Rattle.register_rule.specs.declared.view.Answer.{Answer}
 use Rattle.register_rule.specs.Sums.{last_lent, flag_of}
 use Rattle.register_rule.specs.declared.view.Look.{Look}
 use Rattle.register_rule.specs.declared.view.Asked.{Asked}
-use Rattle.register_rule.specs.declared.view.Scan.{Scan}
+use Rattle.register_rule.specs.declared.view.ScanLog.{ScanLog}
 use Rattle.register_rule.specs.declared.view.Member.{Member}
 use Rattle.register_rule.specs.Told.{AreRuled}
 use Rattle.register_rule.specs.Members.{led, scan_changed}
-use Rattle.register_rule.specs.Steps.{begun, noted, after_ask, after_end_ask, is_next, answers, asked_of, is_lender, answered}
-use Rattle.register_rule.specs.Steps.{gives_up, rest, lent_in}
+use Rattle.register_rule.specs.ScanSteps.{begun, noted, after_ask, after_end_ask, is_next, lent_or_passed, asked_of, is_lender}
+use Rattle.register_rule.specs.ScanSteps.{answered}
+use Rattle.register_rule.specs.ScanSteps.{given_up_if_spent, rest, lent_in}
 use Rattle.register_rule.specs.Seats.{HasMember}
 use Rattle.snapshot_scan.specs.Shape.{scan_of, with_scan, read_all}
 use Rattle.snapshot_scan.specs.Asking.{DoesNotLend, IsBelow, asked_too, refused, refused_all, MayAsk, due_from}
 use Rattle.snapshot_scan.proofs.Words.{scan_with, led_some, length_take}
 
-pub three : (f g h : Scan → Scan) (ms a b d : List Member) → a ≡ led (scan_changed f) ms → b ≡ led (scan_changed g) a
+pub three : (f g h : ScanLog → ScanLog) (ms a b d : List Member) → a ≡ led (scan_changed f) ms → b ≡ led (scan_changed g) a
     → d ≡ led (scan_changed h) b → d ≡ with_scan (h (g (f (scan_of ms)))) ms
 three f g h ms a b d p q r = r ∙ (ap (led (scan_changed h)) (q ∙ ap (led (scan_changed g)) p) ∙ go ms)
   where
@@ -36,7 +37,7 @@ three f g h ms a b d p q r = r ∙ (ap (led (scan_changed h)) (q ∙ ap (led (sc
     go (m ∷ ms) = refl
 
 -- c, which asks this
-abbrev asks_now : Look → Scan → Scan
+abbrev asks_now : Look → ScanLog → ScanLog
 asks_now l c = record c { now = record c.now { looks = []; asks = l ∷ [] } }
 
 noted_here : (w i s k x : ℕ) (ws : List ℕ) → k ≡ w + length ws → noted w i s k x (begun i s ws) ≡ begun i s (ws ++ x ∷ [])
@@ -45,7 +46,7 @@ noted_here w i s k x ws e =
     false && eq-eqb k _ e c in
     ap (λ (z : Bool). cond z (begun i s (ws ++ x ∷ [])) (begun i s ws)) t
 
-reads_view : (w i s k : ℕ) (ws xs : List ℕ) (c : Scan) → k ≡ w + length ws
+reads_view : (w i s k : ℕ) (ws xs : List ℕ) (c : ScanLog) → k ≡ w + length ws
     → read_all w i s k xs (asks_now (begun i s ws) c) ≡ asks_now (begun i s (ws ++ xs)) c
 reads_view w i s k ws [] c e = ap (λ (z : List ℕ). asks_now (begun i s z) c) (sym (append-nil ws))
 reads_view w i s k ws (x ∷ xs) c e =
@@ -59,11 +60,11 @@ reads_view w i s k ws (x ∷ xs) c e =
     snoc_long (y ∷ l) x = ap suc (snoc_long l x)
 
 -- all that asking one worker comes to
-pub asks_view : (n w i s again : ℕ) (words more : List ℕ) (c : Scan) → c.now.due ≡ i ∷ more → c.now.looks ≡ []
+pub asks_view : (n w i s again : ℕ) (words more : List ℕ) (c : ScanLog) → c.now.due ≡ i ∷ more → c.now.looks ≡ []
     → after_end_ask n w i again (read_all w i s w words (after_ask i s c))
     ≡ cond (is_lender n w again c.now.floor (begun i s words))
     (answered (lent_in n w words) (asked_too (asked_of again (begun i s words)) c))
-    (gives_up n (record c {
+    (given_up_if_spent n (record c {
       asked = c.asked ++ asked_of again (begun i s words) ∷ [];
       now = record c.now { looks = []; due = rest c.now.due; asks = [] };
     }))
@@ -75,12 +76,12 @@ asks_view n w i s again words more c due looks =
           (record c.now { looks = looks z });
     } in
     let e : w ≡ w + 0 = omega arith in
-    ap (λ (d : Scan). after_end_ask n w i again (read_all w i s w words d)) opens
+    ap (λ (d : ScanLog). after_end_ask n w i again (read_all w i s w words d)) opens
     ∙ (ap (after_end_ask n w i again) (reads_view w i s w [] words c e)
-    ∙ ap (λ (b : Bool). cond b (answers n w again (begun i s words) (asks_now (begun i s words) c))
+    ∙ ap (λ (b : Bool). cond b (lent_or_passed n w again (begun i s words) (asks_now (begun i s words) c))
     (asks_now (begun i s words) c)) (eq-eqb i i refl))
 
-looks_same : (c : Scan) (e : Asked) → c.now.looks ≡ [] → record c {
+looks_same : (c : ScanLog) (e : Asked) → c.now.looks ≡ [] → record c {
   asked = c.asked ++ e ∷ [];
   now = record c.now { looks = []; due = rest c.now.due; asks = [] };
 } ≡ refused e c
@@ -89,19 +90,27 @@ looks_same c e looks = λ z. record c {
   now = record c.now { looks = sym looks z; due = rest c.now.due; asks = [] };
 }
 
-pub view_refuses : (n w i s again : ℕ) (words more : List ℕ) (c : Scan) → c.now.due ≡ i ∷ more → c.now.looks ≡ []
+pub view_refuses : (n w i s again : ℕ) (words more : List ℕ) (c : ScanLog) → c.now.due ≡ i ∷ more → c.now.looks ≡ []
     → is_lender n w again c.now.floor (begun i s words) ≡ false
-    → after_end_ask n w i again (read_all w i s w words (after_ask i s c)) ≡ gives_up n
+    → after_end_ask n w i again (read_all w i s w words (after_ask i s c)) ≡ given_up_if_spent n
     (refused (asked_of again (begun i s words)) c)
 view_refuses n w i s again words more c due looks not_lent =
     let e = asked_of again (begun i s words) in
     asks_view n w i s again words more c due looks
     ∙ (ap (λ (b : Bool). cond b (answered (lent_in n w words) (asked_too e c))
-    (gives_up n (record c { asked = c.asked ++ e ∷ []; now = record c.now { looks = []; due = rest c.now.due; asks = [] } })))
+    (given_up_if_spent n (record c {
+      asked = c.asked ++ e ∷ [];
+      now = record c.now {
+        looks = [];
+        due = rest c.now.due;
+        asks =
+            [];
+      };
+    })))
     not_lent
-    ∙ ap (gives_up n) (looks_same c e looks))
+    ∙ ap (given_up_if_spent n) (looks_same c e looks))
 
-pub view_lends : (n w i s again : ℕ) (words more : List ℕ) (c : Scan) → c.now.due ≡ i ∷ more → c.now.looks ≡ []
+pub view_lends : (n w i s again : ℕ) (words more : List ℕ) (c : ScanLog) → c.now.due ≡ i ∷ more → c.now.looks ≡ []
     → is_lender n w again c.now.floor (begun i s words) ≡ true
     → after_end_ask n w i again (read_all w i s w words (after_ask i s c)) ≡ answered (lent_in n w words)
     (asked_too (asked_of again (begun i s words)) c)
@@ -109,14 +118,22 @@ view_lends n w i s again words more c due looks hit =
     let e = asked_of again (begun i s words) in
     asks_view n w i s again words more c due looks
     ∙ ap (λ (b : Bool). cond b (answered (lent_in n w words) (asked_too e c))
-    (gives_up n (record c { asked = c.asked ++ e ∷ []; now = record c.now { looks = []; due = rest c.now.due; asks = [] } })))
+    (given_up_if_spent n (record c {
+      asked = c.asked ++ e ∷ [];
+      now = record c.now {
+        looks = [];
+        due = rest c.now.due;
+        asks =
+            [];
+      };
+    })))
     hit
 
 pub at_end : {A : Type 0} (l : List A) (x : A) → get_elem? (l ++ x ∷ []) (length l) ≡ some x
 at_end [] x = refl
 at_end (y ∷ l) x = at_end l x
 
-pub given_asked : (n : ℕ) (c : Scan) → (gives_up n c).asked ≡ c.asked
+pub given_asked : (n : ℕ) (c : ScanLog) → (given_up_if_spent n c).asked ≡ c.asked
 given_asked n c = go (length c.now.due == 0 && c.now.failed == n + 2)
   where
     go : (b : Bool) → (cond b
@@ -125,12 +142,13 @@ given_asked n c = go (length c.now.due == 0 && c.now.failed == n + 2)
     go true = refl
     go false = refl
 
-pub flag_low : (n w : ℕ) (adds : List Op → ℕ → ℕ) (accepts : (ℕ → ℕ) → List Op → Type 0) (ms : List Member) (c : Scan) (e : Asked)
-    → HasMember ms → AreRuled n w adds accepts ms → scan_of ms ≡ gives_up n (refused e c) → e.number ≡ e.again → (x : ℕ)
+pub flag_low : (n w : ℕ) (adds : List Op → ℕ → ℕ) (accepts : (ℕ → ℕ) → List Op
+    → Type 0) (ms : List Member) (c : ScanLog) (e : Asked)
+    → HasMember ms → AreRuled n w adds accepts ms → scan_of ms ≡ given_up_if_spent n (refused e c) → e.number ≡ e.again → (x : ℕ)
     → get_elem? e.words 0 ≡ some x → x ≤ 1
 flag_low n w adds accepts [] c e t ruled scan same x at = absurd (let h = t.2 in cc)
 flag_low n w adds accepts (m ∷ ms) c e t ruled scan same x at =
-    let asked : m.scan.asked ≡ c.asked ++ e ∷ [] = ap (λ (d : Scan). d.asked) scan ∙ given_asked n (refused e c) in
+    let asked : m.scan.asked ≡ c.asked ++ e ∷ [] = ap (λ (d : ScanLog). d.asked) scan ∙ given_asked n (refused e c) in
     let shows = ((ruled.scans 0 m refl).asked (length c.asked) e (ap (λ (l : List Asked). get_elem? l (length c.asked)) asked
     ∙ at_end c.asked e)).shown same 0 x at in
     let flag : x ≡ flag_of (last_lent (take e.number (ruled.made e.worker))) = shows.flag (omega arith) in
@@ -185,16 +203,17 @@ pub refuses_of : (n w i s again : ℕ) (words more floor : List ℕ) (adds : Lis
     → (scan_of ms).now.due ≡ i ∷ more → (scan_of ms).now.looks ≡ [] → (scan_of ms).now.floor ≡ floor → length words ≡ 1 + n + w
     → length floor ≡ n → AreRuled n w adds accepts d
     → is_lender n w again floor (begun i s words) ≡ false
-    → (e : Asked) × (e.worker ≡ i) × DoesNotLend n floor e × (d ≡ with_scan (gives_up n (refused e (scan_of ms))) ms)
+    → (e : Asked) × (e.worker ≡ i) × DoesNotLend n floor e × (d ≡ with_scan (given_up_if_spent n (refused e (scan_of ms))) ms)
 refuses_of n w i s again words more floor adds accepts ms a b d t p q r due looks is_floor long few ruled not_lent =
-    let c : Scan = scan_of ms in
+    let c : ScanLog = scan_of ms in
     let e : Asked = asked_of again (begun i s words) in
     let shape = view_refuses n w i s again words more c due looks
     (ap (λ (f : List ℕ). is_lender n w again f (begun i s words)) is_floor ∙ not_lent) in
-    let view : d ≡ with_scan (gives_up n (refused e c)) ms = three (after_ask i s) (read_all w i s w words)
-    (after_end_ask n w i again) ms a b d p q r ∙ ap (λ (x : Scan). with_scan x ms) shape in
-    let there : HasMember d = subst HasMember (sym view) (led_some (λ _. gives_up n (refused e c)) ms t) in
-    let scan : scan_of d ≡ gives_up n (refused e c) = ap scan_of view ∙ scan_with (gives_up n (refused e c)) ms t in
+    let view : d ≡ with_scan (given_up_if_spent n (refused e c)) ms = three (after_ask i s) (read_all w i s w words)
+    (after_end_ask n w i again) ms a b d p q r ∙ ap (λ (x : ScanLog). with_scan x ms) shape in
+    let there : HasMember d = subst HasMember (sym view) (led_some (λ _. given_up_if_spent n (refused e c)) ms t) in
+    let scan : scan_of d ≡ given_up_if_spent n (refused e c) = ap scan_of view
+    ∙ scan_with (given_up_if_spent n (refused e c)) ms t in
     let vec : length floor ≡ length (take n (drop 1 words)) = few ∙ sym (vector_long n w words long) in (
       e,
       refl,
@@ -215,8 +234,8 @@ refuses_of n w i s again words more floor adds accepts ms a b d t p q r due look
     flag_at (x ∷ l) h = refl
 
 -- what is left to ask after a worker that does not lend
-pub may_next : (n i : ℕ) (e : Asked) (floor more : List ℕ) (c : Scan) → MayAsk floor (i ∷ more) c
-    → MayAsk floor more (gives_up n (refused e c))
+pub may_next : (n i : ℕ) (e : Asked) (floor more : List ℕ) (c : ScanLog) → MayAsk floor (i ∷ more) c
+    → MayAsk floor more (given_up_if_spent n (refused e c))
 may_next n i e floor more c may = go (length (rest c.now.due) == 0 && c.now.failed == n + 2) refl
   where
     left : rest c.now.due ≡ more
@@ -243,10 +262,10 @@ may_next n i e floor more c may = go (length (rest c.now.due) == 0 && c.now.fail
         empty (x ∷ l) h = absurd (omega (arith, h))
     go false t = record { due = left; looks = may.looks; asks = refl; floor = λ _. is_floor }
 
-pub refused_snoc : (n : ℕ) (es : List Asked) (e : Asked) (c : Scan) → refused_all n (es ++ e ∷ []) c ≡ gives_up n
+pub refused_snoc : (n : ℕ) (es : List Asked) (e : Asked) (c : ScanLog) → refused_all n (es ++ e ∷ []) c ≡ given_up_if_spent n
     (refused e (refused_all n es c))
 refused_snoc n [] e c = refl
-refused_snoc n (x ∷ es) e c = refused_snoc n es e (gives_up n (refused x c))
+refused_snoc n (x ∷ es) e c = refused_snoc n es e (given_up_if_spent n (refused x c))
 
 -- the workers to be asked, from one place on
 pub due_here : (p : ℕ) (base found : List ℕ) → p < length base → p < length found → get_or base p 0 + 2 ≤ get_or found p 0

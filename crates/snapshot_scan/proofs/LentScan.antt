@@ -6,10 +6,10 @@ use lib.ListN.{get_elem?}
 use Rattle.ledger_core.specs.declared.op.Op.{Op}
 use Rattle.register_rule.specs.declared.view.Answer.{Answer}
 use Rattle.register_rule.specs.declared.view.Member.{Member}
-use Rattle.register_rule.specs.declared.view.Scan.{Scan}
+use Rattle.register_rule.specs.declared.view.ScanLog.{ScanLog}
 use Rattle.register_rule.specs.declared.view.Who.TheVariants.{Reader}
 use Rattle.register_rule.specs.Members.{first_of}
-use Rattle.register_rule.specs.Scans.{IsSound}
+use Rattle.register_rule.specs.SoundScans.{IsSound}
 use Rattle.register_rule.specs.Told.{AreRuled}
 use Rattle.register_rule.proofs.Moments.{length_tab}
 use Rattle.register_rule.proofs.Words.{there}
@@ -25,12 +25,13 @@ use Rattle.snapshot_scan.proofs.Words.{front_at}
 use Rattle.snapshot_scan.proofs.Trying.{confirmed_snoc, loads_at}
 
 -- a scan forgets nothing that was seen
-pub sees_on : {T : Type 0} (n : ℕ) (c c' : Scan) (a : Answer) (r : Result T Contended) → OnOk r (IsAnswered n c c' a)
+pub sees_on : {T : Type 0} (n : ℕ) (c c' : ScanLog) (a : Answer) (r : Result T Contended) → OnOk r (IsAnswered n c c' a)
     → IfErr r (IsContended n c c') → SeesMore c.seen c'.seen
 sees_on n c c' a (Ok x) ok err = subst (SeesMore c.seen) (sym ok.seen) (sees_upper c.seen a.vector)
 sees_on n c c' a (Err e) ok err = subst (SeesMore c.seen) (sym err.gave_up.seen) (sees_same c.seen)
 
-module _ (n w k : ℕ) (adds : List Op → ℕ → ℕ) (accepts : (ℕ → ℕ) → List Op → Type 0) (m0 : Member) (ms : List Member) (c' : Scan)
+module _ (n w k : ℕ) (adds : List Op → ℕ → ℕ) (accepts : (ℕ → ℕ) → List Op
+    → Type 0) (m0 : Member) (ms : List Member) (c' : ScanLog)
     (is : m0.who ≡ Reader k)
     (seen : HasSeen (m0 ∷ ms)) (ruled : AreRuled n w adds accepts (with_scan c' (m0 ∷ ms))) where
   sound : IsSound n w adds ruled.made ruled.history c'
@@ -99,7 +100,7 @@ module _ {T : Type 0} (n w k : ℕ) (adds : List Op → ℕ → ℕ) (accepts : 
       (subst (AreRuled n w adds accepts) e ruled) r err all
 
 -- what was recorded last is recorded
-pub found_last : {T : Type 0} (n : ℕ) (c c' : Scan) (a : Answer) (r : Result T Contended) → OnOk r (IsAnswered n c c' a)
+pub found_last : {T : Type 0} (n : ℕ) (c c' : ScanLog) (a : Answer) (r : Result T Contended) → OnOk r (IsAnswered n c c' a)
     → OnOk r ((q : ℕ) × (get_elem? c'.recorded q ≡ some a))
 found_last n c c' a (Ok x) done = (
   length c.recorded,
@@ -109,7 +110,7 @@ found_last n c c' a (Ok x) done = (
 found_last n c c' a (Err e) done = tt
 
 -- and what was recorded before is recorded still
-pub found_still : {T : Type 0} (n : ℕ) (c c' : Scan) (b : Answer) (r : Result T Contended) → OnOk r (IsAnswered n c c' b)
+pub found_still : {T : Type 0} (n : ℕ) (c c' : ScanLog) (b : Answer) (r : Result T Contended) → OnOk r (IsAnswered n c c' b)
     → IfErr r (IsContended n c c')
     → (a : Answer) → ((q : ℕ) × (get_elem? c.recorded q ≡ some a)) → (q : ℕ) × (get_elem? c'.recorded q ≡ some a)
 found_still n c c' b (Ok x) ok err a (q, at) =

@@ -7,12 +7,12 @@ use native.Mathlib.Decide.{dec_lt}
 use Rattle.std.specs.Int.{bit_at}
 use lib.Bits.{bit_xor}
 use Rattle.std.proofs.lemmas.Nat.Bits.{same_from_bits, bit_at_xor, bit_at-zero, bit_at-lt}
-use Rattle.snapshot_scan.specs.ChangedItems.{Changed, Notes, Moves, Lists}
+use Rattle.snapshot_scan.specs.ChangedItems.{ChangedView, Notes, Moves, Lists}
 use Rattle.snapshot_scan.specs.Exchange.{Exchanges, AreParts}
 use Rattle.snapshot_scan.proofs.Noted.{none_listed}
 
 -- nothing changes
-pub moves_none : (w : ℕ) (sums : List ℕ) (c : Changed) → Moves w sums sums c c
+pub moves_none : (w : ℕ) (sums : List ℕ) (c : ChangedView) → Moves w sums sums c c
 moves_none w sums c = record {
   listed = λ h. h;
   keeps = λ _ j h. h;
@@ -21,7 +21,7 @@ moves_none w sums c = record {
 }
 
 -- first so, then so
-pub moves_then : (w : ℕ) (s t u : List ℕ) (a b c : Changed) → Moves w s t a b → Moves w t u b c → Moves w s u a c
+pub moves_then : (w : ℕ) (s t u : List ℕ) (a b c : ChangedView) → Moves w s t a b → Moves w t u b c → Moves w s u a c
 moves_then w s t u a b c first second = record {
   listed = λ h. first.listed (second.listed h);
   keeps = λ h j was. second.keeps h j (first.keeps (second.listed h) j was);
@@ -30,7 +30,7 @@ moves_then w s t u a b c first second = record {
 }
 
 -- one sum changes, and is listed
-pub moves_one : (w k x : ℕ) (s t : List ℕ) (old new : Changed) → k < w → t ≡ set s k x → Notes k old new → Moves w s t old new
+pub moves_one : (w k x : ℕ) (s t : List ℕ) (old new : ChangedView) → k < w → t ≡ set s k x → Notes k old new → Moves w s t old new
 moves_one w k x s t old new lt is notes = record {
   listed = notes.listed;
   keeps = notes.keeps;
@@ -40,26 +40,22 @@ moves_one w k x s t old new lt is notes = record {
 }
 
 -- from an empty list on
-pub lists_first : (w : ℕ) (s t : List ℕ) (old new : Changed) → old.items ≡ [] → Moves w s t old new → Lists w s t new
+pub lists_first : (w : ℕ) (s t : List ℕ) (old new : ChangedView) → old.items ≡ [] → Moves w s t old new → Lists w s t new
 lists_first w s t old new empty is = record {
   same = is.same;
   inside = λ j h. ⊎_elim (λ was. absurd (none_listed j (subst (λ (l : List ℕ). Contains l j) empty was))) (λ lt. lt)
       (is.inside j h);
 }
 
--- nothing changes
-pub lists_none : (w : ℕ) (s t : List ℕ) (c : Changed) → t ≡ s → ((j : ℕ) → Contains c.items j → j < w) → Lists w s t c
-lists_none w s t c e inside = record { same = λ _ k lt none. ap (λ (l : List ℕ). get_or l k 0) e; inside = inside }
-
 -- more is listed
-pub lists_then : (w : ℕ) (s t u : List ℕ) (a b : Changed) → Lists w s t a → Moves w t u a b → Lists w s u b
+pub lists_then : (w : ℕ) (s t u : List ℕ) (a b : ChangedView) → Lists w s t a → Moves w t u a b → Lists w s u b
 lists_then w s t u a b first second = record {
   same = λ h k lt none. second.same h k lt none ∙ first.same (second.listed h) k lt (λ was. none (second.keeps h k was));
   inside = λ j h. ⊎_elim (λ was. first.inside j was) (λ lt. lt) (second.inside j h);
 }
 
 -- what is listed stays among the sums
-pub moves_inside : (w : ℕ) (s t : List ℕ) (old new : Changed) → ((j : ℕ) → Contains old.items j → j < w) → Moves w s t old new
+pub moves_inside : (w : ℕ) (s t : List ℕ) (old new : ChangedView) → ((j : ℕ) → Contains old.items j → j < w) → Moves w s t old new
     → (j : ℕ) → Contains new.items j → j < w
 moves_inside w s t old new inside is j h = ⊎_elim (λ was. inside j was) (λ lt. lt) (is.inside j h)
 
@@ -69,18 +65,18 @@ below_or_not k n = dite (dec_lt k n) (λ lt. inl lt) (λ not. inr (omega (arith,
 -- words in the place of others
 module _ (n : ℕ) (old new : List ℕ) where
   -- words that are the same
-  pub exchanges_same : (from to : ℕ) (s t : List ℕ) (a b : Changed)
+  pub exchanges_same : (from to : ℕ) (s t : List ℕ) (a b : ChangedView)
       → ((k : ℕ) → from ≤ k → k < to → get_or old k 0 ≡ get_or new k 0) → t ≡ s → b ≡ a → Exchanges n from to old new s t a b
   exchanges_same from to s t a b same is is' = record {
     inside = λ k lt lt'. let e = same k lt lt' in let f = ap (λ (l : List ℕ). get_or l k 0) is in omega (arith, e, f);
     low = λ k lt. ap (λ (l : List ℕ). get_or l k 0) is;
     high = λ k lt. ap (λ (l : List ℕ). get_or l k 0) is;
-    moves = subst (λ (x : Changed). Moves n s t a x) (sym is')
+    moves = subst (λ (x : ChangedView). Moves n s t a x) (sym is')
         (subst (λ (l : List ℕ). Moves n s l a a) (sym is) (moves_none n s a));
   }
 
   -- these words, and then those behind them
-  pub exchanges_then : (from mid to : ℕ) (s t u : List ℕ) (a b c : Changed) → from ≤ mid → mid ≤ to
+  pub exchanges_then : (from mid to : ℕ) (s t u : List ℕ) (a b c : ChangedView) → from ≤ mid → mid ≤ to
       → Exchanges n from mid old new s t a b → Exchanges n mid to old new t u b c → Exchanges n from to old new s u a c
   exchanges_then from mid to s t u a b c le le' first second = record {
     inside = λ k lt lt'. ⊎_elim
@@ -93,7 +89,7 @@ module _ (n : ℕ) (old new : List ℕ) where
   }
 
   -- one word
-  pub exchanges_one : (k : ℕ) (s t : List ℕ) (a b : Changed) → k < n → n ≡ length s → get_or old k 0 ≤ get_or s k 0
+  pub exchanges_one : (k : ℕ) (s t : List ℕ) (a b : ChangedView) → k < n → n ≡ length s → get_or old k 0 ≤ get_or s k 0
       → t ≡ set s k (get_or s k 0 - get_or old k 0 + get_or new k 0) → Notes k a b → Exchanges n k (k + 1) old new s t a b
   exchanges_one k s t a b lt long part is notes = let x = get_or s k 0 - get_or old k 0 + get_or new k 0 in record {
     inside = λ j le lt'. let e : j ≡ k = omega (arith, le, lt') in
@@ -105,7 +101,7 @@ module _ (n : ℕ) (old new : List ℕ) where
   }
 
   -- the words behind them are parts of the sums still
-  pub parts_still : (from to : ℕ) (s t : List ℕ) (a b : Changed) → Exchanges n from to old new s t a b → from ≤ to
+  pub parts_still : (from to : ℕ) (s t : List ℕ) (a b : ChangedView) → Exchanges n from to old new s t a b → from ≤ to
       → AreParts from n old s → AreParts to n old t
   parts_still from to s t a b is le parts k above lt = let e = is.high k above in let p = parts k (omega (arith, le, above)) lt in
       (omega (arith, e, p.0), omega (arith, e, p.1))

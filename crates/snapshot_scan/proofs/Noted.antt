@@ -4,10 +4,10 @@ use Rattle.std.proofs.Common.{subst, arith, length-append, ⊎_elim}
 use Rattle.std.specs.List.{Contains}
 use Rattle.std.proofs.lemmas.List.{get_or-take, length-take-le}
 use Rattle.std.proofs.lemmas.List.Elements.{Contains-get_or, Contains-append_left, Contains-push, Contains-push_cases}
-use Rattle.snapshot_scan.specs.ChangedItems.{Changed, Notes}
+use Rattle.snapshot_scan.specs.ChangedItems.{ChangedView, Notes}
 
 -- all stay all
-pub notes_all : (item : ℕ) (c : Changed) → c.all ≡ true → Notes item c c
+pub notes_all : (item : ℕ) (c : ChangedView) → c.all ≡ true → Notes item c c
 notes_all item c e = record {
   listed = λ h. h;
   keeps = λ _ j h. h;
@@ -18,7 +18,7 @@ notes_all item c e = record {
 }
 
 -- an item that is listed already
-pub notes_again : (item : ℕ) (c : Changed) → Contains c.items item → Notes item c c
+pub notes_again : (item : ℕ) (c : ChangedView) → Contains c.items item → Notes item c c
 notes_again item c e = record {
   listed = λ h. h;
   keeps = λ _ j h. h;
@@ -29,7 +29,7 @@ notes_again item c e = record {
 }
 
 -- where no more can be listed
-pub notes_full : (item : ℕ) (old new : Changed) → new.items ≡ old.items → new.all ≡ true → 256 ≤ length old.items
+pub notes_full : (item : ℕ) (old new : ChangedView) → new.items ≡ old.items → new.all ≡ true → 256 ≤ length old.items
     → Notes item old new
 notes_full item old new e all full = record {
   listed = λ h. let z = sym all ∙ h in absurd (cc);
@@ -41,7 +41,7 @@ notes_full item old new e all full = record {
 }
 
 -- where it is listed
-pub notes_more : (item : ℕ) (old new : Changed) → new.items ≡ old.items ++ item ∷ [] → new.all ≡ old.all → Notes item old new
+pub notes_more : (item : ℕ) (old new : ChangedView) → new.items ≡ old.items ++ item ∷ [] → new.all ≡ old.all → Notes item old new
 notes_more item old new e all = record {
   listed = λ h. sym all ∙ h;
   keeps = λ _ j h. subst (λ (l : List ℕ). Contains l j) (sym e) (Contains-append_left old.items (item ∷ []) j h);

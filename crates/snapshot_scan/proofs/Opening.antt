@@ -5,8 +5,8 @@ use Rattle.std.proofs.lemmas.List.{append-nil}
 use mathlib.Core.Option.{some, some-injective, some-ne-none}
 use lib.ListN.{get_elem?}
 use Rattle.register_rule.specs.declared.view.Look.{Look}
-use Rattle.register_rule.specs.declared.view.Scan.{Scan}
-use Rattle.register_rule.specs.Steps.{every, unsure, begun, words_kept, opens_next, after_open, after_read, noted}
+use Rattle.register_rule.specs.declared.view.ScanLog.{ScanLog}
+use Rattle.register_rule.specs.ScanSteps.{every, unsure, begun, words_kept, opens_next, after_open, after_read, noted}
 use Rattle.snapshot_scan.specs.declared.remembered_row.RememberedRow.{RememberedRow}
 use Rattle.register_rule.specs.declared.view.Member.{Member}
 use Rattle.register_rule.specs.Told.{IsNumber}
@@ -76,11 +76,11 @@ map_both f [] x = refl
 map_both f (y ∷ ys) x = ap (λ z. f y ∷ z) (map_both f ys x)
 
 -- c, with these looks in its try
-abbrev looking : List Look → Scan → Scan
+abbrev looking : List Look → ScanLog → ScanLog
 looking ls c = record c { now = record c.now { looks = ls } }
 
 -- the words of the place that was begun last, all in their order
-reads_row : (w i s : ℕ) (opened : List ℕ) (gs : List RememberedRow) (ws xs : List ℕ) (c : Scan) → length opened ≡ i
+reads_row : (w i s : ℕ) (opened : List ℕ) (gs : List RememberedRow) (ws xs : List ℕ) (c : ScanLog) → length opened ≡ i
     → c.now.asks ≡ []
     → read_all w i s (length ws) xs (looking (looks_of 0 opened [] gs ++ begun i s ws ∷ []) c) ≡ looking
     (looks_of 0 opened [] gs ++ begun i s (ws ++ xs) ∷ []) c
@@ -107,7 +107,7 @@ reads_row w i s opened gs ws (x ∷ xs) c here none =
     snoc_long (y ∷ l) x = ap suc (snoc_long l x)
 
 -- one more place is opened
-pub opens_more : (w s : ℕ) (opened : List ℕ) (gs : List RememberedRow) (g g' : RememberedRow) (c : Scan)
+pub opens_more : (w s : ℕ) (opened : List ℕ) (gs : List RememberedRow) (g g' : RememberedRow) (c : ScanLog)
     → get_elem? gs (length opened) ≡ some g → length opened < length gs
     → version_of g' ≡ version_of g → c.kept ≡ map version_of gs → c.now.due ≡ [] → c.now.asks ≡ []
     → looked_at w (length opened) s (g.number == s) g'.fresh.items (opening opened gs c) ≡ opening (opened ++ s ∷ [])
@@ -116,7 +116,7 @@ opens_more w s opened gs g g' c at inside same kept due asks =
     let i = length opened in
     let old = opening opened gs c in
     let ls = looks_of 0 opened [] gs in
-    let c' : Scan = record c { opened = c.opened ++ pairs 0 (opened ++ s ∷ []) } in
+    let c' : ScanLog = record c { opened = c.opened ++ pairs 0 (opened ++ s ∷ []) } in
     let long : i ≡ length ls = sym (looks_long 0 opened [] gs (omega (arith, inside))) in
     let t : opens_next i old.now ≡ true = λ z. eq-eqb i (length ls) long z &&
     (eqb (length (due z)) 0 && opened_unsure 0 opened gs z) in
@@ -145,16 +145,16 @@ opens_more w s opened gs g g' c at inside same kept due asks =
     go false h = ap (read_all w (length opened) s 0 g'.fresh.items) h ∙ reads_row w (length opened) s opened gs [] g'.fresh.items
         (record c { opened = c.opened ++ pairs 0 (opened ++ s ∷ []) }) refl asks
 
-pub opening_starts : (gs : List RememberedRow) (c : Scan) → c.now.looks ≡ [] → opening [] gs c ≡ c
+pub opening_starts : (gs : List RememberedRow) (c : ScanLog) → c.now.looks ≡ [] → opening [] gs c ≡ c
 opening_starts gs c none = λ z. record c { opened = append-nil c.opened z; now = record c.now { looks = sym none z } }
 
-pub loaded : (i x : ℕ) (c : Scan) (opened : List ℕ) (gs : List RememberedRow) (ms ms' : List Member) → HasMember ms
+pub loaded : (i x : ℕ) (c : ScanLog) (opened : List ℕ) (gs : List RememberedRow) (ms ms' : List Member) → HasMember ms
     → ms' ≡ with_scan (opening opened gs c) ms → IsNumber i ms' x → IsLoaded i c x
 loaded i x c opened gs ms ms' some_ view number =
     let e : scan_of ms' ≡ opening opened gs c = ap scan_of view ∙ scan_with (opening opened gs c) ms some_ in record {
-      opened = λ q y at. number.opened q y (ap (λ (d : Scan). get_elem? d.opened q) e ∙ front_at c.opened (pairs 0 opened) q (
+      opened = λ q y at. number.opened q y (ap (λ (d : ScanLog). get_elem? d.opened q) e ∙ front_at c.opened (pairs 0 opened) q (
         i,
         y,
       ) at);
-      seen = λ y at. number.seen y (ap (λ (d : Scan). get_elem? d.seen i) e ∙ at);
+      seen = λ y at. number.seen y (ap (λ (d : ScanLog). get_elem? d.seen i) e ∙ at);
     }

@@ -16,11 +16,11 @@ use Rattle.ledger_core.specs.declared.op.Op.{Op}
 use Rattle.ledger_core.specs.Ops.{width, sum_ops}
 use Rattle.ledger_core.specs.Row.{Accepts, Adds}
 use Rattle.register_rule.specs.declared.view.Answer.{Answer}
-use Rattle.register_rule.specs.declared.view.Made.{Made}
+use Rattle.register_rule.specs.declared.view.PublishEntry.{PublishEntry}
 use Rattle.register_rule.specs.declared.view.Member.{Member}
-use Rattle.register_rule.specs.declared.view.Scan.{Scan}
+use Rattle.register_rule.specs.declared.view.ScanLog.{ScanLog}
 use Rattle.register_rule.specs.History.{tab, count, numbers_after, IsCut, Below}
-use Rattle.register_rule.specs.Scans.{IsOneMoment}
+use Rattle.register_rule.specs.SoundScans.{IsOneMoment}
 use Rattle.register_rule.specs.Seats.{HasMember}
 use Rattle.register_rule.specs.Sums.{total, row_sum, Legal}
 use Rattle.register_rule.specs.Told.{AreRuled}
@@ -34,39 +34,40 @@ use Rattle.snapshot_scan.specs.declared.contended.Contended.{Contended}
 use Rattle.snapshot_scan.specs.Shape.{scan_of}
 use Rattle.snapshot_scan.proofs.Sourced.{is_above}
 
-abbrev pub ops_of : Made → List Op
+abbrev pub ops_of : PublishEntry → List Op
 ops_of m = m.ops
 
 -- the list of this number
-abbrev nth : List Made → ℕ → List Op
+abbrev nth : List PublishEntry → ℕ → List Op
 nth [] s = []
 nth (m ∷ ms) zero = m.ops
 nth (m ∷ ms) (suc s) = nth ms s
 
 -- one list more
-nth_next : (l : List Made) (s : ℕ) → s < length l → map ops_of (take (suc s) l) ≡ map ops_of (take s l) ++ nth l s ∷ []
+nth_next : (l : List PublishEntry) (s : ℕ) → s < length l → map ops_of (take (suc s) l) ≡ map ops_of (take s l) ++ nth l s ∷ []
 nth_next [] s lt = absurd (omega (arith, lt))
 nth_next (m ∷ ms) zero lt = refl
 nth_next (m ∷ ms) (suc s) lt = ap (λ (l : List (List Op)). m.ops ∷ l) (nth_next ms s (omega (arith, lt)))
 
-total_next : (adds : List Op → ℕ → ℕ) (l : List Made) (s k : ℕ) → s < length l → total adds (take (suc s) l) k ≡ total adds
+total_next : (adds : List Op → ℕ → ℕ) (l : List PublishEntry) (s k : ℕ) → s < length l
+    → total adds (take (suc s) l) k ≡ total adds
     (take s l) k + adds (nth l s) k
 total_next adds [] s k lt = absurd (omega (arith, lt))
 total_next adds (m ∷ ms) zero k lt = omega arith
 total_next adds (m ∷ ms) (suc s) k lt = let e = total_next adds ms s k (omega (arith, lt)) in omega (arith, e)
 
 -- each list was accepted by the row of those before it
-legal_nth : (adds : List Op → ℕ → ℕ) (accepts : (ℕ → ℕ) → List Op → Type 0) (before l : List Made) (s : ℕ)
+legal_nth : (adds : List Op → ℕ → ℕ) (accepts : (ℕ → ℕ) → List Op → Type 0) (before l : List PublishEntry) (s : ℕ)
     → Legal adds accepts before l → s < length l
     → accepts (total adds (before ++ take s l)) (nth l s)
 legal_nth adds accepts before [] s legal lt = absurd (omega (arith, lt))
-legal_nth adds accepts before (m ∷ ms) zero legal lt = subst (λ (z : List Made). accepts (total adds z) m.ops)
+legal_nth adds accepts before (m ∷ ms) zero legal lt = subst (λ (z : List PublishEntry). accepts (total adds z) m.ops)
     (sym (append-nil before)) legal.0
 legal_nth adds accepts before (m ∷ ms) (suc s) legal lt =
-    subst (λ (z : List Made). accepts (total adds z) (nth ms s)) (append_assoc before (m ∷ []) (take s ms))
+    subst (λ (z : List PublishEntry). accepts (total adds z) (nth ms s)) (append_assoc before (m ∷ []) (take s ms))
     (legal_nth adds accepts (before ++ m ∷ []) ms s legal.1 (omega (arith, lt)))
 
-total_lists : (c h : ℕ) (l : List Made) (k : ℕ) → total (sum_ops c h) l k ≡ sum_lists c h (map ops_of l) k
+total_lists : (c h : ℕ) (l : List PublishEntry) (k : ℕ) → total (sum_ops c h) l k ≡ sum_lists c h (map ops_of l) k
 total_lists c h [] k = refl
 total_lists c h (m ∷ ms) k =
     let rest = total_lists c h ms k in
@@ -91,7 +92,7 @@ lists_append i (p ∷ ps) qs = by_case (lists_append i ps qs) (eqb p.worker i)
     by_case rest false = rest
 
 -- the sums of rows, where a number rises by one, and where none does
-row_same : (adds : List Op → ℕ → ℕ) (made : ℕ → List Made) (f f' : ℕ → ℕ) (i m k : ℕ) → ((j : ℕ) → i ≤ j → f j ≡ f' j)
+row_same : (adds : List Op → ℕ → ℕ) (made : ℕ → List PublishEntry) (f f' : ℕ → ℕ) (i m k : ℕ) → ((j : ℕ) → i ≤ j → f j ≡ f' j)
     → row_sum adds made i (tab i m f) k ≡ row_sum adds made i (tab i m f') k
 row_same adds made f f' i zero k same = refl
 row_same adds made f f' i (suc m) k same =
@@ -100,7 +101,8 @@ row_same adds made f f' i (suc m) k same =
     let rest = row_same adds made f f' (suc i) m k (λ j le. same j (omega (arith, le))) in
     omega (arith, here, rest)
 
-row_next : (adds : List Op → ℕ → ℕ) (made : ℕ → List Made) (f f' : ℕ → ℕ) (x i m k : ℕ) → i ≤ x → x < i + m → f' x ≡ suc (f x)
+row_next : (adds : List Op → ℕ → ℕ) (made : ℕ → List PublishEntry) (f f' : ℕ → ℕ) (x i m k : ℕ) → i ≤ x → x < i + m
+    → f' x ≡ suc (f x)
     → f x < length (made x)
     → ((j : ℕ) → j ≢ x → f j ≡ f' j)
     → row_sum adds made i (tab i m f') k ≡ row_sum adds made i (tab i m f) k + adds (nth (made x) (f x)) k
@@ -121,7 +123,8 @@ row_next adds made f f' x i (suc m) k low high up room same = dite (ℕ_discrete
     (omega (arith, high)) up room same in
     omega (arith, here, rest))
 
-row_none : (adds : List Op → ℕ → ℕ) (made : ℕ → List Made) (i m k : ℕ) → row_sum adds made i (tab i m (λ j. count j [])) k ≡ 0
+row_none : (adds : List Op → ℕ → ℕ) (made : ℕ → List PublishEntry) (i m k : ℕ)
+    → row_sum adds made i (tab i m (λ j. count j [])) k ≡ 0
 row_none adds made i zero k = refl
 row_none adds made i (suc m) k = let rest = row_none adds made (suc i) m k in omega (arith, rest)
 
@@ -138,7 +141,7 @@ count_own : (i : ℕ) → count i (i ∷ []) ≡ 1
 count_own i = ap (λ (z : Bool). cond z 1 0 + 0) (eq-eqb i i refl)
 
 -- the publishes of the workers below n that published in this order, after these
-module _ (n : ℕ) (made : ℕ → List Made) where
+module _ (n : ℕ) (made : ℕ → List PublishEntry) where
   abbrev publish : (before : List ℕ) (x : ℕ) → (x < n) ⊎ (n ≤ x) → List Publish
   publish before x (inl lt) = record { worker = x; ops = nth (made x) (count x before) } ∷ []
   publish before x (inr le) = []
@@ -352,7 +355,7 @@ both_below (x ∷ u) (y ∷ v) long up down =
 
 -- what the rule says of all workers, as one history
 module _ (n c h g : ℕ) (ms : List Member) (ruled : AreRuled n (width c h g) (sum_ops c h) (Accepts c h g) ms) where
-  abbrev made : ℕ → List Made
+  abbrev made : ℕ → List PublishEntry
   made = ruled.made
 
   abbrev order : List ℕ
@@ -478,7 +481,7 @@ module _ (n c h g : ℕ) (few : n ≤ 32) (ms : List Member) (ruled : AreRuled n
       let sits : get_elem? ms 0 ≡ some t.0 = ap (λ (l : List Member). get_elem? l 0) t.2 in
       ((ruled.scans 0 t.0 sits).recorded q a (ap (λ (l : List Member). get_elem? (scan_of l).recorded q) (sym t.2) ∙ e)).0
 
-  history_more : (before : Scan) (a : Answer) → IsAnswered n before (scan_of ms) a → HaveHistory n c h g before.recorded
+  history_more : (before : ScanLog) (a : Answer) → IsAnswered n before (scan_of ms) a → HaveHistory n c h g before.recorded
       → HaveHistory n c h g (scan_of ms).recorded
   history_more before a answered old =
       record {
@@ -492,7 +495,7 @@ module _ (n c h g : ℕ) (few : n ≤ 32) (ms : List Member) (ruled : AreRuled n
       }
 
   -- told by its result
-  pub moments_more : {T : Type 0} (before : Scan) (a : Answer) (answer : Result T Contended)
+  pub moments_more : {T : Type 0} (before : ScanLog) (a : Answer) (answer : Result T Contended)
       → OnOk answer (IsAnswered n before (scan_of ms) a)
       → IfErr answer (IsContended n before (scan_of ms)) → AreMoments n c h g before.recorded
       → AreMoments n c h g (scan_of ms).recorded

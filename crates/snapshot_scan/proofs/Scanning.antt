@@ -8,10 +8,10 @@ use Rattle.ledger_core.specs.Vectors.{is_above}
 use Rattle.register_rule.specs.declared.view.Answer.{Answer}
 use Rattle.register_rule.specs.declared.view.Asked.{Asked}
 use Rattle.register_rule.specs.declared.view.Member.{Member}
-use Rattle.register_rule.specs.declared.view.Scan.{Scan}
+use Rattle.register_rule.specs.declared.view.ScanLog.{ScanLog}
 use Rattle.register_rule.specs.declared.view.Version.{Version}
 use Rattle.register_rule.specs.History.{Below}
-use Rattle.register_rule.specs.Steps.{answered, gives_up, at_rest}
+use Rattle.register_rule.specs.ScanSteps.{answered, given_up_if_spent, at_rest}
 use Rattle.register_rule.proofs.Words.{there, at_below, read_at, each_push}
 use Rattle.snapshot_scan.specs.declared.remembered_row.RememberedRow.{RememberedRow}
 use Rattle.register_rule.specs.Seats.{HasMember}
@@ -25,31 +25,31 @@ use Rattle.snapshot_scan.proofs.Trying.{stood, stood_more, AreTries, asking, fai
 use Rattle.snapshot_scan.proofs.Trying.{given_due, given_later, given_last, loads_in}
 
 -- what the first member's scan is now
-pub now_is : (c : Scan) (ms ms' : List Member) → HasMember ms → ms' ≡ with_scan c ms → scan_of ms' ≡ c
+pub now_is : (c : ScanLog) (ms ms' : List Member) → HasMember ms → ms' ≡ with_scan c ms → scan_of ms' ≡ c
 now_is c ms ms' t e = ap scan_of e ∙ scan_with c ms t
 
-pub still_some : (c : Scan) (ms ms' : List Member) → HasMember ms → ms' ≡ with_scan c ms → HasMember ms'
+pub still_some : (c : ScanLog) (ms ms' : List Member) → HasMember ms → ms' ≡ with_scan c ms → HasMember ms'
 still_some c ms ms' t e = subst HasMember (sym e) (led_some (λ _. c) ms t)
 
-pub others_same : (c : Scan) (ms ms' : List Member) → HasMember ms → ms' ≡ with_scan c ms → ms' ≡ with_scan (scan_of ms') ms
-others_same c ms ms' t e = e ∙ ap (λ (d : Scan). with_scan d ms) (sym (now_is c ms ms' t e))
+pub others_same : (c : ScanLog) (ms ms' : List Member) → HasMember ms → ms' ≡ with_scan c ms → ms' ≡ with_scan (scan_of ms') ms
+others_same c ms ms' t e = e ∙ ap (λ (d : ScanLog). with_scan d ms) (sym (now_is c ms ms' t e))
 
 -- two steps, one after the other
-pub then_is : (f : Scan → Scan) (d : Scan) (ms a b : List Member) → HasMember ms → a ≡ with_scan d ms
+pub then_is : (f : ScanLog → ScanLog) (d : ScanLog) (ms a b : List Member) → HasMember ms → a ≡ with_scan d ms
     → b ≡ with_scan (f (scan_of a)) a → b ≡ with_scan (f d) ms
 then_is f d ms a b t p q = q
-    ∙ (ap (λ (x : Scan). with_scan (f x) a) (now_is d ms a t p) ∙ (ap (with_scan (f d)) p ∙ with_led (λ _. f d) d ms))
+    ∙ (ap (λ (x : ScanLog). with_scan (f x) a) (now_is d ms a t p) ∙ (ap (with_scan (f d)) p ∙ with_led (λ _. f d) d ms))
 
 above_self : (l : List ℕ) → Below l l
 above_self l i x y p q = let e = some-injective x y (sym p ∙ q) in omega (arith, e)
 
 -- the numbers of a collect are not below what was loaded or seen before
-pub seen_below : (n : ℕ) (c : Scan) (opened : List ℕ) → length opened ≡ n
+pub seen_below : (n : ℕ) (c : ScanLog) (opened : List ℕ) → length opened ≡ n
     → ((q : ℕ) → q < n → IsLoaded q c (slice_index opened q)) → Below c.seen opened
 seen_below n c opened long told i x y p q = let lt = at_below opened i y q in
     let h = (told i (omega (arith, long, lt))).seen x p in let e = read_at opened i y 0 q in omega (arith, h, e)
 
-floor_below : (n : ℕ) (c d : Scan) (floor opened : List ℕ) (later : List (ℕ × ℕ)) → length opened ≡ n
+floor_below : (n : ℕ) (c d : ScanLog) (floor opened : List ℕ) (later : List (ℕ × ℕ)) → length opened ≡ n
     → ((q : ℕ) → q < n → IsLoaded q d (slice_index opened q)) → d.opened ≡ c.opened ++ (pairs 0 floor ++ later)
     → Below floor opened
 floor_below n c d floor opened later long told e i x y p q =
@@ -59,7 +59,7 @@ floor_below n c d floor opened later long told e i x y p q =
     let r = read_at opened i y 0 q in omega (arith, h, r)
 
 -- the first try is clean
-pub direct_first : (n : ℕ) (opened found totals : List ℕ) (gs : List RememberedRow) (c : Scan) → length opened ≡ n
+pub direct_first : (n : ℕ) (opened found totals : List ℕ) (gs : List RememberedRow) (c : ScanLog) → length opened ≡ n
     → ((q : ℕ) → q < n → IsLoaded q c (slice_index opened q))
     → IsAnswered n c (answered (record { vector = opened; totals = totals }) (settling opened found gs (opening opened gs c)))
     (record { vector = opened; totals = totals })
@@ -76,7 +76,7 @@ direct_first n opened found totals gs c long told = record {
 }
 
 -- the first try is clean, and met a number other than the remembered one
-pub moved_first : (n : ℕ) (rows : List Version) (opened : List ℕ) (c c' : Scan) → length opened ≡ n → HasOther opened rows
+pub moved_first : (n : ℕ) (rows : List Version) (opened : List ℕ) (c c' : ScanLog) → length opened ≡ n → HasOther opened rows
     → c'.opened ≡ c.opened ++ pairs 0 opened → HasMoved n rows c c'
 moved_first n rows opened c c' long other loads = record {
   first = opened;
@@ -92,7 +92,7 @@ some_loads [] (x ∷ xs) h = λ e. cc
 some_loads (y ∷ l) (x ∷ xs) h = λ e. cc
 
 module _ (n : ℕ) (floor base first last : List ℕ) (tries : List Tried) (tried : AreTries n floor base first last tries)
-    (gs0 : List RememberedRow) (c : Scan) where
+    (gs0 : List RememberedRow) (c : ScanLog) where
   opened_so : (stood tries gs0 floor base c).opened ≡ c.opened ++ (pairs 0 floor ++ all_opened tried.others)
   opened_so = ap (λ (ts : List Tried). c.opened ++ all_opened ts) tried.all
       ∙ ap (λ (f : List ℕ). c.opened ++ (pairs 0 f ++ all_opened tried.others)) tried.is_floor
@@ -118,7 +118,7 @@ module _ (n : ℕ) (floor base first last : List ℕ) (tries : List Tried) (trie
   }
 
   -- and the scan made more than one try
-  pub moved_later : (rows : List Version) (opened : List ℕ) (c' : Scan) → 0 < n → length floor ≡ n → length opened ≡ n
+  pub moved_later : (rows : List Version) (opened : List ℕ) (c' : ScanLog) → 0 < n → length floor ≡ n → length opened ≡ n
       → c'.opened ≡ (stood tries gs0 floor base c).opened ++ pairs 0 opened → HasMoved n rows c c'
   moved_later rows opened c' any wide long loads = record {
     first = floor;
@@ -152,8 +152,8 @@ module _ (n : ℕ) (floor base first last : List ℕ) (tries : List Tried) (trie
 
   -- all tries have failed
   pub all_failed : length tries ≡ n + 2 → ((q : ℕ) (t : Tried) → get_elem? tries q ≡ some t → Below c.seen t.first)
-      → IsGivenUp n c (gives_up n (stood tries gs0 floor base c)) first last
-  all_failed count above = subst (λ (x : Scan). IsGivenUp n c x first last)
+      → IsGivenUp n c (given_up_if_spent n (stood tries gs0 floor base c)) first last
+  all_failed count above = subst (λ (x : ScanLog). IsGivenUp n c x first last)
       (sym (given_last n (stood tries gs0 floor base c) refl count)) (record {
         recorded = refl;
         seen = refl;
@@ -203,8 +203,8 @@ tries_one n opened found failed = let t : Tried = record { first = opened; secon
 }
 
 -- what may be asked after a try
-pub may_start : (n : ℕ) (opened found : List ℕ) (gs : List RememberedRow) (floor base workers : List ℕ) (d : Scan)
-    → MayAsk floor workers (gives_up n (asking opened found gs floor base [] workers d))
+pub may_start : (n : ℕ) (opened found : List ℕ) (gs : List RememberedRow) (floor base workers : List ℕ) (d : ScanLog)
+    → MayAsk floor workers (given_up_if_spent n (asking opened found gs floor base [] workers d))
 may_start n opened found gs floor base [] d = go (d.now.failed + 1 == n + 2)
   where
     go : (b : Bool) → MayAsk floor []
@@ -220,7 +220,7 @@ may_start n opened found gs floor base (i ∷ more) d = subst (MayAsk floor (i �
 pub later_not : (tries : List Tried) (k : ℕ) → length tries ≡ k + 1 → (length tries == 0) ≡ false
 later_not tries k e = ne_eqb (length tries) 0 (λ h. omega (arith, h, e))
 
-pub first_starts : (n w : ℕ) (opened found : List ℕ) (gs : List RememberedRow) (c : Scan) → length gs ≡ n → length opened ≡ n
+pub first_starts : (n w : ℕ) (opened found : List ℕ) (gs : List RememberedRow) (c : ScanLog) → length gs ≡ n → length opened ≡ n
     → length found ≡ n → c.now ≡ at_rest
     → failing (settling opened found gs (opening opened gs c)) ≡ stood (record { first = opened; second = found; asks = [] } ∷ [])
     gs opened found c
@@ -245,26 +245,27 @@ first_starts n w opened found gs c few long deep none =
 -- before its last try a scan goes on
 pub at_loop : (n k : ℕ) (tries : List Tried) (gs : List RememberedRow) (floor base : List ℕ) (ms a : List Member)
     → length tries ≡ k + 1 → k < n + 1
-    → a ≡ with_scan (gives_up n (stood tries gs floor base (scan_of ms))) ms
+    → a ≡ with_scan (given_up_if_spent n (stood tries gs floor base (scan_of ms))) ms
     → a ≡ with_scan (stood tries gs floor base (scan_of ms)) ms
 at_loop n k tries gs floor base ms a e lt p = p
-    ∙ ap (λ (x : Scan). with_scan x ms) (given_later n (stood tries gs floor base (scan_of ms)) (omega (arith, e, lt)))
+    ∙ ap (λ (x : ScanLog). with_scan x ms) (given_later n (stood tries gs floor base (scan_of ms)) (omega (arith, e, lt)))
 
 module _ (n w k : ℕ) (opened found : List ℕ) (gs gs0 : List RememberedRow) (few : length gs ≡ n) (long : length opened ≡ n)
     (deep : length found ≡ n) (tries : List Tried) (floor base : List ℕ) (ms a b : List Member) (t : HasMember ms)
     (count : length tries ≡ k + 1) (p : a ≡ with_scan (stood tries gs0 floor base (scan_of ms)) ms) where
-  abbrev was : Scan
+  abbrev was : ScanLog
   was = stood tries gs0 floor base (scan_of ms)
 
-  pub loop_fails : b ≡ with_scan (gives_up n (failing (settling opened found gs (opening opened gs (scan_of a))))) a
-      → b ≡ with_scan (gives_up n
+  pub loop_fails : b ≡ with_scan (given_up_if_spent n (failing (settling opened found gs (opening opened gs (scan_of a))))) a
+      → b ≡ with_scan (given_up_if_spent n
       (asking opened found gs floor base [] (due_from 0 base found) (stood tries gs0 floor base (scan_of ms)))) ms
-  loop_fails q = then_is (λ (d : Scan). gives_up n (failing (settling opened found gs (opening opened gs d)))) was ms a b t p q
-      ∙ ap (λ (x : Scan). with_scan (gives_up n x) ms)
+  loop_fails q = then_is (λ (d : ScanLog). given_up_if_spent n (failing (settling opened found gs
+      (opening opened gs d)))) was ms a b t p q
+      ∙ ap (λ (x : ScanLog). with_scan (given_up_if_spent n x) ms)
       (fails_later n w opened found gs gs few long deep was (later_not tries k count) refl)
 
   pub loop_lends : (d : List Member) (answer : Answer) (e : Asked) (es : List Asked) (more : List ℕ)
-      → b ≡ with_scan (gives_up n
+      → b ≡ with_scan (given_up_if_spent n
       (asking opened found gs floor base [] (due_from 0 base found) (stood tries gs0 floor base (scan_of ms)))) ms
       → map asked_worker es ++ asked_worker e ∷ more ≡ due_from 0 base found
       → d ≡ with_scan (answered answer (asked_too e (refused_all n es (scan_of b)))) b
@@ -272,26 +273,28 @@ module _ (n w k : ℕ) (opened found : List ℕ) (gs gs0 : List RememberedRow) (
       (asked_too e (asking opened found gs floor base es (asked_worker e ∷ more) (stood tries gs0 floor base (scan_of ms)))))
       ms
   loop_lends d answer e es more q due r =
-      then_is (λ (x : Scan). answered answer (asked_too e (refused_all n es x)))
-      (gives_up n (asking opened found gs floor base [] (due_from 0 base found) was)) ms b d t q r
+      then_is (λ (x : ScanLog). answered answer (asked_too e (refused_all n es x)))
+      (given_up_if_spent n (asking opened found gs floor base [] (due_from 0 base found) was)) ms b d t q r
       ∙ (ap (λ (ws : List ℕ). with_scan
-      (answered answer (asked_too e (refused_all n es (gives_up n (asking opened found gs floor base [] ws was))))) ms)
+      (answered answer (asked_too e (refused_all n es (given_up_if_spent n (asking opened found gs floor base [] ws was))))) ms)
       (sym due)
-      ∙ ap (λ (x : Scan). with_scan (answered answer (asked_too e x)) ms)
+      ∙ ap (λ (x : ScanLog). with_scan (answered answer (asked_too e x)) ms)
       (asked_some n w opened found gs gs few long deep floor base more (asked_worker e) es [] was))
 
   pub loop_refuses : (d : List Member) (es : List Asked)
-      → b ≡ with_scan (gives_up n
+      → b ≡ with_scan (given_up_if_spent n
       (asking opened found gs floor base [] (due_from 0 base found) (stood tries gs0 floor base (scan_of ms)))) ms
       → map asked_worker es ≡ due_from 0 base found → d ≡ with_scan (refused_all n es (scan_of b)) b
-      → d ≡ with_scan (gives_up n (stood (tries ++ record { first = opened; second = found; asks = es } ∷ []) gs floor base
+      → d ≡ with_scan (given_up_if_spent n (stood
+      (tries ++ record { first = opened; second = found; asks = es } ∷ []) gs floor base
       (scan_of ms))) ms
   loop_refuses d es q due r =
-      then_is (refused_all n es) (gives_up n (asking opened found gs floor base [] (due_from 0 base found) was)) ms b d t q r
-      ∙ (ap (λ (ws : List ℕ). with_scan (refused_all n es (gives_up n (asking opened found gs floor base [] ws was))) ms)
+      then_is (refused_all n es) (given_up_if_spent n (asking opened found gs floor base []
+      (due_from 0 base found) was)) ms b d t q r
+      ∙ (ap (λ (ws : List ℕ). with_scan (refused_all n es (given_up_if_spent n (asking opened found gs floor base [] ws was))) ms)
       (sym due)
-      ∙ (ap (λ (x : Scan). with_scan x ms) (asked_none n w opened found gs gs few long deep floor base es [] was)
-      ∙ ap (λ (x : Scan). with_scan (gives_up n x) ms)
+      ∙ (ap (λ (x : ScanLog). with_scan x ms) (asked_none n w opened found gs gs few long deep floor base es [] was)
+      ∙ ap (λ (x : ScanLog). with_scan (given_up_if_spent n x) ms)
       (stood_more tries gs0 gs floor base floor base opened found es (scan_of ms))))
 
 pub count_more : (tries : List Tried) (t : Tried) (k : ℕ) → length tries ≡ k + 1 → length (tries ++ t ∷ []) ≡ k + 1 + 1

@@ -6,8 +6,8 @@ use mathlib.Core.Option.{some, some-injective, some-ne-none}
 use lib.ListN.{get_elem?}
 use Rattle.register_rule.specs.declared.view.Look.{Look}
 use Rattle.register_rule.specs.declared.view.Version.{Version}
-use Rattle.register_rule.specs.declared.view.Scan.{Scan}
-use Rattle.register_rule.specs.Steps.{begun, settled, remembered, confirmed_at}
+use Rattle.register_rule.specs.declared.view.ScanLog.{ScanLog}
+use Rattle.register_rule.specs.ScanSteps.{begun, settled, remembered, confirmed_at}
 use Rattle.snapshot_scan.specs.declared.remembered_row.RememberedRow.{RememberedRow}
 use Rattle.snapshot_scan.specs.RememberedRows.{version_of, IsWide, AreWide, words_of, looks_of, pairs, settling, sum_rows}
 use Rattle.snapshot_scan.proofs.Words.{map_set, set_same, at_map}
@@ -117,7 +117,7 @@ set_at (x ∷ l) zero a b e = refl
 set_at (x ∷ l) (suc i) a b e = set_at l i a b e
 
 -- one more place is confirmed, or found moved
-pub confirms_more : (w s o : ℕ) (opened pre : List ℕ) (gs : List RememberedRow) (g g' : RememberedRow) (c : Scan)
+pub confirms_more : (w s o : ℕ) (opened pre : List ℕ) (gs : List RememberedRow) (g g' : RememberedRow) (c : ScanLog)
     → get_elem? opened (length pre) ≡ some o → get_elem? gs (length pre) ≡ some g → length (words_of o g) ≡ w
     → words_of o g' ≡ words_of o g → version_of g' ≡ cond (o == s) (record { number = o; row = words_of o g }) (version_of g)
     → confirmed_at w (length pre) s (settling opened pre gs c) ≡ settling opened (pre ++ s ∷ []) (set gs (length pre) g') c
@@ -176,7 +176,7 @@ words_wide w o g wide = go (g.number == o)
     go true = wide.row
     go false = wide.fresh
 
-pub settling_starts : (opened : List ℕ) (gs : List RememberedRow) (c : Scan) → c.kept ≡ map version_of gs
+pub settling_starts : (opened : List ℕ) (gs : List RememberedRow) (c : ScanLog) → c.kept ≡ map version_of gs
     → c.now.looks ≡ looks_of 0 opened [] gs → c ≡ settling opened [] gs c
 settling_starts opened gs c kept looks = λ z. record c {
   confirmed = sym (append-nil c.confirmed) z;

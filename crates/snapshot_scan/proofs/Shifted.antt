@@ -4,16 +4,16 @@ use Rattle.std.proofs.Common.{get_or, sym, ap, ◌∙◌, subst, arith, below_mo
 use Rattle.std.proofs.lemmas.List.{get_or-take, length-take-le}
 use Rattle.std.proofs.lemmas.Bool.{cases_order}
 use Rattle.register_rule.proofs.Words.{there, read_at}
-use Rattle.snapshot_scan.specs.ChangedItems.{Changed, Notes, NotesEach}
+use Rattle.snapshot_scan.specs.ChangedItems.{ChangedView, Notes, NotesEach}
 
 -- the first q of them are noted
-pub record NotesFirst (shift q : ℕ) (items : List ℕ) (old new : Changed) : Type 0 where
+pub record NotesFirst (shift q : ℕ) (items : List ℕ) (old new : ChangedView) : Type 0 where
   pub listed : new.all ≡ false → old.all ≡ false
   pub keeps : new.all ≡ false → (j : ℕ) → Contains old.items j → Contains new.items j
   pub notes : new.all ≡ false → (k : ℕ) → k < q → Contains new.items (get_or items k 0 + shift)
   pub others : (j : ℕ) → Contains new.items j → Contains old.items j ⊎ ((k : ℕ) × (k < q) × (j ≡ get_or items k 0 + shift))
 
-pub notes_next : (shift q : ℕ) (items : List ℕ) (old mid new : Changed) → NotesFirst shift q items old mid
+pub notes_next : (shift q : ℕ) (items : List ℕ) (old mid new : ChangedView) → NotesFirst shift q items old mid
     → Notes (get_or items q 0 + shift) mid new → NotesFirst shift (q + 1) items old new
 notes_next shift q items old mid new a b = record {
   listed = λ h. a.listed (b.listed h);
@@ -31,7 +31,7 @@ at_place items k has = (has.0, has.1, read_at items has.0 (get_or items has.0 k)
 pub from_place : (items : List ℕ) (q : ℕ) → q < length items → Contains items (get_or items q 0)
 from_place items q lt = (q, lt, read_at items q (get_or items q 0) (get_or items q 0) (there items q 0 lt))
 
-pub notes_each : (shift q : ℕ) (items : List ℕ) (old new : Changed) → q ≡ length items → NotesFirst shift q items old new
+pub notes_each : (shift q : ℕ) (items : List ℕ) (old new : ChangedView) → q ≡ length items → NotesFirst shift q items old new
     → NotesEach shift items old new
 notes_each shift q items old new all a = record {
   listed = a.listed;
@@ -60,7 +60,7 @@ below_or_above q n = ⊎_elim (λ e. inr (0, omega (arith, e)))
     (λ r. ⊎_elim (λ low. inl low) (λ high. inr (q - n, omega (arith, high))) r) (cases_order q n)
 
 -- all stay all
-pub notes_each_all : (shift : ℕ) (items : List ℕ) (c : Changed) → c.all ≡ true → NotesEach shift items c c
+pub notes_each_all : (shift : ℕ) (items : List ℕ) (c : ChangedView) → c.all ≡ true → NotesEach shift items c c
 notes_each_all shift items c e = record {
   listed = λ h. h;
   keeps = λ _ j h. h;
@@ -69,7 +69,7 @@ notes_each_all shift items c e = record {
 }
 
 -- where not all can be listed
-pub notes_each_full : (shift : ℕ) (items : List ℕ) (old new : Changed) → new.items ≡ old.items → new.all ≡ true
+pub notes_each_full : (shift : ℕ) (items : List ℕ) (old new : ChangedView) → new.items ≡ old.items → new.all ≡ true
     → NotesEach shift items old new
 notes_each_full shift items old new e all = record {
   listed = λ h. let z = sym all ∙ h in absurd (cc);
@@ -79,7 +79,7 @@ notes_each_full shift items old new e all = record {
 }
 
 -- written behind those that are listed
-pub notes_each_behind : (shift first m : ℕ) (xs ys items : List ℕ) (old new : Changed)
+pub notes_each_behind : (shift first m : ℕ) (xs ys items : List ℕ) (old new : ChangedView)
     → first + m ≤ length xs → length ys ≡ length xs → length items ≡ m
     → old.items ≡ take first xs → new.items ≡ take (first + m) ys → new.all ≡ old.all
     → ((q : ℕ) → q < first → get_or ys q 0 ≡ get_or xs q 0)

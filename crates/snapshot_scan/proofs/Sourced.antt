@@ -11,12 +11,12 @@ use Rattle.ledger_core.specs.declared.op.Op.{Op}
 use Rattle.ledger_core.specs.Ops.{width, sum_ops}
 use Rattle.ledger_core.specs.Row.{Accepts, Adds}
 use Rattle.register_rule.specs.declared.view.Answer.{Answer}
-use Rattle.register_rule.specs.declared.view.Made.{Made}
+use Rattle.register_rule.specs.declared.view.PublishEntry.{PublishEntry}
 use Rattle.register_rule.specs.declared.view.Member.{Member}
-use Rattle.register_rule.specs.declared.view.Scan.{Scan}
+use Rattle.register_rule.specs.declared.view.ScanLog.{ScanLog}
 use Rattle.register_rule.specs.History.{Below}
 use Rattle.register_rule.specs.Seats.{HasMember}
-use Rattle.register_rule.specs.Steps.{upper}
+use Rattle.register_rule.specs.ScanSteps.{upper}
 use Rattle.register_rule.specs.Sums.{total, row_sum}
 use Rattle.register_rule.specs.Told.{AreRuled}
 use Rattle.register_rule.proofs.Words.{at_below, read_at}
@@ -25,7 +25,8 @@ use Rattle.snapshot_scan.specs.Moments.{AreMoments}
 use Rattle.snapshot_scan.specs.Scanned.{IsAnswered}
 use Rattle.snapshot_scan.specs.Contention.{IsContended}
 use Rattle.snapshot_scan.specs.declared.contended.Contended.{Contended}
-use Rattle.snapshot_scan.specs.Sources.{newest, NothingFalls, Records}
+use Rattle.snapshot_scan.specs.Sources.{NothingFalls, Records}
+use Rattle.register_rule.specs.Members.{newest}
 use Rattle.snapshot_scan.proofs.LastAnswer.{at_end, last_failed}
 use Rattle.snapshot_scan.proofs.Totals.{numbers_long, sum_at, totals_legal}
 use Rattle.snapshot_scan.proofs.Words.{front_at}
@@ -65,13 +66,14 @@ upper_above (x ∷ u) (t ∷ v) zero z y below e f =
 upper_above (x ∷ u) (t ∷ v) (suc i) z y below e f = upper_above u v i z y (λ j p q d d'. below (suc j) p q d d') e f
 
 -- the first publishes of a worker add no more than some more of them
-total_front : (adds : List Op → ℕ → ℕ) (xs : List Made) (s t k : ℕ) → s ≤ t → total adds (take s xs) k ≤ total adds (take t xs) k
+total_front : (adds : List Op → ℕ → ℕ) (xs : List PublishEntry) (s t k : ℕ) → s ≤ t
+    → total adds (take s xs) k ≤ total adds (take t xs) k
 total_front adds xs zero t k le = omega arith
 total_front adds xs (suc s) zero k le = absurd (omega (arith, le))
 total_front adds [] (suc s) (suc t) k le = omega arith
 total_front adds (x ∷ xs) (suc s) (suc t) k le = let rest = total_front adds xs s t k (omega (arith, le)) in omega (arith, rest)
 
-sum_front : (adds : List Op → ℕ → ℕ) (made : ℕ → List Made) (i : ℕ) (u v : List ℕ) (k : ℕ) → length u ≡ length v
+sum_front : (adds : List Op → ℕ → ℕ) (made : ℕ → List PublishEntry) (i : ℕ) (u v : List ℕ) (k : ℕ) → length u ≡ length v
     → ((j : ℕ) → slice_index u j ≤ slice_index v j) → row_sum adds made i u k ≤ row_sum adds made i v k
 sum_front adds made i [] [] k e le = omega arith
 sum_front adds made i [] (t ∷ v) k e le = absurd (omega (arith, e))
@@ -88,7 +90,7 @@ beyond (x ∷ l) (suc i) le = beyond l i (omega (arith, le))
 
 module _ (n c h g : ℕ) (few : n ≤ 32) (ms : List Member) (ruled : AreRuled n (width c h g) (sum_ops c h) (Accepts c h g) ms)
     (t : HasMember ms)
-    (before : Scan) (a : Answer) (answered : IsAnswered n before (scan_of ms) a) where
+    (before : ScanLog) (a : Answer) (answered : IsAnswered n before (scan_of ms) a) where
   sits : get_elem? ms 0 ≡ some t.0
   sits = ap (λ (l : List Member). get_elem? l 0) t.2
 
@@ -96,7 +98,7 @@ module _ (n c h g : ℕ) (few : n ≤ 32) (ms : List Member) (ruled : AreRuled n
   is_first = ap scan_of t.2
 
   all : t.0.scan.recorded ≡ before.recorded ++ a ∷ []
-  all = ap (λ (x : Scan). x.recorded) (sym is_first) ∙ answered.recorded
+  all = ap (λ (x : ScanLog). x.recorded) (sym is_first) ∙ answered.recorded
 
   here : get_elem? t.0.scan.recorded (length before.recorded) ≡ some a
   here = ap (λ (l : List Answer). get_elem? l (length before.recorded)) all ∙ at_end before.recorded a
@@ -115,7 +117,7 @@ module _ (n c h g : ℕ) (few : n ≤ 32) (ms : List Member) (ruled : AreRuled n
     number_rises i lt =
         let sound = ruled.scans 0 t.0 sits in
         let below : Below b.vector t.0.scan.seen = (sound.recorded q b still).1 in
-        let seen : t.0.scan.seen ≡ upper before.seen a.vector = ap (λ (x : Scan). x.seen) (sym is_first) ∙ answered.seen in
+        let seen : t.0.scan.seen ≡ upper before.seen a.vector = ap (λ (x : ScanLog). x.seen) (sym is_first) ∙ answered.seen in
         let x = elem_at b.vector i (omega (arith, b_long, lt)) in
         let y = elem_at a.vector i (omega (arith, a_long, lt)) in
         let long = sound.seen_wide in
@@ -195,7 +197,7 @@ has_member (m ∷ ms) lt = (m, ms, refl)
 -- a scan's answer, told by its result
 pub scan_tells : {T E : Type 0} (n c h g : ℕ) (few : n ≤ 32) (ms : List Member)
     → AreRuled n (width c h g) (sum_ops c h) (Accepts c h g) ms → HasMember ms
-    → AreMoments n c h g (scan_of ms).recorded → (before : Scan) (a : Answer) → length a.totals ≡ width c h g
+    → AreMoments n c h g (scan_of ms).recorded → (before : ScanLog) (a : Answer) → length a.totals ≡ width c h g
     → (answer : Result T E) → OnOk answer (IsAnswered n before (scan_of ms) a)
     → OnOk answer (Records n c h g before.recorded (scan_of ms).recorded a)
 scan_tells n c h g few ms ruled t moments before a wide (Ok x) answered = scan_records n c h g few ms ruled t before a answered
@@ -203,7 +205,7 @@ scan_tells n c h g few ms ruled t moments before a wide (Ok x) answered = scan_r
 scan_tells n c h g few ms ruled t moments before a wide (Err e) answered = tt
 
 -- and a scan that was given up names a worker whose number rose
-pub contended_rose : {T : Type 0} (n : ℕ) (before after : Scan) (answer : Result T Contended)
+pub contended_rose : {T : Type 0} (n : ℕ) (before after : ScanLog) (answer : Result T Contended)
     → IfErr answer (IsContended n before after)
     → IfErr answer (λ e. (e.worker < n) × (e.first < e.last))
 contended_rose n before after (Ok x) contended = tt

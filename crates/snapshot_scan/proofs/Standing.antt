@@ -7,11 +7,11 @@ use Rattle.std.proofs.lemmas.Bool.{true≢false}
 use Rattle.register_rule.specs.declared.view.Member.{Member}
 use Rattle.register_rule.specs.declared.view.Who.{Who}
 use Rattle.register_rule.specs.declared.view.Who.TheVariants.{Worker, Reader}
-use Rattle.register_rule.specs.declared.view.Scan.{Scan}
+use Rattle.register_rule.specs.declared.view.ScanLog.{ScanLog}
 use Rattle.register_rule.specs.Members.{first_of, reach, greatest, raised, raised_by, met, without, same_who}
 use Rattle.register_rule.specs.History.{Below}
 use Rattle.register_rule.specs.Seats.{HasMember}
-use Rattle.register_rule.specs.Steps.{upper}
+use Rattle.register_rule.specs.ScanSteps.{upper}
 use Rattle.register_rule.proofs.Seating.{from_without}
 use Rattle.register_rule.proofs.Upper.{upper_at}
 use Rattle.register_rule.proofs.Words.{there, at_below, read_at}
@@ -35,7 +35,7 @@ stands_behind i k m m0 ms is (zero, e, w) =
 stands_behind i k m m0 ms is (suc p, e, w) = (p, e, w)
 
 -- who stands behind a reader stands there after its scan
-pub stands_scanned : (i k : ℕ) (c : Scan) (m : Member) (ms ms' : List Member) → (first_of ms).who ≡ Reader k
+pub stands_scanned : (i k : ℕ) (c : ScanLog) (m : Member) (ms ms' : List Member) → (first_of ms).who ≡ Reader k
     → ms' ≡ with_scan c ms → IsWorkerAmong i m ms → IsWorkerAmong i m ms'
 stands_scanned i k c m [] ms' first same (p, e, is) = absurd (some-ne-none m (sym e))
 stands_scanned i k c m (m0 ∷ ms) ms' first same s = let b = stands_behind i k m m0 ms first s in
@@ -69,7 +69,7 @@ reaches_more n i u v more r = let lt = r.0 in let h = r.1 in let e = there u i 0
     let q = z.2 in reaches_at n i z.0 v z.1 (omega (arith, h, q))
 
 -- after a scan of the reader
-pub seen_scanned : (k : ℕ) (c : Scan) (m0 : Member) (ms : List Member) → m0.who ≡ Reader k → SeesMore m0.scan.seen c.seen
+pub seen_scanned : (k : ℕ) (c : ScanLog) (m0 : Member) (ms : List Member) → m0.who ≡ Reader k → SeesMore m0.scan.seen c.seen
     → HasSeen (m0 ∷ ms) → HasSeen (with_scan c (m0 ∷ ms))
 seen_scanned k c m0 ms is more h i m s =
     let b = stands_behind i k m (record m0 { scan = c }) ms is s in
@@ -184,11 +184,11 @@ pub scanned_seen : (k : ℕ) (ms ms' : List Member) → 0 < length ms → (first
 scanned_seen k [] ms' lt is e more h = absurd (omega (arith, lt))
 scanned_seen k (m0 ∷ ms) ms' lt is e more h = subst HasSeen (sym e) (seen_scanned k (scan_of ms') m0 ms is more h)
 
-pub scanned_member : (c : Scan) (ms ms' : List Member) → 0 < length ms → ms' ≡ with_scan c ms → HasMember ms'
+pub scanned_member : (c : ScanLog) (ms ms' : List Member) → 0 < length ms → ms' ≡ with_scan c ms → HasMember ms'
 scanned_member c [] ms' lt e = absurd (omega (arith, lt))
 scanned_member c (m0 ∷ ms) ms' lt e = (record m0 { scan = c }, ms, e)
 
-pub scanned_workers : (c : Scan) (ms ms' : List Member) → ms' ≡ with_scan c ms → NoneIsReader (behind ms)
+pub scanned_workers : (c : ScanLog) (ms ms' : List Member) → ms' ≡ with_scan c ms → NoneIsReader (behind ms)
     → NoneIsReader (behind ms')
 scanned_workers c [] ms' e all = subst (λ (l : List Member). NoneIsReader (behind l)) (sym e) all
 scanned_workers c (m0 ∷ ms) ms' e all = subst (λ (l : List Member). NoneIsReader (behind l)) (sym e) all
@@ -240,7 +240,7 @@ sees_still i k [] lt is = absurd (omega (arith, lt))
 sees_still i k (m0 ∷ ms) lt is = ap scan_of (reader_stays i k m0 ms is)
 
 -- a scan leaves those behind the reader
-pub behind_scanned : (c : Scan) (ms ms' : List Member) → ms' ≡ with_scan c ms → behind ms ≡ [] → behind ms' ≡ []
+pub behind_scanned : (c : ScanLog) (ms ms' : List Member) → ms' ≡ with_scan c ms → behind ms ≡ [] → behind ms' ≡ []
 behind_scanned c [] ms' e alone = ap behind e
 behind_scanned c (m0 ∷ ms) ms' e alone = ap behind e ∙ alone
 

@@ -9,11 +9,11 @@ use Rattle.ledger_core.specs.Ops.{width, sum_ops}
 use Rattle.ledger_core.specs.Row.{Accepts}
 use Rattle.ledger_core.specs.Legal.{IsLegal}
 use Rattle.ledger_core.proofs.Legal.{legal_zeros, legal_ops, legal_sums, sum_same}
-use Rattle.register_rule.specs.declared.view.Made.{Made}
+use Rattle.register_rule.specs.declared.view.PublishEntry.{PublishEntry}
 use Rattle.register_rule.specs.declared.view.Answer.{Answer}
 use Rattle.register_rule.specs.declared.view.Member.{Member}
 use Rattle.register_rule.specs.Sums.{total, row_sum, Legal}
-use Rattle.register_rule.specs.Scans.{IsOneMoment}
+use Rattle.register_rule.specs.SoundScans.{IsOneMoment}
 use Rattle.register_rule.specs.Told.{AreRuled}
 use Rattle.register_rule.proofs.Moments.{length_tab}
 use Rattle.register_rule.proofs.Words.{read_at}
@@ -22,16 +22,17 @@ use Rattle.snapshot_scan.specs.Snapshots.{AreLow}
 
 -- a row of c counters, h histograms and g gauges
 module _ (c h g : ℕ) where
-  abbrev AreAccepted : (before after : List Made) → Type 0
+  abbrev AreAccepted : (before after : List PublishEntry) → Type 0
   AreAccepted before after = Legal (sum_ops c h) (Accepts c h g) before after
 
   -- each version of a worker has words of at most 2^48 - 1
-  row_low : (k : ℕ) → k < width c h g → (before after : List Made) (s : ℕ) → total (sum_ops c h) before k ≤ 281474976710655
+  row_low : (k : ℕ) → k < width c h g → (before after : List PublishEntry) (s : ℕ)
+      → total (sum_ops c h) before k ≤ 281474976710655
       → AreAccepted before after
       → total (sum_ops c h) (before ++ take s after) k ≤ 281474976710655
-  row_low k lt before after zero low legal = subst (λ (z : List Made). total (sum_ops c h) z k ≤ 281474976710655)
+  row_low k lt before after zero low legal = subst (λ (z : List PublishEntry). total (sum_ops c h) z k ≤ 281474976710655)
       (sym (append-nil before)) low
-  row_low k lt before [] (suc s) low legal = subst (λ (z : List Made). total (sum_ops c h) z k ≤ 281474976710655)
+  row_low k lt before [] (suc s) low legal = subst (λ (z : List PublishEntry). total (sum_ops c h) z k ≤ 281474976710655)
       (sym (append-nil before)) low
   row_low k lt before (x ∷ xs) (suc s) low legal =
       let fits : total (sum_ops c h) before k + sum_ops c h (take (length x.ops) x.ops) k ≤ 281474976710655 =
@@ -39,18 +40,19 @@ module _ (c h g : ℕ) where
       let all : sum_ops c h (take (length x.ops) x.ops) k ≡ sum_ops c h x.ops k = ap (λ (z : List Op). sum_ops c h z k)
       (take-length x.ops) in
       let one = total_last (sum_ops c h) before x k in
-      subst (λ (z : List Made). total (sum_ops c h) z k ≤ 281474976710655) (append_assoc before (x ∷ []) (take s xs))
+      subst (λ (z : List PublishEntry). total (sum_ops c h) z k ≤ 281474976710655) (append_assoc before (x ∷ []) (take s xs))
       (row_low k lt (before ++ x ∷ []) xs s (omega (arith, fits, all, one)) legal.1)
 
   -- and is legal
-  row_legal : (before after : List Made) (s : ℕ) → AreAccepted before after → IsLegal c h (total (sum_ops c h) (take s after))
+  row_legal : (before after : List PublishEntry) (s : ℕ) → AreAccepted before after
+      → IsLegal c h (total (sum_ops c h) (take s after))
   row_legal before after zero legal = legal_zeros c h 0
   row_legal before [] (suc s) legal = legal_zeros c h 0
   row_legal before (x ∷ xs) (suc s) legal =
       legal_sums c h (sum_ops c h x.ops) (total (sum_ops c h) (take s xs)) (legal_ops c h g x.ops legal.0.within)
       (row_legal (before ++ x ∷ []) xs s legal.1)
 
-  module _ (n : ℕ) (made : ℕ → List Made) (legal : (i : ℕ) → i < n → AreAccepted [] (made i)) where
+  module _ (n : ℕ) (made : ℕ → List PublishEntry) (legal : (i : ℕ) → i < n → AreAccepted [] (made i)) where
     sum_low : (k : ℕ) → k < width c h g → (i : ℕ) (vector : List ℕ) → i + length vector ≤ n
         → row_sum (sum_ops c h) made i vector k ≤ length vector * 281474976710655
     sum_low k lt i [] le = omega arith

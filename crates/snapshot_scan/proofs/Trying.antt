@@ -12,12 +12,12 @@ use Rattle.register_rule.specs.declared.view.Look.{Look}
 use Rattle.register_rule.specs.declared.view.Answer.{Answer}
 use Rattle.register_rule.specs.declared.view.Version.{Version}
 use Rattle.register_rule.specs.declared.view.Asked.{Asked}
-use Rattle.register_rule.specs.declared.view.Progress.{Progress}
-use Rattle.register_rule.specs.declared.view.Scan.{Scan}
+use Rattle.register_rule.specs.declared.view.ScanInProgress.{ScanInProgress}
+use Rattle.register_rule.specs.declared.view.ScanLog.{ScanLog}
 use Rattle.register_rule.specs.History.{tab}
-use Rattle.register_rule.specs.Scans.{opened_at}
-use Rattle.register_rule.specs.Steps.{every, begun, settled, clean, are_clean, sum_words, answer_of_try, found_of, due_of}
-use Rattle.register_rule.specs.Steps.{with_base, failed_once_more, answered, gives_up, ended, at_rest}
+use Rattle.register_rule.specs.SoundScans.{opened_at}
+use Rattle.register_rule.specs.ScanSteps.{every, begun, settled, clean, are_clean, sum_words, answer_of_try, found_of, due_of}
+use Rattle.register_rule.specs.ScanSteps.{with_base, failed_once_more, answered, given_up_if_spent, ended, at_rest}
 use Rattle.snapshot_scan.specs.declared.remembered_row.RememberedRow.{RememberedRow}
 use Rattle.snapshot_scan.specs.RememberedRows.{version_of, AreWide, AreTotals, words_of, looks_of, pairs, opening, settling}
 use Rattle.snapshot_scan.specs.RememberedRows.{sum_rows}
@@ -107,9 +107,10 @@ tab_is i (suc w) f (x ∷ l) e h =
     ap f m ∙ h (suc k) (omega (arith, lt))) in λ t. a t ∷ others t
 
 -- what the second collect ends with
-module _ (n w : ℕ) (opened found : List ℕ) (gs : List RememberedRow) (c : Scan) (few : length gs ≡ n) (long : length opened ≡ n)
+module _ (n w : ℕ) (opened found : List ℕ) (gs : List RememberedRow) (c : ScanLog) (few : length gs ≡ n)
+    (long : length opened ≡ n)
     (deep : length found ≡ n) (wide : AreWide w gs) where
-  abbrev end : Scan
+  abbrev end : ScanLog
   end = settling opened found gs c
 
   looks_all : (length (looks_of 0 opened found gs) == n) ≡ true
@@ -131,22 +132,22 @@ module _ (n w : ℕ) (opened found : List ℕ) (gs : List RememberedRow) (c : Sc
             ∙ (sums_are k 0 opened found gs (long ∙ sym few) (deep ∙ sym few) held ∙ sym (sums k lt))) z;
       }) in
       ap (λ (b : Bool). cond b (answered (answer_of_try w (looks_of 0 opened found gs)) end)
-      (gives_up n (record end { now = failed_once_more (with_base end.now) }))) all
+      (given_up_if_spent n (record end { now = failed_once_more (with_base end.now) }))) all
       ∙ ap (λ (a : Answer). answered a end) answer
 
-  pub ends_failed : opened ≢ found → ended n w (settling opened found gs c) ≡ gives_up n
+  pub ends_failed : opened ≢ found → ended n w (settling opened found gs c) ≡ given_up_if_spent n
       (record (settling opened found gs c) { now = failed_once_more (with_base (settling opened found gs c).now) })
   ends_failed differ = go (are_clean n w (looks_of 0 opened found gs)) refl
     where
       go : (b : Bool) → are_clean n w (looks_of 0 opened found gs) ≡ b
           → cond b (answered (answer_of_try w (looks_of 0 opened found gs)) end)
-          (gives_up n (record end { now = failed_once_more (with_base end.now) })) ≡ gives_up n
+          (given_up_if_spent n (record end { now = failed_once_more (with_base end.now) })) ≡ given_up_if_spent n
           (record end { now = failed_once_more (with_base end.now) })
       go true t = absurd (differ (clean_same w 0 opened found gs wide (long ∙ sym few) (deep ∙ sym few) (and_parts _ _ t).1))
       go false t = refl
 
 -- after these tries, none of which ended the scan
-abbrev pub stood : List Tried → List RememberedRow → (floor base : List ℕ) → Scan → Scan
+abbrev pub stood : List Tried → List RememberedRow → (floor base : List ℕ) → ScanLog → ScanLog
 stood tries gs floor base c = record c {
   opened = c.opened ++ all_opened tries;
   confirmed = c.confirmed ++ all_confirmed tries;
@@ -168,19 +169,19 @@ pub record AreTries (n : ℕ) (floor base first last : List ℕ) (tries : List T
       × (final.second ≡ last)
 
 -- a scan is not given up while somebody is to be asked, or before its last try
-given_not : (n : ℕ) (c : Scan) → (length c.now.due == 0 && c.now.failed == n + 2) ≡ false → gives_up n c ≡ c
+given_not : (n : ℕ) (c : ScanLog) → (length c.now.due == 0 && c.now.failed == n + 2) ≡ false → given_up_if_spent n c ≡ c
 given_not n c t = ap (λ (b : Bool). cond b (record c { quit = c.quit + 1; now = at_rest }) c) t
 
-pub given_due : (n : ℕ) (c : Scan) (i : ℕ) (more : List ℕ) → c.now.due ≡ i ∷ more → gives_up n c ≡ c
+pub given_due : (n : ℕ) (c : ScanLog) (i : ℕ) (more : List ℕ) → c.now.due ≡ i ∷ more → given_up_if_spent n c ≡ c
 given_due n c i more e =
     given_not n c (λ z. (ap (λ (l : List ℕ). length l == 0) e ∙ ne_eqb (suc (length more)) 0 (λ h. omega (arith, h))) z &&
     c.now.failed == n + 2)
 
-pub given_later : (n : ℕ) (c : Scan) → c.now.failed < n + 2 → gives_up n c ≡ c
+pub given_later : (n : ℕ) (c : ScanLog) → c.now.failed < n + 2 → given_up_if_spent n c ≡ c
 given_later n c lt = given_not n c ((λ z. length c.now.due == 0 && ne_eqb c.now.failed (n + 2) (λ h. omega (arith, h, lt)) z)
     ∙ and-false (length c.now.due == 0))
 
-pub given_last : (n : ℕ) (c : Scan) → c.now.due ≡ [] → c.now.failed ≡ n + 2 → gives_up n c ≡ record c {
+pub given_last : (n : ℕ) (c : ScanLog) → c.now.due ≡ [] → c.now.failed ≡ n + 2 → given_up_if_spent n c ≡ record c {
   quit = c.quit + 1;
   now = at_rest;
 }
@@ -189,7 +190,7 @@ given_last n c due last = ap (λ (b : Bool). cond b (record c { quit = c.quit + 
 
 -- the loads of a try in which these were asked, and those are still to be asked
 abbrev pub asking : (opened found : List ℕ) → List RememberedRow → (floor base : List ℕ) → (es : List Asked) → (workers : List ℕ)
-    → Scan → Scan
+    → ScanLog → ScanLog
 asking opened found gs floor base es workers d = record d {
   opened = d.opened ++ pairs 0 opened;
   confirmed = d.confirmed ++ pairs 0 found;
@@ -207,18 +208,18 @@ none_due q (x ∷ xs) = ap (λ (b : Bool). cond b (q ∷ due_from (suc q) xs xs)
 module _ (n w : ℕ) (opened found : List ℕ) (gs gs' : List RememberedRow) (few : length gs ≡ n) (long : length opened ≡ n)
     (deep : length found ≡ n) where
   -- a later try that failed
-  pub fails_later : (d : Scan) → (d.now.failed == 0) ≡ false → d.now.asks ≡ []
+  pub fails_later : (d : ScanLog) → (d.now.failed == 0) ≡ false → d.now.asks ≡ []
       → record (settling opened found gs (opening opened gs' d))
       { now = failed_once_more (with_base (settling opened found gs (opening opened gs' d)).now) }
       ≡ asking opened found gs d.now.floor d.now.base [] (due_from 0 d.now.base found) d
   fails_later d later none =
       let ls = looks_of 0 opened found gs in
-      let t : Progress = record d.now { looks = ls } in
+      let t : ScanInProgress = record d.now { looks = ls } in
       let b : with_base t ≡ t =
       ap (λ (h : Bool). cond h (record t { floor = map opened_at t.looks; base = map found_of t.looks }) t) later in
       let due : due_of d.now.base ls ≡ due_from 0 d.now.base found = dues_are 0 d.now.base opened found gs (long ∙ sym few)
       (deep ∙ sym few) in
-      ap (λ (u : Progress). record (settling opened found gs (opening opened gs' d)) { now = failed_once_more u }) b
+      ap (λ (u : ScanInProgress). record (settling opened found gs (opening opened gs' d)) { now = failed_once_more u }) b
       ∙ (λ z. record d {
         opened = d.opened ++ pairs 0 opened;
         confirmed = d.confirmed ++ pairs 0 found;
@@ -236,7 +237,7 @@ module _ (n w : ℕ) (opened found : List ℕ) (gs gs' : List RememberedRow) (fe
       })
 
   -- the first try that failed
-  pub fails_first : (d : Scan) → d.now ≡ at_rest
+  pub fails_first : (d : ScanLog) → d.now ≡ at_rest
       → record (settling opened found gs (opening opened gs' d))
       { now = failed_once_more (with_base (settling opened found gs (opening opened gs' d)).now) }
       ≡ asking opened found gs opened found [] [] d
@@ -254,7 +255,7 @@ module _ (n w : ℕ) (opened found : List ℕ) (gs gs' : List RememberedRow) (fe
         asked = sym (append-nil d.asked) z;
         kept = map version_of gs;
         now = record {
-          failed = ap (λ (u : Progress). u.failed + 1) (sym none) z;
+          failed = ap (λ (u : ScanInProgress). u.failed + 1) (sym none) z;
           floor = numbers_are 0 opened found gs (omega (arith, few, long)) z;
           base = founds_are 0 opened found gs (long ∙ sym few) (deep ∙ sym few) z;
           looks = [];
@@ -264,33 +265,36 @@ module _ (n w : ℕ) (opened found : List ℕ) (gs gs' : List RememberedRow) (fe
       })
 
   -- nobody lends
-  pub asked_none : (floor base : List ℕ) (es before : List Asked) (d : Scan)
-      → refused_all n es (gives_up n (asking opened found gs floor base before (map asked_worker es) d)) ≡ gives_up n
+  pub asked_none : (floor base : List ℕ) (es before : List Asked) (d : ScanLog)
+      → refused_all n es (given_up_if_spent n (asking opened found gs floor base before
+      (map asked_worker es) d)) ≡ given_up_if_spent n
       (asking opened found gs floor base (before ++ es) [] d)
-  asked_none floor base [] before d = ap (λ (l : List Asked). gives_up n (asking opened found gs floor base l [] d))
+  asked_none floor base [] before d = ap (λ (l : List Asked). given_up_if_spent n (asking opened found gs floor base l [] d))
       (sym (append-nil before))
   asked_none floor base (e ∷ es) before d =
-      ap (λ (x : Scan). refused_all n es (gives_up n (refused e x)))
+      ap (λ (x : ScanLog). refused_all n es (given_up_if_spent n (refused e x)))
       (given_due n (asking opened found gs floor base before (map asked_worker (e ∷ es)) d) (asked_worker e)
       (map asked_worker es) refl)
       ∙ (ap (λ (l : List Asked). refused_all n es
-      (gives_up n (record (asking opened found gs floor base before (map asked_worker es) d) { asked = l })))
+      (given_up_if_spent n (record (asking opened found gs floor base before (map asked_worker es) d) { asked = l })))
       (append_assoc d.asked before (e ∷ []))
       ∙ (asked_none floor base es (before ++ e ∷ []) d
-      ∙ ap (λ (l : List Asked). gives_up n (asking opened found gs floor base l [] d)) (append_assoc before (e ∷ []) es)))
+      ∙ ap (λ (l : List Asked). given_up_if_spent n (asking opened found gs floor base l [] d)) (append_assoc before
+      (e ∷ []) es)))
 
   -- the next one lends
-  pub asked_some : (floor base more : List ℕ) (i : ℕ) (es before : List Asked) (d : Scan)
-      → refused_all n es (gives_up n (asking opened found gs floor base before (map asked_worker es ++ i ∷ more) d)) ≡ asking
+  pub asked_some : (floor base more : List ℕ) (i : ℕ) (es before : List Asked) (d : ScanLog)
+      → refused_all n es (given_up_if_spent n (asking opened found gs floor base before
+      (map asked_worker es ++ i ∷ more) d)) ≡ asking
       opened found gs floor base (before ++ es) (i ∷ more) d
   asked_some floor base more i [] before d = given_due n (asking opened found gs floor base before (i ∷ more) d) i more refl
       ∙ ap (λ (l : List Asked). asking opened found gs floor base l (i ∷ more) d) (sym (append-nil before))
   asked_some floor base more i (e ∷ es) before d =
-      ap (λ (x : Scan). refused_all n es (gives_up n (refused e x)))
+      ap (λ (x : ScanLog). refused_all n es (given_up_if_spent n (refused e x)))
       (given_due n (asking opened found gs floor base before (map asked_worker (e ∷ es) ++ i ∷ more) d) (asked_worker e)
       (map asked_worker es ++ i ∷ more) refl)
       ∙ (ap (λ (l : List Asked). refused_all n es
-      (gives_up n (record (asking opened found gs floor base before (map asked_worker es ++ i ∷ more) d) { asked = l })))
+      (given_up_if_spent n (record (asking opened found gs floor base before (map asked_worker es ++ i ∷ more) d) { asked = l })))
       (append_assoc d.asked before (e ∷ []))
       ∙ (asked_some floor base more i es (before ++ e ∷ []) d
       ∙ ap (λ (l : List Asked). asking opened found gs floor base l (i ∷ more) d) (append_assoc before (e ∷ []) es)))
@@ -327,7 +331,7 @@ count_snoc (x ∷ ts) t = let h = count_snoc ts t in omega (arith, h)
 
 -- one more try has failed
 pub stood_more : (tries : List Tried) (gs0 gs : List RememberedRow) (floor0 base0 floor base opened found : List ℕ)
-    (es : List Asked) (c : Scan)
+    (es : List Asked) (c : ScanLog)
     → asking opened found gs floor base es [] (stood tries gs0 floor0 base0 c) ≡ stood
     (tries ++ record { first = opened; second = found; asks = es } ∷ []) gs floor base c
 stood_more tries gs0 gs floor0 base0 floor base opened found es c =

@@ -6,8 +6,8 @@ use mathlib.Core.Logic.{dite}
 use native.Mathlib.Decide.{ℕ_discrete}
 use lib.ListN.{get_elem?}
 use Rattle.register_rule.specs.declared.view.Member.{Member}
-use Rattle.register_rule.specs.declared.view.Scan.{Scan}
-use Rattle.register_rule.specs.Steps.{after_read}
+use Rattle.register_rule.specs.declared.view.ScanLog.{ScanLog}
+use Rattle.register_rule.specs.ScanSteps.{after_read}
 use Rattle.register_rule.specs.Members.{led, scan_changed}
 use Rattle.register_rule.specs.Seats.{HasMember}
 use Rattle.snapshot_scan.specs.Shape.{with_scan, scan_of, read_all}
@@ -18,7 +18,7 @@ take_next (y ∷ ys) zero x h = refl
 take_next (y ∷ ys) (suc k) x h = let e : suc k + 1 ≡ suc (k + 1) = omega arith in
     ap (λ (z : ℕ). take z (set (y ∷ ys) (suc k) x)) e ∙ ap (λ z. y ∷ z) (take_next ys k x (omega arith))
 
-pub read_snoc : (w i s from : ℕ) (xs : List ℕ) (x : ℕ) (c : Scan) → read_all w i s from (xs ++ x ∷ []) c ≡ after_read w i s
+pub read_snoc : (w i s from : ℕ) (xs : List ℕ) (x : ℕ) (c : ScanLog) → read_all w i s from (xs ++ x ∷ []) c ≡ after_read w i s
     (from + length xs) x (read_all w i s from xs c)
 read_snoc w i s from [] x c = let e : from ≡ from + 0 = omega arith in ap (λ (z : ℕ). after_read w i s z x c) e
 read_snoc w i s from (y ∷ ys) x c = let e : suc from + length ys ≡ from + suc (length ys) = omega arith in
@@ -26,12 +26,12 @@ read_snoc w i s from (y ∷ ys) x c = let e : suc from + length ys ≡ from + su
     ∙ ap (λ (z : ℕ). after_read w i s z x (read_all w i s (suc from) ys (after_read w i s from y c))) e
 
 -- two steps of the first member
-pub led_led : (f g h : Scan → Scan) (ms : List Member) → ((c : Scan) → f (g c) ≡ h c)
+pub led_led : (f g h : ScanLog → ScanLog) (ms : List Member) → ((c : ScanLog) → f (g c) ≡ h c)
     → led (scan_changed f) (led (scan_changed g) ms) ≡ led (scan_changed h) ms
 led_led f g h [] e = refl
-led_led f g h (m ∷ ms) e = ap (λ (c : Scan). record m { scan = c } ∷ ms) (e m.scan)
+led_led f g h (m ∷ ms) e = ap (λ (c : ScanLog). record m { scan = c } ∷ ms) (e m.scan)
 
-pub led_some : (f : Scan → Scan) (ms : List Member) → HasMember ms → HasMember (led (scan_changed f) ms)
+pub led_some : (f : ScanLog → ScanLog) (ms : List Member) → HasMember ms → HasMember (led (scan_changed f) ms)
 led_some f [] t = t
 led_some f (m ∷ ms) t = (record m { scan = f m.scan }, ms, refl)
 
@@ -55,14 +55,15 @@ over (x ∷ ws) [] n e h = absurd (omega (arith, e))
 over (x ∷ ws) (y ∷ l) zero e h = absurd (omega (arith, h))
 over (x ∷ ws) (y ∷ l) (suc n) e h = ap (λ z. x ∷ z) (over ws l n (omega (arith, e)) (omega (arith, h)))
 
-pub scan_with : (c : Scan) (ms : List Member) → HasMember ms → scan_of (with_scan c ms) ≡ c
+pub scan_with : (c : ScanLog) (ms : List Member) → HasMember ms → scan_of (with_scan c ms) ≡ c
 scan_with c [] t = absurd (nil_cons t.2)
   where
     nil_cons : {m : Member} {ms : List Member} → [] ≡ m ∷ ms → ⊥
     nil_cons e = cc
 scan_with c (m ∷ ms) t = refl
 
-pub with_led : (f : Scan → Scan) (c : Scan) (ms : List Member) → led (scan_changed f) (with_scan c ms) ≡ with_scan (f c) ms
+pub with_led : (f : ScanLog → ScanLog) (c : ScanLog) (ms : List Member)
+    → led (scan_changed f) (with_scan c ms) ≡ with_scan (f c) ms
 with_led f c [] = refl
 with_led f c (m ∷ ms) = refl
 

@@ -5,8 +5,8 @@ use mathlib.Core.Option.{some}
 use lib.ListN.{get_elem?}
 use Rattle.ledger_core.specs.Vectors.{is_above}
 use Rattle.register_rule.specs.declared.view.Asked.{Asked}
-use Rattle.register_rule.specs.declared.view.Scan.{Scan}
-use Rattle.register_rule.specs.Steps.{rest, gives_up}
+use Rattle.register_rule.specs.declared.view.ScanLog.{ScanLog}
+use Rattle.register_rule.specs.ScanSteps.{rest, given_up_if_spent}
 
 -- the vector is below the floor at some place
 abbrev pub IsBelow : (floor vector : List ℕ) → Type 0
@@ -26,11 +26,11 @@ pub record Lends (n w : ℕ) (floor : List ℕ) (e : Asked) : Type 0 where
   pub above : is_above floor (take n (drop 1 e.words)) ≡ true
 
 -- one worker more was asked
-abbrev pub asked_too : Asked → Scan → Scan
+abbrev pub asked_too : Asked → ScanLog → ScanLog
 asked_too e c = record c { asked = c.asked ++ e ∷ [] }
 
 -- the first worker to be asked did not lend
-abbrev pub refused : Asked → Scan → Scan
+abbrev pub refused : Asked → ScanLog → ScanLog
 refused e c = record c { asked = c.asked ++ e ∷ []; now = record c.now { due = rest c.now.due; asks = [] } }
 
 -- the workers from q on that are to be asked: those whose number was found 2 or more above the base
@@ -44,12 +44,12 @@ abbrev pub asked_worker : Asked → ℕ
 asked_worker e = e.worker
 
 -- these workers were asked, one by one, and did not lend
-abbrev pub refused_all : (n : ℕ) → List Asked → Scan → Scan
+abbrev pub refused_all : (n : ℕ) → List Asked → ScanLog → ScanLog
 refused_all n [] c = c
-refused_all n (e ∷ es) c = refused_all n es (gives_up n (refused e c))
+refused_all n (e ∷ es) c = refused_all n es (given_up_if_spent n (refused e c))
 
 -- these workers are to be asked next, under this floor
-pub record MayAsk (low workers : List ℕ) (c : Scan) : Type 0 where
+pub record MayAsk (low workers : List ℕ) (c : ScanLog) : Type 0 where
   pub due : c.now.due ≡ workers
   pub looks : c.now.looks ≡ []
   pub asks : c.now.asks ≡ []

@@ -5,7 +5,7 @@ use lib.ListN.{get_elem?}
 use Rattle.ledger_core.specs.Ops.{width, sum_ops}
 use Rattle.ledger_core.specs.Row.{Accepts}
 use Rattle.register_rule.specs.declared.view.Member.{Member}
-use Rattle.register_rule.specs.Steps.{ended}
+use Rattle.register_rule.specs.ScanSteps.{ended}
 use Rattle.register_rule.specs.Told.{AreRuled}
 use Rattle.register_rule.specs.declared.board.Board.{Board}
 use Rattle.register_rule.specs.declared.seats.Bundle.{Bundle}
@@ -15,9 +15,10 @@ use Rattle.snapshot_scan.specs.declared.remembered_row.RememberedRow.{Remembered
 use Rattle.snapshot_scan.specs.Shape.{scan_of, scan_in, with_scan}
 use Rattle.snapshot_scan.specs.RememberedRows.{AreWide, AreKnown, IsLoaded, version_of, looks_of, opening, settling}
 
--- a second collect may be made: by a seat that can make steps of a scan, whose member remembers these rows, and has opened all of its
--- board's places at these numbers; what it finds has a place each
-pub record MayConfirm {N C H G : ℕ} (b : Board N C H G) (s : Bundle) (gs : List RememberedRow) (opened found : List ℕ) : Type 0 where
+-- a second collect may be made: by a seat that can make steps of a scan, whose member remembers these rows, and has opened all of
+-- its board's places at these numbers; what it finds has a place each
+pub record MayConfirm {N C H G : ℕ} (b : Board N C H G) (s : Bundle) (gs : List RememberedRow)
+    (opened found : List ℕ) : Type 0 where
   pub own : MayScan b s
   pub geometry : IsGeometry N C H G
   pub lengths : (length gs ≡ N) × (length opened ≡ N) × (length found ≡ N)

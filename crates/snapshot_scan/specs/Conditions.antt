@@ -1,26 +1,27 @@
 -- What a scan and each of its tries need of the seat and of what is remembered, and what a scan leaves.
-use Rattle.std.specs.Prelude.{◌≡◌, ℕ, ◌+◌, ◌<◌, [], ◌∷◌, ◌++◌, Bool, true, false, List, Contains, length, map}
+use Rattle.std.specs.Prelude.{◌≡◌, ℕ, ◌+◌, ◌<◌, ◌≤◌, slice_index, [], ◌∷◌, ◌++◌, Bool, true, false, List, length, map}
 use Rattle.ledger_core.specs.Ops.{width}
 use Rattle.segment_layout.specs.Layout.{IsGeometry}
 use Rattle.register_rule.specs.declared.board.Board.{Board}
 use Rattle.register_rule.specs.declared.seats.Bundle.{Bundle}
 use Rattle.register_rule.specs.Seats.{table_of, members_of, MayScan}
-use Rattle.register_rule.specs.Steps.{lent_in}
+use Rattle.register_rule.specs.ScanSteps.{answered, given_up_if_spent, lent_in}
 use Rattle.snapshot_core.specs.declared.next.Next.TheVariants as Next
 use Rattle.snapshot_scan.specs.declared.contended.Contended.{Contended}
 use Rattle.snapshot_scan.specs.declared.remembered_row.RememberedRow.{RememberedRow}
 use Rattle.snapshot_scan.specs.declared.scan_end.ScanEnd.{ScanEnd}
 use Rattle.snapshot_scan.specs.declared.scan_end.ScanEnd.TheVariants.{Direct, Lent, GaveUp}
 use Rattle.snapshot_scan.specs.Asking.{MayAsk, due_from}
-use Rattle.snapshot_scan.specs.ChangedItems.{Changed, Lists}
+use Rattle.snapshot_scan.specs.ChangedItems.{ChangedView, Lists, Moves}
 use Rattle.snapshot_scan.specs.Contention.{IsFirstMoved}
 use Rattle.snapshot_scan.specs.Core.{CameTo, AnswersBy}
-use Rattle.snapshot_scan.specs.RememberedRows.{AreWide, AreTotals, AreKnown, pairs, version_of}
+use Rattle.snapshot_scan.specs.RememberedRows.{AreWide, AreTotals, AreKnown, HasOther, IsLoaded, pairs, version_of}
+use Rattle.snapshot_scan.specs.RememberedRows.{opening, settling, failing}
 use Rattle.snapshot_scan.specs.Scanned.{IsIdle, IsQuiet, HasMoved, IsAnswered, IsGivenUp}
 use Rattle.snapshot_scan.specs.Shape.{scan_in, with_scan, IsRuled}
 
--- a try may be made: by a seat that can make steps of a scan, whose member remembers these rows, and has no try begun; what the try
--- opens has a place for each worker
+-- a try may be made: by a seat that can make steps of a scan, whose member remembers these rows, and has no try begun; what the
+-- try opens has a place for each worker
 pub record MayTry {N C H G : ℕ} (b : Board N C H G) (s : Bundle) (gs : List RememberedRow) (opened : List ℕ) : Type 0 where
   pub own : MayScan b s
   pub geometry : IsGeometry N C H G
@@ -29,21 +30,20 @@ pub record MayTry {N C H G : ℕ} (b : Board N C H G) (s : Bundle) (gs : List Re
   pub kept : (scan_in s).kept ≡ map version_of gs
   pub rest : ((scan_in s).now.looks ≡ []) × ((scan_in s).now.due ≡ []) × ((scan_in s).now.asks ≡ [])
 
--- a scan may begin: the same, with the sums of the rows, a place for the flag and the words of an answer that is lent, and a list of
--- words of a row
+-- a scan may begin: by a seat that can make steps of a scan, whose member remembers these rows, and is in no scan; the sums are
+-- those of the rows, and what both collects find, and the flag and the words of an answer that is lent, have places
 pub record MayBegin {N C H G : ℕ} (b : Board N C H G) (s : Bundle) (gs : List RememberedRow) (sums opened found words : List ℕ)
-    (changed : Changed) : Type 0 where
+    : Type 0 where
   pub own : MayScan b s
   pub geometry : IsGeometry N C H G
   pub lengths : (length gs ≡ N) × (length sums ≡ width C H G) × (length opened ≡ N) × (length found ≡ N)
       × (length words ≡ 1 + N + width C H G)
   pub wide : AreWide (width C H G) gs
   pub totals : AreTotals (width C H G) gs sums
-  pub listed : (j : ℕ) → Contains changed.items j → j < width C H G
   pub idle : IsIdle (scan_in s) gs
 
--- the worker at this place may be asked, the next one that is to be: by a seat whose floor this is, with rows of so many words, and with
--- a place for the words that it lends
+-- the worker at this place may be asked, the next one that is to be: by a seat whose floor this is, with rows of so many words,
+-- and with a place for the words that it lends
 pub record MayAskOne {N C H G : ℕ} (b : Board N C H G) (s : Bundle) (place row : ℕ) (floors words : List ℕ) : Type 0 where
   pub own : MayScan b s
   pub geometry : IsGeometry N C H G
@@ -62,10 +62,31 @@ pub record MayAskAll {N C H G : ℕ} (b : Board N C H G) (s : Bundle) (row : ℕ
       × (length words ≡ 1 + N + width C H G)
   pub may_ask : MayAsk floor (due_from 0 base found) (scan_in s)
 
--- what a scan that ended so leaves: of the seat s, of the rows gs and their sums; with the numbers of its last try, the words that were
--- lent, and where the sums changed
+-- what a try leaves: of the seat s, of the rows gs and their sums; with the numbers of both collects, and where the sums changed.
+-- It `is_known` where each row was remembered under its number, and `is_clean` where each number was found again
+pub record HasTried (N C H G : ℕ) (s s' : Bundle) (gs gs' : List RememberedRow) (sums sums' opened found : List ℕ)
+    (changed changed' : ChangedView) (is_known is_clean : Bool) : Type 0 where
+  pub own : table_of s' ≡ table_of s
+  pub ruled : IsRuled N C H G s'
+  pub wide : AreWide (width C H G) gs'
+  pub totals : AreTotals (width C H G) gs' sums'
+  pub told : (q : ℕ) → q < N → IsLoaded q (scan_in s) (slice_index opened q)
+  pub clean : is_clean ≡ true → members_of s' ≡ with_scan (answered (record { vector = opened; totals = sums' })
+      (settling opened found gs' (opening opened gs' (scan_in s)))) (members_of s)
+  pub same : is_clean ≡ true → opened ≡ found
+  pub failed : is_clean ≡ false → members_of s' ≡ with_scan (given_up_if_spent N (failing (settling opened found gs'
+      (opening opened gs' (scan_in s))))) (members_of s)
+  pub risen : (q : ℕ) → q < N → slice_index opened q ≤ slice_index found q
+  pub rose : is_clean ≡ false → (q : ℕ) × (q < N) × (slice_index opened q < slice_index found q)
+  pub quiet : is_known ≡ true → IsQuiet gs gs' sums sums' opened
+  pub unknown : is_known ≡ false → HasOther opened (map version_of gs)
+  pub numbers : is_clean ≡ true → AreKnown opened gs'
+  pub listed : Moves (width C H G) sums sums' changed changed'
+
+-- what a scan that ended so leaves: of the seat s, of the rows gs and their sums; with the numbers of its last try, the words
+-- that were lent, and where the sums changed
 pub record HasEnded (N C H G : ℕ) (s s' : Bundle) (gs gs' : List RememberedRow) (sums sums' opened found words : List ℕ)
-    (changed : Changed) (end : ScanEnd) : Type 0 where
+    (changed : ChangedView) (end : ScanEnd) : Type 0 where
   pub own : table_of s' ≡ table_of s
   pub ruled : IsRuled N C H G s'
   pub wide : AreWide (width C H G) gs'

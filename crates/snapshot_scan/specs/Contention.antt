@@ -1,6 +1,6 @@
 -- Who stood in the way of a scan.
 use Rattle.std.specs.Prelude.{◌≡◌, ℕ, ◌<◌, List, length, slice_index}
-use Rattle.register_rule.specs.declared.view.Scan.{Scan}
+use Rattle.register_rule.specs.declared.view.ScanLog.{ScanLog}
 use Rattle.snapshot_scan.specs.declared.contended.Contended.{Contended}
 use Rattle.snapshot_scan.specs.Scanned.{IsGivenUp}
 
@@ -13,7 +13,7 @@ pub record IsFirstMoved (first last : List ℕ) (e : Contended) : Type 0 where
   pub least : (k : ℕ) → k < e.worker → slice_index first k ≡ slice_index last k
 
 -- from c to c' a scan was given up, and e says where
-pub record IsContended (n : ℕ) (c c' : Scan) (e : Contended) : Type 0 where
+pub record IsContended (n : ℕ) (c c' : ScanLog) (e : Contended) : Type 0 where
   pub first : List ℕ
   pub last : List ℕ
   pub gave_up : IsGivenUp n c c' first last

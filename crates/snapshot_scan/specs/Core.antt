@@ -3,10 +3,10 @@
 use Rattle.std.specs.Prelude.{◌≡◌, ℕ, suc, ◌==◌, not, cond, false, Option, Some, None, List, [], ◌∷◌, ◌++◌, map, take, drop}
 use Rattle.register_rule.specs.declared.view.Asked.{Asked}
 use Rattle.register_rule.specs.declared.view.Answer.{Answer}
-use Rattle.register_rule.specs.declared.view.Scan.{Scan}
+use Rattle.register_rule.specs.declared.view.ScanLog.{ScanLog}
 use Rattle.snapshot_core.specs.declared.next.Next.{Next}
 use Rattle.snapshot_core.specs.declared.next.Next.TheVariants.{Direct, Lent}
-use Rattle.register_rule.specs.Steps.{lent_in}
+use Rattle.register_rule.specs.ScanSteps.{lent_in}
 use Rattle.snapshot_core.specs.Tries.{View, Read, Try, reads_of}
 use Rattle.snapshot_core.specs.Next.{Comes}
 use Rattle.snapshot_scan.specs.Scanned.{Tried, all_opened, all_confirmed, all_before, all_asked}
@@ -45,14 +45,14 @@ abbrev pub core_reads : (n w : ℕ) → List Tried → List Read
 core_reads n w tries = reads_of (map (core_try n w) tries)
 
 -- from c to c' a scan made these tries: their loads are all that it made
-pub record AreLoadsOf (c c' : Scan) (tries : List Tried) : Type 0 where
+pub record AreLoadsOf (c c' : ScanLog) (tries : List Tried) : Type 0 where
   pub opened : c'.opened ≡ c.opened ++ all_opened tries
   pub confirmed : c'.confirmed ≡ c.confirmed ++ all_confirmed tries
   pub before : c'.before ≡ c.before ++ all_before c.opened tries
   pub asked : c'.asked ≡ c.asked ++ all_asked tries
 
 -- and what the core says of such reads is that this comes next; `last` is the try in which the scan ended
-pub record CameTo (n w : ℕ) (c c' : Scan) (next : Next) : Type 0 where
+pub record CameTo (n w : ℕ) (c c' : ScanLog) (next : Next) : Type 0 where
   pub before : List Tried
   pub last : Tried
   pub loads : AreLoadsOf c c' (before ++ last ∷ [])
@@ -66,7 +66,7 @@ EndsWith n w last (Lent from) a = (asks : List Asked) × (e : Asked) × (last.as
 EndsWith n w last _ a = ⊥
 
 -- from c to c' a scan came to an end, direct or lent, with this answer
-pub record AnswersBy (n w : ℕ) (c c' : Scan) (a : Answer) : Type 0 where
+pub record AnswersBy (n w : ℕ) (c c' : ScanLog) (a : Answer) : Type 0 where
   pub next : Next
   pub came : CameTo n w c c' next
   pub ends : EndsWith n w came.last next a

@@ -3,7 +3,7 @@ use Rattle.std.specs.Prelude.{◌≡◌, ◌≢◌, ℕ, ◌<◌, ◌≤◌, Lis
 use mathlib.Core.Option.{some}
 use lib.ListN.{get_elem?}
 use Rattle.register_rule.specs.declared.view.Member.{Member}
-use Rattle.register_rule.specs.declared.view.Scan.{Scan}
+use Rattle.register_rule.specs.declared.view.ScanLog.{ScanLog}
 use Rattle.register_rule.specs.declared.view.Who.TheVariants.{Worker, Reader}
 use Rattle.snapshot_scan.specs.Shape.{scan_of}
 
@@ -47,6 +47,6 @@ abbrev pub SeesMore : (old new : List ℕ) → Type 0
 SeesMore old new = (i x : ℕ) → get_elem? old i ≡ some x → (z : ℕ) × (get_elem? new i ≡ some z) × (x ≤ z)
 
 -- only what was seen has changed, and none of it fell
-pub record HasSeenMore (old new : Scan) : Type 0 where
+pub record HasSeenMore (old new : ScanLog) : Type 0 where
   pub only : new ≡ record old { seen = new.seen }
   pub more : SeesMore old.seen new.seen

@@ -1,10 +1,10 @@
 -- What a clause reads of a reader.
 use Rattle.std.specs.Prelude.{ℕ, List}
 use Rattle.register_rule.specs.declared.view.Member.{Member}
-use Rattle.register_rule.specs.declared.view.Scan.{Scan}
+use Rattle.register_rule.specs.declared.view.ScanLog.{ScanLog}
 use Rattle.register_rule.specs.declared.seats.Bundle.{Bundle}
 use Rattle.register_rule.specs.declared.board.Board.{Board}
-use Rattle.register_rule.specs.Seats.{Has, members_of}
+use Rattle.register_rule.specs.Seats.{IsSeatOf, members_of}
 use Rattle.snapshot_scan.specs.Shape.{scan_in}
 use Rattle.snapshot_scan.specs.declared.reader.Reader.{Reader}
 
@@ -18,7 +18,7 @@ module _ {N C H G : ℕ} where
   members_with r = members_of r.bundle
 
   -- what it has learned by its scans
-  abbrev pub scan_by : Reader N C H G → Scan
+  abbrev pub scan_by : Reader N C H G → ScanLog
   scan_by r = scan_in r.bundle
 
   -- which reader it is
@@ -27,4 +27,4 @@ module _ {N C H G : ℕ} where
 
   -- it is of this board's parts
   abbrev pub IsReaderOf : Board N C H G → Reader N C H G → Type 0
-  IsReaderOf b r = Has b r.bundle
+  IsReaderOf b r = IsSeatOf b r.bundle

@@ -6,8 +6,8 @@ use mathlib.Core.Option.{some}
 use lib.ListN.{get_elem?}
 use Rattle.register_rule.specs.declared.view.Version.{Version}
 use Rattle.register_rule.specs.declared.view.Look.{Look}
-use Rattle.register_rule.specs.declared.view.Scan.{Scan}
-use Rattle.register_rule.specs.Steps.{begun, settled, with_base, failed_once_more}
+use Rattle.register_rule.specs.declared.view.ScanLog.{ScanLog}
+use Rattle.register_rule.specs.ScanSteps.{begun, settled, with_base, failed_once_more}
 use Rattle.snapshot_scan.specs.declared.remembered_row.RememberedRow.{RememberedRow}
 
 -- a remembered row as a version
@@ -68,11 +68,11 @@ pairs q [] = []
 pairs q (x ∷ xs) = (q, x) ∷ pairs (suc q) xs
 
 -- a try of c that has opened these
-abbrev pub opening : (opened : List ℕ) → List RememberedRow → Scan → Scan
+abbrev pub opening : (opened : List ℕ) → List RememberedRow → ScanLog → ScanLog
 opening opened gs c = record c { opened = c.opened ++ pairs 0 opened; now = record c.now { looks = looks_of 0 opened [] gs } }
 
 -- and confirmed those
-abbrev pub settling : (opened found : List ℕ) → List RememberedRow → Scan → Scan
+abbrev pub settling : (opened found : List ℕ) → List RememberedRow → ScanLog → ScanLog
 settling opened found gs c = record c {
   confirmed = c.confirmed ++ pairs 0 found;
   before = c.before ++ map (λ _. length c.opened) found;
@@ -90,10 +90,10 @@ abbrev pub AreTotals : (w : ℕ) → List RememberedRow → List ℕ → Type 0
 AreTotals w gs totals = (k : ℕ) → k < w → slice_index totals k ≡ sum_rows k gs
 
 -- x is at least what was loaded at this place before, or seen
-pub record IsLoaded (i : ℕ) (c : Scan) (x : ℕ) : Type 0 where
+pub record IsLoaded (i : ℕ) (c : ScanLog) (x : ℕ) : Type 0 where
   pub opened : (q y : ℕ) → get_elem? c.opened q ≡ some (i, y) → y ≤ x
   pub seen : (y : ℕ) → get_elem? c.seen i ≡ some y → y ≤ x
 
 -- the try has failed
-abbrev pub failing : Scan → Scan
+abbrev pub failing : ScanLog → ScanLog
 failing c = record c { now = failed_once_more (with_base c.now) }

@@ -2,14 +2,14 @@
 use Rattle.std.specs.Prelude.{ℕ, List, map}
 use Rattle.register_rule.specs.declared.view.Answer.{Answer}
 use Rattle.register_rule.specs.declared.view.Version.{Version}
-use Rattle.register_rule.specs.declared.view.Scan.{Scan}
+use Rattle.register_rule.specs.declared.view.ScanLog.{ScanLog}
 use Rattle.ledger_core.specs.Ops.{width}
 use Rattle.snapshot_scan.specs.declared.scan_end.ScanEnd.{ScanEnd}
 use Rattle.snapshot_scan.specs.declared.scan_end.ScanEnd.TheVariants.{Direct, Lent, GaveUp}
 use Rattle.snapshot_scan.specs.declared.scan_memory.ScanMemory.{ScanMemory}
-use Rattle.snapshot_scan.specs.ChangedItems.{Changed}
+use Rattle.snapshot_scan.specs.ChangedItems.{ChangedView}
 use Rattle.snapshot_scan.specs.RememberedRows.{version_of}
-use Rattle.register_rule.specs.Steps.{lent_in}
+use Rattle.register_rule.specs.ScanSteps.{lent_in}
 use Rattle.snapshot_scan.specs.Scanned.{IsIdle}
 
 -- the scan ended with a view
@@ -24,7 +24,7 @@ module _ {N C H G : ℕ} where
   rows_of m = map version_of m.kept.items
 
   -- no scan is in progress, and the rows that are remembered are those of the view
-  abbrev pub IsReady : Scan → ScanMemory N C H G → Type 0
+  abbrev pub IsReady : ScanLog → ScanMemory N C H G → Type 0
   IsReady c m = IsIdle c m.kept.items
 
   -- the sums of the remembered rows
@@ -40,7 +40,7 @@ module _ {N C H G : ℕ} where
   found_in m = m.found.items
 
   -- where the last scan may have changed the sums
-  abbrev pub moved_in : ScanMemory N C H G → Changed
+  abbrev pub moved_in : ScanMemory N C H G → ChangedView
   moved_in m = m.moved
 
   -- the answer of the scan that ended so: its own numbers with the sums of the rows, or the view that was lent; after a scan that

@@ -4,10 +4,10 @@ use mathlib.Core.Option.{some}
 use lib.ListN.{get_elem?}
 use Rattle.register_rule.specs.declared.view.Answer.{Answer}
 use Rattle.register_rule.specs.declared.view.Asked.{Asked}
-use Rattle.register_rule.specs.declared.view.Scan.{Scan}
+use Rattle.register_rule.specs.declared.view.ScanLog.{ScanLog}
 use Rattle.register_rule.specs.declared.view.Version.{Version}
 use Rattle.register_rule.specs.History.{Below}
-use Rattle.register_rule.specs.Steps.{at_rest, upper}
+use Rattle.register_rule.specs.ScanSteps.{at_rest, upper}
 use Rattle.snapshot_scan.specs.declared.remembered_row.RememberedRow.{RememberedRow}
 use Rattle.snapshot_scan.specs.RememberedRows.{version_of, AreKnown, HasOther, pairs}
 use Rattle.snapshot_scan.specs.Asking.{DoesNotLend, due_from, asked_worker}
@@ -49,7 +49,7 @@ pub record FailedTry (n : ℕ) (floor base : List ℕ) (t : Tried) : Type 0 wher
   pub none : (q : ℕ) (e : Asked) → get_elem? t.asks q ≡ some e → DoesNotLend n floor e
 
 -- a scan that is over: what is remembered is what the view has
-pub record IsIdle (c : Scan) (gs : List RememberedRow) : Type 0 where
+pub record IsIdle (c : ScanLog) (gs : List RememberedRow) : Type 0 where
   pub kept : c.kept ≡ map version_of gs
   pub rest : c.now ≡ at_rest
 
@@ -61,7 +61,7 @@ pub record IsQuiet (gs gs' : List RememberedRow) (before after opened : List ℕ
 
 -- from c to c' a scan found something other than these rows: one of the n numbers that it opened first is another, or it made
 -- more than one try
-pub record HasMoved (n : ℕ) (rows : List Version) (c c' : Scan) : Type 0 where
+pub record HasMoved (n : ℕ) (rows : List Version) (c c' : ScanLog) : Type 0 where
   pub first : List ℕ
   pub later : List (ℕ × ℕ)
   pub opened : c'.opened ≡ c.opened ++ (pairs 0 first ++ later)
@@ -69,7 +69,7 @@ pub record HasMoved (n : ℕ) (rows : List Version) (c c' : Scan) : Type 0 where
   pub why : HasOther first rows ⊎ (later ≢ [])
 
 -- from c to c' a scan recorded this answer
-pub record IsAnswered (n : ℕ) (c c' : Scan) (a : Answer) : Type 0 where
+pub record IsAnswered (n : ℕ) (c c' : ScanLog) (a : Answer) : Type 0 where
   pub recorded : c'.recorded ≡ c.recorded ++ a ∷ []
   pub quit : c'.quit ≡ c.quit
   pub seen : c'.seen ≡ upper c.seen a.vector
@@ -83,7 +83,7 @@ pub record IsAnswered (n : ℕ) (c c' : Scan) (a : Answer) : Type 0 where
 
 -- from c to c' a scan of n + 2 tries was given up, none of which opened at less than had been seen before; `first` and `last`
 -- are the numbers of its last try
-pub record IsGivenUp (n : ℕ) (c c' : Scan) (first last : List ℕ) : Type 0 where
+pub record IsGivenUp (n : ℕ) (c c' : ScanLog) (first last : List ℕ) : Type 0 where
   pub recorded : c'.recorded ≡ c.recorded
   pub seen : c'.seen ≡ c.seen
   pub quit : c'.quit ≡ c.quit + 1

@@ -1,16 +1,11 @@
 -- What a source of snapshots shows of its scans.
-use Rattle.std.specs.Prelude.{◌≡◌, ℕ, ◌<◌, ◌≤◌, List, [], ◌∷◌, ◌++◌, Option, Some, None, length, slice_index}
+use Rattle.std.specs.Prelude.{◌≡◌, ℕ, ◌<◌, ◌≤◌, List, [], ◌∷◌, ◌++◌, length, slice_index}
 use Rattle.std.specs.Option.{ForSome}
 use Rattle.ledger_core.specs.Ops.{width}
 use Rattle.ledger_core.specs.Legal.{IsLegal}
 use Rattle.register_rule.specs.declared.view.Answer.{Answer}
+use Rattle.register_rule.specs.Members.{newest}
 use Rattle.snapshot_scan.specs.Moments.{AreMoments}
-
--- the last of these answers, if there is one
-abbrev pub newest : List Answer → Option Answer
-newest [] = None
-newest (a ∷ []) = Some a
-newest (a ∷ b ∷ rest) = newest (b ∷ rest)
 
 -- of n workers and w words, no number and no total of b is below that of a
 pub record NothingFalls (n w : ℕ) (a b : Answer) : Type 0 where

@@ -6,7 +6,7 @@ ghost use lib.ListN.{get_elem?};
 ghost use Rattle.ledger_core.specs.Ops.{width};
 ghost use Rattle.register_rule.specs.declared.view.Asked.{Asked};
 ghost use Rattle.ledger_core.specs.Vectors.{is_above};
-ghost use Rattle.register_rule.specs.Steps.{answered, gives_up, lent_in};
+ghost use Rattle.register_rule.specs.ScanSteps.{answered, given_up_if_spent, lent_in};
 ghost use Rattle.register_rule.specs.Seats.{table_of, members_of};
 ghost use Rattle.snapshot_scan.specs.Shape.{scan_in, with_scan, IsRuled};
 ghost use Rattle.snapshot_scan.specs.Asking.{DoesNotLend, Lends, asked_too, refused, due_from, refused_all, asked_worker};
@@ -45,7 +45,7 @@ fn ask<S: ScanSeat<N, C, H, G>, const N: usize, const C: usize, const H: usize, 
         (answered (lent_in N (width C H G) lent.new) (asked_too e (scan_in (S.bundle seat.old))))
         (members_of (S.bundle seat.old))) }
     ensures refuses { result ≡ false → (e : Asked) × (e.worker ≡ place) × DoesNotLend N floor.now e
-        × (members_of (S.bundle seat.new) ≡ with_scan (gives_up N (refused e (scan_in (S.bundle seat.old))))
+        × (members_of (S.bundle seat.new) ≡ with_scan (given_up_if_spent N (refused e (scan_in (S.bundle seat.old))))
         (members_of (S.bundle seat.old))) }
 {
     let number = board.ask(seat, place);

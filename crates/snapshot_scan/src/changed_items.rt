@@ -20,9 +20,9 @@ pub struct ChangedItems {
 
 impl Model for ChangedItems {
     ghost use Rattle.std.specs.Prelude.{◌≡◌, ◌≤◌, length, take};
-    ghost use Rattle.snapshot_scan.specs.ChangedItems.{Changed};
+    ghost use Rattle.snapshot_scan.specs.ChangedItems.{ChangedView};
 
-    ghost Value = { Changed };
+    ghost Value = { ChangedView };
 
     ghost view = { λ c. record { all = c.all; items = take c.count c.items.items } };
 

@@ -14,29 +14,23 @@
 
 mod asks;
 mod changed_items;
-mod collects;
-mod confirms;
 mod contended;
 mod exchange;
+mod first_collect;
 mod items;
-mod lending;
 mod no_memory_for_seat;
-mod opens;
 mod ordering;
-mod own_row;
 mod plain;
-mod plain_calls;
 mod plain_fault;
 mod plain_table;
 mod reader;
-mod reading;
 mod remembered_row;
-mod remembering;
 mod rows;
 mod scan_end;
 mod scan_memory;
 mod scanner;
 mod scans;
+mod second_collect;
 mod snapshot;
 mod source;
 

@@ -6,7 +6,7 @@ ghost use Rattle.register_rule.specs.History.{Comparable};
 ghost use Rattle.register_rule.specs.declared.view.Answer.{Answer};
 ghost use Rattle.register_rule.specs.declared.view.Who.TheVariants as Who;
 ghost use Rattle.register_rule.specs.Members.{first_of, met};
-ghost use Rattle.register_rule.specs.Seats.{table_of, members_of, Has};
+ghost use Rattle.register_rule.specs.Seats.{table_of, members_of, IsSeatOf};
 ghost use Rattle.snapshot_scan.specs.Shape.{scan_in};
 ghost use Rattle.snapshot_scan.specs.Snapshots.{as_answer};
 ghost use Rattle.snapshot_scan.specs.Readers.{members_with, scan_by, index_of, IsReaderOf};
@@ -57,7 +57,7 @@ fn meet<const N: usize, const C: usize, const H: usize, const G: usize>(
     other: &mut Bundle,
     who: usize,
 )
-    requires own { Has board.now one.old × Has board.now other.old }
+    requires own { IsSeatOf board.now one.old × IsSeatOf board.now other.old }
     requires alone { (members_of one.old ≡ first_of (members_of one.old) ∷ [])
         × (members_of other.old ≡ first_of (members_of other.old) ∷ []) }
     requires is { (first_of (members_of other.old)).who ≡ Who.Reader who }

@@ -6,7 +6,7 @@ ghost use Rattle.register_rule.specs.declared.view.Member.{Member};
 ghost use Rattle.register_rule.specs.Members.{led, scan_changed};
 ghost use Rattle.register_rule.specs.Seats.{table_of, members_of, HasMember, MayScan};
 ghost use Rattle.snapshot_scan.specs.Shape.{read_all};
-ghost use Rattle.snapshot_scan.specs.ChangedItems.{Changed, Notes, Moves};
+ghost use Rattle.snapshot_scan.specs.ChangedItems.{ChangedView, Notes, Moves};
 ghost use Rattle.snapshot_scan.specs.Reading.{IsReadTo};
 
 use crate::changed_items::ChangedItems;
@@ -60,7 +60,7 @@ fn read_one<
     requires inside { (place < N) × (k < length words.old) × (length words.old ≡ width C H G) }
     ensures own { table_of (S.bundle seat.new) ≡ table_of (S.bundle seat.old) }
     ensures leads { HasMember (members_of (S.bundle seat.new)) }
-    ensures read { (ms : List Member) (row : List ℕ) (listed : Changed)
+    ensures read { (ms : List Member) (row : List ℕ) (listed : ChangedView)
         → IsReadTo (width C H G) place number k ms (members_of (S.bundle seat.old)) row words.old listed changed.old
         → IsReadTo (width C H G) place number (k + 1) ms (members_of (S.bundle seat.new)) row words.new listed changed.new }
 {
@@ -89,7 +89,7 @@ fn read_four<
     requires inside { (place < N) × (k + 4 ≤ length words.old) × (length words.old ≡ width C H G) }
     ensures own { table_of (S.bundle seat.new) ≡ table_of (S.bundle seat.old) }
     ensures leads { HasMember (members_of (S.bundle seat.new)) }
-    ensures read { (ms : List Member) (row : List ℕ) (listed : Changed)
+    ensures read { (ms : List Member) (row : List ℕ) (listed : ChangedView)
         → IsReadTo (width C H G) place number k ms (members_of (S.bundle seat.old)) row words.old listed changed.old
         → IsReadTo (width C H G) place number (k + 4) ms (members_of (S.bundle seat.new)) row words.new listed changed.new }
 {
@@ -119,7 +119,7 @@ fn read_rest<
     requires own { MayScan board.now (S.bundle seat.old) }
     requires inside { (place < N) × (from ≤ length words.old) × (length words.old ≡ width C H G) }
     ensures own { table_of (S.bundle seat.new) ≡ table_of (S.bundle seat.old) }
-    ensures read { (ms : List Member) (row : List ℕ) (listed : Changed) → IsReadTo (width C H G) place number from ms
+    ensures read { (ms : List Member) (row : List ℕ) (listed : ChangedView) → IsReadTo (width C H G) place number from ms
         (members_of (S.bundle seat.old)) row words.old listed changed.old
         → IsReadTo (width C H G) place number (width C H G) ms (members_of (S.bundle seat.new)) row words.new listed changed.new }
 {

@@ -1,11 +1,21 @@
 //! What the scans of one seat work with, made once.
-ghost use Rattle.std.specs.Prelude.{◌≡◌, ℕ, ◌+◌, ◌<◌, length, Contains};
+ghost use Rattle.std.specs.Prelude.{◌≡◌, ℕ, ◌+◌, ◌<◌, length, Contains, ◌≤◌, IfOk, map, slice_set, slice_index};
 ghost use Rattle.ledger_core.specs.Ops.{width};
 ghost use Rattle.segment_layout.specs.Layout.{IsGeometry};
-ghost use Rattle.snapshot_scan.specs.RememberedRows.{AreWide, AreTotals};
+ghost use Rattle.snapshot_scan.specs.RememberedRows.{AreWide, AreTotals, AreBlank, version_of};
+ghost use Rattle.snapshot_scan.specs.ChangedItems.{Moves};
+ghost use mathlib.Core.Option.{some};
+ghost use lib.ListN.{get_elem?};
 
 use crate::changed_items::ChangedItems;
+use crate::contended::{Contended, first_moved};
 use crate::remembered_row::RememberedRow;
+use crate::scan_end::ScanEnd;
+use crate::scans::scan;
+use crate::snapshot::Snapshot;
+use ledger_core::Row;
+use register_rule::{Board, ScanSeat};
+use std::alloc::{AllocError, Global};
 
 /// What the scans of one seat work with and remember: of each segment the row that was confirmed last, the sums of these
 /// rows, the numbers of both collects, the words that a worker lends, and where the sums changed. It grows no more once it is
@@ -37,4 +47,255 @@ impl<const N: usize, const C: usize, const H: usize, const G: usize> Drop
             moved: _,
         } = self;
     }
+}
+
+impl<const N: usize, const C: usize, const H: usize, const G: usize> ScanMemory<N, C, H, G> {
+    ghost use Rattle.std.specs.Prelude.{◌≡◌, ℕ, ◌+◌, ◌<◌, ◌++◌, Bool, true, false, replicate, slice_index, Contains, IfOk};
+    ghost use Rattle.std.specs.Prelude.{IfErr, OnOk, OnErr, length, slice_set};
+    ghost use Rattle.ledger_core.specs.Ops.{width};
+    ghost use Rattle.segment_layout.specs.Layout.{IsGeometry};
+    ghost use Rattle.register_rule.specs.Seats.{table_of, members_of, MayScan};
+    ghost use Rattle.snapshot_core.specs.declared.next.Next.TheVariants as Next;
+    ghost use Rattle.snapshot_scan.specs.declared.contended.Contended.{Contended};
+    ghost use Rattle.snapshot_scan.specs.declared.scan_end.ScanEnd.TheVariants as ScanEnd;
+    ghost use Rattle.snapshot_scan.specs.Shape.{scan_in, with_scan, IsRuled};
+    ghost use Rattle.snapshot_scan.specs.RememberedRows.{AreNumbers, pairs};
+    ghost use Rattle.snapshot_scan.specs.Contention.{IsFirstMoved, IsContended};
+    ghost use Rattle.snapshot_scan.specs.Scanned.{IsAnswered, HasMoved, IsGivenUp};
+    ghost use Rattle.snapshot_scan.specs.Core.{CameTo, AnswersBy};
+    ghost use Rattle.snapshot_scan.specs.ScanMemories.{rows_of, sums_of, opened_in, found_in, moved_in, answer_of, HasView};
+    ghost use Rattle.snapshot_scan.specs.ScanMemories.{IsReady};
+    ghost use Rattle.ledger_core.specs.Legal.{IsLegal};
+    ghost use Rattle.snapshot_scan.specs.Snapshots.{as_answer};
+    ghost use mathlib.Core.Option.{some};
+    ghost use lib.ListN.{get_elem?};
+    ghost use Rattle.register_rule.specs.declared.view.Version.{Version};
+
+    /// A memory of rows of zeros, under the number 0.
+    pub fn new(alloc: Global) -> Result<ScanMemory<N, C, H, G>, AllocError>
+        requires { IsGeometry N C H G }
+        ensures rows { IfOk result (λ m. rows_of m ≡ replicate N (record { number = 0; row = replicate (width C H G) 0 })) }
+    {
+        let row = C + 27 * H + 2 * G;
+        let kept = blank_rows(alloc, N, row)?;
+        let totals = vec![in alloc; 0u64; row]?;
+        let opened = vec![in alloc; 0u64; N]?;
+        let found = vec![in alloc; 0u64; N]?;
+        let lent = vec![in alloc; 0u64; 1 + N + row]?;
+        let moved = ChangedItems::new(alloc)?;
+        Ok(ScanMemory {
+            kept,
+            totals,
+            opened,
+            found,
+            lent,
+            moved,
+        })
+    }
+
+    /// A scan of at most `N` + 2 tries, which takes no memory and waits for nobody. Where it changes the sums of the remembered
+    /// rows is listed ([`ScanMemory::moved`]).
+    #[inline(always)]
+    pub fn scan<S: ScanSeat<N, C, H, G>>(
+        &mut self,
+        board: &Board<N, C, H, G>,
+        seat: &mut S,
+    ) -> ScanEnd
+        requires own { MayScan board.now (S.bundle seat.old) }
+        requires ready { IsReady (scan_in (S.bundle seat.old)) self.old }
+        ensures own { table_of (S.bundle seat.new) ≡ table_of (S.bundle seat.old) }
+        ensures ruled { IsRuled N C H G (S.bundle seat.new) }
+        ensures others { members_of (S.bundle seat.new) ≡ with_scan (scan_in (S.bundle seat.new))
+            (members_of (S.bundle seat.old)) }
+        ensures ready { IsReady (scan_in (S.bundle seat.new)) self.new }
+        ensures answered { HasView result → IsAnswered N (scan_in (S.bundle seat.old)) (scan_in (S.bundle seat.new))
+            (answer_of self.new result) }
+        ensures answers { HasView result → AnswersBy N (width C H G) (scan_in (S.bundle seat.old)) (scan_in (S.bundle seat.new))
+            (answer_of self.new result) }
+        ensures quiet { result ≡ ScanEnd.Direct true → (rows_of self.new ≡ rows_of self.old)
+            × (sums_of self.new ≡ sums_of self.old) × AreNumbers (opened_in self.new) (rows_of self.new) }
+        ensures once { result ≡ ScanEnd.Direct true → (scan_in (S.bundle seat.new)).opened ≡ (scan_in (S.bundle seat.old)).opened
+            ++ pairs 0 (opened_in self.new) }
+        ensures moved { result ≡ ScanEnd.Direct false → HasMoved N (rows_of self.old) (scan_in (S.bundle seat.old))
+            (scan_in (S.bundle seat.new)) }
+        ensures numbers { (q : Bool) → result ≡ ScanEnd.Direct q → AreNumbers (opened_in self.new) (rows_of self.new) }
+        ensures listed { (moved_in self.new).all ≡ false → (k : ℕ) → k < width C H G → ¬ (Contains (moved_in self.new).items k)
+            → slice_index (sums_of self.new) k ≡ slice_index (sums_of self.old) k }
+        ensures words { (j : ℕ) → Contains (moved_in self.new).items j → j < width C H G }
+        ensures gave_up { result ≡ ScanEnd.GaveUp → IsGivenUp N (scan_in (S.bundle seat.old)) (scan_in (S.bundle seat.new))
+            (opened_in self.new) (found_in self.new) }
+        ensures came_up { result ≡ ScanEnd.GaveUp → (e : Contended) → IsFirstMoved (opened_in self.new) (found_in self.new) e
+            → CameTo N (width C H G) (scan_in (S.bundle seat.old)) (scan_in (S.bundle seat.new))
+            (Next.GaveUp e.worker e.first e.last) }
+    {
+        scan(
+            board,
+            seat,
+            self.kept.as_mut_slice(),
+            self.totals.as_mut_slice(),
+            self.opened.as_mut_slice(),
+            self.found.as_mut_slice(),
+            self.lent.as_mut_slice(),
+            &mut self.moved,
+        )
+    }
+
+    /// A scan whose answer is written to `out`.
+    ///
+    /// # Errors
+    ///
+    /// 14 [`Contended`]: the scan was given up after `N` + 2 tries, and `out` is unchanged.
+    pub fn scan_to<S: ScanSeat<N, C, H, G>>(
+        &mut self,
+        board: &Board<N, C, H, G>,
+        seat: &mut S,
+        out: &mut Snapshot<N, C, H, G>,
+    ) -> Result<(), Contended>
+        requires own { MayScan board.now (S.bundle seat.old) }
+        requires ready { IsReady (scan_in (S.bundle seat.old)) self.old }
+        ensures own { table_of (S.bundle seat.new) ≡ table_of (S.bundle seat.old) }
+        ensures ruled { IsRuled N C H G (S.bundle seat.new) }
+        ensures others { members_of (S.bundle seat.new) ≡ with_scan (scan_in (S.bundle seat.new))
+            (members_of (S.bundle seat.old)) }
+        ensures ready { IsReady (scan_in (S.bundle seat.new)) self.new }
+        ensures answered { OnOk result
+            (IsAnswered N (scan_in (S.bundle seat.old)) (scan_in (S.bundle seat.new)) (as_answer out.new)) }
+        ensures answers { OnOk result (AnswersBy N (width C H G) (scan_in (S.bundle seat.old)) (scan_in (S.bundle seat.new))
+            (as_answer out.new)) }
+        ensures legal { OnOk result (IsLegal C H (slice_index out.new.totals)) }
+        ensures contended { IfErr result (IsContended N (scan_in (S.bundle seat.old)) (scan_in (S.bundle seat.new))) }
+        ensures came_up { IfErr result (λ e. CameTo N (width C H G) (scan_in (S.bundle seat.old)) (scan_in (S.bundle seat.new))
+            (Next.GaveUp e.worker e.first e.last)) }
+        ensures unchanged { OnErr result (out.new ≡ out.old) }
+    {
+        let ended = self.scan(board, seat);
+        if let ScanEnd::GaveUp = ended {
+            return Err(first_moved(self.opened.as_slice(), self.found.as_slice()));
+        }
+        let (vector, totals) = self.answer(ended);
+        out.set(vector, totals);
+        Ok(())
+    }
+
+    /// The vector of `N` numbers and the totals of the scan that ended so. Where it was given up they are the numbers that
+    /// its last try opened, and the sums of the remembered rows.
+    #[inline]
+    pub fn answer(&self, ended: ScanEnd) -> (&[u64], &[u64])
+        ensures vector { result.0.now ≡ (answer_of self.now ended).vector }
+        ensures totals { result.1.now ≡ (answer_of self.now ended).totals }
+        ensures lengths { (length result.0.now ≡ N) × (length result.1.now ≡ width C H G) }
+    {
+        if let ScanEnd::Lent = ended {
+            return (&self.lent[1..1 + N], &self.lent[1 + N..]);
+        }
+        (self.opened.as_slice(), self.totals.as_slice())
+    }
+
+    /// Where the last scan may have changed the sums of the remembered rows: at no other words.
+    #[inline]
+    pub fn moved(&self) -> &ChangedItems
+        ensures { result.now ≡ moved_in self.now }
+    {
+        &self.moved
+    }
+
+    /// Remembers that the row of this segment is now `row`, under this number: its words take the place of the old ones in
+    /// the sums.
+    pub fn remember(&mut self, place: usize, number: u64, row: &Row<C, H, G>)
+        requires inside { place < N }
+        ensures rows { rows_of self.new ≡ slice_set (rows_of self.old) place (record { number = number; row = row.now }) }
+        ensures sums { (v : Version) → get_elem? (rows_of self.old) place ≡ some v → (k : ℕ) → k < width C H G
+            → slice_index (sums_of self.new) k + slice_index v.row k ≡ slice_index (sums_of self.old) k + slice_index row.now k }
+    {
+        remember_all(
+            self.kept.as_mut_slice(),
+            self.totals.as_mut_slice(),
+            &mut self.moved,
+            place,
+            number,
+            row,
+        );
+    }
+
+    /// Remembers that the row of this segment is now `row`, under this number, where it differs from the remembered one at
+    /// these words alone.
+    #[inline]
+    pub fn remember_at(&mut self, place: usize, number: u64, row: &Row<C, H, G>, items: &[usize])
+        requires inside { place < N }
+        requires words { (j : ℕ) → Contains items.now j → j < width C H G }
+        requires others { (v : Version) → get_elem? (rows_of self.old) place ≡ some v → (k : ℕ) → k < width C H G
+            → ¬ (Contains items.now k) → slice_index v.row k ≡ slice_index row.now k }
+        ensures rows { rows_of self.new ≡ slice_set (rows_of self.old) place (record { number = number; row = row.now }) }
+        ensures sums { (v : Version) → get_elem? (rows_of self.old) place ≡ some v → (k : ℕ) → k < width C H G
+            → slice_index (sums_of self.new) k + slice_index v.row k ≡ slice_index (sums_of self.old) k + slice_index row.now k }
+    {
+        remember_some(
+            self.kept.as_mut_slice(),
+            self.totals.as_mut_slice(),
+            place,
+            number,
+            row,
+            items,
+        );
+    }
+}
+
+// What is remembered of `count` segments at first.
+fn blank_rows(alloc: Global, count: usize, row: usize) -> Result<Vec<RememberedRow>, AllocError>
+    requires few { row ≤ 1248 }
+    ensures { IfOk result (λ v. (length v.items ≡ count) × AreBlank row v.items) }
+{
+    let mut kept = Vec::new(alloc);
+    for _k in 0..count {
+        kept.push(RememberedRow::new(alloc, row)?)?;
+    }
+    Ok(kept)
+}
+
+// As `ScanMemory::remember`, over what is remembered of all segments and the sums.
+#[inline(never)]
+fn remember_all<const C: usize, const H: usize, const G: usize>(
+    kept: &mut [RememberedRow],
+    totals: &mut [u64],
+    moved: &mut ChangedItems,
+    place: usize,
+    number: u64,
+    row: &Row<C, H, G>,
+)
+    requires inside { (place < length kept.old) × (length kept.old ≤ 32) }
+    requires long { length totals.old ≡ width C H G }
+    requires wide { AreWide (width C H G) kept.old }
+    requires totals { AreTotals (width C H G) kept.old totals.old }
+    ensures wide { AreWide (width C H G) kept.new }
+    ensures totals { AreTotals (width C H G) kept.new totals.new }
+    ensures rows { map version_of kept.new ≡ slice_set (map version_of kept.old) place
+        (record { number = number; row = row.now }) }
+    ensures moved { Moves (width C H G) totals.old totals.new moved.old moved.new }
+{
+    kept[place].learn(number, row, totals, moved);
+}
+
+// As `ScanMemory::remember_at`.
+#[inline]
+fn remember_some<const C: usize, const H: usize, const G: usize>(
+    kept: &mut [RememberedRow],
+    totals: &mut [u64],
+    place: usize,
+    number: u64,
+    row: &Row<C, H, G>,
+    items: &[usize],
+)
+    requires inside { (place < length kept.old) × (length kept.old ≤ 32) }
+    requires long { length totals.old ≡ width C H G }
+    requires wide { AreWide (width C H G) kept.old }
+    requires totals { AreTotals (width C H G) kept.old totals.old }
+    requires words { (j : ℕ) → Contains items.now j → j < width C H G }
+    requires others { (g : RememberedRow) → get_elem? kept.old place ≡ some g → (k : ℕ) → k < width C H G
+        → ¬ (Contains items.now k) → slice_index g.row.items k ≡ slice_index row.now k }
+    ensures wide { AreWide (width C H G) kept.new }
+    ensures totals { AreTotals (width C H G) kept.new totals.new }
+    ensures rows { map version_of kept.new ≡ slice_set (map version_of kept.old) place
+        (record { number = number; row = row.now }) }
+{
+    kept[place].change(number, row, items, totals);
 }

@@ -1,11 +1,11 @@
 -- A buffer that is filled item by item.
-use Rattle.std.proofs.Common.{◌≡◌, ◌⊎◌, ⊎_elim, inl, inr, ℕ, ◌+◌, ◌<◌, ◌≤◌, false, List, [], ◌∷◌, length, set, get_or, sym, ap}
+use Rattle.std.proofs.Common.{◌≡◌, ◌⊎◌, ⊎_elim, inl, inr, ℕ, ◌+◌, ◌<◌, List, [], ◌∷◌, length, set, get_or, sym, ap}
 use Rattle.std.proofs.Common.{◌∙◌, subst, arith, get_or-set_same, get_or-set_other}
 use Rattle.std.specs.List.{Contains}
 use Rattle.std.proofs.lemmas.Bool.{cases_eq}
 use Rattle.std.proofs.lemmas.List.Elements.{Contains-append_right, Contains-append_cases}
 use Rattle.std.proofs.lemmas.List.{same_lists, get_or_default}
-use Rattle.snapshot_scan.specs.ChangedItems.{Changed, Notes}
+use Rattle.snapshot_scan.specs.ChangedItems.{ChangedView, Notes}
 use Rattle.snapshot_update.specs.Noting.{SoFar}
 use Rattle.snapshot_scan.proofs.Noted.{none_listed}
 
@@ -13,7 +13,7 @@ only_one : (x j : ℕ) → Contains (x ∷ []) j → x ≡ j
 only_one x j h = let lt = h.1 in let zero : h.0 ≡ 0 = omega (arith, lt) in subst (λ (k : ℕ). get_or (x ∷ []) k j ≡ j) zero h.2
 
 -- an item at which they are the same
-pub so_far_same : (n : ℕ) (changed : Changed) (old new : List ℕ) → get_or old n 0 ≡ get_or new n 0 → SoFar n changed old new
+pub so_far_same : (n : ℕ) (changed : ChangedView) (old new : List ℕ) → get_or old n 0 ≡ get_or new n 0 → SoFar n changed old new
     → SoFar (n + 1) changed old new
 so_far_same n changed old new e is = record {
   differ = λ h j lt other. elim (cases_eq j n) [
@@ -27,7 +27,7 @@ so_far_same n changed old new e is = record {
 }
 
 -- one at which they differ
-pub so_far_noted : (n : ℕ) (was now : Changed) (old new : List ℕ) → (get_or old n 0 ≡ get_or new n 0 → ⊥) → Notes n was now
+pub so_far_noted : (n : ℕ) (was now : ChangedView) (old new : List ℕ) → (get_or old n 0 ≡ get_or new n 0 → ⊥) → Notes n was now
     → SoFar n was old new → SoFar (n + 1) now old new
 so_far_noted n was now old new ne notes is = record {
   differ = λ h j lt other. elim (cases_eq j n) [

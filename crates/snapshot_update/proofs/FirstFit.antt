@@ -12,7 +12,7 @@ use Rattle.snapshot_scan.specs.declared.scan_memory.ScanMemory.{ScanMemory}
 use Rattle.snapshot_scan.specs.ScanMemories.{rows_of, sums_of}
 use Rattle.snapshot_scan.proofs.Blank.{zero_in}
 use Rattle.snapshot_update.specs.declared.buffer_images.BufferImages.{BufferImages}
-use Rattle.snapshot_scan.specs.ChangedItems.{Changed}
+use Rattle.snapshot_scan.specs.ChangedItems.{ChangedView}
 use Rattle.snapshot_update.specs.Fit.{number_in, IsFit, HasSeenOwn}
 use Rattle.snapshot_update.specs.BufferImages.{AreBlank}
 use Rattle.snapshot_scan.proofs.Noted.{none_listed}
@@ -24,7 +24,7 @@ same_at zero i v h = absurd (omega (arith, h))
 same_at (suc n) zero v h = refl
 same_at (suc n) (suc i) v h = same_at n i v (omega (arith, h))
 
-none_in : (b : ℕ) (c : Changed) → c.items ≡ [] → (j : ℕ) → Contains c.items j → j < b
+none_in : (b : ℕ) (c : ChangedView) → c.items ≡ [] → (j : ℕ) → Contains c.items j → j < b
 none_in b c e j has = absurd (none_listed j (subst (λ (l : List ℕ). Contains l j) e has))
 
 module _ (n c h g index : ℕ) (row : List ℕ) (memory : ScanMemory n c h g) (im : BufferImages) (inside : index < n)
@@ -40,7 +40,7 @@ module _ (n c h g index : ℕ) (row : List ℕ) (memory : ScanMemory n c h g) (i
   wide : length row ≡ w
   wide = ap (λ (l : List ℕ). length l) zeros ∙ length-replicate w 0
 
-  at_first : IsFit n c h g index 0 row memory im.hidden.items im.shown.items im.recent im.late im.own (new_worker n w b index)
+  at_first : IsFit n c h g index 0 row memory im (new_worker n w b index)
   at_first = record {
     who = refl;
     counts = refl;
@@ -65,9 +65,9 @@ module _ (n c h g index : ℕ) (row : List ℕ) (memory : ScanMemory n c h g) (i
   }
 
   pub first_fit : (m : Member) → m ≡ new_worker n (width c h g) (depth n (width c h g)) index
-      → IsFit n c h g index (length m.work.made) row memory im.hidden.items im.shown.items im.recent im.late im.own m
-  first_fit m is = subst (λ (x : Member). IsFit n c h g index (length x.work.made) row memory im.hidden.items im.shown.items
-      im.recent im.late im.own x) (sym is) at_first
+      → IsFit n c h g index (length m.work.made) row memory im m
+  first_fit m is = subst (λ (x : Member). IsFit n c h g index (length x.work.made) row memory im
+      x) (sym is) at_first
 
 zero_at : (n i : ℕ) → i < n → get_elem? {A = ℕ} (replicate n 0) i ≡ some 0
 zero_at zero i h = absurd (omega (arith, h))

@@ -8,11 +8,10 @@ use Rattle.ledger_core.specs.declared.op.Op.{Op}
 use Rattle.ledger_core.specs.Ops.{sum_ops, width}
 use Rattle.ledger_core.specs.Row.{Accepts}
 use Rattle.register_rule.specs.declared.view.Answer.{Answer}
-use Rattle.register_rule.specs.declared.view.Made.{Made}
+use Rattle.register_rule.specs.declared.view.PublishEntry.{PublishEntry}
 use Rattle.register_rule.specs.declared.view.Member.{Member}
-use Rattle.register_rule.specs.declared.view.Version.{Version}
 use Rattle.register_rule.specs.Sums.{total, last_lent, flag_of}
-use Rattle.register_rule.specs.Members.{made_of, last_answer}
+use Rattle.register_rule.specs.Members.{made_of, newest}
 use Rattle.register_rule.specs.Told.{HoldsNext}
 use Rattle.register_rule.proofs.Publish.{lent_last}
 use Rattle.register_rule.proofs.Words.{there}
@@ -23,12 +22,11 @@ use Rattle.snapshot_scan.specs.declared.remembered_row.RememberedRow.{Remembered
 use Rattle.snapshot_scan.specs.declared.scan_memory.ScanMemory.{ScanMemory}
 use Rattle.snapshot_scan.specs.RememberedRows.{version_of}
 use Rattle.snapshot_scan.specs.ScanMemories.{rows_of, answer_of}
-use Rattle.snapshot_scan.proofs.Blank.{from_rows}
 use Rattle.snapshot_scan.proofs.Words.{length_take}
 use Rattle.snapshot_update.specs.BufferImages.{version_words}
 use Rattle.snapshot_update.proofs.VersionWords.{row_word, flag_word, vector_word, total_word}
 
-last_of : (l : List Answer) (a : Answer) → last_answer (l ++ a ∷ []) ≡ Some a
+last_of : (l : List Answer) (a : Answer) → newest (l ++ a ∷ []) ≡ Some a
 last_of [] a = refl
 last_of (x ∷ []) a = refl
 last_of (x ∷ y ∷ l) a = last_of (y ∷ l) a
@@ -67,9 +65,9 @@ module _ (n w b : ℕ) (adds : List Op → ℕ → ℕ) (ops : List Op) (m : Mem
       → m.scan.recorded ≡ before ++ record { vector = vector; totals = totals } ∷ [] → HoldsNext n w b adds ops true m
   lends_view hidden before recorded k below =
       let a : Answer = record { vector = vector; totals = totals } in
-      let made : List Made = m.work.made ++ made_of ops true m ∷ [] in
+      let made : List PublishEntry = m.work.made ++ made_of ops true m ∷ [] in
       let lent : last_lent made ≡ Some a = lent_last m.work.made (made_of ops true m)
-      ∙ (ap last_answer recorded ∙ last_of before a) in
+      ∙ (ap newest recorded ∙ last_of before a) in
       let same : (x : Answer) → last_lent made ≡ Some x → a ≡ x = λ x e. let h = sym lent ∙ e in cc in
       let at : (j : ℕ) → slice_index m.work.hidden j ≡ slice_index (version_words row 1 vector totals) j =
       λ j. ap (λ (l : List ℕ). slice_index l j) hidden in record {
@@ -89,7 +87,7 @@ module _ (n w b : ℕ) (adds : List Op → ℕ → ℕ) (ops : List Op) (m : Mem
 
   lends_none : m.work.hidden ≡ version_words row 0 vector totals → HoldsNext n w b adds ops false m
   lends_none hidden k below =
-      let made : List Made = m.work.made ++ made_of ops false m ∷ [] in
+      let made : List PublishEntry = m.work.made ++ made_of ops false m ∷ [] in
       let none : last_lent made ≡ None = lent_last m.work.made (made_of ops false m) in
       let at : (j : ℕ) → slice_index m.work.hidden j ≡ slice_index (version_words row 0 vector totals) j =
       λ j. ap (λ (l : List ℕ). slice_index l j) hidden in record {

@@ -1,34 +1,34 @@
 -- What a scan found anew is listed as late, and where the next version is known to differ.
-use Rattle.std.proofs.Common.{◌≡◌, ◌⊎◌, ⊎_elim, inl, inr, ℕ, zero, suc, ◌+◌, ◌-◌, ◌*◌, ◌<◌, ◌≤◌, Bool, true, false, List, [], ◌∷◌}
-use Rattle.std.proofs.Common.{length, map, take, get_or, slice_index, Contains, sym, refl, ap, ◌∙◌, subst, arith}
-use mathlib.Core.Option.{some, some-injective}
+use Rattle.std.proofs.Common.{◌≡◌, ◌⊎◌, ⊎_elim, inl, inr, ℕ, zero, suc, ◌+◌, ◌<◌, Bool, true, false, List, [], ◌∷◌}
+use Rattle.std.proofs.Common.{length, map, take, slice_index, Contains, sym, refl, ap, ◌∙◌, subst, arith}
+use mathlib.Core.Option.{some}
 use lib.ListN.{get_elem?}
 use Rattle.std.proofs.Math.Seq.{take-length}
 use Rattle.ledger_core.specs.Ops.{width, sum_ops}
 use Rattle.segment_layout.specs.Layout.{depth}
-use Rattle.register_rule.specs.declared.view.Made.{Made}
+use Rattle.register_rule.specs.declared.view.PublishEntry.{PublishEntry}
 use Rattle.register_rule.specs.declared.view.Member.{Member}
 use Rattle.register_rule.specs.declared.view.Version.{Version}
 use Rattle.register_rule.specs.declared.view.Who.TheVariants.{Worker}
 use Rattle.register_rule.specs.Sums.{total}
-use Rattle.register_rule.proofs.Words.{there, read_at}
+use Rattle.register_rule.proofs.Words.{there}
 use Rattle.snapshot_scan.specs.declared.scan_end.ScanEnd.{ScanEnd}
 use Rattle.snapshot_scan.specs.declared.scan_end.ScanEnd.TheVariants.{Direct}
 use Rattle.snapshot_scan.specs.declared.scan_memory.ScanMemory.{ScanMemory}
-use Rattle.snapshot_scan.specs.ChangedItems.{Changed, Notes, NotesEach}
+use Rattle.snapshot_scan.specs.ChangedItems.{ChangedView, Notes, NotesEach}
 use Rattle.snapshot_scan.specs.RememberedRows.{AreNumbers}
 use Rattle.snapshot_scan.specs.ScanMemories.{rows_of, sums_of, moved_in, answer_of, IsReady}
 use Rattle.snapshot_scan.proofs.Words.{same_words}
-use Rattle.snapshot_update.specs.BufferImages.{DifferAt, version_words}
+use Rattle.snapshot_update.specs.declared.buffer_images.BufferImages.{BufferImages}
 use Rattle.snapshot_update.specs.Fit.{AreInside, AreImages, number_in, next_words, IsFit}
 use Rattle.snapshot_update.specs.Known.{IsStill, NotesRange, ListsMoved, IsFollowed}
 use Rattle.snapshot_update.specs.Updated.{IsRuledAlone}
 use Rattle.snapshot_update.proofs.VersionWords.{Which, which, in_row, at_flag, in_vector, in_totals, row_word, flag_word}
-use Rattle.snapshot_update.proofs.VersionWords.{vector_word, total_word, words_long, numbers_long}
+use Rattle.snapshot_update.proofs.VersionWords.{total_word, words_long, numbers_long}
 use Rattle.snapshot_update.proofs.Fitting.{rows_many}
 
 -- no items yet
-pub range_none : (first : ℕ) (c : Changed) → NotesRange first 0 c c
+pub range_none : (first : ℕ) (c : ChangedView) → NotesRange first 0 c c
 range_none first c = record {
   listed = λ h. h;
   keeps = λ _ j h. h;
@@ -37,7 +37,7 @@ range_none first c = record {
 }
 
 -- one item more
-pub range_more : (first n : ℕ) (old mid new : Changed) → NotesRange first n old mid → Notes (first + n) mid new
+pub range_more : (first n : ℕ) (old mid new : ChangedView) → NotesRange first n old mid → Notes (first + n) mid new
     → NotesRange first (n + 1) old new
 range_more first n old mid new a b = record {
   listed = λ h. a.listed (b.listed h);
@@ -56,7 +56,8 @@ range_more first n old mid new a b = record {
         (below_or_last i n (omega (arith, lt)))
 
 -- all numbers of the vector, and then the totals of some words
-pub lists_moved : (n w : ℕ) (moved old mid new : Changed) → AreInside w moved → moved.all ≡ false → NotesRange (w + 1) n old mid
+pub lists_moved : (n w : ℕ) (moved old mid new : ChangedView) → AreInside w moved → moved.all ≡ false
+    → NotesRange (w + 1) n old mid
     → NotesEach (w + 1 + n) moved.items mid new → ListsMoved n w moved old new
 lists_moved n w moved old mid new words few a b = record {
   listed = λ h. a.listed (b.listed h);
@@ -70,7 +71,7 @@ lists_moved n w moved old mid new words few a b = record {
 }
 
 -- where not all that moved is listed, all count as late
-pub lists_all : (n w : ℕ) (moved old mid late new : Changed) → AreInside w moved → new.all ≡ true → new.items ≡ late.items
+pub lists_all : (n w : ℕ) (moved old mid late new : ChangedView) → AreInside w moved → new.all ≡ true → new.items ≡ late.items
     → NotesRange (w + 1) n old mid → NotesEach (w + 1 + n) moved.items mid late → ListsMoved n w moved old new
 lists_all n w moved old mid late new words all items a b = record {
   listed = λ h. absurd (let e = sym all ∙ h in cc);
@@ -85,13 +86,13 @@ lists_all n w moved old mid late new words all items a b = record {
 }
 
 -- the next version has moved, and what moved is listed
-pub images_moved : (n w : ℕ) (row : List ℕ) (rows rows' : List Version) (sums sums' hidden shown : List ℕ)
-    (recent late late' moved : Changed) → length row ≡ w → length rows ≡ n → length rows' ≡ n → length sums' ≡ w
+pub images_moved : (n w : ℕ) (row : List ℕ) (rows rows' : List Version) (sums sums' : List ℕ) (im : BufferImages)
+    (late' moved : ChangedView) → length row ≡ w → length rows ≡ n → length rows' ≡ n → length sums' ≡ w
     → (moved.all ≡ false → (k : ℕ) → k < w → ¬ (Contains moved.items k) → slice_index sums' k ≡ slice_index sums k)
-    → ListsMoved n w moved late late'
-    → AreImages (depth n w) (next_words row rows sums) hidden shown recent late
-    → AreImages (depth n w) (next_words row rows' sums') hidden shown recent late'
-images_moved n w row rows rows' sums sums' hidden shown recent late late' moved wide many many' long same lists are = record {
+    → ListsMoved n w moved im.late late'
+    → AreImages (depth n w) (next_words row rows sums) im
+    → AreImages (depth n w) (next_words row rows' sums') (record im { late = late' })
+images_moved n w row rows rows' sums sums' im late' moved wide many many' long same lists are = record {
   next_deep = (let e = words_long w n row 1 (map number_in rows') sums' wide all' w long in omega (arith, e));
   hidden_deep = are.hidden_deep;
   shown_deep = are.shown_deep;
@@ -145,7 +146,7 @@ own_known n c h g i m row vector rows is ruled kept lt numbers own wide sums =
     let same : v.row ≡ row = same_words v.row row (version.wide ∙ sym wide) (λ k low. let w = version.wide in
     let below : k < width c h g = omega (arith, low, w) in
     version.row k (slice_index v.row k) (there v.row k 0 low)
-    ∙ (ap (λ (l : List Made). total (sum_ops c h) l k) made ∙ sym (sums k below))) in
+    ∙ (ap (λ (l : List PublishEntry). total (sum_ops c h) l k) made ∙ sym (sums k below))) in
     t.1 ∙ (λ z. some (record { number = number z; row = same z }))
   where
     some_at : (vs : List Version) (i : ℕ) → i < length vs → (v : Version) × (get_elem? vs i ≡ some v)
@@ -155,18 +156,18 @@ own_known n c h g i m row vector rows is ruled kept lt numbers own wide sums =
 
 -- a scan ended direct, and the version after it is known: its numbers and sums are those of the remembered rows, of which the
 -- worker's own is its row, and where the shown buffer may differ from it is listed as late
-pub record IsNext (n c h g i number : ℕ) (row : List ℕ) (memory : ScanMemory n c h g) (ended : ScanEnd) (hidden shown : List ℕ)
-    (recent late : Changed) : Type 0 where
+pub record IsNext (n c h g i number : ℕ) (row : List ℕ) (memory : ScanMemory n c h g) (ended : ScanEnd) (im : BufferImages)
+    : Type 0 where
   pub direct : (quiet : Bool) × (ended ≡ Direct quiet)
   pub numbers : AreNumbers (answer_of memory ended).vector (rows_of memory)
   pub totals : (answer_of memory ended).totals ≡ sums_of memory
   pub own : get_elem? (rows_of memory) i ≡ some (record { number = number; row = row })
-  pub images : AreImages (depth n (width c h g)) (next_words row (rows_of memory) (sums_of memory)) hidden shown recent late
+  pub images : AreImages (depth n (width c h g)) (next_words row (rows_of memory) (sums_of memory)) im
 
 -- m has scanned, and is m' now
-module _ (n c h g i : ℕ) (row : List ℕ) (memory memory' : ScanMemory n c h g) (hidden shown : List ℕ)
-    (recent late late' : Changed) (known : Bool) (m m' : Member) (ended : ScanEnd)
-    (fit : IsFit n c h g i (length m.work.made) row memory hidden shown recent late known m) (inside : i < n)
+module _ (n c h g i : ℕ) (row : List ℕ) (memory memory' : ScanMemory n c h g) (im : BufferImages)
+    (late' : ChangedView) (m m' : Member) (ended : ScanEnd) (fit : IsFit n c h g i (length m.work.made) row memory im m)
+    (inside : i < n)
     (same : m' ≡ record m { scan = m'.scan }) (ruled : IsRuledAlone n c h g m') (ready : IsReady m'.scan memory')
     (quiet : ended ≡ Direct true → (rows_of memory' ≡ rows_of memory) × (sums_of memory' ≡ sums_of memory)
     × AreNumbers (answer_of memory' ended).vector (rows_of memory'))
@@ -176,20 +177,21 @@ module _ (n c h g i : ℕ) (row : List ℕ) (memory memory' : ScanMemory n c h g
   totals_are : (q : Bool) → ended ≡ Direct q → (answer_of memory' ended).totals ≡ sums_of memory'
   totals_are q e = ap (λ (x : ScanEnd). (answer_of memory' x).totals) e
 
-  next_still : IsStill ended known late late' → IsNext n c h g i (length m.work.made) row memory' ended hidden shown recent late'
+  next_still : IsStill ended im.own im.late late'
+      → IsNext n c h g i (length m.work.made) row memory' ended (record im { late = late' })
   next_still still = let q = quiet still.quiet in record {
     direct = (true, still.quiet);
     numbers = q.2;
     totals = totals_are true still.quiet;
     own = ap (λ (l : List Version). get_elem? l i) q.0 ∙ fit.own_row still.remembered;
-    images = subst (λ (x : Changed). AreImages (depth n (width c h g)) (next_words row (rows_of memory') (sums_of memory')) hidden
-        shown recent x) (sym still.same)
-        (subst (λ (l : List ℕ). AreImages (depth n (width c h g)) l hidden shown recent late)
+    images = subst (λ (x : ChangedView). AreImages (depth n (width c h g)) (next_words row (rows_of memory') (sums_of memory'))
+        (record im { late = x })) (sym still.same)
+        (subst (λ (l : List ℕ). AreImages (depth n (width c h g)) l im)
         (λ z. next_words row (sym q.0 z) (sym q.1 z)) fit.images);
   }
 
-  next_followed : IsFollowed n c h g i (length m.work.made) memory' ended late late'
-      → IsNext n c h g i (length m.work.made) row memory' ended hidden shown recent late'
+  next_followed : IsFollowed n c h g i (length m.work.made) memory' ended im.late late'
+      → IsNext n c h g i (length m.work.made) row memory' ended (record im { late = late' })
   next_followed f =
       let made : m'.work.made ≡ m.work.made = ap (λ (x : Member). x.work.made) same in
       let w : ℕ = width c h g in
@@ -199,18 +201,18 @@ module _ (n c h g i : ℕ) (row : List ℕ) (memory memory' : ScanMemory n c h g
         totals = totals_are f.direct.0 f.direct.1;
         own = own_known n c h g i m' row (answer_of memory' ended).vector (rows_of memory') (ap (λ (x : Member). x.who) same
             ∙ fit.who) ruled ready.kept (let e = rows_many n c h g memory' in omega (arith, e, inside)) are
-            (f.found ∙ ap (λ (l : List Made). length l) (sym made)) fit.wide
-            (λ k lt. fit.sums k lt ∙ ap (λ (l : List Made). total (sum_ops c h) l k) (sym made))
+            (f.found ∙ ap (λ (l : List PublishEntry). length l) (sym made)) fit.wide
+            (λ k lt. fit.sums k lt ∙ ap (λ (l : List PublishEntry). total (sum_ops c h) l k) (sym made))
             ∙ (λ z. some (record { number = length (made z); row = row }));
-        images = images_moved n w row (rows_of memory) (rows_of memory') (sums_of memory) (sums_of memory') hidden shown recent
-            late late' (moved_in memory') fit.wide (rows_many n c h g memory) (rows_many n c h g memory')
+        images = images_moved n w row (rows_of memory) (rows_of memory') (sums_of memory) (sums_of memory') im
+            late' (moved_in memory') fit.wide (rows_many n c h g memory) (rows_many n c h g memory')
             memory'.sizes.1 listed f.lists fit.images;
       }
 
-  pub next_is : (i' number : ℕ) → i' ≡ i → number ≡ length m.work.made → IsStill ended known late late'
-      ⊎ IsFollowed n c h g i' number memory' ended late late' → IsNext n c h g i (length m.work.made) row memory' ended hidden
-      shown recent late'
+  pub next_is : (i' number : ℕ) → i' ≡ i → number ≡ length m.work.made → IsStill ended im.own im.late late'
+      ⊎ IsFollowed n c h g i' number memory' ended im.late late'
+      → IsNext n c h g i (length m.work.made) row memory' ended (record im { late = late' })
   next_is i' number at count either = ⊎_elim next_still
-      (λ f. next_followed (subst (λ (k : ℕ). IsFollowed n c h g k (length m.work.made) memory' ended late late') at
-      (subst (λ (k : ℕ). IsFollowed n c h g i' k memory' ended late late') count f)))
+      (λ f. next_followed (subst (λ (k : ℕ). IsFollowed n c h g k (length m.work.made) memory' ended im.late late') at
+      (subst (λ (k : ℕ). IsFollowed n c h g i' k memory' ended im.late late') count f)))
       either

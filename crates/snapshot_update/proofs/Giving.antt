@@ -2,7 +2,7 @@
 use Rattle.std.proofs.Common.{◌≡◌, ℕ, zero, suc, ◌<◌, ◌≤◌, List, [], ◌∷◌, length, slice_index, sym, refl, ap, ◌∙◌, arith}
 use mathlib.Core.Logic.{dite}
 use native.Mathlib.Decide.{dec_lt}
-use Rattle.register_rule.specs.declared.view.Scan.{Scan}
+use Rattle.register_rule.specs.declared.view.ScanLog.{ScanLog}
 use Rattle.snapshot_scan.specs.declared.contended.Contended.{Contended}
 use Rattle.snapshot_scan.specs.Scanned.{IsGivenUp}
 use Rattle.snapshot_scan.specs.Contention.{IsFirstMoved}
@@ -43,7 +43,7 @@ least (x ∷ first) (y ∷ last) same risen (suc q) lt rose = dite (dec_lt x y)
         at_place even e is zero h = even
         at_place even e is (suc k) h = is.least k (omega (arith, h))
 
-pub first_moved : (n : ℕ) (c c' : Scan) (first last : List ℕ) → IsGivenUp n c c' first last → (e : Contended)
+pub first_moved : (n : ℕ) (c c' : ScanLog) (first last : List ℕ) → IsGivenUp n c c' first last → (e : Contended)
     × IsFirstMoved first last e
 first_moved n c c' first last up =
     let t = last_failed n c c' first last up in let long = t.opened in let deep = t.found in

@@ -7,22 +7,22 @@ use Rattle.register_rule.specs.declared.seats.WorkSeat.{WorkSeat}
 use Rattle.register_rule.specs.declared.view.Member.{Member}
 use Rattle.register_rule.specs.declared.view.Who.{Who}
 use Rattle.register_rule.specs.declared.view.Who.TheVariants.{Worker, Reader}
-use Rattle.register_rule.specs.Members.{first_of, made_of, picked, without, same_who, raised, greatest, met}
+use Rattle.register_rule.specs.Members.{made_of, picked, without, same_who, raised, greatest, met}
 use Rattle.register_rule.specs.Rule.{AreOthers, AreApart}
-use Rattle.register_rule.specs.declared.view.Made.{Made}
+use Rattle.register_rule.specs.declared.view.PublishEntry.{PublishEntry}
 use Rattle.ledger_core.specs.declared.op.Op.{Op}
 use Rattle.std.proofs.lemmas.List.{length_push}
 use Rattle.snapshot_scan.specs.declared.scan_memory.ScanMemory.{ScanMemory}
-use Rattle.register_rule.specs.declared.view.Scan.{Scan}
+use Rattle.register_rule.specs.declared.view.ScanLog.{ScanLog}
 use Rattle.snapshot_scan.specs.declared.reader.Reader.{Reader as reader}
 use Rattle.snapshot_scan.specs.Lent.{IsWorkerAmong}
 use Rattle.snapshot_scan.specs.Readers.{members_with}
 use Rattle.snapshot_scan.specs.Shape.{with_scan}
-use Rattle.snapshot_scan.proofs.Standing.{stands_behind, stands_scanned}
+use Rattle.snapshot_scan.proofs.Standing.{stands_scanned}
 use Rattle.snapshot_scan.proofs.Words.{front_at, at_map}
 use Rattle.snapshot_update.specs.declared.worker.Worker.{Worker as worker}
 use Rattle.snapshot_update.specs.Workers.{IsLentAs}
-use Rattle.snapshot_scan.specs.ChangedItems.{Changed}
+use Rattle.snapshot_update.specs.declared.buffer_images.BufferImages.{BufferImages}
 use Rattle.snapshot_update.specs.BufferImages.{with_hidden}
 use Rattle.snapshot_update.specs.Fit.{IsFit, IsFitOfSeat, HasSeenOwn}
 use Rattle.snapshot_update.specs.Updated.{IsUpdated, IsRuledAlone}
@@ -31,11 +31,9 @@ pub same_seat : (a b : WorkSeat) → Some a ≡ Some b → a ≡ b
 same_seat a b e = cc
 
 -- what a worker knows speaks of nothing that it has seen
-pub raised_fit : (n c h g i k : ℕ) (row : List ℕ) (memory : ScanMemory n c h g) (hidden shown : List ℕ) (recent late : Changed)
-    (own : Bool) (seen : List ℕ) (m : Member)
-    → IsFit n c h g i k row memory hidden shown recent late own m → IsFit n c h g i k row memory hidden shown recent late own
-    (raised seen m)
-raised_fit n c h g i k row memory hidden shown recent late own seen m f = record {
+pub raised_fit : (n c h g i k : ℕ) (row : List ℕ) (memory : ScanMemory n c h g) (im : BufferImages) (seen : List ℕ) (m : Member)
+    → IsFit n c h g i k row memory im m → IsFit n c h g i k row memory im (raised seen m)
+raised_fit n c h g i k row memory im seen m f = record {
   who = f.who;
   counts = f.counts;
   sums = f.sums;
@@ -47,15 +45,15 @@ raised_fit n c h g i k row memory hidden shown recent late own seen m f = record
   images = f.images;
 }
 
-pub raised_holds : (n c h g index number : ℕ) (row : List ℕ) (memory : ScanMemory n c h g) (hidden shown : List ℕ)
-    (recent late : Changed) (own : Bool) (i : ℕ) (seen : List ℕ) (m : Member)
-    → IsFitOfSeat n c h g index number row memory hidden shown recent late own i m
-    → IsFitOfSeat n c h g index number row memory hidden shown recent late own index (raised seen m)
-raised_holds n c h g index number row memory hidden shown recent late own i seen m f = (
+pub raised_holds : (n c h g index number : ℕ) (row : List ℕ) (memory : ScanMemory n c h g) (im : BufferImages) (i : ℕ)
+    (seen : List ℕ) (m : Member)
+    → IsFitOfSeat n c h g index number row memory im i m
+    → IsFitOfSeat n c h g index number row memory im index (raised seen m)
+raised_holds n c h g index number row memory im i seen m f = (
   refl,
   f.1,
-  raised_fit n c h g index (length m.work.made) row memory hidden shown recent late own seen m
-      (subst (λ (x : ℕ). IsFit n c h g x (length m.work.made) row memory hidden shown recent late own m) f.0 f.2),
+  raised_fit n c h g index (length m.work.made) row memory im seen m
+      (subst (λ (x : ℕ). IsFit n c h g x (length m.work.made) row memory im m) f.0 f.2),
 )
 
 -- the last one of a list that was mapped
@@ -106,7 +104,8 @@ one_picked i m (x ∷ ms) apart (suc p, e, is) =
 
 -- a worker that scanned or was told has seen its own number
 pub told_own : (n c h g i : ℕ) (m : Member) → m.who ≡ Worker i → IsRuledAlone n c h g m → HasSeenOwn i m
-told_own n c h g i m is ruled = let own = ruled.own 0 i m refl is in own.2 ∙ ap (λ (l : List Made). some (length l)) (sym own.1)
+told_own n c h g i m is ruled = let own = ruled.own 0 i m refl is in own.2
+    ∙ ap (λ (l : List PublishEntry). some (length l)) (sym own.1)
 
 set_own : (l : List ℕ) (i x y : ℕ) → get_elem? l i ≡ some x → get_elem? (set l i y) i ≡ some y
 set_own [] i x y e = absurd (some-ne-none x (sym e))
@@ -186,11 +185,11 @@ module _ {N C H G : ℕ} (w : worker N C H G) (r r' : reader N C H G) (m : Membe
   lent_met ws joins = record {
     away = lent.away;
     there = stands_met w.index m (members_with r) ws (members_with r') joins lent.there;
-    fits = raised_holds N C H G w.index w.number w.row.value w.memory w.images.hidden.items w.images.shown.items w.images.recent
-        w.images.late w.images.own w.index (greatest (members_with r ++ ws)) m lent.fits;
+    fits = raised_holds N C H G w.index w.number w.row.value w.memory w.images w.index
+        (greatest (members_with r ++ ws)) m lent.fits;
   }
 
-  pub lent_scanned : (c : Scan) → members_with r' ≡ with_scan c (members_with r) → IsLentAs m w r'
+  pub lent_scanned : (c : ScanLog) → members_with r' ≡ with_scan c (members_with r) → IsLentAs m w r'
   lent_scanned c same = record {
     away = lent.away;
     there = stands_scanned w.index r.index c m (members_with r) (members_with r') r.is same lent.there;
@@ -211,6 +210,6 @@ module _ {N C H G : ℕ} (w : worker N C H G) (r r' : reader N C H G) (m : Membe
     away = lent.away;
     there = stands_left w.index j (raised (greatest (members_with r ++ ws)) m) (met (members_with r ++ ws))
         (members_with r') other meets (stands_met w.index m (members_with r) ws (met (members_with r ++ ws)) refl lent.there);
-    fits = raised_holds N C H G w.index w.number w.row.value w.memory w.images.hidden.items w.images.shown.items w.images.recent
-        w.images.late w.images.own w.index (greatest (members_with r ++ ws)) m lent.fits;
+    fits = raised_holds N C H G w.index w.number w.row.value w.memory w.images w.index
+        (greatest (members_with r ++ ws)) m lent.fits;
   }

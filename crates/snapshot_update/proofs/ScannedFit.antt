@@ -1,22 +1,22 @@
 -- A worker's data fit its member after a scan of its own.
-use Rattle.std.proofs.Common.{◌≡◌, ℕ, true, false, Bool, List, map, Contains, sym, ◌∙◌, subst, arith}
+use Rattle.std.proofs.Common.{◌≡◌, ℕ, true, false, List, map, Contains, sym, ◌∙◌, subst, arith}
 use Rattle.ledger_core.specs.Ops.{width}
 use Rattle.register_rule.specs.declared.view.Member.{Member}
-use Rattle.register_rule.specs.declared.view.Scan.{Scan}
+use Rattle.register_rule.specs.declared.view.ScanLog.{ScanLog}
 use Rattle.snapshot_scan.specs.declared.scan_memory.ScanMemory.{ScanMemory}
 use Rattle.snapshot_scan.specs.ScanMemories.{rows_of, sums_of, IsReady}
-use Rattle.snapshot_scan.specs.ChangedItems.{Changed}
+use Rattle.snapshot_scan.specs.ChangedItems.{ChangedView}
+use Rattle.snapshot_update.specs.declared.buffer_images.BufferImages.{BufferImages}
 use Rattle.snapshot_update.specs.Fit.{number_in, IsFit}
 use Rattle.snapshot_update.proofs.VersionWords.{words_long, numbers_long}
 use Rattle.snapshot_update.proofs.Fitting.{rows_many}
 
 -- all that is known of the next version is that all its items may differ
-pub scanned_fit : (n c h g index number : ℕ) (row : List ℕ) (memory memory' : ScanMemory n c h g) (hidden shown : List ℕ)
-    (recent late late' : Changed) (own : Bool) (m : Member) (s : Scan)
-    → IsFit n c h g index number row memory hidden shown recent late own m → IsReady s memory' → late'.all ≡ true
-    → late'.items ≡ late.items
-    → IsFit n c h g index number row memory' hidden shown recent late' false (record m { scan = s })
-scanned_fit n c h g index number row memory memory' hidden shown recent late late' own m s fit ready all items = record {
+pub scanned_fit : (n c h g index number : ℕ) (row : List ℕ) (memory memory' : ScanMemory n c h g) (im : BufferImages)
+    (late : ChangedView) (m : Member) (s : ScanLog)
+    → IsFit n c h g index number row memory im m → IsReady s memory' → late.all ≡ true → late.items ≡ im.late.items
+    → IsFit n c h g index number row memory' (record im { late = late; own = false }) (record m { scan = s })
+scanned_fit n c h g index number row memory memory' im late m s fit ready all items = record {
   who = fit.who;
   counts = fit.counts;
   sums = fit.sums;

@@ -8,7 +8,7 @@ use Rattle.std.proofs.lemmas.Nat.Bits.{bit_at-zero}
 use Rattle.std.specs.Int.{bit_at}
 use Rattle.ledger_core.specs.declared.op.Op.{Op}
 use Rattle.ledger_core.specs.Ops.{only, part, sum_ops}
-use Rattle.snapshot_scan.specs.ChangedItems.{Changed, Notes}
+use Rattle.snapshot_scan.specs.ChangedItems.{ChangedView, Notes}
 use Rattle.snapshot_update.specs.Noting.{Touches}
 use Rattle.snapshot_update.specs.declared.run.Run.{Run}
 use Rattle.snapshot_update.specs.Noting.{AreListed, IsRun}
@@ -17,7 +17,7 @@ only_other : (word by k : ℕ) → k ≢ word → only word by k ≡ 0
 only_other word by k ne = ap (λ t. cond t by 0) (ne_eqb k word ne)
 
 -- one word that rises
-pub touches_one : (w word by : ℕ) (old new : Changed) → word < w → Notes word old new → Touches 1 w (only word by) old new
+pub touches_one : (w word by : ℕ) (old new : ChangedView) → word < w → Notes word old new → Touches 1 w (only word by) old new
 touches_one w word by old new lt is = record {
   listed = is.listed;
   keeps = is.keeps;
@@ -28,7 +28,7 @@ touches_one w word by old new lt is = record {
 }
 
 -- first these words, then those
-pub touches_then : (m n w : ℕ) (f g : ℕ → ℕ) (a b c : Changed) → Touches m w f a b → Touches n w g b c
+pub touches_then : (m n w : ℕ) (f g : ℕ → ℕ) (a b c : ChangedView) → Touches m w f a b → Touches n w g b c
     → Touches (m + n) w (λ k. f k + g k) a c
 touches_then m n w f g a b c first second = record {
   listed = λ h. first.listed (second.listed h);
@@ -43,7 +43,7 @@ touches_then m n w f g a b c first second = record {
 }
 
 -- fewer than may be listed
-pub touches_few : (m n w : ℕ) (f : ℕ → ℕ) (a b : Changed) → m ≤ n → Touches m w f a b → Touches n w f a b
+pub touches_few : (m n w : ℕ) (f : ℕ → ℕ) (a b : ChangedView) → m ≤ n → Touches m w f a b → Touches n w f a b
 touches_few m n w f a b le is = record {
   listed = is.listed;
   keeps = is.keeps;
@@ -54,7 +54,8 @@ touches_few m n w f a b le is = record {
 }
 
 -- what rises at the same words
-pub touches_same : (n w : ℕ) (f g : ℕ → ℕ) (a b : Changed) → ((k : ℕ) → f k ≡ 0 → g k ≡ 0) → Touches n w f a b → Touches n w g a b
+pub touches_same : (n w : ℕ) (f g : ℕ → ℕ) (a b : ChangedView) → ((k : ℕ) → f k ≡ 0 → g k ≡ 0) → Touches n w f a b
+    → Touches n w g a b
 touches_same n w f g a b same is = record {
   listed = is.listed;
   keeps = is.keeps;
@@ -65,7 +66,7 @@ touches_same n w f g a b same is = record {
 }
 
 -- nothing is noted: where not all count as changed, the words that rise are listed already
-pub touches_none : (n w : ℕ) (by : ℕ → ℕ) (c : Changed) → (c.all ≡ false → (k : ℕ) → ¬ (Contains c.items k) → by k ≡ 0)
+pub touches_none : (n w : ℕ) (by : ℕ → ℕ) (c : ChangedView) → (c.all ≡ false → (k : ℕ) → ¬ (Contains c.items k) → by k ≡ 0)
     → Touches n w by c c
 touches_none n w by c rises = record {
   listed = λ h. h;
@@ -77,18 +78,18 @@ touches_none n w by c rises = record {
 }
 
 -- one word that rises and is listed already
-pub touches_again : (w word by : ℕ) (c : Changed) → (c.all ≡ false → Contains c.items word) → Touches 1 w (only word by) c c
+pub touches_again : (w word by : ℕ) (c : ChangedView) → (c.all ≡ false → Contains c.items word) → Touches 1 w (only word by) c c
 touches_again w word by c there = touches_none 1 w (only word by) c
     (λ h k other. only_other word by k (λ e. other (subst (Contains c.items) (sym e) (there h))))
 
 -- two words that rise, listed one after the other
-pub touches_two : (w a b x y : ℕ) (old one new : Changed) → a < w → b < w → Notes a old one → Notes b one new
+pub touches_two : (w a b x y : ℕ) (old one new : ChangedView) → a < w → b < w → Notes a old one → Notes b one new
     → Touches 2 w (λ k. only a x k + only b y k) old new
 touches_two w a b x y old one new la lb na nb =
     touches_then 1 1 w (only a x) (only b y) old one new (touches_one w a x old one la na) (touches_one w b y one new lb nb)
 
 -- an observation raises the sum and the count, and then the bucket
-pub touches_three : (w a b c x y z : ℕ) (old mid new : Changed) → Touches 2 w (λ k. only b y k + only c z k) old mid
+pub touches_three : (w a b c x y z : ℕ) (old mid new : ChangedView) → Touches 2 w (λ k. only b y k + only c z k) old mid
     → Touches 1 w (only a x) mid new
     → Touches 3 w (λ k. only a x k + only b y k + only c z k) old new
 touches_three w a b c x y z old mid new first second =
@@ -105,13 +106,13 @@ listed_still first seen old new keeps are = record {
   buckets = λ p set. keeps (first + p) (are.buckets p set);
 }
 
-pub run_still : (c h : ℕ) (run : Run) (old new : Changed) → (new.all ≡ false → old.all ≡ false)
+pub run_still : (c h : ℕ) (run : Run) (old new : ChangedView) → (new.all ≡ false → old.all ≡ false)
     → (new.all ≡ false → (j : ℕ) → Contains old.items j → Contains new.items j) → IsRun c h run old → IsRun c h run new
 run_still c h run old new listed keeps is = λ lt few. listed_still (c + 27 * run.hist) run.seen old.items new.items (keeps few)
     (is lt (listed few))
 
 -- a run begins with no bucket
-pub run_begins : (c h hist : ℕ) (run : Run) (old one new : Changed) → run.hist ≡ hist → run.seen ≡ 0
+pub run_begins : (c h hist : ℕ) (run : Run) (old one new : ChangedView) → run.hist ≡ hist → run.seen ≡ 0
     → Notes (c + 27 * hist + 25) old one → Notes (c + 27 * hist + 26) one new → IsRun c h run new
 run_begins c h hist run old one new here none na nb = λ lt few.
     let at : c + 27 * run.hist ≡ c + 27 * hist = ap (λ (k : ℕ). c + 27 * k) here in record {
@@ -123,7 +124,7 @@ run_begins c h hist run old one new here none na nb = λ lt few.
     }
 
 -- one bucket more
-pub run_more : (c h place : ℕ) (run run' : Run) (old new : Changed) → run'.hist ≡ run.hist
+pub run_more : (c h place : ℕ) (run run' : Run) (old new : ChangedView) → run'.hist ≡ run.hist
     → ((k : ℕ) → k ≢ place → bit_at run'.seen k ≡ bit_at run.seen k) → Notes (c + 27 * run.hist + place) old new
     → IsRun c h run old → IsRun c h run' new
 run_more c h place run run' old new same others notes is = λ lt few.
@@ -138,11 +139,11 @@ run_more c h place run run' old new same others notes is = λ lt few.
     }
 
 -- nothing is listed
-abbrev pub none : Changed
+abbrev pub none : ChangedView
 none = record { all = false; items = [] }
 
 -- one operation more
-pub touches_more : (c h w : ℕ) (now new : Changed) (ops : List Op) (i : ℕ) (d : Op) → i < length ops
+pub touches_more : (c h w : ℕ) (now new : ChangedView) (ops : List Op) (i : ℕ) (d : Op) → i < length ops
     → Touches (3 * i) w (sum_ops c h (take i ops)) none now → Touches 3 w (part c h (get_or ops i d)) now new
     → Touches (3 * (i + 1)) w (sum_ops c h (take (i + 1) ops)) none new
 touches_more c h w now new ops i d lt so_far step =

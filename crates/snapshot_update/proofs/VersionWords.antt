@@ -7,7 +7,7 @@ use native.Mathlib.Decide.{ℕ_discrete, dec_lt}
 use lib.ListN.{get_elem?}
 use Rattle.register_rule.specs.declared.view.Version.{Version}
 use Rattle.snapshot_scan.specs.RememberedRows.{AreNumbers}
-use Rattle.snapshot_scan.specs.ChangedItems.{Changed}
+use Rattle.snapshot_scan.specs.ChangedItems.{ChangedView}
 use Rattle.snapshot_update.specs.BufferImages.{DifferAt, version_words}
 use Rattle.snapshot_update.specs.Fit.{number_in, next_words}
 
@@ -128,7 +128,7 @@ module _ (w n : ℕ) (row row' : List ℕ) (rows : List Version) (sums opened to
           ∙ (ap (λ (l : List ℕ). slice_index l i) (sym same) ∙ sym (total_word w n row' 1 opened totals wide' all i)))
 
   -- and where it differs from the version after it
-  pub late_words : (own : ℕ) (v : Version) (sums' : List ℕ) (late : Changed)
+  pub late_words : (own : ℕ) (v : Version) (sums' : List ℕ) (late : ChangedView)
       → ((k : ℕ) → k < w → slice_index sums' k + slice_index row k ≡ slice_index sums k + slice_index row' k) → length sums' ≡ w
       → (late.all ≡ false → Contains late.items (w + 1 + own))
       → (late.all ≡ false → (k : ℕ) → Contains touched k → Contains late.items (w + 1 + n + k))

@@ -1,8 +1,8 @@
 -- Images of buffers: what a worker knows of both its buffers, and where two of them may differ.
-use Rattle.std.specs.Prelude.{◌≡◌, ℕ, Bool, false, ◌<◌, List, ◌∷◌, ◌++◌, length, slice_index, Contains, true, [], replicate}
+use Rattle.std.specs.Prelude.{◌≡◌, ℕ, false, ◌<◌, List, ◌∷◌, ◌++◌, length, slice_index, Contains, true, [], replicate}
 use Rattle.register_rule.specs.declared.view.Member.{Member}
-use Rattle.snapshot_scan.specs.ChangedItems.{Changed}
-use Rattle.snapshot_update.specs.declared.version.Version.{Version}
+use Rattle.snapshot_scan.specs.ChangedItems.{ChangedView}
+use Rattle.snapshot_update.specs.declared.next_version.NextVersion.{NextVersion}
 use Rattle.snapshot_update.specs.declared.buffer_images.BufferImages.{BufferImages}
 
 -- the words of a version's buffer: its row, its flag, and the view that it lends
@@ -10,7 +10,7 @@ abbrev pub version_words : (row : List ℕ) → (flag : ℕ) → (vector totals 
 version_words row flag vector totals = row ++ flag ∷ (vector ++ totals)
 
 -- two images of a buffer differ at no items but the listed ones, where the list is not full
-abbrev pub DifferAt : Changed → (old new : List ℕ) → Type 0
+abbrev pub DifferAt : ChangedView → (old new : List ℕ) → Type 0
 DifferAt changed old new = changed.all ≡ false → (j : ℕ) → j < length new → ¬ (Contains changed.items j)
     → slice_index old j ≡ slice_index new j
 
@@ -19,7 +19,7 @@ abbrev pub with_hidden : List ℕ → Member → Member
 with_hidden words m = record m { work = record m.work { hidden = words } }
 
 -- the row, the flag, the vector and the totals
-abbrev pub target_of : {C H G : ℕ} → Version C H G → List ℕ
+abbrev pub target_of : {C H G : ℕ} → NextVersion C H G → List ℕ
 target_of v = version_words v.row.now v.flag v.vector.now v.totals.now
 
 -- two buffers of b zeros, and nothing is known of what changed

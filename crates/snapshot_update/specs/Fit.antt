@@ -1,5 +1,5 @@
 -- What a worker's data say of its member.
-use Rattle.std.specs.Prelude.{◌≡◌, ℕ, ◌<◌, Bool, true, List, Contains, length, map, slice_index}
+use Rattle.std.specs.Prelude.{◌≡◌, ℕ, ◌<◌, true, List, Contains, length, map, slice_index}
 use mathlib.Core.Option.{some}
 use lib.ListN.{get_elem?}
 use Rattle.ledger_core.specs.Ops.{width, sum_ops}
@@ -10,11 +10,12 @@ use Rattle.register_rule.specs.declared.view.Who.TheVariants.{Worker}
 use Rattle.register_rule.specs.Sums.{total}
 use Rattle.snapshot_scan.specs.declared.scan_memory.ScanMemory.{ScanMemory}
 use Rattle.snapshot_scan.specs.ScanMemories.{rows_of, sums_of, IsReady}
-use Rattle.snapshot_scan.specs.ChangedItems.{Changed}
+use Rattle.snapshot_scan.specs.ChangedItems.{ChangedView}
+use Rattle.snapshot_update.specs.declared.buffer_images.BufferImages.{BufferImages}
 use Rattle.snapshot_update.specs.BufferImages.{DifferAt, version_words}
 
 -- all items that are listed are items of a buffer of b words
-abbrev pub AreInside : (b : ℕ) → Changed → Type 0
+abbrev pub AreInside : (b : ℕ) → ChangedView → Type 0
 AreInside b changed = (j : ℕ) → Contains changed.items j → j < b
 
 -- the number of a version
@@ -25,37 +26,36 @@ number_in v = v.number
 abbrev pub next_words : (row : List ℕ) → List Version → (sums : List ℕ) → List ℕ
 next_words row rows sums = version_words row 1 (map number_in rows) sums
 
--- the images of both buffers, of b words; where they differ from each other, and where the shown one differs from the version
--- `next`
-pub record AreImages (b : ℕ) (next hidden shown : List ℕ) (recently lately : Changed) : Type 0 where
+-- images of both buffers, of b words; where they differ from each other, and where the shown one differs from the version `next`
+pub record AreImages (b : ℕ) (next : List ℕ) (im : BufferImages) : Type 0 where
   pub next_deep : length next ≡ b
-  pub hidden_deep : length hidden ≡ b
-  pub shown_deep : length shown ≡ b
-  pub recent : DifferAt recently hidden shown
-  pub recent_inside : AreInside b recently
-  pub late : DifferAt lately shown next
-  pub late_inside : AreInside b lately
+  pub hidden_deep : length im.hidden.items ≡ b
+  pub shown_deep : length im.shown.items ≡ b
+  pub recent : DifferAt im.recent im.hidden.items im.shown.items
+  pub recent_inside : AreInside b im.recent
+  pub late : DifferAt im.late im.shown.items next
+  pub late_inside : AreInside b im.late
 
--- the member is the worker of this index, which has published `number` times; this is its row, and these are its buffers. Where
--- `own` is true, the row that is remembered of its own segment is this row
-pub record IsFit (n c h g index number : ℕ) (row : List ℕ) (memory : ScanMemory n c h g) (hidden shown : List ℕ)
-    (recent late : Changed) (own : Bool) (m : Member) : Type 0 where
+-- the member is the worker of this index, which has published `number` times; this is its row, and these are images of its
+-- buffers. Where `own` is true, the row that is remembered of its own segment is this row
+pub record IsFit (n c h g index number : ℕ) (row : List ℕ) (memory : ScanMemory n c h g) (im : BufferImages) (m : Member)
+    : Type 0 where
   pub who : m.who ≡ Worker index
   pub counts : number ≡ length m.work.made
   pub sums : (k : ℕ) → k < width c h g → slice_index row k ≡ total (sum_ops c h) m.work.made k
   pub wide : length row ≡ width c h g
-  pub own_row : own ≡ true → get_elem? (rows_of memory) index ≡ some (record { number = number; row = row })
+  pub own_row : im.own ≡ true → get_elem? (rows_of memory) index ≡ some (record { number = number; row = row })
   pub ready : IsReady m.scan memory
-  pub hidden_is : m.work.hidden ≡ hidden
-  pub shown_is : m.work.shown ≡ shown
-  pub images : AreImages (depth n (width c h g)) (next_words row (rows_of memory) (sums_of memory)) hidden shown recent late
+  pub hidden_is : m.work.hidden ≡ im.hidden.items
+  pub shown_is : m.work.shown ≡ im.shown.items
+  pub images : AreImages (depth n (width c h g)) (next_words row (rows_of memory) (sums_of memory)) im
 
--- the same, of the member of a seat of this index
-abbrev pub IsFitOfSeat : (n c h g index number : ℕ) (row : List ℕ) (memory : ScanMemory n c h g) (hidden shown : List ℕ)
-    (recent late : Changed) (own : Bool) (seat : ℕ) (m : Member) → Type 0
-IsFitOfSeat n c h g index number row memory hidden shown recent late own seat m =
-    (seat ≡ index) × (number ≡ length m.work.made) × IsFit n c h g seat (length m.work.made) row memory hidden shown recent late
-    own m
+-- a worker's data, of this index, fit a member whose seat has the index `seat`: the indexes are one, the worker has published as
+-- often as it counted, and the data fit
+abbrev pub IsFitOfSeat : (n c h g index number : ℕ) (row : List ℕ) (memory : ScanMemory n c h g) (im : BufferImages) (seat : ℕ)
+    (m : Member) → Type 0
+IsFitOfSeat n c h g index number row memory im seat m =
+    (seat ≡ index) × (number ≡ length m.work.made) × IsFit n c h g seat (length m.work.made) row memory im m
 
 -- worker i has seen its own number
 abbrev pub HasSeenOwn : (i : ℕ) → Member → Type 0

@@ -4,24 +4,24 @@ use Rattle.ledger_core.specs.Ops.{width}
 use Rattle.snapshot_scan.specs.declared.scan_end.ScanEnd.{ScanEnd}
 use Rattle.snapshot_scan.specs.declared.scan_end.ScanEnd.TheVariants.{Direct}
 use Rattle.snapshot_scan.specs.declared.scan_memory.ScanMemory.{ScanMemory}
-use Rattle.snapshot_scan.specs.ChangedItems.{Changed}
+use Rattle.snapshot_scan.specs.ChangedItems.{ChangedView}
 use Rattle.snapshot_scan.specs.ScanMemories.{moved_in, answer_of}
 
 -- the scan found all that was remembered, and the worker's own row was: nothing more is late
-pub record IsStill (ended : ScanEnd) (own : Bool) (late late' : Changed) : Type 0 where
+pub record IsStill (ended : ScanEnd) (own : Bool) (late late' : ChangedView) : Type 0 where
   pub quiet : ended ≡ Direct true
   pub remembered : own ≡ true
   pub same : late' ≡ late
 
 -- n numbers from the item `first` on are listed, too, and no more
-pub record NotesRange (first n : ℕ) (old new : Changed) : Type 0 where
+pub record NotesRange (first n : ℕ) (old new : ChangedView) : Type 0 where
   pub listed : new.all ≡ false → old.all ≡ false
   pub keeps : new.all ≡ false → (j : ℕ) → Contains old.items j → Contains new.items j
   pub notes : new.all ≡ false → (i : ℕ) → i < n → Contains new.items (first + i)
   pub others : (j : ℕ) → Contains new.items j → Contains old.items j ⊎ ((i : ℕ) × (i < n) × (j ≡ first + i))
 
 -- in a buffer of rows of w words, all n numbers of the vector are listed, too, and the totals of these words
-pub record ListsMoved (n w : ℕ) (moved old new : Changed) : Type 0 where
+pub record ListsMoved (n w : ℕ) (moved old new : ChangedView) : Type 0 where
   pub listed : new.all ≡ false → old.all ≡ false
   pub few : new.all ≡ false → moved.all ≡ false
   pub keeps : new.all ≡ false → (j : ℕ) → Contains old.items j → Contains new.items j
@@ -30,7 +30,7 @@ pub record ListsMoved (n w : ℕ) (moved old new : Changed) : Type 0 where
   pub inside : (j : ℕ) → Contains new.items j → Contains old.items j ⊎ (j < 2 * w + 1 + n)
 
 -- the scan ended direct, and found the number of its own worker; where it moved the sums is late, too
-pub record IsFollowed (n c h g own number : ℕ) (memory : ScanMemory n c h g) (ended : ScanEnd) (late late' : Changed) : Type 0
+pub record IsFollowed (n c h g own number : ℕ) (memory : ScanMemory n c h g) (ended : ScanEnd) (late late' : ChangedView) : Type 0
   where
     pub direct : (quiet : Bool) × (ended ≡ Direct quiet)
     pub found : slice_index (answer_of memory ended).vector own ≡ number

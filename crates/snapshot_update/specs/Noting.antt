@@ -1,12 +1,12 @@
 -- Noting items at which something changes.
 use Rattle.std.specs.Prelude.{◌≡◌, ℕ, ◌+◌, ◌<◌, ◌≤◌, ◌⊎◌, false, List, length, slice_index, Contains, ◌*◌}
-use Rattle.snapshot_scan.specs.ChangedItems.{Changed}
+use Rattle.snapshot_scan.specs.ChangedItems.{ChangedView}
 use Rattle.std.specs.Int.{bit_at}
 use Rattle.snapshot_update.specs.declared.run.Run.{Run}
 
 -- the words that rise are listed, of a row of w words: all stay all; else the old items are listed, and behind them n more
 -- at most, words of the row, with each word k at which `by k` is not 0
-pub record Touches (n w : ℕ) (by : ℕ → ℕ) (old new : Changed) : Type 0 where
+pub record Touches (n w : ℕ) (by : ℕ → ℕ) (old new : ChangedView) : Type 0 where
   pub listed : new.all ≡ false → old.all ≡ false
   pub keeps : new.all ≡ false → (j : ℕ) → Contains old.items j → Contains new.items j
   pub rises : new.all ≡ false → (k : ℕ) → ¬ (Contains new.items k) → by k ≡ 0
@@ -15,7 +15,7 @@ pub record Touches (n w : ℕ) (by : ℕ → ℕ) (old new : Changed) : Type 0 w
   pub fits : old.all ≡ false → length old.items + n ≤ 256 → new.all ≡ false
 
 -- where two images differ is listed, of their items below n
-pub record SoFar (n : ℕ) (changed : Changed) (old new : List ℕ) : Type 0 where
+pub record SoFar (n : ℕ) (changed : ChangedView) (old new : List ℕ) : Type 0 where
   pub differ : changed.all ≡ false → (j : ℕ) → j < n → ¬ (Contains changed.items j) → slice_index old j ≡ slice_index new j
   pub inside : (j : ℕ) → Contains changed.items j → j < n
   pub listed : (j : ℕ) → Contains changed.items j → ¬ (slice_index old j ≡ slice_index new j)
@@ -29,5 +29,5 @@ pub record AreListed (first seen : ℕ) (items : List ℕ) : Type 0 where
   pub buckets : (p : ℕ) → bit_at seen p ≡ 1 → Contains items (first + p)
 
 -- in a row of c counters and h histograms: where a histogram has been observed, its words are listed so
-abbrev pub IsRun : (c h : ℕ) → Run → Changed → Type 0
+abbrev pub IsRun : (c h : ℕ) → Run → ChangedView → Type 0
 IsRun c h run touched = run.hist < h → touched.all ≡ false → AreListed (c + 27 * run.hist) run.seen touched.items

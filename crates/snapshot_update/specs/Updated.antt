@@ -5,7 +5,7 @@ use Rattle.ledger_core.specs.Ops.{width, sum_ops}
 use Rattle.ledger_core.specs.Row.{Accepts}
 use Rattle.register_rule.specs.declared.view.Answer.{Answer}
 use Rattle.register_rule.specs.declared.view.Member.{Member}
-use Rattle.register_rule.specs.declared.view.Scan.{Scan}
+use Rattle.register_rule.specs.declared.view.ScanLog.{ScanLog}
 use Rattle.register_rule.specs.Members.{published}
 use Rattle.register_rule.specs.Told.{AreRuled}
 use Rattle.snapshot_core.specs.declared.next.Next.TheVariants.{GaveUp}
@@ -17,7 +17,7 @@ use Rattle.snapshot_update.specs.BufferImages.{with_hidden}
 
 -- the scan of an update: where the version lends a view, an answer was recorded, which is then the last one; where it does not,
 -- the scan was given up. n workers, rows of w words
-abbrev pub ScanMeets : (n w : ℕ) (c c' : Scan) (lends : Bool) → Type 0
+abbrev pub ScanMeets : (n w : ℕ) (c c' : ScanLog) (lends : Bool) → Type 0
 ScanMeets n w c c' true = (a : Answer) × IsAnswered n c c' a × AnswersBy n w c c' a
 ScanMeets n w c c' false = (e : Contended) × IsContended n c c' e × CameTo n w c c' (GaveUp e.worker e.first e.last)
 
@@ -28,7 +28,7 @@ IsRuledAlone n c h g m = AreRuled n (width c h g) (sum_ops c h) (Accepts c h g) 
 -- from m to m' worker i scanned, and then published one version, which adds these operations and lends the answer of that
 -- scan, or nothing where it was given up. After the scan the rule said this of the worker: each answer that it recorded is right
 pub record IsUpdated (n c h g i : ℕ) (ops : List Op) (m m' : Member) : Type 0 where
-  pub scan : Scan
+  pub scan : ScanLog
   pub lends : Bool
   pub hidden : List ℕ
   pub meets : ScanMeets n (width c h g) m.scan scan lends

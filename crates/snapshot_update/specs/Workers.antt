@@ -4,14 +4,14 @@ use Rattle.ledger_core.specs.declared.op.Op.{Op}
 use Rattle.ledger_core.specs.Ops.{sum_ops}
 use Rattle.ledger_core.specs.Row.{Accepts}
 use Rattle.ledger_core.specs.OpFault.{IsOpFault}
-use Rattle.register_rule.specs.declared.view.Made.{Made}
+use Rattle.register_rule.specs.declared.view.PublishEntry.{PublishEntry}
 use Rattle.register_rule.specs.declared.view.Member.{Member}
-use Rattle.register_rule.specs.declared.view.Scan.{Scan}
+use Rattle.register_rule.specs.declared.view.ScanLog.{ScanLog}
 use Rattle.register_rule.specs.declared.seats.WorkSeat.{WorkSeat}
 use Rattle.register_rule.specs.declared.board.Board.{Board}
 use Rattle.register_rule.specs.Sums.{total}
 use Rattle.register_rule.specs.Members.{new_worker}
-use Rattle.register_rule.specs.Seats.{worker_of, HasWorker}
+use Rattle.register_rule.specs.Seats.{worker_of, IsWorkSeatOf}
 use Rattle.snapshot_update.specs.declared.worker.Worker.{Worker}
 use Rattle.snapshot_update.specs.declared.faults.ApplyFault.{ApplyFault}
 use Rattle.snapshot_update.specs.declared.faults.ApplyFault.TheVariants.{Exhausted, Refused}
@@ -29,7 +29,7 @@ member_in None = new_worker 0 0 0 0
 member_in (Some s) = worker_of s
 
 -- the operations that a publish added
-abbrev pub ops_in : Made → List Op
+abbrev pub ops_in : PublishEntry → List Op
 ops_in x = x.ops
 
 module _ {N C H G : ℕ} where
@@ -46,12 +46,12 @@ module _ {N C H G : ℕ} where
   lists_of w = map ops_in (member_of w).work.made
 
   -- what it has learned by its scans
-  abbrev pub scan_by : Worker N C H G → Scan
+  abbrev pub scan_by : Worker N C H G → ScanLog
   scan_by w = (member_of w).scan
 
   -- it is of this board's parts, and not lent
   abbrev pub IsWorkerOf : Board N C H G → Worker N C H G → Type 0
-  IsWorkerOf b w = IsSomeAnd w.seat (HasWorker b)
+  IsWorkerOf b w = IsSomeAnd w.seat (IsWorkSeatOf b)
 
   -- one version was published, which adds this one operation, by a handle of the registry `id`; the row accepts it, and the
   -- worker's number was not the greatest that there is
@@ -63,7 +63,7 @@ module _ {N C H G : ℕ} where
     pub room : length (member_of w).work.made < 18446744073709551615
 
 -- the member after it has scanned
-abbrev pub after_scan : Scan → Member → Member
+abbrev pub after_scan : ScanLog → Member → Member
 after_scan c m = record m { scan = c }
 
 -- why a worker refuses a list: its number is the greatest that there is, or else its row does not accept the list. A row of
@@ -83,8 +83,7 @@ module _ {N C H G : ℕ} where
   pub record IsLentAs (m : Member) (w : Worker N C H G) (r : Reader N C H G) : Type 0 where
     pub away : w.seat ≡ None
     pub there : IsWorkerAmong w.index m (members_with r)
-    pub fits : IsFitOfSeat N C H G w.index w.number w.row.value w.memory w.images.hidden.items w.images.shown.items
-        w.images.recent w.images.late w.images.own w.index m
+    pub fits : IsFitOfSeat N C H G w.index w.number w.row.value w.memory w.images w.index m
 
   -- the worker is lent to this reader
   abbrev pub IsLent : Worker N C H G → Reader N C H G → Type 0

@@ -5,7 +5,7 @@ ghost use Rattle.ledger_core.specs.Ops.{width};
 ghost use Rattle.segment_layout.specs.Layout.{depth, IsGeometry};
 ghost use Rattle.register_rule.specs.Faults.{IsBoardSize, IsBoardFault};
 ghost use Rattle.register_rule.specs.Members.{new_worker, workers_from, readers_from, fresh_scan};
-ghost use Rattle.register_rule.specs.Seats.{board_id, worker_of, reader_of, HasWorker, HasReader};
+ghost use Rattle.register_rule.specs.Seats.{board_id, worker_of, reader_of, IsWorkSeatOf, IsReadSeatOf};
 ghost use Rattle.snapshot_scan.specs.Order.{IsAlone};
 ghost use Rattle.snapshot_scan.specs.Readers.{IsReaderOf};
 ghost use Rattle.snapshot_update.specs.Workers.{index_of, lists_of, IsWorkerOf};
@@ -35,7 +35,7 @@ fn to_worker<const N: usize, const C: usize, const H: usize, const G: usize>(
     index: usize,
 ) -> Result<Worker<N, C, H, G>, AllocError>
     requires geometry { IsGeometry N C H G }
-    requires own { HasWorker board.now seat }
+    requires own { IsWorkSeatOf board.now seat }
     requires fresh { worker_of seat ≡ new_worker N (width C H G) (depth N (width C H G)) index }
     ensures own { IfOk result (IsWorkerOf board.now) }
     ensures index { IfOk result (λ w. index_of w ≡ index) }
@@ -54,7 +54,7 @@ fn to_workers<const N: usize, const C: usize, const H: usize, const G: usize>(
     seats: Vec<WorkSeat>,
 ) -> Result<Vec<Worker<N, C, H, G>>, AllocError>
     requires geometry { IsGeometry N C H G }
-    requires own { All (HasWorker board.now) seats.items }
+    requires own { All (IsWorkSeatOf board.now) seats.items }
     requires fresh { map worker_of seats.items ≡ workers_from N (width C H G) (depth N (width C H G)) 0 N }
     ensures own { IfOk result (λ v. All (IsWorkerOf board.now) v.items) }
     ensures all { IfOk result (λ v. map index_of v.items ≡ range_with_len 0 N) }
@@ -76,7 +76,7 @@ fn to_reader<const N: usize, const C: usize, const H: usize, const G: usize>(
     seat: ReadSeat,
 ) -> Result<Reader<N, C, H, G>, AllocError>
     requires geometry { IsGeometry N C H G }
-    requires own { HasReader board.now seat }
+    requires own { IsReadSeatOf board.now seat }
     requires fresh { (reader_of seat).scan ≡ fresh_scan N (width C H G) }
     ensures own { IfOk result (IsReaderOf board.now) }
     ensures alone { IfOk result IsAlone }
@@ -95,7 +95,7 @@ fn to_readers<const N: usize, const C: usize, const H: usize, const G: usize>(
     all: usize,
 ) -> Result<Vec<Reader<N, C, H, G>>, AllocError>
     requires geometry { IsGeometry N C H G }
-    requires own { All (HasReader board.now) seats.items }
+    requires own { All (IsReadSeatOf board.now) seats.items }
     requires fresh { map reader_of seats.items ≡ readers_from N (width C H G) 0 all }
     ensures own { IfOk result (λ v. All (IsReaderOf board.now) v.items) }
     ensures alone { IfOk result (λ v. All IsAlone v.items) }

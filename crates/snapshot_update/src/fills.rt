@@ -3,12 +3,12 @@ ghost use Rattle.std.specs.Prelude.{◌≡◌, ◌<◌, ◌≤◌, ℕ, false, l
 ghost use Rattle.bucket_math.specs.Words.{greatest_word};
 ghost use Rattle.ledger_core.specs.Ops.{width};
 ghost use Rattle.segment_layout.specs.Layout.{depth};
-ghost use Rattle.register_rule.specs.Seats.{worker_of, index_of, HasWorker};
-ghost use Rattle.snapshot_update.specs.BufferImages.{DifferAt, with_hidden};
+ghost use Rattle.register_rule.specs.Seats.{worker_of, index_of, IsWorkSeatOf};
+ghost use Rattle.snapshot_update.specs.BufferImages.{DifferAt, with_hidden, target_of};
+ghost use Rattle.snapshot_update.specs.Fit.{AreInside};
 ghost use Rattle.snapshot_update.specs.Noting.{SoFar};
-ghost use Rattle.snapshot_update.specs.BufferImages.{target_of};
 
-use crate::version::Version;
+use crate::next_version::NextVersion;
 use register_rule::{Board, WorkSeat};
 use snapshot_scan::ChangedItems;
 
@@ -21,11 +21,11 @@ pub(crate) fn fill_item<const N: usize, const C: usize, const H: usize, const G:
     item: usize,
     word: u64,
 )
-    requires own { HasWorker board.now seat.old }
+    requires own { IsWorkSeatOf board.now seat.old }
     requires exact { (worker_of seat.old).work.hidden ≡ hidden.old }
     requires inside { (item < length hidden.old) × (length hidden.old ≡ depth N (width C H G)) }
     requires bounded { item < width C H G → word ≤ greatest_word }
-    ensures own { HasWorker board.now seat.new }
+    ensures own { IsWorkSeatOf board.now seat.new }
     ensures index { index_of seat.new ≡ index_of seat.old }
     ensures hidden { hidden.new ≡ slice_set hidden.old item word }
     ensures member { worker_of seat.new ≡ with_hidden hidden.new (worker_of seat.old) }
@@ -43,14 +43,14 @@ pub(crate) fn fill_changes<const N: usize, const C: usize, const H: usize, const
     seat: &mut WorkSeat,
     hidden: &mut [u64],
     changes: &ChangedItems,
-    version: &Version<C, H, G>,
+    version: &NextVersion<C, H, G>,
 )
-    requires own { HasWorker board.now seat.old }
+    requires own { IsWorkSeatOf board.now seat.old }
     requires exact { (worker_of seat.old).work.hidden ≡ hidden.old }
     requires lengths { (length hidden.old ≡ depth N (width C H G)) × (length (target_of version.now) ≡ depth N (width C H G)) }
     requires listed { changes.now.all ≡ false }
-    requires inside { (j : ℕ) → Contains changes.now.items j → j < depth N (width C H G) }
-    ensures own { HasWorker board.now seat.new }
+    requires inside { AreInside (depth N (width C H G)) changes.now }
+    ensures own { IsWorkSeatOf board.now seat.new }
     ensures index { index_of seat.new ≡ index_of seat.old }
     ensures member { worker_of seat.new ≡ with_hidden hidden.new (worker_of seat.old) }
     ensures filled { (j : ℕ) → Contains changes.now.items j → slice_index hidden.new j ≡ slice_index (target_of version.now) j }
@@ -63,8 +63,8 @@ pub(crate) fn fill_changes<const N: usize, const C: usize, const H: usize, const
     }
 }
 
-/// Fills the hidden buffer with the version, where it differs from it at no items but those of three lists: those at which
-/// the two buffers differ, by the last publish and by a late one, and those that this update touches.
+/// Fills the hidden buffer with the version, where it differs from it at no items but those of three lists: those at which the two
+/// buffers differ, those at which the shown one differs from the next version, and those that this update touches.
 #[inline(always)]
 pub(crate) fn fill_known<const N: usize, const C: usize, const H: usize, const G: usize>(
     board: &Board<N, C, H, G>,
@@ -73,18 +73,18 @@ pub(crate) fn fill_known<const N: usize, const C: usize, const H: usize, const G
     recent: &ChangedItems,
     late: &ChangedItems,
     touched: &ChangedItems,
-    version: &Version<C, H, G>,
+    version: &NextVersion<C, H, G>,
 )
-    requires own { HasWorker board.now seat.old }
+    requires own { IsWorkSeatOf board.now seat.old }
     requires exact { (worker_of seat.old).work.hidden ≡ hidden.old }
     requires lengths { (length hidden.old ≡ depth N (width C H G)) × (length (target_of version.now) ≡ depth N (width C H G)) }
     requires listed { (recent.now.all ≡ false) × (late.now.all ≡ false) × (touched.now.all ≡ false) }
-    requires recent { (j : ℕ) → Contains recent.now.items j → j < depth N (width C H G) }
-    requires late { (j : ℕ) → Contains late.now.items j → j < depth N (width C H G) }
-    requires touched { (j : ℕ) → Contains touched.now.items j → j < depth N (width C H G) }
+    requires recent { AreInside (depth N (width C H G)) recent.now }
+    requires late { AreInside (depth N (width C H G)) late.now }
+    requires touched { AreInside (depth N (width C H G)) touched.now }
     requires known { (j : ℕ) → j < depth N (width C H G) → ¬ (Contains recent.now.items j) → ¬ (Contains late.now.items j)
         → ¬ (Contains touched.now.items j) → slice_index hidden.old j ≡ slice_index (target_of version.now) j }
-    ensures own { HasWorker board.now seat.new }
+    ensures own { IsWorkSeatOf board.now seat.new }
     ensures index { index_of seat.new ≡ index_of seat.old }
     ensures member { worker_of seat.new ≡ with_hidden hidden.new (worker_of seat.old) }
     ensures hidden { hidden.new ≡ target_of version.now }
@@ -103,18 +103,18 @@ fn fill_some<const N: usize, const C: usize, const H: usize, const G: usize>(
     hidden: &mut [u64],
     shown: &[u64],
     recent: &mut ChangedItems,
-    version: &Version<C, H, G>,
+    version: &NextVersion<C, H, G>,
     from: usize,
     to: usize,
 )
-    requires own { HasWorker board.now seat.old }
+    requires own { IsWorkSeatOf board.now seat.old }
     requires exact { (worker_of seat.old).work.hidden ≡ hidden.old }
     requires lengths { (length hidden.old ≡ depth N (width C H G)) × (length shown.now ≡ depth N (width C H G))
         × (length (target_of version.now) ≡ depth N (width C H G)) }
     requires inside { (from ≤ to) × (to ≤ depth N (width C H G)) }
     requires filled { (j : ℕ) → j < from → slice_index hidden.old j ≡ slice_index (target_of version.now) j }
     requires noted { SoFar from recent.old shown.now (target_of version.now) }
-    ensures own { HasWorker board.now seat.new }
+    ensures own { IsWorkSeatOf board.now seat.new }
     ensures index { index_of seat.new ≡ index_of seat.old }
     ensures member { worker_of seat.new ≡ with_hidden hidden.new (worker_of seat.old) }
     ensures filled { (j : ℕ) → j < to → slice_index hidden.new j ≡ slice_index (target_of version.now) j }
@@ -137,18 +137,18 @@ pub(crate) fn fill_all<const N: usize, const C: usize, const H: usize, const G: 
     hidden: &mut [u64],
     shown: &[u64],
     recent: &mut ChangedItems,
-    version: &Version<C, H, G>,
+    version: &NextVersion<C, H, G>,
 )
-    requires own { HasWorker board.now seat.old }
+    requires own { IsWorkSeatOf board.now seat.old }
     requires exact { (worker_of seat.old).work.hidden ≡ hidden.old }
     requires lengths { (length hidden.old ≡ depth N (width C H G)) × (length shown.now ≡ depth N (width C H G))
         × (length (target_of version.now) ≡ depth N (width C H G)) }
-    ensures own { HasWorker board.now seat.new }
+    ensures own { IsWorkSeatOf board.now seat.new }
     ensures index { index_of seat.new ≡ index_of seat.old }
     ensures member { worker_of seat.new ≡ with_hidden hidden.new (worker_of seat.old) }
     ensures hidden { hidden.new ≡ target_of version.now }
     ensures differ { DifferAt recent.new shown.now (target_of version.now) }
-    ensures inside { (j : ℕ) → Contains recent.new.items j → j < depth N (width C H G) }
+    ensures inside { AreInside (depth N (width C H G)) recent.new }
     ensures listed { (j : ℕ) → Contains recent.new.items j → ¬ (slice_index shown.now j ≡ slice_index (target_of version.now) j) }
     ensures few { depth N (width C H G) ≤ 256 → recent.new.all ≡ false }
 {

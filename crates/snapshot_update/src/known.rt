@@ -3,7 +3,6 @@ ghost use Rattle.std.specs.Prelude.{◌≡◌, ◌⊎◌, ◌+◌, ◌<◌, true
 ghost use Rattle.ledger_core.specs.Ops.{width};
 ghost use Rattle.segment_layout.specs.Layout.{IsGeometry};
 ghost use Rattle.register_rule.specs.Seats.{worker_of, index_of};
-ghost use Rattle.snapshot_scan.specs.declared.scan_end.ScanEnd.TheVariants as ScanEnd;
 ghost use Rattle.snapshot_scan.specs.ScanMemories.{moved_in};
 ghost use Rattle.snapshot_update.specs.Fit.{AreInside};
 ghost use Rattle.snapshot_update.specs.Known.{IsStill, ListsMoved, IsFollowed};

@@ -4,22 +4,18 @@
 //! that may have changed.
 #![tactic(auto)]
 
-mod applying;
 mod buffer_images;
-mod counting;
 mod crew;
 mod faults;
 mod fills;
 mod known;
 mod listing;
-mod meeting;
 mod next_fill;
+mod next_version;
 mod run;
 mod scanning;
 mod touched;
 mod update;
-mod version;
-mod words;
 mod worker;
 
 pub use crew::Crew;

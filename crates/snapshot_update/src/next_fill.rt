@@ -1,15 +1,15 @@
 //! Filling the hidden buffer with the next version, and listing what changed by it.
-ghost use Rattle.std.specs.Prelude.{◌≡◌, ℕ, ◌<◌, ◌≤◌, true, false, length, slice_index, Contains};
+ghost use Rattle.std.specs.Prelude.{◌≡◌, ◌<◌};
 ghost use Rattle.ledger_core.specs.Ops.{width};
 ghost use Rattle.segment_layout.specs.Layout.{depth};
-ghost use Rattle.register_rule.specs.Seats.{worker_of, index_of, HasWorker};
-ghost use Rattle.snapshot_update.specs.BufferImages.{DifferAt, with_hidden};
-ghost use Rattle.snapshot_update.specs.BufferImages.{target_of};
+ghost use Rattle.register_rule.specs.Seats.{worker_of, index_of, IsWorkSeatOf};
+ghost use Rattle.snapshot_update.specs.BufferImages.{DifferAt, with_hidden, target_of};
 ghost use Rattle.snapshot_update.specs.Fit.{AreInside};
+ghost use Rattle.snapshot_update.specs.Conditions.{MayFill};
 
 use crate::fills::{fill_all, fill_changes, fill_known};
 use crate::listing::{are_both, note_each};
-use crate::version::Version;
+use crate::next_version::NextVersion;
 use register_rule::{Board, WorkSeat};
 use snapshot_scan::ChangedItems;
 
@@ -24,21 +24,11 @@ pub(crate) fn fill_next<const N: usize, const C: usize, const H: usize, const G:
     recent: &mut ChangedItems,
     late: &ChangedItems,
     touched: &ChangedItems,
-    version: &Version<C, H, G>,
+    version: &NextVersion<C, H, G>,
     known: bool,
 )
-    requires own { HasWorker board.now seat.old }
-    requires exact { (worker_of seat.old).work.hidden ≡ hidden.old }
-    requires lengths { (length hidden.old ≡ depth N (width C H G)) × (length shown.now ≡ depth N (width C H G))
-        × (length (target_of version.now) ≡ depth N (width C H G)) }
-    requires few { depth N (width C H G) ≤ 2529 }
-    requires inside { AreInside (depth N (width C H G)) recent.old × AreInside (depth N (width C H G)) late.now
-        × AreInside (depth N (width C H G)) touched.now }
-    requires listed { known ≡ true → (recent.old.all ≡ false) × (late.now.all ≡ false) × (touched.now.all ≡ false) }
-    requires recent { DifferAt recent.old hidden.old shown.now }
-    requires known { known ≡ true → (j : ℕ) → j < depth N (width C H G) → ¬ (Contains late.now.items j)
-        → ¬ (Contains touched.now.items j) → slice_index shown.now j ≡ slice_index (target_of version.now) j }
-    ensures own { HasWorker board.now seat.new }
+    requires { MayFill board.now seat.old hidden.old shown.now recent.old late.now touched.now version.now known }
+    ensures own { IsWorkSeatOf board.now seat.new }
     ensures index { index_of seat.new ≡ index_of seat.old }
     ensures member { worker_of seat.new ≡ with_hidden hidden.new (worker_of seat.old) }
     ensures hidden { hidden.new ≡ target_of version.now }

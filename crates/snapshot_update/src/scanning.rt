@@ -2,7 +2,7 @@
 ghost use Rattle.std.specs.Prelude.{◌≡◌, ◌↔◌, ℕ, ◌<◌, Bool, Contains, true, false, IsTrue, slice_index, IfErr, OnOk, OnErr};
 ghost use Rattle.ledger_core.specs.Ops.{width};
 ghost use Rattle.ledger_core.specs.Legal.{IsLegal};
-ghost use Rattle.register_rule.specs.Seats.{worker_of, index_of, HasWorker};
+ghost use Rattle.register_rule.specs.Seats.{worker_of, index_of, IsWorkSeatOf};
 ghost use Rattle.snapshot_scan.specs.declared.scan_end.ScanEnd.TheVariants as ScanEnd;
 ghost use Rattle.snapshot_scan.specs.Scanned.{IsAnswered};
 ghost use Rattle.snapshot_core.specs.declared.next.Next.TheVariants as Next;
@@ -49,9 +49,9 @@ pub(crate) fn scan_own<const N: usize, const C: usize, const H: usize, const G: 
     seat: &mut WorkSeat,
     memory: &mut ScanMemory<N, C, H, G>,
 ) -> ScanEnd
-    requires own { HasWorker board.now seat.old }
+    requires own { IsWorkSeatOf board.now seat.old }
     requires ready { IsReady (worker_of seat.old).scan memory.old }
-    ensures own { HasWorker board.now seat.new }
+    ensures own { IsWorkSeatOf board.now seat.new }
     ensures index { index_of seat.new ≡ index_of seat.old }
     ensures ruled { IsRuledAlone N C H G (worker_of seat.new) }
     ensures others { worker_of seat.new ≡ record (worker_of seat.old) { scan = (worker_of seat.new).scan } }
@@ -79,9 +79,9 @@ pub(crate) fn scan_to<const N: usize, const C: usize, const H: usize, const G: u
     memory: &mut ScanMemory<N, C, H, G>,
     out: &mut Snapshot<N, C, H, G>,
 ) -> Result<(), Contended>
-    requires own { HasWorker board.now seat.old }
+    requires own { IsWorkSeatOf board.now seat.old }
     requires ready { IsReady (worker_of seat.old).scan memory.old }
-    ensures own { HasWorker board.now seat.new }
+    ensures own { IsWorkSeatOf board.now seat.new }
     ensures index { index_of seat.new ≡ index_of seat.old }
     ensures ruled { IsRuledAlone N C H G (worker_of seat.new) }
     ensures others { worker_of seat.new ≡ record (worker_of seat.old) { scan = (worker_of seat.new).scan } }

@@ -2,8 +2,8 @@
 ghost use Rattle.std.specs.Prelude.{◌≡◌, ◌+◌, ◌*◌, ◌<◌, ◌≤◌, ℕ, false, length, All, Contains};
 ghost use Rattle.ledger_core.specs.Ops.{width, only, part, sum_ops, IsWithin};
 ghost use Rattle.ledger_core.specs.Limits.{AreSlots};
-ghost use Rattle.snapshot_update.specs.Noting.{Touches};
-ghost use Rattle.snapshot_update.specs.Noting.{IsRun};
+ghost use Rattle.snapshot_update.specs.Fit.{AreInside};
+ghost use Rattle.snapshot_update.specs.Noting.{Touches, IsRun};
 
 use crate::run::Run;
 use ledger_core::Op;
@@ -28,7 +28,7 @@ pub(crate) fn touch<const C: usize, const H: usize, const G: usize>(
     requires within { All (IsWithin C H G) ops.now }
     requires slots { AreSlots C H G }
     ensures rises { touched.new.all ≡ false → (k : ℕ) → ¬ (Contains touched.new.items k) → sum_ops C H ops.now k ≡ 0 }
-    ensures inside { (j : ℕ) → Contains touched.new.items j → j < width C H G }
+    ensures inside { AreInside (width C H G) touched.new }
     ensures few { length ops.now ≤ 85 → touched.new.all ≡ false }
 {
     touched.clear();

@@ -1,6 +1,6 @@
 //! An update: a scan, the fills, and the store of the number.
-ghost use Rattle.std.specs.Prelude.{◌≡◌, ℕ, ◌+◌, ◌<◌, List, Bool, true, false, cond, length, slice_index, slice_set};
-ghost use Rattle.std.specs.Prelude.{Contains, OnOk, OnErr, IfErr};
+ghost use Rattle.std.specs.Prelude.{◌≡◌, ℕ, ◌+◌, ◌<◌, true, false, cond, length, slice_index, slice_set, Contains, OnOk, OnErr};
+ghost use Rattle.std.specs.Prelude.{IfErr};
 ghost use Rattle.ledger_core.specs.Ops.{width, sum_ops};
 ghost use Rattle.ledger_core.specs.Row.{Accepts};
 ghost use Rattle.ledger_core.specs.OpFault.{IsOpFault};
@@ -9,20 +9,21 @@ ghost use mathlib.Core.Option.{some};
 ghost use lib.ListN.{get_elem?};
 ghost use Rattle.register_rule.specs.declared.view.Version.{Version as version};
 ghost use Rattle.register_rule.specs.Sums.{total};
-ghost use Rattle.register_rule.specs.Seats.{worker_of, index_of, HasWorker};
+ghost use Rattle.register_rule.specs.Seats.{worker_of, index_of, IsWorkSeatOf};
 ghost use Rattle.snapshot_scan.specs.declared.scan_end.ScanEnd.TheVariants as ScanEnd;
 ghost use Rattle.snapshot_scan.specs.ScanMemories.{rows_of, sums_of, answer_of, HasView};
 ghost use Rattle.snapshot_update.specs.BufferImages.{DifferAt, version_words, with_hidden};
-ghost use Rattle.snapshot_update.specs.Fit.{AreInside, AreImages, IsFit};
+ghost use Rattle.snapshot_update.specs.Fit.{AreInside, IsFit};
+ghost use Rattle.snapshot_update.specs.Conditions.{MayMakeVersion, MayLearn};
 ghost use Rattle.snapshot_update.specs.Updated.{IsUpdated};
 
 use crate::buffer_images::BufferImages;
 use crate::known::know_next;
 use crate::listing::list_late;
 use crate::next_fill::fill_next;
+use crate::next_version::NextVersion;
 use crate::scanning::{has_view, scan_own};
 use crate::touched::touch;
-use crate::version::Version;
 use ledger_core::{Op, OpFault, Row};
 use register_rule::{Board, WorkSeat};
 use segment_layout::{Item, item_at};
@@ -50,17 +51,8 @@ fn fill_version<const N: usize, const C: usize, const H: usize, const G: usize>(
     ended: ScanEnd,
     known: bool,
 ) -> bool
-    requires own { HasWorker board.now seat.old }
-    requires geometry { IsGeometry N C H G }
-    requires exact { (worker_of seat.old).work.hidden ≡ images.old.hidden.items }
-    requires touched { AreInside (width C H G) images.old.touched }
-    requires images { (next : List ℕ) × AreImages (depth N (width C H G)) next images.old.hidden.items images.old.shown.items
-        images.old.recent images.old.late
-        × (known ≡ true → (images.old.touched.all ≡ false) × ((quiet : Bool) × (ended ≡ ScanEnd.Direct quiet))
-        × ((j : ℕ) → j < depth N (width C H G) → ¬ (Contains images.old.touched.items j)
-        → slice_index next j ≡ slice_index
-        (version_words row.now 1 (answer_of memory.now ended).vector (answer_of memory.now ended).totals) j)) }
-    ensures own { HasWorker board.now seat.new }
+    requires { MayMakeVersion board.now seat.old row.now memory.now images.old ended known }
+    ensures own { IsWorkSeatOf board.now seat.new }
     ensures index { index_of seat.new ≡ index_of seat.old }
     ensures member { worker_of seat.new ≡ with_hidden images.new.hidden.items (worker_of seat.old) }
     ensures hidden { images.new.hidden.items ≡ version_words row.now (cond result 1 0) (answer_of memory.now ended).vector
@@ -74,7 +66,7 @@ fn fill_version<const N: usize, const C: usize, const H: usize, const G: usize>(
 {
     let (vector, totals) = memory.answer(ended);
     let lends = has_view(ended);
-    let version = Version::new(row, flag_word(lends), vector, totals);
+    let version = NextVersion::new(row, flag_word(lends), vector, totals);
     let listed = known & !images.recent.is_all() & !images.late.is_all();
     fill_next(
         board,
@@ -125,11 +117,7 @@ fn learn<const N: usize, const C: usize, const H: usize, const G: usize>(
     images: &BufferImages,
     known: bool,
 )
-    requires geometry { IsGeometry N C H G }
-    requires inside { own < N }
-    requires touched { AreInside (width C H G) images.now.touched }
-    requires known { known ≡ true → (v : version) → get_elem? (rows_of memory.old) own ≡ some v → (k : ℕ) → k < width C H G
-        → ¬ (Contains images.now.touched.items k) → slice_index v.row k ≡ slice_index row.now k }
+    requires { MayLearn memory.old own row.now images.now known }
     ensures rows { rows_of memory.new ≡ slice_set (rows_of memory.old) own (record { number = number; row = row.now }) }
     ensures sums { (v : version) → get_elem? (rows_of memory.old) own ≡ some v → (k : ℕ) → k < width C H G
         → slice_index (sums_of memory.new) k + slice_index v.row k ≡ slice_index (sums_of memory.old) k + slice_index row.now k }
@@ -152,15 +140,15 @@ pub(crate) fn update<const N: usize, const C: usize, const H: usize, const G: us
     images: &mut BufferImages,
     ops: &[Op],
 ) -> Result<(), OpFault>
-    requires own { HasWorker board.now seat.old }
+    requires own { IsWorkSeatOf board.now seat.old }
     requires geometry { IsGeometry N C H G }
     requires room { length (worker_of seat.old).work.made + 1 < 18446744073709551616 }
     requires fit { IsFit N C H G (index_of seat.old) (length (worker_of seat.old).work.made) row.old memory.old
-        images.old.hidden.items images.old.shown.items images.old.recent images.old.late images.old.own (worker_of seat.old) }
-    ensures own { HasWorker board.now seat.new }
+        images.old (worker_of seat.old) }
+    ensures own { IsWorkSeatOf board.now seat.new }
     ensures index { index_of seat.new ≡ index_of seat.old }
     ensures fit { IsFit N C H G (index_of seat.new) (length (worker_of seat.new).work.made) row.new memory.new
-        images.new.hidden.items images.new.shown.items images.new.recent images.new.late images.new.own (worker_of seat.new) }
+        images.new (worker_of seat.new) }
     ensures updated { OnOk result (IsUpdated N C H G (index_of seat.old) ops.now (worker_of seat.old) (worker_of seat.new)) }
     ensures accepted { OnOk result (Accepts C H G (total (sum_ops C H) (worker_of seat.old).work.made) ops.now) }
     ensures own_row { OnOk result (images.new.own ≡ true) }

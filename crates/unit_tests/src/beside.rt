@@ -1,11 +1,11 @@
 //! The seat of a reader or of a worker, and another worker that publishes between its loads.
 ghost use Rattle.std.specs.Prelude.{◌≡◌, IfOk};
 ghost use Rattle.segment_layout.specs.Layout.{depth};
-ghost use Rattle.register_rule.specs.Steps.{after};
+ghost use Rattle.register_rule.specs.ScanSteps.{after};
 ghost use Rattle.register_rule.specs.Told.{IsLoad, LoadTells};
 ghost use Rattle.register_rule.specs.Told.{ScanChangesBy};
 ghost use Rattle.register_rule.specs.Members.{fresh_scan};
-ghost use Rattle.register_rule.specs.Seats.{members_of, reader_of, worker_of, MayScan, HasReader, HasWorker};
+ghost use Rattle.register_rule.specs.Seats.{members_of, reader_of, worker_of, MayScan, IsReadSeatOf, IsWorkSeatOf};
 ghost use Rattle.snapshot_scan.specs.Shape.{scan_in};
 ghost use Rattle.snapshot_update.specs.Workers.{IsWorkerOf};
 ghost use Rattle.unit_tests.specs.Beside.{IsWorkerOf-prop};
@@ -21,7 +21,7 @@ use std::test::Fail;
 
 /// A board of two workers, whose rows are one counter, the second worker, and the seat of the first one.
 fn with_first(alloc: Global) -> Result<(Board<2, 1, 0, 0>, Worker<2, 1, 0, 0>, WorkSeat), Fail>
-    ensures own { IfOk result (λ r. IsWorkerOf r.0 r.1 × HasWorker r.0 r.2) }
+    ensures own { IfOk result (λ r. IsWorkerOf r.0 r.1 × IsWorkSeatOf r.0 r.2) }
     ensures fresh { IfOk result (λ r. (worker_of r.2).scan ≡ fresh_scan 2 1) }
 {
     let Parts {
@@ -40,7 +40,7 @@ fn with_first(alloc: Global) -> Result<(Board<2, 1, 0, 0>, Worker<2, 1, 0, 0>, W
 
 /// Such a board, the second worker, and the seat of a reader.
 fn with_reader(alloc: Global) -> Result<(Board<2, 1, 0, 0>, Worker<2, 1, 0, 0>, ReadSeat), Fail>
-    ensures own { IfOk result (λ r. IsWorkerOf r.0 r.1 × HasReader r.0 r.2) }
+    ensures own { IfOk result (λ r. IsWorkerOf r.0 r.1 × IsReadSeatOf r.0 r.2) }
     ensures fresh { IfOk result (λ r. (reader_of r.2).scan ≡ fresh_scan 2 1) }
 {
     let Parts {
@@ -157,7 +157,7 @@ fn a_running_worker_lends(rt: HostRuntime) {
 }
 
 /// A scan of this seat is given up: a number rises in each of four tries, and while the worker is asked. The output stays as it was.
-fn gives_up<S: ScanSeat<2, 1, 0, 0> + Drop>(
+fn given_up_if_spent<S: ScanSeat<2, 1, 0, 0> + Drop>(
     rt: &impl Abort,
     alloc: Global,
     board: &Board<2, 1, 0, 0>,
@@ -189,11 +189,11 @@ fn gives_up<S: ScanSeat<2, 1, 0, 0> + Drop>(
 #[test]
 fn a_running_scan_gives_up(rt: HostRuntime) {
     let (board, worker, seat) = done(&rt, with_reader(rt.alloc()));
-    gives_up(&rt, rt.alloc(), &board, worker, seat);
+    given_up_if_spent(&rt, rt.alloc(), &board, worker, seat);
 }
 
 #[test]
 fn a_worker_gives_up_its_scan(rt: HostRuntime) {
     let (board, worker, seat) = done(&rt, with_first(rt.alloc()));
-    gives_up(&rt, rt.alloc(), &board, worker, seat);
+    given_up_if_spent(&rt, rt.alloc(), &board, worker, seat);
 }

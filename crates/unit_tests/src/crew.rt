@@ -3,7 +3,7 @@ ghost use Rattle.std.specs.Prelude.{◌≡◌, ◌<◌, IfOk, All};
 ghost use Rattle.ledger_core.specs.Ops.{width};
 ghost use Rattle.segment_layout.specs.Layout.{depth, IsGeometry};
 ghost use Rattle.register_rule.specs.Members.{new_worker, fresh_scan};
-ghost use Rattle.register_rule.specs.Seats.{worker_of, reader_of, HasWorker, HasReader};
+ghost use Rattle.register_rule.specs.Seats.{worker_of, reader_of, IsWorkSeatOf, IsReadSeatOf};
 ghost use Rattle.snapshot_scan.specs.Order.{IsAlone};
 ghost use Rattle.snapshot_scan.specs.Readers.{IsReaderOf};
 ghost use Rattle.snapshot_update.specs.Workers.{IsWorkerOf};
@@ -96,7 +96,7 @@ pub(crate) fn new_worker<const N: usize, const C: usize, const H: usize, const G
     seat: WorkSeat,
     index: usize,
 ) -> Result<Worker<N, C, H, G>, AllocError>
-    requires own { HasWorker board.now seat }
+    requires own { IsWorkSeatOf board.now seat }
     requires geometry { IsGeometry N C H G }
     requires fresh { worker_of seat ≡ new_worker N (width C H G) (depth N (width C H G)) index }
     ensures { IfOk result (λ w. IsWorkerOf board.now w) }
@@ -113,7 +113,7 @@ pub(crate) fn new_reader<const N: usize, const C: usize, const H: usize, const G
     board: &Board<N, C, H, G>,
     seat: ReadSeat,
 ) -> Result<Reader<N, C, H, G>, AllocError>
-    requires own { HasReader board.now seat }
+    requires own { IsReadSeatOf board.now seat }
     requires geometry { IsGeometry N C H G }
     requires fresh { (reader_of seat).scan ≡ fresh_scan N (width C H G) }
     ensures { IfOk result (λ r. IsReaderOf board.now r) }
@@ -126,7 +126,7 @@ pub(crate) fn new_reader<const N: usize, const C: usize, const H: usize, const G
 
 /// A board of one worker, whose row is one counter, the worker's seat, and a reader's.
 pub(crate) fn one_seat(alloc: Global) -> Result<(Board<1, 1, 0, 0>, WorkSeat, ReadSeat), Fail>
-    ensures own { IfOk result (λ r. HasWorker r.0 r.1 × HasReader r.0 r.2) }
+    ensures own { IfOk result (λ r. IsWorkSeatOf r.0 r.1 × IsReadSeatOf r.0 r.2) }
     ensures worker { IfOk result (λ r. worker_of r.1 ≡ new_worker 1 1 4 0) }
     ensures reader { IfOk result (λ r. (reader_of r.2).scan ≡ fresh_scan 1 1) }
 {

@@ -1,7 +1,7 @@
 //! Each call that takes memory, called again where it is refused.
 ghost use Rattle.std.specs.Prelude.{◌≡◌, ◌<◌};
 ghost use Rattle.register_rule.specs.Members.{new_worker, fresh_scan};
-ghost use Rattle.register_rule.specs.Seats.{worker_of, reader_of, HasWorker, HasReader};
+ghost use Rattle.register_rule.specs.Seats.{worker_of, reader_of, IsWorkSeatOf, IsReadSeatOf};
 ghost use Rattle.snapshot_scan.specs.Readers.{IsReaderOf};
 ghost use Rattle.snapshot_update.specs.Workers.{IsWorkerOf};
 
@@ -88,7 +88,7 @@ fn worker_at_last(
     board: &Board<1, 1, 0, 0>,
     seat: WorkSeat,
 ) -> Worker<1, 1, 0, 0>
-    requires own { HasWorker board.now seat }
+    requires own { IsWorkSeatOf board.now seat }
     requires fresh { worker_of seat ≡ new_worker 1 1 4 0 }
     ensures { IsWorkerOf board.now result }
 {
@@ -109,7 +109,7 @@ fn reader_at_last(
     board: &Board<1, 1, 0, 0>,
     seat: ReadSeat,
 ) -> Reader<1, 1, 0, 0>
-    requires own { HasReader board.now seat }
+    requires own { IsReadSeatOf board.now seat }
     requires fresh { (reader_of seat).scan ≡ fresh_scan 1 1 }
     ensures { IsReaderOf board.now result }
 {
@@ -131,7 +131,7 @@ fn are_seats(
     work: WorkSeat,
     read: ReadSeat,
 )
-    requires own { HasWorker board.now work × HasReader board.now read }
+    requires own { IsWorkSeatOf board.now work × IsReadSeatOf board.now read }
     requires worker { worker_of work ≡ new_worker 1 1 4 0 }
     requires reader { (reader_of read).scan ≡ fresh_scan 1 1 }
 {

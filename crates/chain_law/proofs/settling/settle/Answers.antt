@@ -2,7 +2,7 @@ use Rattle.std.proofs.Common.{rules, length, sym, ap, ◌∙◌, subst}
 use Rattle.std.specs.Prelude.{is_ok}
 use Rattle.std.proofs.lemmas.Bool.{true≢false}
 use lib.ListN.{get_elem?}
-use Rattle.register_rule.specs.declared.view.Scan.{Scan}
+use Rattle.register_rule.specs.declared.view.ScanLog.{ScanLog}
 use Rattle.snapshot_scan.specs.Lent.{SeesMore}
 use Rattle.snapshot_scan.specs.Order.{HasRecorded}
 use Rattle.snapshot_scan.specs.Readers.{members_with, scan_by}
@@ -60,7 +60,7 @@ pub returns-clause-moments : goal.returns-clause-moments
 returns-clause-moments g c =
     let place = length (members_with c.args.reader.now) in let vs = c.args.workers.now in let ws = c.lend_all.new.workers in
     let r1 = c.lend_all.new.reader in let r2 = c.scan.new.self in
-    subst (λ (x : Scan). AreMomentsOf vs x.recorded) (sym c.take_all.ensures.scan)
+    subst (λ (x : ScanLog). AreMomentsOf vs x.recorded) (sym c.take_all.ensures.scan)
     (moments_of place vs ws ws r1 r2 c.lend_all.auto.workers c.lend_all.ensures.lent c.scan.ensures.others c.scan.ensures.ruled
     c.args.reader.now.leads c.scan.new.out c.in-Ok.ensures.answered c.in-Ok.ensures.lent c.in_default.ensures.none)
 
@@ -74,11 +74,11 @@ returns-clause-alone g c =
 pub returns-clause-still : goal.returns-clause-still
 returns-clause-still g c = λ a had.
     let lent : HasRecorded c.lend_all.new.reader a =
-    (had.0, ap (λ (s : Scan). get_elem? s.recorded had.0) c.lend_all.ensures.scan.only ∙ had.1) in
-    let t = c.scan.ensures.still a lent in (t.0, ap (λ (s : Scan). get_elem? s.recorded t.0) c.take_all.ensures.scan ∙ t.1)
+    (had.0, ap (λ (s : ScanLog). get_elem? s.recorded had.0) c.lend_all.ensures.scan.only ∙ had.1) in
+    let t = c.scan.ensures.still a lent in (t.0, ap (λ (s : ScanLog). get_elem? s.recorded t.0) c.take_all.ensures.scan ∙ t.1)
 
 pub returns-clause-seen : goal.returns-clause-seen
 returns-clause-seen g c =
     let v = c.scan.new.out.vector in
-    subst (λ (s : Scan). SeesMore v s.seen) (sym c.take_all.ensures.scan)
+    subst (λ (s : ScanLog). SeesMore v s.seen) (sym c.take_all.ensures.scan)
     (subst (SeesMore v) (sym c.in-Ok.ensures.answered.seen) (sees_right (scan_by c.lend_all.new.reader).seen v))

@@ -1,7 +1,7 @@
 use Rattle.std.proofs.Common.{sym, subst, ap, ◌∙◌, List, arith}
 use Rattle.std.proofs.lemmas.Option.{same_Some}
 use Rattle.register_rule.specs.Seats.{board_id}
-use Rattle.registry_state.specs.Journal.{Change}
+use Rattle.registry_state.specs.Journal.{RegistryChange}
 use Rattle.std.specs.Prelude.{is_some}
 use Rattle.metric_registry.specs.Naming.{name_of, BeginsWith}
 use Rattle.metrics_serve.specs.Counted.{all_of}
@@ -56,6 +56,6 @@ returns g c = record {
   settled = c.in-Ok.ensures.settled;
   total = c.replies.ensures;
   journal = c.in-Ok._journal;
-  begins = subst (λ (first : List Change). BeginsWith first c.in-Ok._journal) c.requires.first c.in-Ok.ensures.begins;
+  begins = subst (λ (first : List RegistryChange). BeginsWith first c.in-Ok._journal) c.requires.first c.in-Ok.ensures.begins;
   moments = c.in-Ok.ensures.moments;
 }

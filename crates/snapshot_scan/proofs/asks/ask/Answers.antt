@@ -3,8 +3,8 @@ use Rattle.std.proofs.Common.{ap, ◌∙◌, arith, eq-eqb, ne_eqb}
 use Rattle.ledger_core.specs.Ops.{width, sum_ops}
 use Rattle.ledger_core.specs.Row.{Accepts}
 use Rattle.ledger_core.specs.Vectors.{is_above}
-use Rattle.register_rule.specs.declared.view.Scan.{Scan}
-use Rattle.register_rule.specs.Steps.{begun, is_lender, asked_of, after_ask, after_end_ask}
+use Rattle.register_rule.specs.declared.view.ScanLog.{ScanLog}
+use Rattle.register_rule.specs.ScanSteps.{begun, is_lender, asked_of, after_ask, after_end_ask}
 use Rattle.register_rule.specs.Members.{led, scan_changed}
 use Rattle.register_rule.specs.Seats.{members_of}
 use Rattle.snapshot_scan.specs.Shape.{scan_of, with_scan, read_all}
@@ -69,7 +69,7 @@ returns-clause-lends g c = λ hit.
           (c.read_items.ensures.member
           ∙ ap (λ (z : ℕ). led (scan_changed (read_all w c.args.place s z ws))
           (members_of (g.S.ScanSeat.bundle c.ask-number.new.seat))) row) c.end_ask-again.ensures.learns.member
-          ∙ ap (λ (d : Scan). with_scan d ms)
+          ∙ ap (λ (d : ScanLog). with_scan d ms)
           (view_lends n w c.args.place s again ws c.requires.next.0 (scan_of ms) c.requires.next.1 c.requires.rest.0 all),
     )
 

@@ -5,8 +5,8 @@ use Rattle.std.proofs.lemmas.List.{append-nil, append_assoc}
 use mathlib.Core.Option.{some-ne-none}
 use Rattle.ledger_core.specs.Ops.{width}
 use Rattle.register_rule.specs.declared.view.Asked.{Asked}
-use Rattle.register_rule.specs.declared.view.Scan.{Scan}
-use Rattle.register_rule.specs.Steps.{answered, gives_up, lent_in}
+use Rattle.register_rule.specs.declared.view.ScanLog.{ScanLog}
+use Rattle.register_rule.specs.ScanSteps.{answered, given_up_if_spent, lent_in}
 use Rattle.register_rule.specs.Seats.{HasMember, members_of}
 use Rattle.register_rule.proofs.Words.{each_push}
 use Rattle.snapshot_scan.specs.Shape.{scan_of, with_scan}
@@ -31,7 +31,7 @@ loop-place-init g c = let ms = members_of (g.S.ScanSeat.bundle c.args.seat.now) 
 )
 
 -- what asking needs here
-floor_here : (low more : List ℕ) (p : ℕ) (c : Scan) → MayAsk low (p ∷ more) c → c.now.floor ≡ low
+floor_here : (low more : List ℕ) (p : ℕ) (c : ScanLog) → MayAsk low (p ∷ more) c → c.now.floor ≡ low
 floor_here low more p c may = may.floor (λ h. let h' = h in cc)
 
 pub ask-lends-requires : goal.ask-lends-requires
@@ -53,9 +53,10 @@ ask-lends-requires g c =
         geometry = c.requires.geometry;
         inside = omega (arith, lens.3, t);
         lengths = (lens.0, lens.1, a ∙ lens.4);
-        next = (more, ap (λ (d : Scan). d.now.due) scan ∙ may.due);
-        rest = (ap (λ (d : Scan). d.now.looks) scan ∙ may.looks, ap (λ (d : Scan). d.now.asks) scan ∙ may.asks);
-        floor = ap (λ (d : Scan). d.now.floor) scan ∙ floor_here c.args.floor.now more p (refused_all g.row.N es (scan_of ms)) may;
+        next = (more, ap (λ (d : ScanLog). d.now.due) scan ∙ may.due);
+        rest = (ap (λ (d : ScanLog). d.now.looks) scan ∙ may.looks, ap (λ (d : ScanLog). d.now.asks) scan ∙ may.asks);
+        floor = ap (λ (d : ScanLog). d.now.floor) scan ∙ floor_here c.args.floor.now more p (refused_all g.row.N es
+            (scan_of ms)) may;
       },
     )
 
@@ -81,7 +82,8 @@ returns-then-lends-clause-lends g c = λ _.
       inv.refuses,
       l.2,
       l.3,
-      l.4 ∙ (ap (λ (x : Scan). with_scan (answered a (asked_too e x)) (members_of (g.S.ScanSeat.bundle c.loop-place.seat))) scan
+      l.4 ∙ (ap (λ (x : ScanLog). with_scan (answered a (asked_too e x)) (members_of
+          (g.S.ScanSeat.bundle c.loop-place.seat))) scan
           ∙ (ap (with_scan (answered a (asked_too e (refused_all n es (scan_of ms))))) inv.view
           ∙ with_led (λ _. answered a (asked_too e (refused_all n es (scan_of ms)))) (refused_all n es (scan_of ms)) ms)),
     )
@@ -102,10 +104,11 @@ loop-place-preserved g c =
     let e : Asked = r.0 in
     let snoc = refused_snoc n es e (scan_of ms) in
     let view : members_of (g.S.ScanSeat.bundle c.ask-lends.new.seat) ≡ with_scan (refused_all n (es ++ e ∷ []) (scan_of ms)) ms =
-    r.3 ∙ (ap (λ (x : Scan). with_scan (gives_up n (refused e x)) (members_of (g.S.ScanSeat.bundle c.loop-place.seat))) scan
-    ∙ (ap (with_scan (gives_up n (refused e (refused_all n es (scan_of ms))))) inv.view
-    ∙ (with_led (λ _. gives_up n (refused e (refused_all n es (scan_of ms)))) (refused_all n es (scan_of ms)) ms
-    ∙ ap (λ (x : Scan). with_scan x ms) (sym snoc)))) in (
+    r.3 ∙ (ap (λ (x : ScanLog). with_scan (given_up_if_spent n (refused e x)) (members_of
+    (g.S.ScanSeat.bundle c.loop-place.seat))) scan
+    ∙ (ap (with_scan (given_up_if_spent n (refused e (refused_all n es (scan_of ms))))) inv.view
+    ∙ (with_led (λ _. given_up_if_spent n (refused e (refused_all n es (scan_of ms)))) (refused_all n es (scan_of ms)) ms
+    ∙ ap (λ (x : ScanLog). with_scan x ms) (sym snoc)))) in (
       es ++ e ∷ [],
       record {
         own = c.ask-lends.ensures.own ∙ inv.own;

@@ -1,5 +1,5 @@
 use Rattle.std.proofs.Common.{◌≡◌, ◌<◌, ◌≤◌, ◌+◌, ℕ, length, get_or, subst, sym, arith}
-use Rattle.snapshot_scan.specs.ChangedItems.{Changed}
+use Rattle.snapshot_scan.specs.ChangedItems.{ChangedView}
 use Rattle.snapshot_scan.specs.Exchange.{Exchanges}
 use Rattle.snapshot_scan.proofs.Moving.{exchanges_then, exchanges_one, exchanges_same}
 use Rattle.snapshot_scan.proofs.exchange.exchange_some.Goals as goal
@@ -16,7 +16,7 @@ loop-k-preserved c =
     let both = exchanges_then n old new from k (k + 1) c.args.totals.now ts c.if-old-k.totals c.args.moved.now c.loop-k.moved
     c.if-old-k.moved le (omega arith) inv in
     elim c.if-old-k.branch [
-      | then-old-k w ↦ both (subst (λ (m : Changed). Exchanges n k (k + 1) old new ts c.if-old-k.totals c.loop-k.moved m)
+      | then-old-k w ↦ both (subst (λ (m : ChangedView). Exchanges n k (k + 1) old new ts c.if-old-k.totals c.loop-k.moved m)
           (sym w.moved-is)
           (exchanges_one n old new k ts c.if-old-k.totals c.loop-k.moved w.note.new.self lt (sym a) (omega (arith, at, p.0))
           w.totals-is w.note.ensures.notes))

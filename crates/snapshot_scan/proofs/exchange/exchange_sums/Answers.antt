@@ -1,5 +1,5 @@
 use Rattle.std.proofs.Common.{◌≡◌, ◌+◌, ◌*◌, ℕ, List, length, subst, sym, arith}
-use Rattle.snapshot_scan.specs.ChangedItems.{Changed, Moves}
+use Rattle.snapshot_scan.specs.ChangedItems.{ChangedView, Moves}
 use Rattle.snapshot_scan.specs.Exchange.{Exchanges}
 use Rattle.snapshot_scan.proofs.Moving.{exchanges_then, exchanges_same, moves_then}
 use Rattle.snapshot_scan.proofs.exchange.exchange_sums.Goals as goal
@@ -14,7 +14,8 @@ loop-block-preserved c =
     let both = exchanges_then n old new 0 from to c.args.totals.now ts after c.args.moved.now c.loop-block.moved moved
     (omega arith) (omega arith) c.loop-block.invariant in
     subst (λ (k : ℕ). Exchanges n 0 k old new c.args.totals.now after c.args.moved.now moved) more (elim c.if-differ.branch [
-      | then-differ w ↦ both (subst (λ (m : Changed). Exchanges n from to old new ts after c.loop-block.moved m) (sym w.moved-is)
+      | then-differ w ↦ both (subst (λ (m : ChangedView). Exchanges n from to old new ts after c.loop-block.moved m)
+          (sym w.moved-is)
           (subst (λ (l : List ℕ). Exchanges n from to old new ts l c.loop-block.moved w.exchange_some.new.moved) (sym w.totals-is)
           (subst (λ (k : ℕ). Exchanges k from to old new ts w.exchange_some.new.totals c.loop-block.moved
           w.exchange_some.new.moved) long w.exchange_some.ensures)))

@@ -2,7 +2,7 @@ use Rattle.std.proofs.Common.{◌≡◌, ◌≢◌, ◌<◌, ◌+◌, ◌≤◌,
 use Rattle.std.proofs.Common.{subst, below_more, get_or-set_other, get_or-set_same}
 use Rattle.ledger_core.specs.Ops.{width}
 use Rattle.register_rule.specs.Members.{led, scan_changed}
-use Rattle.register_rule.specs.Steps.{after_read}
+use Rattle.register_rule.specs.ScanSteps.{after_read}
 use Rattle.register_rule.specs.Seats.{HasMember, members_of}
 use Rattle.snapshot_scan.specs.Shape.{read_all}
 use Rattle.snapshot_scan.proofs.Words.{take_next, take_all, length_take, read_snoc, led_led, led_some}

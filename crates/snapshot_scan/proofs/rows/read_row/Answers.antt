@@ -4,14 +4,15 @@ use Rattle.register_rule.specs.declared.view.Member.{Member}
 use Rattle.register_rule.specs.Members.{led, scan_changed}
 use Rattle.register_rule.specs.Seats.{members_of}
 use Rattle.snapshot_scan.specs.Shape.{read_all}
-use Rattle.snapshot_scan.specs.ChangedItems.{Changed}
+use Rattle.snapshot_scan.specs.ChangedItems.{ChangedView}
 use Rattle.snapshot_scan.specs.Reading.{IsReadTo}
 use Rattle.snapshot_scan.proofs.Words.{take_all}
 use Rattle.snapshot_scan.proofs.Moving.{moves_none}
 use Rattle.snapshot_scan.proofs.rows.read_row.Goals as goal
 
 -- nothing is read
-none_read : (w i s : ℕ) (ms : List Member) (words : List ℕ) (listed : Changed) → IsReadTo w i s 0 ms ms words words listed listed
+none_read : (w i s : ℕ) (ms : List Member) (words : List ℕ) (listed : ChangedView)
+    → IsReadTo w i s 0 ms ms words words listed listed
 none_read w i s ms words listed = record {
   member = stays ms;
   low = λ j lt. absurd (omega (arith, lt));

@@ -1,9 +1,10 @@
-use Rattle.std.proofs.Common.{◌≡◌, ℕ, Bool, true, false, List, [], ◌∷◌, ◌++◌, Contains, length, map, take, drop, slice_index, sym}
+use Rattle.std.proofs.Common.{◌≡◌, ℕ, Bool, true, false, List, [], ◌∷◌, ◌++◌, length, map, take, drop, slice_index, sym}
 use Rattle.std.proofs.Common.{refl, ap, ◌∙◌, subst, arith, rules}
 use Rattle.ledger_core.specs.Ops.{width}
 use Rattle.ledger_core.specs.Vectors.{is_above}
-use Rattle.register_rule.specs.declared.view.Scan.{Scan}
-use Rattle.register_rule.specs.Steps.{answered, gives_up, lent_in}
+use Rattle.register_rule.specs.declared.view.Answer.{Answer}
+use Rattle.register_rule.specs.declared.view.ScanLog.{ScanLog}
+use Rattle.register_rule.specs.ScanSteps.{answered, given_up_if_spent, lent_in}
 use Rattle.register_rule.specs.Seats.{members_of}
 use Rattle.register_rule.specs.History.{Below}
 use Rattle.register_rule.proofs.Words.{each_push}
@@ -22,11 +23,8 @@ use Rattle.snapshot_scan.proofs.Scanning.{first_starts, at_loop, loop_fails, loo
 use Rattle.snapshot_core.specs.declared.next.Next.TheVariants.{GaveUp}
 use Rattle.snapshot_scan.specs.Core.{CameTo, AnswersBy}
 use Rattle.snapshot_scan.proofs.Arriving.{came_first, came_later, came_lending, came_up}
-use Rattle.snapshot_scan.specs.ChangedItems.{Changed, Lists}
-use Rattle.snapshot_scan.proofs.Noted.{none_listed}
-use Rattle.snapshot_scan.proofs.Moving.{lists_none, lists_then}
+use Rattle.snapshot_scan.proofs.Moving.{lists_first, lists_then}
 use Rattle.snapshot_scan.proofs.scans.scan.Goals as goal
-use Rattle.snapshot_scan.proofs.scans.scan.Goals.{then-known, else-known}
 
 abbrev quiet_in : ScanEnd → Bool
 quiet_in (End.Direct quiet) = quiet
@@ -59,53 +57,48 @@ pub loop-k-init : goal.loop-k-init
 loop-k-init g c =
     let ms = members_of (g.S.ScanSeat.bundle c.args.seat.now) in
     let n : ℕ = g.row.N in let w : ℕ = width g.row.C g.row.H g.row.G in
-    let r = c.try_once-clean.new in let lens = c.requires.lengths in
+    let r = c.one_try-clean.new in let lens = c.requires.lengths in
     let fl = c.copy_from_slice.new.self in let ba = c.copy_from_slice-2.new.self in
-    let few : length r.kept ≡ n = c.try_once-clean.auto.kept ∙ lens.0 in
-    let long : length r.opened ≡ n = c.try_once-clean.auto.opened ∙ lens.2 in
-    let deep : length r.found ≡ n = c.try_once-clean.auto.found ∙ lens.3 in
+    let few : length r.kept ≡ n = c.one_try-clean.auto.kept ∙ lens.0 in
+    let long : length r.opened ≡ n = c.one_try-clean.auto.opened ∙ lens.2 in
+    let deep : length r.found ≡ n = c.one_try-clean.auto.found ∙ lens.3 in
     let f : r.opened ≡ fl = sym c.copy_from_slice.ensures.after in let b : r.found ≡ ba = sym c.copy_from_slice-2.ensures.after in
     let one : Tried = record { first = r.opened; second = r.found; asks = [] } in
     let view : members_of (g.S.ScanSeat.bundle r.seat) ≡ with_scan
-    (gives_up n (stood (one ∷ []) r.kept r.opened r.found (scan_of ms))) ms =
-    c.try_once-clean.ensures.failed c.if-clean.false ∙ ap (λ (x : Scan). with_scan (gives_up n x) ms)
+    (given_up_if_spent n (stood (one ∷ []) r.kept r.opened r.found (scan_of ms))) ms =
+    c.one_try-clean.ensures.failed c.if-clean.false ∙ ap (λ (x : ScanLog). with_scan (given_up_if_spent n x) ms)
     (first_starts n w r.opened r.found r.kept (scan_of ms) few long deep c.requires.idle.rest) in
     let failed : FailedTry n r.opened r.found one = record {
       opened = long;
       found = deep;
-      risen = c.try_once-clean.ensures.risen;
-      rose = c.try_once-clean.ensures.rose c.if-clean.false;
+      risen = c.one_try-clean.ensures.risen;
+      rose = c.one_try-clean.ensures.rose c.if-clean.false;
       asked = sym (none_due 0 r.found);
       none = λ q e at. absurd (some-ne-none e (sym at));
     } in (
       one ∷ [],
       record {
-        own = c.try_once-clean.ensures.own;
-        ruled = c.try_once-clean.ensures.ruled;
+        own = c.one_try-clean.ensures.own;
+        ruled = c.one_try-clean.ensures.ruled;
         leads = still_some _ ms _ c.requires.own.1 view;
-        wide = c.try_once-clean.ensures.wide;
-        totals = c.try_once-clean.ensures.totals;
-        listed = elim c.if-known.branch [
-          | then-known b ↦ lists_none w c.args.totals.now r.totals c.if-known.moved
-              (c.try_once-clean.ensures.quiet b.if-known.true).totals
-              (λ j h. absurd (none_listed j
-              (subst (λ (l : List ℕ). Contains l j) (ap (λ (x : Changed). x.items) b.moved-is ∙ b.clear.ensures.none.1) h)))
-          | else-known b ↦ subst (Lists w c.args.totals.now r.totals) (sym b.moved-is) c.try_once-clean.ensures.listed
-        ];
+        wide = c.one_try-clean.ensures.wide;
+        totals = c.one_try-clean.ensures.totals;
+        listed = lists_first w c.args.totals.now r.totals c.clear.new.self r.moved c.clear.ensures.none.1
+            c.one_try-clean.ensures.listed;
         count = refl;
         above = each_push (λ (t : Tried). Below (scan_of ms).seen t.first) [] one (λ p y at. absurd (some-ne-none y (sym at)))
-            (seen_below n (scan_of ms) r.opened long c.try_once-clean.ensures.told);
+            (seen_below n (scan_of ms) r.opened long c.one_try-clean.ensures.told);
         tried = subst (λ (x : List ℕ). AreTries n x ba r.opened r.found (one ∷ [])) f
             (subst (λ (x : List ℕ). AreTries n r.opened x r.opened r.found (one ∷ [])) b (tries_one n r.opened r.found failed));
         lengths = (ap (λ (l : List ℕ). length l) (sym f) ∙ long, ap (λ (l : List ℕ). length l) (sym b) ∙ deep);
         seen = subst (λ (x : List ℕ). Below (scan_of ms).seen x) f
-            (seen_below n (scan_of ms) r.opened long c.try_once-clean.ensures.told);
-        view = view ∙ (λ z. with_scan (gives_up n (stood (one ∷ []) r.kept (f z) (b z) (scan_of ms))) ms);
+            (seen_below n (scan_of ms) r.opened long c.one_try-clean.ensures.told);
+        view = view ∙ (λ z. with_scan (given_up_if_spent n (stood (one ∷ []) r.kept (f z) (b z) (scan_of ms))) ms);
       },
     )
 
-pub try_again-clean-requires : goal.try_again-clean-requires
-try_again-clean-requires g c =
+pub later_try-clean-requires : goal.later_try-clean-requires
+later_try-clean-requires g c =
     let ms = members_of (g.S.ScanSeat.bundle c.args.seat.now) in
     let n : ℕ = g.row.N in
     let inv = c.loop-k.invariant.1 in let tries = c.loop-k.invariant.0 in let lens = c.requires.lengths in
@@ -118,16 +111,21 @@ try_again-clean-requires g c =
           own = (inv.own ∙ c.requires.own.0, inv.leads);
           geometry = c.requires.geometry;
           lengths = (
-            c.loop-k.auto.kept ∙ (c.try_once-clean.auto.kept ∙ lens.0),
-            c.loop-k.auto.opened ∙ (c.try_once-clean.auto.opened ∙ lens.2),
+            c.loop-k.auto.kept ∙ (c.one_try-clean.auto.kept ∙ lens.0),
+            c.loop-k.auto.opened ∙ (c.one_try-clean.auto.opened ∙ lens.2),
           );
           wide = inv.wide;
-          kept = ap (λ (d : Scan). d.kept) scan;
-          rest = (ap (λ (d : Scan). d.now.looks) scan, ap (λ (d : Scan). d.now.due) scan, ap (λ (d : Scan). d.now.asks) scan);
+          kept = ap (λ (d : ScanLog). d.kept) scan;
+          rest = (
+            ap (λ (d : ScanLog). d.now.looks) scan,
+            ap (λ (d : ScanLog). d.now.due) scan,
+            ap (λ
+                (d : ScanLog). d.now.asks) scan,
+          );
         },
         (
-          c.loop-k.auto.found ∙ (c.try_once-clean.auto.found ∙ lens.3),
-          c.loop-k.auto.totals ∙ (c.try_once-clean.auto.totals ∙ lens.1),
+          c.loop-k.auto.found ∙ (c.one_try-clean.auto.found ∙ lens.3),
+          c.loop-k.auto.totals ∙ (c.one_try-clean.auto.totals ∙ lens.1),
           inv.totals,
         ),
       ),
@@ -139,23 +137,24 @@ ask_all-lends-requires g c =
     let n : ℕ = g.row.N in let w : ℕ = width g.row.C g.row.H g.row.G in
     let inv = c.loop-k.invariant.1 in let tries = c.loop-k.invariant.0 in let lens = c.requires.lengths in
     let fl = c.copy_from_slice.new.self in let ba = c.copy_from_slice-2.new.self in
-    let r = c.try_again-clean.new in
-    let few : length r.kept ≡ n = c.try_again-clean.auto.kept ∙ (c.loop-k.auto.kept ∙ (c.try_once-clean.auto.kept ∙ lens.0)) in
-    let long : length r.opened ≡ n = c.try_again-clean.auto.opened
-    ∙ (c.loop-k.auto.opened ∙ (c.try_once-clean.auto.opened ∙ lens.2)) in
-    let deep : length r.found ≡ n = c.try_again-clean.auto.found
-    ∙ (c.loop-k.auto.found ∙ (c.try_once-clean.auto.found ∙ lens.3)) in
+    let r = c.later_try-clean.new in
+    let few : length r.kept ≡ n = c.later_try-clean.auto.kept ∙ (c.loop-k.auto.kept ∙ (c.one_try-clean.auto.kept
+    ∙ lens.0)) in
+    let long : length r.opened ≡ n = c.later_try-clean.auto.opened
+    ∙ (c.loop-k.auto.opened ∙ (c.one_try-clean.auto.opened ∙ lens.2)) in
+    let deep : length r.found ≡ n = c.later_try-clean.auto.found
+    ∙ (c.loop-k.auto.found ∙ (c.one_try-clean.auto.found ∙ lens.3)) in
     let view = at_loop n c.loop-k._k tries c.loop-k.kept fl ba ms _ inv.count c.loop-k-test.true inv.view in
-    let d : Scan = stood tries c.loop-k.kept fl ba (scan_of ms) in
+    let d : ScanLog = stood tries c.loop-k.kept fl ba (scan_of ms) in
     let fails = loop_fails n w c.loop-k._k r.opened r.found r.kept c.loop-k.kept few long deep tries fl ba ms _ _ c.requires.own.1
-    inv.count view (c.try_again-clean.ensures.failed c.if-clean-2.false) in
+    inv.count view (c.later_try-clean.ensures.failed c.if-clean-2.false) in
     let scan = now_is _ ms _ c.requires.own.1 fails in (
       search rules,
       record {
-        own = (c.try_again-clean.ensures.own ∙ (inv.own ∙ c.requires.own.0), still_some _ ms _ c.requires.own.1 fails);
-        ruled = c.try_again-clean.ensures.ruled;
+        own = (c.later_try-clean.ensures.own ∙ (inv.own ∙ c.requires.own.0), still_some _ ms _ c.requires.own.1 fails);
+        ruled = c.later_try-clean.ensures.ruled;
         geometry = c.requires.geometry;
-        lengths = (c.try_once-clean.auto.totals ∙ lens.1, inv.lengths.0, inv.lengths.1, deep, c.loop-k.auto.lent ∙ lens.4);
+        lengths = (c.one_try-clean.auto.totals ∙ lens.1, inv.lengths.0, inv.lengths.1, deep, c.loop-k.auto.lent ∙ lens.4);
         may_ask = subst (MayAsk fl (due_from 0 ba r.found)) (sym scan)
             (may_start n r.opened r.found r.kept fl ba (due_from 0 ba r.found) d);
       },
@@ -167,16 +166,17 @@ loop-k-preserved g c =
     let n : ℕ = g.row.N in let w : ℕ = width g.row.C g.row.H g.row.G in
     let inv = c.loop-k.invariant.1 in let tries = c.loop-k.invariant.0 in let lens = c.requires.lengths in
     let fl = c.copy_from_slice.new.self in let ba = c.copy_from_slice-2.new.self in
-    let r = c.try_again-clean.new in
-    let few : length r.kept ≡ n = c.try_again-clean.auto.kept ∙ (c.loop-k.auto.kept ∙ (c.try_once-clean.auto.kept ∙ lens.0)) in
-    let long : length r.opened ≡ n = c.try_again-clean.auto.opened
-    ∙ (c.loop-k.auto.opened ∙ (c.try_once-clean.auto.opened ∙ lens.2)) in
-    let deep : length r.found ≡ n = c.try_again-clean.auto.found
-    ∙ (c.loop-k.auto.found ∙ (c.try_once-clean.auto.found ∙ lens.3)) in
+    let r = c.later_try-clean.new in
+    let few : length r.kept ≡ n = c.later_try-clean.auto.kept ∙ (c.loop-k.auto.kept ∙ (c.one_try-clean.auto.kept
+    ∙ lens.0)) in
+    let long : length r.opened ≡ n = c.later_try-clean.auto.opened
+    ∙ (c.loop-k.auto.opened ∙ (c.one_try-clean.auto.opened ∙ lens.2)) in
+    let deep : length r.found ≡ n = c.later_try-clean.auto.found
+    ∙ (c.loop-k.auto.found ∙ (c.one_try-clean.auto.found ∙ lens.3)) in
     let view = at_loop n c.loop-k._k tries c.loop-k.kept fl ba ms _ inv.count c.loop-k-test.true inv.view in
-    let d : Scan = stood tries c.loop-k.kept fl ba (scan_of ms) in
+    let d : ScanLog = stood tries c.loop-k.kept fl ba (scan_of ms) in
     let fails = loop_fails n w c.loop-k._k r.opened r.found r.kept c.loop-k.kept few long deep tries fl ba ms _ _ c.requires.own.1
-    inv.count view (c.try_again-clean.ensures.failed c.if-clean-2.false) in
+    inv.count view (c.later_try-clean.ensures.failed c.if-clean-2.false) in
     let q = c.ask_all-lends.ensures.refuses c.if-lends.false in
     let t : Tried = record { first = r.opened; second = r.found; asks = q.0 } in
     let end = loop_refuses n w c.loop-k._k r.opened r.found r.kept c.loop-k.kept few long deep tries fl ba ms _ _ c.requires.own.1
@@ -184,25 +184,25 @@ loop-k-preserved g c =
     let failed : FailedTry n fl ba t = record {
       opened = long;
       found = deep;
-      risen = c.try_again-clean.ensures.risen;
-      rose = c.try_again-clean.ensures.rose c.if-clean-2.false;
+      risen = c.later_try-clean.ensures.risen;
+      rose = c.later_try-clean.ensures.rose c.if-clean-2.false;
       asked = q.1;
       none = q.2;
     } in (
       tries ++ t ∷ [],
       record {
-        own = c.ask_all-lends.ensures.own ∙ (c.try_again-clean.ensures.own ∙ inv.own);
+        own = c.ask_all-lends.ensures.own ∙ (c.later_try-clean.ensures.own ∙ inv.own);
         ruled = c.ask_all-lends.ensures.ruled;
         leads = still_some _ ms _ c.requires.own.1 end;
-        wide = c.try_again-clean.ensures.wide;
-        totals = c.try_again-clean.ensures.totals;
+        wide = c.later_try-clean.ensures.wide;
+        totals = c.later_try-clean.ensures.totals;
         listed = lists_then w c.args.totals.now c.loop-k.totals r.totals c.loop-k.moved r.moved inv.listed
-            c.try_again-clean.ensures.listed;
+            c.later_try-clean.ensures.listed;
         count = count_more tries t c.loop-k._k inv.count;
         above = each_push (λ (u : Tried). Below (scan_of ms).seen u.first) tries t inv.above
             (seen_below n (stood tries c.loop-k.kept fl ba (scan_of ms)) r.opened long
-            (λ p lt. subst (λ (x : Scan). IsLoaded p x (slice_index r.opened p)) (now_is d ms _ c.requires.own.1 view)
-            (c.try_again-clean.ensures.told p lt)));
+            (λ p lt. subst (λ (x : ScanLog). IsLoaded p x (slice_index r.opened p)) (now_is d ms _ c.requires.own.1 view)
+            (c.later_try-clean.ensures.told p lt)));
         tried = tries_more n fl ba c.loop-k.opened c.loop-k.found tries inv.tried c.loop-k.kept (scan_of ms) r.opened r.found q.0
             failed;
         lengths = inv.lengths;
@@ -211,8 +211,8 @@ loop-k-preserved g c =
       },
     )
 
-pub try_once-clean-requires : goal.try_once-clean-requires
-try_once-clean-requires g c =
+pub one_try-clean-requires : goal.one_try-clean-requires
+one_try-clean-requires g c =
     let lens = c.requires.lengths in let idle = c.requires.idle in (
       search rules,
       (
@@ -224,257 +224,152 @@ try_once-clean-requires g c =
           kept = idle.kept;
           rest = (λ z. (idle.rest z).looks, λ z. (idle.rest z).due, λ z. (idle.rest z).asks);
         },
-        ((lens.3, lens.1, c.requires.totals), c.requires.listed),
+        (lens.3, lens.1, c.requires.totals),
       ),
     )
 
 pub returns-then-clean : goal.returns-then-clean
 returns-then-clean g c =
+    let ms = members_of (g.S.ScanSeat.bundle c.args.seat.now) in
+    let n : ℕ = g.row.N in let w : ℕ = width g.row.C g.row.H g.row.G in
+    let made = c.one_try-clean.ensures in let r = c.one_try-clean.new in let clean = made.clean c.if-clean.true in
+    let long : length r.opened ≡ n = c.one_try-clean.auto.opened ∙ c.requires.lengths.2 in
+    let a : Answer = record { vector = r.opened; totals = r.totals } in
+    let scan = now_is _ ms _ c.requires.own.1 clean in
     record {
-      own = c.try_once-clean.ensures.own;
-      ruled = c.try_once-clean.ensures.ruled;
-      wide = c.try_once-clean.ensures.wide;
-      totals = c.try_once-clean.ensures.totals;
-      idle = let scan = now_is _ _ _ c.requires.own.1 (c.try_once-clean.ensures.clean c.if-clean.true) in
-          record { kept = ap (λ (d : Scan). d.kept) scan; rest = ap (λ (d : Scan). d.now) scan };
-      others = others_same _ (members_of (g.S.ScanSeat.bundle c.args.seat.now)) _ c.requires.own.1
-          (c.try_once-clean.ensures.clean c.if-clean.true);
-      direct = λ _ _.
-          let ms = members_of (g.S.ScanSeat.bundle c.args.seat.now) in
-          let r = c.try_once-clean.new in let lens = c.requires.lengths in
-          subst (λ (x : Scan). IsAnswered g.row.N (scan_of ms) x (record { vector = r.opened; totals = r.totals }))
-          (sym (now_is _ ms _ c.requires.own.1 (c.try_once-clean.ensures.clean c.if-clean.true)))
-          (direct_first g.row.N r.opened r.found r.totals r.kept (scan_of ms) (c.try_once-clean.auto.opened ∙ lens.2)
-          c.try_once-clean.ensures.told);
-      came_direct = λ _ _.
-          let ms = members_of (g.S.ScanSeat.bundle c.args.seat.now) in
-          let r = c.try_once-clean.new in let lens = c.requires.lengths in
-          let n : ℕ = g.row.N in let w : ℕ = width g.row.C g.row.H g.row.G in
-          subst (λ (x : Scan). AnswersBy n w (scan_of ms) x (record { vector = r.opened; totals = r.totals }))
-          (sym (now_is _ ms _ c.requires.own.1 (c.try_once-clean.ensures.clean c.if-clean.true)))
-          (came_first n w r.opened r.found r.kept (scan_of ms) (record { vector = r.opened; totals = r.totals })
-          (c.try_once-clean.auto.opened ∙ lens.2) (c.try_once-clean.ensures.same c.if-clean.true) refl);
-      quiet = λ e. c.try_once-clean.ensures.quiet (ap quiet_in e);
-      once = λ _. ap (λ (x : Scan). x.opened)
-          (now_is _ _ _ c.requires.own.1 (c.try_once-clean.ensures.clean c.if-clean.true));
-      moved = λ e.
-          let lens = c.requires.lengths in
-          moved_first g.row.N (map version_of c.args.kept.now) c.try_once-clean.new.opened _ _ (c.try_once-clean.auto.opened ∙ lens.2)
-          (c.try_once-clean.ensures.unknown (ap quiet_in e))
-          (ap (λ (x : Scan). x.opened) (now_is _ _ _ c.requires.own.1 (c.try_once-clean.ensures.clean c.if-clean.true)));
+      own = made.own;
+      ruled = made.ruled;
+      wide = made.wide;
+      totals = made.totals;
+      idle = record { kept = ap (λ (d : ScanLog). d.kept) scan; rest = ap (λ (d : ScanLog). d.now) scan };
+      others = others_same _ ms _ c.requires.own.1 clean;
+      direct = λ _ _. subst (λ (x : ScanLog). IsAnswered n (scan_of ms) x a) (sym scan)
+          (direct_first n r.opened r.found r.totals r.kept (scan_of ms) long made.told);
+      came_direct = λ _ _. subst (λ (x : ScanLog). AnswersBy n w (scan_of ms) x a) (sym scan)
+          (came_first n w r.opened r.found r.kept (scan_of ms) a long (made.same c.if-clean.true) refl);
+      quiet = λ e. made.quiet (ap quiet_in e);
+      once = λ _. ap (λ (x : ScanLog). x.opened) scan;
+      moved = λ e. moved_first n (map version_of c.args.kept.now) r.opened _ _ long (made.unknown (ap quiet_in e))
+          (ap (λ (x : ScanLog). x.opened) scan);
       lent = λ e. absurd (direct_lent _ e);
       came_lent = λ e. absurd (direct_lent _ e);
-      numbers = λ _ _. c.try_once-clean.ensures.numbers c.if-clean.true;
-      listed = c.try_once-clean.ensures.listed;
+      numbers = λ _ _. made.numbers c.if-clean.true;
+      listed = lists_first w c.args.totals.now r.totals c.clear.new.self r.moved c.clear.ensures.none.1 made.listed;
       gave_up = λ e. absurd (direct_up _ e);
       came_up = λ e. absurd (direct_up _ e);
     }
 
 pub returns-then-clean-2 : goal.returns-then-clean-2
 returns-then-clean-2 g c =
+    let ms = members_of (g.S.ScanSeat.bundle c.args.seat.now) in
+    let n : ℕ = g.row.N in let w : ℕ = width g.row.C g.row.H g.row.G in
+    let inv = c.loop-k.invariant.1 in let tries = c.loop-k.invariant.0 in
+    let fl = c.copy_from_slice.new.self in let ba = c.copy_from_slice-2.new.self in
+    let made = c.later_try-clean.ensures in let r = c.later_try-clean.new in let clean = made.clean
+    c.if-clean-2.true in
+    let long : length r.opened ≡ n = c.later_try-clean.auto.opened
+    ∙ (c.loop-k.auto.opened ∙ (c.one_try-clean.auto.opened ∙ c.requires.lengths.2)) in
+    let a : Answer = record { vector = r.opened; totals = r.totals } in
+    let view = at_loop n c.loop-k._k tries c.loop-k.kept fl ba ms _ inv.count c.loop-k-test.true inv.view in
+    let d : ScanLog = stood tries c.loop-k.kept fl ba (scan_of ms) in
+    let end = then_is (λ (x : ScanLog). answered a (settling r.opened r.found r.kept (opening r.opened r.kept x))) d ms _ _
+    c.requires.own.1 view clean in
+    let scan = now_is _ ms _ c.requires.own.1 end in let count = inv.count in let lt = c.loop-k-test.true in
     record {
-      own = c.try_again-clean.ensures.own ∙ c.loop-k.invariant.1.own;
-      ruled = c.try_again-clean.ensures.ruled;
-      wide = c.try_again-clean.ensures.wide;
-      totals = c.try_again-clean.ensures.totals;
-      idle = let scan = now_is _ _ _ c.loop-k.invariant.1.leads
-          (c.try_again-clean.ensures.clean c.if-clean-2.true) in
-          record { kept = ap (λ (d : Scan). d.kept) scan; rest = ap (λ (d : Scan). d.now) scan };
-      others =
-          let ms = members_of (g.S.ScanSeat.bundle c.args.seat.now) in
-          let inv = c.loop-k.invariant.1 in let r = c.try_again-clean.new in
-          others_same _ ms _ c.requires.own.1
-          (then_is (λ (d : Scan). answered (record { vector = r.opened; totals = r.totals })
-          (settling r.opened r.found r.kept (opening r.opened r.kept d))) _ ms _ _ c.requires.own.1 inv.view
-          (c.try_again-clean.ensures.clean c.if-clean-2.true));
-      direct = λ _ _.
-          let ms = members_of (g.S.ScanSeat.bundle c.args.seat.now) in
-          let n : ℕ = g.row.N in
-          let inv = c.loop-k.invariant.1 in let tries = c.loop-k.invariant.0 in let lens = c.requires.lengths in
-          let fl = c.copy_from_slice.new.self in let ba = c.copy_from_slice-2.new.self in
-          let r = c.try_again-clean.new in
-          let view = at_loop n c.loop-k._k tries c.loop-k.kept fl ba ms _ inv.count c.loop-k-test.true inv.view in
-          let d : Scan = stood tries c.loop-k.kept fl ba (scan_of ms) in
-          let scan = now_is d ms _ c.requires.own.1 view in
-          let end = then_is (λ (x : Scan). answered (record { vector = r.opened; totals = r.totals })
-          (settling r.opened r.found r.kept (opening r.opened r.kept x))) d ms _ _ c.requires.own.1 view
-          (c.try_again-clean.ensures.clean c.if-clean-2.true) in
-          subst (λ (x : Scan). IsAnswered n (scan_of ms) x (record { vector = r.opened; totals = r.totals }))
-          (sym (now_is _ ms _ c.requires.own.1 end))
-          (direct_later n fl ba c.loop-k.opened c.loop-k.found tries inv.tried c.loop-k.kept (scan_of ms) r.opened r.found r.totals
-          r.kept inv.lengths.0
-          (c.try_again-clean.auto.opened ∙ (c.loop-k.auto.opened ∙ (c.try_once-clean.auto.opened ∙ lens.2)))
-          (λ q lt. subst (λ (x : Scan). IsLoaded q x (slice_index r.opened q)) scan (c.try_again-clean.ensures.told q lt)));
-      came_direct = λ _ _.
-          let ms = members_of (g.S.ScanSeat.bundle c.args.seat.now) in
-          let n : ℕ = g.row.N in let w : ℕ = width g.row.C g.row.H g.row.G in
-          let inv = c.loop-k.invariant.1 in let tries = c.loop-k.invariant.0 in let lens = c.requires.lengths in
-          let fl = c.copy_from_slice.new.self in let ba = c.copy_from_slice-2.new.self in
-          let r = c.try_again-clean.new in
-          let view = at_loop n c.loop-k._k tries c.loop-k.kept fl ba ms _ inv.count c.loop-k-test.true inv.view in
-          let d : Scan = stood tries c.loop-k.kept fl ba (scan_of ms) in
-          let end = then_is (λ (x : Scan). answered (record { vector = r.opened; totals = r.totals })
-          (settling r.opened r.found r.kept (opening r.opened r.kept x))) d ms _ _ c.requires.own.1 view
-          (c.try_again-clean.ensures.clean c.if-clean-2.true) in
-          let count = inv.count in let lt = c.loop-k-test.true in
-          subst (λ (x : Scan). AnswersBy n w (scan_of ms) x (record { vector = r.opened; totals = r.totals }))
-          (sym (now_is _ ms _ c.requires.own.1 end))
-          (came_later n w fl ba c.loop-k.opened c.loop-k.found tries inv.tried c.loop-k.kept (scan_of ms) r.opened r.found r.kept
-          (record { vector = r.opened; totals = r.totals })
-          (c.try_again-clean.auto.opened ∙ (c.loop-k.auto.opened ∙ (c.try_once-clean.auto.opened ∙ lens.2)))
-          (c.try_again-clean.ensures.same c.if-clean-2.true) (omega (arith, count, lt)) refl);
+      own = made.own ∙ inv.own;
+      ruled = made.ruled;
+      wide = made.wide;
+      totals = made.totals;
+      idle = record { kept = ap (λ (x : ScanLog). x.kept) scan; rest = ap (λ (x : ScanLog). x.now) scan };
+      others = others_same _ ms _ c.requires.own.1 end;
+      direct = λ _ _. subst (λ (x : ScanLog). IsAnswered n (scan_of ms) x a) (sym scan)
+          (direct_later n fl ba c.loop-k.opened c.loop-k.found tries inv.tried c.loop-k.kept
+          (scan_of ms) r.opened r.found r.totals
+          r.kept inv.lengths.0 long
+          (λ q low. subst (λ (x : ScanLog). IsLoaded q x (slice_index r.opened q)) (now_is d ms _ c.requires.own.1 view)
+          (made.told q low)));
+      came_direct = λ _ _. subst (λ (x : ScanLog). AnswersBy n w (scan_of ms) x a) (sym scan)
+          (came_later n w fl ba c.loop-k.opened c.loop-k.found tries inv.tried c.loop-k.kept
+          (scan_of ms) r.opened r.found r.kept a
+          long (made.same c.if-clean-2.true) (omega (arith, count, lt)) refl);
       quiet = λ e. absurd (not_quiet (ap quiet_in e));
       once = λ e. absurd (not_quiet (ap quiet_in e));
-      moved = λ _.
-          let ms = members_of (g.S.ScanSeat.bundle c.args.seat.now) in
-          let n : ℕ = g.row.N in
-          let inv = c.loop-k.invariant.1 in let tries = c.loop-k.invariant.0 in let lens = c.requires.lengths in
-          let fl = c.copy_from_slice.new.self in let ba = c.copy_from_slice-2.new.self in
-          let r = c.try_again-clean.new in
-          let view = at_loop n c.loop-k._k tries c.loop-k.kept fl ba ms _ inv.count c.loop-k-test.true inv.view in
-          let d : Scan = stood tries c.loop-k.kept fl ba (scan_of ms) in
-          let end = then_is (λ (x : Scan). answered (record { vector = r.opened; totals = r.totals })
-          (settling r.opened r.found r.kept (opening r.opened r.kept x))) d ms _ _ c.requires.own.1 view
-          (c.try_again-clean.ensures.clean c.if-clean-2.true) in
-          moved_later n fl ba c.loop-k.opened c.loop-k.found tries inv.tried c.loop-k.kept (scan_of ms) (map version_of c.args.kept.now)
-          r.opened _ c.requires.geometry.workers.0 inv.lengths.0
-          (c.try_again-clean.auto.opened ∙ (c.loop-k.auto.opened ∙ (c.try_once-clean.auto.opened ∙ lens.2)))
-          (ap (λ (x : Scan). x.opened) (now_is _ ms _ c.requires.own.1 end));
+      moved = λ _. moved_later n fl ba c.loop-k.opened c.loop-k.found tries inv.tried c.loop-k.kept (scan_of ms)
+          (map version_of c.args.kept.now) r.opened _ c.requires.geometry.workers.0 inv.lengths.0 long
+          (ap (λ (x : ScanLog). x.opened) scan);
       lent = λ e. absurd (direct_lent _ e);
       came_lent = λ e. absurd (direct_lent _ e);
-      numbers = λ _ _. c.try_again-clean.ensures.numbers c.if-clean-2.true;
-      listed = let w : ℕ = width g.row.C g.row.H g.row.G in let r = c.try_again-clean.new in
-          lists_then w c.args.totals.now c.loop-k.totals r.totals c.loop-k.moved r.moved c.loop-k.invariant.1.listed
-          c.try_again-clean.ensures.listed;
+      numbers = λ _ _. made.numbers c.if-clean-2.true;
+      listed = lists_then w c.args.totals.now c.loop-k.totals r.totals c.loop-k.moved r.moved inv.listed made.listed;
       gave_up = λ e. absurd (direct_up _ e);
       came_up = λ e. absurd (direct_up _ e);
     }
 
 pub returns-then-lends : goal.returns-then-lends
 returns-then-lends g c =
+    let ms = members_of (g.S.ScanSeat.bundle c.args.seat.now) in
+    let n : ℕ = g.row.N in let w : ℕ = width g.row.C g.row.H g.row.G in
+    let inv = c.loop-k.invariant.1 in let tries = c.loop-k.invariant.0 in let lens = c.requires.lengths in
+    let fl = c.copy_from_slice.new.self in let ba = c.copy_from_slice-2.new.self in
+    let made = c.later_try-clean.ensures in let r = c.later_try-clean.new in
+    let few : length r.kept ≡ n = c.later_try-clean.auto.kept ∙ (c.loop-k.auto.kept ∙ (c.one_try-clean.auto.kept
+    ∙ lens.0)) in
+    let long : length r.opened ≡ n = c.later_try-clean.auto.opened
+    ∙ (c.loop-k.auto.opened ∙ (c.one_try-clean.auto.opened ∙ lens.2)) in
+    let deep : length r.found ≡ n = c.later_try-clean.auto.found ∙ (c.loop-k.auto.found ∙ (c.one_try-clean.auto.found
+    ∙ lens.3)) in
+    let view = at_loop n c.loop-k._k tries c.loop-k.kept fl ba ms _ inv.count c.loop-k-test.true inv.view in
+    let fails = loop_fails n w c.loop-k._k r.opened r.found r.kept c.loop-k.kept few long deep tries fl ba ms _ _ c.requires.own.1
+    inv.count view (made.failed c.if-clean-2.false) in
+    let l = c.ask_all-lends.ensures.lends c.if-lends.true in let a = lent_in n w c.ask_all-lends.new.lent in
+    let end = loop_lends n w c.loop-k._k r.opened r.found r.kept c.loop-k.kept few long deep tries fl ba ms _ _ c.requires.own.1
+    inv.count view _ a l.1 l.0 l.2 fails l.3 l.7 in
+    let scan = now_is _ ms _ c.requires.own.1 end in let count = inv.count in let lt = c.loop-k-test.true in
     record {
-      own = c.ask_all-lends.ensures.own ∙ (c.try_again-clean.ensures.own ∙ c.loop-k.invariant.1.own);
+      own = c.ask_all-lends.ensures.own ∙ (made.own ∙ inv.own);
       ruled = c.ask_all-lends.ensures.ruled;
-      wide = c.try_again-clean.ensures.wide;
-      totals = c.try_again-clean.ensures.totals;
-      idle =
-          let ms = members_of (g.S.ScanSeat.bundle c.args.seat.now) in
-          let n : ℕ = g.row.N in let w : ℕ = width g.row.C g.row.H g.row.G in
-          let inv = c.loop-k.invariant.1 in let tries = c.loop-k.invariant.0 in let lens = c.requires.lengths in
-          let fl = c.copy_from_slice.new.self in let ba = c.copy_from_slice-2.new.self in
-          let r = c.try_again-clean.new in
-          let few : length r.kept ≡ n = c.try_again-clean.auto.kept ∙ (c.loop-k.auto.kept ∙ (c.try_once-clean.auto.kept ∙ lens.0)) in
-          let long : length r.opened ≡ n = c.try_again-clean.auto.opened
-          ∙ (c.loop-k.auto.opened ∙ (c.try_once-clean.auto.opened ∙ lens.2)) in
-          let deep : length r.found ≡ n = c.try_again-clean.auto.found
-          ∙ (c.loop-k.auto.found ∙ (c.try_once-clean.auto.found ∙ lens.3)) in
-          let view = at_loop n c.loop-k._k tries c.loop-k.kept fl ba ms _ inv.count c.loop-k-test.true inv.view in
-          let d : Scan = stood tries c.loop-k.kept fl ba (scan_of ms) in
-          let fails = loop_fails n w c.loop-k._k r.opened r.found r.kept c.loop-k.kept few long deep tries fl ba ms _ _ c.requires.own.1
-          inv.count view (c.try_again-clean.ensures.failed c.if-clean-2.false) in
-          let l = c.ask_all-lends.ensures.lends c.if-lends.true in
-          let a = lent_in n w c.ask_all-lends.new.lent in
-          let end = loop_lends n w c.loop-k._k r.opened r.found r.kept c.loop-k.kept few long deep tries fl ba ms _ _ c.requires.own.1
-          inv.count view _ a l.1 l.0 l.2 fails l.3 l.7 in
-          let scan = now_is _ ms _ c.requires.own.1 end in
-          record { kept = ap (λ (x : Scan). x.kept) scan; rest = ap (λ (x : Scan). x.now) scan };
-      others =
-          let ms = members_of (g.S.ScanSeat.bundle c.args.seat.now) in
-          let n : ℕ = g.row.N in let w : ℕ = width g.row.C g.row.H g.row.G in
-          let inv = c.loop-k.invariant.1 in let tries = c.loop-k.invariant.0 in let lens = c.requires.lengths in
-          let fl = c.copy_from_slice.new.self in let ba = c.copy_from_slice-2.new.self in
-          let r = c.try_again-clean.new in
-          let few : length r.kept ≡ n = c.try_again-clean.auto.kept ∙ (c.loop-k.auto.kept ∙ (c.try_once-clean.auto.kept ∙ lens.0)) in
-          let long : length r.opened ≡ n = c.try_again-clean.auto.opened
-          ∙ (c.loop-k.auto.opened ∙ (c.try_once-clean.auto.opened ∙ lens.2)) in
-          let deep : length r.found ≡ n = c.try_again-clean.auto.found
-          ∙ (c.loop-k.auto.found ∙ (c.try_once-clean.auto.found ∙ lens.3)) in
-          let view = at_loop n c.loop-k._k tries c.loop-k.kept fl ba ms _ inv.count c.loop-k-test.true inv.view in
-          let d : Scan = stood tries c.loop-k.kept fl ba (scan_of ms) in
-          let fails = loop_fails n w c.loop-k._k r.opened r.found r.kept c.loop-k.kept few long deep tries fl ba ms _ _ c.requires.own.1
-          inv.count view (c.try_again-clean.ensures.failed c.if-clean-2.false) in
-          let l = c.ask_all-lends.ensures.lends c.if-lends.true in
-          let a = lent_in n w c.ask_all-lends.new.lent in
-          let end = loop_lends n w c.loop-k._k r.opened r.found r.kept c.loop-k.kept few long deep tries fl ba ms _ _ c.requires.own.1
-          inv.count view _ a l.1 l.0 l.2 fails l.3 l.7 in
-          others_same _ ms _ c.requires.own.1 end;
+      wide = made.wide;
+      totals = made.totals;
+      idle = record { kept = ap (λ (x : ScanLog). x.kept) scan; rest = ap (λ (x : ScanLog). x.now) scan };
+      others = others_same _ ms _ c.requires.own.1 end;
       direct = λ q e. absurd (lent_direct q e);
       came_direct = λ q e. absurd (lent_direct q e);
       quiet = λ e. absurd (lent_direct _ e);
       once = λ e. absurd (lent_direct _ e);
       moved = λ e. absurd (lent_direct _ e);
-      lent = λ _.
-          let ms = members_of (g.S.ScanSeat.bundle c.args.seat.now) in
-          let n : ℕ = g.row.N in let w : ℕ = width g.row.C g.row.H g.row.G in
-          let inv = c.loop-k.invariant.1 in let tries = c.loop-k.invariant.0 in let lens = c.requires.lengths in
-          let fl = c.copy_from_slice.new.self in let ba = c.copy_from_slice-2.new.self in
-          let r = c.try_again-clean.new in
-          let few : length r.kept ≡ n = c.try_again-clean.auto.kept ∙ (c.loop-k.auto.kept ∙ (c.try_once-clean.auto.kept ∙ lens.0)) in
-          let long : length r.opened ≡ n = c.try_again-clean.auto.opened
-          ∙ (c.loop-k.auto.opened ∙ (c.try_once-clean.auto.opened ∙ lens.2)) in
-          let deep : length r.found ≡ n = c.try_again-clean.auto.found
-          ∙ (c.loop-k.auto.found ∙ (c.try_once-clean.auto.found ∙ lens.3)) in
-          let view = at_loop n c.loop-k._k tries c.loop-k.kept fl ba ms _ inv.count c.loop-k-test.true inv.view in
-          let d : Scan = stood tries c.loop-k.kept fl ba (scan_of ms) in
-          let fails = loop_fails n w c.loop-k._k r.opened r.found r.kept c.loop-k.kept few long deep tries fl ba ms _ _ c.requires.own.1
-          inv.count view (c.try_again-clean.ensures.failed c.if-clean-2.false) in
-          let l = c.ask_all-lends.ensures.lends c.if-lends.true in
-          let a = lent_in n w c.ask_all-lends.new.lent in
-          let end = loop_lends n w c.loop-k._k r.opened r.found r.kept c.loop-k.kept few long deep tries fl ba ms _ _ c.requires.own.1
-          inv.count view _ a l.1 l.0 l.2 fails l.3 l.7 in
-          subst (λ (x : Scan). IsAnswered n (scan_of ms) x a) (sym (now_is _ ms _ c.requires.own.1 end))
-          (lent_later n fl ba c.loop-k.opened c.loop-k.found tries inv.tried c.loop-k.kept (scan_of ms) r.opened r.found r.kept a l.1
+      lent = λ _. subst (λ (x : ScanLog). IsAnswered n (scan_of ms) x a) (sym scan)
+          (lent_later n fl ba c.loop-k.opened c.loop-k.found tries inv.tried c.loop-k.kept
+          (scan_of ms) r.opened r.found r.kept a l.1
           l.0 (asked_worker l.1 ∷ l.2) inv.lengths.0
           (vector_long n w c.ask_all-lends.new.lent (c.ask_all-lends.auto.lent ∙ (c.loop-k.auto.lent ∙ lens.4))) inv.seen
           (ap (λ (ws : List ℕ). is_above fl (take n (drop 1 ws))) (sym l.5) ∙ l.6.above));
-      came_lent = λ _.
-          let ms = members_of (g.S.ScanSeat.bundle c.args.seat.now) in
-          let n : ℕ = g.row.N in let w : ℕ = width g.row.C g.row.H g.row.G in
-          let inv = c.loop-k.invariant.1 in let tries = c.loop-k.invariant.0 in let lens = c.requires.lengths in
-          let fl = c.copy_from_slice.new.self in let ba = c.copy_from_slice-2.new.self in
-          let r = c.try_again-clean.new in
-          let few : length r.kept ≡ n = c.try_again-clean.auto.kept ∙ (c.loop-k.auto.kept ∙ (c.try_once-clean.auto.kept ∙ lens.0)) in
-          let long : length r.opened ≡ n = c.try_again-clean.auto.opened
-          ∙ (c.loop-k.auto.opened ∙ (c.try_once-clean.auto.opened ∙ lens.2)) in
-          let deep : length r.found ≡ n = c.try_again-clean.auto.found
-          ∙ (c.loop-k.auto.found ∙ (c.try_once-clean.auto.found ∙ lens.3)) in
-          let view = at_loop n c.loop-k._k tries c.loop-k.kept fl ba ms _ inv.count c.loop-k-test.true inv.view in
-          let fails = loop_fails n w c.loop-k._k r.opened r.found r.kept c.loop-k.kept few long deep tries fl ba ms _ _ c.requires.own.1
-          inv.count view (c.try_again-clean.ensures.failed c.if-clean-2.false) in
-          let l = c.ask_all-lends.ensures.lends c.if-lends.true in
-          let a = lent_in n w c.ask_all-lends.new.lent in
-          let end = loop_lends n w c.loop-k._k r.opened r.found r.kept c.loop-k.kept few long deep tries fl ba ms _ _ c.requires.own.1
-          inv.count view _ a l.1 l.0 l.2 fails l.3 l.7 in
-          let count = inv.count in let lt = c.loop-k-test.true in
-          subst (λ (x : Scan). AnswersBy n w (scan_of ms) x a) (sym (now_is _ ms _ c.requires.own.1 end))
-          (came_lending n w fl ba c.loop-k.opened c.loop-k.found tries inv.tried c.loop-k.kept (scan_of ms) r.opened r.found r.kept a
-          l.1 l.0 l.2 (asked_worker l.1 ∷ l.2) long deep (omega (arith, count, lt))
-          (c.try_again-clean.ensures.rose c.if-clean-2.false) l.3 l.4 l.6 (ap (lent_in n w) (sym l.5)));
+      came_lent = λ _. subst (λ (x : ScanLog). AnswersBy n w (scan_of ms) x a) (sym scan)
+          (came_lending n w fl ba c.loop-k.opened c.loop-k.found tries inv.tried c.loop-k.kept
+          (scan_of ms) r.opened r.found r.kept a
+          l.1 l.0 l.2 (asked_worker l.1 ∷ l.2) long deep (omega (arith, count, lt)) (made.rose c.if-clean-2.false) l.3 l.4 l.6
+          (ap (lent_in n w) (sym l.5)));
       numbers = λ q e. absurd (lent_direct q e);
-      listed = let w : ℕ = width g.row.C g.row.H g.row.G in let r = c.try_again-clean.new in
-          lists_then w c.args.totals.now c.loop-k.totals r.totals c.loop-k.moved r.moved c.loop-k.invariant.1.listed
-          c.try_again-clean.ensures.listed;
+      listed = lists_then w c.args.totals.now c.loop-k.totals r.totals c.loop-k.moved r.moved inv.listed made.listed;
       gave_up = λ e. absurd (lent_up e);
       came_up = λ e. absurd (lent_up e);
     }
 
 pub returns : goal.returns
 returns g c =
+    let ms = members_of (g.S.ScanSeat.bundle c.args.seat.now) in
+    let n : ℕ = g.row.N in let w : ℕ = width g.row.C g.row.H g.row.G in
+    let inv = c.loop-k.invariant.1 in let tries = c.loop-k.invariant.0 in
+    let fl = c.copy_from_slice.new.self in let ba = c.copy_from_slice-2.new.self in
+    let t = c.loop-k-test.false in let last = c.loop-k.auto._k-end in let count = inv.count in
+    let scan = now_is _ ms _ c.requires.own.1 inv.view in
     record {
-      own = c.loop-k.invariant.1.own;
-      ruled = c.loop-k.invariant.1.ruled;
-      wide = c.loop-k.invariant.1.wide;
-      totals = c.loop-k.invariant.1.totals;
-      idle =
-          let ms = members_of (g.S.ScanSeat.bundle c.args.seat.now) in
-          let n : ℕ = g.row.N in
-          let inv = c.loop-k.invariant.1 in let tries = c.loop-k.invariant.0 in
-          let t = c.loop-k-test.false in let last = c.loop-k.auto._k-end in let count = inv.count in
-          let fl = c.copy_from_slice.new.self in let ba = c.copy_from_slice-2.new.self in
-          let scan = now_is _ ms _ c.requires.own.1 inv.view ∙ given_last n (stood tries c.loop-k.kept fl ba (scan_of ms)) refl
-          (omega (arith, count, t, last)) in
-          record { kept = ap (λ (x : Scan). x.kept) scan; rest = ap (λ (x : Scan). x.now) scan };
-      others = others_same _ _ _ c.requires.own.1 c.loop-k.invariant.1.view;
+      own = inv.own;
+      ruled = inv.ruled;
+      wide = inv.wide;
+      totals = inv.totals;
+      idle = let rest = scan ∙ given_last n (stood tries c.loop-k.kept fl ba (scan_of ms)) refl (omega (arith, count, t, last)) in
+          record { kept = ap (λ (x : ScanLog). x.kept) rest; rest = ap (λ (x : ScanLog). x.now) rest };
+      others = others_same _ ms _ c.requires.own.1 inv.view;
       direct = λ q e. absurd (up_direct q e);
       came_direct = λ q e. absurd (up_direct q e);
       quiet = λ e. absurd (up_direct _ e);
@@ -483,25 +378,13 @@ returns g c =
       lent = λ e. absurd (up_lent e);
       came_lent = λ e. absurd (up_lent e);
       numbers = λ q e. absurd (up_direct q e);
-      listed = c.loop-k.invariant.1.listed;
-      gave_up = λ _.
-          let ms = members_of (g.S.ScanSeat.bundle c.args.seat.now) in
-          let n : ℕ = g.row.N in
-          let inv = c.loop-k.invariant.1 in let tries = c.loop-k.invariant.0 in
-          let t = c.loop-k-test.false in let last = c.loop-k.auto._k-end in let count = inv.count in
-          let fl = c.copy_from_slice.new.self in let ba = c.copy_from_slice-2.new.self in
-          subst (λ (x : Scan). IsGivenUp n (scan_of ms) x c.loop-k.opened c.loop-k.found)
-          (sym (now_is _ ms _ c.requires.own.1 inv.view))
-          (all_failed n fl ba c.loop-k.opened c.loop-k.found tries inv.tried c.loop-k.kept (scan_of ms) (omega (arith, count, t, last))
+      listed = inv.listed;
+      gave_up = λ _. subst (λ (x : ScanLog). IsGivenUp n (scan_of ms) x c.loop-k.opened c.loop-k.found) (sym scan)
+          (all_failed n fl ba c.loop-k.opened c.loop-k.found tries inv.tried c.loop-k.kept (scan_of ms) (omega
+          (arith, count, t, last))
           inv.above);
-      came_up = λ _ e moved.
-          let ms = members_of (g.S.ScanSeat.bundle c.args.seat.now) in
-          let n : ℕ = g.row.N in let w : ℕ = width g.row.C g.row.H g.row.G in
-          let inv = c.loop-k.invariant.1 in let tries = c.loop-k.invariant.0 in
-          let t = c.loop-k-test.false in let last = c.loop-k.auto._k-end in let count = inv.count in
-          let fl = c.copy_from_slice.new.self in let ba = c.copy_from_slice-2.new.self in
-          subst (λ (x : Scan). CameTo n w (scan_of ms) x (GaveUp e.worker e.first e.last))
-          (sym (now_is _ ms _ c.requires.own.1 inv.view))
-          (came_up n w fl ba c.loop-k.opened c.loop-k.found tries inv.tried c.loop-k.kept (scan_of ms) (omega (arith, count, t, last)) e
+      came_up = λ _ e moved. subst (λ (x : ScanLog). CameTo n w (scan_of ms) x (GaveUp e.worker e.first e.last)) (sym scan)
+          (came_up n w fl ba c.loop-k.opened c.loop-k.found tries inv.tried c.loop-k.kept (scan_of ms) (omega
+          (arith, count, t, last)) e
           moved);
     }

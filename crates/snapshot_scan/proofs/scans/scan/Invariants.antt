@@ -1,6 +1,6 @@
 use Rattle.std.proofs.Common.{◌≡◌, ◌+◌, ℕ, List, length}
 use Rattle.ledger_core.specs.Ops.{width}
-use Rattle.register_rule.specs.Steps.{gives_up}
+use Rattle.register_rule.specs.ScanSteps.{given_up_if_spent}
 use Rattle.register_rule.specs.Seats.{HasMember, table_of, members_of}
 use Rattle.snapshot_scan.specs.Shape.{scan_of, with_scan, IsRuled}
 use Rattle.snapshot_scan.specs.ChangedItems.{Lists}
@@ -26,5 +26,6 @@ invariant-loop-k g l = let bundle = g.S.ScanSeat.bundle in let ms = members_of (
       above : (q : ℕ) (t : Tried) → get_elem? tries q ≡ some t → Below (scan_of ms).seen t.first;
       lengths : (length l.floor ≡ g.row.N) × (length l.base ≡ g.row.N);
       seen : Below (scan_of ms).seen l.floor;
-      view : members_of (bundle l.seat) ≡ with_scan (gives_up g.row.N (stood tries l.kept l.floor l.base (scan_of ms))) ms;
+      view : members_of (bundle l.seat) ≡ with_scan (given_up_if_spent g.row.N (stood tries l.kept l.floor l.base
+          (scan_of ms))) ms;
     }

@@ -3,7 +3,7 @@ use Rattle.std.proofs.lemmas.List.{length_push, length-map}
 use Rattle.ledger_core.specs.Ops.{width}
 use Rattle.register_rule.specs.declared.seats.ReadSeat.{ReadSeat}
 use Rattle.register_rule.specs.Members.{readers_from}
-use Rattle.register_rule.specs.Seats.{reader_of, HasReader}
+use Rattle.register_rule.specs.Seats.{reader_of, IsReadSeatOf}
 use Rattle.snapshot_scan.specs.declared.reader.Reader.{Reader}
 use Rattle.snapshot_scan.specs.Order.{IsAlone}
 use Rattle.snapshot_scan.specs.Readers.{IsReaderOf}
@@ -18,7 +18,7 @@ loop-seat-init g c =
     let long = sym (length-map c.args.seats.items reader_of)
     ∙ (ap length c.requires.fresh ∙ length-readers_from g.row.N w 0 c.args.all) in
     record {
-      own = subst (λ (z : List ReadSeat). All (HasReader c.args.board.now) z) (sym began) c.requires.own;
+      own = subst (λ (z : List ReadSeat). All (IsReadSeatOf c.args.board.now) z) (sym began) c.requires.own;
       count = omega (
         arith,
         ap (length {A = ReadSeat}) began,
@@ -43,7 +43,7 @@ loop-seat-preserved g c =
     let long = ap (length {A = Reader g.row.N g.row.C g.row.H g.row.G}) c.in_ok-push.ensures.items
     ∙ length_push c.loop-seat.readers.items c.in_ok-to_reader.field-0 in
     record {
-      own = (next_all (HasReader c.args.board.now) _ rest c.in-Some.seat step inv.own).1;
+      own = (next_all (IsReadSeatOf c.args.board.now) _ rest c.in-Some.seat step inv.own).1;
       count = omega (arith, ap (length {A = ReadSeat}) step, inv.count, long);
       fresh = (next_reader g.row.N w (length c.loop-seat.readers.items) _ rest c.in-Some.seat step inv.fresh).1
           ∙ ap (λ z. readers_from g.row.N w z (length rest)) (omega (arith, long));

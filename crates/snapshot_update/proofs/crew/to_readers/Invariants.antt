@@ -2,14 +2,14 @@ use Rattle.std.proofs.Common.{◌≡◌, ◌+◌, map, length, All}
 use Rattle.std.specs.Vec.Iter.{into_iter_items}
 use Rattle.ledger_core.specs.Ops.{width}
 use Rattle.register_rule.specs.Members.{readers_from}
-use Rattle.register_rule.specs.Seats.{reader_of, HasReader}
+use Rattle.register_rule.specs.Seats.{reader_of, IsReadSeatOf}
 use Rattle.snapshot_scan.specs.Order.{IsAlone}
 use Rattle.snapshot_scan.specs.Readers.{IsReaderOf}
 use Rattle.snapshot_update.proofs.crew.to_readers.Given as goal
 
 abbrev pub invariant-loop-seat : goal.invariant-loop-seat
 invariant-loop-seat g l = record {
-  own : All (HasReader l.board) (into_iter_items l.seat-iterator);
+  own : All (IsReadSeatOf l.board) (into_iter_items l.seat-iterator);
   count : length l.readers.items + length (into_iter_items l.seat-iterator) ≡ l.fn.all;
   fresh : map reader_of (into_iter_items l.seat-iterator) ≡ readers_from g.row.N (width g.row.C g.row.H g.row.G)
       (length l.readers.items) (length (into_iter_items l.seat-iterator));

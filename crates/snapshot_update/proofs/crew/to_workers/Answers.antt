@@ -4,7 +4,7 @@ use Rattle.ledger_core.specs.Ops.{width}
 use Rattle.segment_layout.specs.Layout.{depth}
 use Rattle.register_rule.specs.declared.seats.WorkSeat.{WorkSeat}
 use Rattle.register_rule.specs.Members.{workers_from}
-use Rattle.register_rule.specs.Seats.{worker_of, HasWorker}
+use Rattle.register_rule.specs.Seats.{worker_of, IsWorkSeatOf}
 use Rattle.snapshot_update.specs.Workers.{index_of, lists_of, IsWorkerOf}
 use Rattle.std.specs.Vec.Iter.{into_iter_items}
 use Rattle.snapshot_update.proofs.Seating.{length-workers_from, next_worker, next_all, one_more, one_more_same, all_more}
@@ -18,7 +18,7 @@ loop-seat-init g c =
     let long = sym (length-map c.args.seats.items worker_of)
     ∙ (ap length c.requires.fresh ∙ length-workers_from g.row.N w d 0 g.row.N) in
     record {
-      own = subst (λ (z : List WorkSeat). All (HasWorker c.args.board.now) z) (sym began) c.requires.own;
+      own = subst (λ (z : List WorkSeat). All (IsWorkSeatOf c.args.board.now) z) (sym began) c.requires.own;
       count = omega (arith, ap (length {A = WorkSeat}) began, long);
       fresh = subst (λ (z : List WorkSeat). map worker_of z ≡ workers_from g.row.N w d 0 (length z)) (sym began)
           (c.requires.fresh ∙ ap (workers_from g.row.N w d 0) (sym long));
@@ -35,7 +35,7 @@ loop-seat-preserved g c =
     let d = depth g.row.N w in
     let rest = into_iter_items c.next.new.self in
     record {
-      own = (next_all (HasWorker c.args.board.now) _ rest c.in-Some.seat step inv.own).1;
+      own = (next_all (IsWorkSeatOf c.args.board.now) _ rest c.in-Some.seat step inv.own).1;
       count = omega (arith, ap (length {A = WorkSeat}) step, inv.count);
       fresh = (next_worker g.row.N w d c.loop-seat.index _ rest c.in-Some.seat step inv.fresh).1;
       made = all_more (IsWorkerOf c.args.board.now) _ _ _ c.in_ok-push.ensures.items inv.made c.in_ok-to_worker.ensures.own;

@@ -4,13 +4,13 @@ use Rattle.std.specs.Vec.Iter.{into_iter_items}
 use Rattle.ledger_core.specs.Ops.{width}
 use Rattle.segment_layout.specs.Layout.{depth}
 use Rattle.register_rule.specs.Members.{workers_from}
-use Rattle.register_rule.specs.Seats.{worker_of, HasWorker}
+use Rattle.register_rule.specs.Seats.{worker_of, IsWorkSeatOf}
 use Rattle.snapshot_update.specs.Workers.{index_of, lists_of, IsWorkerOf}
 use Rattle.snapshot_update.proofs.crew.to_workers.Given as goal
 
 abbrev pub invariant-loop-seat : goal.invariant-loop-seat
 invariant-loop-seat g l = record {
-  own : All (HasWorker l.board) (into_iter_items l.seat-iterator);
+  own : All (IsWorkSeatOf l.board) (into_iter_items l.seat-iterator);
   count : length (into_iter_items l.seat-iterator) + l.index ≡ g.row.N;
   fresh : map worker_of (into_iter_items l.seat-iterator) ≡ workers_from g.row.N (width g.row.C g.row.H g.row.G)
       (depth g.row.N (width g.row.C g.row.H g.row.G)) l.index (length (into_iter_items l.seat-iterator));

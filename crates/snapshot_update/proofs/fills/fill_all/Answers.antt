@@ -1,7 +1,6 @@
-use Rattle.std.proofs.Common.{◌<◌, length, sym, ap, ◌∙◌, arith}
+use Rattle.std.proofs.Common.{◌∙◌, arith}
 use Rattle.ledger_core.specs.Ops.{width}
 use Rattle.segment_layout.specs.Layout.{depth}
-use Rattle.snapshot_update.specs.BufferImages.{with_hidden}
 use Rattle.snapshot_update.specs.BufferImages.{target_of}
 use Rattle.snapshot_update.proofs.Filling.{all_filled}
 use Rattle.snapshot_update.proofs.fills.fill_all.Goals as goal

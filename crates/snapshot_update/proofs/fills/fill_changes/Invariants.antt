@@ -1,12 +1,12 @@
 use Rattle.std.proofs.Common.{◌≡◌, ◌<◌, ℕ, get_or}
-use Rattle.register_rule.specs.Seats.{worker_of, index_of, HasWorker}
+use Rattle.register_rule.specs.Seats.{worker_of, index_of, IsWorkSeatOf}
 use Rattle.snapshot_update.specs.BufferImages.{with_hidden}
 use Rattle.snapshot_update.specs.BufferImages.{target_of}
 use Rattle.snapshot_update.proofs.fills.fill_changes.Given as goal
 
 abbrev pub invariant-loop-item : goal.invariant-loop-item
 invariant-loop-item g l = record {
-  own : HasWorker l.board l.seat;
+  own : IsWorkSeatOf l.board l.seat;
   index : index_of l.seat ≡ index_of l.fn.seat;
   member : worker_of l.seat ≡ with_hidden l.hidden (worker_of l.fn.seat);
   filled : (k : ℕ) → k < l.item-index → get_or l.hidden (get_or l.items k 0) 0 ≡ get_or (target_of l.version) (get_or l.items k 0)

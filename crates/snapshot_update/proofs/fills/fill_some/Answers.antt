@@ -1,7 +1,5 @@
 use Rattle.std.proofs.Common.{◌≡◌, ℕ, ◌<◌, ◌+◌, length, sym, ap, ◌∙◌, subst, arith}
-use Rattle.ledger_core.specs.Ops.{width}
-use Rattle.segment_layout.specs.Layout.{depth}
-use Rattle.snapshot_scan.specs.ChangedItems.{Changed}
+use Rattle.snapshot_scan.specs.ChangedItems.{ChangedView}
 use Rattle.snapshot_update.specs.BufferImages.{with_hidden}
 use Rattle.snapshot_update.specs.BufferImages.{target_of}
 use Rattle.snapshot_update.specs.Noting.{SoFar}
@@ -21,10 +19,10 @@ loop-item-preserved g c =
       filled = below_set c.loop-item.hidden target c.fill_item.new.hidden n c.word-word.result lt c.fill_item.ensures.hidden
           c.word-word.ensures.word is.filled;
       noted = elim c.if-shown-item.branch [
-        | then-shown-item w ↦ subst (λ (x : Changed). SoFar (n + 1) x c.args.shown.now target) (sym w.recent-is)
+        | then-shown-item w ↦ subst (λ (x : ChangedView). SoFar (n + 1) x c.args.shown.now target) (sym w.recent-is)
             (so_far_noted n c.loop-item.recent w.note.new.self c.args.shown.now target
             (λ e. w.if-shown-item.true (e ∙ sym c.word-word.ensures.word)) w.note.ensures.notes is.noted)
-        | else-shown-item w ↦ subst (λ (x : Changed). SoFar (n + 1) x c.args.shown.now target) (sym w.recent-is)
+        | else-shown-item w ↦ subst (λ (x : ChangedView). SoFar (n + 1) x c.args.shown.now target) (sym w.recent-is)
             (so_far_same n c.loop-item.recent c.args.shown.now target (w.if-shown-item.false ∙ c.word-word.ensures.word) is.noted)
       ];
     }

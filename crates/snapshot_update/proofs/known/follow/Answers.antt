@@ -1,6 +1,6 @@
-use Rattle.std.proofs.Common.{◌≡◌, List, get_or, sym, ◌∙◌, subst}
+use Rattle.std.proofs.Common.{get_or, sym, ◌∙◌, subst}
 use Rattle.ledger_core.specs.Ops.{width}
-use Rattle.snapshot_scan.specs.ChangedItems.{Changed}
+use Rattle.snapshot_scan.specs.ChangedItems.{ChangedView}
 use Rattle.snapshot_update.specs.Fit.{AreInside}
 use Rattle.snapshot_update.specs.Known.{ListsMoved}
 use Rattle.snapshot_update.proofs.known.follow.Goals as goal
@@ -13,6 +13,6 @@ returns-clause-known g c = λ _. record {
   direct = c.is_direct.ensures.0 c.if-not-is_direct.false;
   found = (λ z. get_or (sym c.answer.ensures.vector z) (sym c.worker.ensures.index z) 0)
       ∙ (c.if-vector-worker.false ∙ c.number.ensures);
-  lists = subst (λ (m : Changed). ListsMoved g.row.N (width g.row.C g.row.H g.row.G) m c.args.late.now c.list_moved.new.late)
+  lists = subst (λ (m : ChangedView). ListsMoved g.row.N (width g.row.C g.row.H g.row.G) m c.args.late.now c.list_moved.new.late)
       c.moved.ensures c.list_moved.ensures;
 }

@@ -1,7 +1,7 @@
-use Rattle.std.proofs.Common.{◌≡◌, ◌+◌, ℕ, Contains, ap, sym, ◌∙◌, subst, arith}
+use Rattle.std.proofs.Common.{◌≡◌, ◌+◌, ℕ, ap, sym, ◌∙◌, subst, arith}
 use Rattle.ledger_core.specs.Ops.{width}
-use Rattle.snapshot_scan.specs.ChangedItems.{Changed, NotesEach}
-use Rattle.snapshot_update.specs.Known.{NotesRange, ListsMoved}
+use Rattle.snapshot_scan.specs.ChangedItems.{NotesEach}
+use Rattle.snapshot_update.specs.Known.{NotesRange}
 use Rattle.snapshot_update.proofs.Following.{lists_moved, lists_all}
 use Rattle.snapshot_update.proofs.known.list_moved.Goals as goal
 

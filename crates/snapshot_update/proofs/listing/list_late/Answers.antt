@@ -1,10 +1,10 @@
 use Rattle.std.proofs.Common.{◌≡◌, ◌⊎◌, inl, inr, ⊎_elim, ◌+◌, ℕ, List, [], Contains, subst}
-use Rattle.snapshot_scan.specs.ChangedItems.{Changed, Notes, NotesEach}
+use Rattle.snapshot_scan.specs.ChangedItems.{ChangedView, Notes, NotesEach}
 use Rattle.snapshot_scan.proofs.Noted.{none_listed}
 use Rattle.snapshot_update.proofs.listing.list_late.Goals as goal
 
 -- after a clear list has noted one item and those of another list
-only_these : (own shift : ℕ) (items : List ℕ) (none one both : Changed) → none.items ≡ [] → Notes own none one
+only_these : (own shift : ℕ) (items : List ℕ) (none one both : ChangedView) → none.items ≡ [] → Notes own none one
     → NotesEach shift items one both
     → (j : ℕ) → Contains both.items j → (j ≡ own) ⊎ ((k : ℕ) × Contains items k × (j ≡ k + shift))
 only_these own shift items none one both empty a b j has = ⊎_elim

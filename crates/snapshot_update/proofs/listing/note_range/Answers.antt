@@ -1,4 +1,4 @@
-use Rattle.std.proofs.Common.{◌≡◌, ◌+◌, ◌-◌, ◌≤◌, ℕ, subst, arith}
+use Rattle.std.proofs.Common.{◌≡◌, ◌+◌, ◌-◌, ℕ, subst, arith}
 use Rattle.snapshot_scan.specs.ChangedItems.{Notes}
 use Rattle.snapshot_update.specs.Known.{NotesRange}
 use Rattle.snapshot_update.proofs.Following.{range_none, range_more}

@@ -1,4 +1,4 @@
-use Rattle.std.proofs.Common.{◌≡◌, ℕ, ◌+◌, ◌<◌, List, length, Contains, get_or, sym, ap, ◌∙◌, subst, arith, below_more}
+use Rattle.std.proofs.Common.{ℕ, ◌+◌, Contains, ◌∙◌, subst, arith}
 use Rattle.snapshot_scan.proofs.Shifted.{at_place, from_place}
 use Rattle.snapshot_update.proofs.listing.stands_at.Goals as goal
 

@@ -1,7 +1,7 @@
 use Rattle.std.proofs.Common.{◌≡◌, ⊎_elim, ◌+◌, ◌<◌, ℕ, false, List, [], Contains, sym, ◌∙◌, subst, arith}
 use Rattle.ledger_core.specs.Ops.{width}
 use Rattle.segment_layout.specs.Layout.{depth}
-use Rattle.snapshot_scan.specs.ChangedItems.{Changed, NotesEach}
+use Rattle.snapshot_scan.specs.ChangedItems.{ChangedView, NotesEach}
 use Rattle.snapshot_update.specs.BufferImages.{target_of}
 use Rattle.snapshot_update.proofs.Filling.{listed_or, all_filled}
 use Rattle.snapshot_scan.proofs.Noted.{none_listed}
@@ -20,7 +20,8 @@ note_each-requires-then-known g c = record {
 }
 
 -- the items of two lists
-both_listed : (one two : List ℕ) (cleared a b : Changed) → cleared.items ≡ [] → NotesEach 0 one cleared a → NotesEach 0 two a b
+both_listed : (one two : List ℕ) (cleared a b : ChangedView) → cleared.items ≡ [] → NotesEach 0 one cleared a
+    → NotesEach 0 two a b
     → b.all ≡ false → (j : ℕ) → ¬ (Contains b.items j) → (¬ (Contains one j)) × (¬ (Contains two j))
 both_listed one two cleared a b empty x y listed j not =
     let e : j + 0 ≡ j = omega arith in (
@@ -28,7 +29,7 @@ both_listed one two cleared a b empty x y listed j not =
       λ h. not (subst (λ (k : ℕ). Contains b.items k) e (y.notes listed j h)),
     )
 
-both_inside : (n : ℕ) (one two : List ℕ) (cleared a b : Changed) → cleared.items ≡ [] → NotesEach 0 one cleared a
+both_inside : (n : ℕ) (one two : List ℕ) (cleared a b : ChangedView) → cleared.items ≡ [] → NotesEach 0 one cleared a
     → NotesEach 0 two a b
     → ((j : ℕ) → Contains one j → j < n) → ((j : ℕ) → Contains two j → j < n) → (j : ℕ) → Contains b.items j → j < n
 both_inside n one two cleared a b empty x y in_one in_two j has = ⊎_elim

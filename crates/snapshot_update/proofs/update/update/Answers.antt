@@ -1,24 +1,24 @@
-use Rattle.std.proofs.Common.{zero, ◌≡◌, ◌<◌, ◌+◌, ◌&&◌, ℕ, suc, Bool, true, false, cond, not, List, [], ◌∷◌, ◌++◌, length, map}
+use Rattle.std.proofs.Common.{zero, ◌≡◌, ◌<◌, ◌+◌, ℕ, suc, Bool, true, false, cond, List, [], ◌∷◌, ◌++◌, length, map}
 use Rattle.std.proofs.Common.{take, set, slice_index, Contains, sym, refl, ap, ◌∙◌, subst, arith, rules}
 use mathlib.Core.Option.{some, some-injective}
 use lib.ListN.{get_elem?}
-use Rattle.std.proofs.lemmas.Bool.{and_parts, not-true}
 use Rattle.std.proofs.lemmas.List.{length_push}
 use Rattle.ledger_core.specs.Ops.{width, sum_ops}
 use Rattle.ledger_core.specs.Row.{Accepts}
 use Rattle.segment_layout.specs.Layout.{depth}
 use Rattle.register_rule.specs.declared.view.Member.{Member}
-use Rattle.register_rule.specs.declared.view.Scan.{Scan}
+use Rattle.register_rule.specs.declared.view.ScanLog.{ScanLog}
 use Rattle.register_rule.specs.declared.view.Version.{Version}
 use Rattle.register_rule.specs.Sums.{total}
 use Rattle.register_rule.specs.Members.{made_of, published}
-use Rattle.register_rule.specs.declared.view.Made.{Made}
+use Rattle.register_rule.specs.declared.view.PublishEntry.{PublishEntry}
 use Rattle.register_rule.specs.Told.{HoldsNext}
 use Rattle.register_rule.specs.Seats.{worker_of, index_of}
 use Rattle.snapshot_scan.specs.declared.scan_end.ScanEnd.{ScanEnd}
 use Rattle.snapshot_scan.specs.declared.scan_end.ScanEnd.TheVariants.{Direct, GaveUp}
 use Rattle.snapshot_scan.specs.ScanMemories.{rows_of, sums_of, answer_of}
-use Rattle.snapshot_scan.specs.ChangedItems.{Changed}
+use Rattle.snapshot_scan.specs.ChangedItems.{ChangedView}
+use Rattle.snapshot_update.specs.declared.buffer_images.BufferImages.{BufferImages}
 use Rattle.snapshot_update.specs.BufferImages.{DifferAt, version_words, with_hidden}
 use Rattle.snapshot_update.specs.Fit.{AreInside, AreImages, number_in, next_words}
 use Rattle.snapshot_update.specs.Updated.{ScanMeets, IsRuledAlone}
@@ -28,13 +28,26 @@ use Rattle.snapshot_update.proofs.Fitting.{answer_long, rows_many, accepts_same,
 use Rattle.snapshot_update.proofs.Following.{next_is}
 use Rattle.snapshot_update.proofs.update.update.Goals as goal
 
+-- what is touched says nothing of the images
+touched_images : (b : ℕ) (next : List ℕ) (im : BufferImages) (touched : ChangedView) → AreImages b next im
+    → AreImages b next (record im { touched = touched })
+touched_images b next im touched are = record {
+  next_deep = are.next_deep;
+  hidden_deep = are.hidden_deep;
+  shown_deep = are.shown_deep;
+  recent = are.recent;
+  recent_inside = are.recent_inside;
+  late = are.late;
+  late_inside = are.late_inside;
+}
+
 by_known : {P : Type 0} (b : Bool) → (b ≡ true → P) → (b ≡ false → P) → P
 by_known true p q = p refl
 by_known false p q = q refl
 
 pub fill_version-lends-requires : goal.fill_version-lends-requires
 fill_version-lends-requires g c =
-    let n : ℕ = g.row.N in let w : ℕ = width g.row.C g.row.H g.row.G in
+    let n : ℕ = g.row.N in let w : ℕ = width g.row.C g.row.H g.row.G in let b : ℕ = depth n w in
     let fit = c.requires.fit in let s = c.scan_own-ended in let memory = s.new.memory in let im = c.args.images.now in
     let row = c.args.row.now in let row' = c.try_apply.new.self in let adds = c.in_ok-try_apply.ensures.ok in
     let wide : length row ≡ w = fit.wide in
@@ -45,58 +58,51 @@ fill_version-lends-requires g c =
         search rules,
         (
           search rules,
-          (
-            s.ensures.own,
-            (
-              c.requires.geometry,
-              (
-                ap (λ (m : Member). m.work.hidden) s.ensures.others ∙ fit.hidden_is,
-                (
-                  c.touch.ensures.inside,
-                  by_known known (λ yes.
-                      let next = next_is n g.row.C g.row.H g.row.G (index_of c.args.seat.now) row c.args.memory.now memory
-                      im.hidden.items im.shown.items im.recent im.late c.know_next-known.new.late im.own
-                      (worker_of c.args.seat.now) (worker_of s.new.seat) s.result
-                      fit c.requires.own.1 s.ensures.others s.ensures.ruled s.ensures.ready s.ensures.quiet s.ensures.numbers
-                      s.ensures.listed (index_of s.new.seat) _ s.ensures.index
-                      (ap (λ (x : Member). length x.work.made) s.ensures.others) (c.know_next-known.ensures.known yes) in
-                      let listed : c.touch.new.touched.all ≡ false = c.know_next-known.ensures.touched yes in (
-                        next_words row (rows_of memory) (sums_of memory),
-                        next.images,
-                        λ _. (
-                          listed,
-                          next.direct,
-                          λ j lt none. known_words w n row row' (rows_of memory) (sums_of memory) a.vector a.totals wide
-                              (adds.width_stays ∙ wide) (rows_many n g.row.C g.row.H g.row.G memory) long.0 next.numbers
-                              next.totals c.touch.new.touched.items
-                              (λ k lt' none'. let e = adds.sums k in let z = c.touch.ensures.rises listed k none' in
-                              omega (arith, e, z)) j (omega (arith, lt)) none,
-                        ),
-                      ))
-                      (λ no. (
-                        next_words row (rows_of c.args.memory.now) (sums_of c.args.memory.now),
-                        subst (λ (x : Changed). AreImages (depth n w)
-                            (next_words row (rows_of c.args.memory.now) (sums_of c.args.memory.now)) im.hidden.items
-                            im.shown.items im.recent x) (sym (c.know_next-known.ensures.unknown no)) fit.images,
-                        λ yes. absurd (let h = sym yes ∙ no in cc),
-                      )),
-                ),
-              ),
-            ),
-          ),
+          record {
+            own = s.ensures.own;
+            geometry = c.requires.geometry;
+            exact = ap (λ (m : Member). m.work.hidden) s.ensures.others ∙ fit.hidden_is;
+            touched = c.touch.ensures.inside;
+            images = by_known known (λ yes.
+                let next = next_is n g.row.C g.row.H g.row.G (index_of c.args.seat.now) row c.args.memory.now memory im
+                c.know_next-known.new.late (worker_of c.args.seat.now) (worker_of s.new.seat) s.result
+                fit c.requires.own.1 s.ensures.others s.ensures.ruled s.ensures.ready s.ensures.quiet s.ensures.numbers
+                s.ensures.listed (index_of s.new.seat) _ s.ensures.index
+                (ap (λ (x : Member). length x.work.made) s.ensures.others) (c.know_next-known.ensures.known yes) in
+                let listed : c.touch.new.touched.all ≡ false = c.know_next-known.ensures.touched yes in (
+                  next_words row (rows_of memory) (sums_of memory),
+                  touched_images b _ (record im { late = c.know_next-known.new.late }) c.touch.new.touched next.images,
+                  λ _. (
+                    listed,
+                    next.direct,
+                    λ j lt none. known_words w n row row' (rows_of memory) (sums_of memory) a.vector a.totals wide
+                        (adds.width_stays ∙ wide) (rows_many n g.row.C g.row.H g.row.G memory) long.0 next.numbers
+                        next.totals c.touch.new.touched.items
+                        (λ k lt' none'. let e = adds.sums k in let z = c.touch.ensures.rises listed k none' in
+                        omega (arith, e, z)) j (omega (arith, lt)) none,
+                  ),
+                ))
+                (λ no. (
+                  next_words row (rows_of c.args.memory.now) (sums_of c.args.memory.now),
+                  subst (λ (x : ChangedView). AreImages b (next_words row (rows_of c.args.memory.now) (sums_of c.args.memory.now))
+                      (record im { late = x; touched = c.touch.new.touched })) (sym (c.know_next-known.ensures.unknown no))
+                      (touched_images b _ im c.touch.new.touched fit.images),
+                  λ yes. absurd (let h = sym yes ∙ no in cc),
+                ));
+          },
         ),
       ),
     )
 
 -- the member before the publish
-abbrev ready_member : List ℕ → Member → Scan → Member
+abbrev ready_member : List ℕ → Member → ScanLog → Member
 ready_member hidden m c = with_hidden hidden (record m { scan = c })
 
 pub publish-requires : goal.publish-requires
 publish-requires g c =
     let n : ℕ = g.row.N in let w : ℕ = width g.row.C g.row.H g.row.G in let b : ℕ = depth n w in
     let fit = c.requires.fit in let s = c.scan_own-ended in let f = c.fill_version-lends in let memory = s.new.memory in
-    let m : Member = worker_of c.args.seat.now in let c' : Scan = (worker_of s.new.seat).scan in
+    let m : Member = worker_of c.args.seat.now in let c' : ScanLog = (worker_of s.new.seat).scan in
     let row = c.args.row.now in let row' = c.try_apply.new.self in let adds = c.in_ok-try_apply.ensures.ok in
     let ops = c.args.ops.now in
     let wide : length row ≡ w = fit.wide in
@@ -140,29 +146,24 @@ learn-requires g c =
       search rules,
       (
         search rules,
-        (
-          c.requires.geometry,
-          (
-            (let lt = c.requires.own.1 in omega (arith, same, lt)),
-            (
-              subst (AreInside w) (sym touched) c.touch.ensures.inside,
-              λ yes v at k lt none.
-                  let next = next_is n g.row.C g.row.H g.row.G (index_of c.args.seat.now) row c.args.memory.now memory
-                  im.hidden.items im.shown.items im.recent im.late c.know_next-known.new.late im.own
-                  (worker_of c.args.seat.now) (worker_of s.new.seat) s.result
-                  fit c.requires.own.1 s.ensures.others s.ensures.ruled s.ensures.ready s.ensures.quiet s.ensures.numbers
-                  s.ensures.listed (index_of s.new.seat) _ s.ensures.index
-                  (ap (λ (x : Member). length x.work.made) s.ensures.others) (c.know_next-known.ensures.known yes) in
-                  let listed : c.touch.new.touched.all ≡ false = c.know_next-known.ensures.touched yes in
-                  let here : some v ≡ some (record { number = length (worker_of c.args.seat.now).work.made; row = row }) = sym at
-                  ∙ (ap (get_elem? (rows_of memory)) same ∙ next.own) in
-                  let e = ap (λ (x : Version). slice_index x.row k) (some-injective v _ here) in
-                  let z = c.touch.ensures.rises listed k
-                  (λ has. none (subst (λ (t : Changed). Contains t.items k) (sym touched) has)) in let d = adds.sums k in
-                  omega (arith, e, z, d),
-            ),
-          ),
-        ),
+        record {
+          geometry = c.requires.geometry;
+          inside = let lt = c.requires.own.1 in omega (arith, same, lt);
+          touched = subst (AreInside w) (sym touched) c.touch.ensures.inside;
+          known = λ yes v at k lt none.
+              let next = next_is n g.row.C g.row.H g.row.G (index_of c.args.seat.now) row c.args.memory.now memory im
+              c.know_next-known.new.late (worker_of c.args.seat.now) (worker_of s.new.seat) s.result
+              fit c.requires.own.1 s.ensures.others s.ensures.ruled s.ensures.ready s.ensures.quiet s.ensures.numbers
+              s.ensures.listed (index_of s.new.seat) _ s.ensures.index
+              (ap (λ (x : Member). length x.work.made) s.ensures.others) (c.know_next-known.ensures.known yes) in
+              let listed : c.touch.new.touched.all ≡ false = c.know_next-known.ensures.touched yes in
+              let here : some v ≡ some (record { number = length (worker_of c.args.seat.now).work.made; row = row }) = sym at
+              ∙ (ap (get_elem? (rows_of memory)) same ∙ next.own) in
+              let e = ap (λ (x : Version). slice_index x.row k) (some-injective v _ here) in
+              let z = c.touch.ensures.rises listed k (λ has. none (subst (λ (t : ChangedView). Contains t.items k)
+              (sym touched) has)) in
+              let d = adds.sums k in omega (arith, e, z, d);
+        },
       ),
     )
 
@@ -181,7 +182,7 @@ returns-clause-fit g c =
     let n : ℕ = g.row.N in let w : ℕ = width g.row.C g.row.H g.row.G in let b : ℕ = depth n w in
     let fit = c.requires.fit in let s = c.scan_own-ended in let f = c.fill_version-lends in let memory = s.new.memory in
     let im = c.args.images.now in
-    let m : Member = worker_of c.args.seat.now in let c' : Scan = (worker_of s.new.seat).scan in
+    let m : Member = worker_of c.args.seat.now in let c' : ScanLog = (worker_of s.new.seat).scan in
     let row = c.args.row.now in let row' = c.try_apply.new.self in let adds = c.in_ok-try_apply.ensures.ok in
     let ops = c.args.ops.now in
     let wide : length row ≡ w = fit.wide in
@@ -194,10 +195,10 @@ returns-clause-fit g c =
     let m3 = worker_of c.publish.new.seat in
     let is3 : m3 ≡ published w i ops f.result (ready_member f.new.images.hidden.items m c') = c.publish.ensures.member
     ∙ ap (published w i ops f.result) is in
-    let last : Made = made_of ops f.result (ready_member f.new.images.hidden.items m c') in
+    let last : PublishEntry = made_of ops f.result (ready_member f.new.images.hidden.items m c') in
     let made : m3.work.made ≡ m.work.made ++ last ∷ [] = ap (λ (x : Member). x.work.made) is3 in
     let number : c.number-number.result ≡ suc (length m.work.made) = c.number-number.ensures
-    ∙ (ap (λ (l : List Made). length l) made ∙ (let e = length_push m.work.made last in
+    ∙ (ap (λ (l : List PublishEntry). length l) made ∙ (let e = length_push m.work.made last in
     let one : length (m.work.made ++ last ∷ []) ≡ suc (length m.work.made) = omega (arith, e) in one)) in
     let target = version_words row' (cond f.result 1 0) a.vector a.totals in
     let hidden : f.new.images.hidden.items ≡ target = f.ensures.hidden in
@@ -218,7 +219,7 @@ returns-clause-fit g c =
       counts = refl;
       sums = λ k lt'. adds.sums k
           ∙ (ap (λ (z : ℕ). z + sum_ops g.row.C g.row.H ops k) (fit.sums k lt')
-          ∙ sym (ap (λ (l : List Made). total (sum_ops g.row.C g.row.H) l k) made
+          ∙ sym (ap (λ (l : List PublishEntry). total (sum_ops g.row.C g.row.H) l k) made
           ∙ total_last (sum_ops g.row.C g.row.H) m.work.made last k));
       wide = wide';
       own_row = λ _. (λ z. get_elem? (rows' z) (index_of c.publish.new.seat))
@@ -238,16 +239,15 @@ returns-clause-fit g c =
         hidden_deep = ap (λ (l : List ℕ). length l) (c.turn.ensures.buffers.0 ∙ f.ensures.others.0) ∙ fit.images.shown_deep;
         shown_deep = (let e = words_long w n row' (cond f.result 1 0) a.vector a.totals wide' long.0 w long.1 in
             let d = ap (λ (l : List ℕ). length l) (c.turn.ensures.buffers.1 ∙ hidden) in omega (arith, e, d));
-        recent = subst (λ (x : Changed). DifferAt x c.turn.new.images.hidden.items c.turn.new.images.shown.items)
+        recent = subst (λ (x : ChangedView). DifferAt x c.turn.new.images.hidden.items c.turn.new.images.shown.items)
             (sym c.turn.ensures.others.0)
             (subst (λ (x : List ℕ). DifferAt f.new.images.recent x c.turn.new.images.shown.items)
             (sym (c.turn.ensures.buffers.0 ∙ f.ensures.others.0))
             (subst (DifferAt f.new.images.recent c.args.images.now.shown.items) (sym c.turn.ensures.buffers.1) f.ensures.recent));
         recent_inside = subst (AreInside b) (sym c.turn.ensures.others.0) f.ensures.inside;
         late = by_known known (λ yes.
-            let next = next_is n g.row.C g.row.H g.row.G (index_of c.args.seat.now) row c.args.memory.now memory im.hidden.items
-            im.shown.items im.recent im.late c.know_next-known.new.late im.own (worker_of c.args.seat.now)
-            (worker_of s.new.seat) s.result
+            let next = next_is n g.row.C g.row.H g.row.G (index_of c.args.seat.now) row c.args.memory.now memory im
+            c.know_next-known.new.late (worker_of c.args.seat.now) (worker_of s.new.seat) s.result
             fit c.requires.own.1 s.ensures.others s.ensures.ruled s.ensures.ready s.ensures.quiet s.ensures.numbers
             s.ensures.listed (index_of s.new.seat) _ s.ensures.index
             (ap (λ (x : Member). length x.work.made) s.ensures.others) (c.know_next-known.ensures.known yes) in
@@ -266,7 +266,7 @@ returns-clause-fit g c =
             next.totals f.new.images.touched.items
             (λ k lt' none. let e = adds.sums k in
             let z = c.touch.ensures.rises listed k
-            (λ has. none (subst (λ (t : Changed). Contains t.items k) (sym touched) has)) in omega (arith, e, z))
+            (λ has. none (subst (λ (t : ChangedView). Contains t.items k) (sym touched) has)) in omega (arith, e, z))
             c.worker-own.result v (sums_of after) c.turn.new.images.late (c.learn.ensures.sums _ own_at) after.sizes.1
             c.turn.ensures.own c.turn.ensures.lent)))
             (λ unknown listed. absurd (let h = sym (c.turn.ensures.unknown unknown) ∙ listed in cc));
@@ -274,7 +274,8 @@ returns-clause-fit g c =
       };
     }
 
-met : (n w : ℕ) (a b : Scan) (lends : Bool) → (lends ≡ true → ScanMeets n w a b true) → (lends ≡ false → ScanMeets n w a b false)
+met : (n w : ℕ) (a b : ScanLog) (lends : Bool) → (lends ≡ true → ScanMeets n w a b true) → (lends ≡ false
+    → ScanMeets n w a b false)
     → ScanMeets n w a b lends
 met n w a b true lent none = lent refl
 met n w a b false lent none = none refl
@@ -283,7 +284,7 @@ pub returns-clause-updated : goal.returns-clause-updated
 returns-clause-updated g c =
     let n : ℕ = g.row.N in let w : ℕ = width g.row.C g.row.H g.row.G in
     let s = c.scan_own-ended in let f = c.fill_version-lends in
-    let m : Member = worker_of c.args.seat.now in let c' : Scan = (worker_of s.new.seat).scan in let ops = c.args.ops.now in
+    let m : Member = worker_of c.args.seat.now in let c' : ScanLog = (worker_of s.new.seat).scan in let ops = c.args.ops.now in
     let is : worker_of f.new.seat ≡ ready_member f.new.images.hidden.items m c' = f.ensures.member
     ∙ ap (with_hidden f.new.images.hidden.items) s.ensures.others in
     let same : index_of f.new.seat ≡ index_of c.args.seat.now = f.ensures.index ∙ s.ensures.index in record {

@@ -2,13 +2,13 @@ use Rattle.std.proofs.Common.{[], ◌∷◌, IfSome, subst, ap, arith}
 use Rattle.std.proofs.lemmas.List.Elements.{All-pop}
 use Rattle.register_rule.specs.declared.view.Member.{Member}
 use Rattle.register_rule.specs.Members.{new_worker}
-use Rattle.register_rule.specs.Seats.{worker_of, HasWorker}
+use Rattle.register_rule.specs.Seats.{worker_of, IsWorkSeatOf}
 use Rattle.unit_tests.proofs.Popped.{popped}
 use Rattle.unit_tests.proofs.beside.with_first.Goals as goal
 
 pub new_worker-requires : goal.new_worker-requires
 new_worker-requires c =
-    let own = HasWorker c.in_ok-board.field-0.board in
+    let own = IsWorkSeatOf c.in_ok-board.field-0.board in
     let two = c.in_ok-board.field-0.work.items in
     let made = c.in_ok-board.ensures in
     let last = All-pop own two c.pop.new.self.items c.pop.result c.pop.ensures.items made.work.0 in
@@ -18,7 +18,7 @@ new_worker-requires c =
 
 pub returns-in_ok-worker-in-Some-Some-clause-own : goal.returns-in_ok-worker-in-Some-Some-clause-own
 returns-in_ok-worker-in-Some-Some-clause-own c =
-    let own = HasWorker c.in_ok-board.field-0.board in
+    let own = IsWorkSeatOf c.in_ok-board.field-0.board in
     let two = c.in_ok-board.field-0.work.items in
     let one = c.pop.new.self.items in
     let others = All-pop own two one c.pop.result c.pop.ensures.items c.in_ok-board.ensures.work.0 in

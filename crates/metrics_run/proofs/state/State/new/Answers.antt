@@ -1,5 +1,5 @@
 use Rattle.std.proofs.Common.{refl, ap}
-use Rattle.registry_state.specs.Kept.{Registry}
+use Rattle.registry_state.specs.Kept.{RegistryView}
 use Rattle.metrics_run.specs.State.{Scans}
 use Rattle.metrics_run.proofs.state.State.new.Goals as goal
 
@@ -9,9 +9,9 @@ returns-in-Ok-clause-fresh c =
     record {
       board_is = refl;
       workers_are = refl;
-      journal = ap (λ (r : Registry Scans). r.journal) made;
-      families = ap (λ (r : Registry Scans). r.state) made;
-      window = ap (λ (r : Registry Scans). r.window) made;
+      journal = ap (λ (r : RegistryView Scans). r.journal) made;
+      families = ap (λ (r : RegistryView Scans). r.state) made;
+      window = ap (λ (r : RegistryView Scans). r.window) made;
       children = c.in_ok-queue.ensures.children;
       queue = c.in_ok-queue.ensures.lists;
     }

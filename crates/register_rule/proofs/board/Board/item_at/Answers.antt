@@ -2,7 +2,7 @@ use Rattle.std.proofs.Common.{arith, ℕ, ◌≡◌, ◌+◌, ◌*◌, ◌%◌, 
 use lib.Arith.{digits_lt}
 use Rattle.ledger_core.specs.Ops.{width}
 use Rattle.segment_layout.specs.Layout.{depth, span}
-use Rattle.register_rule.specs.Words.{item_of}
+use Rattle.register_rule.specs.Words.{version_item}
 use Rattle.register_rule.proofs.Words.{item_lt, place_is}
 use Rattle.register_rule.proofs.board.Board.item_at.Goals as goal
 
@@ -15,11 +15,11 @@ returns-clause-place g c =
     let i : ℕ = c.args.segment * span b in
     let number : c.number_at.result ≡ i + 0 = c.number_at.ensures.0 in
     let sum : c.number_at.result + 1 + p + c.args.item ≡ i + (1 + q + c.args.item) = omega arith in
-    let inside : i + item_of b c.args.version c.args.item < g.row.N * span b =
+    let inside : i + version_item b c.args.version c.args.item < g.row.N * span b =
     digits_lt c.requires.0 (item_lt b c.args.version c.args.item c.requires.1) in (
       sum,
       subst (λ (z : ℕ). z < c.args.self.now.table.shared.table_id.words) (sym sum)
-          (subst (λ (z : ℕ). i + item_of b c.args.version c.args.item < z) (sym c.args.self.now.sized.1) inside),
+          (subst (λ (z : ℕ). i + version_item b c.args.version c.args.item < z) (sym c.args.self.now.sized.1) inside),
     )
 
 pub returns-clause-part : goal.returns-clause-part

@@ -1,7 +1,7 @@
 use Rattle.std.specs.Prelude.{◌≡◌}
 use Rattle.ledger_core.specs.Ops.{width, sum_ops}
 use Rattle.ledger_core.specs.Row.{Accepts}
-use Rattle.register_rule.specs.Steps.{after}
+use Rattle.register_rule.specs.ScanSteps.{after}
 use Rattle.register_rule.specs.Members.{group, led, scan_changed}
 use Rattle.register_rule.specs.Told.{LoadTells, AreRuled}
 use Rattle.register_rule.proofs.board.Board.load.Given as goal

@@ -4,7 +4,7 @@ use Rattle.ledger_core.specs.Ops.{width}
 use Rattle.register_rule.specs.declared.seats.ReadSeat.{ReadSeat}
 use Rattle.register_rule.specs.declared.view.Member.{Member}
 use Rattle.register_rule.specs.Members.{first_of, new_reader, readers_from}
-use Rattle.register_rule.specs.Seats.{table_of, members_of, reader_of, HasReader}
+use Rattle.register_rule.specs.Seats.{table_of, members_of, reader_of, IsReadSeatOf}
 use Rattle.register_rule.proofs.Start.{readers_in_order, one_reader, one_more, single}
 use Rattle.register_rule.proofs.board.Board.part_readers.Goals as goal
 
@@ -34,7 +34,7 @@ loop-i-preserved g c =
           (sym c.in_ok-push.ensures.items)
           (one_more (readers_in_order g.row.N (width g.row.C g.row.H g.row.G)) reader_of c.loop-i.i c.args.readers
           c.loop-i.read.items c.into_read.result _ c.loop-i-test.true one c.loop-i.invariant.2),
-      subst (All (HasReader c.args.self.now)) (sym c.in_ok-push.ensures.items)
-          (All-push (HasReader c.args.self.now) c.loop-i.read.items c.into_read.result c.loop-i.invariant.3
+      subst (All (IsReadSeatOf c.args.self.now)) (sym c.in_ok-push.ensures.items)
+          (All-push (IsReadSeatOf c.args.self.now) c.loop-i.read.items c.into_read.result c.loop-i.invariant.3
           (ap table_of c.into_read.ensures.same ∙ (c.part-one.ensures.own.1 ∙ (c.loop-i.invariant.0 ∙ c.requires.own)))),
     )

@@ -5,7 +5,7 @@ use Rattle.segment_layout.specs.Layout.{depth}
 use Rattle.register_rule.specs.declared.seats.WorkSeat.{WorkSeat}
 use Rattle.register_rule.specs.declared.view.Member.{Member}
 use Rattle.register_rule.specs.Members.{first_of, new_worker, workers_from}
-use Rattle.register_rule.specs.Seats.{table_of, members_of, worker_of, HasWorker}
+use Rattle.register_rule.specs.Seats.{table_of, members_of, worker_of, IsWorkSeatOf}
 use Rattle.register_rule.proofs.Start.{workers_in_order, one_worker, one_more, single}
 use Rattle.register_rule.proofs.board.Board.part_workers.Goals as goal
 
@@ -42,8 +42,8 @@ loop-i-preserved g c =
           (sym c.in_ok-push.ensures.items)
           (one_more (workers_in_order g.row.N (width g.row.C g.row.H g.row.G) (depth g.row.N (width g.row.C g.row.H g.row.G)))
           worker_of c.loop-i.i g.row.N c.loop-i.work.items c.into_work.result _ c.loop-i-test.true one c.loop-i.invariant.2),
-      subst (All (HasWorker c.args.self.now)) (sym c.in_ok-push.ensures.items)
-          (All-push (HasWorker c.args.self.now) c.loop-i.work.items c.into_work.result c.loop-i.invariant.3 (
+      subst (All (IsWorkSeatOf c.args.self.now)) (sym c.in_ok-push.ensures.items)
+          (All-push (IsWorkSeatOf c.args.self.now) c.loop-i.work.items c.into_work.result c.loop-i.invariant.3 (
             ap table_of c.into_work.ensures.same ∙ (c.part-one.ensures.own.1 ∙ (c.loop-i.invariant.0 ∙ c.requires.own)),
             subst (λ (z : ℕ). z < g.row.N) (sym c.into_work.ensures.worker) c.loop-i-test.true,
           )),

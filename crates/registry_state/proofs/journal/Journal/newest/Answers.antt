@@ -2,7 +2,7 @@ use Rattle.std.proofs.Common.{◌≡◌, ◌∙◌, List, sym, subst, ap, map}
 use Rattle.std.specs.Prelude.{Some, None, MatchOption}
 use Rattle.register_rule.specs.declared.view.Answer.{Answer}
 use Rattle.snapshot_scan.specs.Snapshots.{as_answer}
-use Rattle.snapshot_scan.specs.Sources.{newest}
+use Rattle.register_rule.specs.Members.{newest}
 use Rattle.registry_state.specs.Journal.{scrapes}
 use Rattle.scrape_history.specs.History.{answers_of}
 use Rattle.registry_state.specs.Merged.{change_of}

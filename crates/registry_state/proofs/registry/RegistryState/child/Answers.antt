@@ -3,7 +3,7 @@ use Rattle.std.proofs.Common.{subst, ◌∙◌, inl}
 use Rattle.std.proofs.lemmas.Option.{slice_get_read}
 use Rattle.metric_desc.specs.Desc.{Descriptor}
 use Rattle.registry_state.specs.Replay.{Child, Family}
-use Rattle.registry_state.specs.Kept.{Registry}
+use Rattle.registry_state.specs.Kept.{RegistryView}
 use Rattle.registry_state.specs.Held.{AreChildren, IsChildBefore, IsPlaceOfValues, used_of}
 use Rattle.registry_state.specs.Faults.{IsWanted}
 use Rattle.registry_state.specs.Changed.{IsHandle, IsGiven}
@@ -20,7 +20,8 @@ place_of-requires g c =
     let there : slice_get families c.args.family.number ≡ Some it =
     subst (λ (l : List Family). slice_get l c.args.family.number ≡ Some it) c.deref.ensures.value
     (slice_get_read c.deref.result.now _ c.args.family.number it refl c.in-Some.ensures.lookup.3.0 c.in-Some.ensures.lookup.1) in
-    let are : AreChildren used it = all_at (AreChildren used) families c.args.family.number it there c.self.invariant.held.each in
+    let are : AreChildren used it = all_at
+    (AreChildren used) families c.args.family.number it there c.self.invariant.held.are.each in
     let children : c.deref-3.result.now ≡ it.children = c.deref-3.ensures.value
     ∙ ap (λ (family : Family). family.children) c.it.view_is in
     record { ordered = subst (AllPairs IsChildBefore) (sym children) are.ordered }
@@ -32,7 +33,8 @@ make-requires g c =
     let there : slice_get families c.args.family.number ≡ Some it =
     subst (λ (l : List Family). slice_get l c.args.family.number ≡ Some it) c.deref.ensures.value
     (slice_get_read c.deref.result.now _ c.args.family.number it refl c.in-Some.ensures.lookup.3.0 c.in-Some.ensures.lookup.1) in
-    let seen : families ≡ c.args.self.now.state.families = ap (λ (r : Registry g.row.S.Denot). r.state.families) c.self.view_is in
+    let seen : families ≡ c.args.self.now.state.families = ap (λ
+    (r : RegistryView g.row.S.Denot). r.state.families) c.self.view_is in
     let now : slice_get c.args.self.now.state.families c.args.family.number ≡ Some it =
     subst (λ (l : List Family). slice_get l c.args.family.number ≡ Some it) seen there in
     let children : c.deref-3.result.now ≡ it.children = c.deref-3.ensures.value
@@ -71,7 +73,8 @@ returns-in-Ok-clause-given g c =
     read c.in-Ok.ensures.found.1 (ap (λ (child : Child). child.slot) c.behind-it.view_is) in
     let handle : IsHandle c.self.inside.id it.desc c.behind-it.inside.slot c.of.result =
     subst (λ (d : Descriptor). IsHandle c.self.inside.id d c.behind-it.inside.slot c.of.result) desc c.of.ensures in
-    subst (λ (r : Registry g.row.S.Denot). IsGiven g.row.C g.row.H g.row.G r r c.args.family.number c.args.values.now c.of.result)
+    subst (λ (r : RegistryView g.row.S.Denot). IsGiven g.row.C g.row.H g.row.G r r c.args.family.number c.args.values.now
+    c.of.result)
     c.self.view_is
     (inl (record {
       slot = c.behind-it.inside.slot;

@@ -1,10 +1,10 @@
 use Rattle.std.proofs.Common.{◌≡◌, ◌++◌, ◌∷◌, [], ℕ, ◌<◌, ◌≤◌, List, slice_get, IsSomeAnd, ap, sym, subst, ◌∙◌}
 use Rattle.metric_desc.specs.Desc.{Descriptor}
 use Rattle.metric_desc.specs.declared.kind.Kind.{Kind}
-use Rattle.snapshot_scan.specs.Sources.{newest}
-use Rattle.registry_state.specs.Journal.{Changed, Made, scrapes}
+use Rattle.register_rule.specs.Members.{newest}
+use Rattle.registry_state.specs.Journal.{Changed, ChildMade, scrapes}
 use Rattle.registry_state.specs.Replay.{Child, Family, with_child, slots}
-use Rattle.registry_state.specs.Kept.{Registry}
+use Rattle.registry_state.specs.Kept.{RegistryView}
 use Rattle.registry_state.specs.Held.{used_of}
 use Rattle.registry_state.specs.Faults.{IsChildFault, IsWanted}
 use Rattle.registry_state.specs.Changed.{IsHandle, WasMade}
@@ -17,7 +17,7 @@ pub returns-then-slot-slots_of-clause-fault : goal.returns-then-slot-slots_of-cl
 returns-then-slot-slots_of-clause-fault g c =
     let used : Kind → ℕ = used_of c.self.inside.used.counters c.self.inside.used.hists c.self.inside.used.gauges in
     let seen : c.self.inside.families.items ≡ c.args.self.now.state.families =
-    ap (λ (r : Registry g.row.S.Denot). r.state.families) c.self.view_is in
+    ap (λ (r : RegistryView g.row.S.Denot). r.state.families) c.self.view_is in
     let some : IsSomeAnd (slice_get c.self.inside.families.items c.args.number) (λ (it : Family). IsWanted it c.args.values.now) =
     subst (λ (l : List Family). IsSomeAnd (slice_get l c.args.number) (λ (it : Family). IsWanted it c.args.values.now))
     (sym seen) c.requires.wanted in
@@ -36,7 +36,7 @@ pub returns-in_err-child-clause-fault : goal.returns-in_err-child-clause-fault
 returns-in_err-child-clause-fault g c =
     let used : Kind → ℕ = used_of c.self.inside.used.counters c.self.inside.used.hists c.self.inside.used.gauges in
     let seen : c.self.inside.families.items ≡ c.args.self.now.state.families =
-    ap (λ (r : Registry g.row.S.Denot). r.state.families) c.self.view_is in
+    ap (λ (r : RegistryView g.row.S.Denot). r.state.families) c.self.view_is in
     let some : IsSomeAnd (slice_get c.self.inside.families.items c.args.number) (λ (it : Family). IsWanted it c.args.values.now) =
     subst (λ (l : List Family). IsSomeAnd (slice_get l c.args.number) (λ (it : Family). IsWanted it c.args.values.now))
     (sym seen) c.requires.wanted in
@@ -61,7 +61,7 @@ pub returns-in_err-put_noted-clause-fault : goal.returns-in_err-put_noted-clause
 returns-in_err-put_noted-clause-fault g c =
     let used : Kind → ℕ = used_of c.self.inside.used.counters c.self.inside.used.hists c.self.inside.used.gauges in
     let seen : c.self.inside.families.items ≡ c.args.self.now.state.families =
-    ap (λ (r : Registry g.row.S.Denot). r.state.families) c.self.view_is in
+    ap (λ (r : RegistryView g.row.S.Denot). r.state.families) c.self.view_is in
     let some : IsSomeAnd (slice_get c.self.inside.families.items c.args.number) (λ (it : Family). IsWanted it c.args.values.now) =
     subst (λ (l : List Family). IsSomeAnd (slice_get l c.args.number) (λ (it : Family). IsWanted it c.args.values.now))
     (sym seen) c.requires.wanted in
@@ -81,7 +81,7 @@ pub invariant_of-self-2 : goal.invariant_of-self-2
 invariant_of-self-2 g c =
     let used : Kind → ℕ = used_of c.self.inside.used.counters c.self.inside.used.hists c.self.inside.used.gauges in
     let seen : c.self.inside.families.items ≡ c.args.self.now.state.families =
-    ap (λ (r : Registry g.row.S.Denot). r.state.families) c.self.view_is in
+    ap (λ (r : RegistryView g.row.S.Denot). r.state.families) c.self.view_is in
     let some : IsSomeAnd (slice_get c.self.inside.families.items c.args.number) (λ (it : Family). IsWanted it c.args.values.now) =
     subst (λ (l : List Family). IsSomeAnd (slice_get l c.args.number) (λ (it : Family). IsWanted it c.args.values.now))
     (sym seen) c.requires.wanted in
@@ -93,9 +93,9 @@ invariant_of-self-2 g c =
     (subst (λ n. n < c.slots_of.result) c.of-slot.ensures c.if-slot-slots_of.false) in
     let child : c.in_ok-child.child ≡ record { values = c.args.values.now; slot = c.of-slot.result } = c.in_ok-child.ensures in
     let journal : c.put_noted.new.journal ≡ c.self.inside.journal ++ Changed
-    (Made c.args.number c.args.values.now c.of-slot.result) ∷ [] =
+    (ChildMade c.args.number c.args.values.now c.of-slot.result) ∷ [] =
     c.in_ok-put_noted.ensures.noted
-    ∙ ap (λ (made : Child). c.self.inside.journal ++ Changed (Made c.args.number made.values made.slot) ∷ []) child in
+    ∙ ap (λ (made : Child). c.self.inside.journal ++ Changed (ChildMade c.args.number made.values made.slot) ∷ []) child in
     let families : c.put_noted.new.families.items ≡ with_child c.self.inside.families.items c.args.number
     (record { values = c.args.values.now; slot = c.of-slot.result }) =
     c.in_ok-put_noted.ensures.put ∙ ap (with_child c.self.inside.families.items c.args.number) child in
@@ -107,7 +107,7 @@ pub returns-clause-made : goal.returns-clause-made
 returns-clause-made g c =
     let used : Kind → ℕ = used_of c.self.inside.used.counters c.self.inside.used.hists c.self.inside.used.gauges in
     let seen : c.self.inside.families.items ≡ c.args.self.now.state.families =
-    ap (λ (r : Registry g.row.S.Denot). r.state.families) c.self.view_is in
+    ap (λ (r : RegistryView g.row.S.Denot). r.state.families) c.self.view_is in
     let some : IsSomeAnd (slice_get c.self.inside.families.items c.args.number) (λ (it : Family). IsWanted it c.args.values.now) =
     subst (λ (l : List Family). IsSomeAnd (slice_get l c.args.number) (λ (it : Family). IsWanted it c.args.values.now))
     (sym seen) c.requires.wanted in
@@ -119,9 +119,9 @@ returns-clause-made g c =
     (subst (λ n. n < c.slots_of.result) c.of-slot.ensures c.if-slot-slots_of.false) in
     let child : c.in_ok-child.child ≡ record { values = c.args.values.now; slot = c.of-slot.result } = c.in_ok-child.ensures in
     let journal : c.put_noted.new.journal ≡ c.self.inside.journal ++ Changed
-    (Made c.args.number c.args.values.now c.of-slot.result) ∷ [] =
+    (ChildMade c.args.number c.args.values.now c.of-slot.result) ∷ [] =
     c.in_ok-put_noted.ensures.noted
-    ∙ ap (λ (made : Child). c.self.inside.journal ++ Changed (Made c.args.number made.values made.slot) ∷ []) child in
+    ∙ ap (λ (made : Child). c.self.inside.journal ++ Changed (ChildMade c.args.number made.values made.slot) ∷ []) child in
     let families : c.put_noted.new.families.items ≡ with_child c.self.inside.families.items c.args.number
     (record { values = c.args.values.now; slot = c.of-slot.result }) =
     c.in_ok-put_noted.ensures.put ∙ ap (with_child c.self.inside.families.items c.args.number) child in
@@ -129,14 +129,14 @@ returns-clause-made g c =
     ∙ ap (λ (family : Family). family.desc) c.behind-self.view_is in
     let handle : IsHandle c.self.inside.id c.index.result.now.desc c.of-slot.result c.of-handle.result =
     subst (λ (d : Descriptor). IsHandle c.self.inside.id d c.of-slot.result c.of-handle.result) desc c.of-handle.ensures in
-    let now : Registry g.row.S.Denot = record {
+    let now : RegistryView g.row.S.Denot = record {
       id = c.self.inside.id;
       window = c.self.inside.window;
       source = c.self.inside.source;
       journal = c.put_noted.new.journal;
       state = record { families = c.put_noted.new.families.items; last = newest (scrapes c.put_noted.new.journal) };
     } in
-    subst (λ (old : Registry g.row.S.Denot). WasMade g.row.C g.row.H g.row.G old now c.args.number c.args.values.now
+    subst (λ (old : RegistryView g.row.S.Denot). WasMade g.row.C g.row.H g.row.G old now c.args.number c.args.values.now
     c.of-handle.result) c.self.view_is
     (was_made g.row.C g.row.H g.row.G c.self.inside.families.items used c.self.invariant.held c.args.number c.args.values.now
     c.index.result.now c.kind-kind.result some c.index.ensures kind

@@ -1,10 +1,11 @@
 use Rattle.std.proofs.Common.{◌≡◌, ℕ, List, sym, subst, ◌∙◌, arith}
 use Rattle.snapshot_scan.specs.Snapshots.{as_answer}
-use Rattle.snapshot_scan.specs.Sources.{newest, IsWhole}
+use Rattle.snapshot_scan.specs.Sources.{IsWhole}
+use Rattle.register_rule.specs.Members.{newest}
 use Rattle.registry_state.specs.Journal.{scrapes}
 use Rattle.register_rule.specs.declared.view.Answer.{Answer}
 use Rattle.registry_state.specs.Replay.{Family}
-use Rattle.registry_state.specs.Kept.{Registry}
+use Rattle.registry_state.specs.Kept.{RegistryView}
 use Rattle.registry_state.specs.Held.{AreShowable, IsOrder}
 use Rattle.registry_state.specs.Filled.{blanks}
 use Rattle.registry_state.specs.Changed.{KeepsScrape}
@@ -47,14 +48,15 @@ returns-clause-kept g c =
     let scraped = c.in_ok-scrape.ensures.scraped in
     let held = held_scrape _ _ _ _ _ _ _ _ _ _ c.self.invariant (g.S.Source.recorded c.scrape.new.source) c.scrape.new.self
     scraped.0 scraped.1 scraped.3 in
-    let now : Registry g.row.S.Denot = record {
+    let now : RegistryView g.row.S.Denot = record {
       id = c.self.inside.id;
       window = c.self.inside.window;
       source = c.scrape.new.source;
       journal = c.scrape.new.self;
       state = record { families = c.self.inside.families.items; last = newest (scrapes c.scrape.new.self) };
     } in
-    subst (λ (old : Registry g.row.S.Denot). KeepsScrape g.row.N g.row.C g.row.H g.row.G g.S.Source.recorded g.S.Source.gave old
+    subst (λ (old : RegistryView g.row.S.Denot). KeepsScrape g.row.N g.row.C g.row.H g.row.G g.S.Source.recorded
+    g.S.Source.gave old
     now) c.self.view_is
     (keeps_scrape g.row.N g.row.C g.row.H g.row.G g.S.Source.recorded g.S.Source.gave c.self.inside.id c.self.inside.window
     c.self.inside.source c.scrape.new.source c.self.inside.journal

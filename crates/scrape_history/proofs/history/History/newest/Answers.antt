@@ -1,5 +1,5 @@
 use Rattle.std.proofs.Common.{ap, sym, ◌∙◌}
-use Rattle.snapshot_scan.specs.Sources.{newest}
+use Rattle.register_rule.specs.Members.{newest}
 use Rattle.scrape_history.specs.History.{Stored, answers_of}
 use Rattle.scrape_history.proofs.Historic.{newest_held}
 use Rattle.scrape_history.proofs.history.History.newest.Goals as goal

@@ -1,6 +1,6 @@
 use Rattle.std.proofs.Common.{ℕ, ◌+◌, List, length, take, get_or, refl, sym, ap, ◌∙◌, arith}
 use Rattle.std.proofs.lemmas.List.{with_items_is}
-use Rattle.snapshot_scan.specs.ChangedItems.{Changed}
+use Rattle.snapshot_scan.specs.ChangedItems.{ChangedView}
 use Rattle.snapshot_scan.proofs.Shifted.{from_place, notes_each_all, notes_each_full, notes_each_behind}
 use Rattle.snapshot_scan.proofs.changed_items.ChangedItems.note_each.Goals as goal
 
@@ -10,14 +10,14 @@ write_each-requires-clause-fits c = λ k lt. c.requires.room (get_or c.args.item
 pub returns-then-self : goal.returns-then-self
 returns-then-self c = record {
   notes = notes_each_all c.args.shift c.args.items.now c.args.self.now
-      (sym (ap (λ (x : Changed). x.all) c.self.view_is) ∙ c.if-self.true);
+      (sym (ap (λ (x : ChangedView). x.all) c.self.view_is) ∙ c.if-self.true);
 }
 
 pub returns-then-items-self : goal.returns-then-items-self
 returns-then-items-self c =
     record {
       notes = notes_each_full c.args.shift c.args.items.now c.args.self.now _
-          (ap (λ (x : Changed). x.items) c.self.view_is) refl;
+          (ap (λ (x : ChangedView). x.items) c.self.view_is) refl;
     }
 
 pub returns : goal.returns
@@ -28,8 +28,8 @@ returns c =
     record {
       notes = notes_each_behind c.args.shift n (length c.args.items.now) xs ys c.args.items.now c.args.self.now _
           (omega (arith, v.0, v.1, few)) (a ∙ ap length b) refl
-          (sym (ap (λ (x : Changed). x.items) c.self.view_is))
+          (sym (ap (λ (x : ChangedView). x.items) c.self.view_is))
           (ap (take (n + length c.args.items.now)) (with_items_is c.self.inside.items ys (a ∙ c.as_mut_slice.ensures.len)))
-          (ap (λ (x : Changed). x.all) c.self.view_is)
+          (ap (λ (x : ChangedView). x.all) c.self.view_is)
           (λ q lt. c.write_each.ensures.kept q lt ∙ ap (λ (l : List ℕ). get_or l q 0) b) c.write_each.ensures.written;
     }

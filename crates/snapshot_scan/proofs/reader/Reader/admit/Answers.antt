@@ -1,6 +1,6 @@
 use Rattle.std.proofs.Common.{List, ap, sym, subst}
 use Rattle.register_rule.specs.declared.view.Answer.{Answer}
-use Rattle.register_rule.specs.declared.view.Scan.{Scan}
+use Rattle.register_rule.specs.declared.view.ScanLog.{ScanLog}
 use Rattle.register_rule.specs.Seats.{members_of}
 use Rattle.snapshot_scan.specs.Moments.{AreMoments}
 use Rattle.snapshot_scan.proofs.Standing.{led_joined, seen_met}
@@ -20,5 +20,5 @@ invariant_of-self g c =
       lent = t.3;
       seen = t.4;
       moments = subst (λ (l : List Answer). AreMoments g.row.N g.row.C g.row.H g.row.G l)
-          (sym (ap (λ (x : Scan). x.recorded) more.only)) r.moments;
+          (sym (ap (λ (x : ScanLog). x.recorded) more.only)) r.moments;
     }

@@ -1,6 +1,6 @@
 use Rattle.std.proofs.Common.{List, ap, sym, subst, ◌∙◌}
 use Rattle.register_rule.specs.declared.view.Member.{Member}
-use Rattle.register_rule.specs.declared.view.Scan.{Scan}
+use Rattle.register_rule.specs.declared.view.ScanLog.{ScanLog}
 use Rattle.register_rule.specs.Seats.{members_of}
 use Rattle.snapshot_scan.specs.Moments.{AreMoments}
 use Rattle.snapshot_scan.specs.Shape.{scan_of}
@@ -20,5 +20,5 @@ invariant_of-self g c =
       ready = t.2;
       lent = t.3;
       seen = t.4;
-      moments = subst (λ (x : Scan). AreMoments g.row.N g.row.C g.row.H g.row.G x.recorded) (sym still) r.moments;
+      moments = subst (λ (x : ScanLog). AreMoments g.row.N g.row.C g.row.H g.row.G x.recorded) (sym still) r.moments;
     }

@@ -2,7 +2,7 @@ use Rattle.std.proofs.Common.{◌≡◌, ◌≢◌, ◌≤◌, ⊎_elim, ℕ, �
 use Rattle.std.proofs.Common.{◌∙◌, subst, arith, ne_eqb}
 use Rattle.ledger_core.specs.Ops.{width}
 use Rattle.register_rule.specs.Members.{led, scan_changed}
-use Rattle.register_rule.specs.Steps.{after_open}
+use Rattle.register_rule.specs.ScanSteps.{after_open}
 use Rattle.register_rule.specs.Seats.{members_of}
 use Rattle.snapshot_scan.specs.Shape.{read_all, looked_at}
 use Rattle.snapshot_scan.proofs.Words.{led_led, over}

@@ -3,7 +3,7 @@ use lib.ListN.{get_elem?}
 use Rattle.ledger_core.specs.Ops.{width}
 use Rattle.register_rule.specs.declared.view.Answer.{Answer}
 use Rattle.register_rule.specs.declared.view.Version.{Version}
-use Rattle.register_rule.specs.Steps.{lent_in}
+use Rattle.register_rule.specs.ScanSteps.{lent_in}
 use Rattle.snapshot_scan.proofs.Blank.{from_rows}
 use Rattle.snapshot_scan.specs.declared.scan_end.ScanEnd.{ScanEnd}
 use Rattle.snapshot_scan.specs.declared.scan_end.ScanEnd.TheVariants.{Direct, Lent, GaveUp}
@@ -191,7 +191,6 @@ scan-requires g c =
         wide = subst (AreWide w) kept old.wide;
         totals = subst (λ (l : List RememberedRow). AreTotals w l c.as_mut_slice-2.result.now) kept
             (subst (AreTotals w old.kept.items) totals old.sums);
-        listed = old.listed;
         idle = subst (IsIdle (scan_in (g.S.ScanSeat.bundle c.args.seat.now))) kept c.requires.ready;
       },
     )

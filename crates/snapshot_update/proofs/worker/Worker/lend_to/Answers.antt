@@ -33,16 +33,16 @@ returns-clause-lent g c =
     let is : worker_of seat ≡ member_of w = sym (ap member_in here) in
     let held = w.holds seat here in
     let m : Member = member_of w in
-    let holds = subst (IsFitOfSeat g.row.N g.row.C g.row.H g.row.G w.index w.number w.row.value w.memory im.hidden.items
-    im.shown.items im.recent im.late im.own (index_of seat)) is held in
+    let holds = subst (IsFitOfSeat g.row.N g.row.C g.row.H g.row.G w.index w.number w.row.value w.memory im
+    (index_of seat)) is held in
     let named : m.who ≡ Worker w.index = ap (λ (x : Member). x.who) (sym is) ∙ (held.2.who ∙ ap Worker held.0) in
     let joined : members_with c.admit.new.self ≡ met (ms ++ m ∷ []) = c.admit.ensures.met
     ∙ (λ z. met (ms ++ (c.into_bundle.ensures.one ∙ ap (λ (x : Member). x ∷ []) is) z)) in
     record {
       away = c.take.ensures.after;
       there = subst (IsWorkerAmong w.index (raised (greatest (ms ++ m ∷ [])) m)) (sym joined) (joined_stands w.index ms m named);
-      fits = raised_holds g.row.N g.row.C g.row.H g.row.G w.index w.number w.row.value w.memory im.hidden.items im.shown.items
-          im.recent im.late im.own (index_of seat) (greatest (ms ++ m ∷ [])) m holds;
+      fits = raised_holds g.row.N g.row.C g.row.H g.row.G w.index w.number w.row.value w.memory im (index_of seat) (greatest
+          (ms ++ m ∷ [])) m holds;
     }
 
 pub returns-clause-kept : goal.returns-clause-kept

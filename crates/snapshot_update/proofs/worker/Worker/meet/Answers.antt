@@ -3,7 +3,7 @@ use mathlib.Core.Option.{some}
 use lib.ListN.{get_elem?}
 use Rattle.register_rule.proofs.Words.{at_below}
 use Rattle.register_rule.specs.declared.view.Member.{Member}
-use Rattle.register_rule.specs.declared.view.Scan.{Scan}
+use Rattle.register_rule.specs.declared.view.ScanLog.{ScanLog}
 use Rattle.register_rule.specs.declared.view.Who.TheVariants.{Worker}
 use Rattle.register_rule.specs.History.{Below}
 use Rattle.register_rule.specs.Members.{greatest, raised, without}
@@ -26,7 +26,7 @@ returns-clause-reader_sees g c =
     let l = c.lend_to in let r = l.new.reader in
     let same : scan_of (members_with c.take_back.new.reader) ≡ scan_of (members_with r) = ap scan_of c.take_back.ensures.others
     ∙ sees_still l.new.self.index r.index (members_with r) r.leads r.is in
-    subst (λ (x : Scan). length (member_of c.args.self.now).work.made ≤ slice_index x.seen c.args.self.now.index)
+    subst (λ (x : ScanLog). length (member_of c.args.self.now).work.made ≤ slice_index x.seen c.args.self.now.index)
     (sym same) l.ensures.seen
 
 pub returns-clause-worker_sees : goal.returns-clause-worker_sees

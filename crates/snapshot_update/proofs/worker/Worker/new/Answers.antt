@@ -14,7 +14,7 @@ invariant_of-result g c =
       geometry = c.requires.geometry;
       inside = let lt = c.requires.inside in omega (arith, lt, index);
       holds = λ x e. subst (λ (s : WorkSeat). IsFitOfSeat g.row.N g.row.C g.row.H g.row.G c.worker-index.result 0
-          c.in-Ok.row.value c.in-Ok.memory im.hidden.items im.shown.items im.recent im.late im.own (index_of s) (worker_of s))
+          c.in-Ok.row.value c.in-Ok.memory im (index_of s) (worker_of s))
           (same_seat seat x e) (
             sym index,
             sym (ap (λ (m : Member). length m.work.made) c.requires.fresh),

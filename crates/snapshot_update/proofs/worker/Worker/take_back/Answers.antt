@@ -3,7 +3,7 @@ use mathlib.Core.Option.{some}
 use lib.ListN.{get_elem?}
 use Rattle.register_rule.specs.declared.seats.Bundle.{Bundle}
 use Rattle.register_rule.specs.declared.seats.WorkSeat.{WorkSeat}
-use Rattle.register_rule.specs.declared.view.Made.{Made}
+use Rattle.register_rule.specs.declared.view.PublishEntry.{PublishEntry}
 use Rattle.register_rule.specs.declared.view.Member.{Member}
 use Rattle.register_rule.specs.Members.{first_of}
 use Rattle.register_rule.specs.Seats.{worker_of, index_of, members_of}
@@ -74,14 +74,14 @@ invariant_of-self g c =
     let own = c.tell.ensures.ruled.own stands.0 i m stands.1 stands.2 in record {
       geometry = w.geometry;
       inside = w.inside;
-      holds = λ x e. subst (λ (y : WorkSeat). IsFitOfSeat g.row.N g.row.C g.row.H g.row.G i w.number w.row.value w.memory
-          im.hidden.items im.shown.items im.recent im.late im.own (index_of y) (worker_of y)) (same_seat seat x e)
-          (subst (λ (k : ℕ). IsFitOfSeat g.row.N g.row.C g.row.H g.row.G i w.number w.row.value w.memory im.hidden.items
-          im.shown.items im.recent im.late im.own k (worker_of seat)) (sym c.into_work.ensures.worker)
-          (subst (IsFitOfSeat g.row.N g.row.C g.row.H g.row.G i w.number w.row.value w.memory im.hidden.items im.shown.items
-          im.recent im.late im.own i) (sym is) c.requires.lent.1.fits));
+      holds = λ x e. subst (λ (y : WorkSeat). IsFitOfSeat g.row.N g.row.C g.row.H g.row.G i w.number w.row.value w.memory im
+          (index_of y) (worker_of y)) (same_seat seat x e)
+          (subst (λ (k : ℕ). IsFitOfSeat g.row.N g.row.C g.row.H g.row.G i w.number w.row.value w.memory im k
+          (worker_of seat)) (sym c.into_work.ensures.worker)
+          (subst (IsFitOfSeat g.row.N g.row.C g.row.H g.row.G i w.number w.row.value w.memory im i)
+          (sym is) c.requires.lent.1.fits));
       seen = λ x e. subst (λ (y : WorkSeat). HasSeenOwn i (worker_of y)) (same_seat seat x e)
-          (subst (HasSeenOwn i) (sym is) (own.2 ∙ ap (λ (l : List Made). some (length l)) (sym own.1)));
+          (subst (HasSeenOwn i) (sym is) (own.2 ∙ ap (λ (l : List PublishEntry). some (length l)) (sym own.1)));
     }
 
 pub returns-clause-kept : goal.returns-clause-kept

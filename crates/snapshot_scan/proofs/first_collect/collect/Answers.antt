@@ -1,0 +1,70 @@
+use Rattle.std.proofs.Common.{refl, ◌*◌, ◌/◌, ℕ, List, arith, sym, ap, ◌∙◌, subst}
+use Rattle.std.proofs.lemmas.Bool.{true≢false}
+use lib.ListN.{get_elem?}
+use Rattle.ledger_core.specs.Ops.{width}
+use Rattle.register_rule.proofs.Words.{at_below}
+use Rattle.register_rule.specs.declared.view.ScanLog.{ScanLog}
+use Rattle.register_rule.specs.Seats.{members_of}
+use Rattle.snapshot_scan.specs.Shape.{scan_of, with_scan}
+use Rattle.snapshot_scan.specs.RememberedRows.{version_of, opening}
+use Rattle.snapshot_scan.specs.Collecting.{HasOpened}
+use Rattle.snapshot_scan.proofs.Words.{take_all, with_same, at_map}
+use Rattle.snapshot_scan.proofs.Opening.{opening_starts}
+use Rattle.snapshot_scan.proofs.first_collect.collect.Goals as goal
+
+pub loop-turn-init : goal.loop-turn-init
+loop-turn-init g c =
+    let ms = members_of (g.S.ScanSeat.bundle c.args.seat.now) in record {
+      own = refl;
+      leads = c.requires.own.1;
+      wide = c.requires.wide;
+      opened = record {
+        starts = c.requires.own.1;
+        kept = c.requires.kept;
+        due = c.requires.rest.1;
+        asks = c.requires.rest.2;
+        wide = c.requires.wide;
+        same = refl;
+        view = sym (ap (λ (d : ScanLog). with_scan d ms) (opening_starts c.args.kept.now (scan_of ms) c.requires.rest.0)
+            ∙ with_same ms);
+        known = λ e q x lt. absurd (omega (arith, lt));
+        unknown = λ e. absurd (true≢false e);
+        told = λ q lt. absurd (omega (arith, lt));
+      };
+    }
+
+pub loop-turn-preserved : goal.loop-turn-preserved
+loop-turn-preserved g c =
+    let w : ℕ = width g.row.C g.row.H g.row.G in let bundle = g.S.ScanSeat.bundle in
+    let ms = members_of (bundle c.args.seat.now) in
+    let inv = c.loop-turn.invariant in let r = c.open_four-known.new in record {
+      own = c.open_four-known.ensures.own ∙ inv.own;
+      leads = c.open_four-known.ensures.leads;
+      wide = c.open_four-known.ensures.wide;
+      opened = subst (λ (z : ℕ). HasOpened w z ms c.args.kept.now (members_of (bundle r.seat)) r.kept r.opened
+          c.open_four-known.result) (omega arith) (c.open_four-known.ensures.opened ms c.args.kept.now inv.opened);
+    }
+
+-- what the whole collect has opened
+pub returns : goal.returns
+returns g c =
+    let n : ℕ = g.row.N in let w : ℕ = width g.row.C g.row.H g.row.G in let bundle = g.S.ScanSeat.bundle in
+    let ms = members_of (bundle c.args.seat.now) in
+    let l = c.loop-turn in let f = c.loop-turn-test.false in let end = l.auto.turn-end in let r = c.open_rest.new in
+    let lens = c.requires.lengths in
+    let so_far : HasOpened w (4 * (n / 4)) ms c.args.kept.now (members_of (bundle l.seat)) l.kept l.opened l.known =
+    subst (λ (z : ℕ). HasOpened w (4 * z) ms c.args.kept.now (members_of (bundle l.seat)) l.kept l.opened l.known)
+    (omega (arith, f, end)) l.invariant.opened in
+    let all = c.open_rest.ensures.opened ms c.args.kept.now so_far in
+    let a = l.auto.kept in let b = l.auto.opened in let a' = c.open_rest.auto.kept in let b' = c.open_rest.auto.opened in
+    record {
+      own = c.open_rest.ensures.own ∙ l.invariant.own;
+      wide = all.wide;
+      same = all.same;
+      view = all.view ∙ ap (λ (z : List ℕ). with_scan (opening z r.kept (scan_of ms)) ms)
+          (take_all r.opened n (omega (arith, b, b', lens.1)));
+      told = all.told;
+      known = λ t q x at. all.known t q x (let h = at_below r.kept q x at in omega (arith, h, a, a', lens.0)) at;
+      unknown = λ t. let u = all.unknown t in
+          (u.0, version_of u.1, (λ z. get_elem? (sym all.same z) u.0) ∙ at_map version_of r.kept u.0 u.1 u.3, u.4);
+    }

@@ -1,0 +1,92 @@
+use Rattle.std.proofs.Common.{◌≡◌, ◌+◌, ℕ, List, [], length, map, slice_index, get_or, sym, ap, ◌∙◌, subst, arith, rules}
+use lib.ListN.{get_elem?}
+use Rattle.ledger_core.specs.Ops.{width}
+use Rattle.register_rule.proofs.Words.{there}
+use Rattle.register_rule.specs.declared.view.ScanLog.{ScanLog}
+use Rattle.register_rule.specs.ScanSteps.{ended}
+use Rattle.register_rule.specs.Seats.{HasMember, members_of}
+use Rattle.snapshot_scan.specs.Shape.{scan_of, with_scan}
+use Rattle.snapshot_scan.specs.RememberedRows.{AreKnown, version_of, opening, settling}
+use Rattle.snapshot_scan.proofs.Words.{scan_with, with_led, led_some}
+use Rattle.snapshot_scan.proofs.Trying.{ends_clean, ends_failed, rose_some, loads_at, true_not_false, sums_same}
+use Rattle.snapshot_scan.proofs.scans.one_try.Goals as goal
+
+pub confirm-requires : goal.confirm-requires
+confirm-requires g c =
+    let ms = members_of (g.S.ScanSeat.bundle c.args.seat.now) in
+    let os = c.collect.new.opened in
+    let scan : scan_of (members_of (g.S.ScanSeat.bundle c.collect.new.seat)) ≡ opening os c.collect.new.kept (scan_of ms) =
+    ap scan_of c.collect.ensures.view ∙ scan_with _ ms c.requires.may.own.1 in
+    let lens = c.requires.may.lengths in let room = c.requires.room in let a = c.collect.auto.opened in let b =
+    c.collect.auto.kept in (
+      search rules,
+      (
+        record {
+          own = (
+            c.collect.ensures.own ∙ c.requires.may.own.0,
+            subst HasMember (sym c.collect.ensures.view) (led_some _ ms c.requires.may.own.1),
+          );
+          geometry = c.requires.may.geometry;
+          lengths = (b ∙ lens.0, a ∙ lens.1, room.0);
+          wide = c.collect.ensures.wide;
+          kept = ap (λ (d : ScanLog). d.kept) scan ∙ (c.requires.may.kept ∙ sym c.collect.ensures.same);
+          looks = ap (λ (d : ScanLog). d.now.looks) scan;
+          loaded = λ q lt. let e = there os q 0 (omega (arith, a, lens.1, lt)) in (
+            length (scan_of ms).opened + q,
+            ap (λ (d : ScanLog). get_elem? d.opened (length (scan_of ms).opened + q)) scan
+                ∙ loads_at (scan_of ms).opened os [] q (get_or os q 0) e,
+          );
+        },
+        (
+          (
+            room.1,
+            λ k lt. c.requires.room.2 k lt ∙ sums_same k c.args.kept.now c.collect.new.kept (sym c.collect.ensures.same),
+          ),
+          c.collect.ensures.known,
+        ),
+      ),
+    )
+
+pub returns : goal.returns
+returns g c =
+    let ms = members_of (g.S.ScanSeat.bundle c.args.seat.now) in
+    let n : ℕ = g.row.N in let w : ℕ = width g.row.C g.row.H g.row.G in
+    let os = c.collect.new.opened in let fs = c.confirm.new.found in let gs = c.confirm.new.kept in
+    let ts = c.confirm.new.totals in let lens = c.requires.may.lengths in let room = c.requires.room in
+    let few : length gs ≡ n = c.confirm.auto.kept ∙ (c.collect.auto.kept ∙ lens.0) in
+    let long : length os ≡ n = c.collect.auto.opened ∙ lens.1 in let deep : length fs ≡ n = c.confirm.auto.found ∙ room.0 in
+    let d : ScanLog = opening os c.collect.new.kept (scan_of ms) in
+    let scan : scan_of (members_of (g.S.ScanSeat.bundle c.collect.new.seat)) ≡ d = ap scan_of c.collect.ensures.view
+    ∙ scan_with d ms c.requires.may.own.1 in
+    let view : members_of (g.S.ScanSeat.bundle c.confirm.new.seat) ≡ with_scan (ended n w (settling os fs gs d)) ms =
+    c.confirm.ensures.view
+    ∙ (ap (λ (x : ScanLog). with_scan (ended n w (settling os fs gs x)) (members_of
+    (g.S.ScanSeat.bundle c.collect.new.seat))) scan
+    ∙ (ap (with_scan (ended n w (settling os fs gs d))) c.collect.ensures.view
+    ∙ with_led (λ _. ended n w (settling os fs gs d)) d ms)) in
+    record {
+      own = c.confirm.ensures.own ∙ c.collect.ensures.own;
+      ruled = c.confirm.ensures.ruled;
+      wide = c.confirm.ensures.wide;
+      totals = c.confirm.ensures.totals;
+      told = c.collect.ensures.told;
+      clean = λ t. let same = c.confirm.ensures.clean.0 t in view
+          ∙ ap (λ (x : ScanLog). with_scan x ms)
+          (ends_clean n w os fs gs d few long deep c.confirm.ensures.wide ts (c.confirm.auto.totals ∙ room.1) same
+          (λ p x at. c.confirm.ensures.held p x at (ap (λ (l : List ℕ). slice_index l p) same)) c.confirm.ensures.totals);
+      same = λ t. c.confirm.ensures.clean.0 t;
+      failed = λ t. view ∙ ap (λ (x : ScanLog). with_scan x ms)
+          (ends_failed n w os fs gs d few long deep c.confirm.ensures.wide
+          (λ e. true_not_false (sym (c.confirm.ensures.clean.1 e) ∙ t)));
+      risen = c.confirm.ensures.risen;
+      rose = λ t. let r = rose_some os fs (long ∙ sym deep) (λ q lt. c.confirm.ensures.risen q (omega (arith, long, lt)))
+          (λ e. true_not_false (sym (c.confirm.ensures.clean.1 e) ∙ t)) in (r.0, omega (arith, long, r.1), r.2);
+      quiet = λ k. let q = c.confirm.ensures.quiet k in record {
+        kept = ap (map version_of) q.0 ∙ c.collect.ensures.same;
+        totals = q.1;
+        known = subst (AreKnown os) (sym q.0) (c.collect.ensures.known k);
+      };
+      unknown = c.collect.ensures.unknown;
+      numbers = λ t q x at. c.confirm.ensures.held q x at (ap (λ (l : List ℕ). slice_index l q) (c.confirm.ensures.clean.0 t));
+      listed = c.confirm.ensures.listed;
+    }

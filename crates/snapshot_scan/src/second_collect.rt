@@ -1,0 +1,230 @@
+//! The second collect of a try; where its rows are all remembered, four places in one turn.
+ghost use Rattle.std.specs.Prelude.{◌≡◌, ℕ, ◌+◌, ◌<◌, ◌≤◌, ◌↔◌, List, IsTrue, length, slice_index, true};
+ghost use Rattle.ledger_core.specs.Ops.{width};
+ghost use Rattle.segment_layout.specs.Layout.{IsGeometry};
+ghost use Rattle.register_rule.specs.declared.view.Member.{Member};
+ghost use Rattle.register_rule.specs.ScanSteps.{ended};
+ghost use Rattle.register_rule.specs.Seats.{table_of, members_of, HasMember, MayScan};
+ghost use Rattle.snapshot_scan.specs.Shape.{scan_in, with_scan, IsRuled};
+ghost use Rattle.snapshot_scan.specs.RememberedRows.{AreKnown, settling, AreWide, AreTotals};
+ghost use Rattle.snapshot_scan.specs.Collecting.{MayConfirm, HasConfirmed};
+ghost use mathlib.Core.Option.{some};
+ghost use lib.ListN.{get_elem?};
+ghost use Rattle.snapshot_scan.specs.ChangedItems.{Moves};
+
+use crate::changed_items::ChangedItems;
+use crate::remembered_row::RememberedRow;
+use register_rule::{Board, ScanSeat};
+
+/// How many places are confirmed in one turn.
+const TURN: usize = 4;
+
+/// Confirms a place, where those before it are confirmed. It says whether all of them were the `same`, and this one's number was
+/// found again.
+#[inline(always)]
+fn confirm_one<
+    S: ScanSeat<N, C, H, G>,
+    const N: usize,
+    const C: usize,
+    const H: usize,
+    const G: usize,
+>(
+    board: &Board<N, C, H, G>,
+    seat: &mut S,
+    opened: &[u64],
+    found: &mut [u64],
+    place: usize,
+    same: bool,
+) -> bool
+    requires own { MayScan board.now (S.bundle seat.old) }
+    requires geometry { IsGeometry N C H G }
+    requires inside { (place < N) × (length opened.now ≡ N) × (length found.old ≡ N) }
+    ensures own { table_of (S.bundle seat.new) ≡ table_of (S.bundle seat.old) }
+    ensures leads { HasMember (members_of (S.bundle seat.new)) }
+    ensures confirmed { (ms : List Member) (gs : List RememberedRow) → length gs ≡ N → HasConfirmed N C H G place ms gs opened.now
+        (members_of (S.bundle seat.old)) found.old same
+        → HasConfirmed N C H G (place + 1) ms gs opened.now (members_of (S.bundle seat.new)) found.new result }
+{
+    let again = board.confirm(seat, place);
+    found[place] = again;
+    same & (opened[place] == again)
+}
+
+/// Confirms four places.
+#[inline(always)]
+fn confirm_four<
+    S: ScanSeat<N, C, H, G>,
+    const N: usize,
+    const C: usize,
+    const H: usize,
+    const G: usize,
+>(
+    board: &Board<N, C, H, G>,
+    seat: &mut S,
+    opened: &[u64],
+    found: &mut [u64],
+    place: usize,
+    same: bool,
+) -> bool
+    requires own { MayScan board.now (S.bundle seat.old) }
+    requires geometry { IsGeometry N C H G }
+    requires inside { (place + 4 ≤ N) × (length opened.now ≡ N) × (length found.old ≡ N) }
+    ensures own { table_of (S.bundle seat.new) ≡ table_of (S.bundle seat.old) }
+    ensures leads { HasMember (members_of (S.bundle seat.new)) }
+    ensures confirmed { (ms : List Member) (gs : List RememberedRow) → length gs ≡ N → HasConfirmed N C H G place ms gs opened.now
+        (members_of (S.bundle seat.old)) found.old same
+        → HasConfirmed N C H G (place + 4) ms gs opened.now (members_of (S.bundle seat.new)) found.new result }
+{
+    let one = confirm_one(board, seat, opened, found, place, same);
+    let two = confirm_one(board, seat, opened, found, place + 1, one);
+    let three = confirm_one(board, seat, opened, found, place + 2, two);
+    confirm_one(board, seat, opened, found, place + 3, three)
+}
+
+/// Confirms the places from `from` on, where those before are confirmed.
+#[inline(always)]
+fn confirm_rest<
+    S: ScanSeat<N, C, H, G>,
+    const N: usize,
+    const C: usize,
+    const H: usize,
+    const G: usize,
+>(
+    board: &Board<N, C, H, G>,
+    seat: &mut S,
+    opened: &[u64],
+    found: &mut [u64],
+    from: usize,
+    same: bool,
+) -> bool
+    requires own { MayScan board.now (S.bundle seat.old) }
+    requires geometry { IsGeometry N C H G }
+    requires inside { (from ≤ N) × (length opened.now ≡ N) × (length found.old ≡ N) }
+    ensures own { table_of (S.bundle seat.new) ≡ table_of (S.bundle seat.old) }
+    ensures confirmed { (ms : List Member) (gs : List RememberedRow) → length gs ≡ N → HasConfirmed N C H G from ms gs opened.now
+        (members_of (S.bundle seat.old)) found.old same
+        → HasConfirmed N C H G N ms gs opened.now (members_of (S.bundle seat.new)) found.new result }
+{
+    let mut all = same;
+    for place in from..N {
+        all = confirm_one(board, seat, opened, found, place, all);
+    }
+    all
+}
+
+/// The second collect of a try whose rows are all remembered: nothing is left to remember. It says whether each number was
+/// found again.
+#[inline(always)]
+pub(crate) fn confirm_known<
+    S: ScanSeat<N, C, H, G>,
+    const N: usize,
+    const C: usize,
+    const H: usize,
+    const G: usize,
+>(
+    board: &Board<N, C, H, G>,
+    seat: &mut S,
+    kept: &[RememberedRow],
+    opened: &[u64],
+    found: &mut [u64],
+) -> bool
+    requires may { MayConfirm board.now (S.bundle seat.old) kept.now opened.now found.old }
+    requires known { AreKnown opened.now kept.now }
+    ensures own { table_of (S.bundle seat.new) ≡ table_of (S.bundle seat.old) }
+    ensures ruled { IsRuled N C H G (S.bundle seat.new) }
+    ensures view { members_of (S.bundle seat.new) ≡ with_scan
+        (ended N (width C H G) (settling opened.now found.new kept.now (scan_in (S.bundle seat.old))))
+        (members_of (S.bundle seat.old)) }
+    ensures risen { (q : ℕ) → q < N → slice_index opened.now q ≤ slice_index found.new q }
+    ensures clean { IsTrue result ↔ (opened.now ≡ found.new) }
+{
+    let _ = kept;
+    let turns = N / TURN;
+    let mut same = true;
+    for turn in 0..turns {
+        same = confirm_four(board, seat, opened, found, TURN * turn, same);
+    }
+    confirm_rest(board, seat, opened, found, TURN * turns, same)
+}
+
+/// The second collect of a try. It says whether each number was found again. Where the totals change is listed in `moved`.
+#[inline(never)]
+fn confirm_all<
+    S: ScanSeat<N, C, H, G>,
+    const N: usize,
+    const C: usize,
+    const H: usize,
+    const G: usize,
+>(
+    board: &Board<N, C, H, G>,
+    seat: &mut S,
+    kept: &mut [RememberedRow],
+    totals: &mut [u64],
+    opened: &[u64],
+    found: &mut [u64],
+    moved: &mut ChangedItems,
+) -> bool
+    requires may { MayConfirm board.now (S.bundle seat.old) kept.old opened.now found.old }
+    requires sums { (length totals.old ≡ width C H G) × AreTotals (width C H G) kept.old totals.old }
+    ensures own { table_of (S.bundle seat.new) ≡ table_of (S.bundle seat.old) }
+    ensures ruled { IsRuled N C H G (S.bundle seat.new) }
+    ensures wide { AreWide (width C H G) kept.new }
+    ensures totals { AreTotals (width C H G) kept.new totals.new }
+    ensures view { members_of (S.bundle seat.new) ≡ with_scan
+        (ended N (width C H G) (settling opened.now found.new kept.new (scan_in (S.bundle seat.old))))
+        (members_of (S.bundle seat.old)) }
+    ensures risen { (q : ℕ) → q < N → slice_index opened.now q ≤ slice_index found.new q }
+    ensures held { (q : ℕ) (g : RememberedRow) → get_elem? kept.new q ≡ some g
+        → slice_index opened.now q ≡ slice_index found.new q → g.number ≡ slice_index opened.now q }
+    ensures clean { IsTrue result ↔ (opened.now ≡ found.new) }
+    ensures listed { Moves (width C H G) totals.old totals.new moved.old moved.new }
+{
+    for place in 0..kept.len() {
+        let number = board.confirm(seat, place);
+        kept[place].settle(opened[place], number, totals, moved);
+        found[place] = number;
+    }
+    opened == found
+}
+
+/// The second collect of a try. It says whether each number was found again. `known` says that all rows are remembered. Where
+/// the totals change is listed in `moved`.
+#[inline(always)]
+pub(crate) fn confirm<
+    S: ScanSeat<N, C, H, G>,
+    const N: usize,
+    const C: usize,
+    const H: usize,
+    const G: usize,
+>(
+    board: &Board<N, C, H, G>,
+    seat: &mut S,
+    kept: &mut [RememberedRow],
+    totals: &mut [u64],
+    opened: &[u64],
+    found: &mut [u64],
+    moved: &mut ChangedItems,
+    known: bool,
+) -> bool
+    requires may { MayConfirm board.now (S.bundle seat.old) kept.old opened.now found.old }
+    requires sums { (length totals.old ≡ width C H G) × AreTotals (width C H G) kept.old totals.old }
+    requires known { known ≡ true → AreKnown opened.now kept.old }
+    ensures own { table_of (S.bundle seat.new) ≡ table_of (S.bundle seat.old) }
+    ensures ruled { IsRuled N C H G (S.bundle seat.new) }
+    ensures wide { AreWide (width C H G) kept.new }
+    ensures totals { AreTotals (width C H G) kept.new totals.new }
+    ensures view { members_of (S.bundle seat.new) ≡ with_scan
+        (ended N (width C H G) (settling opened.now found.new kept.new (scan_in (S.bundle seat.old))))
+        (members_of (S.bundle seat.old)) }
+    ensures risen { (q : ℕ) → q < N → slice_index opened.now q ≤ slice_index found.new q }
+    ensures held { (q : ℕ) (g : RememberedRow) → get_elem? kept.new q ≡ some g
+        → slice_index opened.now q ≡ slice_index found.new q → g.number ≡ slice_index opened.now q }
+    ensures clean { IsTrue result ↔ (opened.now ≡ found.new) }
+    ensures quiet { known ≡ true → (kept.new ≡ kept.old) × (totals.new ≡ totals.old) }
+    ensures listed { Moves (width C H G) totals.old totals.new moved.old moved.new }
+{
+    if known {
+        return confirm_known(board, seat, kept, opened, found);
+    }
+    confirm_all(board, seat, kept, totals, opened, found, moved)
+}
