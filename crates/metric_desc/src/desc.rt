@@ -160,7 +160,7 @@ impl Desc {
     pub fn labels(&self) -> &[LabelName]
         ensures labels { result.now ≡ self.now.labels }
         ensures distinct { AreLabels self.now.labels }
-        ensures kept { IsDescOf self.now.kind self.now.labels self.now.bounds }
+        ensures good { IsDescOf self.now.kind self.now.labels self.now.bounds }
     {
         &self.labels
     }

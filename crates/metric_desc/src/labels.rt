@@ -54,7 +54,7 @@ fn first_duplicate(labels: &[LabelName]) -> Option<usize>
 }
 
 /// Whether these can be the labels of a family. Refusals: 9, 7.
-pub fn check_labels(labels: &[LabelName]) -> Result<(), LabelsFault>
+pub(crate) fn check_labels(labels: &[LabelName]) -> Result<(), LabelsFault>
     ensures ok { OnOk result (AreLabels labels.now) }
     ensures fault { IfErr result (IsLabelsFault labels.now) }
 {
@@ -68,7 +68,7 @@ pub fn check_labels(labels: &[LabelName]) -> Result<(), LabelsFault>
 }
 
 /// Whether a label is `le`, which the buckets' samples of a histogram have of their own.
-pub fn has_le(labels: &[LabelName]) -> bool
+pub(crate) fn has_le(labels: &[LabelName]) -> bool
     ensures { IsTrue result ↔ Contains labels.now le }
 {
     for label in labels {

@@ -5,7 +5,7 @@ use crate::desc::Desc;
 use crate::kind::Kind;
 
 /// What the names of a family's samples have after the family's name.
-pub fn suffixes(kind: Kind) -> &'static [&'static str]
+pub(crate) fn suffixes(kind: Kind) -> &'static [&'static str]
     ensures { map (λ suffix. suffix.now) result.now ≡ suffixes_of kind }
 {
     match kind {
@@ -37,7 +37,7 @@ fn same_name(a: &str, a_suffix: &str, b: &str, b_suffix: &str) -> bool
     }
 }
 
-/// Whether a family has samples of this name.
+/// Whether a family has samples of the name that these two make.
 fn has_name(desc: &Desc, name: &str, suffix: &str) -> bool
     ensures { IsTrue result ↔ Contains (names_of desc.now) (name.now ++ suffix.now) }
 {

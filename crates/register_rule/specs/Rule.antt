@@ -51,7 +51,8 @@ module _ (n w b : ℕ) (adds : List Op → ℕ → ℕ) (made : ℕ → List Pub
   IsRole words m (Worker i) = IsWorker words i m
   IsRole words m (Reader r) = Unit {0}
 
-  -- m is a member of the view of the seat j, and of no other: `owner` has one seat for each
+  -- m is a member of the view of the seat j, and of no other: `owner` has one seat for each. What it knows by its role and by its
+  -- scans is right
   pub record IsMember (owner : Who → ℕ) (history words : List ℕ) (j : ℕ) (m : Member) : Type 0 where
     pub here : owner m.who ≡ j
     pub role : IsRole words m m.who

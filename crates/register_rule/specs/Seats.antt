@@ -57,6 +57,6 @@ module _ {N C H G : ℕ} where
   abbrev pub IsWorkSeatOf : Board N C H G → WorkSeat → Type 0
   IsWorkSeatOf b s = IsSeatOf b (work_bundle s) × (index_of s < N)
 
-  -- the seat is that of one of its readers
+  -- the seat is that of a reader, made for this board
   abbrev pub IsReadSeatOf : Board N C H G → ReadSeat → Type 0
   IsReadSeatOf b s = IsSeatOf b (read_bundle s)

@@ -7,11 +7,11 @@ use Rattle.segment_layout.specs.declared.part.Item.TheVariants.{Row as RowItem, 
 use Rattle.segment_layout.specs.declared.part.Item.TheVariants.{Lent as LentItem}
 use Rattle.segment_layout.specs.Layout.{span, item_at, place}
 
--- a segment has its number at item 0, and the word k of the version s at this item; b is the length of a buffer
+-- in a segment the number stands at place 0, and the item k of the version s at this place; b is the length of a buffer
 abbrev pub version_item : (b s k : ℕ) → ℕ
 version_item b s k = 1 + s % 2 * b + k
 
--- the item x of the segment i
+-- the word at the place x of the segment i
 abbrev pub seg : (b : ℕ) → List ℕ → (i x : ℕ) → ℕ
 seg b words i x = slice_index words (i * span b + x)
 

@@ -31,7 +31,7 @@ impl<const N: usize, const C: usize, const H: usize, const G: usize> Board<N, C,
     }
 
     #[inline]
-    fn number_at(&self, segment: usize) -> usize
+    fn word_of_number(&self, segment: usize) -> usize
         requires { segment < N }
         ensures { (result ≡ segment * span (depth N (width C H G)) + 0) × (result < self.now.table.shared.table_id.words) }
     {
@@ -39,30 +39,30 @@ impl<const N: usize, const C: usize, const H: usize, const G: usize> Board<N, C,
     }
 
     #[inline]
-    fn item_at(&self, segment: usize, version: u64, item: usize) -> usize
+    fn word_of_item(&self, segment: usize, version: u64, item: usize) -> usize
         requires { (segment < N) × (item < depth N (width C H G)) }
         ensures place { (result ≡ segment * span (depth N (width C H G)) + version_item (depth N (width C H G)) version item)
             × (result < self.now.table.shared.table_id.words) }
         ensures part { IsPlaceOf N (width C H G) segment version item result }
     {
-        self.number_at(segment) + 1 + (version % 2) as usize * buffer_words(N, C, H, G) + item
+        self.word_of_number(segment) + 1 + (version % 2) as usize * buffer_words(N, C, H, G) + item
     }
 
     #[inline]
-    fn place(&self, what: Load) -> usize
+    fn word_of_load(&self, what: Load) -> usize
         requires { IsLoad N (depth N (width C H G)) what }
         ensures { (result ≡ word_of (depth N (width C H G)) what) × (result < self.now.table.shared.table_id.words) }
     {
         match what {
-            Load::Open { place } => self.number_at(place),
+            Load::Open { place } => self.word_of_number(place),
             Load::Read {
                 place,
                 number,
                 item,
-            } => self.item_at(place, number, item),
-            Load::Confirm { place } => self.number_at(place),
-            Load::Ask { place } => self.number_at(place),
-            Load::EndAsk { place } => self.number_at(place),
+            } => self.word_of_item(place, number, item),
+            Load::Confirm { place } => self.word_of_number(place),
+            Load::Ask { place } => self.word_of_number(place),
+            Load::EndAsk { place } => self.word_of_number(place),
         }
     }
 
@@ -74,7 +74,7 @@ impl<const N: usize, const C: usize, const H: usize, const G: usize> Board<N, C,
         ensures learns { ScanChangesBy N C H G (after N (width C H G) what result) bundle.old bundle.new }
         ensures told { LoadTells (width C H G) what (members_of bundle.old) result }
     {
-        let at = self.place(what);
+        let at = self.word_of_load(what);
         load_as::<Load, Key, Brand, Law<N, C, H, G>>(
             &self.table.shared,
             &mut bundle.seat,
@@ -96,7 +96,8 @@ impl<const N: usize, const C: usize, const H: usize, const G: usize> Board<N, C,
         ensures index { index_of seat.new ≡ index_of seat.old }
         ensures member { worker_of seat.new ≡ filled item word (worker_of seat.old) }
     {
-        let at = self.item_at(seat.worker, seat.number % 2 + 1, item);
+        // Of the next version only the parity counts, and so this sum never passes 2^64 - 1.
+        let at = self.word_of_item(seat.worker, seat.number % 2 + 1, item);
         store_as::<usize, Key, Brand, Law<N, C, H, G>>(
             &self.table.shared,
             &mut seat.bundle.seat,
@@ -121,7 +122,7 @@ impl<const N: usize, const C: usize, const H: usize, const G: usize> Board<N, C,
         ensures index { index_of seat.new ≡ index_of seat.old }
         ensures member { worker_of seat.new ≡ published (width C H G) (index_of seat.old) ops.now lends (worker_of seat.old) }
     {
-        let at = self.number_at(seat.worker);
+        let at = self.word_of_number(seat.worker);
         let number = seat.number + 1;
         store_as::<(usize, &[Op], bool), Key, Brand, Law<N, C, H, G>>(
             &self.table.shared,
@@ -144,7 +145,7 @@ impl<const N: usize, const C: usize, const H: usize, const G: usize> Board<N, C,
         ensures number { IsNumber place (members_of bundle.old) result }
         ensures ruled { AreRuledAt N (width C H G) (sum_ops C H) (Accepts C H G) place (members_of bundle.old) result }
     {
-        let at = self.number_at(place);
+        let at = self.word_of_number(place);
         load_as::<usize, Key, Brand, Law<N, C, H, G>>(
             &self.table.shared,
             &mut bundle.seat,

@@ -12,7 +12,7 @@ use Rattle.registry_state.specs.Replay.{Child, Family, MayMake, put, with_child,
 use Rattle.registry_state.specs.Kept.{RegistryView}
 use Rattle.registry_state.specs.Held.{AreHeld, IsOneMore}
 use Rattle.registry_state.specs.Held.{IsHeld}
-use Rattle.registry_state.specs.Faults.{HasSlot, IsWanted, IsChildFault}
+use Rattle.registry_state.specs.Faults.{HasSlot, IsMissingChild, IsChildFault}
 use Rattle.registry_state.specs.Changed.{IsLeastFree, IsHandle, WasMade}
 use Rattle.registry_state.specs.declared.handle.Handle.{Handle}
 use Rattle.registry_state.specs.declared.fault.ChildFault.{ChildFault}
@@ -76,25 +76,26 @@ only_memory P (Err fault) is here = subst P (sym is) here
 -- a family of which a child is wanted, and the slot that would count for it
 module _ (c h g : ℕ) (families : List Family) (used : Kind → ℕ) (held : AreHeld c h g families used)
     (number : ℕ) (values : List (List ℕ)) (it : Family) (kind : Kind)
-    (some : IsSomeAnd (slice_get families number) (λ (family : Family). IsWanted family values))
+    (some : IsSomeAnd (slice_get families number) (λ (family : Family). IsMissingChild family values))
     (read : it ≡ get_or families number it) (same : kind ≡ it.desc.kind) where
   there : slice_get families number ≡ Some it
-  there = there_at (λ (family : Family). IsWanted family values) families number it some read
+  there = there_at (λ (family : Family). IsMissingChild family values) families number it some read
 
-  wanted : IsWanted it values
-  wanted = at_some (λ (family : Family). IsWanted family values) families number it there some
+  wanted : IsMissingChild it values
+  wanted = at_some (λ (family : Family). IsMissingChild family values) families number it there some
 
   -- every slot of its kind is used
   pub is_full : slots c h g kind ≤ used kind → IsChildFault c h g families number values (Full kind)
   is_full full =
-      some_at (λ (family : Family). IsWanted family values × (kind ≡ family.desc.kind) × (¬ (HasSlot c h g families kind)))
+      some_at (λ (family : Family). IsMissingChild family values × (kind ≡ family.desc.kind) × (¬ (HasSlot c h g families kind)))
       families number it there
       (wanted, same, none_free c h g families used kind held full)
 
   -- there is one, and no memory
   pub is_no_memory : used kind < slots c h g kind → IsChildFault c h g families number values NoMemory
   is_no_memory room =
-      some_at (λ (family : Family). IsWanted family values × HasSlot c h g families family.desc.kind) families number it there
+      some_at (λ (family : Family). IsMissingChild family values
+      × HasSlot c h g families family.desc.kind) families number it there
       (wanted, subst (HasSlot c h g families) same (used kind, room, (least_free c h g families used kind held).free))
 
   pub may_make : used kind < slots c h g kind → MayMake c h g families values (used it.desc.kind) it
@@ -186,7 +187,7 @@ module _ (n c h g : ℕ) (recorded : List Answer) (journal : List Entry) (window
   -- the same, in other words
   pub held_more : (number : ℕ) (values : List (List ℕ)) (it : Family) (kind : Kind) (slot : ℕ) (journal' : List Entry)
       (families' : List Family) (used' : Kind → ℕ)
-      → IsSomeAnd (slice_get families number) (λ (family : Family). IsWanted family values) → it ≡ get_or families number it
+      → IsSomeAnd (slice_get families number) (λ (family : Family). IsMissingChild family values) → it ≡ get_or families number it
       → kind ≡ it.desc.kind
       → used kind < slots c h g kind → slot ≡ used kind
       → journal' ≡ journal ++ Changed (ChildMade number values slot) ∷ []

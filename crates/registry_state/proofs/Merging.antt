@@ -9,30 +9,30 @@ use Rattle.snapshot_scan.specs.Snapshots.{Taken, as_answer}
 use Rattle.register_rule.specs.Members.{newest}
 use Rattle.registry_state.specs.Journal.{RegistryChange, Entry, Changed, Scraped, scrapes, without_oldest, without, within}
 use Rattle.scrape_history.specs.History.{answers_of}
-use Rattle.registry_state.specs.Merged.{merged, AreNoted}
+use Rattle.registry_state.specs.Merged.{merged, AreInOrder}
 
-pub noted_within : (all from : ℕ) (kept : List (Taken × ℕ)) → AreNoted all from kept → from ≤ all
+pub noted_within : (all from : ℕ) (kept : List (Taken × ℕ)) → AreInOrder all from kept → from ≤ all
 noted_within all from [] noted = noted
 noted_within all from (scrape ∷ kept) noted = let rest = noted_within all scrape.1 kept noted.1 in omega (arith, noted.0)
 
 -- one change more
-pub noted_change : (all from : ℕ) (kept : List (Taken × ℕ)) → AreNoted all from kept → AreNoted (all + 1) from kept
+pub noted_change : (all from : ℕ) (kept : List (Taken × ℕ)) → AreInOrder all from kept → AreInOrder (all + 1) from kept
 noted_change all from [] noted = omega arith
 noted_change all from (scrape ∷ kept) noted = (noted.0, noted_change all scrape.1 kept noted.1)
 
 -- one scrape more
-pub noted_scrape : (all from : ℕ) (kept : List (Taken × ℕ)) (snapshot : Taken) → AreNoted all from kept
-    → AreNoted all from (kept ++ (snapshot, all) ∷ [])
+pub noted_scrape : (all from : ℕ) (kept : List (Taken × ℕ)) (snapshot : Taken) → AreInOrder all from kept
+    → AreInOrder all from (kept ++ (snapshot, all) ∷ [])
 noted_scrape all from [] snapshot noted = (noted, omega arith)
 noted_scrape all from (scrape ∷ kept) snapshot noted = (noted.0, noted_scrape all scrape.1 kept snapshot noted.1)
 
-noted_less : (all from : ℕ) (scrape : Taken × ℕ) (kept : List (Taken × ℕ)) → AreNoted all from (scrape ∷ kept)
-    → AreNoted all from kept
+noted_less : (all from : ℕ) (scrape : Taken × ℕ) (kept : List (Taken × ℕ)) → AreInOrder all from (scrape ∷ kept)
+    → AreInOrder all from kept
 noted_less all from scrape [] noted = noted_within all from (scrape ∷ []) noted
 noted_less all from scrape (second ∷ kept) noted = (omega (arith, noted.0, noted.1.0), noted.1.1)
 
 -- the oldest scrapes dropped
-pub noted_drop : (all from k : ℕ) (kept : List (Taken × ℕ)) → AreNoted all from kept → AreNoted all from (drop k kept)
+pub noted_drop : (all from k : ℕ) (kept : List (Taken × ℕ)) → AreInOrder all from kept → AreInOrder all from (drop k kept)
 noted_drop all from zero kept noted = noted
 noted_drop all from (suc k) [] noted = noted
 noted_drop all from (suc k) (scrape ∷ kept) noted = noted_drop all from k kept (noted_less all from scrape kept noted)
@@ -56,7 +56,7 @@ joined xs from middle to le ge =
 
 -- one change more
 pub merged_change : (cs : List RegistryChange) (from : ℕ) (kept : List (Taken × ℕ)) (change : RegistryChange)
-    → AreNoted (length cs) from kept
+    → AreInOrder (length cs) from kept
     → merged (cs ++ change ∷ []) from kept ≡ merged cs from kept ++ Changed change ∷ []
 merged_change cs from [] change noted =
     ap (map Changed) (drop-append-le from cs (change ∷ []) noted) ∙ map-append Changed (drop from cs) (change ∷ [])
@@ -73,7 +73,7 @@ merged_change cs from (scrape ∷ kept) change noted =
 
 -- one scrape more
 pub merged_scrape : (cs : List RegistryChange) (from : ℕ) (kept : List (Taken × ℕ)) (snapshot : Taken)
-    → AreNoted (length cs) from kept
+    → AreInOrder (length cs) from kept
     → merged cs from (kept ++ (snapshot, length cs) ∷ []) ≡ merged cs from kept ++ Scraped (as_answer snapshot) ∷ []
 merged_scrape cs from [] snapshot noted = rw (take_rest, drop-length) refl
 merged_scrape cs from (scrape ∷ kept) snapshot noted =
@@ -96,7 +96,7 @@ without_all (suc k) cs = without_all k cs ∙ ap (without k) (sym (without_none 
 
 -- the oldest scrape dropped
 merged_less : (cs : List RegistryChange) (from : ℕ) (scrape : Taken × ℕ) (kept : List (Taken × ℕ))
-    → AreNoted (length cs) from (scrape ∷ kept)
+    → AreInOrder (length cs) from (scrape ∷ kept)
     → merged cs from kept ≡ without_oldest (merged cs from (scrape ∷ kept))
 merged_less cs from scrape [] noted = sym (
     without_front (take (scrape.1 - from) (drop from cs)) (Scraped (as_answer scrape.0) ∷ merged cs scrape.1 [])
@@ -111,7 +111,7 @@ merged_less cs from scrape (second ∷ kept) noted = sym (
     ∙ ap (map Changed) (joined cs from scrape.1 second.1 noted.0 noted.1.0)))
 
 -- the oldest scrapes dropped
-merged_drop : (cs : List RegistryChange) (from k : ℕ) (kept : List (Taken × ℕ)) → AreNoted (length cs) from kept
+merged_drop : (cs : List RegistryChange) (from k : ℕ) (kept : List (Taken × ℕ)) → AreInOrder (length cs) from kept
     → merged cs from (drop k kept) ≡ without k (merged cs from kept)
 merged_drop cs from zero kept noted = refl
 merged_drop cs from (suc k) [] noted = without_all (suc k) (drop from cs)
@@ -141,14 +141,14 @@ merged_count : (cs : List RegistryChange) (from : ℕ) (kept : List (Taken × �
 merged_count cs from kept = ap length (merged_scrapes cs from kept) ∙ length-map kept (λ (scrape : Taken × ℕ). as_answer scrape.0)
 
 -- the oldest scrapes over the window dropped
-pub merged_within : (cs : List RegistryChange) (window : ℕ) (kept : List (Taken × ℕ)) → AreNoted (length cs) 0 kept
+pub merged_within : (cs : List RegistryChange) (window : ℕ) (kept : List (Taken × ℕ)) → AreInOrder (length cs) 0 kept
     → merged cs 0 (drop (length kept - window) kept) ≡ within window (merged cs 0 kept)
 merged_within cs window kept noted =
     merged_drop cs 0 (length kept - window) kept noted
     ∙ ap (λ n. without (n - window) (merged cs 0 kept)) (sym (merged_count cs 0 kept))
 
 -- the journal has an entry for each change and for each kept scrape
-pub merged_length : (cs : List RegistryChange) (from : ℕ) (kept : List (Taken × ℕ)) → AreNoted (length cs) from kept
+pub merged_length : (cs : List RegistryChange) (from : ℕ) (kept : List (Taken × ℕ)) → AreInOrder (length cs) from kept
     → length (merged cs from kept) + from ≡ length cs + length kept
 merged_length cs from [] noted =
     let e : length (map Changed (drop from cs)) ≡ length cs - from = length-map (drop from cs) Changed ∙ length-drop from cs in

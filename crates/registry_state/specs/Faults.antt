@@ -39,8 +39,8 @@ abbrev pub HasSlot : (c h g : ℕ) → List Family → Kind → Type 0
 HasSlot c h g families kind = (slot : ℕ) × (slot < slots c h g kind) × IsFree families kind slot
 
 -- the values are as many as the family's labels, and no child of it has them
-abbrev pub IsWanted : Family → List (List ℕ) → Type 0
-IsWanted family values = (length values ≡ length family.desc.labels) × IsNew family values
+abbrev pub IsMissingChild : Family → List (List ℕ) → Type 0
+IsMissingChild family values = (length values ≡ length family.desc.labels) × IsNew family values
 
 -- why there is no child of these values of the family of this number
 abbrev pub IsChildFault : (c h g : ℕ) → List Family → (family : ℕ) → (values : List (List ℕ)) → ChildFault → Type 0
@@ -48,10 +48,10 @@ IsChildFault c h g families family values Child.NoSuchFamily = length families �
 IsChildFault c h g families family values (Child.LabelCount want got) =
     IsSomeAnd (slice_get families family) (λ (it : Family). (want ≡ length it.desc.labels) × (got ≡ length values) × (want ≢ got))
 IsChildFault c h g families family values (Child.Full kind) =
-    IsSomeAnd (slice_get families family) (λ (it : Family). IsWanted it values × (kind ≡ it.desc.kind)
+    IsSomeAnd (slice_get families family) (λ (it : Family). IsMissingChild it values × (kind ≡ it.desc.kind)
     × (¬ (HasSlot c h g families kind)))
 IsChildFault c h g families family values Child.NoMemory =
-    IsSomeAnd (slice_get families family) (λ (it : Family). IsWanted it values × HasSlot c h g families it.desc.kind)
+    IsSomeAnd (slice_get families family) (λ (it : Family). IsMissingChild it values × HasSlot c h g families it.desc.kind)
 
 -- what a refused scrape leaves of a source of n workers: all as it was, where nothing was scanned; and where a scan
 -- was given up, it recorded nothing, some worker's number rose, and the source gave it up

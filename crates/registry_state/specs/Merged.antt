@@ -12,9 +12,9 @@ merged changes from (scrape ∷ kept) =
     map Changed (take (scrape.1 - from) (drop from changes)) ++ Scraped (as_answer scrape.0) ∷ merged changes scrape.1 kept
 
 -- the kept scrapes stand in order, after the change at `from` and within all
-abbrev pub AreNoted : (all from : ℕ) → (kept : List (Taken × ℕ)) → Type 0
-AreNoted all from [] = from ≤ all
-AreNoted all from (scrape ∷ kept) = (from ≤ scrape.1) × AreNoted all scrape.1 kept
+abbrev pub AreInOrder : (all from : ℕ) → (kept : List (Taken × ℕ)) → Type 0
+AreInOrder all from [] = from ≤ all
+AreInOrder all from (scrape ∷ kept) = (from ≤ scrape.1) × AreInOrder all scrape.1 kept
 
 -- the change that is kept so
 abbrev pub change_of : NotedChange → RegistryChange

@@ -37,11 +37,11 @@ impl<const N: usize, const C: usize, const H: usize, const G: usize> Model for J
     ghost Value = { List Entry };
 
     ghost use Rattle.registry_state.specs.Merged.{change_of};
-    ghost use Rattle.registry_state.specs.Merged.{merged, AreNoted};
+    ghost use Rattle.registry_state.specs.Merged.{merged, AreInOrder};
 
     ghost view = { λ j. merged (map change_of j.notes.items) 0 j.kept.scrapes };
 
-    ghost invariant = { λ j. IsGeometry N C H G × AreNoted (length j.notes.items) 0 j.kept.scrapes };
+    ghost invariant = { λ j. IsGeometry N C H G × AreInOrder (length j.notes.items) 0 j.kept.scrapes };
 }
 
 impl<const N: usize, const C: usize, const H: usize, const G: usize> Journal<N, C, H, G> {

@@ -106,7 +106,7 @@ impl<
     ghost use Rattle.segment_layout.specs.Layout.{IsGeometry};
     ghost use Rattle.registry_state.specs.Journal.{Registered, scrapes, within};
     ghost use Rattle.registry_state.specs.Replay.{nothing, IsAcceptedChange};
-    ghost use Rattle.registry_state.specs.Faults.{IsChildFault, IsWanted, IsWindow, IsNewFault, IsRegisterFault, Leaves};
+    ghost use Rattle.registry_state.specs.Faults.{IsChildFault, IsMissingChild, IsWindow, IsNewFault, IsRegisterFault, Leaves};
     ghost use Rattle.registry_state.specs.Held.{IsPlaceOfValues};
     ghost use Rattle.registry_state.specs.Changed.{IsGiven, IsInside, WasMade, changed, KeepsScrape};
     ghost use Rattle.registry_state.specs.Kept.{IsKept};
@@ -337,7 +337,7 @@ impl<
         place: usize,
         values: &[LabelValue],
     ) -> Result<Handle, ChildFault>
-        requires wanted { IsSomeAnd (slice_get self.old.state.families number) (λ it. IsWanted it values.now) }
+        requires wanted { IsSomeAnd (slice_get self.old.state.families number) (λ it. IsMissingChild it values.now) }
         requires place { IsSomeAnd (slice_get self.old.state.families number)
             (λ it. IsPlaceOfValues it.children values.now place) }
         ensures made { IfOk result (WasMade C H G self.old self.new number values.now) }

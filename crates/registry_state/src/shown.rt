@@ -120,7 +120,7 @@ fn fill_family<const N: usize, const C: usize, const H: usize, const G: usize>(
     );
 }
 
-/// Writes the numbers of the families of these numbers, in this order, over their zeros. It takes no memory.
+/// Writes the totals of the families of these places in their list, in this order, over their zeros. It takes no memory.
 fn fill_families<const N: usize, const C: usize, const H: usize, const G: usize>(
     shown: &mut [FamilyScrape],
     families: &[Family],

@@ -48,7 +48,7 @@ head_of status len =
 abbrev pub reply_of : Status → (body : List ℕ) → (sent : Bool) → Reply
 reply_of status body sent = record { status = status; bytes = head_of status (length body) ++ (if sent then body else []) }
 
--- the body of a refusal is its phrase and a line feed
+-- the reply of a refusal, whose body is its phrase and a line feed
 abbrev pub refused : Status → (sent : Bool) → Reply
 refused status sent = reply_of status (phrase_of status ++ codes "\n") sent
 
@@ -56,7 +56,7 @@ refused status sent = reply_of status (phrase_of status ++ codes "\n") sent
 abbrev pub Outcome : Type 0
 Outcome = Result Scraped NoScrape
 
--- the text of a scrape; where there is none, the service is unavailable
+-- the reply with the text of a scrape; where there is none, the service is unavailable
 abbrev pub scraped : Outcome → (sent : Bool) → Reply
 scraped (Ok scrape) sent = reply_of Success (text scrape) sent
 scraped (Err _) sent = refused Unavailable sent

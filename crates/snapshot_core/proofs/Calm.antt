@@ -20,7 +20,7 @@ use Rattle.snapshot_core.specs.History.{Published, number_at}
 use Rattle.snapshot_core.specs.Turns.{Answered, IsTurn, own, own_reads}
 use Rattle.snapshot_core.specs.Faithful.{Meets, where_and_torn, Ends, lent_at, IsJustified, NoneTorn, UndisturbedIsDirect}
 use Rattle.snapshot_core.proofs.Collects.{count_of, length_parts}
-use Rattle.snapshot_core.proofs.Unique.{AllAlike, IsWanted, wanted_not_ended, head_same, tail_same}
+use Rattle.snapshot_core.proofs.Unique.{AllAlike, IsMissingChild, wanted_not_ended, head_same, tail_same}
 use Rattle.snapshot_core.proofs.Lending.{in_both, in_first, get_map, only_one, number_calm}
 use Rattle.snapshot_core.proofs.Turns.{own_front}
 
@@ -29,7 +29,7 @@ pub record Scans (n : ℕ) (ps : List Published) (answers : List Answered) (read
   pub scan : Scan
   pub size : scan.n ≡ n
   pub few : scan.tries ≤ n + 2
-  pub wanted : IsWanted scan.next
+  pub wanted : IsMissingChild scan.next
   pub told_reads : List Read
   pub told : IsScanAfter scan told_reads
   pub same : map where_and_torn told_reads ≡ reads
@@ -153,7 +153,7 @@ module _ (ps : List Published) (b : ℕ) where
       absurd (both_ways (is_clean last) e.0.unclean (calm_try n last [] e.0.collects calm))
 
   -- and one that goes on has made fewer than 2n reads
-  calm_goes_on : (n : ℕ) (before : List Try) (t : Try) (next : Next) → IsWanted next
+  calm_goes_on : (n : ℕ) (before : List Try) (t : Try) (next : Next) → IsMissingChild next
       → AllFailed n (floor_of before t) (base_of before t) before → Follows n before t next
       → AreCalm (reads_of (before ++ t ∷ [])) → length (reads_of (before ++ t ∷ [])) < 2 * n
   calm_goes_on n (s ∷ ts) t next w f follows calm =

@@ -17,7 +17,7 @@ use Rattle.snapshot_core.specs.History.{Published, number_at}
 use Rattle.snapshot_core.specs.Turns.{Answered, IsOpen, IsTurn, BeginsAt, EndsAt, own_reads}
 use Rattle.snapshot_core.specs.Faithful.{last_view, lent_at}
 use Rattle.snapshot_core.specs.Machine.{Act, World, place_in, idle_of}
-use Rattle.snapshot_core.proofs.Unique.{IsWanted}
+use Rattle.snapshot_core.proofs.Unique.{IsMissingChild}
 use Rattle.snapshot_core.proofs.Calm.{Scans}
 use Rattle.snapshot_core.proofs.Turns.{open_one, open_after, open_before, turn_of}
 use Rattle.snapshot_core.proofs.Lending.{NoPublish, NoAnswer, Rising, at_publish, at_answer, number_quiet, number_now, lent_quiet}
@@ -25,7 +25,7 @@ use Rattle.snapshot_core.proofs.Lending.{lent_now, view_quiet, view_now, find, n
 use Rattle.snapshot_core.proofs.Justify.{J, ActOk, PublishOk}
 use Rattle.snapshot_core.proofs.Past.{number_first}
 
-wanted_by : (next : Next) (p : ℕ) → place_in next ≡ Some p → IsWanted next
+wanted_by : (next : Next) (p : ℕ) → place_in next ≡ Some p → IsMissingChild next
 wanted_by (First q) p e = tt
 wanted_by (Second q) p e = tt
 wanted_by (Ask q) p e = tt

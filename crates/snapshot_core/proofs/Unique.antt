@@ -228,13 +228,13 @@ module _ (n : ℕ) (floor base : List ℕ) where
       not_over (suc k) ts us t u next h view ft.1 at fu.1 (subst (λ (x : ℕ). EndsSo x u h view) z eu) (omega (arith, few)) r.1
 
 -- what comes next is a read
-abbrev pub IsWanted : Next → Type 0
-IsWanted (First place) = Unit {0}
-IsWanted (Second place) = Unit {0}
-IsWanted (Ask place) = Unit {0}
-IsWanted _ = ⊥
+abbrev pub IsMissingChild : Next → Type 0
+IsMissingChild (First place) = Unit {0}
+IsMissingChild (Second place) = Unit {0}
+IsMissingChild (Ask place) = Unit {0}
+IsMissingChild _ = ⊥
 
-in_progress : (n : ℕ) (before : List Try) (t : Try) (next : Next) → IsWanted next → Follows n before t next
+in_progress : (n : ℕ) (before : List Try) (t : Try) (next : Next) → IsMissingChild next → Follows n before t next
     → InProgress n (floor_of before t) (base_of before t) t next
 in_progress n before t (First p) w f = f
 in_progress n before t (Second p) w f = f
@@ -280,7 +280,8 @@ same_heads n before us t u xs c d a =
     (sym (ap (map number_met) two.first), sym (ap (map number_met) two.second))
 
 -- a scan whose next read is wanted is not one that has ended, whatever the reads of one event met
-pub wanted_not_ended : (n : ℕ) (before us : List Try) (t u : Try) (next : Next) (h : ScanEnd) (view : Option View) → IsWanted next
+pub wanted_not_ended : (n : ℕ) (before us : List Try) (t u : Try) (next : Next) (h : ScanEnd) (view : Option View)
+    → IsMissingChild next
     → Follows n before t next → AllFailed n (floor_of before t) (base_of before t) before → length before < n + 2
     → AllFailed n (floor_of us u) (base_of us u) us → Ends n us u h view
     → AllAlike (reads_of (before ++ t ∷ [])) (reads_of (us ++ u ∷ [])) → ⊥
@@ -289,7 +290,7 @@ wanted_not_ended n before us t u next h view w follows ft few fu ends a = go bef
     first_u : TwoCollects n (first_try us u)
     first_u = ended_two n us u h view fu ends
 
-    over : (before : List Try) (t : Try) (next : Next) → IsWanted next → Follows n before t next
+    over : (before : List Try) (t : Try) (next : Next) → IsMissingChild next → Follows n before t next
         → AllFailed n (floor_of before t) (base_of before t) before → length before < n + 2
         → AllAlike (reads_of (before ++ t ∷ [])) (reads_of (us ++ u ∷ []))
         → TwoCollects n (first_try before t) → ⊥
@@ -303,7 +304,7 @@ wanted_not_ended n before us t u next h view w follows ft few fu ends a = go bef
         (ends_so n us u h view ends))
         (omega (arith, few)) a
 
-    alone : (t : Try) (next : Next) → IsWanted next → Follows n [] t next
+    alone : (t : Try) (next : Next) → IsMissingChild next → Follows n [] t next
         → AllAlike (reads_of ([] ++ t ∷ [])) (reads_of (us ++ u ∷ [])) → TwoCollects n t
     alone t next w follows a =
         let s = too_short n (floor_of [] t) (base_of [] t) t (first_try us u) next (after_first us u)

@@ -89,7 +89,7 @@ sum_rows k (g ∷ gs) = slice_index g.row.items k + sum_rows k gs
 abbrev pub AreTotals : (w : ℕ) → List RememberedRow → List ℕ → Type 0
 AreTotals w gs totals = (k : ℕ) → k < w → slice_index totals k ≡ sum_rows k gs
 
--- x is at least what was loaded at this place before, or seen
+-- x is at least what opening loads found at this place before, and what was seen of it
 pub record IsLoaded (i : ℕ) (c : ScanLog) (x : ℕ) : Type 0 where
   pub opened : (q y : ℕ) → get_elem? c.opened q ≡ some (i, y) → y ≤ x
   pub seen : (y : ℕ) → get_elem? c.seen i ≡ some y → y ≤ x

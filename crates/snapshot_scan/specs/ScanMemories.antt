@@ -44,7 +44,7 @@ module _ {N C H G : ℕ} where
   moved_in m = m.moved
 
   -- the answer of the scan that ended so: its own numbers with the sums of the rows, or the view that was lent; after a scan that
-  -- gave up it is no answer, and nobody asks for it
+  -- gave up these are no answer, and what is stored of them stands under the flag 0
   abbrev pub answer_of : ScanMemory N C H G → ScanEnd → Answer
   answer_of m (Direct quiet) = record { vector = m.opened.items; totals = m.totals.items }
   answer_of m Lent = lent_in N (width C H G) m.lent.items

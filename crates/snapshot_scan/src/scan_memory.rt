@@ -207,7 +207,7 @@ impl<const N: usize, const C: usize, const H: usize, const G: usize> ScanMemory<
         ensures sums { (v : Version) → get_elem? (rows_of self.old) place ≡ some v → (k : ℕ) → k < width C H G
             → slice_index (sums_of self.new) k + slice_index v.row k ≡ slice_index (sums_of self.old) k + slice_index row.now k }
     {
-        remember_all(
+        learn_row(
             self.kept.as_mut_slice(),
             self.totals.as_mut_slice(),
             &mut self.moved,
@@ -229,7 +229,7 @@ impl<const N: usize, const C: usize, const H: usize, const G: usize> ScanMemory<
         ensures sums { (v : Version) → get_elem? (rows_of self.old) place ≡ some v → (k : ℕ) → k < width C H G
             → slice_index (sums_of self.new) k + slice_index v.row k ≡ slice_index (sums_of self.old) k + slice_index row.now k }
     {
-        remember_some(
+        change_row(
             self.kept.as_mut_slice(),
             self.totals.as_mut_slice(),
             place,
@@ -254,7 +254,7 @@ fn blank_rows(alloc: Global, count: usize, row: usize) -> Result<Vec<RememberedR
 
 // As `ScanMemory::remember`, over what is remembered of all segments and the sums.
 #[inline(never)]
-fn remember_all<const C: usize, const H: usize, const G: usize>(
+fn learn_row<const C: usize, const H: usize, const G: usize>(
     kept: &mut [RememberedRow],
     totals: &mut [u64],
     moved: &mut ChangedItems,
@@ -277,7 +277,7 @@ fn remember_all<const C: usize, const H: usize, const G: usize>(
 
 // As `ScanMemory::remember_at`.
 #[inline]
-fn remember_some<const C: usize, const H: usize, const G: usize>(
+fn change_row<const C: usize, const H: usize, const G: usize>(
     kept: &mut [RememberedRow],
     totals: &mut [u64],
     place: usize,

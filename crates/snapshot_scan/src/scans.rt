@@ -27,8 +27,8 @@ fn one_try<S: ScanSeat<N, C, H, G>, const N: usize, const C: usize, const H: usi
 ) -> bool
     requires may { MayTry board.now (S.bundle seat.old) kept.old opened.old }
     requires room { (length found.old ≡ N) × (length totals.old ≡ width C H G) × AreTotals (width C H G) kept.old totals.old }
-    ensures { HasTried N C H G (S.bundle seat.old) (S.bundle seat.new) kept.old kept.new totals.old totals.new opened.new found.new
-        moved.old moved.new known.new result }
+    ensures { HasTried N C H G (S.bundle seat.old) (S.bundle seat.new) kept.old kept.new totals.old totals.new opened.new
+        found.new moved.old moved.new known.new result }
 {
     *known = collect(board, seat, kept, opened);
     confirm(board, seat, kept, totals, opened, found, moved, *known)
@@ -54,8 +54,8 @@ fn later_try<
 ) -> bool
     requires may { MayTry board.now (S.bundle seat.old) kept.old opened.old }
     requires room { (length found.old ≡ N) × (length totals.old ≡ width C H G) × AreTotals (width C H G) kept.old totals.old }
-    ensures { HasTried N C H G (S.bundle seat.old) (S.bundle seat.new) kept.old kept.new totals.old totals.new opened.new found.new
-        moved.old moved.new known.new result }
+    ensures { HasTried N C H G (S.bundle seat.old) (S.bundle seat.new) kept.old kept.new totals.old totals.new opened.new
+        found.new moved.old moved.new known.new result }
 {
     one_try(board, seat, kept, totals, opened, found, moved, known)
 }

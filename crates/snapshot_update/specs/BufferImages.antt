@@ -9,7 +9,7 @@ use Rattle.snapshot_update.specs.declared.buffer_images.BufferImages.{BufferImag
 abbrev pub version_words : (row : List ℕ) → (flag : ℕ) → (vector totals : List ℕ) → List ℕ
 version_words row flag vector totals = row ++ flag ∷ (vector ++ totals)
 
--- two images of a buffer differ at no items but the listed ones, where the list is not full
+-- two images of a buffer differ at no items but the listed ones, unless all may have changed
 abbrev pub DifferAt : ChangedView → (old new : List ℕ) → Type 0
 DifferAt changed old new = changed.all ≡ false → (j : ℕ) → j < length new → ¬ (Contains changed.items j)
     → slice_index old j ≡ slice_index new j

@@ -21,17 +21,17 @@ use Rattle.snapshot_update.specs.Fit.{AreInside, AreImages}
 -- the hidden buffer may be filled with the version: by the seat of a worker whose hidden buffer holds these words; `recent` lists
 -- where it differs from the shown one, and where it `is_known` that the shown one differs from the version at no items but the
 -- late and the touched ones, all three lists are whole
-pub record MayFill {N C H G : ℕ} (b : Board N C H G) (s : WorkSeat) (hidden shown : List ℕ) (changed late touched : ChangedView)
+pub record MayFill {N C H G : ℕ} (b : Board N C H G) (s : WorkSeat) (hidden shown : List ℕ) (recent late touched : ChangedView)
     (version : NextVersion C H G) (is_known : Bool) : Type 0 where
   pub own : IsWorkSeatOf b s
   pub exact : (worker_of s).work.hidden ≡ hidden
   pub lengths : (length hidden ≡ depth N (width C H G)) × (length shown ≡ depth N (width C H G))
       × (length (target_of version) ≡ depth N (width C H G))
   pub few : depth N (width C H G) ≤ 2529
-  pub inside : AreInside (depth N (width C H G)) changed × AreInside (depth N (width C H G)) late
+  pub inside : AreInside (depth N (width C H G)) recent × AreInside (depth N (width C H G)) late
       × AreInside (depth N (width C H G)) touched
-  pub listed : is_known ≡ true → (changed.all ≡ false) × (late.all ≡ false) × (touched.all ≡ false)
-  pub recent : DifferAt changed hidden shown
+  pub listed : is_known ≡ true → (recent.all ≡ false) × (late.all ≡ false) × (touched.all ≡ false)
+  pub differ : DifferAt recent hidden shown
   pub known : is_known ≡ true → (j : ℕ) → j < depth N (width C H G) → ¬ (Contains late.items j) → ¬ (Contains touched.items j)
       → slice_index shown j ≡ slice_index (target_of version) j
 

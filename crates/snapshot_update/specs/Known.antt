@@ -29,7 +29,8 @@ pub record ListsMoved (n w : ℕ) (moved old new : ChangedView) : Type 0 where
   pub totals : new.all ≡ false → (k : ℕ) → Contains moved.items k → Contains new.items (w + 1 + n + k)
   pub inside : (j : ℕ) → Contains new.items j → Contains old.items j ⊎ (j < 2 * w + 1 + n)
 
--- the scan ended direct, and found the number of its own worker; where it moved the sums is late, too
+-- the scan ended direct, and found the number of its own worker; all numbers of the vector are late, too, and so are the totals
+-- that it moved
 pub record IsFollowed (n c h g own number : ℕ) (memory : ScanMemory n c h g) (ended : ScanEnd) (late late' : ChangedView) : Type 0
   where
     pub direct : (quiet : Bool) × (ended ≡ Direct quiet)

@@ -64,7 +64,7 @@ pub(crate) fn fill_changes<const N: usize, const C: usize, const H: usize, const
 }
 
 /// Fills the hidden buffer with the version, where it differs from it at no items but those of three lists: those at which the two
-/// buffers differ, those at which the shown one differs from the next version, and those that this update touches.
+/// buffers differ, those at which the shown one differs from what an update of nothing would publish, and those that this update touches.
 #[inline(always)]
 pub(crate) fn fill_known<const N: usize, const C: usize, const H: usize, const G: usize>(
     board: &Board<N, C, H, G>,
@@ -154,7 +154,7 @@ pub(crate) fn fill_all<const N: usize, const C: usize, const H: usize, const G: 
 {
     recent.clear();
     let row = version.row.len();
-    // The parts of a version one by one: in none of them the kind of a word is asked for.
+    // The parts of a version one by one: so that among the counters, which are the most, no word's kind is asked for.
     fill_some(board, seat, hidden, shown, recent, version, 0, C);
     fill_some(board, seat, hidden, shown, recent, version, C, row);
     let end = hidden.len();

@@ -33,15 +33,15 @@ pub(crate) fn know_next<const N: usize, const C: usize, const H: usize, const G:
         ⊎ IsFollowed N C H G (index_of seat.now) (length (worker_of seat.now).work.made) memory.now ended late.old late.new }
     ensures unknown { result ≡ false → late.new ≡ late.old }
 {
-    let quiet = is_quiet(ended) & !touched.is_all() & own;
-    if quiet {
+    let still = is_quiet(ended) & !touched.is_all() & own;
+    if still {
         return true;
     }
     follow(seat, memory, late, touched, ended)
 }
 
-/// Whether a scan that was not quiet ended direct, with the number of its own worker, and all touched words are listed. What
-/// the scan found anew is listed as late then, and the row that it remembers under that number is the worker's row.
+/// Where that is not known at once: whether the scan ended direct, with the number of its own worker, and all touched words are listed.
+/// What the scan found anew is listed as late then, and the row that it remembers under that number is the worker's row.
 #[inline(never)]
 fn follow<const N: usize, const C: usize, const H: usize, const G: usize>(
     seat: &WorkSeat,

@@ -42,7 +42,7 @@ pub(crate) fn is_direct(ended: ScanEnd) -> bool
     matches!(ended, ScanEnd::Direct { .. })
 }
 
-/// The scan of a worker for its update: its other parts stay as they were.
+/// The scan of a worker for its update, as its clauses say it of the worker: its other parts stay as they were.
 #[inline(always)]
 pub(crate) fn scan_own<const N: usize, const C: usize, const H: usize, const G: usize>(
     board: &Board<N, C, H, G>,
@@ -72,7 +72,7 @@ pub(crate) fn scan_own<const N: usize, const C: usize, const H: usize, const G: 
     memory.scan(board, seat)
 }
 
-/// The scan of a worker for itself: its other parts stay as they were.
+/// The scan of a worker for itself, told so, too: its other parts stay as they were.
 pub(crate) fn scan_to<const N: usize, const C: usize, const H: usize, const G: usize>(
     board: &Board<N, C, H, G>,
     seat: &mut WorkSeat,

@@ -39,8 +39,7 @@ fn flag_word(lends: bool) -> u64
 }
 
 /// Fills the hidden buffer with the version of this row, with the answer of the scan that ended so, and says whether it lends
-/// that. `known` says that the scan ended direct, and that the version differs from what the shown buffer holds at no items
-/// but the late and the touched ones.
+/// that. `known` is what `know_next` answered.
 #[inline(always)]
 fn fill_version<const N: usize, const C: usize, const H: usize, const G: usize>(
     board: &Board<N, C, H, G>,
@@ -82,8 +81,7 @@ fn fill_version<const N: usize, const C: usize, const H: usize, const G: usize>(
     lends
 }
 
-/// After the publish the buffers have changed their roles. `known` says that all touched words are listed, and that the
-/// version was published with what is remembered.
+/// After the publish the buffers have changed their roles. Only where `known`, as `know_next` answered, is it known where they differ.
 #[inline(always)]
 fn turn<const N: usize, const C: usize, const H: usize, const G: usize>(
     images: &mut BufferImages,
@@ -107,7 +105,7 @@ fn turn<const N: usize, const C: usize, const H: usize, const G: usize>(
     list_late(&mut images.late, &images.touched, number, lent, known);
 }
 
-/// Remembers the worker's own new row. Where it is `known`, it differs from the remembered one at the touched words alone.
+/// Remembers the worker's own new row. Where `known`, as `know_next` answered, it differs from the remembered one at the touched words alone.
 #[inline(always)]
 fn learn<const N: usize, const C: usize, const H: usize, const G: usize>(
     memory: &mut ScanMemory<N, C, H, G>,

@@ -63,6 +63,6 @@ returns-then-all_recent-clause-hidden g c =
     let lens = c.requires.lengths in let fills = c.fill_changes.ensures in let listed = c.requires.listed c.if-known.true in
     all_filled c.fill_changes.new.hidden (target_of c.args.version.now) (depth g.row.N (width g.row.C g.row.H g.row.G))
     (c.fill_changes.auto.hidden ∙ lens.0) lens.2 (λ j lt.
-    ⊎_elim (fills.filled j) (λ not_recent. fills.kept j (c.requires.recent listed.0 j (omega (arith, lens.1, lt)) not_recent
+    ⊎_elim (fills.filled j) (λ not_recent. fills.kept j (c.requires.differ listed.0 j (omega (arith, lens.1, lt)) not_recent
     ∙ returns-then-all_recent-clause-recent g c listed.0 j (omega (arith, lens.2, lt)) not_recent))
     (listed_or c.args.recent.now.items j))

@@ -38,7 +38,7 @@ fill_next-requires g c =
           inside = (t.recent_inside, t.late_inside, λ j has. let lt = c.requires.touched j has in omega (arith, lt));
           listed = λ known. let a = and_parts _ _ known in let a' = and_parts _ _ a.0 in
               (sym c.is_all.ensures ∙ not-true _ a'.1, sym c.is_all-2.ensures ∙ not-true _ a.1, (q a'.0).0);
-          recent = λ listed j lt not_there. ap (λ (l : List ℕ). slice_index l j) hidden
+          differ = λ listed j lt not_there. ap (λ (l : List ℕ). slice_index l j) hidden
               ∙ (t.recent listed j (let e = ap (λ (l : List ℕ). length l) shown in omega (arith, lt, e)) not_there
               ∙ ap (λ (l : List ℕ). slice_index l j) (sym shown));
           known = λ known j lt not_late not_touched.

@@ -2,7 +2,7 @@ use Rattle.std.proofs.Common.{◌≡◌, sym, ◌∙◌, ap, subst, ◌∷◌, [
 use Rattle.std.proofs.lemmas.List.{length-map, length_push}
 use Rattle.snapshot_scan.specs.Snapshots.{Taken, as_answer}
 use Rattle.registry_state.specs.Journal.{Scraped, within}
-use Rattle.registry_state.specs.Merged.{merged, AreNoted}
+use Rattle.registry_state.specs.Merged.{merged, AreInOrder}
 use Rattle.registry_state.specs.Merged.{change_of}
 use Rattle.registry_state.proofs.Merging.{noted_scrape, noted_drop, merged_scrape, merged_within}
 use Rattle.registry_state.proofs.journal.Journal.scrape.Given.{Over}
@@ -23,14 +23,14 @@ kept_is g c =
 
 pub invariant_of-self-2 : goal.invariant_of-self-2
 invariant_of-self-2 g c =
-    let P : List (Taken × ℕ) → Type 0 = λ kept. AreNoted (length c.self.inside.notes.items) 0 kept in
+    let P : List (Taken × ℕ) → Type 0 = λ kept. AreInOrder (length c.self.inside.notes.items) 0 kept in
     (c.self.invariant.0, subst P (sym (kept_is g c)) (noted_drop _ 0 _ (all_of g c) (noted_scrape _ 0 _ _ c.self.invariant.1)))
 
 pub returns-clause-scraped : goal.returns-clause-scraped
 returns-clause-scraped g c =
     let cs = map change_of c.self.inside.notes.items in
     let e : length c.self.inside.notes.items ≡ length cs = sym (length-map c.self.inside.notes.items change_of) in
-    let noted : AreNoted (length cs) 0 c.self.inside.kept.scrapes = subst (λ n. AreNoted n 0 c.self.inside.kept.scrapes) e
+    let noted : AreInOrder (length cs) 0 c.self.inside.kept.scrapes = subst (λ n. AreInOrder n 0 c.self.inside.kept.scrapes) e
     c.self.invariant.1 in
     let all : List (Taken × ℕ) = c.self.inside.kept.scrapes ++ (c.scan.new.out, length cs) ∷ [] in (
       as_answer c.scan.new.out,

@@ -5,7 +5,7 @@ use Rattle.metric_desc.specs.Desc.{Descriptor}
 use Rattle.registry_state.specs.Replay.{Child, Family}
 use Rattle.registry_state.specs.Kept.{RegistryView}
 use Rattle.registry_state.specs.Held.{AreChildren, IsChildBefore, IsPlaceOfValues, used_of}
-use Rattle.registry_state.specs.Faults.{IsWanted}
+use Rattle.registry_state.specs.Faults.{IsMissingChild}
 use Rattle.registry_state.specs.Changed.{IsHandle, IsGiven}
 use Rattle.registry_state.proofs.Holding.{all_at}
 use Rattle.registry_state.proofs.Inside.{is_inside_there}
@@ -48,7 +48,8 @@ make-requires g c =
     subst (λ (cs : List Child). IsPlaceOfValues cs c.args.values.now c.in-Err.place) children c.in-Err.ensures.place in (
       search rules,
       (
-        some_at (λ (family : Family). IsWanted family c.args.values.now) c.args.self.now.state.families c.args.family.number it
+        some_at (λ (family : Family). IsMissingChild family c.args.values.now) c.args.self.now.state.families
+            c.args.family.number it
             now (fit, new),
         some_at (λ (family : Family). IsPlaceOfValues family.children c.args.values.now c.in-Err.place)
             c.args.self.now.state.families c.args.family.number it now place,

@@ -6,7 +6,7 @@ use Rattle.registry_state.specs.Journal.{Changed, ChildMade, scrapes}
 use Rattle.registry_state.specs.Replay.{Child, Family, with_child, slots}
 use Rattle.registry_state.specs.Kept.{RegistryView}
 use Rattle.registry_state.specs.Held.{used_of}
-use Rattle.registry_state.specs.Faults.{IsChildFault, IsWanted}
+use Rattle.registry_state.specs.Faults.{IsChildFault, IsMissingChild}
 use Rattle.registry_state.specs.Changed.{IsHandle, WasMade}
 use Rattle.registry_state.specs.declared.fault.ChildFault.TheVariants.{Full, NoMemory}
 use Rattle.registry_state.proofs.Inside.{is_inside}
@@ -18,8 +18,9 @@ returns-then-slot-slots_of-clause-fault g c =
     let used : Kind → ℕ = used_of c.self.inside.used.counters c.self.inside.used.hists c.self.inside.used.gauges in
     let seen : c.self.inside.families.items ≡ c.args.self.now.state.families =
     ap (λ (r : RegistryView g.row.S.Denot). r.state.families) c.self.view_is in
-    let some : IsSomeAnd (slice_get c.self.inside.families.items c.args.number) (λ (it : Family). IsWanted it c.args.values.now) =
-    subst (λ (l : List Family). IsSomeAnd (slice_get l c.args.number) (λ (it : Family). IsWanted it c.args.values.now))
+    let some : IsSomeAnd (slice_get c.self.inside.families.items c.args.number) (λ
+    (it : Family). IsMissingChild it c.args.values.now) =
+    subst (λ (l : List Family). IsSomeAnd (slice_get l c.args.number) (λ (it : Family). IsMissingChild it c.args.values.now))
     (sym seen) c.requires.wanted in
     let kind : c.kind-kind.result ≡ c.index.result.now.desc.kind =
     c.kind-kind.ensures ∙ ap (λ (d : Descriptor). d.kind)
@@ -37,8 +38,9 @@ returns-in_err-child-clause-fault g c =
     let used : Kind → ℕ = used_of c.self.inside.used.counters c.self.inside.used.hists c.self.inside.used.gauges in
     let seen : c.self.inside.families.items ≡ c.args.self.now.state.families =
     ap (λ (r : RegistryView g.row.S.Denot). r.state.families) c.self.view_is in
-    let some : IsSomeAnd (slice_get c.self.inside.families.items c.args.number) (λ (it : Family). IsWanted it c.args.values.now) =
-    subst (λ (l : List Family). IsSomeAnd (slice_get l c.args.number) (λ (it : Family). IsWanted it c.args.values.now))
+    let some : IsSomeAnd (slice_get c.self.inside.families.items c.args.number) (λ
+    (it : Family). IsMissingChild it c.args.values.now) =
+    subst (λ (l : List Family). IsSomeAnd (slice_get l c.args.number) (λ (it : Family). IsMissingChild it c.args.values.now))
     (sym seen) c.requires.wanted in
     let kind : c.kind-kind.result ≡ c.index.result.now.desc.kind =
     c.kind-kind.ensures ∙ ap (λ (d : Descriptor). d.kind)
@@ -62,8 +64,9 @@ returns-in_err-put_noted-clause-fault g c =
     let used : Kind → ℕ = used_of c.self.inside.used.counters c.self.inside.used.hists c.self.inside.used.gauges in
     let seen : c.self.inside.families.items ≡ c.args.self.now.state.families =
     ap (λ (r : RegistryView g.row.S.Denot). r.state.families) c.self.view_is in
-    let some : IsSomeAnd (slice_get c.self.inside.families.items c.args.number) (λ (it : Family). IsWanted it c.args.values.now) =
-    subst (λ (l : List Family). IsSomeAnd (slice_get l c.args.number) (λ (it : Family). IsWanted it c.args.values.now))
+    let some : IsSomeAnd (slice_get c.self.inside.families.items c.args.number) (λ
+    (it : Family). IsMissingChild it c.args.values.now) =
+    subst (λ (l : List Family). IsSomeAnd (slice_get l c.args.number) (λ (it : Family). IsMissingChild it c.args.values.now))
     (sym seen) c.requires.wanted in
     let kind : c.kind-kind.result ≡ c.index.result.now.desc.kind =
     c.kind-kind.ensures ∙ ap (λ (d : Descriptor). d.kind)
@@ -82,8 +85,9 @@ invariant_of-self-2 g c =
     let used : Kind → ℕ = used_of c.self.inside.used.counters c.self.inside.used.hists c.self.inside.used.gauges in
     let seen : c.self.inside.families.items ≡ c.args.self.now.state.families =
     ap (λ (r : RegistryView g.row.S.Denot). r.state.families) c.self.view_is in
-    let some : IsSomeAnd (slice_get c.self.inside.families.items c.args.number) (λ (it : Family). IsWanted it c.args.values.now) =
-    subst (λ (l : List Family). IsSomeAnd (slice_get l c.args.number) (λ (it : Family). IsWanted it c.args.values.now))
+    let some : IsSomeAnd (slice_get c.self.inside.families.items c.args.number) (λ
+    (it : Family). IsMissingChild it c.args.values.now) =
+    subst (λ (l : List Family). IsSomeAnd (slice_get l c.args.number) (λ (it : Family). IsMissingChild it c.args.values.now))
     (sym seen) c.requires.wanted in
     let kind : c.kind-kind.result ≡ c.index.result.now.desc.kind =
     c.kind-kind.ensures ∙ ap (λ (d : Descriptor). d.kind)
@@ -108,8 +112,9 @@ returns-clause-made g c =
     let used : Kind → ℕ = used_of c.self.inside.used.counters c.self.inside.used.hists c.self.inside.used.gauges in
     let seen : c.self.inside.families.items ≡ c.args.self.now.state.families =
     ap (λ (r : RegistryView g.row.S.Denot). r.state.families) c.self.view_is in
-    let some : IsSomeAnd (slice_get c.self.inside.families.items c.args.number) (λ (it : Family). IsWanted it c.args.values.now) =
-    subst (λ (l : List Family). IsSomeAnd (slice_get l c.args.number) (λ (it : Family). IsWanted it c.args.values.now))
+    let some : IsSomeAnd (slice_get c.self.inside.families.items c.args.number) (λ
+    (it : Family). IsMissingChild it c.args.values.now) =
+    subst (λ (l : List Family). IsSomeAnd (slice_get l c.args.number) (λ (it : Family). IsMissingChild it c.args.values.now))
     (sym seen) c.requires.wanted in
     let kind : c.kind-kind.result ≡ c.index.result.now.desc.kind =
     c.kind-kind.ensures ∙ ap (λ (d : Descriptor). d.kind)

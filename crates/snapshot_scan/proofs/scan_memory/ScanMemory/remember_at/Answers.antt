@@ -10,19 +10,19 @@ use Rattle.snapshot_scan.proofs.scan_memory.ScanMemory.remember_at.Goals as goal
 
 pub returns-clause-sums : goal.returns-clause-sums
 returns-clause-sums g c = λ v at k lt.
-    let w : ℕ = width g.row.C g.row.H g.row.G in let old = c.args.self.now in let new = c.remember_some.new in
+    let w : ℕ = width g.row.C g.row.H g.row.G in let old = c.args.self.now in let new = c.change_row.new in
     let i = c.args.place in
     let v' : Version = record { number = c.args.number; row = c.args.row.now } in
-    let gs = c.as_mut_slice.ensures.value in let ts = c.as_mut_slice-2.ensures.value in let a = c.remember_some.auto.totals in
+    let gs = c.as_mut_slice.ensures.value in let ts = c.as_mut_slice-2.ensures.value in let a = c.change_row.auto.totals in
     let n = c.as_mut_slice-2.ensures.len in
     let written : take old.totals.len (new.totals ++ drop (length new.totals) old.totals.items) ≡ new.totals =
     over new.totals old.totals.items old.totals.len (a ∙ ap (λ (l : List ℕ). length l) ts) (omega (arith, a)) in
-    let e = own_sums w old.kept.items new.kept old.totals.items new.totals i v v' old.sums c.remember_some.ensures.totals
-    (c.remember_some.ensures.rows ∙ ap (λ (l : List RememberedRow). set (map version_of l) i v') gs) at k lt in
+    let e = own_sums w old.kept.items new.kept old.totals.items new.totals i v v' old.sums c.change_row.ensures.totals
+    (c.change_row.ensures.rows ∙ ap (λ (l : List RememberedRow). set (map version_of l) i v') gs) at k lt in
     let f = ap (λ (l : List ℕ). slice_index l k) written in omega (arith, e, f)
 
-pub remember_some-requires : goal.remember_some-requires
-remember_some-requires g c =
+pub change_row-requires : goal.change_row-requires
+change_row-requires g c =
     let w : ℕ = width g.row.C g.row.H g.row.G in let m = c.args.self.now in let i = c.args.place in
     let gs = c.as_mut_slice.ensures.value in let ts = c.as_mut_slice-2.ensures.value in
     let few = m.sizes.0 in let n = m.geometry.workers.1 in let p = c.requires.inside in

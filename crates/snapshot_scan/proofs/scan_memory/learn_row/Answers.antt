@@ -8,7 +8,7 @@ use Rattle.snapshot_scan.specs.declared.remembered_row.RememberedRow.{Remembered
 use Rattle.snapshot_scan.specs.RememberedRows.{version_of}
 use Rattle.snapshot_scan.proofs.Words.{map_set}
 use Rattle.snapshot_scan.proofs.OwnRow.{own_wide, own_part, own_totals}
-use Rattle.snapshot_scan.proofs.scan_memory.remember_all.Goals as goal
+use Rattle.snapshot_scan.proofs.scan_memory.learn_row.Goals as goal
 
 pub learn-requires : goal.learn-requires
 learn-requires g c =

@@ -4,7 +4,7 @@ use Rattle.ledger_core.specs.Ops.{width}
 use Rattle.segment_layout.specs.Layout.{depth, span}
 use Rattle.register_rule.specs.Words.{version_item}
 use Rattle.register_rule.proofs.Words.{item_lt, place_is}
-use Rattle.register_rule.proofs.board.Board.item_at.Goals as goal
+use Rattle.register_rule.proofs.board.Board.word_of_item.Goals as goal
 
 pub returns-clause-place : goal.returns-clause-place
 returns-clause-place g c =
@@ -13,8 +13,8 @@ returns-clause-place g c =
     let q : ℕ = c.args.version % 2 * b in
     let same : p ≡ q = ap (λ (z : ℕ). c.args.version % 2 * z) c.buffer_words.ensures in
     let i : ℕ = c.args.segment * span b in
-    let number : c.number_at.result ≡ i + 0 = c.number_at.ensures.0 in
-    let sum : c.number_at.result + 1 + p + c.args.item ≡ i + (1 + q + c.args.item) = omega arith in
+    let number : c.word_of_number.result ≡ i + 0 = c.word_of_number.ensures.0 in
+    let sum : c.word_of_number.result + 1 + p + c.args.item ≡ i + (1 + q + c.args.item) = omega arith in
     let inside : i + version_item b c.args.version c.args.item < g.row.N * span b =
     digits_lt c.requires.0 (item_lt b c.args.version c.args.item c.requires.1) in (
       sum,
