@@ -157,7 +157,7 @@ fn a_running_worker_lends(rt: HostRuntime) {
 }
 
 /// A scan of this seat is given up: a number rises in each of four tries, and while the worker is asked. The output stays as it was.
-fn given_up_if_spent<S: ScanSeat<2, 1, 0, 0> + Drop>(
+fn is_given_up<S: ScanSeat<2, 1, 0, 0> + Drop>(
     rt: &impl Abort,
     alloc: Global,
     board: &Board<2, 1, 0, 0>,
@@ -189,11 +189,11 @@ fn given_up_if_spent<S: ScanSeat<2, 1, 0, 0> + Drop>(
 #[test]
 fn a_running_scan_gives_up(rt: HostRuntime) {
     let (board, worker, seat) = done(&rt, with_reader(rt.alloc()));
-    given_up_if_spent(&rt, rt.alloc(), &board, worker, seat);
+    is_given_up(&rt, rt.alloc(), &board, worker, seat);
 }
 
 #[test]
 fn a_worker_gives_up_its_scan(rt: HostRuntime) {
     let (board, worker, seat) = done(&rt, with_first(rt.alloc()));
-    given_up_if_spent(&rt, rt.alloc(), &board, worker, seat);
+    is_given_up(&rt, rt.alloc(), &board, worker, seat);
 }
