@@ -1,13 +1,1 @@
-pub mod LineFault
-pub mod Parts
-pub mod Printed
-pub mod Status
-pub mod Jobs
-pub mod QueuedJobs
-pub mod Waiting
-pub mod Children
-pub mod State
-pub mod Refusals
-pub mod Done
-pub mod Ran
 pub mod Arguments

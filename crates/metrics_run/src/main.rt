@@ -6,21 +6,10 @@
 #![tactic(auto)]
 
 mod arguments;
-mod calls;
-mod children;
-mod jobs;
-mod line_fault;
-mod parts;
-mod queue;
-mod queued_job;
-mod refused;
-mod script;
-mod state;
 
 use arguments::{Command, read_serve};
 use metric_names::NoMemory;
-use metrics_serve::{ServeEnd, serve_on};
-use script::{ScriptEnd, refuse_all, run_script};
+use metrics_program::{ScriptEnd, ServeEnd, refuse_all, run_script, serve_on};
 use std::alloc::Global;
 use std::io::{ErrorKind, Write};
 use std::net::{Ipv4Addr, Net, TcpListener, TcpStream};

@@ -1,7 +1,7 @@
 //! A server that wants memory: before it listens to anybody, or while it makes a scrape, whose reply is a 503 and counts as one.
 use crate::asserts::same;
 use metric_names::NoMemory;
-use metrics_serve::{ServeEnd, serve_on};
+use metrics_program::{ServeEnd, serve_on};
 use std::alloc::Global;
 use std::io::{self, Read, Write};
 use std::net::{Ipv4Addr, Net, Shutdown, TcpListener, TcpStream};

@@ -2,7 +2,7 @@
 use super::clients::{Step, begin, play};
 use super::ends::{MISSING, USUAL};
 use crate::asserts::{need, same, there};
-use metrics_serve::{ServeEnd, serve_on};
+use metrics_program::{ServeEnd, serve_on};
 use std::alloc::Global;
 use std::io::{self, Error, ErrorKind, Write};
 use std::net::{Ipv4Addr, Net, TcpListener, TcpStream};

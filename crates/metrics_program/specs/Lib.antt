@@ -1,0 +1,15 @@
+pub mod Counted
+pub mod Services
+pub mod Printed
+pub mod LineFault
+pub mod Parts
+pub mod ScriptLines
+pub mod ScriptEnds
+pub mod Jobs
+pub mod QueuedJobs
+pub mod Waiting
+pub mod Children
+pub mod State
+pub mod Refusals
+pub mod Done
+pub mod Ran
