@@ -5,8 +5,8 @@
 //! of an operation is as many sequentially consistent loads and stores of plain atomic numbers as the operation makes,
 //! measured in the same run. Both are made by turns, in ten batches each, of which the fastest ones count.
 //!
-//! A line of a text has a measurement's name, how many counters and histograms its scrape has, the nanoseconds of one text, and
-//! how many times that is what each of two floors takes: as many bytes copied, and as many numbers formatted: [`texts`].
+//! A line of a text has, behind the nanoseconds of one text, how many times that is what each of two floors takes: as many bytes copied,
+//! and as many numbers formatted: [`texts`].
 //!
 //! `bench 0` makes each measurement a few times, and prints one line that is always the same.
 //!
@@ -57,18 +57,10 @@ fn measure_lists(lines: &mut Lines<'_, impl ServiceRuntime>) -> Result<()> {
     lines.on("4,64,8,0").published::<4, 64, 8, 0>()
 }
 
-/// Measures the texts of two scrapes.
-fn measure_texts(lines: &mut Lines<'_, impl ServiceRuntime>) -> Result<()> {
-    lines.on("64,8").texts_of::<64, 8>(SMALL)?;
-    lines.on("256,32").texts_of::<256, 32>(LARGE)
-}
-
-/// Measures registries.
-fn measure_registries(lines: &mut Lines<'_, impl ServiceRuntime>) -> Result<()> {
-    lines.on("1,64,8,0").alone::<64, 8>(SMALL)?;
-    lines.on("4,64,8,0").shared::<4, 64, 8>(SMALL)?;
-    lines.on("1,256,32,0").alone::<256, 32>(LARGE)?;
-    lines.on("16,256,32,0").shared::<16, 256, 32>(LARGE)
+/// Measures texts and scrapes of two services.
+fn measure_services(lines: &mut Lines<'_, impl ServiceRuntime>) -> Result<()> {
+    lines.on("4,64,8,0").service::<4, 64, 8>(SMALL)?;
+    lines.on("16,256,32,0").service::<16, 256, 32>(LARGE)
 }
 
 /// Measures boards, texts and registries.
@@ -76,8 +68,7 @@ fn measure_all(rt: &impl ServiceRuntime, rounds: u64) -> Result<()> {
     let mut lines = Lines { rt, rounds, of: "" };
     measure_boards(&mut lines)?;
     measure_lists(&mut lines)?;
-    measure_texts(&mut lines)?;
-    measure_registries(&mut lines)?;
+    measure_services(&mut lines)?;
     if rounds == 0 {
         println!(rt; "measured 3 geometries, 2 texts and 2 registries")?;
     }

@@ -1,6 +1,5 @@
 //! The services that are measured and served, and registries of them: families of counters, and then families of histograms, of eight
 //! children each.
-ghost use Rattle.segment_layout.specs.Layout.{IsGeometry};
 
 use crate::boards::Scanning;
 use crate::measuring::{Lines, Work, keep};
@@ -8,10 +7,8 @@ use crate::served::filled;
 use crate::texts::Texts;
 use anyhow::{Context, Result};
 use dirgwako::{Change, Crew, Op, Registers, Registrar, ServiceRuntime, Snapshot, render};
-use registry_state::RegistryState;
 use scrape_http::ScrapeFrom;
 use scrape_server::FromState;
-use snapshot_scan::{PlainSource, Source};
 use std::alloc::{AllocError, Global};
 use std::sync::atomic::AtomicU64;
 
@@ -173,62 +170,12 @@ fn histograms(
     Ok(())
 }
 
-/// A registry over a source of one thread.
-type Plain<const C: usize, const H: usize> = RegistryState<PlainSource<1, C, H, 0>, 1, C, H, 0>;
-
-/// A registry without families, which keeps as many scrapes as its window is.
-fn empty<const C: usize, const H: usize>(alloc: Global, window: usize) -> Result<Plain<C, H>>
-    requires { IsGeometry 1 C H 0 }
-{
-    match RegistryState::new(alloc, PlainSource::new(alloc)?, ID, window) {
-        Ok(made) => Ok(made),
-        Err(not_made) => Err(not_made.fault.into()),
-    }
-}
-
-/// Counts all of a service in a registry.
-fn count<const C: usize, const H: usize>(
-    registry: &mut Plain<C, H>,
-    service: Service,
-) -> Option<()> {
-    for list in 0..service.lists() {
-        registry.apply(&service.ops(list)).ok()?;
-    }
-    Some(())
-}
-
 /// Makes so many scrapes.
 pub fn scrape_often(from: &mut impl ScrapeFrom, scrapes: usize) -> Option<()> {
     for _scrape in 0..scrapes {
         let _scrape = from.scrape().ok()?;
     }
     Some(())
-}
-
-/// Registers a service with a registry, after all of it is counted, and makes so many scrapes.
-fn fill<const C: usize, const H: usize>(
-    alloc: Global,
-    registrar: &mut Registrar<Plain<C, H>>,
-    service: Service,
-    scrapes: usize,
-) -> Result<()> {
-    count(&mut registrar.at, service).context("not counted")?;
-    service.register(alloc, registrar)?;
-    let state = &mut registrar.at;
-    scrape_often(&mut FromState { state }, scrapes).context("no scrape")
-}
-
-/// A registry of a service, which has made as many scrapes as its window is, after all of the service was counted.
-fn plain<const C: usize, const H: usize>(
-    alloc: Global,
-    service: Service,
-    window: usize,
-) -> Result<Plain<C, H>>
-    requires { IsGeometry 1 C H 0 }
-{
-    let mut registrar = Registrar::of(alloc, empty::<C, H>(alloc, window)?);
-    fill(alloc, &mut registrar, service, window)?;
-    Ok(registrar.at)
 }
 
 /// A registry that is scraped.
@@ -253,10 +200,13 @@ impl<F: ScrapeFrom> Work for Scraping<'_, F> {
 }
 
 impl<R: ServiceRuntime> Lines<'_, R> {
-    /// Scrapes of a registry, and their texts, beside scans of a source that is equal to its own, and texts of one scrape.
-    fn scrapes(&self, from: &mut impl ScrapeFrom, scans: &mut impl Work) -> Result<()> {
-        let scrape = from.scrape().ok().context("no scrape")?;
-        let texts = &mut Texts::new(self.rt.alloc(), &scrape)?;
+    /// Scrapes of a registry, and their texts, beside scans of its board, and texts of one scrape.
+    fn scrapes(
+        &self,
+        from: &mut impl ScrapeFrom,
+        scans: &mut impl Work,
+        texts: &mut Texts<'_>,
+    ) -> Result<()> {
         let scraping = &mut Scraping {
             from,
             is_rendered: false,
@@ -267,79 +217,33 @@ impl<R: ServiceRuntime> Lines<'_, R> {
         self.measure("gather", 1_000, texts, scraping)
     }
 
-    /// A registry beside scans of this source.
-    fn beside_scans<const N: usize, const C: usize, const H: usize, const G: usize>(
-        &self,
-        from: &mut impl ScrapeFrom,
-        source: &mut impl Source<N, C, H, G>,
-        out: &mut Snapshot<N, C, H, G>,
-    ) -> Result<()> {
-        self.scrapes(from, &mut Scanning { source, out })
+    /// Texts of a scrape of a registry, and then its scrapes.
+    fn gathers(&self, from: &mut impl ScrapeFrom, scans: &mut impl Work) -> Result<()> {
+        let scrape = &from.scrape().ok().context("no scrape")?;
+        self.texts(scrape)?;
+        self.scrapes(from, scans, &mut Texts::new(self.rt.alloc(), scrape)?)
     }
 
-    /// A registry beside scans of the source of one over a source of one thread.
-    fn beside_plain<const C: usize, const H: usize>(
-        &self,
-        from: &mut impl ScrapeFrom,
-        out: &mut Snapshot<1, C, H, 0>,
-        service: Service,
-    ) -> Result<()>
-        requires { IsGeometry 1 C H 0 }
-    {
-        let equal = plain::<C, H>(self.rt.alloc(), service, WINDOW)?;
-        self.beside_scans(from, &mut equal.into_source(), out)
-    }
-
-    /// A registry over a source of one thread, beside scans of the source of one that is equal.
-    pub fn alone<const C: usize, const H: usize>(&self, service: Service) -> Result<()>
-        requires { IsGeometry 1 C H 0 }
-    {
-        let mut out = Snapshot::<1, C, H, 0>::new(self.rt.alloc())?;
-        let state = &mut plain::<C, H>(self.rt.alloc(), service, WINDOW)?;
-        self.beside_plain::<C, H>(&mut FromState { state }, &mut out, service)
-    }
-
-    /// A registry beside scans of the source of one over a board.
-    fn beside_board<const N: usize, const C: usize, const H: usize>(
-        &self,
-        from: &mut impl ScrapeFrom,
-        equal: &mut Crew<N, C, H, 0>,
-        out: &mut Snapshot<N, C, H, 0>,
-        service: Service,
-    ) -> Result<()> {
-        let equal = filled(self.rt, equal, service)?;
-        self.beside_scans(from, &mut equal.into_state().into_source(), out)
-    }
-
-    /// A registry over a board, beside scans of the source of another one that is equal.
-    fn over_boards<const N: usize, const C: usize, const H: usize>(
+    /// Texts and scrapes of this board's registry of a service, beside scans by another reader.
+    fn on_crew<const N: usize, const C: usize, const H: usize>(
         &self,
         crew: &mut Crew<N, C, H, 0>,
-        equal: &mut Crew<N, C, H, 0>,
         out: &mut Snapshot<N, C, H, 0>,
         service: Service,
     ) -> Result<()> {
-        let state = &mut filled(self.rt, crew, service)?.into_state();
-        self.beside_board(&mut FromState { state }, equal, out, service)
+        let (registry, mut scanners) = filled(self.rt, crew, service)?;
+        let source = scanners.first_mut().context("no scanner")?;
+        let state = &mut registry.into_state();
+        self.gathers(&mut FromState { state }, &mut Scanning { source, out })
     }
 
-    /// A registry over a board.
-    pub fn shared<const N: usize, const C: usize, const H: usize>(
+    /// Texts and scrapes of a registry of a service over a new board.
+    pub fn service<const N: usize, const C: usize, const H: usize>(
         &self,
         service: Service,
     ) -> Result<()> {
-        let alloc = self.rt.alloc();
-        let mut crew = Crew::<N, C, H, 0>::new(alloc, ID, 1)?;
-        let mut equal = Crew::<N, C, H, 0>::new(alloc, ID, 1)?;
-        let mut out = Snapshot::new(alloc)?;
-        self.over_boards(&mut crew, &mut equal, &mut out, service)
-    }
-
-    /// Texts of a service's scrape.
-    pub fn texts_of<const C: usize, const H: usize>(&self, service: Service) -> Result<()>
-        requires { IsGeometry 1 C H 0 }
-    {
-        let mut registry = plain::<C, H>(self.rt.alloc(), service, 1)?;
-        self.texts(&registry.scrape()?)
+        let mut crew = Crew::<N, C, H, 0>::new(self.rt.alloc(), ID, 2)?;
+        let mut out = Snapshot::new(self.rt.alloc())?;
+        self.on_crew(&mut crew, &mut out, service)
     }
 }

@@ -3,8 +3,8 @@
 use crate::registries::{ID, Service, WINDOW, scrape_often};
 use anyhow::{Context, Result};
 use dirgwako::{
-    AnyBoard, Crew, FromRegistry, Recorder, Registrar, Registry, ServiceRuntime, listen_aloud,
-    serve_stream,
+    AnyBoard, Crew, FromRegistry, Recorder, Registrar, Registry, Scanner, ServiceRuntime,
+    listen_aloud, serve_stream,
 };
 use expo_text::text_len;
 use std::net::{Net, TcpListener, TcpStream};
@@ -33,16 +33,16 @@ fn fill<const N: usize, const C: usize, const H: usize>(
     scrape_often(&mut FromRegistry { rt, registry }, WINDOW).context("no scrape")
 }
 
-/// A new board's registry of a service that was counted, which has made as many scrapes as it keeps.
+/// A new board's registry of a service that was counted, which has made as many scrapes as it keeps; and the board's scanners.
 pub fn filled<'a, const N: usize, const C: usize, const H: usize>(
     rt: &impl ServiceRuntime,
     crew: &'a mut Crew<N, C, H, 0>,
     service: Service,
-) -> Result<Registry<'a, N, C, H, 0>> {
-    let (registry, mut recorders, _) = crew.open(WINDOW)?;
+) -> Result<(Registry<'a, N, C, H, 0>, Vec<Scanner<'a, N, C, H, 0>>)> {
+    let (registry, mut recorders, scanners) = crew.open(WINDOW)?;
     count(&mut recorders, service).context("not counted")?;
     fill(rt, &registry, service)?;
-    Ok(registry)
+    Ok((registry, scanners))
 }
 
 /// Answers so many connections.
@@ -91,9 +91,9 @@ fn serve_crew<const C: usize, const H: usize>(
     replies: u64,
     service: Service,
 ) -> Result<()> {
-    let registry = &filled(rt, crew, service)?;
-    answer_all(rt, registry, listener, replies)?;
-    print_len(rt, registry)
+    let (registry, _scanners) = filled(rt, crew, service)?;
+    answer_all(rt, &registry, listener, replies)?;
+    print_len(rt, &registry)
 }
 
 /// Answers so many connections to a port of 127.0.0.1 by each of four threads, from a registry of this service over a new board. At

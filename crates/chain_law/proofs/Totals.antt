@@ -21,6 +21,13 @@ joined_sum c h [] k = refl
 joined_sum c h (x ∷ xs) k = both_sum c h x.ops (joined (map ops_in xs)) k
     ∙ ap (λ (z : ℕ). sum_ops c h x.ops k + z) (joined_sum c h xs k)
 
+-- one worker more adds its row
+pub one_more : {N C H G : ℕ} (c h k : ℕ) (w : Worker N C H G) (ws : List (Worker N C H G))
+    → sum_ops c h (made_all (w ∷ ws)) k ≡ total (sum_ops c h) (member_of w).work.made k + sum_ops c h (made_all ws) k
+one_more c h k w ws =
+    let e = both_sum c h (joined (lists_of w)) (made_all ws) k in let d = joined_sum c h (member_of w).work.made k in
+    omega (arith, e, d)
+
 module _ {N C H G : ℕ} (c h k : ℕ) (f : ℕ → ℕ) where
   -- where f has what each worker published, by its index
   pub all_sum : (ws : List (Worker N C H G))

@@ -1,17 +1,15 @@
 -- Connections that were replied to, and what became of the source.
-use Rattle.std.proofs.Common.{◌≡◌, ℕ, ◌+◌, zero, suc, Bool, true, false, ◌⊎◌, inl, inr, List, [], ◌++◌, Option, Some, None}
-use Rattle.std.proofs.Common.{Result, Ok, Err, refl, sym, subst, ap}
+use Rattle.std.proofs.Common.{◌≡◌, ℕ, suc, Bool, true, false, ◌⊎◌, inl, inr, List, [], ◌++◌, Option, Some, None}
+use Rattle.std.proofs.Common.{Ok, Err, refl, sym, subst, ap}
 use Rattle.std.specs.Prelude.{◌==◌, nat_lt, ◌||◌, ◌&&◌, not, codes, bytes_eq, if◌then◌else◌}
-use Rattle.expo_text.specs.Scraped.{Scraped}
 use Rattle.scrape_http.specs.Asks.{Asks, MayBeRefusedBy}
 use Rattle.scrape_http.specs.Head.{is_get_or_head, refusal_by, hosts}
 use Rattle.scrape_http.specs.Head.{path_of}
-use Rattle.scrape_http.specs.Reply.{Outcome, Reply, IsReply, Replies, refused, scraped}
+use Rattle.scrape_http.specs.Reply.{Outcome, Reply, IsReply, Replies, scraped}
 use Rattle.scrape_http.specs.Serves.{Known, IsServed, IsUnserved, Sends, is_read_failed, is_write_failed, Answers as Outcomes}
 use Rattle.scrape_http.specs.declared.fault.WireFault.{WireFault}
 use Rattle.scrape_http.specs.declared.fault.WireFault.TheVariants.{ReadFailed, WriteFailed, EndBeforeHead}
 use Rattle.scrape_http.specs.declared.serve.Served.{Served}
-use Rattle.scrape_http.specs.declared.source.NoScrape.{NoScrape}
 use Rattle.scrape_http.specs.declared.status.Status.{Status}
 use Rattle.scrape_http.specs.declared.status.Status.TheVariants.{Success, BadRequest, NotFound, MethodNotAllowed, TooLarge}
 use Rattle.scrape_http.specs.declared.status.Status.TheVariants.{Unavailable}

@@ -2,6 +2,7 @@ mod Answering
 mod Mapping
 mod Reading
 mod Seating
+mod Published
 mod Spacing
 pub mod Moment
 mod Flushing

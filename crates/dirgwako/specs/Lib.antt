@@ -6,6 +6,7 @@ pub mod Recorders
 pub mod Refused
 pub mod Registering
 pub mod Scanning
+pub mod Settling
 pub mod Spaced
 pub mod Texts
 -- what the clauses of this library cite, for its callers
@@ -36,6 +37,7 @@ pub use Rattle.registry_state.specs.Faults
 pub use Rattle.snapshot_scan.specs.Moments
 pub use Rattle.registry_state.specs.Kept
 pub use Rattle.registry_state.specs.Shown
+pub use Rattle.chain_law.specs.Settled
 pub use Rattle.metric_registry.specs.Naming
 pub use Rattle.metric_registry.specs.Names
 pub use Rattle.scrape_server.specs.Again

@@ -1,11 +1,12 @@
 //! An example of a service: two threads do pretended jobs and count them, while a third one answers scrapes of what they count.
-//! `example_service PORT REPLIES` answers so many connections to 127.0.0.1, whose port it tells, and then prints its metrics.
+//! `example_service PORT REPLIES` answers so many connections to 127.0.0.1, whose port it tells, and then prints how many jobs were done, and
+//! its metrics.
 #![tactic(auto)]
 
 use anyhow::{Context, Result};
 use dirgwako::{
-    Counter, Crew, Gauge, Histogram, Registrar, Registry, ServiceRuntime, down, inc, listen_aloud,
-    observe, print_last, serve,
+    Counter, Crew, Gauge, Histogram, Registrar, Registry, ServiceRuntime, Snapshot, down,
+    histogram_totals, inc, listen_aloud, observe, print_last, serve, settle,
 };
 use std::env;
 use std::net::TcpListener;
@@ -60,23 +61,31 @@ fn do_all(rt: &impl ServiceRuntime, recorders: &mut [Recorder<'_>], jobs: &Jobs)
     one.and(other)
 }
 
-/// Does all jobs and answers connections meanwhile, with a patience of five seconds each.
+/// Does all jobs and answers connections meanwhile, with a patience of five seconds each. It gives the handles of what was counted.
 fn work(
     rt: &impl ServiceRuntime,
     listener: &TcpListener,
     replies: u64,
     registry: &Registry<'_, 2, 8, 1, 1>,
     recorders: &mut [Recorder<'_>],
-) -> Result<()> {
-    let jobs = &register(rt, registry)?;
+) -> Result<Jobs> {
+    let jobs = register(rt, registry)?;
     let (done, served) = join(
         rt,
-        || do_all(rt, recorders, jobs),
+        || do_all(rt, recorders, &jobs),
         || serve(rt, listener, registry, Duration::from_secs(5), replies),
     );
     done?;
     served?;
-    Ok(())
+    Ok(jobs)
+}
+
+/// Prints how many jobs were done in all, exactly, when nobody counts any more.
+fn print_done(rt: &impl ServiceRuntime, recorders: &[Recorder<'_>], jobs: &Jobs) -> Result<()> {
+    let mut totals = Snapshot::new(rt.alloc())?;
+    settle(recorders, &mut totals)?;
+    let done = histogram_totals(&totals, &jobs.bytes).context("no histogram")?;
+    Ok(println!(rt; "# {} jobs were done.", done.count)?)
 }
 
 /// The port, and how many connections are answered.
@@ -92,7 +101,8 @@ fn main(rt: HostRuntime) -> Result<()> {
     let listener = listen_aloud(&rt, port)?;
     let mut crew = Crew::<2, 8, 1, 1>::new(rt.alloc(), 1, 1)?;
     let (registry, mut recorders, _) = crew.open(64)?;
-    work(&rt, &listener, replies, &registry, &mut recorders)?;
+    let jobs = work(&rt, &listener, replies, &registry, &mut recorders)?;
+    print_done(&rt, &recorders, &jobs)?;
     // Nobody shares the registry any more.
     Ok(print_last(&rt, registry)?)
 }

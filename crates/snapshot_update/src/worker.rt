@@ -159,6 +159,14 @@ impl<const N: usize, const C: usize, const H: usize, const G: usize> Worker<N, C
         self.number
     }
 
+    /// The sum of all that the worker has published.
+    pub fn row(&self) -> &Row<C, H, G>
+        requires { IsSome self.now.seat }
+        ensures { (k : ℕ) → k < width C H G → slice_index result.now k ≡ total (sum_ops C H) (member_of self.now).work.made k }
+    {
+        &self.row
+    }
+
     /// Adds `by` to a counter: one version.
     ///
     /// # Errors

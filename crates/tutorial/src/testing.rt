@@ -1,8 +1,8 @@
-//! A test of a service's metrics: it calls what counts, scans, and compares what the scan has found.
+//! A test of a service's metrics: it calls what counts, scans, and compares what the scan has found, and in the end the exact totals.
 use anyhow::{Context, Result, ensure};
 use dirgwako::{
     Counter, Crew, Histogram, Recorder, Registrar, Scanner, ServiceRuntime, Snapshot, Source,
-    counter_total, histogram_totals, inc, observe,
+    counter_total, histogram_totals, inc, observe, settle,
 };
 
 /// What is tested: an answer is counted with its bytes.
@@ -42,6 +42,13 @@ pub fn run(rt: &impl ServiceRuntime) -> Result<()> {
     ensure!(
         seen == (Some(1), Some(15)),
         "an answer was not counted with its bytes"
+    );
+    // At the end, with all recorders at hand, exact totals of all that was counted.
+    let mut totals = Snapshot::new(rt.alloc())?;
+    settle(&recorders, &mut totals)?;
+    ensure!(
+        counter_total(&totals, &answers) == Some(1),
+        "an answer was lost"
     );
     Ok(println!(rt; "an answer was counted with its bytes")?)
 }

@@ -6,6 +6,7 @@ mod counting;
 mod limits;
 mod refused;
 mod serving;
+mod settled;
 mod shown;
 mod tallies;
 
