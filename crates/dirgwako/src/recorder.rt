@@ -1,20 +1,18 @@
 //! A worker with its board: what a thread counts with.
-ghost use Rattle.std.specs.Prelude.{◌≡◌, ℕ, ◌<◌, [], ◌∷◌, ◌++◌, map, length, slice_index};
+ghost use Rattle.std.specs.Prelude.{◌≡◌, ℕ, ◌<◌, [], map, length, slice_index};
 ghost use Rattle.std.specs.Prelude.{IfOk, IfErr, OnOk, OnErr, All};
 ghost use Rattle.bucket_math.specs.Bounds.{place_of};
 ghost use Rattle.ledger_core.specs.Ops.{width, sum_ops};
-ghost use Rattle.ledger_core.specs.Row.{Accepts};
 ghost use Rattle.ledger_core.specs.declared.op.Op.TheVariants.{Inc, Observe, Up, Down};
 ghost use Rattle.register_rule.specs.Sums.{total};
-ghost use Rattle.snapshot_update.specs.Updated.{IsUpdated};
-ghost use Rattle.snapshot_update.specs.Workers.{index_of, member_of, lists_of, IsWorkerOf, IsApplyFault, IsCounted, IsCountFault};
+ghost use Rattle.snapshot_update.specs.Workers.{index_of, member_of, IsWorkerOf, IsCounted, IsCountFault};
 ghost use Rattle.std.proofs.Props.{props};
 
 use crate::change::Change;
 use crate::listing::{are_of, ops_of};
-use ledger_core::{Counter, Gauge, Histogram, Op, Row, Tally};
+use ledger_core::{Counter, Gauge, Histogram, Row, Tally};
 use register_rule::Board;
-use snapshot_update::{ApplyFault, CountFault, Worker};
+use snapshot_update::{CountFault, Worker};
 use std::alloc::{AllocError, Global};
 
 /// What a thread counts with: a worker of a board, and that board. It may move to a thread of its own. Its calls take no lock and no
@@ -147,7 +145,7 @@ impl<'a, const N: usize, const C: usize, const H: usize, const G: usize> Recorde
         if !are_of(self.board.id(), changes) {
             return Err(CountFault::WrongRegistry);
         }
-        match self.apply(&ops_of(changes)) {
+        match self.worker.apply(self.board, &ops_of(changes)) {
             Ok(()) => Ok(()),
             Err(fault) => Err(CountFault::Apply(fault)),
         }
@@ -180,7 +178,7 @@ impl<'a, const N: usize, const C: usize, const H: usize, const G: usize> Recorde
         if tally.registry() != self.board.id() {
             return Err(CountFault::WrongRegistry);
         }
-        match self.apply(tally.ops()) {
+        match self.worker.apply(self.board, tally.ops()) {
             Ok(()) => {
                 tally.clear();
                 Ok(())
@@ -202,23 +200,6 @@ impl<'a, const N: usize, const C: usize, const H: usize, const G: usize> Recorde
         ensures { result ≡ length (member_of (worker_in self.now)).work.made }
     {
         self.worker.number()
-    }
-
-    /// Publishes a list as one version: [`Worker::apply`], out of line, so that lists of all lengths share its code.
-    #[inline(never)]
-    fn apply(&mut self, ops: &[Op]) -> Result<(), ApplyFault>
-        ensures board { board_in self.new ≡ board_in self.old }
-        ensures index { index_of (worker_in self.new) ≡ index_of (worker_in self.old) }
-        ensures updated { OnOk result (IsUpdated N C H G (index_of (worker_in self.old)) ops.now (member_of (worker_in self.old))
-            (member_of (worker_in self.new))) }
-        ensures lists { OnOk result (lists_of (worker_in self.new) ≡ lists_of (worker_in self.old) ++ ops.now ∷ []) }
-        ensures accepted { OnOk result
-            (Accepts C H G (total (sum_ops C H) (member_of (worker_in self.old)).work.made) ops.now) }
-        ensures room { OnOk result (length (member_of (worker_in self.old)).work.made < 18446744073709551615) }
-        ensures fault { IfErr result (IsApplyFault C H G (member_of (worker_in self.old)) ops.now) }
-        ensures unchanged { OnErr result (member_of (worker_in self.new) ≡ member_of (worker_in self.old)) }
-    {
-        self.worker.apply(self.board, ops)
     }
 
     /// The sum of all that it has published.
