@@ -1,5 +1,5 @@
 """The pages: the README shows each step of the tutorial word for word, and the guide what stands in the tutorial and the example; each link
-of a page leads to a file, and a page of calls names no call that its crate does not have."""
+of a page leads to a file, a page of calls names no call that its crate does not have, and wrong bodies that stand aside can be tried still."""
 import re
 
 from started import check
@@ -53,5 +53,16 @@ def calls(root):
     return count
 
 
+def aside(root):
+    """How many wrong bodies stand aside, each of which can be tried still: the lines that it changes stand once in the file that it names."""
+    bodies = [*root.glob("crates/*/wrong-bodies/*.edit")]
+    for body in bodies:
+        text = body.read_text()
+        source = (body.parent.parent / re.search(r"^file: (.*)$", text, re.M)[1]).read_text()
+        lines = re.findall(r"^old: (.*)$", text, re.M)
+        check(lines and all(source.count(line) == 1 for line in lines), f"{body.relative_to(root)}: its old lines stand once")
+    return len(bodies)
+
+
 def check_all(root):
-    return shown(root) + quoted(root) + links(root) + calls(root)
+    return shown(root) + quoted(root) + links(root) + calls(root) + aside(root)

@@ -8,8 +8,7 @@ use crate::floors::{Floor, Steps};
 use crate::measuring::{Lines, Work, timed};
 use crate::registries::ID;
 use anyhow::{Context, Result, bail};
-use dirgwako::{Board, Crew, Op, Recorder, Registry, ServiceRuntime, Snapshot, Worker};
-use snapshot_scan::Source;
+use dirgwako::{Board, Crew, Op, Recorder, Registry, ServiceRuntime, Snapshot, Source, Worker};
 use std::time::Clock;
 
 /// A measurement by a worker: its name, what the worker makes, and how many words its floor stores.

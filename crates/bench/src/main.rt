@@ -5,9 +5,6 @@
 //! of an operation is as many sequentially consistent loads and stores of plain atomic numbers as the operation makes,
 //! measured in the same run. Both are made by turns, in ten batches each, of which the fastest ones count.
 //!
-//! A line of a text has, behind the nanoseconds of one text, how many times that is what each of two floors takes: as many bytes copied,
-//! and as many numbers formatted: [`texts`].
-//!
 //! `bench 0` makes each measurement a few times, and prints one line that is always the same.
 //!
 //! `bench serve PORT REPLIES SIZE` serves a registry of 64 counters and 8 histograms, SIZE `small`, or of 256 and 32, `large`, on 127.0.0.1

@@ -106,22 +106,4 @@ impl<'a, R: ServiceRuntime> Lines<'a, R> {
         println!(self.rt; "{name} {of} {each} {ratio}")?;
         Ok(())
     }
-
-    /// Prints the line of a text, which has two floors.
-    pub fn text_line(
-        &self,
-        name: &str,
-        rounds: u64,
-        taken: u64,
-        first: u64,
-        second: u64,
-    ) -> Result<()> {
-        if self.rounds == 0 {
-            return Ok(());
-        }
-        let (of, each) = (self.of, in_tenths(taken, rounds));
-        let (first, second) = (in_tenths(taken, first), in_tenths(taken, second));
-        println!(self.rt; "{name} {of} {each} {first} {second}")?;
-        Ok(())
-    }
 }

@@ -6,8 +6,9 @@ use crate::measuring::{Lines, Work, keep};
 use crate::served::filled;
 use crate::texts::Texts;
 use anyhow::{Context, Result};
-use dirgwako::{Change, Crew, Op, Registers, Registrar, ServiceRuntime, Snapshot, render};
-use scrape_http::ScrapeFrom;
+use dirgwako::{
+    Change, Crew, Op, Registers, Registrar, ScrapeFrom, ServiceRuntime, Snapshot, render,
+};
 use scrape_server::FromState;
 use std::alloc::{AllocError, Global};
 use std::sync::atomic::AtomicU64;
@@ -220,8 +221,9 @@ impl<R: ServiceRuntime> Lines<'_, R> {
     /// Texts of a scrape of a registry, and then its scrapes.
     fn gathers(&self, from: &mut impl ScrapeFrom, scans: &mut impl Work) -> Result<()> {
         let scrape = &from.scrape().ok().context("no scrape")?;
-        self.texts(scrape)?;
-        self.scrapes(from, scans, &mut Texts::new(self.rt.alloc(), scrape)?)
+        let texts = &mut Texts::of(scrape);
+        self.texts(texts)?;
+        self.scrapes(from, scans, texts)
     }
 
     /// Texts and scrapes of this board's registry of a service, beside scans by another reader.

@@ -4,9 +4,8 @@ use crate::registries::{ID, Service, WINDOW, scrape_often};
 use anyhow::{Context, Result};
 use dirgwako::{
     AnyBoard, Crew, FromRegistry, Recorder, Registrar, Registry, Scanner, ServiceRuntime,
-    listen_aloud, serve_stream,
+    listen_aloud, scrape_text, serve_stream,
 };
-use expo_text::text_len;
 use std::net::{Net, TcpListener, TcpStream};
 use std::sync::Wait;
 use std::thread::map_indices;
@@ -78,8 +77,8 @@ fn print_len<const C: usize, const H: usize>(
     rt: &impl ServiceRuntime,
     registry: &Registry<'_, 4, C, H, 0>,
 ) -> Result<()> {
-    let scrape = registry.scrape(rt)?;
-    println!(rt; "{} bytes", text_len(&scrape))?;
+    let text = scrape_text(rt, registry)?;
+    println!(rt; "{} bytes", text.len())?;
     Ok(())
 }
 

@@ -2,6 +2,7 @@
 use Rattle.std.proofs.Common.{◌≡◌, ℕ, zero, suc, ◌+◌, ◌<◌, ◌≤◌, List, [], ◌∷◌, length, map, drop, set, refl, sym, ap, ◌∙◌, arith}
 use mathlib.Core.Option.{some, some-injective, some-ne-none}
 use lib.ListN.{get_elem?}
+use Rattle.std.proofs.Math.ListN.{drop_of_length-le}
 use Rattle.ledger_core.specs.Ops.{sum_ops}
 use Rattle.register_rule.specs.Sums.{total}
 use Rattle.snapshot_update.specs.declared.worker.Worker.{Worker}
@@ -17,13 +18,6 @@ drop_next : {A : Type 0} (l : List A) (p : ℕ) (x : A) → get_elem? l p ≡ so
 drop_next [] p x e = absurd (some-ne-none x (sym e))
 drop_next (y ∷ l) zero x e = ap (λ z. z ∷ l) (some-injective y x e)
 drop_next (y ∷ l) (suc p) x e = drop_next l p x e
-
--- behind all items there is none
-drop_all : {A : Type 0} (l : List A) (p : ℕ) → length l ≤ p → drop p l ≡ []
-drop_all [] zero few = refl
-drop_all [] (suc p) few = refl
-drop_all (x ∷ l) zero few = absurd (omega (arith, few))
-drop_all (x ∷ l) (suc p) few = drop_all l p (omega (arith, few))
 
 -- an item of a list that was mapped
 mapped_at : {A B : Type 0} (f : A → B) (l : List A) (p : ℕ) (y : B) → get_elem? (map f l) p ≡ some y
@@ -48,7 +42,7 @@ module _ {N C H G : ℕ} where
 
   -- behind the last one nothing is published
   pub none_published : (rs : List (Recorder N C H G)) (p k : ℕ) → length rs ≤ p → published_in (drop p rs) k ≡ 0
-  none_published rs p k few = ap (λ (l : List (Recorder N C H G)). published_in l k) (drop_all rs p few)
+  none_published rs p k few = ap (λ (l : List (Recorder N C H G)). published_in l k) (drop_of_length-le rs few)
 
   -- a board has 32 workers at most
   pub are_few : (rs : List (Recorder N C H G)) → length rs ≡ N → length rs ≤ 32

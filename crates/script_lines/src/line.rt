@@ -15,7 +15,7 @@ pub const WORKERS: u64 = 4;
 pub const MOST_TIMES: u64 = 100_000;
 
 /// What a worker does to a child.
-#[derive(Clone, Copy, Debug, PartialEq, Eq)]
+#[derive(Clone, Copy)]
 pub enum Counting {
     /// `inc`: increments a counter.
     Inc,
@@ -28,7 +28,7 @@ pub enum Counting {
 }
 
 /// A line of a script.
-#[derive(Clone, Copy, Debug, PartialEq, Eq)]
+#[derive(Clone, Copy)]
 pub enum Line<'a> {
     /// An empty line, or one that begins with `#`.
     Nothing,

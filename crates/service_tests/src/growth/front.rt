@@ -1,6 +1,6 @@
 //! The library for services: its calls that take memory.
 use crate::asserts::{once_more, same};
-use crate::crew::ID;
+use crate::crew::{ID, why_shut};
 use dirgwako::{
     BoardFault, Counter, CounterFamily, Crew, FamilyRefusal, Gauge, GaugeFamily, MetricRefusal,
     NewFault, OpenFault, Registers, Registrar, Registry, scrape_text,
@@ -120,7 +120,7 @@ fn is_used(rt: &(impl Abort + Wait + AllocGlobal), team: &mut Team) -> Result<bo
 fn is_used_or_spent(rt: &(impl Abort + Wait + AllocGlobal), team: &mut Team) -> Result<bool, Fail> {
     let used = is_used(rt, team)?;
     if !used {
-        same(rt, team.open(2).err(), Some(OpenFault::Opened));
+        same(rt, why_shut(team, 2), Some(OpenFault::Opened));
     }
     Ok(used)
 }

@@ -7,109 +7,125 @@ use std::process::Abort;
 /// The greatest number.
 const MOST: u64 = 18_446_744_073_709_551_615;
 
-/// Lines of a counter `a`, with its labels and its help.
-const COUNTERS: [(&str, &str, &str); 6] = [
-    ("counter a -", "-", ""),
-    ("counter a - ", "-", ""),
-    ("counter a -  ", "-", " "),
-    ("counter a b,,c", "b,,c", ""),
-    ("counter a , two  words ", ",", "two  words "),
-    ("counter a - größe\\\\\\n\\s", "-", "größe\\\\\\n\\s"),
-];
+/// What a line says: its word, its texts and its numbers.
+type Said<'a> = (&'a str, [&'a str; 4], [u64; 4]);
 
-/// Lines of a histogram `h` without labels, with its bounds and its help.
-const HISTOGRAMS: [(&str, &str, &str); 3] = [
-    ("histogram h - -", "-", ""),
-    ("histogram h - 3,2,2 ", "3,2,2", ""),
+/// Lines of families, and what they say: name, labels, help, bounds.
+const FAMILIES: [(&str, Said<'static>); 10] = [
+    ("counter a -", ("counter", ["a", "-", "", ""], [0; 4])),
+    ("counter a - ", ("counter", ["a", "-", "", ""], [0; 4])),
+    ("counter a -  ", ("counter", ["a", "-", " ", ""], [0; 4])),
+    ("counter a b,,c", ("counter", ["a", "b,,c", "", ""], [0; 4])),
     (
-        "histogram h - 1,18446744073709551615 a b",
-        "1,18446744073709551615",
-        "a b",
+        "counter a , two  words ",
+        ("counter", ["a", ",", "two  words ", ""], [0; 4]),
     ),
-];
-
-/// Lines of a child of `a`, with its values.
-const CHILDREN: [(&str, &str); 3] = [
-    ("child a", ""),
-    ("child a \\e", "\\e"),
-    ("child a two\\swords é \\\\n", "two\\swords é \\\\n"),
-];
-
-/// What is counted by a line: by which worker, of which child, how much, and how often.
-type Counted = (Counting, usize, u64, u64, u64);
-
-/// Lines that count.
-const COUNTS: [(&str, Counted); 4] = [
-    ("inc 0 0 0", (Counting::Inc, 0, 0, 0, 1)),
-    ("obs 3 12 7 1", (Counting::Obs, 3, 12, 7, 1)),
-    ("up 1 2 3 100000", (Counting::Up, 1, 2, 3, 100_000)),
     (
-        "down 2 18446744073709551615 18446744073709551615",
-        (Counting::Down, 2, MOST, MOST, 1),
+        "counter a - größe\\\\\\n\\s",
+        ("counter", ["a", "-", "größe\\\\\\n\\s", ""], [0; 4]),
     ),
-];
-
-/// Other lines.
-const OTHERS: [(&str, Line<'static>); 8] = [
     (
         "gauge http:x b the help",
-        Line::Gauge {
-            name: "http:x",
-            labels: "b",
-            help: "the help",
-        },
+        ("gauge", ["http:x", "b", "the help", ""], [0; 4]),
     ),
-    ("go", Line::Go),
-    ("scrape", Line::Scrape),
-    ("settle", Line::Settle),
-    ("window 0", Line::Window { size: 0 }),
-    ("window 18446744073709551615", Line::Window { size: MOST }),
-    ("", Line::Nothing),
-    ("#go", Line::Nothing),
+    (
+        "histogram h - -",
+        ("histogram", ["h", "-", "", "-"], [0; 4]),
+    ),
+    (
+        "histogram h - 3,2,2 ",
+        ("histogram", ["h", "-", "", "3,2,2"], [0; 4]),
+    ),
+    (
+        "histogram h - 1,18446744073709551615 a b",
+        (
+            "histogram",
+            ["h", "-", "a b", "1,18446744073709551615"],
+            [0; 4],
+        ),
+    ),
 ];
 
-/// The text is this line.
-fn is_line(rt: &impl Abort, text: &str, line: Line<'_>) {
-    same(rt, (text, read_line(text)), (text, Some(line)));
+/// Other lines: of children their name and values, of counts worker, child, how much and how often, and of the rest a number at most.
+const OTHERS: [(&str, Said<'static>); 14] = [
+    ("child a", ("child", ["a", "", "", ""], [0; 4])),
+    ("child a \\e", ("child", ["a", "\\e", "", ""], [0; 4])),
+    (
+        "child a two\\swords é \\\\n",
+        ("child", ["a", "two\\swords é \\\\n", "", ""], [0; 4]),
+    ),
+    ("inc 0 0 0", ("inc", [""; 4], [0, 0, 0, 1])),
+    ("obs 3 12 7 1", ("obs", [""; 4], [3, 12, 7, 1])),
+    ("up 1 2 3 100000", ("up", [""; 4], [1, 2, 3, 100_000])),
+    (
+        "down 2 18446744073709551615 18446744073709551615",
+        ("down", [""; 4], [2, MOST, MOST, 1]),
+    ),
+    ("go", ("go", [""; 4], [0; 4])),
+    ("scrape", ("scrape", [""; 4], [0; 4])),
+    ("settle", ("settle", [""; 4], [0; 4])),
+    ("window 0", ("window", [""; 4], [0; 4])),
+    (
+        "window 18446744073709551615",
+        ("window", [""; 4], [MOST, 0, 0, 0]),
+    ),
+    ("", ("nothing", [""; 4], [0; 4])),
+    ("#go", ("nothing", [""; 4], [0; 4])),
+];
+
+/// The word of a line that counts.
+fn word_of(what: Counting) -> &'static str {
+    match what {
+        Counting::Inc => "inc",
+        Counting::Obs => "obs",
+        Counting::Up => "up",
+        Counting::Down => "down",
+    }
 }
 
-/// Lines of families.
-#[test]
-fn lines_of_families(rt: HostRuntime) {
-    for (text, labels, help) in COUNTERS {
-        let name = "a";
-        is_line(&rt, text, Line::Counter { name, labels, help });
-    }
-    for (text, bounds, help) in HISTOGRAMS {
-        let line = Line::Histogram {
-            name: "h",
-            labels: "-",
+/// What a line says.
+fn said(line: Line<'_>) -> Said<'_> {
+    match line {
+        Line::Nothing => ("nothing", [""; 4], [0; 4]),
+        Line::Counter { name, labels, help } => ("counter", [name, labels, help, ""], [0; 4]),
+        Line::Gauge { name, labels, help } => ("gauge", [name, labels, help, ""], [0; 4]),
+        Line::Histogram {
+            name,
+            labels,
             bounds,
             help,
-        };
-        is_line(&rt, text, line);
-    }
-}
-
-/// Other lines.
-#[test]
-fn lines_of_children(rt: HostRuntime) {
-    for (text, values) in CHILDREN {
-        is_line(&rt, text, Line::Child { name: "a", values });
-    }
-    for (text, (what, worker, child, by, times)) in COUNTS {
-        let line = Line::Count {
+        } => ("histogram", [name, labels, help, bounds], [0; 4]),
+        Line::Child { name, values } => ("child", [name, values, "", ""], [0; 4]),
+        Line::Count {
             what,
             worker,
             child,
             by,
             times,
-        };
-        is_line(&rt, text, line);
+        } => (word_of(what), [""; 4], [worker as u64, child, by, times]),
+        Line::Go => ("go", [""; 4], [0; 4]),
+        Line::Scrape => ("scrape", [""; 4], [0; 4]),
+        Line::Settle => ("settle", [""; 4], [0; 4]),
+        Line::Window { size } => ("window", [""; 4], [size, 0, 0, 0]),
     }
-    for (text, line) in OTHERS {
-        is_line(&rt, text, line);
+}
+
+/// Each text is a line that says this.
+fn are_lines(rt: &impl Abort, lines: &[(&str, Said<'_>)]) {
+    for (text, expected) in lines {
+        same(
+            rt,
+            (*text, read_line(text).map(said)),
+            (*text, Some(*expected)),
+        );
     }
+}
+
+/// Lines of families, and others.
+#[test]
+fn lines_of_each_kind(rt: HostRuntime) {
+    are_lines(&rt, &FAMILIES);
+    are_lines(&rt, &OTHERS);
 }
 
 /// Texts that are none, with a bar between two: of families,
@@ -131,7 +147,7 @@ const NO_OTHERS: &str =
 /// None of these texts is a line.
 fn are_no_lines(rt: &impl Abort, texts: &str) {
     for text in texts.split('|') {
-        same(rt, (text, read_line(text)), (text, None));
+        same(rt, (text, read_line(text).is_some()), (text, false));
     }
 }
 

@@ -1,7 +1,7 @@
 //! Crews at their limits, and those that are refused.
 use super::Team;
 use crate::asserts::{need, same};
-use crate::crew::ID;
+use crate::crew::{ID, why_shut};
 use dirgwako::{
     BoardFault, CountFault, Counter, Crew, NewFault, OpenFault, Recorder, Registrar, Registry,
     Scanner, Snapshot, Source, counter_total, scrape_text,
@@ -29,7 +29,7 @@ fn crews_that_are_refused(rt: HostRuntime) {
 
 /// The crew is not opened for this reason, which has this number.
 fn is_shut(rt: &impl Abort, team: &mut Team, window: usize, fault: OpenFault, number: u8) {
-    same(rt, team.open(window).err(), Some(fault));
+    same(rt, why_shut(team, window), Some(fault));
     same(rt, fault.number(), number);
 }
 
