@@ -108,7 +108,7 @@ fn use_registry(
 /// Opens a crew and uses its registry, and tells whether it was opened. One that was not is spent.
 fn is_used(rt: &(impl Abort + Wait + AllocGlobal), team: &mut Team) -> Result<bool, Fail> {
     match team.open(2) {
-        Ok((registry, _, _)) => use_registry(rt, &registry),
+        Ok((registry, _recorders, _scanners)) => use_registry(rt, &registry),
         Err(fault) => {
             same(rt, fault, OpenFault::Registry(NewFault::NoMemory));
             Ok(false)

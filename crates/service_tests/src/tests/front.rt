@@ -33,13 +33,13 @@ fn new_team(rt: &impl Abort, alloc: Global, id: u64) -> Team {
 
 /// The registry of a crew that is opened here.
 fn opened<'a>(rt: &impl Abort, team: &'a mut Team, window: usize) -> Names<'a> {
-    let (registry, _, _) = need(rt, team.open(window));
+    let (registry, _recorders, _scanners) = need(rt, team.open(window));
     registry
 }
 
 /// The registry of a crew that is opened here, and its last recorder.
 fn opened_to_count<'a>(rt: &impl Abort, team: &'a mut Team) -> (Names<'a>, Counts<'a>) {
-    let (registry, mut recorders, _) = need(rt, team.open(64));
+    let (registry, mut recorders, _scanners) = need(rt, team.open(64));
     (registry, there(rt, recorders.pop()))
 }
 

@@ -35,7 +35,7 @@ fn is_shut(rt: &impl Abort, team: &mut Team, window: usize, fault: OpenFault, nu
 
 /// The crew is opened, with the longest window.
 fn opens(rt: &impl Abort, team: &mut Team) {
-    let (_, recorders, scanners) = need(rt, team.open(1_024));
+    let (_registry, recorders, scanners) = need(rt, team.open(1_024));
     same(rt, (recorders.len(), scanners.len()), (2, 1));
 }
 

@@ -42,7 +42,7 @@ fn settles(
 fn exact_totals(rt: HostRuntime) {
     let rt = &rt;
     let mut team = new_team(rt, rt.alloc(), ID);
-    let (registry, mut recorders, _) = need(rt, team.open(1));
+    let (registry, mut recorders, _scanners) = need(rt, team.open(1));
     settles(rt, &registry, &mut recorders);
     lacks(rt, recorders.get(..0), 0);
     lacks(rt, recorders.get(..1), 1);
