@@ -7,7 +7,7 @@ use Rattle.register_rule.specs.declared.view.Answer.{Answer}
 use Rattle.segment_layout.specs.Layout.{IsGeometry}
 use Rattle.register_rule.specs.Members.{newest}
 use Rattle.registry_state.specs.Journal.{RegistryChange, Registered, Entry, Changed, scrapes}
-use Rattle.registry_state.specs.Replay.{Family, IsAcceptedChange, after}
+use Rattle.registry_state.specs.Replay.{Family, IsAcceptedChange, after, nothing}
 use Rattle.registry_state.specs.Faults.{IsWindow}
 use Rattle.registry_state.specs.Held.{IsPlaceOfName, used_of}
 use Rattle.registry_state.specs.Kept.{RegistryView}
@@ -33,6 +33,28 @@ held_new n c h g recorded window journal families order geometry room none no_fa
       held = held_none c h g;
       ordered = order_none;
     })))
+
+-- what contracts see of a new registry
+pub seen_new : {S : Type 0} (id window : ℕ) (source : S) (journal : List Entry) (families : List Family)
+    → journal ≡ [] → families ≡ []
+    → ◌≡◌ {A = RegistryView S}
+    (record {
+      id = id;
+      window = window;
+      source = source;
+      journal = journal;
+      state = record { families = families; last = newest (scrapes journal) };
+    })
+    (record { id = id; window = window; source = source; journal = []; state = nothing })
+seen_new {S} id window source journal families none no_families =
+    let now : (j : List Entry) (f : List Family) → RegistryView S = λ j f. record {
+      id = id;
+      window = window;
+      source = source;
+      journal = j;
+      state = record { families = f; last = newest (scrapes j) };
+    } in
+    ap (λ j. now j families) none ∙ ap (now []) no_families
 
 module _ (n c h g : ℕ) (recorded : List Answer) (journal : List Entry) (window : ℕ) (families : List Family) (order : List ℕ)
     (used : Kind → ℕ)

@@ -1,6 +1,6 @@
 -- What a registry keeps, where a child is made, and what contracts see of it.
 use Rattle.std.proofs.Common.{◌≡◌, ℕ, zero, suc, ◌<◌, ◌≤◌, List, [], ◌∷◌, ◌++◌, Some, length, get_or, set, Contains, ap, sym}
-use Rattle.std.proofs.Common.{subst, ◌∙◌}
+use Rattle.std.proofs.Common.{subst, ◌∙◌, arith}
 use Rattle.std.specs.Prelude.{slice_get, IsSomeAnd, Result, Ok, Err, IfErr, IsErrAnd}
 use Rattle.std.proofs.lemmas.List.{get_or_default}
 use Rattle.metric_desc.specs.Desc.{Descriptor}
@@ -30,6 +30,12 @@ some_at P xs i x is here = subst (λ o. IsSomeAnd o P) (sym is) here
 pub at_some : {X : Type 0} (P : X → Type 0) (xs : List X) (i : ℕ) (x : X) → slice_get xs i ≡ Some x → IsSomeAnd (slice_get xs i) P
     → P x
 at_some P xs i x is here = subst (λ o. IsSomeAnd o P) is here
+
+-- there are more than its number
+pub some_within : {X : Type 0} (P : X → Type 0) (xs : List X) (i : ℕ) → IsSomeAnd (slice_get xs i) P → i < length xs
+some_within P [] i some = absurd some
+some_within P (x ∷ xs) zero some = omega arith
+some_within P (x ∷ xs) (suc i) some = let lt : i < length xs = some_within P xs i some in omega (arith, lt)
 
 -- an element that was read where there is one
 pub there_at : {X : Type 0} (P : X → Type 0) (xs : List X) (i : ℕ) (x : X) → IsSomeAnd (slice_get xs i) P → x ≡ get_or xs i x

@@ -3,6 +3,7 @@
 #![tactic(auto)]
 
 mod children;
+mod families;
 mod family;
 mod fault;
 mod handle;

@@ -4,12 +4,12 @@ ghost use Rattle.registry_state.specs.Replay.{slots};
 ghost use Rattle.registry_state.specs.Faults.{IsWindow};
 
 use crate::children::{child_of, put_noted};
+use crate::families::push_noted;
 use crate::family::{Family, may_register, number_named, place_of};
 use crate::fault::{BadWindow, ChildFault, NewFault, RegisterFault, ScrapeFault};
 use crate::handle::{FamilyId, Handle};
 use crate::journal::Journal;
 use crate::kept::Kept;
-use crate::noted_change::NotedChange;
 use crate::ordering::place_of_name;
 use crate::shown::Blank;
 use crate::used::Used;
@@ -19,7 +19,6 @@ use metric_names::{LabelValue, NoMemory};
 use snapshot_scan::Source;
 use std::alloc::Global;
 use std::marker::Model;
-use std::sync::Arc;
 
 /// What is registered, made and scraped, over a source of snapshots of `N` workers and of rows of `C` counters, `H` histograms
 /// and `G` gauges.
@@ -315,18 +314,13 @@ impl<
     {
         let number = self.families.len();
         let place = place_of_name(&self.families, &self.order, desc.name().as_str());
-        let alloc = *self.families.allocator();
-        let desc = Arc::new(alloc, desc)?;
-        let noted = Arc::try_clone(&desc)?;
-        self.families.reserve(1)?;
-        self.order.reserve(1)?;
-        self.journal.note(NotedChange::Registered(noted))?;
-        // The room for both was made above.
-        let _ = self.families.push(Family {
+        push_noted(
+            &mut self.journal,
+            &mut self.families,
+            &mut self.order,
+            place,
             desc,
-            children: Vec::new(alloc),
-        });
-        let _ = self.order.insert(place, number);
+        )?;
         Ok(number)
     }
 
