@@ -1,7 +1,7 @@
 -- What a registry keeps, where a child is made, and what contracts see of it.
 use Rattle.std.proofs.Common.{◌≡◌, ℕ, zero, suc, ◌<◌, ◌≤◌, List, [], ◌∷◌, ◌++◌, Some, length, get_or, set, Contains, ap, sym}
 use Rattle.std.proofs.Common.{subst, ◌∙◌, arith}
-use Rattle.std.specs.Prelude.{slice_get, IsSomeAnd, Result, Ok, Err, IfErr, IsErrAnd}
+use Rattle.std.specs.Prelude.{slice_get, IsSomeAnd, Option, Result, Ok, Err, IfErr, IsErrAnd}
 use Rattle.std.proofs.lemmas.List.{get_or_default}
 use Rattle.metric_desc.specs.Desc.{Descriptor}
 use Rattle.metric_desc.specs.declared.kind.Kind.{Kind}
@@ -30,6 +30,9 @@ some_at P xs i x is here = subst (λ o. IsSomeAnd o P) (sym is) here
 pub at_some : {X : Type 0} (P : X → Type 0) (xs : List X) (i : ℕ) (x : X) → slice_get xs i ≡ Some x → IsSomeAnd (slice_get xs i) P
     → P x
 at_some P xs i x is here = subst (λ o. IsSomeAnd o P) is here
+
+pub some_is : {X : Type 0} (P : X → Type 0) (o : Option X) (x : X) → o ≡ Some x → P x → IsSomeAnd o P
+some_is P o x is here = subst (λ q. IsSomeAnd q P) (sym is) here
 
 -- there are more than its number
 pub some_within : {X : Type 0} (P : X → Type 0) (xs : List X) (i : ℕ) → IsSomeAnd (slice_get xs i) P → i < length xs

@@ -8,7 +8,10 @@ use Rattle.snapshot_scan.specs.Sources.{Records}
 use Rattle.register_rule.specs.Members.{newest}
 use Rattle.registry_state.specs.Journal.{Entry, Scraped, scrapes, within}
 use Rattle.registry_state.specs.Replay.{Family, Contents}
-use Rattle.registry_state.specs.Faults.{IsWindow}
+use Rattle.snapshot_scan.specs.declared.contended.Contended.{Contended}
+use Rattle.registry_state.specs.Faults.{IsWindow, Leaves}
+use Rattle.registry_state.specs.declared.fault.ScrapeFault.{ScrapeFault}
+use Rattle.registry_state.specs.declared.fault.ScrapeFault.TheVariants as Scrape
 use Rattle.registry_state.specs.Kept.{RegistryView, IsKept}
 use Rattle.registry_state.specs.Changed.{KeepsScrape}
 use Rattle.registry_state.specs.Held.{IsHeld}
@@ -68,6 +71,20 @@ module _ (n c h g : ℕ) (recorded : List Answer) (journal : List Entry) (window
         held = is.held;
         ordered = is.ordered;
       })
+
+  -- a scrape that was refused
+  pub held_left : (recorded' : List Answer) (journal' : List Entry) → recorded' ≡ recorded → journal' ≡ journal
+      → IsHeld n c h g recorded' journal' window families order used
+  held_left recorded' journal' one two =
+      subst (λ (l : List Answer). IsHeld n c h g l journal' window families order used) (sym one)
+      (subst (λ (j : List Entry). IsHeld n c h g recorded j window families order used) (sym two) is)
+
+-- a refused scrape recorded nothing
+pub recorded_left : {S : Type 0} (n : ℕ) (recorded : S → List Answer) (quit : S → ℕ) (gave_up : S → S → Contended → Type 0)
+    (old new : S) (fault : ScrapeFault)
+    → Leaves n recorded quit gave_up old new fault → recorded new ≡ recorded old
+recorded_left n recorded quit gave_up old new Scrape.NoMemory left = ap recorded left
+recorded_left n recorded quit gave_up old new (Scrape.Contended fault) left = left.0
 
 -- what contracts see of a registry whose window is another
 pub seen_window : {S : Type 0} (id window' : ℕ) (source : S) (journal journal' : List Entry) (families : List Family)

@@ -1,11 +1,14 @@
 -- A scrape's families before and after their numbers are written.
-use Rattle.std.specs.Prelude.{ℕ, ◌<◌, List, map, replicate, All}
+use Rattle.std.specs.Prelude.{◌≡◌, ℕ, ◌<◌, List, length, map, replicate, All}
+use Rattle.ledger_core.specs.Limits.{AreSlots}
 use Rattle.metric_desc.specs.declared.kind.Kind.{Kind}
 use Rattle.metric_desc.specs.declared.kind.Kind.TheVariants.{Counter, Histogram, Gauge}
 use Rattle.expo_text.specs.Scraped.{Child as ChildShown, Family as FamilyShown}
 use Rattle.expo_text.specs.declared.number.Number.{Number}
+use Rattle.register_rule.specs.declared.view.Answer.{Answer}
+use Rattle.snapshot_scan.specs.Sources.{IsWhole}
 use Rattle.registry_state.specs.Replay.{Child, Family, slots}
-use Rattle.registry_state.specs.Held.{family_at}
+use Rattle.registry_state.specs.Held.{family_at, AreShowable, IsOrder}
 use Rattle.registry_state.specs.Shown.{family_shown}
 
 -- a number of this kind that nothing was counted in
@@ -33,3 +36,14 @@ arranged c h totals families order = map (λ number. family_shown c h totals (fa
 -- the children of a family have slots of a row of c counters, h histograms and g gauges
 abbrev pub AreWithin : (c h g : ℕ) → Family → Type 0
 AreWithin c h g family = All (λ (child : Child). child.slot < slots c h g family.desc.kind) family.children
+
+-- a vector and families with zeros can be filled from an answer of n workers, and of a row of c counters, h histograms and g
+-- gauges: they are of its workers and of these families in their order, and the answer has all their slots
+pub record IsFillable (n c h g : ℕ) (blank_vector : List ℕ) (blank : List FamilyShown) (held : List Family) (places : List ℕ)
+    (answer : Answer) : Type 0 where
+  pub vector : length blank_vector ≡ n
+  pub families : blank ≡ blanks held places
+  pub showable : AreShowable c h g held
+  pub order : IsOrder held places
+  pub slots : AreSlots c h g
+  pub whole : IsWhole n c h g answer

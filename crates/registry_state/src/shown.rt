@@ -1,12 +1,10 @@
 //! The scrape that a registry gives: all its memory is taken before the scan, and its numbers are written after it.
 ghost use Rattle.std.specs.Prelude.{◌≡◌, ◌<◌, length, map, All, IfOk};
-ghost use Rattle.ledger_core.specs.Limits.{AreSlots};
 ghost use Rattle.snapshot_scan.specs.Snapshots.{as_answer};
-ghost use Rattle.snapshot_scan.specs.Sources.{IsWhole};
 ghost use Rattle.registry_state.specs.Replay.{slots};
 ghost use Rattle.registry_state.specs.Shown.{number_at, child_shown, family_shown, IsShown};
-ghost use Rattle.registry_state.specs.Held.{AreShowable, IsOrder};
-ghost use Rattle.registry_state.specs.Filled.{zero_of, child_blank, family_blank, blanks, arranged, AreWithin};
+ghost use Rattle.registry_state.specs.Held.{IsOrder};
+ghost use Rattle.registry_state.specs.Filled.{zero_of, child_blank, family_blank, blanks, arranged, AreWithin, IsFillable};
 
 use crate::family::{Child, Family};
 use expo_text::{ChildScrape, FamilyScrape, Number, Scrape};
@@ -173,12 +171,7 @@ impl Blank {
         order: &[usize],
         snapshot: &Snapshot<N, C, H, G>,
     ) -> Scrape
-        requires vector { length self.vector.items ≡ N }
-        requires families { self.families.items ≡ blanks families.now order.now }
-        requires showable { AreShowable C H G families.now }
-        requires order { IsOrder families.now order.now }
-        requires slots { AreSlots C H G }
-        requires whole { IsWhole N C H G (as_answer snapshot.now) }
+        requires { IsFillable N C H G self.vector.items self.families.items families.now order.now (as_answer snapshot.now) }
         ensures { IsShown C H families.now (as_answer snapshot.now) result }
     {
         let mut vector = self.vector;

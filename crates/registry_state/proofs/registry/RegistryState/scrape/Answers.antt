@@ -1,4 +1,4 @@
-use Rattle.std.proofs.Common.{◌≡◌, ℕ, List, sym, subst, ◌∙◌, arith}
+use Rattle.std.proofs.Common.{◌≡◌, ℕ, List, ap, sym, subst, ◌∙◌, arith}
 use Rattle.snapshot_scan.specs.Snapshots.{as_answer}
 use Rattle.snapshot_scan.specs.Sources.{IsWhole}
 use Rattle.register_rule.specs.Members.{newest}
@@ -9,7 +9,9 @@ use Rattle.registry_state.specs.Kept.{RegistryView}
 use Rattle.registry_state.specs.Held.{AreShowable, IsOrder}
 use Rattle.registry_state.specs.Filled.{blanks}
 use Rattle.registry_state.specs.Changed.{KeepsScrape}
-use Rattle.registry_state.proofs.Windowed.{is_newest, is_some, held_scrape, keeps_scrape}
+use Rattle.registry_state.specs.Shown.{IsShown}
+use Rattle.registry_state.proofs.Making.{some_is}
+use Rattle.registry_state.proofs.Windowed.{is_newest, is_some, held_scrape, held_left, recorded_left, keeps_scrape}
 use Rattle.registry_state.proofs.Showing.{showable}
 use Rattle.registry_state.proofs.registry.RegistryState.scrape.Goals as goal
 
@@ -36,7 +38,17 @@ fill-requires g c =
     scraped.0 (as_answer c.in-Some.newest.now) c.self.invariant.kept.room.0 scraped.3 c.in-Some.ensures in
     let whole : IsWhole g.row.N g.row.C g.row.H g.row.G (as_answer c.in-Some.newest.now) =
     subst (λ (a : Answer). IsWhole g.row.N g.row.C g.row.H g.row.G a) same scraped.1.whole in
-    (omega arith, (c.in-Ok.ensures.vector, (blank, (shown, (ordered, (c.self.invariant.geometry.slots, whole))))))
+    (
+      omega arith,
+      record {
+        vector = c.in-Ok.ensures.vector;
+        families = blank;
+        showable = shown;
+        order = ordered;
+        slots = c.self.invariant.geometry.slots;
+        whole = whole;
+      },
+    )
 
 pub invariant_of-self-2 : goal.invariant_of-self-2
 invariant_of-self-2 g c =
@@ -62,3 +74,26 @@ returns-clause-kept g c =
     c.self.inside.source c.scrape.new.source c.self.inside.journal
     c.scrape.new.self c.self.inside.families.items scraped.0 c.self.invariant.kept.room.0 scraped.1 scraped.2 scraped.3
     held.kept.moments)
+
+pub new-requires : goal.new-requires
+new-requires g c =
+    subst (λ (l : List Family). IsOrder l c.deref-2.result.now) (sym c.deref.ensures.value)
+    (subst (λ (o : List ℕ). IsOrder c.self.inside.families.items o) (sym c.deref-2.ensures.value) c.self.invariant.ordered)
+
+pub invariant_of-self : goal.invariant_of-self
+invariant_of-self g c =
+    let left = c.in_err-scrape.ensures in
+    held_left _ _ _ _ _ _ _ _ _ _ c.self.invariant _ _
+    (recorded_left g.row.N g.S.Source.recorded g.S.Source.quit g.S.Source.gave_up _ _ c.in_err-scrape.field-0.0 left.fault)
+    left.unchanged
+
+pub returns-clause-quit : goal.returns-clause-quit
+returns-clause-quit g c =
+    c.in_ok-scrape.ensures.kept ∙ ap (λ (r : RegistryView g.row.S.Denot). g.S.Source.quit r.source) c.self.view_is
+
+pub returns-clause-shown : goal.returns-clause-shown
+returns-clause-shown g c =
+    some_is (λ (answer : Answer). IsShown g.row.C g.row.H c.self.inside.families.items answer c.fill.result) _
+    (as_answer c.in-Some.newest.now) c.in-Some.ensures
+    (subst (λ (l : List Family). IsShown g.row.C g.row.H l (as_answer c.in-Some.newest.now) c.fill.result) c.deref-3.ensures.value
+    c.fill.ensures)
