@@ -1,7 +1,7 @@
 -- What a registry keeps, where a child is made, and what contracts see of it.
 use Rattle.std.proofs.Common.{◌≡◌, ℕ, zero, suc, ◌<◌, ◌≤◌, List, [], ◌∷◌, ◌++◌, Some, length, get_or, set, Contains, ap, sym}
 use Rattle.std.proofs.Common.{subst, ◌∙◌, arith}
-use Rattle.std.specs.Prelude.{slice_get, IsSomeAnd, Option, Result, Ok, Err, IfErr, IsErrAnd}
+use Rattle.std.specs.Prelude.{slice_get, IsSomeAnd, Option, Result, Ok, Err, IfErr, OnErr, IsErrAnd}
 use Rattle.std.proofs.lemmas.List.{get_or_default}
 use Rattle.metric_desc.specs.Desc.{Descriptor}
 use Rattle.metric_desc.specs.declared.kind.Kind.{Kind}
@@ -81,6 +81,39 @@ pub only_memory : {T : Type 0} (P : ChildFault → Type 0) (r : Result T ChildFa
     → P NoMemory → IfErr r P
 only_memory P (Ok x) is here = tt
 only_memory P (Err fault) is here = subst P (sym is) here
+
+-- what holds after each refusal
+pub on_err : {T E : Type 0} (r : Result T E) (P : Type 0) → P → OnErr r P
+on_err (Ok x) P here = tt
+on_err (Err fault) P here = here
+
+-- what contracts see of a registry in which nothing has changed
+pub seen_still : {S : Type 0} (id window : ℕ) (source : S) (journal journal' : List Entry) (families families' : List Family)
+    → journal' ≡ journal → families' ≡ families
+    → ◌≡◌ {A = RegistryView S}
+    (record {
+      id = id;
+      window = window;
+      source = source;
+      journal = journal';
+      state = record { families = families'; last = newest (scrapes journal') };
+    })
+    (record {
+      id = id;
+      window = window;
+      source = source;
+      journal = journal;
+      state = record { families = families; last = newest (scrapes journal) };
+    })
+seen_still {S} id window source journal journal' families families' one two =
+    let now : (j : List Entry) (f : List Family) → RegistryView S = λ j f. record {
+      id = id;
+      window = window;
+      source = source;
+      journal = j;
+      state = record { families = f; last = newest (scrapes j) };
+    } in
+    ap (λ j. now j families') one ∙ ap (now journal) two
 
 -- a family of which a child is wanted, and the slot that would count for it
 module _ (c h g : ℕ) (families : List Family) (used : Kind → ℕ) (held : AreHeld c h g families used)

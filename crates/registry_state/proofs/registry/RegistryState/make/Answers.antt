@@ -1,4 +1,4 @@
-use Rattle.std.proofs.Common.{◌≡◌, ◌++◌, ◌∷◌, [], ℕ, ◌<◌, ◌≤◌, List, slice_get, IsSomeAnd, ap, sym, subst, ◌∙◌}
+use Rattle.std.proofs.Common.{◌≡◌, ◌++◌, ◌∷◌, [], ℕ, ◌<◌, ◌≤◌, List, slice_get, IsSomeAnd, length, ap, sym, subst, ◌∙◌}
 use Rattle.metric_desc.specs.Desc.{Descriptor}
 use Rattle.metric_desc.specs.declared.kind.Kind.{Kind}
 use Rattle.register_rule.specs.Members.{newest}
@@ -10,7 +10,7 @@ use Rattle.registry_state.specs.Faults.{IsChildFault, IsMissingChild}
 use Rattle.registry_state.specs.Changed.{IsHandle, WasMade}
 use Rattle.registry_state.specs.declared.fault.ChildFault.TheVariants.{Full, NoMemory}
 use Rattle.registry_state.proofs.Inside.{is_inside}
-use Rattle.registry_state.proofs.Making.{only_memory, is_full, is_no_memory, was_made, held_still, held_more}
+use Rattle.registry_state.proofs.Making.{some_within, on_err, seen_still, only_memory, is_full, is_no_memory, was_made, held_still, held_more}
 use Rattle.registry_state.proofs.registry.RegistryState.make.Goals as goal
 
 pub returns-then-slot-slots_of-clause-fault : goal.returns-then-slot-slots_of-clause-fault
@@ -162,3 +162,19 @@ returns-clause-inside g c =
     subst (λ n. c.of-slot.result < n) c.slots_of.ensures c.if-slot-slots_of.false in
     is_inside g.row.C g.row.H g.row.G c.self.inside.id c.index.result.now.desc c.of-slot.result c.of-handle.result handle
     (subst (λ (k : Kind). c.of-slot.result < slots g.row.C g.row.H g.row.G k) kind low)
+
+pub index-requires : goal.index-requires
+index-requires g c =
+    let seen : c.args.self.now.state.families ≡ c.self.inside.families.items =
+    sym (ap (λ (r : RegistryView g.row.S.Denot). r.state.families) c.self.view_is) in
+    let lt : c.args.number < length c.self.inside.families.items =
+    subst (λ (l : List Family). c.args.number < length l) seen
+    (some_within (λ (it : Family). IsMissingChild it c.args.values.now) c.args.self.now.state.families c.args.number
+    c.requires.wanted) in
+    subst (λ n. c.args.number < n) (sym c.self.inside.families.ok.0) lt
+
+pub returns-in_err-put_noted-clause-unchanged : goal.returns-in_err-put_noted-clause-unchanged
+returns-in_err-put_noted-clause-unchanged g c =
+    let same = c.in_err-put_noted.ensures.unchanged in
+    on_err _ _
+    (seen_still c.self.inside.id c.self.inside.window c.self.inside.source _ _ _ _ same.0 same.1 ∙ c.self.view_is)
