@@ -64,6 +64,21 @@ with_child_at families number child it desc children there same new =
     ∙ ap (λ cs. set families number (record { desc = it.desc; children = cs })) new
     ∙ sym (with_child_is families number child it there)
 
+-- a family that is written back as it was
+set_same : (families : List Family) (number : ℕ) (it : Family) → slice_get families number ≡ Some it
+    → set families number it ≡ families
+set_same [] number it is = absurd (cc)
+set_same (family ∷ families) zero it is = let same : it ≡ family = cc in ap (λ f. f ∷ families) same
+set_same (family ∷ families) (suc number) it is = ap (λ rest. family ∷ rest) (set_same families number it is)
+
+pub still_at : (families : List Family) (number : ℕ) (it : Family) (desc : Descriptor) (children : List Child)
+    → slice_get families number ≡ Some it → desc ≡ it.desc → children ≡ it.children
+    → set families number (record { desc = desc; children = children }) ≡ families
+still_at families number it desc children there same still =
+    ap (λ d. set families number (record { desc = d; children = children })) same
+    ∙ ap (λ cs. set families number (record { desc = it.desc; children = cs })) still
+    ∙ set_same families number it there
+
 -- a child of these values that was found at this place
 pub found_child : (children : List Child) (place : ℕ) (child : Child) (values : List (List ℕ)) (slot : ℕ)
     → place < length children
@@ -86,6 +101,9 @@ only_memory P (Err fault) is here = subst P (sym is) here
 pub on_err : {T E : Type 0} (r : Result T E) (P : Type 0) → P → OnErr r P
 on_err (Ok x) P here = tt
 on_err (Err fault) P here = here
+
+pub on_err_both : {T E : Type 0} (r : Result T E) (P Q : Type 0) → P → Q → OnErr r (P × Q)
+on_err_both r P Q one two = on_err r (P × Q) (one, two)
 
 -- what contracts see of a registry in which nothing has changed
 pub seen_still : {S : Type 0} (id window : ℕ) (source : S) (journal journal' : List Entry) (families families' : List Family)

@@ -1,5 +1,5 @@
 //! Families are put behind the others, and noted in the journal.
-ghost use Rattle.std.specs.Prelude.{◌≡◌, ◌≤◌, ◌++◌, ◌∷◌, [], length, IfOk, OnErr, OnOk};
+ghost use Rattle.std.specs.Prelude.{◌≡◌, ◌≤◌, ◌++◌, ◌∷◌, [], length, OnErr, OnOk};
 ghost use Rattle.std.specs.List.{insert};
 ghost use Rattle.std.specs.Arc.{arc_value};
 ghost use Rattle.registry_state.specs.Journal.{Changed, Registered};

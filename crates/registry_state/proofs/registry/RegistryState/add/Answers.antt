@@ -33,7 +33,8 @@ invariant_of-self-2 g c =
     let at : IsPlaceOfName c.self.inside.families.items c.self.inside.order.items c.args.desc.name c.place_of_name-place.result =
     subst (λ (l : List Family). IsPlaceOfName l c.self.inside.order.items c.args.desc.name c.place_of_name-place.result)
     c.deref.ensures.value
-    (subst (λ (o : List ℕ). IsPlaceOfName c.deref.result.now o c.args.desc.name c.place_of_name-place.result) c.deref-2.ensures.value
+    (subst (λ (o : List ℕ). IsPlaceOfName c.deref.result.now o c.args.desc.name c.place_of_name-place.result)
+    c.deref-2.ensures.value
     (subst (λ (t : List ℕ). IsPlaceOfName c.deref.result.now c.deref-2.result.now t c.place_of_name-place.result) name
     c.place_of_name-place.ensures)) in
     held_more _ _ _ _ _ _ _ _ _ _ c.self.invariant c.args.desc c.place_of_name-place.result _ _ _ accepted at put.noted put.pushed
@@ -42,4 +43,5 @@ invariant_of-self-2 g c =
 pub returns-clause-registered : goal.returns-clause-registered
 returns-clause-registered g c =
     let put = c.in_ok-push_noted.ensures in
-    seen_changed _ _ _ _ _ _ _ (Registered c.args.desc) put.noted put.pushed ∙ ap (changed (Registered c.args.desc)) c.self.view_is
+    seen_changed _ _ _ _ _ _ _ (Registered c.args.desc) put.noted put.pushed
+    ∙ ap (changed (Registered c.args.desc)) c.self.view_is

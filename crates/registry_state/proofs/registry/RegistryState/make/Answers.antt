@@ -10,7 +10,8 @@ use Rattle.registry_state.specs.Faults.{IsChildFault, IsMissingChild}
 use Rattle.registry_state.specs.Changed.{IsHandle, WasMade}
 use Rattle.registry_state.specs.declared.fault.ChildFault.TheVariants.{Full, NoMemory}
 use Rattle.registry_state.proofs.Inside.{is_inside}
-use Rattle.registry_state.proofs.Making.{some_within, on_err, seen_still, only_memory, is_full, is_no_memory, was_made, held_still, held_more}
+use Rattle.registry_state.proofs.Making.{some_within, on_err, seen_still, only_memory, is_full, is_no_memory, was_made}
+use Rattle.registry_state.proofs.Making.{held_still, held_more}
 use Rattle.registry_state.proofs.registry.RegistryState.make.Goals as goal
 
 pub returns-then-slot-slots_of-clause-fault : goal.returns-then-slot-slots_of-clause-fault

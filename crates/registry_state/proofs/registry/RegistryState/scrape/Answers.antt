@@ -37,8 +37,7 @@ fill-requires g c =
     let same : scraped.0 ≡ as_answer c.in-Some.newest.now = is_newest c.self.inside.window c.self.inside.journal c.scrape.new.self
     scraped.0 (as_answer c.in-Some.newest.now) c.self.invariant.kept.room.0 scraped.3 c.in-Some.ensures in
     let whole : IsWhole g.row.N g.row.C g.row.H g.row.G (as_answer c.in-Some.newest.now) =
-    subst (λ (a : Answer). IsWhole g.row.N g.row.C g.row.H g.row.G a) same scraped.1.whole in
-    (
+    subst (λ (a : Answer). IsWhole g.row.N g.row.C g.row.H g.row.G a) same scraped.1.whole in (
       omega arith,
       record {
         vector = c.in-Ok.ensures.vector;
