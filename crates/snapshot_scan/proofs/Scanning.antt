@@ -14,9 +14,14 @@ use Rattle.register_rule.specs.History.{Below}
 use Rattle.register_rule.specs.ScanSteps.{answered, given_up_if_spent, at_rest}
 use Rattle.register_rule.proofs.Words.{there, at_below, read_at, each_push}
 use Rattle.snapshot_scan.specs.declared.remembered_row.RememberedRow.{RememberedRow}
-use Rattle.register_rule.specs.Seats.{HasMember}
+use Rattle.register_rule.specs.declared.board.Board.{Board}
+use Rattle.register_rule.specs.declared.seats.Bundle.{Bundle}
+use Rattle.register_rule.specs.Seats.{HasMember, MayScan, table_of, members_of}
+use Rattle.ledger_core.specs.Ops.{width}
+use Rattle.segment_layout.specs.Layout.{IsGeometry}
+use Rattle.snapshot_scan.specs.Conditions.{MayTry}
 use Rattle.snapshot_scan.specs.Shape.{scan_of, with_scan}
-use Rattle.snapshot_scan.specs.RememberedRows.{version_of, HasOther, pairs, opening, settling, failing, IsLoaded}
+use Rattle.snapshot_scan.specs.RememberedRows.{version_of, AreWide, HasOther, pairs, opening, settling, failing, IsLoaded}
 use Rattle.snapshot_scan.specs.Asking.{refused_all, due_from, asked_worker, asked_too, MayAsk}
 use Rattle.snapshot_scan.specs.Scanned.{Tried, all_opened, FailedTry, HasMoved, IsAnswered, IsGivenUp}
 use Rattle.snapshot_scan.proofs.Words.{scan_with, with_led, led_some}
@@ -249,6 +254,27 @@ pub at_loop : (n k : ℕ) (tries : List Tried) (gs : List RememberedRow) (floor 
     → a ≡ with_scan (stood tries gs floor base (scan_of ms)) ms
 at_loop n k tries gs floor base ms a e lt p = p
     ∙ ap (λ (x : ScanLog). with_scan x ms) (given_later n (stood tries gs floor base (scan_of ms)) (omega (arith, e, lt)))
+
+-- while there are tries left, the next one may be made
+pub may_try : {N C H G : ℕ} (b : Board N C H G) (s s' : Bundle) (k : ℕ) (tries : List Tried) (gs : List RememberedRow)
+    (floor base opened : List ℕ) → MayScan b s → IsGeometry N C H G → table_of s' ≡ table_of s → length gs ≡ N
+    → length opened ≡ N → AreWide (width C H G) gs → length tries ≡ k + 1
+    → members_of s' ≡ with_scan (given_up_if_spent N (stood tries gs floor base (scan_of (members_of s)))) (members_of s)
+    → k < N + 1 → MayTry b s' gs opened
+may_try {N} {C} {H} {G} b s s' k tries gs floor base opened own geo same few long wide count view lt =
+    let stands = at_loop N k tries gs floor base (members_of s) (members_of s') count lt view in
+    let scan = now_is (stood tries gs floor base (scan_of (members_of s))) (members_of s) (members_of s') own.1 stands in record {
+      own = (same ∙ own.0, still_some _ (members_of s) (members_of s') own.1 stands);
+      geometry = geo;
+      lengths = (few, long);
+      wide = wide;
+      kept = ap (λ (d : ScanLog). d.kept) scan;
+      rest = (
+        ap (λ (d : ScanLog). d.now.looks) scan,
+        ap (λ (d : ScanLog). d.now.due) scan,
+        ap (λ (d : ScanLog). d.now.asks) scan,
+      );
+    }
 
 module _ (n w k : ℕ) (opened found : List ℕ) (gs gs0 : List RememberedRow) (few : length gs ≡ n) (long : length opened ≡ n)
     (deep : length found ≡ n) (tries : List Tried) (floor base : List ℕ) (ms a b : List Member) (t : HasMember ms)

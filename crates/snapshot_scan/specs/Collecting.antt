@@ -16,12 +16,11 @@ use Rattle.snapshot_scan.specs.Shape.{scan_of, scan_in, with_scan}
 use Rattle.snapshot_scan.specs.RememberedRows.{AreWide, AreKnown, IsLoaded, version_of, looks_of, opening, settling}
 
 -- a second collect may be made: by a seat that can make steps of a scan, whose member remembers these rows, and has opened all of
--- its board's places at these numbers; what it finds has a place each
-pub record MayConfirm {N C H G : ℕ} (b : Board N C H G) (s : Bundle) (gs : List RememberedRow)
-    (opened found : List ℕ) : Type 0 where
+-- its board's places at these numbers
+pub record MayConfirm {N C H G : ℕ} (b : Board N C H G) (s : Bundle) (gs : List RememberedRow) (opened : List ℕ) : Type 0 where
   pub own : MayScan b s
   pub geometry : IsGeometry N C H G
-  pub lengths : (length gs ≡ N) × (length opened ≡ N) × (length found ≡ N)
+  pub lengths : (length gs ≡ N) × (length opened ≡ N)
   pub wide : AreWide (width C H G) gs
   pub kept : (scan_in s).kept ≡ map version_of gs
   pub looks : (scan_in s).now.looks ≡ looks_of 0 opened [] gs

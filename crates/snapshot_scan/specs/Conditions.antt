@@ -30,16 +30,13 @@ pub record MayTry {N C H G : ℕ} (b : Board N C H G) (s : Bundle) (gs : List Re
   pub kept : (scan_in s).kept ≡ map version_of gs
   pub rest : ((scan_in s).now.looks ≡ []) × ((scan_in s).now.due ≡ []) × ((scan_in s).now.asks ≡ [])
 
--- a scan may begin: by a seat that can make steps of a scan, whose member remembers these rows, and is in no scan; the sums are
--- those of the rows, and what both collects find, and the flag and the words of an answer that is lent, have places
+-- a scan may begin: by a seat that may make a try, and is in no scan; the sums are those of the rows, and what the second collect
+-- finds, and the flag and the words of an answer that is lent, have places
 pub record MayBegin {N C H G : ℕ} (b : Board N C H G) (s : Bundle) (gs : List RememberedRow) (sums opened found words : List ℕ)
     : Type 0 where
-  pub own : MayScan b s
-  pub geometry : IsGeometry N C H G
-  pub lengths : (length gs ≡ N) × (length sums ≡ width C H G) × (length opened ≡ N) × (length found ≡ N)
-      × (length words ≡ 1 + N + width C H G)
-  pub wide : AreWide (width C H G) gs
-  pub totals : AreTotals (width C H G) gs sums
+  pub may : MayTry b s gs opened
+  pub room : (length found ≡ N) × (length sums ≡ width C H G) × AreTotals (width C H G) gs sums
+  pub lent : length words ≡ 1 + N + width C H G
   pub idle : IsIdle (scan_in s) gs
 
 -- the worker at this place may be asked, the next one that is to be: by a seat whose floor this is, with rows of so many words,

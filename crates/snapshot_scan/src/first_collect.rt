@@ -1,12 +1,12 @@
 //! The first collect of a try, four places in one turn.
-ghost use Rattle.std.specs.Prelude.{◌≡◌, ℕ, ◌+◌, ◌<◌, ◌≤◌, List, true, false, length, map, slice_index};
+ghost use Rattle.std.specs.Prelude.{◌≡◌, ℕ, ◌+◌, ◌<◌, ◌≤◌, List, All, true, false, length, map, slice_index};
 ghost use Rattle.ledger_core.specs.Ops.{width};
-ghost use Rattle.segment_layout.specs.Layout.{IsGeometry};
+ghost use Rattle.segment_layout.specs.Layout.{depth};
 ghost use Rattle.register_rule.specs.declared.view.Member.{Member};
 ghost use Rattle.register_rule.specs.Seats.{table_of, members_of, HasMember, MayScan};
 ghost use Rattle.snapshot_scan.specs.Shape.{scan_in, with_scan};
-ghost use Rattle.snapshot_scan.specs.RememberedRows.{AreWide, AreKnown, HasOther, IsLoaded, version_of, opening};
-ghost use Rattle.snapshot_scan.specs.Collecting.{HasOpened};
+ghost use Rattle.snapshot_scan.specs.RememberedRows.{IsWide, AreWide, AreKnown, AreTotals, HasOther, IsLoaded, version_of, opening};
+ghost use Rattle.snapshot_scan.specs.Collecting.{HasOpened, MayConfirm};
 ghost use Rattle.snapshot_scan.specs.Conditions.{MayTry};
 
 use crate::remembered_row::RememberedRow;
@@ -33,12 +33,12 @@ fn open_one<
     known: bool,
 ) -> bool
     requires own { MayScan board.now (S.bundle seat.old) }
-    requires geometry { IsGeometry N C H G }
+    requires deep { depth N (width C H G) ≤ 2529 }
     requires inside { (place < N) × (length kept.old ≡ N) × (length opened.old ≡ N) }
-    requires wide { AreWide (width C H G) kept.old }
+    requires wide { All (IsWide (width C H G)) kept.old }
     ensures own { table_of (S.bundle seat.new) ≡ table_of (S.bundle seat.old) }
     ensures leads { HasMember (members_of (S.bundle seat.new)) }
-    ensures wide { AreWide (width C H G) kept.new }
+    ensures wide { All (IsWide (width C H G)) kept.new }
     ensures opened { (ms : List Member) (rows : List RememberedRow)
         → HasOpened (width C H G) place ms rows (members_of (S.bundle seat.old)) kept.old opened.old known
         → HasOpened (width C H G) (place + 1) ms rows (members_of (S.bundle seat.new)) kept.new opened.new result }
@@ -65,12 +65,12 @@ fn open_four<
     known: bool,
 ) -> bool
     requires own { MayScan board.now (S.bundle seat.old) }
-    requires geometry { IsGeometry N C H G }
+    requires deep { depth N (width C H G) ≤ 2529 }
     requires inside { (place + 4 ≤ N) × (length kept.old ≡ N) × (length opened.old ≡ N) }
-    requires wide { AreWide (width C H G) kept.old }
+    requires wide { All (IsWide (width C H G)) kept.old }
     ensures own { table_of (S.bundle seat.new) ≡ table_of (S.bundle seat.old) }
     ensures leads { HasMember (members_of (S.bundle seat.new)) }
-    ensures wide { AreWide (width C H G) kept.new }
+    ensures wide { All (IsWide (width C H G)) kept.new }
     ensures opened { (ms : List Member) (rows : List RememberedRow)
         → HasOpened (width C H G) place ms rows (members_of (S.bundle seat.old)) kept.old opened.old known
         → HasOpened (width C H G) (place + 4) ms rows (members_of (S.bundle seat.new)) kept.new opened.new result }
@@ -98,9 +98,9 @@ fn open_rest<
     known: bool,
 ) -> bool
     requires own { MayScan board.now (S.bundle seat.old) }
-    requires geometry { IsGeometry N C H G }
+    requires deep { depth N (width C H G) ≤ 2529 }
     requires inside { (from ≤ N) × (length kept.old ≡ N) × (length opened.old ≡ N) }
-    requires wide { AreWide (width C H G) kept.old }
+    requires wide { All (IsWide (width C H G)) kept.old }
     ensures own { table_of (S.bundle seat.new) ≡ table_of (S.bundle seat.old) }
     ensures opened { (ms : List Member) (rows : List RememberedRow)
         → HasOpened (width C H G) from ms rows (members_of (S.bundle seat.old)) kept.old opened.old known
@@ -131,6 +131,8 @@ pub(crate) fn collect<
     ensures told { (q : ℕ) → q < N → IsLoaded q (scan_in (S.bundle seat.old)) (slice_index opened.new q) }
     ensures known { result ≡ true → AreKnown opened.new kept.new }
     ensures unknown { result ≡ false → HasOther opened.new (map version_of kept.old) }
+    ensures may { MayConfirm board.now (S.bundle seat.new) kept.new opened.new }
+    ensures sums { (totals : List ℕ) → AreTotals (width C H G) kept.old totals → AreTotals (width C H G) kept.new totals }
 {
     let turns = N / TURN;
     let mut known = true;

@@ -128,7 +128,8 @@ pub(crate) fn confirm_known<
     opened: &[u64],
     found: &mut [u64],
 ) -> bool
-    requires may { MayConfirm board.now (S.bundle seat.old) kept.now opened.now found.old }
+    requires may { MayConfirm board.now (S.bundle seat.old) kept.now opened.now }
+    requires room { length found.old ≡ N }
     requires known { AreKnown opened.now kept.now }
     ensures own { table_of (S.bundle seat.new) ≡ table_of (S.bundle seat.old) }
     ensures ruled { IsRuled N C H G (S.bundle seat.new) }
@@ -164,7 +165,8 @@ fn confirm_all<
     found: &mut [u64],
     moved: &mut ChangedItems,
 ) -> bool
-    requires may { MayConfirm board.now (S.bundle seat.old) kept.old opened.now found.old }
+    requires may { MayConfirm board.now (S.bundle seat.old) kept.old opened.now }
+    requires room { length found.old ≡ N }
     requires sums { (length totals.old ≡ width C H G) × AreTotals (width C H G) kept.old totals.old }
     ensures own { table_of (S.bundle seat.new) ≡ table_of (S.bundle seat.old) }
     ensures ruled { IsRuled N C H G (S.bundle seat.new) }
@@ -206,7 +208,8 @@ pub(crate) fn confirm<
     moved: &mut ChangedItems,
     known: bool,
 ) -> bool
-    requires may { MayConfirm board.now (S.bundle seat.old) kept.old opened.now found.old }
+    requires may { MayConfirm board.now (S.bundle seat.old) kept.old opened.now }
+    requires room { length found.old ≡ N }
     requires sums { (length totals.old ≡ width C H G) × AreTotals (width C H G) kept.old totals.old }
     requires known { known ≡ true → AreKnown opened.now kept.old }
     ensures own { table_of (S.bundle seat.new) ≡ table_of (S.bundle seat.old) }

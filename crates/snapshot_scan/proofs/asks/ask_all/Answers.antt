@@ -7,7 +7,11 @@ use Rattle.ledger_core.specs.Ops.{width}
 use Rattle.register_rule.specs.declared.view.Asked.{Asked}
 use Rattle.register_rule.specs.declared.view.ScanLog.{ScanLog}
 use Rattle.register_rule.specs.ScanSteps.{answered, given_up_if_spent, lent_in}
-use Rattle.register_rule.specs.Seats.{HasMember, members_of}
+use Rattle.segment_layout.specs.Layout.{IsGeometry}
+use Rattle.register_rule.specs.declared.board.Board.{Board}
+use Rattle.register_rule.specs.declared.seats.Bundle.{Bundle}
+use Rattle.register_rule.specs.Seats.{HasMember, MayScan, table_of, members_of}
+use Rattle.snapshot_scan.specs.Conditions.{MayAskOne}
 use Rattle.register_rule.proofs.Words.{each_push}
 use Rattle.snapshot_scan.specs.Shape.{scan_of, with_scan}
 use Rattle.snapshot_scan.specs.Asking.{DoesNotLend, asked_too, refused, refused_all, due_from, asked_worker, MayAsk}
@@ -16,47 +20,47 @@ use Rattle.snapshot_scan.proofs.Opening.{map_both}
 use Rattle.snapshot_scan.proofs.Asking.{may_next, refused_snoc, due_here}
 use Rattle.snapshot_scan.proofs.asks.ask_all.Goals as goal
 
-pub loop-place-init : goal.loop-place-init
-loop-place-init g c = let ms = members_of (g.S.ScanSeat.bundle c.args.seat.now) in (
-  [],
-  record {
-    own = search rules;
-    ruled = c.requires.ruled;
-    leads = c.requires.own.1;
-    asked = refl;
-    refuses = λ q e at. absurd (some-ne-none e (sym at));
-    may = c.requires.may_ask;
-    view = sym (with_same ms);
-  },
-)
-
 -- what asking needs here
 floor_here : (low more : List ℕ) (p : ℕ) (c : ScanLog) → MayAsk low (p ∷ more) c → c.now.floor ≡ low
 floor_here low more p c may = may.floor (λ h. let h' = h in cc)
 
-pub ask-lends-requires : goal.ask-lends-requires
-ask-lends-requires g c =
-    let p = c.loop-place.place in let base = c.args.base.now in let found = c.args.found.now in
-    let ms = members_of (g.S.ScanSeat.bundle c.args.seat.now) in
-    let es = c.loop-place.invariant.0 in let inv = c.loop-place.invariant.1 in
-    let lens = c.requires.lengths in let a = c.loop-place.auto.lent in let t = c.loop-place-test.true in
-    let h : get_or base p 0 + 2 ≤ get_or found p 0 = c.if-not-due.ensures.0 refl in
+-- the worker at the place p may be asked, where it is to be
+ask_here : {N C H G : ℕ} (b : Board N C H G) (s s' : Bundle) (p row : ℕ) (base found floor words : List ℕ) (es : List Asked)
+    → MayScan b s → IsGeometry N C H G
+    → (row ≡ width C H G) × (length floor ≡ N) × (length base ≡ N) × (length found ≡ N) × (length words ≡ 1 + N + width C H G)
+    → table_of s' ≡ table_of s
+    → MayAsk floor (due_from p (drop p base) (drop p found)) (refused_all N es (scan_of (members_of s)))
+    → members_of s' ≡ with_scan (refused_all N es (scan_of (members_of s))) (members_of s)
+    → p < length found → get_or base p 0 + 2 ≤ get_or found p 0 → MayAskOne b s' p row floor words
+ask_here {N} {C} {H} {G} b s s' p row base found floor words es own geo lens same ask view lt due =
+    let d : ScanLog = refused_all N es (scan_of (members_of s)) in
     let more = due_from (p + 1) (drop (p + 1) base) (drop (p + 1) found) in
-    let e : due_from p (drop p base) (drop p found) ≡ p ∷ more = due_here p base found (omega (arith, lens.2, lens.3)) t h in
-    let may : MayAsk c.args.floor.now (p ∷ more) (refused_all g.row.N es (scan_of ms)) =
-    subst (λ (l : List ℕ). MayAsk c.args.floor.now l (refused_all g.row.N es (scan_of ms))) e inv.may in
-    let scan : scan_of (members_of (g.S.ScanSeat.bundle c.loop-place.seat)) ≡ refused_all g.row.N es (scan_of ms) =
-    ap scan_of inv.view ∙ scan_with _ ms c.requires.own.1 in (
-      search rules,
+    let e : due_from p (drop p base) (drop p found) ≡ p ∷ more = due_here p base found (omega (arith, lens.2, lens.3)) lt due in
+    let may : MayAsk floor (p ∷ more) d = subst (λ (l : List ℕ). MayAsk floor l d) e ask in
+    let scan : scan_of (members_of s') ≡ d = ap scan_of view ∙ scan_with _ (members_of s) own.1 in record {
+      own = (same ∙ own.0, subst HasMember (sym view) (led_some (λ _. d) (members_of s) own.1));
+      geometry = geo;
+      inside = omega (arith, lens.3, lt);
+      lengths = (lens.0, lens.1, lens.4);
+      next = (more, ap (λ (x : ScanLog). x.now.due) scan ∙ may.due);
+      rest = (ap (λ (x : ScanLog). x.now.looks) scan ∙ may.looks, ap (λ (x : ScanLog). x.now.asks) scan ∙ may.asks);
+      floor = ap (λ (x : ScanLog). x.now.floor) scan ∙ floor_here floor more p d may;
+    }
+
+pub loop-place-init : goal.loop-place-init
+loop-place-init g c =
+    let s = g.S.ScanSeat.bundle c.args.seat.now in let ms = members_of s in let view = sym (with_same ms) in (
+      [],
       record {
-        own = (inv.own ∙ c.requires.own.0, inv.leads);
-        geometry = c.requires.geometry;
-        inside = omega (arith, lens.3, t);
-        lengths = (lens.0, lens.1, a ∙ lens.4);
-        next = (more, ap (λ (d : ScanLog). d.now.due) scan ∙ may.due);
-        rest = (ap (λ (d : ScanLog). d.now.looks) scan ∙ may.looks, ap (λ (d : ScanLog). d.now.asks) scan ∙ may.asks);
-        floor = ap (λ (d : ScanLog). d.now.floor) scan ∙ floor_here c.args.floor.now more p (refused_all g.row.N es
-            (scan_of ms)) may;
+        own = search rules;
+        ruled = c.requires.ruled;
+        leads = c.requires.own.1;
+        asked = refl;
+        refuses = λ q e at. absurd (some-ne-none e (sym at));
+        may = c.requires.may_ask;
+        asks = ask_here c.args.board.now s s 0 c.args.row c.args.base.now c.args.found.now c.args.floor.now c.args.lent.now []
+            c.requires.own c.requires.geometry c.requires.lengths refl c.requires.may_ask view;
+        view = view;
       },
     )
 
@@ -108,10 +112,14 @@ loop-place-preserved g c =
     (g.S.ScanSeat.bundle c.loop-place.seat))) scan
     ∙ (ap (with_scan (given_up_if_spent n (refused e (refused_all n es (scan_of ms))))) inv.view
     ∙ (with_led (λ _. given_up_if_spent n (refused e (refused_all n es (scan_of ms)))) (refused_all n es (scan_of ms)) ms
-    ∙ ap (λ (x : ScanLog). with_scan x ms) (sym snoc)))) in (
+    ∙ ap (λ (x : ScanLog). with_scan x ms) (sym snoc)))) in
+    let own = c.ask-lends.ensures.own ∙ inv.own in
+    let may : MayAsk c.args.floor.now more (refused_all n (es ++ e ∷ []) (scan_of ms)) =
+    subst (MayAsk c.args.floor.now more) (sym snoc) (may_next n p e c.args.floor.now more (refused_all n es (scan_of ms))
+    (subst (λ (l : List ℕ). MayAsk c.args.floor.now l (refused_all n es (scan_of ms))) d inv.may)) in (
       es ++ e ∷ [],
       record {
-        own = c.ask-lends.ensures.own ∙ inv.own;
+        own = own;
         ruled = c.ask-lends.ensures.ruled;
         leads = subst HasMember (sym view) (led_some (λ _. refused_all n (es ++ e ∷ []) (scan_of ms)) ms c.requires.own.1);
         asked = ap (λ (z : List ℕ). z ++ more) (map_both asked_worker es e)
@@ -119,10 +127,10 @@ loop-place-preserved g c =
             ∙ (ap (λ (z : ℕ). map asked_worker es ++ z ∷ more) r.1
             ∙ (ap (λ (z : List ℕ). map asked_worker es ++ z) (sym d) ∙ inv.asked)));
         refuses = each_push (DoesNotLend g.row.N c.args.floor.now) es e inv.refuses r.2;
-        may = subst (MayAsk c.args.floor.now more) (sym snoc)
-            (may_next n p e c.args.floor.now more (refused_all n es (scan_of ms))
-            (subst (λ (l : List ℕ). MayAsk c.args.floor.now l
-            (refused_all n es (scan_of ms))) d inv.may));
+        may = may;
+        asks = ask_here c.args.board.now (g.S.ScanSeat.bundle c.args.seat.now) (g.S.ScanSeat.bundle c.ask-lends.new.seat) (p + 1)
+            c.args.row base found c.args.floor.now c.ask-lends.new.lent (es ++ e ∷ []) c.requires.own c.requires.geometry
+            (lens.0, lens.1, lens.2, lens.3, c.ask-lends.auto.lent ∙ (c.loop-place.auto.lent ∙ lens.4)) own may view;
         view = view;
       },
     )
@@ -153,7 +161,10 @@ loop-place-preserved-then-not-due g c =
     let es = c.loop-place.invariant.0 in let inv = c.loop-place.invariant.1 in
     let lens = c.requires.lengths in let t = c.loop-place-test.true in
     let no : get_or base p 0 + 2 ≤ get_or found p 0 → ⊥ = λ h. false_true (c.if-not-due.ensures.1 h) in
-    let d = not_due p base found (omega (arith, lens.2, lens.3, t)) t (omega (arith, no)) in (
+    let d = not_due p base found (omega (arith, lens.2, lens.3, t)) t (omega (arith, no)) in
+    let may : MayAsk c.args.floor.now (due_from (p + 1) (drop (p + 1) base) (drop (p + 1) found))
+    (refused_all g.row.N es (scan_of ms)) =
+    subst (λ (l : List ℕ). MayAsk c.args.floor.now l (refused_all g.row.N es (scan_of ms))) d inv.may in (
       es,
       record {
         own = inv.own;
@@ -161,7 +172,10 @@ loop-place-preserved-then-not-due g c =
         leads = inv.leads;
         asked = ap (λ (l : List ℕ). map asked_worker es ++ l) (sym d) ∙ inv.asked;
         refuses = inv.refuses;
-        may = subst (λ (l : List ℕ). MayAsk c.args.floor.now l (refused_all g.row.N es (scan_of ms))) d inv.may;
+        may = may;
+        asks = ask_here c.args.board.now (g.S.ScanSeat.bundle c.args.seat.now) (g.S.ScanSeat.bundle c.loop-place.seat) (p + 1)
+            c.args.row base found c.args.floor.now c.loop-place.lent es c.requires.own c.requires.geometry
+            (lens.0, lens.1, lens.2, lens.3, c.loop-place.auto.lent ∙ lens.4) inv.own may inv.view;
         view = inv.view;
       },
     )

@@ -1,15 +1,16 @@
-use Rattle.std.proofs.Common.{refl, ◌*◌, ◌/◌, ℕ, List, arith, sym, ap, ◌∙◌, subst}
+use Rattle.std.proofs.Common.{refl, ◌≡◌, ◌+◌, ◌*◌, ◌/◌, ℕ, List, [], length, get_or, arith, sym, ap, ◌∙◌, subst}
 use Rattle.std.proofs.lemmas.Bool.{true≢false}
 use lib.ListN.{get_elem?}
 use Rattle.ledger_core.specs.Ops.{width}
-use Rattle.register_rule.proofs.Words.{at_below}
+use Rattle.register_rule.proofs.Words.{at_below, there}
 use Rattle.register_rule.specs.declared.view.ScanLog.{ScanLog}
-use Rattle.register_rule.specs.Seats.{members_of}
+use Rattle.register_rule.specs.Seats.{HasMember, members_of}
 use Rattle.snapshot_scan.specs.Shape.{scan_of, with_scan}
 use Rattle.snapshot_scan.specs.RememberedRows.{version_of, opening}
 use Rattle.snapshot_scan.specs.Collecting.{HasOpened}
-use Rattle.snapshot_scan.proofs.Words.{take_all, with_same, at_map}
+use Rattle.snapshot_scan.proofs.Words.{take_all, with_same, at_map, scan_with, led_some}
 use Rattle.snapshot_scan.proofs.Opening.{opening_starts}
+use Rattle.snapshot_scan.proofs.Trying.{loads_at, sums_same}
 use Rattle.snapshot_scan.proofs.first_collect.collect.Goals as goal
 
 pub loop-turn-init : goal.loop-turn-init
@@ -17,7 +18,9 @@ loop-turn-init g c =
     let ms = members_of (g.S.ScanSeat.bundle c.args.seat.now) in record {
       own = refl;
       leads = c.requires.own.1;
-      wide = c.requires.wide;
+      wide = λ k d lt. c.requires.wide k (get_or c.args.kept.now k d) (there c.args.kept.now k d lt);
+      deep = let geo = c.requires.geometry in
+          omega (arith, geo.workers.1, geo.slots.counters, geo.slots.histograms, geo.slots.gauges);
       opened = record {
         starts = c.requires.own.1;
         kept = c.requires.kept;
@@ -41,6 +44,7 @@ loop-turn-preserved g c =
       own = c.open_four-known.ensures.own ∙ inv.own;
       leads = c.open_four-known.ensures.leads;
       wide = c.open_four-known.ensures.wide;
+      deep = inv.deep;
       opened = subst (λ (z : ℕ). HasOpened w z ms c.args.kept.now (members_of (bundle r.seat)) r.kept r.opened
           c.open_four-known.result) (omega arith) (c.open_four-known.ensures.opened ms c.args.kept.now inv.opened);
     }
@@ -57,12 +61,31 @@ returns g c =
     (omega (arith, f, end)) l.invariant.opened in
     let all = c.open_rest.ensures.opened ms c.args.kept.now so_far in
     let a = l.auto.kept in let b = l.auto.opened in let a' = c.open_rest.auto.kept in let b' = c.open_rest.auto.opened in
+    let own = c.open_rest.ensures.own ∙ l.invariant.own in
+    let view : members_of (bundle r.seat) ≡ with_scan (opening r.opened r.kept (scan_of ms)) ms =
+    all.view ∙ ap (λ (z : List ℕ). with_scan (opening z r.kept (scan_of ms)) ms)
+    (take_all r.opened n (omega (arith, b, b', lens.1))) in
+    let scan : scan_of (members_of (bundle r.seat)) ≡ opening r.opened r.kept (scan_of ms) =
+    ap scan_of view ∙ scan_with _ ms c.requires.own.1 in
     record {
-      own = c.open_rest.ensures.own ∙ l.invariant.own;
+      own = own;
       wide = all.wide;
       same = all.same;
-      view = all.view ∙ ap (λ (z : List ℕ). with_scan (opening z r.kept (scan_of ms)) ms)
-          (take_all r.opened n (omega (arith, b, b', lens.1)));
+      view = view;
+      may = record {
+        own = (own ∙ c.requires.own.0, subst HasMember (sym view) (led_some _ ms c.requires.own.1));
+        geometry = c.requires.geometry;
+        lengths = (a' ∙ (a ∙ lens.0), b' ∙ (b ∙ lens.1));
+        wide = all.wide;
+        kept = ap (λ (d : ScanLog). d.kept) scan ∙ (c.requires.kept ∙ sym all.same);
+        looks = ap (λ (d : ScanLog). d.now.looks) scan;
+        loaded = λ q lt. let e = there r.opened q 0 (omega (arith, b, b', lens.1, lt)) in (
+          length (scan_of ms).opened + q,
+          ap (λ (d : ScanLog). get_elem? d.opened (length (scan_of ms).opened + q)) scan
+              ∙ loads_at (scan_of ms).opened r.opened [] q (get_or r.opened q 0) e,
+        );
+      };
+      sums = λ ts are k lt. are k lt ∙ sums_same k c.args.kept.now r.kept (sym all.same);
       told = all.told;
       known = λ t q x at. all.known t q x (let h = at_below r.kept q x at in omega (arith, h, a, a', lens.0)) at;
       unknown = λ t. let u = all.unknown t in

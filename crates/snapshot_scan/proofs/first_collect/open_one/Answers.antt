@@ -1,9 +1,10 @@
 use Rattle.std.proofs.Common.{refl, ◌≡◌, ◌≢◌, ◌<◌, ◌+◌, ◌==◌, ℕ, zero, suc, List, [], ◌∷◌, ◌++◌, length, take, set, map, get_or}
-use Rattle.std.proofs.Common.{arith, rules, sym, ap, ◌∙◌, subst, below_more, get_or-set_other, get_or-set_same, ⊎_elim}
+use Rattle.std.proofs.Common.{arith, sym, ap, ◌∙◌, subst, below_more, get_or-set_other, get_or-set_same, ⊎_elim}
 use mathlib.Core.Option.{some, some-injective}
 use mathlib.Core.Logic.{dite}
 use native.Mathlib.Decide.{ℕ_discrete}
 use Rattle.std.proofs.lemmas.Bool.{eqb-true, eqb-false, and_parts, and_cases}
+use Rattle.std.proofs.lemmas.List.Elements.{All-set}
 use lib.ListN.{get_elem?}
 use Rattle.ledger_core.specs.Ops.{width}
 use Rattle.register_rule.proofs.Words.{there}
@@ -26,32 +27,12 @@ set_elsewhere (x ∷ l) zero (suc q) a other = refl
 set_elsewhere (x ∷ l) (suc i) zero a other = refl
 set_elsewhere (x ∷ l) (suc i) (suc q) a other = set_elsewhere l i q a (λ e. other (ap suc e))
 
-pub look-number-requires : goal.look-number-requires
-look-number-requires g c =
-    let p = c.args.place in let gs = c.args.kept.now in let gg : RememberedRow = get_or gs p c.index-kept-place.result in
-    let inside = c.requires.inside in
-    let at : get_elem? gs p ≡ some gg = there gs p c.index-kept-place.result (omega (arith, inside.0, inside.1)) in
-    let geo = c.requires.geometry in (
-      search rules,
-      (
-        c.requires.own,
-        (
-          inside.0,
-          (
-            omega (arith, geo.workers.1, geo.slots.counters, geo.slots.histograms, geo.slots.gauges),
-            c.requires.wide p gg at,
-          ),
-        ),
-      ),
-    )
-
 pub returns-clause-leads : goal.returns-clause-leads
 returns-clause-leads g c = subst HasMember (sym c.look-number.ensures.member) (led_some _ _ c.requires.own.1)
 
 pub returns-clause-wide : goal.returns-clause-wide
-returns-clause-wide g c = let w : ℕ = width g.row.C g.row.H g.row.G in let g' : RememberedRow = c.look-number.new.self in
-    λ q y e. ⊎_elim (λ h. c.requires.wide q y h) (λ h. subst (IsWide w) h.0 c.look-number.ensures.wide)
-    (from_set c.args.kept.now c.args.place g' q y e)
+returns-clause-wide g c = All-set (IsWide (width g.row.C g.row.H g.row.G)) c.args.kept.now c.args.place c.look-number.new.self
+    c.look-number.ensures.wide c.requires.wide
 
 pub returns-clause-opened : goal.returns-clause-opened
 returns-clause-opened g c = λ ms rows is.

@@ -1,9 +1,10 @@
 use Rattle.std.proofs.Common.{◌≡◌, ℕ, List}
+use Rattle.std.specs.List.{All}
 use Rattle.ledger_core.specs.Ops.{width}
 use Rattle.register_rule.specs.declared.view.Member.{Member}
 use Rattle.register_rule.specs.Seats.{HasMember, table_of, members_of}
 use Rattle.snapshot_scan.specs.declared.remembered_row.RememberedRow.{RememberedRow}
-use Rattle.snapshot_scan.specs.RememberedRows.{AreWide}
+use Rattle.snapshot_scan.specs.RememberedRows.{IsWide}
 use Rattle.snapshot_scan.specs.Collecting.{HasOpened}
 use Rattle.snapshot_scan.proofs.first_collect.open_rest.Given as goal
 
@@ -11,7 +12,7 @@ abbrev pub invariant-loop-place : goal.invariant-loop-place
 invariant-loop-place g l = let bundle = g.S.ScanSeat.bundle in let w : ℕ = width g.row.C g.row.H g.row.G in record {
   own : table_of (bundle l.seat) ≡ table_of (bundle l.fn.seat);
   leads : HasMember (members_of (bundle l.seat));
-  wide : AreWide w l.kept;
+  wide : All (IsWide w) l.kept;
   opened : (ms : List Member) (rows : List RememberedRow) → HasOpened w l.from ms rows (members_of (bundle l.fn.seat)) l.fn.kept
       l.fn.opened l.known
       → HasOpened w l.place ms rows (members_of (bundle l.seat)) l.kept l.opened l.all;

@@ -1,51 +1,13 @@
-use Rattle.std.proofs.Common.{◌≡◌, ◌+◌, ℕ, List, [], length, map, slice_index, get_or, sym, ap, ◌∙◌, subst, arith, rules}
-use lib.ListN.{get_elem?}
+use Rattle.std.proofs.Common.{◌≡◌, ℕ, List, length, map, slice_index, sym, ap, ◌∙◌, subst, arith}
 use Rattle.ledger_core.specs.Ops.{width}
-use Rattle.register_rule.proofs.Words.{there}
 use Rattle.register_rule.specs.declared.view.ScanLog.{ScanLog}
 use Rattle.register_rule.specs.ScanSteps.{ended}
-use Rattle.register_rule.specs.Seats.{HasMember, members_of}
+use Rattle.register_rule.specs.Seats.{members_of}
 use Rattle.snapshot_scan.specs.Shape.{scan_of, with_scan}
 use Rattle.snapshot_scan.specs.RememberedRows.{AreKnown, version_of, opening, settling}
-use Rattle.snapshot_scan.proofs.Words.{scan_with, with_led, led_some}
-use Rattle.snapshot_scan.proofs.Trying.{ends_clean, ends_failed, rose_some, loads_at, true_not_false, sums_same}
+use Rattle.snapshot_scan.proofs.Words.{scan_with, with_led}
+use Rattle.snapshot_scan.proofs.Trying.{ends_clean, ends_failed, rose_some, true_not_false}
 use Rattle.snapshot_scan.proofs.scans.one_try.Goals as goal
-
-pub confirm-requires : goal.confirm-requires
-confirm-requires g c =
-    let ms = members_of (g.S.ScanSeat.bundle c.args.seat.now) in
-    let os = c.collect.new.opened in
-    let scan : scan_of (members_of (g.S.ScanSeat.bundle c.collect.new.seat)) ≡ opening os c.collect.new.kept (scan_of ms) =
-    ap scan_of c.collect.ensures.view ∙ scan_with _ ms c.requires.may.own.1 in
-    let lens = c.requires.may.lengths in let room = c.requires.room in let a = c.collect.auto.opened in let b =
-    c.collect.auto.kept in (
-      search rules,
-      (
-        record {
-          own = (
-            c.collect.ensures.own ∙ c.requires.may.own.0,
-            subst HasMember (sym c.collect.ensures.view) (led_some _ ms c.requires.may.own.1),
-          );
-          geometry = c.requires.may.geometry;
-          lengths = (b ∙ lens.0, a ∙ lens.1, room.0);
-          wide = c.collect.ensures.wide;
-          kept = ap (λ (d : ScanLog). d.kept) scan ∙ (c.requires.may.kept ∙ sym c.collect.ensures.same);
-          looks = ap (λ (d : ScanLog). d.now.looks) scan;
-          loaded = λ q lt. let e = there os q 0 (omega (arith, a, lens.1, lt)) in (
-            length (scan_of ms).opened + q,
-            ap (λ (d : ScanLog). get_elem? d.opened (length (scan_of ms).opened + q)) scan
-                ∙ loads_at (scan_of ms).opened os [] q (get_or os q 0) e,
-          );
-        },
-        (
-          (
-            room.1,
-            λ k lt. c.requires.room.2 k lt ∙ sums_same k c.args.kept.now c.collect.new.kept (sym c.collect.ensures.same),
-          ),
-          c.collect.ensures.known,
-        ),
-      ),
-    )
 
 pub returns : goal.returns
 returns g c =

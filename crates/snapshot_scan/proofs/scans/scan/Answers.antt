@@ -1,4 +1,4 @@
-use Rattle.std.proofs.Common.{◌≡◌, ℕ, Bool, true, false, List, [], ◌∷◌, ◌++◌, length, map, take, drop, slice_index, sym}
+use Rattle.std.proofs.Common.{◌≡◌, ◌+◌, ℕ, Bool, true, false, List, [], ◌∷◌, ◌++◌, length, map, take, drop, slice_index, sym}
 use Rattle.std.proofs.Common.{refl, ap, ◌∙◌, subst, arith, rules}
 use Rattle.ledger_core.specs.Ops.{width}
 use Rattle.ledger_core.specs.Vectors.{is_above}
@@ -19,6 +19,7 @@ use Rattle.snapshot_scan.proofs.Asking.{vector_long}
 use Rattle.snapshot_scan.proofs.Trying.{stood, AreTries, given_last, none_due}
 use Rattle.snapshot_scan.proofs.Scanning.{now_is, still_some, others_same, then_is, seen_below, direct_first, direct_later}
 use Rattle.snapshot_scan.proofs.Scanning.{moved_first, moved_later, lent_later, all_failed, tries_more, tries_one, may_start}
+use Rattle.snapshot_scan.proofs.Scanning.{may_try}
 use Rattle.snapshot_scan.proofs.Scanning.{first_starts, at_loop, loop_fails, loop_lends, loop_refuses, count_more}
 use Rattle.snapshot_core.specs.declared.next.Next.TheVariants.{GaveUp}
 use Rattle.snapshot_scan.specs.Core.{CameTo, AnswersBy}
@@ -57,11 +58,11 @@ pub loop-k-init : goal.loop-k-init
 loop-k-init g c =
     let ms = members_of (g.S.ScanSeat.bundle c.args.seat.now) in
     let n : ℕ = g.row.N in let w : ℕ = width g.row.C g.row.H g.row.G in
-    let r = c.one_try-clean.new in let lens = c.requires.lengths in
+    let r = c.one_try-clean.new in let lens = c.requires.may.lengths in
     let fl = c.copy_from_slice.new.self in let ba = c.copy_from_slice-2.new.self in
     let few : length r.kept ≡ n = c.one_try-clean.auto.kept ∙ lens.0 in
-    let long : length r.opened ≡ n = c.one_try-clean.auto.opened ∙ lens.2 in
-    let deep : length r.found ≡ n = c.one_try-clean.auto.found ∙ lens.3 in
+    let long : length r.opened ≡ n = c.one_try-clean.auto.opened ∙ c.requires.may.lengths.1 in
+    let deep : length r.found ≡ n = c.one_try-clean.auto.found ∙ c.requires.room.0 in
     let f : r.opened ≡ fl = sym c.copy_from_slice.ensures.after in let b : r.found ≡ ba = sym c.copy_from_slice-2.ensures.after in
     let one : Tried = record { first = r.opened; second = r.found; asks = [] } in
     let view : members_of (g.S.ScanSeat.bundle r.seat) ≡ with_scan
@@ -75,14 +76,20 @@ loop-k-init g c =
       rose = c.one_try-clean.ensures.rose c.if-clean.false;
       asked = sym (none_due 0 r.found);
       none = λ q e at. absurd (some-ne-none e (sym at));
-    } in (
+    } in
+    let stands : members_of (g.S.ScanSeat.bundle r.seat) ≡ with_scan
+    (given_up_if_spent n (stood (one ∷ []) r.kept fl ba (scan_of ms))) ms =
+    view ∙ (λ z. with_scan (given_up_if_spent n (stood (one ∷ []) r.kept (f z) (b z) (scan_of ms))) ms) in (
       one ∷ [],
       record {
         own = c.one_try-clean.ensures.own;
         ruled = c.one_try-clean.ensures.ruled;
-        leads = still_some _ ms _ c.requires.own.1 view;
+        leads = still_some _ ms _ c.requires.may.own.1 view;
         wide = c.one_try-clean.ensures.wide;
-        totals = c.one_try-clean.ensures.totals;
+        may = may_try c.args.board.now (g.S.ScanSeat.bundle c.args.seat.now) (g.S.ScanSeat.bundle r.seat) 0 (one ∷ []) r.kept fl
+            ba r.opened c.requires.may.own c.requires.may.geometry c.one_try-clean.ensures.own few long
+            c.one_try-clean.ensures.wide refl stands;
+        room = (deep, c.one_try-clean.auto.totals ∙ c.requires.room.1, c.one_try-clean.ensures.totals);
         listed = lists_first w c.args.totals.now r.totals c.clear.new.self r.moved c.clear.ensures.none.1
             c.one_try-clean.ensures.listed;
         count = refl;
@@ -93,68 +100,40 @@ loop-k-init g c =
         lengths = (ap (λ (l : List ℕ). length l) (sym f) ∙ long, ap (λ (l : List ℕ). length l) (sym b) ∙ deep);
         seen = subst (λ (x : List ℕ). Below (scan_of ms).seen x) f
             (seen_below n (scan_of ms) r.opened long c.one_try-clean.ensures.told);
-        view = view ∙ (λ z. with_scan (given_up_if_spent n (stood (one ∷ []) r.kept (f z) (b z) (scan_of ms))) ms);
+        view = stands;
       },
-    )
-
-pub later_try-clean-requires : goal.later_try-clean-requires
-later_try-clean-requires g c =
-    let ms = members_of (g.S.ScanSeat.bundle c.args.seat.now) in
-    let n : ℕ = g.row.N in
-    let inv = c.loop-k.invariant.1 in let tries = c.loop-k.invariant.0 in let lens = c.requires.lengths in
-    let fl = c.copy_from_slice.new.self in let ba = c.copy_from_slice-2.new.self in
-    let view = at_loop n c.loop-k._k tries c.loop-k.kept fl ba ms _ inv.count c.loop-k-test.true inv.view in
-    let scan = now_is (stood tries c.loop-k.kept fl ba (scan_of ms)) ms _ c.requires.own.1 view in (
-      search rules,
-      (
-        record {
-          own = (inv.own ∙ c.requires.own.0, inv.leads);
-          geometry = c.requires.geometry;
-          lengths = (
-            c.loop-k.auto.kept ∙ (c.one_try-clean.auto.kept ∙ lens.0),
-            c.loop-k.auto.opened ∙ (c.one_try-clean.auto.opened ∙ lens.2),
-          );
-          wide = inv.wide;
-          kept = ap (λ (d : ScanLog). d.kept) scan;
-          rest = (
-            ap (λ (d : ScanLog). d.now.looks) scan,
-            ap (λ (d : ScanLog). d.now.due) scan,
-            ap (λ
-                (d : ScanLog). d.now.asks) scan,
-          );
-        },
-        (
-          c.loop-k.auto.found ∙ (c.one_try-clean.auto.found ∙ lens.3),
-          c.loop-k.auto.totals ∙ (c.one_try-clean.auto.totals ∙ lens.1),
-          inv.totals,
-        ),
-      ),
     )
 
 pub ask_all-lends-requires : goal.ask_all-lends-requires
 ask_all-lends-requires g c =
     let ms = members_of (g.S.ScanSeat.bundle c.args.seat.now) in
     let n : ℕ = g.row.N in let w : ℕ = width g.row.C g.row.H g.row.G in
-    let inv = c.loop-k.invariant.1 in let tries = c.loop-k.invariant.0 in let lens = c.requires.lengths in
+    let inv = c.loop-k.invariant.1 in let tries = c.loop-k.invariant.0 in let lens = c.requires.may.lengths in
     let fl = c.copy_from_slice.new.self in let ba = c.copy_from_slice-2.new.self in
     let r = c.later_try-clean.new in
     let few : length r.kept ≡ n = c.later_try-clean.auto.kept ∙ (c.loop-k.auto.kept ∙ (c.one_try-clean.auto.kept
     ∙ lens.0)) in
     let long : length r.opened ≡ n = c.later_try-clean.auto.opened
-    ∙ (c.loop-k.auto.opened ∙ (c.one_try-clean.auto.opened ∙ lens.2)) in
+    ∙ (c.loop-k.auto.opened ∙ (c.one_try-clean.auto.opened ∙ c.requires.may.lengths.1)) in
     let deep : length r.found ≡ n = c.later_try-clean.auto.found
-    ∙ (c.loop-k.auto.found ∙ (c.one_try-clean.auto.found ∙ lens.3)) in
+    ∙ (c.loop-k.auto.found ∙ (c.one_try-clean.auto.found ∙ c.requires.room.0)) in
     let view = at_loop n c.loop-k._k tries c.loop-k.kept fl ba ms _ inv.count c.loop-k-test.true inv.view in
     let d : ScanLog = stood tries c.loop-k.kept fl ba (scan_of ms) in
-    let fails = loop_fails n w c.loop-k._k r.opened r.found r.kept c.loop-k.kept few long deep tries fl ba ms _ _ c.requires.own.1
-    inv.count view (c.later_try-clean.ensures.failed c.if-clean-2.false) in
-    let scan = now_is _ ms _ c.requires.own.1 fails in (
+    let fails = loop_fails n w c.loop-k._k r.opened r.found r.kept c.loop-k.kept few long deep tries fl ba ms _ _
+    c.requires.may.own.1 inv.count view (c.later_try-clean.ensures.failed c.if-clean-2.false) in
+    let scan = now_is _ ms _ c.requires.may.own.1 fails in (
       search rules,
       record {
-        own = (c.later_try-clean.ensures.own ∙ (inv.own ∙ c.requires.own.0), still_some _ ms _ c.requires.own.1 fails);
+        own = (c.later_try-clean.ensures.own ∙ (inv.own ∙ c.requires.may.own.0), still_some _ ms _ c.requires.may.own.1 fails);
         ruled = c.later_try-clean.ensures.ruled;
-        geometry = c.requires.geometry;
-        lengths = (c.one_try-clean.auto.totals ∙ lens.1, inv.lengths.0, inv.lengths.1, deep, c.loop-k.auto.lent ∙ lens.4);
+        geometry = c.requires.may.geometry;
+        lengths = (
+          c.one_try-clean.auto.totals ∙ c.requires.room.1,
+          inv.lengths.0,
+          inv.lengths.1,
+          deep,
+          c.loop-k.auto.lent ∙ c.requires.lent,
+        );
         may_ask = subst (MayAsk fl (due_from 0 ba r.found)) (sym scan)
             (may_start n r.opened r.found r.kept fl ba (due_from 0 ba r.found) d);
       },
@@ -164,23 +143,23 @@ pub loop-k-preserved : goal.loop-k-preserved
 loop-k-preserved g c =
     let ms = members_of (g.S.ScanSeat.bundle c.args.seat.now) in
     let n : ℕ = g.row.N in let w : ℕ = width g.row.C g.row.H g.row.G in
-    let inv = c.loop-k.invariant.1 in let tries = c.loop-k.invariant.0 in let lens = c.requires.lengths in
+    let inv = c.loop-k.invariant.1 in let tries = c.loop-k.invariant.0 in let lens = c.requires.may.lengths in
     let fl = c.copy_from_slice.new.self in let ba = c.copy_from_slice-2.new.self in
     let r = c.later_try-clean.new in
     let few : length r.kept ≡ n = c.later_try-clean.auto.kept ∙ (c.loop-k.auto.kept ∙ (c.one_try-clean.auto.kept
     ∙ lens.0)) in
     let long : length r.opened ≡ n = c.later_try-clean.auto.opened
-    ∙ (c.loop-k.auto.opened ∙ (c.one_try-clean.auto.opened ∙ lens.2)) in
+    ∙ (c.loop-k.auto.opened ∙ (c.one_try-clean.auto.opened ∙ c.requires.may.lengths.1)) in
     let deep : length r.found ≡ n = c.later_try-clean.auto.found
-    ∙ (c.loop-k.auto.found ∙ (c.one_try-clean.auto.found ∙ lens.3)) in
+    ∙ (c.loop-k.auto.found ∙ (c.one_try-clean.auto.found ∙ c.requires.room.0)) in
     let view = at_loop n c.loop-k._k tries c.loop-k.kept fl ba ms _ inv.count c.loop-k-test.true inv.view in
     let d : ScanLog = stood tries c.loop-k.kept fl ba (scan_of ms) in
-    let fails = loop_fails n w c.loop-k._k r.opened r.found r.kept c.loop-k.kept few long deep tries fl ba ms _ _ c.requires.own.1
-    inv.count view (c.later_try-clean.ensures.failed c.if-clean-2.false) in
+    let fails = loop_fails n w c.loop-k._k r.opened r.found r.kept c.loop-k.kept few long deep tries fl ba ms _ _
+    c.requires.may.own.1 inv.count view (c.later_try-clean.ensures.failed c.if-clean-2.false) in
     let q = c.ask_all-lends.ensures.refuses c.if-lends.false in
     let t : Tried = record { first = r.opened; second = r.found; asks = q.0 } in
-    let end = loop_refuses n w c.loop-k._k r.opened r.found r.kept c.loop-k.kept few long deep tries fl ba ms _ _ c.requires.own.1
-    inv.count view _ q.0 fails q.1 q.3 in
+    let end = loop_refuses n w c.loop-k._k r.opened r.found r.kept c.loop-k.kept few long deep tries fl ba ms _ _
+    c.requires.may.own.1 inv.count view _ q.0 fails q.1 q.3 in
     let failed : FailedTry n fl ba t = record {
       opened = long;
       found = deep;
@@ -188,20 +167,27 @@ loop-k-preserved g c =
       rose = c.later_try-clean.ensures.rose c.if-clean-2.false;
       asked = q.1;
       none = q.2;
-    } in (
+    } in let own = c.ask_all-lends.ensures.own ∙ (c.later_try-clean.ensures.own ∙ inv.own) in (
       tries ++ t ∷ [],
       record {
-        own = c.ask_all-lends.ensures.own ∙ (c.later_try-clean.ensures.own ∙ inv.own);
+        own = own;
         ruled = c.ask_all-lends.ensures.ruled;
-        leads = still_some _ ms _ c.requires.own.1 end;
+        leads = still_some _ ms _ c.requires.may.own.1 end;
         wide = c.later_try-clean.ensures.wide;
-        totals = c.later_try-clean.ensures.totals;
+        may = may_try c.args.board.now (g.S.ScanSeat.bundle c.args.seat.now) (g.S.ScanSeat.bundle c.ask_all-lends.new.seat)
+            (c.loop-k._k + 1) (tries ++ t ∷ []) r.kept fl ba r.opened c.requires.may.own c.requires.may.geometry own few long
+            c.later_try-clean.ensures.wide (count_more tries t c.loop-k._k inv.count) end;
+        room = (
+          deep,
+          c.later_try-clean.auto.totals ∙ (c.loop-k.auto.totals ∙ (c.one_try-clean.auto.totals ∙ c.requires.room.1)),
+          c.later_try-clean.ensures.totals,
+        );
         listed = lists_then w c.args.totals.now c.loop-k.totals r.totals c.loop-k.moved r.moved inv.listed
             c.later_try-clean.ensures.listed;
         count = count_more tries t c.loop-k._k inv.count;
         above = each_push (λ (u : Tried). Below (scan_of ms).seen u.first) tries t inv.above
             (seen_below n (stood tries c.loop-k.kept fl ba (scan_of ms)) r.opened long
-            (λ p lt. subst (λ (x : ScanLog). IsLoaded p x (slice_index r.opened p)) (now_is d ms _ c.requires.own.1 view)
+            (λ p lt. subst (λ (x : ScanLog). IsLoaded p x (slice_index r.opened p)) (now_is d ms _ c.requires.may.own.1 view)
             (c.later_try-clean.ensures.told p lt)));
         tried = tries_more n fl ba c.loop-k.opened c.loop-k.found tries inv.tried c.loop-k.kept (scan_of ms) r.opened r.found q.0
             failed;
@@ -211,38 +197,21 @@ loop-k-preserved g c =
       },
     )
 
-pub one_try-clean-requires : goal.one_try-clean-requires
-one_try-clean-requires g c =
-    let lens = c.requires.lengths in let idle = c.requires.idle in (
-      search rules,
-      (
-        record {
-          own = c.requires.own;
-          geometry = c.requires.geometry;
-          lengths = (lens.0, lens.2);
-          wide = c.requires.wide;
-          kept = idle.kept;
-          rest = (λ z. (idle.rest z).looks, λ z. (idle.rest z).due, λ z. (idle.rest z).asks);
-        },
-        (lens.3, lens.1, c.requires.totals),
-      ),
-    )
-
 pub returns-then-clean : goal.returns-then-clean
 returns-then-clean g c =
     let ms = members_of (g.S.ScanSeat.bundle c.args.seat.now) in
     let n : ℕ = g.row.N in let w : ℕ = width g.row.C g.row.H g.row.G in
     let made = c.one_try-clean.ensures in let r = c.one_try-clean.new in let clean = made.clean c.if-clean.true in
-    let long : length r.opened ≡ n = c.one_try-clean.auto.opened ∙ c.requires.lengths.2 in
+    let long : length r.opened ≡ n = c.one_try-clean.auto.opened ∙ c.requires.may.lengths.1 in
     let a : Answer = record { vector = r.opened; totals = r.totals } in
-    let scan = now_is _ ms _ c.requires.own.1 clean in
+    let scan = now_is _ ms _ c.requires.may.own.1 clean in
     record {
       own = made.own;
       ruled = made.ruled;
       wide = made.wide;
       totals = made.totals;
       idle = record { kept = ap (λ (d : ScanLog). d.kept) scan; rest = ap (λ (d : ScanLog). d.now) scan };
-      others = others_same _ ms _ c.requires.own.1 clean;
+      others = others_same _ ms _ c.requires.may.own.1 clean;
       direct = λ _ _. subst (λ (x : ScanLog). IsAnswered n (scan_of ms) x a) (sym scan)
           (direct_first n r.opened r.found r.totals r.kept (scan_of ms) long made.told);
       came_direct = λ _ _. subst (λ (x : ScanLog). AnswersBy n w (scan_of ms) x a) (sym scan)
@@ -268,25 +237,25 @@ returns-then-clean-2 g c =
     let made = c.later_try-clean.ensures in let r = c.later_try-clean.new in let clean = made.clean
     c.if-clean-2.true in
     let long : length r.opened ≡ n = c.later_try-clean.auto.opened
-    ∙ (c.loop-k.auto.opened ∙ (c.one_try-clean.auto.opened ∙ c.requires.lengths.2)) in
+    ∙ (c.loop-k.auto.opened ∙ (c.one_try-clean.auto.opened ∙ c.requires.may.lengths.1)) in
     let a : Answer = record { vector = r.opened; totals = r.totals } in
     let view = at_loop n c.loop-k._k tries c.loop-k.kept fl ba ms _ inv.count c.loop-k-test.true inv.view in
     let d : ScanLog = stood tries c.loop-k.kept fl ba (scan_of ms) in
     let end = then_is (λ (x : ScanLog). answered a (settling r.opened r.found r.kept (opening r.opened r.kept x))) d ms _ _
-    c.requires.own.1 view clean in
-    let scan = now_is _ ms _ c.requires.own.1 end in let count = inv.count in let lt = c.loop-k-test.true in
+    c.requires.may.own.1 view clean in
+    let scan = now_is _ ms _ c.requires.may.own.1 end in let count = inv.count in let lt = c.loop-k-test.true in
     record {
       own = made.own ∙ inv.own;
       ruled = made.ruled;
       wide = made.wide;
       totals = made.totals;
       idle = record { kept = ap (λ (x : ScanLog). x.kept) scan; rest = ap (λ (x : ScanLog). x.now) scan };
-      others = others_same _ ms _ c.requires.own.1 end;
+      others = others_same _ ms _ c.requires.may.own.1 end;
       direct = λ _ _. subst (λ (x : ScanLog). IsAnswered n (scan_of ms) x a) (sym scan)
           (direct_later n fl ba c.loop-k.opened c.loop-k.found tries inv.tried c.loop-k.kept
           (scan_of ms) r.opened r.found r.totals
           r.kept inv.lengths.0 long
-          (λ q low. subst (λ (x : ScanLog). IsLoaded q x (slice_index r.opened q)) (now_is d ms _ c.requires.own.1 view)
+          (λ q low. subst (λ (x : ScanLog). IsLoaded q x (slice_index r.opened q)) (now_is d ms _ c.requires.may.own.1 view)
           (made.told q low)));
       came_direct = λ _ _. subst (λ (x : ScanLog). AnswersBy n w (scan_of ms) x a) (sym scan)
           (came_later n w fl ba c.loop-k.opened c.loop-k.found tries inv.tried c.loop-k.kept
@@ -295,7 +264,7 @@ returns-then-clean-2 g c =
       quiet = λ e. absurd (not_quiet (ap quiet_in e));
       once = λ e. absurd (not_quiet (ap quiet_in e));
       moved = λ _. moved_later n fl ba c.loop-k.opened c.loop-k.found tries inv.tried c.loop-k.kept (scan_of ms)
-          (map version_of c.args.kept.now) r.opened _ c.requires.geometry.workers.0 inv.lengths.0 long
+          (map version_of c.args.kept.now) r.opened _ c.requires.may.geometry.workers.0 inv.lengths.0 long
           (ap (λ (x : ScanLog). x.opened) scan);
       lent = λ e. absurd (direct_lent _ e);
       came_lent = λ e. absurd (direct_lent _ e);
@@ -309,29 +278,29 @@ pub returns-then-lends : goal.returns-then-lends
 returns-then-lends g c =
     let ms = members_of (g.S.ScanSeat.bundle c.args.seat.now) in
     let n : ℕ = g.row.N in let w : ℕ = width g.row.C g.row.H g.row.G in
-    let inv = c.loop-k.invariant.1 in let tries = c.loop-k.invariant.0 in let lens = c.requires.lengths in
+    let inv = c.loop-k.invariant.1 in let tries = c.loop-k.invariant.0 in let lens = c.requires.may.lengths in
     let fl = c.copy_from_slice.new.self in let ba = c.copy_from_slice-2.new.self in
     let made = c.later_try-clean.ensures in let r = c.later_try-clean.new in
     let few : length r.kept ≡ n = c.later_try-clean.auto.kept ∙ (c.loop-k.auto.kept ∙ (c.one_try-clean.auto.kept
     ∙ lens.0)) in
     let long : length r.opened ≡ n = c.later_try-clean.auto.opened
-    ∙ (c.loop-k.auto.opened ∙ (c.one_try-clean.auto.opened ∙ lens.2)) in
+    ∙ (c.loop-k.auto.opened ∙ (c.one_try-clean.auto.opened ∙ c.requires.may.lengths.1)) in
     let deep : length r.found ≡ n = c.later_try-clean.auto.found ∙ (c.loop-k.auto.found ∙ (c.one_try-clean.auto.found
-    ∙ lens.3)) in
+    ∙ c.requires.room.0)) in
     let view = at_loop n c.loop-k._k tries c.loop-k.kept fl ba ms _ inv.count c.loop-k-test.true inv.view in
-    let fails = loop_fails n w c.loop-k._k r.opened r.found r.kept c.loop-k.kept few long deep tries fl ba ms _ _ c.requires.own.1
-    inv.count view (made.failed c.if-clean-2.false) in
+    let fails = loop_fails n w c.loop-k._k r.opened r.found r.kept c.loop-k.kept few long deep tries fl ba ms _ _
+    c.requires.may.own.1 inv.count view (made.failed c.if-clean-2.false) in
     let l = c.ask_all-lends.ensures.lends c.if-lends.true in let a = lent_in n w c.ask_all-lends.new.lent in
-    let end = loop_lends n w c.loop-k._k r.opened r.found r.kept c.loop-k.kept few long deep tries fl ba ms _ _ c.requires.own.1
-    inv.count view _ a l.1 l.0 l.2 fails l.3 l.7 in
-    let scan = now_is _ ms _ c.requires.own.1 end in let count = inv.count in let lt = c.loop-k-test.true in
+    let end = loop_lends n w c.loop-k._k r.opened r.found r.kept c.loop-k.kept few long deep tries fl ba ms _ _
+    c.requires.may.own.1 inv.count view _ a l.1 l.0 l.2 fails l.3 l.7 in
+    let scan = now_is _ ms _ c.requires.may.own.1 end in let count = inv.count in let lt = c.loop-k-test.true in
     record {
       own = c.ask_all-lends.ensures.own ∙ (made.own ∙ inv.own);
       ruled = c.ask_all-lends.ensures.ruled;
       wide = made.wide;
       totals = made.totals;
       idle = record { kept = ap (λ (x : ScanLog). x.kept) scan; rest = ap (λ (x : ScanLog). x.now) scan };
-      others = others_same _ ms _ c.requires.own.1 end;
+      others = others_same _ ms _ c.requires.may.own.1 end;
       direct = λ q e. absurd (lent_direct q e);
       came_direct = λ q e. absurd (lent_direct q e);
       quiet = λ e. absurd (lent_direct _ e);
@@ -341,7 +310,7 @@ returns-then-lends g c =
           (lent_later n fl ba c.loop-k.opened c.loop-k.found tries inv.tried c.loop-k.kept
           (scan_of ms) r.opened r.found r.kept a l.1
           l.0 (asked_worker l.1 ∷ l.2) inv.lengths.0
-          (vector_long n w c.ask_all-lends.new.lent (c.ask_all-lends.auto.lent ∙ (c.loop-k.auto.lent ∙ lens.4))) inv.seen
+          (vector_long n w c.ask_all-lends.new.lent (c.ask_all-lends.auto.lent ∙ (c.loop-k.auto.lent ∙ c.requires.lent))) inv.seen
           (ap (λ (ws : List ℕ). is_above fl (take n (drop 1 ws))) (sym l.5) ∙ l.6.above));
       came_lent = λ _. subst (λ (x : ScanLog). AnswersBy n w (scan_of ms) x a) (sym scan)
           (came_lending n w fl ba c.loop-k.opened c.loop-k.found tries inv.tried c.loop-k.kept
@@ -361,15 +330,15 @@ returns g c =
     let inv = c.loop-k.invariant.1 in let tries = c.loop-k.invariant.0 in
     let fl = c.copy_from_slice.new.self in let ba = c.copy_from_slice-2.new.self in
     let t = c.loop-k-test.false in let last = c.loop-k.auto._k-end in let count = inv.count in
-    let scan = now_is _ ms _ c.requires.own.1 inv.view in
+    let scan = now_is _ ms _ c.requires.may.own.1 inv.view in
     record {
       own = inv.own;
       ruled = inv.ruled;
       wide = inv.wide;
-      totals = inv.totals;
+      totals = inv.room.2;
       idle = let rest = scan ∙ given_last n (stood tries c.loop-k.kept fl ba (scan_of ms)) refl (omega (arith, count, t, last)) in
           record { kept = ap (λ (x : ScanLog). x.kept) rest; rest = ap (λ (x : ScanLog). x.now) rest };
-      others = others_same _ ms _ c.requires.own.1 inv.view;
+      others = others_same _ ms _ c.requires.may.own.1 inv.view;
       direct = λ q e. absurd (up_direct q e);
       came_direct = λ q e. absurd (up_direct q e);
       quiet = λ e. absurd (up_direct _ e);

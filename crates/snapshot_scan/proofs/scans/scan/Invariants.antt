@@ -1,4 +1,4 @@
-use Rattle.std.proofs.Common.{◌≡◌, ◌+◌, ℕ, List, length}
+use Rattle.std.proofs.Common.{◌≡◌, ◌+◌, ◌<◌, ℕ, List, length}
 use Rattle.ledger_core.specs.Ops.{width}
 use Rattle.register_rule.specs.ScanSteps.{given_up_if_spent}
 use Rattle.register_rule.specs.Seats.{HasMember, table_of, members_of}
@@ -6,6 +6,7 @@ use Rattle.snapshot_scan.specs.Shape.{scan_of, with_scan, IsRuled}
 use Rattle.snapshot_scan.specs.ChangedItems.{Lists}
 use Rattle.snapshot_scan.specs.RememberedRows.{AreWide, AreTotals}
 use Rattle.register_rule.specs.History.{Below}
+use Rattle.snapshot_scan.specs.Conditions.{MayTry}
 use Rattle.snapshot_scan.specs.Scanned.{Tried}
 use Rattle.snapshot_scan.proofs.Trying.{stood, AreTries}
 use mathlib.Core.Option.{some}
@@ -19,7 +20,8 @@ invariant-loop-k g l = let bundle = g.S.ScanSeat.bundle in let ms = members_of (
       ruled : IsRuled g.row.N g.row.C g.row.H g.row.G (bundle l.seat);
       leads : HasMember (members_of (bundle l.seat));
       wide : AreWide w l.kept;
-      totals : AreTotals w l.kept l.totals;
+      may : l._k < g.row.N + 1 → MayTry l.board (bundle l.seat) l.kept l.opened;
+      room : (length l.found ≡ g.row.N) × (length l.totals ≡ w) × AreTotals w l.kept l.totals;
       listed : Lists w l.fn.totals l.totals l.moved;
       count : length tries ≡ l._k + 1;
       tried : AreTries g.row.N l.floor l.base l.opened l.found tries;

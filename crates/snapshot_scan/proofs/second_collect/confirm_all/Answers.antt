@@ -33,7 +33,8 @@ loop-place-init g c =
     record {
       own = search rules;
       ruled = λ lt. absurd (omega (arith, lt));
-      leads = c.requires.may.own.1;
+      may = c.requires.may.own;
+      few = c.requires.may.lengths.0;
       wide = c.requires.may.wide;
       totals = c.requires.sums.1;
       view = sym (ap (λ (b : Bool). with_scan (cond b (ended g.row.N w z) z) ms) no
@@ -42,10 +43,6 @@ loop-place-init g c =
       risen = λ q lt. absurd (omega (arith, lt));
       held = λ q x lt. absurd (omega (arith, lt));
     }
-
-pub confirm-number-requires : goal.confirm-number-requires
-confirm-number-requires g c = let lens = c.requires.may.lengths in let t = c.loop-place-test.true in
-    (search rules, ((c.loop-place.invariant.own ∙ c.requires.may.own.0, c.loop-place.invariant.leads), omega (arith, lens.0)))
 
 pub settle-requires : goal.settle-requires
 settle-requires g c =
@@ -83,7 +80,7 @@ loop-place-preserved g c =
     let ltn : p < n = omega (arith, lens.0) in
     let lt : p < length gs = omega arith in
     let lto : p < length os = omega (arith, lens.1, ltn) in
-    let ltf : p < length fs = omega (arith, lens.2, ltn) in
+    let ltf : p < length fs = omega (arith, c.requires.room, ltn) in
     let at : get_elem? gs p ≡ some gg = there gs p c.index-kept-place.result lt in
     let ato : get_elem? os p ≡ some o = there os p 0 lto in
     let more : take (p + 1) (set fs p s) ≡ take p fs ++ s ∷ [] = take_next fs p s ltf in
@@ -109,7 +106,11 @@ loop-place-preserved g c =
     record {
       own = c.confirm-number.ensures.learns.own ∙ inv.own;
       ruled = λ _. c.confirm-number.ensures.learns.ruled;
-      leads = subst HasMember (sym c.confirm-number.ensures.learns.member) (led_some (after_confirm n w p s) _ inv.leads);
+      may = (
+        c.confirm-number.ensures.learns.own ∙ inv.may.0,
+        subst HasMember (sym c.confirm-number.ensures.learns.member) (led_some (after_confirm n w p s) _ inv.may.1),
+      );
+      few = search rules;
       wide = λ q y e. ⊎_elim (λ h. inv.wide q y h)
           (λ h. subst (IsWide w) h.0 (subst (λ (k : ℕ). IsWide k g') long c.settle.ensures.wide)) (from_set gs p g' q y e);
       totals = λ k low. let e = inv.totals k low in let h = sum_set k gs p gg g' at in
@@ -147,7 +148,7 @@ returns-clause-view g c =
     let z : List ℕ → ScanLog = λ l. settling c.args.opened.now l c.loop-place.kept (scan_of ms) in
     c.loop-place.invariant.view
     ∙ (ap (λ (l : List ℕ). with_scan (cond (p == n) (ended n w (z l)) (z l)) ms)
-    (take_all c.loop-place.found p (omega (arith, lens.2)))
+    (take_all c.loop-place.found p (omega (arith, c.requires.room)))
     ∙ ap (λ (b : Bool). with_scan (cond b (ended n w (z c.loop-place.found)) (z c.loop-place.found)) ms) (eq-eqb p n e))
 
 pub returns-clause-held : goal.returns-clause-held

@@ -1,9 +1,9 @@
-use Rattle.std.proofs.Common.{◌≡◌, ◌<◌, ◌≤◌, ◌==◌, cond, ℕ, take, get_or}
+use Rattle.std.proofs.Common.{◌≡◌, ◌<◌, ◌≤◌, ◌==◌, cond, ℕ, length, take, get_or}
 use mathlib.Core.Option.{some}
 use lib.ListN.{get_elem?}
 use Rattle.ledger_core.specs.Ops.{width}
 use Rattle.register_rule.specs.ScanSteps.{ended}
-use Rattle.register_rule.specs.Seats.{HasMember, table_of, members_of}
+use Rattle.register_rule.specs.Seats.{MayScan, table_of, members_of}
 use Rattle.snapshot_scan.specs.declared.remembered_row.RememberedRow.{RememberedRow}
 use Rattle.snapshot_scan.specs.Shape.{scan_of, with_scan, IsRuled}
 use Rattle.snapshot_scan.specs.ChangedItems.{Moves}
@@ -14,8 +14,9 @@ abbrev pub invariant-loop-place : goal.invariant-loop-place
 invariant-loop-place g l = let bundle = g.S.ScanSeat.bundle in let ms = members_of (bundle l.fn.seat) in
     let w : ℕ = width g.row.C g.row.H g.row.G in record {
       own : table_of (bundle l.seat) ≡ table_of (bundle l.fn.seat);
+      may : MayScan l.board (bundle l.seat);
+      few : length l.kept ≡ g.row.N;
       ruled : 0 < l.place → IsRuled g.row.N g.row.C g.row.H g.row.G (bundle l.seat);
-      leads : HasMember (members_of (bundle l.seat));
       wide : AreWide w l.kept;
       totals : AreTotals w l.kept l.totals;
       view : members_of (bundle l.seat) ≡ with_scan

@@ -72,12 +72,13 @@ returns g c =
       own = c.confirm_rest.ensures.own ∙ l.invariant.own;
       ruled = all.ruled (omega (arith, some_worker));
       view = all.view ∙ (ap (λ (x : List ℕ). with_scan (cond (n == n) (ended n w (z x)) (z x)) ms)
-          (take_all fs n (omega (arith, lens.2, a, a')))
+          (take_all fs n (omega (arith, c.requires.room, a, a')))
           ∙ ap (λ (b : Bool). with_scan (cond b (ended n w (z fs)) (z fs)) ms) (eq-eqb n n refl));
       risen = all.risen;
       clean = (
-        λ t. same_lists os fs (omega (arith, lens.1, lens.2, a, a')) (λ k d lt. get_or_default os k d 0 lt
-            ∙ (all.held t k (omega (arith, lens.1, lt)) ∙ get_or_default fs k 0 d (omega (arith, lens.1, lens.2, a, a', lt)))),
+        λ t. same_lists os fs (omega (arith, lens.1, c.requires.room, a, a')) (λ k d lt. get_or_default os k d 0 lt
+            ∙ (all.held t k (omega (arith, lens.1, lt))
+            ∙ get_or_default fs k 0 d (omega (arith, lens.1, c.requires.room, a, a', lt)))),
         λ e. true_by c.confirm_rest.result (λ no. let m = all.moved no in m.2 (ap (λ (x : List ℕ). get_or x m.0 0) e)),
       );
     }

@@ -176,22 +176,29 @@ returns-clause-gave_up g c = λ e.
 pub scan-requires : goal.scan-requires
 scan-requires g c =
     let old = c.args.self.now in let w : ℕ = width g.row.C g.row.H g.row.G in
-    let kept = sym c.as_mut_slice.ensures.value in let totals = sym c.as_mut_slice-2.ensures.value in (
+    let kept = sym c.as_mut_slice.ensures.value in let totals = sym c.as_mut_slice-2.ensures.value in
+    let idle = subst (IsIdle (scan_in (g.S.ScanSeat.bundle c.args.seat.now))) kept c.requires.ready in (
       omega arith,
       record {
-        own = c.requires.own;
-        geometry = old.geometry;
-        lengths = (
-          ap (λ (l : List RememberedRow). length l) c.as_mut_slice.ensures.value ∙ old.sizes.0,
-          ap (λ (l : List ℕ). length l) c.as_mut_slice-2.ensures.value ∙ old.sizes.1,
-          ap (λ (l : List ℕ). length l) c.as_mut_slice-3.ensures.value ∙ old.sizes.2,
+        may = record {
+          own = c.requires.own;
+          geometry = old.geometry;
+          lengths = (
+            ap (λ (l : List RememberedRow). length l) c.as_mut_slice.ensures.value ∙ old.sizes.0,
+            ap (λ (l : List ℕ). length l) c.as_mut_slice-3.ensures.value ∙ old.sizes.2,
+          );
+          wide = subst (AreWide w) kept old.wide;
+          kept = idle.kept;
+          rest = (λ z. (idle.rest z).looks, λ z. (idle.rest z).due, λ z. (idle.rest z).asks);
+        };
+        room = (
           ap (λ (l : List ℕ). length l) c.as_mut_slice-4.ensures.value ∙ old.sizes.3,
-          ap (λ (l : List ℕ). length l) c.as_mut_slice-5.ensures.value ∙ old.sizes.4,
+          ap (λ (l : List ℕ). length l) c.as_mut_slice-2.ensures.value ∙ old.sizes.1,
+          subst (λ (l : List RememberedRow). AreTotals w l c.as_mut_slice-2.result.now) kept
+              (subst (AreTotals w old.kept.items) totals old.sums),
         );
-        wide = subst (AreWide w) kept old.wide;
-        totals = subst (λ (l : List RememberedRow). AreTotals w l c.as_mut_slice-2.result.now) kept
-            (subst (AreTotals w old.kept.items) totals old.sums);
-        idle = subst (IsIdle (scan_in (g.S.ScanSeat.bundle c.args.seat.now))) kept c.requires.ready;
+        lent = ap (λ (l : List ℕ). length l) c.as_mut_slice-5.ensures.value ∙ old.sizes.4;
+        idle = idle;
       },
     )
 
