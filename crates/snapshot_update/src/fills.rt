@@ -27,6 +27,7 @@ pub(crate) fn fill_item<const N: usize, const C: usize, const H: usize, const G:
     requires bounded { item < width C H G → word ≤ greatest_word }
     ensures own { IsWorkSeatOf board.now seat.new }
     ensures index { index_of seat.new ≡ index_of seat.old }
+    ensures exact { (worker_of seat.new).work.hidden ≡ hidden.new }
     ensures hidden { hidden.new ≡ slice_set hidden.old item word }
     ensures member { worker_of seat.new ≡ with_hidden hidden.new (worker_of seat.old) }
 {

@@ -1,4 +1,6 @@
-use Rattle.std.proofs.Common.{◌≡◌, ◌<◌, ℕ, get_or}
+use Rattle.std.proofs.Common.{◌≡◌, ◌<◌, ℕ, length, get_or}
+use Rattle.ledger_core.specs.Ops.{width}
+use Rattle.segment_layout.specs.Layout.{depth}
 use Rattle.register_rule.specs.Seats.{worker_of, index_of, IsWorkSeatOf}
 use Rattle.snapshot_update.specs.BufferImages.{with_hidden}
 use Rattle.snapshot_update.specs.BufferImages.{target_of}
@@ -7,6 +9,10 @@ use Rattle.snapshot_update.proofs.fills.fill_changes.Given as goal
 abbrev pub invariant-loop-item : goal.invariant-loop-item
 invariant-loop-item g l = record {
   own : IsWorkSeatOf l.board l.seat;
+  exact : (worker_of l.seat).work.hidden ≡ l.hidden;
+  deep : (length l.hidden ≡ depth g.row.N (width g.row.C g.row.H g.row.G))
+      × (length (target_of l.version) ≡ depth g.row.N (width g.row.C g.row.H g.row.G));
+  inside : (k : ℕ) → k < length l.items → get_or l.items k 0 < depth g.row.N (width g.row.C g.row.H g.row.G);
   index : index_of l.seat ≡ index_of l.fn.seat;
   member : worker_of l.seat ≡ with_hidden l.hidden (worker_of l.fn.seat);
   filled : (k : ℕ) → k < l.item-index → get_or l.hidden (get_or l.items k 0) 0 ≡ get_or (target_of l.version) (get_or l.items k 0)

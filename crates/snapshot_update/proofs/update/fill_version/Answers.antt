@@ -1,12 +1,15 @@
-use Rattle.std.proofs.Common.{◌≡◌, ℕ, Bool, true, false, cond, List, length, slice_index, sym, refl, ap, ◌∙◌, arith, rules}
+use Rattle.std.proofs.Common.{◌≡◌, ℕ, Bool, true, false, cond, List, ◌++◌, length, take, drop, slice_index, sym, refl, ap}
+use Rattle.std.proofs.Common.{◌∙◌, subst, arith, rules}
 use Rattle.std.proofs.lemmas.Bool.{and_parts, not-true}
 use Rattle.ledger_core.specs.Ops.{width}
 use Rattle.segment_layout.specs.Layout.{depth}
 use Rattle.snapshot_scan.specs.declared.scan_end.ScanEnd.{ScanEnd}
 use Rattle.snapshot_scan.specs.declared.scan_end.ScanEnd.TheVariants.{Direct, GaveUp}
 use Rattle.snapshot_scan.specs.ScanMemories.{answer_of}
-use Rattle.snapshot_update.specs.BufferImages.{version_words}
+use Rattle.snapshot_update.specs.BufferImages.{DifferAt, version_words, with_hidden}
 use Rattle.snapshot_update.specs.BufferImages.{target_of}
+use Rattle.register_rule.specs.Seats.{worker_of}
+use Rattle.snapshot_scan.proofs.Words.{over}
 use Rattle.snapshot_update.proofs.update.fill_version.Goals as goal
 
 -- a scan that ended direct has a view
@@ -57,3 +60,31 @@ fill_next-requires g c =
         },
       ),
     )
+
+-- what was written over the hidden buffer's words is what it holds
+pub returns-clause-member : goal.returns-clause-member
+returns-clause-member g c =
+    let old = c.args.images.now.hidden in let new = c.fill_next.new.hidden in let a = c.fill_next.auto.hidden in
+    let v = c.as_mut_slice.ensures.value in let n = c.as_mut_slice.ensures.len in
+    let written : take old.len (new ++ drop (length new) old.items) ≡ new = over new old.items old.len
+    (a ∙ ap (λ (l : List ℕ). length l) v) (omega (arith, a)) in
+    c.fill_next.ensures.member ∙ ap (λ (l : List ℕ). with_hidden l (worker_of c.args.seat.now)) (sym written)
+
+pub returns-clause-hidden : goal.returns-clause-hidden
+returns-clause-hidden g c =
+    let old = c.args.images.now.hidden in let new = c.fill_next.new.hidden in let a = c.fill_next.auto.hidden in
+    let v = c.as_mut_slice.ensures.value in let n = c.as_mut_slice.ensures.len in
+    let written : take old.len (new ++ drop (length new) old.items) ≡ new = over new old.items old.len
+    (a ∙ ap (λ (l : List ℕ). length l) v) (omega (arith, a)) in
+    written ∙ (c.fill_next.ensures.hidden ∙ (c.new-version.ensures.words
+    ∙ (λ z. version_words c.args.row.now (c.flag_word.ensures z) (c.answer.ensures.vector z) (c.answer.ensures.totals z))))
+
+pub returns-clause-recent : goal.returns-clause-recent
+returns-clause-recent g c =
+    let old = c.args.images.now.hidden in let new = c.fill_next.new.hidden in let a = c.fill_next.auto.hidden in
+    let v = c.as_mut_slice.ensures.value in let n = c.as_mut_slice.ensures.len in
+    let written : take old.len (new ++ drop (length new) old.items) ≡ new = over new old.items old.len
+    (a ∙ ap (λ (l : List ℕ). length l) v) (omega (arith, a)) in
+    subst (DifferAt c.fill_next.new.recent c.args.images.now.shown.items) (sym (written ∙ c.fill_next.ensures.hidden))
+    (subst (λ (l : List ℕ). DifferAt c.fill_next.new.recent l (target_of c.new-version.result)) c.as_slice.ensures.value
+    c.fill_next.ensures.recent)
