@@ -6,3 +6,4 @@ mod Published
 mod Spacing
 pub mod Moment
 mod Flushing
+mod Naming

@@ -1,6 +1,7 @@
 pub mod Alone
 pub mod Answering
 pub mod Crews
+pub mod Opening
 pub mod Printing
 pub mod Recorders
 pub mod Refused

@@ -13,13 +13,14 @@ ghost use Rattle.snapshot_update.specs.Workers.{index_of, lists_of, IsWorkerOf};
 ghost use Rattle.std.proofs.Props.{props};
 
 use crate::opened::OpenFault;
+use crate::opening::{Taken, hand_out};
 use crate::recorder::Recorder;
 use metric_registry::Registry;
 use register_rule::{Board, BoardFault};
 use registry_state::NewFault;
 use snapshot_scan::{Reader, Scanner};
 use snapshot_update::Worker;
-use std::alloc::{AllocError, Global};
+use std::alloc::Global;
 use std::mem::replace;
 
 /// A new board with all who work on it. [`Crew::open`] hands them out.
@@ -45,6 +46,7 @@ impl<const N: usize, const C: usize, const H: usize, const G: usize> Drop for Cr
 
 impl<const N: usize, const C: usize, const H: usize, const G: usize> Crew<N, C, H, G> {
     ghost use Rattle.dirgwako.specs.Crews.{board_of, workers_of, readers_of, recorders_in, scanners_in, IsOpenFault};
+    ghost use Rattle.dirgwako.specs.Opening.{IsTaken, IsKept};
     ghost use Rattle.dirgwako.specs.Recorders.{worker_in, IsOn};
 
     /// A new board of this id, on which nothing was counted, with its `N` workers and `readers` readers. All memory that counting and
@@ -75,25 +77,9 @@ impl<const N: usize, const C: usize, const H: usize, const G: usize> Crew<N, C, 
     }
 
     /// Takes out the workers, the readers but the last, and the last. Where that is refused nothing is taken.
-    fn take(
-        &mut self,
-        window: usize,
-    ) -> Result<
-        (
-            Vec<Worker<N, C, H, G>>,
-            Vec<Reader<N, C, H, G>>,
-            Reader<N, C, H, G>,
-        ),
-        OpenFault,
-    >
-        ensures board { board_of self.new ≡ board_of self.old }
-        ensures workers { IfOk result (λ t. t.0.items ≡ workers_of self.old) }
-        ensures readers { IfOk result (λ t. readers_of self.old ≡ t.1.items ++ t.2 ∷ []) }
-        ensures own { IfOk result (λ t. All (IsWorkerOf (board_of self.old)) t.0.items
-            × All (IsReaderOf (board_of self.old)) t.1.items × IsReaderOf (board_of self.old) t.2) }
-        ensures spent { OnOk result (readers_of self.new ≡ []) }
-        ensures kept { OnErr result ((workers_of self.new ≡ workers_of self.old) × (readers_of self.new ≡ readers_of self.old)) }
-        ensures window { OnOk result (IsWindow window) }
+    fn take(&mut self, window: usize) -> Result<Taken<N, C, H, G>, OpenFault>
+        ensures taken { IfOk result (IsTaken window self.old self.new) }
+        ensures kept { OnErr result (IsKept self.old self.new) }
         ensures fault { IfErr result (IsOpenFault self.old window) }
     {
         if self.readers.is_empty() {
@@ -105,9 +91,11 @@ impl<const N: usize, const C: usize, const H: usize, const G: usize> Crew<N, C, 
         let Some(last) = self.readers.pop() else {
             return Err(OpenFault::Opened);
         };
-        let readers = replace(&mut self.readers, Vec::new(self.alloc));
-        let workers = replace(&mut self.workers, Vec::new(self.alloc));
-        Ok((workers, readers, last))
+        Ok(Taken {
+            workers: replace(&mut self.workers, Vec::new(self.alloc)),
+            readers: replace(&mut self.readers, Vec::new(self.alloc)),
+            last,
+        })
     }
 
     /// Hands all out: `let (registry, mut recorders, scanners) = crew.open(64)?`. The registry keeps `window` scrapes, and scrapes by the
@@ -137,36 +125,9 @@ impl<const N: usize, const C: usize, const H: usize, const G: usize> Crew<N, C, 
         ensures window { OnOk result (IsWindow window) }
         ensures fault { IfErr result (IsOpenFault self.old window) }
     {
-        let (workers, readers, reader) = self.take(window)?;
-        let alloc = self.alloc;
-        let board: &'a Board<N, C, H, G> = &self.board;
-        let registry = match Registry::new(alloc, board, reader, window) {
-            Ok(registry) => registry,
-            Err(no) => return Err(OpenFault::Registry(no.fault)),
-        };
-        let Ok(recorders) = Recorder::all(alloc, board, workers) else {
-            return Err(OpenFault::Registry(NewFault::NoMemory));
-        };
-        match all_scanners(alloc, board, readers) {
-            Ok(scanners) => Ok((registry, recorders, scanners)),
-            Err(_) => Err(OpenFault::Registry(NewFault::NoMemory)),
+        match self.take(window) {
+            Ok(taken) => hand_out(self.alloc, &self.board, taken, window),
+            Err(fault) => Err(fault),
         }
     }
-}
-
-/// The scanners of these readers of a board, in order.
-fn all_scanners<'a, const N: usize, const C: usize, const H: usize, const G: usize>(
-    alloc: Global,
-    board: &'a Board<N, C, H, G>,
-    readers: Vec<Reader<N, C, H, G>>,
-) -> Result<Vec<Scanner<'a, N, C, H, G>>, AllocError>
-    requires { All (IsReaderOf board.now) readers.items }
-    ensures boards { IfOk result (λ v. All (ScansOn board.now) v.items) }
-    ensures readers { IfOk result (λ v. map reader_in v.items ≡ readers.entry.items) }
-{
-    let mut scanners = Vec::with_capacity(alloc, readers.len())?;
-    for reader in readers {
-        scanners.push(Scanner::new(board, reader))?;
-    }
-    Ok(scanners)
 }

@@ -13,6 +13,7 @@ mod fault;
 mod listening;
 mod listing;
 mod opened;
+mod opening;
 mod printing;
 mod recorder;
 mod registers;

@@ -1,59 +1,35 @@
-use Rattle.std.proofs.Common.{rules, refl, arith, ◌∙◌, ◌∷◌, ◌++◌, [], length, length-append, All, ap, subst, sym}
-use Rattle.std.proofs.lemmas.Option.{none-some}
+use Rattle.std.proofs.Common.{◌++◌, ◌∷◌, [], Result, Ok, Err, IfOk, All, ap, subst, sym, ◌∙◌}
 use Rattle.register_rule.specs.Seats.{board_id}
-use Rattle.snapshot_scan.specs.Readers.{IsReaderOf}
-use Rattle.snapshot_update.specs.Workers.{IsWorkerOf}
+use Rattle.dirgwako.specs.Crews.{recorders_in, scanners_in}
 use Rattle.dirgwako.specs.Recorders.{IsOn}
 use Rattle.dirgwako.specs.Scanning.{ScansOn}
 use Rattle.dirgwako.proofs.crew.Crew.open.Goals as goal
 
-pub new-requires : goal.new-requires
-new-requires g c =
-    let own = subst (λ b. IsReaderOf b c.in_ok-workers.reader) (sym c.in_ok-workers.ensures.board)
-    c.in_ok-workers.ensures.own.2 in
-    (omega arith, (omega arith, (omega arith, (omega arith, (refl, (λ id none. absurd (none-some id none), own))))))
+if_ok_from : {X E : Type 0} {P Q : X → Type 0} (r : Result X E) → ((x : X) → Q x → P x) → IfOk r Q → IfOk r P
+if_ok_from (Ok x) f q = f x q
+if_ok_from (Err e) f q = tt
 
-pub returns-in-Err : goal.returns-in-Err
-returns-in-Err g c =
-    let some = length-append c.in_ok-workers.readers.items (c.in_ok-workers.reader ∷ []) in
-    record {
-      id = tt;
-      boards = tt;
-      workers = tt;
-      scanners = tt;
-      readers = tt;
-      window = tt;
-      fault = (
-        (λ none. let few = ap length (sym none ∙ c.in_ok-workers.ensures.readers) in omega (arith, few, some)),
-        c.in-Err.ensures.fault,
-      );
-    }
+pub returns-in-Ok-clause-boards : goal.returns-in-Ok-clause-boards
+returns-in-Ok-clause-boards g c =
+    if_ok_from c.hand_out.result (λ o made. subst (λ b. All (IsOn b) (recorders_in o)) c.in-Ok.ensures.taken.board made.boards)
+    c.hand_out.ensures.made
 
-pub all-requires : goal.all-requires
-all-requires g c =
-    let own = subst (λ b. All (IsWorkerOf b) c.in_ok-workers.workers.items) (sym c.in_ok-workers.ensures.board)
-    c.in_ok-workers.ensures.own.0 in
-    (search rules, (search rules, (search rules, own)))
+pub returns-in-Ok-clause-scanners : goal.returns-in-Ok-clause-scanners
+returns-in-Ok-clause-scanners g c =
+    if_ok_from c.hand_out.result (λ o made. subst (λ b. All (ScansOn b) (scanners_in o)) c.in-Ok.ensures.taken.board made.scanners)
+    c.hand_out.ensures.made
 
-pub all_scanners-requires : goal.all_scanners-requires
-all_scanners-requires g c =
-    let own = subst (λ b. All (IsReaderOf b) c.in_ok-workers.readers.items) (sym c.in_ok-workers.ensures.board)
-    c.in_ok-workers.ensures.own.1 in
-    (search rules, (search rules, (search rules, own)))
+pub returns-in-Ok-clause-readers : goal.returns-in-Ok-clause-readers
+returns-in-Ok-clause-readers g c =
+    let last = c.in-Ok.taken.last in
+    if_ok_from c.hand_out.result (λ o made.
+    (last, c.in-Ok.ensures.taken.readers ∙ ap (λ readers. readers ++ last ∷ []) (sym made.readers)))
+    c.hand_out.ensures.made
 
-pub returns-in-Ok-all_scanners : goal.returns-in-Ok-all_scanners
-returns-in-Ok-all_scanners g c =
-    let same = c.in_ok-workers.ensures.board in
-    record {
-      id = c.in-Ok.ensures.id ∙ ap board_id same;
-      boards = subst (λ b. All (IsOn b) c.in-Ok-all.recorders.items) same c.in-Ok-all.ensures.board;
-      workers = c.in-Ok-all.ensures.workers ∙ c.in_ok-workers.ensures.workers;
-      scanners = subst (λ b. All (ScansOn b) c.in-Ok-all_scanners.scanners.items) same c.in-Ok-all_scanners.ensures.boards;
-      readers = (
-        c.in_ok-workers.reader,
-        c.in_ok-workers.ensures.readers ∙ ap (λ readers. readers ++ c.in_ok-workers.reader ∷ [])
-            (sym c.in-Ok-all_scanners.ensures.readers),
-      );
-      window = c.in_ok-workers.ensures.window;
-      fault = tt;
-    }
+pub returns-in-Ok-clause-id : goal.returns-in-Ok-clause-id
+returns-in-Ok-clause-id g c =
+    if_ok_from c.hand_out.result (λ o made. made.id ∙ ap board_id c.in-Ok.ensures.taken.board) c.hand_out.ensures.made
+
+pub returns-in-Ok-clause-workers : goal.returns-in-Ok-clause-workers
+returns-in-Ok-clause-workers g c =
+    if_ok_from c.hand_out.result (λ o made. made.workers ∙ c.in-Ok.ensures.taken.workers) c.hand_out.ensures.made

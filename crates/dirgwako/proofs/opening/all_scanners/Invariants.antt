@@ -3,7 +3,7 @@ use Rattle.std.specs.Vec.Iter.{into_iter_items}
 use Rattle.snapshot_scan.specs.Readers.{IsReaderOf}
 use Rattle.snapshot_scan.specs.Scanners.{reader_in}
 use Rattle.dirgwako.specs.Scanning.{ScansOn}
-use Rattle.dirgwako.proofs.crew.all_scanners.Given as goal
+use Rattle.dirgwako.proofs.opening.all_scanners.Given as goal
 
 abbrev pub invariant-loop-reader : goal.invariant-loop-reader
 invariant-loop-reader g l = record {

@@ -4,7 +4,7 @@ use Rattle.snapshot_scan.specs.Readers.{IsReaderOf}
 use Rattle.snapshot_scan.specs.Scanners.{reader_in}
 use Rattle.dirgwako.specs.Scanning.{ScansOn}
 use Rattle.dirgwako.proofs.Seating.{next_all, all_more, one_over}
-use Rattle.dirgwako.proofs.crew.all_scanners.Goals as goal
+use Rattle.dirgwako.proofs.opening.all_scanners.Goals as goal
 
 pub loop-reader-preserved : goal.loop-reader-preserved
 loop-reader-preserved g c =
