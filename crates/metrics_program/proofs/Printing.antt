@@ -46,11 +46,6 @@ begun_kept a b c xs begins kept = record {
   grown = Appends-kept a b c begins.front begins.grown kept;
 }
 
--- three parts of a line
-pub told : (a b c d : Option (List ℕ)) (xs ys zs : List ℕ) → Appends a b xs → Appends b c ys → Appends c d zs
-    → Appends a d (xs ++ ys ++ zs)
-told a b c d xs ys zs first second third = Appends-trans a c d (xs ++ ys) zs (Appends-trans a b c xs ys first second) third
-
 -- what is so in any case
 pub on_err : (r : Result Unit Broken) (P : Type 0) → P → OnErr r P
 on_err (Ok done) P p = tt

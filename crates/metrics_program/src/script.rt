@@ -1,5 +1,5 @@
 //! Scripts are run.
-ghost use Rattle.std.specs.Prelude.{◌≡◌, ℕ, List, [], ◌∷◌, ◌++◌, decimal, map, All, Err, IfErr, IfOk, OnErr, OnOk};
+ghost use Rattle.std.specs.Prelude.{◌≡◌, ℕ, List, [], ◌∷◌, ◌++◌, map, All, Err, IfErr, IfOk, OnErr, OnOk};
 ghost use Rattle.std.specs.Io.KnownBytes.{Appends, IsAtEnd, Keeps};
 ghost use Rattle.chain_law.specs.Settled.{AreMomentsOf, IsSettled};
 ghost use Rattle.registry_state.specs.Journal.{scrapes};
@@ -22,7 +22,7 @@ use crate::board::{Board, Snapshot, Staff, new_board};
 use crate::line_fault::LineFault;
 use crate::parts::{Parts, counter_of, gauge_of, histogram_of};
 use crate::refused::Refused;
-use crate::sending::{Broken, send};
+use crate::sending::{Broken, send, tell_number};
 use crate::state::{Count, State};
 use metric_names::NoMemory;
 use metric_registry::settle_state;
@@ -219,18 +219,6 @@ fn run_lines<T: Threads + Wait, R: Read + Drop, W: Write>(
         Next::End => Ok(()),
         _ => Err(stop_at(MAX_LINES + 1, LineFault::BadLine)),
     }
-}
-
-/// Writes a word, a number, and what follows it. Where that fails, a beginning of them is written, and nothing else.
-fn tell_number<W: Write>(writer: &mut W, word: &[u8], number: u64, end: &[u8]) -> Result<(), Broken>
-    ensures told { OnOk result (Appends (W.contents writer.old) (W.contents writer.new) (word.now ++ decimal number ++ end.now)) }
-    ensures front { OnErr result
-        (Begins (W.contents writer.old) (W.contents writer.new) (word.now ++ decimal number ++ end.now)) }
-{
-    let mut digits = itoa::Buffer::new();
-    send(writer, word)?;
-    send(writer, digits.format(number).as_bytes())?;
-    send(writer, end)
 }
 
 fn tell_settled<W: Write>(writer: &mut W, vector: &[u64]) -> Result<(), Broken>

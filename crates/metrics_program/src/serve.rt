@@ -12,7 +12,7 @@ ghost use Rattle.metrics_program.specs.Printed.{Begins, Prints, listening_line, 
 
 use crate::board::{Board, Reader, Registry, Snapshot, Staff, Worker, new_board};
 use crate::metrics::Metrics;
-use crate::sending::{Broken, send};
+use crate::sending::{Broken, send, tell_number};
 use crate::threads::{Four, Queues, Shared, serve_in_threads};
 use metric_names::NoMemory;
 use metric_registry::{Named, RegistryOf};
@@ -90,10 +90,7 @@ fn tell<W: Write>(writer: &mut W, word: &[u8], number: u64) -> Result<(), Broken
     ensures front { OnErr result
         (Begins (W.contents writer.old) (W.contents writer.new) (word.now ++ decimal number ++ codes "\n")) }
 {
-    let mut digits = itoa::Buffer::new();
-    send(writer, word)?;
-    send(writer, digits.format(number).as_bytes())?;
-    send(writer, b"\n")?;
+    tell_number(writer, word, number, b"\n")?;
     writer.flush().map_err(|_| Broken)
 }
 

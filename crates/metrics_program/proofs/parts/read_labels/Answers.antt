@@ -1,4 +1,6 @@
-use Rattle.std.proofs.Common.{rules, ◌≡◌, ℕ, List, [], ◌∷◌, ◌++◌, Bor, All, map, take, refl, inr, ap, sym, subst, ◌∙◌}
+use Rattle.std.proofs.Common.{rules, ◌≡◌, ℕ, List, [], ◌∷◌, ◌++◌, Bor, All, map, take, refl, inl, inr, ap, sym, subst, ◌∙◌}
+use Rattle.std.proofs.Common.{arith}
+use Rattle.std.proofs.lemmas.List.{take_all}
 use Rattle.std.proofs.lemmas.List.Elements.{All-nil}
 use Rattle.metric_names.specs.LabelName.{IsLabelName}
 use Rattle.script_lines.specs.Language.{AreLabels}
@@ -36,3 +38,26 @@ loop-word-preserved c =
       subst (All IsLabelName) (sym pushed)
           (all_push IsLabelName c.loop-word.names.items c.in-Ok-read.name kept.2 c.in-Ok-read.ensures.grammar),
     )
+
+pub returns-in_default-clause-fault : goal.returns-in_default-clause-fault
+returns-in_default-clause-fault c = inl refl
+
+pub returns-in_default-with_capacity-clause-fault : goal.returns-in_default-with_capacity-clause-fault
+returns-in_default-with_capacity-clause-fault c = inl refl
+
+pub returns-then-is_err-clause-fault : goal.returns-then-is_err-clause-fault
+returns-then-is_err-clause-fault c = inl refl
+
+pub returns-clause-read : goal.returns-clause-read
+returns-clause-read c =
+    let kept = c.loop-word.invariant in
+    let end = c.loop-word-test.false in
+    let all = take_all c.loop-word.word-index c.deref-word-items.result.now (omega (arith, end)) in
+    subst (AreLabels c.args.labels.now) (ap (map now) (sym all) ∙ sym kept.1) kept.0
+
+pub returns-clause-good : goal.returns-clause-good
+returns-clause-good c =
+    let kept = c.loop-word.invariant in
+    let end = c.loop-word-test.false in
+    let all = take_all c.loop-word.word-index c.deref-word-items.result.now (omega (arith, end)) in
+    (c.loop-word.names.items, subst (AreLabels c.args.labels.now) (ap (map now) (sym all) ∙ sym kept.1) kept.0, kept.2)

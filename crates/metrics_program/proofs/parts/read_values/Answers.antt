@@ -1,4 +1,6 @@
-use Rattle.std.proofs.Common.{◌+◌, rules, ◌≡◌, ℕ, List, [], ◌∷◌, ◌++◌, Bor, All, map, take, sym, subst}
+use Rattle.std.proofs.Common.{◌+◌, rules, ◌≡◌, ℕ, List, [], ◌∷◌, ◌++◌, Bor, All, map, take, refl, inl, ap, sym, subst}
+use Rattle.std.proofs.Common.{arith}
+use Rattle.std.proofs.lemmas.List.{take_all}
 use Rattle.std.proofs.lemmas.List.Elements.{All-nil}
 use Rattle.script_lines.specs.Language.{AreValues}
 use Rattle.metrics_program.specs.Parts.{AreWritten, IsGoodValue}
@@ -34,4 +36,24 @@ loop-word-preserved c =
           (subst (AreWritten (c.loop-word.read.items ++ c.in-Ok-read_value.value ∷ [])) (sym more)
           (written_push c.loop-word.read.items _ c.in-Ok-read_value.value _ kept.1 c.in-Ok-read_value.ensures.read)),
       subst (All IsGoodValue) (sym more) (all_push IsGoodValue _ _ kept.2 c.in-Ok-read_value.ensures.good),
+    )
+
+pub returns-in_default-clause-fault : goal.returns-in_default-clause-fault
+returns-in_default-clause-fault c = inl refl
+
+pub returns-in_default-with_capacity-clause-fault : goal.returns-in_default-with_capacity-clause-fault
+returns-in_default-with_capacity-clause-fault c = inl refl
+
+pub returns-then-is_err-clause-fault : goal.returns-then-is_err-clause-fault
+returns-then-is_err-clause-fault c = inl refl
+
+pub returns-clause-read : goal.returns-clause-read
+returns-clause-read c =
+    let kept = c.loop-word.invariant in
+    let end = c.loop-word-test.false in
+    let all = take_all c.loop-word.word-index c.deref-word-items.result.now (omega (arith, end)) in
+    (
+      map now c.deref-word-items.result.now,
+      kept.0,
+      subst (λ (l : List (Bor (List ℕ))). AreWritten c.loop-word.read.items (map now l)) all kept.1,
     )

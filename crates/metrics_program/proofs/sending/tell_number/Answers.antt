@@ -5,7 +5,7 @@ use Rattle.std.specs.Io.KnownBytes.{Appends}
 use Rattle.metrics_program.specs.Printed.{Begins}
 use Rattle.metrics_program.proofs.Printing.{begun, begun_after, begun_before, on_err}
 use Rattle.metrics_program.proofs.Pushed.{on_err_from}
-use Rattle.metrics_program.proofs.script.tell_number.Goals as goal
+use Rattle.metrics_program.proofs.sending.tell_number.Goals as goal
 
 pub returns-in_err-send-clause-front : goal.returns-in_err-send-clause-front
 returns-in_err-send-clause-front g c =
