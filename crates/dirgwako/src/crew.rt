@@ -1,5 +1,5 @@
 //! A board and all who work on it.
-ghost use Rattle.std.specs.Prelude.{◌≡◌, [], ◌∷◌, ◌++◌, map, length, replicate, IfOk, IfErr, OnOk, OnErr, All};
+ghost use Rattle.std.specs.Prelude.{◌≡◌, [], map, length, replicate, IfOk, IfErr, OnOk, OnErr, All};
 ghost use Rattle.std.specs.List.{range_with_len};
 ghost use Rattle.register_rule.specs.Faults.{IsBoardSize, IsBoardFault};
 ghost use Rattle.register_rule.specs.Seats.{board_id};

@@ -1,6 +1,6 @@
 -- Replies that a worker has counted.
 use Rattle.std.proofs.Common.{◌≡◌, ℕ, List, [], ◌∷◌, ◌++◌, Result, Ok, Err, OnOk, OnErr, IfErr, map, refl, sym, subst, ap, ap₂}
-use Rattle.std.proofs.Common.{◌∙◌, append-nil, append_assoc, inl, inr}
+use Rattle.std.proofs.Common.{All, ◌∙◌, append-nil, append_assoc, inl, inr}
 use Rattle.std.proofs.lemmas.List.{map-append}
 use Rattle.std.proofs.lemmas.List.Elements.{All-nil, All-cons}
 use Rattle.ledger_core.specs.declared.op.Op.{Op}
@@ -14,6 +14,7 @@ use Rattle.snapshot_update.specs.Workers.{index_of, lists_of, member_of, ops_in,
 use Rattle.metrics_program.specs.declared.metrics.Metrics.{Metrics}
 use Rattle.metrics_program.specs.declared.threads.Four.{Four}
 use Rattle.metrics_program.specs.Counted.{AreFour, AreNewWorkers, HasCounted, HaveCounted, IsNewWorker, WasCounted, list_for}
+use Rattle.metrics_program.specs.Counted.{all_of}
 
 module _ (b : Board 4 64 8 16) (m : Metrics) where
   -- no reply yet
@@ -73,16 +74,21 @@ module _ (b : Board 4 64 8 16) (m : Metrics) where
             ∙ ap (λ (l : List (List Op)). lists_of w ++ l) (sym more);
       }
 
+  -- the four workers are the board's
+  pub all_own : (was four : Four) → HaveCounted b m was four → All (IsWorkerOf b) (all_of four)
+  all_own was four counted =
+      let P = IsWorkerOf b in
+      All-cons P four.a (four.b ∷ four.c ∷ four.d ∷ []) counted.0.own
+      (All-cons P four.b (four.c ∷ four.d ∷ []) counted.1.own
+      (All-cons P four.c (four.d ∷ []) counted.2.own (All-cons P four.d [] counted.3.own (All-nil P))))
+
   -- the four workers are there again, in their order
   pub back_again : (was four : Four) → AreNewWorkers b was → HaveCounted b m was four → AreFour b four
   back_again was four new counted =
-      let P = IsWorkerOf b in
       let index : (i : ℕ) (w v : Worker 4 64 8 16) → IsNewWorker b i w → HasCounted b m w v → index_of v ≡ i =
       λ i w v is has. has.index ∙ is.index_is in
       record {
-        own = All-cons P four.a (four.b ∷ four.c ∷ four.d ∷ []) counted.0.own
-            (All-cons P four.b (four.c ∷ four.d ∷ []) counted.1.own
-            (All-cons P four.c (four.d ∷ []) counted.2.own (All-cons P four.d [] counted.3.own (All-nil P))));
+        own = all_own was four counted;
         index = ap₂ (λ (i : ℕ) (is : List ℕ). i ∷ is) (index 0 was.a four.a new.0 counted.0)
             (ap₂ (λ (i : ℕ) (is : List ℕ). i ∷ is) (index 1 was.b four.b new.1 counted.1)
             (ap₂ (λ (i : ℕ) (is : List ℕ). i ∷ is) (index 2 was.c four.c new.2 counted.2)

@@ -25,7 +25,12 @@ pub fn send<W: Write>(writer: &mut W, bytes: &[u8]) -> Result<(), Broken>
 }
 
 /// Writes a word, a number, and what follows it. Where that fails, a beginning of them is written, and nothing else.
-pub(crate) fn tell_number<W: Write>(writer: &mut W, word: &[u8], number: u64, end: &[u8]) -> Result<(), Broken>
+pub(crate) fn tell_number<W: Write>(
+    writer: &mut W,
+    word: &[u8],
+    number: u64,
+    end: &[u8],
+) -> Result<(), Broken>
     ensures told { OnOk result (Appends (W.contents writer.old) (W.contents writer.new) (word.now ++ decimal number ++ end.now)) }
     ensures front { OnErr result
         (Begins (W.contents writer.old) (W.contents writer.new) (word.now ++ decimal number ++ end.now)) }

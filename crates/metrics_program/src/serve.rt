@@ -1,11 +1,11 @@
 //! The server.
 ghost use Rattle.std.specs.Prelude.{◌≡◌, [], ◌∷◌, ◌++◌, codes, decimal, map, replicate, ◌<◌, All, OnErr, OnOk, IfOk, IfSome};
-ghost use Rattle.std.specs.Prelude.{Some};
+ghost use Rattle.std.specs.Prelude.{IsSome};
 ghost use Rattle.std.specs.Io.KnownBytes.{Appends};
 ghost use Rattle.snapshot_scan.specs.Readers.{IsReaderOf};
 ghost use Rattle.snapshot_update.specs.Workers.{index_of, lists_of, IsWorkerOf};
 ghost use Rattle.registry_state.specs.Journal.{changes};
-ghost use Rattle.metric_registry.specs.Naming.{name_of};
+ghost use Rattle.metric_registry.specs.Naming.{BeginsWith, IsNamed, IsOf};
 ghost use Rattle.metrics_program.specs.Counted.{AreNewWorkers, AreReplies};
 ghost use Rattle.metrics_program.specs.Services.{IsService};
 ghost use Rattle.metrics_program.specs.Printed.{Begins, Prints, listening_line, status_of};
@@ -124,6 +124,7 @@ fn to_four(board: &Board, mut workers: Vec<Worker>) -> Four
 
 /// Answers so many connections, and tells how many replies were counted, by all workers together. None where a thread could not be
 /// started or the listener has failed.
+#[tactic(auto, using(crate::proofs::Counting::all_own))]
 fn serve_counting<B: Named + Send, T: Threads + Wait + Sync>(
     rt: &T,
     board: &Board,
@@ -134,7 +135,10 @@ fn serve_counting<B: Named + Send, T: Threads + Wait + Sync>(
 ) -> Option<u64>
     requires new { AreNewWorkers board.now workers }
     requires service { IsService board.now service }
-    requires named { B.board ≡ Some (name_of board.now) }
+    requires some { IsSome B.board }
+    requires named { IsNamed B.board board.now }
+    requires of { IsOf B.board service.registry }
+    requires begins { BeginsWith B.first service.registry.journal }
     requires first { B.first ≡ changes service.registry.journal }
     ensures { IfSome result (AreReplies board.now service.entry.metrics service.entry.registry workers) }
 {

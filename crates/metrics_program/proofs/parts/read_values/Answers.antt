@@ -1,4 +1,4 @@
-use Rattle.std.proofs.Common.{◌+◌, rules, ◌≡◌, ℕ, List, [], ◌∷◌, ◌++◌, Bor, All, map, take, refl, inl, ap, sym, subst}
+use Rattle.std.proofs.Common.{◌+◌, rules, ◌≡◌, ℕ, List, [], ◌∷◌, ◌++◌, Bor, All, map, take, refl, inl, sym, subst}
 use Rattle.std.proofs.Common.{arith}
 use Rattle.std.proofs.lemmas.List.{take_all}
 use Rattle.std.proofs.lemmas.List.Elements.{All-nil}
@@ -51,8 +51,7 @@ pub returns-clause-read : goal.returns-clause-read
 returns-clause-read c =
     let kept = c.loop-word.invariant in
     let end = c.loop-word-test.false in
-    let all = take_all c.loop-word.word-index c.deref-word-items.result.now (omega (arith, end)) in
-    (
+    let all = take_all c.loop-word.word-index c.deref-word-items.result.now (omega (arith, end)) in (
       map now c.deref-word-items.result.now,
       kept.0,
       subst (λ (l : List (Bor (List ℕ))). AreWritten c.loop-word.read.items (map now l)) all kept.1,

@@ -1,3 +1,6 @@
+use Rattle.std.proofs.Common.{refl, ap, sym, ◌∙◌}
+use Rattle.register_rule.specs.Seats.{board_id}
+use Rattle.metrics_program.proofs.Named.{begins_all, named_of}
 use Rattle.metrics_program.proofs.Printing.{begun_whole, broken_off, printed, printed_begun}
 use Rattle.metrics_program.proofs.serve.serve_by.Goals as goal
 
@@ -15,3 +18,17 @@ pub returns : goal.returns
 returns g c =
     let port = c.in-Ok.ensures.told in
     broken_off _ _ c.in-Ok._port port.0 (begun_whole _ _ _ port.1)
+
+pub serve_counting-requires-clause-some : goal.serve_counting-requires-clause-some
+serve_counting-requires-clause-some g c κs lives = refl
+
+pub serve_counting-requires-clause-named : goal.serve_counting-requires-clause-named
+serve_counting-requires-clause-named g c κs lives = named_of c.args.board.now c.args.board.now refl
+
+pub serve_counting-requires-clause-of : goal.serve_counting-requires-clause-of
+serve_counting-requires-clause-of g c κs lives =
+    let service = c.in-Some.ensures in
+    (named_of _ c.args.board.now service.scans, service.id ∙ ap board_id (sym service.scans))
+
+pub serve_counting-requires-clause-begins : goal.serve_counting-requires-clause-begins
+serve_counting-requires-clause-begins g c κs lives = begins_all c.in-Some.service.registry.journal

@@ -16,7 +16,8 @@ returns-in-Ok-clause-boards g c =
 
 pub returns-in-Ok-clause-scanners : goal.returns-in-Ok-clause-scanners
 returns-in-Ok-clause-scanners g c =
-    if_ok_from c.hand_out.result (λ o made. subst (λ b. All (ScansOn b) (scanners_in o)) c.in-Ok.ensures.taken.board made.scanners)
+    if_ok_from c.hand_out.result
+    (λ o made. subst (λ b. All (ScansOn b) (scanners_in o)) c.in-Ok.ensures.taken.board made.scanners)
     c.hand_out.ensures.made
 
 pub returns-in-Ok-clause-readers : goal.returns-in-Ok-clause-readers
