@@ -1,4 +1,3 @@
-use Rattle.std.proofs.KnownBytes.{Appends-kept}
 use Rattle.metrics_program.proofs.Printing.{begun_kept, begun_whole, on_err}
 use Rattle.metrics_program.proofs.serve.tell.Goals as goal
 
