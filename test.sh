@@ -4,9 +4,5 @@
 # 'N passed, 0 failed'.
 set -eu
 cd "$(dirname "$0")"
-# As many checks side by side as there are processors, and as memory holds: a check takes 4 GB at most. Unasked, rt reckons with more.
-held=$(awk '/^MemAvailable:/ { print int($2 / 4500000) + 1 }' /proc/meminfo)
-jobs=$(nproc)
-if [ "$held" -lt "$jobs" ]; then jobs=$held; fi
-RT_JOBS=${RT_JOBS:-$jobs} rt ci
+rt ci
 python3 -B checks/run.py
