@@ -36,7 +36,7 @@ MayBeRefusedBy bytes ended _ = ⊥
 abbrev pub Asks : List ℕ → (ended : Bool) → Asked → Type 0
 Asks bytes ended asked =
     ((head : RequestHead) × HeadStands bytes head × (asked ≡ asked_of head))
-    ⊎ (NoHeadStands bytes × MayBeRefusedBy bytes ended asked.refusal × (asked.body ≡ true))
+    ⊎ (NoHeadStands bytes × MayBeRefusedBy bytes ended asked.refusal × (asked.with_body ≡ true))
 
 -- no head stands whole at their front, and more bytes can make one
 pub record IsOpen (bytes : List ℕ) : Type 0 where

@@ -49,5 +49,5 @@ refusal_by hosts minor target method =
 abbrev pub asked_of : RequestHead → Asked
 asked_of head = record {
   refusal = refusal_by (hosts head) head.minor head.target head.method;
-  body = not (bytes_eq head.method (codes "HEAD"));
+  with_body = not (bytes_eq head.method (codes "HEAD"));
 }

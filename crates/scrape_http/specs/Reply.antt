@@ -45,32 +45,32 @@ head_of status len =
     ++ line []
 
 -- a head with the length of the body, and the body where it is sent
-abbrev pub reply_of : Status → (body : List ℕ) → (sent : Bool) → Reply
-reply_of status body sent = record { status = status; bytes = head_of status (length body) ++ (if sent then body else []) }
+abbrev pub reply_of : Status → (body : List ℕ) → (with_body : Bool) → Reply
+reply_of status body with_body = record { status = status; bytes = head_of status (length body) ++ (if with_body then body else []) }
 
 -- the reply of a refusal, whose body is its phrase and a line feed
-abbrev pub refused : Status → (sent : Bool) → Reply
-refused status sent = reply_of status (phrase_of status ++ codes "\n") sent
+abbrev pub refused : Status → (with_body : Bool) → Reply
+refused status with_body = reply_of status (phrase_of status ++ codes "\n") with_body
 
 -- what a source answered: a scrape, or why there is none
 abbrev pub Outcome : Type 0
 Outcome = Result Scraped NoScrape
 
 -- the reply with the text of a scrape; where there is none, the service is unavailable
-abbrev pub scraped : Outcome → (sent : Bool) → Reply
-scraped (Ok scrape) sent = reply_of Success (text scrape) sent
-scraped (Err _) sent = refused Unavailable sent
+abbrev pub scraped : Outcome → (with_body : Bool) → Reply
+scraped (Ok scrape) with_body = reply_of Success (text scrape) with_body
+scraped (Err _) with_body = refused Unavailable with_body
 
 -- The reply to what is asked for: a refusal, for which no source is asked, or else what the source answered.
-abbrev pub Replies : (refusal : Option Status) → (sent : Bool) → Option Outcome → Reply → Type 0
-Replies (Some status) sent None reply = reply ≡ refused status sent
-Replies (Some status) sent (Some outcome) reply = ⊥
-Replies None sent None reply = ⊥
-Replies None sent (Some outcome) reply = reply ≡ scraped outcome sent
+abbrev pub Replies : (refusal : Option Status) → (with_body : Bool) → Option Outcome → Reply → Type 0
+Replies (Some status) with_body None reply = reply ≡ refused status with_body
+Replies (Some status) with_body (Some outcome) reply = ⊥
+Replies None with_body None reply = ⊥
+Replies None with_body (Some outcome) reply = reply ≡ scraped outcome with_body
 
 -- The reply to the bytes of a connection, of which no more come where they have ended, and to what the source answered, where it
 -- was asked: none to no byte, and else the reply to what the bytes ask for.
 abbrev pub IsReply : List ℕ → (ended : Bool) → Option Outcome → Option Reply → Type 0
 IsReply bytes ended outcome None = (bytes ≡ []) × (ended ≡ true) × (outcome ≡ None)
 IsReply bytes ended outcome (Some reply) =
-    (0 < length bytes) × (asked : Asked) × Asks bytes ended asked × Replies asked.refusal asked.body outcome reply
+    (0 < length bytes) × (asked : Asked) × Asks bytes ended asked × Replies asked.refusal asked.with_body outcome reply

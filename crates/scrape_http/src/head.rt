@@ -62,6 +62,6 @@ pub(crate) fn asked_of(bytes: &[u8], head: &RequestSpans, fields: &[HeaderSpan])
     let method = head.method.of(bytes);
     Asked {
         refusal: refusal(hosts, head.version, head.path.of(bytes), method),
-        body: method != Method::HEAD.as_str().as_bytes(),
+        with_body: method != Method::HEAD.as_str().as_bytes(),
     }
 }

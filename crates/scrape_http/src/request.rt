@@ -24,16 +24,16 @@ pub(crate) struct Asked {
     /// Why it is refused; where it is not, it asks for a scrape.
     pub(crate) refusal: Option<Status>,
     /// Whether the body of the reply is to be sent.
-    pub(crate) body: bool,
+    pub(crate) with_body: bool,
 }
 
 /// The refusal of bytes that are no head.
 fn refused(status: Status) -> Asked
-    ensures { result ≡ record { refusal = Some status; body = true } }
+    ensures { result ≡ record { refusal = Some status; with_body = true } }
 {
     Asked {
         refusal: Some(status),
-        body: true,
+        with_body: true,
     }
 }
 

@@ -86,31 +86,31 @@ fn send_text<W: Write>(
 fn send_refusal<W: Write>(
     writer: &mut Watched<W>,
     status: Status,
-    body: bool,
+    with_body: bool,
 ) -> Result<Served, WireFault>
     requires { writer.old.failed ≡ false }
-    ensures sends { Sends (W.contents writer.old.inner) (W.contents writer.new.inner) (Some (refused status body)) result }
+    ensures sends { Sends (W.contents writer.old.inner) (W.contents writer.new.inner) (Some (refused status with_body)) result }
     ensures failed { writer.new.failed ≡ is_write_failed result }
     ensures flushed { IsOk result → writer.new.flushed ≡ true }
 {
-    send_bytes(writer, status, refusal_text(status, body).bytes())
+    send_bytes(writer, status, refusal_text(status, with_body).bytes())
 }
 
 /// Sends the reply of a scrape.
 fn send_scrape<W: Write>(
     writer: &mut Watched<W>,
     scrape: &Scrape,
-    body: bool,
+    with_body: bool,
 ) -> Result<Served, WireFault>
     requires { writer.old.failed ≡ false }
-    ensures sends { Sends (W.contents writer.old.inner) (W.contents writer.new.inner) (Some (scraped (Ok scrape.now) body))
+    ensures sends { Sends (W.contents writer.old.inner) (W.contents writer.new.inner) (Some (scraped (Ok scrape.now) with_body))
         result }
     ensures failed { writer.new.failed ≡ is_write_failed result }
     ensures flushed { IsOk result → writer.new.flushed ≡ true }
 {
     let len = text_len(scrape);
     let head = head_of(Status::Success, len);
-    if body {
+    if with_body {
         send_text(writer, head.bytes(), scrape, len)
     } else {
         send_bytes(writer, Status::Success, head.bytes())
@@ -121,16 +121,16 @@ fn send_scrape<W: Write>(
 fn send_answer<W: Write>(
     writer: &mut Watched<W>,
     answer: &Result<Scrape, NoScrape>,
-    body: bool,
+    with_body: bool,
 ) -> Result<Served, WireFault>
     requires { writer.old.failed ≡ false }
-    ensures sends { Sends (W.contents writer.old.inner) (W.contents writer.new.inner) (Some (scraped answer.now body)) result }
+    ensures sends { Sends (W.contents writer.old.inner) (W.contents writer.new.inner) (Some (scraped answer.now with_body)) result }
     ensures failed { writer.new.failed ≡ is_write_failed result }
     ensures flushed { IsOk result → writer.new.flushed ≡ true }
 {
     match answer {
-        Ok(scrape) => send_scrape(writer, scrape, body),
-        Err(_) => send_refusal(writer, Status::Unavailable, body),
+        Ok(scrape) => send_scrape(writer, scrape, with_body),
+        Err(_) => send_refusal(writer, Status::Unavailable, with_body),
     }
 }
 
@@ -174,7 +174,7 @@ pub fn serve_one<R: Read, W: Write, S: ScrapeFrom>(
 {
     let asked = hear(reader)?;
     match asked.refusal {
-        Some(status) => send_refusal(writer, status, asked.body),
-        None => send_answer(writer, &source.scrape(), asked.body),
+        Some(status) => send_refusal(writer, status, asked.with_body),
+        None => send_answer(writer, &source.scrape(), asked.with_body),
     }
 }

@@ -118,12 +118,12 @@ pub(crate) fn head_of(status: Status, len: usize) -> ShortText
 }
 
 /// All bytes of a refusal, with its body or without.
-pub(crate) fn refusal_text(status: Status, body: bool) -> ShortText
-    ensures { result ≡ (refused status body).bytes }
+pub(crate) fn refusal_text(status: Status, with_body: bool) -> ShortText
+    ensures { result ≡ (refused status with_body).bytes }
 {
     let phrase = status.phrase();
     let mut reply = head_of(status, phrase.len() + 1);
-    if !body {
+    if !with_body {
         return reply;
     }
     reply.put(phrase.as_bytes());

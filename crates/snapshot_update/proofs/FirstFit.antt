@@ -46,7 +46,7 @@ module _ (n c h g index : ℕ) (row : List ℕ) (memory : ScanMemory n c h g) (i
     counts = refl;
     sums = λ k lt. ap (λ (l : List ℕ). slice_index l k) zeros ∙ zero_in w k;
     wide = wide;
-    own_row = λ _. ap (λ (l : List Version). get_elem? l index) rows
+    row_known = λ _. ap (λ (l : List Version). get_elem? l index) rows
         ∙ (same_at n index (record { number = 0; row = replicate w 0 }) inside
         ∙ (λ z. some (record { number = 0; row = sym zeros z })));
     ready = record { kept = sym rows; rest = refl };

@@ -177,13 +177,13 @@ module _ (n c h g i : ℕ) (row : List ℕ) (memory memory' : ScanMemory n c h g
   totals_are : (q : Bool) → ended ≡ Direct q → (answer_of memory' ended).totals ≡ sums_of memory'
   totals_are q e = ap (λ (x : ScanEnd). (answer_of memory' x).totals) e
 
-  next_still : IsStill ended im.own im.late late'
+  next_still : IsStill ended im.row_known im.late late'
       → IsNext n c h g i (length m.work.made) row memory' ended (record im { late = late' })
   next_still still = let q = quiet still.quiet in record {
     direct = (true, still.quiet);
     numbers = q.2;
     totals = totals_are true still.quiet;
-    own = ap (λ (l : List Version). get_elem? l i) q.0 ∙ fit.own_row still.remembered;
+    own = ap (λ (l : List Version). get_elem? l i) q.0 ∙ fit.row_known still.remembered;
     images = subst (λ (x : ChangedView). AreImages (depth n (width c h g)) (next_words row (rows_of memory') (sums_of memory'))
         (record im { late = x })) (sym still.same)
         (subst (λ (l : List ℕ). AreImages (depth n (width c h g)) l im)
@@ -209,7 +209,7 @@ module _ (n c h g i : ℕ) (row : List ℕ) (memory memory' : ScanMemory n c h g
             memory'.sizes.1 listed f.lists fit.images;
       }
 
-  pub next_is : (i' number : ℕ) → i' ≡ i → number ≡ length m.work.made → IsStill ended im.own im.late late'
+  pub next_is : (i' number : ℕ) → i' ≡ i → number ≡ length m.work.made → IsStill ended im.row_known im.late late'
       ⊎ IsFollowed n c h g i' number memory' ended im.late late'
       → IsNext n c h g i (length m.work.made) row memory' ended (record im { late = late' })
   next_is i' number at count either = ⊎_elim next_still

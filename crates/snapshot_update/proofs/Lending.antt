@@ -38,7 +38,7 @@ raised_fit n c h g i k row memory im seen m f = record {
   counts = f.counts;
   sums = f.sums;
   wide = f.wide;
-  own_row = f.own_row;
+  row_known = f.row_known;
   ready = record { kept = f.ready.kept; rest = f.ready.rest };
   hidden_is = f.hidden_is;
   shown_is = f.shown_is;

@@ -15,13 +15,13 @@ use Rattle.snapshot_update.proofs.Fitting.{rows_many}
 pub scanned_fit : (n c h g index number : ℕ) (row : List ℕ) (memory memory' : ScanMemory n c h g) (im : BufferImages)
     (late : ChangedView) (m : Member) (s : ScanLog)
     → IsFit n c h g index number row memory im m → IsReady s memory' → late.all ≡ true → late.items ≡ im.late.items
-    → IsFit n c h g index number row memory' (record im { late = late; own = false }) (record m { scan = s })
+    → IsFit n c h g index number row memory' (record im { late = late; row_known = false }) (record m { scan = s })
 scanned_fit n c h g index number row memory memory' im late m s fit ready all items = record {
   who = fit.who;
   counts = fit.counts;
   sums = fit.sums;
   wide = fit.wide;
-  own_row = λ known. absurd (cc);
+  row_known = λ known. absurd (cc);
   ready = ready;
   hidden_is = fit.hidden_is;
   shown_is = fit.shown_is;

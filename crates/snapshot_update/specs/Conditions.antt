@@ -51,10 +51,10 @@ pub record MayMakeVersion {N C H G : ℕ} (b : Board N C H G) (s : WorkSeat) (ro
 
 -- the new row of worker `own` may be remembered: where it `is_known`, it differs from the remembered one at the touched words
 -- alone
-pub record MayLearn {N C H G : ℕ} (memory : ScanMemory N C H G) (own : ℕ) (row : List ℕ) (im : BufferImages)
+pub record MayLearn {N C H G : ℕ} (memory : ScanMemory N C H G) (index : ℕ) (row : List ℕ) (im : BufferImages)
     (is_known : Bool) : Type 0 where
   pub geometry : IsGeometry N C H G
-  pub inside : own < N
+  pub inside : index < N
   pub touched : AreInside (width C H G) im.touched
-  pub known : is_known ≡ true → (v : Version) → get_elem? (rows_of memory) own ≡ some v → (k : ℕ) → k < width C H G
+  pub known : is_known ≡ true → (v : Version) → get_elem? (rows_of memory) index ≡ some v → (k : ℕ) → k < width C H G
       → ¬ (Contains im.touched.items k) → slice_index v.row k ≡ slice_index row k

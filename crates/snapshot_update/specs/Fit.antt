@@ -37,14 +37,14 @@ pub record AreImages (b : ℕ) (next : List ℕ) (im : BufferImages) : Type 0 wh
   pub late_inside : AreInside b im.late
 
 -- the member is the worker of this index, which has published `number` times; this is its row, and these are images of its
--- buffers. Where `own` is true, the row that is remembered of its own segment is this row
+-- buffers. Where `row_known` is true, the row that is remembered of its own segment is this row
 pub record IsFit (n c h g index number : ℕ) (row : List ℕ) (memory : ScanMemory n c h g) (im : BufferImages) (m : Member)
     : Type 0 where
   pub who : m.who ≡ Worker index
   pub counts : number ≡ length m.work.made
   pub sums : (k : ℕ) → k < width c h g → slice_index row k ≡ total (sum_ops c h) m.work.made k
   pub wide : length row ≡ width c h g
-  pub own_row : im.own ≡ true → get_elem? (rows_of memory) index ≡ some (record { number = number; row = row })
+  pub row_known : im.row_known ≡ true → get_elem? (rows_of memory) index ≡ some (record { number = number; row = row })
   pub ready : IsReady m.scan memory
   pub hidden_is : m.work.hidden ≡ im.hidden.items
   pub shown_is : m.work.shown ≡ im.shown.items

@@ -8,9 +8,9 @@ use Rattle.snapshot_scan.specs.ChangedItems.{ChangedView}
 use Rattle.snapshot_scan.specs.ScanMemories.{moved_in, answer_of}
 
 -- the scan found all that was remembered, and the worker's own row was: nothing more is late
-pub record IsStill (ended : ScanEnd) (own : Bool) (late late' : ChangedView) : Type 0 where
+pub record IsStill (ended : ScanEnd) (row_known : Bool) (late late' : ChangedView) : Type 0 where
   pub quiet : ended ≡ Direct true
-  pub remembered : own ≡ true
+  pub remembered : row_known ≡ true
   pub same : late' ≡ late
 
 -- n numbers from the item `first` on are listed, too, and no more
@@ -31,8 +31,8 @@ pub record ListsMoved (n w : ℕ) (moved old new : ChangedView) : Type 0 where
 
 -- the scan ended direct, and found the number of its own worker; all numbers of the vector are late, too, and so are the totals
 -- that it moved
-pub record IsFollowed (n c h g own number : ℕ) (memory : ScanMemory n c h g) (ended : ScanEnd) (late late' : ChangedView) : Type 0
+pub record IsFollowed (n c h g index number : ℕ) (memory : ScanMemory n c h g) (ended : ScanEnd) (late late' : ChangedView) : Type 0
   where
     pub direct : (quiet : Bool) × (ended ≡ Direct quiet)
-    pub found : slice_index (answer_of memory ended).vector own ≡ number
+    pub found : slice_index (answer_of memory ended).vector index ≡ number
     pub lists : ListsMoved n (width c h g) (moved_in memory) late late'

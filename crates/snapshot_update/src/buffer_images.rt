@@ -17,7 +17,7 @@ pub(crate) struct BufferImages {
     /// Where the shown one may differ from the version that an update of nothing would publish now.
     pub(crate) late: ChangedItems,
     /// Whether the row that is remembered of the worker's own segment is known to be its row.
-    pub(crate) own: bool,
+    pub(crate) row_known: bool,
     /// The words of the row that the last list of operations touched.
     pub(crate) touched: ChangedItems,
 }
@@ -35,7 +35,7 @@ impl BufferImages {
             shown: vec![in alloc; 0u64; words]?,
             recent: ChangedItems::new(alloc)?,
             late: ChangedItems::new(alloc)?,
-            own: true,
+            row_known: true,
             touched: ChangedItems::new(alloc)?,
         })
     }

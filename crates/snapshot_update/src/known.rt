@@ -14,7 +14,7 @@ use segment_layout::{Item, item_at};
 use snapshot_scan::{ChangedItems, ScanEnd, ScanMemory};
 
 /// Whether the version that an update publishes is known to differ from what the shown buffer holds at no items but the late
-/// and the touched ones. What the scan found anew is listed as late, too. `own` says that the row that was remembered of the
+/// and the touched ones. What the scan found anew is listed as late, too. `row_known` says that the row that was remembered of the
 /// worker's own segment is known to be its row.
 #[inline(always)]
 pub(crate) fn know_next<const N: usize, const C: usize, const H: usize, const G: usize>(
@@ -22,18 +22,18 @@ pub(crate) fn know_next<const N: usize, const C: usize, const H: usize, const G:
     memory: &ScanMemory<N, C, H, G>,
     late: &mut ChangedItems,
     touched: &ChangedItems,
-    own: bool,
+    row_known: bool,
     ended: ScanEnd,
 ) -> bool
     requires geometry { IsGeometry N C H G }
     requires inside { index_of seat.now < N }
     requires words { AreInside (width C H G) (moved_in memory.now) }
     ensures touched { result ≡ true → touched.now.all ≡ false }
-    ensures known { result ≡ true → IsStill ended own late.old late.new
+    ensures known { result ≡ true → IsStill ended row_known late.old late.new
         ⊎ IsFollowed N C H G (index_of seat.now) (length (worker_of seat.now).work.made) memory.now ended late.old late.new }
     ensures unknown { result ≡ false → late.new ≡ late.old }
 {
-    let still = is_quiet(ended) & !touched.is_all() & own;
+    let still = is_quiet(ended) & !touched.is_all() & row_known;
     if still {
         return true;
     }

@@ -33,18 +33,18 @@ pub(crate) fn note_range(to: &mut ChangedItems, first: usize, count: usize)
 pub(crate) fn list_late(
     late: &mut ChangedItems,
     touched: &ChangedItems,
-    own: usize,
+    number_item: usize,
     lent: usize,
     known: bool,
 )
     requires room { (j : ℕ) → Contains touched.now.items j → j + lent < 18446744073709551616 }
     ensures unknown { known ≡ false → late.new.all ≡ true }
-    ensures own { late.new.all ≡ false → Contains late.new.items own }
+    ensures number { late.new.all ≡ false → Contains late.new.items number_item }
     ensures lent { late.new.all ≡ false → (k : ℕ) → Contains touched.now.items k → Contains late.new.items (k + lent) }
-    ensures others { (j : ℕ) → Contains late.new.items j → (j ≡ own) ⊎ ((k : ℕ) × Contains touched.now.items k × (j ≡ k + lent)) }
+    ensures others { (j : ℕ) → Contains late.new.items j → (j ≡ number_item) ⊎ ((k : ℕ) × Contains touched.now.items k × (j ≡ k + lent)) }
 {
     late.clear();
-    late.note(own);
+    late.note(number_item);
     note_each(late, touched, lent);
     if !known {
         late.note_all();

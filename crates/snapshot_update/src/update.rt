@@ -57,7 +57,7 @@ fn fill_version<const N: usize, const C: usize, const H: usize, const G: usize>(
     ensures hidden { images.new.hidden.items ≡ version_words row.now (cond result 1 0) (answer_of memory.now ended).vector
         (answer_of memory.now ended).totals }
     ensures others { (images.new.shown.items ≡ images.old.shown.items) × (images.new.late ≡ images.old.late)
-        × (images.new.touched ≡ images.old.touched) × (images.new.own ≡ images.old.own) }
+        × (images.new.touched ≡ images.old.touched) × (images.new.row_known ≡ images.old.row_known) }
     ensures recent { DifferAt images.new.recent images.old.shown.items images.new.hidden.items }
     ensures inside { AreInside (depth N (width C H G)) images.new.recent }
     ensures view { result ≡ true → HasView ended }
@@ -85,22 +85,22 @@ fn fill_version<const N: usize, const C: usize, const H: usize, const G: usize>(
 #[inline(always)]
 fn turn<const N: usize, const C: usize, const H: usize, const G: usize>(
     images: &mut BufferImages,
-    own: usize,
+    index: usize,
     known: bool,
 )
     requires geometry { IsGeometry N C H G }
-    requires inside { own < N }
+    requires inside { index < N }
     requires touched { AreInside (width C H G) images.old.touched }
     ensures buffers { (images.new.hidden.items ≡ images.old.shown.items) × (images.new.shown.items ≡ images.old.hidden.items) }
     ensures others { (images.new.recent ≡ images.old.recent) × (images.new.touched ≡ images.old.touched) }
     ensures unknown { known ≡ false → images.new.late.all ≡ true }
-    ensures own { images.new.late.all ≡ false → Contains images.new.late.items (width C H G + 1 + own) }
+    ensures number { images.new.late.all ≡ false → Contains images.new.late.items (width C H G + 1 + index) }
     ensures lent { images.new.late.all ≡ false → (k : ℕ) → Contains images.old.touched.items k
         → Contains images.new.late.items (width C H G + 1 + N + k) }
     ensures inside { AreInside (depth N (width C H G)) images.new.late }
 {
     swap(&mut images.hidden, &mut images.shown);
-    let number = item_at(N, C, H, G, Item::Vector { worker: own });
+    let number = item_at(N, C, H, G, Item::Vector { worker: index });
     let lent = item_at(N, C, H, G, Item::Flag) + 1 + N;
     list_late(&mut images.late, &images.touched, number, lent, known);
 }
@@ -109,22 +109,22 @@ fn turn<const N: usize, const C: usize, const H: usize, const G: usize>(
 #[inline(always)]
 fn learn<const N: usize, const C: usize, const H: usize, const G: usize>(
     memory: &mut ScanMemory<N, C, H, G>,
-    own: usize,
+    index: usize,
     number: u64,
     row: &Row<C, H, G>,
     images: &BufferImages,
     known: bool,
 )
-    requires { MayLearn memory.old own row.now images.now known }
-    ensures rows { rows_of memory.new ≡ slice_set (rows_of memory.old) own (record { number = number; row = row.now }) }
-    ensures sums { (v : version) → get_elem? (rows_of memory.old) own ≡ some v → (k : ℕ) → k < width C H G
+    requires { MayLearn memory.old index row.now images.now known }
+    ensures rows { rows_of memory.new ≡ slice_set (rows_of memory.old) index (record { number = number; row = row.now }) }
+    ensures sums { (v : version) → get_elem? (rows_of memory.old) index ≡ some v → (k : ℕ) → k < width C H G
         → slice_index (sums_of memory.new) k + slice_index v.row k ≡ slice_index (sums_of memory.old) k + slice_index row.now k }
 {
     if known {
-        memory.remember_at(own, number, row, images.touched.as_slice());
+        memory.remember_at(index, number, row, images.touched.as_slice());
         return;
     }
-    memory.remember(own, number, row);
+    memory.remember(index, number, row);
 }
 
 /// An update: the operations are added to the row, a scan is made, and the version is published with the view of the scan, or
@@ -149,7 +149,7 @@ pub(crate) fn update<const N: usize, const C: usize, const H: usize, const G: us
         images.new (worker_of seat.new) }
     ensures updated { OnOk result (IsUpdated N C H G (index_of seat.old) ops.now (worker_of seat.old) (worker_of seat.new)) }
     ensures accepted { OnOk result (Accepts C H G (total (sum_ops C H) (worker_of seat.old).work.made) ops.now) }
-    ensures own_row { OnOk result (images.new.own ≡ true) }
+    ensures row_known { OnOk result (images.new.row_known ≡ true) }
     ensures fault { IfErr result (IsOpFault C H G (total (sum_ops C H) (worker_of seat.old).work.made) ops.now) }
     ensures unchanged { OnErr result ((seat.new ≡ seat.old) × (row.new ≡ row.old) × (memory.new ≡ memory.old)
         × (images.new ≡ images.old)) }
@@ -162,15 +162,15 @@ pub(crate) fn update<const N: usize, const C: usize, const H: usize, const G: us
         memory,
         &mut images.late,
         &images.touched,
-        images.own,
+        images.row_known,
         ended,
     );
     let lends = fill_version(board, seat, row, memory, images, ended, known);
     board.publish(seat, ops, lends);
-    let own = seat.worker();
-    turn::<N, C, H, G>(images, own, known);
+    let index = seat.worker();
+    turn::<N, C, H, G>(images, index, known);
     let number = seat.number();
-    learn(memory, own, number, row, images, known);
-    images.own = true;
+    learn(memory, index, number, row, images, known);
+    images.row_known = true;
     Ok(())
 }

@@ -324,7 +324,7 @@ impl<const N: usize, const C: usize, const H: usize, const G: usize> Worker<N, C
         let end = scan_to(board, seat, &mut self.memory, out);
         // The scan may have remembered other rows, of which no list was kept: the next update compares all.
         self.images.late.note_all();
-        self.images.own = false;
+        self.images.row_known = false;
         end
     }
 

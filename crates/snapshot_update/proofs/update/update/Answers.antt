@@ -140,7 +140,7 @@ learn-requires g c =
     let im = c.args.images.now in
     let row = c.args.row.now in let row' = c.try_apply.new.self in let adds = c.in_ok-try_apply.ensures.ok in
     let i : ℕ = index_of c.args.seat.now in
-    let same : c.worker-own.result ≡ i = c.worker-own.ensures.index
+    let same : c.worker-index.result ≡ i = c.worker-index.ensures.index
     ∙ (c.publish.ensures.index ∙ (f.ensures.index ∙ s.ensures.index)) in
     let touched : c.turn.new.images.touched ≡ c.touch.new.touched = c.turn.ensures.others.1 ∙ f.ensures.others.2 in (
       search rules,
@@ -191,7 +191,7 @@ returns-clause-fit g c =
     let is : worker_of f.new.seat ≡ ready_member f.new.images.hidden.items m c' = f.ensures.member
     ∙ ap (with_hidden f.new.images.hidden.items) s.ensures.others in
     let i : ℕ = index_of f.new.seat in
-    let own : c.worker-own.result ≡ i = c.worker-own.ensures.index ∙ c.publish.ensures.index in
+    let own : c.worker-index.result ≡ i = c.worker-index.ensures.index ∙ c.publish.ensures.index in
     let m3 = worker_of c.publish.new.seat in
     let is3 : m3 ≡ published w i ops f.result (ready_member f.new.images.hidden.items m c') = c.publish.ensures.member
     ∙ ap (published w i ops f.result) is in
@@ -203,11 +203,11 @@ returns-clause-fit g c =
     let target = version_words row' (cond f.result 1 0) a.vector a.totals in
     let hidden : f.new.images.hidden.items ≡ target = f.ensures.hidden in
     let v : Version = record { number = c.number-number.result; row = row' } in
-    let rows' : rows_of c.learn.new.memory ≡ set (rows_of memory) c.worker-own.result v = c.learn.ensures.rows in
-    let lt : c.worker-own.result < n = (let h = c.publish.ensures.own.1 in let e = c.publish.ensures.index in
+    let rows' : rows_of c.learn.new.memory ≡ set (rows_of memory) c.worker-index.result v = c.learn.ensures.rows in
+    let lt : c.worker-index.result < n = (let h = c.publish.ensures.own.1 in let e = c.publish.ensures.index in
     omega (arith, h, own, e)) in
     let many = rows_many n g.row.C g.row.H g.row.G memory in
-    let own' : c.worker-own.result ≡ index_of c.args.seat.now = own ∙ (f.ensures.index ∙ s.ensures.index) in
+    let own' : c.worker-index.result ≡ index_of c.args.seat.now = own ∙ (f.ensures.index ∙ s.ensures.index) in
     let taken : take w f.new.images.hidden.items ≡ row' = ap (take w) hidden
     ∙ row_taken w n row' (cond f.result 1 0) a.vector a.totals wide' long.0 in
     let after = c.learn.new.memory in
@@ -222,9 +222,9 @@ returns-clause-fit g c =
           ∙ sym (ap (λ (l : List PublishEntry). total (sum_ops g.row.C g.row.H) l k) made
           ∙ total_last (sum_ops g.row.C g.row.H) m.work.made last k));
       wide = wide';
-      own_row = λ _. (λ z. get_elem? (rows' z) (index_of c.publish.new.seat))
-          ∙ (ap (get_elem? (set (rows_of memory) c.worker-own.result v)) (sym c.worker-own.ensures.index)
-          ∙ (set_there (rows_of memory) c.worker-own.result v (omega (arith, lt, many))
+      row_known = λ _. (λ z. get_elem? (rows' z) (index_of c.publish.new.seat))
+          ∙ (ap (get_elem? (set (rows_of memory) c.worker-index.result v)) (sym c.worker-index.ensures.index)
+          ∙ (set_there (rows_of memory) c.worker-index.result v (omega (arith, lt, many))
           ∙ (λ z. some (record { number = c.number-number.ensures z; row = row' }))));
       ready = record {
         kept = ap (λ (x : Member). x.scan.kept) is3
@@ -256,19 +256,19 @@ returns-clause-fit g c =
             let yes' : f.result ≡ true = lends_direct f.result s.result next.direct.0 f.ensures.none next.direct.1 in
             let words : c.turn.new.images.shown.items ≡ version_words row' 1 a.vector a.totals = c.turn.ensures.buffers.1
             ∙ (hidden ∙ ap (λ (t : Bool). version_words row' (cond t 1 0) a.vector a.totals) yes') in
-            let own_at : get_elem? (rows_of memory) c.worker-own.result ≡ some
+            let own_at : get_elem? (rows_of memory) c.worker-index.result ≡ some
             (record { number = length m.work.made; row = row }) = ap (get_elem? (rows_of memory)) own' ∙ next.own in
             subst (λ (x : List Version). DifferAt c.turn.new.images.late c.turn.new.images.shown.items
             (next_words row' x (sums_of after))) (sym rows')
             (subst (λ (x : List ℕ). DifferAt c.turn.new.images.late x
-            (next_words row' (set (rows_of memory) c.worker-own.result v) (sums_of after))) (sym words)
+            (next_words row' (set (rows_of memory) c.worker-index.result v) (sums_of after))) (sym words)
             (late_words w n row row' (rows_of memory) (sums_of memory) a.vector a.totals wide wide' many long.0 next.numbers
             next.totals f.new.images.touched.items
             (λ k lt' none. let e = adds.sums k in
             let z = c.touch.ensures.rises listed k
             (λ has. none (subst (λ (t : ChangedView). Contains t.items k) (sym touched) has)) in omega (arith, e, z))
-            c.worker-own.result v (sums_of after) c.turn.new.images.late (c.learn.ensures.sums _ own_at) after.sizes.1
-            c.turn.ensures.own c.turn.ensures.lent)))
+            c.worker-index.result v (sums_of after) c.turn.new.images.late (c.learn.ensures.sums _ own_at) after.sizes.1
+            c.turn.ensures.number c.turn.ensures.lent)))
             (λ unknown listed. absurd (let h = sym (c.turn.ensures.unknown unknown) ∙ listed in cc));
         late_inside = c.turn.ensures.inside;
       };
