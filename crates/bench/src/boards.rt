@@ -20,7 +20,7 @@ struct Listing<'a, const N: usize, const C: usize, const H: usize, const G: usiz
     board: &'a Board<N, C, H, G>,
     worker: Worker<N, C, H, G>,
     ops: [Op; 100],
-    ghost own: { IsWorkerOf board.now worker } by { Prim.hlevel props },
+    ghost of_board: { IsWorkerOf board.now worker } by { Prim.hlevel props },
 }
 
 impl<'a, const N: usize, const C: usize, const H: usize, const G: usize> Listing<'a, N, C, H, G> {

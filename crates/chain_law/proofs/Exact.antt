@@ -14,7 +14,7 @@ use Rattle.register_rule.specs.declared.view.Who.TheVariants.{Worker as is_worke
 use Rattle.register_rule.specs.Members.{first_of}
 use Rattle.register_rule.specs.Rule.{AreApart}
 use Rattle.register_rule.specs.SoundScans.{IsSound, IsOneMoment}
-use Rattle.register_rule.specs.Sums.{total}
+use Rattle.register_rule.specs.Sums.{word_after}
 use Rattle.register_rule.specs.Told.{AreRuled}
 use Rattle.register_rule.proofs.Moments.{length_tab}
 use Rattle.snapshot_scan.specs.declared.reader.Reader.{Reader}
@@ -126,7 +126,7 @@ module _ {N C H G : ℕ} (place : ℕ) (vs ws us : List (Worker N C H G)) (r1 r2
     -- all that the rule says of one of them
     owned : (p : ℕ) (v w : Worker N C H G) (l : IsLentFrom (place + p) v w r1) → (index_of w < N)
         × (l.member.work.made ≡ ruled.made (index_of w))
-    owned p v w l = let o = ruled.own (place + p) (index_of w) l.member (at_place p v w l) l.lent.there.2 in (o.0, o.1)
+    owned p v w l = let o = ruled.workers (place + p) (index_of w) l.member (at_place p v w l) l.lent.there.2 in (o.0, o.1)
 
     module _ (back : AreBackFrom (length ws) ws us r2) (many : length us ≡ length ws) where
       pub are_same : AreSame vs us
@@ -163,7 +163,7 @@ module _ {N C H G : ℕ} (place : ℕ) (vs ws us : List (Worker N C H G)) (r1 r2
             of_who (is_reader k) is = absurd (r3.lent 0 k m at is)
             of_who (is_worker i) is =
                 let t = left i m (1, behind_at (members_with r3) 0 m at, is) in
-                let low = (ruled.own t.0.0 i m t.0.1 is).0 in let (p, v, its, same) = all i low in
+                let low = (ruled.workers t.0.0 i m t.0.1 is).0 in let (p, v, its, same) = all i low in
                 let h = at_below vs p v its in let w = get_or ws p v in let now = there ws p v (omega (arith, h, long)) in
                 absurd (t.1 p w (omega (arith, h, long)) now ((lent p v w h its now).index ∙ same))
 
@@ -229,8 +229,8 @@ module _ {N C H G : ℕ} (place : ℕ) (vs ws us : List (Worker N C H G)) (r1 r2
       is_settled = record {
         vector = λ p v at. number p v at ∙ ap some (sym (length-map (member_of v).work.made ops_in));
         totals = λ k lt.
-            let f = λ (x : ℕ). total (sum_ops C H) (ruled.made x) k in
-            let e = all_sum C H k f vs (λ p v at. ap (λ (m : List PublishEntry). total (sum_ops C H) m k) (made_is p v at).1) in
+            let f = λ (x : ℕ). word_after (sum_ops C H) (ruled.made x) k in
+            let e = all_sum C H k f vs (λ p v at. ap (λ (m : List PublishEntry). word_after (sum_ops C H) m k) (made_is p v at).1) in
             let d = in_any_order f 0 N (map index_of vs) once
             (λ x h. let t = from_map index_of vs h.0 x h.1 in let low = (made_is h.0 t.0 t.1).0 in let is = t.2 in
             (omega arith, omega (arith, low, is)))

@@ -52,8 +52,8 @@ pub(crate) fn lend_all<const N: usize, const C: usize, const H: usize, const G: 
     reader: &mut Reader<N, C, H, G>,
     workers: &mut [Worker<N, C, H, G>],
 )
-    requires own { IsReaderOf board.now reader.old × All (IsWorkerOf board.now) workers.old }
-    ensures own { IsReaderOf board.now reader.new }
+    requires of_board { IsReaderOf board.now reader.old × All (IsWorkerOf board.now) workers.old }
+    ensures of_board { IsReaderOf board.now reader.new }
     ensures index { reader_index reader.new ≡ reader_index reader.old }
     ensures scan { HasSeenMore (scan_by reader.old) (scan_by reader.new) }
     ensures lent { AreLentFrom (length (members_with reader.old)) (length workers.old) workers.old workers.new reader.new }
@@ -69,10 +69,10 @@ pub(crate) fn take_all<const N: usize, const C: usize, const H: usize, const G: 
     reader: &mut Reader<N, C, H, G>,
     workers: &mut [Worker<N, C, H, G>],
 )
-    requires own { IsReaderOf board.now reader.old }
+    requires of_board { IsReaderOf board.now reader.old }
     requires lent { AreLent 0 workers.old reader.old }
     requires distinct { AreDistinct workers.old }
-    ensures own { IsReaderOf board.now reader.new × All (IsWorkerOf board.now) workers.new }
+    ensures of_board { IsReaderOf board.now reader.new × All (IsWorkerOf board.now) workers.new }
     ensures index { reader_index reader.new ≡ reader_index reader.old }
     ensures scan { scan_by reader.new ≡ scan_by reader.old }
     ensures back { AreBackFrom (length workers.old) workers.old workers.new reader.old }

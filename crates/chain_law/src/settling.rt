@@ -30,8 +30,8 @@ pub fn settle<const N: usize, const C: usize, const H: usize, const G: usize>(
     workers: &mut [Worker<N, C, H, G>],
     out: &mut Snapshot<N, C, H, G>,
 ) -> Result<(), NotAll>
-    requires own { IsReaderOf board.now reader.old × All (IsWorkerOf board.now) workers.old }
-    ensures own { IsReaderOf board.now reader.new × All (IsWorkerOf board.now) workers.new }
+    requires of_board { IsReaderOf board.now reader.old × All (IsWorkerOf board.now) workers.old }
+    ensures of_board { IsReaderOf board.now reader.new × All (IsWorkerOf board.now) workers.new }
     ensures index { reader_index reader.new ≡ reader_index reader.old }
     ensures same { AreSame workers.old workers.new }
     ensures recorded { OnOk result ((scan_by reader.new).recorded ≡ (scan_by reader.old).recorded ++ as_answer out.new ∷ []) }

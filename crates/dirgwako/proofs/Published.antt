@@ -4,7 +4,7 @@ use mathlib.Core.Option.{some, some-injective, some-ne-none}
 use lib.ListN.{get_elem?}
 use Rattle.std.proofs.Math.ListN.{drop_of_length-le}
 use Rattle.ledger_core.specs.Ops.{sum_ops}
-use Rattle.register_rule.specs.Sums.{total}
+use Rattle.register_rule.specs.Sums.{word_after}
 use Rattle.snapshot_update.specs.declared.worker.Worker.{Worker}
 use Rattle.snapshot_update.specs.Workers.{index_of, member_of}
 use Rattle.register_rule.proofs.Words.{at_below}
@@ -35,10 +35,10 @@ set_here (x ∷ l) (suc i) a lt = set_here l i a (omega (arith, lt))
 module _ {N C H G : ℕ} where
   -- what those from a place on have published is what the one there has, and those behind it
   pub next_published : (rs : List (Recorder N C H G)) (p q k : ℕ) (r : Recorder N C H G) → suc p ≡ q → get_elem? rs p ≡ some r
-      → published_in (drop p rs) k ≡ total (sum_ops C H) (member_of (worker_in r)).work.made k + published_in (drop q rs) k
+      → published_in (drop p rs) k ≡ word_after (sum_ops C H) (member_of (worker_in r)).work.made k + published_in (drop q rs) k
   next_published rs p q k r next at = ap (λ (l : List (Recorder N C H G)). published_in l k) (drop_next rs p r at)
       ∙ (one_more C H k (worker_in r) (workers_in (drop (suc p) rs))
-      ∙ ap (λ n. total (sum_ops C H) (member_of (worker_in r)).work.made k + published_in (drop n rs) k) next)
+      ∙ ap (λ n. word_after (sum_ops C H) (member_of (worker_in r)).work.made k + published_in (drop n rs) k) next)
 
   -- behind the last one nothing is published
   pub none_published : (rs : List (Recorder N C H G)) (p k : ℕ) → length rs ≤ p → published_in (drop p rs) k ≡ 0

@@ -32,7 +32,7 @@ module _ {N C H G : ℕ} where
     pub board : board_of new ≡ board_of old
     pub workers : t.workers.items ≡ workers_of old
     pub readers : readers_of old ≡ t.readers.items ++ t.last ∷ []
-    pub own : AreOf (board_of old) t
+    pub of_board : AreOf (board_of old) t
     pub spent : readers_of new ≡ []
     pub good : IsWindow window
 

@@ -6,7 +6,7 @@ use Rattle.ledger_core.specs.Row.{Accepts}
 use Rattle.ledger_core.specs.Tally.{Tallied, AcceptsAlike, RefusesAlike}
 use Rattle.register_rule.specs.declared.board.Board.{Board}
 use Rattle.register_rule.specs.Seats.{board_id}
-use Rattle.register_rule.specs.Sums.{total}
+use Rattle.register_rule.specs.Sums.{word_after}
 use Rattle.snapshot_update.specs.declared.faults.ApplyFault.{ApplyFault}
 use Rattle.snapshot_update.specs.declared.faults.ApplyFault.TheVariants.{Exhausted, Refused}
 use Rattle.snapshot_update.specs.declared.faults.CountFault.{CountFault}
@@ -49,7 +49,7 @@ module _ {N C H G : ℕ} where
     pub of_it : All (IsOf (id_in r)) changes
     pub updated : IsUpdated N C H G (index_of r.worker) (map op_in changes) (member_of r.worker) (member_of r'.worker)
     pub lists : lists_of r'.worker ≡ lists_of r.worker ++ map op_in changes ∷ []
-    pub accepted : Accepts C H G (total (sum_ops C H) (member_of r.worker).work.made) (map op_in changes)
+    pub accepted : Accepts C H G (word_after (sum_ops C H) (member_of r.worker).work.made) (map op_in changes)
     pub room : length (member_of r.worker).work.made < 18446744073709551615
 
   -- why nothing was published: some change is not by a handle of its board, or else as for a list of operations
@@ -64,8 +64,8 @@ module _ {N C H G : ℕ} where
     pub of_it : t.registry ≡ id_in r
     pub updated : IsUpdated N C H G (index_of r.worker) t.ops (member_of r.worker) (member_of r'.worker)
     pub lists : lists_of r'.worker ≡ lists_of r.worker ++ t.ops ∷ []
-    pub accepted : Accepts C H G (total (sum_ops C H) (member_of r.worker).work.made) t.ops
-    pub alike : AcceptsAlike C H G (total (sum_ops C H) (member_of r.worker).work.made) t.ops
+    pub accepted : Accepts C H G (word_after (sum_ops C H) (member_of r.worker).work.made) t.ops
+    pub alike : AcceptsAlike C H G (word_after (sum_ops C H) (member_of r.worker).work.made) t.ops
     pub room : length (member_of r.worker).work.made < 18446744073709551615
 
   -- why a worker does not take what a tally has: its number is the greatest that there is; or else a word would pass 2^48 - 1, in
@@ -73,7 +73,7 @@ module _ {N C H G : ℕ} where
   abbrev pub IsRefusedAlike : Tallied → Recorder N C H G → ApplyFault → Type 0
   IsRefusedAlike t r Exhausted = Unit {0}
   IsRefusedAlike t r (Refused (OutOfGeometry _)) = ⊥
-  IsRefusedAlike t r (Refused (TooLarge _)) = RefusesAlike C H G (total (sum_ops C H) (member_of r.worker).work.made) t.ops
+  IsRefusedAlike t r (Refused (TooLarge _)) = RefusesAlike C H G (word_after (sum_ops C H) (member_of r.worker).work.made) t.ops
 
   -- why a tally was not published: it is not of the registry of the board, or else as for a list of operations, but never 11
   abbrev pub IsFlushFault : Tallied → Recorder N C H G → CountFault → Type 0

@@ -4,7 +4,7 @@ ghost use Rattle.std.specs.Prelude.{IfOk, IfErr, OnOk, OnErr, All};
 ghost use Rattle.bucket_math.specs.Bounds.{place_of};
 ghost use Rattle.ledger_core.specs.Ops.{width, sum_ops};
 ghost use Rattle.ledger_core.specs.declared.op.Op.TheVariants.{Inc, Observe, Up, Down};
-ghost use Rattle.register_rule.specs.Sums.{total};
+ghost use Rattle.register_rule.specs.Sums.{word_after};
 ghost use Rattle.snapshot_update.specs.Workers.{index_of, member_of, IsWorkerOf, IsCounted, IsCountFault};
 ghost use Rattle.std.proofs.Props.{props};
 
@@ -20,7 +20,7 @@ use std::alloc::{AllocError, Global};
 pub struct Recorder<'a, const N: usize, const C: usize, const H: usize, const G: usize> {
     board: &'a Board<N, C, H, G>,
     worker: Worker<N, C, H, G>,
-    ghost own: { IsWorkerOf board.now worker } by { Prim.hlevel props },
+    ghost of_board: { IsWorkerOf board.now worker } by { Prim.hlevel props },
 }
 
 impl<'a, const N: usize, const C: usize, const H: usize, const G: usize> Drop
@@ -52,7 +52,7 @@ impl<'a, const N: usize, const C: usize, const H: usize, const G: usize> Recorde
     /// The worker.
     pub fn into_worker(self) -> Worker<N, C, H, G>
         ensures worker { result ≡ worker_in self.entry }
-        ensures own { IsWorkerOf (board_in self.entry) result }
+        ensures of_board { IsWorkerOf (board_in self.entry) result }
     {
         let Recorder { board: _, worker } = self;
         worker
@@ -205,7 +205,7 @@ impl<'a, const N: usize, const C: usize, const H: usize, const G: usize> Recorde
     /// The sum of all that it has published.
     pub(crate) fn row(&self) -> &Row<C, H, G>
         ensures { (k : ℕ) → k < width C H G
-            → slice_index result.now k ≡ total (sum_ops C H) (member_of (worker_in self.now)).work.made k }
+            → slice_index result.now k ≡ word_after (sum_ops C H) (member_of (worker_in self.now)).work.made k }
     {
         self.worker.row()
     }

@@ -48,7 +48,7 @@ impl<'a, B: Named, const N: usize, const C: usize, const H: usize, const G: usiz
     ) -> Result<RegistryOf<'a, B, N, C, H, G>, NotMade<N, C, H, G>>
         requires fresh { B.first ≡ [] }
         requires named { IsNamed B.board board.now }
-        requires own { IsReaderOf board.now reader }
+        requires of_board { IsReaderOf board.now reader }
         ensures id { IfOk result (λ r. id_of r ≡ board_id board.now) }
         ensures window { OnOk result (IsWindow window) }
         ensures fault { IfErr result (λ e. IsNewFault window e.fault) }

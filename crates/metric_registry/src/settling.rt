@@ -42,8 +42,8 @@ pub fn settle_state<'a, const N: usize, const C: usize, const H: usize, const G:
     out: &mut Snapshot<N, C, H, G>,
 ) -> Result<Journal<N, C, H, G>, NotSettled<RegistryState<Scanner<'a, N, C, H, G>, N, C, H, G>>>
     requires reader { IsReaderOf board.now (reader_in state.source) }
-    requires own { All (IsWorkerOf board.now) workers.old }
-    ensures own { All (IsWorkerOf board.now) workers.new }
+    requires of_board { All (IsWorkerOf board.now) workers.old }
+    ensures of_board { All (IsWorkerOf board.now) workers.new }
     ensures same { AreSame workers.old workers.new }
     ensures journal { IfOk result (λ journal. journal ≡ state.entry.journal) }
     ensures replays { IfOk result (λ journal. (it : Held) × Replays N C H G journal it) }
@@ -89,8 +89,8 @@ impl<'a, B: Named, const N: usize, const C: usize, const H: usize, const G: usiz
     ) -> Result<Journal<N, C, H, G>, NotSettled<RegistryOf<'a, B, N, C, H, G>>>
         requires some { IsSome B.board }
         requires named { IsNamed B.board board.now }
-        requires own { All (IsWorkerOf board.now) workers.old }
-        ensures own { All (IsWorkerOf board.now) workers.new }
+        requires of_board { All (IsWorkerOf board.now) workers.old }
+        ensures of_board { All (IsWorkerOf board.now) workers.new }
         ensures same { AreSame workers.old workers.new }
         ensures replays { IfOk result (λ journal. (it : Held) × Replays N C H G journal it) }
         ensures moments { IfOk result (λ journal. AreMomentsOf workers.old (scrapes journal ++ as_answer out.new ∷ [])) }

@@ -19,7 +19,7 @@ use Rattle.metrics_program.specs.Counted.{all_of}
 module _ (b : Board 4 64 8 16) (m : Metrics) where
   -- no reply yet
   pub none_yet : (w : Worker 4 64 8 16) → IsWorkerOf b w → HasCounted b m w w
-  none_yet w own = record { own = own; index = refl; replies = []; lists = sym (append-nil (lists_of w)) }
+  none_yet w own = record { of_board = own; index = refl; replies = []; lists = sym (append-nil (lists_of w)) }
 
   -- a reply was counted, or the worker refused it and is as it was
   pub applied : (w v : Worker 4 64 8 16) (served : Served) (ops : List Op) (r : Result Unit ApplyFault) → IsWorkerOf b v
@@ -27,13 +27,13 @@ module _ (b : Board 4 64 8 16) (m : Metrics) where
       → ops ≡ list_for m served → OnOk r (lists_of v ≡ lists_of w ++ ops ∷ []) → IfErr r (IsApplyFault 64 8 16 (member_of w) ops)
       → OnErr r (v ≡ w) → WasCounted b m w v (Ok served)
   applied w v served ops (Ok done) own index is lists why same = record {
-    own = own;
+    of_board = own;
     index = index;
     reply = inl (lists ∙ ap (λ (o : List Op). lists_of w ++ o ∷ []) is);
     fault = tt;
   }
   applied w v served ops (Err fault) own index is lists why same = record {
-    own = own;
+    of_board = own;
     index = index;
     reply = inr (ap member_of same, (fault, subst (λ (o : List Op). IsApplyFault 64 8 16 (member_of w) o fault) is why));
     fault = tt;
@@ -41,12 +41,12 @@ module _ (b : Board 4 64 8 16) (m : Metrics) where
 
   -- there was a fault, and nothing was counted
   pub not_served : (w : Worker 4 64 8 16) (fault : WireFault) → IsWorkerOf b w → WasCounted b m w w (Err fault)
-  not_served w fault own = record { own = own; index = refl; reply = tt; fault = refl }
+  not_served w fault own = record { of_board = own; index = refl; reply = tt; fault = refl }
 
   -- as it is, it has counted nothing more
   unchanged : (w v : Worker 4 64 8 16) → IsWorkerOf b v → index_of v ≡ index_of w → member_of v ≡ member_of w → HasCounted b m w v
   unchanged w v own index same = record {
-    own = own;
+    of_board = own;
     index = index;
     replies = [];
     lists = ap (λ (x : Member). map ops_in x.work.made) same ∙ sym (append-nil (lists_of w));
@@ -55,10 +55,10 @@ module _ (b : Board 4 64 8 16) (m : Metrics) where
   -- one request more: one reply or none
   pub one_more : (w v : Worker 4 64 8 16) (r : Result Served WireFault) → WasCounted b m w v r → HasCounted b m w v
   one_more w v (Ok served) was = elim was.reply [
-    | inl lists ↦ record { own = was.own; index = was.index; replies = served ∷ []; lists = lists }
-    | inr none ↦ unchanged w v was.own was.index none.0
+    | inl lists ↦ record { of_board = was.of_board; index = was.index; replies = served ∷ []; lists = lists }
+    | inr none ↦ unchanged w v was.of_board was.index none.0
   ]
-  one_more w v (Err fault) was = unchanged w v was.own was.index was.fault
+  one_more w v (Err fault) was = unchanged w v was.of_board was.index was.fault
 
   -- some replies, and then some more
   pub counted_more : (w v u : Worker 4 64 8 16) → HasCounted b m w v → HasCounted b m v u → HasCounted b m w u
@@ -66,7 +66,7 @@ module _ (b : Board 4 64 8 16) (m : Metrics) where
       let more : map (list_for m) (first.replies ++ second.replies) ≡ map (list_for m) first.replies ++ map
       (list_for m) second.replies = map-append (list_for m) first.replies second.replies in
       record {
-        own = second.own;
+        of_board = second.of_board;
         index = second.index ∙ first.index;
         replies = first.replies ++ second.replies;
         lists = second.lists ∙ ap (λ (l : List (List Op)). l ++ map (list_for m) second.replies) first.lists
@@ -78,9 +78,9 @@ module _ (b : Board 4 64 8 16) (m : Metrics) where
   pub all_own : (was four : Four) → HaveCounted b m was four → All (IsWorkerOf b) (all_of four)
   all_own was four counted =
       let P = IsWorkerOf b in
-      All-cons P four.a (four.b ∷ four.c ∷ four.d ∷ []) counted.0.own
-      (All-cons P four.b (four.c ∷ four.d ∷ []) counted.1.own
-      (All-cons P four.c (four.d ∷ []) counted.2.own (All-cons P four.d [] counted.3.own (All-nil P))))
+      All-cons P four.a (four.b ∷ four.c ∷ four.d ∷ []) counted.0.of_board
+      (All-cons P four.b (four.c ∷ four.d ∷ []) counted.1.of_board
+      (All-cons P four.c (four.d ∷ []) counted.2.of_board (All-cons P four.d [] counted.3.of_board (All-nil P))))
 
   -- the four workers are there again, in their order
   pub back_again : (was four : Four) → AreNewWorkers b was → HaveCounted b m was four → AreFour b four
@@ -88,7 +88,7 @@ module _ (b : Board 4 64 8 16) (m : Metrics) where
       let index : (i : ℕ) (w v : Worker 4 64 8 16) → IsNewWorker b i w → HasCounted b m w v → index_of v ≡ i =
       λ i w v is has. has.index ∙ is.index_is in
       record {
-        own = all_own was four counted;
+        of_board = all_own was four counted;
         index = ap₂ (λ (i : ℕ) (is : List ℕ). i ∷ is) (index 0 was.a four.a new.0 counted.0)
             (ap₂ (λ (i : ℕ) (is : List ℕ). i ∷ is) (index 1 was.b four.b new.1 counted.1)
             (ap₂ (λ (i : ℕ) (is : List ℕ). i ∷ is) (index 2 was.c four.c new.2 counted.2)

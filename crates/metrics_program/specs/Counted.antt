@@ -55,7 +55,7 @@ replies_in m totals =
 
 -- from w to v this worker of the board counted these replies, each as one list, and nothing else
 pub record HasCounted (b : Board 4 64 8 16) (m : Metrics) (w v : Worker 4 64 8 16) : Type 0 where
-  pub own : IsWorkerOf b v
+  pub of_board : IsWorkerOf b v
   pub index : index_of v ≡ index_of w
   pub replies : List Served
   pub lists : lists_of v ≡ lists_of w ++ map (list_for m) replies
@@ -64,7 +64,7 @@ pub record HasCounted (b : Board 4 64 8 16) (m : Metrics) (w v : Worker 4 64 8 1
 -- refuses that list; and a fault not at all.
 pub record WasCounted (b : Board 4 64 8 16) (m : Metrics) (w v : Worker 4 64 8 16) (result : Result Served WireFault) : Type 0
   where
-    pub own : IsWorkerOf b v
+    pub of_board : IsWorkerOf b v
     pub index : index_of v ≡ index_of w
     pub reply : IfOk result (λ served. (lists_of v ≡ lists_of w ++ list_for m served ∷ []) ⊎ ((member_of v ≡ member_of w)
         × ((why : ApplyFault) × IsApplyFault 64 8 16 (member_of w) (list_for m served) why)))
@@ -72,7 +72,7 @@ pub record WasCounted (b : Board 4 64 8 16) (m : Metrics) (w v : Worker 4 64 8 1
 
 -- this is the worker of this index, at home, and it has published nothing
 pub record IsNewWorker (b : Board 4 64 8 16) (index : ℕ) (w : Worker 4 64 8 16) : Type 0 where
-  pub own : IsWorkerOf b w
+  pub of_board : IsWorkerOf b w
   pub index_is : index_of w ≡ index
   pub lists : lists_of w ≡ []
 
@@ -96,7 +96,7 @@ all_of four = four.a ∷ four.b ∷ four.c ∷ four.d ∷ []
 
 -- they are those of the board, at home, and their order is that of their indexes
 pub record AreFour (b : Board 4 64 8 16) (four : Four) : Type 0 where
-  pub own : All (IsWorkerOf b) (all_of four)
+  pub of_board : All (IsWorkerOf b) (all_of four)
   pub index : map index_of (all_of four) ≡ 0 ∷ 1 ∷ 2 ∷ 3 ∷ []
 
 -- So many replies were counted: each of the four workers of a new board has counted replies, and nothing else, and

@@ -106,7 +106,7 @@ fn tell_no_memory<W: Write>(writer: &mut W) -> ServeEnd
 
 /// The four workers of a new board, in their order.
 fn to_four(board: &Board, mut workers: Vec<Worker>) -> Four
-    requires own { All (IsWorkerOf board.now) workers.items }
+    requires of_board { All (IsWorkerOf board.now) workers.items }
     requires all { map index_of workers.items ≡ 0 ∷ 1 ∷ 2 ∷ 3 ∷ [] }
     requires new { map lists_of workers.items ≡ replicate 4 [] }
     ensures { AreNewWorkers board.now result }
@@ -194,7 +194,7 @@ fn serve_by<T: Threads + Wait + Sync, W: Write>(
     count: u64,
     writer: &mut W,
 ) -> ServeEnd
-    requires own { All (IsWorkerOf board.now) staff.workers.items }
+    requires of_board { All (IsWorkerOf board.now) staff.workers.items }
     requires all { map index_of staff.workers.items ≡ 0 ∷ 1 ∷ 2 ∷ 3 ∷ [] }
     requires new { map lists_of staff.workers.items ≡ replicate 4 [] }
     requires reader { IsReaderOf board.now staff.scraper }

@@ -93,7 +93,7 @@ fn answer_all<T: Wait, S: ScrapeFrom + Drop>(
     mut worker: Worker,
     connections: Connections,
 ) -> Worker
-    requires own { IsWorkerOf board.now worker }
+    requires of_board { IsWorkerOf board.now worker }
     ensures { HasCounted board.now metrics.now worker result }
 {
     for stream in connections.iter(rt) {
@@ -110,7 +110,7 @@ fn start<'s, E: 's, T: Threads + Wait + Sync, S: ScrapeFrom + Send + Drop + 's>(
     worker: Worker,
     connections: Connections,
 ) -> Option<PromisedHandle<Worker, Counts<'s>>>
-    requires own { IsWorkerOf shared.board.now worker }
+    requires of_board { IsWorkerOf shared.board.now worker }
     ensures { IfSome result (λ h. (h.promise.board.now ≡ shared.entry.board.now)
         × (h.promise.metrics.now ≡ shared.entry.metrics.now) × (h.promise.was.value ≡ worker)) }
 {

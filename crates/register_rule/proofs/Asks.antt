@@ -13,7 +13,7 @@ use Rattle.register_rule.specs.declared.view.Asked.{Asked}
 use Rattle.register_rule.specs.declared.view.ScanInProgress.{ScanInProgress}
 use Rattle.register_rule.specs.declared.view.ScanLog.{ScanLog}
 use Rattle.register_rule.specs.History.{count, IsCut, Below}
-use Rattle.register_rule.specs.Sums.{row_sum, last_lent, flag_of}
+use Rattle.register_rule.specs.Sums.{vector_total, last_lent, flag_of}
 use Rattle.register_rule.specs.Shown.{Shows}
 use Rattle.register_rule.specs.Loads.{AreOrdered}
 use Rattle.register_rule.specs.SoundScans.{opened_at, AreLoads, IsStale, IsLook, HasStale, IsOneMoment, IsAsked, IsSound}
@@ -171,7 +171,7 @@ module _ (n w : ℕ) (adds : List Op → ℕ → ℕ) (made : ℕ → List Publi
               sums = λ k lt. there (take w (drop (1 + n) l.words)) k 0 (omega (arith, wide'))
                   ∙ (ap some (piece_at (1 + n) w l.words k lt)
                   ∙ (sym ((shows (1 + n + k) (omega (arith, len))).totals a k e lt (omega arith))
-                  ∙ (ok'.sums k lt ∙ ap (λ (y : List ℕ). some (row_sum adds made 0 y k)) (sym same))));
+                  ∙ (ok'.sums k lt ∙ ap (λ (y : List ℕ). some (vector_total adds made 0 y k)) (sym same))));
             },
             wide,
           )

@@ -12,7 +12,7 @@ use Rattle.register_rule.specs.declared.view.Answer.{Answer}
 use Rattle.register_rule.specs.declared.view.Asked.{Asked}
 use Rattle.register_rule.specs.declared.view.ScanLog.{ScanLog}
 use Rattle.register_rule.specs.History.{IsCut, Below}
-use Rattle.register_rule.specs.Sums.{total, row_sum}
+use Rattle.register_rule.specs.Sums.{word_after, vector_total}
 use Rattle.register_rule.specs.Shown.{Shows}
 use Rattle.register_rule.specs.SoundScans.{opened_at, AtMost, AreLoads, IsStale, IsLook, HasStale, IsVersion, IsOneMoment}
 use Rattle.register_rule.specs.SoundScans.{IsAsked}
@@ -60,7 +60,7 @@ module _ (n w : ℕ) (adds : List Op → ℕ → ℕ) where
     version_grows i v ok = record {
       old = let up = (more i).0 in let h = ok.old in omega arith;
       wide = ok.wide;
-      row = λ k x e. ok.row k x e ∙ ap (λ (z : List PublishEntry). total adds z k) (sym ((more i).1 v.number ok.old));
+      row = λ k x e. ok.row k x e ∙ ap (λ (z : List PublishEntry). word_after adds z k) (sym ((more i).1 v.number ok.old));
     }
 
     asked_grows : (e : Asked) → IsAsked n w adds made e → IsAsked n w adds made' e
@@ -73,7 +73,7 @@ module _ (n w : ℕ) (adds : List Op → ℕ → ℕ) where
     }
 
     sums_grow : (i : ℕ) (v : List ℕ) (k : ℕ) → ((q s : ℕ) → get_elem? v q ≡ some s → s ≤ length (made (i + q)))
-        → row_sum adds made' i v k ≡ row_sum adds made i v k
+        → vector_total adds made' i v k ≡ vector_total adds made i v k
     sums_grow i [] k low = refl
     sums_grow i (s ∷ v) k low =
         let e : i + 0 ≡ i = omega arith in
@@ -81,7 +81,7 @@ module _ (n w : ℕ) (adds : List Op → ℕ → ℕ) where
         let here : take s (made' i) ≡ take s (made i) = (more i).1 s le in
         let rest = sums_grow (suc i) v k (λ q x at. let e' : i + suc q ≡ suc i + q = omega arith in
         subst (λ (z : ℕ). x ≤ length (made z)) e' (low (suc q) x at)) in
-        λ c. total adds (here c) k + rest c
+        λ c. word_after adds (here c) k + rest c
 
   pub answer_grows : (made made' : ℕ → List PublishEntry) (h more : List ℕ) (a : Answer) → Grows made made'
       → IsOneMoment n w adds made h a → IsOneMoment n w adds made' (h ++ more) a

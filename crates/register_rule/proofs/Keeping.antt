@@ -20,7 +20,7 @@ use Rattle.register_rule.specs.declared.load.Load.{Load}
 use Rattle.register_rule.specs.declared.load.Load.TheVariants.{Open, Read, Confirm, Ask, EndAsk}
 use Rattle.register_rule.specs.Words.{version_item, seg}
 use Rattle.register_rule.specs.History.{count}
-use Rattle.register_rule.specs.Sums.{Legal}
+use Rattle.register_rule.specs.Sums.{AcceptedInTurn}
 use Rattle.register_rule.specs.Shown.{Shows}
 use Rattle.register_rule.specs.SoundScans.{IsSound}
 use Rattle.register_rule.specs.Rule.{IsWorker, IsRole, IsMember, Rule, AreApart}
@@ -105,7 +105,7 @@ module _ (n w b : ℕ) (adds : List Op → ℕ → ℕ) (accepts : (ℕ → ℕ)
                 ap (λ (l : List PublishEntry). seg b words' h (version_item b (length l) k)) is
                 ∙ (else_word h _ apart (item_lt b (length (made h)) k (omega arith)) ∙ ok.work.shown k x e);
           };
-          own = ok.own ∙ ap (λ (l : List PublishEntry). some (length l)) (sym is);
+          own_number = ok.own_number ∙ ap (λ (l : List PublishEntry). some (length l)) (sym is);
           lends = ok.lends;
         }
     role_stays j m (Reader h) at other ok = tt
@@ -172,7 +172,7 @@ module _ (n w b : ℕ) (adds : List Op → ℕ → ℕ) (accepts : (ℕ → ℕ)
                 seg_else b s.words i _ x at i _ place' item (item_lt b number j (omega arith))
                 (λ _ z. items_apart b number k j inside (omega arith) (sym z)) ∙ was.work.shown j y e;
           };
-          own = was.own;
+          own_number = was.own_number;
           lends = was.lends;
         } in
         let here : IsMember n w b adds r.made r.owner r.history words' id new = record {
@@ -222,19 +222,19 @@ module _ (n w b : ℕ) (adds : List Op → ℕ → ℕ) (accepts : (ℕ → ℕ)
       confirmed = λ q y e. absurd (some-ne-none _ (sym e));
       asked = λ q a e at. absurd (some-ne-none a (sym e));
       seen = λ y e. absurd (some-ne-none y (sym e));
-      own = λ p m e who. absurd (some-ne-none m (sym e));
+      own_number = λ p m e who. absurd (some-ne-none m (sym e));
     }
     number_told i x (m ∷ ms) is each = let ok = (each 0 m refl).scan in record {
       opened = λ q y e. let h = (ok.opened q (i, y) e).1 in omega arith;
       confirmed = λ q y e. let h = (ok.confirmed q (i, y) e).1 in omega arith;
       asked = λ q a e at. let h = (ok.asked q a e).old in let is' = ap (λ (z : ℕ). length (made z)) at in omega arith;
       seen = λ y e. let h = ok.seen i y e in omega arith;
-      own = λ p o e who. let was = as_worker made owner history words id i o who (each p o e) in
+      own_number = λ p o e who. let was = as_worker made owner history words id i o who (each p o e) in
           is ∙ ap (λ (l : List PublishEntry). length l) (sym was.work.all);
     }
 
     ruled : (ms : List Member) → ((i : ℕ) → i < n → count i history ≡ length (made i))
-        → ((i : ℕ) → i < n → Legal adds accepts [] (made i))
+        → ((i : ℕ) → i < n → AcceptedInTurn adds accepts [] (made i))
         → ((p : ℕ) (m : Member) → get_elem? ms p ≡ some m → IsMember n w b adds made owner history words id m) → AreApart ms
         → AreRuled n w adds accepts ms
     ruled ms counted legal each apart = record {
@@ -243,8 +243,8 @@ module _ (n w b : ℕ) (adds : List Op → ℕ → ℕ) (accepts : (ℕ → ℕ)
       history = history;
       counted = counted;
       legal = legal;
-      own = λ p i m e who. let was = as_worker made owner history words id i m who (each p m e) in
-          (was.work.inside, was.work.all, was.own);
+      workers = λ p i m e who. let was = as_worker made owner history words id i m who (each p m e) in
+          (was.work.inside, was.work.all, was.own_number);
       scans = λ p m e. (each p m e).scan;
     }
 
@@ -253,7 +253,7 @@ module _ (n w b : ℕ) (adds : List Op → ℕ → ℕ) (accepts : (ℕ → ℕ)
         → IsRole n w b adds made words m who → IsRole n w b adds made words (scan_changed (after n w what x) m) who
     role_after m (Worker i) what x ok was = record {
       work = was.work;
-      own = own_rises n w adds made m.scan.seen (after n w what x m.scan).seen i ok.seen (seen_stays n w what x m.scan i) was.own;
+      own_number = own_rises n w adds made m.scan.seen (after n w what x m.scan).seen i ok.seen (seen_stays n w what x m.scan i) was.own_number;
       lends = λ q y a e l. let t = was.lends q y a e l in (t.0, records_stay n w what x m.scan t.0 a t.1);
     }
     role_after m (Reader r) what x ok was = tt

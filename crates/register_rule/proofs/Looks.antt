@@ -19,13 +19,13 @@ use Rattle.register_rule.specs.declared.view.ScanLog.{ScanLog}
 use Rattle.register_rule.specs.declared.load.Load.{Load}
 use Rattle.register_rule.specs.declared.load.Load.TheVariants.{Open, Read, Confirm, Ask, EndAsk}
 use Rattle.register_rule.specs.History.{tab, count, numbers_after, IsCut}
-use Rattle.register_rule.specs.Sums.{total, row_sum, last_lent}
+use Rattle.register_rule.specs.Sums.{word_after, vector_total, last_lent}
 use Rattle.register_rule.specs.Shown.{Shows}
 use Rattle.register_rule.specs.Loads.{IsTried, AreOrdered}
 use Rattle.register_rule.specs.SoundScans.{opened_at, AreLoads, IsStale, IsLook, HasStale, IsVersion, IsOneMoment, IsSound}
 use Rattle.register_rule.specs.ScanSteps.{every, answered, given_up_if_spent, words_kept, begun, unsure, opens_next, after_open}
 use Rattle.register_rule.specs.ScanSteps.{noted}
-use Rattle.register_rule.specs.ScanSteps.{after_read, settled, remembered, confirmed_at, clean, are_clean, sum_words}
+use Rattle.register_rule.specs.ScanSteps.{after_read, confirmed_look, remembered, confirmed_at, clean, are_clean, sum_words}
 use Rattle.register_rule.specs.ScanSteps.{answer_of_try}
 use Rattle.register_rule.specs.ScanSteps.{with_base, failed_once_more, ended, after_confirm, is_lender, lent_in, lent_or_passed}
 use Rattle.register_rule.specs.ScanSteps.{lent_or_passed_at}
@@ -123,7 +123,7 @@ module _ (n w : ℕ) (adds : List Op → ℕ → ℕ) (made : ℕ → List Publi
         (λ k y e. absurd (some-ne-none y (sym e)))
         (λ v at new k y e. inl (let lt = at_below v.row k y e in let wide = (ok i v at).wide in let z : k ≡ 0 + k = omega arith in
         record {
-          row = λ _. (ok i v at).row k y e ∙ (λ c. total adds (take (new c) (made i)) (z c));
+          row = λ _. (ok i v at).row k y e ∙ (λ c. word_after adds (take (new c) (made i)) (z c));
           flag = λ is. absurd (omega arith);
           vector = λ a j _ _ is. absurd (omega arith);
           totals = λ a j _ _ is. absurd (omega arith);
@@ -268,7 +268,7 @@ module _ (n w : ℕ) (adds : List Op → ℕ → ℕ) (made : ℕ → List Publi
             wide = wide';
             row = λ k x e. let lt = at_below l.words k x e in let z : 0 + k ≡ k = omega arith in ⊎_elim
                 (λ (t : Shows n w adds (take l.number (made l.place)) (0 + k) x). t.row (omega arith)
-                ∙ (λ c. total adds (take l.number (made (here c))) (z c)))
+                ∙ (λ c. word_after adds (take l.number (made (here c))) (z c)))
                 (λ (t : IsStale n w adds made l). absurd (true≢false (sym on ∙ t.0)))
                 (right.right k x e);
           }
@@ -276,7 +276,7 @@ module _ (n w : ℕ) (adds : List Op → ℕ → ℕ) (made : ℕ → List Publi
   -- a confirming load, but for the end of the try
   confirmed_right : (c : ScanLog) (i x : ℕ) → i < n → x ≡ length (made i) → IsSound n w adds made h c
       → IsSound n w adds made h (confirmed_at w i x c)
-  confirmed_right c i x inside is ok = let m = scan_maps c (settled i x) (λ l. l) (c.confirmed ++ (i, x) ∷ [])
+  confirmed_right c i x inside is ok = let m = scan_maps c (confirmed_look i x) (λ l. l) (c.confirmed ++ (i, x) ∷ [])
       (c.before ++ length c.opened ∷ []) (loads_more c.confirmed i x inside is ok.confirmed)
       (confirm_ordered c.opened c.confirmed c.before c.now.looks i x (topmost c.opened i x is ok.opened)
       (topmost c.confirmed i x is ok.confirmed) ok.ordered)
@@ -301,8 +301,8 @@ module _ (n w : ℕ) (adds : List Op → ℕ → ℕ) (made : ℕ → List Publi
         recorded = m.recorded;
         seen = m.seen;
         seen_wide = m.seen_wide;
-        kept = remembers i (map (settled i x) c.now.looks) c.kept (λ q l e. (m.looks q l e).0) ok.kept;
-        kept_wide = length_remembered w i (map (settled i x) c.now.looks) c.kept ∙ ok.kept_wide;
+        kept = remembers i (map (confirmed_look i x) c.now.looks) c.kept (λ q l e. (m.looks q l e).0) ok.kept;
+        kept_wide = length_remembered w i (map (confirmed_look i x) c.now.looks) c.kept ∙ ok.kept_wide;
         looks = m.looks;
         asks = ok.asks;
         whole = m.whole;
@@ -319,14 +319,14 @@ module _ (n w : ℕ) (adds : List Op → ℕ → ℕ) (made : ℕ → List Publi
   -- the sums of a clean try
   sums_right : (k i : ℕ) (ls : List Look)
       → ((q : ℕ) (l : Look) → get_elem? ls q ≡ some l → (l.place ≡ i + q)
-      × (slice_index l.words k ≡ total adds (take l.number (made l.place)) k))
-      → sum_words k ls ≡ row_sum adds made i (map opened_at ls) k
+      × (slice_index l.words k ≡ word_after adds (take l.number (made l.place)) k))
+      → sum_words k ls ≡ vector_total adds made i (map opened_at ls) k
   sums_right k i [] ok = refl
   sums_right k i (l ∷ ls) ok =
       let e : i + 0 ≡ i = omega arith in
       let t = ok 0 l refl in
-      let here : slice_index l.words k ≡ total adds (take l.number (made i)) k = t.1
-      ∙ ap (λ (z : ℕ). total adds (take l.number (made z)) k) (t.0 ∙ e) in
+      let here : slice_index l.words k ≡ word_after adds (take l.number (made i)) k = t.1
+      ∙ ap (λ (z : ℕ). word_after adds (take l.number (made z)) k) (t.0 ∙ e) in
       let rest = sums_right k (suc i) ls (λ q x at. let e' : i + suc q ≡ suc i + q = omega arith in
       ((ok (suc q) x at).0 ∙ e', (ok (suc q) x at).1)) in
       λ c. here c + rest c
@@ -360,7 +360,7 @@ module _ (n w : ℕ) (adds : List Op → ℕ → ℕ) (made : ℕ → List Publi
                 let long = (each q l at).1 in
                     ⊎_elim (λ (r : Shows n w adds (take l.number (made l.place)) (0 + k) (get_or l.words k 0)). let z'' : 0 + k
                     ≡ k =
-                    omega arith in r.row (omega arith) ∙ ap (total adds (take l.number (made l.place))) z'')
+                    omega arith in r.row (omega arith) ∙ ap (word_after adds (take l.number (made l.place))) z'')
                     (λ (r : IsStale n w adds made l). absurd (true≢false (sym (each q l at).0 ∙ r.0)))
                     ((ok.looks q l at).0.right k (get_or l.words k 0) (there l.words k 0 (omega (arith, long)))),
               )));

@@ -8,7 +8,7 @@ use Rattle.std.proofs.lemmas.List.{length_push}
 use Rattle.atomic_table.proofs.Lists.{at_longer, at_last}
 use Rattle.register_rule.specs.declared.view.Look.{Look}
 use Rattle.register_rule.specs.Loads.{AreRising, IsTried, AreOrdered}
-use Rattle.register_rule.specs.ScanSteps.{settled}
+use Rattle.register_rule.specs.ScanSteps.{confirmed_look}
 use Rattle.register_rule.proofs.Words.{at_below, from_map, last_is}
 
 -- nothing is loaded yet
@@ -112,7 +112,7 @@ module _ (opened confirmed : List (ℕ × ℕ)) (before : List ℕ) (ls : List L
     before' = before ++ length opened ∷ []
 
     -- one more confirming load
-    settled_tried : (l : Look) → IsTried opened confirmed before l → IsTried opened confirmed' before' (settled i v l)
+    settled_tried : (l : Look) → IsTried opened confirmed before l → IsTried opened confirmed' before' (confirmed_look i v l)
     settled_tried l t = cond_both (l.place == i) (record l { sure = l.sure || l.number == v; found = v }) l
         (IsTried opened confirmed' before')
         (λ hit. let here : l.place ≡ i = eqb-true l.place i hit in let lt = at_below opened t.0 (l.place, l.number) t.1 in (
@@ -143,7 +143,7 @@ module _ (opened confirmed : List (ℕ × ℕ)) (before : List ℕ) (ls : List L
               t.2,
         ))
 
-    pub confirm_ordered : AreOrdered opened confirmed' before' (map (settled i v) ls)
+    pub confirm_ordered : AreOrdered opened confirmed' before' (map (confirmed_look i v) ls)
     confirm_ordered = record {
       each = let a = length_push before (length opened) in let b = length_push confirmed (i, v) in let e = ok.each in
           omega (arith, a, b, e);
@@ -179,6 +179,6 @@ module _ (opened confirmed : List (ℕ × ℕ)) (before : List ℕ) (ls : List L
           (λ _. omega (arith, low, number), λ le. absurd (omega (arith, le, is, lt))))
           (last_is before (length opened) k q ek))
           (last_is confirmed (i, v) y q ey);
-      tried = λ q l e. let t = from_map (settled i v) ls q l e in
+      tried = λ q l e. let t = from_map (confirmed_look i v) ls q l e in
           subst (IsTried opened confirmed' before') t.2 (settled_tried t.0 (ok.tried q t.0 t.1));
     }

@@ -22,7 +22,7 @@ use Rattle.register_rule.specs.declared.view.Member.{Member}
 use Rattle.register_rule.specs.declared.view.SeatView.{SeatView}
 use Rattle.register_rule.specs.Words.{version_item, seg}
 use Rattle.register_rule.specs.History.{count}
-use Rattle.register_rule.specs.Sums.{total, Legal, last_lent}
+use Rattle.register_rule.specs.Sums.{word_after, AcceptedInTurn, last_lent}
 use Rattle.register_rule.specs.Shown.{Shows}
 use Rattle.register_rule.specs.SoundScans.{IsVersion}
 use Rattle.register_rule.specs.Rule.{IsWorker, IsRole, IsMember, Rule}
@@ -53,22 +53,22 @@ lent_recorded m false a e = absurd (none-some a e)
 
 -- what a list of versions adds, and one more
 pub total_last : (adds : List Op → ℕ → ℕ) (xs : List PublishEntry) (x : PublishEntry) (k : ℕ)
-    → total adds (xs ++ x ∷ []) k ≡ total adds xs k + adds x.ops k
+    → word_after adds (xs ++ x ∷ []) k ≡ word_after adds xs k + adds x.ops k
 total_last adds [] x k = omega arith
 total_last adds (y ∷ ys) x k = let e = total_last adds ys x k in omega (arith, e)
 
 -- a list that the row accepts may come next
 legal_more : (adds : List Op → ℕ → ℕ) (accepts : (ℕ → ℕ) → List Op → Type 0) (before xs : List PublishEntry) (x : PublishEntry)
-    → Legal adds accepts before xs → accepts (total adds (before ++ xs)) x.ops → Legal adds accepts before (xs ++ x ∷ [])
+    → AcceptedInTurn adds accepts before xs → accepts (word_after adds (before ++ xs)) x.ops → AcceptedInTurn adds accepts before (xs ++ x ∷ [])
 legal_more adds accepts before [] y h a = (
-  subst (λ (z : List PublishEntry). accepts (total adds z) y.ops)
+  subst (λ (z : List PublishEntry). accepts (word_after adds z) y.ops)
       (append-nil before) a,
   tt,
 )
 legal_more adds accepts before (x ∷ xs) y h a = (
   h.0,
   legal_more adds accepts (before ++ x ∷ []) xs y h.1
-      (subst (λ (z : List PublishEntry). accepts (total adds z) y.ops) (sym (append_assoc before (x ∷ []) xs)) a),
+      (subst (λ (z : List PublishEntry). accepts (word_after adds z) y.ops) (sym (append_assoc before (x ∷ []) xs)) a),
 )
 
 -- the version after the next one has its words where this one has them
@@ -104,12 +104,12 @@ module _ (n w b : ℕ) (adds : List Op → ℕ → ℕ) (accepts : (ℕ → ℕ)
             let lt : k < w = omega arith in
             sym (read_at (take w m.work.hidden) k y 0 e)
             ∙ (get_or-take w m.work.hidden k 0 lt
-            ∙ ((holds k (omega arith)).row lt ∙ ap (λ (l : List PublishEntry). total adds l k) (sym whole)));
+            ∙ ((holds k (omega arith)).row lt ∙ ap (λ (l : List PublishEntry). word_after adds l k) (sym whole)));
       }
 
   -- the worker's segment shows the new version from now on, and the history has one more publish
   publishes : me.0.members ≡ m ∷ [] → m.who ≡ Worker i → at ≡ i * span b + 0 → x ≡ suc (length m.work.made) → w ≤ b
-      → HoldsNext n w b adds ops lends m → accepts (total adds m.work.made) ops
+      → HoldsNext n w b adds ops lends m → accepts (word_after adds m.work.made) ops
       → Allows Ruled slots id me at (λ _. x) (λ _ me'. (me'.0 ≡ group (led (published w i ops lends) me.0.members))
       × (me'.1 ≡ me.1))
   publishes one who place next room holds fine s r deep seat fits =
@@ -162,7 +162,7 @@ module _ (n w b : ℕ) (adds : List Op → ℕ → ℕ) (accepts : (ℕ → ℕ)
               ap (λ (z : ℕ). seg b words' i (version_item b z k)) number
               ∙ (item_stays i (suc (length old)) k (omega arith) ∙ was.work.hidden k y e);
         };
-        own = set_here m.scan.seen i (suc (length m.work.made)) (omega arith) ∙ ap some number';
+        own_number = set_here m.scan.seen i (suc (length m.work.made)) (omega arith) ∙ ap some number';
         lends = λ q y a. each_push (λ (z : PublishEntry). z.lends ≡ Some a → (p : ℕ)
             × (get_elem? m.scan.recorded p ≡ some a)) m.work.made
             last (λ p z. was.lends p z a) (lent_recorded m lends a) q y;
@@ -188,11 +188,11 @@ module _ (n w b : ℕ) (adds : List Op → ℕ → ℕ) (accepts : (ℕ → ℕ)
             let l : length (made' j) ≡ length (r.made j) = ap (λ (z : List PublishEntry). length z)
             (same j other) in omega arith);
         legal = λ j h. dite (ℕ_discrete j i)
-            (λ e. subst (λ (z : ℕ). Legal adds accepts [] (made' z)) (sym e)
-            (subst (Legal adds accepts []) (sym now)
+            (λ e. subst (λ (z : ℕ). AcceptedInTurn adds accepts [] (made' z)) (sym e)
+            (subst (AcceptedInTurn adds accepts []) (sym now)
             (legal_more adds accepts [] old last (r.legal i inside)
-            (subst (λ (z : List PublishEntry). accepts (total adds z) ops) all fine))))
-            (λ other. subst (Legal adds accepts []) (sym (same j other)) (r.legal j h));
+            (subst (λ (z : List PublishEntry). accepts (word_after adds z) ops) all fine))))
+            (λ other. subst (AcceptedInTurn adds accepts []) (sym (same j other)) (r.legal j h));
         wide = length-set s.words at x ∙ r.wide;
         number = λ j h. dite (ℕ_discrete j i)
             (λ e. subst (λ (z : ℕ). seg b words' z 0 ≡ length (made' z)) (sym e) (seg_here b s.words i 0 x at place at_lt
@@ -224,7 +224,7 @@ module _ (n w b : ℕ) (adds : List Op → ℕ → ℕ) (accepts : (ℕ → ℕ)
       (group (new ∷ []), keeps, tt, rule, (ap (λ (z : List Member). group (led (published w i ops lends) z)) (sym one), refl))
 
   pub publish_allows : me.0.members ≡ m ∷ [] → m.who ≡ Worker i → at ≡ i * span b + 0 → x ≡ suc (length m.work.made) → w ≤ b
-      → HoldsNext n w b adds ops lends m → accepts (total adds m.work.made) ops
+      → HoldsNext n w b adds ops lends m → accepts (word_after adds m.work.made) ops
       → Allows (KeepsRule n w b adds accepts) slots id me at (λ _. x)
       (λ _ me'. (me'.0 ≡ group (led (published w i ops lends) me.0.members)) × (me'.1 ≡ me.1))
   publish_allows one who place next room holds fine = allows_both Ruled (AllCompare n b) (compares n w b adds accepts) slots id me

@@ -108,7 +108,7 @@ module _ (n w b : ℕ) (adds : List Op → ℕ → ℕ) where
         go : (who : Who) → IsRole n w b adds made ws m who → AtMost n w adds made (raised_by who (length m.work.made) m.scan.seen)
         go (Worker i) t k x e = ⊎_elim
             (λ (q : (k ≡ i) × (max (get_or m.scan.seen i 0) (length m.work.made) ≡ x)).
-            let len : ℕ = length (made i) in let a : get_or m.scan.seen i 0 ≡ len = read_at m.scan.seen i _ 0 t.own in
+            let len : ℕ = length (made i) in let a : get_or m.scan.seen i 0 ≡ len = read_at m.scan.seen i _ 0 t.own_number in
             let c : length m.work.made ≡ len = ap (λ (z : List PublishEntry). length z) t.work.all in
             let q1 = q.1 in let low : x ≤ len = omega arith in subst (λ (z : ℕ). x ≤ length (made z)) (sym q.0) low)
             (λ (q : (k ≢ i) × (get_elem? m.scan.seen k ≡ some x)). ok.scan.seen k x q.1)
@@ -133,7 +133,7 @@ module _ (n w b : ℕ) (adds : List Op → ℕ → ℕ) where
         go : (who : Who) → IsRole n w b adds made ws m who → IsRole n w b adds made ws (raised v m) who
         go (Worker i) t = record {
           work = t.work;
-          own = own_rises n w adds made m.scan.seen (upper m.scan.seen v) i scan.seen (upper_at m.scan.seen v i) t.own;
+          own_number = own_rises n w adds made m.scan.seen (upper m.scan.seen v) i scan.seen (upper_at m.scan.seen v i) t.own_number;
           lends = t.lends;
         }
         go (Reader i) t = tt

@@ -120,7 +120,7 @@ module _ (n w b : ℕ) (adds : List Op → ℕ → ℕ) (accepts : (ℕ → ℕ)
         hidden = λ k x e. zeros _ ∙ from_replicate b 0 k x e;
         shown = λ k x e. zeros _ ∙ from_replicate b 0 k x e;
       };
-      own = let seen : List ℕ = replicate n 0 in let long : length seen ≡ n = length-replicate n 0 in
+      own_number = let seen : List ℕ = replicate n 0 in let long : length seen ≡ n = length-replicate n 0 in
           there seen i 0 (omega (arith, h, long)) ∙ ap some (get_or-replicate n i 0 0 h);
       lends = λ q x a e. absurd (some-ne-none x (sym e));
     };

@@ -15,7 +15,7 @@ use Rattle.register_rule.specs.declared.view.Member.{Member}
 use Rattle.register_rule.specs.declared.view.SeatView.{SeatView}
 use Rattle.register_rule.specs.Words.{version_item, seg}
 use Rattle.register_rule.specs.History.{count}
-use Rattle.register_rule.specs.Sums.{Legal, last_lent}
+use Rattle.register_rule.specs.Sums.{AcceptedInTurn, last_lent}
 use Rattle.register_rule.specs.Shown.{Shows}
 use Rattle.register_rule.specs.SoundScans.{IsOneMoment, IsSound}
 
@@ -42,7 +42,7 @@ module _ (n w b : ℕ) (adds : List Op → ℕ → ℕ) (made : ℕ → List Pub
   -- a worker writes its own segment, has seen its own number, and what it lends are answers of its own scans
   pub record IsWorker (words : List ℕ) (i : ℕ) (m : Member) : Type 0 where
     pub work : IsWork words i m.work
-    pub own : get_elem? m.scan.seen i ≡ some (length (made i))
+    pub own_number : get_elem? m.scan.seen i ≡ some (length (made i))
     pub lends : (q : ℕ) (x : PublishEntry) (a : Answer) → get_elem? m.work.made q ≡ some x → x.lends ≡ Some a
         → (p : ℕ) × (get_elem? m.scan.recorded p ≡ some a)
 
@@ -67,7 +67,7 @@ pub record Rule (n w b : ℕ) (adds : List Op → ℕ → ℕ) (accepts : (ℕ �
   pub owner : Who → ℕ
   pub history : List ℕ
   pub counted : (i : ℕ) → i < n → count i history ≡ length (made i)
-  pub legal : (i : ℕ) → i < n → Legal adds accepts [] (made i)
+  pub legal : (i : ℕ) → i < n → AcceptedInTurn adds accepts [] (made i)
   pub wide : length s.words ≡ n * span b
   pub number : (i : ℕ) → i < n → seg b s.words i 0 ≡ length (made i)
   -- the buffer that the number shows is the version after all publishes

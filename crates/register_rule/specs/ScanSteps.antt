@@ -82,8 +82,8 @@ after_read w i s k x c =
 -- is remembered. That of the last place ends the try.
 
 -- the look with what its confirming load found
-abbrev pub settled : (i s : ℕ) → Look → Look
-settled i s l = cond (l.place == i) (record l { sure = l.sure || l.number == s; found = s }) l
+abbrev pub confirmed_look : (i s : ℕ) → Look → Look
+confirmed_look i s l = cond (l.place == i) (record l { sure = l.sure || l.number == s; found = s }) l
 
 -- the remembered rows, in which a sure row of the place i, if it was read whole, takes the old one's place
 abbrev pub remembered : (w i : ℕ) → List Look → List Version → List Version
@@ -96,8 +96,8 @@ abbrev pub confirmed_at : (w i s : ℕ) → ScanLog → ScanLog
 confirmed_at w i s c = record c {
   confirmed = c.confirmed ++ (i, s) ∷ [];
   before = c.before ++ length c.opened ∷ [];
-  kept = remembered w i (map (settled i s) c.now.looks) c.kept;
-  now = record c.now { looks = map (settled i s) c.now.looks };
+  kept = remembered w i (map (confirmed_look i s) c.now.looks) c.kept;
+  now = record c.now { looks = map (confirmed_look i s) c.now.looks };
 }
 
 -- a place is clean where its row of w words is read and its number was found again

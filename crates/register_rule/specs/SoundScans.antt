@@ -11,7 +11,7 @@ use Rattle.register_rule.specs.declared.view.Answer.{Answer}
 use Rattle.register_rule.specs.declared.view.Asked.{Asked}
 use Rattle.register_rule.specs.declared.view.ScanLog.{ScanLog}
 use Rattle.register_rule.specs.History.{IsCut, Below}
-use Rattle.register_rule.specs.Sums.{total, row_sum}
+use Rattle.register_rule.specs.Sums.{word_after, vector_total}
 use Rattle.register_rule.specs.Shown.{Shows}
 use Rattle.register_rule.specs.Loads.{AreOrdered}
 
@@ -48,13 +48,13 @@ module _ (n w : ℕ) (adds : List Op → ℕ → ℕ) (made : ℕ → List Publi
   pub record IsVersion (i : ℕ) (v : Version) : Type 0 where
     pub old : v.number ≤ length (made i)
     pub wide : length v.row ≡ w
-    pub row : (k x : ℕ) → get_elem? v.row k ≡ some x → x ≡ total adds (take v.number (made i)) k
+    pub row : (k x : ℕ) → get_elem? v.row k ≡ some x → x ≡ word_after adds (take v.number (made i)) k
 
   -- the answer of a scan is all segments at one moment: the numbers, and the sums of the rows of these versions
   pub record IsOneMoment (history : List ℕ) (a : Answer) : Type 0 where
     pub low : AtMost a.vector
     pub moment : IsCut n history a.vector
-    pub sums : (k : ℕ) → k < w → get_elem? a.totals k ≡ some (row_sum adds made 0 a.vector k)
+    pub sums : (k : ℕ) → k < w → get_elem? a.totals k ≡ some (vector_total adds made 0 a.vector k)
 
   -- what was read of a worker that was asked is right
   pub record IsAsked (e : Asked) : Type 0 where
@@ -69,7 +69,7 @@ module _ (n w : ℕ) (adds : List Op → ℕ → ℕ) (made : ℕ → List Publi
   pub record IsSound (history : List ℕ) (c : ScanLog) : Type 0 where
     pub opened : AreLoads c.opened
     pub confirmed : AreLoads c.confirmed
-    -- a confirming load is not below the opening loads of its place before it
+    -- a confirming load is not below the opening loads of its place before it, and what a look found is not below its number
     pub ordered : AreOrdered c.opened c.confirmed c.before c.now.looks
     pub asked : (q : ℕ) (e : Asked) → get_elem? c.asked q ≡ some e → IsAsked e
     pub recorded : (q : ℕ) (a : Answer) → get_elem? c.recorded q ≡ some a → IsOneMoment history a × Below a.vector c.seen

@@ -7,19 +7,19 @@ use Rattle.register_rule.specs.declared.view.Answer.{Answer}
 
 module _ (adds : List Op → ℕ → ℕ) where
   -- the word k of the row after these publishes
-  abbrev pub total : List PublishEntry → ℕ → ℕ
-  total [] k = 0
-  total (x ∷ xs) k = adds x.ops k + total xs k
+  abbrev pub word_after : List PublishEntry → ℕ → ℕ
+  word_after [] k = 0
+  word_after (x ∷ xs) k = adds x.ops k + word_after xs k
 
   -- the sum of the rows of the workers from i on, at the versions of this vector; made i is what worker i published
-  abbrev pub row_sum : (ℕ → List PublishEntry) → (i : ℕ) → List ℕ → (k : ℕ) → ℕ
-  row_sum made i [] k = 0
-  row_sum made i (s ∷ vector) k = total (take s (made i)) k + row_sum made (suc i) vector k
+  abbrev pub vector_total : (ℕ → List PublishEntry) → (i : ℕ) → List ℕ → (k : ℕ) → ℕ
+  vector_total made i [] k = 0
+  vector_total made i (s ∷ vector) k = word_after (take s (made i)) k + vector_total made (suc i) vector k
 
   -- each list was accepted by the row of those before it
-  abbrev pub Legal : ((ℕ → ℕ) → List Op → Type 0) → (before after : List PublishEntry) → Type 0
-  Legal accepts before [] = Unit {0}
-  Legal accepts before (x ∷ xs) = accepts (total before) x.ops × Legal accepts (before ++ x ∷ []) xs
+  abbrev pub AcceptedInTurn : ((ℕ → ℕ) → List Op → Type 0) → (before after : List PublishEntry) → Type 0
+  AcceptedInTurn accepts before [] = Unit {0}
+  AcceptedInTurn accepts before (x ∷ xs) = accepts (word_after before) x.ops × AcceptedInTurn accepts (before ++ x ∷ []) xs
 
 -- what the last version lends
 abbrev pub last_lent : List PublishEntry → Option Answer

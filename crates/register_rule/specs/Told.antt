@@ -17,7 +17,7 @@ use Rattle.register_rule.specs.declared.load.Load.TheVariants.{Open, Read, Confi
 use Rattle.segment_layout.specs.Layout.{span}
 use Rattle.register_rule.specs.Words.{version_item, seg}
 use Rattle.register_rule.specs.History.{count, Comparable}
-use Rattle.register_rule.specs.Sums.{Legal}
+use Rattle.register_rule.specs.Sums.{AcceptedInTurn}
 use Rattle.register_rule.specs.SoundScans.{opened_at, IsSound}
 use Rattle.register_rule.specs.Members.{first_of, made_of, led, scan_changed}
 use Rattle.register_rule.specs.Shown.{Shows}
@@ -35,7 +35,7 @@ pub record IsNumber (i : ℕ) (ms : List Member) (x : ℕ) : Type 0 where
   pub confirmed : (q y : ℕ) → get_elem? (first_of ms).scan.confirmed q ≡ some (i, y) → y ≤ x
   pub asked : (q : ℕ) (e : Asked) → get_elem? (first_of ms).scan.asked q ≡ some e → e.worker ≡ i → e.again ≤ x
   pub seen : (y : ℕ) → get_elem? (first_of ms).scan.seen i ≡ some y → y ≤ x
-  pub own : (p : ℕ) (m : Member) → get_elem? ms p ≡ some m → m.who ≡ Worker i → x ≡ length m.work.made
+  pub own_number : (p : ℕ) (m : Member) → get_elem? ms p ≡ some m → m.who ≡ Worker i → x ≡ length m.work.made
 
 -- the load is of a word of the board, where a buffer has b words
 abbrev pub IsLoad : (n b : ℕ) → Load → Type 0
@@ -67,8 +67,8 @@ pub record AreRuled (n w : ℕ) (adds : List Op → ℕ → ℕ) (accepts : (ℕ
   pub made : ℕ → List PublishEntry
   pub history : List ℕ
   pub counted : (i : ℕ) → i < n → count i history ≡ length (made i)
-  pub legal : (i : ℕ) → i < n → Legal adds accepts [] (made i)
-  pub own : (p i : ℕ) (m : Member) → get_elem? ms p ≡ some m → m.who ≡ Worker i → (i < n) × (m.work.made ≡ made i)
+  pub legal : (i : ℕ) → i < n → AcceptedInTurn adds accepts [] (made i)
+  pub workers : (p i : ℕ) (m : Member) → get_elem? ms p ≡ some m → m.who ≡ Worker i → (i < n) × (m.work.made ≡ made i)
       × (get_elem? m.scan.seen i ≡ some (length (made i)))
   pub scans : (p : ℕ) (m : Member) → get_elem? ms p ≡ some m → IsSound n w adds made history m.scan
   pub apart : AreApart ms
@@ -123,6 +123,6 @@ KeepsRule n w b adds accepts s = Rule n w b adds accepts s × AllCompare n b s
 -- the first member's scans have changed by `f`, no other member has, and all that the rule says of the members is told:
 -- a board of n workers, c counters, h histograms and g gauges
 pub record ScanChangesBy (n c h g : ℕ) (f : ScanLog → ScanLog) (old new : Bundle) : Type 0 where
-  pub own : table_of new ≡ table_of old
+  pub table : table_of new ≡ table_of old
   pub member : members_of new ≡ led (scan_changed f) (members_of old)
   pub ruled : AreRuled n (width c h g) (sum_ops c h) (Accepts c h g) (members_of new)

@@ -120,10 +120,10 @@ impl<const N: usize, const C: usize, const H: usize, const G: usize> Board<N, C,
         rest: &mut Bundle,
         readers: usize,
     ) -> Result<Vec<WorkSeat>, AllocError>
-        requires own { IsSeatOf self.now rest.old }
+        requires of_board { IsSeatOf self.now rest.old }
         requires all { members_of rest.old ≡ workers_from N (width C H G) (depth N (width C H G)) 0 N ++ readers_from N
             (width C H G) 0 readers }
-        ensures own { table_of rest.new ≡ table_of rest.old }
+        ensures table { table_of rest.new ≡ table_of rest.old }
         ensures rest { OnOk result (members_of rest.new ≡ readers_from N (width C H G) 0 readers) }
         ensures work { IfOk result (λ v. All (IsWorkSeatOf self.now) v.items
             × (map worker_of v.items ≡ workers_from N (width C H G) (depth N (width C H G)) 0 N)) }
@@ -142,9 +142,9 @@ impl<const N: usize, const C: usize, const H: usize, const G: usize> Board<N, C,
         rest: &mut Bundle,
         readers: usize,
     ) -> Result<Vec<ReadSeat>, AllocError>
-        requires own { IsSeatOf self.now rest.old }
+        requires of_board { IsSeatOf self.now rest.old }
         requires all { members_of rest.old ≡ readers_from N (width C H G) 0 readers }
-        ensures own { table_of rest.new ≡ table_of rest.old }
+        ensures table { table_of rest.new ≡ table_of rest.old }
         ensures read { IfOk result (λ v. All (IsReadSeatOf self.now) v.items
             × (map reader_of v.items ≡ readers_from N (width C H G) 0 readers)) }
     {

@@ -20,7 +20,7 @@ pub trait ScanSeat<const N: usize, const C: usize, const H: usize, const G: usiz
 
     /// One load of the scan, by the first member: the word that it found.
     fn load(&mut self, board: &Board<N, C, H, G>, what: Load) -> u64
-        requires own { MayScan board.now (bundle self.old) }
+        requires of_board { MayScan board.now (bundle self.old) }
         requires inside { IsLoad N (depth N (width C H G)) what }
         ensures learns { ScanChangesBy N C H G (after N (width C H G) what result) (bundle self.old) (bundle self.new) }
         ensures told { LoadTells (width C H G) what (members_of (bundle self.old)) result };
@@ -64,7 +64,7 @@ impl<const N: usize, const C: usize, const H: usize, const G: usize> Board<N, C,
     /// is remembered of this segment has this number, its words need not be read.
     #[inline]
     pub fn open<S: ScanSeat<N, C, H, G>>(&self, seat: &mut S, place: usize) -> u64
-        requires own { MayScan self.now (S.bundle seat.old) }
+        requires of_board { MayScan self.now (S.bundle seat.old) }
         requires inside { place < N }
         ensures learns { ScanChangesBy N C H G (after_open place result) (S.bundle seat.old) (S.bundle seat.new) }
         ensures told { IsNumber place (members_of (S.bundle seat.old)) result }
@@ -83,7 +83,7 @@ impl<const N: usize, const C: usize, const H: usize, const G: usize> Board<N, C,
         number: u64,
         item: usize,
     ) -> u64
-        requires own { MayScan self.now (S.bundle seat.old) }
+        requires of_board { MayScan self.now (S.bundle seat.old) }
         requires inside { (place < N) × (item < depth N (width C H G)) }
         ensures learns { ScanChangesBy N C H G (after_read (width C H G) place number item result) (S.bundle seat.old)
             (S.bundle seat.new) }
@@ -104,7 +104,7 @@ impl<const N: usize, const C: usize, const H: usize, const G: usize> Board<N, C,
     /// asked, the next try, or the end of the scan.
     #[inline]
     pub fn confirm<S: ScanSeat<N, C, H, G>>(&self, seat: &mut S, place: usize) -> u64
-        requires own { MayScan self.now (S.bundle seat.old) }
+        requires of_board { MayScan self.now (S.bundle seat.old) }
         requires inside { place < N }
         ensures learns { ScanChangesBy N C H G (after_confirm N (width C H G) place result) (S.bundle seat.old)
             (S.bundle seat.new) }
@@ -117,7 +117,7 @@ impl<const N: usize, const C: usize, const H: usize, const G: usize> Board<N, C,
     /// vector and its totals are then read by [`Board::read_word`], in this order.
     #[inline]
     pub fn ask<S: ScanSeat<N, C, H, G>>(&self, seat: &mut S, place: usize) -> u64
-        requires own { MayScan self.now (S.bundle seat.old) }
+        requires of_board { MayScan self.now (S.bundle seat.old) }
         requires inside { place < N }
         ensures learns { ScanChangesBy N C H G (after_ask place result) (S.bundle seat.old) (S.bundle seat.new) }
         ensures told { IsNumber place (members_of (S.bundle seat.old)) result }
@@ -128,7 +128,7 @@ impl<const N: usize, const C: usize, const H: usize, const G: usize> Board<N, C,
     /// The confirming load of the worker that is asked: its number. Where it lends, the scan ends with its view.
     #[inline]
     pub fn end_ask<S: ScanSeat<N, C, H, G>>(&self, seat: &mut S, place: usize) -> u64
-        requires own { MayScan self.now (S.bundle seat.old) }
+        requires of_board { MayScan self.now (S.bundle seat.old) }
         requires inside { place < N }
         ensures learns { ScanChangesBy N C H G (after_end_ask N (width C H G) place result) (S.bundle seat.old)
             (S.bundle seat.new) }

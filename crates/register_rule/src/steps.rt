@@ -6,7 +6,7 @@ ghost use Rattle.ledger_core.specs.Row.{Accepts};
 ghost use Rattle.segment_layout.specs.Layout.{depth, span, words};
 ghost use Rattle.register_rule.specs.declared.view.Member.{Member};
 ghost use Rattle.register_rule.specs.Words.{version_item, IsPlaceOf};
-ghost use Rattle.register_rule.specs.Sums.{total};
+ghost use Rattle.register_rule.specs.Sums.{word_after};
 ghost use Rattle.register_rule.specs.ScanSteps.{after};
 ghost use Rattle.register_rule.specs.Members.{filled, published, picked, without, met};
 ghost use Rattle.register_rule.specs.Told.{IsLoad, word_of, LoadTells, IsNumber, AreRuledAt, HoldsNext};
@@ -69,7 +69,7 @@ impl<const N: usize, const C: usize, const H: usize, const G: usize> Board<N, C,
     /// One load of a scan by the first member of a bundle.
     #[inline]
     pub(crate) fn load(&self, bundle: &mut Bundle, what: Load) -> u64
-        requires own { MayScan self.now bundle.old }
+        requires of_board { MayScan self.now bundle.old }
         requires inside { IsLoad N (depth N (width C H G)) what }
         ensures learns { ScanChangesBy N C H G (after N (width C H G) what result) bundle.old bundle.new }
         ensures told { LoadTells (width C H G) what (members_of bundle.old) result }
@@ -89,10 +89,10 @@ impl<const N: usize, const C: usize, const H: usize, const G: usize> Board<N, C,
     /// and the lent totals stand. A word of the row is at most 2^48 - 1.
     #[inline]
     pub fn fill_word(&self, seat: &mut WorkSeat, item: usize, word: u64)
-        requires own { IsWorkSeatOf self.now seat.old }
+        requires of_board { IsWorkSeatOf self.now seat.old }
         requires inside { item < depth N (width C H G) }
         requires bounded { item < width C H G → word ≤ greatest_word }
-        ensures own { IsWorkSeatOf self.now seat.new }
+        ensures of_board { IsWorkSeatOf self.now seat.new }
         ensures index { index_of seat.new ≡ index_of seat.old }
         ensures member { worker_of seat.new ≡ filled item word (worker_of seat.old) }
     {
@@ -114,11 +114,11 @@ impl<const N: usize, const C: usize, const H: usize, const G: usize> Board<N, C,
     /// The hidden buffer has to hold the new row, the flag, and where an answer is lent its vector and its totals.
     #[inline]
     pub fn publish(&self, seat: &mut WorkSeat, ops: &[Op], lends: bool)
-        requires own { IsWorkSeatOf self.now seat.old }
+        requires of_board { IsWorkSeatOf self.now seat.old }
         requires room { length (worker_of seat.old).work.made + 1 < 18446744073709551616 }
         requires full { HoldsNext N (width C H G) (depth N (width C H G)) (sum_ops C H) ops.now lends (worker_of seat.old) }
-        requires accepted { Accepts C H G (total (sum_ops C H) (worker_of seat.old).work.made) ops.now }
-        ensures own { IsWorkSeatOf self.now seat.new }
+        requires accepted { Accepts C H G (word_after (sum_ops C H) (worker_of seat.old).work.made) ops.now }
+        ensures of_board { IsWorkSeatOf self.now seat.new }
         ensures index { index_of seat.new ≡ index_of seat.old }
         ensures member { worker_of seat.new ≡ published (width C H G) (index_of seat.old) ops.now lends (worker_of seat.old) }
     {
@@ -138,9 +138,9 @@ impl<const N: usize, const C: usize, const H: usize, const G: usize> Board<N, C,
     /// at hand, alone and in pairs, at the moment of the load.
     #[inline]
     pub fn tell(&self, bundle: &mut Bundle, place: usize) -> u64
-        requires own { IsSeatOf self.now bundle.old }
+        requires of_board { IsSeatOf self.now bundle.old }
         requires inside { place < N }
-        ensures own { table_of bundle.new ≡ table_of bundle.old }
+        ensures table { table_of bundle.new ≡ table_of bundle.old }
         ensures same { members_of bundle.new ≡ members_of bundle.old }
         ensures number { IsNumber place (members_of bundle.old) result }
         ensures ruled { AreRuledAt N (width C H G) (sum_ops C H) (Accepts C H G) place (members_of bundle.old) result }
@@ -156,9 +156,9 @@ impl<const N: usize, const C: usize, const H: usize, const G: usize> Board<N, C,
 
     /// Parts a member of a bundle from it, by one load: it gets a seat of its own.
     pub fn part(&self, bundle: &mut Bundle, who: Who) -> Bundle
-        requires own { IsSeatOf self.now bundle.old }
+        requires of_board { IsSeatOf self.now bundle.old }
         requires there { (m : Member) × (picked who (members_of bundle.old) ≡ m ∷ []) }
-        ensures own { (table_of bundle.new ≡ table_of bundle.old) × (table_of result ≡ table_of bundle.old) }
+        ensures table { (table_of bundle.new ≡ table_of bundle.old) × (table_of result ≡ table_of bundle.old) }
         ensures others { members_of bundle.new ≡ without who (members_of bundle.old) }
         ensures one { members_of result ≡ picked who (members_of bundle.old) }
     {
@@ -174,8 +174,8 @@ impl<const N: usize, const C: usize, const H: usize, const G: usize> Board<N, C,
     /// Joins the members of another bundle into this one, behind its own, by one load: they meet, and each has then
     /// seen what any of them has seen or made.
     pub fn join(&self, bundle: &mut Bundle, other: Bundle)
-        requires own { IsSeatOf self.now bundle.old × IsSeatOf self.now other }
-        ensures own { table_of bundle.new ≡ table_of bundle.old }
+        requires of_board { IsSeatOf self.now bundle.old × IsSeatOf self.now other }
+        ensures table { table_of bundle.new ≡ table_of bundle.old }
         ensures all { members_of bundle.new ≡ met (members_of bundle.old ++ members_of other) }
     {
         let Bundle { seat } = other;

@@ -3,7 +3,7 @@
 use ledger_core::Op;
 use std::collections::LinkedList;
 
-/// A member of a view: a worker, who writes one segment, or a reader.
+/// The name of a member of a view: of a worker, who writes one segment, or of a reader.
 #[derive(Clone, Copy, Debug)]
 pub enum Who {
     /// The worker that writes the segment of this number.
@@ -26,7 +26,8 @@ pub struct Look {
     pub place: usize,
     /// The number that the opening load found.
     pub number: u64,
-    /// The words of the buffer that this number shows, in their order.
+    /// The words of the buffer that this number shows, as many as were read, in their order: from the row's first word on in
+    /// a try, from the flag on where a worker is asked.
     pub words: LinkedList<u64>,
     /// Whether a confirming load found the number again.
     pub sure: bool,
@@ -93,9 +94,11 @@ pub struct ScanLog {
     pub recorded: LinkedList<Answer>,
     /// How many scans were given up.
     pub quit: u64,
-    /// For each segment the greatest number that is known to have been published.
+    /// For each segment the greatest number that the answers, the worker's own publishes and the meetings have reached. A
+    /// load alone does not raise it: its number stands in `opened`, `confirmed` or `asked`.
     pub seen: LinkedList<u64>,
-    /// For each segment the row that was confirmed last.
+    /// For each segment the row that is remembered: the one that was confirmed last, of a worker's own segment the one that it
+    /// published last where that is later, and zeros at first.
     pub kept: LinkedList<Version>,
     /// The scan in progress.
     pub now: ScanInProgress,

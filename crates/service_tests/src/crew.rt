@@ -52,8 +52,8 @@ pub(crate) fn last_reader<const N: usize, const C: usize, const H: usize, const 
     board: &Board<N, C, H, G>,
     readers: &mut Vec<Reader<N, C, H, G>>,
 ) -> Result<Reader<N, C, H, G>, Fail>
-    requires own { All (IsReaderOf board.now) readers.old.items }
-    ensures own { IfOk result (IsReaderOf board.now) }
+    requires of_board { All (IsReaderOf board.now) readers.old.items }
+    ensures of_board { IfOk result (IsReaderOf board.now) }
     ensures others { All (IsReaderOf board.now) readers.new.items }
 {
     match readers.pop() {
@@ -67,8 +67,8 @@ pub(crate) fn last_worker<const N: usize, const C: usize, const H: usize, const 
     board: &Board<N, C, H, G>,
     workers: &mut Vec<Worker<N, C, H, G>>,
 ) -> Result<Worker<N, C, H, G>, Fail>
-    requires own { All (IsWorkerOf board.now) workers.old.items }
-    ensures own { IfOk result (IsWorkerOf board.now) }
+    requires of_board { All (IsWorkerOf board.now) workers.old.items }
+    ensures of_board { IfOk result (IsWorkerOf board.now) }
     ensures others { All (IsWorkerOf board.now) workers.new.items }
 {
     match workers.pop() {
@@ -85,7 +85,7 @@ pub(crate) fn registry_of<'a, const N: usize, const C: usize, const H: usize, co
     readers: &mut Vec<Reader<N, C, H, G>>,
     window: usize,
 ) -> Registry<'a, N, C, H, G>
-    requires own { All (IsReaderOf board.now) readers.old.items }
+    requires of_board { All (IsReaderOf board.now) readers.old.items }
     ensures others { All (IsReaderOf board.now) readers.new.items }
 {
     let reader = done(rt, last_reader(board, readers));

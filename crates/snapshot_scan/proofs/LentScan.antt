@@ -39,7 +39,7 @@ module _ (n w k : ℕ) (adds : List Op → ℕ → ℕ) (accepts : (ℕ → ℕ)
 
   -- how often a worker that is lent has published
   lent_made : (i : ℕ) (m : Member) → IsWorkerAmong i m (m0 ∷ ms) → (i < n) × (length m.work.made ≡ length (ruled.made i))
-  lent_made i m s = let b = stands_behind i k m m0 ms is s in let o = ruled.own (suc b.0) i m b.1 b.2 in
+  lent_made i m s = let b = stands_behind i k m m0 ms is s in let o = ruled.workers (suc b.0) i m b.1 b.2 in
       (o.0, ap (λ (l : List _). length l) o.1)
 
   pub numbers_lent : (a : Answer) → IsAnswered n m0.scan c' a → HasNumbers (m0 ∷ ms) a.vector

@@ -22,7 +22,7 @@ use Rattle.register_rule.specs.declared.view.ScanLog.{ScanLog}
 use Rattle.register_rule.specs.History.{tab, count, numbers_after, IsCut, Below}
 use Rattle.register_rule.specs.SoundScans.{IsOneMoment}
 use Rattle.register_rule.specs.Seats.{HasMember}
-use Rattle.register_rule.specs.Sums.{total, row_sum, Legal}
+use Rattle.register_rule.specs.Sums.{word_after, vector_total, AcceptedInTurn}
 use Rattle.register_rule.specs.Told.{AreRuled}
 use Rattle.register_rule.proofs.Moments.{length_tab, tab_at, count_append, rises}
 use Rattle.register_rule.proofs.Words.{at_below, read_at}
@@ -50,7 +50,7 @@ nth_next (m ∷ ms) zero lt = refl
 nth_next (m ∷ ms) (suc s) lt = ap (λ (l : List (List Op)). m.ops ∷ l) (nth_next ms s (omega (arith, lt)))
 
 total_next : (adds : List Op → ℕ → ℕ) (l : List PublishEntry) (s k : ℕ) → s < length l
-    → total adds (take (suc s) l) k ≡ total adds
+    → word_after adds (take (suc s) l) k ≡ word_after adds
     (take s l) k + adds (nth l s) k
 total_next adds [] s k lt = absurd (omega (arith, lt))
 total_next adds (m ∷ ms) zero k lt = omega arith
@@ -58,16 +58,16 @@ total_next adds (m ∷ ms) (suc s) k lt = let e = total_next adds ms s k (omega 
 
 -- each list was accepted by the row of those before it
 legal_nth : (adds : List Op → ℕ → ℕ) (accepts : (ℕ → ℕ) → List Op → Type 0) (before l : List PublishEntry) (s : ℕ)
-    → Legal adds accepts before l → s < length l
-    → accepts (total adds (before ++ take s l)) (nth l s)
+    → AcceptedInTurn adds accepts before l → s < length l
+    → accepts (word_after adds (before ++ take s l)) (nth l s)
 legal_nth adds accepts before [] s legal lt = absurd (omega (arith, lt))
-legal_nth adds accepts before (m ∷ ms) zero legal lt = subst (λ (z : List PublishEntry). accepts (total adds z) m.ops)
+legal_nth adds accepts before (m ∷ ms) zero legal lt = subst (λ (z : List PublishEntry). accepts (word_after adds z) m.ops)
     (sym (append-nil before)) legal.0
 legal_nth adds accepts before (m ∷ ms) (suc s) legal lt =
-    subst (λ (z : List PublishEntry). accepts (total adds z) (nth ms s)) (append_assoc before (m ∷ []) (take s ms))
+    subst (λ (z : List PublishEntry). accepts (word_after adds z) (nth ms s)) (append_assoc before (m ∷ []) (take s ms))
     (legal_nth adds accepts (before ++ m ∷ []) ms s legal.1 (omega (arith, lt)))
 
-total_lists : (c h : ℕ) (l : List PublishEntry) (k : ℕ) → total (sum_ops c h) l k ≡ sum_lists c h (map ops_of l) k
+total_lists : (c h : ℕ) (l : List PublishEntry) (k : ℕ) → word_after (sum_ops c h) l k ≡ sum_lists c h (map ops_of l) k
 total_lists c h [] k = refl
 total_lists c h (m ∷ ms) k =
     let rest = total_lists c h ms k in
@@ -93,11 +93,11 @@ lists_append i (p ∷ ps) qs = by_case (lists_append i ps qs) (eqb p.worker i)
 
 -- the sums of rows, where a number rises by one, and where none does
 row_same : (adds : List Op → ℕ → ℕ) (made : ℕ → List PublishEntry) (f f' : ℕ → ℕ) (i m k : ℕ) → ((j : ℕ) → i ≤ j → f j ≡ f' j)
-    → row_sum adds made i (tab i m f) k ≡ row_sum adds made i (tab i m f') k
+    → vector_total adds made i (tab i m f) k ≡ vector_total adds made i (tab i m f') k
 row_same adds made f f' i zero k same = refl
 row_same adds made f f' i (suc m) k same =
-    let here : total adds (take (f i) (made i)) k ≡ total adds (take (f' i) (made i)) k =
-    ap (λ (s : ℕ). total adds (take s (made i)) k) (same i (omega arith)) in
+    let here : word_after adds (take (f i) (made i)) k ≡ word_after adds (take (f' i) (made i)) k =
+    ap (λ (s : ℕ). word_after adds (take s (made i)) k) (same i (omega arith)) in
     let rest = row_same adds made f f' (suc i) m k (λ j le. same j (omega (arith, le))) in
     omega (arith, here, rest)
 
@@ -105,26 +105,26 @@ row_next : (adds : List Op → ℕ → ℕ) (made : ℕ → List PublishEntry) (
     → f' x ≡ suc (f x)
     → f x < length (made x)
     → ((j : ℕ) → j ≢ x → f j ≡ f' j)
-    → row_sum adds made i (tab i m f') k ≡ row_sum adds made i (tab i m f) k + adds (nth (made x) (f x)) k
+    → vector_total adds made i (tab i m f') k ≡ vector_total adds made i (tab i m f) k + adds (nth (made x) (f x)) k
 row_next adds made f f' x i zero k low high up room same = absurd (omega (arith, low, high))
 row_next adds made f f' x i (suc m) k low high up room same = dite (ℕ_discrete i x)
     (λ e.
-    let here : total adds (take (f' i) (made i)) k ≡ total adds (take (f i) (made i)) k + adds (nth (made x) (f x)) k =
-    subst (λ (z : ℕ). total adds (take (f' z) (made z)) k ≡ total adds (take (f z) (made z)) k + adds (nth (made x) (f x)) k)
+    let here : word_after adds (take (f' i) (made i)) k ≡ word_after adds (take (f i) (made i)) k + adds (nth (made x) (f x)) k =
+    subst (λ (z : ℕ). word_after adds (take (f' z) (made z)) k ≡ word_after adds (take (f z) (made z)) k + adds (nth (made x) (f x)) k)
     (sym e)
-    (ap (λ (s : ℕ). total adds (take s (made x)) k) up ∙ total_next adds (made x) (f x) k room) in
+    (ap (λ (s : ℕ). word_after adds (take s (made x)) k) up ∙ total_next adds (made x) (f x) k room) in
     let rest = row_same adds made f f' (suc i) m k (λ j le. same j (λ z. let y : j ≡ i = z ∙ sym e in omega (arith, y, le))) in
     omega (arith, here, rest))
     (λ other.
-    let here : total adds (take (f i) (made i)) k ≡ total adds (take (f' i) (made i)) k =
-    ap (λ (s : ℕ). total adds (take s (made i)) k) (same i other) in
+    let here : word_after adds (take (f i) (made i)) k ≡ word_after adds (take (f' i) (made i)) k =
+    ap (λ (s : ℕ). word_after adds (take s (made i)) k) (same i other) in
     let rest = row_next adds made f f' x (suc i) m k
     (elim (cases_lt i x) [ inl lt ↦ omega (arith, lt) | inr le ↦ absurd (other (omega (arith, le, low))) ])
     (omega (arith, high)) up room same in
     omega (arith, here, rest))
 
 row_none : (adds : List Op → ℕ → ℕ) (made : ℕ → List PublishEntry) (i m k : ℕ)
-    → row_sum adds made i (tab i m (λ j. count j [])) k ≡ 0
+    → vector_total adds made i (tab i m (λ j. count j [])) k ≡ 0
 row_none adds made i zero k = refl
 row_none adds made i (suc m) k = let rest = row_none adds made (suc i) m k in omega (arith, rest)
 
@@ -214,7 +214,7 @@ module _ (n : ℕ) (made : ℕ → List PublishEntry) where
 
   -- what they add up to
   abbrev rows_at : (adds : List Op → ℕ → ℕ) → List ℕ → (k : ℕ) → ℕ
-  rows_at adds order k = row_sum adds made 0 (numbers_after n order) k
+  rows_at adds order k = vector_total adds made 0 (numbers_after n order) k
 
   sum_one : (c h : ℕ) (before : List ℕ) (x k : ℕ) (d : (x < n) ⊎ (n ≤ x))
       → ((i : ℕ) → i < n → count i (before ++ x ∷ []) ≤ length (made i))
@@ -232,7 +232,7 @@ module _ (n : ℕ) (made : ℕ → List PublishEntry) where
       tab_same (λ i. count i before) (λ i. count i (before ++ x ∷ [])) 0 n (λ i lt. let a = count_append i before (x ∷ []) in
       let b = count_one i x (λ e. omega (arith, e, le, lt)) in omega (arith, a, b)) in
       let e : rows_at (sum_ops c h) before k ≡ rows_at (sum_ops c h) (before ++ x ∷ []) k =
-      ap (λ (v : List ℕ). row_sum (sum_ops c h) made 0 v k) same in
+      ap (λ (v : List ℕ). vector_total (sum_ops c h) made 0 v k) same in
       omega (arith, e)
 
   sum_is : (c h : ℕ) (before order : List ℕ) (k : ℕ) → ((i : ℕ) → i < n → count i (before ++ order) ≤ length (made i))
@@ -255,12 +255,12 @@ module _ (n : ℕ) (made : ℕ → List PublishEntry) where
       omega (arith, one, rest, cut, e)
 
   -- each is accepted
-  module _ (c h g : ℕ) (legal : (i : ℕ) → i < n → Legal (sum_ops c h) (Accepts c h g) [] (made i)) where
+  module _ (c h g : ℕ) (legal : (i : ℕ) → i < n → AcceptedInTurn (sum_ops c h) (Accepts c h g) [] (made i)) where
     accepted_one : (before : List ℕ) (done : List Publish) (x : ℕ) (lt : x < n) → lists_at x before ≡ lists_by x done
         → count x before < length (made x)
         → Accepts c h g (sum_lists c h (lists_by x done)) (nth (made x) (count x before))
     accepted_one before done x lt are room =
-        accepts_same c h g (total (sum_ops c h) (take (count x before) (made x))) (sum_lists c h (lists_by x done))
+        accepts_same c h g (word_after (sum_ops c h) (take (count x before) (made x))) (sum_lists c h (lists_by x done))
         (nth (made x) (count x before))
         (λ k _. total_lists c h (take (count x before) (made x)) k ∙ ap (λ (l : List (List Op)). sum_lists c h l k) are)
         (legal_nth (sum_ops c h) (Accepts c h g) [] (made x) (count x before) (legal x lt) room)
@@ -406,9 +406,9 @@ module _ (n c h g : ℕ) (ms : List Member) (ruled : AreRuled n (width c h g) (s
     numbers = moment ∙ tab_same (λ i. count i (take t order)) (λ i. length (lists_by i (before t))) 0 n
         (λ i lt. let in_n : i < n = omega (arith, lt) in lists_many n made (take t order) i in_n (room t i in_n));
     totals = λ k lt.
-        let is : slice_index a.totals k ≡ row_sum (sum_ops c h) made 0 a.vector k = read_at a.totals k _ 0 (entry.sums k lt) in
-        let same : row_sum (sum_ops c h) made 0 a.vector k ≡ row_sum (sum_ops c h) made 0 (numbers_after n (take t order)) k =
-        ap (λ (v : List ℕ). row_sum (sum_ops c h) made 0 v k) moment in
+        let is : slice_index a.totals k ≡ vector_total (sum_ops c h) made 0 a.vector k = read_at a.totals k _ 0 (entry.sums k lt) in
+        let same : vector_total (sum_ops c h) made 0 a.vector k ≡ vector_total (sum_ops c h) made 0 (numbers_after n (take t order)) k =
+        ap (λ (v : List ℕ). vector_total (sum_ops c h) made 0 v k) moment in
         let none = row_none (sum_ops c h) made 0 n k in
         let all = sum_is n made c h [] (take t order) k (room t) in
         omega (arith, is, same, none, all);

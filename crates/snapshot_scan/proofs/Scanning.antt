@@ -264,7 +264,7 @@ pub may_try : {N C H G : ℕ} (b : Board N C H G) (s s' : Bundle) (k : ℕ) (tri
 may_try {N} {C} {H} {G} b s s' k tries gs floor base opened own geo same few long wide count view lt =
     let stands = at_loop N k tries gs floor base (members_of s) (members_of s') count lt view in
     let scan = now_is (stood tries gs floor base (scan_of (members_of s))) (members_of s) (members_of s') own.1 stands in record {
-      own = (same ∙ own.0, still_some _ (members_of s) (members_of s') own.1 stands);
+      of_board = (same ∙ own.0, still_some _ (members_of s) (members_of s') own.1 stands);
       geometry = geo;
       lengths = (few, long);
       wide = wide;

@@ -7,16 +7,16 @@ use lib.ListN.{get_elem?}
 use Rattle.register_rule.specs.declared.view.Look.{Look}
 use Rattle.register_rule.specs.declared.view.Version.{Version}
 use Rattle.register_rule.specs.declared.view.ScanLog.{ScanLog}
-use Rattle.register_rule.specs.ScanSteps.{begun, settled, remembered, confirmed_at}
+use Rattle.register_rule.specs.ScanSteps.{begun, confirmed_look, remembered, confirmed_at}
 use Rattle.snapshot_scan.specs.declared.remembered_row.RememberedRow.{RememberedRow}
 use Rattle.snapshot_scan.specs.RememberedRows.{version_of, IsWide, AreWide, words_of, looks_of, pairs, settling, sum_rows}
 use Rattle.snapshot_scan.proofs.Words.{map_set, set_same, at_map}
 use Rattle.snapshot_scan.proofs.Opening.{pairs_snoc}
 
-settled_else : (i s : ℕ) (l : Look) → l.place ≢ i → settled i s l ≡ l
+settled_else : (i s : ℕ) (l : Look) → l.place ≢ i → confirmed_look i s l ≡ l
 settled_else i s l ne = ap (λ (z : Bool). cond z (record l { sure = l.sure || l.number == s; found = s }) l) (ne_eqb l.place i ne)
 
-pub settled_here : (i s o : ℕ) (ws : List ℕ) → settled i s (begun i o ws) ≡ record {
+pub settled_here : (i s o : ℕ) (ws : List ℕ) → confirmed_look i s (begun i o ws) ≡ record {
   place = i;
   number = o;
   words = ws;
@@ -26,37 +26,37 @@ pub settled_here : (i s o : ℕ) (ws : List ℕ) → settled i s (begun i o ws) 
 settled_here i s o ws = ap (λ (z : Bool). cond z (record { place = i; number = o; words = ws; sure = o == s; found = s })
     (begun i o ws)) (eq-eqb i i refl)
 
-settled_place : (i s o : ℕ) (ws : List ℕ) → (settled i s (begun i o ws)).place ≡ i
+settled_place : (i s o : ℕ) (ws : List ℕ) → (confirmed_look i s (begun i o ws)).place ≡ i
 settled_place i s o ws = ap (λ (l : Look). l.place) (settled_here i s o ws)
 
 settled_after : (i s q : ℕ) (opened found : List ℕ) (gs : List RememberedRow) → i < q
-    → map (settled i s) (looks_of q opened found gs) ≡ looks_of q opened found gs
+    → map (confirmed_look i s) (looks_of q opened found gs) ≡ looks_of q opened found gs
 settled_after i s q [] found gs h = refl
 settled_after i s q (o ∷ opened) found [] h = refl
 settled_after i s q (o ∷ opened) [] (g ∷ gs) h = let a = settled_else i s (begun q o (words_of o g)) (λ e. omega (arith, h, e)) in
     let rest = settled_after i s (suc q) opened [] gs (omega (arith, h)) in λ z. a z ∷ rest z
 settled_after i s q (o ∷ opened) (f ∷ found) (g ∷ gs) h =
     let p = settled_place q f o (words_of o g) in
-    let a = settled_else i s (settled q f (begun q o (words_of o g))) (λ e. omega (arith, h, e, p)) in
+    let a = settled_else i s (confirmed_look q f (begun q o (words_of o g))) (λ e. omega (arith, h, e, p)) in
     let rest = settled_after i s (suc q) opened found gs (omega (arith, h)) in λ z. a z ∷ rest z
 
--- the look of the next place is settled
+-- the look of the next place is confirmed_look
 settle_looks : (i s q o : ℕ) (opened pre : List ℕ) (gs : List RememberedRow) (g g' : RememberedRow) → i ≡ q + length pre
     → get_elem? opened (length pre) ≡ some o → get_elem? gs (length pre) ≡ some g → words_of o g' ≡ words_of o g
-    → map (settled i s) (looks_of q opened pre gs) ≡ looks_of q opened (pre ++ s ∷ []) (set gs (length pre) g')
+    → map (confirmed_look i s) (looks_of q opened pre gs) ≡ looks_of q opened (pre ++ s ∷ []) (set gs (length pre) g')
 settle_looks i s q o [] pre gs g g' e at there same = absurd (some-ne-none o (sym at))
 settle_looks i s q o (x ∷ opened) pre [] g g' e at there same = absurd (some-ne-none g (sym there))
 settle_looks i s q o (x ∷ opened) [] (y ∷ gs) g g' e at there same =
     let is : i ≡ q = omega (arith, e) in let ox = some-injective x o at in let yg = some-injective y g there in
-    let head : settled i s (begun q x (words_of x y)) ≡ settled q s (begun q x (words_of x g')) =
-    (λ z. settled (is z) s (begun q (ox z) (words_of (ox z) (yg z))))
-    ∙ (ap (λ (ws : List ℕ). settled q s (begun q o ws)) (sym same) ∙ ap (λ (n : ℕ). settled q s (begun q n (words_of n g')))
+    let head : confirmed_look i s (begun q x (words_of x y)) ≡ confirmed_look q s (begun q x (words_of x g')) =
+    (λ z. confirmed_look (is z) s (begun q (ox z) (words_of (ox z) (yg z))))
+    ∙ (ap (λ (ws : List ℕ). confirmed_look q s (begun q o ws)) (sym same) ∙ ap (λ (n : ℕ). confirmed_look q s (begun q n (words_of n g')))
     (sym ox)) in
     let rest = settled_after i s (suc q) opened [] gs (omega (arith, is)) in
     λ z. head z ∷ rest z
 settle_looks i s q o (x ∷ opened) (f ∷ pre) (y ∷ gs) g g' e at there same =
     let p = settled_place q f x (words_of x y) in
-    let a = settled_else i s (settled q f (begun q x (words_of x y))) (λ h. omega (arith, h, e, p)) in
+    let a = settled_else i s (confirmed_look q f (begun q x (words_of x y))) (λ h. omega (arith, h, e, p)) in
     let rest = settle_looks i s (suc q) o opened pre gs g g' (omega (arith, e)) at there same in
     λ z. a z ∷ rest z
 
@@ -78,7 +78,7 @@ remembered_after w i q (o ∷ opened) [] (g ∷ gs) kept h =
     ∙ remembered_after w i (suc q) opened [] gs kept (omega (arith, h))
 remembered_after w i q (o ∷ opened) (f ∷ found) (g ∷ gs) kept h =
     let p = settled_place q f o (words_of o g) in
-    remembered_skip w i (settled q f (begun q o (words_of o g))) (looks_of (suc q) opened found gs) kept
+    remembered_skip w i (confirmed_look q f (begun q o (words_of o g))) (looks_of (suc q) opened found gs) kept
     (λ e. omega (arith, h, e, p)) ∙ remembered_after w i (suc q) opened found gs kept (omega (arith, h))
 
 remembered_at : (w i s q o : ℕ) (opened pre : List ℕ) (gs : List RememberedRow) (g : RememberedRow) (kept : List Version)
@@ -91,7 +91,7 @@ remembered_at w i s q o (x ∷ opened) [] (y ∷ gs) g kept e at there wide =
     let is : q ≡ i = omega (arith, e) in let ox = some-injective x o at in let yg = some-injective y g there in
     let ls = looks_of (suc q) opened [] gs in
     let new : Look = record { place = i; number = o; words = words_of o g; sure = o == s; found = s } in
-    let head : settled q s (begun q x (words_of x y)) ≡ new = settled_here q s x (words_of x y)
+    let head : confirmed_look q s (begun q x (words_of x y)) ≡ new = settled_here q s x (words_of x y)
     ∙ (λ z. record { place = is z; number = ox z; words = words_of (ox z) (yg z); sure = ox z == s; found = s }) in
     ap (λ (l : Look). remembered w i (l ∷ ls) kept) head
     ∙ (ap (λ (z : Bool). cond (z && (o == s) && length (words_of o g) == w)
@@ -107,7 +107,7 @@ remembered_at w i s q o (x ∷ opened) [] (y ∷ gs) g kept e at there wide =
     both false x y = refl
 remembered_at w i s q o (x ∷ opened) (f ∷ pre) (y ∷ gs) g kept e at there wide =
     let p = settled_place q f x (words_of x y) in
-    remembered_skip w i (settled q f (begun q x (words_of x y))) (looks_of (suc q) opened (pre ++ s ∷ []) gs) kept
+    remembered_skip w i (confirmed_look q f (begun q x (words_of x y))) (looks_of (suc q) opened (pre ++ s ∷ []) gs) kept
     (λ h. omega (arith, h, e, p))
     ∙ remembered_at w i s (suc q) o opened pre gs g kept (omega (arith, e)) at there wide
 
@@ -125,7 +125,7 @@ confirms_more w s o opened pre gs g g' c at there wide same version =
     let i = length pre in
     let gs' = set gs i g' in
     let e : i ≡ 0 + i = omega arith in
-    let looks : map (settled i s) (looks_of 0 opened pre gs) ≡ looks_of 0 opened (pre ++ s ∷ []) gs' =
+    let looks : map (confirmed_look i s) (looks_of 0 opened pre gs) ≡ looks_of 0 opened (pre ++ s ∷ []) gs' =
     settle_looks i s 0 o opened pre gs g g' e at there same in
     let loads : (c.confirmed ++ pairs 0 pre) ++ (i, s) ∷ [] ≡ c.confirmed ++ pairs 0 (pre ++ s ∷ []) =
     append_assoc c.confirmed (pairs 0 pre) ((i, s) ∷ [])
@@ -134,7 +134,7 @@ confirms_more w s o opened pre gs g g' c at there wide same version =
     (pre ++ s ∷ []) =
     append_assoc c.before (map (λ _. length c.opened) pre) (length c.opened ∷ [])
     ∙ ap (λ z. c.before ++ z) (sym (map_push (λ _. length c.opened) pre s)) in
-    let kept : remembered w i (map (settled i s) (looks_of 0 opened pre gs)) (map version_of gs) ≡ map version_of gs' =
+    let kept : remembered w i (map (confirmed_look i s) (looks_of 0 opened pre gs)) (map version_of gs) ≡ map version_of gs' =
     ap (λ (z : List Look). remembered w i z (map version_of gs)) looks
     ∙ (remembered_at w i s 0 o opened pre gs' g' (map version_of gs) e at (set_at gs i g' g there)
     (ap (λ (z : List ℕ). length z) same ∙ wide)

@@ -17,7 +17,7 @@ use Rattle.register_rule.specs.declared.view.ScanLog.{ScanLog}
 use Rattle.register_rule.specs.History.{Below}
 use Rattle.register_rule.specs.Seats.{HasMember}
 use Rattle.register_rule.specs.ScanSteps.{upper}
-use Rattle.register_rule.specs.Sums.{total, row_sum}
+use Rattle.register_rule.specs.Sums.{word_after, vector_total}
 use Rattle.register_rule.specs.Told.{AreRuled}
 use Rattle.register_rule.proofs.Words.{at_below, read_at}
 use Rattle.snapshot_scan.specs.Shape.{scan_of}
@@ -67,14 +67,14 @@ upper_above (x ∷ u) (t ∷ v) (suc i) z y below e f = upper_above u v i z y (�
 
 -- the first publishes of a worker add no more than some more of them
 total_front : (adds : List Op → ℕ → ℕ) (xs : List PublishEntry) (s t k : ℕ) → s ≤ t
-    → total adds (take s xs) k ≤ total adds (take t xs) k
+    → word_after adds (take s xs) k ≤ word_after adds (take t xs) k
 total_front adds xs zero t k le = omega arith
 total_front adds xs (suc s) zero k le = absurd (omega (arith, le))
 total_front adds [] (suc s) (suc t) k le = omega arith
 total_front adds (x ∷ xs) (suc s) (suc t) k le = let rest = total_front adds xs s t k (omega (arith, le)) in omega (arith, rest)
 
 sum_front : (adds : List Op → ℕ → ℕ) (made : ℕ → List PublishEntry) (i : ℕ) (u v : List ℕ) (k : ℕ) → length u ≡ length v
-    → ((j : ℕ) → slice_index u j ≤ slice_index v j) → row_sum adds made i u k ≤ row_sum adds made i v k
+    → ((j : ℕ) → slice_index u j ≤ slice_index v j) → vector_total adds made i u k ≤ vector_total adds made i v k
 sum_front adds made i [] [] k e le = omega arith
 sum_front adds made i [] (t ∷ v) k e le = absurd (omega (arith, e))
 sum_front adds made i (s ∷ u) [] k e le = absurd (omega (arith, e))

@@ -12,7 +12,7 @@ use Rattle.ledger_core.proofs.Legal.{legal_zeros, legal_ops, legal_sums, sum_sam
 use Rattle.register_rule.specs.declared.view.PublishEntry.{PublishEntry}
 use Rattle.register_rule.specs.declared.view.Answer.{Answer}
 use Rattle.register_rule.specs.declared.view.Member.{Member}
-use Rattle.register_rule.specs.Sums.{total, row_sum, Legal}
+use Rattle.register_rule.specs.Sums.{word_after, vector_total, AcceptedInTurn}
 use Rattle.register_rule.specs.SoundScans.{IsOneMoment}
 use Rattle.register_rule.specs.Told.{AreRuled}
 use Rattle.register_rule.proofs.Moments.{length_tab}
@@ -23,48 +23,48 @@ use Rattle.snapshot_scan.specs.Snapshots.{AreLow}
 -- a row of c counters, h histograms and g gauges
 module _ (c h g : ℕ) where
   abbrev AreAccepted : (before after : List PublishEntry) → Type 0
-  AreAccepted before after = Legal (sum_ops c h) (Accepts c h g) before after
+  AreAccepted before after = AcceptedInTurn (sum_ops c h) (Accepts c h g) before after
 
   -- each version of a worker has words of at most 2^48 - 1
   row_low : (k : ℕ) → k < width c h g → (before after : List PublishEntry) (s : ℕ)
-      → total (sum_ops c h) before k ≤ 281474976710655
+      → word_after (sum_ops c h) before k ≤ 281474976710655
       → AreAccepted before after
-      → total (sum_ops c h) (before ++ take s after) k ≤ 281474976710655
-  row_low k lt before after zero low legal = subst (λ (z : List PublishEntry). total (sum_ops c h) z k ≤ 281474976710655)
+      → word_after (sum_ops c h) (before ++ take s after) k ≤ 281474976710655
+  row_low k lt before after zero low legal = subst (λ (z : List PublishEntry). word_after (sum_ops c h) z k ≤ 281474976710655)
       (sym (append-nil before)) low
-  row_low k lt before [] (suc s) low legal = subst (λ (z : List PublishEntry). total (sum_ops c h) z k ≤ 281474976710655)
+  row_low k lt before [] (suc s) low legal = subst (λ (z : List PublishEntry). word_after (sum_ops c h) z k ≤ 281474976710655)
       (sym (append-nil before)) low
   row_low k lt before (x ∷ xs) (suc s) low legal =
-      let fits : total (sum_ops c h) before k + sum_ops c h (take (length x.ops) x.ops) k ≤ 281474976710655 =
+      let fits : word_after (sum_ops c h) before k + sum_ops c h (take (length x.ops) x.ops) k ≤ 281474976710655 =
       legal.0.fits (length x.ops) (omega arith) k lt in
       let all : sum_ops c h (take (length x.ops) x.ops) k ≡ sum_ops c h x.ops k = ap (λ (z : List Op). sum_ops c h z k)
       (take-length x.ops) in
       let one = total_last (sum_ops c h) before x k in
-      subst (λ (z : List PublishEntry). total (sum_ops c h) z k ≤ 281474976710655) (append_assoc before (x ∷ []) (take s xs))
+      subst (λ (z : List PublishEntry). word_after (sum_ops c h) z k ≤ 281474976710655) (append_assoc before (x ∷ []) (take s xs))
       (row_low k lt (before ++ x ∷ []) xs s (omega (arith, fits, all, one)) legal.1)
 
   -- and is legal
   row_legal : (before after : List PublishEntry) (s : ℕ) → AreAccepted before after
-      → IsLegal c h (total (sum_ops c h) (take s after))
+      → IsLegal c h (word_after (sum_ops c h) (take s after))
   row_legal before after zero legal = legal_zeros c h 0
   row_legal before [] (suc s) legal = legal_zeros c h 0
   row_legal before (x ∷ xs) (suc s) legal =
-      legal_sums c h (sum_ops c h x.ops) (total (sum_ops c h) (take s xs)) (legal_ops c h g x.ops legal.0.within)
+      legal_sums c h (sum_ops c h x.ops) (word_after (sum_ops c h) (take s xs)) (legal_ops c h g x.ops legal.0.within)
       (row_legal (before ++ x ∷ []) xs s legal.1)
 
   module _ (n : ℕ) (made : ℕ → List PublishEntry) (legal : (i : ℕ) → i < n → AreAccepted [] (made i)) where
     sum_low : (k : ℕ) → k < width c h g → (i : ℕ) (vector : List ℕ) → i + length vector ≤ n
-        → row_sum (sum_ops c h) made i vector k ≤ length vector * 281474976710655
+        → vector_total (sum_ops c h) made i vector k ≤ length vector * 281474976710655
     sum_low k lt i [] le = omega arith
     sum_low k lt i (s ∷ vector) le =
         let one = row_low k lt [] (made i) s (omega arith) (legal i (omega (arith, le))) in
         let rest = sum_low k lt (suc i) vector (omega (arith, le)) in
         omega (arith, one, rest)
 
-    sum_legal : (i : ℕ) (vector : List ℕ) → i + length vector ≤ n → IsLegal c h (row_sum (sum_ops c h) made i vector)
+    sum_legal : (i : ℕ) (vector : List ℕ) → i + length vector ≤ n → IsLegal c h (vector_total (sum_ops c h) made i vector)
     sum_legal i [] le = legal_zeros c h 0
     sum_legal i (s ∷ vector) le =
-        legal_sums c h (total (sum_ops c h) (take s (made i))) (row_sum (sum_ops c h) made (suc i) vector)
+        legal_sums c h (word_after (sum_ops c h) (take s (made i))) (vector_total (sum_ops c h) made (suc i) vector)
         (row_legal [] (made i) s (legal i (omega (arith, le)))) (sum_legal (suc i) vector (omega (arith, le)))
 
   -- words that agree with those of a legal row are legal
@@ -87,7 +87,7 @@ module _ (n c h g : ℕ) (few : n ≤ 32) (ms : List Member) (ruled : AreRuled n
   pub numbers_long : length a.vector ≡ n
   numbers_long = ap length entry.moment.2 ∙ length_tab 0 n _
 
-  pub sum_at : (k : ℕ) → k < width c h g → slice_index a.totals k ≡ row_sum (sum_ops c h) ruled.made 0 a.vector k
+  pub sum_at : (k : ℕ) → k < width c h g → slice_index a.totals k ≡ vector_total (sum_ops c h) ruled.made 0 a.vector k
   sum_at k lt = read_at a.totals k _ 0 (entry.sums k lt)
 
   -- each of its totals is below 2^53
@@ -99,5 +99,5 @@ module _ (n c h g : ℕ) (few : n ≤ 32) (ms : List Member) (ruled : AreRuled n
 
   -- and of each histogram the buckets add up to the count
   pub totals_legal : IsLegal c h (slice_index a.totals)
-  totals_legal = legal_within c h g (row_sum (sum_ops c h) ruled.made 0 a.vector) (slice_index a.totals) sum_at
+  totals_legal = legal_within c h g (vector_total (sum_ops c h) ruled.made 0 a.vector) (slice_index a.totals) sum_at
       (sum_legal c h g n ruled.made ruled.legal 0 a.vector (omega (arith, numbers_long)))

@@ -16,7 +16,7 @@ use Rattle.register_rule.specs.declared.view.ScanInProgress.{ScanInProgress}
 use Rattle.register_rule.specs.declared.view.ScanLog.{ScanLog}
 use Rattle.register_rule.specs.History.{tab}
 use Rattle.register_rule.specs.SoundScans.{opened_at}
-use Rattle.register_rule.specs.ScanSteps.{every, begun, settled, clean, are_clean, sum_words, answer_of_try, found_of, due_of}
+use Rattle.register_rule.specs.ScanSteps.{every, begun, confirmed_look, clean, are_clean, sum_words, answer_of_try, found_of, due_of}
 use Rattle.register_rule.specs.ScanSteps.{with_base, failed_once_more, answered, given_up_if_spent, ended, at_rest}
 use Rattle.snapshot_scan.specs.declared.remembered_row.RememberedRow.{RememberedRow}
 use Rattle.snapshot_scan.specs.RememberedRows.{version_of, AreWide, AreTotals, words_of, looks_of, pairs, opening, settling}
@@ -26,7 +26,7 @@ use Rattle.snapshot_scan.specs.Scanned.{Tried, all_opened, all_confirmed, all_be
 use Rattle.snapshot_scan.proofs.Opening.{looks_long}
 use Rattle.snapshot_scan.proofs.Settling.{settled_here, words_wide}
 
-clean_here : (w q s f : ℕ) (ws : List ℕ) → length ws ≡ w → clean w (settled q f (begun q s ws)) ≡ (s == f)
+clean_here : (w q s f : ℕ) (ws : List ℕ) → length ws ≡ w → clean w (confirmed_look q f (begun q s ws)) ≡ (s == f)
 clean_here w q s f ws long = ap (clean w) (settled_here q f s ws)
     ∙ (ap (λ (b : Bool). (s == f) && b) (eq-eqb (length ws) w long) ∙ and_true (s == f))
   where
@@ -49,7 +49,7 @@ clean_same w q [] (f ∷ found) gs wide h k t = absurd (omega (arith, h, k))
 clean_same w q (s ∷ opened) [] gs wide h k t = absurd (omega (arith, h, k))
 clean_same w q (s ∷ opened) (f ∷ found) [] wide h k t = absurd (omega (arith, h))
 clean_same w q (s ∷ opened) (f ∷ found) (g ∷ gs) wide h k t =
-    let b = and_parts (clean w (settled q f (begun q s (words_of s g)))) (every (clean w) (looks_of (suc q) opened found gs)) t in
+    let b = and_parts (clean w (confirmed_look q f (begun q s (words_of s g)))) (every (clean w) (looks_of (suc q) opened found gs)) t in
     let same : s ≡ f = eqb-true s f (sym (clean_here w q s f (words_of s g) (words_wide w s g (wide 0 g refl))) ∙ b.0) in
     let others = clean_same w (suc q) opened found gs (λ p x e. wide (suc p) x e) (omega (arith, h)) (omega (arith, k)) b.1 in
     λ z. same z ∷ others z

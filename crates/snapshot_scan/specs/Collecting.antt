@@ -18,7 +18,7 @@ use Rattle.snapshot_scan.specs.RememberedRows.{AreWide, AreKnown, IsLoaded, vers
 -- a second collect may be made: by a seat that can make steps of a scan, whose member remembers these rows, and has opened all of
 -- its board's places at these numbers
 pub record MayConfirm {N C H G : ℕ} (b : Board N C H G) (s : Bundle) (gs : List RememberedRow) (opened : List ℕ) : Type 0 where
-  pub own : MayScan b s
+  pub of_board : MayScan b s
   pub geometry : IsGeometry N C H G
   pub lengths : (length gs ≡ N) × (length opened ≡ N)
   pub wide : AreWide (width C H G) gs

@@ -23,7 +23,7 @@ use Rattle.snapshot_scan.specs.Shape.{scan_in, with_scan, IsRuled}
 -- a try may be made: by a seat that can make steps of a scan, whose member remembers these rows, and has no try begun; what the
 -- try opens has a place for each worker
 pub record MayTry {N C H G : ℕ} (b : Board N C H G) (s : Bundle) (gs : List RememberedRow) (opened : List ℕ) : Type 0 where
-  pub own : MayScan b s
+  pub of_board : MayScan b s
   pub geometry : IsGeometry N C H G
   pub lengths : (length gs ≡ N) × (length opened ≡ N)
   pub wide : AreWide (width C H G) gs
@@ -42,7 +42,7 @@ pub record MayBegin {N C H G : ℕ} (b : Board N C H G) (s : Bundle) (gs : List 
 -- the worker at this place may be asked, the next one that is to be: by a seat whose floor this is, with rows of so many words,
 -- and with a place for the words that it lends
 pub record MayAskOne {N C H G : ℕ} (b : Board N C H G) (s : Bundle) (place row : ℕ) (floors words : List ℕ) : Type 0 where
-  pub own : MayScan b s
+  pub of_board : MayScan b s
   pub geometry : IsGeometry N C H G
   pub inside : place < N
   pub lengths : (row ≡ width C H G) × (length floors ≡ N) × (length words ≡ 1 + N + width C H G)
@@ -52,7 +52,7 @@ pub record MayAskOne {N C H G : ℕ} (b : Board N C H G) (s : Bundle) (place row
 
 -- all workers may be asked that are to be: those whose number, as it was found, is at least two above its base
 pub record MayAskAll {N C H G : ℕ} (b : Board N C H G) (s : Bundle) (row : ℕ) (floor base found words : List ℕ) : Type 0 where
-  pub own : MayScan b s
+  pub of_board : MayScan b s
   pub ruled : IsRuled N C H G s
   pub geometry : IsGeometry N C H G
   pub lengths : (row ≡ width C H G) × (length floor ≡ N) × (length base ≡ N) × (length found ≡ N)
@@ -63,7 +63,7 @@ pub record MayAskAll {N C H G : ℕ} (b : Board N C H G) (s : Bundle) (row : ℕ
 -- It `is_known` where each row was remembered under its number, and `is_clean` where each number was found again
 pub record HasTried (N C H G : ℕ) (s s' : Bundle) (gs gs' : List RememberedRow) (sums sums' opened found : List ℕ)
     (changed changed' : ChangedView) (is_known is_clean : Bool) : Type 0 where
-  pub own : table_of s' ≡ table_of s
+  pub table : table_of s' ≡ table_of s
   pub ruled : IsRuled N C H G s'
   pub wide : AreWide (width C H G) gs'
   pub totals : AreTotals (width C H G) gs' sums'
@@ -84,7 +84,7 @@ pub record HasTried (N C H G : ℕ) (s s' : Bundle) (gs gs' : List RememberedRow
 -- that were lent, and where the sums changed
 pub record HasEnded (N C H G : ℕ) (s s' : Bundle) (gs gs' : List RememberedRow) (sums sums' opened found words : List ℕ)
     (changed : ChangedView) (end : ScanEnd) : Type 0 where
-  pub own : table_of s' ≡ table_of s
+  pub table : table_of s' ≡ table_of s
   pub ruled : IsRuled N C H G s'
   pub wide : AreWide (width C H G) gs'
   pub totals : AreTotals (width C H G) gs' sums'

@@ -7,7 +7,7 @@ use lib.ListN.{get_elem?}
 use Rattle.register_rule.specs.declared.view.Version.{Version}
 use Rattle.register_rule.specs.declared.view.Look.{Look}
 use Rattle.register_rule.specs.declared.view.ScanLog.{ScanLog}
-use Rattle.register_rule.specs.ScanSteps.{begun, settled, with_base, failed_once_more}
+use Rattle.register_rule.specs.ScanSteps.{begun, confirmed_look, with_base, failed_once_more}
 use Rattle.snapshot_scan.specs.declared.remembered_row.RememberedRow.{RememberedRow}
 
 -- a remembered row as a version
@@ -48,7 +48,7 @@ abbrev pub looks_of : (q : ℕ) → (opened found : List ℕ) → List Remembere
 looks_of q [] found gs = []
 looks_of q (s ∷ opened) found [] = []
 looks_of q (s ∷ opened) [] (g ∷ gs) = begun q s (words_of s g) ∷ looks_of (suc q) opened [] gs
-looks_of q (s ∷ opened) (f ∷ found) (g ∷ gs) = settled q f (begun q s (words_of s g)) ∷ looks_of (suc q) opened found gs
+looks_of q (s ∷ opened) (f ∷ found) (g ∷ gs) = confirmed_look q f (begun q s (words_of s g)) ∷ looks_of (suc q) opened found gs
 
 -- each number that was opened is the one that is remembered
 abbrev pub AreKnown : (opened : List ℕ) → List RememberedRow → Type 0

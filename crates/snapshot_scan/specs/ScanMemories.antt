@@ -28,8 +28,8 @@ module _ {N C H G : ℕ} where
   IsReady c m = IsIdle c m.kept.items
 
   -- the sums of the remembered rows
-  abbrev pub sums_of : ScanMemory N C H G → List ℕ
-  sums_of m = m.totals.items
+  abbrev pub totals_in : ScanMemory N C H G → List ℕ
+  totals_in m = m.totals.items
 
   -- the numbers that the first collect of the last try found
   abbrev pub opened_in : ScanMemory N C H G → List ℕ

@@ -38,7 +38,7 @@ fn ask<S: ScanSeat<N, C, H, G>, const N: usize, const C: usize, const H: usize, 
     lent: &mut [u64],
 ) -> bool
     requires { MayAskOne board.now (S.bundle seat.old) place row floor.now lent.old }
-    ensures own { table_of (S.bundle seat.new) ≡ table_of (S.bundle seat.old) }
+    ensures table { table_of (S.bundle seat.new) ≡ table_of (S.bundle seat.old) }
     ensures ruled { IsRuled N C H G (S.bundle seat.new) }
     ensures lends { result ≡ true → (e : Asked) × (e.worker ≡ place) × (e.words ≡ lent.new) × Lends N (width C H G) floor.now e
         × (members_of (S.bundle seat.new) ≡ with_scan
@@ -85,7 +85,7 @@ pub(crate) fn ask_all<
     lent: &mut [u64],
 ) -> bool
     requires { MayAskAll board.now (S.bundle seat.old) row floor.now base.now found.now lent.old }
-    ensures own { table_of (S.bundle seat.new) ≡ table_of (S.bundle seat.old) }
+    ensures table { table_of (S.bundle seat.new) ≡ table_of (S.bundle seat.old) }
     ensures ruled { IsRuled N C H G (S.bundle seat.new) }
     ensures lends { result ≡ true → (es : List Asked) × (e : Asked) × (more : List ℕ)
         × (map asked_worker es ++ asked_worker e ∷ more ≡ due_from 0 base.now found.now)

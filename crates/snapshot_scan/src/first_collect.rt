@@ -32,11 +32,11 @@ fn open_one<
     place: usize,
     known: bool,
 ) -> bool
-    requires own { MayScan board.now (S.bundle seat.old) }
+    requires of_board { MayScan board.now (S.bundle seat.old) }
     requires deep { depth N (width C H G) ≤ 2529 }
     requires inside { (place < N) × (length kept.old ≡ N) × (length opened.old ≡ N) }
     requires wide { All (IsWide (width C H G)) kept.old }
-    ensures own { table_of (S.bundle seat.new) ≡ table_of (S.bundle seat.old) }
+    ensures table { table_of (S.bundle seat.new) ≡ table_of (S.bundle seat.old) }
     ensures leads { HasMember (members_of (S.bundle seat.new)) }
     ensures wide { All (IsWide (width C H G)) kept.new }
     ensures opened { (ms : List Member) (rows : List RememberedRow)
@@ -64,11 +64,11 @@ fn open_four<
     place: usize,
     known: bool,
 ) -> bool
-    requires own { MayScan board.now (S.bundle seat.old) }
+    requires of_board { MayScan board.now (S.bundle seat.old) }
     requires deep { depth N (width C H G) ≤ 2529 }
     requires inside { (place + 4 ≤ N) × (length kept.old ≡ N) × (length opened.old ≡ N) }
     requires wide { All (IsWide (width C H G)) kept.old }
-    ensures own { table_of (S.bundle seat.new) ≡ table_of (S.bundle seat.old) }
+    ensures table { table_of (S.bundle seat.new) ≡ table_of (S.bundle seat.old) }
     ensures leads { HasMember (members_of (S.bundle seat.new)) }
     ensures wide { All (IsWide (width C H G)) kept.new }
     ensures opened { (ms : List Member) (rows : List RememberedRow)
@@ -97,11 +97,11 @@ fn open_rest<
     from: usize,
     known: bool,
 ) -> bool
-    requires own { MayScan board.now (S.bundle seat.old) }
+    requires of_board { MayScan board.now (S.bundle seat.old) }
     requires deep { depth N (width C H G) ≤ 2529 }
     requires inside { (from ≤ N) × (length kept.old ≡ N) × (length opened.old ≡ N) }
     requires wide { All (IsWide (width C H G)) kept.old }
-    ensures own { table_of (S.bundle seat.new) ≡ table_of (S.bundle seat.old) }
+    ensures table { table_of (S.bundle seat.new) ≡ table_of (S.bundle seat.old) }
     ensures opened { (ms : List Member) (rows : List RememberedRow)
         → HasOpened (width C H G) from ms rows (members_of (S.bundle seat.old)) kept.old opened.old known
         → HasOpened (width C H G) N ms rows (members_of (S.bundle seat.new)) kept.new opened.new result }
@@ -123,7 +123,7 @@ pub(crate) fn collect<
     const G: usize,
 >(board: &Board<N, C, H, G>, seat: &mut S, kept: &mut [RememberedRow], opened: &mut [u64]) -> bool
     requires { MayTry board.now (S.bundle seat.old) kept.old opened.old }
-    ensures own { table_of (S.bundle seat.new) ≡ table_of (S.bundle seat.old) }
+    ensures table { table_of (S.bundle seat.new) ≡ table_of (S.bundle seat.old) }
     ensures wide { AreWide (width C H G) kept.new }
     ensures same { map version_of kept.new ≡ map version_of kept.old }
     ensures view { members_of (S.bundle seat.new) ≡ with_scan (opening opened.new kept.new (scan_in (S.bundle seat.old)))

@@ -25,10 +25,10 @@ pub(crate) fn read_items<
     from: usize,
     words: &mut [u64],
 )
-    requires own { MayScan board.now (S.bundle seat.old) }
+    requires of_board { MayScan board.now (S.bundle seat.old) }
     requires inside { (place < N) × (from + length words.old ≤ depth N (width C H G)) }
     requires deep { depth N (width C H G) ≤ 2529 }
-    ensures own { table_of (S.bundle seat.new) ≡ table_of (S.bundle seat.old) }
+    ensures table { table_of (S.bundle seat.new) ≡ table_of (S.bundle seat.old) }
     ensures member { members_of (S.bundle seat.new) ≡ led (scan_changed (read_all (width C H G) place number from words.new))
         (members_of (S.bundle seat.old)) }
     ensures bounded { (k : ℕ) → k < length words.new → from + k < width C H G → slice_index words.new k ≤ greatest_word }

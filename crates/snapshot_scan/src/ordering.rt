@@ -29,10 +29,10 @@ pub fn order<const N: usize, const C: usize, const H: usize, const G: usize>(
     other: &Snapshot<N, C, H, G>,
     of_other: &mut Reader<N, C, H, G>,
 ) -> Ordering
-    requires own { IsReaderOf board.now of_one.old × IsReaderOf board.now of_other.old }
+    requires of_board { IsReaderOf board.now of_one.old × IsReaderOf board.now of_other.old }
     requires recorded { HasRecorded of_one.old (as_answer one.now) × HasRecorded of_other.old (as_answer other.now) }
     requires alone { IsAlone of_one.old × IsAlone of_other.old }
-    ensures own { IsReaderOf board.now of_one.new × IsReaderOf board.now of_other.new }
+    ensures of_board { IsReaderOf board.now of_one.new × IsReaderOf board.now of_other.new }
     ensures index { (index_of of_one.new ≡ index_of of_one.old) × (index_of of_other.new ≡ index_of of_other.old) }
     ensures alone { IsAlone of_one.new × IsAlone of_other.new }
     ensures kept { ((scan_by of_one.new).recorded ≡ (scan_by of_one.old).recorded)
@@ -57,11 +57,11 @@ fn meet<const N: usize, const C: usize, const H: usize, const G: usize>(
     other: &mut Bundle,
     who: usize,
 )
-    requires own { IsSeatOf board.now one.old × IsSeatOf board.now other.old }
+    requires of_board { IsSeatOf board.now one.old × IsSeatOf board.now other.old }
     requires alone { (members_of one.old ≡ first_of (members_of one.old) ∷ [])
         × (members_of other.old ≡ first_of (members_of other.old) ∷ []) }
     requires is { (first_of (members_of other.old)).who ≡ Who.Reader who }
-    ensures own { (table_of one.new ≡ table_of one.old) × (table_of other.new ≡ table_of other.old) }
+    ensures table { (table_of one.new ≡ table_of one.old) × (table_of other.new ≡ table_of other.old) }
     ensures alone { (members_of one.new ≡ first_of (members_of one.new) ∷ [])
         × (members_of other.new ≡ first_of (members_of other.new) ∷ []) }
     ensures kept { ((scan_in one.new).recorded ≡ (scan_in one.old).recorded)

@@ -104,8 +104,8 @@ impl<const N: usize, const C: usize, const H: usize, const G: usize> Reader<N, C
         board: &Board<N, C, H, G>,
         out: &mut Snapshot<N, C, H, G>,
     ) -> Result<(), Contended>
-        requires own { IsReaderOf board.now self.old }
-        ensures own { IsReaderOf board.now self.new }
+        requires of_board { IsReaderOf board.now self.old }
+        ensures of_board { IsReaderOf board.now self.new }
         ensures index { index_of self.new ≡ index_of self.old }
         ensures others { members_with self.new ≡ with_scan (scan_by self.new) (members_with self.old) }
         ensures ruled { IsRuled N C H G (bundle_of self.new) }
@@ -129,9 +129,9 @@ impl<const N: usize, const C: usize, const H: usize, const G: usize> Reader<N, C
     /// Joins the seat of one worker into the reader's, behind those that are lent already, by one load: all of them have then
     /// seen what any of them has seen or made. A worker lends itself by its own call.
     pub fn admit(&mut self, board: &Board<N, C, H, G>, worker: Bundle)
-        requires own { IsReaderOf board.now self.old × IsSeatOf board.now worker }
+        requires of_board { IsReaderOf board.now self.old × IsSeatOf board.now worker }
         requires alone { IsWorkerAlone (members_of worker) }
-        ensures own { IsReaderOf board.now self.new }
+        ensures of_board { IsReaderOf board.now self.new }
         ensures index { index_of self.new ≡ index_of self.old }
         ensures met { members_with self.new ≡ met (members_with self.old ++ members_of worker) }
     {
@@ -140,9 +140,9 @@ impl<const N: usize, const C: usize, const H: usize, const G: usize> Reader<N, C
 
     /// Parts the seat of a worker that is lent to the reader from it, by one load.
     pub fn release(&mut self, board: &Board<N, C, H, G>, worker: usize) -> Bundle
-        requires own { IsReaderOf board.now self.old }
+        requires of_board { IsReaderOf board.now self.old }
         requires there { (m : Member) × (picked (Who.Worker worker) (members_with self.old) ≡ m ∷ []) }
-        ensures own { IsReaderOf board.now self.new × IsSeatOf board.now result }
+        ensures of_board { IsReaderOf board.now self.new × IsSeatOf board.now result }
         ensures index { index_of self.new ≡ index_of self.old }
         ensures others { members_with self.new ≡ without (Who.Worker worker) (members_with self.old) }
         ensures one { members_of result ≡ picked (Who.Worker worker) (members_with self.old) }
@@ -152,8 +152,8 @@ impl<const N: usize, const C: usize, const H: usize, const G: usize> Reader<N, C
 
     /// One load that changes nothing, and tells all that the rule says of the reader and of the workers that are lent to it.
     pub fn tell(&mut self, board: &Board<N, C, H, G>)
-        requires own { IsReaderOf board.now self.old }
-        ensures own { IsReaderOf board.now self.new }
+        requires of_board { IsReaderOf board.now self.old }
+        ensures of_board { IsReaderOf board.now self.new }
         ensures index { index_of self.new ≡ index_of self.old }
         ensures same { members_with self.new ≡ members_with self.old }
         ensures ruled { IsRuled N C H G (bundle_of self.new) }

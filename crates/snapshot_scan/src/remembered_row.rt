@@ -55,11 +55,11 @@ impl RememberedRow {
         const H: usize,
         const G: usize,
     >(&mut self, board: &Board<N, C, H, G>, seat: &mut S, place: usize) -> u64
-        requires own { MayScan board.now (S.bundle seat.old) }
+        requires of_board { MayScan board.now (S.bundle seat.old) }
         requires inside { place < N }
         requires deep { depth N (width C H G) ≤ 2529 }
         requires wide { IsWide (width C H G) self.old }
-        ensures own { table_of (S.bundle seat.new) ≡ table_of (S.bundle seat.old) }
+        ensures table { table_of (S.bundle seat.new) ≡ table_of (S.bundle seat.old) }
         ensures member { members_of (S.bundle seat.new) ≡ led
             (scan_changed (looked_at (width C H G) place result (self.old.number == result) self.new.fresh.items))
             (members_of (S.bundle seat.old)) }

@@ -56,9 +56,9 @@ fn read_one<
     words: &mut [u64],
     changed: &mut ChangedItems,
 )
-    requires own { MayScan board.now (S.bundle seat.old) }
+    requires of_board { MayScan board.now (S.bundle seat.old) }
     requires inside { (place < N) × (k < length words.old) × (length words.old ≡ width C H G) }
-    ensures own { table_of (S.bundle seat.new) ≡ table_of (S.bundle seat.old) }
+    ensures table { table_of (S.bundle seat.new) ≡ table_of (S.bundle seat.old) }
     ensures leads { HasMember (members_of (S.bundle seat.new)) }
     ensures read { (ms : List Member) (row : List ℕ) (listed : ChangedView)
         → IsReadTo (width C H G) place number k ms (members_of (S.bundle seat.old)) row words.old listed changed.old
@@ -85,9 +85,9 @@ fn read_four<
     words: &mut [u64],
     changed: &mut ChangedItems,
 )
-    requires own { MayScan board.now (S.bundle seat.old) }
+    requires of_board { MayScan board.now (S.bundle seat.old) }
     requires inside { (place < N) × (k + 4 ≤ length words.old) × (length words.old ≡ width C H G) }
-    ensures own { table_of (S.bundle seat.new) ≡ table_of (S.bundle seat.old) }
+    ensures table { table_of (S.bundle seat.new) ≡ table_of (S.bundle seat.old) }
     ensures leads { HasMember (members_of (S.bundle seat.new)) }
     ensures read { (ms : List Member) (row : List ℕ) (listed : ChangedView)
         → IsReadTo (width C H G) place number k ms (members_of (S.bundle seat.old)) row words.old listed changed.old
@@ -116,9 +116,9 @@ fn read_rest<
     words: &mut [u64],
     changed: &mut ChangedItems,
 )
-    requires own { MayScan board.now (S.bundle seat.old) }
+    requires of_board { MayScan board.now (S.bundle seat.old) }
     requires inside { (place < N) × (from ≤ length words.old) × (length words.old ≡ width C H G) }
-    ensures own { table_of (S.bundle seat.new) ≡ table_of (S.bundle seat.old) }
+    ensures table { table_of (S.bundle seat.new) ≡ table_of (S.bundle seat.old) }
     ensures read { (ms : List Member) (row : List ℕ) (listed : ChangedView) → IsReadTo (width C H G) place number from ms
         (members_of (S.bundle seat.old)) row words.old listed changed.old
         → IsReadTo (width C H G) place number (width C H G) ms (members_of (S.bundle seat.new)) row words.new listed changed.new }
@@ -145,9 +145,9 @@ pub(crate) fn read_row<
     words: &mut [u64],
     changed: &mut ChangedItems,
 )
-    requires own { MayScan board.now (S.bundle seat.old) }
+    requires of_board { MayScan board.now (S.bundle seat.old) }
     requires inside { (place < N) × (length words.old ≡ width C H G) }
-    ensures own { table_of (S.bundle seat.new) ≡ table_of (S.bundle seat.old) }
+    ensures table { table_of (S.bundle seat.new) ≡ table_of (S.bundle seat.old) }
     ensures member { members_of (S.bundle seat.new) ≡ led (scan_changed (read_all (width C H G) place number 0 words.new))
         (members_of (S.bundle seat.old)) }
     ensures bounded { (k : ℕ) → k < width C H G → slice_index words.new k ≤ greatest_word }

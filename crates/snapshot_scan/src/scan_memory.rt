@@ -63,7 +63,7 @@ impl<const N: usize, const C: usize, const H: usize, const G: usize> ScanMemory<
     ghost use Rattle.snapshot_scan.specs.Contention.{IsFirstMoved, IsContended};
     ghost use Rattle.snapshot_scan.specs.Scanned.{IsAnswered, HasMoved, IsGivenUp};
     ghost use Rattle.snapshot_scan.specs.Core.{CameTo, AnswersBy};
-    ghost use Rattle.snapshot_scan.specs.ScanMemories.{rows_of, sums_of, opened_in, found_in, moved_in, answer_of, HasView};
+    ghost use Rattle.snapshot_scan.specs.ScanMemories.{rows_of, totals_in, opened_in, found_in, moved_in, answer_of, HasView};
     ghost use Rattle.snapshot_scan.specs.ScanMemories.{IsReady};
     ghost use Rattle.ledger_core.specs.Legal.{IsLegal};
     ghost use Rattle.snapshot_scan.specs.Snapshots.{as_answer};
@@ -101,9 +101,9 @@ impl<const N: usize, const C: usize, const H: usize, const G: usize> ScanMemory<
         board: &Board<N, C, H, G>,
         seat: &mut S,
     ) -> ScanEnd
-        requires own { MayScan board.now (S.bundle seat.old) }
+        requires of_board { MayScan board.now (S.bundle seat.old) }
         requires ready { IsReady (scan_in (S.bundle seat.old)) self.old }
-        ensures own { table_of (S.bundle seat.new) ≡ table_of (S.bundle seat.old) }
+        ensures table { table_of (S.bundle seat.new) ≡ table_of (S.bundle seat.old) }
         ensures ruled { IsRuled N C H G (S.bundle seat.new) }
         ensures others { members_of (S.bundle seat.new) ≡ with_scan (scan_in (S.bundle seat.new))
             (members_of (S.bundle seat.old)) }
@@ -113,14 +113,14 @@ impl<const N: usize, const C: usize, const H: usize, const G: usize> ScanMemory<
         ensures answers { HasView result → AnswersBy N (width C H G) (scan_in (S.bundle seat.old)) (scan_in (S.bundle seat.new))
             (answer_of self.new result) }
         ensures quiet { result ≡ ScanEnd.Direct true → (rows_of self.new ≡ rows_of self.old)
-            × (sums_of self.new ≡ sums_of self.old) × AreNumbers (opened_in self.new) (rows_of self.new) }
+            × (totals_in self.new ≡ totals_in self.old) × AreNumbers (opened_in self.new) (rows_of self.new) }
         ensures once { result ≡ ScanEnd.Direct true → (scan_in (S.bundle seat.new)).opened ≡ (scan_in (S.bundle seat.old)).opened
             ++ pairs 0 (opened_in self.new) }
         ensures moved { result ≡ ScanEnd.Direct false → HasMoved N (rows_of self.old) (scan_in (S.bundle seat.old))
             (scan_in (S.bundle seat.new)) }
         ensures numbers { (q : Bool) → result ≡ ScanEnd.Direct q → AreNumbers (opened_in self.new) (rows_of self.new) }
         ensures listed { (moved_in self.new).all ≡ false → (k : ℕ) → k < width C H G → ¬ (Contains (moved_in self.new).items k)
-            → slice_index (sums_of self.new) k ≡ slice_index (sums_of self.old) k }
+            → slice_index (totals_in self.new) k ≡ slice_index (totals_in self.old) k }
         ensures words { (j : ℕ) → Contains (moved_in self.new).items j → j < width C H G }
         ensures gave_up { result ≡ ScanEnd.GaveUp → IsGivenUp N (scan_in (S.bundle seat.old)) (scan_in (S.bundle seat.new))
             (opened_in self.new) (found_in self.new) }
@@ -151,9 +151,9 @@ impl<const N: usize, const C: usize, const H: usize, const G: usize> ScanMemory<
         seat: &mut S,
         out: &mut Snapshot<N, C, H, G>,
     ) -> Result<(), Contended>
-        requires own { MayScan board.now (S.bundle seat.old) }
+        requires of_board { MayScan board.now (S.bundle seat.old) }
         requires ready { IsReady (scan_in (S.bundle seat.old)) self.old }
-        ensures own { table_of (S.bundle seat.new) ≡ table_of (S.bundle seat.old) }
+        ensures table { table_of (S.bundle seat.new) ≡ table_of (S.bundle seat.old) }
         ensures ruled { IsRuled N C H G (S.bundle seat.new) }
         ensures others { members_of (S.bundle seat.new) ≡ with_scan (scan_in (S.bundle seat.new))
             (members_of (S.bundle seat.old)) }
@@ -205,7 +205,7 @@ impl<const N: usize, const C: usize, const H: usize, const G: usize> ScanMemory<
         requires inside { place < N }
         ensures rows { rows_of self.new ≡ slice_set (rows_of self.old) place (record { number = number; row = row.now }) }
         ensures sums { (v : Version) → get_elem? (rows_of self.old) place ≡ some v → (k : ℕ) → k < width C H G
-            → slice_index (sums_of self.new) k + slice_index v.row k ≡ slice_index (sums_of self.old) k + slice_index row.now k }
+            → slice_index (totals_in self.new) k + slice_index v.row k ≡ slice_index (totals_in self.old) k + slice_index row.now k }
     {
         learn_row(
             self.kept.as_mut_slice(),
@@ -227,7 +227,7 @@ impl<const N: usize, const C: usize, const H: usize, const G: usize> ScanMemory<
             → ¬ (Contains items.now k) → slice_index v.row k ≡ slice_index row.now k }
         ensures rows { rows_of self.new ≡ slice_set (rows_of self.old) place (record { number = number; row = row.now }) }
         ensures sums { (v : Version) → get_elem? (rows_of self.old) place ≡ some v → (k : ℕ) → k < width C H G
-            → slice_index (sums_of self.new) k + slice_index v.row k ≡ slice_index (sums_of self.old) k + slice_index row.now k }
+            → slice_index (totals_in self.new) k + slice_index v.row k ≡ slice_index (totals_in self.old) k + slice_index row.now k }
     {
         change_row(
             self.kept.as_mut_slice(),

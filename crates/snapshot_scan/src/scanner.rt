@@ -16,7 +16,7 @@ use register_rule::Board;
 pub struct Scanner<'a, const N: usize, const C: usize, const H: usize, const G: usize> {
     board: &'a Board<N, C, H, G>,
     reader: Reader<N, C, H, G>,
-    ghost own: { IsReaderOf board.now reader },
+    ghost of_board: { IsReaderOf board.now reader },
 }
 
 impl<'a, const N: usize, const C: usize, const H: usize, const G: usize> Drop
@@ -43,7 +43,7 @@ impl<'a, const N: usize, const C: usize, const H: usize, const G: usize> Scanner
     /// The reader.
     pub fn into_reader(self) -> Reader<N, C, H, G>
         ensures reader { result ≡ self.entry.reader }
-        ensures own { IsReaderOf self.entry.board.now result }
+        ensures of_board { IsReaderOf self.entry.board.now result }
     {
         let Scanner { board: _, reader } = self;
         reader

@@ -36,10 +36,10 @@ fn confirm_one<
     place: usize,
     same: bool,
 ) -> bool
-    requires own { MayScan board.now (S.bundle seat.old) }
+    requires of_board { MayScan board.now (S.bundle seat.old) }
     requires geometry { IsGeometry N C H G }
     requires inside { (place < N) × (length opened.now ≡ N) × (length found.old ≡ N) }
-    ensures own { table_of (S.bundle seat.new) ≡ table_of (S.bundle seat.old) }
+    ensures table { table_of (S.bundle seat.new) ≡ table_of (S.bundle seat.old) }
     ensures leads { HasMember (members_of (S.bundle seat.new)) }
     ensures confirmed { (ms : List Member) (gs : List RememberedRow) → length gs ≡ N → HasConfirmed N C H G place ms gs opened.now
         (members_of (S.bundle seat.old)) found.old same
@@ -66,10 +66,10 @@ fn confirm_four<
     place: usize,
     same: bool,
 ) -> bool
-    requires own { MayScan board.now (S.bundle seat.old) }
+    requires of_board { MayScan board.now (S.bundle seat.old) }
     requires geometry { IsGeometry N C H G }
     requires inside { (place + 4 ≤ N) × (length opened.now ≡ N) × (length found.old ≡ N) }
-    ensures own { table_of (S.bundle seat.new) ≡ table_of (S.bundle seat.old) }
+    ensures table { table_of (S.bundle seat.new) ≡ table_of (S.bundle seat.old) }
     ensures leads { HasMember (members_of (S.bundle seat.new)) }
     ensures confirmed { (ms : List Member) (gs : List RememberedRow) → length gs ≡ N → HasConfirmed N C H G place ms gs opened.now
         (members_of (S.bundle seat.old)) found.old same
@@ -97,10 +97,10 @@ fn confirm_rest<
     from: usize,
     same: bool,
 ) -> bool
-    requires own { MayScan board.now (S.bundle seat.old) }
+    requires of_board { MayScan board.now (S.bundle seat.old) }
     requires geometry { IsGeometry N C H G }
     requires inside { (from ≤ N) × (length opened.now ≡ N) × (length found.old ≡ N) }
-    ensures own { table_of (S.bundle seat.new) ≡ table_of (S.bundle seat.old) }
+    ensures table { table_of (S.bundle seat.new) ≡ table_of (S.bundle seat.old) }
     ensures confirmed { (ms : List Member) (gs : List RememberedRow) → length gs ≡ N → HasConfirmed N C H G from ms gs opened.now
         (members_of (S.bundle seat.old)) found.old same
         → HasConfirmed N C H G N ms gs opened.now (members_of (S.bundle seat.new)) found.new result }
@@ -131,7 +131,7 @@ pub(crate) fn confirm_known<
     requires may { MayConfirm board.now (S.bundle seat.old) kept.now opened.now }
     requires room { length found.old ≡ N }
     requires known { AreKnown opened.now kept.now }
-    ensures own { table_of (S.bundle seat.new) ≡ table_of (S.bundle seat.old) }
+    ensures table { table_of (S.bundle seat.new) ≡ table_of (S.bundle seat.old) }
     ensures ruled { IsRuled N C H G (S.bundle seat.new) }
     ensures view { members_of (S.bundle seat.new) ≡ with_scan
         (ended N (width C H G) (settling opened.now found.new kept.now (scan_in (S.bundle seat.old))))
@@ -168,7 +168,7 @@ fn confirm_all<
     requires may { MayConfirm board.now (S.bundle seat.old) kept.old opened.now }
     requires room { length found.old ≡ N }
     requires sums { (length totals.old ≡ width C H G) × AreTotals (width C H G) kept.old totals.old }
-    ensures own { table_of (S.bundle seat.new) ≡ table_of (S.bundle seat.old) }
+    ensures table { table_of (S.bundle seat.new) ≡ table_of (S.bundle seat.old) }
     ensures ruled { IsRuled N C H G (S.bundle seat.new) }
     ensures wide { AreWide (width C H G) kept.new }
     ensures totals { AreTotals (width C H G) kept.new totals.new }
@@ -212,7 +212,7 @@ pub(crate) fn confirm<
     requires room { length found.old ≡ N }
     requires sums { (length totals.old ≡ width C H G) × AreTotals (width C H G) kept.old totals.old }
     requires known { known ≡ true → AreKnown opened.now kept.old }
-    ensures own { table_of (S.bundle seat.new) ≡ table_of (S.bundle seat.old) }
+    ensures table { table_of (S.bundle seat.new) ≡ table_of (S.bundle seat.old) }
     ensures ruled { IsRuled N C H G (S.bundle seat.new) }
     ensures wide { AreWide (width C H G) kept.new }
     ensures totals { AreTotals (width C H G) kept.new totals.new }

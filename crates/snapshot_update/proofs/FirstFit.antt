@@ -9,7 +9,7 @@ use Rattle.register_rule.specs.declared.view.Member.{Member}
 use Rattle.register_rule.specs.declared.view.Version.{Version}
 use Rattle.register_rule.specs.Members.{new_worker}
 use Rattle.snapshot_scan.specs.declared.scan_memory.ScanMemory.{ScanMemory}
-use Rattle.snapshot_scan.specs.ScanMemories.{rows_of, sums_of}
+use Rattle.snapshot_scan.specs.ScanMemories.{rows_of, totals_in}
 use Rattle.snapshot_scan.proofs.Blank.{zero_in}
 use Rattle.snapshot_update.specs.declared.buffer_images.BufferImages.{BufferImages}
 use Rattle.snapshot_scan.specs.ChangedItems.{ChangedView}
@@ -53,7 +53,7 @@ module _ (n c h g index : ℕ) (row : List ℕ) (memory : ScanMemory n c h g) (i
     hidden_is = sym blank.hidden;
     shown_is = sym blank.shown;
     images = record {
-      next_deep = (let e = words_long w n row 1 (map number_in (rows_of memory)) (sums_of memory) wide
+      idle_deep = (let e = words_long w n row 1 (map number_in (rows_of memory)) (totals_in memory) wide
           (numbers_long (rows_of memory) ∙ rows_many n c h g memory) w memory.sizes.1 in omega (arith, e));
       hidden_deep = ap (λ (l : List ℕ). length l) blank.hidden ∙ length-replicate b 0;
       shown_deep = ap (λ (l : List ℕ). length l) blank.shown ∙ length-replicate b 0;

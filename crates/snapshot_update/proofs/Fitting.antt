@@ -10,7 +10,7 @@ use Rattle.ledger_core.specs.Row.{Accepts}
 use Rattle.register_rule.specs.declared.view.Answer.{Answer}
 use Rattle.register_rule.specs.declared.view.PublishEntry.{PublishEntry}
 use Rattle.register_rule.specs.declared.view.Member.{Member}
-use Rattle.register_rule.specs.Sums.{total, last_lent, flag_of}
+use Rattle.register_rule.specs.Sums.{word_after, last_lent, flag_of}
 use Rattle.register_rule.specs.Members.{made_of, newest}
 use Rattle.register_rule.specs.Told.{HoldsNext}
 use Rattle.register_rule.proofs.Publish.{lent_last}
@@ -60,7 +60,7 @@ accepts_same c h g f k ops same ok = record {
 -- the hidden buffer holds the version that is published: m has scanned, and its hidden buffer is filled
 module _ (n w b : ℕ) (adds : List Op → ℕ → ℕ) (ops : List Op) (m : Member) (row vector totals : List ℕ) (wide : length row ≡ w)
     (all : length vector ≡ n) (long : length totals ≡ w)
-    (sums : (k : ℕ) → k < w → slice_index row k ≡ total adds m.work.made k + adds ops k) where
+    (sums : (k : ℕ) → k < w → slice_index row k ≡ word_after adds m.work.made k + adds ops k) where
   lends_view : m.work.hidden ≡ version_words row 1 vector totals → (before : List Answer)
       → m.scan.recorded ≡ before ++ record { vector = vector; totals = totals } ∷ [] → HoldsNext n w b adds ops true m
   lends_view hidden before recorded k below =

@@ -10,17 +10,17 @@ use Rattle.register_rule.specs.declared.view.PublishEntry.{PublishEntry}
 use Rattle.register_rule.specs.declared.view.Member.{Member}
 use Rattle.register_rule.specs.declared.view.Version.{Version}
 use Rattle.register_rule.specs.declared.view.Who.TheVariants.{Worker}
-use Rattle.register_rule.specs.Sums.{total}
+use Rattle.register_rule.specs.Sums.{word_after}
 use Rattle.register_rule.proofs.Words.{there}
 use Rattle.snapshot_scan.specs.declared.scan_end.ScanEnd.{ScanEnd}
 use Rattle.snapshot_scan.specs.declared.scan_end.ScanEnd.TheVariants.{Direct}
 use Rattle.snapshot_scan.specs.declared.scan_memory.ScanMemory.{ScanMemory}
 use Rattle.snapshot_scan.specs.ChangedItems.{ChangedView, Notes, NotesEach}
 use Rattle.snapshot_scan.specs.RememberedRows.{AreNumbers}
-use Rattle.snapshot_scan.specs.ScanMemories.{rows_of, sums_of, moved_in, answer_of, IsReady}
+use Rattle.snapshot_scan.specs.ScanMemories.{rows_of, totals_in, moved_in, answer_of, IsReady}
 use Rattle.snapshot_scan.proofs.Words.{same_words}
 use Rattle.snapshot_update.specs.declared.buffer_images.BufferImages.{BufferImages}
-use Rattle.snapshot_update.specs.Fit.{AreInside, AreImages, number_in, next_words, IsFit}
+use Rattle.snapshot_update.specs.Fit.{AreInside, AreImages, number_in, idle_words, IsFit}
 use Rattle.snapshot_update.specs.Known.{IsStill, NotesRange, ListsMoved, IsFollowed}
 use Rattle.snapshot_update.specs.Updated.{IsRuledAlone}
 use Rattle.snapshot_update.proofs.VersionWords.{Which, which, in_row, at_flag, in_vector, in_totals, row_word, flag_word}
@@ -90,16 +90,16 @@ pub images_moved : (n w : ℕ) (row : List ℕ) (rows rows' : List Version) (sum
     (late' moved : ChangedView) → length row ≡ w → length rows ≡ n → length rows' ≡ n → length sums' ≡ w
     → (moved.all ≡ false → (k : ℕ) → k < w → ¬ (Contains moved.items k) → slice_index sums' k ≡ slice_index sums k)
     → ListsMoved n w moved im.late late'
-    → AreImages (depth n w) (next_words row rows sums) im
-    → AreImages (depth n w) (next_words row rows' sums') (record im { late = late' })
+    → AreImages (depth n w) (idle_words row rows sums) im
+    → AreImages (depth n w) (idle_words row rows' sums') (record im { late = late' })
 images_moved n w row rows rows' sums sums' im late' moved wide many many' long same lists are = record {
-  next_deep = (let e = words_long w n row 1 (map number_in rows') sums' wide all' w long in omega (arith, e));
+  idle_deep = (let e = words_long w n row 1 (map number_in rows') sums' wide all' w long in omega (arith, e));
   hidden_deep = are.hidden_deep;
   shown_deep = are.shown_deep;
   recent = are.recent;
   recent_inside = are.recent_inside;
   late = λ few j lt none.
-      let deep = are.next_deep in let long' = words_long w n row 1 (map number_in rows') sums' wide all' w long in
+      let deep = are.idle_deep in let long' = words_long w n row 1 (map number_in rows') sums' wide all' w long in
       are.late (lists.listed few) j (omega (arith, lt, deep, long')) (λ was. none (lists.keeps few j was))
       ∙ stays few j none (which w n j (omega (arith, lt, long')));
   late_inside = λ j has. ⊎_elim (λ was. are.late_inside j was) (λ lt. lt) (lists.inside j has);
@@ -112,15 +112,15 @@ images_moved n w row rows rows' sums sums' im late' moved wide many many' long s
     all' = numbers_long rows' ∙ many'
 
     old : ℕ → ℕ
-    old j = slice_index (next_words row rows sums) j
+    old j = slice_index (idle_words row rows sums) j
 
-    there' : (j k : ℕ) → j ≡ k → slice_index (next_words row rows sums) k ≡ slice_index (next_words row rows' sums') k
-        → slice_index (next_words row rows sums) j ≡ slice_index (next_words row rows' sums') j
-    there' j k e h = subst (λ (z : ℕ). slice_index (next_words row rows sums) z ≡ slice_index (next_words row rows' sums') z)
+    there' : (j k : ℕ) → j ≡ k → slice_index (idle_words row rows sums) k ≡ slice_index (idle_words row rows' sums') k
+        → slice_index (idle_words row rows sums) j ≡ slice_index (idle_words row rows' sums') j
+    there' j k e h = subst (λ (z : ℕ). slice_index (idle_words row rows sums) z ≡ slice_index (idle_words row rows' sums') z)
         (sym e) h
 
     stays : late'.all ≡ false → (j : ℕ) → ¬ (Contains late'.items j) → Which w n j
-        → slice_index (next_words row rows sums) j ≡ slice_index (next_words row rows' sums') j
+        → slice_index (idle_words row rows sums) j ≡ slice_index (idle_words row rows' sums') j
     stays few j none (in_row h) = row_word w n row 1 (map number_in rows) sums wide all j h
         ∙ sym (row_word w n row 1 (map number_in rows') sums' wide all' j h)
     stays few j none (at_flag e) = there' j w e (flag_word w n row 1 (map number_in rows) sums wide all
@@ -134,11 +134,11 @@ images_moved n w row rows rows' sums sums' im late' moved wide many many' long s
 pub own_known : (n c h g i : ℕ) (m : Member) (row vector : List ℕ) (rows : List Version) → m.who ≡ Worker i
     → IsRuledAlone n c h g m → m.scan.kept ≡ rows → i < length rows → AreNumbers vector rows
     → slice_index vector i ≡ length m.work.made → length row ≡ width c h g
-    → ((k : ℕ) → k < width c h g → slice_index row k ≡ total (sum_ops c h) m.work.made k)
+    → ((k : ℕ) → k < width c h g → slice_index row k ≡ word_after (sum_ops c h) m.work.made k)
     → get_elem? rows i ≡ some (record { number = length m.work.made; row = row })
 own_known n c h g i m row vector rows is ruled kept lt numbers own wide sums =
     let t = some_at rows i lt in let v : Version = t.0 in
-    let mine = ruled.own 0 i m refl is in
+    let mine = ruled.workers 0 i m refl is in
     let version = (ruled.scans 0 m refl).kept i v (ap (λ (l : List Version). get_elem? l i) kept ∙ t.1) in
     let number : v.number ≡ length m.work.made = numbers i v t.1 ∙ own in
     let made : take v.number (ruled.made i) ≡ m.work.made = ap (λ (k : ℕ). take k (ruled.made i)) number
@@ -146,7 +146,7 @@ own_known n c h g i m row vector rows is ruled kept lt numbers own wide sums =
     let same : v.row ≡ row = same_words v.row row (version.wide ∙ sym wide) (λ k low. let w = version.wide in
     let below : k < width c h g = omega (arith, low, w) in
     version.row k (slice_index v.row k) (there v.row k 0 low)
-    ∙ (ap (λ (l : List PublishEntry). total (sum_ops c h) l k) made ∙ sym (sums k below))) in
+    ∙ (ap (λ (l : List PublishEntry). word_after (sum_ops c h) l k) made ∙ sym (sums k below))) in
     t.1 ∙ (λ z. some (record { number = number z; row = same z }))
   where
     some_at : (vs : List Version) (i : ℕ) → i < length vs → (v : Version) × (get_elem? vs i ≡ some v)
@@ -160,21 +160,21 @@ pub record IsNext (n c h g i number : ℕ) (row : List ℕ) (memory : ScanMemory
     : Type 0 where
   pub direct : (quiet : Bool) × (ended ≡ Direct quiet)
   pub numbers : AreNumbers (answer_of memory ended).vector (rows_of memory)
-  pub totals : (answer_of memory ended).totals ≡ sums_of memory
-  pub own : get_elem? (rows_of memory) i ≡ some (record { number = number; row = row })
-  pub images : AreImages (depth n (width c h g)) (next_words row (rows_of memory) (sums_of memory)) im
+  pub totals : (answer_of memory ended).totals ≡ totals_in memory
+  pub row_known : get_elem? (rows_of memory) i ≡ some (record { number = number; row = row })
+  pub images : AreImages (depth n (width c h g)) (idle_words row (rows_of memory) (totals_in memory)) im
 
 -- m has scanned, and is m' now
 module _ (n c h g i : ℕ) (row : List ℕ) (memory memory' : ScanMemory n c h g) (im : BufferImages)
     (late' : ChangedView) (m m' : Member) (ended : ScanEnd) (fit : IsFit n c h g i (length m.work.made) row memory im m)
     (inside : i < n)
     (same : m' ≡ record m { scan = m'.scan }) (ruled : IsRuledAlone n c h g m') (ready : IsReady m'.scan memory')
-    (quiet : ended ≡ Direct true → (rows_of memory' ≡ rows_of memory) × (sums_of memory' ≡ sums_of memory)
+    (quiet : ended ≡ Direct true → (rows_of memory' ≡ rows_of memory) × (totals_in memory' ≡ totals_in memory)
     × AreNumbers (answer_of memory' ended).vector (rows_of memory'))
     (numbers : (q : Bool) → ended ≡ Direct q → AreNumbers (answer_of memory' ended).vector (rows_of memory'))
     (listed : (moved_in memory').all ≡ false → (k : ℕ) → k < width c h g → ¬ (Contains (moved_in memory').items k)
-    → slice_index (sums_of memory') k ≡ slice_index (sums_of memory) k) where
-  totals_are : (q : Bool) → ended ≡ Direct q → (answer_of memory' ended).totals ≡ sums_of memory'
+    → slice_index (totals_in memory') k ≡ slice_index (totals_in memory) k) where
+  totals_are : (q : Bool) → ended ≡ Direct q → (answer_of memory' ended).totals ≡ totals_in memory'
   totals_are q e = ap (λ (x : ScanEnd). (answer_of memory' x).totals) e
 
   next_still : IsStill ended im.row_known im.late late'
@@ -183,11 +183,11 @@ module _ (n c h g i : ℕ) (row : List ℕ) (memory memory' : ScanMemory n c h g
     direct = (true, still.quiet);
     numbers = q.2;
     totals = totals_are true still.quiet;
-    own = ap (λ (l : List Version). get_elem? l i) q.0 ∙ fit.row_known still.remembered;
-    images = subst (λ (x : ChangedView). AreImages (depth n (width c h g)) (next_words row (rows_of memory') (sums_of memory'))
+    row_known = ap (λ (l : List Version). get_elem? l i) q.0 ∙ fit.row_known still.remembered;
+    images = subst (λ (x : ChangedView). AreImages (depth n (width c h g)) (idle_words row (rows_of memory') (totals_in memory'))
         (record im { late = x })) (sym still.same)
         (subst (λ (l : List ℕ). AreImages (depth n (width c h g)) l im)
-        (λ z. next_words row (sym q.0 z) (sym q.1 z)) fit.images);
+        (λ z. idle_words row (sym q.0 z) (sym q.1 z)) fit.images);
   }
 
   next_followed : IsFollowed n c h g i (length m.work.made) memory' ended im.late late'
@@ -199,12 +199,12 @@ module _ (n c h g i : ℕ) (row : List ℕ) (memory memory' : ScanMemory n c h g
         direct = f.direct;
         numbers = are;
         totals = totals_are f.direct.0 f.direct.1;
-        own = own_known n c h g i m' row (answer_of memory' ended).vector (rows_of memory') (ap (λ (x : Member). x.who) same
+        row_known = own_known n c h g i m' row (answer_of memory' ended).vector (rows_of memory') (ap (λ (x : Member). x.who) same
             ∙ fit.who) ruled ready.kept (let e = rows_many n c h g memory' in omega (arith, e, inside)) are
             (f.found ∙ ap (λ (l : List PublishEntry). length l) (sym made)) fit.wide
-            (λ k lt. fit.sums k lt ∙ ap (λ (l : List PublishEntry). total (sum_ops c h) l k) (sym made))
+            (λ k lt. fit.sums k lt ∙ ap (λ (l : List PublishEntry). word_after (sum_ops c h) l k) (sym made))
             ∙ (λ z. some (record { number = length (made z); row = row }));
-        images = images_moved n w row (rows_of memory) (rows_of memory') (sums_of memory) (sums_of memory') im
+        images = images_moved n w row (rows_of memory) (rows_of memory') (totals_in memory) (totals_in memory') im
             late' (moved_in memory') fit.wide (rows_many n c h g memory) (rows_many n c h g memory')
             memory'.sizes.1 listed f.lists fit.images;
       }

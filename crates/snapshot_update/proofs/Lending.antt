@@ -104,7 +104,7 @@ one_picked i m (x ∷ ms) apart (suc p, e, is) =
 
 -- a worker that scanned or was told has seen its own number
 pub told_own : (n c h g i : ℕ) (m : Member) → m.who ≡ Worker i → IsRuledAlone n c h g m → HasSeenOwn i m
-told_own n c h g i m is ruled = let own = ruled.own 0 i m refl is in own.2
+told_own n c h g i m is ruled = let own = ruled.workers 0 i m refl is in own.2
     ∙ ap (λ (l : List PublishEntry). some (length l)) (sym own.1)
 
 set_own : (l : List ℕ) (i x y : ℕ) → get_elem? l i ≡ some x → get_elem? (set l i y) i ≡ some y

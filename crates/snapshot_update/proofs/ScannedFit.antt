@@ -4,7 +4,7 @@ use Rattle.ledger_core.specs.Ops.{width}
 use Rattle.register_rule.specs.declared.view.Member.{Member}
 use Rattle.register_rule.specs.declared.view.ScanLog.{ScanLog}
 use Rattle.snapshot_scan.specs.declared.scan_memory.ScanMemory.{ScanMemory}
-use Rattle.snapshot_scan.specs.ScanMemories.{rows_of, sums_of, IsReady}
+use Rattle.snapshot_scan.specs.ScanMemories.{rows_of, totals_in, IsReady}
 use Rattle.snapshot_scan.specs.ChangedItems.{ChangedView}
 use Rattle.snapshot_update.specs.declared.buffer_images.BufferImages.{BufferImages}
 use Rattle.snapshot_update.specs.Fit.{number_in, IsFit}
@@ -26,7 +26,7 @@ scanned_fit n c h g index number row memory memory' im late m s fit ready all it
   hidden_is = fit.hidden_is;
   shown_is = fit.shown_is;
   images = record {
-    next_deep = (let e = words_long (width c h g) n row 1 (map number_in (rows_of memory')) (sums_of memory') fit.wide
+    idle_deep = (let e = words_long (width c h g) n row 1 (map number_in (rows_of memory')) (totals_in memory') fit.wide
         (numbers_long (rows_of memory') ∙ rows_many n c h g memory') (width c h g) memory'.sizes.1 in omega (arith, e));
     hidden_deep = fit.images.hidden_deep;
     shown_deep = fit.images.shown_deep;

@@ -9,7 +9,7 @@ use Rattle.register_rule.specs.declared.view.Version.{Version}
 use Rattle.snapshot_scan.specs.RememberedRows.{AreNumbers}
 use Rattle.snapshot_scan.specs.ChangedItems.{ChangedView}
 use Rattle.snapshot_update.specs.BufferImages.{DifferAt, version_words}
-use Rattle.snapshot_update.specs.Fit.{number_in, next_words}
+use Rattle.snapshot_update.specs.Fit.{number_in, idle_words}
 
 front : (xs ys : List ℕ) (k : ℕ) → k < length xs → slice_index (xs ++ ys) k ≡ slice_index xs k
 front [] ys k lt = absurd (omega (arith, lt))
@@ -108,16 +108,16 @@ module _ (w n : ℕ) (row row' : List ℕ) (rows : List Version) (sums opened to
   all_rows : length (map number_in rows) ≡ n
   all_rows = numbers_long rows ∙ few
 
-  pub known_words : (j : ℕ) → j < 2 * w + 1 + n → ¬ (Contains touched j) → slice_index (next_words row rows sums) j ≡ slice_index
+  pub known_words : (j : ℕ) → j < 2 * w + 1 + n → ¬ (Contains touched j) → slice_index (idle_words row rows sums) j ≡ slice_index
       (version_words row' 1 opened totals) j
   known_words j lt none = go (which w n j lt)
     where
-      there : (k : ℕ) → j ≡ k → slice_index (next_words row rows sums) k ≡ slice_index (version_words row' 1 opened totals) k
-          → slice_index (next_words row rows sums) j ≡ slice_index (version_words row' 1 opened totals) j
-      there k e h = subst (λ (z : ℕ). slice_index (next_words row rows sums) z ≡ slice_index (version_words row' 1 opened totals)
+      there : (k : ℕ) → j ≡ k → slice_index (idle_words row rows sums) k ≡ slice_index (version_words row' 1 opened totals) k
+          → slice_index (idle_words row rows sums) j ≡ slice_index (version_words row' 1 opened totals) j
+      there k e h = subst (λ (z : ℕ). slice_index (idle_words row rows sums) z ≡ slice_index (version_words row' 1 opened totals)
           z) (sym e) h
 
-      go : Which w n j → slice_index (next_words row rows sums) j ≡ slice_index (version_words row' 1 opened totals) j
+      go : Which w n j → slice_index (idle_words row rows sums) j ≡ slice_index (version_words row' 1 opened totals) j
       go (in_row h) = row_word w n row 1 (map number_in rows) sums wide all_rows j h
           ∙ (rest j h none ∙ sym (row_word w n row' 1 opened totals wide' all j h))
       go (at_flag e) = there w e (flag_word w n row 1 (map number_in rows) sums wide all_rows
@@ -132,7 +132,7 @@ module _ (w n : ℕ) (row row' : List ℕ) (rows : List Version) (sums opened to
       → ((k : ℕ) → k < w → slice_index sums' k + slice_index row k ≡ slice_index sums k + slice_index row' k) → length sums' ≡ w
       → (late.all ≡ false → Contains late.items (w + 1 + own))
       → (late.all ≡ false → (k : ℕ) → Contains touched k → Contains late.items (w + 1 + n + k))
-      → DifferAt late (version_words row' 1 opened totals) (next_words row' (set rows own v) sums')
+      → DifferAt late (version_words row' 1 opened totals) (idle_words row' (set rows own v) sums')
   late_words own v sums' late changed long at_own at_lent listed j lt none =
       go (which w n j (let e = words_long w n row' 1 (map number_in (set rows own v)) sums' wide' all_new w long in
       omega (arith, lt, e)))
@@ -141,12 +141,12 @@ module _ (w n : ℕ) (row row' : List ℕ) (rows : List Version) (sums opened to
       all_new = numbers_long (set rows own v) ∙ (set_long rows own v ∙ few)
 
       there : (k : ℕ) → j ≡ k → slice_index (version_words row' 1 opened totals) k ≡ slice_index
-          (next_words row' (set rows own v) sums') k → slice_index (version_words row' 1 opened totals) j ≡ slice_index
-          (next_words row' (set rows own v) sums') j
+          (idle_words row' (set rows own v) sums') k → slice_index (version_words row' 1 opened totals) j ≡ slice_index
+          (idle_words row' (set rows own v) sums') j
       there k e h = subst (λ (z : ℕ). slice_index (version_words row' 1 opened totals) z ≡ slice_index
-          (next_words row' (set rows own v) sums') z) (sym e) h
+          (idle_words row' (set rows own v) sums') z) (sym e) h
 
-      go : Which w n j → slice_index (version_words row' 1 opened totals) j ≡ slice_index (next_words row' (set rows own v) sums')
+      go : Which w n j → slice_index (version_words row' 1 opened totals) j ≡ slice_index (idle_words row' (set rows own v) sums')
           j
       go (in_row h) = row_word w n row' 1 opened totals wide' all j h
           ∙ sym (row_word w n row' 1 (map number_in (set rows own v)) sums' wide' all_new j h)

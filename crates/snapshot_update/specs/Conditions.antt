@@ -23,7 +23,7 @@ use Rattle.snapshot_update.specs.Fit.{AreInside, AreImages}
 -- late and the touched ones, all three lists are whole
 pub record MayFill {N C H G : ℕ} (b : Board N C H G) (s : WorkSeat) (hidden shown : List ℕ) (recent late touched : ChangedView)
     (version : NextVersion C H G) (is_known : Bool) : Type 0 where
-  pub own : IsWorkSeatOf b s
+  pub of_board : IsWorkSeatOf b s
   pub exact : (worker_of s).work.hidden ≡ hidden
   pub lengths : (length hidden ≡ depth N (width C H G)) × (length shown ≡ depth N (width C H G))
       × (length (target_of version) ≡ depth N (width C H G))
@@ -40,7 +40,7 @@ pub record MayFill {N C H G : ℕ} (b : Board N C H G) (s : WorkSeat) (hidden sh
 -- this one but for the touched words
 pub record MayMakeVersion {N C H G : ℕ} (b : Board N C H G) (s : WorkSeat) (row : List ℕ) (memory : ScanMemory N C H G)
     (im : BufferImages) (ended : ScanEnd) (is_known : Bool) : Type 0 where
-  pub own : IsWorkSeatOf b s
+  pub of_board : IsWorkSeatOf b s
   pub geometry : IsGeometry N C H G
   pub exact : (worker_of s).work.hidden ≡ im.hidden.items
   pub touched : AreInside (width C H G) im.touched
@@ -49,7 +49,7 @@ pub record MayMakeVersion {N C H G : ℕ} (b : Board N C H G) (s : WorkSeat) (ro
       × ((j : ℕ) → j < depth N (width C H G) → ¬ (Contains im.touched.items j)
       → slice_index next j ≡ slice_index (version_words row 1 (answer_of memory ended).vector (answer_of memory ended).totals) j))
 
--- the new row of worker `own` may be remembered: where it `is_known`, it differs from the remembered one at the touched words
+-- the new row of the worker of this index may be remembered: where it `is_known`, it differs from the remembered one at the touched words
 -- alone
 pub record MayLearn {N C H G : ℕ} (memory : ScanMemory N C H G) (index : ℕ) (row : List ℕ) (im : BufferImages)
     (is_known : Bool) : Type 0 where

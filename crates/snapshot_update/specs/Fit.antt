@@ -7,9 +7,9 @@ use Rattle.segment_layout.specs.Layout.{depth}
 use Rattle.register_rule.specs.declared.view.Member.{Member}
 use Rattle.register_rule.specs.declared.view.Version.{Version}
 use Rattle.register_rule.specs.declared.view.Who.TheVariants.{Worker}
-use Rattle.register_rule.specs.Sums.{total}
+use Rattle.register_rule.specs.Sums.{word_after}
 use Rattle.snapshot_scan.specs.declared.scan_memory.ScanMemory.{ScanMemory}
-use Rattle.snapshot_scan.specs.ScanMemories.{rows_of, sums_of, IsReady}
+use Rattle.snapshot_scan.specs.ScanMemories.{rows_of, totals_in, IsReady}
 use Rattle.snapshot_scan.specs.ChangedItems.{ChangedView}
 use Rattle.snapshot_update.specs.declared.buffer_images.BufferImages.{BufferImages}
 use Rattle.snapshot_update.specs.BufferImages.{DifferAt, version_words}
@@ -23,12 +23,12 @@ abbrev pub number_in : Version → ℕ
 number_in v = v.number
 
 -- the version that an update of nothing would publish now, if its scan found all that is remembered
-abbrev pub next_words : (row : List ℕ) → List Version → (sums : List ℕ) → List ℕ
-next_words row rows sums = version_words row 1 (map number_in rows) sums
+abbrev pub idle_words : (row : List ℕ) → List Version → (sums : List ℕ) → List ℕ
+idle_words row rows sums = version_words row 1 (map number_in rows) sums
 
 -- images of both buffers, of b words; where they differ from each other, and where the shown one differs from the version `next`
 pub record AreImages (b : ℕ) (next : List ℕ) (im : BufferImages) : Type 0 where
-  pub next_deep : length next ≡ b
+  pub idle_deep : length next ≡ b
   pub hidden_deep : length im.hidden.items ≡ b
   pub shown_deep : length im.shown.items ≡ b
   pub recent : DifferAt im.recent im.hidden.items im.shown.items
@@ -42,13 +42,13 @@ pub record IsFit (n c h g index number : ℕ) (row : List ℕ) (memory : ScanMem
     : Type 0 where
   pub who : m.who ≡ Worker index
   pub counts : number ≡ length m.work.made
-  pub sums : (k : ℕ) → k < width c h g → slice_index row k ≡ total (sum_ops c h) m.work.made k
+  pub sums : (k : ℕ) → k < width c h g → slice_index row k ≡ word_after (sum_ops c h) m.work.made k
   pub wide : length row ≡ width c h g
   pub row_known : im.row_known ≡ true → get_elem? (rows_of memory) index ≡ some (record { number = number; row = row })
   pub ready : IsReady m.scan memory
   pub hidden_is : m.work.hidden ≡ im.hidden.items
   pub shown_is : m.work.shown ≡ im.shown.items
-  pub images : AreImages (depth n (width c h g)) (next_words row (rows_of memory) (sums_of memory)) im
+  pub images : AreImages (depth n (width c h g)) (idle_words row (rows_of memory) (totals_in memory)) im
 
 -- a worker's data, of this index, fit a member whose seat has the index `seat`: the indexes are one, the worker has published as
 -- often as it counted, and the data fit

@@ -17,20 +17,21 @@ use Rattle.snapshot_update.specs.BufferImages.{with_hidden}
 
 -- the scan of an update: where the version lends a view, an answer was recorded, which is then the last one; where it does not,
 -- the scan was given up. n workers, rows of w words
-abbrev pub ScanMeets : (n w : ℕ) (c c' : ScanLog) (lends : Bool) → Type 0
-ScanMeets n w c c' true = (a : Answer) × IsAnswered n c c' a × AnswersBy n w c c' a
-ScanMeets n w c c' false = (e : Contended) × IsContended n c c' e × CameTo n w c c' (GaveUp e.worker e.first e.last)
+abbrev pub ScanCameTo : (n w : ℕ) (c c' : ScanLog) (lends : Bool) → Type 0
+ScanCameTo n w c c' true = (a : Answer) × IsAnswered n c c' a × AnswersBy n w c c' a
+ScanCameTo n w c c' false = (e : Contended) × IsContended n c c' e × CameTo n w c c' (GaveUp e.worker e.first e.last)
 
 -- all that the rule says of one member alone, on a board of n workers, c counters, h histograms and g gauges
 abbrev pub IsRuledAlone : (n c h g : ℕ) → Member → Type 0
 IsRuledAlone n c h g m = AreRuled n (width c h g) (sum_ops c h) (Accepts c h g) (m ∷ [])
 
 -- from m to m' worker i scanned, and then published one version, which adds these operations and lends the answer of that
--- scan, or nothing where it was given up. After the scan the rule said this of the worker: each answer that it recorded is right
+-- scan, or nothing where it was given up. After the scan the rule said of the worker all that it says of one member: the publishes of
+-- all workers are of one history and legal, and what the worker loaded, remembers and recorded is right by them
 pub record IsUpdated (n c h g i : ℕ) (ops : List Op) (m m' : Member) : Type 0 where
   pub scan : ScanLog
   pub lends : Bool
   pub hidden : List ℕ
-  pub meets : ScanMeets n (width c h g) m.scan scan lends
+  pub came_to : ScanCameTo n (width c h g) m.scan scan lends
   pub ruled : IsRuledAlone n c h g (record m { scan = scan })
   pub is : m' ≡ published (width c h g) i ops lends (with_hidden hidden (record m { scan = scan }))

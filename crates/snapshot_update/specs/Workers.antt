@@ -9,7 +9,7 @@ use Rattle.register_rule.specs.declared.view.Member.{Member}
 use Rattle.register_rule.specs.declared.view.ScanLog.{ScanLog}
 use Rattle.register_rule.specs.declared.seats.WorkSeat.{WorkSeat}
 use Rattle.register_rule.specs.declared.board.Board.{Board}
-use Rattle.register_rule.specs.Sums.{total}
+use Rattle.register_rule.specs.Sums.{word_after}
 use Rattle.register_rule.specs.Members.{new_worker}
 use Rattle.register_rule.specs.Seats.{worker_of, IsWorkSeatOf}
 use Rattle.snapshot_update.specs.declared.worker.Worker.{Worker}
@@ -59,7 +59,7 @@ module _ {N C H G : ℕ} where
     pub of_it : registry ≡ id
     pub updated : IsUpdated N C H G (index_of w) (op ∷ []) (member_of w) (member_of w')
     pub lists : lists_of w' ≡ lists_of w ++ (op ∷ []) ∷ []
-    pub accepted : Accepts C H G (total (sum_ops C H) (member_of w).work.made) (op ∷ [])
+    pub accepted : Accepts C H G (word_after (sum_ops C H) (member_of w).work.made) (op ∷ [])
     pub room : length (member_of w).work.made < 18446744073709551615
 
 -- the member after it has scanned
@@ -71,7 +71,7 @@ after_scan c m = record m { scan = c }
 abbrev pub IsApplyFault : (c h g : ℕ) → Member → List Op → ApplyFault → Type 0
 IsApplyFault c h g m ops Exhausted = length m.work.made ≡ 18446744073709551615
 IsApplyFault c h g m ops (Refused fault) = (length m.work.made < 18446744073709551615)
-    × IsOpFault c h g (total (sum_ops c h) m.work.made) ops fault
+    × IsOpFault c h g (word_after (sum_ops c h) m.work.made) ops fault
 
 -- why a worker refuses an operation by a handle: the handle is not of the registry `id`, or else as above
 abbrev pub IsCountFault : (c h g id registry : ℕ) → Op → Member → CountFault → Type 0

@@ -4,8 +4,8 @@ ghost use Rattle.std.specs.Prelude.{◌≡◌, true, [], replicate, IfOk};
 use snapshot_scan::ChangedItems;
 use std::alloc::{AllocError, Global};
 
-/// What a worker knows of its buffers: the words of the hidden and of the shown one, and where they may differ from each other
-/// and from the next version.
+/// What a worker knows of its buffers: the words of the hidden and of the shown one, where the two may differ from each other, and where
+/// the shown one may differ from what an update of nothing would publish now. The head of `update.rt` has a table of the lists.
 #[derive(Drop)]
 pub(crate) struct BufferImages {
     /// The words of the buffer that is not shown.

@@ -35,9 +35,9 @@ fn to_worker<const N: usize, const C: usize, const H: usize, const G: usize>(
     index: usize,
 ) -> Result<Worker<N, C, H, G>, AllocError>
     requires geometry { IsGeometry N C H G }
-    requires own { IsWorkSeatOf board.now seat }
+    requires of_board { IsWorkSeatOf board.now seat }
     requires fresh { worker_of seat ≡ new_worker N (width C H G) (depth N (width C H G)) index }
-    ensures own { IfOk result (IsWorkerOf board.now) }
+    ensures of_board { IfOk result (IsWorkerOf board.now) }
     ensures index { IfOk result (λ w. index_of w ≡ index) }
     ensures lists { IfOk result (λ w. lists_of w ≡ []) }
 {
@@ -54,9 +54,9 @@ fn to_workers<const N: usize, const C: usize, const H: usize, const G: usize>(
     seats: Vec<WorkSeat>,
 ) -> Result<Vec<Worker<N, C, H, G>>, AllocError>
     requires geometry { IsGeometry N C H G }
-    requires own { All (IsWorkSeatOf board.now) seats.items }
+    requires of_board { All (IsWorkSeatOf board.now) seats.items }
     requires fresh { map worker_of seats.items ≡ workers_from N (width C H G) (depth N (width C H G)) 0 N }
-    ensures own { IfOk result (λ v. All (IsWorkerOf board.now) v.items) }
+    ensures of_board { IfOk result (λ v. All (IsWorkerOf board.now) v.items) }
     ensures all { IfOk result (λ v. map index_of v.items ≡ range_with_len 0 N) }
     ensures new { IfOk result (λ v. map lists_of v.items ≡ replicate N []) }
 {
@@ -76,9 +76,9 @@ fn to_reader<const N: usize, const C: usize, const H: usize, const G: usize>(
     seat: ReadSeat,
 ) -> Result<Reader<N, C, H, G>, AllocError>
     requires geometry { IsGeometry N C H G }
-    requires own { IsReadSeatOf board.now seat }
+    requires of_board { IsReadSeatOf board.now seat }
     requires fresh { (reader_of seat).scan ≡ fresh_scan N (width C H G) }
-    ensures own { IfOk result (IsReaderOf board.now) }
+    ensures of_board { IfOk result (IsReaderOf board.now) }
     ensures alone { IfOk result IsAlone }
 {
     match Reader::new(alloc, seat) {
@@ -95,9 +95,9 @@ fn to_readers<const N: usize, const C: usize, const H: usize, const G: usize>(
     all: usize,
 ) -> Result<Vec<Reader<N, C, H, G>>, AllocError>
     requires geometry { IsGeometry N C H G }
-    requires own { All (IsReadSeatOf board.now) seats.items }
+    requires of_board { All (IsReadSeatOf board.now) seats.items }
     requires fresh { map reader_of seats.items ≡ readers_from N (width C H G) 0 all }
-    ensures own { IfOk result (λ v. All (IsReaderOf board.now) v.items) }
+    ensures of_board { IfOk result (λ v. All (IsReaderOf board.now) v.items) }
     ensures alone { IfOk result (λ v. All IsAlone v.items) }
     ensures all { IfOk result (λ v. length v.items ≡ all) }
 {

@@ -21,11 +21,11 @@ pub(crate) fn fill_item<const N: usize, const C: usize, const H: usize, const G:
     item: usize,
     word: u64,
 )
-    requires own { IsWorkSeatOf board.now seat.old }
+    requires of_board { IsWorkSeatOf board.now seat.old }
     requires exact { (worker_of seat.old).work.hidden ≡ hidden.old }
     requires inside { (item < length hidden.old) × (length hidden.old ≡ depth N (width C H G)) }
     requires bounded { item < width C H G → word ≤ greatest_word }
-    ensures own { IsWorkSeatOf board.now seat.new }
+    ensures of_board { IsWorkSeatOf board.now seat.new }
     ensures index { index_of seat.new ≡ index_of seat.old }
     ensures exact { (worker_of seat.new).work.hidden ≡ hidden.new }
     ensures hidden { hidden.new ≡ slice_set hidden.old item word }
@@ -46,12 +46,12 @@ pub(crate) fn fill_changes<const N: usize, const C: usize, const H: usize, const
     changes: &ChangedItems,
     version: &NextVersion<C, H, G>,
 )
-    requires own { IsWorkSeatOf board.now seat.old }
+    requires of_board { IsWorkSeatOf board.now seat.old }
     requires exact { (worker_of seat.old).work.hidden ≡ hidden.old }
     requires lengths { (length hidden.old ≡ depth N (width C H G)) × (length (target_of version.now) ≡ depth N (width C H G)) }
     requires listed { changes.now.all ≡ false }
     requires inside { AreInside (depth N (width C H G)) changes.now }
-    ensures own { IsWorkSeatOf board.now seat.new }
+    ensures of_board { IsWorkSeatOf board.now seat.new }
     ensures index { index_of seat.new ≡ index_of seat.old }
     ensures member { worker_of seat.new ≡ with_hidden hidden.new (worker_of seat.old) }
     ensures filled { (j : ℕ) → Contains changes.now.items j → slice_index hidden.new j ≡ slice_index (target_of version.now) j }
@@ -76,7 +76,7 @@ pub(crate) fn fill_known<const N: usize, const C: usize, const H: usize, const G
     touched: &ChangedItems,
     version: &NextVersion<C, H, G>,
 )
-    requires own { IsWorkSeatOf board.now seat.old }
+    requires of_board { IsWorkSeatOf board.now seat.old }
     requires exact { (worker_of seat.old).work.hidden ≡ hidden.old }
     requires lengths { (length hidden.old ≡ depth N (width C H G)) × (length (target_of version.now) ≡ depth N (width C H G)) }
     requires listed { (recent.now.all ≡ false) × (late.now.all ≡ false) × (touched.now.all ≡ false) }
@@ -85,7 +85,7 @@ pub(crate) fn fill_known<const N: usize, const C: usize, const H: usize, const G
     requires touched { AreInside (depth N (width C H G)) touched.now }
     requires known { (j : ℕ) → j < depth N (width C H G) → ¬ (Contains recent.now.items j) → ¬ (Contains late.now.items j)
         → ¬ (Contains touched.now.items j) → slice_index hidden.old j ≡ slice_index (target_of version.now) j }
-    ensures own { IsWorkSeatOf board.now seat.new }
+    ensures of_board { IsWorkSeatOf board.now seat.new }
     ensures index { index_of seat.new ≡ index_of seat.old }
     ensures member { worker_of seat.new ≡ with_hidden hidden.new (worker_of seat.old) }
     ensures hidden { hidden.new ≡ target_of version.now }
@@ -98,7 +98,7 @@ pub(crate) fn fill_known<const N: usize, const C: usize, const H: usize, const G
 /// Fills the items from `from` on and before `to` of the hidden buffer with the version, where those before are filled, and
 /// lists where the version differs from what the shown buffer holds.
 #[inline(always)]
-fn fill_some<const N: usize, const C: usize, const H: usize, const G: usize>(
+fn fill_range<const N: usize, const C: usize, const H: usize, const G: usize>(
     board: &Board<N, C, H, G>,
     seat: &mut WorkSeat,
     hidden: &mut [u64],
@@ -108,14 +108,14 @@ fn fill_some<const N: usize, const C: usize, const H: usize, const G: usize>(
     from: usize,
     to: usize,
 )
-    requires own { IsWorkSeatOf board.now seat.old }
+    requires of_board { IsWorkSeatOf board.now seat.old }
     requires exact { (worker_of seat.old).work.hidden ≡ hidden.old }
     requires lengths { (length hidden.old ≡ depth N (width C H G)) × (length shown.now ≡ depth N (width C H G))
         × (length (target_of version.now) ≡ depth N (width C H G)) }
     requires inside { (from ≤ to) × (to ≤ depth N (width C H G)) }
     requires filled { (j : ℕ) → j < from → slice_index hidden.old j ≡ slice_index (target_of version.now) j }
     requires noted { SoFar from recent.old shown.now (target_of version.now) }
-    ensures own { IsWorkSeatOf board.now seat.new }
+    ensures of_board { IsWorkSeatOf board.now seat.new }
     ensures index { index_of seat.new ≡ index_of seat.old }
     ensures member { worker_of seat.new ≡ with_hidden hidden.new (worker_of seat.old) }
     ensures filled { (j : ℕ) → j < to → slice_index hidden.new j ≡ slice_index (target_of version.now) j }
@@ -140,11 +140,11 @@ pub(crate) fn fill_all<const N: usize, const C: usize, const H: usize, const G: 
     recent: &mut ChangedItems,
     version: &NextVersion<C, H, G>,
 )
-    requires own { IsWorkSeatOf board.now seat.old }
+    requires of_board { IsWorkSeatOf board.now seat.old }
     requires exact { (worker_of seat.old).work.hidden ≡ hidden.old }
     requires lengths { (length hidden.old ≡ depth N (width C H G)) × (length shown.now ≡ depth N (width C H G))
         × (length (target_of version.now) ≡ depth N (width C H G)) }
-    ensures own { IsWorkSeatOf board.now seat.new }
+    ensures of_board { IsWorkSeatOf board.now seat.new }
     ensures index { index_of seat.new ≡ index_of seat.old }
     ensures member { worker_of seat.new ≡ with_hidden hidden.new (worker_of seat.old) }
     ensures hidden { hidden.new ≡ target_of version.now }
@@ -155,9 +155,10 @@ pub(crate) fn fill_all<const N: usize, const C: usize, const H: usize, const G: 
 {
     recent.clear();
     let row = version.row.len();
-    // The parts of a version one by one: so that among the counters, which are the most, no word's kind is asked for.
-    fill_some(board, seat, hidden, shown, recent, version, 0, C);
-    fill_some(board, seat, hidden, shown, recent, version, C, row);
+    // The parts of a version one by one: the compiler then sees in each range which kind of word `version.word` takes, and among the
+    // counters, which are the most, drops the question. One call for all asks it for each word.
+    fill_range(board, seat, hidden, shown, recent, version, 0, C);
+    fill_range(board, seat, hidden, shown, recent, version, C, row);
     let end = hidden.len();
-    fill_some(board, seat, hidden, shown, recent, version, row, end);
+    fill_range(board, seat, hidden, shown, recent, version, row, end);
 }

@@ -14,7 +14,8 @@ use register_rule::{Board, WorkSeat};
 use snapshot_scan::ChangedItems;
 
 /// Fills the hidden buffer with the version, and lists in `recent` where it differs from what the shown buffer holds. Where
-/// it is `known` that the version differs from that at no items but the late and the touched ones, no others are compared.
+/// it is `listed` that the version differs from that at no items but the late and the touched ones, no items but those of the
+/// three lists are compared.
 #[inline(always)]
 pub(crate) fn fill_next<const N: usize, const C: usize, const H: usize, const G: usize>(
     board: &Board<N, C, H, G>,
@@ -25,17 +26,17 @@ pub(crate) fn fill_next<const N: usize, const C: usize, const H: usize, const G:
     late: &ChangedItems,
     touched: &ChangedItems,
     version: &NextVersion<C, H, G>,
-    known: bool,
+    listed: bool,
 )
-    requires { MayFill board.now seat.old hidden.old shown.now recent.old late.now touched.now version.now known }
-    ensures own { IsWorkSeatOf board.now seat.new }
+    requires { MayFill board.now seat.old hidden.old shown.now recent.old late.now touched.now version.now listed }
+    ensures of_board { IsWorkSeatOf board.now seat.new }
     ensures index { index_of seat.new ≡ index_of seat.old }
     ensures member { worker_of seat.new ≡ with_hidden hidden.new (worker_of seat.old) }
     ensures hidden { hidden.new ≡ target_of version.now }
     ensures recent { DifferAt recent.new shown.now (target_of version.now) }
     ensures inside { AreInside (depth N (width C H G)) recent.new }
 {
-    if known {
+    if listed {
         let all_recent = are_both(recent.as_slice(), late.as_slice(), touched.as_slice());
         if all_recent {
             fill_changes(board, seat, hidden, recent, version);

@@ -10,9 +10,9 @@ ghost use Rattle.snapshot_scan.specs.Contention.{IsContended};
 ghost use Rattle.snapshot_scan.specs.Core.{CameTo, AnswersBy};
 ghost use Rattle.snapshot_scan.specs.Snapshots.{as_answer};
 ghost use Rattle.snapshot_scan.specs.RememberedRows.{AreNumbers};
-ghost use Rattle.snapshot_scan.specs.ScanMemories.{rows_of, sums_of, moved_in, answer_of, HasView, IsReady};
+ghost use Rattle.snapshot_scan.specs.ScanMemories.{rows_of, totals_in, moved_in, answer_of, HasView, IsReady};
 ghost use Rattle.snapshot_update.specs.Fit.{AreInside};
-ghost use Rattle.snapshot_update.specs.Updated.{ScanMeets, IsRuledAlone};
+ghost use Rattle.snapshot_update.specs.Updated.{ScanCameTo, IsRuledAlone};
 
 use register_rule::{Board, WorkSeat};
 use snapshot_scan::{Contended, ScanEnd, ScanMemory, Snapshot};
@@ -44,44 +44,45 @@ pub(crate) fn is_direct(ended: ScanEnd) -> bool
 
 /// The scan of a worker for its update, as its clauses say it of the worker: its other parts stay as they were.
 #[inline(always)]
-pub(crate) fn scan_own<const N: usize, const C: usize, const H: usize, const G: usize>(
+pub(crate) fn scan_for_update<const N: usize, const C: usize, const H: usize, const G: usize>(
     board: &Board<N, C, H, G>,
     seat: &mut WorkSeat,
     memory: &mut ScanMemory<N, C, H, G>,
 ) -> ScanEnd
-    requires own { IsWorkSeatOf board.now seat.old }
+    requires of_board { IsWorkSeatOf board.now seat.old }
     requires ready { IsReady (worker_of seat.old).scan memory.old }
-    ensures own { IsWorkSeatOf board.now seat.new }
+    ensures of_board { IsWorkSeatOf board.now seat.new }
     ensures index { index_of seat.new ≡ index_of seat.old }
     ensures ruled { IsRuledAlone N C H G (worker_of seat.new) }
     ensures others { worker_of seat.new ≡ record (worker_of seat.old) { scan = (worker_of seat.new).scan } }
     ensures ready { IsReady (worker_of seat.new).scan memory.new }
     ensures view { HasView result → IsAnswered N (worker_of seat.old).scan (worker_of seat.new).scan
         (answer_of memory.new result) }
-    ensures meets { HasView result → ScanMeets N (width C H G) (worker_of seat.old).scan (worker_of seat.new).scan true }
+    ensures came_to { HasView result → ScanCameTo N (width C H G) (worker_of seat.old).scan (worker_of seat.new).scan true }
     ensures quiet { result ≡ ScanEnd.Direct true → (rows_of memory.new ≡ rows_of memory.old)
-        × (sums_of memory.new ≡ sums_of memory.old) × AreNumbers (answer_of memory.new result).vector (rows_of memory.new) }
+        × (totals_in memory.new ≡ totals_in memory.old) × AreNumbers (answer_of memory.new result).vector (rows_of memory.new) }
     ensures numbers { (q : Bool) → result ≡ ScanEnd.Direct q → AreNumbers (answer_of memory.new result).vector
         (rows_of memory.new) }
     ensures listed { (moved_in memory.new).all ≡ false → (k : ℕ) → k < width C H G → ¬ (Contains (moved_in memory.new).items k)
-        → slice_index (sums_of memory.new) k ≡ slice_index (sums_of memory.old) k }
+        → slice_index (totals_in memory.new) k ≡ slice_index (totals_in memory.old) k }
     ensures words { AreInside (width C H G) (moved_in memory.new) }
-    ensures gave_up { result ≡ ScanEnd.GaveUp → ScanMeets N (width C H G) (worker_of seat.old).scan (worker_of seat.new).scan
+    ensures gave_up { result ≡ ScanEnd.GaveUp → ScanCameTo N (width C H G) (worker_of seat.old).scan (worker_of seat.new).scan
         false }
 {
     memory.scan(board, seat)
 }
 
-/// The scan of a worker for itself, told so, too: its other parts stay as they were.
-pub(crate) fn scan_to<const N: usize, const C: usize, const H: usize, const G: usize>(
+/// The scan of a worker whose answer goes to its caller, with what the rule says of the worker alone: what the worker wrote stays as it
+/// was.
+pub(crate) fn scan_for_caller<const N: usize, const C: usize, const H: usize, const G: usize>(
     board: &Board<N, C, H, G>,
     seat: &mut WorkSeat,
     memory: &mut ScanMemory<N, C, H, G>,
     out: &mut Snapshot<N, C, H, G>,
 ) -> Result<(), Contended>
-    requires own { IsWorkSeatOf board.now seat.old }
+    requires of_board { IsWorkSeatOf board.now seat.old }
     requires ready { IsReady (worker_of seat.old).scan memory.old }
-    ensures own { IsWorkSeatOf board.now seat.new }
+    ensures of_board { IsWorkSeatOf board.now seat.new }
     ensures index { index_of seat.new ≡ index_of seat.old }
     ensures ruled { IsRuledAlone N C H G (worker_of seat.new) }
     ensures others { worker_of seat.new ≡ record (worker_of seat.old) { scan = (worker_of seat.new).scan } }

@@ -8,10 +8,10 @@ ghost use Rattle.segment_layout.specs.Layout.{IsGeometry, depth};
 ghost use mathlib.Core.Option.{some};
 ghost use lib.ListN.{get_elem?};
 ghost use Rattle.register_rule.specs.declared.view.Version.{Version as version};
-ghost use Rattle.register_rule.specs.Sums.{total};
+ghost use Rattle.register_rule.specs.Sums.{word_after};
 ghost use Rattle.register_rule.specs.Seats.{worker_of, index_of, IsWorkSeatOf};
 ghost use Rattle.snapshot_scan.specs.declared.scan_end.ScanEnd.TheVariants as ScanEnd;
-ghost use Rattle.snapshot_scan.specs.ScanMemories.{rows_of, sums_of, answer_of, HasView};
+ghost use Rattle.snapshot_scan.specs.ScanMemories.{rows_of, totals_in, answer_of, HasView};
 ghost use Rattle.snapshot_update.specs.BufferImages.{DifferAt, version_words, with_hidden};
 ghost use Rattle.snapshot_update.specs.Fit.{AreInside, IsFit};
 ghost use Rattle.snapshot_update.specs.Conditions.{MayMakeVersion, MayLearn};
@@ -22,7 +22,7 @@ use crate::known::know_next;
 use crate::listing::list_late;
 use crate::next_fill::fill_next;
 use crate::next_version::NextVersion;
-use crate::scanning::{has_view, scan_own};
+use crate::scanning::{has_view, scan_for_update};
 use crate::touched::touch;
 use ledger_core::{Op, OpFault, Row};
 use register_rule::{Board, WorkSeat};
@@ -51,7 +51,7 @@ fn fill_version<const N: usize, const C: usize, const H: usize, const G: usize>(
     known: bool,
 ) -> bool
     requires { MayMakeVersion board.now seat.old row.now memory.now images.old ended known }
-    ensures own { IsWorkSeatOf board.now seat.new }
+    ensures of_board { IsWorkSeatOf board.now seat.new }
     ensures index { index_of seat.new ≡ index_of seat.old }
     ensures member { worker_of seat.new ≡ with_hidden images.new.hidden.items (worker_of seat.old) }
     ensures hidden { images.new.hidden.items ≡ version_words row.now (cond result 1 0) (answer_of memory.now ended).vector
@@ -81,7 +81,9 @@ fn fill_version<const N: usize, const C: usize, const H: usize, const G: usize>(
     lends
 }
 
-/// After the publish the buffers have changed their roles. Only where `known`, as `know_next` answered, is it known where they differ.
+/// After the publish the buffers have changed their roles: exchanges their images, and lists anew where the shown one differs from what
+/// an update of nothing would publish now (`late`): anywhere, where it is not `known`, as `know_next` answered. Where the two differ from
+/// each other (`recent`) stays as it is.
 #[inline(always)]
 fn turn<const N: usize, const C: usize, const H: usize, const G: usize>(
     images: &mut BufferImages,
@@ -118,7 +120,7 @@ fn learn<const N: usize, const C: usize, const H: usize, const G: usize>(
     requires { MayLearn memory.old index row.now images.now known }
     ensures rows { rows_of memory.new ≡ slice_set (rows_of memory.old) index (record { number = number; row = row.now }) }
     ensures sums { (v : version) → get_elem? (rows_of memory.old) index ≡ some v → (k : ℕ) → k < width C H G
-        → slice_index (sums_of memory.new) k + slice_index v.row k ≡ slice_index (sums_of memory.old) k + slice_index row.now k }
+        → slice_index (totals_in memory.new) k + slice_index v.row k ≡ slice_index (totals_in memory.old) k + slice_index row.now k }
 {
     if known {
         memory.remember_at(index, number, row, images.touched.as_slice());
@@ -138,24 +140,24 @@ pub(crate) fn update<const N: usize, const C: usize, const H: usize, const G: us
     images: &mut BufferImages,
     ops: &[Op],
 ) -> Result<(), OpFault>
-    requires own { IsWorkSeatOf board.now seat.old }
+    requires of_board { IsWorkSeatOf board.now seat.old }
     requires geometry { IsGeometry N C H G }
     requires room { length (worker_of seat.old).work.made + 1 < 18446744073709551616 }
     requires fit { IsFit N C H G (index_of seat.old) (length (worker_of seat.old).work.made) row.old memory.old
         images.old (worker_of seat.old) }
-    ensures own { IsWorkSeatOf board.now seat.new }
+    ensures of_board { IsWorkSeatOf board.now seat.new }
     ensures index { index_of seat.new ≡ index_of seat.old }
     ensures fit { IsFit N C H G (index_of seat.new) (length (worker_of seat.new).work.made) row.new memory.new
         images.new (worker_of seat.new) }
     ensures updated { OnOk result (IsUpdated N C H G (index_of seat.old) ops.now (worker_of seat.old) (worker_of seat.new)) }
-    ensures accepted { OnOk result (Accepts C H G (total (sum_ops C H) (worker_of seat.old).work.made) ops.now) }
+    ensures accepted { OnOk result (Accepts C H G (word_after (sum_ops C H) (worker_of seat.old).work.made) ops.now) }
     ensures row_known { OnOk result (images.new.row_known ≡ true) }
-    ensures fault { IfErr result (IsOpFault C H G (total (sum_ops C H) (worker_of seat.old).work.made) ops.now) }
+    ensures fault { IfErr result (IsOpFault C H G (word_after (sum_ops C H) (worker_of seat.old).work.made) ops.now) }
     ensures unchanged { OnErr result ((seat.new ≡ seat.old) × (row.new ≡ row.old) × (memory.new ≡ memory.old)
         × (images.new ≡ images.old)) }
 {
     row.try_apply(ops)?;
-    let ended = scan_own(board, seat, memory);
+    let ended = scan_for_update(board, seat, memory);
     touch::<C, H, G>(ops, &mut images.touched);
     let known = know_next(
         seat,

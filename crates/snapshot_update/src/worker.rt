@@ -10,7 +10,7 @@ ghost use Rattle.snapshot_update.specs.BufferImages.{AreBlank};
 
 use crate::buffer_images::BufferImages;
 use crate::faults::{ApplyFault, CountFault};
-use crate::scanning::scan_to;
+use crate::scanning::scan_for_caller;
 use crate::update::update;
 use ledger_core::{Counter, Gauge, Histogram, Op, Row};
 use register_rule::{Board, WorkSeat};
@@ -52,7 +52,7 @@ impl<const N: usize, const C: usize, const H: usize, const G: usize> Worker<N, C
     ghost use Rattle.ledger_core.specs.Ops.{width, sum_ops};
     ghost use Rattle.ledger_core.specs.Row.{Accepts};
     ghost use Rattle.segment_layout.specs.Layout.{IsGeometry, depth};
-    ghost use Rattle.register_rule.specs.Sums.{total};
+    ghost use Rattle.register_rule.specs.Sums.{word_after};
     ghost use Rattle.register_rule.specs.Members.{new_worker, met, greatest, raised, picked, without};
     ghost use Rattle.register_rule.specs.Seats.{worker_of, index_of as seat_index, board_id};
     ghost use Rattle.snapshot_update.specs.Updated.{IsUpdated, IsRuledAlone};
@@ -113,12 +113,12 @@ impl<const N: usize, const C: usize, const H: usize, const G: usize> Worker<N, C
     /// [`ApplyFault::Exhausted`], 15; then [`ApplyFault::Refused`], 11 or 12, of the first operation that fails.
     #[inline(always)]
     pub fn apply(&mut self, board: &Board<N, C, H, G>, ops: &[Op]) -> Result<(), ApplyFault>
-        requires own { IsWorkerOf board.now self.old }
-        ensures own { IsWorkerOf board.now self.new }
+        requires of_board { IsWorkerOf board.now self.old }
+        ensures of_board { IsWorkerOf board.now self.new }
         ensures index { index_of self.new ≡ index_of self.old }
         ensures updated { OnOk result (IsUpdated N C H G (index_of self.old) ops.now (member_of self.old) (member_of self.new)) }
         ensures lists { OnOk result (lists_of self.new ≡ lists_of self.old ++ ops.now ∷ []) }
-        ensures accepted { OnOk result (Accepts C H G (total (sum_ops C H) (member_of self.old).work.made) ops.now) }
+        ensures accepted { OnOk result (Accepts C H G (word_after (sum_ops C H) (member_of self.old).work.made) ops.now) }
         ensures room { OnOk result (length (member_of self.old).work.made < 18446744073709551615) }
         ensures fault { IfErr result (IsApplyFault C H G (member_of self.old) ops.now) }
         ensures unchanged { OnErr result (self.new ≡ self.old) }
@@ -162,7 +162,7 @@ impl<const N: usize, const C: usize, const H: usize, const G: usize> Worker<N, C
     /// The sum of all that the worker has published.
     pub fn row(&self) -> &Row<C, H, G>
         requires { IsSome self.now.seat }
-        ensures { (k : ℕ) → k < width C H G → slice_index result.now k ≡ total (sum_ops C H) (member_of self.now).work.made k }
+        ensures { (k : ℕ) → k < width C H G → slice_index result.now k ≡ word_after (sum_ops C H) (member_of self.now).work.made k }
     {
         &self.row
     }
@@ -178,8 +178,8 @@ impl<const N: usize, const C: usize, const H: usize, const G: usize> Worker<N, C
         counter: &Counter,
         by: u64,
     ) -> Result<(), CountFault>
-        requires own { IsWorkerOf board.now self.old }
-        ensures own { IsWorkerOf board.now self.new }
+        requires of_board { IsWorkerOf board.now self.old }
+        ensures of_board { IsWorkerOf board.now self.new }
         ensures index { index_of self.new ≡ index_of self.old }
         ensures counted { OnOk result
             (IsCounted (board_id board.now) counter.now.registry (Inc counter.now.slot by) self.old self.new) }
@@ -208,8 +208,8 @@ impl<const N: usize, const C: usize, const H: usize, const G: usize> Worker<N, C
         hist: &Histogram,
         value: u64,
     ) -> Result<(), CountFault>
-        requires own { IsWorkerOf board.now self.old }
-        ensures own { IsWorkerOf board.now self.new }
+        requires of_board { IsWorkerOf board.now self.old }
+        ensures of_board { IsWorkerOf board.now self.new }
         ensures index { index_of self.new ≡ index_of self.old }
         ensures counted { OnOk result
             (IsCounted (board_id board.now) hist.now.registry (Observe hist.now.slot (place_of hist.now.bounds value) value)
@@ -242,8 +242,8 @@ impl<const N: usize, const C: usize, const H: usize, const G: usize> Worker<N, C
         gauge: &Gauge,
         by: u64,
     ) -> Result<(), CountFault>
-        requires own { IsWorkerOf board.now self.old }
-        ensures own { IsWorkerOf board.now self.new }
+        requires of_board { IsWorkerOf board.now self.old }
+        ensures of_board { IsWorkerOf board.now self.new }
         ensures index { index_of self.new ≡ index_of self.old }
         ensures counted { OnOk result
             (IsCounted (board_id board.now) gauge.now.registry (Up gauge.now.slot by) self.old self.new) }
@@ -272,8 +272,8 @@ impl<const N: usize, const C: usize, const H: usize, const G: usize> Worker<N, C
         gauge: &Gauge,
         by: u64,
     ) -> Result<(), CountFault>
-        requires own { IsWorkerOf board.now self.old }
-        ensures own { IsWorkerOf board.now self.new }
+        requires of_board { IsWorkerOf board.now self.old }
+        ensures of_board { IsWorkerOf board.now self.new }
         ensures index { index_of self.new ≡ index_of self.old }
         ensures counted { OnOk result
             (IsCounted (board_id board.now) gauge.now.registry (Down gauge.now.slot by) self.old self.new) }
@@ -305,11 +305,11 @@ impl<const N: usize, const C: usize, const H: usize, const G: usize> Worker<N, C
         board: &Board<N, C, H, G>,
         out: &mut Snapshot<N, C, H, G>,
     ) -> Result<(), Contended>
-        requires own { IsWorkerOf board.now self.old }
-        ensures own { IsWorkerOf board.now self.new }
+        requires of_board { IsWorkerOf board.now self.old }
+        ensures of_board { IsWorkerOf board.now self.new }
         ensures index { index_of self.new ≡ index_of self.old }
         ensures ruled { IsRuledAlone N C H G (member_of self.new) }
-        ensures made { member_of self.new ≡ after_scan (scan_by self.new) (member_of self.old) }
+        ensures scanned { member_of self.new ≡ after_scan (scan_by self.new) (member_of self.old) }
         ensures answered { OnOk result (IsAnswered N (scan_by self.old) (scan_by self.new) (as_answer out.new)) }
         ensures answers { OnOk result (AnswersBy N (width C H G) (scan_by self.old) (scan_by self.new) (as_answer out.new)) }
         ensures legal { OnOk result (IsLegal C H (slice_index out.new.totals)) }
@@ -321,7 +321,7 @@ impl<const N: usize, const C: usize, const H: usize, const G: usize> Worker<N, C
         let Some(seat) = &mut self.seat else {
             unreachable!()
         };
-        let end = scan_to(board, seat, &mut self.memory, out);
+        let end = scan_for_caller(board, seat, &mut self.memory, out);
         // The scan may have remembered other rows, of which no list was kept: the next update compares all.
         self.images.late.note_all();
         self.images.row_known = false;
@@ -331,8 +331,8 @@ impl<const N: usize, const C: usize, const H: usize, const G: usize> Worker<N, C
     /// Lends the worker to a reader, by one load: it has then seen what the reader has seen, and the reader has seen all that
     /// it made. Until it is taken back it cannot publish, and each scan of the reader has its number.
     pub fn lend_to(&mut self, board: &Board<N, C, H, G>, reader: &mut Reader<N, C, H, G>)
-        requires own { IsWorkerOf board.now self.old × IsReaderOf board.now reader.old }
-        ensures own { IsReaderOf board.now reader.new }
+        requires of_board { IsWorkerOf board.now self.old × IsReaderOf board.now reader.old }
+        ensures of_board { IsReaderOf board.now reader.new }
         ensures index { (index_of self.new ≡ index_of self.old) × (reader_index reader.new ≡ reader_index reader.old) }
         ensures met { members_with reader.new ≡ met (members_with reader.old ++ member_of self.old ∷ []) }
         ensures kept { HasSeenMore (scan_of_reader reader.old) (scan_of_reader reader.new) }
@@ -348,9 +348,9 @@ impl<const N: usize, const C: usize, const H: usize, const G: usize> Worker<N, C
 
     /// Takes the worker back from the reader that it is lent to, by two loads: the first one changes nothing.
     pub fn take_back(&mut self, board: &Board<N, C, H, G>, reader: &mut Reader<N, C, H, G>)
-        requires own { IsReaderOf board.now reader.old }
+        requires of_board { IsReaderOf board.now reader.old }
         requires lent { IsLent self.old reader.old }
-        ensures own { IsWorkerOf board.now self.new × IsReaderOf board.now reader.new }
+        ensures of_board { IsWorkerOf board.now self.new × IsReaderOf board.now reader.new }
         ensures index { (index_of self.new ≡ index_of self.old) × (reader_index reader.new ≡ reader_index reader.old) }
         ensures member { picked (Who.Worker (index_of self.old)) (members_with reader.old) ≡ member_of self.new ∷ [] }
         ensures others { members_with reader.new ≡ without (Who.Worker (index_of self.old)) (members_with reader.old) }
@@ -365,8 +365,8 @@ impl<const N: usize, const C: usize, const H: usize, const G: usize> Worker<N, C
     /// The worker and the reader meet, by three loads: from now on each scan of the reader has all that the worker has made so
     /// far, and no scan of the worker is below what the reader has seen.
     pub fn meet(&mut self, board: &Board<N, C, H, G>, reader: &mut Reader<N, C, H, G>)
-        requires own { IsWorkerOf board.now self.old × IsReaderOf board.now reader.old }
-        ensures own { IsWorkerOf board.now self.new × IsReaderOf board.now reader.new }
+        requires of_board { IsWorkerOf board.now self.old × IsReaderOf board.now reader.old }
+        ensures of_board { IsWorkerOf board.now self.new × IsReaderOf board.now reader.new }
         ensures index { (index_of self.new ≡ index_of self.old) × (reader_index reader.new ≡ reader_index reader.old) }
         ensures worker { member_of self.new ≡ raised (greatest (members_with reader.old ++ member_of self.old ∷ []))
             (member_of self.old) }
@@ -383,11 +383,11 @@ impl<const N: usize, const C: usize, const H: usize, const G: usize> Worker<N, C
         self.take_back(board, reader);
     }
 
-    // One operation by a handle of this registry.
+    // One operation by a handle that has the id of this registry; 16 where that is not the board's.
     #[inline(always)]
     fn count(&mut self, board: &Board<N, C, H, G>, registry: u64, op: Op) -> Result<(), CountFault>
-        requires own { IsWorkerOf board.now self.old }
-        ensures own { IsWorkerOf board.now self.new }
+        requires of_board { IsWorkerOf board.now self.old }
+        ensures of_board { IsWorkerOf board.now self.new }
         ensures index { index_of self.new ≡ index_of self.old }
         ensures counted { OnOk result (IsCounted (board_id board.now) registry op self.old self.new) }
         ensures fault { IfErr result (IsCountFault C H G (board_id board.now) registry op (member_of self.old)) }

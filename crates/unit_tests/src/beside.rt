@@ -21,7 +21,7 @@ use std::test::Fail;
 
 /// A board of two workers, whose rows are one counter, the second worker, and the seat of the first one.
 fn with_first(alloc: Global) -> Result<(Board<2, 1, 0, 0>, Worker<2, 1, 0, 0>, WorkSeat), Fail>
-    ensures own { IfOk result (λ r. IsWorkerOf r.0 r.1 × IsWorkSeatOf r.0 r.2) }
+    ensures of_board { IfOk result (λ r. IsWorkerOf r.0 r.1 × IsWorkSeatOf r.0 r.2) }
     ensures fresh { IfOk result (λ r. (worker_of r.2).scan ≡ fresh_scan 2 1) }
 {
     let Parts {
@@ -40,7 +40,7 @@ fn with_first(alloc: Global) -> Result<(Board<2, 1, 0, 0>, Worker<2, 1, 0, 0>, W
 
 /// Such a board, the second worker, and the seat of a reader.
 fn with_reader(alloc: Global) -> Result<(Board<2, 1, 0, 0>, Worker<2, 1, 0, 0>, ReadSeat), Fail>
-    ensures own { IfOk result (λ r. IsWorkerOf r.0 r.1 × IsReadSeatOf r.0 r.2) }
+    ensures of_board { IfOk result (λ r. IsWorkerOf r.0 r.1 × IsReadSeatOf r.0 r.2) }
     ensures fresh { IfOk result (λ r. (reader_of r.2).scan ≡ fresh_scan 2 1) }
 {
     let Parts {
@@ -86,7 +86,7 @@ struct Beside<'a, S> {
     worker: Worker<2, 1, 0, 0>,
     seat: S,
     plan: Plan,
-    ghost own: { IsWorkerOf board.now worker } by { IsWorkerOf-prop board.now worker },
+    ghost of_board: { IsWorkerOf board.now worker } by { IsWorkerOf-prop board.now worker },
 }
 
 /// Whether the worker, which has published or not, publishes before this load.
@@ -104,7 +104,7 @@ impl<'a, S: ScanSeat<2, 1, 0, 0>> ScanSeat<2, 1, 0, 0> for Beside<'a, S> {
     ghost bundle = { λ s. S.bundle s.seat };
 
     fn load(&mut self, board: &Board<2, 1, 0, 0>, what: Load) -> u64
-        requires own { MayScan board.now (S.bundle self.old.seat) }
+        requires of_board { MayScan board.now (S.bundle self.old.seat) }
         requires inside { IsLoad 2 (depth 2 1) what }
         ensures learns { ScanChangesBy 2 1 0 0 (after 2 1 what result) (S.bundle self.old.seat) (S.bundle self.new.seat) }
         ensures told { LoadTells 1 what (members_of (S.bundle self.old.seat)) result }
@@ -126,7 +126,7 @@ fn scan_beside<S: ScanSeat<2, 1, 0, 0> + Drop>(
     plan: Plan,
     out: &mut Snapshot<2, 1, 0, 0>,
 ) -> Result<(), Contended>
-    requires own { IsWorkerOf board.now worker × MayScan board.now (S.bundle seat) }
+    requires of_board { IsWorkerOf board.now worker × MayScan board.now (S.bundle seat) }
     requires fresh { scan_in (S.bundle seat) ≡ fresh_scan 2 1 }
 {
     let mut memory = need(rt, ScanMemory::new(alloc));
@@ -164,7 +164,7 @@ fn is_given_up<S: ScanSeat<2, 1, 0, 0> + Drop>(
     worker: Worker<2, 1, 0, 0>,
     seat: S,
 )
-    requires own { IsWorkerOf board.now worker × MayScan board.now (S.bundle seat) }
+    requires of_board { IsWorkerOf board.now worker × MayScan board.now (S.bundle seat) }
     requires fresh { scan_in (S.bundle seat) ≡ fresh_scan 2 1 }
 {
     let plan = Plan {

@@ -19,8 +19,8 @@ fn hundred<const N: usize, const C: usize, const H: usize, const G: usize>(
     board: &Board<N, C, H, G>,
     worker: &mut Worker<N, C, H, G>,
 ) -> io::Result<Duration>
-    requires own { IsWorkerOf board.now worker.old }
-    ensures own { IsWorkerOf board.now worker.new }
+    requires of_board { IsWorkerOf board.now worker.old }
+    ensures of_board { IsWorkerOf board.now worker.new }
 {
     let start = Instant::now(clock)?;
     for _k in 0..100u64 {
@@ -35,7 +35,7 @@ fn least<const N: usize, const C: usize, const H: usize, const G: usize>(
     board: &Board<N, C, H, G>,
     worker: &mut Worker<N, C, H, G>,
 ) -> io::Result<Duration>
-    requires own { IsWorkerOf board.now worker.old }
+    requires of_board { IsWorkerOf board.now worker.old }
 {
     let mut least = hundred(clock, board, worker)?;
     for _round in 0..200u64 {

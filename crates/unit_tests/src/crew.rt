@@ -36,9 +36,9 @@ pub(crate) fn last_reader<const N: usize, const C: usize, const H: usize, const 
     board: &Board<N, C, H, G>,
     readers: &mut Vec<Reader<N, C, H, G>>,
 ) -> Reader<N, C, H, G>
-    requires own { All (IsReaderOf board.now) readers.old.items }
+    requires of_board { All (IsReaderOf board.now) readers.old.items }
     requires alone { All IsAlone readers.old.items }
-    ensures own { IsReaderOf board.now result }
+    ensures of_board { IsReaderOf board.now result }
     ensures alone { IsAlone result }
     ensures others { All (IsReaderOf board.now) readers.new.items × All IsAlone readers.new.items }
 {
@@ -54,8 +54,8 @@ pub(crate) fn last_worker<const N: usize, const C: usize, const H: usize, const 
     board: &Board<N, C, H, G>,
     workers: &mut Vec<Worker<N, C, H, G>>,
 ) -> Worker<N, C, H, G>
-    requires own { All (IsWorkerOf board.now) workers.old.items }
-    ensures own { IsWorkerOf board.now result }
+    requires of_board { All (IsWorkerOf board.now) workers.old.items }
+    ensures of_board { IsWorkerOf board.now result }
     ensures others { All (IsWorkerOf board.now) workers.new.items }
 {
     match workers.pop() {
@@ -72,8 +72,8 @@ pub(crate) fn inc<const N: usize, const C: usize, const H: usize, const G: usize
     slot: usize,
     by: u64,
 )
-    requires own { IsWorkerOf board.now worker.old }
-    ensures own { IsWorkerOf board.now worker.new }
+    requires of_board { IsWorkerOf board.now worker.old }
+    ensures of_board { IsWorkerOf board.now worker.new }
 {
     same(rt, worker.inc(board, &counter(slot), by), Ok(()));
 }
@@ -96,7 +96,7 @@ pub(crate) fn new_worker<const N: usize, const C: usize, const H: usize, const G
     seat: WorkSeat,
     index: usize,
 ) -> Result<Worker<N, C, H, G>, AllocError>
-    requires own { IsWorkSeatOf board.now seat }
+    requires of_board { IsWorkSeatOf board.now seat }
     requires geometry { IsGeometry N C H G }
     requires fresh { worker_of seat ≡ new_worker N (width C H G) (depth N (width C H G)) index }
     ensures { IfOk result (λ w. IsWorkerOf board.now w) }
@@ -113,7 +113,7 @@ pub(crate) fn new_reader<const N: usize, const C: usize, const H: usize, const G
     board: &Board<N, C, H, G>,
     seat: ReadSeat,
 ) -> Result<Reader<N, C, H, G>, AllocError>
-    requires own { IsReadSeatOf board.now seat }
+    requires of_board { IsReadSeatOf board.now seat }
     requires geometry { IsGeometry N C H G }
     requires fresh { (reader_of seat).scan ≡ fresh_scan N (width C H G) }
     ensures { IfOk result (λ r. IsReaderOf board.now r) }
@@ -126,7 +126,7 @@ pub(crate) fn new_reader<const N: usize, const C: usize, const H: usize, const G
 
 /// A board of one worker, whose row is one counter, the worker's seat, and a reader's.
 pub(crate) fn one_seat(alloc: Global) -> Result<(Board<1, 1, 0, 0>, WorkSeat, ReadSeat), Fail>
-    ensures own { IfOk result (λ r. IsWorkSeatOf r.0 r.1 × IsReadSeatOf r.0 r.2) }
+    ensures of_board { IfOk result (λ r. IsWorkSeatOf r.0 r.1 × IsReadSeatOf r.0 r.2) }
     ensures worker { IfOk result (λ r. worker_of r.1 ≡ new_worker 1 1 4 0) }
     ensures reader { IfOk result (λ r. (reader_of r.2).scan ≡ fresh_scan 1 1) }
 {

@@ -88,7 +88,7 @@ fn worker_at_last(
     board: &Board<1, 1, 0, 0>,
     seat: WorkSeat,
 ) -> Worker<1, 1, 0, 0>
-    requires own { IsWorkSeatOf board.now seat }
+    requires of_board { IsWorkSeatOf board.now seat }
     requires fresh { worker_of seat ≡ new_worker 1 1 4 0 }
     ensures { IsWorkerOf board.now result }
 {
@@ -109,7 +109,7 @@ fn reader_at_last(
     board: &Board<1, 1, 0, 0>,
     seat: ReadSeat,
 ) -> Reader<1, 1, 0, 0>
-    requires own { IsReadSeatOf board.now seat }
+    requires of_board { IsReadSeatOf board.now seat }
     requires fresh { (reader_of seat).scan ≡ fresh_scan 1 1 }
     ensures { IsReaderOf board.now result }
 {
@@ -131,7 +131,7 @@ fn are_seats(
     work: WorkSeat,
     read: ReadSeat,
 )
-    requires own { IsWorkSeatOf board.now work × IsReadSeatOf board.now read }
+    requires of_board { IsWorkSeatOf board.now work × IsReadSeatOf board.now read }
     requires worker { worker_of work ≡ new_worker 1 1 4 0 }
     requires reader { (reader_of read).scan ≡ fresh_scan 1 1 }
 {

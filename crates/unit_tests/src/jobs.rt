@@ -72,7 +72,7 @@ pub(crate) fn team_finds<const N: usize, const C: usize, const H: usize, const G
     team: &mut Team<N, C, H, G>,
     vector: &[u64],
 )
-    requires own { IsReaderOf team.old.board team.old.reader }
+    requires of_board { IsReaderOf team.old.board team.old.reader }
 {
     let scan = team.reader.scan(&team.board, &mut team.out);
     finds(rt, scan, &team.out, vector);
@@ -87,8 +87,8 @@ pub(crate) fn runs<P: Gate + Sync, const N: usize, const C: usize, const H: usiz
     jobs: &[Vec<Job>],
     gate: &P,
 ) -> Result<Vec<Worker<N, C, H, G>>, PoolFault>
-    requires own { All (IsWorkerOf board.now) workers.items }
-    ensures own { IfOk result (λ v. All (IsWorkerOf board.now) v.items) }
+    requires of_board { All (IsWorkerOf board.now) workers.items }
+    ensures of_board { IfOk result (λ v. All (IsWorkerOf board.now) v.items) }
 {
     if jobs.len() != workers.len() {
         rt.panic("a list for each worker");
@@ -104,8 +104,8 @@ pub(crate) fn ran<P: Gate + Sync, const N: usize, const C: usize, const H: usize
     jobs: &[Vec<Job>],
     gate: &P,
 ) -> (Team<N, C, H, G>, Option<PoolFault>)
-    requires own { All (IsWorkerOf team.board) team.workers.items × IsReaderOf team.board team.reader }
-    ensures own { All (IsWorkerOf result.0.board) result.0.workers.items × IsReaderOf result.0.board result.0.reader }
+    requires of_board { All (IsWorkerOf team.board) team.workers.items × IsReaderOf team.board team.reader }
+    ensures of_board { All (IsWorkerOf result.0.board) result.0.workers.items × IsReaderOf result.0.board result.0.reader }
 {
     let Team {
         board,
@@ -140,7 +140,7 @@ pub(crate) fn team_after<
     gate: &P,
 ) -> (Team<N, C, H, G>, Option<PoolFault>)
     requires geometry { IsGeometry N C H G }
-    ensures own { All (IsWorkerOf result.0.board) result.0.workers.items × IsReaderOf result.0.board result.0.reader }
+    ensures of_board { All (IsWorkerOf result.0.board) result.0.workers.items × IsReaderOf result.0.board result.0.reader }
 {
     let team = make_team(rt, alloc);
     ran(rt, alloc, team, jobs.as_slice(), gate)

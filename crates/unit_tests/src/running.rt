@@ -33,9 +33,9 @@ struct Watch {
 
 /// Scans once more, and keeps what it is given, or counts that it was given up.
 fn scan_once(alloc: Global, board: &Board<4, 1, 1, 0>, watch: &mut Watch) -> Result<(), AllocError>
-    requires own { IsReaderOf board.now watch.old.reader }
+    requires of_board { IsReaderOf board.now watch.old.reader }
     requires recorded { All (λ s. HasRecorded watch.old.reader (as_answer s)) watch.old.taken.items }
-    ensures own { IsReaderOf board.now watch.new.reader }
+    ensures of_board { IsReaderOf board.now watch.new.reader }
     ensures recorded { All (λ s. HasRecorded watch.new.reader (as_answer s)) watch.new.taken.items }
 {
     let mut out = Snapshot::new(alloc)?;
@@ -54,8 +54,8 @@ fn scan_often(
     board: &Board<4, 1, 1, 0>,
     reader: Reader<4, 1, 1, 0>,
 ) -> Result<Watch, AllocError>
-    requires own { IsReaderOf board.now reader × IsAlone reader }
-    ensures own { IfOk result (λ w. IsReaderOf board.now w.reader) }
+    requires of_board { IsReaderOf board.now reader × IsAlone reader }
+    ensures of_board { IfOk result (λ w. IsReaderOf board.now w.reader) }
     ensures recorded { IfOk result (λ w. All (λ s. HasRecorded w.reader (as_answer s)) w.taken.items) }
 {
     let mut watch = Watch {
@@ -123,11 +123,11 @@ fn all_compare(
     other: &mut Reader<4, 1, 1, 0>,
     others: &[Snapshot<4, 1, 1, 0>],
 )
-    requires own { IsReaderOf board.now one.old × IsReaderOf board.now other.old }
+    requires of_board { IsReaderOf board.now one.old × IsReaderOf board.now other.old }
     requires alone { IsAlone one.old × IsAlone other.old }
     requires recorded_one { All (λ s. HasRecorded one.old (as_answer s)) ones.now }
     requires recorded_other { All (λ s. HasRecorded other.old (as_answer s)) others.now }
-    ensures own { IsReaderOf board.now one.new × IsReaderOf board.now other.new }
+    ensures of_board { IsReaderOf board.now one.new × IsReaderOf board.now other.new }
     ensures alone { IsAlone one.new × IsAlone other.new }
 {
     let mut i = 0usize;
@@ -209,7 +209,7 @@ fn settle_and_scan(
     other: &mut Reader<4, 1, 1, 0>,
     scanned: &mut Snapshot<4, 1, 1, 0>,
 )
-    requires own { IsReaderOf board.now one.old × IsReaderOf board.now other.old }
+    requires of_board { IsReaderOf board.now one.old × IsReaderOf board.now other.old }
     requires alone { IsAlone other.old }
     requires workers { All (IsWorkerOf board.now) workers.old }
 {
@@ -229,7 +229,7 @@ fn end_equal(
     one: &mut Reader<4, 1, 1, 0>,
     other: &mut Reader<4, 1, 1, 0>,
 ) -> (Snapshot<4, 1, 1, 0>, Snapshot<4, 1, 1, 0>)
-    requires own { IsReaderOf board.now one.old × IsReaderOf board.now other.old }
+    requires of_board { IsReaderOf board.now one.old × IsReaderOf board.now other.old }
     requires alone { IsAlone other.old }
     requires workers { All (IsWorkerOf board.now) workers.old }
 {

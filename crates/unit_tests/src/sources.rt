@@ -75,7 +75,7 @@ fn is_found(
     reader: Reader<1, 1, 0, 0>,
     out: &mut Snapshot<1, 1, 0, 0>,
 )
-    requires own { IsWorkerOf board.now worker.old × IsReaderOf board.now reader }
+    requires of_board { IsWorkerOf board.now worker.old × IsReaderOf board.now reader }
 {
     let mut scanner = Scanner::new(board, reader);
     inc(rt, board, worker, 0, 5);

@@ -33,7 +33,7 @@ all_own b lists ws vs long did = λ k d lt.
     let whole = did.all in
     let jobs = item_at lists k (omega (arith, lt, whole, long)) in
     let w = item_at ws k (omega (arith, lt, whole)) in
-    (did.each k jobs.0 w.0 (get_or vs k d) jobs.1 w.1 (there vs k d lt)).own
+    (did.each k jobs.0 w.0 (get_or vs k d) jobs.1 w.1 (there vs k d lt)).of_board
 
 pub own_back : {N C H G : ℕ} (b : Board N C H G) (lists : List (List Job)) (ws : List (Worker N C H G))
     (r : Result (Vec (Worker N C H G) Global) PoolFault) → length lists ≡ length ws

@@ -21,7 +21,7 @@ module _ {N C H G : ℕ} (b : Board N C H G) (jobs : List Job) (w u v : Worker N
       → IsCounted (board_id b) (registry_of job.what) (op_of job.what) u v → Did b (take (k + 1) jobs) w v
   did_more k job at did own index counted =
       let next = take_next k jobs job at in record {
-        own = own;
+        of_board = own;
         index = index ∙ did.index;
         lists = counted.lists ∙ (ap (λ (l : List (List Op)). l ++ list_of_job job ∷ []) did.lists
             ∙ (append_assoc (lists_of w) (map list_of_job (take k jobs)) (list_of_job job ∷ [])

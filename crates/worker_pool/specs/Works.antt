@@ -17,7 +17,7 @@ module _ {N C H G : ℕ} where
   -- from w to v this worker of the board did these jobs: it published one list for each of them, in their order, and the
   -- handle of each is of this registry
   pub record Did (b : Board N C H G) (jobs : List Job) (w v : Worker N C H G) : Type 0 where
-    pub own : IsWorkerOf b v
+    pub of_board : IsWorkerOf b v
     pub index : index_of v ≡ index_of w
     pub lists : lists_of v ≡ lists_of w ++ map list_of_job jobs
     pub handles : All (λ job. registry_of job.what ≡ board_id b) jobs

@@ -41,8 +41,8 @@ impl Job {
         board: &Board<N, C, H, G>,
         worker: &mut Worker<N, C, H, G>,
     ) -> Result<(), CountFault>
-        requires own { IsWorkerOf board.now worker.old }
-        ensures own { IsWorkerOf board.now worker.new }
+        requires of_board { IsWorkerOf board.now worker.old }
+        ensures of_board { IsWorkerOf board.now worker.new }
         ensures index { index_of worker.new ≡ index_of worker.old }
         ensures counted { OnOk result
             (IsCounted (board_id board.now) (registry_of self.now.what) (op_of self.now.what) worker.old worker.new) }

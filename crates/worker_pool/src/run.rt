@@ -46,9 +46,9 @@ pub fn run_pool<
     gate: &P,
 ) -> Result<Vec<Worker<N, C, H, G>>, PoolFault>
     requires lists { length jobs.now ≡ vec_len workers }
-    requires own { All (IsWorkerOf board.now) workers.items }
+    requires of_board { All (IsWorkerOf board.now) workers.items }
     ensures did { IfOk result (λ v. DidAll board.now (lists_in jobs.now) workers.entry.items v.items) }
-    ensures own { IfOk result (λ v. All (IsWorkerOf board.now) v.items) }
+    ensures of_board { IfOk result (λ v. All (IsWorkerOf board.now) v.items) }
     ensures fault { IfErr result (IsPoolFault P.ALWAYS_OPEN board.now (lists_in jobs.now) workers.entry.items) }
     ensures opened { P.ALWAYS_OPEN ≡ true → IfErr result (λ f. pool_fault_number f ≢ 29) }
 {
@@ -78,9 +78,9 @@ pub fn run_lists<
     gate: &P,
 ) -> Result<Vec<Worker<N, C, H, G>>, PoolFault>
     requires lists { length (Q.lists lists.now) ≡ vec_len workers }
-    requires own { All (IsWorkerOf board.now) workers.items }
+    requires of_board { All (IsWorkerOf board.now) workers.items }
     ensures did { IfOk result (λ v. DidAll board.now (Q.lists lists.now) workers.entry.items v.items) }
-    ensures own { IfOk result (λ v. All (IsWorkerOf board.now) v.items) }
+    ensures of_board { IfOk result (λ v. All (IsWorkerOf board.now) v.items) }
     ensures fault { IfErr result (IsPoolFault P.ALWAYS_OPEN board.now (Q.lists lists.now) workers.entry.items) }
     ensures opened { P.ALWAYS_OPEN ≡ true → IfErr result (λ f. pool_fault_number f ≢ 29) }
 {

@@ -44,7 +44,7 @@ fn start_all<
     threads: &mut Vec<Thread<'s, Q, N, C, H, G>>,
 )
     requires lists { length (Q.lists lists.now) ≡ vec_len workers }
-    requires own { All (IsWorkerOf board.now) workers.items }
+    requires of_board { All (IsWorkerOf board.now) workers.items }
     requires room { (vec_len threads.old ≡ 0) × (vec_len workers ≤ vec_capacity threads.old) }
     ensures pledged { ArePledged Q.lists P.ALWAYS_OPEN board.now (Q.lists lists.now) workers.entry.items threads.new.items }
     ensures few { length threads.new.items ≤ length workers.entry.items }
@@ -121,9 +121,9 @@ pub(crate) fn run_in<
     gate: &'s P,
 ) -> Result<Vec<Worker<N, C, H, G>>, PoolFault>
     requires lists { length (Q.lists lists.now) ≡ vec_len workers }
-    requires own { All (IsWorkerOf board.now) workers.items }
+    requires of_board { All (IsWorkerOf board.now) workers.items }
     ensures did { IfOk result (λ v. DidAll board.now (Q.lists lists.now) workers.entry.items v.items) }
-    ensures own { IfOk result (λ v. All (IsWorkerOf board.now) v.items) }
+    ensures of_board { IfOk result (λ v. All (IsWorkerOf board.now) v.items) }
     ensures fault { IfErr result (IsPoolFault P.ALWAYS_OPEN board.now (Q.lists lists.now) workers.entry.items) }
     ensures opened { P.ALWAYS_OPEN ≡ true → IfErr result (λ f. pool_fault_number f ≢ 29) }
 {

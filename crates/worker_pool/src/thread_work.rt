@@ -42,7 +42,7 @@ pub(crate) fn work<
     lists: &Q,
     gate: &P,
 ) -> Result<Worker<N, C, H, G>, PoolFault>
-    requires own { IsWorkerOf board.now worker }
+    requires of_board { IsWorkerOf board.now worker }
     requires place { place < length (Q.lists lists.now) }
     ensures { IsWorkEnd P.ALWAYS_OPEN board.now place (jobs_at (Q.lists lists.now) place) worker.entry result }
 {

@@ -46,7 +46,7 @@ fn count_by_turns(
     second: &mut TwoWorker,
     handles: Handles,
 )
-    requires own { IsWorkerOf board.now first.old × IsWorkerOf board.now second.old }
+    requires of_board { IsWorkerOf board.now first.old × IsWorkerOf board.now second.old }
 {
     let (counter, hist, gauge) = handles;
     need(rt, first.inc(board, &counter, 5));
@@ -69,7 +69,7 @@ fn shows_what_is_counted(
     first: &mut TwoWorker,
     second: &mut TwoWorker,
 )
-    requires own { IsWorkerOf board.now first.old × IsWorkerOf board.now second.old }
+    requires of_board { IsWorkerOf board.now first.old × IsWorkerOf board.now second.old }
 {
     prints(rt, registry, "");
     let handles = handles(rt, alloc, registry);
@@ -86,7 +86,7 @@ fn counts(
     board: &TwoBoard,
     workers: &mut Vec<TwoWorker>,
 )
-    requires own { All (IsWorkerOf board.now) workers.old.items }
+    requires of_board { All (IsWorkerOf board.now) workers.old.items }
 {
     let mut second = done(rt, last_worker(board, workers));
     let mut first = done(rt, last_worker(board, workers));
@@ -165,7 +165,7 @@ fn tries(
     board: &TwoBoard,
     workers: &mut Vec<TwoWorker>,
 )
-    requires own { All (IsWorkerOf board.now) workers.old.items }
+    requires of_board { All (IsWorkerOf board.now) workers.old.items }
 {
     match tried {
         Tried::Counting => counts(rt, alloc, registry, board, workers),

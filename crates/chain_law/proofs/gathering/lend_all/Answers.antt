@@ -22,8 +22,8 @@ lend_to-requires g c =
           search rules,
           (
             subst (IsWorkerOf c.args.board.now) c.index-workers-k.is
-                (from_all (IsWorkerOf c.args.board.now) vs c.requires.own.1 k w here),
-            c.loop-k.invariant.own ∙ c.requires.own.0,
+                (from_all (IsWorkerOf c.args.board.now) vs c.requires.of_board.1 k w here),
+            c.loop-k.invariant.table ∙ c.requires.of_board.0,
           ),
         ),
       ),
@@ -37,7 +37,7 @@ loop-k-preserved g c =
     let now : get_elem? ws k ≡ some x = there ws k c.index-workers-k.result (omega (arith, lt, long)) in
     let here : get_elem? vs k ≡ some x = sym (inv.others k (omega arith)) ∙ now in
     let place = length (members_with c.args.reader.now) in record {
-      own = l.ensures.own ∙ sym c.requires.own.0;
+      table = l.ensures.of_board ∙ sym c.requires.of_board.0;
       index = l.ensures.index.1 ∙ inv.index;
       long = long_more vs ws k place x l.new.self c.loop-k.reader l.new.reader here inv.long l.ensures.met l.ensures.index.0
           l.ensures.lent;

@@ -8,7 +8,7 @@ use Rattle.chain_law.proofs.gathering.lend_all.Given as goal
 
 abbrev pub invariant-loop-k : goal.invariant-loop-k
 invariant-loop-k g l = record {
-  own : table_of (bundle_of l.reader) ≡ table_of (bundle_of l.fn.reader);
+  table : table_of (bundle_of l.reader) ≡ table_of (bundle_of l.fn.reader);
   index : index_of l.reader ≡ index_of l.fn.reader;
   long : length (members_with l.reader) ≡ length (members_with l.fn.reader) + l.k;
   scan : HasSeenMore (scan_by l.fn.reader) (scan_by l.reader);

@@ -14,7 +14,7 @@ use Rattle.chain_law.proofs.gathering.take_all.Goals as goal
 
 pub loop-k-init : goal.loop-k-init
 loop-k-init g c = record {
-  own = refl;
+  table = refl;
   index = refl;
   scan = refl;
   free = λ p w none. absurd (omega (arith, none));
@@ -31,7 +31,7 @@ take_back-requires g c =
     let x = get_or ws k c.index-workers-k.result in
     let now : get_elem? ws k ≡ some x = there ws k c.index-workers-k.result (omega (arith, lt, long)) in
     let t = inv.lent k x (omega arith) now in
-    (search rules, (search rules, (search rules, (inv.own ∙ c.requires.own, (t.0, t.1)))))
+    (search rules, (search rules, (search rules, (inv.table ∙ c.requires.of_board, (t.0, t.1)))))
 
 pub loop-k-preserved : goal.loop-k-preserved
 loop-k-preserved g c =
@@ -44,10 +44,10 @@ loop-k-preserved g c =
     let is : member_of b.new.self ≡ t.0 = is_picked (index_of x) t.0 (member_of b.new.self) (members_with r) t.1.there
     b.ensures.member in
     record {
-      own = b.ensures.own.1 ∙ sym c.requires.own;
+      table = b.ensures.of_board.1 ∙ sym c.requires.of_board;
       index = b.ensures.index.1 ∙ inv.index;
       scan = (ap scan_of b.ensures.others ∙ sees_still (index_of x) r.index (members_with r) r.leads r.is) ∙ inv.scan;
-      free = λ p w below at. ⊎_elim (λ h. subst (IsWorkerOf c.args.board.now) h.1 b.ensures.own.0)
+      free = λ p w below at. ⊎_elim (λ h. subst (IsWorkerOf c.args.board.now) h.1 b.ensures.of_board.0)
           (λ h. inv.free p w (let n = h.0 in omega (arith, below, n)) h.1) (from_set ws k p b.new.self w at);
       back = back_more vs ws k x b.new.self c.args.reader.now r b.new.reader here c.requires.distinct b.ensures.index.0 inv.others
           b.ensures.others
@@ -58,10 +58,10 @@ loop-k-preserved g c =
       others = λ p le. set_else ws k p b.new.self (λ e. omega (arith, le, e)) ∙ inv.others p (omega (arith, le));
     }
 
-pub returns-clause-own : goal.returns-clause-own
-returns-clause-own g c =
+pub returns-clause-of_board : goal.returns-clause-of_board
+returns-clause-of_board g c =
     let f = c.loop-k-test.false in let long = c.loop-k.auto.workers in (
-      c.loop-k.invariant.own ∙ c.requires.own,
+      c.loop-k.invariant.table ∙ c.requires.of_board,
       all_from (IsWorkerOf c.args.board.now) c.loop-k.workers
           (λ p w at. c.loop-k.invariant.free p w (let h = at_below c.loop-k.workers p w at in omega (arith, h, f, long)) at),
     )

@@ -13,7 +13,7 @@ use Rattle.chain_law.proofs.gathering.take_all.Given as goal
 
 abbrev pub invariant-loop-k : goal.invariant-loop-k
 invariant-loop-k g l = record {
-  own : table_of (bundle_of l.reader) ≡ table_of (bundle_of l.fn.reader);
+  table : table_of (bundle_of l.reader) ≡ table_of (bundle_of l.fn.reader);
   index : index_of l.reader ≡ index_of l.fn.reader;
   scan : scan_by l.reader ≡ scan_by l.fn.reader;
   free : (p : ℕ) (w : Worker g.row.N g.row.C g.row.H g.row.G) → p < l.k → get_elem? l.workers p ≡ some w

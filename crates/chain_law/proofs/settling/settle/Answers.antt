@@ -30,7 +30,7 @@ take_all-requires g c =
         (
           search rules,
           (
-            c.scan.ensures.own,
+            c.scan.ensures.of_board,
             (
               still_lent place vs ws ws r1 r2 c.lend_all.auto.workers c.lend_all.ensures.lent c.scan.ensures.others
                   c.scan.ensures.ruled,

@@ -7,7 +7,7 @@ use Rattle.dirgwako.proofs.opening.all_scanners.Given as goal
 
 abbrev pub invariant-loop-reader : goal.invariant-loop-reader
 invariant-loop-reader g l = record {
-  own : All (IsReaderOf l.board) (into_iter_items l.reader-iterator);
+  of_board : All (IsReaderOf l.board) (into_iter_items l.reader-iterator);
   boards : All (ScansOn l.board) l.scanners.items;
   readers : map reader_in l.scanners.items ++ into_iter_items l.reader-iterator ≡ l.fn.readers.items;
 }

@@ -2,7 +2,7 @@ use Rattle.std.proofs.Common.{◌≡◌, ℕ, ◌+◌, drop, sym, ap, ◌∙◌,
 use mathlib.Core.Option.{some}
 use lib.ListN.{get_elem?}
 use Rattle.ledger_core.specs.Ops.{sum_ops}
-use Rattle.register_rule.specs.Sums.{total}
+use Rattle.register_rule.specs.Sums.{word_after}
 use Rattle.register_rule.proofs.Words.{there}
 use Rattle.snapshot_update.specs.Workers.{member_of}
 use Rattle.dirgwako.specs.Recorders.{worker_in}
@@ -15,7 +15,7 @@ loop-place-preserved g c =
     let rs = c.args.recorders.now in let place : ℕ = c.loop-place.place in let r = c.index-recorders-place.result in
     let here : get_elem? rs place ≡ some r = there rs place r c.loop-place-test.true ∙ ap some (sym c.index-recorders-place.is) in
     let k : ℕ = c.args.word in
-    let part : ℕ = total (sum_ops g.row.C g.row.H) (member_of (worker_in r)).work.made k in
+    let part : ℕ = word_after (sum_ops g.row.C g.row.H) (member_of (worker_in r)).work.made k in
     let next : published_in (drop place rs) k ≡ part + published_in (drop (place + 1) rs) k
     = next_published rs place (place + 1) k r (omega arith) here in
     let row : c.word_at-sum.result ≡ part = c.word_at-sum.ensures.word ∙ c.row.ensures k c.requires.word in

@@ -24,7 +24,7 @@ returns g c =
     c.in-Ok.ensures.recorded
     ∙ (ap (λ (l : List Answer). l ++ out ∷ []) before ∙ append_assoc last.older (scrapes state.journal) (out ∷ [])) in
     record {
-      own = c.settle.ensures.own.1;
+      of_board = c.settle.ensures.of_board.1;
       same = c.settle.ensures.same;
       journal = c.into_parts-source.ensures.journal;
       replays = (
@@ -48,7 +48,7 @@ settle-requires g c =
     let same = c.into_reader-reader.ensures.reader ∙ ap (λ (s : Scanner g.row.N g.row.C g.row.H g.row.G). reader_in s)
     c.into_parts-source.ensures.source in
     let own = subst (IsReaderOf c.args.board.now) (sym same) c.requires.reader in
-    (omega arith, (omega arith, (omega arith, (omega arith, (own, c.requires.own)))))
+    (omega arith, (omega arith, (omega arith, (omega arith, (own, c.requires.of_board)))))
 
 pub unreachable-requires : goal.unreachable-requires
 unreachable-requires g c = let missing = c.in_default-settle.ensures.missing in

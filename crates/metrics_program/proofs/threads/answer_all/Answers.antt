@@ -2,10 +2,10 @@ use Rattle.metrics_program.proofs.Counting.{counted_more, none_yet, one_more}
 use Rattle.metrics_program.proofs.threads.answer_all.Goals as goal
 
 pub loop-stream-init : goal.loop-stream-init
-loop-stream-init g c = none_yet c.args.board.now c.args.metrics.now c.args.worker c.requires.own
+loop-stream-init g c = none_yet c.args.board.now c.args.metrics.now c.args.worker c.requires.of_board
 
 pub answer-requires : goal.answer-requires
-answer-requires g c = c.loop-stream.invariant.own
+answer-requires g c = c.loop-stream.invariant.of_board
 
 pub loop-stream-preserved : goal.loop-stream-preserved
 loop-stream-preserved g c =

@@ -3,17 +3,17 @@ use Rattle.std.proofs.lemmas.List.Elements.{All-pop}
 use Rattle.snapshot_scan.specs.Readers.{IsReaderOf}
 use Rattle.service_tests.proofs.crew.last_reader.Goals as goal
 
-pub returns-in-Some-clause-own : goal.returns-in-Some-clause-own
-returns-in-Some-clause-own g c = subst (λ r. IfSome r (IsReaderOf c.args.board.now)) c.in-Some.is
+pub returns-in-Some-clause-of_board : goal.returns-in-Some-clause-of_board
+returns-in-Some-clause-of_board g c = subst (λ r. IfSome r (IsReaderOf c.args.board.now)) c.in-Some.is
     (All-pop (IsReaderOf c.args.board.now) c.args.readers.now.items c.pop.new.self.items c.pop.result c.pop.ensures.items
-    c.requires.own).1
+    c.requires.of_board).1
 
 pub returns-in-Some-clause-others : goal.returns-in-Some-clause-others
 returns-in-Some-clause-others g c =
     (All-pop (IsReaderOf c.args.board.now) c.args.readers.now.items c.pop.new.self.items c.pop.result c.pop.ensures.items
-    c.requires.own).0
+    c.requires.of_board).0
 
 pub returns-in-None-clause-others : goal.returns-in-None-clause-others
 returns-in-None-clause-others g c =
     (All-pop (IsReaderOf c.args.board.now) c.args.readers.now.items c.pop.new.self.items c.pop.result c.pop.ensures.items
-    c.requires.own).0
+    c.requires.of_board).0

@@ -22,7 +22,7 @@ returns-then-number-again-clause-refuses g c = λ _.
     ap (λ (b : Bool). b && length ws == 1 + n + w && slice_index ws 0 == 1 && is_above floor (take n (drop 1 ws)))
     (ne_eqb s again c.if-number-again.true) in
     refuses_of n w c.args.place s again ws c.requires.next.0 floor (sum_ops g.row.C g.row.H) (Accepts g.row.C g.row.H g.row.G) _ _
-    _ _ c.requires.own.1 c.ask-number.ensures.learns.member
+    _ _ c.requires.of_board.1 c.ask-number.ensures.learns.member
     (c.read_items.ensures.member
     ∙ ap (λ (z : ℕ). led (scan_changed (read_all w c.args.place s z ws))
     (members_of (g.S.ScanSeat.bundle c.ask-number.new.seat))) row) c.end_ask-again.ensures.learns.member
@@ -39,7 +39,7 @@ returns-then-lent-ne1-clause-refuses g c = λ _.
     eq-eqb (length ws) (1 + n + w) long z && ne_eqb (slice_index ws 0) 1 c.if-lent-ne1.true z && is_above floor
     (take n (drop 1 ws)) in
     refuses_of n w c.args.place s again ws c.requires.next.0 floor (sum_ops g.row.C g.row.H) (Accepts g.row.C g.row.H g.row.G) _ _
-    _ _ c.requires.own.1 c.ask-number.ensures.learns.member
+    _ _ c.requires.of_board.1 c.ask-number.ensures.learns.member
     (c.read_items.ensures.member
     ∙ ap (λ (z : ℕ). led (scan_changed (read_all w c.args.place s z ws))
     (members_of (g.S.ScanSeat.bundle c.ask-number.new.seat))) row) c.end_ask-again.ensures.learns.member
@@ -86,7 +86,7 @@ returns-clause-refuses g c = λ not_lent.
     let differ : is_lender n w again floor (begun c.args.place s ws) ≡ false = λ z. eq-eqb s again c.if-number-again.false z &&
     eq-eqb (length ws) (1 + n + w) long z && eq-eqb (slice_index ws 0) 1 c.if-lent-ne1.false z && under z in
     refuses_of n w c.args.place s again ws c.requires.next.0 floor (sum_ops g.row.C g.row.H) (Accepts g.row.C g.row.H g.row.G) _ _
-    _ _ c.requires.own.1 c.ask-number.ensures.learns.member
+    _ _ c.requires.of_board.1 c.ask-number.ensures.learns.member
     (c.read_items.ensures.member
     ∙ ap (λ (z : ℕ). led (scan_changed (read_all w c.args.place s z ws))
     (members_of (g.S.ScanSeat.bundle c.ask-number.new.seat))) row) c.end_ask-again.ensures.learns.member

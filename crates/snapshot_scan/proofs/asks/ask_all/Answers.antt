@@ -38,7 +38,7 @@ ask_here {N} {C} {H} {G} b s s' p row base found floor words es own geo lens sam
     let e : due_from p (drop p base) (drop p found) ≡ p ∷ more = due_here p base found (omega (arith, lens.2, lens.3)) lt due in
     let may : MayAsk floor (p ∷ more) d = subst (λ (l : List ℕ). MayAsk floor l d) e ask in
     let scan : scan_of (members_of s') ≡ d = ap scan_of view ∙ scan_with _ (members_of s) own.1 in record {
-      own = (same ∙ own.0, subst HasMember (sym view) (led_some (λ _. d) (members_of s) own.1));
+      of_board = (same ∙ own.0, subst HasMember (sym view) (led_some (λ _. d) (members_of s) own.1));
       geometry = geo;
       inside = omega (arith, lens.3, lt);
       lengths = (lens.0, lens.1, lens.4);
@@ -52,14 +52,14 @@ loop-place-init g c =
     let s = g.S.ScanSeat.bundle c.args.seat.now in let ms = members_of s in let view = sym (with_same ms) in (
       [],
       record {
-        own = search rules;
+        table = search rules;
         ruled = c.requires.ruled;
-        leads = c.requires.own.1;
+        leads = c.requires.of_board.1;
         asked = refl;
         refuses = λ q e at. absurd (some-ne-none e (sym at));
         may = c.requires.may_ask;
         asks = ask_here c.args.board.now s s 0 c.args.row c.args.base.now c.args.found.now c.args.floor.now c.args.lent.now []
-            c.requires.own c.requires.geometry c.requires.lengths refl c.requires.may_ask view;
+            c.requires.of_board c.requires.geometry c.requires.lengths refl c.requires.may_ask view;
         view = view;
       },
     )
@@ -75,7 +75,7 @@ returns-then-lends-clause-lends g c = λ _.
     let more = due_from (p + 1) (drop (p + 1) base) (drop (p + 1) found) in
     let d : due_from p (drop p base) (drop p found) ≡ p ∷ more = due_here p base found (omega (arith, lens.2, lens.3)) t h in
     let scan : scan_of (members_of (g.S.ScanSeat.bundle c.loop-place.seat)) ≡ refused_all n es (scan_of ms) = ap scan_of inv.view
-    ∙ scan_with _ ms c.requires.own.1 in
+    ∙ scan_with _ ms c.requires.of_board.1 in
     let l = c.ask-lends.ensures.lends c.if-lends.true in
     let e : Asked = l.0 in
     let a = lent_in n w c.ask-lends.new.lent in (
@@ -103,7 +103,7 @@ loop-place-preserved g c =
     let more = due_from (p + 1) (drop (p + 1) base) (drop (p + 1) found) in
     let d : due_from p (drop p base) (drop p found) ≡ p ∷ more = due_here p base found (omega (arith, lens.2, lens.3)) t h in
     let scan : scan_of (members_of (g.S.ScanSeat.bundle c.loop-place.seat)) ≡ refused_all n es (scan_of ms) = ap scan_of inv.view
-    ∙ scan_with _ ms c.requires.own.1 in
+    ∙ scan_with _ ms c.requires.of_board.1 in
     let r = c.ask-lends.ensures.refuses c.if-lends.false in
     let e : Asked = r.0 in
     let snoc = refused_snoc n es e (scan_of ms) in
@@ -113,15 +113,15 @@ loop-place-preserved g c =
     ∙ (ap (with_scan (given_up_if_spent n (refused e (refused_all n es (scan_of ms))))) inv.view
     ∙ (with_led (λ _. given_up_if_spent n (refused e (refused_all n es (scan_of ms)))) (refused_all n es (scan_of ms)) ms
     ∙ ap (λ (x : ScanLog). with_scan x ms) (sym snoc)))) in
-    let own = c.ask-lends.ensures.own ∙ inv.own in
+    let own = c.ask-lends.ensures.table ∙ inv.table in
     let may : MayAsk c.args.floor.now more (refused_all n (es ++ e ∷ []) (scan_of ms)) =
     subst (MayAsk c.args.floor.now more) (sym snoc) (may_next n p e c.args.floor.now more (refused_all n es (scan_of ms))
     (subst (λ (l : List ℕ). MayAsk c.args.floor.now l (refused_all n es (scan_of ms))) d inv.may)) in (
       es ++ e ∷ [],
       record {
-        own = own;
+        table = own;
         ruled = c.ask-lends.ensures.ruled;
-        leads = subst HasMember (sym view) (led_some (λ _. refused_all n (es ++ e ∷ []) (scan_of ms)) ms c.requires.own.1);
+        leads = subst HasMember (sym view) (led_some (λ _. refused_all n (es ++ e ∷ []) (scan_of ms)) ms c.requires.of_board.1);
         asked = ap (λ (z : List ℕ). z ++ more) (map_both asked_worker es e)
             ∙ (append_assoc (map asked_worker es) (asked_worker e ∷ []) more
             ∙ (ap (λ (z : ℕ). map asked_worker es ++ z ∷ more) r.1
@@ -129,7 +129,7 @@ loop-place-preserved g c =
         refuses = each_push (DoesNotLend g.row.N c.args.floor.now) es e inv.refuses r.2;
         may = may;
         asks = ask_here c.args.board.now (g.S.ScanSeat.bundle c.args.seat.now) (g.S.ScanSeat.bundle c.ask-lends.new.seat) (p + 1)
-            c.args.row base found c.args.floor.now c.ask-lends.new.lent (es ++ e ∷ []) c.requires.own c.requires.geometry
+            c.args.row base found c.args.floor.now c.ask-lends.new.lent (es ++ e ∷ []) c.requires.of_board c.requires.geometry
             (lens.0, lens.1, lens.2, lens.3, c.ask-lends.auto.lent ∙ (c.loop-place.auto.lent ∙ lens.4)) own may view;
         view = view;
       },
@@ -167,15 +167,15 @@ loop-place-preserved-then-not-due g c =
     subst (λ (l : List ℕ). MayAsk c.args.floor.now l (refused_all g.row.N es (scan_of ms))) d inv.may in (
       es,
       record {
-        own = inv.own;
+        table = inv.table;
         ruled = inv.ruled;
         leads = inv.leads;
         asked = ap (λ (l : List ℕ). map asked_worker es ++ l) (sym d) ∙ inv.asked;
         refuses = inv.refuses;
         may = may;
         asks = ask_here c.args.board.now (g.S.ScanSeat.bundle c.args.seat.now) (g.S.ScanSeat.bundle c.loop-place.seat) (p + 1)
-            c.args.row base found c.args.floor.now c.loop-place.lent es c.requires.own c.requires.geometry
-            (lens.0, lens.1, lens.2, lens.3, c.loop-place.auto.lent ∙ lens.4) inv.own may inv.view;
+            c.args.row base found c.args.floor.now c.loop-place.lent es c.requires.of_board c.requires.geometry
+            (lens.0, lens.1, lens.2, lens.3, c.loop-place.auto.lent ∙ lens.4) inv.table may inv.view;
         view = inv.view;
       },
     )

@@ -11,7 +11,7 @@ use Rattle.snapshot_scan.proofs.asks.ask_all.Given as goal
 abbrev pub invariant-loop-place : goal.invariant-loop-place
 invariant-loop-place g l = let bundle = g.S.ScanSeat.bundle in let ms = members_of (bundle l.fn.seat) in
     (es : List Asked) × record {
-      own : table_of (bundle l.seat) ≡ table_of (bundle l.fn.seat);
+      table : table_of (bundle l.seat) ≡ table_of (bundle l.fn.seat);
       ruled : IsRuled g.row.N g.row.C g.row.H g.row.G (bundle l.seat);
       leads : HasMember (members_of (bundle l.seat));
       asked : map asked_worker es ++ due_from l.place (drop l.place l.base) (drop l.place l.found) ≡ due_from 0 l.base l.found;

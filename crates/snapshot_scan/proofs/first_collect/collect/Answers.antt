@@ -16,13 +16,13 @@ use Rattle.snapshot_scan.proofs.first_collect.collect.Goals as goal
 pub loop-turn-init : goal.loop-turn-init
 loop-turn-init g c =
     let ms = members_of (g.S.ScanSeat.bundle c.args.seat.now) in record {
-      own = refl;
-      leads = c.requires.own.1;
+      table = refl;
+      leads = c.requires.of_board.1;
       wide = λ k d lt. c.requires.wide k (get_or c.args.kept.now k d) (there c.args.kept.now k d lt);
       deep = let geo = c.requires.geometry in
           omega (arith, geo.workers.1, geo.slots.counters, geo.slots.histograms, geo.slots.gauges);
       opened = record {
-        starts = c.requires.own.1;
+        starts = c.requires.of_board.1;
         kept = c.requires.kept;
         due = c.requires.rest.1;
         asks = c.requires.rest.2;
@@ -41,7 +41,7 @@ loop-turn-preserved g c =
     let w : ℕ = width g.row.C g.row.H g.row.G in let bundle = g.S.ScanSeat.bundle in
     let ms = members_of (bundle c.args.seat.now) in
     let inv = c.loop-turn.invariant in let r = c.open_four-known.new in record {
-      own = c.open_four-known.ensures.own ∙ inv.own;
+      table = c.open_four-known.ensures.table ∙ inv.table;
       leads = c.open_four-known.ensures.leads;
       wide = c.open_four-known.ensures.wide;
       deep = inv.deep;
@@ -61,19 +61,19 @@ returns g c =
     (omega (arith, f, end)) l.invariant.opened in
     let all = c.open_rest.ensures.opened ms c.args.kept.now so_far in
     let a = l.auto.kept in let b = l.auto.opened in let a' = c.open_rest.auto.kept in let b' = c.open_rest.auto.opened in
-    let own = c.open_rest.ensures.own ∙ l.invariant.own in
+    let own = c.open_rest.ensures.table ∙ l.invariant.table in
     let view : members_of (bundle r.seat) ≡ with_scan (opening r.opened r.kept (scan_of ms)) ms =
     all.view ∙ ap (λ (z : List ℕ). with_scan (opening z r.kept (scan_of ms)) ms)
     (take_all r.opened n (omega (arith, b, b', lens.1))) in
     let scan : scan_of (members_of (bundle r.seat)) ≡ opening r.opened r.kept (scan_of ms) =
-    ap scan_of view ∙ scan_with _ ms c.requires.own.1 in
+    ap scan_of view ∙ scan_with _ ms c.requires.of_board.1 in
     record {
-      own = own;
+      table = own;
       wide = all.wide;
       same = all.same;
       view = view;
       may = record {
-        own = (own ∙ c.requires.own.0, subst HasMember (sym view) (led_some _ ms c.requires.own.1));
+        of_board = (own ∙ c.requires.of_board.0, subst HasMember (sym view) (led_some _ ms c.requires.of_board.1));
         geometry = c.requires.geometry;
         lengths = (a' ∙ (a ∙ lens.0), b' ∙ (b ∙ lens.1));
         wide = all.wide;

@@ -9,7 +9,7 @@ use Rattle.snapshot_scan.proofs.first_collect.collect.Given as goal
 
 abbrev pub invariant-loop-turn : goal.invariant-loop-turn
 invariant-loop-turn g l = let bundle = g.S.ScanSeat.bundle in let w : ℕ = width g.row.C g.row.H g.row.G in record {
-  own : table_of (bundle l.seat) ≡ table_of (bundle l.fn.seat);
+  table : table_of (bundle l.seat) ≡ table_of (bundle l.fn.seat);
   leads : HasMember (members_of (bundle l.seat));
   wide : All (IsWide w) l.kept;
   deep : depth g.row.N w ≤ 2529;

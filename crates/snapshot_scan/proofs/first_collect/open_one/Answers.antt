@@ -28,7 +28,7 @@ set_elsewhere (x ∷ l) (suc i) zero a other = refl
 set_elsewhere (x ∷ l) (suc i) (suc q) a other = set_elsewhere l i q a (λ e. other (ap suc e))
 
 pub returns-clause-leads : goal.returns-clause-leads
-returns-clause-leads g c = subst HasMember (sym c.look-number.ensures.member) (led_some _ _ c.requires.own.1)
+returns-clause-leads g c = subst HasMember (sym c.look-number.ensures.member) (led_some _ _ c.requires.of_board.1)
 
 pub returns-clause-wide : goal.returns-clause-wide
 returns-clause-wide g c = All-set (IsWide (width g.row.C g.row.H g.row.G)) c.args.kept.now c.args.place c.look-number.new.self

@@ -6,7 +6,7 @@ use Rattle.snapshot_scan.proofs.first_collect.open_rest.Goals as goal
 
 pub loop-place-preserved : goal.loop-place-preserved
 loop-place-preserved g c = let inv = c.loop-place.invariant in record {
-  own = c.open_one-all.ensures.own ∙ inv.own;
+  table = c.open_one-all.ensures.table ∙ inv.table;
   leads = c.open_one-all.ensures.leads;
   wide = c.open_one-all.ensures.wide;
   opened = λ ms rows is. c.open_one-all.ensures.opened ms rows (inv.opened ms rows is);

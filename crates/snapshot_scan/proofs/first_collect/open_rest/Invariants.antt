@@ -10,7 +10,7 @@ use Rattle.snapshot_scan.proofs.first_collect.open_rest.Given as goal
 
 abbrev pub invariant-loop-place : goal.invariant-loop-place
 invariant-loop-place g l = let bundle = g.S.ScanSeat.bundle in let w : ℕ = width g.row.C g.row.H g.row.G in record {
-  own : table_of (bundle l.seat) ≡ table_of (bundle l.fn.seat);
+  table : table_of (bundle l.seat) ≡ table_of (bundle l.fn.seat);
   leads : HasMember (members_of (bundle l.seat));
   wide : All (IsWide w) l.kept;
   opened : (ms : List Member) (rows : List RememberedRow) → HasOpened w l.from ms rows (members_of (bundle l.fn.seat)) l.fn.kept

@@ -30,8 +30,8 @@ loop-k-preserved g c =
     ∙ ap (λ (z : ℕ). after_read w c.args.place c.args.number (c.args.from + z) x
     (read_all w c.args.place c.args.number c.args.from (take k ws) d)) deep)))) in
     record {
-      own = c.read_word.ensures.learns.own ∙ inv.own;
-      some = subst HasMember (sym member) (led_some _ ms0 c.requires.own.1);
+      table = c.read_word.ensures.learns.table ∙ inv.table;
+      some = subst HasMember (sym member) (led_some _ ms0 c.requires.of_board.1);
       member = member;
       bounded = below_more (λ (j : ℕ). c.args.from + j < w → get_or (set ws k x) j 0 ≤ 281474976710655) k
           (λ j h in_row. let ne : j ≢ k = omega (arith, h) in

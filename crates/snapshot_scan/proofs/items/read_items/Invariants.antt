@@ -7,7 +7,7 @@ use Rattle.snapshot_scan.proofs.items.read_items.Given as goal
 
 abbrev pub invariant-loop-k : goal.invariant-loop-k
 invariant-loop-k g l = let bundle = g.S.ScanSeat.bundle in record {
-  own : table_of (bundle l.seat) ≡ table_of (bundle l.fn.seat);
+  table : table_of (bundle l.seat) ≡ table_of (bundle l.fn.seat);
   some : HasMember (members_of (bundle l.seat));
   member : members_of (bundle l.seat) ≡ led
       (scan_changed (read_all (width g.row.C g.row.H g.row.G) l.place l.number l.from (take l.k l.words)))

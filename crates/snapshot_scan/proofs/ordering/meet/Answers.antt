@@ -12,7 +12,7 @@ alone_still ms m e = e ∙ sym (ap (λ (l : List Member). first_of l ∷ []) e)
 
 pub part-guest-requires : goal.part-guest-requires
 part-guest-requires g c = let other = members_of c.args.other.now in
-    (search rules, (c.requires.own.1, (first_of other, parted c.args.who other c.requires.alone.1 c.requires.is)))
+    (search rules, (c.requires.of_board.1, (first_of other, parted c.args.who other c.requires.alone.1 c.requires.is)))
 
 pub part-requires : goal.part-requires
 part-requires g c =
@@ -22,7 +22,7 @@ part-requires g c =
     c.part-guest.ensures.one c.join.ensures.all c.tell-number.ensures.ruled.0.apart in (
       search rules,
       (
-        c.tell-number.ensures.own ∙ (c.join.ensures.own ∙ c.requires.own.0),
+        c.tell-number.ensures.table ∙ (c.join.ensures.table ∙ c.requires.of_board.0),
         (guest k (first_of one) (first_of other) c.requires.is, ap (picked (Reader k)) c.tell-number.ensures.same ∙ gone),
       ),
     )

@@ -47,7 +47,7 @@ meet-requires g c =
     let one = c.args.of_one.now in let other = c.args.of_other.now in (
       omega arith,
       (
-        c.requires.own,
+        c.requires.of_board,
         (
           (
             alone_is (members_of one.bundle) one.leads c.requires.alone.0,

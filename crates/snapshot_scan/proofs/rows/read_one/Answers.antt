@@ -12,7 +12,7 @@ use Rattle.snapshot_scan.proofs.rows.read_one.Goals as goal
 
 pub returns-clause-leads : goal.returns-clause-leads
 returns-clause-leads g c = subst HasMember (sym c.read_word-word.ensures.learns.member)
-    (led_some _ (members_of (g.S.ScanSeat.bundle c.args.seat.now)) c.requires.own.1)
+    (led_some _ (members_of (g.S.ScanSeat.bundle c.args.seat.now)) c.requires.of_board.1)
 
 pub returns-clause-read : goal.returns-clause-read
 returns-clause-read g c = λ ms row listed is.

@@ -6,7 +6,7 @@ use Rattle.snapshot_scan.proofs.rows.read_rest.Goals as goal
 
 pub loop-k-preserved : goal.loop-k-preserved
 loop-k-preserved g c = let inv = c.loop-k.invariant in record {
-  own = c.read_one.ensures.own ∙ inv.own;
+  table = c.read_one.ensures.table ∙ inv.table;
   leads = c.read_one.ensures.leads;
   read = λ ms row listed is. c.read_one.ensures.read ms row listed (inv.read ms row listed is);
 }

@@ -8,7 +8,7 @@ use Rattle.snapshot_scan.proofs.rows.read_rest.Given as goal
 
 abbrev pub invariant-loop-k : goal.invariant-loop-k
 invariant-loop-k g l = let bundle = g.S.ScanSeat.bundle in let w : ℕ = width g.row.C g.row.H g.row.G in record {
-  own : table_of (bundle l.seat) ≡ table_of (bundle l.fn.seat);
+  table : table_of (bundle l.seat) ≡ table_of (bundle l.fn.seat);
   leads : HasMember (members_of (bundle l.seat));
   read : (ms : List Member) (row : List ℕ) (listed : ChangedView)
       → IsReadTo w l.place l.number l.from ms (members_of (bundle l.fn.seat)) row l.fn.words listed l.fn.changed

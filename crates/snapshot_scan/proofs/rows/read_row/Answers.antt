@@ -25,8 +25,8 @@ none_read w i s ms words listed = record {
 
 pub loop-turn-init : goal.loop-turn-init
 loop-turn-init g c = record {
-  own = refl;
-  leads = c.requires.own.1;
+  table = refl;
+  leads = c.requires.of_board.1;
   read = none_read (width g.row.C g.row.H g.row.G) c.args.place c.args.number (members_of (g.S.ScanSeat.bundle c.args.seat.now))
       c.args.words.now c.args.changed.now;
 }
@@ -36,7 +36,7 @@ loop-turn-preserved g c =
     let bundle = g.S.ScanSeat.bundle in let w : ℕ = width g.row.C g.row.H g.row.G in
     let ms = members_of (bundle c.args.seat.now) in let inv = c.loop-turn.invariant in let r = c.read_four.new in
     record {
-      own = c.read_four.ensures.own ∙ inv.own;
+      table = c.read_four.ensures.table ∙ inv.table;
       leads = c.read_four.ensures.leads;
       read = subst (λ (z : ℕ). IsReadTo w c.args.place c.args.number z ms (members_of (bundle r.seat)) c.args.words.now r.words
           c.args.changed.now r.changed) (omega arith)
@@ -56,7 +56,7 @@ returns g c =
     let all = c.read_rest.ensures.read ms c.args.words.now c.args.changed.now read in
     let a = c.read_rest.auto.words in let b = c.loop-turn.auto.words in let long = c.requires.inside.1 in
     record {
-      own = c.read_rest.ensures.own ∙ inv.own;
+      table = c.read_rest.ensures.table ∙ inv.table;
       member = all.member ∙ ap (λ (l : List ℕ). led (scan_changed (read_all w i s 0 l)) ms)
           (take_all r.words w (omega (arith, a, b, long)));
       bounded = all.low;

@@ -6,7 +6,7 @@ use Rattle.snapshot_scan.proofs.rows.read_row.Given as goal
 
 abbrev pub invariant-loop-turn : goal.invariant-loop-turn
 invariant-loop-turn g l = let bundle = g.S.ScanSeat.bundle in record {
-  own : table_of (bundle l.seat) ≡ table_of (bundle l.fn.seat);
+  table : table_of (bundle l.seat) ≡ table_of (bundle l.fn.seat);
   leads : HasMember (members_of (bundle l.seat));
   read : IsReadTo (width g.row.C g.row.H g.row.G) l.place l.number (4 * l.turn) (members_of (bundle l.fn.seat))
       (members_of (bundle l.seat)) l.fn.words l.words l.fn.changed l.changed;

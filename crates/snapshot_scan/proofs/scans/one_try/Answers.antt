@@ -19,7 +19,7 @@ returns g c =
     let long : length os ≡ n = c.collect.auto.opened ∙ lens.1 in let deep : length fs ≡ n = c.confirm.auto.found ∙ room.0 in
     let d : ScanLog = opening os c.collect.new.kept (scan_of ms) in
     let scan : scan_of (members_of (g.S.ScanSeat.bundle c.collect.new.seat)) ≡ d = ap scan_of c.collect.ensures.view
-    ∙ scan_with d ms c.requires.may.own.1 in
+    ∙ scan_with d ms c.requires.may.of_board.1 in
     let view : members_of (g.S.ScanSeat.bundle c.confirm.new.seat) ≡ with_scan (ended n w (settling os fs gs d)) ms =
     c.confirm.ensures.view
     ∙ (ap (λ (x : ScanLog). with_scan (ended n w (settling os fs gs x)) (members_of
@@ -27,7 +27,7 @@ returns g c =
     ∙ (ap (with_scan (ended n w (settling os fs gs d))) c.collect.ensures.view
     ∙ with_led (λ _. ended n w (settling os fs gs d)) d ms)) in
     record {
-      own = c.confirm.ensures.own ∙ c.collect.ensures.own;
+      table = c.confirm.ensures.table ∙ c.collect.ensures.table;
       ruled = c.confirm.ensures.ruled;
       wide = c.confirm.ensures.wide;
       totals = c.confirm.ensures.totals;

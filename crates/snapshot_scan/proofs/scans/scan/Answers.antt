@@ -82,12 +82,12 @@ loop-k-init g c =
     view ∙ (λ z. with_scan (given_up_if_spent n (stood (one ∷ []) r.kept (f z) (b z) (scan_of ms))) ms) in (
       one ∷ [],
       record {
-        own = c.one_try-clean.ensures.own;
+        table = c.one_try-clean.ensures.table;
         ruled = c.one_try-clean.ensures.ruled;
-        leads = still_some _ ms _ c.requires.may.own.1 view;
+        leads = still_some _ ms _ c.requires.may.of_board.1 view;
         wide = c.one_try-clean.ensures.wide;
         may = may_try c.args.board.now (g.S.ScanSeat.bundle c.args.seat.now) (g.S.ScanSeat.bundle r.seat) 0 (one ∷ []) r.kept fl
-            ba r.opened c.requires.may.own c.requires.may.geometry c.one_try-clean.ensures.own few long
+            ba r.opened c.requires.may.of_board c.requires.may.geometry c.one_try-clean.ensures.table few long
             c.one_try-clean.ensures.wide refl stands;
         room = (deep, c.one_try-clean.auto.totals ∙ c.requires.room.1, c.one_try-clean.ensures.totals);
         listed = lists_first w c.args.totals.now r.totals c.clear.new.self r.moved c.clear.ensures.none.1
@@ -120,11 +120,11 @@ ask_all-lends-requires g c =
     let view = at_loop n c.loop-k._k tries c.loop-k.kept fl ba ms _ inv.count c.loop-k-test.true inv.view in
     let d : ScanLog = stood tries c.loop-k.kept fl ba (scan_of ms) in
     let fails = loop_fails n w c.loop-k._k r.opened r.found r.kept c.loop-k.kept few long deep tries fl ba ms _ _
-    c.requires.may.own.1 inv.count view (c.later_try-clean.ensures.failed c.if-clean-2.false) in
-    let scan = now_is _ ms _ c.requires.may.own.1 fails in (
+    c.requires.may.of_board.1 inv.count view (c.later_try-clean.ensures.failed c.if-clean-2.false) in
+    let scan = now_is _ ms _ c.requires.may.of_board.1 fails in (
       search rules,
       record {
-        own = (c.later_try-clean.ensures.own ∙ (inv.own ∙ c.requires.may.own.0), still_some _ ms _ c.requires.may.own.1 fails);
+        of_board = (c.later_try-clean.ensures.table ∙ (inv.table ∙ c.requires.may.of_board.0), still_some _ ms _ c.requires.may.of_board.1 fails);
         ruled = c.later_try-clean.ensures.ruled;
         geometry = c.requires.may.geometry;
         lengths = (
@@ -155,11 +155,11 @@ loop-k-preserved g c =
     let view = at_loop n c.loop-k._k tries c.loop-k.kept fl ba ms _ inv.count c.loop-k-test.true inv.view in
     let d : ScanLog = stood tries c.loop-k.kept fl ba (scan_of ms) in
     let fails = loop_fails n w c.loop-k._k r.opened r.found r.kept c.loop-k.kept few long deep tries fl ba ms _ _
-    c.requires.may.own.1 inv.count view (c.later_try-clean.ensures.failed c.if-clean-2.false) in
+    c.requires.may.of_board.1 inv.count view (c.later_try-clean.ensures.failed c.if-clean-2.false) in
     let q = c.ask_all-lends.ensures.refuses c.if-lends.false in
     let t : Tried = record { first = r.opened; second = r.found; asks = q.0 } in
     let end = loop_refuses n w c.loop-k._k r.opened r.found r.kept c.loop-k.kept few long deep tries fl ba ms _ _
-    c.requires.may.own.1 inv.count view _ q.0 fails q.1 q.3 in
+    c.requires.may.of_board.1 inv.count view _ q.0 fails q.1 q.3 in
     let failed : FailedTry n fl ba t = record {
       opened = long;
       found = deep;
@@ -167,15 +167,15 @@ loop-k-preserved g c =
       rose = c.later_try-clean.ensures.rose c.if-clean-2.false;
       asked = q.1;
       none = q.2;
-    } in let own = c.ask_all-lends.ensures.own ∙ (c.later_try-clean.ensures.own ∙ inv.own) in (
+    } in let own = c.ask_all-lends.ensures.table ∙ (c.later_try-clean.ensures.table ∙ inv.table) in (
       tries ++ t ∷ [],
       record {
-        own = own;
+        table = own;
         ruled = c.ask_all-lends.ensures.ruled;
-        leads = still_some _ ms _ c.requires.may.own.1 end;
+        leads = still_some _ ms _ c.requires.may.of_board.1 end;
         wide = c.later_try-clean.ensures.wide;
         may = may_try c.args.board.now (g.S.ScanSeat.bundle c.args.seat.now) (g.S.ScanSeat.bundle c.ask_all-lends.new.seat)
-            (c.loop-k._k + 1) (tries ++ t ∷ []) r.kept fl ba r.opened c.requires.may.own c.requires.may.geometry own few long
+            (c.loop-k._k + 1) (tries ++ t ∷ []) r.kept fl ba r.opened c.requires.may.of_board c.requires.may.geometry own few long
             c.later_try-clean.ensures.wide (count_more tries t c.loop-k._k inv.count) end;
         room = (
           deep,
@@ -187,7 +187,7 @@ loop-k-preserved g c =
         count = count_more tries t c.loop-k._k inv.count;
         above = each_push (λ (u : Tried). Below (scan_of ms).seen u.first) tries t inv.above
             (seen_below n (stood tries c.loop-k.kept fl ba (scan_of ms)) r.opened long
-            (λ p lt. subst (λ (x : ScanLog). IsLoaded p x (slice_index r.opened p)) (now_is d ms _ c.requires.may.own.1 view)
+            (λ p lt. subst (λ (x : ScanLog). IsLoaded p x (slice_index r.opened p)) (now_is d ms _ c.requires.may.of_board.1 view)
             (c.later_try-clean.ensures.told p lt)));
         tried = tries_more n fl ba c.loop-k.opened c.loop-k.found tries inv.tried c.loop-k.kept (scan_of ms) r.opened r.found q.0
             failed;
@@ -204,14 +204,14 @@ returns-then-clean g c =
     let made = c.one_try-clean.ensures in let r = c.one_try-clean.new in let clean = made.clean c.if-clean.true in
     let long : length r.opened ≡ n = c.one_try-clean.auto.opened ∙ c.requires.may.lengths.1 in
     let a : Answer = record { vector = r.opened; totals = r.totals } in
-    let scan = now_is _ ms _ c.requires.may.own.1 clean in
+    let scan = now_is _ ms _ c.requires.may.of_board.1 clean in
     record {
-      own = made.own;
+      table = made.table;
       ruled = made.ruled;
       wide = made.wide;
       totals = made.totals;
       idle = record { kept = ap (λ (d : ScanLog). d.kept) scan; rest = ap (λ (d : ScanLog). d.now) scan };
-      others = others_same _ ms _ c.requires.may.own.1 clean;
+      others = others_same _ ms _ c.requires.may.of_board.1 clean;
       direct = λ _ _. subst (λ (x : ScanLog). IsAnswered n (scan_of ms) x a) (sym scan)
           (direct_first n r.opened r.found r.totals r.kept (scan_of ms) long made.told);
       came_direct = λ _ _. subst (λ (x : ScanLog). AnswersBy n w (scan_of ms) x a) (sym scan)
@@ -242,20 +242,20 @@ returns-then-clean-2 g c =
     let view = at_loop n c.loop-k._k tries c.loop-k.kept fl ba ms _ inv.count c.loop-k-test.true inv.view in
     let d : ScanLog = stood tries c.loop-k.kept fl ba (scan_of ms) in
     let end = then_is (λ (x : ScanLog). answered a (settling r.opened r.found r.kept (opening r.opened r.kept x))) d ms _ _
-    c.requires.may.own.1 view clean in
-    let scan = now_is _ ms _ c.requires.may.own.1 end in let count = inv.count in let lt = c.loop-k-test.true in
+    c.requires.may.of_board.1 view clean in
+    let scan = now_is _ ms _ c.requires.may.of_board.1 end in let count = inv.count in let lt = c.loop-k-test.true in
     record {
-      own = made.own ∙ inv.own;
+      table = made.table ∙ inv.table;
       ruled = made.ruled;
       wide = made.wide;
       totals = made.totals;
       idle = record { kept = ap (λ (x : ScanLog). x.kept) scan; rest = ap (λ (x : ScanLog). x.now) scan };
-      others = others_same _ ms _ c.requires.may.own.1 end;
+      others = others_same _ ms _ c.requires.may.of_board.1 end;
       direct = λ _ _. subst (λ (x : ScanLog). IsAnswered n (scan_of ms) x a) (sym scan)
           (direct_later n fl ba c.loop-k.opened c.loop-k.found tries inv.tried c.loop-k.kept
           (scan_of ms) r.opened r.found r.totals
           r.kept inv.lengths.0 long
-          (λ q low. subst (λ (x : ScanLog). IsLoaded q x (slice_index r.opened q)) (now_is d ms _ c.requires.may.own.1 view)
+          (λ q low. subst (λ (x : ScanLog). IsLoaded q x (slice_index r.opened q)) (now_is d ms _ c.requires.may.of_board.1 view)
           (made.told q low)));
       came_direct = λ _ _. subst (λ (x : ScanLog). AnswersBy n w (scan_of ms) x a) (sym scan)
           (came_later n w fl ba c.loop-k.opened c.loop-k.found tries inv.tried c.loop-k.kept
@@ -289,18 +289,18 @@ returns-then-lends g c =
     ∙ c.requires.room.0)) in
     let view = at_loop n c.loop-k._k tries c.loop-k.kept fl ba ms _ inv.count c.loop-k-test.true inv.view in
     let fails = loop_fails n w c.loop-k._k r.opened r.found r.kept c.loop-k.kept few long deep tries fl ba ms _ _
-    c.requires.may.own.1 inv.count view (made.failed c.if-clean-2.false) in
+    c.requires.may.of_board.1 inv.count view (made.failed c.if-clean-2.false) in
     let l = c.ask_all-lends.ensures.lends c.if-lends.true in let a = lent_in n w c.ask_all-lends.new.lent in
     let end = loop_lends n w c.loop-k._k r.opened r.found r.kept c.loop-k.kept few long deep tries fl ba ms _ _
-    c.requires.may.own.1 inv.count view _ a l.1 l.0 l.2 fails l.3 l.7 in
-    let scan = now_is _ ms _ c.requires.may.own.1 end in let count = inv.count in let lt = c.loop-k-test.true in
+    c.requires.may.of_board.1 inv.count view _ a l.1 l.0 l.2 fails l.3 l.7 in
+    let scan = now_is _ ms _ c.requires.may.of_board.1 end in let count = inv.count in let lt = c.loop-k-test.true in
     record {
-      own = c.ask_all-lends.ensures.own ∙ (made.own ∙ inv.own);
+      table = c.ask_all-lends.ensures.table ∙ (made.table ∙ inv.table);
       ruled = c.ask_all-lends.ensures.ruled;
       wide = made.wide;
       totals = made.totals;
       idle = record { kept = ap (λ (x : ScanLog). x.kept) scan; rest = ap (λ (x : ScanLog). x.now) scan };
-      others = others_same _ ms _ c.requires.may.own.1 end;
+      others = others_same _ ms _ c.requires.may.of_board.1 end;
       direct = λ q e. absurd (lent_direct q e);
       came_direct = λ q e. absurd (lent_direct q e);
       quiet = λ e. absurd (lent_direct _ e);
@@ -330,15 +330,15 @@ returns g c =
     let inv = c.loop-k.invariant.1 in let tries = c.loop-k.invariant.0 in
     let fl = c.copy_from_slice.new.self in let ba = c.copy_from_slice-2.new.self in
     let t = c.loop-k-test.false in let last = c.loop-k.auto._k-end in let count = inv.count in
-    let scan = now_is _ ms _ c.requires.may.own.1 inv.view in
+    let scan = now_is _ ms _ c.requires.may.of_board.1 inv.view in
     record {
-      own = inv.own;
+      table = inv.table;
       ruled = inv.ruled;
       wide = inv.wide;
       totals = inv.room.2;
       idle = let rest = scan ∙ given_last n (stood tries c.loop-k.kept fl ba (scan_of ms)) refl (omega (arith, count, t, last)) in
           record { kept = ap (λ (x : ScanLog). x.kept) rest; rest = ap (λ (x : ScanLog). x.now) rest };
-      others = others_same _ ms _ c.requires.may.own.1 inv.view;
+      others = others_same _ ms _ c.requires.may.of_board.1 inv.view;
       direct = λ q e. absurd (up_direct q e);
       came_direct = λ q e. absurd (up_direct q e);
       quiet = λ e. absurd (up_direct _ e);

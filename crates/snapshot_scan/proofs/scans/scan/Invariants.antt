@@ -16,7 +16,7 @@ use Rattle.snapshot_scan.proofs.scans.scan.Given as goal
 abbrev pub invariant-loop-k : goal.invariant-loop-k
 invariant-loop-k g l = let bundle = g.S.ScanSeat.bundle in let ms = members_of (bundle l.fn.seat) in
     let w : ℕ = width g.row.C g.row.H g.row.G in (tries : List Tried) × record {
-      own : table_of (bundle l.seat) ≡ table_of (bundle l.fn.seat);
+      table : table_of (bundle l.seat) ≡ table_of (bundle l.fn.seat);
       ruled : IsRuled g.row.N g.row.C g.row.H g.row.G (bundle l.seat);
       leads : HasMember (members_of (bundle l.seat));
       wide : AreWide w l.kept;

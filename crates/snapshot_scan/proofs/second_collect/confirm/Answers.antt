@@ -6,8 +6,8 @@ use Rattle.snapshot_scan.proofs.second_collect.confirm.Goals as goal
 not_known : true ≡ false → ⊥
 not_known e = cc
 
-pub returns-then-known-clause-own : goal.returns-then-known-clause-own
-returns-then-known-clause-own g c = c.confirm_known.ensures.own
+pub returns-then-known-clause-table : goal.returns-then-known-clause-table
+returns-then-known-clause-table g c = c.confirm_known.ensures.table
 
 pub returns-then-known-clause-ruled : goal.returns-then-known-clause-ruled
 returns-then-known-clause-ruled g c = c.confirm_known.ensures.ruled
@@ -33,8 +33,8 @@ returns-then-known-clause-clean g c = c.confirm_known.ensures.clean
 pub returns-then-known-clause-quiet : goal.returns-then-known-clause-quiet
 returns-then-known-clause-quiet g c = λ _. (refl, refl)
 
-pub returns-clause-own : goal.returns-clause-own
-returns-clause-own g c = c.confirm_all.ensures.own
+pub returns-clause-table : goal.returns-clause-table
+returns-clause-table g c = c.confirm_all.ensures.table
 
 pub returns-clause-ruled : goal.returns-clause-ruled
 returns-clause-ruled g c = c.confirm_all.ensures.ruled

@@ -31,9 +31,9 @@ loop-place-init g c =
     c.requires.may.looks in
     let no : (0 == g.row.N) ≡ false = ne_eqb 0 g.row.N (λ e. omega (arith, e)) in
     record {
-      own = search rules;
+      table = search rules;
       ruled = λ lt. absurd (omega (arith, lt));
-      may = c.requires.may.own;
+      may = c.requires.may.of_board;
       few = c.requires.may.lengths.0;
       wide = c.requires.may.wide;
       totals = c.requires.sums.1;
@@ -99,15 +99,15 @@ loop-place-preserved g c =
     c.confirm-number.ensures.learns.member
     ∙ (ap (led (scan_changed (after_confirm n w p s))) was ∙ (with_led (after_confirm n w p s) z ms
     ∙ ap (λ (d : ScanLog). with_scan (cond ((p + 1) == n) (ended n w d) d) ms) shape)) in
-    let scan : scan_of (members_of (bundle c.loop-place.seat)) ≡ z = ap scan_of was ∙ scan_with z ms c.requires.may.own.1 in
+    let scan : scan_of (members_of (bundle c.loop-place.seat)) ≡ z = ap scan_of was ∙ scan_with z ms c.requires.may.of_board.1 in
     let risen : o ≤ s = let at_load = c.requires.may.loaded p ltn in
     c.confirm-number.ensures.told.opened at_load.0 o (ap (λ (d : ScanLog). get_elem? d.opened at_load.0) scan ∙ at_load.1) in
     let long : length c.loop-place.totals ≡ w = a3 ∙ c.requires.sums.0 in
     record {
-      own = c.confirm-number.ensures.learns.own ∙ inv.own;
+      table = c.confirm-number.ensures.learns.table ∙ inv.table;
       ruled = λ _. c.confirm-number.ensures.learns.ruled;
       may = (
-        c.confirm-number.ensures.learns.own ∙ inv.may.0,
+        c.confirm-number.ensures.learns.table ∙ inv.may.0,
         subst HasMember (sym c.confirm-number.ensures.learns.member) (led_some (after_confirm n w p s) _ inv.may.1),
       );
       few = search rules;

@@ -13,7 +13,7 @@ use Rattle.snapshot_scan.proofs.second_collect.confirm_all.Given as goal
 abbrev pub invariant-loop-place : goal.invariant-loop-place
 invariant-loop-place g l = let bundle = g.S.ScanSeat.bundle in let ms = members_of (bundle l.fn.seat) in
     let w : ℕ = width g.row.C g.row.H g.row.G in record {
-      own : table_of (bundle l.seat) ≡ table_of (bundle l.fn.seat);
+      table : table_of (bundle l.seat) ≡ table_of (bundle l.fn.seat);
       may : MayScan l.board (bundle l.seat);
       few : length l.kept ≡ g.row.N;
       ruled : 0 < l.place → IsRuled g.row.N g.row.C g.row.H g.row.G (bundle l.seat);

@@ -23,10 +23,10 @@ loop-turn-init g c =
     c.requires.may.looks in
     let no : (0 == g.row.N) ≡ false = ne_eqb 0 g.row.N (λ e. omega (arith, e)) in
     record {
-      own = refl;
-      leads = c.requires.may.own.1;
+      table = refl;
+      leads = c.requires.may.of_board.1;
       confirmed = record {
-        starts = c.requires.may.own.1;
+        starts = c.requires.may.of_board.1;
         wide = c.requires.may.wide;
         known = c.requires.known;
         loaded = c.requires.may.loaded;
@@ -43,7 +43,7 @@ pub loop-turn-preserved : goal.loop-turn-preserved
 loop-turn-preserved g c =
     let bundle = g.S.ScanSeat.bundle in let ms = members_of (bundle c.args.seat.now) in
     let inv = c.loop-turn.invariant in let r = c.confirm_four-same.new in record {
-      own = c.confirm_four-same.ensures.own ∙ inv.own;
+      table = c.confirm_four-same.ensures.table ∙ inv.table;
       leads = c.confirm_four-same.ensures.leads;
       confirmed = subst (λ (z : ℕ). HasConfirmed g.row.N g.row.C g.row.H g.row.G z ms c.args.kept.now c.args.opened.now
           (members_of (bundle r.seat)) r.found c.confirm_four-same.result) (omega arith)
@@ -69,7 +69,7 @@ returns g c =
     let all = c.confirm_rest.ensures.confirmed ms gs lens.0 so_far in
     let z : List ℕ → ScanLog = λ x. settling os x gs (scan_of ms) in
     record {
-      own = c.confirm_rest.ensures.own ∙ l.invariant.own;
+      table = c.confirm_rest.ensures.table ∙ l.invariant.table;
       ruled = all.ruled (omega (arith, some_worker));
       view = all.view ∙ (ap (λ (x : List ℕ). with_scan (cond (n == n) (ended n w (z x)) (z x)) ms)
           (take_all fs n (omega (arith, c.requires.room, a, a')))

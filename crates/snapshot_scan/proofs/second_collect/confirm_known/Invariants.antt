@@ -5,7 +5,7 @@ use Rattle.snapshot_scan.proofs.second_collect.confirm_known.Given as goal
 
 abbrev pub invariant-loop-turn : goal.invariant-loop-turn
 invariant-loop-turn g l = let bundle = g.S.ScanSeat.bundle in record {
-  own : table_of (bundle l.seat) ≡ table_of (bundle l.fn.seat);
+  table : table_of (bundle l.seat) ≡ table_of (bundle l.fn.seat);
   leads : HasMember (members_of (bundle l.seat));
   confirmed : HasConfirmed g.row.N g.row.C g.row.H g.row.G (4 * l.turn) (members_of (bundle l.fn.seat)) l.kept l.opened
       (members_of (bundle l.seat)) l.found l.same;

@@ -35,7 +35,7 @@ at_some (x ∷ l) zero h = (x, refl)
 at_some (x ∷ l) (suc i) h = at_some l i (omega (arith, h))
 
 pub returns-clause-leads : goal.returns-clause-leads
-returns-clause-leads g c = subst HasMember (sym c.confirm-again.ensures.learns.member) (led_some _ _ c.requires.own.1)
+returns-clause-leads g c = subst HasMember (sym c.confirm-again.ensures.learns.member) (led_some _ _ c.requires.of_board.1)
 
 pub returns-clause-confirmed : goal.returns-clause-confirmed
 returns-clause-confirmed g c = λ ms gs few is.

@@ -5,7 +5,7 @@ use Rattle.snapshot_scan.proofs.second_collect.confirm_rest.Goals as goal
 
 pub loop-place-preserved : goal.loop-place-preserved
 loop-place-preserved g c = let inv = c.loop-place.invariant in record {
-  own = c.confirm_one-all.ensures.own ∙ inv.own;
+  table = c.confirm_one-all.ensures.table ∙ inv.table;
   leads = c.confirm_one-all.ensures.leads;
   confirmed = λ ms gs few is. c.confirm_one-all.ensures.confirmed ms gs few (inv.confirmed ms gs few is);
 }

@@ -7,7 +7,7 @@ use Rattle.snapshot_scan.proofs.second_collect.confirm_rest.Given as goal
 
 abbrev pub invariant-loop-place : goal.invariant-loop-place
 invariant-loop-place g l = let bundle = g.S.ScanSeat.bundle in record {
-  own : table_of (bundle l.seat) ≡ table_of (bundle l.fn.seat);
+  table : table_of (bundle l.seat) ≡ table_of (bundle l.fn.seat);
   leads : HasMember (members_of (bundle l.seat));
   confirmed : (ms : List Member) (gs : List RememberedRow) → length gs ≡ g.row.N
       → HasConfirmed g.row.N g.row.C g.row.H g.row.G l.from ms gs l.opened (members_of (bundle l.fn.seat)) l.fn.found l.same

@@ -18,7 +18,7 @@ loop-seat-init g c =
     let long = sym (length-map c.args.seats.items reader_of)
     ∙ (ap length c.requires.fresh ∙ length-readers_from g.row.N w 0 c.args.all) in
     record {
-      own = subst (λ (z : List ReadSeat). All (IsReadSeatOf c.args.board.now) z) (sym began) c.requires.own;
+      of_board = subst (λ (z : List ReadSeat). All (IsReadSeatOf c.args.board.now) z) (sym began) c.requires.of_board;
       count = omega (
         arith,
         ap (length {A = ReadSeat}) began,
@@ -43,10 +43,10 @@ loop-seat-preserved g c =
     let long = ap (length {A = Reader g.row.N g.row.C g.row.H g.row.G}) c.in_ok-push.ensures.items
     ∙ length_push c.loop-seat.readers.items c.in_ok-to_reader.field-0 in
     record {
-      own = (next_all (IsReadSeatOf c.args.board.now) _ rest c.in-Some.seat step inv.own).1;
+      of_board = (next_all (IsReadSeatOf c.args.board.now) _ rest c.in-Some.seat step inv.of_board).1;
       count = omega (arith, ap (length {A = ReadSeat}) step, inv.count, long);
       fresh = (next_reader g.row.N w (length c.loop-seat.readers.items) _ rest c.in-Some.seat step inv.fresh).1
           ∙ ap (λ z. readers_from g.row.N w z (length rest)) (omega (arith, long));
-      made = all_more (IsReaderOf c.args.board.now) _ _ _ c.in_ok-push.ensures.items inv.made c.in_ok-to_reader.ensures.own;
+      made = all_more (IsReaderOf c.args.board.now) _ _ _ c.in_ok-push.ensures.items inv.made c.in_ok-to_reader.ensures.of_board;
       alone = all_more IsAlone _ _ _ c.in_ok-push.ensures.items inv.alone c.in_ok-to_reader.ensures.alone;
     }

@@ -9,7 +9,7 @@ use Rattle.snapshot_update.proofs.crew.to_readers.Given as goal
 
 abbrev pub invariant-loop-seat : goal.invariant-loop-seat
 invariant-loop-seat g l = record {
-  own : All (IsReadSeatOf l.board) (into_iter_items l.seat-iterator);
+  of_board : All (IsReadSeatOf l.board) (into_iter_items l.seat-iterator);
   count : length l.readers.items + length (into_iter_items l.seat-iterator) ≡ l.fn.all;
   fresh : map reader_of (into_iter_items l.seat-iterator) ≡ readers_from g.row.N (width g.row.C g.row.H g.row.G)
       (length l.readers.items) (length (into_iter_items l.seat-iterator));

@@ -18,7 +18,7 @@ loop-seat-init g c =
     let long = sym (length-map c.args.seats.items worker_of)
     ∙ (ap length c.requires.fresh ∙ length-workers_from g.row.N w d 0 g.row.N) in
     record {
-      own = subst (λ (z : List WorkSeat). All (IsWorkSeatOf c.args.board.now) z) (sym began) c.requires.own;
+      of_board = subst (λ (z : List WorkSeat). All (IsWorkSeatOf c.args.board.now) z) (sym began) c.requires.of_board;
       count = omega (arith, ap (length {A = WorkSeat}) began, long);
       fresh = subst (λ (z : List WorkSeat). map worker_of z ≡ workers_from g.row.N w d 0 (length z)) (sym began)
           (c.requires.fresh ∙ ap (workers_from g.row.N w d 0) (sym long));
@@ -35,10 +35,10 @@ loop-seat-preserved g c =
     let d = depth g.row.N w in
     let rest = into_iter_items c.next.new.self in
     record {
-      own = (next_all (IsWorkSeatOf c.args.board.now) _ rest c.in-Some.seat step inv.own).1;
+      of_board = (next_all (IsWorkSeatOf c.args.board.now) _ rest c.in-Some.seat step inv.of_board).1;
       count = omega (arith, ap (length {A = WorkSeat}) step, inv.count);
       fresh = (next_worker g.row.N w d c.loop-seat.index _ rest c.in-Some.seat step inv.fresh).1;
-      made = all_more (IsWorkerOf c.args.board.now) _ _ _ c.in_ok-push.ensures.items inv.made c.in_ok-to_worker.ensures.own;
+      made = all_more (IsWorkerOf c.args.board.now) _ _ _ c.in_ok-push.ensures.items inv.made c.in_ok-to_worker.ensures.of_board;
       all = one_more index_of _ _ _ _ c.in_ok-push.ensures.items inv.all c.in_ok-to_worker.ensures.index;
       new = one_more_same lists_of _ _ _ _ _ c.in_ok-push.ensures.items inv.new c.in_ok-to_worker.ensures.lists;
     }

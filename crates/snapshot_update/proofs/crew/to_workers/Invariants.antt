@@ -10,7 +10,7 @@ use Rattle.snapshot_update.proofs.crew.to_workers.Given as goal
 
 abbrev pub invariant-loop-seat : goal.invariant-loop-seat
 invariant-loop-seat g l = record {
-  own : All (IsWorkSeatOf l.board) (into_iter_items l.seat-iterator);
+  of_board : All (IsWorkSeatOf l.board) (into_iter_items l.seat-iterator);
   count : length (into_iter_items l.seat-iterator) + l.index ≡ g.row.N;
   fresh : map worker_of (into_iter_items l.seat-iterator) ≡ workers_from g.row.N (width g.row.C g.row.H g.row.G)
       (depth g.row.N (width g.row.C g.row.H g.row.G)) l.index (length (into_iter_items l.seat-iterator));

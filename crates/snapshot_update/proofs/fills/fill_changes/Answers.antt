@@ -8,7 +8,7 @@ use Rattle.snapshot_update.proofs.fills.fill_changes.Goals as goal
 
 pub loop-item-init : goal.loop-item-init
 loop-item-init g c = let items = c.as_slice-items.result.now in record {
-  own = c.requires.own;
+  of_board = c.requires.of_board;
   exact = c.requires.exact;
   deep = c.requires.lengths;
   inside = λ k lt. c.requires.inside (get_or items k 0) (subst (λ (l : List ℕ). Contains l (get_or items k 0))

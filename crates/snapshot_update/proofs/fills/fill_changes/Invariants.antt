@@ -8,7 +8,7 @@ use Rattle.snapshot_update.proofs.fills.fill_changes.Given as goal
 
 abbrev pub invariant-loop-item : goal.invariant-loop-item
 invariant-loop-item g l = record {
-  own : IsWorkSeatOf l.board l.seat;
+  of_board : IsWorkSeatOf l.board l.seat;
   exact : (worker_of l.seat).work.hidden ≡ l.hidden;
   deep : (length l.hidden ≡ depth g.row.N (width g.row.C g.row.H g.row.G))
       × (length (target_of l.version) ≡ depth g.row.N (width g.row.C g.row.H g.row.G));

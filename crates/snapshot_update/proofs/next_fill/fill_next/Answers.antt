@@ -13,8 +13,8 @@ note_each-requires g c = record {
       omega (arith, lt, few);
 }
 
-pub note_each-requires-then-known : goal.note_each-requires-then-known
-note_each-requires-then-known g c = record {
+pub note_each-requires-then-listed : goal.note_each-requires-then-listed
+note_each-requires-then-listed g c = record {
   room = λ j has. let lt = c.requires.inside.2 j has in let few = c.requires.few in
       omega (arith, lt, few);
 }
@@ -37,30 +37,30 @@ both_inside n one two cleared a b empty x y in_one in_two j has = ⊎_elim
     let e = t.2 in omega (arith, lt, e)) (x.others j h))
     (λ t. let lt = in_two t.0 t.1 in let e = t.2 in omega (arith, lt, e)) (y.others j has)
 
-pub returns-then-known-clause-recent : goal.returns-then-known-clause-recent
-returns-then-known-clause-recent g c = λ listed j lt not. let lens = c.requires.lengths in
+pub returns-then-listed-clause-recent : goal.returns-then-listed-clause-recent
+returns-then-listed-clause-recent g c = λ listed j lt not. let lens = c.requires.lengths in
     let b = both_listed c.args.late.now.items c.args.touched.now.items c.clear.new.self c.note_each.new.to
-    c.note_each-then-known.new.to c.clear.ensures.none.1 c.note_each.ensures c.note_each-then-known.ensures listed j not in
-    c.requires.known c.if-known.true j (omega (arith, lens.2, lt)) b.0 b.1
+    c.note_each-then-listed.new.to c.clear.ensures.none.1 c.note_each.ensures c.note_each-then-listed.ensures listed j not in
+    c.requires.known c.if-listed.true j (omega (arith, lens.2, lt)) b.0 b.1
 
-pub returns-then-known-clause-inside : goal.returns-then-known-clause-inside
-returns-then-known-clause-inside g c =
+pub returns-then-listed-clause-inside : goal.returns-then-listed-clause-inside
+returns-then-listed-clause-inside g c =
     both_inside (depth g.row.N (width g.row.C g.row.H g.row.G)) c.args.late.now.items c.args.touched.now.items c.clear.new.self
-    c.note_each.new.to c.note_each-then-known.new.to c.clear.ensures.none.1 c.note_each.ensures c.note_each-then-known.ensures
+    c.note_each.new.to c.note_each-then-listed.new.to c.clear.ensures.none.1 c.note_each.ensures c.note_each-then-listed.ensures
     c.requires.inside.1 c.requires.inside.2
 
 pub returns-then-all_recent-clause-recent : goal.returns-then-all_recent-clause-recent
 returns-then-all_recent-clause-recent g c = λ _ j lt not. let lens = c.requires.lengths in
-    let r = c.as_slice.ensures.listed in let a = c.as_slice-then-known.ensures.listed in
-    let b = c.as_slice-then-known-2.ensures.listed in
+    let r = c.as_slice.ensures.listed in let a = c.as_slice-then-listed.ensures.listed in
+    let b = c.as_slice-then-listed-2.ensures.listed in
     let both = c.are_both-all_recent.ensures in let yes = c.if-all_recent.true in
-    c.requires.known c.if-known.true j (omega (arith, lens.2, lt))
+    c.requires.known c.if-listed.true j (omega (arith, lens.2, lt))
     (λ h. not (subst (λ (l : List ℕ). Contains l j) r (both.first yes j (subst (λ (l : List ℕ). Contains l j) (sym a) h))))
     (λ h. not (subst (λ (l : List ℕ). Contains l j) r (both.second yes j (subst (λ (l : List ℕ). Contains l j) (sym b) h))))
 
 pub returns-then-all_recent-clause-hidden : goal.returns-then-all_recent-clause-hidden
 returns-then-all_recent-clause-hidden g c =
-    let lens = c.requires.lengths in let fills = c.fill_changes.ensures in let listed = c.requires.listed c.if-known.true in
+    let lens = c.requires.lengths in let fills = c.fill_changes.ensures in let listed = c.requires.listed c.if-listed.true in
     all_filled c.fill_changes.new.hidden (target_of c.args.version.now) (depth g.row.N (width g.row.C g.row.H g.row.G))
     (c.fill_changes.auto.hidden ∙ lens.0) lens.2 (λ j lt.
     ⊎_elim (fills.filled j) (λ not_recent. fills.kept j (c.requires.differ listed.0 j (omega (arith, lens.1, lt)) not_recent

@@ -30,7 +30,7 @@ fill_next-requires g c =
       (
         search rules,
         record {
-          own = c.requires.own;
+          of_board = c.requires.of_board;
           exact = c.requires.exact ∙ sym hidden;
           lengths = (
             ap (λ (l : List ℕ). length l) hidden ∙ deep,
@@ -51,7 +51,7 @@ fill_next-requires g c =
               let flag : c.flag_word.result ≡ 1 = c.flag_word.ensures ∙ ap (λ (x : Bool). cond x 1 0) lends in
               let next = c.requires.images.0 in
               let same : slice_index im.shown.items j ≡ slice_index next j = t.late (sym c.is_all-2.ensures ∙ not-true _ a.1) j
-              (let e = t.next_deep in omega (arith, lt, e)) not_late in
+              (let e = t.idle_deep in omega (arith, lt, e)) not_late in
               let words : target_of v ≡ version_words c.args.row.now 1 (answer_of c.args.memory.now c.args.ended).vector
               (answer_of c.args.memory.now c.args.ended).totals = c.new-version.ensures.words
               ∙ (λ z. version_words c.args.row.now (flag z) (c.answer.ensures.vector z) (c.answer.ensures.totals z)) in

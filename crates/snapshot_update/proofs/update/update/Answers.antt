@@ -9,19 +9,19 @@ use Rattle.segment_layout.specs.Layout.{depth}
 use Rattle.register_rule.specs.declared.view.Member.{Member}
 use Rattle.register_rule.specs.declared.view.ScanLog.{ScanLog}
 use Rattle.register_rule.specs.declared.view.Version.{Version}
-use Rattle.register_rule.specs.Sums.{total}
+use Rattle.register_rule.specs.Sums.{word_after}
 use Rattle.register_rule.specs.Members.{made_of, published}
 use Rattle.register_rule.specs.declared.view.PublishEntry.{PublishEntry}
 use Rattle.register_rule.specs.Told.{HoldsNext}
 use Rattle.register_rule.specs.Seats.{worker_of, index_of}
 use Rattle.snapshot_scan.specs.declared.scan_end.ScanEnd.{ScanEnd}
 use Rattle.snapshot_scan.specs.declared.scan_end.ScanEnd.TheVariants.{Direct, GaveUp}
-use Rattle.snapshot_scan.specs.ScanMemories.{rows_of, sums_of, answer_of}
+use Rattle.snapshot_scan.specs.ScanMemories.{rows_of, totals_in, answer_of}
 use Rattle.snapshot_scan.specs.ChangedItems.{ChangedView}
 use Rattle.snapshot_update.specs.declared.buffer_images.BufferImages.{BufferImages}
 use Rattle.snapshot_update.specs.BufferImages.{DifferAt, version_words, with_hidden}
-use Rattle.snapshot_update.specs.Fit.{AreInside, AreImages, number_in, next_words}
-use Rattle.snapshot_update.specs.Updated.{ScanMeets, IsRuledAlone}
+use Rattle.snapshot_update.specs.Fit.{AreInside, AreImages, number_in, idle_words}
+use Rattle.snapshot_update.specs.Updated.{ScanCameTo, IsRuledAlone}
 use Rattle.snapshot_update.proofs.VersionWords.{known_words, late_words, words_long, row_taken, numbers_long}
 use Rattle.register_rule.proofs.Publish.{total_last}
 use Rattle.snapshot_update.proofs.Fitting.{answer_long, rows_many, accepts_same, holds}
@@ -32,7 +32,7 @@ use Rattle.snapshot_update.proofs.update.update.Goals as goal
 touched_images : (b : ℕ) (next : List ℕ) (im : BufferImages) (touched : ChangedView) → AreImages b next im
     → AreImages b next (record im { touched = touched })
 touched_images b next im touched are = record {
-  next_deep = are.next_deep;
+  idle_deep = are.idle_deep;
   hidden_deep = are.hidden_deep;
   shown_deep = are.shown_deep;
   recent = are.recent;
@@ -48,7 +48,7 @@ by_known false p q = q refl
 pub fill_version-lends-requires : goal.fill_version-lends-requires
 fill_version-lends-requires g c =
     let n : ℕ = g.row.N in let w : ℕ = width g.row.C g.row.H g.row.G in let b : ℕ = depth n w in
-    let fit = c.requires.fit in let s = c.scan_own-ended in let memory = s.new.memory in let im = c.args.images.now in
+    let fit = c.requires.fit in let s = c.scan_for_update-ended in let memory = s.new.memory in let im = c.args.images.now in
     let row = c.args.row.now in let row' = c.try_apply.new.self in let adds = c.in_ok-try_apply.ensures.ok in
     let wide : length row ≡ w = fit.wide in
     let a = answer_of memory s.result in let long = answer_long n g.row.C g.row.H g.row.G memory s.result in
@@ -59,23 +59,23 @@ fill_version-lends-requires g c =
         (
           search rules,
           record {
-            own = s.ensures.own;
+            of_board = s.ensures.of_board;
             geometry = c.requires.geometry;
             exact = ap (λ (m : Member). m.work.hidden) s.ensures.others ∙ fit.hidden_is;
             touched = c.touch.ensures.inside;
             images = by_known known (λ yes.
                 let next = next_is n g.row.C g.row.H g.row.G (index_of c.args.seat.now) row c.args.memory.now memory im
                 c.know_next-known.new.late (worker_of c.args.seat.now) (worker_of s.new.seat) s.result
-                fit c.requires.own.1 s.ensures.others s.ensures.ruled s.ensures.ready s.ensures.quiet s.ensures.numbers
+                fit c.requires.of_board.1 s.ensures.others s.ensures.ruled s.ensures.ready s.ensures.quiet s.ensures.numbers
                 s.ensures.listed (index_of s.new.seat) _ s.ensures.index
                 (ap (λ (x : Member). length x.work.made) s.ensures.others) (c.know_next-known.ensures.known yes) in
                 let listed : c.touch.new.touched.all ≡ false = c.know_next-known.ensures.touched yes in (
-                  next_words row (rows_of memory) (sums_of memory),
+                  idle_words row (rows_of memory) (totals_in memory),
                   touched_images b _ (record im { late = c.know_next-known.new.late }) c.touch.new.touched next.images,
                   λ _. (
                     listed,
                     next.direct,
-                    λ j lt none. known_words w n row row' (rows_of memory) (sums_of memory) a.vector a.totals wide
+                    λ j lt none. known_words w n row row' (rows_of memory) (totals_in memory) a.vector a.totals wide
                         (adds.width_stays ∙ wide) (rows_many n g.row.C g.row.H g.row.G memory) long.0 next.numbers
                         next.totals c.touch.new.touched.items
                         (λ k lt' none'. let e = adds.sums k in let z = c.touch.ensures.rises listed k none' in
@@ -83,8 +83,8 @@ fill_version-lends-requires g c =
                   ),
                 ))
                 (λ no. (
-                  next_words row (rows_of c.args.memory.now) (sums_of c.args.memory.now),
-                  subst (λ (x : ChangedView). AreImages b (next_words row (rows_of c.args.memory.now) (sums_of c.args.memory.now))
+                  idle_words row (rows_of c.args.memory.now) (totals_in c.args.memory.now),
+                  subst (λ (x : ChangedView). AreImages b (idle_words row (rows_of c.args.memory.now) (totals_in c.args.memory.now))
                       (record im { late = x; touched = c.touch.new.touched })) (sym (c.know_next-known.ensures.unknown no))
                       (touched_images b _ im c.touch.new.touched fit.images),
                   λ yes. absurd (let h = sym yes ∙ no in cc),
@@ -101,7 +101,7 @@ ready_member hidden m c = with_hidden hidden (record m { scan = c })
 pub publish-requires : goal.publish-requires
 publish-requires g c =
     let n : ℕ = g.row.N in let w : ℕ = width g.row.C g.row.H g.row.G in let b : ℕ = depth n w in
-    let fit = c.requires.fit in let s = c.scan_own-ended in let f = c.fill_version-lends in let memory = s.new.memory in
+    let fit = c.requires.fit in let s = c.scan_for_update-ended in let f = c.fill_version-lends in let memory = s.new.memory in
     let m : Member = worker_of c.args.seat.now in let c' : ScanLog = (worker_of s.new.seat).scan in
     let row = c.args.row.now in let row' = c.try_apply.new.self in let adds = c.in_ok-try_apply.ensures.ok in
     let ops = c.args.ops.now in
@@ -116,13 +116,13 @@ publish-requires g c =
     (λ lends. (m.scan.recorded, (s.ensures.view (f.ensures.view lends)).recorded)) in (
       search rules,
       (
-        f.ensures.own,
+        f.ensures.of_board,
         (
           subst (λ (x : Member). length x.work.made + 1 < 18446744073709551616) (sym is) c.requires.room,
           (
             subst (HoldsNext n w b (sum_ops g.row.C g.row.H) ops f.result) (sym is) full,
-            subst (λ (x : Member). Accepts g.row.C g.row.H g.row.G (total (sum_ops g.row.C g.row.H) x.work.made) ops) (sym is)
-                (accepts_same g.row.C g.row.H g.row.G (slice_index row) (total (sum_ops g.row.C g.row.H) m.work.made) ops fit.sums
+            subst (λ (x : Member). Accepts g.row.C g.row.H g.row.G (word_after (sum_ops g.row.C g.row.H) x.work.made) ops) (sym is)
+                (accepts_same g.row.C g.row.H g.row.G (slice_index row) (word_after (sum_ops g.row.C g.row.H) m.work.made) ops fit.sums
                 c.in_ok-try_apply.ensures.accepted),
           ),
         ),
@@ -136,7 +136,7 @@ turn-requires-clause-touched g c = subst (AreInside (width g.row.C g.row.H g.row
 pub learn-requires : goal.learn-requires
 learn-requires g c =
     let n : ℕ = g.row.N in let w : ℕ = width g.row.C g.row.H g.row.G in
-    let fit = c.requires.fit in let s = c.scan_own-ended in let f = c.fill_version-lends in let memory = s.new.memory in
+    let fit = c.requires.fit in let s = c.scan_for_update-ended in let f = c.fill_version-lends in let memory = s.new.memory in
     let im = c.args.images.now in
     let row = c.args.row.now in let row' = c.try_apply.new.self in let adds = c.in_ok-try_apply.ensures.ok in
     let i : ℕ = index_of c.args.seat.now in
@@ -148,17 +148,17 @@ learn-requires g c =
         search rules,
         record {
           geometry = c.requires.geometry;
-          inside = let lt = c.requires.own.1 in omega (arith, same, lt);
+          inside = let lt = c.requires.of_board.1 in omega (arith, same, lt);
           touched = subst (AreInside w) (sym touched) c.touch.ensures.inside;
           known = λ yes v at k lt none.
               let next = next_is n g.row.C g.row.H g.row.G (index_of c.args.seat.now) row c.args.memory.now memory im
               c.know_next-known.new.late (worker_of c.args.seat.now) (worker_of s.new.seat) s.result
-              fit c.requires.own.1 s.ensures.others s.ensures.ruled s.ensures.ready s.ensures.quiet s.ensures.numbers
+              fit c.requires.of_board.1 s.ensures.others s.ensures.ruled s.ensures.ready s.ensures.quiet s.ensures.numbers
               s.ensures.listed (index_of s.new.seat) _ s.ensures.index
               (ap (λ (x : Member). length x.work.made) s.ensures.others) (c.know_next-known.ensures.known yes) in
               let listed : c.touch.new.touched.all ≡ false = c.know_next-known.ensures.touched yes in
               let here : some v ≡ some (record { number = length (worker_of c.args.seat.now).work.made; row = row }) = sym at
-              ∙ (ap (get_elem? (rows_of memory)) same ∙ next.own) in
+              ∙ (ap (get_elem? (rows_of memory)) same ∙ next.row_known) in
               let e = ap (λ (x : Version). slice_index x.row k) (some-injective v _ here) in
               let z = c.touch.ensures.rises listed k (λ has. none (subst (λ (t : ChangedView). Contains t.items k)
               (sym touched) has)) in
@@ -180,7 +180,7 @@ set_there (x ∷ l) (suc i) v h = set_there l i v (omega (arith, h))
 pub returns-clause-fit : goal.returns-clause-fit
 returns-clause-fit g c =
     let n : ℕ = g.row.N in let w : ℕ = width g.row.C g.row.H g.row.G in let b : ℕ = depth n w in
-    let fit = c.requires.fit in let s = c.scan_own-ended in let f = c.fill_version-lends in let memory = s.new.memory in
+    let fit = c.requires.fit in let s = c.scan_for_update-ended in let f = c.fill_version-lends in let memory = s.new.memory in
     let im = c.args.images.now in
     let m : Member = worker_of c.args.seat.now in let c' : ScanLog = (worker_of s.new.seat).scan in
     let row = c.args.row.now in let row' = c.try_apply.new.self in let adds = c.in_ok-try_apply.ensures.ok in
@@ -204,7 +204,7 @@ returns-clause-fit g c =
     let hidden : f.new.images.hidden.items ≡ target = f.ensures.hidden in
     let v : Version = record { number = c.number-number.result; row = row' } in
     let rows' : rows_of c.learn.new.memory ≡ set (rows_of memory) c.worker-index.result v = c.learn.ensures.rows in
-    let lt : c.worker-index.result < n = (let h = c.publish.ensures.own.1 in let e = c.publish.ensures.index in
+    let lt : c.worker-index.result < n = (let h = c.publish.ensures.of_board.1 in let e = c.publish.ensures.index in
     omega (arith, h, own, e)) in
     let many = rows_many n g.row.C g.row.H g.row.G memory in
     let own' : c.worker-index.result ≡ index_of c.args.seat.now = own ∙ (f.ensures.index ∙ s.ensures.index) in
@@ -219,7 +219,7 @@ returns-clause-fit g c =
       counts = refl;
       sums = λ k lt'. adds.sums k
           ∙ (ap (λ (z : ℕ). z + sum_ops g.row.C g.row.H ops k) (fit.sums k lt')
-          ∙ sym (ap (λ (l : List PublishEntry). total (sum_ops g.row.C g.row.H) l k) made
+          ∙ sym (ap (λ (l : List PublishEntry). word_after (sum_ops g.row.C g.row.H) l k) made
           ∙ total_last (sum_ops g.row.C g.row.H) m.work.made last k));
       wide = wide';
       row_known = λ _. (λ z. get_elem? (rows' z) (index_of c.publish.new.seat))
@@ -234,7 +234,7 @@ returns-clause-fit g c =
       hidden_is = ap (λ (x : Member). x.work.hidden) is3 ∙ (fit.shown_is ∙ sym (c.turn.ensures.buffers.0 ∙ f.ensures.others.0));
       shown_is = ap (λ (x : Member). x.work.shown) is3 ∙ sym c.turn.ensures.buffers.1;
       images = record {
-        next_deep = (let e = words_long w n row' 1 (map number_in (rows_of after)) (sums_of after) wide' all_after w
+        idle_deep = (let e = words_long w n row' 1 (map number_in (rows_of after)) (totals_in after) wide' all_after w
             after.sizes.1 in omega (arith, e));
         hidden_deep = ap (λ (l : List ℕ). length l) (c.turn.ensures.buffers.0 ∙ f.ensures.others.0) ∙ fit.images.shown_deep;
         shown_deep = (let e = words_long w n row' (cond f.result 1 0) a.vector a.totals wide' long.0 w long.1 in
@@ -248,7 +248,7 @@ returns-clause-fit g c =
         late = by_known known (λ yes.
             let next = next_is n g.row.C g.row.H g.row.G (index_of c.args.seat.now) row c.args.memory.now memory im
             c.know_next-known.new.late (worker_of c.args.seat.now) (worker_of s.new.seat) s.result
-            fit c.requires.own.1 s.ensures.others s.ensures.ruled s.ensures.ready s.ensures.quiet s.ensures.numbers
+            fit c.requires.of_board.1 s.ensures.others s.ensures.ruled s.ensures.ready s.ensures.quiet s.ensures.numbers
             s.ensures.listed (index_of s.new.seat) _ s.ensures.index
             (ap (λ (x : Member). length x.work.made) s.ensures.others) (c.know_next-known.ensures.known yes) in
             let listed : c.touch.new.touched.all ≡ false = c.know_next-known.ensures.touched yes in
@@ -257,33 +257,33 @@ returns-clause-fit g c =
             let words : c.turn.new.images.shown.items ≡ version_words row' 1 a.vector a.totals = c.turn.ensures.buffers.1
             ∙ (hidden ∙ ap (λ (t : Bool). version_words row' (cond t 1 0) a.vector a.totals) yes') in
             let own_at : get_elem? (rows_of memory) c.worker-index.result ≡ some
-            (record { number = length m.work.made; row = row }) = ap (get_elem? (rows_of memory)) own' ∙ next.own in
+            (record { number = length m.work.made; row = row }) = ap (get_elem? (rows_of memory)) own' ∙ next.row_known in
             subst (λ (x : List Version). DifferAt c.turn.new.images.late c.turn.new.images.shown.items
-            (next_words row' x (sums_of after))) (sym rows')
+            (idle_words row' x (totals_in after))) (sym rows')
             (subst (λ (x : List ℕ). DifferAt c.turn.new.images.late x
-            (next_words row' (set (rows_of memory) c.worker-index.result v) (sums_of after))) (sym words)
-            (late_words w n row row' (rows_of memory) (sums_of memory) a.vector a.totals wide wide' many long.0 next.numbers
+            (idle_words row' (set (rows_of memory) c.worker-index.result v) (totals_in after))) (sym words)
+            (late_words w n row row' (rows_of memory) (totals_in memory) a.vector a.totals wide wide' many long.0 next.numbers
             next.totals f.new.images.touched.items
             (λ k lt' none. let e = adds.sums k in
             let z = c.touch.ensures.rises listed k
             (λ has. none (subst (λ (t : ChangedView). Contains t.items k) (sym touched) has)) in omega (arith, e, z))
-            c.worker-index.result v (sums_of after) c.turn.new.images.late (c.learn.ensures.sums _ own_at) after.sizes.1
+            c.worker-index.result v (totals_in after) c.turn.new.images.late (c.learn.ensures.sums _ own_at) after.sizes.1
             c.turn.ensures.number c.turn.ensures.lent)))
             (λ unknown listed. absurd (let h = sym (c.turn.ensures.unknown unknown) ∙ listed in cc));
         late_inside = c.turn.ensures.inside;
       };
     }
 
-met : (n w : ℕ) (a b : ScanLog) (lends : Bool) → (lends ≡ true → ScanMeets n w a b true) → (lends ≡ false
-    → ScanMeets n w a b false)
-    → ScanMeets n w a b lends
+met : (n w : ℕ) (a b : ScanLog) (lends : Bool) → (lends ≡ true → ScanCameTo n w a b true) → (lends ≡ false
+    → ScanCameTo n w a b false)
+    → ScanCameTo n w a b lends
 met n w a b true lent none = lent refl
 met n w a b false lent none = none refl
 
 pub returns-clause-updated : goal.returns-clause-updated
 returns-clause-updated g c =
     let n : ℕ = g.row.N in let w : ℕ = width g.row.C g.row.H g.row.G in
-    let s = c.scan_own-ended in let f = c.fill_version-lends in
+    let s = c.scan_for_update-ended in let f = c.fill_version-lends in
     let m : Member = worker_of c.args.seat.now in let c' : ScanLog = (worker_of s.new.seat).scan in let ops = c.args.ops.now in
     let is : worker_of f.new.seat ≡ ready_member f.new.images.hidden.items m c' = f.ensures.member
     ∙ ap (with_hidden f.new.images.hidden.items) s.ensures.others in
@@ -292,12 +292,12 @@ returns-clause-updated g c =
       lends = f.result;
       hidden = f.new.images.hidden.items;
       ruled = subst (λ (x : Member). IsRuledAlone n g.row.C g.row.H g.row.G x) s.ensures.others s.ensures.ruled;
-      meets = met n w m.scan c' f.result (λ lends. s.ensures.meets (f.ensures.view lends))
+      came_to = met n w m.scan c' f.result (λ lends. s.ensures.came_to (f.ensures.view lends))
           (λ none. s.ensures.gave_up (f.ensures.none none));
       is = c.publish.ensures.member ∙ (λ z. published w (same z) ops f.result (is z));
     }
 
 pub returns-clause-accepted : goal.returns-clause-accepted
 returns-clause-accepted g c = accepts_same g.row.C g.row.H g.row.G (slice_index c.args.row.now)
-    (total (sum_ops g.row.C g.row.H) (worker_of c.args.seat.now).work.made) c.args.ops.now c.requires.fit.sums
+    (word_after (sum_ops g.row.C g.row.H) (worker_of c.args.seat.now).work.made) c.args.ops.now c.requires.fit.sums
     c.in_ok-try_apply.ensures.accepted

@@ -16,8 +16,8 @@ new_worker-requires c =
     c.in-Some-Some.ensures.items made.work.1 in
     (omega arith, (omega arith, (subst (λ s. IfSome s own) c.in-Some-Some.is-0 last.1, (made.geometry.0, fresh.1))))
 
-pub returns-in_ok-worker-in-Some-Some-clause-own : goal.returns-in_ok-worker-in-Some-Some-clause-own
-returns-in_ok-worker-in-Some-Some-clause-own c =
+pub returns-in_ok-worker-in-Some-Some-clause-of_board : goal.returns-in_ok-worker-in-Some-Some-clause-of_board
+returns-in_ok-worker-in-Some-Some-clause-of_board c =
     let own = IsWorkSeatOf c.in_ok-board.field-0.board in
     let two = c.in_ok-board.field-0.work.items in
     let one = c.pop.new.self.items in

@@ -4,10 +4,10 @@ use Rattle.snapshot_scan.specs.Order.{IsAlone}
 use Rattle.snapshot_scan.specs.Readers.{IsReaderOf}
 use Rattle.unit_tests.proofs.crew.last_reader.Goals as goal
 
-pub returns-clause-own : goal.returns-clause-own
-returns-clause-own g c = subst (λ r. IfSome r (IsReaderOf c.args.board.now)) c.in-Some.is
+pub returns-clause-of_board : goal.returns-clause-of_board
+returns-clause-of_board g c = subst (λ r. IfSome r (IsReaderOf c.args.board.now)) c.in-Some.is
     (All-pop (IsReaderOf c.args.board.now) c.args.readers.now.items c.pop.new.self.items c.pop.result c.pop.ensures.items
-    c.requires.own).1
+    c.requires.of_board).1
 
 pub returns-clause-alone : goal.returns-clause-alone
 returns-clause-alone g c = subst (λ r. IfSome r IsAlone) c.in-Some.is
@@ -16,6 +16,6 @@ returns-clause-alone g c = subst (λ r. IfSome r IsAlone) c.in-Some.is
 pub returns-clause-others : goal.returns-clause-others
 returns-clause-others g c = (
   (All-pop (IsReaderOf c.args.board.now) c.args.readers.now.items c.pop.new.self.items c.pop.result c.pop.ensures.items
-      c.requires.own).0,
+      c.requires.of_board).0,
   (All-pop IsAlone c.args.readers.now.items c.pop.new.self.items c.pop.result c.pop.ensures.items c.requires.alone).0,
 )

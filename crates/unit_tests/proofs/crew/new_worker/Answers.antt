@@ -21,7 +21,7 @@ new-requires g c =
       (
         c.requires.geometry,
         (
-          c.requires.own.1,
+          c.requires.of_board.1,
           subst (λ (i : ℕ). worker_of c.args.seat ≡ new_worker g.row.N w (depth g.row.N w) i)
               (sym same) c.requires.fresh,
         ),

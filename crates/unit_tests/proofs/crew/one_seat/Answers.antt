@@ -6,8 +6,8 @@ use Rattle.register_rule.specs.Seats.{worker_of, reader_of, IsWorkSeatOf, IsRead
 use Rattle.unit_tests.proofs.Popped.{popped}
 use Rattle.unit_tests.proofs.crew.one_seat.Goals as goal
 
-pub returns-in-Some-Some-clause-own : goal.returns-in-Some-Some-clause-own
-returns-in-Some-Some-clause-own c =
+pub returns-in-Some-Some-clause-of_board : goal.returns-in-Some-Some-clause-of_board
+returns-in-Some-Some-clause-of_board c =
     let made = c.in_ok-board.field-0 in
     let worker = All-pop (IsWorkSeatOf made.board) made.work.items c.pop.new.self.items c.pop.result c.pop.ensures.items
     c.in_ok-board.ensures.work.0 in

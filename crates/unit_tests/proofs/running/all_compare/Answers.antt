@@ -15,7 +15,7 @@ order-found-requires g c =
         (
           search rules,
           (
-            inv.own,
+            inv.of_board,
             (
               (
                 subst (λ (s : Taken). HasRecorded c.loop-i.one (as_answer s)) (sym c.index-ones-i.is)

@@ -5,7 +5,7 @@ use Rattle.unit_tests.proofs.running.all_compare.Given as goal
 
 abbrev pub invariant-loop-i : goal.invariant-loop-i
 invariant-loop-i g l = record {
-  own : IsReaderOf l.fn.board l.one × IsReaderOf l.fn.board l.other;
+  of_board : IsReaderOf l.fn.board l.one × IsReaderOf l.fn.board l.other;
   alone : IsAlone l.one × IsAlone l.other;
   kept : ((scan_by l.one).recorded ≡ (scan_by l.fn.one).recorded) × ((scan_by l.other).recorded ≡ (scan_by l.fn.other).recorded);
 }

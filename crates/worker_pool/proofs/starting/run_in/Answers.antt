@@ -11,8 +11,8 @@ returns-clause-did g c =
     c.start_all.new.threads.items s.pledged c.len-many.result c.join_all-ends.result.items c.outcome.result
     many c.join_all-ends.ensures s.few c.outcome.ensures.all
 
-pub returns-clause-own : goal.returns-clause-own
-returns-clause-own g c =
+pub returns-clause-of_board : goal.returns-clause-of_board
+returns-clause-of_board g c =
     let long : length (g.Q.JobLists.lists c.args.lists.now) ≡ length c.args.workers.items = search rules in
     own_back c.args.board.now (g.Q.JobLists.lists c.args.lists.now) c.args.workers.items c.outcome.result long
     (returns-clause-did g c)

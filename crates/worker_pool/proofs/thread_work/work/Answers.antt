@@ -35,4 +35,4 @@ loop-next-preserved g c =
     let job = c.job-job.result in
     did_more c.args.board.now jobs c.args.worker c.loop-next.worker c.run.new.worker k job (item_is jobs k job c.job-job.ensures)
     c.loop-next.invariant
-    c.in_default.ensures.own c.in_default.ensures.index c.in_default.ensures.counted
+    c.in_default.ensures.of_board c.in_default.ensures.index c.in_default.ensures.counted

@@ -2,7 +2,7 @@ use Rattle.std.proofs.Common.{List, All, subst, sym, ◌∙◌}
 use Rattle.ledger_core.specs.declared.op.Op.{Op}
 use Rattle.ledger_core.specs.Ops.{sum_ops, IsWithin}
 use Rattle.ledger_core.proofs.Alike.{accepts_alike}
-use Rattle.register_rule.specs.Sums.{total}
+use Rattle.register_rule.specs.Sums.{word_after}
 use Rattle.snapshot_update.specs.Workers.{member_of}
 use Rattle.dirgwako.specs.Recorders.{worker_in}
 use Rattle.dirgwako.proofs.Flushing.{flush_fault}
@@ -15,7 +15,7 @@ returns-in-Ok-clause-flushed g c = record {
   lists = rw (← c.ops.ensures.ops) c.in-Ok.ensures.lists;
   accepted = rw (← c.ops.ensures.ops) c.in-Ok.ensures.accepted;
   alike = rw (← c.ops.ensures.ops)
-      (accepts_alike g.row.C g.row.H g.row.G (total (sum_ops g.row.C g.row.H) (member_of (worker_in c.args.self.now)).work.made)
+      (accepts_alike g.row.C g.row.H g.row.G (word_after (sum_ops g.row.C g.row.H) (member_of (worker_in c.args.self.now)).work.made)
       c.ops.result.now c.in-Ok.ensures.accepted);
   room = c.in-Ok.ensures.room;
 }

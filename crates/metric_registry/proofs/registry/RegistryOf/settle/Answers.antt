@@ -8,7 +8,7 @@ unreachable-requires g c = let missing = c.in_default-settle_state.ensures.missi
 
 pub returns : goal.returns
 returns g c = record {
-  own = c.settle_state.ensures.own;
+  of_board = c.settle_state.ensures.of_board;
   same = c.settle_state.ensures.same;
   replays = c.in-Ok.ensures.replays;
   moments = c.in-Ok.ensures.moments;

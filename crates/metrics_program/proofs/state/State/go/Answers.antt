@@ -17,7 +17,7 @@ returns-in-Ok-clause-ready g c =
     subst (λ ws. DidAll self.board.now lists ws.items c.in-Ok.workers.items) c.replace-workers.ensures.value
     c.in-Ok.ensures.did in
     record {
-      workers = c.in-Ok.ensures.own;
+      workers = c.in-Ok.ensures.of_board;
       all = same_workers self.board.now lists self.workers.items c.in-Ok.workers.items few did ∙ ready.all;
       scans = ready.scans;
       scraper = ready.scraper;

@@ -11,7 +11,7 @@ use Rattle.register_rule.proofs.board.Board.part_readers.Goals as goal
 pub part-one-requires : goal.part-one-requires
 part-one-requires g c = (
   lit< tt,
-  (c.loop-i.invariant.0 ∙ c.requires.own, (_, (one_reader _ _ _ c.args.readers _ c.loop-i-test.true c.loop-i.invariant.1).0)),
+  (c.loop-i.invariant.0 ∙ c.requires.of_board, (_, (one_reader _ _ _ c.args.readers _ c.loop-i-test.true c.loop-i.invariant.1).0)),
 )
 
 pub into_read-requires-clause-one : goal.into_read-requires-clause-one
@@ -27,7 +27,7 @@ loop-i-preserved g c =
     let is = one_reader _ _ _ c.args.readers _ c.loop-i-test.true c.loop-i.invariant.1 in
     let one : reader_of c.into_read.result ≡ new_reader g.row.N (width g.row.C g.row.H g.row.G) c.loop-i.i =
     ap (λ z. first_of (members_of z)) c.into_read.ensures.same ∙ ap first_of (c.part-one.ensures.one ∙ is.0) in (
-      c.part-one.ensures.own.0 ∙ c.loop-i.invariant.0,
+      c.part-one.ensures.table.0 ∙ c.loop-i.invariant.0,
       c.part-one.ensures.others ∙ is.1,
       subst (λ (z : List ReadSeat). map reader_of z ++ readers_from g.row.N (width g.row.C g.row.H g.row.G) (c.loop-i.i + 1)
           (c.args.readers - (c.loop-i.i + 1)) ≡ readers_from g.row.N (width g.row.C g.row.H g.row.G) 0 c.args.readers)
@@ -36,5 +36,5 @@ loop-i-preserved g c =
           c.loop-i.read.items c.into_read.result _ c.loop-i-test.true one c.loop-i.invariant.2),
       subst (All (IsReadSeatOf c.args.self.now)) (sym c.in_ok-push.ensures.items)
           (All-push (IsReadSeatOf c.args.self.now) c.loop-i.read.items c.into_read.result c.loop-i.invariant.3
-          (ap table_of c.into_read.ensures.same ∙ (c.part-one.ensures.own.1 ∙ (c.loop-i.invariant.0 ∙ c.requires.own)))),
+          (ap table_of c.into_read.ensures.same ∙ (c.part-one.ensures.table.1 ∙ (c.loop-i.invariant.0 ∙ c.requires.of_board)))),
     )

@@ -181,7 +181,7 @@ scan-requires g c =
       omega arith,
       record {
         may = record {
-          own = c.requires.own;
+          of_board = c.requires.of_board;
           geometry = old.geometry;
           lengths = (
             ap (λ (l : List RememberedRow). length l) c.as_mut_slice.ensures.value ∙ old.sizes.0,

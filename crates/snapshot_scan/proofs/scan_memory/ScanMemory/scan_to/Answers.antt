@@ -30,7 +30,7 @@ set-requires g c =
     let n : ℕ = g.row.N in let s = c.scan-ended in
     let ms = members_of (g.S.ScanSeat.bundle c.args.seat.now) in let ms' = members_of (g.S.ScanSeat.bundle s.new.seat) in
     let low = ends_low n g.row.C g.row.H g.row.G s.new.self.geometry.workers.1 ms' s.ensures.ruled
-    (there ms ms' c.requires.own.1 s.ensures.others) _ _ (s.ensures.answered (seen s.result c.in_default.not-GaveUp)) in (
+    (there ms ms' c.requires.of_board.1 s.ensures.others) _ _ (s.ensures.answered (seen s.result c.in_default.not-GaveUp)) in (
       search rules,
       (
         c.answer.ensures.lengths.0,
@@ -88,4 +88,4 @@ returns-clause-legal g c =
     let ms = members_of (g.S.ScanSeat.bundle c.args.seat.now) in let ms' = members_of (g.S.ScanSeat.bundle s.new.seat) in
     subst (λ (l : List ℕ). IsLegal g.row.C g.row.H (slice_index l)) (sym (c.set.ensures.totals ∙ c.answer.ensures.totals))
     (ends_legal n g.row.C g.row.H g.row.G s.new.self.geometry.workers.1 ms' s.ensures.ruled
-    (there ms ms' c.requires.own.1 s.ensures.others) _ _ (s.ensures.answered (seen s.result c.in_default.not-GaveUp)))
+    (there ms ms' c.requires.of_board.1 s.ensures.others) _ _ (s.ensures.answered (seen s.result c.in_default.not-GaveUp)))

@@ -28,7 +28,7 @@ release-bundle-requires g c =
       (
         search rules,
         (
-          c.tell.ensures.own,
+          c.tell.ensures.table,
           (
             m,
             one_picked i m new c.tell.ensures.ruled.apart (still i m old new c.tell.ensures.same c.requires.lent.1.there),
@@ -71,7 +71,7 @@ invariant_of-self g c =
     ∙ one_picked i m new c.tell.ensures.ruled.apart stands in
     let seat : WorkSeat = c.into_work.result in
     let is : worker_of seat ≡ m = ap (λ (b : Bundle). first_of (members_of b)) c.into_work.ensures.same ∙ ap first_of one in
-    let own = c.tell.ensures.ruled.own stands.0 i m stands.1 stands.2 in record {
+    let own = c.tell.ensures.ruled.workers stands.0 i m stands.1 stands.2 in record {
       geometry = w.geometry;
       inside = w.inside;
       holds = λ x e. subst (λ (y : WorkSeat). IsFitOfSeat g.row.N g.row.C g.row.H g.row.G i w.number w.row.value w.memory im

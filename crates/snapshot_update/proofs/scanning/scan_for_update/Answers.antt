@@ -1,5 +1,5 @@
 use Rattle.snapshot_update.proofs.Giving.{first_moved}
-use Rattle.snapshot_update.proofs.scanning.scan_own.Goals as goal
+use Rattle.snapshot_update.proofs.scanning.scan_for_update.Goals as goal
 
 pub returns-clause-gave_up : goal.returns-clause-gave_up
 returns-clause-gave_up g c = λ t. let up = c.scan.ensures.gave_up t in let e = first_moved _ _ _ _ _ up in

@@ -4,8 +4,8 @@ use Rattle.snapshot_update.specs.BufferImages.{with_hidden}
 use Rattle.snapshot_update.specs.BufferImages.{target_of}
 use Rattle.snapshot_update.specs.Noting.{SoFar}
 use Rattle.snapshot_update.proofs.Filling.{so_far_same, so_far_noted, below_set}
-use Rattle.snapshot_update.proofs.fills.fill_some.Goals as goal
-use Rattle.snapshot_update.proofs.fills.fill_some.Goals.{then-shown-item, else-shown-item}
+use Rattle.snapshot_update.proofs.fills.fill_range.Goals as goal
+use Rattle.snapshot_update.proofs.fills.fill_range.Goals.{then-shown-item, else-shown-item}
 
 pub loop-item-preserved : goal.loop-item-preserved
 loop-item-preserved g c =
@@ -13,7 +13,7 @@ loop-item-preserved g c =
     let lt : n < length c.loop-item.hidden = (let e = c.loop-item.auto.hidden in let t = c.loop-item-test.true in
     omega (arith, e, t, c.requires.inside.1, c.requires.lengths.0)) in
     record {
-      own = c.fill_item.ensures.own;
+      of_board = c.fill_item.ensures.of_board;
       index = c.fill_item.ensures.index ∙ is.index;
       member = c.fill_item.ensures.member ∙ ap (with_hidden c.fill_item.new.hidden) is.member;
       filled = below_set c.loop-item.hidden target c.fill_item.new.hidden n c.word-word.result lt c.fill_item.ensures.hidden
