@@ -63,8 +63,8 @@ module _ (n w : ℕ) (adds : List Op → ℕ → ℕ) (made : ℕ → List Publi
     recorded = ok.recorded;
     seen = ok.seen;
     seen_wide = ok.seen_wide;
-    kept = ok.kept;
-    kept_wide = ok.kept_wide;
+    remembered = ok.remembered;
+    remembered_wide = ok.remembered_wide;
     looks = looks';
     asks = asks';
     whole = whole';
@@ -92,8 +92,8 @@ module _ (n w : ℕ) (adds : List Op → ℕ → ℕ) (made : ℕ → List Publi
         (answer, new same);
     seen = λ i s e. ⊎_elim (ok.seen i s) (answer.low i s) (upper_from c.seen a.vector i s e);
     seen_wide = length_upper c.seen a.vector (omega (arith, same)) ∙ ok.seen_wide;
-    kept = ok.kept;
-    kept_wide = ok.kept_wide;
+    remembered = ok.remembered;
+    remembered_wide = ok.remembered_wide;
     looks = λ q l e. absurd (some-ne-none l (sym e));
     asks = λ q l e. absurd (some-ne-none l (sym e));
     whole = λ none. absurd (let z : 0 ≡ n = none in omega arith);

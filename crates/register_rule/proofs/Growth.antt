@@ -104,8 +104,8 @@ module _ (n w : ℕ) (adds : List Op → ℕ → ℕ) where
     recorded = λ q a e. (answer_grows made made' h more a grows (ok.recorded q a e).0, (ok.recorded q a e).1);
     seen = low_grows made made' grows c.seen ok.seen;
     seen_wide = ok.seen_wide;
-    kept = λ i v e. version_grows made made' grows i v (ok.kept i v e);
-    kept_wide = ok.kept_wide;
+    remembered = λ i v e. version_grows made made' grows i v (ok.remembered i v e);
+    remembered_wide = ok.remembered_wide;
     looks = λ q l e. (look_grows made made' grows 0 l (ok.looks q l e).0, (ok.looks q l e).1);
     asks = λ q l e. look_grows made made' grows w l (ok.asks q l e);
     whole = λ all. ⊎_elim (λ (d : HasStale n w adds made c.now.looks). inl (doomed_grows made made' grows c.now.looks d))
@@ -117,7 +117,7 @@ module _ (n w : ℕ) (adds : List Op → ℕ → ℕ) where
     pub scan_published : (i : ℕ) (v : Version) (c : ScanLog) → i < n → IsVersion n w adds made i v → v.number ≡ length (made i)
         → (len : ℕ) → len ≡ length (made i)
         → ((y : ℕ) → get_elem? c.seen i ≡ some y → y ≤ len) → IsSound n w adds made h c
-        → IsSound n w adds made h (record c { seen = slice_set c.seen i len; kept = slice_set c.kept i v })
+        → IsSound n w adds made h (record c { seen = slice_set c.seen i len; remembered = slice_set c.remembered i v })
     scan_published i v c inside version new len is most ok = record {
       opened = ok.opened;
       confirmed = ok.confirmed;
@@ -136,11 +136,11 @@ module _ (n w : ℕ) (adds : List Op → ℕ → ℕ) where
           (λ t. ok.seen p s t.1)
           (at_set c.seen i p len s e);
       seen_wide = length-set c.seen i len ∙ ok.seen_wide;
-      kept = λ p u e. ⊎_elim
+      remembered = λ p u e. ⊎_elim
           (λ t. subst (λ (z : ℕ × Version). IsVersion n w adds made z.0 z.1) (λ k. (sym t.0 k, t.1 k)) version)
-          (λ t. ok.kept p u t.1)
-          (at_set c.kept i p v u e);
-      kept_wide = length-set c.kept i v ∙ ok.kept_wide;
+          (λ t. ok.remembered p u t.1)
+          (at_set c.remembered i p v u e);
+      remembered_wide = length-set c.remembered i v ∙ ok.remembered_wide;
       looks = ok.looks;
       asks = ok.asks;
       whole = ok.whole;
@@ -157,8 +157,8 @@ module _ (n w : ℕ) (adds : List Op → ℕ → ℕ) where
       recorded = λ q a e. ((ok.recorded q a e).0, below_upper a.vector c.seen v same (ok.recorded q a e).1);
       seen = λ i s e. ⊎_elim (ok.seen i s) (low i s) (upper_from c.seen v i s e);
       seen_wide = length_upper c.seen v (omega (arith, same)) ∙ ok.seen_wide;
-      kept = ok.kept;
-      kept_wide = ok.kept_wide;
+      remembered = ok.remembered;
+      remembered_wide = ok.remembered_wide;
       looks = ok.looks;
       asks = ok.asks;
       whole = ok.whole;

@@ -23,9 +23,9 @@ use Rattle.register_rule.specs.Sums.{word_after, vector_total, last_lent}
 use Rattle.register_rule.specs.Shown.{Shows}
 use Rattle.register_rule.specs.Loads.{IsTried, AreOrdered}
 use Rattle.register_rule.specs.SoundScans.{opened_at, AreLoads, IsStale, IsLook, HasStale, IsVersion, IsOneMoment, IsSound}
-use Rattle.register_rule.specs.ScanSteps.{every, answered, given_up_if_spent, words_kept, begun, unsure, opens_next, after_open}
+use Rattle.register_rule.specs.ScanSteps.{every, answered, given_up_if_spent, remembered_words, begun, unsure, opens_next, after_open}
 use Rattle.register_rule.specs.ScanSteps.{noted}
-use Rattle.register_rule.specs.ScanSteps.{after_read, confirmed_look, remembered, confirmed_at, clean, are_clean, sum_words}
+use Rattle.register_rule.specs.ScanSteps.{after_read, confirmed_look, remembered_then, confirmed_at, clean, are_clean, sum_words}
 use Rattle.register_rule.specs.ScanSteps.{answer_of_try}
 use Rattle.register_rule.specs.ScanSteps.{with_base, failed_once_more, ended, after_confirm, is_lender, lent_in, lent_or_passed}
 use Rattle.register_rule.specs.ScanSteps.{lent_or_passed_at}
@@ -56,19 +56,19 @@ map_same f same [] = refl
 map_same f same (l ∷ ls) = λ k. same l k ∷ map_same f same ls k
 
 -- the words that are remembered are those of the version of this number, or there are none
-words_from : (P : List ℕ → Type 0) (i s : ℕ) (kept : List Version) → P []
-    → ((v : Version) → get_elem? kept i ≡ some v → v.number ≡ s → P v.row) → P (words_kept i s kept)
+words_from : (P : List ℕ → Type 0) (i s : ℕ) (remembered : List Version) → P []
+    → ((v : Version) → get_elem? remembered i ≡ some v → v.number ≡ s → P v.row) → P (remembered_words i s remembered)
 words_from P i s [] none each = none
 words_from P zero s (v ∷ vs) none each = cond_both (v.number == s) v.row [] P (λ same. each v refl (eqb-true _ _ same))
     (λ _. none)
 words_from P (suc i) s (v ∷ vs) none each = words_from P i s vs none each
 
-length_remembered : (w i : ℕ) (ls : List Look) (kept : List Version) → length (remembered w i ls kept) ≡ length kept
-length_remembered w i [] kept = refl
-length_remembered w i (l ∷ ls) kept = cond_both (l.place == i && l.sure && length l.words == w)
-    (slice_set kept i (record { number = l.number; row = l.words })) (remembered w i ls kept)
-    (λ (z : List Version). length z ≡ length kept)
-    (λ _. length-set kept i _) (λ _. length_remembered w i ls kept)
+length_remembered : (w i : ℕ) (ls : List Look) (remembered : List Version) → length (remembered_then w i ls remembered) ≡ length remembered
+length_remembered w i [] remembered = refl
+length_remembered w i (l ∷ ls) remembered = cond_both (l.place == i && l.sure && length l.words == w)
+    (slice_set remembered i (record { number = l.number; row = l.words })) (remembered_then w i ls remembered)
+    (λ (z : List Version). length z ≡ length remembered)
+    (λ _. length-set remembered i _) (λ _. length_remembered w i ls remembered)
 
 module _ (n w : ℕ) (adds : List Op → ℕ → ℕ) (made : ℕ → List PublishEntry) (h : List ℕ)
     (counted : (i : ℕ) → i < n → count i h ≡ length (made i)) where
@@ -111,15 +111,15 @@ module _ (n w : ℕ) (adds : List Op → ℕ → ℕ) (made : ℕ → List Publi
   )
 
   -- a look begins with the row that is remembered, or with no words
-  begun_right : (i x : ℕ) (kept : List Version) → i < n → x ≡ length (made i)
-      → ((p : ℕ) (v : Version) → get_elem? kept p ≡ some v → IsVersion n w adds made p v)
-      → IsLook n w adds made 0 (begun i x (words_kept i x kept))
-  begun_right i x kept inside is ok = record {
+  begun_right : (i x : ℕ) (remembered : List Version) → i < n → x ≡ length (made i)
+      → ((p : ℕ) (v : Version) → get_elem? remembered p ≡ some v → IsVersion n w adds made p v)
+      → IsLook n w adds made 0 (begun i x (remembered_words i x remembered))
+  begun_right i x remembered inside is ok = record {
     inside = inside;
     old = omega (arith, is);
     risen = inl refl;
     right = words_from (λ (ws : List ℕ). (k y : ℕ) → get_elem? ws k ≡ some y → Shows n w adds (take x (made i)) (0 + k) y
-        ⊎ IsStale n w adds made (begun i x (words_kept i x kept))) i x kept
+        ⊎ IsStale n w adds made (begun i x (remembered_words i x remembered))) i x remembered
         (λ k y e. absurd (some-ne-none y (sym e)))
         (λ v at new k y e. inl (let lt = at_below v.row k y e in let wide = (ok i v at).wide in let z : k ≡ 0 + k = omega arith in
         record {
@@ -134,16 +134,16 @@ module _ (n w : ℕ) (adds : List Op → ℕ → ℕ) (made : ℕ → List Publi
   after_open_right : (c : ScanLog) (i x : ℕ) → i < n → x ≡ length (made i) → IsSound n w adds made h c
       → IsSound n w adds made h (after_open i x c)
   after_open_right c i x inside is ok = cond_both (opens_next i c.now)
-      (record c.now { looks = c.now.looks ++ begun i x (words_kept i x c.kept) ∷ [] }) c.now
+      (record c.now { looks = c.now.looks ++ begun i x (remembered_words i x c.remembered) ∷ [] }) c.now
       (λ (t : ScanInProgress). IsSound n w adds made h (record c { opened = c.opened ++ (i, x) ∷ []; now = t }))
       (λ hit. let t = and_parts _ _ hit in let at : i ≡ length c.now.looks = eqb-true _ _ t.0 in
       let free = (and_parts _ _ t.1).1 in
-      let new = begun i x (words_kept i x c.kept) in
+      let new = begun i x (remembered_words i x c.remembered) in
       let looks' : (q : ℕ) (l : Look) → get_elem? (c.now.looks ++ new ∷ []) q ≡ some l → IsLook n w adds made 0 l
       × (l.place ≡ q) =
       λ q l e. ⊎_elim (ok.looks q l)
       (λ (z : (new ≡ l) × (q ≡ length c.now.looks)). subst (λ (y : Look). IsLook n w adds made 0 y × (y.place ≡ q)) z.0
-      (begun_right i x c.kept inside is ok.kept, at ∙ sym z.1))
+      (begun_right i x c.remembered inside is ok.remembered, at ∙ sym z.1))
       (last_is c.now.looks _ l q e) in
       let none : (q : ℕ) (l : Look) → get_elem? (c.now.looks ++ new ∷ []) q ≡ some l → (l.number ≤ length (made l.place))
       × (l.sure ≡ false) =
@@ -184,8 +184,8 @@ module _ (n w : ℕ) (adds : List Op → ℕ → ℕ) (made : ℕ → List Publi
     recorded = ok.recorded;
     seen = ok.seen;
     seen_wide = ok.seen_wide;
-    kept = ok.kept;
-    kept_wide = ok.kept_wide;
+    remembered = ok.remembered;
+    remembered_wide = ok.remembered_wide;
     looks = (λ q l e. let t = from_map f c.now.looks q l e in
         subst (λ (z : Look). IsLook n w adds made 0 z × (z.place ≡ q)) t.2 (
           look t.0 (ok.looks q t.0 t.1).0,
@@ -245,19 +245,19 @@ module _ (n w : ℕ) (adds : List Op → ℕ → ℕ) (made : ℕ → List Publi
           }
 
   -- the row of a place that is sure is that of the version of its number
-  remembers : (i : ℕ) (ls : List Look) (kept : List Version)
+  remembers : (i : ℕ) (ls : List Look) (remembered : List Version)
       → ((q : ℕ) (l : Look) → get_elem? ls q ≡ some l → IsLook n w adds made 0 l)
-      → ((p : ℕ) (v : Version) → get_elem? kept p ≡ some v → IsVersion n w adds made p v)
-      → (p : ℕ) (v : Version) → get_elem? (remembered w i ls kept) p ≡ some v → IsVersion n w adds made p v
-  remembers i [] kept each ok = ok
-  remembers i (l ∷ ls) kept each ok = cond_both (l.place == i && l.sure && length l.words == w)
-      (slice_set kept i (record { number = l.number; row = l.words })) (remembered w i ls kept)
+      → ((p : ℕ) (v : Version) → get_elem? remembered p ≡ some v → IsVersion n w adds made p v)
+      → (p : ℕ) (v : Version) → get_elem? (remembered_then w i ls remembered) p ≡ some v → IsVersion n w adds made p v
+  remembers i [] remembered each ok = ok
+  remembers i (l ∷ ls) remembered each ok = cond_both (l.place == i && l.sure && length l.words == w)
+      (slice_set remembered i (record { number = l.number; row = l.words })) (remembered_then w i ls remembered)
       (λ (z : List Version). (p : ℕ) (v : Version) → get_elem? z p ≡ some v → IsVersion n w adds made p v)
       (λ hit p v e. ⊎_elim
       (λ t. subst (λ (z : ℕ × Version). IsVersion n w adds made z.0 z.1) (λ k. (sym t.0 k, t.1 k)) (new hit))
       (λ t. ok p v t.1)
-      (at_set kept i p (record { number = l.number; row = l.words }) v e))
-      (λ _. remembers i ls kept (λ q x e. each (suc q) x e) ok)
+      (at_set remembered i p (record { number = l.number; row = l.words }) v e))
+      (λ _. remembers i ls remembered (λ q x e. each (suc q) x e) ok)
     where
       new : (l.place == i && l.sure && length l.words == w) ≡ true
           → IsVersion n w adds made i (record { number = l.number; row = l.words })
@@ -301,8 +301,8 @@ module _ (n w : ℕ) (adds : List Op → ℕ → ℕ) (made : ℕ → List Publi
         recorded = m.recorded;
         seen = m.seen;
         seen_wide = m.seen_wide;
-        kept = remembers i (map (confirmed_look i x) c.now.looks) c.kept (λ q l e. (m.looks q l e).0) ok.kept;
-        kept_wide = length_remembered w i (map (confirmed_look i x) c.now.looks) c.kept ∙ ok.kept_wide;
+        remembered = remembers i (map (confirmed_look i x) c.now.looks) c.remembered (λ q l e. (m.looks q l e).0) ok.remembered;
+        remembered_wide = length_remembered w i (map (confirmed_look i x) c.now.looks) c.remembered ∙ ok.remembered_wide;
         looks = m.looks;
         asks = ok.asks;
         whole = m.whole;

@@ -89,12 +89,12 @@ new_scan_is n w adds some_n = record {
   recorded = λ q a e. absurd (some-ne-none a (sym e));
   seen = λ i x e. let z : 0 ≡ x = from_replicate n 0 i x e in let goal : x ≤ 0 = omega arith in goal;
   seen_wide = length-replicate n 0;
-  kept = λ i v e. subst (IsVersion n w adds none_made i) (from_replicate n _ i v e) record {
+  remembered = λ i v e. subst (IsVersion n w adds none_made i) (from_replicate n _ i v e) record {
     old = omega arith;
     wide = length-replicate w 0;
     row = λ k x e'. sym (from_replicate w 0 k x e');
   };
-  kept_wide = length-replicate n _;
+  remembered_wide = length-replicate n _;
   looks = λ q l e. absurd (some-ne-none l (sym e));
   asks = λ q l e. absurd (some-ne-none l (sym e));
   whole = λ none. absurd (let z : 0 ≡ n = none in omega arith);

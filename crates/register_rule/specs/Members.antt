@@ -25,7 +25,7 @@ fresh_scan n w = record {
   recorded = [];
   quit = 0;
   seen = replicate n 0;
-  kept = replicate n (record { number = 0; row = replicate w 0 });
+  remembered = replicate n (record { number = 0; row = replicate w 0 });
   now = at_rest;
 }
 
@@ -89,7 +89,7 @@ published w i ops lends m = record m {
   work = record { made = m.work.made ++ made_of ops lends m ∷ []; hidden = m.work.shown; shown = m.work.hidden };
   scan = record m.scan {
     seen = slice_set m.scan.seen i (suc (length m.work.made));
-    kept = slice_set m.scan.kept i (record { number = suc (length m.work.made); row = take w m.work.hidden });
+    remembered = slice_set m.scan.remembered i (record { number = suc (length m.work.made); row = take w m.work.hidden });
   };
 }
 

@@ -41,10 +41,10 @@ given_up_if_spent n c = cond (length c.now.due == 0 && c.now.failed == n + 2) (r
 -- confirmed yet, where nobody is still to be asked. The words of a row that is remembered need not be read again.
 
 -- the words that are remembered of the place i, if they are those of the version s
-abbrev pub words_kept : (i s : ℕ) → List Version → List ℕ
-words_kept i s [] = []
-words_kept zero s (v ∷ vs) = cond (v.number == s) v.row []
-words_kept (suc i) s (v ∷ vs) = words_kept i s vs
+abbrev pub remembered_words : (i s : ℕ) → List Version → List ℕ
+remembered_words i s [] = []
+remembered_words zero s (v ∷ vs) = cond (v.number == s) v.row []
+remembered_words (suc i) s (v ∷ vs) = remembered_words i s vs
 
 -- the look at the place i: it is opened at the number s, and these words of that version are known
 abbrev pub begun : (i s : ℕ) → List ℕ → Look
@@ -62,7 +62,7 @@ opens_next i t = i == length t.looks && (length t.due == 0 && every unsure t.loo
 abbrev pub after_open : (i s : ℕ) → ScanLog → ScanLog
 after_open i s c = record c {
   opened = c.opened ++ (i, s) ∷ [];
-  now = cond (opens_next i c.now) (record c.now { looks = c.now.looks ++ begun i s (words_kept i s c.kept) ∷ [] }) c.now;
+  now = cond (opens_next i c.now) (record c.now { looks = c.now.looks ++ begun i s (remembered_words i s c.remembered) ∷ [] }) c.now;
 }
 
 -- **The load of a word** of the version s of the place i found x at the item k. A look takes its words one by one;
@@ -86,17 +86,17 @@ abbrev pub confirmed_look : (i s : ℕ) → Look → Look
 confirmed_look i s l = cond (l.place == i) (record l { sure = l.sure || l.number == s; found = s }) l
 
 -- the remembered rows, in which a sure row of the place i, if it was read whole, takes the old one's place
-abbrev pub remembered : (w i : ℕ) → List Look → List Version → List Version
-remembered w i [] kept = kept
-remembered w i (l ∷ ls) kept = cond (l.place == i && l.sure && length l.words == w)
-    (slice_set kept i (record { number = l.number; row = l.words })) (remembered w i ls kept)
+abbrev pub remembered_then : (w i : ℕ) → List Look → List Version → List Version
+remembered_then w i [] remembered = remembered
+remembered_then w i (l ∷ ls) remembered = cond (l.place == i && l.sure && length l.words == w)
+    (slice_set remembered i (record { number = l.number; row = l.words })) (remembered_then w i ls remembered)
 
 -- a scan after the confirming load of the place i, before that ends a try
 abbrev pub confirmed_at : (w i s : ℕ) → ScanLog → ScanLog
 confirmed_at w i s c = record c {
   confirmed = c.confirmed ++ (i, s) ∷ [];
   before = c.before ++ length c.opened ∷ [];
-  kept = remembered w i (map (confirmed_look i s) c.now.looks) c.kept;
+  remembered = remembered_then w i (map (confirmed_look i s) c.now.looks) c.remembered;
   now = record c.now { looks = map (confirmed_look i s) c.now.looks };
 }
 

@@ -75,8 +75,8 @@ module _ (n w : ℕ) (adds : List Op → ℕ → ℕ) (made : ℕ → List Publi
     pub recorded : (q : ℕ) (a : Answer) → get_elem? c.recorded q ≡ some a → IsOneMoment history a × Below a.vector c.seen
     pub seen : AtMost c.seen
     pub seen_wide : length c.seen ≡ n
-    pub kept : (i : ℕ) (v : Version) → get_elem? c.kept i ≡ some v → IsVersion i v
-    pub kept_wide : length c.kept ≡ n
+    pub remembered : (i : ℕ) (v : Version) → get_elem? c.remembered i ≡ some v → IsVersion i v
+    pub remembered_wide : length c.remembered ≡ n
     -- the look q of a try is of the place q
     pub looks : (q : ℕ) (l : Look) → get_elem? c.now.looks q ≡ some l → IsLook 0 l × (l.place ≡ q)
     pub asks : (q : ℕ) (l : Look) → get_elem? c.now.asks q ≡ some l → IsLook w l

@@ -99,7 +99,7 @@ pub struct ScanLog {
     pub seen: LinkedList<u64>,
     /// For each segment the row that is remembered: the one that was confirmed last, of a worker's own segment the one that it
     /// published last where that is later, and zeros at first.
-    pub kept: LinkedList<Version>,
+    pub remembered: LinkedList<Version>,
     /// The scan in progress.
     pub now: ScanInProgress,
 }

@@ -6,7 +6,7 @@ use mathlib.Core.Option.{some, some-injective, some-ne-none}
 use lib.ListN.{get_elem?}
 use Rattle.register_rule.specs.declared.view.Look.{Look}
 use Rattle.register_rule.specs.declared.view.ScanLog.{ScanLog}
-use Rattle.register_rule.specs.ScanSteps.{every, unsure, begun, words_kept, opens_next, after_open, after_read, noted}
+use Rattle.register_rule.specs.ScanSteps.{every, unsure, begun, remembered_words, opens_next, after_open, after_read, noted}
 use Rattle.snapshot_scan.specs.declared.remembered_row.RememberedRow.{RememberedRow}
 use Rattle.register_rule.specs.declared.view.Member.{Member}
 use Rattle.register_rule.specs.Told.{IsNumber}
@@ -44,7 +44,7 @@ looks_snoc q (o ∷ opened) (x ∷ gs) s g h = let e : suc q + length opened ≡
     ∙ ap (λ (z : ℕ). begun q o (words_of o x) ∷ looks_of (suc q) opened [] gs ++ begun z s (words_of s g) ∷ []) e
 
 pub kept_words : (i s : ℕ) (gs : List RememberedRow) (g : RememberedRow) → get_elem? gs i ≡ some g
-    → words_kept i s (map version_of gs) ≡ cond (g.number == s) g.row.items []
+    → remembered_words i s (map version_of gs) ≡ cond (g.number == s) g.row.items []
 kept_words i s [] g e = absurd (some-ne-none g (sym e))
 kept_words zero s (x ∷ gs) g e = ap (λ (z : RememberedRow). cond (z.number == s) z.row.items []) (some-injective x g e)
 kept_words (suc i) s (x ∷ gs) g e = kept_words i s gs g e
@@ -109,10 +109,10 @@ reads_row w i s opened gs ws (x ∷ xs) c here none =
 -- one more place is opened
 pub opens_more : (w s : ℕ) (opened : List ℕ) (gs : List RememberedRow) (g g' : RememberedRow) (c : ScanLog)
     → get_elem? gs (length opened) ≡ some g → length opened < length gs
-    → version_of g' ≡ version_of g → c.kept ≡ map version_of gs → c.now.due ≡ [] → c.now.asks ≡ []
+    → version_of g' ≡ version_of g → c.remembered ≡ map version_of gs → c.now.due ≡ [] → c.now.asks ≡ []
     → looked_at w (length opened) s (g.number == s) g'.fresh.items (opening opened gs c) ≡ opening (opened ++ s ∷ [])
     (set gs (length opened) g') c
-opens_more w s opened gs g g' c at inside same kept due asks =
+opens_more w s opened gs g g' c at inside same remembered due asks =
     let i = length opened in
     let old = opening opened gs c in
     let ls = looks_of 0 opened [] gs in
@@ -123,7 +123,7 @@ opens_more w s opened gs g g' c at inside same kept due asks =
     let e : 0 + i ≡ i = omega arith in
     let loads : old.opened ++ (i, s) ∷ [] ≡ c'.opened = append_assoc c.opened (pairs 0 opened) ((i, s) ∷ [])
     ∙ ap (λ z. c.opened ++ z) (sym (pairs_snoc 0 opened s ∙ ap (λ (z : ℕ). pairs 0 opened ++ (z, s) ∷ []) e)) in
-    let ws : words_kept i s c.kept ≡ cond (g.number == s) g.row.items [] = ap (words_kept i s) kept ∙ kept_words i s gs g at in
+    let ws : remembered_words i s c.remembered ≡ cond (g.number == s) g.row.items [] = ap (remembered_words i s) remembered ∙ kept_words i s gs g at in
     let opens : after_open i s old ≡ looking (ls ++ begun i s (cond (g.number == s) g.row.items []) ∷ []) c' =
     (λ z. record c {
       opened = loads z;

@@ -236,7 +236,7 @@ first_starts n w opened found gs c few long deep none =
       confirmed = c.confirmed ++ sym (append-nil (pairs 0 found)) z;
       before = c.before ++ sym (append-nil (map (λ _. length (c.opened ++ pairs 0 opened)) found)) z;
       asked = c.asked ++ [];
-      kept = map version_of gs;
+      remembered = map version_of gs;
       now = record {
         failed = ap (λ (t : ℕ). t + 1) (ap (λ (u : _). u.failed) none) z;
         floor = opened;
@@ -268,7 +268,7 @@ may_try {N} {C} {H} {G} b s s' k tries gs floor base opened own geo same few lon
       geometry = geo;
       lengths = (few, long);
       wide = wide;
-      kept = ap (λ (d : ScanLog). d.kept) scan;
+      remembered = ap (λ (d : ScanLog). d.remembered) scan;
       rest = (
         ap (λ (d : ScanLog). d.now.looks) scan,
         ap (λ (d : ScanLog). d.now.due) scan,

@@ -7,7 +7,7 @@ use lib.ListN.{get_elem?}
 use Rattle.register_rule.specs.declared.view.Look.{Look}
 use Rattle.register_rule.specs.declared.view.Version.{Version}
 use Rattle.register_rule.specs.declared.view.ScanLog.{ScanLog}
-use Rattle.register_rule.specs.ScanSteps.{begun, confirmed_look, remembered, confirmed_at}
+use Rattle.register_rule.specs.ScanSteps.{begun, confirmed_look, remembered_then, confirmed_at}
 use Rattle.snapshot_scan.specs.declared.remembered_row.RememberedRow.{RememberedRow}
 use Rattle.snapshot_scan.specs.RememberedRows.{version_of, IsWide, AreWide, words_of, looks_of, pairs, settling, sum_rows}
 use Rattle.snapshot_scan.proofs.Words.{map_set, set_same, at_map}
@@ -63,53 +63,53 @@ settle_looks i s q o (x ∷ opened) (f ∷ pre) (y ∷ gs) g g' e at there same 
 abbrev finds : (w i : ℕ) → Look → Bool
 finds w i l = l.place == i && l.sure && length l.words == w
 
-remembered_skip : (w i : ℕ) (l : Look) (ls : List Look) (kept : List Version) → l.place ≢ i
-    → remembered w i (l ∷ ls) kept ≡ remembered w i ls kept
-remembered_skip w i l ls kept ne =
-    ap (λ (z : Bool). cond (z && l.sure && length l.words == w) (set kept i (record { number = l.number; row = l.words }))
-    (remembered w i ls kept)) (ne_eqb l.place i ne)
+remembered_skip : (w i : ℕ) (l : Look) (ls : List Look) (remembered : List Version) → l.place ≢ i
+    → remembered_then w i (l ∷ ls) remembered ≡ remembered_then w i ls remembered
+remembered_skip w i l ls remembered ne =
+    ap (λ (z : Bool). cond (z && l.sure && length l.words == w) (set remembered i (record { number = l.number; row = l.words }))
+    (remembered_then w i ls remembered)) (ne_eqb l.place i ne)
 
-remembered_after : (w i q : ℕ) (opened found : List ℕ) (gs : List RememberedRow) (kept : List Version) → i < q
-    → remembered w i (looks_of q opened found gs) kept ≡ kept
-remembered_after w i q [] found gs kept h = refl
-remembered_after w i q (o ∷ opened) found [] kept h = refl
-remembered_after w i q (o ∷ opened) [] (g ∷ gs) kept h =
-    remembered_skip w i (begun q o (words_of o g)) (looks_of (suc q) opened [] gs) kept (λ e. omega (arith, h, e))
-    ∙ remembered_after w i (suc q) opened [] gs kept (omega (arith, h))
-remembered_after w i q (o ∷ opened) (f ∷ found) (g ∷ gs) kept h =
+remembered_after : (w i q : ℕ) (opened found : List ℕ) (gs : List RememberedRow) (remembered : List Version) → i < q
+    → remembered_then w i (looks_of q opened found gs) remembered ≡ remembered
+remembered_after w i q [] found gs remembered h = refl
+remembered_after w i q (o ∷ opened) found [] remembered h = refl
+remembered_after w i q (o ∷ opened) [] (g ∷ gs) remembered h =
+    remembered_skip w i (begun q o (words_of o g)) (looks_of (suc q) opened [] gs) remembered (λ e. omega (arith, h, e))
+    ∙ remembered_after w i (suc q) opened [] gs remembered (omega (arith, h))
+remembered_after w i q (o ∷ opened) (f ∷ found) (g ∷ gs) remembered h =
     let p = settled_place q f o (words_of o g) in
-    remembered_skip w i (confirmed_look q f (begun q o (words_of o g))) (looks_of (suc q) opened found gs) kept
-    (λ e. omega (arith, h, e, p)) ∙ remembered_after w i (suc q) opened found gs kept (omega (arith, h))
+    remembered_skip w i (confirmed_look q f (begun q o (words_of o g))) (looks_of (suc q) opened found gs) remembered
+    (λ e. omega (arith, h, e, p)) ∙ remembered_after w i (suc q) opened found gs remembered (omega (arith, h))
 
-remembered_at : (w i s q o : ℕ) (opened pre : List ℕ) (gs : List RememberedRow) (g : RememberedRow) (kept : List Version)
+remembered_at : (w i s q o : ℕ) (opened pre : List ℕ) (gs : List RememberedRow) (g : RememberedRow) (remembered : List Version)
     → i ≡ q + length pre → get_elem? opened (length pre) ≡ some o → get_elem? gs (length pre) ≡ some g → length (words_of o g) ≡ w
-    → remembered w i (looks_of q opened (pre ++ s ∷ []) gs) kept ≡ cond (o == s)
-    (set kept i (record { number = o; row = words_of o g })) kept
-remembered_at w i s q o [] pre gs g kept e at there wide = absurd (some-ne-none o (sym at))
-remembered_at w i s q o (x ∷ opened) pre [] g kept e at there wide = absurd (some-ne-none g (sym there))
-remembered_at w i s q o (x ∷ opened) [] (y ∷ gs) g kept e at there wide =
+    → remembered_then w i (looks_of q opened (pre ++ s ∷ []) gs) remembered ≡ cond (o == s)
+    (set remembered i (record { number = o; row = words_of o g })) remembered
+remembered_at w i s q o [] pre gs g remembered e at there wide = absurd (some-ne-none o (sym at))
+remembered_at w i s q o (x ∷ opened) pre [] g remembered e at there wide = absurd (some-ne-none g (sym there))
+remembered_at w i s q o (x ∷ opened) [] (y ∷ gs) g remembered e at there wide =
     let is : q ≡ i = omega (arith, e) in let ox = some-injective x o at in let yg = some-injective y g there in
     let ls = looks_of (suc q) opened [] gs in
     let new : Look = record { place = i; number = o; words = words_of o g; sure = o == s; found = s } in
     let head : confirmed_look q s (begun q x (words_of x y)) ≡ new = settled_here q s x (words_of x y)
     ∙ (λ z. record { place = is z; number = ox z; words = words_of (ox z) (yg z); sure = ox z == s; found = s }) in
-    ap (λ (l : Look). remembered w i (l ∷ ls) kept) head
+    ap (λ (l : Look). remembered_then w i (l ∷ ls) remembered) head
     ∙ (ap (λ (z : Bool). cond (z && (o == s) && length (words_of o g) == w)
-    (set kept i (record { number = o; row = words_of o g })) (remembered w i ls kept)) (eq-eqb i i refl)
-    ∙ (ap (λ (z : Bool). cond (true && (o == s) && z) (set kept i (record { number = o; row = words_of o g }))
-    (remembered w i ls kept)) (eq-eqb (length (words_of o g)) w wide)
-    ∙ (ap (λ (z : List Version). cond (true && (o == s) && true) (set kept i (record { number = o; row = words_of o g })) z)
-    (remembered_after w i (suc q) opened [] gs kept (omega (arith, is)))
-    ∙ both (o == s) (set kept i (record { number = o; row = words_of o g })) kept)))
+    (set remembered i (record { number = o; row = words_of o g })) (remembered_then w i ls remembered)) (eq-eqb i i refl)
+    ∙ (ap (λ (z : Bool). cond (true && (o == s) && z) (set remembered i (record { number = o; row = words_of o g }))
+    (remembered_then w i ls remembered)) (eq-eqb (length (words_of o g)) w wide)
+    ∙ (ap (λ (z : List Version). cond (true && (o == s) && true) (set remembered i (record { number = o; row = words_of o g })) z)
+    (remembered_after w i (suc q) opened [] gs remembered (omega (arith, is)))
+    ∙ both (o == s) (set remembered i (record { number = o; row = words_of o g })) remembered)))
   where
     both : (b : Bool) (x y : List Version) → cond (true && b && true) x y ≡ cond b x y
     both true x y = refl
     both false x y = refl
-remembered_at w i s q o (x ∷ opened) (f ∷ pre) (y ∷ gs) g kept e at there wide =
+remembered_at w i s q o (x ∷ opened) (f ∷ pre) (y ∷ gs) g remembered e at there wide =
     let p = settled_place q f x (words_of x y) in
-    remembered_skip w i (confirmed_look q f (begun q x (words_of x y))) (looks_of (suc q) opened (pre ++ s ∷ []) gs) kept
+    remembered_skip w i (confirmed_look q f (begun q x (words_of x y))) (looks_of (suc q) opened (pre ++ s ∷ []) gs) remembered
     (λ h. omega (arith, h, e, p))
-    ∙ remembered_at w i s (suc q) o opened pre gs g kept (omega (arith, e)) at there wide
+    ∙ remembered_at w i s (suc q) o opened pre gs g remembered (omega (arith, e)) at there wide
 
 pub set_at : {A : Type 0} (l : List A) (i : ℕ) (a b : A) → get_elem? l i ≡ some b → get_elem? (set l i a) i ≡ some a
 set_at [] i a b e = absurd (some-ne-none b (sym e))
@@ -134,13 +134,13 @@ confirms_more w s o opened pre gs g g' c at there wide same version =
     (pre ++ s ∷ []) =
     append_assoc c.before (map (λ _. length c.opened) pre) (length c.opened ∷ [])
     ∙ ap (λ z. c.before ++ z) (sym (map_push (λ _. length c.opened) pre s)) in
-    let kept : remembered w i (map (confirmed_look i s) (looks_of 0 opened pre gs)) (map version_of gs) ≡ map version_of gs' =
-    ap (λ (z : List Look). remembered w i z (map version_of gs)) looks
+    let remembered : remembered_then w i (map (confirmed_look i s) (looks_of 0 opened pre gs)) (map version_of gs) ≡ map version_of gs' =
+    ap (λ (z : List Look). remembered_then w i z (map version_of gs)) looks
     ∙ (remembered_at w i s 0 o opened pre gs' g' (map version_of gs) e at (set_at gs i g' g there)
     (ap (λ (z : List ℕ). length z) same ∙ wide)
     ∙ (ap (λ (z : List ℕ). cond (o == s) (set (map version_of gs) i (record { number = o; row = z })) (map version_of gs)) same
     ∙ go (o == s) version)) in
-    λ z. record c { confirmed = loads z; before = marks z; kept = kept z; now = record c.now { looks = looks z } }
+    λ z. record c { confirmed = loads z; before = marks z; remembered = remembered z; now = record c.now { looks = looks z } }
   where
     go : (b : Bool) → version_of g' ≡ cond b (record { number = o; row = words_of o g }) (version_of g)
         → cond b (set (map version_of gs) (length pre) (record { number = o; row = words_of o g })) (map version_of gs) ≡ map
@@ -176,11 +176,11 @@ words_wide w o g wide = go (g.number == o)
     go true = wide.row
     go false = wide.fresh
 
-pub settling_starts : (opened : List ℕ) (gs : List RememberedRow) (c : ScanLog) → c.kept ≡ map version_of gs
+pub settling_starts : (opened : List ℕ) (gs : List RememberedRow) (c : ScanLog) → c.remembered ≡ map version_of gs
     → c.now.looks ≡ looks_of 0 opened [] gs → c ≡ settling opened [] gs c
-settling_starts opened gs c kept looks = λ z. record c {
+settling_starts opened gs c remembered looks = λ z. record c {
   confirmed = sym (append-nil c.confirmed) z;
   before = sym (append-nil c.before) z;
-  kept = kept z;
+  remembered = remembered z;
   now = record c.now { looks = looks z };
 }

@@ -85,11 +85,11 @@ pub notes_each_behind : (shift first m : ℕ) (xs ys items : List ℕ) (old new 
     → ((q : ℕ) → q < first → get_or ys q 0 ≡ get_or xs q 0)
     → ((k : ℕ) → k < m → get_or ys (first + k) 0 ≡ get_or items k 0 + shift)
     → NotesEach shift items old new
-notes_each_behind shift first m xs ys items old new room same long was is all kept written = record {
+notes_each_behind shift first m xs ys items old new room same long was is all remembered written = record {
   listed = λ h. sym all ∙ h;
   keeps = λ _ j h. let t = in_first first xs j (omega arith) (subst (λ (l : List ℕ). Contains l j) was h) in let lt = t.1 in
       subst (λ (l : List ℕ). Contains l j) (sym is)
-      (of_first (first + m) ys t.0 j (omega arith) (omega (arith, lt)) (kept t.0 lt ∙ t.2));
+      (of_first (first + m) ys t.0 j (omega arith) (omega (arith, lt)) (remembered t.0 lt ∙ t.2));
   notes = λ _ j h. let t = at_place items j h in let lt = t.1 in let low : t.0 < m = omega (arith, lt, long) in
       subst (λ (l : List ℕ). Contains l (j + shift)) (sym is)
       (of_first (first + m) ys (first + t.0) (j + shift) (omega arith) (omega (arith, low))
@@ -97,7 +97,7 @@ notes_each_behind shift first m xs ys items old new room same long was is all ke
   others = λ j h. let t = in_first (first + m) ys j (omega arith) (subst (λ (l : List ℕ). Contains l j) is h) in let lt = t.1 in
       let at = t.2 in
       ⊎_elim (λ low. inl (subst (λ (l : List ℕ). Contains l j) (sym was)
-      (of_first first xs t.0 j (omega arith) low (sym (kept t.0 low) ∙ at))))
+      (of_first first xs t.0 j (omega arith) low (sym (remembered t.0 low) ∙ at))))
       (λ u. let e = u.1 in let low : u.0 < m = omega (arith, e, lt) in
       inr (
         get_or items u.0 0,

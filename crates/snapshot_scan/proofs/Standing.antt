@@ -204,7 +204,7 @@ led_joined k gs (m0 ∷ ms) ws ms' e alone (lt, is, idle, all, seen) =
     subst (IsLed k gs) (sym e) (
       omega arith,
       is,
-      record { kept = idle.kept; rest = idle.rest },
+      record { remembered = idle.remembered; rest = idle.rest },
       workers_joined k m0 ms is ws alone all,
       seen_joined k m0 ms is ws alone seen,
     )

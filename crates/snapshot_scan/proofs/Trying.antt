@@ -153,7 +153,7 @@ stood tries gs floor base c = record c {
   confirmed = c.confirmed ++ all_confirmed tries;
   before = c.before ++ all_before c.opened tries;
   asked = c.asked ++ all_asked tries;
-  kept = map version_of gs;
+  remembered = map version_of gs;
   now = record { failed = length tries; floor = floor; base = base; looks = []; due = []; asks = [] };
 }
 
@@ -196,7 +196,7 @@ asking opened found gs floor base es workers d = record d {
   confirmed = d.confirmed ++ pairs 0 found;
   before = d.before ++ map (λ _. length (d.opened ++ pairs 0 opened)) found;
   asked = d.asked ++ es;
-  kept = map version_of gs;
+  remembered = map version_of gs;
   now = record { failed = d.now.failed + 1; floor = floor; base = base; looks = []; due = workers; asks = [] };
 }
 
@@ -225,7 +225,7 @@ module _ (n w : ℕ) (opened found : List ℕ) (gs gs' : List RememberedRow) (fe
         confirmed = d.confirmed ++ pairs 0 found;
         before = d.before ++ map (λ _. length (d.opened ++ pairs 0 opened)) found;
         asked = sym (append-nil d.asked) z;
-        kept = map version_of gs;
+        remembered = map version_of gs;
         now = record {
           failed = d.now.failed + 1;
           floor = d.now.floor;
@@ -253,7 +253,7 @@ module _ (n w : ℕ) (opened found : List ℕ) (gs gs' : List RememberedRow) (fe
         confirmed = d.confirmed ++ pairs 0 found;
         before = d.before ++ map (λ _. length (d.opened ++ pairs 0 opened)) found;
         asked = sym (append-nil d.asked) z;
-        kept = map version_of gs;
+        remembered = map version_of gs;
         now = record {
           failed = ap (λ (u : ScanInProgress). u.failed + 1) (sym none) z;
           floor = numbers_are 0 opened found gs (omega (arith, few, long)) z;
@@ -353,7 +353,7 @@ stood_more tries gs0 gs floor0 base0 floor base opened found es c =
       confirmed = b z;
       before = m z;
       asked = e z;
-      kept = map version_of gs;
+      remembered = map version_of gs;
       now = record { failed = k z; floor = floor; base = base; looks = []; due = []; asks = [] };
     }
 

@@ -22,7 +22,7 @@ pub record MayConfirm {N C H G : ℕ} (b : Board N C H G) (s : Bundle) (gs : Lis
   pub geometry : IsGeometry N C H G
   pub lengths : (length gs ≡ N) × (length opened ≡ N)
   pub wide : AreWide (width C H G) gs
-  pub kept : (scan_in s).kept ≡ map version_of gs
+  pub remembered : (scan_in s).remembered ≡ map version_of gs
   pub looks : (scan_in s).now.looks ≡ looks_of 0 opened [] gs
   pub loaded : (q : ℕ) → q < N → (j : ℕ) × (get_elem? (scan_in s).opened j ≡ some (q, slice_index opened q))
 
@@ -31,7 +31,7 @@ pub record MayConfirm {N C H G : ℕ} (b : Board N C H G) (s : Bundle) (gs : Lis
 pub record HasOpened (w p : ℕ) (before : List Member) (rows : List RememberedRow) (after : List Member) (gs : List RememberedRow)
     (opened : List ℕ) (all : Bool) : Type 0 where
   pub starts : HasMember before
-  pub kept : (scan_of before).kept ≡ map version_of rows
+  pub remembered : (scan_of before).remembered ≡ map version_of rows
   pub due : (scan_of before).now.due ≡ []
   pub asks : (scan_of before).now.asks ≡ []
   pub wide : AreWide w gs

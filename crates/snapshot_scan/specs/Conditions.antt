@@ -27,7 +27,7 @@ pub record MayTry {N C H G : ℕ} (b : Board N C H G) (s : Bundle) (gs : List Re
   pub geometry : IsGeometry N C H G
   pub lengths : (length gs ≡ N) × (length opened ≡ N)
   pub wide : AreWide (width C H G) gs
-  pub kept : (scan_in s).kept ≡ map version_of gs
+  pub remembered : (scan_in s).remembered ≡ map version_of gs
   pub rest : ((scan_in s).now.looks ≡ []) × ((scan_in s).now.due ≡ []) × ((scan_in s).now.asks ≡ [])
 
 -- a scan may begin: by a seat that may make a try, and is in no scan; the sums are those of the rows, and what the second collect

@@ -76,7 +76,7 @@ abbrev pub settling : (opened found : List ℕ) → List RememberedRow → ScanL
 settling opened found gs c = record c {
   confirmed = c.confirmed ++ pairs 0 found;
   before = c.before ++ map (λ _. length c.opened) found;
-  kept = map version_of gs;
+  remembered = map version_of gs;
   now = record c.now { looks = looks_of 0 opened found gs };
 }
 

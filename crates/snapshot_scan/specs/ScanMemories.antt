@@ -21,11 +21,11 @@ HasView GaveUp = ⊥
 module _ {N C H G : ℕ} where
   -- the rows that are remembered
   abbrev pub rows_of : ScanMemory N C H G → List Version
-  rows_of m = map version_of m.kept.items
+  rows_of m = map version_of m.remembered.items
 
   -- no scan is in progress, and the rows that are remembered are those of the view
   abbrev pub IsReady : ScanLog → ScanMemory N C H G → Type 0
-  IsReady c m = IsIdle c m.kept.items
+  IsReady c m = IsIdle c m.remembered.items
 
   -- the sums of the remembered rows
   abbrev pub totals_in : ScanMemory N C H G → List ℕ

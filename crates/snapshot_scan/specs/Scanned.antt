@@ -50,12 +50,12 @@ pub record FailedTry (n : ℕ) (floor base : List ℕ) (t : Tried) : Type 0 wher
 
 -- a scan that is over: what is remembered is what the view has
 pub record IsIdle (c : ScanLog) (gs : List RememberedRow) : Type 0 where
-  pub kept : c.kept ≡ map version_of gs
+  pub remembered : c.remembered ≡ map version_of gs
   pub rest : c.now ≡ at_rest
 
 -- nothing was read anew: what is remembered stands as it stood, and the numbers that were opened are the remembered ones
 pub record IsQuiet (gs gs' : List RememberedRow) (before after opened : List ℕ) : Type 0 where
-  pub kept : map version_of gs' ≡ map version_of gs
+  pub remembered : map version_of gs' ≡ map version_of gs
   pub totals : after ≡ before
   pub known : AreKnown opened gs'
 

@@ -54,7 +54,7 @@ impl ChangedItems {
     /// This item may have changed, too. Where no more can be listed, all may have.
     #[inline]
     pub fn note(&mut self, item: usize)
-        ensures kept { self.old.all ≡ true → self.new ≡ self.old }
+        ensures full { self.old.all ≡ true → self.new ≡ self.old }
         ensures notes { Notes item self.old self.new }
     {
         if self.all {
@@ -120,7 +120,7 @@ impl ChangedItems {
 fn write_each(places: &mut [usize], items: &[usize], first: usize, shift: usize)
     requires room { first + length items.now ≤ length places.old }
     requires fits { (k : ℕ) → k < length items.now → slice_index items.now k + shift < 18446744073709551616 }
-    ensures kept { (q : ℕ) → q < first → slice_index places.new q ≡ slice_index places.old q }
+    ensures before { (q : ℕ) → q < first → slice_index places.new q ≡ slice_index places.old q }
     ensures written { (k : ℕ) → k < length items.now → slice_index places.new (first + k) ≡ slice_index items.now k + shift }
 {
     for k in 0..items.len() {

@@ -27,25 +27,25 @@ fn open_one<
 >(
     board: &Board<N, C, H, G>,
     seat: &mut S,
-    kept: &mut [RememberedRow],
+    remembered: &mut [RememberedRow],
     opened: &mut [u64],
     place: usize,
     known: bool,
 ) -> bool
     requires of_board { MayScan board.now (S.bundle seat.old) }
     requires deep { depth N (width C H G) ≤ 2529 }
-    requires inside { (place < N) × (length kept.old ≡ N) × (length opened.old ≡ N) }
-    requires wide { All (IsWide (width C H G)) kept.old }
+    requires inside { (place < N) × (length remembered.old ≡ N) × (length opened.old ≡ N) }
+    requires wide { All (IsWide (width C H G)) remembered.old }
     ensures table { table_of (S.bundle seat.new) ≡ table_of (S.bundle seat.old) }
     ensures leads { HasMember (members_of (S.bundle seat.new)) }
-    ensures wide { All (IsWide (width C H G)) kept.new }
+    ensures wide { All (IsWide (width C H G)) remembered.new }
     ensures opened { (ms : List Member) (rows : List RememberedRow)
-        → HasOpened (width C H G) place ms rows (members_of (S.bundle seat.old)) kept.old opened.old known
-        → HasOpened (width C H G) (place + 1) ms rows (members_of (S.bundle seat.new)) kept.new opened.new result }
+        → HasOpened (width C H G) place ms rows (members_of (S.bundle seat.old)) remembered.old opened.old known
+        → HasOpened (width C H G) (place + 1) ms rows (members_of (S.bundle seat.new)) remembered.new opened.new result }
 {
-    let number = kept[place].look(board, seat, place);
+    let number = remembered[place].look(board, seat, place);
     opened[place] = number;
-    known & (number == kept[place].number)
+    known & (number == remembered[place].number)
 }
 
 /// Opens four places.
@@ -59,26 +59,26 @@ fn open_four<
 >(
     board: &Board<N, C, H, G>,
     seat: &mut S,
-    kept: &mut [RememberedRow],
+    remembered: &mut [RememberedRow],
     opened: &mut [u64],
     place: usize,
     known: bool,
 ) -> bool
     requires of_board { MayScan board.now (S.bundle seat.old) }
     requires deep { depth N (width C H G) ≤ 2529 }
-    requires inside { (place + 4 ≤ N) × (length kept.old ≡ N) × (length opened.old ≡ N) }
-    requires wide { All (IsWide (width C H G)) kept.old }
+    requires inside { (place + 4 ≤ N) × (length remembered.old ≡ N) × (length opened.old ≡ N) }
+    requires wide { All (IsWide (width C H G)) remembered.old }
     ensures table { table_of (S.bundle seat.new) ≡ table_of (S.bundle seat.old) }
     ensures leads { HasMember (members_of (S.bundle seat.new)) }
-    ensures wide { All (IsWide (width C H G)) kept.new }
+    ensures wide { All (IsWide (width C H G)) remembered.new }
     ensures opened { (ms : List Member) (rows : List RememberedRow)
-        → HasOpened (width C H G) place ms rows (members_of (S.bundle seat.old)) kept.old opened.old known
-        → HasOpened (width C H G) (place + 4) ms rows (members_of (S.bundle seat.new)) kept.new opened.new result }
+        → HasOpened (width C H G) place ms rows (members_of (S.bundle seat.old)) remembered.old opened.old known
+        → HasOpened (width C H G) (place + 4) ms rows (members_of (S.bundle seat.new)) remembered.new opened.new result }
 {
-    let one = open_one(board, seat, kept, opened, place, known);
-    let two = open_one(board, seat, kept, opened, place + 1, one);
-    let three = open_one(board, seat, kept, opened, place + 2, two);
-    open_one(board, seat, kept, opened, place + 3, three)
+    let one = open_one(board, seat, remembered, opened, place, known);
+    let two = open_one(board, seat, remembered, opened, place + 1, one);
+    let three = open_one(board, seat, remembered, opened, place + 2, two);
+    open_one(board, seat, remembered, opened, place + 3, three)
 }
 
 /// Opens the places from `from` on, where those before are opened.
@@ -92,23 +92,23 @@ fn open_rest<
 >(
     board: &Board<N, C, H, G>,
     seat: &mut S,
-    kept: &mut [RememberedRow],
+    remembered: &mut [RememberedRow],
     opened: &mut [u64],
     from: usize,
     known: bool,
 ) -> bool
     requires of_board { MayScan board.now (S.bundle seat.old) }
     requires deep { depth N (width C H G) ≤ 2529 }
-    requires inside { (from ≤ N) × (length kept.old ≡ N) × (length opened.old ≡ N) }
-    requires wide { All (IsWide (width C H G)) kept.old }
+    requires inside { (from ≤ N) × (length remembered.old ≡ N) × (length opened.old ≡ N) }
+    requires wide { All (IsWide (width C H G)) remembered.old }
     ensures table { table_of (S.bundle seat.new) ≡ table_of (S.bundle seat.old) }
     ensures opened { (ms : List Member) (rows : List RememberedRow)
-        → HasOpened (width C H G) from ms rows (members_of (S.bundle seat.old)) kept.old opened.old known
-        → HasOpened (width C H G) N ms rows (members_of (S.bundle seat.new)) kept.new opened.new result }
+        → HasOpened (width C H G) from ms rows (members_of (S.bundle seat.old)) remembered.old opened.old known
+        → HasOpened (width C H G) N ms rows (members_of (S.bundle seat.new)) remembered.new opened.new result }
 {
     let mut all = known;
     for place in from..N {
-        all = open_one(board, seat, kept, opened, place, all);
+        all = open_one(board, seat, remembered, opened, place, all);
     }
     all
 }
@@ -121,23 +121,23 @@ pub(crate) fn collect<
     const C: usize,
     const H: usize,
     const G: usize,
->(board: &Board<N, C, H, G>, seat: &mut S, kept: &mut [RememberedRow], opened: &mut [u64]) -> bool
-    requires { MayTry board.now (S.bundle seat.old) kept.old opened.old }
+>(board: &Board<N, C, H, G>, seat: &mut S, remembered: &mut [RememberedRow], opened: &mut [u64]) -> bool
+    requires { MayTry board.now (S.bundle seat.old) remembered.old opened.old }
     ensures table { table_of (S.bundle seat.new) ≡ table_of (S.bundle seat.old) }
-    ensures wide { AreWide (width C H G) kept.new }
-    ensures same { map version_of kept.new ≡ map version_of kept.old }
-    ensures view { members_of (S.bundle seat.new) ≡ with_scan (opening opened.new kept.new (scan_in (S.bundle seat.old)))
+    ensures wide { AreWide (width C H G) remembered.new }
+    ensures same { map version_of remembered.new ≡ map version_of remembered.old }
+    ensures view { members_of (S.bundle seat.new) ≡ with_scan (opening opened.new remembered.new (scan_in (S.bundle seat.old)))
         (members_of (S.bundle seat.old)) }
     ensures told { (q : ℕ) → q < N → IsLoaded q (scan_in (S.bundle seat.old)) (slice_index opened.new q) }
-    ensures known { result ≡ true → AreKnown opened.new kept.new }
-    ensures unknown { result ≡ false → HasOther opened.new (map version_of kept.old) }
-    ensures may { MayConfirm board.now (S.bundle seat.new) kept.new opened.new }
-    ensures sums { (totals : List ℕ) → AreTotals (width C H G) kept.old totals → AreTotals (width C H G) kept.new totals }
+    ensures known { result ≡ true → AreKnown opened.new remembered.new }
+    ensures unknown { result ≡ false → HasOther opened.new (map version_of remembered.old) }
+    ensures may { MayConfirm board.now (S.bundle seat.new) remembered.new opened.new }
+    ensures sums { (totals : List ℕ) → AreTotals (width C H G) remembered.old totals → AreTotals (width C H G) remembered.new totals }
 {
     let turns = N / TURN;
     let mut known = true;
     for turn in 0..turns {
-        known = open_four(board, seat, kept, opened, TURN * turn, known);
+        known = open_four(board, seat, remembered, opened, TURN * turn, known);
     }
-    open_rest(board, seat, kept, opened, TURN * turns, known)
+    open_rest(board, seat, remembered, opened, TURN * turns, known)
 }

@@ -35,7 +35,7 @@ pub fn order<const N: usize, const C: usize, const H: usize, const G: usize>(
     ensures of_board { IsReaderOf board.now of_one.new × IsReaderOf board.now of_other.new }
     ensures index { (index_of of_one.new ≡ index_of of_one.old) × (index_of of_other.new ≡ index_of of_other.old) }
     ensures alone { IsAlone of_one.new × IsAlone of_other.new }
-    ensures kept { ((scan_by of_one.new).recorded ≡ (scan_by of_one.old).recorded)
+    ensures recorded { ((scan_by of_one.new).recorded ≡ (scan_by of_one.old).recorded)
         × ((scan_by of_other.new).recorded ≡ (scan_by of_other.old).recorded) }
     ensures met { members_with of_one.new ++ members_with of_other.new ≡ met
         (members_with of_one.old ++ members_with of_other.old) }
@@ -64,7 +64,7 @@ fn meet<const N: usize, const C: usize, const H: usize, const G: usize>(
     ensures table { (table_of one.new ≡ table_of one.old) × (table_of other.new ≡ table_of other.old) }
     ensures alone { (members_of one.new ≡ first_of (members_of one.new) ∷ [])
         × (members_of other.new ≡ first_of (members_of other.new) ∷ []) }
-    ensures kept { ((scan_in one.new).recorded ≡ (scan_in one.old).recorded)
+    ensures recorded { ((scan_in one.new).recorded ≡ (scan_in one.old).recorded)
         × ((scan_in other.new).recorded ≡ (scan_in other.old).recorded) }
     ensures met { members_of one.new ++ members_of other.new ≡ met (members_of one.old ++ members_of other.old) }
     ensures comparable { (a b : Answer) (p q : ℕ) → get_elem? (scan_in one.old).recorded p ≡ some a

@@ -133,7 +133,7 @@ impl<const N: usize, const C: usize, const H: usize, const G: usize> Source<N, C
     fn scan(&mut self, out: &mut Snapshot<N, C, H, G>) -> Result<(), Contended>
         ensures recorded { OnOk result (Records N C H G (recorded_by self.old) (recorded_by self.new) (as_answer out.new)) }
         ensures gave { OnOk result (GivesRow self.old self.new (as_answer out.new)) }
-        ensures kept { OnOk result (quit_by self.new ≡ quit_by self.old) }
+        ensures quit { OnOk result (quit_by self.new ≡ quit_by self.old) }
         ensures given_up { OnErr result ((recorded_by self.new ≡ recorded_by self.old)
             × (quit_by self.new ≡ quit_by self.old + 1)) }
         ensures why { IfErr result (λ _. ⊥) }

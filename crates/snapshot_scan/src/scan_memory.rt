@@ -21,17 +21,17 @@ use std::alloc::{AllocError, Global};
 /// rows, the numbers of both collects, the words that a worker lends, and where the sums changed. It grows no more once it is
 /// made.
 pub struct ScanMemory<const N: usize, const C: usize, const H: usize, const G: usize> {
-    pub(crate) kept: Vec<RememberedRow>,
+    pub(crate) remembered: Vec<RememberedRow>,
     pub(crate) totals: Vec<u64>,
     pub(crate) opened: Vec<u64>,
     pub(crate) found: Vec<u64>,
     pub(crate) lent: Vec<u64>,
     pub(crate) moved: ChangedItems,
     ghost geometry: { IsGeometry N C H G },
-    ghost sizes: { (length kept.items ≡ N) × (length totals.items ≡ width C H G) × (length opened.items ≡ N)
+    ghost sizes: { (length remembered.items ≡ N) × (length totals.items ≡ width C H G) × (length opened.items ≡ N)
         × (length found.items ≡ N) × (length lent.items ≡ 1 + N + width C H G) },
-    ghost wide: { AreWide (width C H G) kept.items },
-    ghost sums: { AreTotals (width C H G) kept.items totals.items },
+    ghost wide: { AreWide (width C H G) remembered.items },
+    ghost sums: { AreTotals (width C H G) remembered.items totals.items },
     ghost listed: { (j : ℕ) → Contains moved.items j → j < width C H G },
 }
 
@@ -39,7 +39,7 @@ impl<const N: usize, const C: usize, const H: usize, const G: usize> Drop
     for ScanMemory<N, C, H, G> {
     fn drop(self) {
         let ScanMemory {
-            kept: _,
+            remembered: _,
             totals: _,
             opened: _,
             found: _,
@@ -77,14 +77,14 @@ impl<const N: usize, const C: usize, const H: usize, const G: usize> ScanMemory<
         ensures rows { IfOk result (λ m. rows_of m ≡ replicate N (record { number = 0; row = replicate (width C H G) 0 })) }
     {
         let row = C + 27 * H + 2 * G;
-        let kept = blank_rows(alloc, N, row)?;
+        let remembered = blank_rows(alloc, N, row)?;
         let totals = vec![in alloc; 0u64; row]?;
         let opened = vec![in alloc; 0u64; N]?;
         let found = vec![in alloc; 0u64; N]?;
         let lent = vec![in alloc; 0u64; 1 + N + row]?;
         let moved = ChangedItems::new(alloc)?;
         Ok(ScanMemory {
-            kept,
+            remembered,
             totals,
             opened,
             found,
@@ -131,7 +131,7 @@ impl<const N: usize, const C: usize, const H: usize, const G: usize> ScanMemory<
         scan(
             board,
             seat,
-            self.kept.as_mut_slice(),
+            self.remembered.as_mut_slice(),
             self.totals.as_mut_slice(),
             self.opened.as_mut_slice(),
             self.found.as_mut_slice(),
@@ -208,7 +208,7 @@ impl<const N: usize, const C: usize, const H: usize, const G: usize> ScanMemory<
             → slice_index (totals_in self.new) k + slice_index v.row k ≡ slice_index (totals_in self.old) k + slice_index row.now k }
     {
         learn_row(
-            self.kept.as_mut_slice(),
+            self.remembered.as_mut_slice(),
             self.totals.as_mut_slice(),
             &mut self.moved,
             place,
@@ -230,7 +230,7 @@ impl<const N: usize, const C: usize, const H: usize, const G: usize> ScanMemory<
             → slice_index (totals_in self.new) k + slice_index v.row k ≡ slice_index (totals_in self.old) k + slice_index row.now k }
     {
         change_row(
-            self.kept.as_mut_slice(),
+            self.remembered.as_mut_slice(),
             self.totals.as_mut_slice(),
             place,
             number,
@@ -245,57 +245,57 @@ fn blank_rows(alloc: Global, count: usize, row: usize) -> Result<Vec<RememberedR
     requires few { row ≤ 1248 }
     ensures { IfOk result (λ v. (length v.items ≡ count) × AreBlank row v.items) }
 {
-    let mut kept = Vec::new(alloc);
+    let mut remembered = Vec::new(alloc);
     for _k in 0..count {
-        kept.push(RememberedRow::new(alloc, row)?)?;
+        remembered.push(RememberedRow::new(alloc, row)?)?;
     }
-    Ok(kept)
+    Ok(remembered)
 }
 
 // As `ScanMemory::remember`, over what is remembered of all segments and the sums.
 #[inline(never)]
 fn learn_row<const C: usize, const H: usize, const G: usize>(
-    kept: &mut [RememberedRow],
+    remembered: &mut [RememberedRow],
     totals: &mut [u64],
     moved: &mut ChangedItems,
     place: usize,
     number: u64,
     row: &Row<C, H, G>,
 )
-    requires inside { (place < length kept.old) × (length kept.old ≤ 32) }
+    requires inside { (place < length remembered.old) × (length remembered.old ≤ 32) }
     requires long { length totals.old ≡ width C H G }
-    requires wide { AreWide (width C H G) kept.old }
-    requires totals { AreTotals (width C H G) kept.old totals.old }
-    ensures wide { AreWide (width C H G) kept.new }
-    ensures totals { AreTotals (width C H G) kept.new totals.new }
-    ensures rows { map version_of kept.new ≡ slice_set (map version_of kept.old) place
+    requires wide { AreWide (width C H G) remembered.old }
+    requires totals { AreTotals (width C H G) remembered.old totals.old }
+    ensures wide { AreWide (width C H G) remembered.new }
+    ensures totals { AreTotals (width C H G) remembered.new totals.new }
+    ensures rows { map version_of remembered.new ≡ slice_set (map version_of remembered.old) place
         (record { number = number; row = row.now }) }
     ensures moved { Moves (width C H G) totals.old totals.new moved.old moved.new }
 {
-    kept[place].learn(number, row, totals, moved);
+    remembered[place].learn(number, row, totals, moved);
 }
 
 // As `ScanMemory::remember_at`.
 #[inline]
 fn change_row<const C: usize, const H: usize, const G: usize>(
-    kept: &mut [RememberedRow],
+    remembered: &mut [RememberedRow],
     totals: &mut [u64],
     place: usize,
     number: u64,
     row: &Row<C, H, G>,
     items: &[usize],
 )
-    requires inside { (place < length kept.old) × (length kept.old ≤ 32) }
+    requires inside { (place < length remembered.old) × (length remembered.old ≤ 32) }
     requires long { length totals.old ≡ width C H G }
-    requires wide { AreWide (width C H G) kept.old }
-    requires totals { AreTotals (width C H G) kept.old totals.old }
+    requires wide { AreWide (width C H G) remembered.old }
+    requires totals { AreTotals (width C H G) remembered.old totals.old }
     requires words { (j : ℕ) → Contains items.now j → j < width C H G }
-    requires others { (g : RememberedRow) → get_elem? kept.old place ≡ some g → (k : ℕ) → k < width C H G
+    requires others { (g : RememberedRow) → get_elem? remembered.old place ≡ some g → (k : ℕ) → k < width C H G
         → ¬ (Contains items.now k) → slice_index g.row.items k ≡ slice_index row.now k }
-    ensures wide { AreWide (width C H G) kept.new }
-    ensures totals { AreTotals (width C H G) kept.new totals.new }
-    ensures rows { map version_of kept.new ≡ slice_set (map version_of kept.old) place
+    ensures wide { AreWide (width C H G) remembered.new }
+    ensures totals { AreTotals (width C H G) remembered.new totals.new }
+    ensures rows { map version_of remembered.new ≡ slice_set (map version_of remembered.old) place
         (record { number = number; row = row.now }) }
 {
-    kept[place].change(number, row, items, totals);
+    remembered[place].change(number, row, items, totals);
 }

@@ -66,7 +66,7 @@ impl<'a, const N: usize, const C: usize, const H: usize, const G: usize> Source<
             (as_answer out.new)) }
         ensures gave { OnOk result ((self.new.board.now ≡ self.old.board.now) × HasAnswered self.old.reader self.new.reader
             (as_answer out.new)) }
-        ensures kept { OnOk result ((scan_by self.new.reader).quit ≡ (scan_by self.old.reader).quit) }
+        ensures quit { OnOk result ((scan_by self.new.reader).quit ≡ (scan_by self.old.reader).quit) }
         ensures given_up { OnErr result (((scan_by self.new.reader).recorded ≡ (scan_by self.old.reader).recorded)
             × ((scan_by self.new.reader).quit ≡ (scan_by self.old.reader).quit + 1)) }
         ensures why { IfErr result (λ e. (self.new.board.now ≡ self.old.board.now)

@@ -18,20 +18,20 @@ use register_rule::{Board, ScanSeat};
 fn one_try<S: ScanSeat<N, C, H, G>, const N: usize, const C: usize, const H: usize, const G: usize>(
     board: &Board<N, C, H, G>,
     seat: &mut S,
-    kept: &mut [RememberedRow],
+    remembered: &mut [RememberedRow],
     totals: &mut [u64],
     opened: &mut [u64],
     found: &mut [u64],
     moved: &mut ChangedItems,
     known: &mut bool,
 ) -> bool
-    requires may { MayTry board.now (S.bundle seat.old) kept.old opened.old }
-    requires room { (length found.old ≡ N) × (length totals.old ≡ width C H G) × AreTotals (width C H G) kept.old totals.old }
-    ensures { HasTried N C H G (S.bundle seat.old) (S.bundle seat.new) kept.old kept.new totals.old totals.new opened.new
+    requires may { MayTry board.now (S.bundle seat.old) remembered.old opened.old }
+    requires room { (length found.old ≡ N) × (length totals.old ≡ width C H G) × AreTotals (width C H G) remembered.old totals.old }
+    ensures { HasTried N C H G (S.bundle seat.old) (S.bundle seat.new) remembered.old remembered.new totals.old totals.new opened.new
         found.new moved.old moved.new known.new result }
 {
-    *known = collect(board, seat, kept, opened);
-    confirm(board, seat, kept, totals, opened, found, moved, *known)
+    *known = collect(board, seat, remembered, opened);
+    confirm(board, seat, remembered, totals, opened, found, moved, *known)
 }
 
 /// A later try of a scan, as [`one_try`]: a function of its own, so that a scan that is quiet has no more code than it needs.
@@ -45,19 +45,19 @@ fn later_try<
 >(
     board: &Board<N, C, H, G>,
     seat: &mut S,
-    kept: &mut [RememberedRow],
+    remembered: &mut [RememberedRow],
     totals: &mut [u64],
     opened: &mut [u64],
     found: &mut [u64],
     moved: &mut ChangedItems,
     known: &mut bool,
 ) -> bool
-    requires may { MayTry board.now (S.bundle seat.old) kept.old opened.old }
-    requires room { (length found.old ≡ N) × (length totals.old ≡ width C H G) × AreTotals (width C H G) kept.old totals.old }
-    ensures { HasTried N C H G (S.bundle seat.old) (S.bundle seat.new) kept.old kept.new totals.old totals.new opened.new
+    requires may { MayTry board.now (S.bundle seat.old) remembered.old opened.old }
+    requires room { (length found.old ≡ N) × (length totals.old ≡ width C H G) × AreTotals (width C H G) remembered.old totals.old }
+    ensures { HasTried N C H G (S.bundle seat.old) (S.bundle seat.new) remembered.old remembered.new totals.old totals.new opened.new
         found.new moved.old moved.new known.new result }
 {
-    one_try(board, seat, kept, totals, opened, found, moved, known)
+    one_try(board, seat, remembered, totals, opened, found, moved, known)
 }
 
 /// A scan of at most `N` + 2 tries.
@@ -75,20 +75,20 @@ pub(crate) fn scan<
 >(
     board: &Board<N, C, H, G>,
     seat: &mut S,
-    kept: &mut [RememberedRow],
+    remembered: &mut [RememberedRow],
     totals: &mut [u64],
     opened: &mut [u64],
     found: &mut [u64],
     lent: &mut [u64],
     moved: &mut ChangedItems,
 ) -> ScanEnd
-    requires { MayBegin board.now (S.bundle seat.old) kept.old totals.old opened.old found.old lent.old }
-    ensures { HasEnded N C H G (S.bundle seat.old) (S.bundle seat.new) kept.old kept.new totals.old totals.new opened.new
+    requires { MayBegin board.now (S.bundle seat.old) remembered.old totals.old opened.old found.old lent.old }
+    ensures { HasEnded N C H G (S.bundle seat.old) (S.bundle seat.new) remembered.old remembered.new totals.old totals.new opened.new
         found.new lent.new moved.new result }
 {
     let mut known = false;
     moved.clear();
-    let clean = one_try(board, seat, kept, totals, opened, found, moved, &mut known);
+    let clean = one_try(board, seat, remembered, totals, opened, found, moved, &mut known);
     if clean {
         return ScanEnd::Direct { quiet: known };
     }
@@ -98,7 +98,7 @@ pub(crate) fn scan<
     base.copy_from_slice(found);
     let row = totals.len();
     for _k in 0..N + 1 {
-        let clean = later_try(board, seat, kept, totals, opened, found, moved, &mut known);
+        let clean = later_try(board, seat, remembered, totals, opened, found, moved, &mut known);
         if clean {
             return ScanEnd::Direct { quiet: false };
         }

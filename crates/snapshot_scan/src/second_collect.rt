@@ -124,22 +124,22 @@ pub(crate) fn confirm_known<
 >(
     board: &Board<N, C, H, G>,
     seat: &mut S,
-    kept: &[RememberedRow],
+    remembered: &[RememberedRow],
     opened: &[u64],
     found: &mut [u64],
 ) -> bool
-    requires may { MayConfirm board.now (S.bundle seat.old) kept.now opened.now }
+    requires may { MayConfirm board.now (S.bundle seat.old) remembered.now opened.now }
     requires room { length found.old ≡ N }
-    requires known { AreKnown opened.now kept.now }
+    requires known { AreKnown opened.now remembered.now }
     ensures table { table_of (S.bundle seat.new) ≡ table_of (S.bundle seat.old) }
     ensures ruled { IsRuled N C H G (S.bundle seat.new) }
     ensures view { members_of (S.bundle seat.new) ≡ with_scan
-        (ended N (width C H G) (settling opened.now found.new kept.now (scan_in (S.bundle seat.old))))
+        (ended N (width C H G) (settling opened.now found.new remembered.now (scan_in (S.bundle seat.old))))
         (members_of (S.bundle seat.old)) }
     ensures risen { (q : ℕ) → q < N → slice_index opened.now q ≤ slice_index found.new q }
     ensures clean { IsTrue result ↔ (opened.now ≡ found.new) }
 {
-    let _ = kept;
+    let _ = remembered;
     let turns = N / TURN;
     let mut same = true;
     for turn in 0..turns {
@@ -159,31 +159,31 @@ fn confirm_all<
 >(
     board: &Board<N, C, H, G>,
     seat: &mut S,
-    kept: &mut [RememberedRow],
+    remembered: &mut [RememberedRow],
     totals: &mut [u64],
     opened: &[u64],
     found: &mut [u64],
     moved: &mut ChangedItems,
 ) -> bool
-    requires may { MayConfirm board.now (S.bundle seat.old) kept.old opened.now }
+    requires may { MayConfirm board.now (S.bundle seat.old) remembered.old opened.now }
     requires room { length found.old ≡ N }
-    requires sums { (length totals.old ≡ width C H G) × AreTotals (width C H G) kept.old totals.old }
+    requires sums { (length totals.old ≡ width C H G) × AreTotals (width C H G) remembered.old totals.old }
     ensures table { table_of (S.bundle seat.new) ≡ table_of (S.bundle seat.old) }
     ensures ruled { IsRuled N C H G (S.bundle seat.new) }
-    ensures wide { AreWide (width C H G) kept.new }
-    ensures totals { AreTotals (width C H G) kept.new totals.new }
+    ensures wide { AreWide (width C H G) remembered.new }
+    ensures totals { AreTotals (width C H G) remembered.new totals.new }
     ensures view { members_of (S.bundle seat.new) ≡ with_scan
-        (ended N (width C H G) (settling opened.now found.new kept.new (scan_in (S.bundle seat.old))))
+        (ended N (width C H G) (settling opened.now found.new remembered.new (scan_in (S.bundle seat.old))))
         (members_of (S.bundle seat.old)) }
     ensures risen { (q : ℕ) → q < N → slice_index opened.now q ≤ slice_index found.new q }
-    ensures held { (q : ℕ) (g : RememberedRow) → get_elem? kept.new q ≡ some g
+    ensures held { (q : ℕ) (g : RememberedRow) → get_elem? remembered.new q ≡ some g
         → slice_index opened.now q ≡ slice_index found.new q → g.number ≡ slice_index opened.now q }
     ensures clean { IsTrue result ↔ (opened.now ≡ found.new) }
     ensures listed { Moves (width C H G) totals.old totals.new moved.old moved.new }
 {
-    for place in 0..kept.len() {
+    for place in 0..remembered.len() {
         let number = board.confirm(seat, place);
-        kept[place].settle(opened[place], number, totals, moved);
+        remembered[place].settle(opened[place], number, totals, moved);
         found[place] = number;
     }
     opened == found
@@ -201,33 +201,33 @@ pub(crate) fn confirm<
 >(
     board: &Board<N, C, H, G>,
     seat: &mut S,
-    kept: &mut [RememberedRow],
+    remembered: &mut [RememberedRow],
     totals: &mut [u64],
     opened: &[u64],
     found: &mut [u64],
     moved: &mut ChangedItems,
     known: bool,
 ) -> bool
-    requires may { MayConfirm board.now (S.bundle seat.old) kept.old opened.now }
+    requires may { MayConfirm board.now (S.bundle seat.old) remembered.old opened.now }
     requires room { length found.old ≡ N }
-    requires sums { (length totals.old ≡ width C H G) × AreTotals (width C H G) kept.old totals.old }
-    requires known { known ≡ true → AreKnown opened.now kept.old }
+    requires sums { (length totals.old ≡ width C H G) × AreTotals (width C H G) remembered.old totals.old }
+    requires known { known ≡ true → AreKnown opened.now remembered.old }
     ensures table { table_of (S.bundle seat.new) ≡ table_of (S.bundle seat.old) }
     ensures ruled { IsRuled N C H G (S.bundle seat.new) }
-    ensures wide { AreWide (width C H G) kept.new }
-    ensures totals { AreTotals (width C H G) kept.new totals.new }
+    ensures wide { AreWide (width C H G) remembered.new }
+    ensures totals { AreTotals (width C H G) remembered.new totals.new }
     ensures view { members_of (S.bundle seat.new) ≡ with_scan
-        (ended N (width C H G) (settling opened.now found.new kept.new (scan_in (S.bundle seat.old))))
+        (ended N (width C H G) (settling opened.now found.new remembered.new (scan_in (S.bundle seat.old))))
         (members_of (S.bundle seat.old)) }
     ensures risen { (q : ℕ) → q < N → slice_index opened.now q ≤ slice_index found.new q }
-    ensures held { (q : ℕ) (g : RememberedRow) → get_elem? kept.new q ≡ some g
+    ensures held { (q : ℕ) (g : RememberedRow) → get_elem? remembered.new q ≡ some g
         → slice_index opened.now q ≡ slice_index found.new q → g.number ≡ slice_index opened.now q }
     ensures clean { IsTrue result ↔ (opened.now ≡ found.new) }
-    ensures quiet { known ≡ true → (kept.new ≡ kept.old) × (totals.new ≡ totals.old) }
+    ensures quiet { known ≡ true → (remembered.new ≡ remembered.old) × (totals.new ≡ totals.old) }
     ensures listed { Moves (width C H G) totals.old totals.new moved.old moved.new }
 {
     if known {
-        return confirm_known(board, seat, kept, opened, found);
+        return confirm_known(board, seat, remembered, opened, found);
     }
-    confirm_all(board, seat, kept, totals, opened, found, moved)
+    confirm_all(board, seat, remembered, totals, opened, found, moved)
 }

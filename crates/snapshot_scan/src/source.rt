@@ -32,7 +32,7 @@ pub trait Source<const N: usize, const C: usize, const H: usize, const G: usize>
     fn scan(&mut self, out: &mut Snapshot<N, C, H, G>) -> Result<(), Contended>
         ensures recorded { OnOk result (Records N C H G (recorded self.old) (recorded self.new) (as_answer out.new)) }
         ensures gave { OnOk result (gave self.old self.new (as_answer out.new)) }
-        ensures kept { OnOk result (quit self.new ≡ quit self.old) }
+        ensures quit { OnOk result (quit self.new ≡ quit self.old) }
         ensures given_up { OnErr result ((recorded self.new ≡ recorded self.old) × (quit self.new ≡ quit self.old + 1)) }
         ensures why { IfErr result (gave_up self.old self.new) }
         ensures rose { IfErr result (λ e. (e.worker < N) × (e.first < e.last)) }

@@ -49,7 +49,7 @@ module _ (n c h g index : ℕ) (row : List ℕ) (memory : ScanMemory n c h g) (i
     row_known = λ _. ap (λ (l : List Version). get_elem? l index) rows
         ∙ (same_at n index (record { number = 0; row = replicate w 0 }) inside
         ∙ (λ z. some (record { number = 0; row = sym zeros z })));
-    ready = record { kept = sym rows; rest = refl };
+    ready = record { remembered = sym rows; rest = refl };
     hidden_is = sym blank.hidden;
     shown_is = sym blank.shown;
     images = record {

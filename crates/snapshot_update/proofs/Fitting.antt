@@ -43,7 +43,7 @@ answer_long n c h g memory Lent = let long = memory.sizes.4 in let a = length-dr
     )
 
 pub rows_many : (n c h g : ℕ) (memory : ScanMemory n c h g) → length (rows_of memory) ≡ n
-rows_many n c h g memory = go memory.kept.items ∙ memory.sizes.0
+rows_many n c h g memory = go memory.remembered.items ∙ memory.sizes.0
   where
     go : (gs : List RememberedRow) → length (map version_of gs) ≡ length gs
     go [] = refl

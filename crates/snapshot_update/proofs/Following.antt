@@ -132,14 +132,14 @@ images_moved n w row rows rows' sums sums' im late' moved wide many many' long s
 
 -- the row that is remembered under a worker's own number is its row
 pub own_known : (n c h g i : ℕ) (m : Member) (row vector : List ℕ) (rows : List Version) → m.who ≡ Worker i
-    → IsRuledAlone n c h g m → m.scan.kept ≡ rows → i < length rows → AreNumbers vector rows
+    → IsRuledAlone n c h g m → m.scan.remembered ≡ rows → i < length rows → AreNumbers vector rows
     → slice_index vector i ≡ length m.work.made → length row ≡ width c h g
     → ((k : ℕ) → k < width c h g → slice_index row k ≡ word_after (sum_ops c h) m.work.made k)
     → get_elem? rows i ≡ some (record { number = length m.work.made; row = row })
 own_known n c h g i m row vector rows is ruled kept lt numbers own wide sums =
     let t = some_at rows i lt in let v : Version = t.0 in
     let mine = ruled.workers 0 i m refl is in
-    let version = (ruled.scans 0 m refl).kept i v (ap (λ (l : List Version). get_elem? l i) kept ∙ t.1) in
+    let version = (ruled.scans 0 m refl).remembered i v (ap (λ (l : List Version). get_elem? l i) kept ∙ t.1) in
     let number : v.number ≡ length m.work.made = numbers i v t.1 ∙ own in
     let made : take v.number (ruled.made i) ≡ m.work.made = ap (λ (k : ℕ). take k (ruled.made i)) number
     ∙ (ap (take (length m.work.made)) (sym mine.1) ∙ take-length m.work.made) in
@@ -200,7 +200,7 @@ module _ (n c h g i : ℕ) (row : List ℕ) (memory memory' : ScanMemory n c h g
         numbers = are;
         totals = totals_are f.direct.0 f.direct.1;
         row_known = own_known n c h g i m' row (answer_of memory' ended).vector (rows_of memory') (ap (λ (x : Member). x.who) same
-            ∙ fit.who) ruled ready.kept (let e = rows_many n c h g memory' in omega (arith, e, inside)) are
+            ∙ fit.who) ruled ready.remembered (let e = rows_many n c h g memory' in omega (arith, e, inside)) are
             (f.found ∙ ap (λ (l : List PublishEntry). length l) (sym made)) fit.wide
             (λ k lt. fit.sums k lt ∙ ap (λ (l : List PublishEntry). word_after (sum_ops c h) l k) (sym made))
             ∙ (λ z. some (record { number = length (made z); row = row }));

@@ -39,7 +39,7 @@ raised_fit n c h g i k row memory im seen m f = record {
   sums = f.sums;
   wide = f.wide;
   row_known = f.row_known;
-  ready = record { kept = f.ready.kept; rest = f.ready.rest };
+  ready = record { remembered = f.ready.remembered; rest = f.ready.rest };
   hidden_is = f.hidden_is;
   shown_is = f.shown_is;
   images = f.images;

@@ -49,7 +49,7 @@ module _ {N C H G : ℕ} where
   abbrev pub scan_by : Worker N C H G → ScanLog
   scan_by w = (member_of w).scan
 
-  -- it is of this board's parts, and not lent
+  -- it is a worker of this board, and its seat is not lent to a reader
   abbrev pub IsWorkerOf : Board N C H G → Worker N C H G → Type 0
   IsWorkerOf b w = IsSomeAnd w.seat (IsWorkSeatOf b)
 

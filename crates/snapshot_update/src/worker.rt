@@ -335,7 +335,7 @@ impl<const N: usize, const C: usize, const H: usize, const G: usize> Worker<N, C
         ensures of_board { IsReaderOf board.now reader.new }
         ensures index { (index_of self.new ≡ index_of self.old) × (reader_index reader.new ≡ reader_index reader.old) }
         ensures met { members_with reader.new ≡ met (members_with reader.old ++ member_of self.old ∷ []) }
-        ensures kept { HasSeenMore (scan_of_reader reader.old) (scan_of_reader reader.new) }
+        ensures scans { HasSeenMore (scan_of_reader reader.old) (scan_of_reader reader.new) }
         ensures seen { length (member_of self.old).work.made ≤ slice_index (scan_of_reader reader.new).seen (index_of self.old) }
         ensures lent { IsLentAs (raised (greatest (members_with reader.old ++ member_of self.old ∷ [])) (member_of self.old))
             self.new reader.new }
@@ -354,7 +354,7 @@ impl<const N: usize, const C: usize, const H: usize, const G: usize> Worker<N, C
         ensures index { (index_of self.new ≡ index_of self.old) × (reader_index reader.new ≡ reader_index reader.old) }
         ensures member { picked (Who.Worker (index_of self.old)) (members_with reader.old) ≡ member_of self.new ∷ [] }
         ensures others { members_with reader.new ≡ without (Who.Worker (index_of self.old)) (members_with reader.old) }
-        ensures kept { scan_of_reader reader.new ≡ scan_of_reader reader.old }
+        ensures scans { scan_of_reader reader.new ≡ scan_of_reader reader.old }
         ensures apart { AreApart (members_with reader.old) }
     {
         reader.tell(board);
@@ -373,7 +373,7 @@ impl<const N: usize, const C: usize, const H: usize, const G: usize> Worker<N, C
         ensures reader { members_with reader.new ≡ without (Who.Worker (index_of self.old))
             (met (members_with reader.old ++ member_of self.old ∷ [])) }
         ensures others { (i : ℕ) (m : Member) → IsWorkerAmong i m (members_with reader.old) → i ≢ index_of self.old }
-        ensures kept { HasSeenMore (scan_of_reader reader.old) (scan_of_reader reader.new) }
+        ensures scans { HasSeenMore (scan_of_reader reader.old) (scan_of_reader reader.new) }
         ensures alone { IsAlone reader.old → IsAlone reader.new }
         ensures reader_sees { length (member_of self.old).work.made ≤ slice_index (scan_of_reader reader.new).seen
             (index_of self.old) }

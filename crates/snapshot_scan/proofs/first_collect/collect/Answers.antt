@@ -18,17 +18,17 @@ loop-turn-init g c =
     let ms = members_of (g.S.ScanSeat.bundle c.args.seat.now) in record {
       table = refl;
       leads = c.requires.of_board.1;
-      wide = λ k d lt. c.requires.wide k (get_or c.args.kept.now k d) (there c.args.kept.now k d lt);
+      wide = λ k d lt. c.requires.wide k (get_or c.args.remembered.now k d) (there c.args.remembered.now k d lt);
       deep = let geo = c.requires.geometry in
           omega (arith, geo.workers.1, geo.slots.counters, geo.slots.histograms, geo.slots.gauges);
       opened = record {
         starts = c.requires.of_board.1;
-        kept = c.requires.kept;
+        remembered = c.requires.remembered;
         due = c.requires.rest.1;
         asks = c.requires.rest.2;
         wide = c.requires.wide;
         same = refl;
-        view = sym (ap (λ (d : ScanLog). with_scan d ms) (opening_starts c.args.kept.now (scan_of ms) c.requires.rest.0)
+        view = sym (ap (λ (d : ScanLog). with_scan d ms) (opening_starts c.args.remembered.now (scan_of ms) c.requires.rest.0)
             ∙ with_same ms);
         known = λ e q x lt. absurd (omega (arith, lt));
         unknown = λ e. absurd (true≢false e);
@@ -45,8 +45,8 @@ loop-turn-preserved g c =
       leads = c.open_four-known.ensures.leads;
       wide = c.open_four-known.ensures.wide;
       deep = inv.deep;
-      opened = subst (λ (z : ℕ). HasOpened w z ms c.args.kept.now (members_of (bundle r.seat)) r.kept r.opened
-          c.open_four-known.result) (omega arith) (c.open_four-known.ensures.opened ms c.args.kept.now inv.opened);
+      opened = subst (λ (z : ℕ). HasOpened w z ms c.args.remembered.now (members_of (bundle r.seat)) r.remembered r.opened
+          c.open_four-known.result) (omega arith) (c.open_four-known.ensures.opened ms c.args.remembered.now inv.opened);
     }
 
 -- what the whole collect has opened
@@ -56,16 +56,16 @@ returns g c =
     let ms = members_of (bundle c.args.seat.now) in
     let l = c.loop-turn in let f = c.loop-turn-test.false in let end = l.auto.turn-end in let r = c.open_rest.new in
     let lens = c.requires.lengths in
-    let so_far : HasOpened w (4 * (n / 4)) ms c.args.kept.now (members_of (bundle l.seat)) l.kept l.opened l.known =
-    subst (λ (z : ℕ). HasOpened w (4 * z) ms c.args.kept.now (members_of (bundle l.seat)) l.kept l.opened l.known)
+    let so_far : HasOpened w (4 * (n / 4)) ms c.args.remembered.now (members_of (bundle l.seat)) l.remembered l.opened l.known =
+    subst (λ (z : ℕ). HasOpened w (4 * z) ms c.args.remembered.now (members_of (bundle l.seat)) l.remembered l.opened l.known)
     (omega (arith, f, end)) l.invariant.opened in
-    let all = c.open_rest.ensures.opened ms c.args.kept.now so_far in
-    let a = l.auto.kept in let b = l.auto.opened in let a' = c.open_rest.auto.kept in let b' = c.open_rest.auto.opened in
+    let all = c.open_rest.ensures.opened ms c.args.remembered.now so_far in
+    let a = l.auto.remembered in let b = l.auto.opened in let a' = c.open_rest.auto.remembered in let b' = c.open_rest.auto.opened in
     let own = c.open_rest.ensures.table ∙ l.invariant.table in
-    let view : members_of (bundle r.seat) ≡ with_scan (opening r.opened r.kept (scan_of ms)) ms =
-    all.view ∙ ap (λ (z : List ℕ). with_scan (opening z r.kept (scan_of ms)) ms)
+    let view : members_of (bundle r.seat) ≡ with_scan (opening r.opened r.remembered (scan_of ms)) ms =
+    all.view ∙ ap (λ (z : List ℕ). with_scan (opening z r.remembered (scan_of ms)) ms)
     (take_all r.opened n (omega (arith, b, b', lens.1))) in
-    let scan : scan_of (members_of (bundle r.seat)) ≡ opening r.opened r.kept (scan_of ms) =
+    let scan : scan_of (members_of (bundle r.seat)) ≡ opening r.opened r.remembered (scan_of ms) =
     ap scan_of view ∙ scan_with _ ms c.requires.of_board.1 in
     record {
       table = own;
@@ -77,7 +77,7 @@ returns g c =
         geometry = c.requires.geometry;
         lengths = (a' ∙ (a ∙ lens.0), b' ∙ (b ∙ lens.1));
         wide = all.wide;
-        kept = ap (λ (d : ScanLog). d.kept) scan ∙ (c.requires.kept ∙ sym all.same);
+        remembered = ap (λ (d : ScanLog). d.remembered) scan ∙ (c.requires.remembered ∙ sym all.same);
         looks = ap (λ (d : ScanLog). d.now.looks) scan;
         loaded = λ q lt. let e = there r.opened q 0 (omega (arith, b, b', lens.1, lt)) in (
           length (scan_of ms).opened + q,
@@ -85,9 +85,9 @@ returns g c =
               ∙ loads_at (scan_of ms).opened r.opened [] q (get_or r.opened q 0) e,
         );
       };
-      sums = λ ts are k lt. are k lt ∙ sums_same k c.args.kept.now r.kept (sym all.same);
+      sums = λ ts are k lt. are k lt ∙ sums_same k c.args.remembered.now r.remembered (sym all.same);
       told = all.told;
-      known = λ t q x at. all.known t q x (let h = at_below r.kept q x at in omega (arith, h, a, a', lens.0)) at;
+      known = λ t q x at. all.known t q x (let h = at_below r.remembered q x at in omega (arith, h, a, a', lens.0)) at;
       unknown = λ t. let u = all.unknown t in
-          (u.0, version_of u.1, (λ z. get_elem? (sym all.same z) u.0) ∙ at_map version_of r.kept u.0 u.1 u.3, u.4);
+          (u.0, version_of u.1, (λ z. get_elem? (sym all.same z) u.0) ∙ at_map version_of r.remembered u.0 u.1 u.3, u.4);
     }

@@ -11,8 +11,8 @@ abbrev pub invariant-loop-turn : goal.invariant-loop-turn
 invariant-loop-turn g l = let bundle = g.S.ScanSeat.bundle in let w : ℕ = width g.row.C g.row.H g.row.G in record {
   table : table_of (bundle l.seat) ≡ table_of (bundle l.fn.seat);
   leads : HasMember (members_of (bundle l.seat));
-  wide : All (IsWide w) l.kept;
+  wide : All (IsWide w) l.remembered;
   deep : depth g.row.N w ≤ 2529;
-  opened : HasOpened w (4 * l.turn) (members_of (bundle l.fn.seat)) l.fn.kept (members_of (bundle l.seat)) l.kept l.opened
+  opened : HasOpened w (4 * l.turn) (members_of (bundle l.fn.seat)) l.fn.remembered (members_of (bundle l.seat)) l.remembered l.opened
       l.known;
 }

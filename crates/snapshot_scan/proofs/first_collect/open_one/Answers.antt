@@ -31,21 +31,21 @@ pub returns-clause-leads : goal.returns-clause-leads
 returns-clause-leads g c = subst HasMember (sym c.look-number.ensures.member) (led_some _ _ c.requires.of_board.1)
 
 pub returns-clause-wide : goal.returns-clause-wide
-returns-clause-wide g c = All-set (IsWide (width g.row.C g.row.H g.row.G)) c.args.kept.now c.args.place c.look-number.new.self
+returns-clause-wide g c = All-set (IsWide (width g.row.C g.row.H g.row.G)) c.args.remembered.now c.args.place c.look-number.new.self
     c.look-number.ensures.wide c.requires.wide
 
 pub returns-clause-opened : goal.returns-clause-opened
 returns-clause-opened g c = λ ms rows is.
     let bundle = g.S.ScanSeat.bundle in
     let w : ℕ = width g.row.C g.row.H g.row.G in
-    let p = c.args.place in let gs = c.args.kept.now in let os = c.args.opened.now in let x = c.look-number.result in
+    let p = c.args.place in let gs = c.args.remembered.now in let os = c.args.opened.now in let x = c.look-number.result in
     let g' : RememberedRow = c.look-number.new.self in
     let c0 : ScanLog = scan_of ms in
     let inside = c.requires.inside in
     let lt : p < length gs = omega (arith, inside.0, inside.1) in
     let lt' : p < length os = omega (arith, inside.0, inside.2) in
-    let gg : RememberedRow = get_or gs p c.index-kept-place.result in
-    let at : get_elem? gs p ≡ some gg = there gs p c.index-kept-place.result lt in
+    let gg : RememberedRow = get_or gs p c.index-remembered-place.result in
+    let at : get_elem? gs p ≡ some gg = there gs p c.index-remembered-place.result lt in
     let more : take (p + 1) (set os p x) ≡ take p os ++ x ∷ [] = take_next os p x lt' in
     let deep : length (take p os) ≡ p = length_take os p (omega (arith, lt')) in
     let f = looked_at w p x (gg.number == x) g'.fresh.items in
@@ -53,16 +53,16 @@ returns-clause-opened g c = λ ms rows is.
     subst (λ (z : ℕ). looked_at w z x (gg.number == x) g'.fresh.items (opening (take p os) gs c0) ≡ opening (take p os ++ x ∷ [])
     (set gs z g') c0) deep
     (opens_more w x (take p os) gs gg g' c0 (ap (get_elem? gs) deep ∙ at) (omega (arith, deep, lt)) c.look-number.ensures.same
-    (is.kept ∙ sym is.same) is.due is.asks)
+    (is.remembered ∙ sym is.same) is.due is.asks)
     ∙ ap (λ (z : List ℕ). opening z (set gs p g') c0) (sym more) in
     let view : members_of (bundle c.look-number.new.seat) ≡ with_scan (opening (take (p + 1) (set os p x)) (set gs p g') c0) ms =
     c.look-number.ensures.member
     ∙ (ap (led (scan_changed f)) is.view
     ∙ (with_led f (opening (take p os) gs c0) ms ∙ ap (λ (d : ScanLog). with_scan d ms) shape)) in
-    let dd = c.index-kept-place-2.result in let read : get_or (set gs p g') p dd ≡ g' = get_or-set_same gs p g' dd lt in
+    let dd = c.index-remembered-place-2.result in let read : get_or (set gs p g') p dd ≡ g' = get_or-set_same gs p g' dd lt in
     record {
       starts = is.starts;
-      kept = is.kept;
+      remembered = is.remembered;
       due = is.due;
       asks = is.asks;
       wide = λ q y e. ⊎_elim (λ h. is.wide q y h) (λ h. subst (IsWide w) h.0 c.look-number.ensures.wide) (from_set gs p g' q y e);

@@ -16,5 +16,5 @@ pub returns-clause-opened : goal.returns-clause-opened
 returns-clause-opened g c = λ ms rows is.
     let w : ℕ = width g.row.C g.row.H g.row.G in let l = c.loop-place in let inside = c.requires.inside in
     let f = c.loop-place-test.false in let end = l.auto.place-end in
-    subst (λ (z : ℕ). HasOpened w z ms rows (members_of (g.S.ScanSeat.bundle l.seat)) l.kept l.opened l.all)
+    subst (λ (z : ℕ). HasOpened w z ms rows (members_of (g.S.ScanSeat.bundle l.seat)) l.remembered l.opened l.all)
     (omega (arith, inside.0, f, end)) (l.invariant.opened ms rows is)

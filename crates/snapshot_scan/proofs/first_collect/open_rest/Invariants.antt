@@ -12,8 +12,8 @@ abbrev pub invariant-loop-place : goal.invariant-loop-place
 invariant-loop-place g l = let bundle = g.S.ScanSeat.bundle in let w : ℕ = width g.row.C g.row.H g.row.G in record {
   table : table_of (bundle l.seat) ≡ table_of (bundle l.fn.seat);
   leads : HasMember (members_of (bundle l.seat));
-  wide : All (IsWide w) l.kept;
-  opened : (ms : List Member) (rows : List RememberedRow) → HasOpened w l.from ms rows (members_of (bundle l.fn.seat)) l.fn.kept
+  wide : All (IsWide w) l.remembered;
+  opened : (ms : List Member) (rows : List RememberedRow) → HasOpened w l.from ms rows (members_of (bundle l.fn.seat)) l.fn.remembered
       l.fn.opened l.known
-      → HasOpened w l.place ms rows (members_of (bundle l.seat)) l.kept l.opened l.all;
+      → HasOpened w l.place ms rows (members_of (bundle l.seat)) l.remembered l.opened l.all;
 }

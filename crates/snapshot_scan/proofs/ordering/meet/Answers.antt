@@ -40,8 +40,8 @@ returns-clause-alone g c =
       alone_still (members_of c.part.result) _ (c.part.ensures.one ∙ (ap (picked (Reader k)) c.tell-number.ensures.same ∙ gone)),
     )
 
-pub returns-clause-kept : goal.returns-clause-kept
-returns-clause-kept g c =
+pub returns-clause-recorded : goal.returns-clause-recorded
+returns-clause-recorded g c =
     let one = members_of c.args.one.now in let other = members_of c.args.other.now in let k : ℕ = c.args.who in
     let joined = members_of c.join.new.bundle in
     let left = stays k one other (members_of c.part-guest.result) joined c.requires.alone.0 c.requires.alone.1 c.requires.is

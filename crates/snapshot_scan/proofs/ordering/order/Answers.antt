@@ -31,7 +31,7 @@ led_raised : (k : ℕ) (gs : List RememberedRow) (s : List ℕ) (m : Member) (ms
 led_raised k gs s m ms e is idle = subst (IsLed k gs) (sym e) (
   omega arith,
   is,
-  record { kept = idle.kept; rest = idle.rest },
+  record { remembered = idle.remembered; rest = idle.rest },
   λ p j x at. absurd (some-ne-none x (sym at)),
   λ i x stands. absurd (no_worker k i (raised s m) x is stands),
 )
@@ -64,7 +64,7 @@ invariant_of-of_one g c =
     let o = members_of one.bundle in let o' = members_of other.bundle in let n = members_of c.meet.new.one in
     let both = heads o o' n (members_of c.meet.new.other) (alone_is o one.leads c.requires.alone.0)
     (alone_is o' other.leads c.requires.alone.1) c.meet.ensures.alone.0 c.meet.ensures.alone.1 c.meet.ensures.met in
-    let t = led_raised one.index one.memory.kept.items (greatest (first_of o ∷ first_of o' ∷ [])) (first_of o) n
+    let t = led_raised one.index one.memory.remembered.items (greatest (first_of o ∷ first_of o' ∷ [])) (first_of o) n
     (c.meet.ensures.alone.0 ∙ ap (λ
     (l : List Member). first_of l ∷ []) both) one.is one.ready in
     record {
@@ -73,7 +73,7 @@ invariant_of-of_one g c =
       ready = t.2;
       lent = t.3;
       seen = t.4;
-      moments = subst (AreMoments g.row.N g.row.C g.row.H g.row.G) (sym c.meet.ensures.kept.0) one.moments;
+      moments = subst (AreMoments g.row.N g.row.C g.row.H g.row.G) (sym c.meet.ensures.recorded.0) one.moments;
     }
 
 pub invariant_of-of_other : goal.invariant_of-of_other
@@ -82,7 +82,7 @@ invariant_of-of_other g c =
     let o = members_of one.bundle in let o' = members_of other.bundle in let n' = members_of c.meet.new.other in
     let both = heads o o' (members_of c.meet.new.one) n' (alone_is o one.leads c.requires.alone.0)
     (alone_is o' other.leads c.requires.alone.1) c.meet.ensures.alone.0 c.meet.ensures.alone.1 c.meet.ensures.met in
-    let t = led_raised other.index other.memory.kept.items (greatest (first_of o ∷ first_of o' ∷ [])) (first_of o') n'
+    let t = led_raised other.index other.memory.remembered.items (greatest (first_of o ∷ first_of o' ∷ [])) (first_of o') n'
     (c.meet.ensures.alone.1 ∙ ap (λ (l : List Member). first_of
     (behind l) ∷ []) both) other.is other.ready in
     record {
@@ -91,7 +91,7 @@ invariant_of-of_other g c =
       ready = t.2;
       lent = t.3;
       seen = t.4;
-      moments = subst (AreMoments g.row.N g.row.C g.row.H g.row.G) (sym c.meet.ensures.kept.1) other.moments;
+      moments = subst (AreMoments g.row.N g.row.C g.row.H g.row.G) (sym c.meet.ensures.recorded.1) other.moments;
     }
 
 pub compare-requires-clause-comparable : goal.compare-requires-clause-comparable

@@ -6,7 +6,7 @@ use Rattle.snapshot_scan.proofs.scan_memory.blank_rows.Goals as goal
 
 pub loop-k-preserved : goal.loop-k-preserved
 loop-k-preserved c =
-    let inv = c.loop-k.invariant in let old = c.loop-k.kept.items in let new : RememberedRow = c.in_ok-new.field-0 in
+    let inv = c.loop-k.invariant in let old = c.loop-k.remembered.items in let new : RememberedRow = c.in_ok-new.field-0 in
     let items = c.in_ok-push.ensures.items in record {
       count = ap (λ (l : List RememberedRow). length l) items
           ∙ (length-append old (new ∷ []) ∙ (let e = inv.count in omega (arith, e)));

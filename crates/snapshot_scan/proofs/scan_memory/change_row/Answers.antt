@@ -12,9 +12,9 @@ use Rattle.snapshot_scan.proofs.scan_memory.change_row.Goals as goal
 
 pub change-requires : goal.change-requires
 change-requires g c =
-    let w : ℕ = width g.row.C g.row.H g.row.G in let gs = c.args.kept.now in let i = c.args.place in
-    let old : RememberedRow = get_or gs i c.index-kept-place.result in
-    let at : get_elem? gs i ≡ some old = there gs i c.index-kept-place.result c.requires.inside.0 in (
+    let w : ℕ = width g.row.C g.row.H g.row.G in let gs = c.args.remembered.now in let i = c.args.place in
+    let old : RememberedRow = get_or gs i c.index-remembered-place.result in
+    let at : get_elem? gs i ≡ some old = there gs i c.index-remembered-place.result c.requires.inside.0 in (
       search rules,
       (
         c.requires.long,
@@ -32,17 +32,17 @@ change-requires g c =
     )
 
 pub returns-clause-wide : goal.returns-clause-wide
-returns-clause-wide g c = own_wide (width g.row.C g.row.H g.row.G) c.args.kept.now c.args.place c.change.new.self c.requires.wide
+returns-clause-wide g c = own_wide (width g.row.C g.row.H g.row.G) c.args.remembered.now c.args.place c.change.new.self c.requires.wide
     c.change.ensures.wide
 
 pub returns-clause-totals : goal.returns-clause-totals
 returns-clause-totals g c =
-    let gs = c.args.kept.now in let i = c.args.place in
-    let old : RememberedRow = get_or gs i c.index-kept-place.result in
+    let gs = c.args.remembered.now in let i = c.args.place in
+    let old : RememberedRow = get_or gs i c.index-remembered-place.result in
     own_totals (width g.row.C g.row.H g.row.G) gs c.args.totals.now c.change.new.totals i old c.change.new.self c.args.row.now
-    (there gs i c.index-kept-place.result c.requires.inside.0) c.requires.totals
+    (there gs i c.index-remembered-place.result c.requires.inside.0) c.requires.totals
     (ap (λ (v : Version). v.row) c.change.ensures.version) c.change.ensures.totals
 
 pub returns-clause-rows : goal.returns-clause-rows
-returns-clause-rows g c = map_set version_of c.args.kept.now c.args.place c.change.new.self
-    ∙ ap (set (map version_of c.args.kept.now) c.args.place) c.change.ensures.version
+returns-clause-rows g c = map_set version_of c.args.remembered.now c.args.place c.change.new.self
+    ∙ ap (set (map version_of c.args.remembered.now) c.args.place) c.change.ensures.version

@@ -13,11 +13,11 @@ pub returns : goal.returns
 returns g c =
     let ms = members_of (g.S.ScanSeat.bundle c.args.seat.now) in
     let n : ℕ = g.row.N in let w : ℕ = width g.row.C g.row.H g.row.G in
-    let os = c.collect.new.opened in let fs = c.confirm.new.found in let gs = c.confirm.new.kept in
+    let os = c.collect.new.opened in let fs = c.confirm.new.found in let gs = c.confirm.new.remembered in
     let ts = c.confirm.new.totals in let lens = c.requires.may.lengths in let room = c.requires.room in
-    let few : length gs ≡ n = c.confirm.auto.kept ∙ (c.collect.auto.kept ∙ lens.0) in
+    let few : length gs ≡ n = c.confirm.auto.remembered ∙ (c.collect.auto.remembered ∙ lens.0) in
     let long : length os ≡ n = c.collect.auto.opened ∙ lens.1 in let deep : length fs ≡ n = c.confirm.auto.found ∙ room.0 in
-    let d : ScanLog = opening os c.collect.new.kept (scan_of ms) in
+    let d : ScanLog = opening os c.collect.new.remembered (scan_of ms) in
     let scan : scan_of (members_of (g.S.ScanSeat.bundle c.collect.new.seat)) ≡ d = ap scan_of c.collect.ensures.view
     ∙ scan_with d ms c.requires.may.of_board.1 in
     let view : members_of (g.S.ScanSeat.bundle c.confirm.new.seat) ≡ with_scan (ended n w (settling os fs gs d)) ms =
@@ -44,7 +44,7 @@ returns g c =
       rose = λ t. let r = rose_some os fs (long ∙ sym deep) (λ q lt. c.confirm.ensures.risen q (omega (arith, long, lt)))
           (λ e. true_not_false (sym (c.confirm.ensures.clean.1 e) ∙ t)) in (r.0, omega (arith, long, r.1), r.2);
       quiet = λ k. let q = c.confirm.ensures.quiet k in record {
-        kept = ap (map version_of) q.0 ∙ c.collect.ensures.same;
+        remembered = ap (map version_of) q.0 ∙ c.collect.ensures.same;
         totals = q.1;
         known = subst (AreKnown os) (sym q.0) (c.collect.ensures.known k);
       };

@@ -60,15 +60,15 @@ loop-k-init g c =
     let n : ℕ = g.row.N in let w : ℕ = width g.row.C g.row.H g.row.G in
     let r = c.one_try-clean.new in let lens = c.requires.may.lengths in
     let fl = c.copy_from_slice.new.self in let ba = c.copy_from_slice-2.new.self in
-    let few : length r.kept ≡ n = c.one_try-clean.auto.kept ∙ lens.0 in
+    let few : length r.remembered ≡ n = c.one_try-clean.auto.remembered ∙ lens.0 in
     let long : length r.opened ≡ n = c.one_try-clean.auto.opened ∙ c.requires.may.lengths.1 in
     let deep : length r.found ≡ n = c.one_try-clean.auto.found ∙ c.requires.room.0 in
     let f : r.opened ≡ fl = sym c.copy_from_slice.ensures.after in let b : r.found ≡ ba = sym c.copy_from_slice-2.ensures.after in
     let one : Tried = record { first = r.opened; second = r.found; asks = [] } in
     let view : members_of (g.S.ScanSeat.bundle r.seat) ≡ with_scan
-    (given_up_if_spent n (stood (one ∷ []) r.kept r.opened r.found (scan_of ms))) ms =
+    (given_up_if_spent n (stood (one ∷ []) r.remembered r.opened r.found (scan_of ms))) ms =
     c.one_try-clean.ensures.failed c.if-clean.false ∙ ap (λ (x : ScanLog). with_scan (given_up_if_spent n x) ms)
-    (first_starts n w r.opened r.found r.kept (scan_of ms) few long deep c.requires.idle.rest) in
+    (first_starts n w r.opened r.found r.remembered (scan_of ms) few long deep c.requires.idle.rest) in
     let failed : FailedTry n r.opened r.found one = record {
       opened = long;
       found = deep;
@@ -78,15 +78,15 @@ loop-k-init g c =
       none = λ q e at. absurd (some-ne-none e (sym at));
     } in
     let stands : members_of (g.S.ScanSeat.bundle r.seat) ≡ with_scan
-    (given_up_if_spent n (stood (one ∷ []) r.kept fl ba (scan_of ms))) ms =
-    view ∙ (λ z. with_scan (given_up_if_spent n (stood (one ∷ []) r.kept (f z) (b z) (scan_of ms))) ms) in (
+    (given_up_if_spent n (stood (one ∷ []) r.remembered fl ba (scan_of ms))) ms =
+    view ∙ (λ z. with_scan (given_up_if_spent n (stood (one ∷ []) r.remembered (f z) (b z) (scan_of ms))) ms) in (
       one ∷ [],
       record {
         table = c.one_try-clean.ensures.table;
         ruled = c.one_try-clean.ensures.ruled;
         leads = still_some _ ms _ c.requires.may.of_board.1 view;
         wide = c.one_try-clean.ensures.wide;
-        may = may_try c.args.board.now (g.S.ScanSeat.bundle c.args.seat.now) (g.S.ScanSeat.bundle r.seat) 0 (one ∷ []) r.kept fl
+        may = may_try c.args.board.now (g.S.ScanSeat.bundle c.args.seat.now) (g.S.ScanSeat.bundle r.seat) 0 (one ∷ []) r.remembered fl
             ba r.opened c.requires.may.of_board c.requires.may.geometry c.one_try-clean.ensures.table few long
             c.one_try-clean.ensures.wide refl stands;
         room = (deep, c.one_try-clean.auto.totals ∙ c.requires.room.1, c.one_try-clean.ensures.totals);
@@ -111,15 +111,15 @@ ask_all-lends-requires g c =
     let inv = c.loop-k.invariant.1 in let tries = c.loop-k.invariant.0 in let lens = c.requires.may.lengths in
     let fl = c.copy_from_slice.new.self in let ba = c.copy_from_slice-2.new.self in
     let r = c.later_try-clean.new in
-    let few : length r.kept ≡ n = c.later_try-clean.auto.kept ∙ (c.loop-k.auto.kept ∙ (c.one_try-clean.auto.kept
+    let few : length r.remembered ≡ n = c.later_try-clean.auto.remembered ∙ (c.loop-k.auto.remembered ∙ (c.one_try-clean.auto.remembered
     ∙ lens.0)) in
     let long : length r.opened ≡ n = c.later_try-clean.auto.opened
     ∙ (c.loop-k.auto.opened ∙ (c.one_try-clean.auto.opened ∙ c.requires.may.lengths.1)) in
     let deep : length r.found ≡ n = c.later_try-clean.auto.found
     ∙ (c.loop-k.auto.found ∙ (c.one_try-clean.auto.found ∙ c.requires.room.0)) in
-    let view = at_loop n c.loop-k._k tries c.loop-k.kept fl ba ms _ inv.count c.loop-k-test.true inv.view in
-    let d : ScanLog = stood tries c.loop-k.kept fl ba (scan_of ms) in
-    let fails = loop_fails n w c.loop-k._k r.opened r.found r.kept c.loop-k.kept few long deep tries fl ba ms _ _
+    let view = at_loop n c.loop-k._k tries c.loop-k.remembered fl ba ms _ inv.count c.loop-k-test.true inv.view in
+    let d : ScanLog = stood tries c.loop-k.remembered fl ba (scan_of ms) in
+    let fails = loop_fails n w c.loop-k._k r.opened r.found r.remembered c.loop-k.remembered few long deep tries fl ba ms _ _
     c.requires.may.of_board.1 inv.count view (c.later_try-clean.ensures.failed c.if-clean-2.false) in
     let scan = now_is _ ms _ c.requires.may.of_board.1 fails in (
       search rules,
@@ -135,7 +135,7 @@ ask_all-lends-requires g c =
           c.loop-k.auto.lent ∙ c.requires.lent,
         );
         may_ask = subst (MayAsk fl (due_from 0 ba r.found)) (sym scan)
-            (may_start n r.opened r.found r.kept fl ba (due_from 0 ba r.found) d);
+            (may_start n r.opened r.found r.remembered fl ba (due_from 0 ba r.found) d);
       },
     )
 
@@ -146,19 +146,19 @@ loop-k-preserved g c =
     let inv = c.loop-k.invariant.1 in let tries = c.loop-k.invariant.0 in let lens = c.requires.may.lengths in
     let fl = c.copy_from_slice.new.self in let ba = c.copy_from_slice-2.new.self in
     let r = c.later_try-clean.new in
-    let few : length r.kept ≡ n = c.later_try-clean.auto.kept ∙ (c.loop-k.auto.kept ∙ (c.one_try-clean.auto.kept
+    let few : length r.remembered ≡ n = c.later_try-clean.auto.remembered ∙ (c.loop-k.auto.remembered ∙ (c.one_try-clean.auto.remembered
     ∙ lens.0)) in
     let long : length r.opened ≡ n = c.later_try-clean.auto.opened
     ∙ (c.loop-k.auto.opened ∙ (c.one_try-clean.auto.opened ∙ c.requires.may.lengths.1)) in
     let deep : length r.found ≡ n = c.later_try-clean.auto.found
     ∙ (c.loop-k.auto.found ∙ (c.one_try-clean.auto.found ∙ c.requires.room.0)) in
-    let view = at_loop n c.loop-k._k tries c.loop-k.kept fl ba ms _ inv.count c.loop-k-test.true inv.view in
-    let d : ScanLog = stood tries c.loop-k.kept fl ba (scan_of ms) in
-    let fails = loop_fails n w c.loop-k._k r.opened r.found r.kept c.loop-k.kept few long deep tries fl ba ms _ _
+    let view = at_loop n c.loop-k._k tries c.loop-k.remembered fl ba ms _ inv.count c.loop-k-test.true inv.view in
+    let d : ScanLog = stood tries c.loop-k.remembered fl ba (scan_of ms) in
+    let fails = loop_fails n w c.loop-k._k r.opened r.found r.remembered c.loop-k.remembered few long deep tries fl ba ms _ _
     c.requires.may.of_board.1 inv.count view (c.later_try-clean.ensures.failed c.if-clean-2.false) in
     let q = c.ask_all-lends.ensures.refuses c.if-lends.false in
     let t : Tried = record { first = r.opened; second = r.found; asks = q.0 } in
-    let end = loop_refuses n w c.loop-k._k r.opened r.found r.kept c.loop-k.kept few long deep tries fl ba ms _ _
+    let end = loop_refuses n w c.loop-k._k r.opened r.found r.remembered c.loop-k.remembered few long deep tries fl ba ms _ _
     c.requires.may.of_board.1 inv.count view _ q.0 fails q.1 q.3 in
     let failed : FailedTry n fl ba t = record {
       opened = long;
@@ -175,7 +175,7 @@ loop-k-preserved g c =
         leads = still_some _ ms _ c.requires.may.of_board.1 end;
         wide = c.later_try-clean.ensures.wide;
         may = may_try c.args.board.now (g.S.ScanSeat.bundle c.args.seat.now) (g.S.ScanSeat.bundle c.ask_all-lends.new.seat)
-            (c.loop-k._k + 1) (tries ++ t ∷ []) r.kept fl ba r.opened c.requires.may.of_board c.requires.may.geometry own few long
+            (c.loop-k._k + 1) (tries ++ t ∷ []) r.remembered fl ba r.opened c.requires.may.of_board c.requires.may.geometry own few long
             c.later_try-clean.ensures.wide (count_more tries t c.loop-k._k inv.count) end;
         room = (
           deep,
@@ -186,10 +186,10 @@ loop-k-preserved g c =
             c.later_try-clean.ensures.listed;
         count = count_more tries t c.loop-k._k inv.count;
         above = each_push (λ (u : Tried). Below (scan_of ms).seen u.first) tries t inv.above
-            (seen_below n (stood tries c.loop-k.kept fl ba (scan_of ms)) r.opened long
+            (seen_below n (stood tries c.loop-k.remembered fl ba (scan_of ms)) r.opened long
             (λ p lt. subst (λ (x : ScanLog). IsLoaded p x (slice_index r.opened p)) (now_is d ms _ c.requires.may.of_board.1 view)
             (c.later_try-clean.ensures.told p lt)));
-        tried = tries_more n fl ba c.loop-k.opened c.loop-k.found tries inv.tried c.loop-k.kept (scan_of ms) r.opened r.found q.0
+        tried = tries_more n fl ba c.loop-k.opened c.loop-k.found tries inv.tried c.loop-k.remembered (scan_of ms) r.opened r.found q.0
             failed;
         lengths = inv.lengths;
         seen = inv.seen;
@@ -210,15 +210,15 @@ returns-then-clean g c =
       ruled = made.ruled;
       wide = made.wide;
       totals = made.totals;
-      idle = record { kept = ap (λ (d : ScanLog). d.kept) scan; rest = ap (λ (d : ScanLog). d.now) scan };
+      idle = record { remembered = ap (λ (d : ScanLog). d.remembered) scan; rest = ap (λ (d : ScanLog). d.now) scan };
       others = others_same _ ms _ c.requires.may.of_board.1 clean;
       direct = λ _ _. subst (λ (x : ScanLog). IsAnswered n (scan_of ms) x a) (sym scan)
-          (direct_first n r.opened r.found r.totals r.kept (scan_of ms) long made.told);
+          (direct_first n r.opened r.found r.totals r.remembered (scan_of ms) long made.told);
       came_direct = λ _ _. subst (λ (x : ScanLog). AnswersBy n w (scan_of ms) x a) (sym scan)
-          (came_first n w r.opened r.found r.kept (scan_of ms) a long (made.same c.if-clean.true) refl);
+          (came_first n w r.opened r.found r.remembered (scan_of ms) a long (made.same c.if-clean.true) refl);
       quiet = λ e. made.quiet (ap quiet_in e);
       once = λ _. ap (λ (x : ScanLog). x.opened) scan;
-      moved = λ e. moved_first n (map version_of c.args.kept.now) r.opened _ _ long (made.unknown (ap quiet_in e))
+      moved = λ e. moved_first n (map version_of c.args.remembered.now) r.opened _ _ long (made.unknown (ap quiet_in e))
           (ap (λ (x : ScanLog). x.opened) scan);
       lent = λ e. absurd (direct_lent _ e);
       came_lent = λ e. absurd (direct_lent _ e);
@@ -239,9 +239,9 @@ returns-then-clean-2 g c =
     let long : length r.opened ≡ n = c.later_try-clean.auto.opened
     ∙ (c.loop-k.auto.opened ∙ (c.one_try-clean.auto.opened ∙ c.requires.may.lengths.1)) in
     let a : Answer = record { vector = r.opened; totals = r.totals } in
-    let view = at_loop n c.loop-k._k tries c.loop-k.kept fl ba ms _ inv.count c.loop-k-test.true inv.view in
-    let d : ScanLog = stood tries c.loop-k.kept fl ba (scan_of ms) in
-    let end = then_is (λ (x : ScanLog). answered a (settling r.opened r.found r.kept (opening r.opened r.kept x))) d ms _ _
+    let view = at_loop n c.loop-k._k tries c.loop-k.remembered fl ba ms _ inv.count c.loop-k-test.true inv.view in
+    let d : ScanLog = stood tries c.loop-k.remembered fl ba (scan_of ms) in
+    let end = then_is (λ (x : ScanLog). answered a (settling r.opened r.found r.remembered (opening r.opened r.remembered x))) d ms _ _
     c.requires.may.of_board.1 view clean in
     let scan = now_is _ ms _ c.requires.may.of_board.1 end in let count = inv.count in let lt = c.loop-k-test.true in
     record {
@@ -249,22 +249,22 @@ returns-then-clean-2 g c =
       ruled = made.ruled;
       wide = made.wide;
       totals = made.totals;
-      idle = record { kept = ap (λ (x : ScanLog). x.kept) scan; rest = ap (λ (x : ScanLog). x.now) scan };
+      idle = record { remembered = ap (λ (x : ScanLog). x.remembered) scan; rest = ap (λ (x : ScanLog). x.now) scan };
       others = others_same _ ms _ c.requires.may.of_board.1 end;
       direct = λ _ _. subst (λ (x : ScanLog). IsAnswered n (scan_of ms) x a) (sym scan)
-          (direct_later n fl ba c.loop-k.opened c.loop-k.found tries inv.tried c.loop-k.kept
+          (direct_later n fl ba c.loop-k.opened c.loop-k.found tries inv.tried c.loop-k.remembered
           (scan_of ms) r.opened r.found r.totals
-          r.kept inv.lengths.0 long
+          r.remembered inv.lengths.0 long
           (λ q low. subst (λ (x : ScanLog). IsLoaded q x (slice_index r.opened q)) (now_is d ms _ c.requires.may.of_board.1 view)
           (made.told q low)));
       came_direct = λ _ _. subst (λ (x : ScanLog). AnswersBy n w (scan_of ms) x a) (sym scan)
-          (came_later n w fl ba c.loop-k.opened c.loop-k.found tries inv.tried c.loop-k.kept
-          (scan_of ms) r.opened r.found r.kept a
+          (came_later n w fl ba c.loop-k.opened c.loop-k.found tries inv.tried c.loop-k.remembered
+          (scan_of ms) r.opened r.found r.remembered a
           long (made.same c.if-clean-2.true) (omega (arith, count, lt)) refl);
       quiet = λ e. absurd (not_quiet (ap quiet_in e));
       once = λ e. absurd (not_quiet (ap quiet_in e));
-      moved = λ _. moved_later n fl ba c.loop-k.opened c.loop-k.found tries inv.tried c.loop-k.kept (scan_of ms)
-          (map version_of c.args.kept.now) r.opened _ c.requires.may.geometry.workers.0 inv.lengths.0 long
+      moved = λ _. moved_later n fl ba c.loop-k.opened c.loop-k.found tries inv.tried c.loop-k.remembered (scan_of ms)
+          (map version_of c.args.remembered.now) r.opened _ c.requires.may.geometry.workers.0 inv.lengths.0 long
           (ap (λ (x : ScanLog). x.opened) scan);
       lent = λ e. absurd (direct_lent _ e);
       came_lent = λ e. absurd (direct_lent _ e);
@@ -281,17 +281,17 @@ returns-then-lends g c =
     let inv = c.loop-k.invariant.1 in let tries = c.loop-k.invariant.0 in let lens = c.requires.may.lengths in
     let fl = c.copy_from_slice.new.self in let ba = c.copy_from_slice-2.new.self in
     let made = c.later_try-clean.ensures in let r = c.later_try-clean.new in
-    let few : length r.kept ≡ n = c.later_try-clean.auto.kept ∙ (c.loop-k.auto.kept ∙ (c.one_try-clean.auto.kept
+    let few : length r.remembered ≡ n = c.later_try-clean.auto.remembered ∙ (c.loop-k.auto.remembered ∙ (c.one_try-clean.auto.remembered
     ∙ lens.0)) in
     let long : length r.opened ≡ n = c.later_try-clean.auto.opened
     ∙ (c.loop-k.auto.opened ∙ (c.one_try-clean.auto.opened ∙ c.requires.may.lengths.1)) in
     let deep : length r.found ≡ n = c.later_try-clean.auto.found ∙ (c.loop-k.auto.found ∙ (c.one_try-clean.auto.found
     ∙ c.requires.room.0)) in
-    let view = at_loop n c.loop-k._k tries c.loop-k.kept fl ba ms _ inv.count c.loop-k-test.true inv.view in
-    let fails = loop_fails n w c.loop-k._k r.opened r.found r.kept c.loop-k.kept few long deep tries fl ba ms _ _
+    let view = at_loop n c.loop-k._k tries c.loop-k.remembered fl ba ms _ inv.count c.loop-k-test.true inv.view in
+    let fails = loop_fails n w c.loop-k._k r.opened r.found r.remembered c.loop-k.remembered few long deep tries fl ba ms _ _
     c.requires.may.of_board.1 inv.count view (made.failed c.if-clean-2.false) in
     let l = c.ask_all-lends.ensures.lends c.if-lends.true in let a = lent_in n w c.ask_all-lends.new.lent in
-    let end = loop_lends n w c.loop-k._k r.opened r.found r.kept c.loop-k.kept few long deep tries fl ba ms _ _
+    let end = loop_lends n w c.loop-k._k r.opened r.found r.remembered c.loop-k.remembered few long deep tries fl ba ms _ _
     c.requires.may.of_board.1 inv.count view _ a l.1 l.0 l.2 fails l.3 l.7 in
     let scan = now_is _ ms _ c.requires.may.of_board.1 end in let count = inv.count in let lt = c.loop-k-test.true in
     record {
@@ -299,7 +299,7 @@ returns-then-lends g c =
       ruled = c.ask_all-lends.ensures.ruled;
       wide = made.wide;
       totals = made.totals;
-      idle = record { kept = ap (λ (x : ScanLog). x.kept) scan; rest = ap (λ (x : ScanLog). x.now) scan };
+      idle = record { remembered = ap (λ (x : ScanLog). x.remembered) scan; rest = ap (λ (x : ScanLog). x.now) scan };
       others = others_same _ ms _ c.requires.may.of_board.1 end;
       direct = λ q e. absurd (lent_direct q e);
       came_direct = λ q e. absurd (lent_direct q e);
@@ -307,14 +307,14 @@ returns-then-lends g c =
       once = λ e. absurd (lent_direct _ e);
       moved = λ e. absurd (lent_direct _ e);
       lent = λ _. subst (λ (x : ScanLog). IsAnswered n (scan_of ms) x a) (sym scan)
-          (lent_later n fl ba c.loop-k.opened c.loop-k.found tries inv.tried c.loop-k.kept
-          (scan_of ms) r.opened r.found r.kept a l.1
+          (lent_later n fl ba c.loop-k.opened c.loop-k.found tries inv.tried c.loop-k.remembered
+          (scan_of ms) r.opened r.found r.remembered a l.1
           l.0 (asked_worker l.1 ∷ l.2) inv.lengths.0
           (vector_long n w c.ask_all-lends.new.lent (c.ask_all-lends.auto.lent ∙ (c.loop-k.auto.lent ∙ c.requires.lent))) inv.seen
           (ap (λ (ws : List ℕ). is_above fl (take n (drop 1 ws))) (sym l.5) ∙ l.6.above));
       came_lent = λ _. subst (λ (x : ScanLog). AnswersBy n w (scan_of ms) x a) (sym scan)
-          (came_lending n w fl ba c.loop-k.opened c.loop-k.found tries inv.tried c.loop-k.kept
-          (scan_of ms) r.opened r.found r.kept a
+          (came_lending n w fl ba c.loop-k.opened c.loop-k.found tries inv.tried c.loop-k.remembered
+          (scan_of ms) r.opened r.found r.remembered a
           l.1 l.0 l.2 (asked_worker l.1 ∷ l.2) long deep (omega (arith, count, lt)) (made.rose c.if-clean-2.false) l.3 l.4 l.6
           (ap (lent_in n w) (sym l.5)));
       numbers = λ q e. absurd (lent_direct q e);
@@ -336,8 +336,8 @@ returns g c =
       ruled = inv.ruled;
       wide = inv.wide;
       totals = inv.room.2;
-      idle = let rest = scan ∙ given_last n (stood tries c.loop-k.kept fl ba (scan_of ms)) refl (omega (arith, count, t, last)) in
-          record { kept = ap (λ (x : ScanLog). x.kept) rest; rest = ap (λ (x : ScanLog). x.now) rest };
+      idle = let rest = scan ∙ given_last n (stood tries c.loop-k.remembered fl ba (scan_of ms)) refl (omega (arith, count, t, last)) in
+          record { remembered = ap (λ (x : ScanLog). x.remembered) rest; rest = ap (λ (x : ScanLog). x.now) rest };
       others = others_same _ ms _ c.requires.may.of_board.1 inv.view;
       direct = λ q e. absurd (up_direct q e);
       came_direct = λ q e. absurd (up_direct q e);
@@ -349,11 +349,11 @@ returns g c =
       numbers = λ q e. absurd (up_direct q e);
       listed = inv.listed;
       gave_up = λ _. subst (λ (x : ScanLog). IsGivenUp n (scan_of ms) x c.loop-k.opened c.loop-k.found) (sym scan)
-          (all_failed n fl ba c.loop-k.opened c.loop-k.found tries inv.tried c.loop-k.kept (scan_of ms) (omega
+          (all_failed n fl ba c.loop-k.opened c.loop-k.found tries inv.tried c.loop-k.remembered (scan_of ms) (omega
           (arith, count, t, last))
           inv.above);
       came_up = λ _ e moved. subst (λ (x : ScanLog). CameTo n w (scan_of ms) x (GaveUp e.worker e.first e.last)) (sym scan)
-          (came_up n w fl ba c.loop-k.opened c.loop-k.found tries inv.tried c.loop-k.kept (scan_of ms) (omega
+          (came_up n w fl ba c.loop-k.opened c.loop-k.found tries inv.tried c.loop-k.remembered (scan_of ms) (omega
           (arith, count, t, last)) e
           moved);
     }

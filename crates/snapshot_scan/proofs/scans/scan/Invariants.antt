@@ -19,15 +19,15 @@ invariant-loop-k g l = let bundle = g.S.ScanSeat.bundle in let ms = members_of (
       table : table_of (bundle l.seat) ≡ table_of (bundle l.fn.seat);
       ruled : IsRuled g.row.N g.row.C g.row.H g.row.G (bundle l.seat);
       leads : HasMember (members_of (bundle l.seat));
-      wide : AreWide w l.kept;
-      may : l._k < g.row.N + 1 → MayTry l.board (bundle l.seat) l.kept l.opened;
-      room : (length l.found ≡ g.row.N) × (length l.totals ≡ w) × AreTotals w l.kept l.totals;
+      wide : AreWide w l.remembered;
+      may : l._k < g.row.N + 1 → MayTry l.board (bundle l.seat) l.remembered l.opened;
+      room : (length l.found ≡ g.row.N) × (length l.totals ≡ w) × AreTotals w l.remembered l.totals;
       listed : Lists w l.fn.totals l.totals l.moved;
       count : length tries ≡ l._k + 1;
       tried : AreTries g.row.N l.floor l.base l.opened l.found tries;
       above : (q : ℕ) (t : Tried) → get_elem? tries q ≡ some t → Below (scan_of ms).seen t.first;
       lengths : (length l.floor ≡ g.row.N) × (length l.base ≡ g.row.N);
       seen : Below (scan_of ms).seen l.floor;
-      view : members_of (bundle l.seat) ≡ with_scan (given_up_if_spent g.row.N (stood tries l.kept l.floor l.base
+      view : members_of (bundle l.seat) ≡ with_scan (given_up_if_spent g.row.N (stood tries l.remembered l.floor l.base
           (scan_of ms))) ms;
     }

@@ -26,8 +26,8 @@ loop-place-init g c =
     let ms = members_of (g.S.ScanSeat.bundle c.args.seat.now) in
     let w : ℕ = width g.row.C g.row.H g.row.G in
     let geo = c.requires.may.geometry.workers.0 in
-    let z : ScanLog = settling c.args.opened.now [] c.args.kept.now (scan_of ms) in
-    let starts : scan_of ms ≡ z = settling_starts c.args.opened.now c.args.kept.now (scan_of ms) c.requires.may.kept
+    let z : ScanLog = settling c.args.opened.now [] c.args.remembered.now (scan_of ms) in
+    let starts : scan_of ms ≡ z = settling_starts c.args.opened.now c.args.remembered.now (scan_of ms) c.requires.may.remembered
     c.requires.may.looks in
     let no : (0 == g.row.N) ≡ false = ne_eqb 0 g.row.N (λ e. omega (arith, e)) in
     record {
@@ -47,13 +47,13 @@ loop-place-init g c =
 pub settle-requires : goal.settle-requires
 settle-requires g c =
     let w : ℕ = width g.row.C g.row.H g.row.G in
-    let p = c.loop-place.place in let gs = c.loop-place.kept in let gg : RememberedRow = get_or gs p c.index-kept-place.result in
+    let p = c.loop-place.place in let gs = c.loop-place.remembered in let gg : RememberedRow = get_or gs p c.index-remembered-place.result in
     let inv = c.loop-place.invariant in
-    let lens = c.requires.may.lengths in let a1 = c.loop-place.auto.kept in let a3 = c.loop-place.auto.totals in
+    let lens = c.requires.may.lengths in let a1 = c.loop-place.auto.remembered in let a3 = c.loop-place.auto.totals in
     let t = c.loop-place-test.true in
     let geo = c.requires.may.geometry.workers.1 in
     let lt : p < length gs = omega arith in
-    let at : get_elem? gs p ≡ some gg = there gs p c.index-kept-place.result lt in
+    let at : get_elem? gs p ≡ some gg = there gs p c.index-remembered-place.result lt in
     let long : w ≡ length c.loop-place.totals = sym (a3 ∙ c.requires.sums.0) in
     record {
       wide = subst (λ (z : ℕ). IsWide z gg) long (inv.wide p gg at);
@@ -68,20 +68,20 @@ loop-place-preserved g c =
     let bundle = g.S.ScanSeat.bundle in
     let w : ℕ = width g.row.C g.row.H g.row.G in
     let n : ℕ = g.row.N in
-    let p = c.loop-place.place in let gs = c.loop-place.kept in let fs = c.loop-place.found in let os = c.args.opened.now in
+    let p = c.loop-place.place in let gs = c.loop-place.remembered in let fs = c.loop-place.found in let os = c.args.opened.now in
     let s = c.confirm-number.result in let g' : RememberedRow = c.settle.new.self in let ts' = c.settle.new.totals in
-    let gg : RememberedRow = get_or gs p c.index-kept-place.result in
+    let gg : RememberedRow = get_or gs p c.index-remembered-place.result in
     let o = get_or os p 0 in
     let ms = members_of (bundle c.args.seat.now) in
     let c0 : ScanLog = scan_of ms in
     let inv = c.loop-place.invariant in
-    let lens = c.requires.may.lengths in let a1 = c.loop-place.auto.kept in let a2 = c.loop-place.auto.found in
+    let lens = c.requires.may.lengths in let a1 = c.loop-place.auto.remembered in let a2 = c.loop-place.auto.found in
     let a3 = c.loop-place.auto.totals in let t = c.loop-place-test.true in
     let ltn : p < n = omega (arith, lens.0) in
     let lt : p < length gs = omega arith in
     let lto : p < length os = omega (arith, lens.1, ltn) in
     let ltf : p < length fs = omega (arith, c.requires.room, ltn) in
-    let at : get_elem? gs p ≡ some gg = there gs p c.index-kept-place.result lt in
+    let at : get_elem? gs p ≡ some gg = there gs p c.index-remembered-place.result lt in
     let ato : get_elem? os p ≡ some o = there os p 0 lto in
     let more : take (p + 1) (set fs p s) ≡ take p fs ++ s ∷ [] = take_next fs p s ltf in
     let deep : length (take p fs) ≡ p = length_take fs p (omega arith) in
@@ -141,11 +141,11 @@ returns-clause-view g c =
     let ms = members_of (g.S.ScanSeat.bundle c.args.seat.now) in
     let w : ℕ = width g.row.C g.row.H g.row.G in
     let n : ℕ = g.row.N in
-    let lens = c.requires.may.lengths in let a1 = c.loop-place.auto.kept in let a2 = c.loop-place.auto.found in
+    let lens = c.requires.may.lengths in let a1 = c.loop-place.auto.remembered in let a2 = c.loop-place.auto.found in
     let f = c.loop-place-test.false in let last = c.loop-place.auto.place-end in
     let p = c.loop-place.place in
     let e : p ≡ n = omega (arith, lens.0) in
-    let z : List ℕ → ScanLog = λ l. settling c.args.opened.now l c.loop-place.kept (scan_of ms) in
+    let z : List ℕ → ScanLog = λ l. settling c.args.opened.now l c.loop-place.remembered (scan_of ms) in
     c.loop-place.invariant.view
     ∙ (ap (λ (l : List ℕ). with_scan (cond (p == n) (ended n w (z l)) (z l)) ms)
     (take_all c.loop-place.found p (omega (arith, c.requires.room)))
@@ -153,11 +153,11 @@ returns-clause-view g c =
 
 pub returns-clause-held : goal.returns-clause-held
 returns-clause-held g c = λ q x e same.
-    let below = at_below c.loop-place.kept q x e in let f = c.loop-place-test.false in let a1 = c.loop-place.auto.kept in
+    let below = at_below c.loop-place.remembered q x e in let f = c.loop-place-test.false in let a1 = c.loop-place.auto.remembered in
     c.loop-place.invariant.held q x (omega arith) e same
 
 pub returns-clause-ruled : goal.returns-clause-ruled
 returns-clause-ruled g c = let f = c.loop-place-test.false in let lens = c.requires.may.lengths in
     let some_worker = c.requires.may.geometry.workers.0 in let last = c.loop-place.auto.place-end in
-    let a1 = c.loop-place.auto.kept in
+    let a1 = c.loop-place.auto.remembered in
     c.loop-place.invariant.ruled (omega (arith, lens.0))

@@ -15,15 +15,15 @@ invariant-loop-place g l = let bundle = g.S.ScanSeat.bundle in let ms = members_
     let w : ℕ = width g.row.C g.row.H g.row.G in record {
       table : table_of (bundle l.seat) ≡ table_of (bundle l.fn.seat);
       may : MayScan l.board (bundle l.seat);
-      few : length l.kept ≡ g.row.N;
+      few : length l.remembered ≡ g.row.N;
       ruled : 0 < l.place → IsRuled g.row.N g.row.C g.row.H g.row.G (bundle l.seat);
-      wide : AreWide w l.kept;
-      totals : AreTotals w l.kept l.totals;
+      wide : AreWide w l.remembered;
+      totals : AreTotals w l.remembered l.totals;
       view : members_of (bundle l.seat) ≡ with_scan
-          (cond (l.place == g.row.N) (ended g.row.N w (settling l.opened (take l.place l.found) l.kept (scan_of ms)))
-          (settling l.opened (take l.place l.found) l.kept (scan_of ms))) ms;
+          (cond (l.place == g.row.N) (ended g.row.N w (settling l.opened (take l.place l.found) l.remembered (scan_of ms)))
+          (settling l.opened (take l.place l.found) l.remembered (scan_of ms))) ms;
       moves : Moves w l.fn.totals l.totals l.fn.moved l.moved;
       risen : (q : ℕ) → q < l.place → get_or l.opened q 0 ≤ get_or l.found q 0;
-      held : (q : ℕ) (x : RememberedRow) → q < l.place → get_elem? l.kept q ≡ some x → get_or l.opened q 0 ≡ get_or l.found q 0
+      held : (q : ℕ) (x : RememberedRow) → q < l.place → get_elem? l.remembered q ≡ some x → get_or l.opened q 0 ≡ get_or l.found q 0
           → x.number ≡ get_or l.opened q 0;
     }

@@ -18,8 +18,8 @@ loop-turn-init g c =
     let ms = members_of (g.S.ScanSeat.bundle c.args.seat.now) in
     let w : ℕ = width g.row.C g.row.H g.row.G in
     let geo = c.requires.may.geometry.workers.0 in
-    let z : ScanLog = settling c.args.opened.now [] c.args.kept.now (scan_of ms) in
-    let starts : scan_of ms ≡ z = settling_starts c.args.opened.now c.args.kept.now (scan_of ms) c.requires.may.kept
+    let z : ScanLog = settling c.args.opened.now [] c.args.remembered.now (scan_of ms) in
+    let starts : scan_of ms ≡ z = settling_starts c.args.opened.now c.args.remembered.now (scan_of ms) c.requires.may.remembered
     c.requires.may.looks in
     let no : (0 == g.row.N) ≡ false = ne_eqb 0 g.row.N (λ e. omega (arith, e)) in
     record {
@@ -45,9 +45,9 @@ loop-turn-preserved g c =
     let inv = c.loop-turn.invariant in let r = c.confirm_four-same.new in record {
       table = c.confirm_four-same.ensures.table ∙ inv.table;
       leads = c.confirm_four-same.ensures.leads;
-      confirmed = subst (λ (z : ℕ). HasConfirmed g.row.N g.row.C g.row.H g.row.G z ms c.args.kept.now c.args.opened.now
+      confirmed = subst (λ (z : ℕ). HasConfirmed g.row.N g.row.C g.row.H g.row.G z ms c.args.remembered.now c.args.opened.now
           (members_of (bundle r.seat)) r.found c.confirm_four-same.result) (omega arith)
-          (c.confirm_four-same.ensures.confirmed ms c.args.kept.now c.requires.may.lengths.0 inv.confirmed);
+          (c.confirm_four-same.ensures.confirmed ms c.args.remembered.now c.requires.may.lengths.0 inv.confirmed);
     }
 
 true_by : (b : Bool) → (b ≡ false → ⊥) → b ≡ true
@@ -61,7 +61,7 @@ returns g c =
     let ms = members_of (bundle c.args.seat.now) in
     let l = c.loop-turn in let f = c.loop-turn-test.false in let end = l.auto.turn-end in let lens = c.requires.may.lengths in
     let some_worker = c.requires.may.geometry.workers.0 in
-    let os = c.args.opened.now in let gs = c.args.kept.now in let fs = c.confirm_rest.new.found in
+    let os = c.args.opened.now in let gs = c.args.remembered.now in let fs = c.confirm_rest.new.found in
     let a = l.auto.found in let a' = c.confirm_rest.auto.found in
     let so_far : HasConfirmed n g.row.C g.row.H g.row.G (4 * (n / 4)) ms gs os (members_of (bundle l.seat)) l.found l.same =
     subst (λ (z : ℕ). HasConfirmed n g.row.C g.row.H g.row.G (4 * z) ms gs os (members_of (bundle l.seat)) l.found l.same)

@@ -7,6 +7,6 @@ abbrev pub invariant-loop-turn : goal.invariant-loop-turn
 invariant-loop-turn g l = let bundle = g.S.ScanSeat.bundle in record {
   table : table_of (bundle l.seat) ≡ table_of (bundle l.fn.seat);
   leads : HasMember (members_of (bundle l.seat));
-  confirmed : HasConfirmed g.row.N g.row.C g.row.H g.row.G (4 * l.turn) (members_of (bundle l.fn.seat)) l.kept l.opened
+  confirmed : HasConfirmed g.row.N g.row.C g.row.H g.row.G (4 * l.turn) (members_of (bundle l.fn.seat)) l.remembered l.opened
       (members_of (bundle l.seat)) l.found l.same;
 }

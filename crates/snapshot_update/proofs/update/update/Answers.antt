@@ -227,8 +227,8 @@ returns-clause-fit g c =
           ∙ (set_there (rows_of memory) c.worker-index.result v (omega (arith, lt, many))
           ∙ (λ z. some (record { number = c.number-number.ensures z; row = row' }))));
       ready = record {
-        kept = ap (λ (x : Member). x.scan.kept) is3
-            ∙ ((λ z. set (s.ensures.ready.kept z) (sym own z) (record { number = sym number z; row = taken z })) ∙ sym rows');
+        remembered = ap (λ (x : Member). x.scan.remembered) is3
+            ∙ ((λ z. set (s.ensures.ready.remembered z) (sym own z) (record { number = sym number z; row = taken z })) ∙ sym rows');
         rest = ap (λ (x : Member). x.scan.now) is3 ∙ s.ensures.ready.rest;
       };
       hidden_is = ap (λ (x : Member). x.work.hidden) is3 ∙ (fit.shown_is ∙ sym (c.turn.ensures.buffers.0 ∙ f.ensures.others.0));

@@ -31,5 +31,5 @@ returns c =
           (sym (ap (λ (x : ChangedView). x.items) c.self.view_is))
           (ap (take (n + length c.args.items.now)) (with_items_is c.self.inside.items ys (a ∙ c.as_mut_slice.ensures.len)))
           (ap (λ (x : ChangedView). x.all) c.self.view_is)
-          (λ q lt. c.write_each.ensures.kept q lt ∙ ap (λ (l : List ℕ). get_or l q 0) b) c.write_each.ensures.written;
+          (λ q lt. c.write_each.ensures.before q lt ∙ ap (λ (l : List ℕ). get_or l q 0) b) c.write_each.ensures.written;
     }

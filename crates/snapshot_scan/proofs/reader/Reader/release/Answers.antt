@@ -10,7 +10,7 @@ use Rattle.snapshot_scan.proofs.reader.Reader.release.Goals as goal
 pub invariant_of-self : goal.invariant_of-self
 invariant_of-self g c =
     let r = c.args.self.now in
-    let t = led_left c.args.worker r.index r.memory.kept.items (members_of r.bundle) (members_of c.part.new.bundle)
+    let t = led_left c.args.worker r.index r.memory.remembered.items (members_of r.bundle) (members_of c.part.new.bundle)
     c.part.ensures.others (r.leads, r.is, r.ready, r.lent, r.seen) in
     let still = ap (λ (l : List Member). scan_of l) c.part.ensures.others
     ∙ sees_still c.args.worker r.index (members_of r.bundle) r.leads r.is in

@@ -17,7 +17,7 @@ returns-clause-sums g c = λ v at k lt.
     let n = c.as_mut_slice-2.ensures.len in
     let written : take old.totals.len (new.totals ++ drop (length new.totals) old.totals.items) ≡ new.totals =
     over new.totals old.totals.items old.totals.len (a ∙ ap (λ (l : List ℕ). length l) ts) (omega (arith, a)) in
-    let e = own_sums w old.kept.items new.kept old.totals.items new.totals i v v' old.sums c.change_row.ensures.totals
+    let e = own_sums w old.remembered.items new.remembered old.totals.items new.totals i v v' old.sums c.change_row.ensures.totals
     (c.change_row.ensures.rows ∙ ap (λ (l : List RememberedRow). set (map version_of l) i v') gs) at k lt in
     let f = ap (λ (l : List ℕ). slice_index l k) written in omega (arith, e, f)
 
@@ -40,7 +40,7 @@ change_row-requires g c =
               (
                 c.requires.words,
                 λ y at. c.requires.others (version_of y)
-                    (at_map version_of m.kept.items i y (ap (λ (x : List RememberedRow). get_elem? x i) (sym gs) ∙ at)),
+                    (at_map version_of m.remembered.items i y (ap (λ (x : List RememberedRow). get_elem? x i) (sym gs) ∙ at)),
               ),
             ),
           ),

@@ -44,9 +44,9 @@ pub returns-clause-quiet : goal.returns-clause-quiet
 returns-clause-quiet g c = λ e.
     let q = c.scan.ensures.quiet e in let old = c.args.self.now in let new = c.scan.new in
     let la = c.as_mut_slice.ensures.len in let lb = c.as_mut_slice-2.ensures.len in let lc = c.as_mut_slice-3.ensures.len in
-    let kept : take old.kept.len (new.kept ++ drop (length new.kept) old.kept.items) ≡ new.kept =
-    over new.kept old.kept.items old.kept.len
-    (c.scan.auto.kept ∙ ap (λ (l : List RememberedRow). length l) c.as_mut_slice.ensures.value) (let a = c.scan.auto.kept in
+    let remembered : take old.remembered.len (new.remembered ++ drop (length new.remembered) old.remembered.items) ≡ new.remembered =
+    over new.remembered old.remembered.items old.remembered.len
+    (c.scan.auto.remembered ∙ ap (λ (l : List RememberedRow). length l) c.as_mut_slice.ensures.value) (let a = c.scan.auto.remembered in
     omega (arith, a)) in
     let totals : take old.totals.len (new.totals ++ drop (length new.totals) old.totals.items) ≡ new.totals =
     over new.totals old.totals.items old.totals.len
@@ -56,9 +56,9 @@ returns-clause-quiet g c = λ e.
     over new.opened old.opened.items old.opened.len
     (c.scan.auto.opened ∙ ap (λ (l : List ℕ). length l) c.as_mut_slice-3.ensures.value) (let a = c.scan.auto.opened in
     omega (arith, a)) in (
-      ap (map version_of) kept ∙ (q.kept ∙ ap (map version_of) c.as_mut_slice.ensures.value),
+      ap (map version_of) remembered ∙ (q.remembered ∙ ap (map version_of) c.as_mut_slice.ensures.value),
       totals ∙ (q.totals ∙ c.as_mut_slice-2.ensures.value),
-      λ p v at. let t = from_rows new.kept p v (ap (λ (l : List RememberedRow). get_elem? (map version_of l) p) (sym kept)
+      λ p v at. let t = from_rows new.remembered p v (ap (λ (l : List RememberedRow). get_elem? (map version_of l) p) (sym remembered)
           ∙ at) in
           ap (λ (x : Version). x.number) (sym t.2) ∙ (q.known p t.0 t.1 ∙ ap (λ (l : List ℕ). slice_index l p) (sym opened)),
     )
@@ -83,8 +83,8 @@ returns-clause-came_up g c = λ t e moved.
 pub invariant_of-self : goal.invariant_of-self
 invariant_of-self g c =
     let old = c.args.self.now in let new = c.scan.new in let w : ℕ = width g.row.C g.row.H g.row.G in
-    let kept = written new.kept c.as_mut_slice.result.now old.kept.items old.kept.len c.as_mut_slice.ensures.value
-    c.as_mut_slice.ensures.len c.scan.auto.kept in
+    let remembered = written new.remembered c.as_mut_slice.result.now old.remembered.items old.remembered.len c.as_mut_slice.ensures.value
+    c.as_mut_slice.ensures.len c.scan.auto.remembered in
     let totals = written new.totals c.as_mut_slice-2.result.now old.totals.items old.totals.len c.as_mut_slice-2.ensures.value
     c.as_mut_slice-2.ensures.len c.scan.auto.totals in
     let opened = written new.opened c.as_mut_slice-3.result.now old.opened.items old.opened.len c.as_mut_slice-3.ensures.value
@@ -96,8 +96,8 @@ invariant_of-self g c =
     record {
       geometry = old.geometry;
       sizes = (
-        ap (λ (l : List RememberedRow). length l) kept
-            ∙ (c.scan.auto.kept ∙ (ap (λ (l : List RememberedRow). length l) c.as_mut_slice.ensures.value ∙ old.sizes.0)),
+        ap (λ (l : List RememberedRow). length l) remembered
+            ∙ (c.scan.auto.remembered ∙ (ap (λ (l : List RememberedRow). length l) c.as_mut_slice.ensures.value ∙ old.sizes.0)),
         ap (λ (l : List ℕ). length l) totals
             ∙ (c.scan.auto.totals ∙ (ap (λ (l : List ℕ). length l) c.as_mut_slice-2.ensures.value ∙ old.sizes.1)),
         ap (λ (l : List ℕ). length l) opened
@@ -107,18 +107,18 @@ invariant_of-self g c =
         ap (λ (l : List ℕ). length l) lent
             ∙ (c.scan.auto.lent ∙ (ap (λ (l : List ℕ). length l) c.as_mut_slice-5.ensures.value ∙ old.sizes.4)),
       );
-      wide = subst (AreWide w) (sym kept) c.scan.ensures.wide;
+      wide = subst (AreWide w) (sym remembered) c.scan.ensures.wide;
       sums = subst (λ (l : List RememberedRow). AreTotals w l
-          (take old.totals.len (new.totals ++ drop (length new.totals) old.totals.items))) (sym kept)
-          (subst (AreTotals w new.kept)
+          (take old.totals.len (new.totals ++ drop (length new.totals) old.totals.items))) (sym remembered)
+          (subst (AreTotals w new.remembered)
           (sym totals) c.scan.ensures.totals);
       listed = c.scan.ensures.listed.inside;
     }
 
 pub returns-clause-ready : goal.returns-clause-ready
 returns-clause-ready g c = subst (IsIdle (scan_in (g.S.ScanSeat.bundle c.scan.new.seat)))
-    (sym (written c.scan.new.kept c.as_mut_slice.result.now c.args.self.now.kept.items c.args.self.now.kept.len
-    c.as_mut_slice.ensures.value c.as_mut_slice.ensures.len c.scan.auto.kept))
+    (sym (written c.scan.new.remembered c.as_mut_slice.result.now c.args.self.now.remembered.items c.args.self.now.remembered.len
+    c.as_mut_slice.ensures.value c.as_mut_slice.ensures.len c.scan.auto.remembered))
     c.scan.ensures.idle
 
 pub returns-clause-answered : goal.returns-clause-answered
@@ -176,8 +176,8 @@ returns-clause-gave_up g c = λ e.
 pub scan-requires : goal.scan-requires
 scan-requires g c =
     let old = c.args.self.now in let w : ℕ = width g.row.C g.row.H g.row.G in
-    let kept = sym c.as_mut_slice.ensures.value in let totals = sym c.as_mut_slice-2.ensures.value in
-    let idle = subst (IsIdle (scan_in (g.S.ScanSeat.bundle c.args.seat.now))) kept c.requires.ready in (
+    let remembered = sym c.as_mut_slice.ensures.value in let totals = sym c.as_mut_slice-2.ensures.value in
+    let idle = subst (IsIdle (scan_in (g.S.ScanSeat.bundle c.args.seat.now))) remembered c.requires.ready in (
       omega arith,
       record {
         may = record {
@@ -187,15 +187,15 @@ scan-requires g c =
             ap (λ (l : List RememberedRow). length l) c.as_mut_slice.ensures.value ∙ old.sizes.0,
             ap (λ (l : List ℕ). length l) c.as_mut_slice-3.ensures.value ∙ old.sizes.2,
           );
-          wide = subst (AreWide w) kept old.wide;
-          kept = idle.kept;
+          wide = subst (AreWide w) remembered old.wide;
+          remembered = idle.remembered;
           rest = (λ z. (idle.rest z).looks, λ z. (idle.rest z).due, λ z. (idle.rest z).asks);
         };
         room = (
           ap (λ (l : List ℕ). length l) c.as_mut_slice-4.ensures.value ∙ old.sizes.3,
           ap (λ (l : List ℕ). length l) c.as_mut_slice-2.ensures.value ∙ old.sizes.1,
-          subst (λ (l : List RememberedRow). AreTotals w l c.as_mut_slice-2.result.now) kept
-              (subst (AreTotals w old.kept.items) totals old.sums),
+          subst (λ (l : List RememberedRow). AreTotals w l c.as_mut_slice-2.result.now) remembered
+              (subst (AreTotals w old.remembered.items) totals old.sums),
         );
         lent = ap (λ (l : List ℕ). length l) c.as_mut_slice-5.ensures.value ∙ old.sizes.4;
         idle = idle;
@@ -205,11 +205,11 @@ scan-requires g c =
 pub returns-clause-numbers : goal.returns-clause-numbers
 returns-clause-numbers g c = λ quiet e.
     let known = c.scan.ensures.numbers quiet e in let old = c.args.self.now in let new = c.scan.new in
-    let kept = written new.kept c.as_mut_slice.result.now old.kept.items old.kept.len c.as_mut_slice.ensures.value
-    c.as_mut_slice.ensures.len c.scan.auto.kept in
+    let remembered = written new.remembered c.as_mut_slice.result.now old.remembered.items old.remembered.len c.as_mut_slice.ensures.value
+    c.as_mut_slice.ensures.len c.scan.auto.remembered in
     let opened = written new.opened c.as_mut_slice-3.result.now old.opened.items old.opened.len c.as_mut_slice-3.ensures.value
     c.as_mut_slice-3.ensures.len c.scan.auto.opened in
-    λ p v at. let t = from_rows new.kept p v (ap (λ (l : List RememberedRow). get_elem? (map version_of l) p) (sym kept) ∙ at) in
+    λ p v at. let t = from_rows new.remembered p v (ap (λ (l : List RememberedRow). get_elem? (map version_of l) p) (sym remembered) ∙ at) in
     ap (λ (x : Version). x.number) (sym t.2) ∙ (known p t.0 t.1 ∙ ap (λ (l : List ℕ). slice_index l p) (sym opened))
 
 pub returns-clause-listed : goal.returns-clause-listed

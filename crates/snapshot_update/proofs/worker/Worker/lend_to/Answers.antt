@@ -45,6 +45,6 @@ returns-clause-lent g c =
           (ms ++ m ∷ [])) m holds;
     }
 
-pub returns-clause-kept : goal.returns-clause-kept
-returns-clause-kept g c = let r = c.args.reader.now in
+pub returns-clause-scans : goal.returns-clause-scans
+returns-clause-scans g c = let r = c.args.reader.now in
     seen_met (members_with r) _ (members_with c.admit.new.self) r.leads c.admit.ensures.met

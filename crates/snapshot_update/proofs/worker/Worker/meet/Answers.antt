@@ -50,9 +50,9 @@ returns-clause-others g c = λ i m s.
     λ same. apart_at (members_with l.new.reader) s.0 (length old) (r m) (r w) c.take_back.ensures.apart lt at last
     (l.ensures.lent.there.2 ∙ (ap Worker l.ensures.index.0 ∙ sym (s.2 ∙ ap Worker same)))
 
-pub returns-clause-kept : goal.returns-clause-kept
-returns-clause-kept g c = subst (HasSeenMore (scan_of (members_with c.args.reader.now))) (sym c.take_back.ensures.kept)
-    c.lend_to.ensures.kept
+pub returns-clause-scans : goal.returns-clause-scans
+returns-clause-scans g c = subst (HasSeenMore (scan_of (members_with c.args.reader.now))) (sym c.take_back.ensures.kept)
+    c.lend_to.ensures.scans
 
 pub returns-clause-alone : goal.returns-clause-alone
 returns-clause-alone g c = λ alone.

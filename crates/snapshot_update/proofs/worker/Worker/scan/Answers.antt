@@ -16,8 +16,7 @@ invariant_of-self g c =
     let s = c.scan_for_caller-end.new in let told = c.scan_for_caller-end.ensures in let w = c.args.self.now in let seat = c.in-Some.seat in
     let row : List ℕ = w.row.value in let im = w.images in let im' : BufferImages = record im {
       late = c.note_all.new.self;
-      of_board =
-          false;
+      row_known = false;
     } in
     let m : Member = worker_of seat in let scan : ScanLog = (worker_of s.seat).scan in
     let old = w.holds seat c.in-Some.is in

@@ -84,8 +84,8 @@ invariant_of-self g c =
           (subst (HasSeenOwn i) (sym is) (own.2 ∙ ap (λ (l : List PublishEntry). some (length l)) (sym own.1)));
     }
 
-pub returns-clause-kept : goal.returns-clause-kept
-returns-clause-kept g c =
+pub returns-clause-scans : goal.returns-clause-scans
+returns-clause-scans g c =
     let r = c.tell.new.self in
     ap scan_of c.release-bundle.ensures.others
     ∙ (sees_still c.args.self.now.index r.index (members_with r) r.leads r.is ∙ ap scan_of c.tell.ensures.same)
