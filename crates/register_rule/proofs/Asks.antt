@@ -42,7 +42,7 @@ abbrev pub once_asked : (n x : ℕ) → Look → ScanLog → ScanLog
 once_asked n x l c = record c { asked = c.asked ++ asked_of x l ∷ [] }
 
 abbrev pub nothing_lent : (n x : ℕ) → Look → ScanLog → ScanLog
-nothing_lent n x l c = record c { asked = c.asked ++ asked_of x l ∷ []; now = record c.now { due = rest c.now.due; asks = [] } }
+nothing_lent n x l c = record c { asked = c.asked ++ asked_of x l ∷ []; trying = record c.trying { due = rest c.trying.due; asks = [] } }
 
 module _ (n w : ℕ) (adds : List Op → ℕ → ℕ) (made : ℕ → List PublishEntry) (h : List ℕ) where
   -- nothing changes but the loads that opened a place, the workers that were asked, how many scans were given up, and the
@@ -54,7 +54,7 @@ module _ (n w : ℕ) (adds : List Op → ℕ → ℕ) (made : ℕ → List Publi
       → ((q : ℕ) (l : Look) → get_elem? t.looks q ≡ some l → IsLook n w adds made 0 l × (l.place ≡ q))
       → ((q : ℕ) (l : Look) → get_elem? t.asks q ≡ some l → IsLook n w adds made w l)
       → (length t.looks ≡ n → HasStale n w adds made t.looks ⊎ IsCut n h (map opened_at t.looks)) → IsSound n w adds made h c
-      → IsSound n w adds made h (record c { opened = loads; asked = asks; quit = quit'; now = t })
+      → IsSound n w adds made h (record c { opened = loads; asked = asks; quit = quit'; trying = t })
   with_now c loads asks quit' t opened' ordered' asked' looks' asks' whole' ok = record {
     opened = opened';
     confirmed = ok.confirmed;
@@ -72,10 +72,10 @@ module _ (n w : ℕ) (adds : List Op → ℕ → ℕ) (made : ℕ → List Publi
 
   -- a scan gives up
   pub scan_gives : (c : ScanLog) → 0 < n → IsSound n w adds made h c → IsSound n w adds made h (given_up_if_spent n c)
-  scan_gives c some_n ok = cond_both (length c.now.due == 0 && c.now.failed == n + 2)
-      (record c { quit = c.quit + 1; now = at_rest }) c (IsSound n w adds made h)
+  scan_gives c some_n ok = cond_both (length c.trying.due == 0 && c.trying.failed == n + 2)
+      (record c { quit = c.quit + 1; trying = at_rest }) c (IsSound n w adds made h)
       (λ _. with_now c c.opened c.asked (c.quit + 1) at_rest ok.opened
-      (rest_ordered c.opened c.confirmed c.before c.now.looks ok.ordered) ok.asked (λ q l e. absurd (some-ne-none l (sym e)))
+      (rest_ordered c.opened c.confirmed c.before c.trying.looks ok.ordered) ok.asked (λ q l e. absurd (some-ne-none l (sym e)))
       (λ q l e. absurd (some-ne-none l (sym e))) (λ none. absurd (let z : 0 ≡ n = none in omega arith)) ok)
       (λ _. ok)
 
@@ -85,7 +85,7 @@ module _ (n w : ℕ) (adds : List Op → ℕ → ℕ) (made : ℕ → List Publi
   scan_answered c a some_n wide answer ok = let same : length c.seen ≡ length a.vector = ok.seen_wide ∙ sym wide in record {
     opened = ok.opened;
     confirmed = ok.confirmed;
-    ordered = rest_ordered c.opened c.confirmed c.before c.now.looks ok.ordered;
+    ordered = rest_ordered c.opened c.confirmed c.before c.trying.looks ok.ordered;
     asked = ok.asked;
     recorded = each_push (λ (y : Answer). IsOneMoment n w adds made h y × Below y.vector (upper c.seen a.vector)) c.recorded a
         (λ q x t. ((ok.recorded q x t).0, below_upper x.vector c.seen a.vector same (ok.recorded q x t).1))
@@ -106,9 +106,9 @@ module _ (n w : ℕ) (adds : List Op → ℕ → ℕ) (made : ℕ → List Publi
   -- the opening load of a worker that is asked
   pub ask_right : (c : ScanLog) (i x : ℕ) → i < n → x ≡ length (made i) → IsSound n w adds made h c
       → IsSound n w adds made h (after_ask i x c)
-  ask_right c i x inside is ok = cond_both (is_next i c.now.due) (record c.now { asks = begun i x [] ∷ [] }) c.now
-      (λ (t : ScanInProgress). IsSound n w adds made h (record c { now = t }))
-      (λ _. with_now c c.opened c.asked c.quit (record c.now { asks = begun i x [] ∷ [] }) ok.opened ok.ordered ok.asked ok.looks
+  ask_right c i x inside is ok = cond_both (is_next i c.trying.due) (record c.trying { asks = begun i x [] ∷ [] }) c.trying
+      (λ (t : ScanInProgress). IsSound n w adds made h (record c { trying = t }))
+      (λ _. with_now c c.opened c.asked c.quit (record c.trying { asks = begun i x [] ∷ [] }) ok.opened ok.ordered ok.asked ok.looks
       (λ q l e. subst (IsLook n w adds made w) (from_replicate 1 _ q l e) record {
         inside = inside;
         old = omega (arith, is);
@@ -180,7 +180,7 @@ module _ (n w : ℕ) (adds : List Op → ℕ → ℕ) (made : ℕ → List Publi
   pub end_ask_right : (c : ScanLog) (i x : ℕ) → 0 < n → x ≡ length (made i)
       → ((a : Answer) → last_lent (made i) ≡ Some a → IsOneMoment n w adds made h a) → IsSound n w adds made h c
       → IsSound n w adds made h (after_end_ask n w i x c)
-  end_ask_right c i x some_n is lent ok = by_asks c.now.asks ok.asks
+  end_ask_right c i x some_n is lent ok = by_asks c.trying.asks ok.asks
     where
       by_asks : (ls : List Look) → ((q : ℕ) (l : Look) → get_elem? ls q ≡ some l → IsLook n w adds made w l)
           → IsSound n w adds made h (lent_or_passed_at n w i x ls c)
@@ -189,13 +189,13 @@ module _ (n w : ℕ) (adds : List Op → ℕ → ℕ) (made : ℕ → List Publi
           (λ same. let at : l.place ≡ i = eqb-true _ _ same in
           let asked' = each_push (IsAsked n w adds made) c.asked (asked_of x l) ok.asked
           (asked_right i x l at is (each 0 l refl)) in
-          cond_both (is_lender n w x c.now.floor l) (answered (lent_in n w l.words) (once_asked n x l c))
+          cond_both (is_lender n w x c.trying.floor l) (answered (lent_in n w l.words) (once_asked n x l c))
           (given_up_if_spent n (nothing_lent n x l c)) (IsSound n w adds made h)
-          (λ hit. let t = lent_right i x c.now.floor l at is lent (each 0 l refl) hit in
+          (λ hit. let t = lent_right i x c.trying.floor l at is lent (each 0 l refl) hit in
           scan_answered (once_asked n x l c) (lent_in n w l.words) some_n t.1 t.0
-          (with_now c c.opened (c.asked ++ asked_of x l ∷ []) c.quit c.now ok.opened ok.ordered asked' ok.looks ok.asks
+          (with_now c c.opened (c.asked ++ asked_of x l ∷ []) c.quit c.trying ok.opened ok.ordered asked' ok.looks ok.asks
           ok.whole ok))
           (λ _. scan_gives (nothing_lent n x l c) some_n
-          (with_now c c.opened (c.asked ++ asked_of x l ∷ []) c.quit (record c.now { due = rest c.now.due; asks = [] })
+          (with_now c c.opened (c.asked ++ asked_of x l ∷ []) c.quit (record c.trying { due = rest c.trying.due; asks = [] })
           ok.opened ok.ordered asked' ok.looks (λ q l e. absurd (some-ne-none l (sym e))) ok.whole ok)))
           (λ _. ok)

@@ -108,8 +108,8 @@ module _ (n w : ℕ) (adds : List Op → ℕ → ℕ) where
     remembered_wide = ok.remembered_wide;
     looks = λ q l e. (look_grows made made' grows 0 l (ok.looks q l e).0, (ok.looks q l e).1);
     asks = λ q l e. look_grows made made' grows w l (ok.asks q l e);
-    whole = λ all. ⊎_elim (λ (d : HasStale n w adds made c.now.looks). inl (doomed_grows made made' grows c.now.looks d))
-        (λ (p : IsCut n h (map opened_at c.now.looks)). inr (past_grows n h more _ p)) (ok.whole all);
+    whole = λ all. ⊎_elim (λ (d : HasStale n w adds made c.trying.looks). inl (doomed_grows made made' grows c.trying.looks d))
+        (λ (p : IsCut n h (map opened_at c.trying.looks)). inr (past_grows n h more _ p)) (ok.whole all);
   }
 
   module _ (made : ℕ → List PublishEntry) (h : List ℕ) where

@@ -133,39 +133,39 @@ module _ (n w : ℕ) (adds : List Op → ℕ → ℕ) (made : ℕ → List Publi
   -- the opening load
   after_open_right : (c : ScanLog) (i x : ℕ) → i < n → x ≡ length (made i) → IsSound n w adds made h c
       → IsSound n w adds made h (after_open i x c)
-  after_open_right c i x inside is ok = cond_both (opens_next i c.now)
-      (record c.now { looks = c.now.looks ++ begun i x (remembered_words i x c.remembered) ∷ [] }) c.now
-      (λ (t : ScanInProgress). IsSound n w adds made h (record c { opened = c.opened ++ (i, x) ∷ []; now = t }))
-      (λ hit. let t = and_parts _ _ hit in let at : i ≡ length c.now.looks = eqb-true _ _ t.0 in
+  after_open_right c i x inside is ok = cond_both (opens_next i c.trying)
+      (record c.trying { looks = c.trying.looks ++ begun i x (remembered_words i x c.remembered) ∷ [] }) c.trying
+      (λ (t : ScanInProgress). IsSound n w adds made h (record c { opened = c.opened ++ (i, x) ∷ []; trying = t }))
+      (λ hit. let t = and_parts _ _ hit in let at : i ≡ length c.trying.looks = eqb-true _ _ t.0 in
       let free = (and_parts _ _ t.1).1 in
       let new = begun i x (remembered_words i x c.remembered) in
-      let looks' : (q : ℕ) (l : Look) → get_elem? (c.now.looks ++ new ∷ []) q ≡ some l → IsLook n w adds made 0 l
+      let looks' : (q : ℕ) (l : Look) → get_elem? (c.trying.looks ++ new ∷ []) q ≡ some l → IsLook n w adds made 0 l
       × (l.place ≡ q) =
       λ q l e. ⊎_elim (ok.looks q l)
-      (λ (z : (new ≡ l) × (q ≡ length c.now.looks)). subst (λ (y : Look). IsLook n w adds made 0 y × (y.place ≡ q)) z.0
+      (λ (z : (new ≡ l) × (q ≡ length c.trying.looks)). subst (λ (y : Look). IsLook n w adds made 0 y × (y.place ≡ q)) z.0
       (begun_right i x c.remembered inside is ok.remembered, at ∙ sym z.1))
-      (last_is c.now.looks _ l q e) in
-      let none : (q : ℕ) (l : Look) → get_elem? (c.now.looks ++ new ∷ []) q ≡ some l → (l.number ≤ length (made l.place))
+      (last_is c.trying.looks _ l q e) in
+      let none : (q : ℕ) (l : Look) → get_elem? (c.trying.looks ++ new ∷ []) q ≡ some l → (l.number ≤ length (made l.place))
       × (l.sure ≡ false) =
       λ q l e. (
         (looks' q l e).0.old,
-        each_push (λ (y : Look). y.sure ≡ false) c.now.looks new
-            (λ q y z. not-true y.sure (every_at unsure c.now.looks free q y z)) refl q l e,
+        each_push (λ (y : Look). y.sure ≡ false) c.trying.looks new
+            (λ q y z. not-true y.sure (every_at unsure c.trying.looks free q y z)) refl q l e,
       ) in
-      with_now n w adds made h c (c.opened ++ (i, x) ∷ []) c.asked c.quit (record c.now { looks = c.now.looks ++ new ∷ [] })
+      with_now n w adds made h c (c.opened ++ (i, x) ∷ []) c.asked c.quit (record c.trying { looks = c.trying.looks ++ new ∷ [] })
       (loads_more c.opened i x inside is ok.opened)
-      (begin_ordered c.opened c.confirmed c.before c.now.looks i x (topmost c.opened i x is ok.opened)
+      (begin_ordered c.opened c.confirmed c.before c.trying.looks i x (topmost c.opened i x is ok.opened)
       (topmost c.confirmed i x is ok.confirmed) ok.ordered new refl refl refl refl) ok.asked looks' ok.asks
-      (λ len. ⊎_elim (λ (d : HasStale n w adds made (c.now.looks ++ new ∷ [])). inl d) (λ all. inr (moment_now _ len looks' all))
-      (moved_or (c.now.looks ++ new ∷ []) none)) ok)
-      (λ _. with_now n w adds made h c (c.opened ++ (i, x) ∷ []) c.asked c.quit c.now
+      (λ len. ⊎_elim (λ (d : HasStale n w adds made (c.trying.looks ++ new ∷ [])). inl d) (λ all. inr (moment_now _ len looks' all))
+      (moved_or (c.trying.looks ++ new ∷ []) none)) ok)
+      (λ _. with_now n w adds made h c (c.opened ++ (i, x) ∷ []) c.asked c.quit c.trying
       (loads_more c.opened i x inside is ok.opened)
-      (open_ordered c.opened c.confirmed c.before c.now.looks i x (topmost c.opened i x is ok.opened)
+      (open_ordered c.opened c.confirmed c.before c.trying.looks i x (topmost c.opened i x is ok.opened)
       (topmost c.confirmed i x is ok.confirmed) ok.ordered) ok.asked ok.looks ok.asks ok.whole ok)
 
   -- a load that changes looks one by one, and no place or number
   scan_maps : (c : ScanLog) (f g : Look → Look) (found : List (ℕ × ℕ)) (marks : List ℕ) → AreLoads n w adds made found
-      → AreOrdered c.opened found marks (map f c.now.looks) → ((l : Look) → (f l).number ≡ l.number)
+      → AreOrdered c.opened found marks (map f c.trying.looks) → ((l : Look) → (f l).number ≡ l.number)
       → ((l : Look) → (f l).place ≡ l.place) → ((l : Look) → IsLook n w adds made 0 l → IsLook n w adds made 0 (f l))
       → ((l : Look) → IsLook n w adds made w l → IsLook n w adds made w (g l))
       → ((l : Look) → IsStale n w adds made l → (f l).sure ≡ false)
@@ -174,7 +174,7 @@ module _ (n w : ℕ) (adds : List Op → ℕ → ℕ) (made : ℕ → List Publi
       (record c {
         confirmed = found;
         before = marks;
-        now = record c.now { looks = map f c.now.looks; asks = map g c.now.asks };
+        trying = record c.trying { looks = map f c.trying.looks; asks = map g c.trying.asks };
       })
   scan_maps c f g found marks confirmed' ordered' number place look look' sure ok = record {
     opened = ok.opened;
@@ -186,28 +186,28 @@ module _ (n w : ℕ) (adds : List Op → ℕ → ℕ) (made : ℕ → List Publi
     seen_wide = ok.seen_wide;
     remembered = ok.remembered;
     remembered_wide = ok.remembered_wide;
-    looks = (λ q l e. let t = from_map f c.now.looks q l e in
+    looks = (λ q l e. let t = from_map f c.trying.looks q l e in
         subst (λ (z : Look). IsLook n w adds made 0 z × (z.place ≡ q)) t.2 (
           look t.0 (ok.looks q t.0 t.1).0,
           place t.0 ∙ (ok.looks q t.0 t.1).1,
         ));
-    asks = (λ q l e. let t = from_map g c.now.asks q l e in subst (IsLook n w adds made w) t.2 (look' t.0 (ok.asks q t.0 t.1)));
+    asks = (λ q l e. let t = from_map g c.trying.asks q l e in subst (IsLook n w adds made w) t.2 (look' t.0 (ok.asks q t.0 t.1)));
     whole = (λ len. ⊎_elim
-        (λ (d : HasStale n w adds made c.now.looks). inl (
+        (λ (d : HasStale n w adds made c.trying.looks). inl (
           d.0,
           f d.1,
-          at_map f c.now.looks d.0 d.1 d.2,
+          at_map f c.trying.looks d.0 d.1 d.2,
           (sure d.1 d.3, subst (λ (z : ℕ × ℕ). z.0 < length (made z.1)) (λ k. (sym (number d.1) k, sym (place d.1) k)) d.3.1),
         ))
-        (λ (p : IsCut n h (map opened_at c.now.looks)). inr (subst (IsCut n h) (sym (map_same f number c.now.looks)) p))
-        (ok.whole (sym (length-map c.now.looks f) ∙ len)));
+        (λ (p : IsCut n h (map opened_at c.trying.looks)). inr (subst (IsCut n h) (sym (map_same f number c.trying.looks)) p))
+        (ok.whole (sym (length-map c.trying.looks f) ∙ len)));
   }
 
   -- the load of a word, which is right as long as the number of the segment is s
   after_read_right : (c : ScanLog) (i s k x : ℕ) → (s ≡ length (made i) → Shows n w adds (made i) k x) → IsSound n w adds made h c
       → IsSound n w adds made h (after_read w i s k x c)
   after_read_right c i s k x right ok = scan_maps c (noted 0 i s k x) (noted w i s k x) c.confirmed c.before ok.confirmed
-      (map_ordered c.opened c.confirmed c.before c.now.looks (noted 0 i s k x)
+      (map_ordered c.opened c.confirmed c.before c.trying.looks (noted 0 i s k x)
       (λ l t. cond_both (test 0 l) (record l { words = l.words ++ x ∷ [] }) l (IsTried c.opened c.confirmed c.before) (λ _. t)
       (λ _. t)) ok.ordered)
       (λ l. cond_both (test 0 l) _ _ (λ (y : Look). y.number ≡ l.number) (λ _. refl) (λ _. refl))
@@ -278,7 +278,7 @@ module _ (n w : ℕ) (adds : List Op → ℕ → ℕ) (made : ℕ → List Publi
       → IsSound n w adds made h (confirmed_at w i x c)
   confirmed_right c i x inside is ok = let m = scan_maps c (confirmed_look i x) (λ l. l) (c.confirmed ++ (i, x) ∷ [])
       (c.before ++ length c.opened ∷ []) (loads_more c.confirmed i x inside is ok.confirmed)
-      (confirm_ordered c.opened c.confirmed c.before c.now.looks i x (topmost c.opened i x is ok.opened)
+      (confirm_ordered c.opened c.confirmed c.before c.trying.looks i x (topmost c.opened i x is ok.opened)
       (topmost c.confirmed i x is ok.confirmed) ok.ordered)
       (λ l. cond_both (l.place == i) _ _ (λ (y : Look). y.number ≡ l.number) (λ _. refl) (λ _. refl))
       (λ l. cond_both (l.place == i) _ _ (λ (y : Look). y.place ≡ l.place) (λ _. refl) (λ _. refl))
@@ -301,8 +301,8 @@ module _ (n w : ℕ) (adds : List Op → ℕ → ℕ) (made : ℕ → List Publi
         recorded = m.recorded;
         seen = m.seen;
         seen_wide = m.seen_wide;
-        remembered = remembers i (map (confirmed_look i x) c.now.looks) c.remembered (λ q l e. (m.looks q l e).0) ok.remembered;
-        remembered_wide = length_remembered w i (map (confirmed_look i x) c.now.looks) c.remembered ∙ ok.remembered_wide;
+        remembered = remembers i (map (confirmed_look i x) c.trying.looks) c.remembered (λ q l e. (m.looks q l e).0) ok.remembered;
+        remembered_wide = length_remembered w i (map (confirmed_look i x) c.trying.looks) c.remembered ∙ ok.remembered_wide;
         looks = m.looks;
         asks = ok.asks;
         whole = m.whole;
@@ -342,20 +342,20 @@ module _ (n w : ℕ) (adds : List Op → ℕ → ℕ) (made : ℕ → List Publi
       ((ok (suc p) x at).0, (ok (suc p) x at).1 ∙ e'')) q s e)
 
   -- the answer of a clean try
-  clean_right : (c : ScanLog) → IsSound n w adds made h c → are_clean n w c.now.looks ≡ true
-      → IsOneMoment n w adds made h (answer_of_try w c.now.looks) × (length (map opened_at c.now.looks) ≡ n)
+  clean_right : (c : ScanLog) → IsSound n w adds made h c → are_clean n w c.trying.looks ≡ true
+      → IsOneMoment n w adds made h (answer_of_try w c.trying.looks) × (length (map opened_at c.trying.looks) ≡ n)
   clean_right c ok hit =
-      let t = and_parts _ _ hit in let len : length c.now.looks ≡ n = eqb-true _ _ t.0 in
-      let each : (q : ℕ) (l : Look) → get_elem? c.now.looks q ≡ some l → (l.sure ≡ true) × (length l.words ≡ w) = λ q l e. let p =
-      and_parts _ _ (every_at (clean w) c.now.looks t.1 q l e) in (p.0, eqb-true _ _ p.1) in (
+      let t = and_parts _ _ hit in let len : length c.trying.looks ≡ n = eqb-true _ _ t.0 in
+      let each : (q : ℕ) (l : Look) → get_elem? c.trying.looks q ≡ some l → (l.sure ≡ true) × (length l.words ≡ w) = λ q l e. let p =
+      and_parts _ _ (every_at (clean w) c.trying.looks t.1 q l e) in (p.0, eqb-true _ _ p.1) in (
         record {
           low = λ i s e. let z : 0 + i ≡ i = omega arith in
-              subst (λ (y : ℕ). s ≤ length (made y)) z (low_of 0 c.now.looks (λ q l at. let z' : q ≡ 0 + q = omega arith in
+              subst (λ (y : ℕ). s ≤ length (made y)) z (low_of 0 c.trying.looks (λ q l at. let z' : q ≡ 0 + q = omega arith in
               ((ok.looks q l at).0.old, (ok.looks q l at).1 ∙ z')) i s e);
-          moment = ⊎_elim (λ (d : HasStale n w adds made c.now.looks). absurd (true≢false (sym (each d.0 d.1 d.2).0 ∙ d.3.0)))
+          moment = ⊎_elim (λ (d : HasStale n w adds made c.trying.looks). absurd (true≢false (sym (each d.0 d.1 d.2).0 ∙ d.3.0)))
               (λ p. p) (ok.whole len);
-          sums = λ k lt. tab_at 0 w _ k lt ∙ ap some (let z : 0 + k ≡ k = omega arith in ap (λ (y : ℕ). sum_words y c.now.looks) z
-              ∙ sums_right k 0 c.now.looks (λ q l at. let z' : q ≡ 0 + q = omega arith in (
+          sums = λ k lt. tab_at 0 w _ k lt ∙ ap some (let z : 0 + k ≡ k = omega arith in ap (λ (y : ℕ). sum_words y c.trying.looks) z
+              ∙ sums_right k 0 c.trying.looks (λ q l at. let z' : q ≡ 0 + q = omega arith in (
                 (ok.looks q l at).1 ∙ z',
                 let long = (each q l at).1 in
                     ⊎_elim (λ (r : Shows n w adds (take l.number (made l.place)) (0 + k) (get_or l.words k 0)). let z'' : 0 + k
@@ -365,18 +365,18 @@ module _ (n w : ℕ) (adds : List Op → ℕ → ℕ) (made : ℕ → List Publi
                     ((ok.looks q l at).0.right k (get_or l.words k 0) (there l.words k 0 (omega (arith, long)))),
               )));
         },
-        length-map c.now.looks opened_at ∙ len,
+        length-map c.trying.looks opened_at ∙ len,
       )
 
   -- the end of a try
   ended_right : (c : ScanLog) → 0 < n → IsSound n w adds made h c → IsSound n w adds made h (ended n w c)
-  ended_right c some_n ok = cond_both (are_clean n w c.now.looks) (answered (answer_of_try w c.now.looks) c)
-      (given_up_if_spent n (record c { now = failed_once_more (with_base c.now) })) (IsSound n w adds made h)
-      (λ hit. let t = clean_right c ok hit in scan_answered n w adds made h c (answer_of_try w c.now.looks) some_n t.1 t.0 ok)
-      (λ _. scan_gives n w adds made h (record c { now = failed_once_more (with_base c.now) }) some_n
-      (with_now n w adds made h c c.opened c.asked c.quit (failed_once_more (with_base c.now)) ok.opened
-      (rest_ordered c.opened c.confirmed c.before c.now.looks ok.ordered) ok.asked (λ q l e. absurd (some-ne-none l (sym e)))
-      (cond_both (c.now.failed == 0) (record c.now { floor = _; base = _ }) c.now (λ (t : ScanInProgress). (q : ℕ) (l : Look)
+  ended_right c some_n ok = cond_both (are_clean n w c.trying.looks) (answered (answer_of_try w c.trying.looks) c)
+      (given_up_if_spent n (record c { trying = failed_once_more (with_base c.trying) })) (IsSound n w adds made h)
+      (λ hit. let t = clean_right c ok hit in scan_answered n w adds made h c (answer_of_try w c.trying.looks) some_n t.1 t.0 ok)
+      (λ _. scan_gives n w adds made h (record c { trying = failed_once_more (with_base c.trying) }) some_n
+      (with_now n w adds made h c c.opened c.asked c.quit (failed_once_more (with_base c.trying)) ok.opened
+      (rest_ordered c.opened c.confirmed c.before c.trying.looks ok.ordered) ok.asked (λ q l e. absurd (some-ne-none l (sym e)))
+      (cond_both (c.trying.failed == 0) (record c.trying { floor = _; base = _ }) c.trying (λ (t : ScanInProgress). (q : ℕ) (l : Look)
       → get_elem? t.asks q ≡ some l → IsLook n w adds made w l) (λ _. ok.asks) (λ _. ok.asks))
       (λ none. absurd (let z : 0 ≡ n = none in omega arith)) ok))
 
@@ -422,13 +422,13 @@ answer_stays c d a r s = let was = as_was c d r s in record {
 }
 
 give_stays : (n : ℕ) (c d : ScanLog) → d.recorded ≡ c.recorded → d.seen ≡ c.seen → Stays c (given_up_if_spent n d)
-give_stays n c d r s = cond_both (length d.now.due == 0 && d.now.failed == n + 2) _ d (Stays c) (λ _. as_was c _ r s)
+give_stays n c d r s = cond_both (length d.trying.due == 0 && d.trying.failed == n + 2) _ d (Stays c) (λ _. as_was c _ r s)
     (λ _. as_was c d r s)
 
 ask_stays : (n w i x : ℕ) (ls : List Look) (c : ScanLog) → Stays c (lent_or_passed_at n w i x ls c)
 ask_stays n w i x [] c = as_was c c refl refl
 ask_stays n w i x (l ∷ ls) c = cond_both (l.place == i) (lent_or_passed n w x l c) c (Stays c)
-    (λ _. cond_both (is_lender n w x c.now.floor l) (answered (lent_in n w l.words) (once_asked n x l c))
+    (λ _. cond_both (is_lender n w x c.trying.floor l) (answered (lent_in n w l.words) (once_asked n x l c))
     (given_up_if_spent n (nothing_lent n x l c)) (Stays c)
     (λ _. answer_stays c (once_asked n x l c) (lent_in n w l.words) refl refl)
     (λ _. give_stays n c (nothing_lent n x l c) refl refl))
@@ -436,10 +436,10 @@ ask_stays n w i x (l ∷ ls) c = cond_both (l.place == i) (lent_or_passed n w x 
 
 end_stays : (n w i x : ℕ) (c : ScanLog) → Stays c (ended n w (confirmed_at w i x c))
 end_stays n w i x c = let d = confirmed_at w i x c in
-    cond_both (are_clean n w d.now.looks) (answered (answer_of_try w d.now.looks) d)
-    (given_up_if_spent n (record d { now = failed_once_more (with_base d.now) })) (Stays c)
-    (λ _. answer_stays c d (answer_of_try w d.now.looks) refl refl)
-    (λ _. give_stays n c (record d { now = failed_once_more (with_base d.now) }) refl refl)
+    cond_both (are_clean n w d.trying.looks) (answered (answer_of_try w d.trying.looks) d)
+    (given_up_if_spent n (record d { trying = failed_once_more (with_base d.trying) })) (Stays c)
+    (λ _. answer_stays c d (answer_of_try w d.trying.looks) refl refl)
+    (λ _. give_stays n c (record d { trying = failed_once_more (with_base d.trying) }) refl refl)
 
 stays : (n w : ℕ) (what : Load) (x : ℕ) (c : ScanLog) → Stays c (after n w what x c)
 stays n w (Open place) x c = as_was c _ refl refl
@@ -447,7 +447,7 @@ stays n w (Read place number item) x c = as_was c _ refl refl
 stays n w (Confirm place) x c = cond_both (place + 1 == n) (ended n w (confirmed_at w place x c)) (confirmed_at w place x c)
     (Stays c) (λ _. end_stays n w place x c) (λ _. as_was c _ refl refl)
 stays n w (Ask place) x c = as_was c _ refl refl
-stays n w (EndAsk place) x c = ask_stays n w place x c.now.asks c
+stays n w (EndAsk place) x c = ask_stays n w place x c.trying.asks c
 
 pub records_stay : (n w : ℕ) (what : Load) (x : ℕ) (c : ScanLog) (p : ℕ) (a : Answer) → get_elem? c.recorded p ≡ some a
     → get_elem? (after n w what x c).recorded p ≡ some a

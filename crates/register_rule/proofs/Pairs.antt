@@ -21,7 +21,7 @@ module _ (n w b : ℕ) (adds : List Op → ℕ → ℕ) (accepts : (ℕ → ℕ)
   -- by these numbers, which are those of the segments
   module _ (number : ℕ → ℕ) (same : (i : ℕ) → i < n → number i ≡ length (r.made i)) where
     -- a number that has moved is not that of the segment
-    is_doomed : (m : Member) → Sits s m → HasStale n w adds r.made m.scan.now.looks → IsDoomed n number (Sits s) m.scan.now.looks
+    is_doomed : (m : Member) → Sits s m → HasStale n w adds r.made m.scan.trying.looks → IsDoomed n number (Sits s) m.scan.trying.looks
     is_doomed m t d = (
       d.0,
       d.1,
@@ -38,8 +38,8 @@ module _ (n w b : ℕ) (adds : List Op → ℕ → ℕ) (accepts : (ℕ → ℕ)
     of_try : (looks : List Look) → Tries n number (Sits s) looks → IsDoomed n number (Sits s) looks
         ⊎ IsCut n r.history (map opened_at looks)
     of_try looks x = subst (λ (z : List Look). IsDoomed n number (Sits s) z ⊎ IsCut n r.history (map opened_at z)) x.2
-        (⊎_elim (λ (d : HasStale n w adds r.made x.0.scan.now.looks). inl (is_doomed x.0 x.1 d))
-        (λ (p : IsCut n r.history (map opened_at x.0.scan.now.looks)). inr p)
+        (⊎_elim (λ (d : HasStale n w adds r.made x.0.scan.trying.looks). inl (is_doomed x.0 x.1 d))
+        (λ (p : IsCut n r.history (map opened_at x.0.scan.trying.looks)). inr p)
         ((scan_of x.0 x.1).whole (ap (λ (z : List Look). length z) x.2 ∙ x.3)))
 
     -- the numbers of two moments of one history are comparable

@@ -26,7 +26,7 @@ fresh_scan n w = record {
   quit = 0;
   seen = replicate n 0;
   remembered = replicate n (record { number = 0; row = replicate w 0 });
-  now = at_rest;
+  trying = at_rest;
 }
 
 -- worker i, which has made no step: both its buffers are b zeros

@@ -31,11 +31,11 @@ at_rest = record { failed = 0; floor = []; base = []; looks = []; due = []; asks
 
 -- a scan ends with an answer, which is recorded
 abbrev pub answered : Answer → ScanLog → ScanLog
-answered a c = record c { recorded = c.recorded ++ a ∷ []; seen = upper c.seen a.vector; now = at_rest }
+answered a c = record c { recorded = c.recorded ++ a ∷ []; seen = upper c.seen a.vector; trying = at_rest }
 
 -- a scan whose try n + 2 has failed, and that has nobody to ask, is given up; any other one goes on as it is
 abbrev pub given_up_if_spent : (n : ℕ) → ScanLog → ScanLog
-given_up_if_spent n c = cond (length c.now.due == 0 && c.now.failed == n + 2) (record c { quit = c.quit + 1; now = at_rest }) c
+given_up_if_spent n c = cond (length c.trying.due == 0 && c.trying.failed == n + 2) (record c { quit = c.quit + 1; trying = at_rest }) c
 
 -- **The opening load** of the place i found the number s. It opens the next place of a try in which nothing is
 -- confirmed yet, where nobody is still to be asked. The words of a row that is remembered need not be read again.
@@ -62,7 +62,7 @@ opens_next i t = i == length t.looks && (length t.due == 0 && every unsure t.loo
 abbrev pub after_open : (i s : ℕ) → ScanLog → ScanLog
 after_open i s c = record c {
   opened = c.opened ++ (i, s) ∷ [];
-  now = cond (opens_next i c.now) (record c.now { looks = c.now.looks ++ begun i s (remembered_words i s c.remembered) ∷ [] }) c.now;
+  trying = cond (opens_next i c.trying) (record c.trying { looks = c.trying.looks ++ begun i s (remembered_words i s c.remembered) ∷ [] }) c.trying;
 }
 
 -- **The load of a word** of the version s of the place i found x at the item k. A look takes its words one by one;
@@ -76,7 +76,7 @@ noted from i s k x l = cond (l.place == i && l.number == s && not l.sure && k ==
 -- a scan after the load of a word, which a try or an asked worker may take
 abbrev pub after_read : (w i s k x : ℕ) → ScanLog → ScanLog
 after_read w i s k x c =
-    record c { now = record c.now { looks = map (noted 0 i s k x) c.now.looks; asks = map (noted w i s k x) c.now.asks } }
+    record c { trying = record c.trying { looks = map (noted 0 i s k x) c.trying.looks; asks = map (noted w i s k x) c.trying.asks } }
 
 -- **The confirming load** of the place i found the number s. A place whose number is found again is sure, and its row
 -- is remembered. That of the last place ends the try.
@@ -96,8 +96,8 @@ abbrev pub confirmed_at : (w i s : ℕ) → ScanLog → ScanLog
 confirmed_at w i s c = record c {
   confirmed = c.confirmed ++ (i, s) ∷ [];
   before = c.before ++ length c.opened ∷ [];
-  remembered = remembered_then w i (map (confirmed_look i s) c.now.looks) c.remembered;
-  now = record c.now { looks = map (confirmed_look i s) c.now.looks };
+  remembered = remembered_then w i (map (confirmed_look i s) c.trying.looks) c.remembered;
+  trying = record c.trying { looks = map (confirmed_look i s) c.trying.looks };
 }
 
 -- a place is clean where its row of w words is read and its number was found again
@@ -137,8 +137,8 @@ failed_once_more t = record t { failed = t.failed + 1; looks = []; due = due_of 
 
 -- the end of a try: a clean one gives the answer, and any other one has failed
 abbrev pub ended : (n w : ℕ) → ScanLog → ScanLog
-ended n w c = cond (are_clean n w c.now.looks) (answered (answer_of_try w c.now.looks) c)
-    (given_up_if_spent n (record c { now = failed_once_more (with_base c.now) }))
+ended n w c = cond (are_clean n w c.trying.looks) (answered (answer_of_try w c.trying.looks) c)
+    (given_up_if_spent n (record c { trying = failed_once_more (with_base c.trying) }))
 
 -- a scan after the confirming load of the place i, of n
 abbrev pub after_confirm : (n w i s : ℕ) → ScanLog → ScanLog
@@ -153,7 +153,7 @@ is_next i (x ∷ xs) = i == x
 
 -- a scan after the opening load of worker i, which is asked
 abbrev pub after_ask : (i s : ℕ) → ScanLog → ScanLog
-after_ask i s c = record c { now = cond (is_next i c.now.due) (record c.now { asks = begun i s [] ∷ [] }) c.now }
+after_ask i s c = record c { trying = cond (is_next i c.trying.due) (record c.trying { asks = begun i s [] ∷ [] }) c.trying }
 
 -- the view in the words that were read, which begin with the flag
 abbrev pub lent_in : (n w : ℕ) → List ℕ → Answer
@@ -179,12 +179,12 @@ rest (x ∷ xs) = xs
 
 -- the end of asking a worker: it lends, and the scan has its view as the answer; or it is passed over, and the next one is asked
 abbrev pub lent_or_passed : (n w s : ℕ) → Look → ScanLog → ScanLog
-lent_or_passed n w s l c = cond (is_lender n w s c.now.floor l)
+lent_or_passed n w s l c = cond (is_lender n w s c.trying.floor l)
     (answered (lent_in n w l.words) (record c { asked = c.asked ++ asked_of s l ∷ [] }))
     (given_up_if_spent n (record c {
       asked = c.asked ++ asked_of s l ∷ [];
-      now = record c.now {
-        due = rest c.now.due;
+      trying = record c.trying {
+        due = rest c.trying.due;
         asks = [];
       };
     }))
@@ -196,7 +196,7 @@ lent_or_passed_at n w i s (l ∷ ls) c = cond (l.place == i) (lent_or_passed n w
 
 -- a scan after the confirming load of worker i, which is asked
 abbrev pub after_end_ask : (n w i s : ℕ) → ScanLog → ScanLog
-after_end_ask n w i s c = lent_or_passed_at n w i s c.now.asks c
+after_end_ask n w i s c = lent_or_passed_at n w i s c.trying.asks c
 
 -- a load of a scan found the word x
 abbrev pub after : (n w : ℕ) → Load → (x : ℕ) → ScanLog → ScanLog

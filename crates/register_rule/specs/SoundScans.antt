@@ -70,7 +70,7 @@ module _ (n w : ℕ) (adds : List Op → ℕ → ℕ) (made : ℕ → List Publi
     pub opened : AreLoads c.opened
     pub confirmed : AreLoads c.confirmed
     -- a confirming load is not below the opening loads of its place before it, and what a look found is not below its number
-    pub ordered : AreOrdered c.opened c.confirmed c.before c.now.looks
+    pub ordered : AreOrdered c.opened c.confirmed c.before c.trying.looks
     pub asked : (q : ℕ) (e : Asked) → get_elem? c.asked q ≡ some e → IsAsked e
     pub recorded : (q : ℕ) (a : Answer) → get_elem? c.recorded q ≡ some a → IsOneMoment history a × Below a.vector c.seen
     pub seen : AtMost c.seen
@@ -78,7 +78,7 @@ module _ (n w : ℕ) (adds : List Op → ℕ → ℕ) (made : ℕ → List Publi
     pub remembered : (i : ℕ) (v : Version) → get_elem? c.remembered i ≡ some v → IsVersion i v
     pub remembered_wide : length c.remembered ≡ n
     -- the look q of a try is of the place q
-    pub looks : (q : ℕ) (l : Look) → get_elem? c.now.looks q ≡ some l → IsLook 0 l × (l.place ≡ q)
-    pub asks : (q : ℕ) (l : Look) → get_elem? c.now.asks q ≡ some l → IsLook w l
+    pub looks : (q : ℕ) (l : Look) → get_elem? c.trying.looks q ≡ some l → IsLook 0 l × (l.place ≡ q)
+    pub asks : (q : ℕ) (l : Look) → get_elem? c.trying.asks q ≡ some l → IsLook w l
     -- a try that has opened all places has a stale place, or its numbers are those of one moment
-    pub whole : length c.now.looks ≡ n → HasStale c.now.looks ⊎ IsCut n history (map opened_at c.now.looks)
+    pub whole : length c.trying.looks ≡ n → HasStale c.trying.looks ⊎ IsCut n history (map opened_at c.trying.looks)

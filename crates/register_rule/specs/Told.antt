@@ -81,7 +81,7 @@ module _ (n : ℕ) (number : ℕ → ℕ) (Is : Member → Type 0) where
 
   -- these are the places of a try of one of them, and all are opened
   abbrev pub Tries : List Look → Type 0
-  Tries looks = (m : Member) × Is m × (m.scan.now.looks ≡ looks) × (length looks ≡ n)
+  Tries looks = (m : Member) × Is m × (m.scan.trying.looks ≡ looks) × (length looks ≡ n)
 
   -- at some place that is not confirmed the number that stands on the board is no longer the one opened: the try cannot become
   -- clean

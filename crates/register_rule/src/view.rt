@@ -101,7 +101,7 @@ pub struct ScanLog {
     /// published last where that is later, and zeros at first.
     pub remembered: LinkedList<Version>,
     /// The scan in progress.
-    pub now: ScanInProgress,
+    pub trying: ScanInProgress,
 }
 
 /// What a worker has written.

@@ -38,7 +38,7 @@ three f g h ms a b d p q r = r ∙ (ap (led (scan_changed h)) (q ∙ ap (led (sc
 
 -- c, which asks this
 abbrev asks_now : Look → ScanLog → ScanLog
-asks_now l c = record c { now = record c.now { looks = []; asks = l ∷ [] } }
+asks_now l c = record c { trying = record c.trying { looks = []; asks = l ∷ [] } }
 
 noted_here : (w i s k x : ℕ) (ws : List ℕ) → k ≡ w + length ws → noted w i s k x (begun i s ws) ≡ begun i s (ws ++ x ∷ [])
 noted_here w i s k x ws e =
@@ -60,20 +60,20 @@ reads_view w i s k ws (x ∷ xs) c e =
     snoc_long (y ∷ l) x = ap suc (snoc_long l x)
 
 -- all that asking one worker comes to
-pub asks_view : (n w i s again : ℕ) (words more : List ℕ) (c : ScanLog) → c.now.due ≡ i ∷ more → c.now.looks ≡ []
+pub asks_view : (n w i s again : ℕ) (words more : List ℕ) (c : ScanLog) → c.trying.due ≡ i ∷ more → c.trying.looks ≡ []
     → after_end_ask n w i again (read_all w i s w words (after_ask i s c))
-    ≡ cond (is_lender n w again c.now.floor (begun i s words))
+    ≡ cond (is_lender n w again c.trying.floor (begun i s words))
     (answered (lent_in n w words) (asked_too (asked_of again (begun i s words)) c))
     (given_up_if_spent n (record c {
       asked = c.asked ++ asked_of again (begun i s words) ∷ [];
-      now = record c.now { looks = []; due = rest c.now.due; asks = [] };
+      trying = record c.trying { looks = []; due = rest c.trying.due; asks = [] };
     }))
 asks_view n w i s again words more c due looks =
-    let t : is_next i c.now.due ≡ true = ap (is_next i) due ∙ eq-eqb i i refl in
+    let t : is_next i c.trying.due ≡ true = ap (is_next i) due ∙ eq-eqb i i refl in
     let opens : after_ask i s c ≡ asks_now (begun i s []) c =
     λ z. record c {
-      now = cond (t z) (record c.now { looks = looks z; asks = begun i s [] ∷ [] })
-          (record c.now { looks = looks z });
+      trying = cond (t z) (record c.trying { looks = looks z; asks = begun i s [] ∷ [] })
+          (record c.trying { looks = looks z });
     } in
     let e : w ≡ w + 0 = omega arith in
     ap (λ (d : ScanLog). after_end_ask n w i again (read_all w i s w words d)) opens
@@ -81,17 +81,17 @@ asks_view n w i s again words more c due looks =
     ∙ ap (λ (b : Bool). cond b (lent_or_passed n w again (begun i s words) (asks_now (begun i s words) c))
     (asks_now (begun i s words) c)) (eq-eqb i i refl))
 
-looks_same : (c : ScanLog) (e : Asked) → c.now.looks ≡ [] → record c {
+looks_same : (c : ScanLog) (e : Asked) → c.trying.looks ≡ [] → record c {
   asked = c.asked ++ e ∷ [];
-  now = record c.now { looks = []; due = rest c.now.due; asks = [] };
+  trying = record c.trying { looks = []; due = rest c.trying.due; asks = [] };
 } ≡ refused e c
 looks_same c e looks = λ z. record c {
   asked = c.asked ++ e ∷ [];
-  now = record c.now { looks = sym looks z; due = rest c.now.due; asks = [] };
+  trying = record c.trying { looks = sym looks z; due = rest c.trying.due; asks = [] };
 }
 
-pub view_refuses : (n w i s again : ℕ) (words more : List ℕ) (c : ScanLog) → c.now.due ≡ i ∷ more → c.now.looks ≡ []
-    → is_lender n w again c.now.floor (begun i s words) ≡ false
+pub view_refuses : (n w i s again : ℕ) (words more : List ℕ) (c : ScanLog) → c.trying.due ≡ i ∷ more → c.trying.looks ≡ []
+    → is_lender n w again c.trying.floor (begun i s words) ≡ false
     → after_end_ask n w i again (read_all w i s w words (after_ask i s c)) ≡ given_up_if_spent n
     (refused (asked_of again (begun i s words)) c)
 view_refuses n w i s again words more c due looks not_lent =
@@ -100,9 +100,9 @@ view_refuses n w i s again words more c due looks not_lent =
     ∙ (ap (λ (b : Bool). cond b (answered (lent_in n w words) (asked_too e c))
     (given_up_if_spent n (record c {
       asked = c.asked ++ e ∷ [];
-      now = record c.now {
+      trying = record c.trying {
         looks = [];
-        due = rest c.now.due;
+        due = rest c.trying.due;
         asks =
             [];
       };
@@ -110,8 +110,8 @@ view_refuses n w i s again words more c due looks not_lent =
     not_lent
     ∙ ap (given_up_if_spent n) (looks_same c e looks))
 
-pub view_lends : (n w i s again : ℕ) (words more : List ℕ) (c : ScanLog) → c.now.due ≡ i ∷ more → c.now.looks ≡ []
-    → is_lender n w again c.now.floor (begun i s words) ≡ true
+pub view_lends : (n w i s again : ℕ) (words more : List ℕ) (c : ScanLog) → c.trying.due ≡ i ∷ more → c.trying.looks ≡ []
+    → is_lender n w again c.trying.floor (begun i s words) ≡ true
     → after_end_ask n w i again (read_all w i s w words (after_ask i s c)) ≡ answered (lent_in n w words)
     (asked_too (asked_of again (begun i s words)) c)
 view_lends n w i s again words more c due looks hit =
@@ -120,9 +120,9 @@ view_lends n w i s again words more c due looks hit =
     ∙ ap (λ (b : Bool). cond b (answered (lent_in n w words) (asked_too e c))
     (given_up_if_spent n (record c {
       asked = c.asked ++ e ∷ [];
-      now = record c.now {
+      trying = record c.trying {
         looks = [];
-        due = rest c.now.due;
+        due = rest c.trying.due;
         asks =
             [];
       };
@@ -134,10 +134,10 @@ at_end [] x = refl
 at_end (y ∷ l) x = at_end l x
 
 pub given_asked : (n : ℕ) (c : ScanLog) → (given_up_if_spent n c).asked ≡ c.asked
-given_asked n c = go (length c.now.due == 0 && c.now.failed == n + 2)
+given_asked n c = go (length c.trying.due == 0 && c.trying.failed == n + 2)
   where
     go : (b : Bool) → (cond b
-        (record c { quit = c.quit + 1; now = record { failed = 0; floor = []; base = []; looks = []; due = []; asks = [] } })
+        (record c { quit = c.quit + 1; trying = record { failed = 0; floor = []; base = []; looks = []; due = []; asks = [] } })
         c).asked ≡ c.asked
     go true = refl
     go false = refl
@@ -200,7 +200,7 @@ pub refuses_of : (n w i s again : ℕ) (words more floor : List ℕ) (adds : Lis
     (ms a b d : List Member) → HasMember ms
     → a ≡ led (scan_changed (after_ask i s)) ms → b ≡ led (scan_changed (read_all w i s w words)) a
     → d ≡ led (scan_changed (after_end_ask n w i again)) b
-    → (scan_of ms).now.due ≡ i ∷ more → (scan_of ms).now.looks ≡ [] → (scan_of ms).now.floor ≡ floor → length words ≡ 1 + n + w
+    → (scan_of ms).trying.due ≡ i ∷ more → (scan_of ms).trying.looks ≡ [] → (scan_of ms).trying.floor ≡ floor → length words ≡ 1 + n + w
     → length floor ≡ n → AreRuled n w adds accepts d
     → is_lender n w again floor (begun i s words) ≡ false
     → (e : Asked) × (e.worker ≡ i) × DoesNotLend n floor e × (d ≡ with_scan (given_up_if_spent n (refused e (scan_of ms))) ms)
@@ -236,25 +236,25 @@ refuses_of n w i s again words more floor adds accepts ms a b d t p q r due look
 -- what is left to ask after a worker that does not lend
 pub may_next : (n i : ℕ) (e : Asked) (floor more : List ℕ) (c : ScanLog) → MayAsk floor (i ∷ more) c
     → MayAsk floor more (given_up_if_spent n (refused e c))
-may_next n i e floor more c may = go (length (rest c.now.due) == 0 && c.now.failed == n + 2) refl
+may_next n i e floor more c may = go (length (rest c.trying.due) == 0 && c.trying.failed == n + 2) refl
   where
-    left : rest c.now.due ≡ more
+    left : rest c.trying.due ≡ more
     left = ap rest may.due
 
-    is_floor : c.now.floor ≡ floor
+    is_floor : c.trying.floor ≡ floor
     is_floor = may.floor (λ h. let h' = h in cc)
 
-    go : (b : Bool) → (length (rest c.now.due) == 0 && c.now.failed == n + 2) ≡ b
+    go : (b : Bool) → (length (rest c.trying.due) == 0 && c.trying.failed == n + 2) ≡ b
         → MayAsk floor more (cond b
         (record (refused e c) {
           quit = c.quit + 1;
-          now = record { failed = 0; floor = []; base = []; looks = []; due = []; asks = [] };
+          trying = record { failed = 0; floor = []; base = []; looks = []; due = []; asks = [] };
         }) (refused e c))
-    go true t = let nil : length (rest c.now.due) ≡ 0 = eqb-true _ _ (and_parts _ _ t).0 in record {
-      due = sym (sym left ∙ empty (rest c.now.due) nil);
+    go true t = let nil : length (rest c.trying.due) ≡ 0 = eqb-true _ _ (and_parts _ _ t).0 in record {
+      due = sym (sym left ∙ empty (rest c.trying.due) nil);
       looks = refl;
       asks = refl;
-      floor = λ ne. absurd (ne (sym left ∙ empty (rest c.now.due) nil));
+      floor = λ ne. absurd (ne (sym left ∙ empty (rest c.trying.due) nil));
     }
       where
         empty : (l : List ℕ) → length l ≡ 0 → l ≡ []

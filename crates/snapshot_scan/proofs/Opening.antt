@@ -77,11 +77,11 @@ map_both f (y ∷ ys) x = ap (λ z. f y ∷ z) (map_both f ys x)
 
 -- c, with these looks in its try
 abbrev looking : List Look → ScanLog → ScanLog
-looking ls c = record c { now = record c.now { looks = ls } }
+looking ls c = record c { trying = record c.trying { looks = ls } }
 
 -- the words of the place that was begun last, all in their order
 reads_row : (w i s : ℕ) (opened : List ℕ) (gs : List RememberedRow) (ws xs : List ℕ) (c : ScanLog) → length opened ≡ i
-    → c.now.asks ≡ []
+    → c.trying.asks ≡ []
     → read_all w i s (length ws) xs (looking (looks_of 0 opened [] gs ++ begun i s ws ∷ []) c) ≡ looking
     (looks_of 0 opened [] gs ++ begun i s (ws ++ xs) ∷ []) c
 reads_row w i s opened gs ws [] c here none = ap (λ (z : List ℕ). looking (looks_of 0 opened [] gs ++ begun i s z ∷ []) c)
@@ -92,10 +92,10 @@ reads_row w i s opened gs ws (x ∷ xs) c here none =
     (ws ++ x ∷ []) ∷ [] =
     map_both (noted 0 i s k x) (looks_of 0 opened [] gs) (begun i s ws)
     ∙ (λ z. noted_before i s k x 0 opened gs (omega (arith, here)) z ++ noted_here i s k x ws refl z ∷ []) in
-    let asks : map (noted w i s k x) c.now.asks ≡ c.now.asks = ap (map (noted w i s k x)) none ∙ sym none in
+    let asks : map (noted w i s k x) c.trying.asks ≡ c.trying.asks = ap (map (noted w i s k x)) none ∙ sym none in
     let one : after_read w i s k x (looking (looks_of 0 opened [] gs ++ begun i s ws ∷ []) c) ≡ looking
     (looks_of 0 opened [] gs ++ begun i s (ws ++ x ∷ []) ∷ []) c =
-    λ z. record c { now = record c.now { looks = looks z; asks = asks z } } in
+    λ z. record c { trying = record c.trying { looks = looks z; asks = asks z } } in
     let long : length (ws ++ x ∷ []) ≡ suc k = snoc_long ws x in
     ap (read_all w i s (suc k) xs) one
     ∙ (ap (λ (z : ℕ). read_all w i s z xs (looking (looks_of 0 opened [] gs ++ begun i s (ws ++ x ∷ []) ∷ []) c)) (sym long)
@@ -109,7 +109,7 @@ reads_row w i s opened gs ws (x ∷ xs) c here none =
 -- one more place is opened
 pub opens_more : (w s : ℕ) (opened : List ℕ) (gs : List RememberedRow) (g g' : RememberedRow) (c : ScanLog)
     → get_elem? gs (length opened) ≡ some g → length opened < length gs
-    → version_of g' ≡ version_of g → c.remembered ≡ map version_of gs → c.now.due ≡ [] → c.now.asks ≡ []
+    → version_of g' ≡ version_of g → c.remembered ≡ map version_of gs → c.trying.due ≡ [] → c.trying.asks ≡ []
     → looked_at w (length opened) s (g.number == s) g'.fresh.items (opening opened gs c) ≡ opening (opened ++ s ∷ [])
     (set gs (length opened) g') c
 opens_more w s opened gs g g' c at inside same remembered due asks =
@@ -118,7 +118,7 @@ opens_more w s opened gs g g' c at inside same remembered due asks =
     let ls = looks_of 0 opened [] gs in
     let c' : ScanLog = record c { opened = c.opened ++ pairs 0 (opened ++ s ∷ []) } in
     let long : i ≡ length ls = sym (looks_long 0 opened [] gs (omega (arith, inside))) in
-    let t : opens_next i old.now ≡ true = λ z. eq-eqb i (length ls) long z &&
+    let t : opens_next i old.trying ≡ true = λ z. eq-eqb i (length ls) long z &&
     (eqb (length (due z)) 0 && opened_unsure 0 opened gs z) in
     let e : 0 + i ≡ i = omega arith in
     let loads : old.opened ++ (i, s) ∷ [] ≡ c'.opened = append_assoc c.opened (pairs 0 opened) ((i, s) ∷ [])
@@ -127,7 +127,7 @@ opens_more w s opened gs g g' c at inside same remembered due asks =
     let opens : after_open i s old ≡ looking (ls ++ begun i s (cond (g.number == s) g.row.items []) ∷ []) c' =
     (λ z. record c {
       opened = loads z;
-      now = cond (t z) (record c.now { looks = ls ++ begun i s (ws z) ∷ [] }) (record c.now { looks = ls });
+      trying = cond (t z) (record c.trying { looks = ls ++ begun i s (ws z) ∷ [] }) (record c.trying { looks = ls });
     }) in
     let looks : looks_of 0 (opened ++ s ∷ []) [] (set gs i g') ≡ ls ++ begun i s (cond (g.number == s) g.row.items g'.fresh.items)
     ∷ [] =
@@ -145,8 +145,8 @@ opens_more w s opened gs g g' c at inside same remembered due asks =
     go false h = ap (read_all w (length opened) s 0 g'.fresh.items) h ∙ reads_row w (length opened) s opened gs [] g'.fresh.items
         (record c { opened = c.opened ++ pairs 0 (opened ++ s ∷ []) }) refl asks
 
-pub opening_starts : (gs : List RememberedRow) (c : ScanLog) → c.now.looks ≡ [] → opening [] gs c ≡ c
-opening_starts gs c none = λ z. record c { opened = append-nil c.opened z; now = record c.now { looks = sym none z } }
+pub opening_starts : (gs : List RememberedRow) (c : ScanLog) → c.trying.looks ≡ [] → opening [] gs c ≡ c
+opening_starts gs c none = λ z. record c { opened = append-nil c.opened z; trying = record c.trying { looks = sym none z } }
 
 pub loaded : (i x : ℕ) (c : ScanLog) (opened : List ℕ) (gs : List RememberedRow) (ms ms' : List Member) → HasMember ms
     → ms' ≡ with_scan (opening opened gs c) ms → IsNumber i ms' x → IsLoaded i c x

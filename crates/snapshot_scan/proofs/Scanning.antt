@@ -210,10 +210,10 @@ tries_one n opened found failed = let t : Tried = record { first = opened; secon
 -- what may be asked after a try
 pub may_start : (n : ℕ) (opened found : List ℕ) (gs : List RememberedRow) (floor base workers : List ℕ) (d : ScanLog)
     → MayAsk floor workers (given_up_if_spent n (asking opened found gs floor base [] workers d))
-may_start n opened found gs floor base [] d = go (d.now.failed + 1 == n + 2)
+may_start n opened found gs floor base [] d = go (d.trying.failed + 1 == n + 2)
   where
     go : (b : Bool) → MayAsk floor []
-        (cond b (record (asking opened found gs floor base [] [] d) { quit = d.quit + 1; now = at_rest })
+        (cond b (record (asking opened found gs floor base [] [] d) { quit = d.quit + 1; trying = at_rest })
         (asking opened found gs floor base [] [] d))
     go true = record { due = refl; looks = refl; asks = refl; floor = λ ne. absurd (ne refl) }
     go false = record { due = refl; looks = refl; asks = refl; floor = λ _. refl }
@@ -226,7 +226,7 @@ pub later_not : (tries : List Tried) (k : ℕ) → length tries ≡ k + 1 → (l
 later_not tries k e = ne_eqb (length tries) 0 (λ h. omega (arith, h, e))
 
 pub first_starts : (n w : ℕ) (opened found : List ℕ) (gs : List RememberedRow) (c : ScanLog) → length gs ≡ n → length opened ≡ n
-    → length found ≡ n → c.now ≡ at_rest
+    → length found ≡ n → c.trying ≡ at_rest
     → failing (settling opened found gs (opening opened gs c)) ≡ stood (record { first = opened; second = found; asks = [] } ∷ [])
     gs opened found c
 first_starts n w opened found gs c few long deep none =
@@ -237,7 +237,7 @@ first_starts n w opened found gs c few long deep none =
       before = c.before ++ sym (append-nil (map (λ _. length (c.opened ++ pairs 0 opened)) found)) z;
       asked = c.asked ++ [];
       remembered = map version_of gs;
-      now = record {
+      trying = record {
         failed = ap (λ (t : ℕ). t + 1) (ap (λ (u : _). u.failed) none) z;
         floor = opened;
         base = found;
@@ -270,9 +270,9 @@ may_try {N} {C} {H} {G} b s s' k tries gs floor base opened own geo same few lon
       wide = wide;
       remembered = ap (λ (d : ScanLog). d.remembered) scan;
       rest = (
-        ap (λ (d : ScanLog). d.now.looks) scan,
-        ap (λ (d : ScanLog). d.now.due) scan,
-        ap (λ (d : ScanLog). d.now.asks) scan,
+        ap (λ (d : ScanLog). d.trying.looks) scan,
+        ap (λ (d : ScanLog). d.trying.due) scan,
+        ap (λ (d : ScanLog). d.trying.asks) scan,
       );
     }
 

@@ -140,7 +140,7 @@ confirms_more w s o opened pre gs g g' c at there wide same version =
     (ap (λ (z : List ℕ). length z) same ∙ wide)
     ∙ (ap (λ (z : List ℕ). cond (o == s) (set (map version_of gs) i (record { number = o; row = z })) (map version_of gs)) same
     ∙ go (o == s) version)) in
-    λ z. record c { confirmed = loads z; before = marks z; remembered = remembered z; now = record c.now { looks = looks z } }
+    λ z. record c { confirmed = loads z; before = marks z; remembered = remembered z; trying = record c.trying { looks = looks z } }
   where
     go : (b : Bool) → version_of g' ≡ cond b (record { number = o; row = words_of o g }) (version_of g)
         → cond b (set (map version_of gs) (length pre) (record { number = o; row = words_of o g })) (map version_of gs) ≡ map
@@ -177,10 +177,10 @@ words_wide w o g wide = go (g.number == o)
     go false = wide.fresh
 
 pub settling_starts : (opened : List ℕ) (gs : List RememberedRow) (c : ScanLog) → c.remembered ≡ map version_of gs
-    → c.now.looks ≡ looks_of 0 opened [] gs → c ≡ settling opened [] gs c
+    → c.trying.looks ≡ looks_of 0 opened [] gs → c ≡ settling opened [] gs c
 settling_starts opened gs c remembered looks = λ z. record c {
   confirmed = sym (append-nil c.confirmed) z;
   before = sym (append-nil c.before) z;
   remembered = remembered z;
-  now = record c.now { looks = looks z };
+  trying = record c.trying { looks = looks z };
 }

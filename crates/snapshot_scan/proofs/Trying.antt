@@ -132,17 +132,17 @@ module _ (n w : ℕ) (opened found : List ℕ) (gs : List RememberedRow) (c : Sc
             ∙ (sums_are k 0 opened found gs (long ∙ sym few) (deep ∙ sym few) held ∙ sym (sums k lt))) z;
       }) in
       ap (λ (b : Bool). cond b (answered (answer_of_try w (looks_of 0 opened found gs)) end)
-      (given_up_if_spent n (record end { now = failed_once_more (with_base end.now) }))) all
+      (given_up_if_spent n (record end { trying = failed_once_more (with_base end.trying) }))) all
       ∙ ap (λ (a : Answer). answered a end) answer
 
   pub ends_failed : opened ≢ found → ended n w (settling opened found gs c) ≡ given_up_if_spent n
-      (record (settling opened found gs c) { now = failed_once_more (with_base (settling opened found gs c).now) })
+      (record (settling opened found gs c) { trying = failed_once_more (with_base (settling opened found gs c).trying) })
   ends_failed differ = go (are_clean n w (looks_of 0 opened found gs)) refl
     where
       go : (b : Bool) → are_clean n w (looks_of 0 opened found gs) ≡ b
           → cond b (answered (answer_of_try w (looks_of 0 opened found gs)) end)
-          (given_up_if_spent n (record end { now = failed_once_more (with_base end.now) })) ≡ given_up_if_spent n
-          (record end { now = failed_once_more (with_base end.now) })
+          (given_up_if_spent n (record end { trying = failed_once_more (with_base end.trying) })) ≡ given_up_if_spent n
+          (record end { trying = failed_once_more (with_base end.trying) })
       go true t = absurd (differ (clean_same w 0 opened found gs wide (long ∙ sym few) (deep ∙ sym few) (and_parts _ _ t).1))
       go false t = refl
 
@@ -154,7 +154,7 @@ stood tries gs floor base c = record c {
   before = c.before ++ all_before c.opened tries;
   asked = c.asked ++ all_asked tries;
   remembered = map version_of gs;
-  now = record { failed = length tries; floor = floor; base = base; looks = []; due = []; asks = [] };
+  trying = record { failed = length tries; floor = floor; base = base; looks = []; due = []; asks = [] };
 }
 
 -- tries that failed; `first` and `last` are the numbers of the last one
@@ -169,24 +169,24 @@ pub record AreTries (n : ℕ) (floor base first last : List ℕ) (tries : List T
       × (final.second ≡ last)
 
 -- a scan is not given up while somebody is to be asked, or before its last try
-given_not : (n : ℕ) (c : ScanLog) → (length c.now.due == 0 && c.now.failed == n + 2) ≡ false → given_up_if_spent n c ≡ c
-given_not n c t = ap (λ (b : Bool). cond b (record c { quit = c.quit + 1; now = at_rest }) c) t
+given_not : (n : ℕ) (c : ScanLog) → (length c.trying.due == 0 && c.trying.failed == n + 2) ≡ false → given_up_if_spent n c ≡ c
+given_not n c t = ap (λ (b : Bool). cond b (record c { quit = c.quit + 1; trying = at_rest }) c) t
 
-pub given_due : (n : ℕ) (c : ScanLog) (i : ℕ) (more : List ℕ) → c.now.due ≡ i ∷ more → given_up_if_spent n c ≡ c
+pub given_due : (n : ℕ) (c : ScanLog) (i : ℕ) (more : List ℕ) → c.trying.due ≡ i ∷ more → given_up_if_spent n c ≡ c
 given_due n c i more e =
     given_not n c (λ z. (ap (λ (l : List ℕ). length l == 0) e ∙ ne_eqb (suc (length more)) 0 (λ h. omega (arith, h))) z &&
-    c.now.failed == n + 2)
+    c.trying.failed == n + 2)
 
-pub given_later : (n : ℕ) (c : ScanLog) → c.now.failed < n + 2 → given_up_if_spent n c ≡ c
-given_later n c lt = given_not n c ((λ z. length c.now.due == 0 && ne_eqb c.now.failed (n + 2) (λ h. omega (arith, h, lt)) z)
-    ∙ and-false (length c.now.due == 0))
+pub given_later : (n : ℕ) (c : ScanLog) → c.trying.failed < n + 2 → given_up_if_spent n c ≡ c
+given_later n c lt = given_not n c ((λ z. length c.trying.due == 0 && ne_eqb c.trying.failed (n + 2) (λ h. omega (arith, h, lt)) z)
+    ∙ and-false (length c.trying.due == 0))
 
-pub given_last : (n : ℕ) (c : ScanLog) → c.now.due ≡ [] → c.now.failed ≡ n + 2 → given_up_if_spent n c ≡ record c {
+pub given_last : (n : ℕ) (c : ScanLog) → c.trying.due ≡ [] → c.trying.failed ≡ n + 2 → given_up_if_spent n c ≡ record c {
   quit = c.quit + 1;
-  now = at_rest;
+  trying = at_rest;
 }
-given_last n c due last = ap (λ (b : Bool). cond b (record c { quit = c.quit + 1; now = at_rest }) c)
-    (λ z. (ap (λ (l : List ℕ). length l == 0) due ∙ eq-eqb 0 0 refl) z && eq-eqb c.now.failed (n + 2) last z)
+given_last n c due last = ap (λ (b : Bool). cond b (record c { quit = c.quit + 1; trying = at_rest }) c)
+    (λ z. (ap (λ (l : List ℕ). length l == 0) due ∙ eq-eqb 0 0 refl) z && eq-eqb c.trying.failed (n + 2) last z)
 
 -- the loads of a try in which these were asked, and those are still to be asked
 abbrev pub asking : (opened found : List ℕ) → List RememberedRow → (floor base : List ℕ) → (es : List Asked) → (workers : List ℕ)
@@ -197,7 +197,7 @@ asking opened found gs floor base es workers d = record d {
   before = d.before ++ map (λ _. length (d.opened ++ pairs 0 opened)) found;
   asked = d.asked ++ es;
   remembered = map version_of gs;
-  now = record { failed = d.now.failed + 1; floor = floor; base = base; looks = []; due = workers; asks = [] };
+  trying = record { failed = d.trying.failed + 1; floor = floor; base = base; looks = []; due = workers; asks = [] };
 }
 
 pub none_due : (q : ℕ) (xs : List ℕ) → due_from q xs xs ≡ []
@@ -208,28 +208,28 @@ none_due q (x ∷ xs) = ap (λ (b : Bool). cond b (q ∷ due_from (suc q) xs xs)
 module _ (n w : ℕ) (opened found : List ℕ) (gs gs' : List RememberedRow) (few : length gs ≡ n) (long : length opened ≡ n)
     (deep : length found ≡ n) where
   -- a later try that failed
-  pub fails_later : (d : ScanLog) → (d.now.failed == 0) ≡ false → d.now.asks ≡ []
+  pub fails_later : (d : ScanLog) → (d.trying.failed == 0) ≡ false → d.trying.asks ≡ []
       → record (settling opened found gs (opening opened gs' d))
-      { now = failed_once_more (with_base (settling opened found gs (opening opened gs' d)).now) }
-      ≡ asking opened found gs d.now.floor d.now.base [] (due_from 0 d.now.base found) d
+      { trying = failed_once_more (with_base (settling opened found gs (opening opened gs' d)).trying) }
+      ≡ asking opened found gs d.trying.floor d.trying.base [] (due_from 0 d.trying.base found) d
   fails_later d later none =
       let ls = looks_of 0 opened found gs in
-      let t : ScanInProgress = record d.now { looks = ls } in
+      let t : ScanInProgress = record d.trying { looks = ls } in
       let b : with_base t ≡ t =
       ap (λ (h : Bool). cond h (record t { floor = map opened_at t.looks; base = map found_of t.looks }) t) later in
-      let due : due_of d.now.base ls ≡ due_from 0 d.now.base found = dues_are 0 d.now.base opened found gs (long ∙ sym few)
+      let due : due_of d.trying.base ls ≡ due_from 0 d.trying.base found = dues_are 0 d.trying.base opened found gs (long ∙ sym few)
       (deep ∙ sym few) in
-      ap (λ (u : ScanInProgress). record (settling opened found gs (opening opened gs' d)) { now = failed_once_more u }) b
+      ap (λ (u : ScanInProgress). record (settling opened found gs (opening opened gs' d)) { trying = failed_once_more u }) b
       ∙ (λ z. record d {
         opened = d.opened ++ pairs 0 opened;
         confirmed = d.confirmed ++ pairs 0 found;
         before = d.before ++ map (λ _. length (d.opened ++ pairs 0 opened)) found;
         asked = sym (append-nil d.asked) z;
         remembered = map version_of gs;
-        now = record {
-          failed = d.now.failed + 1;
-          floor = d.now.floor;
-          base = d.now.base;
+        trying = record {
+          failed = d.trying.failed + 1;
+          floor = d.trying.floor;
+          base = d.trying.base;
           looks = [];
           due = due z;
           asks = none z;
@@ -237,9 +237,9 @@ module _ (n w : ℕ) (opened found : List ℕ) (gs gs' : List RememberedRow) (fe
       })
 
   -- the first try that failed
-  pub fails_first : (d : ScanLog) → d.now ≡ at_rest
+  pub fails_first : (d : ScanLog) → d.trying ≡ at_rest
       → record (settling opened found gs (opening opened gs' d))
-      { now = failed_once_more (with_base (settling opened found gs (opening opened gs' d)).now) }
+      { trying = failed_once_more (with_base (settling opened found gs (opening opened gs' d)).trying) }
       ≡ asking opened found gs opened found [] [] d
   fails_first d none =
       let ls = looks_of 0 opened found gs in
@@ -247,14 +247,14 @@ module _ (n w : ℕ) (opened found : List ℕ) (gs gs' : List RememberedRow) (fe
       (founds_are 0 opened found gs (long ∙ sym few) (deep ∙ sym few))
       ∙ (dues_are 0 found opened found gs (long ∙ sym few) (deep ∙ sym few) ∙ none_due 0 found) in
       (λ z. record (settling opened found gs (opening opened gs' d))
-      { now = failed_once_more (with_base (record (none z) { looks = ls })) })
+      { trying = failed_once_more (with_base (record (none z) { looks = ls })) })
       ∙ (λ z. record d {
         opened = d.opened ++ pairs 0 opened;
         confirmed = d.confirmed ++ pairs 0 found;
         before = d.before ++ map (λ _. length (d.opened ++ pairs 0 opened)) found;
         asked = sym (append-nil d.asked) z;
         remembered = map version_of gs;
-        now = record {
+        trying = record {
           failed = ap (λ (u : ScanInProgress). u.failed + 1) (sym none) z;
           floor = numbers_are 0 opened found gs (omega (arith, few, long)) z;
           base = founds_are 0 opened found gs (long ∙ sym few) (deep ∙ sym few) z;
@@ -354,7 +354,7 @@ stood_more tries gs0 gs floor0 base0 floor base opened found es c =
       before = m z;
       asked = e z;
       remembered = map version_of gs;
-      now = record { failed = k z; floor = floor; base = base; looks = []; due = []; asks = [] };
+      trying = record { failed = k z; floor = floor; base = base; looks = []; due = []; asks = [] };
     }
 
 -- where two lists of numbers differ and the second is at no place below the first, it is above it somewhere

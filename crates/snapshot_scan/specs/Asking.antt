@@ -31,7 +31,7 @@ asked_too e c = record c { asked = c.asked ++ e ∷ [] }
 
 -- the first worker to be asked did not lend
 abbrev pub refused : Asked → ScanLog → ScanLog
-refused e c = record c { asked = c.asked ++ e ∷ []; now = record c.now { due = rest c.now.due; asks = [] } }
+refused e c = record c { asked = c.asked ++ e ∷ []; trying = record c.trying { due = rest c.trying.due; asks = [] } }
 
 -- the workers from q on that are to be asked: those whose number was found 2 or more above the base
 abbrev pub due_from : (q : ℕ) → (base found : List ℕ) → List ℕ
@@ -50,7 +50,7 @@ refused_all n (e ∷ es) c = refused_all n es (given_up_if_spent n (refused e c)
 
 -- these workers are to be asked next, under this floor
 pub record MayAsk (low workers : List ℕ) (c : ScanLog) : Type 0 where
-  pub due : c.now.due ≡ workers
-  pub looks : c.now.looks ≡ []
-  pub asks : c.now.asks ≡ []
-  pub floor : workers ≢ [] → c.now.floor ≡ low
+  pub due : c.trying.due ≡ workers
+  pub looks : c.trying.looks ≡ []
+  pub asks : c.trying.asks ≡ []
+  pub floor : workers ≢ [] → c.trying.floor ≡ low

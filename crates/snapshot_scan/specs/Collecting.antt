@@ -23,7 +23,7 @@ pub record MayConfirm {N C H G : ℕ} (b : Board N C H G) (s : Bundle) (gs : Lis
   pub lengths : (length gs ≡ N) × (length opened ≡ N)
   pub wide : AreWide (width C H G) gs
   pub remembered : (scan_in s).remembered ≡ map version_of gs
-  pub looks : (scan_in s).now.looks ≡ looks_of 0 opened [] gs
+  pub looks : (scan_in s).trying.looks ≡ looks_of 0 opened [] gs
   pub loaded : (q : ℕ) → q < N → (j : ℕ) × (get_elem? (scan_in s).opened j ≡ some (q, slice_index opened q))
 
 -- a first collect, which the first one of the members `before` began when these rows were remembered, has opened the
@@ -32,8 +32,8 @@ pub record HasOpened (w p : ℕ) (before : List Member) (rows : List RememberedR
     (opened : List ℕ) (all : Bool) : Type 0 where
   pub starts : HasMember before
   pub remembered : (scan_of before).remembered ≡ map version_of rows
-  pub due : (scan_of before).now.due ≡ []
-  pub asks : (scan_of before).now.asks ≡ []
+  pub due : (scan_of before).trying.due ≡ []
+  pub asks : (scan_of before).trying.asks ≡ []
   pub wide : AreWide w gs
   pub same : map version_of gs ≡ map version_of rows
   pub view : after ≡ with_scan (opening (take p opened) gs (scan_of before)) before

@@ -28,7 +28,7 @@ pub record MayTry {N C H G : ℕ} (b : Board N C H G) (s : Bundle) (gs : List Re
   pub lengths : (length gs ≡ N) × (length opened ≡ N)
   pub wide : AreWide (width C H G) gs
   pub remembered : (scan_in s).remembered ≡ map version_of gs
-  pub rest : ((scan_in s).now.looks ≡ []) × ((scan_in s).now.due ≡ []) × ((scan_in s).now.asks ≡ [])
+  pub rest : ((scan_in s).trying.looks ≡ []) × ((scan_in s).trying.due ≡ []) × ((scan_in s).trying.asks ≡ [])
 
 -- a scan may begin: by a seat that may make a try, and is in no scan; the sums are those of the rows, and what the second collect
 -- finds, and the flag and the words of an answer that is lent, have places
@@ -46,9 +46,9 @@ pub record MayAskOne {N C H G : ℕ} (b : Board N C H G) (s : Bundle) (place row
   pub geometry : IsGeometry N C H G
   pub inside : place < N
   pub lengths : (row ≡ width C H G) × (length floors ≡ N) × (length words ≡ 1 + N + width C H G)
-  pub next : (rest : List ℕ) × ((scan_in s).now.due ≡ place ∷ rest)
-  pub rest : ((scan_in s).now.looks ≡ []) × ((scan_in s).now.asks ≡ [])
-  pub floor : (scan_in s).now.floor ≡ floors
+  pub next : (rest : List ℕ) × ((scan_in s).trying.due ≡ place ∷ rest)
+  pub rest : ((scan_in s).trying.looks ≡ []) × ((scan_in s).trying.asks ≡ [])
+  pub floor : (scan_in s).trying.floor ≡ floors
 
 -- all workers may be asked that are to be: those whose number, as it was found, is at least two above its base
 pub record MayAskAll {N C H G : ℕ} (b : Board N C H G) (s : Bundle) (row : ℕ) (floor base found words : List ℕ) : Type 0 where

@@ -69,7 +69,7 @@ pairs q (x ∷ xs) = (q, x) ∷ pairs (suc q) xs
 
 -- a try of c that has opened these
 abbrev pub opening : (opened : List ℕ) → List RememberedRow → ScanLog → ScanLog
-opening opened gs c = record c { opened = c.opened ++ pairs 0 opened; now = record c.now { looks = looks_of 0 opened [] gs } }
+opening opened gs c = record c { opened = c.opened ++ pairs 0 opened; trying = record c.trying { looks = looks_of 0 opened [] gs } }
 
 -- and confirmed those
 abbrev pub settling : (opened found : List ℕ) → List RememberedRow → ScanLog → ScanLog
@@ -77,7 +77,7 @@ settling opened found gs c = record c {
   confirmed = c.confirmed ++ pairs 0 found;
   before = c.before ++ map (λ _. length c.opened) found;
   remembered = map version_of gs;
-  now = record c.now { looks = looks_of 0 opened found gs };
+  trying = record c.trying { looks = looks_of 0 opened found gs };
 }
 
 -- the word k of all rows together
@@ -96,4 +96,4 @@ pub record IsLoaded (i : ℕ) (c : ScanLog) (x : ℕ) : Type 0 where
 
 -- the try has failed
 abbrev pub failing : ScanLog → ScanLog
-failing c = record c { now = failed_once_more (with_base c.now) }
+failing c = record c { trying = failed_once_more (with_base c.trying) }

@@ -51,7 +51,7 @@ pub record FailedTry (n : ℕ) (floor base : List ℕ) (t : Tried) : Type 0 wher
 -- a scan that is over: what is remembered is what the view has
 pub record IsIdle (c : ScanLog) (gs : List RememberedRow) : Type 0 where
   pub remembered : c.remembered ≡ map version_of gs
-  pub rest : c.now ≡ at_rest
+  pub rest : c.trying ≡ at_rest
 
 -- nothing was read anew: what is remembered stands as it stood, and the numbers that were opened are the remembered ones
 pub record IsQuiet (gs gs' : List RememberedRow) (before after opened : List ℕ) : Type 0 where

@@ -56,7 +56,7 @@ returns-clause-lends g c = λ hit.
     let above : is_above floor (take n (drop 1 ws)) ≡ true =
     (let few = c.requires.lengths.1 in let m : n ≡ (1 + length floor) - 1 = omega (arith, few) in
     ap (λ (k : ℕ). is_above floor (take k (drop 1 ws))) m ∙ (sym c.is_above.ensures ∙ hit)) in
-    let all : is_lender n w again (scan_of ms).now.floor (begun c.args.place s ws) ≡ true =
+    let all : is_lender n w again (scan_of ms).trying.floor (begun c.args.place s ws) ≡ true =
     ap (λ (f : List ℕ). is_lender n w again f (begun c.args.place s ws)) c.requires.floor
     ∙ (λ z. eq-eqb s again c.if-number-again.false z && eq-eqb (length ws) (1 + n + w) long z && eq-eqb (slice_index ws 0) 1
     c.if-lent-ne1.false z && above z) in (

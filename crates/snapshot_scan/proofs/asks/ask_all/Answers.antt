@@ -21,7 +21,7 @@ use Rattle.snapshot_scan.proofs.Asking.{may_next, refused_snoc, due_here}
 use Rattle.snapshot_scan.proofs.asks.ask_all.Goals as goal
 
 -- what asking needs here
-floor_here : (low more : List ℕ) (p : ℕ) (c : ScanLog) → MayAsk low (p ∷ more) c → c.now.floor ≡ low
+floor_here : (low more : List ℕ) (p : ℕ) (c : ScanLog) → MayAsk low (p ∷ more) c → c.trying.floor ≡ low
 floor_here low more p c may = may.floor (λ h. let h' = h in cc)
 
 -- the worker at the place p may be asked, where it is to be
@@ -42,9 +42,9 @@ ask_here {N} {C} {H} {G} b s s' p row base found floor words es own geo lens sam
       geometry = geo;
       inside = omega (arith, lens.3, lt);
       lengths = (lens.0, lens.1, lens.4);
-      next = (more, ap (λ (x : ScanLog). x.now.due) scan ∙ may.due);
-      rest = (ap (λ (x : ScanLog). x.now.looks) scan ∙ may.looks, ap (λ (x : ScanLog). x.now.asks) scan ∙ may.asks);
-      floor = ap (λ (x : ScanLog). x.now.floor) scan ∙ floor_here floor more p d may;
+      next = (more, ap (λ (x : ScanLog). x.trying.due) scan ∙ may.due);
+      rest = (ap (λ (x : ScanLog). x.trying.looks) scan ∙ may.looks, ap (λ (x : ScanLog). x.trying.asks) scan ∙ may.asks);
+      floor = ap (λ (x : ScanLog). x.trying.floor) scan ∙ floor_here floor more p d may;
     }
 
 pub loop-place-init : goal.loop-place-init

@@ -78,7 +78,7 @@ returns g c =
         lengths = (a' ∙ (a ∙ lens.0), b' ∙ (b ∙ lens.1));
         wide = all.wide;
         remembered = ap (λ (d : ScanLog). d.remembered) scan ∙ (c.requires.remembered ∙ sym all.same);
-        looks = ap (λ (d : ScanLog). d.now.looks) scan;
+        looks = ap (λ (d : ScanLog). d.trying.looks) scan;
         loaded = λ q lt. let e = there r.opened q 0 (omega (arith, b, b', lens.1, lt)) in (
           length (scan_of ms).opened + q,
           ap (λ (d : ScanLog). get_elem? d.opened (length (scan_of ms).opened + q)) scan

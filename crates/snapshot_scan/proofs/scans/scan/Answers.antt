@@ -210,7 +210,7 @@ returns-then-clean g c =
       ruled = made.ruled;
       wide = made.wide;
       totals = made.totals;
-      idle = record { remembered = ap (λ (d : ScanLog). d.remembered) scan; rest = ap (λ (d : ScanLog). d.now) scan };
+      idle = record { remembered = ap (λ (d : ScanLog). d.remembered) scan; rest = ap (λ (d : ScanLog). d.trying) scan };
       others = others_same _ ms _ c.requires.may.of_board.1 clean;
       direct = λ _ _. subst (λ (x : ScanLog). IsAnswered n (scan_of ms) x a) (sym scan)
           (direct_first n r.opened r.found r.totals r.remembered (scan_of ms) long made.told);
@@ -249,7 +249,7 @@ returns-then-clean-2 g c =
       ruled = made.ruled;
       wide = made.wide;
       totals = made.totals;
-      idle = record { remembered = ap (λ (x : ScanLog). x.remembered) scan; rest = ap (λ (x : ScanLog). x.now) scan };
+      idle = record { remembered = ap (λ (x : ScanLog). x.remembered) scan; rest = ap (λ (x : ScanLog). x.trying) scan };
       others = others_same _ ms _ c.requires.may.of_board.1 end;
       direct = λ _ _. subst (λ (x : ScanLog). IsAnswered n (scan_of ms) x a) (sym scan)
           (direct_later n fl ba c.loop-k.opened c.loop-k.found tries inv.tried c.loop-k.remembered
@@ -299,7 +299,7 @@ returns-then-lends g c =
       ruled = c.ask_all-lends.ensures.ruled;
       wide = made.wide;
       totals = made.totals;
-      idle = record { remembered = ap (λ (x : ScanLog). x.remembered) scan; rest = ap (λ (x : ScanLog). x.now) scan };
+      idle = record { remembered = ap (λ (x : ScanLog). x.remembered) scan; rest = ap (λ (x : ScanLog). x.trying) scan };
       others = others_same _ ms _ c.requires.may.of_board.1 end;
       direct = λ q e. absurd (lent_direct q e);
       came_direct = λ q e. absurd (lent_direct q e);
@@ -337,7 +337,7 @@ returns g c =
       wide = inv.wide;
       totals = inv.room.2;
       idle = let rest = scan ∙ given_last n (stood tries c.loop-k.remembered fl ba (scan_of ms)) refl (omega (arith, count, t, last)) in
-          record { remembered = ap (λ (x : ScanLog). x.remembered) rest; rest = ap (λ (x : ScanLog). x.now) rest };
+          record { remembered = ap (λ (x : ScanLog). x.remembered) rest; rest = ap (λ (x : ScanLog). x.trying) rest };
       others = others_same _ ms _ c.requires.may.of_board.1 inv.view;
       direct = λ q e. absurd (up_direct q e);
       came_direct = λ q e. absurd (up_direct q e);

@@ -229,7 +229,7 @@ returns-clause-fit g c =
       ready = record {
         remembered = ap (λ (x : Member). x.scan.remembered) is3
             ∙ ((λ z. set (s.ensures.ready.remembered z) (sym own z) (record { number = sym number z; row = taken z })) ∙ sym rows');
-        rest = ap (λ (x : Member). x.scan.now) is3 ∙ s.ensures.ready.rest;
+        rest = ap (λ (x : Member). x.scan.trying) is3 ∙ s.ensures.ready.rest;
       };
       hidden_is = ap (λ (x : Member). x.work.hidden) is3 ∙ (fit.shown_is ∙ sym (c.turn.ensures.buffers.0 ∙ f.ensures.others.0));
       shown_is = ap (λ (x : Member). x.work.shown) is3 ∙ sym c.turn.ensures.buffers.1;
