@@ -45,7 +45,7 @@ module _ {N C H G : ℕ} where
   abbrev pub board_id : Board N C H G → ℕ
   board_id b = b.table.shared.key.id
 
-  -- the seat is of this board's parts
+  -- the seat is one of this board: of its table
   abbrev pub IsSeatOf : Board N C H G → Bundle → Type 0
   IsSeatOf b s = table_of s ≡ b.table.shared.table_id
 

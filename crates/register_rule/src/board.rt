@@ -37,7 +37,7 @@ impl<const N: usize, const C: usize, const H: usize, const G: usize> TableRule<(
     ghost first = { λ key. everyone N (width C H G) (depth N (width C H G)) key.readers };
 }
 
-// `Brand` stands for what a call picks by itself (`load_as` and the like of `moves.rt`): each call says there what it tells, and how it splits.
+// Placeholders: what a call tells, and how it splits a view, it picks by itself in its proof (`table_steps.rt` tells how).
 impl Play<(), SeatView> for Brand {
     ghost then = { λ _ _ _ _. Unit {0} };
 }

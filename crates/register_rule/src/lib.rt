@@ -14,10 +14,10 @@
 mod board;
 mod board_fault;
 mod load;
-mod moves;
 mod scans;
 mod seats;
 mod steps;
+mod table_steps;
 mod view;
 
 pub use board::{Board, Parts};

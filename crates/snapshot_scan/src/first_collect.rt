@@ -1,4 +1,5 @@
-//! The first collect of a try, four places in one turn.
+//! The first collect of a try, four places in one turn. A buffer has at most 2,529
+//! words: twice the 1,248 of a row, the flag and 32 numbers.
 ghost use Rattle.std.specs.Prelude.{◌≡◌, ℕ, ◌+◌, ◌<◌, ◌≤◌, List, All, true, false, length, map, slice_index};
 ghost use Rattle.ledger_core.specs.Ops.{width};
 ghost use Rattle.segment_layout.specs.Layout.{depth};

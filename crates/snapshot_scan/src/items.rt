@@ -1,4 +1,5 @@
-//! Reading the items of a buffer, one by one.
+//! Reading the items of a buffer, one by one. A buffer has at most 2,529
+//! words: twice the 1,248 of a row, the flag and 32 numbers.
 ghost use Rattle.std.specs.Prelude.{◌≡◌, ℕ, ◌+◌, ◌<◌, ◌≤◌, length, slice_index};
 ghost use Rattle.bucket_math.specs.Words.{greatest_word};
 ghost use Rattle.ledger_core.specs.Ops.{width};

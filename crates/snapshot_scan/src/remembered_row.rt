@@ -1,4 +1,5 @@
-//! What a scan remembers of one segment.
+//! What a scan remembers of one segment. A buffer has at most 2,529
+//! words: twice the 1,248 of a row, the flag and 32 numbers.
 ghost use Rattle.std.specs.Prelude.{◌≡◌, ℕ, ◌+◌, ◌-◌, ◌<◌, ◌≤◌, ◌==◌, cond, Contains, length, slice_index, slice_set, IfOk};
 ghost use Rattle.bucket_math.specs.Words.{greatest_word};
 ghost use Rattle.ledger_core.specs.Ops.{width};

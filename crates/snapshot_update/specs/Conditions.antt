@@ -36,18 +36,18 @@ pub record MayFill {N C H G : ℕ} (b : Board N C H G) (s : WorkSeat) (hidden sh
       → slice_index shown j ≡ slice_index (target_of version) j
 
 -- the hidden buffer may be made the version of this row with the answer of a scan that ended so: by the seat of a worker whose
--- buffers have these images. Where it `is_known`, the scan ended direct, and the version that the images call the next one is
--- this one but for the touched words
+-- buffers have these images. Where it `is_known`, the scan ended direct, and what an update of nothing would publish is
+-- this version but for the touched words
 pub record MayMakeVersion {N C H G : ℕ} (b : Board N C H G) (s : WorkSeat) (row : List ℕ) (memory : ScanMemory N C H G)
     (im : BufferImages) (ended : ScanEnd) (is_known : Bool) : Type 0 where
   pub of_board : IsWorkSeatOf b s
   pub geometry : IsGeometry N C H G
   pub exact : (worker_of s).work.hidden ≡ im.hidden.items
   pub touched : AreInside (width C H G) im.touched
-  pub images : (next : List ℕ) × AreImages (depth N (width C H G)) next im
+  pub images : (idle : List ℕ) × AreImages (depth N (width C H G)) idle im
       × (is_known ≡ true → (im.touched.all ≡ false) × ((quiet : Bool) × (ended ≡ Direct quiet))
       × ((j : ℕ) → j < depth N (width C H G) → ¬ (Contains im.touched.items j)
-      → slice_index next j ≡ slice_index (version_words row 1 (answer_of memory ended).vector (answer_of memory ended).totals) j))
+      → slice_index idle j ≡ slice_index (version_words row 1 (answer_of memory ended).vector (answer_of memory ended).totals) j))
 
 -- the new row of the worker of this index may be remembered: where it `is_known`, it differs from the remembered one at the touched words
 -- alone

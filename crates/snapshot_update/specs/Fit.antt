@@ -22,18 +22,18 @@ AreInside b changed = (j : ℕ) → Contains changed.items j → j < b
 abbrev pub number_in : Version → ℕ
 number_in v = v.number
 
--- the version that an update of nothing would publish now, if its scan found all that is remembered
+-- the words that an update of nothing would publish now, if its scan found all that is remembered
 abbrev pub idle_words : (row : List ℕ) → List Version → (sums : List ℕ) → List ℕ
 idle_words row rows sums = version_words row 1 (map number_in rows) sums
 
--- images of both buffers, of b words; where they differ from each other, and where the shown one differs from the version `next`
-pub record AreImages (b : ℕ) (next : List ℕ) (im : BufferImages) : Type 0 where
-  pub idle_deep : length next ≡ b
+-- images of both buffers, of b words; where they differ from each other, and where the shown one differs from the words `idle`
+pub record AreImages (b : ℕ) (idle : List ℕ) (im : BufferImages) : Type 0 where
+  pub idle_deep : length idle ≡ b
   pub hidden_deep : length im.hidden.items ≡ b
   pub shown_deep : length im.shown.items ≡ b
   pub recent : DifferAt im.recent im.hidden.items im.shown.items
   pub recent_inside : AreInside b im.recent
-  pub late : DifferAt im.late im.shown.items next
+  pub late : DifferAt im.late im.shown.items idle
   pub late_inside : AreInside b im.late
 
 -- the member is the worker of this index, which has published `number` times; this is its row, and these are images of its
@@ -51,7 +51,7 @@ pub record IsFit (n c h g index number : ℕ) (row : List ℕ) (memory : ScanMem
   pub images : AreImages (depth n (width c h g)) (idle_words row (rows_of memory) (totals_in memory)) im
 
 -- a worker's data, of this index, fit a member whose seat has the index `seat`: the indexes are one, the worker has published as
--- often as it counted, and the data fit
+-- often as it counted, and the data fit. So a worker's own fields stand beside the member's, and each is told of the other
 abbrev pub IsFitOfSeat : (n c h g index number : ℕ) (row : List ℕ) (memory : ScanMemory n c h g) (im : BufferImages) (seat : ℕ)
     (m : Member) → Type 0
 IsFitOfSeat n c h g index number row memory im seat m =

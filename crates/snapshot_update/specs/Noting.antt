@@ -4,8 +4,9 @@ use Rattle.snapshot_scan.specs.ChangedItems.{ChangedView}
 use Rattle.std.specs.Int.{bit_at}
 use Rattle.snapshot_update.specs.declared.run.Run.{Run}
 
--- the words that rise are listed, of a row of w words: all stay all; else the old items are listed, and behind them n more
--- at most, words of the row, with each word k at which `by k` is not 0
+-- the words that rise are listed, of a row of w words: all stay all; else the old items are listed, and behind them at most n items
+-- more (n is a bound of the list's growth, for `fits`: a list has room for 256), words of the row, with each word k at which `by k` is
+-- not 0
 pub record Touches (n w : ℕ) (by : ℕ → ℕ) (old new : ChangedView) : Type 0 where
   pub listed : new.all ≡ false → old.all ≡ false
   pub keeps : new.all ≡ false → (j : ℕ) → Contains old.items j → Contains new.items j

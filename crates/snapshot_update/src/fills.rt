@@ -1,4 +1,8 @@
 //! Filling the hidden buffer with a version: only the words that change are stored.
+//!
+//! `fill_next` (`next_fill.rt`) takes one of three ways: `fill_changes`, where `recent` holds all that may differ; `fill_known`, where
+//! three lists do; `fill_all`, which compares the whole buffer in ranges (`fill_range`). Each word goes through `fill_item`, which stores
+//! it where it changes.
 ghost use Rattle.std.specs.Prelude.{◌≡◌, ◌<◌, ◌≤◌, ℕ, false, length, slice_index, slice_set, Contains};
 ghost use Rattle.bucket_math.specs.Words.{greatest_word};
 ghost use Rattle.ledger_core.specs.Ops.{width};

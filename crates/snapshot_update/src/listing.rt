@@ -27,25 +27,25 @@ pub(crate) fn note_range(to: &mut ChangedItems, first: usize, count: usize)
 }
 
 /// Lists where the version that was published differs from the one that an update of nothing would publish now: at the
-/// worker's own number, and at the totals of the words that were touched, which stand `lent` further. Where that is not
+/// worker's own number, and at the totals of the words that were touched, which stand `totals_at` further. Where that is not
 /// `known`, it may be anywhere.
 #[inline]
 pub(crate) fn list_late(
     late: &mut ChangedItems,
     touched: &ChangedItems,
     number_item: usize,
-    lent: usize,
+    totals_at: usize,
     known: bool,
 )
-    requires room { (j : ℕ) → Contains touched.now.items j → j + lent < 18446744073709551616 }
+    requires room { (j : ℕ) → Contains touched.now.items j → j + totals_at < 18446744073709551616 }
     ensures unknown { known ≡ false → late.new.all ≡ true }
     ensures number { late.new.all ≡ false → Contains late.new.items number_item }
-    ensures lent { late.new.all ≡ false → (k : ℕ) → Contains touched.now.items k → Contains late.new.items (k + lent) }
-    ensures others { (j : ℕ) → Contains late.new.items j → (j ≡ number_item) ⊎ ((k : ℕ) × Contains touched.now.items k × (j ≡ k + lent)) }
+    ensures totals { late.new.all ≡ false → (k : ℕ) → Contains touched.now.items k → Contains late.new.items (k + totals_at) }
+    ensures others { (j : ℕ) → Contains late.new.items j → (j ≡ number_item) ⊎ ((k : ℕ) × Contains touched.now.items k × (j ≡ k + totals_at)) }
 {
     late.clear();
     late.note(number_item);
-    note_each(late, touched, lent);
+    note_each(late, touched, totals_at);
     if !known {
         late.note_all();
     }

@@ -1,4 +1,5 @@
-//! Filling the hidden buffer with the next version, and listing what changed by it.
+//! Filling the hidden buffer with the version that is published next, by the cheapest way that is known to be enough (`fills.rt`), and
+//! listing where it then differs from the shown one.
 ghost use Rattle.std.specs.Prelude.{◌≡◌, ◌<◌};
 ghost use Rattle.ledger_core.specs.Ops.{width};
 ghost use Rattle.segment_layout.specs.Layout.{depth};

@@ -19,7 +19,8 @@ const SUM: usize = 25;
 const COUNT: usize = 26;
 
 /// Lists the words of a row that these operations add to, and no items that are not words of the row. The words of a histogram
-/// that is observed many times in a row are listed once.
+/// that is observed many times one after the other are listed once. A list has room for 256 items, and an operation touches three words
+/// at most: so 85 operations always fit.
 #[inline(always)]
 pub(crate) fn touch<const C: usize, const H: usize, const G: usize>(
     ops: &[Op],

@@ -1,4 +1,17 @@
 //! An update: a scan, the fills, and the store of the number.
+//!
+//! A worker stores only the words that change, and compares only those that may have. These lists tell which; each of them says
+//! either its items, or that it may be all:
+//!
+//! | list | its items are where | who writes it |
+//! |---|---|---|
+//! | `recent` | the hidden buffer may differ from the shown one | `fill_next` |
+//! | `late` | the shown buffer may differ from what an update of nothing would publish now | `turn`, and `know_next` what the scan moved |
+//! | `touched` | the list of operations changed a word of the row | `touch` |
+//! | `moved` of the scan's memory | a total may differ from before the scan | `ScanMemory::scan` |
+//!
+//! So the next version differs from the shown buffer at most at the late and at the touched items (`know_next` says whether that is
+//! known), and from the hidden one at the recent ones besides.
 ghost use Rattle.std.specs.Prelude.{◌≡◌, ℕ, ◌+◌, ◌<◌, true, false, cond, length, slice_index, slice_set, Contains, OnOk, OnErr};
 ghost use Rattle.std.specs.Prelude.{IfErr};
 ghost use Rattle.ledger_core.specs.Ops.{width, sum_ops};
@@ -97,14 +110,14 @@ fn turn<const N: usize, const C: usize, const H: usize, const G: usize>(
     ensures others { (images.new.recent ≡ images.old.recent) × (images.new.touched ≡ images.old.touched) }
     ensures unknown { known ≡ false → images.new.late.all ≡ true }
     ensures number { images.new.late.all ≡ false → Contains images.new.late.items (width C H G + 1 + index) }
-    ensures lent { images.new.late.all ≡ false → (k : ℕ) → Contains images.old.touched.items k
+    ensures totals { images.new.late.all ≡ false → (k : ℕ) → Contains images.old.touched.items k
         → Contains images.new.late.items (width C H G + 1 + N + k) }
     ensures inside { AreInside (depth N (width C H G)) images.new.late }
 {
     swap(&mut images.hidden, &mut images.shown);
     let number = item_at(N, C, H, G, Item::Vector { worker: index });
-    let lent = item_at(N, C, H, G, Item::Flag) + 1 + N;
-    list_late(&mut images.late, &images.touched, number, lent, known);
+    let totals_at = item_at(N, C, H, G, Item::Flag) + 1 + N;
+    list_late(&mut images.late, &images.touched, number, totals_at, known);
 }
 
 /// Remembers the worker's own new row. Where `known`, as `know_next` answered, it differs from the remembered one at the touched words alone.

@@ -91,7 +91,7 @@ impl<const N: usize, const C: usize, const H: usize, const G: usize> Worker<N, C
         ensures same { IfOk result (λ w. w.seat ≡ Some seat) }
         ensures back { IfErr result (λ e. e.seat ≡ seat) }
     {
-        let Ok((row, memory, images)) = parts(alloc) else {
+        let Ok((row, memory, images)) = new_memory(alloc) else {
             return Err(NoMemoryForSeat { seat });
         };
         let index = seat.worker();
@@ -151,7 +151,7 @@ impl<const N: usize, const C: usize, const H: usize, const G: usize> Worker<N, C
         self.index
     }
 
-    /// How often the worker has published.
+    /// How often the worker has published. It is not asked while it is lent.
     pub fn number(&self) -> u64
         requires { IsSome self.now.seat }
         ensures { result ≡ length (member_of self.now).work.made }
@@ -159,7 +159,7 @@ impl<const N: usize, const C: usize, const H: usize, const G: usize> Worker<N, C
         self.number
     }
 
-    /// The sum of all that the worker has published.
+    /// The sum of all that the worker has published. It is not asked while it is lent.
     pub fn row(&self) -> &Row<C, H, G>
         requires { IsSome self.now.seat }
         ensures { (k : ℕ) → k < width C H G → slice_index result.now k ≡ word_after (sum_ops C H) (member_of self.now).work.made k }
@@ -346,7 +346,8 @@ impl<const N: usize, const C: usize, const H: usize, const G: usize> Worker<N, C
         reader.admit(board, seat.into_bundle());
     }
 
-    /// Takes the worker back from the reader that it is lent to, by two loads: the first one changes nothing.
+    /// Takes the worker back from the reader that it is lent to, by two loads: the first one changes nothing, and is made for what the rule
+    /// tells at it of the members, which the worker needs to go on: that it has seen its own number.
     pub fn take_back(&mut self, board: &Board<N, C, H, G>, reader: &mut Reader<N, C, H, G>)
         requires of_board { IsReaderOf board.now reader.old }
         requires lent { IsLent self.old reader.old }
@@ -403,8 +404,8 @@ impl<const N: usize, const C: usize, const H: usize, const G: usize> Worker<N, C
     }
 }
 
-// The memory of a worker.
-fn parts<const N: usize, const C: usize, const H: usize, const G: usize>(
+// The memory of a worker, of zeros.
+fn new_memory<const N: usize, const C: usize, const H: usize, const G: usize>(
     alloc: Global,
 ) -> Result<(Box<Row<C, H, G>>, ScanMemory<N, C, H, G>, BufferImages), AllocError>
     requires { IsGeometry N C H G }

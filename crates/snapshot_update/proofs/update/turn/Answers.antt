@@ -9,10 +9,10 @@ list_late-requires g c = record {
       omega (arith, lt, e, few, a, b, d);
 }
 
-pub returns-clause-lent : goal.returns-clause-lent
-returns-clause-lent g c = λ listed k has. let e = c.item_at.ensures.place in
+pub returns-clause-totals : goal.returns-clause-totals
+returns-clause-totals g c = λ listed k has. let e = c.item_at.ensures.place in
     let same : k + (c.item_at.result + 1 + g.row.N) ≡ _ = omega (arith, e) in
-    subst (λ (j : ℕ). Contains c.list_late.new.late.items j) same (c.list_late.ensures.lent listed k has)
+    subst (λ (j : ℕ). Contains c.list_late.new.late.items j) same (c.list_late.ensures.totals listed k has)
 
 pub returns-clause-inside : goal.returns-clause-inside
 returns-clause-inside g c = λ j has. let e = c.item_at.ensures.place in let e' = c.item_at-number.ensures.place in

@@ -268,7 +268,7 @@ returns-clause-fit g c =
             let z = c.touch.ensures.rises listed k
             (λ has. none (subst (λ (t : ChangedView). Contains t.items k) (sym touched) has)) in omega (arith, e, z))
             c.worker-index.result v (totals_in after) c.turn.new.images.late (c.learn.ensures.sums _ own_at) after.sizes.1
-            c.turn.ensures.number c.turn.ensures.lent)))
+            c.turn.ensures.number c.turn.ensures.totals)))
             (λ unknown listed. absurd (let h = sym (c.turn.ensures.unknown unknown) ∙ listed in cc));
         late_inside = c.turn.ensures.inside;
       };

@@ -1,5 +1,9 @@
-//! The steps of the table with one more argument, for the proof alone: a call picks what its step tells, and may name
-//! it.
+//! The steps of the table with one more argument, `_about`, for the proof alone; the compiled code drops it.
+//!
+//! What a step tells of a view is a play, which the types name, and a split says so which part goes where. The calls of this crate give
+//! `Brand` for both, whose own ghosts are placeholders: each call picks its play or split in its `Invariants.antt`, as `ghosts-load_as`
+//! in proofs/board/Board/load, and may speak there of `_about`. A table's view comes with the slots that a seat holds, `me.1`; the board
+//! uses none, so that list is empty.
 ghost use Rattle.std.specs.Prelude.{◌≡◌, ◌<◌, [], ◌++◌};
 ghost use mathlib.Core.Option.{none};
 ghost use Rattle.atomic_table.specs.Table.{step, Allows, Splits};
