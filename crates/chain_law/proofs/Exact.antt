@@ -236,5 +236,5 @@ module _ {N C H G : ℕ} (place : ℕ) (vs ws us : List (Worker N C H G)) (r1 r2
             (omega arith, omega (arith, low, is)))
             (λ x low high. let (p, v, at, is) = all x (omega (arith, high)) in (p, at_map index_of vs p v at ∙ ap some is)) in
             let r = rows_sum (sum_ops C H) ruled.made k 0 out.vector whole in
-            entry.sums k lt ∙ ap some (r ∙ (ap (sums f 0) wide ∙ sym (e ∙ d)));
+            entry.totals k lt ∙ ap some (r ∙ (ap (sums f 0) wide ∙ sym (e ∙ d)));
       }

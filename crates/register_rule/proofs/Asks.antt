@@ -168,10 +168,10 @@ module _ (n w : ℕ) (adds : List Op → ℕ → ℕ) (made : ℕ → List Publi
             record {
               low = λ q s found. ok'.low q s (ap (λ (y : List ℕ). get_elem? y q) (sym same) ∙ found);
               moment = subst (IsCut n h) (sym same) ok'.moment;
-              sums = λ k lt. there (take w (drop (1 + n) l.words)) k 0 (omega (arith, wide'))
+              totals = λ k lt. there (take w (drop (1 + n) l.words)) k 0 (omega (arith, wide'))
                   ∙ (ap some (piece_at (1 + n) w l.words k lt)
                   ∙ (sym ((shows (1 + n + k) (omega (arith, len))).totals a k e lt (omega arith))
-                  ∙ (ok'.sums k lt ∙ ap (λ (y : List ℕ). some (vector_total adds made 0 y k)) (sym same))));
+                  ∙ (ok'.totals k lt ∙ ap (λ (y : List ℕ). some (vector_total adds made 0 y k)) (sym same))));
             },
             wide,
           )

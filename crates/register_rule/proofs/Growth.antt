@@ -88,7 +88,7 @@ module _ (n w : ℕ) (adds : List Op → ℕ → ℕ) where
   answer_grows made made' h more a grows ok = record {
     low = low_grows made made' grows a.vector ok.low;
     moment = past_grows n h more a.vector ok.moment;
-    sums = λ k lt. ok.sums k lt
+    totals = λ k lt. ok.totals k lt
         ∙ ap some (sym (sums_grow made made' grows 0 a.vector k (λ q s at. let e : q ≡ 0 + q = omega arith in
         subst (λ (z : ℕ). s ≤ length (made z)) e (ok.low q s at))));
   }

@@ -354,7 +354,7 @@ module _ (n w : ℕ) (adds : List Op → ℕ → ℕ) (made : ℕ → List Publi
               ((ok.looks q l at).0.old, (ok.looks q l at).1 ∙ z')) i s e);
           moment = ⊎_elim (λ (d : HasStale n w adds made c.trying.looks). absurd (true≢false (sym (each d.0 d.1 d.2).0 ∙ d.3.0)))
               (λ p. p) (ok.whole len);
-          sums = λ k lt. tab_at 0 w _ k lt ∙ ap some (let z : 0 + k ≡ k = omega arith in ap (λ (y : ℕ). sum_words y c.trying.looks) z
+          totals = λ k lt. tab_at 0 w _ k lt ∙ ap some (let z : 0 + k ≡ k = omega arith in ap (λ (y : ℕ). sum_words y c.trying.looks) z
               ∙ sums_right k 0 c.trying.looks (λ q l at. let z' : q ≡ 0 + q = omega arith in (
                 (ok.looks q l at).1 ∙ z',
                 let long = (each q l at).1 in

@@ -54,7 +54,7 @@ module _ (n w : ℕ) (adds : List Op → ℕ → ℕ) (made : ℕ → List Publi
   pub record IsOneMoment (history : List ℕ) (a : Answer) : Type 0 where
     pub low : AtMost a.vector
     pub moment : IsCut n history a.vector
-    pub sums : (k : ℕ) → k < w → get_elem? a.totals k ≡ some (vector_total adds made 0 a.vector k)
+    pub totals : (k : ℕ) → k < w → get_elem? a.totals k ≡ some (vector_total adds made 0 a.vector k)
 
   -- what was read of a worker that was asked is right
   pub record IsAsked (e : Asked) : Type 0 where

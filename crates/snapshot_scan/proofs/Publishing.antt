@@ -406,7 +406,7 @@ module _ (n c h g : ℕ) (ms : List Member) (ruled : AreRuled n (width c h g) (s
     numbers = moment ∙ tab_same (λ i. count i (take t order)) (λ i. length (lists_by i (before t))) 0 n
         (λ i lt. let in_n : i < n = omega (arith, lt) in lists_many n made (take t order) i in_n (room t i in_n));
     totals = λ k lt.
-        let is : slice_index a.totals k ≡ vector_total (sum_ops c h) made 0 a.vector k = read_at a.totals k _ 0 (entry.sums k lt) in
+        let is : slice_index a.totals k ≡ vector_total (sum_ops c h) made 0 a.vector k = read_at a.totals k _ 0 (entry.totals k lt) in
         let same : vector_total (sum_ops c h) made 0 a.vector k ≡ vector_total (sum_ops c h) made 0 (numbers_after n (take t order)) k =
         ap (λ (v : List ℕ). vector_total (sum_ops c h) made 0 v k) moment in
         let none = row_none (sum_ops c h) made 0 n k in

@@ -88,7 +88,7 @@ module _ (n c h g : ℕ) (few : n ≤ 32) (ms : List Member) (ruled : AreRuled n
   numbers_long = ap length entry.moment.2 ∙ length_tab 0 n _
 
   pub sum_at : (k : ℕ) → k < width c h g → slice_index a.totals k ≡ vector_total (sum_ops c h) ruled.made 0 a.vector k
-  sum_at k lt = read_at a.totals k _ 0 (entry.sums k lt)
+  sum_at k lt = read_at a.totals k _ 0 (entry.totals k lt)
 
   -- each of its totals is below 2^53
   pub totals_low : AreLow (width c h g) a.totals

@@ -44,7 +44,7 @@ module _ (n c h g index : ℕ) (row : List ℕ) (memory : ScanMemory n c h g) (i
   at_first = record {
     who = refl;
     counts = refl;
-    sums = λ k lt. ap (λ (l : List ℕ). slice_index l k) zeros ∙ zero_in w k;
+    words = λ k lt. ap (λ (l : List ℕ). slice_index l k) zeros ∙ zero_in w k;
     wide = wide;
     row_known = λ _. ap (λ (l : List Version). get_elem? l index) rows
         ∙ (same_at n index (record { number = 0; row = replicate w 0 }) inside

@@ -202,7 +202,7 @@ module _ (n c h g i : ℕ) (row : List ℕ) (memory memory' : ScanMemory n c h g
         row_known = own_known n c h g i m' row (answer_of memory' ended).vector (rows_of memory') (ap (λ (x : Member). x.who) same
             ∙ fit.who) ruled ready.remembered (let e = rows_many n c h g memory' in omega (arith, e, inside)) are
             (f.found ∙ ap (λ (l : List PublishEntry). length l) (sym made)) fit.wide
-            (λ k lt. fit.sums k lt ∙ ap (λ (l : List PublishEntry). word_after (sum_ops c h) l k) (sym made))
+            (λ k lt. fit.words k lt ∙ ap (λ (l : List PublishEntry). word_after (sum_ops c h) l k) (sym made))
             ∙ (λ z. some (record { number = length (made z); row = row }));
         images = images_moved n w row (rows_of memory) (rows_of memory') (totals_in memory) (totals_in memory') im
             late' (moved_in memory') fit.wide (rows_many n c h g memory) (rows_many n c h g memory')

@@ -36,7 +36,7 @@ pub raised_fit : (n c h g i k : ℕ) (row : List ℕ) (memory : ScanMemory n c h
 raised_fit n c h g i k row memory im seen m f = record {
   who = f.who;
   counts = f.counts;
-  sums = f.sums;
+  words = f.words;
   wide = f.wide;
   row_known = f.row_known;
   ready = record { remembered = f.ready.remembered; rest = f.ready.rest };

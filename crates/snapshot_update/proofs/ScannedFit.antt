@@ -19,7 +19,7 @@ pub scanned_fit : (n c h g index number : ℕ) (row : List ℕ) (memory memory' 
 scanned_fit n c h g index number row memory memory' im late m s fit ready all items = record {
   who = fit.who;
   counts = fit.counts;
-  sums = fit.sums;
+  words = fit.words;
   wide = fit.wide;
   row_known = λ known. absurd (cc);
   ready = ready;

@@ -42,7 +42,7 @@ pub record IsFit (n c h g index number : ℕ) (row : List ℕ) (memory : ScanMem
     : Type 0 where
   pub who : m.who ≡ Worker index
   pub counts : number ≡ length m.work.made
-  pub sums : (k : ℕ) → k < width c h g → slice_index row k ≡ word_after (sum_ops c h) m.work.made k
+  pub words : (k : ℕ) → k < width c h g → slice_index row k ≡ word_after (sum_ops c h) m.work.made k
   pub wide : length row ≡ width c h g
   pub row_known : im.row_known ≡ true → get_elem? (rows_of memory) index ≡ some (record { number = number; row = row })
   pub ready : IsReady m.scan memory

@@ -112,7 +112,7 @@ publish-requires g c =
     let full : HoldsNext n w b (sum_ops g.row.C g.row.H) ops f.result (ready_member f.new.images.hidden.items m c') =
     holds n w b (sum_ops g.row.C g.row.H) ops (ready_member f.new.images.hidden.items m c') row' a.vector a.totals
     (adds.width_stays ∙ wide) long.0 long.1
-    (λ k lt. adds.sums k ∙ ap (λ (z : ℕ). z + sum_ops g.row.C g.row.H ops k) (fit.sums k lt)) f.result f.ensures.hidden
+    (λ k lt. adds.sums k ∙ ap (λ (z : ℕ). z + sum_ops g.row.C g.row.H ops k) (fit.words k lt)) f.result f.ensures.hidden
     (λ lends. (m.scan.recorded, (s.ensures.view (f.ensures.view lends)).recorded)) in (
       search rules,
       (
@@ -122,7 +122,7 @@ publish-requires g c =
           (
             subst (HoldsNext n w b (sum_ops g.row.C g.row.H) ops f.result) (sym is) full,
             subst (λ (x : Member). Accepts g.row.C g.row.H g.row.G (word_after (sum_ops g.row.C g.row.H) x.work.made) ops) (sym is)
-                (accepts_same g.row.C g.row.H g.row.G (slice_index row) (word_after (sum_ops g.row.C g.row.H) m.work.made) ops fit.sums
+                (accepts_same g.row.C g.row.H g.row.G (slice_index row) (word_after (sum_ops g.row.C g.row.H) m.work.made) ops fit.words
                 c.in_ok-try_apply.ensures.accepted),
           ),
         ),
@@ -217,8 +217,8 @@ returns-clause-fit g c =
     record {
       who = c.publish.new.seat.is;
       counts = refl;
-      sums = λ k lt'. adds.sums k
-          ∙ (ap (λ (z : ℕ). z + sum_ops g.row.C g.row.H ops k) (fit.sums k lt')
+      words = λ k lt'. adds.sums k
+          ∙ (ap (λ (z : ℕ). z + sum_ops g.row.C g.row.H ops k) (fit.words k lt')
           ∙ sym (ap (λ (l : List PublishEntry). word_after (sum_ops g.row.C g.row.H) l k) made
           ∙ total_last (sum_ops g.row.C g.row.H) m.work.made last k));
       wide = wide';
@@ -299,5 +299,5 @@ returns-clause-updated g c =
 
 pub returns-clause-accepted : goal.returns-clause-accepted
 returns-clause-accepted g c = accepts_same g.row.C g.row.H g.row.G (slice_index c.args.row.now)
-    (word_after (sum_ops g.row.C g.row.H) (worker_of c.args.seat.now).work.made) c.args.ops.now c.requires.fit.sums
+    (word_after (sum_ops g.row.C g.row.H) (worker_of c.args.seat.now).work.made) c.args.ops.now c.requires.fit.words
     c.in_ok-try_apply.ensures.accepted
