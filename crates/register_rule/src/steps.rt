@@ -15,8 +15,8 @@ ghost use Rattle.register_rule.specs.Seats.{table_of, members_of, worker_of, ind
 
 use crate::board::{Board, Key, Law};
 use crate::load::Load;
-use crate::table_steps::{Both, load_as, split_as, store_as};
 use crate::seats::{Bundle, WorkSeat};
+use crate::table_steps::{Both, load_as, split_as, store_as};
 use crate::view::Who;
 use ledger_core::Op;
 use segment_layout::{Part, buffer_words};

@@ -122,7 +122,12 @@ pub(crate) fn collect<
     const C: usize,
     const H: usize,
     const G: usize,
->(board: &Board<N, C, H, G>, seat: &mut S, remembered: &mut [RememberedRow], opened: &mut [u64]) -> bool
+>(
+    board: &Board<N, C, H, G>,
+    seat: &mut S,
+    remembered: &mut [RememberedRow],
+    opened: &mut [u64],
+) -> bool
     requires { MayTry board.now (S.bundle seat.old) remembered.old opened.old }
     ensures table { table_of (S.bundle seat.new) ≡ table_of (S.bundle seat.old) }
     ensures wide { AreWide (width C H G) remembered.new }

@@ -31,7 +31,9 @@ fn one_try<S: ScanSeat<N, C, H, G>, const N: usize, const C: usize, const H: usi
         found.new moved.old moved.new known.new result }
 {
     *known = collect(board, seat, remembered, opened);
-    confirm(board, seat, remembered, totals, opened, found, moved, *known)
+    confirm(
+        board, seat, remembered, totals, opened, found, moved, *known,
+    )
 }
 
 /// A later try of a scan, as [`one_try`]: a function of its own, so that a scan that is quiet has no more code than it needs.
@@ -88,7 +90,9 @@ pub(crate) fn scan<
 {
     let mut known = false;
     moved.clear();
-    let clean = one_try(board, seat, remembered, totals, opened, found, moved, &mut known);
+    let clean = one_try(
+        board, seat, remembered, totals, opened, found, moved, &mut known,
+    );
     if clean {
         return ScanEnd::Direct { quiet: known };
     }
@@ -98,7 +102,9 @@ pub(crate) fn scan<
     base.copy_from_slice(found);
     let row = totals.len();
     for _k in 0..N + 1 {
-        let clean = later_try(board, seat, remembered, totals, opened, found, moved, &mut known);
+        let clean = later_try(
+            board, seat, remembered, totals, opened, found, moved, &mut known,
+        );
         if clean {
             return ScanEnd::Direct { quiet: false };
         }
