@@ -230,7 +230,8 @@ module _ {N C H G : ℕ} (place : ℕ) (vs ws us : List (Worker N C H G)) (r1 r2
         vector = λ p v at. number p v at ∙ ap some (sym (length-map (member_of v).work.made ops_in));
         totals = λ k lt.
             let f = λ (x : ℕ). word_after (sum_ops C H) (ruled.made x) k in
-            let e = all_sum C H k f vs (λ p v at. ap (λ (m : List PublishEntry). word_after (sum_ops C H) m k) (made_is p v at).1) in
+            let e = all_sum C H k f vs (λ p v at. ap (λ (m : List PublishEntry). word_after (sum_ops C H) m k)
+            (made_is p v at).1) in
             let d = in_any_order f 0 N (map index_of vs) once
             (λ x h. let t = from_map index_of vs h.0 x h.1 in let low = (made_is h.0 t.0 t.1).0 in let is = t.2 in
             (omega arith, omega (arith, low, is)))

@@ -31,7 +31,8 @@ one_more c h k w ws =
 module _ {N C H G : ℕ} (c h k : ℕ) (f : ℕ → ℕ) where
   -- where f has what each worker published, by its index
   pub all_sum : (ws : List (Worker N C H G))
-      → ((p : ℕ) (w : Worker N C H G) → get_elem? ws p ≡ some w → f (index_of w) ≡ word_after (sum_ops c h) (member_of w).work.made k)
+      → ((p : ℕ) (w : Worker N C H G) → get_elem? ws p ≡ some w → f (index_of w) ≡ word_after (sum_ops c h)
+      (member_of w).work.made k)
       → sum_ops c h (made_all ws) k ≡ sum_of f (map index_of ws)
   all_sum [] each = refl
   all_sum (w ∷ ws) each =

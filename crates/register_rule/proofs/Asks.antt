@@ -108,7 +108,8 @@ module _ (n w : ℕ) (adds : List Op → ℕ → ℕ) (made : ℕ → List Publi
       → IsSound n w adds made h (after_ask i x c)
   ask_right c i x inside is ok = cond_both (is_next i c.trying.due) (record c.trying { asks = begun i x [] ∷ [] }) c.trying
       (λ (t : ScanInProgress). IsSound n w adds made h (record c { trying = t }))
-      (λ _. with_now c c.opened c.asked c.quit (record c.trying { asks = begun i x [] ∷ [] }) ok.opened ok.ordered ok.asked ok.looks
+      (λ _. with_now c c.opened c.asked c.quit
+      (record c.trying { asks = begun i x [] ∷ [] }) ok.opened ok.ordered ok.asked ok.looks
       (λ q l e. subst (IsLook n w adds made w) (from_replicate 1 _ q l e) record {
         inside = inside;
         old = omega (arith, is);

@@ -253,7 +253,8 @@ module _ (n w b : ℕ) (adds : List Op → ℕ → ℕ) (accepts : (ℕ → ℕ)
         → IsRole n w b adds made words m who → IsRole n w b adds made words (scan_changed (after n w what x) m) who
     role_after m (Worker i) what x ok was = record {
       work = was.work;
-      own_number = own_rises n w adds made m.scan.seen (after n w what x m.scan).seen i ok.seen (seen_stays n w what x m.scan i) was.own_number;
+      own_number = own_rises n w adds made m.scan.seen (after n w what x m.scan).seen i ok.seen
+          (seen_stays n w what x m.scan i) was.own_number;
       lends = λ q y a e l. let t = was.lends q y a e l in (t.0, records_stay n w what x m.scan t.0 a t.1);
     }
     role_after m (Reader r) what x ok was = tt

@@ -23,7 +23,8 @@ use Rattle.register_rule.specs.Sums.{word_after, vector_total, last_lent}
 use Rattle.register_rule.specs.Shown.{Shows}
 use Rattle.register_rule.specs.Loads.{IsTried, AreOrdered}
 use Rattle.register_rule.specs.SoundScans.{opened_at, AreLoads, IsStale, IsLook, HasStale, IsVersion, IsOneMoment, IsSound}
-use Rattle.register_rule.specs.ScanSteps.{every, answered, given_up_if_spent, remembered_words, begun, unsure, opens_next, after_open}
+use Rattle.register_rule.specs.ScanSteps.{every, answered, given_up_if_spent, remembered_words, begun}
+use Rattle.register_rule.specs.ScanSteps.{unsure, opens_next, after_open}
 use Rattle.register_rule.specs.ScanSteps.{noted}
 use Rattle.register_rule.specs.ScanSteps.{after_read, confirmed_look, remembered_then, confirmed_at, clean, are_clean, sum_words}
 use Rattle.register_rule.specs.ScanSteps.{answer_of_try}
@@ -63,7 +64,8 @@ words_from P zero s (v ∷ vs) none each = cond_both (v.number == s) v.row [] P 
     (λ _. none)
 words_from P (suc i) s (v ∷ vs) none each = words_from P i s vs none each
 
-length_remembered : (w i : ℕ) (ls : List Look) (remembered : List Version) → length (remembered_then w i ls remembered) ≡ length remembered
+length_remembered : (w i : ℕ) (ls : List Look) (remembered : List Version) → length (remembered_then w i ls remembered)
+    ≡ length remembered
 length_remembered w i [] remembered = refl
 length_remembered w i (l ∷ ls) remembered = cond_both (l.place == i && l.sure && length l.words == w)
     (slice_set remembered i (record { number = l.number; row = l.words })) (remembered_then w i ls remembered)
@@ -156,7 +158,8 @@ module _ (n w : ℕ) (adds : List Op → ℕ → ℕ) (made : ℕ → List Publi
       (loads_more c.opened i x inside is ok.opened)
       (begin_ordered c.opened c.confirmed c.before c.trying.looks i x (topmost c.opened i x is ok.opened)
       (topmost c.confirmed i x is ok.confirmed) ok.ordered new refl refl refl refl) ok.asked looks' ok.asks
-      (λ len. ⊎_elim (λ (d : HasStale n w adds made (c.trying.looks ++ new ∷ [])). inl d) (λ all. inr (moment_now _ len looks' all))
+      (λ len. ⊎_elim (λ (d : HasStale n w adds made (c.trying.looks ++ new ∷ [])). inl d)
+      (λ all. inr (moment_now _ len looks' all))
       (moved_or (c.trying.looks ++ new ∷ []) none)) ok)
       (λ _. with_now n w adds made h c (c.opened ++ (i, x) ∷ []) c.asked c.quit c.trying
       (loads_more c.opened i x inside is ok.opened)
@@ -191,7 +194,8 @@ module _ (n w : ℕ) (adds : List Op → ℕ → ℕ) (made : ℕ → List Publi
           look t.0 (ok.looks q t.0 t.1).0,
           place t.0 ∙ (ok.looks q t.0 t.1).1,
         ));
-    asks = (λ q l e. let t = from_map g c.trying.asks q l e in subst (IsLook n w adds made w) t.2 (look' t.0 (ok.asks q t.0 t.1)));
+    asks = (λ q l e. let t = from_map g c.trying.asks q l e in subst (IsLook n w adds made w) t.2
+        (look' t.0 (ok.asks q t.0 t.1)));
     whole = (λ len. ⊎_elim
         (λ (d : HasStale n w adds made c.trying.looks). inl (
           d.0,
@@ -301,7 +305,8 @@ module _ (n w : ℕ) (adds : List Op → ℕ → ℕ) (made : ℕ → List Publi
         recorded = m.recorded;
         seen = m.seen;
         seen_wide = m.seen_wide;
-        remembered = remembers i (map (confirmed_look i x) c.trying.looks) c.remembered (λ q l e. (m.looks q l e).0) ok.remembered;
+        remembered = remembers i (map (confirmed_look i x) c.trying.looks) c.remembered
+            (λ q l e. (m.looks q l e).0) ok.remembered;
         remembered_wide = length_remembered w i (map (confirmed_look i x) c.trying.looks) c.remembered ∙ ok.remembered_wide;
         looks = m.looks;
         asks = ok.asks;
@@ -346,7 +351,8 @@ module _ (n w : ℕ) (adds : List Op → ℕ → ℕ) (made : ℕ → List Publi
       → IsOneMoment n w adds made h (answer_of_try w c.trying.looks) × (length (map opened_at c.trying.looks) ≡ n)
   clean_right c ok hit =
       let t = and_parts _ _ hit in let len : length c.trying.looks ≡ n = eqb-true _ _ t.0 in
-      let each : (q : ℕ) (l : Look) → get_elem? c.trying.looks q ≡ some l → (l.sure ≡ true) × (length l.words ≡ w) = λ q l e. let p =
+      let each : (q : ℕ) (l : Look) → get_elem? c.trying.looks q ≡ some l → (l.sure ≡ true) ×
+      (length l.words ≡ w) = λ q l e. let p =
       and_parts _ _ (every_at (clean w) c.trying.looks t.1 q l e) in (p.0, eqb-true _ _ p.1) in (
         record {
           low = λ i s e. let z : 0 + i ≡ i = omega arith in
@@ -354,7 +360,8 @@ module _ (n w : ℕ) (adds : List Op → ℕ → ℕ) (made : ℕ → List Publi
               ((ok.looks q l at).0.old, (ok.looks q l at).1 ∙ z')) i s e);
           moment = ⊎_elim (λ (d : HasStale n w adds made c.trying.looks). absurd (true≢false (sym (each d.0 d.1 d.2).0 ∙ d.3.0)))
               (λ p. p) (ok.whole len);
-          totals = λ k lt. tab_at 0 w _ k lt ∙ ap some (let z : 0 + k ≡ k = omega arith in ap (λ (y : ℕ). sum_words y c.trying.looks) z
+          totals = λ k lt. tab_at 0 w _ k lt ∙ ap some (let z : 0 + k ≡ k = omega arith in ap
+              (λ (y : ℕ). sum_words y c.trying.looks) z
               ∙ sums_right k 0 c.trying.looks (λ q l at. let z' : q ≡ 0 + q = omega arith in (
                 (ok.looks q l at).1 ∙ z',
                 let long = (each q l at).1 in
@@ -376,7 +383,8 @@ module _ (n w : ℕ) (adds : List Op → ℕ → ℕ) (made : ℕ → List Publi
       (λ _. scan_gives n w adds made h (record c { trying = failed_once_more (with_base c.trying) }) some_n
       (with_now n w adds made h c c.opened c.asked c.quit (failed_once_more (with_base c.trying)) ok.opened
       (rest_ordered c.opened c.confirmed c.before c.trying.looks ok.ordered) ok.asked (λ q l e. absurd (some-ne-none l (sym e)))
-      (cond_both (c.trying.failed == 0) (record c.trying { floor = _; base = _ }) c.trying (λ (t : ScanInProgress). (q : ℕ) (l : Look)
+      (cond_both (c.trying.failed == 0) (record c.trying { floor = _; base = _ }) c.trying
+      (λ (t : ScanInProgress). (q : ℕ) (l : Look)
       → get_elem? t.asks q ≡ some l → IsLook n w adds made w l) (λ _. ok.asks) (λ _. ok.asks))
       (λ none. absurd (let z : 0 ≡ n = none in omega arith)) ok))
 

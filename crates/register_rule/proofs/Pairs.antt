@@ -21,7 +21,8 @@ module _ (n w b : ℕ) (adds : List Op → ℕ → ℕ) (accepts : (ℕ → ℕ)
   -- by these numbers, which are those of the segments
   module _ (number : ℕ → ℕ) (same : (i : ℕ) → i < n → number i ≡ length (r.made i)) where
     -- a number that has moved is not that of the segment
-    is_doomed : (m : Member) → Sits s m → HasStale n w adds r.made m.scan.trying.looks → IsDoomed n number (Sits s) m.scan.trying.looks
+    is_doomed : (m : Member) → Sits s m → HasStale n w adds r.made m.scan.trying.looks → IsDoomed n number
+        (Sits s) m.scan.trying.looks
     is_doomed m t d = (
       d.0,
       d.1,

@@ -59,7 +59,8 @@ total_last adds (y ∷ ys) x k = let e = total_last adds ys x k in omega (arith,
 
 -- a list that the row accepts may come next
 legal_more : (adds : List Op → ℕ → ℕ) (accepts : (ℕ → ℕ) → List Op → Type 0) (before xs : List PublishEntry) (x : PublishEntry)
-    → AcceptedInTurn adds accepts before xs → accepts (word_after adds (before ++ xs)) x.ops → AcceptedInTurn adds accepts before (xs ++ x ∷ [])
+    → AcceptedInTurn adds accepts before xs → accepts (word_after adds (before ++ xs)) x.ops → AcceptedInTurn adds accepts before
+    (xs ++ x ∷ [])
 legal_more adds accepts before [] y h a = (
   subst (λ (z : List PublishEntry). accepts (word_after adds z) y.ops)
       (append-nil before) a,

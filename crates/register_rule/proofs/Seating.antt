@@ -133,7 +133,8 @@ module _ (n w b : ℕ) (adds : List Op → ℕ → ℕ) where
         go : (who : Who) → IsRole n w b adds made ws m who → IsRole n w b adds made ws (raised v m) who
         go (Worker i) t = record {
           work = t.work;
-          own_number = own_rises n w adds made m.scan.seen (upper m.scan.seen v) i scan.seen (upper_at m.scan.seen v i) t.own_number;
+          own_number = own_rises n w adds made m.scan.seen (upper m.scan.seen v) i scan.seen
+              (upper_at m.scan.seen v i) t.own_number;
           lends = t.lends;
         }
         go (Reader i) t = tt

@@ -35,7 +35,8 @@ answered a c = record c { recorded = c.recorded ++ a ∷ []; seen = upper c.seen
 
 -- a scan whose try n + 2 has failed, and that has nobody to ask, is given up; any other one goes on as it is
 abbrev pub given_up_if_spent : (n : ℕ) → ScanLog → ScanLog
-given_up_if_spent n c = cond (length c.trying.due == 0 && c.trying.failed == n + 2) (record c { quit = c.quit + 1; trying = at_rest }) c
+given_up_if_spent n c = cond (length c.trying.due == 0 && c.trying.failed == n + 2)
+    (record c { quit = c.quit + 1; trying = at_rest }) c
 
 -- **The opening load** of the place i found the number s. It opens the next place of a try in which nothing is
 -- confirmed yet, where nobody is still to be asked. The words of a row that is remembered need not be read again.
@@ -62,7 +63,10 @@ opens_next i t = i == length t.looks && (length t.due == 0 && every unsure t.loo
 abbrev pub after_open : (i s : ℕ) → ScanLog → ScanLog
 after_open i s c = record c {
   opened = c.opened ++ (i, s) ∷ [];
-  trying = cond (opens_next i c.trying) (record c.trying { looks = c.trying.looks ++ begun i s (remembered_words i s c.remembered) ∷ [] }) c.trying;
+  trying = cond (opens_next i c.trying) (record c.trying {
+    looks = c.trying.looks ++ begun i s
+        (remembered_words i s c.remembered) ∷ [];
+  }) c.trying;
 }
 
 -- **The load of a word** of the version s of the place i found x at the item k. A look takes its words one by one;
@@ -76,7 +80,13 @@ noted from i s k x l = cond (l.place == i && l.number == s && not l.sure && k ==
 -- a scan after the load of a word, which a try or an asked worker may take
 abbrev pub after_read : (w i s k x : ℕ) → ScanLog → ScanLog
 after_read w i s k x c =
-    record c { trying = record c.trying { looks = map (noted 0 i s k x) c.trying.looks; asks = map (noted w i s k x) c.trying.asks } }
+    record c {
+      trying = record c.trying {
+        looks = map (noted 0 i s k x) c.trying.looks;
+        asks = map
+            (noted w i s k x) c.trying.asks;
+      };
+    }
 
 -- **The confirming load** of the place i found the number s. A place whose number is found again is sure, and its row
 -- is remembered. That of the last place ends the try.

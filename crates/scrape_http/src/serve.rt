@@ -124,7 +124,8 @@ fn send_answer<W: Write>(
     with_body: bool,
 ) -> Result<Served, WireFault>
     requires { writer.old.failed ≡ false }
-    ensures sends { Sends (W.contents writer.old.inner) (W.contents writer.new.inner) (Some (scraped answer.now with_body)) result }
+    ensures sends { Sends (W.contents writer.old.inner) (W.contents writer.new.inner)
+        (Some (scraped answer.now with_body)) result }
     ensures failed { writer.new.failed ≡ is_write_failed result }
     ensures flushed { IsOk result → writer.new.flushed ≡ true }
 {

@@ -200,7 +200,8 @@ pub refuses_of : (n w i s again : ℕ) (words more floor : List ℕ) (adds : Lis
     (ms a b d : List Member) → HasMember ms
     → a ≡ led (scan_changed (after_ask i s)) ms → b ≡ led (scan_changed (read_all w i s w words)) a
     → d ≡ led (scan_changed (after_end_ask n w i again)) b
-    → (scan_of ms).trying.due ≡ i ∷ more → (scan_of ms).trying.looks ≡ [] → (scan_of ms).trying.floor ≡ floor → length words ≡ 1 + n + w
+    → (scan_of ms).trying.due ≡ i ∷ more → (scan_of ms).trying.looks ≡ [] → (scan_of ms).trying.floor ≡ floor → length words
+    ≡ 1 + n + w
     → length floor ≡ n → AreRuled n w adds accepts d
     → is_lender n w again floor (begun i s words) ≡ false
     → (e : Asked) × (e.worker ≡ i) × DoesNotLend n floor e × (d ≡ with_scan (given_up_if_spent n (refused e (scan_of ms))) ms)

@@ -123,7 +123,8 @@ opens_more w s opened gs g g' c at inside same remembered due asks =
     let e : 0 + i ≡ i = omega arith in
     let loads : old.opened ++ (i, s) ∷ [] ≡ c'.opened = append_assoc c.opened (pairs 0 opened) ((i, s) ∷ [])
     ∙ ap (λ z. c.opened ++ z) (sym (pairs_snoc 0 opened s ∙ ap (λ (z : ℕ). pairs 0 opened ++ (z, s) ∷ []) e)) in
-    let ws : remembered_words i s c.remembered ≡ cond (g.number == s) g.row.items [] = ap (remembered_words i s) remembered ∙ kept_words i s gs g at in
+    let ws : remembered_words i s c.remembered ≡ cond (g.number == s) g.row.items [] = ap (remembered_words i s) remembered
+    ∙ kept_words i s gs g at in
     let opens : after_open i s old ≡ looking (ls ++ begun i s (cond (g.number == s) g.row.items []) ∷ []) c' =
     (λ z. record c {
       opened = loads z;

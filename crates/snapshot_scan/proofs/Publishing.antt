@@ -110,7 +110,8 @@ row_next adds made f f' x i zero k low high up room same = absurd (omega (arith,
 row_next adds made f f' x i (suc m) k low high up room same = dite (ℕ_discrete i x)
     (λ e.
     let here : word_after adds (take (f' i) (made i)) k ≡ word_after adds (take (f i) (made i)) k + adds (nth (made x) (f x)) k =
-    subst (λ (z : ℕ). word_after adds (take (f' z) (made z)) k ≡ word_after adds (take (f z) (made z)) k + adds (nth (made x) (f x)) k)
+    subst (λ (z : ℕ). word_after adds (take (f' z) (made z)) k ≡ word_after adds (take (f z) (made z)) k + adds
+    (nth (made x) (f x)) k)
     (sym e)
     (ap (λ (s : ℕ). word_after adds (take s (made x)) k) up ∙ total_next adds (made x) (f x) k room) in
     let rest = row_same adds made f f' (suc i) m k (λ j le. same j (λ z. let y : j ≡ i = z ∙ sym e in omega (arith, y, le))) in
@@ -406,8 +407,10 @@ module _ (n c h g : ℕ) (ms : List Member) (ruled : AreRuled n (width c h g) (s
     numbers = moment ∙ tab_same (λ i. count i (take t order)) (λ i. length (lists_by i (before t))) 0 n
         (λ i lt. let in_n : i < n = omega (arith, lt) in lists_many n made (take t order) i in_n (room t i in_n));
     totals = λ k lt.
-        let is : slice_index a.totals k ≡ vector_total (sum_ops c h) made 0 a.vector k = read_at a.totals k _ 0 (entry.totals k lt) in
-        let same : vector_total (sum_ops c h) made 0 a.vector k ≡ vector_total (sum_ops c h) made 0 (numbers_after n (take t order)) k =
+        let is : slice_index a.totals k ≡ vector_total (sum_ops c h) made 0 a.vector k = read_at a.totals k _ 0
+        (entry.totals k lt) in
+        let same : vector_total (sum_ops c h) made 0 a.vector k ≡ vector_total (sum_ops c h) made 0
+        (numbers_after n (take t order)) k =
         ap (λ (v : List ℕ). vector_total (sum_ops c h) made 0 v k) moment in
         let none = row_none (sum_ops c h) made 0 n k in
         let all = sum_is n made c h [] (take t order) k (room t) in

@@ -50,7 +50,8 @@ settle_looks i s q o (x ∷ opened) [] (y ∷ gs) g g' e at there same =
     let is : i ≡ q = omega (arith, e) in let ox = some-injective x o at in let yg = some-injective y g there in
     let head : confirmed_look i s (begun q x (words_of x y)) ≡ confirmed_look q s (begun q x (words_of x g')) =
     (λ z. confirmed_look (is z) s (begun q (ox z) (words_of (ox z) (yg z))))
-    ∙ (ap (λ (ws : List ℕ). confirmed_look q s (begun q o ws)) (sym same) ∙ ap (λ (n : ℕ). confirmed_look q s (begun q n (words_of n g')))
+    ∙ (ap (λ (ws : List ℕ). confirmed_look q s (begun q o ws)) (sym same) ∙ ap
+    (λ (n : ℕ). confirmed_look q s (begun q n (words_of n g')))
     (sym ox)) in
     let rest = settled_after i s (suc q) opened [] gs (omega (arith, is)) in
     λ z. head z ∷ rest z
@@ -134,7 +135,8 @@ confirms_more w s o opened pre gs g g' c at there wide same version =
     (pre ++ s ∷ []) =
     append_assoc c.before (map (λ _. length c.opened) pre) (length c.opened ∷ [])
     ∙ ap (λ z. c.before ++ z) (sym (map_push (λ _. length c.opened) pre s)) in
-    let remembered : remembered_then w i (map (confirmed_look i s) (looks_of 0 opened pre gs)) (map version_of gs) ≡ map version_of gs' =
+    let remembered : remembered_then w i (map (confirmed_look i s) (looks_of 0 opened pre gs)) (map version_of gs)
+    ≡ map version_of gs' =
     ap (λ (z : List Look). remembered_then w i z (map version_of gs)) looks
     ∙ (remembered_at w i s 0 o opened pre gs' g' (map version_of gs) e at (set_at gs i g' g there)
     (ap (λ (z : List ℕ). length z) same ∙ wide)

@@ -16,7 +16,8 @@ use Rattle.register_rule.specs.declared.view.ScanInProgress.{ScanInProgress}
 use Rattle.register_rule.specs.declared.view.ScanLog.{ScanLog}
 use Rattle.register_rule.specs.History.{tab}
 use Rattle.register_rule.specs.SoundScans.{opened_at}
-use Rattle.register_rule.specs.ScanSteps.{every, begun, confirmed_look, clean, are_clean, sum_words, answer_of_try, found_of, due_of}
+use Rattle.register_rule.specs.ScanSteps.{every, begun, confirmed_look, clean, are_clean}
+use Rattle.register_rule.specs.ScanSteps.{sum_words, answer_of_try, found_of, due_of}
 use Rattle.register_rule.specs.ScanSteps.{with_base, failed_once_more, answered, given_up_if_spent, ended, at_rest}
 use Rattle.snapshot_scan.specs.declared.remembered_row.RememberedRow.{RememberedRow}
 use Rattle.snapshot_scan.specs.RememberedRows.{version_of, AreWide, AreTotals, words_of, looks_of, pairs, opening, settling}
@@ -49,7 +50,8 @@ clean_same w q [] (f ∷ found) gs wide h k t = absurd (omega (arith, h, k))
 clean_same w q (s ∷ opened) [] gs wide h k t = absurd (omega (arith, h, k))
 clean_same w q (s ∷ opened) (f ∷ found) [] wide h k t = absurd (omega (arith, h))
 clean_same w q (s ∷ opened) (f ∷ found) (g ∷ gs) wide h k t =
-    let b = and_parts (clean w (confirmed_look q f (begun q s (words_of s g)))) (every (clean w) (looks_of (suc q) opened found gs)) t in
+    let b = and_parts (clean w (confirmed_look q f (begun q s (words_of s g))))
+    (every (clean w) (looks_of (suc q) opened found gs)) t in
     let same : s ≡ f = eqb-true s f (sym (clean_here w q s f (words_of s g) (words_wide w s g (wide 0 g refl))) ∙ b.0) in
     let others = clean_same w (suc q) opened found gs (λ p x e. wide (suc p) x e) (omega (arith, h)) (omega (arith, k)) b.1 in
     λ z. same z ∷ others z
@@ -178,7 +180,8 @@ given_due n c i more e =
     c.trying.failed == n + 2)
 
 pub given_later : (n : ℕ) (c : ScanLog) → c.trying.failed < n + 2 → given_up_if_spent n c ≡ c
-given_later n c lt = given_not n c ((λ z. length c.trying.due == 0 && ne_eqb c.trying.failed (n + 2) (λ h. omega (arith, h, lt)) z)
+given_later n c lt = given_not n c ((λ z. length c.trying.due == 0 && ne_eqb c.trying.failed (n + 2)
+    (λ h. omega (arith, h, lt)) z)
     ∙ and-false (length c.trying.due == 0))
 
 pub given_last : (n : ℕ) (c : ScanLog) → c.trying.due ≡ [] → c.trying.failed ≡ n + 2 → given_up_if_spent n c ≡ record c {
@@ -217,7 +220,8 @@ module _ (n w : ℕ) (opened found : List ℕ) (gs gs' : List RememberedRow) (fe
       let t : ScanInProgress = record d.trying { looks = ls } in
       let b : with_base t ≡ t =
       ap (λ (h : Bool). cond h (record t { floor = map opened_at t.looks; base = map found_of t.looks }) t) later in
-      let due : due_of d.trying.base ls ≡ due_from 0 d.trying.base found = dues_are 0 d.trying.base opened found gs (long ∙ sym few)
+      let due : due_of d.trying.base ls ≡ due_from 0 d.trying.base found = dues_are 0 d.trying.base opened found gs
+      (long ∙ sym few)
       (deep ∙ sym few) in
       ap (λ (u : ScanInProgress). record (settling opened found gs (opening opened gs' d)) { trying = failed_once_more u }) b
       ∙ (λ z. record d {

@@ -6,7 +6,8 @@ ghost use Rattle.segment_layout.specs.Layout.{depth};
 ghost use Rattle.register_rule.specs.declared.view.Member.{Member};
 ghost use Rattle.register_rule.specs.Seats.{table_of, members_of, HasMember, MayScan};
 ghost use Rattle.snapshot_scan.specs.Shape.{scan_in, with_scan};
-ghost use Rattle.snapshot_scan.specs.RememberedRows.{IsWide, AreWide, AreKnown, AreTotals, HasOther, IsLoaded, version_of, opening};
+ghost use Rattle.snapshot_scan.specs.RememberedRows.{IsWide, AreWide, AreKnown, AreTotals, HasOther};
+ghost use Rattle.snapshot_scan.specs.RememberedRows.{IsLoaded, version_of, opening};
 ghost use Rattle.snapshot_scan.specs.Collecting.{HasOpened, MayConfirm};
 ghost use Rattle.snapshot_scan.specs.Conditions.{MayTry};
 
@@ -138,7 +139,8 @@ pub(crate) fn collect<
     ensures known { result ≡ true → AreKnown opened.new remembered.new }
     ensures unknown { result ≡ false → HasOther opened.new (map version_of remembered.old) }
     ensures may { MayConfirm board.now (S.bundle seat.new) remembered.new opened.new }
-    ensures sums { (totals : List ℕ) → AreTotals (width C H G) remembered.old totals → AreTotals (width C H G) remembered.new totals }
+    ensures sums { (totals : List ℕ) → AreTotals (width C H G) remembered.old totals → AreTotals
+        (width C H G) remembered.new totals }
 {
     let turns = N / TURN;
     let mut known = true;

@@ -205,7 +205,8 @@ impl<const N: usize, const C: usize, const H: usize, const G: usize> ScanMemory<
         requires inside { place < N }
         ensures rows { rows_of self.new ≡ slice_set (rows_of self.old) place (record { number = number; row = row.now }) }
         ensures sums { (v : Version) → get_elem? (rows_of self.old) place ≡ some v → (k : ℕ) → k < width C H G
-            → slice_index (totals_in self.new) k + slice_index v.row k ≡ slice_index (totals_in self.old) k + slice_index row.now k }
+            → slice_index (totals_in self.new) k + slice_index v.row k ≡ slice_index
+            (totals_in self.old) k + slice_index row.now k }
     {
         learn_row(
             self.remembered.as_mut_slice(),
@@ -227,7 +228,8 @@ impl<const N: usize, const C: usize, const H: usize, const G: usize> ScanMemory<
             → ¬ (Contains items.now k) → slice_index v.row k ≡ slice_index row.now k }
         ensures rows { rows_of self.new ≡ slice_set (rows_of self.old) place (record { number = number; row = row.now }) }
         ensures sums { (v : Version) → get_elem? (rows_of self.old) place ≡ some v → (k : ℕ) → k < width C H G
-            → slice_index (totals_in self.new) k + slice_index v.row k ≡ slice_index (totals_in self.old) k + slice_index row.now k }
+            → slice_index (totals_in self.new) k + slice_index v.row k ≡ slice_index
+            (totals_in self.old) k + slice_index row.now k }
     {
         change_row(
             self.remembered.as_mut_slice(),

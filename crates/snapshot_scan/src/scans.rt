@@ -26,8 +26,10 @@ fn one_try<S: ScanSeat<N, C, H, G>, const N: usize, const C: usize, const H: usi
     known: &mut bool,
 ) -> bool
     requires may { MayTry board.now (S.bundle seat.old) remembered.old opened.old }
-    requires room { (length found.old ≡ N) × (length totals.old ≡ width C H G) × AreTotals (width C H G) remembered.old totals.old }
-    ensures { HasTried N C H G (S.bundle seat.old) (S.bundle seat.new) remembered.old remembered.new totals.old totals.new opened.new
+    requires room { (length found.old ≡ N) × (length totals.old ≡ width C H G) × AreTotals
+        (width C H G) remembered.old totals.old }
+    ensures { HasTried N C H G (S.bundle seat.old)
+        (S.bundle seat.new) remembered.old remembered.new totals.old totals.new opened.new
         found.new moved.old moved.new known.new result }
 {
     *known = collect(board, seat, remembered, opened);
@@ -55,8 +57,10 @@ fn later_try<
     known: &mut bool,
 ) -> bool
     requires may { MayTry board.now (S.bundle seat.old) remembered.old opened.old }
-    requires room { (length found.old ≡ N) × (length totals.old ≡ width C H G) × AreTotals (width C H G) remembered.old totals.old }
-    ensures { HasTried N C H G (S.bundle seat.old) (S.bundle seat.new) remembered.old remembered.new totals.old totals.new opened.new
+    requires room { (length found.old ≡ N) × (length totals.old ≡ width C H G) × AreTotals
+        (width C H G) remembered.old totals.old }
+    ensures { HasTried N C H G (S.bundle seat.old)
+        (S.bundle seat.new) remembered.old remembered.new totals.old totals.new opened.new
         found.new moved.old moved.new known.new result }
 {
     one_try(board, seat, remembered, totals, opened, found, moved, known)
@@ -85,7 +89,8 @@ pub(crate) fn scan<
     moved: &mut ChangedItems,
 ) -> ScanEnd
     requires { MayBegin board.now (S.bundle seat.old) remembered.old totals.old opened.old found.old lent.old }
-    ensures { HasEnded N C H G (S.bundle seat.old) (S.bundle seat.new) remembered.old remembered.new totals.old totals.new opened.new
+    ensures { HasEnded N C H G (S.bundle seat.old)
+        (S.bundle seat.new) remembered.old remembered.new totals.old totals.new opened.new
         found.new lent.new moved.new result }
 {
     let mut known = false;

@@ -31,7 +31,8 @@ pub record ListsMoved (n w : ℕ) (moved old new : ChangedView) : Type 0 where
 
 -- the scan ended direct, and found the number of its own worker; all numbers of the vector are late, too, and so are the totals
 -- that it moved
-pub record IsFollowed (n c h g index number : ℕ) (memory : ScanMemory n c h g) (ended : ScanEnd) (late late' : ChangedView) : Type 0
+pub record IsFollowed (n c h g index number : ℕ) (memory : ScanMemory n c h g) (ended : ScanEnd)
+    (late late' : ChangedView) : Type 0
   where
     pub direct : (quiet : Bool) × (ended ≡ Direct quiet)
     pub found : slice_index (answer_of memory ended).vector index ≡ number

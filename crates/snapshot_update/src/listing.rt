@@ -41,7 +41,8 @@ pub(crate) fn list_late(
     ensures unknown { known ≡ false → late.new.all ≡ true }
     ensures number { late.new.all ≡ false → Contains late.new.items number_item }
     ensures totals { late.new.all ≡ false → (k : ℕ) → Contains touched.now.items k → Contains late.new.items (k + totals_at) }
-    ensures others { (j : ℕ) → Contains late.new.items j → (j ≡ number_item) ⊎ ((k : ℕ) × Contains touched.now.items k × (j ≡ k + totals_at)) }
+    ensures others { (j : ℕ) → Contains late.new.items j → (j ≡ number_item) ⊎
+        ((k : ℕ) × Contains touched.now.items k × (j ≡ k + totals_at)) }
 {
     late.clear();
     late.note(number_item);

@@ -133,7 +133,8 @@ fn learn<const N: usize, const C: usize, const H: usize, const G: usize>(
     requires { MayLearn memory.old index row.now images.now known }
     ensures rows { rows_of memory.new ≡ slice_set (rows_of memory.old) index (record { number = number; row = row.now }) }
     ensures sums { (v : version) → get_elem? (rows_of memory.old) index ≡ some v → (k : ℕ) → k < width C H G
-        → slice_index (totals_in memory.new) k + slice_index v.row k ≡ slice_index (totals_in memory.old) k + slice_index row.now k }
+        → slice_index (totals_in memory.new) k + slice_index v.row k ≡ slice_index
+        (totals_in memory.old) k + slice_index row.now k }
 {
     if known {
         memory.remember_at(index, number, row, images.touched.as_slice());

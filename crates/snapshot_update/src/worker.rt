@@ -162,7 +162,8 @@ impl<const N: usize, const C: usize, const H: usize, const G: usize> Worker<N, C
     /// The sum of all that the worker has published. It is not asked while it is lent.
     pub fn row(&self) -> &Row<C, H, G>
         requires { IsSome self.now.seat }
-        ensures { (k : ℕ) → k < width C H G → slice_index result.now k ≡ word_after (sum_ops C H) (member_of self.now).work.made k }
+        ensures { (k : ℕ) → k < width C H G → slice_index result.now k ≡ word_after (sum_ops C H)
+            (member_of self.now).work.made k }
     {
         &self.row
     }

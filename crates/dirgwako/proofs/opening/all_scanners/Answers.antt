@@ -12,7 +12,8 @@ loop-reader-preserved g c =
     let step = c.in-Some.ensures.steps.0 in
     let rest = into_iter_items c.next.new.self in
     record {
-      of_board = (next_all (IsReaderOf c.args.board.now) (into_iter_items c.loop-reader.reader-iterator) rest c.in-Some.reader step
+      of_board = (next_all (IsReaderOf c.args.board.now)
+          (into_iter_items c.loop-reader.reader-iterator) rest c.in-Some.reader step
           inv.of_board).1;
       boards = all_more (ScansOn c.args.board.now) c.loop-reader.scanners.items c.push.new.self.items c.new.result
           c.in_ok-push.ensures.items inv.boards c.new.ensures.board;

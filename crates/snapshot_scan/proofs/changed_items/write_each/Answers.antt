@@ -8,7 +8,8 @@ loop-k-preserved c =
     let x = get_or c.args.items.now p 0 + c.args.shift in
     let a = c.loop-k.auto.places in let t = c.loop-k-test.true in let room = c.requires.room in
     record {
-      remembered = λ q lt. let ne : q ≢ n = omega (arith, lt) in get_or-set_other ps n q x 0 ne ∙ c.loop-k.invariant.remembered q lt;
+      remembered = λ q lt. let ne : q ≢ n = omega (arith, lt) in get_or-set_other ps n q x 0 ne
+          ∙ c.loop-k.invariant.remembered q lt;
       written = below_more (λ (q : ℕ). get_or (set ps n x) (c.args.first + q) 0 ≡ get_or c.args.items.now q 0 + c.args.shift) p
           (λ q lt. let ne : c.args.first + q ≢ n = omega (arith, lt) in get_or-set_other ps n (c.args.first + q) x 0 ne
           ∙ c.loop-k.invariant.written q lt)

@@ -60,7 +60,8 @@ returns g c =
     subst (λ (z : ℕ). HasOpened w (4 * z) ms c.args.remembered.now (members_of (bundle l.seat)) l.remembered l.opened l.known)
     (omega (arith, f, end)) l.invariant.opened in
     let all = c.open_rest.ensures.opened ms c.args.remembered.now so_far in
-    let a = l.auto.remembered in let b = l.auto.opened in let a' = c.open_rest.auto.remembered in let b' = c.open_rest.auto.opened in
+    let a = l.auto.remembered in let b = l.auto.opened in let a' = c.open_rest.auto.remembered in
+    let b' = c.open_rest.auto.opened in
     let own = c.open_rest.ensures.table ∙ l.invariant.table in
     let view : members_of (bundle r.seat) ≡ with_scan (opening r.opened r.remembered (scan_of ms)) ms =
     all.view ∙ ap (λ (z : List ℕ). with_scan (opening z r.remembered (scan_of ms)) ms)

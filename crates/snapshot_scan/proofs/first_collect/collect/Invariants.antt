@@ -13,6 +13,7 @@ invariant-loop-turn g l = let bundle = g.S.ScanSeat.bundle in let w : ℕ = widt
   leads : HasMember (members_of (bundle l.seat));
   wide : All (IsWide w) l.remembered;
   deep : depth g.row.N w ≤ 2529;
-  opened : HasOpened w (4 * l.turn) (members_of (bundle l.fn.seat)) l.fn.remembered (members_of (bundle l.seat)) l.remembered l.opened
+  opened : HasOpened w (4 * l.turn) (members_of (bundle l.fn.seat)) l.fn.remembered
+      (members_of (bundle l.seat)) l.remembered l.opened
       l.known;
 }

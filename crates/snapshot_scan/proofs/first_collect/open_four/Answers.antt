@@ -10,12 +10,15 @@ returns-clause-opened g c = λ ms rows is.
     let a = c.open_one-one.ensures.opened ms rows is in
     let r = c.open_one-two.new in
     let b : HasOpened w (p + 2) ms rows (members_of (bundle r.seat)) r.remembered r.opened c.open_one-two.result =
-    subst (λ (z : ℕ). HasOpened w z ms rows (members_of (bundle r.seat)) r.remembered r.opened c.open_one-two.result) (omega arith)
+    subst (λ (z : ℕ). HasOpened w z ms rows (members_of (bundle r.seat)) r.remembered r.opened c.open_one-two.result)
+    (omega arith)
     (c.open_one-two.ensures.opened ms rows a) in
     let r' = c.open_one-three.new in
     let d : HasOpened w (p + 3) ms rows (members_of (bundle r'.seat)) r'.remembered r'.opened c.open_one-three.result =
-    subst (λ (z : ℕ). HasOpened w z ms rows (members_of (bundle r'.seat)) r'.remembered r'.opened c.open_one-three.result) (omega arith)
+    subst (λ (z : ℕ). HasOpened w z ms rows (members_of (bundle r'.seat)) r'.remembered r'.opened c.open_one-three.result)
+    (omega arith)
     (c.open_one-three.ensures.opened ms rows b) in
     let r'' = c.open_one.new in
-    subst (λ (z : ℕ). HasOpened w z ms rows (members_of (bundle r''.seat)) r''.remembered r''.opened c.open_one.result) (omega arith)
+    subst (λ (z : ℕ). HasOpened w z ms rows (members_of (bundle r''.seat)) r''.remembered r''.opened c.open_one.result)
+    (omega arith)
     (c.open_one.ensures.opened ms rows d)

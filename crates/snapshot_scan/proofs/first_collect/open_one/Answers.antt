@@ -31,7 +31,8 @@ pub returns-clause-leads : goal.returns-clause-leads
 returns-clause-leads g c = subst HasMember (sym c.look-number.ensures.member) (led_some _ _ c.requires.of_board.1)
 
 pub returns-clause-wide : goal.returns-clause-wide
-returns-clause-wide g c = All-set (IsWide (width g.row.C g.row.H g.row.G)) c.args.remembered.now c.args.place c.look-number.new.self
+returns-clause-wide g c = All-set
+    (IsWide (width g.row.C g.row.H g.row.G)) c.args.remembered.now c.args.place c.look-number.new.self
     c.look-number.ensures.wide c.requires.wide
 
 pub returns-clause-opened : goal.returns-clause-opened

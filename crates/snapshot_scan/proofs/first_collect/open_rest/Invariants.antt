@@ -13,7 +13,8 @@ invariant-loop-place g l = let bundle = g.S.ScanSeat.bundle in let w : ℕ = wid
   table : table_of (bundle l.seat) ≡ table_of (bundle l.fn.seat);
   leads : HasMember (members_of (bundle l.seat));
   wide : All (IsWide w) l.remembered;
-  opened : (ms : List Member) (rows : List RememberedRow) → HasOpened w l.from ms rows (members_of (bundle l.fn.seat)) l.fn.remembered
+  opened : (ms : List Member) (rows : List RememberedRow) → HasOpened w l.from ms rows
+      (members_of (bundle l.fn.seat)) l.fn.remembered
       l.fn.opened l.known
       → HasOpened w l.place ms rows (members_of (bundle l.seat)) l.remembered l.opened l.all;
 }

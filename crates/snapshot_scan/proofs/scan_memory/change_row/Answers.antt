@@ -32,7 +32,8 @@ change-requires g c =
     )
 
 pub returns-clause-wide : goal.returns-clause-wide
-returns-clause-wide g c = own_wide (width g.row.C g.row.H g.row.G) c.args.remembered.now c.args.place c.change.new.self c.requires.wide
+returns-clause-wide g c = own_wide
+    (width g.row.C g.row.H g.row.G) c.args.remembered.now c.args.place c.change.new.self c.requires.wide
     c.change.ensures.wide
 
 pub returns-clause-totals : goal.returns-clause-totals

@@ -26,7 +26,8 @@ learn-requires g c =
     )
 
 pub returns-clause-wide : goal.returns-clause-wide
-returns-clause-wide g c = own_wide (width g.row.C g.row.H g.row.G) c.args.remembered.now c.args.place c.learn.new.self c.requires.wide
+returns-clause-wide g c = own_wide
+    (width g.row.C g.row.H g.row.G) c.args.remembered.now c.args.place c.learn.new.self c.requires.wide
     c.learn.ensures.wide
 
 pub returns-clause-totals : goal.returns-clause-totals

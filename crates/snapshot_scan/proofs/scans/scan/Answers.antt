@@ -86,7 +86,8 @@ loop-k-init g c =
         ruled = c.one_try-clean.ensures.ruled;
         leads = still_some _ ms _ c.requires.may.of_board.1 view;
         wide = c.one_try-clean.ensures.wide;
-        may = may_try c.args.board.now (g.S.ScanSeat.bundle c.args.seat.now) (g.S.ScanSeat.bundle r.seat) 0 (one ∷ []) r.remembered fl
+        may = may_try c.args.board.now (g.S.ScanSeat.bundle c.args.seat.now) (g.S.ScanSeat.bundle r.seat) 0
+            (one ∷ []) r.remembered fl
             ba r.opened c.requires.may.of_board c.requires.may.geometry c.one_try-clean.ensures.table few long
             c.one_try-clean.ensures.wide refl stands;
         room = (deep, c.one_try-clean.auto.totals ∙ c.requires.room.1, c.one_try-clean.ensures.totals);
@@ -111,7 +112,8 @@ ask_all-lends-requires g c =
     let inv = c.loop-k.invariant.1 in let tries = c.loop-k.invariant.0 in let lens = c.requires.may.lengths in
     let fl = c.copy_from_slice.new.self in let ba = c.copy_from_slice-2.new.self in
     let r = c.later_try-clean.new in
-    let few : length r.remembered ≡ n = c.later_try-clean.auto.remembered ∙ (c.loop-k.auto.remembered ∙ (c.one_try-clean.auto.remembered
+    let few : length r.remembered ≡ n = c.later_try-clean.auto.remembered ∙
+    (c.loop-k.auto.remembered ∙ (c.one_try-clean.auto.remembered
     ∙ lens.0)) in
     let long : length r.opened ≡ n = c.later_try-clean.auto.opened
     ∙ (c.loop-k.auto.opened ∙ (c.one_try-clean.auto.opened ∙ c.requires.may.lengths.1)) in
@@ -124,7 +126,11 @@ ask_all-lends-requires g c =
     let scan = now_is _ ms _ c.requires.may.of_board.1 fails in (
       search rules,
       record {
-        of_board = (c.later_try-clean.ensures.table ∙ (inv.table ∙ c.requires.may.of_board.0), still_some _ ms _ c.requires.may.of_board.1 fails);
+        of_board = (
+          c.later_try-clean.ensures.table ∙ (inv.table
+              ∙ c.requires.may.of_board.0),
+          still_some _ ms _ c.requires.may.of_board.1 fails,
+        );
         ruled = c.later_try-clean.ensures.ruled;
         geometry = c.requires.may.geometry;
         lengths = (
@@ -146,7 +152,8 @@ loop-k-preserved g c =
     let inv = c.loop-k.invariant.1 in let tries = c.loop-k.invariant.0 in let lens = c.requires.may.lengths in
     let fl = c.copy_from_slice.new.self in let ba = c.copy_from_slice-2.new.self in
     let r = c.later_try-clean.new in
-    let few : length r.remembered ≡ n = c.later_try-clean.auto.remembered ∙ (c.loop-k.auto.remembered ∙ (c.one_try-clean.auto.remembered
+    let few : length r.remembered ≡ n = c.later_try-clean.auto.remembered ∙
+    (c.loop-k.auto.remembered ∙ (c.one_try-clean.auto.remembered
     ∙ lens.0)) in
     let long : length r.opened ≡ n = c.later_try-clean.auto.opened
     ∙ (c.loop-k.auto.opened ∙ (c.one_try-clean.auto.opened ∙ c.requires.may.lengths.1)) in
@@ -189,7 +196,8 @@ loop-k-preserved g c =
             (seen_below n (stood tries c.loop-k.remembered fl ba (scan_of ms)) r.opened long
             (λ p lt. subst (λ (x : ScanLog). IsLoaded p x (slice_index r.opened p)) (now_is d ms _ c.requires.may.of_board.1 view)
             (c.later_try-clean.ensures.told p lt)));
-        tried = tries_more n fl ba c.loop-k.opened c.loop-k.found tries inv.tried c.loop-k.remembered (scan_of ms) r.opened r.found q.0
+        tried = tries_more n fl ba c.loop-k.opened c.loop-k.found tries inv.tried c.loop-k.remembered
+            (scan_of ms) r.opened r.found q.0
             failed;
         lengths = inv.lengths;
         seen = inv.seen;
@@ -241,7 +249,8 @@ returns-then-clean-2 g c =
     let a : Answer = record { vector = r.opened; totals = r.totals } in
     let view = at_loop n c.loop-k._k tries c.loop-k.remembered fl ba ms _ inv.count c.loop-k-test.true inv.view in
     let d : ScanLog = stood tries c.loop-k.remembered fl ba (scan_of ms) in
-    let end = then_is (λ (x : ScanLog). answered a (settling r.opened r.found r.remembered (opening r.opened r.remembered x))) d ms _ _
+    let end = then_is (λ (x : ScanLog). answered a (settling r.opened r.found r.remembered
+    (opening r.opened r.remembered x))) d ms _ _
     c.requires.may.of_board.1 view clean in
     let scan = now_is _ ms _ c.requires.may.of_board.1 end in let count = inv.count in let lt = c.loop-k-test.true in
     record {
@@ -281,7 +290,8 @@ returns-then-lends g c =
     let inv = c.loop-k.invariant.1 in let tries = c.loop-k.invariant.0 in let lens = c.requires.may.lengths in
     let fl = c.copy_from_slice.new.self in let ba = c.copy_from_slice-2.new.self in
     let made = c.later_try-clean.ensures in let r = c.later_try-clean.new in
-    let few : length r.remembered ≡ n = c.later_try-clean.auto.remembered ∙ (c.loop-k.auto.remembered ∙ (c.one_try-clean.auto.remembered
+    let few : length r.remembered ≡ n = c.later_try-clean.auto.remembered ∙
+    (c.loop-k.auto.remembered ∙ (c.one_try-clean.auto.remembered
     ∙ lens.0)) in
     let long : length r.opened ≡ n = c.later_try-clean.auto.opened
     ∙ (c.loop-k.auto.opened ∙ (c.one_try-clean.auto.opened ∙ c.requires.may.lengths.1)) in
@@ -336,7 +346,8 @@ returns g c =
       ruled = inv.ruled;
       wide = inv.wide;
       totals = inv.room.2;
-      idle = let rest = scan ∙ given_last n (stood tries c.loop-k.remembered fl ba (scan_of ms)) refl (omega (arith, count, t, last)) in
+      idle = let rest = scan ∙ given_last n (stood tries c.loop-k.remembered fl ba (scan_of ms)) refl
+          (omega (arith, count, t, last)) in
           record { remembered = ap (λ (x : ScanLog). x.remembered) rest; rest = ap (λ (x : ScanLog). x.trying) rest };
       others = others_same _ ms _ c.requires.may.of_board.1 inv.view;
       direct = λ q e. absurd (up_direct q e);

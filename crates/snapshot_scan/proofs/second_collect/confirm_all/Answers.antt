@@ -47,7 +47,8 @@ loop-place-init g c =
 pub settle-requires : goal.settle-requires
 settle-requires g c =
     let w : ℕ = width g.row.C g.row.H g.row.G in
-    let p = c.loop-place.place in let gs = c.loop-place.remembered in let gg : RememberedRow = get_or gs p c.index-remembered-place.result in
+    let p = c.loop-place.place in let gs = c.loop-place.remembered in
+    let gg : RememberedRow = get_or gs p c.index-remembered-place.result in
     let inv = c.loop-place.invariant in
     let lens = c.requires.may.lengths in let a1 = c.loop-place.auto.remembered in let a3 = c.loop-place.auto.totals in
     let t = c.loop-place-test.true in
@@ -153,7 +154,8 @@ returns-clause-view g c =
 
 pub returns-clause-held : goal.returns-clause-held
 returns-clause-held g c = λ q x e same.
-    let below = at_below c.loop-place.remembered q x e in let f = c.loop-place-test.false in let a1 = c.loop-place.auto.remembered in
+    let below = at_below c.loop-place.remembered q x e in let f = c.loop-place-test.false in
+    let a1 = c.loop-place.auto.remembered in
     c.loop-place.invariant.held q x (omega arith) e same
 
 pub returns-clause-ruled : goal.returns-clause-ruled

@@ -24,6 +24,7 @@ invariant-loop-place g l = let bundle = g.S.ScanSeat.bundle in let ms = members_
           (settling l.opened (take l.place l.found) l.remembered (scan_of ms))) ms;
       moves : Moves w l.fn.totals l.totals l.fn.moved l.moved;
       risen : (q : ℕ) → q < l.place → get_or l.opened q 0 ≤ get_or l.found q 0;
-      held : (q : ℕ) (x : RememberedRow) → q < l.place → get_elem? l.remembered q ≡ some x → get_or l.opened q 0 ≡ get_or l.found q 0
+      held : (q : ℕ) (x : RememberedRow) → q < l.place → get_elem? l.remembered q ≡ some x → get_or l.opened q 0
+          ≡ get_or l.found q 0
           → x.number ≡ get_or l.opened q 0;
     }

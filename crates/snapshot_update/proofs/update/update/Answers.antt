@@ -84,7 +84,8 @@ fill_version-lends-requires g c =
                 ))
                 (λ no. (
                   idle_words row (rows_of c.args.memory.now) (totals_in c.args.memory.now),
-                  subst (λ (x : ChangedView). AreImages b (idle_words row (rows_of c.args.memory.now) (totals_in c.args.memory.now))
+                  subst (λ (x : ChangedView). AreImages b (idle_words row (rows_of c.args.memory.now)
+                      (totals_in c.args.memory.now))
                       (record im { late = x; touched = c.touch.new.touched })) (sym (c.know_next-known.ensures.unknown no))
                       (touched_images b _ im c.touch.new.touched fit.images),
                   λ yes. absurd (let h = sym yes ∙ no in cc),
@@ -121,8 +122,10 @@ publish-requires g c =
           subst (λ (x : Member). length x.work.made + 1 < 18446744073709551616) (sym is) c.requires.room,
           (
             subst (HoldsNext n w b (sum_ops g.row.C g.row.H) ops f.result) (sym is) full,
-            subst (λ (x : Member). Accepts g.row.C g.row.H g.row.G (word_after (sum_ops g.row.C g.row.H) x.work.made) ops) (sym is)
-                (accepts_same g.row.C g.row.H g.row.G (slice_index row) (word_after (sum_ops g.row.C g.row.H) m.work.made) ops fit.words
+            subst (λ (x : Member). Accepts g.row.C g.row.H g.row.G (word_after (sum_ops g.row.C g.row.H) x.work.made) ops)
+                (sym is)
+                (accepts_same g.row.C g.row.H g.row.G (slice_index row)
+                (word_after (sum_ops g.row.C g.row.H) m.work.made) ops fit.words
                 c.in_ok-try_apply.ensures.accepted),
           ),
         ),
@@ -228,7 +231,8 @@ returns-clause-fit g c =
           ∙ (λ z. some (record { number = c.number-number.ensures z; row = row' }))));
       ready = record {
         remembered = ap (λ (x : Member). x.scan.remembered) is3
-            ∙ ((λ z. set (s.ensures.ready.remembered z) (sym own z) (record { number = sym number z; row = taken z })) ∙ sym rows');
+            ∙ ((λ z. set (s.ensures.ready.remembered z) (sym own z) (record { number = sym number z; row = taken z }))
+            ∙ sym rows');
         rest = ap (λ (x : Member). x.scan.trying) is3 ∙ s.ensures.ready.rest;
       };
       hidden_is = ap (λ (x : Member). x.work.hidden) is3 ∙ (fit.shown_is ∙ sym (c.turn.ensures.buffers.0 ∙ f.ensures.others.0));

@@ -13,6 +13,16 @@ take_back-requires g c =
       search rules,
       (
         search rules,
-        (search rules, (c.scan-scan.ensures.of_board, (_, lent_scanned w r2 r3 _ beside (scan_by r3) c.scan-scan.ensures.others))),
+        (
+          search rules,
+          (
+            c.scan-scan.ensures.of_board,
+            (
+              _,
+              lent_scanned w r2 r3 _ beside
+                  (scan_by r3) c.scan-scan.ensures.others,
+            ),
+          ),
+        ),
       ),
     )

@@ -15,7 +15,8 @@ returns-in-Ok-clause-flushed g c = record {
   lists = rw (← c.ops.ensures.ops) c.in-Ok.ensures.lists;
   accepted = rw (← c.ops.ensures.ops) c.in-Ok.ensures.accepted;
   alike = rw (← c.ops.ensures.ops)
-      (accepts_alike g.row.C g.row.H g.row.G (word_after (sum_ops g.row.C g.row.H) (member_of (worker_in c.args.self.now)).work.made)
+      (accepts_alike g.row.C g.row.H g.row.G (word_after (sum_ops g.row.C g.row.H)
+      (member_of (worker_in c.args.self.now)).work.made)
       c.ops.result.now c.in-Ok.ensures.accepted);
   room = c.in-Ok.ensures.room;
 }

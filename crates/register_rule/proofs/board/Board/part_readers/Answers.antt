@@ -11,7 +11,10 @@ use Rattle.register_rule.proofs.board.Board.part_readers.Goals as goal
 pub part-one-requires : goal.part-one-requires
 part-one-requires g c = (
   lit< tt,
-  (c.loop-i.invariant.0 ∙ c.requires.of_board, (_, (one_reader _ _ _ c.args.readers _ c.loop-i-test.true c.loop-i.invariant.1).0)),
+  (
+    c.loop-i.invariant.0 ∙ c.requires.of_board,
+    (_, (one_reader _ _ _ c.args.readers _ c.loop-i-test.true c.loop-i.invariant.1).0),
+  ),
 )
 
 pub into_read-requires-clause-one : goal.into_read-requires-clause-one

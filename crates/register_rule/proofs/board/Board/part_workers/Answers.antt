@@ -12,7 +12,10 @@ use Rattle.register_rule.proofs.board.Board.part_workers.Goals as goal
 pub part-one-requires : goal.part-one-requires
 part-one-requires g c = (
   lit< tt,
-  (c.loop-i.invariant.0 ∙ c.requires.of_board, (_, (one_worker _ _ _ _ c.args.readers _ c.loop-i-test.true c.loop-i.invariant.1).0)),
+  (
+    c.loop-i.invariant.0 ∙ c.requires.of_board,
+    (_, (one_worker _ _ _ _ c.args.readers _ c.loop-i-test.true c.loop-i.invariant.1).0),
+  ),
 )
 
 pub into_work-requires-clause-one : goal.into_work-requires-clause-one

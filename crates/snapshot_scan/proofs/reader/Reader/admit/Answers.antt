@@ -9,7 +9,8 @@ use Rattle.snapshot_scan.proofs.reader.Reader.admit.Goals as goal
 pub invariant_of-self : goal.invariant_of-self
 invariant_of-self g c =
     let r = c.args.self.now in
-    let t = led_joined r.index r.memory.remembered.items (members_of r.bundle) (members_of c.args.worker) (members_of c.join.new.bundle)
+    let t = led_joined r.index r.memory.remembered.items (members_of r.bundle) (members_of c.args.worker)
+    (members_of c.join.new.bundle)
     c.join.ensures.all c.requires.alone (r.leads, r.is, r.ready, r.lent, r.seen) in
     let more = seen_met (members_of r.bundle) (members_of c.args.worker) (members_of c.join.new.bundle) r.leads
     c.join.ensures.all in

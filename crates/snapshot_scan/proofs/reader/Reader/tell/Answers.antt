@@ -8,7 +8,8 @@ use Rattle.snapshot_scan.proofs.reader.Reader.tell.Goals as goal
 pub invariant_of-self : goal.invariant_of-self
 invariant_of-self g c =
     let r = c.args.self.now in
-    let t = subst (IsLed r.index r.memory.remembered.items) (sym c.tell-number.ensures.same) (r.leads, r.is, r.ready, r.lent, r.seen) in
+    let t = subst (IsLed r.index r.memory.remembered.items) (sym c.tell-number.ensures.same)
+    (r.leads, r.is, r.ready, r.lent, r.seen) in
     record {
       leads = t.0;
       is = t.1;

@@ -19,7 +19,8 @@ invariant_of-result g c =
         ap (λ (l : List ℕ). length l) (c.in_ok-lent.ensures.items_if_clones_equal (λ y h. h)) ∙ length-replicate (1 + n + w) 0,
       );
       wide = are_wide w c.in_ok-remembered.remembered.items blank;
-      sums = subst (AreTotals w c.in_ok-remembered.remembered.items) (sym (c.in_ok-totals.ensures.items_if_clones_equal (λ y h. h)))
+      sums = subst (AreTotals w c.in_ok-remembered.remembered.items)
+          (sym (c.in_ok-totals.ensures.items_if_clones_equal (λ y h. h)))
           (are_totals w c.in_ok-remembered.remembered.items blank);
       listed = λ j h. absurd (none_listed j (subst (λ (l : List ℕ). Contains l j) c.in_ok-moved.ensures.1 h));
     }

@@ -27,8 +27,10 @@ invariant_of-self g c =
     let gs = c.as_mut_slice.ensures.value in let ts = c.as_mut_slice-2.ensures.value in
     let a = c.learn_row.auto.remembered in let b = c.learn_row.auto.totals in let m = c.as_mut_slice.ensures.len in
     let n = c.as_mut_slice-2.ensures.len in
-    let remembered : take old.remembered.len (new.remembered ++ drop (length new.remembered) old.remembered.items) ≡ new.remembered =
-    over new.remembered old.remembered.items old.remembered.len (a ∙ ap (λ (l : List RememberedRow). length l) gs) (omega (arith, a, m)) in
+    let remembered : take old.remembered.len (new.remembered ++ drop (length new.remembered) old.remembered.items)
+    ≡ new.remembered =
+    over new.remembered old.remembered.items old.remembered.len (a ∙ ap (λ (l : List RememberedRow). length l) gs)
+    (omega (arith, a, m)) in
     let totals : take old.totals.len (new.totals ++ drop (length new.totals) old.totals.items) ≡ new.totals =
     over new.totals old.totals.items old.totals.len (b ∙ ap (λ (l : List ℕ). length l) ts) (omega (arith, b, n)) in
     record {

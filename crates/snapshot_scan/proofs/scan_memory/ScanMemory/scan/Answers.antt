@@ -44,9 +44,11 @@ pub returns-clause-quiet : goal.returns-clause-quiet
 returns-clause-quiet g c = λ e.
     let q = c.scan.ensures.quiet e in let old = c.args.self.now in let new = c.scan.new in
     let la = c.as_mut_slice.ensures.len in let lb = c.as_mut_slice-2.ensures.len in let lc = c.as_mut_slice-3.ensures.len in
-    let remembered : take old.remembered.len (new.remembered ++ drop (length new.remembered) old.remembered.items) ≡ new.remembered =
+    let remembered : take old.remembered.len (new.remembered ++ drop (length new.remembered) old.remembered.items)
+    ≡ new.remembered =
     over new.remembered old.remembered.items old.remembered.len
-    (c.scan.auto.remembered ∙ ap (λ (l : List RememberedRow). length l) c.as_mut_slice.ensures.value) (let a = c.scan.auto.remembered in
+    (c.scan.auto.remembered ∙ ap (λ (l : List RememberedRow). length l) c.as_mut_slice.ensures.value)
+    (let a = c.scan.auto.remembered in
     omega (arith, a)) in
     let totals : take old.totals.len (new.totals ++ drop (length new.totals) old.totals.items) ≡ new.totals =
     over new.totals old.totals.items old.totals.len
@@ -58,7 +60,8 @@ returns-clause-quiet g c = λ e.
     omega (arith, a)) in (
       ap (map version_of) remembered ∙ (q.remembered ∙ ap (map version_of) c.as_mut_slice.ensures.value),
       totals ∙ (q.totals ∙ c.as_mut_slice-2.ensures.value),
-      λ p v at. let t = from_rows new.remembered p v (ap (λ (l : List RememberedRow). get_elem? (map version_of l) p) (sym remembered)
+      λ p v at. let t = from_rows new.remembered p v (ap (λ (l : List RememberedRow). get_elem? (map version_of l) p)
+          (sym remembered)
           ∙ at) in
           ap (λ (x : Version). x.number) (sym t.2) ∙ (q.known p t.0 t.1 ∙ ap (λ (l : List ℕ). slice_index l p) (sym opened)),
     )
@@ -209,7 +212,8 @@ returns-clause-numbers g c = λ quiet e.
     c.as_mut_slice.ensures.len c.scan.auto.remembered in
     let opened = written new.opened c.as_mut_slice-3.result.now old.opened.items old.opened.len c.as_mut_slice-3.ensures.value
     c.as_mut_slice-3.ensures.len c.scan.auto.opened in
-    λ p v at. let t = from_rows new.remembered p v (ap (λ (l : List RememberedRow). get_elem? (map version_of l) p) (sym remembered) ∙ at) in
+    λ p v at. let t = from_rows new.remembered p v (ap (λ (l : List RememberedRow). get_elem? (map version_of l) p)
+    (sym remembered) ∙ at) in
     ap (λ (x : Version). x.number) (sym t.2) ∙ (known p t.0 t.1 ∙ ap (λ (l : List ℕ). slice_index l p) (sym opened))
 
 pub returns-clause-listed : goal.returns-clause-listed

@@ -13,7 +13,8 @@ use Rattle.snapshot_update.proofs.worker.Worker.scan.Goals as goal
 pub invariant_of-self : goal.invariant_of-self
 invariant_of-self g c =
     let n : ℕ = g.row.N in let cs : ℕ = g.row.C in let hs : ℕ = g.row.H in let gs : ℕ = g.row.G in
-    let s = c.scan_for_caller-end.new in let told = c.scan_for_caller-end.ensures in let w = c.args.self.now in let seat = c.in-Some.seat in
+    let s = c.scan_for_caller-end.new in let told = c.scan_for_caller-end.ensures in let w = c.args.self.now in
+    let seat = c.in-Some.seat in
     let row : List ℕ = w.row.value in let im = w.images in let im' : BufferImages = record im {
       late = c.note_all.new.self;
       row_known = false;
