@@ -51,7 +51,7 @@ returns-clause-others g c = λ i m s.
     (l.ensures.lent.there.2 ∙ (ap Worker l.ensures.index.0 ∙ sym (s.2 ∙ ap Worker same)))
 
 pub returns-clause-scans : goal.returns-clause-scans
-returns-clause-scans g c = subst (HasSeenMore (scan_of (members_with c.args.reader.now))) (sym c.take_back.ensures.kept)
+returns-clause-scans g c = subst (HasSeenMore (scan_of (members_with c.args.reader.now))) (sym c.take_back.ensures.scans)
     c.lend_to.ensures.scans
 
 pub returns-clause-alone : goal.returns-clause-alone

@@ -28,7 +28,7 @@ release-bundle-requires g c =
       (
         search rules,
         (
-          c.tell.ensures.table,
+          c.tell.ensures.of_board,
           (
             m,
             one_picked i m new c.tell.ensures.ruled.apart (still i m old new c.tell.ensures.same c.requires.lent.1.there),
