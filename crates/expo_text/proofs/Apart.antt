@@ -11,8 +11,7 @@ use Rattle.std.proofs.lemmas.List.{append_cancel_left}
 use Rattle.std.proofs.lemmas.List.Elements.{recursion_from_All}
 use Rattle.bucket_math.specs.Bounds.{AreBounds}
 use Rattle.ledger_core.specs.declared.totals.HistTotals.{HistTotals}
-use Rattle.metric_desc.specs.Desc.{Descriptor}
-use Rattle.metric_desc.specs.Histogram.{IsDescOf}
+use Rattle.metric_desc.specs.Desc.{Descriptor, IsDescOf}
 use Rattle.metric_desc.specs.declared.kind.Kind.TheVariants.{Histogram as HistogramKind}
 use Rattle.expo_text.specs.declared.number.Number.{Number}
 use Rattle.expo_text.specs.declared.number.Number.TheVariants.{Counter, Histogram, Gauge}
@@ -148,7 +147,7 @@ pub pairs_family : (R : Sample → Sample → Type 0) (family : Family) → IsFa
     → OwnedAs family.desc.kind (zip family.desc.labels b.values) t → R s t)
     → Pairs R (samples_of_family family)
 pairs_family R family is kept within across =
-    let differ = pairs_recursion (λ x y. x ≢ y) family.desc.labels kept.good.distinct in
+    let differ = pairs_recursion (λ x y. x ≢ y) family.desc.labels kept.labels_ok.distinct in
     pairs_flat_map R (samples_of_child family.desc) family.children
     (each_weaker (IsFit family.desc) (λ child. Pairs R (samples_of_child family.desc child))
     (λ child fit. within child fit.number) family.children (all_fit family is))

@@ -2,8 +2,8 @@
 use Rattle.std.proofs.Common.{◌≡◌, ◌≢◌, ℕ, List, [], ◌∷◌, ◌++◌, inl, inr, sym, subst}
 use Rattle.std.specs.Prelude.{All, zip, flat_map, codes}
 use Rattle.std.proofs.lemmas.List.Elements.{All-from_recursion, recursion_from_All}
-use Rattle.metric_desc.specs.Desc.{Descriptor}
-use Rattle.metric_desc.specs.Histogram.{le, IsDescOf}
+use Rattle.metric_desc.specs.Desc.{Descriptor, IsDescOf}
+use Rattle.metric_desc.specs.Histogram.{le}
 use Rattle.metric_desc.specs.declared.kind.Kind.TheVariants.{Histogram as HistogramKind}
 use Rattle.expo_text.specs.declared.number.Number.{Number}
 use Rattle.expo_text.specs.declared.number.Number.TheVariants.{Counter, Histogram, Gauge}
@@ -65,7 +65,7 @@ child_distinct : (desc : Descriptor) (child : Child) → IsDescOf desc.kind desc
     → Each HasDistinctLabels (samples_of_child desc child)
 child_distinct desc child kept number =
     number_distinct desc (zip desc.labels child.values) child.number number
-    (zip_differ desc.labels child.values (pairs_recursion (λ a b. a ≢ b) desc.labels kept.good.distinct))
+    (zip_differ desc.labels child.values (pairs_recursion (λ a b. a ≢ b) desc.labels kept.labels_ok.distinct))
     (λ kind. zip_no_le desc.labels child.values (kept.histogram kind).no_le)
 
 -- no sample of a family has two labels of one name

@@ -130,7 +130,7 @@ child-short : (desc : Descriptor) (child : Child) → IsSpelledDesc desc → len
 child-short desc child spelled fit kind child_spelled =
     let labels = zip desc.labels child.values in
     let each = zip-short desc.labels child.values spelled.labels child_spelled.values in
-    let few : length labels ≤ 8 = rw length-zip (omega (arith, fit, spelled.kept.good.few)) in
+    let few : length labels ≤ 8 = rw length-zip (omega (arith, fit, spelled.kept.labels_ok.few)) in
     let samples = number-short desc labels child.number spelled kind child_spelled.number each few in
     let lines = flat_map-short sample_line 6000 (samples_of_child desc child)
     (All-weaker IsShortSample (λ sample. length (sample_line sample) ≤ 6000) sample_line-short (samples_of_child desc child)

@@ -14,8 +14,8 @@ use Rattle.std.proofs.lemmas.Fmt.{decimal_is_IsNumeral}
 use Rattle.bucket_math.specs.Bounds.{AreBounds}
 use Rattle.bucket_math.specs.Buckets.{cumulated}
 use Rattle.ledger_core.specs.declared.totals.HistTotals.{HistTotals}
-use Rattle.metric_desc.specs.Desc.{Descriptor}
-use Rattle.metric_desc.specs.Histogram.{le, IsDescOf}
+use Rattle.metric_desc.specs.Desc.{Descriptor, IsDescOf}
+use Rattle.metric_desc.specs.Histogram.{le}
 use Rattle.metric_desc.specs.declared.kind.Kind.TheVariants.{Histogram as HistogramKind}
 use Rattle.expo_text.specs.declared.number.Number.{Number}
 use Rattle.expo_text.specs.declared.number.Number.TheVariants.{Counter, Histogram, Gauge}

@@ -4,8 +4,7 @@ use Rattle.metric_names.specs.MetricName.{IsMetricName}
 use Rattle.metric_names.specs.LabelName.{IsLabelName}
 use Rattle.metric_names.specs.LabelValue.{IsLabelValue}
 use Rattle.metric_names.specs.HelpText.{IsHelpText}
-use Rattle.metric_desc.specs.Desc.{Descriptor}
-use Rattle.metric_desc.specs.Histogram.{IsDescOf}
+use Rattle.metric_desc.specs.Desc.{Descriptor, IsDescOf}
 use Rattle.expo_text.specs.declared.number.Number.{Number}
 use Rattle.expo_text.specs.declared.number.Number.TheVariants.{Counter, Histogram, Gauge}
 use Rattle.expo_text.specs.Scraped.{Child, Family}

@@ -1,5 +1,7 @@
 -- What a descriptor says of a family.
-use Rattle.std.specs.Prelude.{ℕ, List, [], ◌∷◌, ◌++◌, codes, map, Contains}
+use Rattle.std.specs.Prelude.{◌≡◌, ◌≢◌, ℕ, List, [], ◌∷◌, ◌++◌, codes, map, Contains}
+use Rattle.metric_desc.specs.Labels.{AreLabels}
+use Rattle.metric_desc.specs.Histogram.{IsHistogram}
 use Rattle.metric_desc.specs.declared.kind.Kind.{Kind}
 use Rattle.metric_desc.specs.declared.kind.Kind.TheVariants.{Counter, Histogram, Gauge, Counter as CounterKind}
 use Rattle.metric_desc.specs.declared.kind.Kind.TheVariants.{Histogram as HistogramKind, Gauge as GaugeKind}
@@ -13,6 +15,12 @@ pub record Descriptor : Type 0 where
   pub labels : List (List ℕ)
   pub kind : Kind
   pub bounds : List ℕ
+
+-- labels and bounds that a family of this kind may have; only a histogram has bounds
+pub record IsDescOf (kind : Kind) (labels : List (List ℕ)) (bounds : List ℕ) : Type 0 where
+  pub labels_ok : AreLabels labels
+  pub histogram : kind ≡ HistogramKind → IsHistogram labels bounds
+  pub others : kind ≢ HistogramKind → bounds ≡ []
 
 -- what the names of a family's samples have after the family's name
 abbrev pub suffixes_of : Kind → List (List ℕ)

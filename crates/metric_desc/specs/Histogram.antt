@@ -1,12 +1,10 @@
 -- Labels and bounds of a histogram, and why there is no descriptor of one.
-use Rattle.std.specs.Prelude.{◌≡◌, ◌≢◌, ℕ, List, [], codes, Contains}
+use Rattle.std.specs.Prelude.{ℕ, List, codes, Contains}
 use Rattle.bucket_math.specs.Bounds.{AreBounds, FirstBadBound}
 use Rattle.metric_desc.specs.Labels as of_labels
 use Rattle.metric_desc.specs.Labels.{AreLabels, IsLabelsFault}
-use Rattle.metric_desc.specs.declared.kind.Kind.{Kind}
-use Rattle.metric_desc.specs.declared.kind.Kind.TheVariants.{Histogram}
-use Rattle.metric_desc.specs.declared.histogram.HistogramFault.{HistogramFault}
-use Rattle.metric_desc.specs.declared.histogram.HistogramFault.TheVariants.{Labels, LeOnHistogram, Bounds}
+use Rattle.metric_desc.specs.declared.histogram_fault.HistogramFault.{HistogramFault}
+use Rattle.metric_desc.specs.declared.histogram_fault.HistogramFault.TheVariants.{Labels, LeOnHistogram, Bounds}
 
 -- the label that the samples of a histogram's buckets have beside the family's own
 abbrev pub le : List ℕ
@@ -29,9 +27,3 @@ pub record IsHistogram (labels : List (List ℕ)) (bounds : List ℕ) : Type 0 w
   pub labels_ok : AreLabels labels
   pub no_le : Contains labels le → ⊥
   pub bounds_ok : AreBounds bounds
-
--- labels and bounds that a family of this kind may have; only a histogram has bounds
-pub record IsDescOf (kind : Kind) (labels : List (List ℕ)) (bounds : List ℕ) : Type 0 where
-  pub good : AreLabels labels
-  pub histogram : kind ≡ Histogram → IsHistogram labels bounds
-  pub others : kind ≢ Histogram → bounds ≡ []

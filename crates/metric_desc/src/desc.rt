@@ -1,10 +1,10 @@
 ghost use Rattle.std.specs.Prelude.{◌≡◌, ◌≢◌, ◌↔◌, [], ◌++◌, map, IfOk, IfErr, IsSome, IfSome};
 ghost use Rattle.std.specs.String.{string_bytes};
 ghost use Rattle.metric_desc.specs.Labels.{AreLabels, IsLabelsFault};
-ghost use Rattle.metric_desc.specs.Histogram.{IsDescOf, IsHistogram, IsHistogramFault};
-ghost use Rattle.metric_desc.specs.Desc.{names_of};
+ghost use Rattle.metric_desc.specs.Histogram.{IsHistogram, IsHistogramFault};
+ghost use Rattle.metric_desc.specs.Desc.{IsDescOf, names_of};
 
-use crate::histogram::HistogramFault;
+use crate::histogram_fault::HistogramFault;
 use crate::kind::{Kind, Shape};
 use crate::labels::{LabelsFault, check_labels, has_le};
 use crate::names::suffixes;
@@ -25,6 +25,8 @@ pub struct Desc {
     shape: Shape,
 }
 
+// Written out, so that it is proved once: a derived drop is proved anew, with the drops of all its parts, in each crate that lets a
+// descriptor go.
 impl Drop for Desc {
     fn drop(self) {
         let Desc {
@@ -37,8 +39,7 @@ impl Drop for Desc {
 }
 
 impl Model for Desc {
-    ghost use Rattle.metric_desc.specs.Desc.{Descriptor};
-    ghost use Rattle.metric_desc.specs.Histogram.{IsDescOf};
+    ghost use Rattle.metric_desc.specs.Desc.{Descriptor, IsDescOf};
     ghost use Rattle.metric_desc.specs.Desc.{kind_of, bounds_of};
 
     ghost Value = { Descriptor };
@@ -70,7 +71,7 @@ impl Desc {
           kind = Kind.Counter;
           bounds = [];
         }) }
-        ensures labels { IfOk result (λ desc. AreLabels desc.labels) }
+        ensures labels_ok { IfOk result (λ desc. AreLabels desc.labels) }
         ensures fault { IfErr result (IsLabelsFault labels.items) }
     {
         check_labels(&labels)?;
@@ -97,7 +98,7 @@ impl Desc {
           kind = Kind.Gauge;
           bounds = [];
         }) }
-        ensures labels { IfOk result (λ desc. AreLabels desc.labels) }
+        ensures labels_ok { IfOk result (λ desc. AreLabels desc.labels) }
         ensures fault { IfErr result (IsLabelsFault labels.items) }
     {
         check_labels(&labels)?;
@@ -126,7 +127,7 @@ impl Desc {
           kind = Kind.Histogram;
           bounds = bounds.now;
         }) }
-        ensures labels { IfOk result (λ desc. IsHistogram desc.labels desc.bounds) }
+        ensures histogram_ok { IfOk result (λ desc. IsHistogram desc.labels desc.bounds) }
         ensures fault { IfErr result (IsHistogramFault labels.items bounds.now) }
     {
         check_labels(&labels).map_err(HistogramFault::Labels)?;
@@ -159,8 +160,8 @@ impl Desc {
     /// The names of the labels, in the order in which children give their values.
     pub fn labels(&self) -> &[LabelName]
         ensures labels { result.now ≡ self.now.labels }
-        ensures distinct { AreLabels self.now.labels }
-        ensures good { IsDescOf self.now.kind self.now.labels self.now.bounds }
+        ensures labels_ok { AreLabels self.now.labels }
+        ensures desc_ok { IsDescOf self.now.kind self.now.labels self.now.bounds }
     {
         &self.labels
     }

@@ -2,13 +2,13 @@
 #![tactic(auto)]
 
 mod desc;
-mod histogram;
+mod histogram_fault;
 mod kind;
 mod labels;
 mod names;
 
 pub use desc::Desc;
-pub use histogram::HistogramFault;
+pub use histogram_fault::HistogramFault;
 pub use kind::Kind;
 pub use labels::{LabelsFault, MAX_LABELS};
 pub use names::clashes;

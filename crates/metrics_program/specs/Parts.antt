@@ -12,7 +12,7 @@ use Rattle.metric_desc.specs.Desc.{Descriptor}
 use Rattle.metric_desc.specs.Labels as desc
 use Rattle.metric_desc.specs.Histogram as histogram
 use Rattle.metric_desc.specs.declared.labels.LabelsFault.{LabelsFault}
-use Rattle.metric_desc.specs.declared.histogram.HistogramFault.{HistogramFault}
+use Rattle.metric_desc.specs.declared.histogram_fault.HistogramFault.{HistogramFault}
 use Rattle.metric_desc.specs.declared.kind.Kind.{Kind}
 use Rattle.script_lines.specs.Language.{AreLabels, AreBounds, AreValues, Writes}
 use Rattle.metrics_program.specs.declared.line_fault.LineFault.{LineFault}

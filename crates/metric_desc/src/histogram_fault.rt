@@ -1,9 +1,8 @@
 ghost use Rattle.std.specs.Prelude.{◌≡◌};
-ghost use Rattle.metric_desc.specs.Histogram.{le, number_of};
+ghost use Rattle.metric_desc.specs.Histogram.{number_of};
 
 use crate::labels::LabelsFault;
 use bucket_math::BadBounds;
-use metric_names::LabelName;
 use thiserror::Error;
 
 /// Why there is no descriptor of a histogram.
