@@ -5,8 +5,8 @@ use Rattle.std.specs.Prelude.{◌==◌, nat_lt, ◌||◌, ◌&&◌, not, codes, 
 use Rattle.scrape_http.specs.Asks.{Asks, MayBeRefusedBy}
 use Rattle.scrape_http.specs.Head.{is_get_or_head, refusal_by, hosts}
 use Rattle.scrape_http.specs.Head.{path_of}
-use Rattle.scrape_http.specs.Reply.{Outcome, Reply, IsReply, Replies, scraped}
-use Rattle.scrape_http.specs.Serves.{Known, IsServed, IsUnserved, Sends, is_read_failed, is_write_failed, Answers as Outcomes}
+use Rattle.scrape_http.specs.Reply.{Outcome, Reply, IsReply, Replies, outcome_reply}
+use Rattle.scrape_http.specs.Serves.{Known, IsServed, IsUnserved, Sends, is_read_failed, is_write_failed, Gives}
 use Rattle.scrape_http.specs.declared.fault.WireFault.{WireFault}
 use Rattle.scrape_http.specs.declared.fault.WireFault.TheVariants.{ReadFailed, WriteFailed, EndBeforeHead}
 use Rattle.scrape_http.specs.declared.serve.Served.{Served}
@@ -43,10 +43,10 @@ refusal bytes ended (Some MethodNotAllowed) is = tt
 refusal bytes ended (Some TooLarge) is = tt
 refusal bytes ended (Some Unavailable) is = absurd is
 
-asks_refusal : (bytes : List ℕ) (ended : Bool) (asked : _) → Asks bytes ended asked → IsRefusal asked.refusal
-asks_refusal bytes ended asked asks = elim asks [
+asks_refusal : (bytes : List ℕ) (ended : Bool) (wanted : _) → Asks bytes ended wanted → IsRefusal wanted.refusal
+asks_refusal bytes ended wanted asks = elim asks [
   | inl whole ↦ rw whole.2 (head_refusal (hosts whole.0) whole.0.minor whole.0.target whole.0.method)
-  | inr none ↦ refusal bytes ended asked.refusal none.1
+  | inr none ↦ refusal bytes ended wanted.refusal none.1
 ]
 
 module _ {P S : Type 0} (source : P → S) (gave : S → S → Outcome → Type 0) where
@@ -66,27 +66,27 @@ module _ {P S : Type 0} (source : P → S) (gave : S → S → Outcome → Type 
   by_refusal before after Unavailable is same = absurd is
 
   by_outcome : (before after : P) (outcome : Outcome) (sent : Bool) → Again before after outcome
-      → By before after (scraped outcome sent).status
+      → By before after (outcome_reply outcome sent).status
   by_outcome before after (Ok scrape) sent given = (scrape, given)
   by_outcome before after (Err why) sent given = (why, given)
 
-  by_asked : (before after : P) (status : Option Status) (sent : Bool) (outcome : Option Outcome) (reply : Reply)
-      → IsRefusal status → Replies status sent outcome reply → Outcomes Again before after outcome → By before after reply.status
-  by_asked before after (Some status) sent None reply fits is given = subst (λ (r : Reply). By before after r.status) (sym is)
+  by_wanted : (before after : P) (status : Option Status) (sent : Bool) (outcome : Option Outcome) (reply : Reply)
+      → IsRefusal status → Replies status sent outcome reply → Gives Again before after outcome → By before after reply.status
+  by_wanted before after (Some status) sent None reply fits is given = subst (λ (r : Reply). By before after r.status) (sym is)
       (by_refusal before after status fits given)
-  by_asked before after (Some status) sent (Some outcome) reply fits is given = absurd is
-  by_asked before after None sent None reply fits is given = absurd is
-  by_asked before after None sent (Some outcome) reply fits is given = subst (λ (r : Reply). By before after r.status) (sym is)
+  by_wanted before after (Some status) sent (Some outcome) reply fits is given = absurd is
+  by_wanted before after None sent None reply fits is given = absurd is
+  by_wanted before after None sent (Some outcome) reply fits is given = subst (λ (r : Reply). By before after r.status) (sym is)
       (by_outcome before after outcome sent given)
 
   by_reply : (before after : P) (bytes : List ℕ) (ended : Bool) (outcome : Option Outcome) (reply : Option Reply)
       (output output_then : Known) (served : Served)
-      → IsReply bytes ended outcome reply → Outcomes Again before after outcome → Sends output output_then reply (Ok served)
+      → IsReply bytes ended outcome reply → Gives Again before after outcome → Sends output output_then reply (Ok served)
       → By before after served.status
   by_reply before after bytes ended outcome None output output_then served is given sends = absurd sends
   by_reply before after bytes ended outcome (Some reply) output output_then served is given sends =
       subst (λ (s : Status). By before after s) (sym sends.0)
-      (by_asked before after is.1.refusal is.1.body outcome reply (asks_refusal bytes ended is.1 is.2) is.3 given)
+      (by_wanted before after is.1.refusal is.1.with_body outcome reply (asks_refusal bytes ended is.1 is.2) is.3 given)
 
   -- a reply was sent
   pub replied : (before after : P) (input input_then output output_then : Known) (ended : Bool) (latest : ℕ) (served : Served)
@@ -94,9 +94,9 @@ module _ {P S : Type 0} (source : P → S) (gave : S → S → Outcome → Type 
       → AnswersBy gave (source before) (source after) served.status
   replied before after input input_then output output_then ended latest served is =
       by_reply before after (is.bytes ++ []) ended is.outcome is.reply output output_then served (is.is_reply [] (λ _. refl))
-      is.answers is.sends
+      is.gives is.sends
 
-  by_asking : (before after : P) (outcome : Option Outcome) → Outcomes Again before after outcome
+  by_asking : (before after : P) (outcome : Option Outcome) → Gives Again before after outcome
       → (source after ≡ source before)
       ⊎ (GaveScrape gave (source before) (source after) ⊎ GaveNone gave (source before) (source after))
   by_asking before after None same = inl (ap source same)
@@ -113,9 +113,9 @@ module _ {P S : Type 0} (source : P → S) (gave : S → S → Outcome → Type 
   not_served before after input input_then output output_then ended failed latest ReadFailed is served none =
       inl (ap source (none is).same)
   not_served before after input input_then output output_then ended failed latest (WriteFailed sent) is served none =
-      by_asking before after (served is).outcome (served is).answers
+      by_asking before after (served is).outcome (served is).gives
   not_served before after input input_then output output_then ended failed latest EndBeforeHead is served none =
-      by_asking before after (served is).outcome (served is).answers
+      by_asking before after (served is).outcome (served is).gives
 
 no_bytes : (bytes : List ℕ) (ended : Bool) (outcome : Option Outcome) (reply : Option Reply) (output output_then : Known)
     → IsReply bytes ended outcome reply → Sends output output_then reply (Err EndBeforeHead) → ended ≡ true

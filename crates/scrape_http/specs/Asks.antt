@@ -4,8 +4,8 @@ use Rattle.httparse.specs.Grammar.{RequestHead, ReadsRequest, HasNoRequest, Neve
 use Rattle.httparse.specs.Spans.{RequestExceeds}
 use Rattle.scrape_http.specs.declared.status.Status.{Status}
 use Rattle.scrape_http.specs.declared.status.Status.TheVariants.{BadRequest, TooLarge}
-use Rattle.scrape_http.specs.declared.request.Asked.{Asked}
-use Rattle.scrape_http.specs.Head.{asked_of}
+use Rattle.scrape_http.specs.declared.request.Wanted.{Wanted}
+use Rattle.scrape_http.specs.Head.{wanted_of}
 
 -- this head stands whole at the front of the first 8,192 bytes, and has at most 64 fields
 pub record HeadStands (bytes : List ℕ) (head : RequestHead) : Type 0 where
@@ -33,10 +33,10 @@ MayBeRefusedBy bytes ended _ = ⊥
 
 -- What the bytes ask for: what the head asks for that stands whole at their front; where none does, they are refused by a status
 -- that may be, and the refusal is sent with its body.
-abbrev pub Asks : List ℕ → (ended : Bool) → Asked → Type 0
-Asks bytes ended asked =
-    ((head : RequestHead) × HeadStands bytes head × (asked ≡ asked_of head))
-    ⊎ (NoHeadStands bytes × MayBeRefusedBy bytes ended asked.refusal × (asked.with_body ≡ true))
+abbrev pub Asks : List ℕ → (ended : Bool) → Wanted → Type 0
+Asks bytes ended wanted =
+    ((head : RequestHead) × HeadStands bytes head × (wanted ≡ wanted_of head))
+    ⊎ (NoHeadStands bytes × MayBeRefusedBy bytes ended wanted.refusal × (wanted.with_body ≡ true))
 
 -- no head stands whole at their front, and more bytes can make one
 pub record IsOpen (bytes : List ℕ) : Type 0 where

@@ -5,7 +5,7 @@ use Rattle.std.specs.Str.{str_eq_ignore_ascii_case, byte}
 use Rattle.httparse.specs.Grammar.{RequestHead, Field}
 use Rattle.scrape_http.specs.declared.status.Status.{Status}
 use Rattle.scrape_http.specs.declared.status.Status.TheVariants.{BadRequest, NotFound, MethodNotAllowed}
-use Rattle.scrape_http.specs.declared.request.Asked.{Asked}
+use Rattle.scrape_http.specs.declared.request.Wanted.{Wanted}
 use Rattle.std.specs.List.{before_first, position_or_len}
 
 -- what stands before the first '?', or all
@@ -46,8 +46,8 @@ refusal_by hosts minor target method =
     else None))
 
 -- what a whole head asks for: a scrape, where it is not refused; and that the body is sent, unless it is a HEAD
-abbrev pub asked_of : RequestHead → Asked
-asked_of head = record {
+abbrev pub wanted_of : RequestHead → Wanted
+wanted_of head = record {
   refusal = refusal_by (hosts head) head.minor head.target head.method;
   with_body = not (bytes_eq head.method (codes "HEAD"));
 }

@@ -7,7 +7,7 @@ use Rattle.expo_text.specs.Text.{text}
 use Rattle.scrape_http.specs.declared.source.NoScrape.{NoScrape}
 use Rattle.scrape_http.specs.declared.status.Status.{Status}
 use Rattle.scrape_http.specs.declared.status.Status.TheVariants.{Success, MethodNotAllowed, Unavailable}
-use Rattle.scrape_http.specs.declared.request.Asked.{Asked}
+use Rattle.scrape_http.specs.declared.request.Wanted.{Wanted}
 use Rattle.scrape_http.specs.Status.{code_of, phrase_of}
 use Rattle.scrape_http.specs.Asks.{Asks}
 
@@ -46,35 +46,31 @@ head_of status len =
 
 -- a head with the length of the body, and the body where it is sent
 abbrev pub reply_of : Status → (body : List ℕ) → (with_body : Bool) → Reply
-reply_of status body with_body = record {
-  status = status;
-  bytes = head_of status (length body) ++
-      (if with_body then body else []);
-}
+reply_of status body with_body = record { status = status; bytes = head_of status (length body) ++ (if with_body then body else []) }
 
 -- the reply of a refusal, whose body is its phrase and a line feed
-abbrev pub refused : Status → (with_body : Bool) → Reply
-refused status with_body = reply_of status (phrase_of status ++ codes "\n") with_body
+abbrev pub refusal_reply : Status → (with_body : Bool) → Reply
+refusal_reply status with_body = reply_of status (phrase_of status ++ codes "\n") with_body
 
--- what a source answered: a scrape, or why there is none
+-- what a source gave: a scrape, or why there is none
 abbrev pub Outcome : Type 0
 Outcome = Result Scraped NoScrape
 
 -- the reply with the text of a scrape; where there is none, the service is unavailable
-abbrev pub scraped : Outcome → (with_body : Bool) → Reply
-scraped (Ok scrape) with_body = reply_of Success (text scrape) with_body
-scraped (Err _) with_body = refused Unavailable with_body
+abbrev pub outcome_reply : Outcome → (with_body : Bool) → Reply
+outcome_reply (Ok scrape) with_body = reply_of Success (text scrape) with_body
+outcome_reply (Err _) with_body = refusal_reply Unavailable with_body
 
--- The reply to what is asked for: a refusal, for which no source is asked, or else what the source answered.
+-- The reply to what is asked for: a refusal, for which no source is asked, or else that of what the source gave.
 abbrev pub Replies : (refusal : Option Status) → (with_body : Bool) → Option Outcome → Reply → Type 0
-Replies (Some status) with_body None reply = reply ≡ refused status with_body
+Replies (Some status) with_body None reply = reply ≡ refusal_reply status with_body
 Replies (Some status) with_body (Some outcome) reply = ⊥
 Replies None with_body None reply = ⊥
-Replies None with_body (Some outcome) reply = reply ≡ scraped outcome with_body
+Replies None with_body (Some outcome) reply = reply ≡ outcome_reply outcome with_body
 
--- The reply to the bytes of a connection, of which no more come where they have ended, and to what the source answered, where it
+-- The reply to the bytes of a connection, of which no more come where they have ended, and to what the source gave, where it
 -- was asked: none to no byte, and else the reply to what the bytes ask for.
 abbrev pub IsReply : List ℕ → (ended : Bool) → Option Outcome → Option Reply → Type 0
 IsReply bytes ended outcome None = (bytes ≡ []) × (ended ≡ true) × (outcome ≡ None)
 IsReply bytes ended outcome (Some reply) =
-    (0 < length bytes) × (asked : Asked) × Asks bytes ended asked × Replies asked.refusal asked.with_body outcome reply
+    (0 < length bytes) × (wanted : Wanted) × Asks bytes ended wanted × Replies wanted.refusal wanted.with_body outcome reply

@@ -2,9 +2,9 @@
 ghost use Rattle.std.specs.Prelude.{◌≡◌, length, All, count_by};
 ghost use Rattle.httparse.specs.Spans.{IsRequestWithin, IsRequestAt, IsHeaderWithin, span_bytes};
 ghost use Rattle.httparse.specs.Grammar.{RequestHead};
-ghost use Rattle.scrape_http.specs.Head.{is_host, is_get_or_head, refusal_by, asked_of};
+ghost use Rattle.scrape_http.specs.Head.{is_host, is_get_or_head, refusal_by, wanted_of};
 
-use crate::request::Asked;
+use crate::request::Wanted;
 use crate::status::Status;
 use crate::target::path_of;
 use http::Method;
@@ -54,13 +54,13 @@ fn refusal(hosts: usize, minor: u8, target: &[u8], method: &[u8]) -> Option<Stat
 }
 
 /// What a whole head asks for.
-pub(crate) fn asked_of(bytes: &[u8], head: &RequestSpans, fields: &[HeaderSpan]) -> Asked
+pub(crate) fn wanted_of(bytes: &[u8], head: &RequestSpans, fields: &[HeaderSpan]) -> Wanted
     requires within { IsRequestWithin bytes.now fields.now head.now }
-    ensures { (h : RequestHead) → IsRequestAt bytes.now fields.now head.now h → result ≡ asked_of h }
+    ensures { (h : RequestHead) → IsRequestAt bytes.now fields.now head.now h → result ≡ wanted_of h }
 {
     let hosts = hosts_in(bytes, &fields[..head.headers]);
     let method = head.method.of(bytes);
-    Asked {
+    Wanted {
         refusal: refusal(hosts, head.version, head.path.of(bytes), method),
         with_body: method != Method::HEAD.as_str().as_bytes(),
     }

@@ -6,7 +6,7 @@ ghost use Rattle.scrape_http.specs.Asks.{Asks, IsOpen};
 ghost use Rattle.scrape_http.specs.Serves.{Hears, is_read_failed};
 
 use crate::fault::WireFault;
-use crate::head::asked_of;
+use crate::head::wanted_of;
 use crate::status::Status;
 use httparse::spans::{EMPTY_HEADER_SPAN, parse_request};
 use std::io::Read;
@@ -20,36 +20,36 @@ const MAX_FIELDS: usize = 64;
 
 /// What a request asks for.
 #[derive(Clone, Copy)]
-pub(crate) struct Asked {
+pub(crate) struct Wanted {
     /// Why it is refused; where it is not, it asks for a scrape.
     pub(crate) refusal: Option<Status>,
     /// Whether the body of the reply is to be sent.
     pub(crate) with_body: bool,
 }
 
-/// The refusal of bytes that are no head.
-fn refused(status: Status) -> Asked
+/// What bytes ask for that are no head: they are refused by this status.
+fn refused_request(status: Status) -> Wanted
     ensures { result ≡ record { refusal = Some status; with_body = true } }
 {
-    Asked {
+    Wanted {
         refusal: Some(status),
         with_body: true,
     }
 }
 
 /// What the bytes so far ask for, whatever comes after them; nothing where more are wanted.
-fn judge(bytes: &[u8]) -> Option<Asked>
+fn judge(bytes: &[u8]) -> Option<Wanted>
     requires { length bytes.now ≤ 8192 }
     ensures { MatchOption result (IsOpen bytes.now)
-        (λ asked. (more : List ℕ) → Asks (bytes.now ++ more) false asked) }
+        (λ wanted. (more : List ℕ) → Asks (bytes.now ++ more) false wanted) }
 {
     let mut fields = [EMPTY_HEADER_SPAN; MAX_FIELDS];
     match parse_request(bytes, &mut fields) {
-        Ok(httparse::Status::Complete(head)) => Some(asked_of(bytes, &head, &fields)),
+        Ok(httparse::Status::Complete(head)) => Some(wanted_of(bytes, &head, &fields)),
         Ok(httparse::Status::Partial) => None,
         Err(error) => match error {
-            httparse::Error::TooManyHeaders => Some(refused(Status::TooLarge)),
-            _ => Some(refused(Status::BadRequest)),
+            httparse::Error::TooManyHeaders => Some(refused_request(Status::TooLarge)),
+            _ => Some(refused_request(Status::BadRequest)),
         },
     }
 }
@@ -68,7 +68,7 @@ fn read_more<R: Read>(
     ensures bytes { IfOk result (λ count. Consumes (R.remaining reader.old.inner) (R.remaining reader.new.inner)
         (take count (drop filled buffer.new))) }
     ensures ended { IfOk result (λ count. (count ≡ 0 → reader.new.ended ≡ true) × (0 < count → reader.new.ended ≡ false)) }
-    ensures end { IfOk result (λ count. count ≡ 0 → IsAtEnd (R.remaining reader.new.inner)) }
+    ensures at_end { IfOk result (λ count. count ≡ 0 → IsAtEnd (R.remaining reader.new.inner)) }
     ensures latest { IfOk result (λ count. reader.new.latest ≡ count) }
     ensures failed { IfOk result (λ _. reader.new.failed ≡ false) }
     ensures fault { IfErr result (λ fault. (fault ≡ WireFault.ReadFailed) × (reader.new.failed ≡ true)) }
@@ -80,7 +80,7 @@ fn read_more<R: Read>(
 }
 
 /// Reads until the bytes say what they ask for, at most 8,192 of them, and no further.
-pub(crate) fn hear<R: Read>(reader: &mut Watched<R>) -> Result<Asked, WireFault>
+pub(crate) fn hear<R: Read>(reader: &mut Watched<R>) -> Result<Wanted, WireFault>
     requires going { reader.old.failed ≡ false }
     requires unended { reader.old.ended ≡ false }
     ensures hears { Hears (R.remaining reader.old.inner) (R.remaining reader.new.inner) reader.new.ended reader.new.latest
@@ -95,12 +95,12 @@ pub(crate) fn hear<R: Read>(reader: &mut Watched<R>) -> Result<Asked, WireFault>
             if filled == 0 {
                 return Err(WireFault::EndBeforeHead);
             }
-            return Ok(refused(Status::BadRequest));
+            return Ok(refused_request(Status::BadRequest));
         }
         filled += count;
-        if let Some(asked) = judge(&buffer[..filled]) {
-            return Ok(asked);
+        if let Some(wanted) = judge(&buffer[..filled]) {
+            return Ok(wanted);
         }
     }
-    Ok(refused(Status::TooLarge))
+    Ok(refused_request(Status::TooLarge))
 }

@@ -2,12 +2,12 @@
 ghost use Rattle.std.specs.Prelude.{◌≡◌, ◌<◌, ◌≤◌, ◌^◌, ◌++◌, true, false, length, IfOk, IfErr, Some, Ok, IsOk};
 ghost use Rattle.std.specs.Io.KnownBytes.{Keeps};
 ghost use Rattle.expo_text.specs.Text.{text};
-ghost use Rattle.scrape_http.specs.Reply.{refused, scraped};
+ghost use Rattle.scrape_http.specs.Reply.{outcome_reply, refusal_reply};
 ghost use Rattle.scrape_http.specs.Serves.{Sends, IsServed, IsUnserved, is_read_failed, is_write_failed};
 
 use crate::fault::WireFault;
+use crate::reply::{head_of, refusal_text};
 use crate::request::hear;
-use crate::short_text::{head_of, refusal_text};
 use crate::source::{NoScrape, ScrapeFrom};
 use crate::status::Status;
 use expo_text::{Scrape, WriteFailed, send, text_len, write_after};
@@ -60,7 +60,8 @@ fn send_bytes<W: Write>(
     finish(writer, status, bytes.len())
 }
 
-/// Sends a head and the text of a scrape, which has `len` bytes, in as few writes as pieces of 16,384 bytes allow.
+/// Sends a head and the text of a scrape, which has `len` bytes, in as few writes as pieces of 16,384 bytes allow. That `len` is below
+/// 2^33 is what `text_len` says of each text, so that the bytes of both can be counted.
 fn send_text<W: Write>(
     writer: &mut Watched<W>,
     head: &[u8],
@@ -89,7 +90,8 @@ fn send_refusal<W: Write>(
     with_body: bool,
 ) -> Result<Served, WireFault>
     requires { writer.old.failed ≡ false }
-    ensures sends { Sends (W.contents writer.old.inner) (W.contents writer.new.inner) (Some (refused status with_body)) result }
+    ensures sends { Sends (W.contents writer.old.inner) (W.contents writer.new.inner)
+        (Some (refusal_reply status with_body)) result }
     ensures failed { writer.new.failed ≡ is_write_failed result }
     ensures flushed { IsOk result → writer.new.flushed ≡ true }
 {
@@ -103,8 +105,8 @@ fn send_scrape<W: Write>(
     with_body: bool,
 ) -> Result<Served, WireFault>
     requires { writer.old.failed ≡ false }
-    ensures sends { Sends (W.contents writer.old.inner) (W.contents writer.new.inner) (Some (scraped (Ok scrape.now) with_body))
-        result }
+    ensures sends { Sends (W.contents writer.old.inner) (W.contents writer.new.inner)
+        (Some (outcome_reply (Ok scrape.now) with_body)) result }
     ensures failed { writer.new.failed ≡ is_write_failed result }
     ensures flushed { IsOk result → writer.new.flushed ≡ true }
 {
@@ -117,19 +119,19 @@ fn send_scrape<W: Write>(
     }
 }
 
-/// Sends what a source answered.
-fn send_answer<W: Write>(
+/// Sends the reply to what a source gave: a scrape, or why there is none.
+fn send_outcome<W: Write>(
     writer: &mut Watched<W>,
-    answer: &Result<Scrape, NoScrape>,
+    outcome: &Result<Scrape, NoScrape>,
     with_body: bool,
 ) -> Result<Served, WireFault>
     requires { writer.old.failed ≡ false }
     ensures sends { Sends (W.contents writer.old.inner) (W.contents writer.new.inner)
-        (Some (scraped answer.now with_body)) result }
+        (Some (outcome_reply outcome.now with_body)) result }
     ensures failed { writer.new.failed ≡ is_write_failed result }
     ensures flushed { IsOk result → writer.new.flushed ≡ true }
 {
-    match answer {
+    match outcome {
         Ok(scrape) => send_scrape(writer, scrape, with_body),
         Err(_) => send_refusal(writer, Status::Unavailable, with_body),
     }
@@ -137,15 +139,19 @@ fn send_answer<W: Write>(
 
 /// Reads one request, and writes its reply, which is flushed. It takes no memory but that of the source's scrape.
 ///
-/// At most 8,192 bytes are read, and no read is made once a whole head stands there or none can. The reply is, by the first of
-/// these that holds:
+/// At most 8,192 bytes are read, and no read is made once a whole head stands there or none can. Where no whole head of at most 64
+/// fields stands there, the reply is
 ///
-/// 1. 431 where there are 8,192 bytes without a whole head, or more than 64 fields behind a start line;
-/// 2. 400 where no head can begin so, or the input ends within it; where a head is refused for both causes, it is either;
-/// 3. 400 where the head has several Host fields, or none in HTTP/1.1;
-/// 4. 404 where the target's path is not `/metrics`;
-/// 5. 405 where the method is neither GET nor HEAD;
-/// 6. 200 with the text of a scrape, or 503 where the source has none.
+/// - 431 where there are 8,192 bytes, or more than 64 fields behind a start line;
+/// - 400 where no head can begin so, or the input ends within it;
+/// - either of them where both causes hold.
+///
+/// Where one stands there, the reply is, by the first of these that holds:
+///
+/// 1. 400 where the head has several Host fields, or none in HTTP/1.1;
+/// 2. 404 where the target's path is not `/metrics`;
+/// 3. 405 where the method is neither GET nor HEAD;
+/// 4. 200 with the text of a scrape, or 503 where the source has none.
 ///
 /// What follows the head is not used. A HEAD gets the head that a GET would. The source is asked in the last case alone, and once.
 ///
@@ -153,9 +159,10 @@ fn send_answer<W: Write>(
 ///
 /// # Errors
 ///
-/// 24 [`WireFault::ReadFailed`], exactly where the reader has failed now: nothing is written. 26 [`WireFault::EndBeforeHead`] where
-/// the input ended with no byte: nothing is written. 25 [`WireFault::WriteFailed`], exactly where the writer has failed now: it has
-/// taken the first `sent` bytes of the reply, and no more. A scrape that was made before that stays made.
+/// Refusal 24, [`WireFault::ReadFailed`], exactly where the reader has failed now: nothing is written. Refusal 26,
+/// [`WireFault::EndBeforeHead`], where the input ended with no byte: nothing is written. Refusal 25, [`WireFault::WriteFailed`], exactly
+/// where the writer has failed now: it has taken the first `sent` bytes of the reply, and no more. A scrape that was made before that
+/// stays made.
 pub fn serve_one<R: Read, W: Write, S: ScrapeFrom>(
     reader: &mut Watched<R>,
     writer: &mut Watched<W>,
@@ -173,9 +180,9 @@ pub fn serve_one<R: Read, W: Write, S: ScrapeFrom>(
     ensures read_failed { reader.new.failed ≡ is_read_failed result }
     ensures write_failed { writer.new.failed ≡ is_write_failed result }
 {
-    let asked = hear(reader)?;
-    match asked.refusal {
-        Some(status) => send_refusal(writer, status, asked.with_body),
-        None => send_answer(writer, &source.scrape(), asked.with_body),
+    let wanted = hear(reader)?;
+    match wanted.refusal {
+        Some(status) => send_refusal(writer, status, wanted.with_body),
+        None => send_outcome(writer, &source.scrape(), wanted.with_body),
     }
 }

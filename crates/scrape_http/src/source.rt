@@ -16,14 +16,14 @@ pub enum NoScrape {
 
 /// Where a server gets its scrapes. Each source names, for contracts alone, what one scrape does to it (`gave`).
 pub trait ScrapeFrom {
-    // What a scrape says of the source before it, the source after it, and its answer.
+    // What a scrape says of the source before it, of the source after it, and of its outcome.
     ghost gave: { Self → Self → Result Scraped NoScrape → Type 0 };
 
     /// Makes a scrape.
     ///
     /// # Errors
     ///
-    /// [`NoScrape`], which a server answers with 503.
+    /// [`NoScrape`], to which a server replies 503.
     fn scrape(&mut self) -> Result<Scrape, NoScrape>
         ensures { gave self.old self.new result };
 }

@@ -1,6 +1,6 @@
 use Rattle.std.proofs.Common.{◌≡◌, ℕ, List, [], ◌++◌, codes, decimal, ap, ◌∙◌}
 use Rattle.scrape_http.specs.Reply.{line, status_line, allow_line, type_of}
-use Rattle.scrape_http.proofs.short_text.head_of.Goals as goal
+use Rattle.scrape_http.proofs.reply.head_of.Goals as goal
 
 joined : (a b c d e f g s w w' t t' l l' k z : List ℕ) → a ≡ [] → b ≡ a ++ s → c ≡ b ++ w' → w' ≡ w → d ≡ c ++ t' → t' ≡ t
     → e ≡ d ++ l' → l' ≡ l

@@ -1,12 +1,12 @@
-//! Heads of replies and refusals, in place.
+//! The bytes of replies: of refusals all, and of a scrape's reply the head. They are made in place.
 ghost use Rattle.std.specs.Prelude.{◌≡◌, ◌+◌, ◌≤◌, ◌++◌, [], length};
-ghost use Rattle.scrape_http.specs.Reply.{head_of, allow_line, type_of, refused};
+ghost use Rattle.scrape_http.specs.Reply.{head_of, allow_line, type_of, refusal_reply};
 
 use crate::status::Status;
 use itoa::Buffer;
 use std::marker::Model;
 
-/// How many bytes a short text has at most.
+/// How many bytes a short text has at most: so many that each head has room, and each refusal with its body.
 const ROOM: usize = 256;
 
 /// A text of at most 256 bytes, in place.
@@ -58,7 +58,8 @@ impl ShortText {
         self.filled = end;
     }
 
-    /// Adds a line of a field's name and value, for which there is room.
+    /// Adds a line of a field's name, to which its `: ` belongs here, and its value. There is room for them, and for the 2 bytes of the
+    /// line's end: 254 is 256 less these.
     fn put_line(&mut self, name: &str, value: &[u8])
         requires { length self.old + length name.now + length value.now ≤ 254 }
         ensures { self.new ≡ self.old ++ line (name.now ++ value.now) }
@@ -68,7 +69,7 @@ impl ShortText {
         self.put(b"\r\n");
     }
 
-    /// Adds the line that has the status.
+    /// Adds the line that has the status, behind at most 100 bytes. It has at most 64 bytes; that of 431, the longest, has 46.
     fn put_status(&mut self, status: Status)
         requires { length self.old ≤ 100 }
         ensures line { self.new ≡ self.old ++ status_line status }
@@ -102,7 +103,8 @@ fn allow_line(status: Status) -> &'static str
     }
 }
 
-/// The head of a reply whose body has `len` bytes.
+/// The head of a reply whose body has `len` bytes. It has at most 210 bytes, so that the body of a refusal, at most 32, has room
+/// behind it.
 pub(crate) fn head_of(status: Status, len: usize) -> ShortText
     ensures head { result ≡ head_of status len }
     ensures short { length result ≤ 210 }
@@ -119,7 +121,7 @@ pub(crate) fn head_of(status: Status, len: usize) -> ShortText
 
 /// All bytes of a refusal, with its body or without.
 pub(crate) fn refusal_text(status: Status, with_body: bool) -> ShortText
-    ensures { result ≡ (refused status with_body).bytes }
+    ensures { result ≡ (refusal_reply status with_body).bytes }
 {
     let phrase = status.phrase();
     let mut reply = head_of(status, phrase.len() + 1);
