@@ -8,7 +8,7 @@ use Rattle.snapshot_scan.specs.declared.contended.Contended.{Contended}
 use Rattle.snapshot_scan.specs.declared.scanner.Scanner.{Scanner}
 use Rattle.register_rule.specs.declared.view.Answer.{Answer}
 use Rattle.registry_state.specs.Kept.{IsKept, RegistryView}
-use Rattle.registry_state.specs.Replay.{Contents}
+use Rattle.registry_state.specs.Replay.{State}
 use Rattle.registry_state.specs.Shown.{IsShown}
 use Rattle.dirgwako.specs.Printing.{IsLastText}
 use Rattle.dirgwako.specs.Printing.{IsText}
@@ -23,9 +23,9 @@ module _ {N C H G : ℕ} (quit : Scanner N C H G → ℕ) (gave : Scanner N C H 
   last_text_of old new scrape bytes shows kept is = record {
     kept = kept;
     answer = shows.kept.answer;
-    newest = ap (λ (s : Contents). s.last) shows.kept.state;
+    newest = ap (λ (s : State). s.last) shows.kept.state;
     scrape = scrape;
-    shown = subst (λ (s : Contents). IsShown C H s.families shows.kept.answer scrape) (sym shows.kept.state) shows.shown;
+    shown = subst (λ (s : State). IsShown C H s.families shows.kept.answer scrape) (sym shows.kept.state) shows.shown;
     text_is = is;
   }
 

@@ -1,7 +1,7 @@
 -- What one call does to a registry that is nobody else's, and answers.
 use Rattle.std.specs.Prelude.{◌≡◌, ℕ, List, length, Result, Ok, Err}
 use Rattle.metric_desc.specs.Desc.{Descriptor}
-use Rattle.registry_state.specs.Changed.{IsGiven, changed}
+use Rattle.registry_state.specs.Calls.{IsGiven, changed}
 use Rattle.registry_state.specs.Faults.{IsChildFault, IsRegisterFault}
 use Rattle.registry_state.specs.Journal.{Registered}
 use Rattle.registry_state.specs.Kept.{RegistryView}

@@ -33,7 +33,7 @@ pub use Rattle.snapshot_scan.specs.Readers
 pub use Rattle.snapshot_scan.specs.Scanners
 pub use Rattle.snapshot_update.specs.Workers
 pub use Rattle.snapshot_update.specs.Updated
-pub use Rattle.registry_state.specs.Changed
+pub use Rattle.registry_state.specs.Calls
 pub use Rattle.registry_state.specs.Faults
 pub use Rattle.snapshot_scan.specs.Moments
 pub use Rattle.registry_state.specs.Kept

@@ -7,7 +7,7 @@ ghost use Rattle.registry_state.specs.declared.handle.FamilyId.{FamilyId};
 ghost use Rattle.registry_state.specs.declared.handle.Handle.{Handle};
 ghost use Rattle.metric_registry.specs.Names.{id_of};
 ghost use Rattle.metric_registry.specs.Naming.{HasId};
-ghost use Rattle.registry_state.specs.Changed.{IsInside};
+ghost use Rattle.registry_state.specs.Calls.{IsInside};
 ghost use Rattle.dirgwako.specs.Alone.{RegistersAlone, GivesAlone};
 
 use metric_desc::Desc;

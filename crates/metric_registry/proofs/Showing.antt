@@ -9,11 +9,11 @@ use Rattle.register_rule.specs.declared.view.Answer.{Answer}
 use Rattle.snapshot_scan.specs.Moments.{AreMoments}
 use Rattle.snapshot_scan.proofs.Publishing.{moments_later}
 use Rattle.metric_desc.specs.Desc.{Descriptor}
-use Rattle.registry_state.specs.Changed.{KeepsScrape, IsGiven, WasThere, WasMade, changed}
+use Rattle.registry_state.specs.Calls.{KeepsScrape, IsGiven, WasThere, WasMade, changed}
 use Rattle.registry_state.specs.Journal.{RegistryChange, Registered, ChildMade, Entry, Changed, Scraped as Kept, changes, within}
 use Rattle.registry_state.specs.Kept.{RegistryView, IsKept}
 use Rattle.registry_state.specs.Parts.{AreAccepted, families_after}
-use Rattle.registry_state.specs.Replay.{Family, Contents}
+use Rattle.registry_state.specs.Replay.{Family, State}
 use Rattle.registry_state.specs.Shown.{IsShown}
 use Rattle.registry_state.specs.declared.fault.ScrapeFault.{ScrapeFault}
 use Rattle.registry_state.specs.declared.fault.RegisterFault.{RegisterFault}
@@ -57,7 +57,7 @@ pub shows_moment : {S : Type 0} (n c h g : ℕ) (first : List RegistryChange) (r
 shows_moment n c h g first recorded gave old new (Ok scrape) begins was kept shown = ∥∥₁_map begins (λ (more, is).
     let parts = parts_of_replay n c h g old.journal old.state was.replays in
     let shown' : IsShown c h old.state.families kept.answer scrape =
-    subst (λ (s : Contents). IsSomeAnd s.last (λ answer. IsShown c h s.families answer scrape)) kept.state shown in
+    subst (λ (s : State). IsSomeAnd s.last (λ answer. IsShown c h s.families answer scrape)) kept.state shown in
     record {
       more = more;
       accepted = subst (AreAccepted n c h g []) (sym is) parts.accepted;

@@ -1,6 +1,6 @@
 //! The lock.
 ghost use Rattle.std.specs.Prelude.{◌≡◌, ℕ, ◌<◌, ◌≤◌, IfErr, IfOk, IfSome, OnErr, OnOk};
-ghost use Rattle.registry_state.specs.Changed.{IsInside};
+ghost use Rattle.registry_state.specs.Calls.{IsInside};
 ghost use Rattle.registry_state.specs.Kept.{IsKept};
 ghost use Rattle.registry_state.specs.Faults.{IsWindow};
 ghost use Rattle.snapshot_scan.specs.Scanners.{recorded_in};

@@ -6,7 +6,7 @@ ghost use Rattle.snapshot_scan.specs.Scanners.{reader_in};
 ghost use Rattle.snapshot_scan.specs.Snapshots.{as_answer};
 ghost use Rattle.snapshot_update.specs.Workers.{IsWorkerOf};
 ghost use Rattle.registry_state.specs.Journal.{scrapes};
-ghost use Rattle.registry_state.specs.Replay.{Replays, Contents as Held};
+ghost use Rattle.registry_state.specs.Replay.{Replays, State};
 ghost use Rattle.metric_registry.specs.Naming.{IsNamed, BeginsWith};
 
 use crate::naming::Named;
@@ -46,7 +46,7 @@ pub fn settle_state<'a, const N: usize, const C: usize, const H: usize, const G:
     ensures of_board { All (IsWorkerOf board.now) workers.new }
     ensures same { AreSame workers.old workers.new }
     ensures journal { IfOk result (λ journal. journal ≡ state.entry.journal) }
-    ensures replays { IfOk result (λ journal. (it : Held) × Replays N C H G journal it) }
+    ensures replays { IfOk result (λ journal. (it : State) × Replays N C H G journal it) }
     ensures moments { IfOk result (λ journal. AreMomentsOf workers.old (scrapes journal ++ as_answer out.new ∷ [])) }
     ensures all { OnOk result ((i : ℕ) → i < N → HasIndex workers.old i) }
     ensures settled { OnOk result (IsSettled workers.old out.new) }
@@ -92,7 +92,7 @@ impl<'a, B: Named, const N: usize, const C: usize, const H: usize, const G: usiz
         requires of_board { All (IsWorkerOf board.now) workers.old }
         ensures of_board { All (IsWorkerOf board.now) workers.new }
         ensures same { AreSame workers.old workers.new }
-        ensures replays { IfOk result (λ journal. (it : Held) × Replays N C H G journal it) }
+        ensures replays { IfOk result (λ journal. (it : State) × Replays N C H G journal it) }
         ensures moments { IfOk result (λ journal. AreMomentsOf workers.old (scrapes journal ++ as_answer out.new ∷ [])) }
         ensures all { OnOk result ((i : ℕ) → i < N → HasIndex workers.old i) }
         ensures begins { IfOk result (λ journal. BeginsWith B.first journal) }

@@ -6,10 +6,10 @@ use Rattle.ledger_core.specs.declared.handles.Counter.{Counter as Counting}
 use Rattle.metric_desc.specs.Desc.{Descriptor}
 use Rattle.metric_desc.specs.declared.kind.Kind.{Kind}
 use Rattle.metric_desc.specs.declared.kind.Kind.TheVariants.{Counter}
-use Rattle.registry_state.specs.Changed.{changed, IsHandle, IsLeastFree, WasMade}
+use Rattle.registry_state.specs.Calls.{changed, IsHandle, IsLeastFree, WasMade}
 use Rattle.registry_state.specs.Journal.{Registered, ChildMade}
 use Rattle.registry_state.specs.Kept.{RegistryView}
-use Rattle.registry_state.specs.Replay.{Child, Family, Contents, IsFree, IsNew, MayMake, nothing, after, put}
+use Rattle.registry_state.specs.Replay.{Child, Family, State, IsFree, IsNew, MayMake, nothing, after, put}
 use Rattle.registry_state.specs.declared.handle.Handle.TheVariants as handle
 use Rattle.registry_state.proofs.Slots.{all_put, put_has, put_keeps}
 
@@ -92,7 +92,7 @@ module _ {S : Type 0} where
     desc = desc;
     kids = [];
     counters = counters;
-    only = ap (λ (it : RegistryView S). it.state.families) is ∙ ap (λ (s : Contents). s.families ++ of_kids desc [] ∷ []) none;
+    only = ap (λ (it : RegistryView S). it.state.families) is ∙ ap (λ (s : State). s.families ++ of_kids desc [] ∷ []) none;
     first = none_yet;
     fresh = λ code _. All-nil (λ (child : Child). child.values ≢ code ∷ []);
   }

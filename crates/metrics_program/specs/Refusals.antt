@@ -4,7 +4,7 @@ use Rattle.metric_desc.specs.Desc.{Descriptor}
 use Rattle.metric_desc.specs.declared.kind.Kind.{Kind}
 use Rattle.metric_desc.specs.declared.kind.Kind.TheVariants as kind
 use Rattle.snapshot_scan.specs.Scanners.{recorded_in}
-use Rattle.registry_state.specs.Changed.{KeepsScrape}
+use Rattle.registry_state.specs.Calls.{KeepsScrape}
 use Rattle.registry_state.specs.Faults.{IsWindow, IsRegisterFault, IsChildFault, Leaves}
 use Rattle.registry_state.specs.declared.fault.BadWindow.{BadWindow}
 use Rattle.registry_state.specs.declared.fault.RegisterFault.{RegisterFault}

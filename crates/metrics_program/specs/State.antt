@@ -10,7 +10,7 @@ use Rattle.snapshot_scan.specs.Readers.{IsReaderOf, scan_by}
 use Rattle.snapshot_scan.specs.Scanners.{board_in, reader_in, recorded_in}
 use Rattle.snapshot_update.specs.declared.worker.Worker.{Worker}
 use Rattle.snapshot_update.specs.Workers.{index_of, lists_of, IsWorkerOf}
-use Rattle.registry_state.specs.Changed.{changed, IsGiven, KeepsScrape}
+use Rattle.registry_state.specs.Calls.{changed, IsGiven, KeepsScrape}
 use Rattle.registry_state.specs.Faults.{IsWindow}
 use Rattle.registry_state.specs.Journal.{Registered, scrapes, within}
 use Rattle.registry_state.specs.Replay.{nothing}

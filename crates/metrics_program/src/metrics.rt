@@ -1,7 +1,7 @@
 //! What the server counts of itself.
 ghost use Rattle.std.specs.Prelude.{◌≡◌, ◌<◌, [], ◌∷◌, IfOk, IfSome, All};
 ghost use Rattle.metric_desc.specs.declared.kind.Kind.TheVariants as kind;
-ghost use Rattle.registry_state.specs.Changed.{WasMade};
+ghost use Rattle.registry_state.specs.Calls.{WasMade};
 ghost use Rattle.registry_state.specs.Replay.{nothing, IsNew};
 ghost use Rattle.registry_state.specs.declared.handle.Handle.TheVariants as handle;
 ghost use Rattle.metrics_program.specs.Counted.{AreSix, counter_for, list_for, replies_in};

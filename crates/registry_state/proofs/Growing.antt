@@ -11,7 +11,7 @@ use Rattle.registry_state.specs.Replay.{Family, IsAcceptedChange, after, nothing
 use Rattle.registry_state.specs.Faults.{IsWindow}
 use Rattle.registry_state.specs.Held.{IsPlaceOfName, used_of}
 use Rattle.registry_state.specs.Kept.{RegistryView}
-use Rattle.registry_state.specs.Changed.{changed}
+use Rattle.registry_state.specs.Calls.{changed}
 use Rattle.registry_state.specs.Held.{IsHeld}
 use Rattle.registry_state.proofs.Entries.{newest_change}
 use Rattle.registry_state.proofs.Keeping.{keeps_at_change, kept_new}

@@ -12,7 +12,7 @@ use Rattle.metric_desc.specs.declared.kind.Kind.TheVariants.{Counter, Histogram,
 use Rattle.registry_state.specs.Journal.{Registered, ChildMade}
 use Rattle.registry_state.specs.Replay.{Child, Family, IsFree, IsApart, MayMake, put, with_child, after, slots}
 use Rattle.registry_state.specs.Faults.{HasSlot}
-use Rattle.registry_state.specs.Changed.{IsLeastFree}
+use Rattle.registry_state.specs.Calls.{IsLeastFree}
 use Rattle.registry_state.specs.Held.{AreChildren, AreHeld, IsOneMore, used_of}
 use Rattle.registry_state.proofs.Lists.{cases_order}
 use Rattle.registry_state.proofs.Ordered.{length-with_child, desc_at}

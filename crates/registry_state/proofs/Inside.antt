@@ -5,7 +5,7 @@ use Rattle.std.proofs.lemmas.Option.{slice_get_within}
 use Rattle.std.proofs.lemmas.List.Elements.{All-contains}
 use Rattle.metric_desc.specs.Desc.{Descriptor}
 use Rattle.metric_desc.specs.declared.kind.Kind.{Kind}
-use Rattle.registry_state.specs.Changed.{IsHandle, IsInside}
+use Rattle.registry_state.specs.Calls.{IsHandle, IsInside}
 use Rattle.registry_state.specs.Held.{AreChildren, AreHeld}
 use Rattle.registry_state.specs.Replay.{Child, Family, slots}
 use Rattle.registry_state.specs.declared.handle.Handle.{Handle}

@@ -8,7 +8,7 @@ use Rattle.snapshot_scan.specs.Sources.{Records}
 use Rattle.register_rule.specs.Members.{newest}
 use Rattle.snapshot_scan.proofs.Publishing.{no_moments, moments_later}
 use Rattle.registry_state.specs.Journal.{RegistryChange, Entry, Changed, Scraped, scrapes, within}
-use Rattle.registry_state.specs.Replay.{Family, Contents, nothing, IsAcceptedChange, IsNext, after, Replays}
+use Rattle.registry_state.specs.Replay.{Family, State, nothing, IsAcceptedChange, IsNext, after, Replays}
 use Rattle.registry_state.specs.Kept.{AreLast, IsKept}
 use Rattle.registry_state.specs.Faults.{IsWindow}
 use Rattle.registry_state.proofs.Entries.{scrapes_change, scrapes_scrape, scrapes_within, few_within, newest_behind}
@@ -43,7 +43,7 @@ moments_last n c h g kept recorded last moments = moments_later n c h g last.old
 
 module _ (n c h g : ℕ) where
   -- an answer that the source recorded is accepted by the journal
-  pub next_recorded : (recorded recorded' : List Answer) (journal : List Entry) (state : Contents) (answer : Answer)
+  pub next_recorded : (recorded recorded' : List Answer) (journal : List Entry) (state : State) (answer : Answer)
       → Replays n c h g journal state → AreLast (scrapes journal) recorded → Records n c h g recorded recorded' answer
       → IsNext n c h g state.last answer
   next_recorded recorded recorded' journal state answer replays last records = record {
@@ -64,7 +64,7 @@ module _ (n c h g : ℕ) where
   }
 
   -- a change
-  pub kept_change : (recorded : List Answer) (journal : List Entry) (window : ℕ) (state : Contents) (change : RegistryChange)
+  pub kept_change : (recorded : List Answer) (journal : List Entry) (window : ℕ) (state : State) (change : RegistryChange)
       → IsKept n c h g recorded journal window state → IsAcceptedChange n c h g state.families change
       → IsKept n c h g recorded (journal ++ Changed change ∷ []) window
       (record { families = after state.families change; last = state.last })
@@ -79,7 +79,7 @@ module _ (n c h g : ℕ) where
       }
 
   -- another window, and the scrapes that are over it dropped
-  pub kept_window : (recorded : List Answer) (journal : List Entry) (old window : ℕ) (state : Contents)
+  pub kept_window : (recorded : List Answer) (journal : List Entry) (old window : ℕ) (state : State)
       → IsKept n c h g recorded journal old state → IsWindow window
       → IsKept n c h g recorded (within window journal) window state
   kept_window recorded journal old window state kept room = record {
@@ -95,7 +95,7 @@ module _ (n c h g : ℕ) where
   }
 
   -- a scrape
-  pub kept_scrape : (recorded recorded' : List Answer) (journal : List Entry) (window : ℕ) (state : Contents) (answer : Answer)
+  pub kept_scrape : (recorded recorded' : List Answer) (journal : List Entry) (window : ℕ) (state : State) (answer : Answer)
       → IsKept n c h g recorded journal window state → Records n c h g recorded recorded' answer
       → IsKept n c h g recorded' (within window (journal ++ Scraped answer ∷ [])) window
       (record { families = state.families; last = Some answer })

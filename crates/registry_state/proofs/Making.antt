@@ -13,7 +13,7 @@ use Rattle.registry_state.specs.Kept.{RegistryView}
 use Rattle.registry_state.specs.Held.{AreHeld, IsOneMore}
 use Rattle.registry_state.specs.Held.{IsHeld}
 use Rattle.registry_state.specs.Faults.{HasSlot, IsMissingChild, IsChildFault}
-use Rattle.registry_state.specs.Changed.{IsLeastFree, IsHandle, WasMade}
+use Rattle.registry_state.specs.Calls.{IsLeastFree, IsHandle, WasMade}
 use Rattle.registry_state.specs.declared.handle.Handle.{Handle}
 use Rattle.registry_state.specs.declared.fault.ChildFault.{ChildFault}
 use Rattle.registry_state.specs.declared.fault.ChildFault.TheVariants.{Full, NoMemory}

@@ -7,7 +7,7 @@ use Rattle.register_rule.specs.declared.view.Answer.{Answer}
 use Rattle.register_rule.specs.Members.{newest}
 use Rattle.registry_state.specs.Journal.{RegistryChange, Entry, Changed, Scraped, changes, scrapes, without_oldest, without}
 use Rattle.registry_state.specs.Journal.{within}
-use Rattle.registry_state.specs.Replay.{Family, Contents, nothing, IsAcceptedChange, IsNext, after, Leads, Replays}
+use Rattle.registry_state.specs.Replay.{Family, State, nothing, IsAcceptedChange, IsNext, after, Leads, Replays}
 use Rattle.registry_state.specs.Parts.{families_after, AreAccepted, AreNext, ReplaysByParts}
 use Rattle.registry_state.proofs.Entries.{scrapes_less}
 
@@ -25,14 +25,14 @@ last_newest [] = refl
 last_newest (a ∷ answers) = last_some a answers
 
 -- what lies between two states, by its parts
-record Parts (n c h g : ℕ) (from : Contents) (entries : List Entry) (to : Contents) : Type 0 where
+record Parts (n c h g : ℕ) (from : State) (entries : List Entry) (to : State) : Type 0 where
   accepted : AreAccepted n c h g from.families (changes entries)
   scraped : AreNext n c h g from.last (scrapes entries)
   families : to.families ≡ families_after from.families (changes entries)
   last : to.last ≡ last_of from.last (scrapes entries)
 
 module _ (n c h g : ℕ) where
-  leads_by_parts : (from : Contents) (entries : List Entry) (to : Contents) → Parts n c h g from entries to
+  leads_by_parts : (from : State) (entries : List Entry) (to : State) → Parts n c h g from entries to
       → Leads n c h g from entries to
   leads_by_parts from [] to parts =
       ap (λ (families : List Family). record { families = families; last = from.last }) (sym parts.families)
@@ -48,13 +48,13 @@ module _ (n c h g : ℕ) where
         (record { accepted = parts.accepted; scraped = parts.scraped.1; families = parts.families; last = parts.last }),
   )
 
-  parts_of_leads : (from : Contents) (entries : List Entry) (to : Contents) → Leads n c h g from entries to
+  parts_of_leads : (from : State) (entries : List Entry) (to : State) → Leads n c h g from entries to
       → Parts n c h g from entries to
   parts_of_leads from [] to leads = record {
     accepted = tt;
     scraped = tt;
-    families = ap (λ (s : Contents). s.families) (sym leads);
-    last = ap (λ (s : Contents). s.last) (sym leads);
+    families = ap (λ (s : State). s.families) (sym leads);
+    last = ap (λ (s : State). s.last) (sym leads);
   }
   parts_of_leads from (Changed change ∷ entries) to leads =
       let rest = parts_of_leads (record { families = after from.families change; last = from.last }) entries to leads.1 in
@@ -64,7 +64,7 @@ module _ (n c h g : ℕ) where
       record { accepted = rest.accepted; scraped = (leads.0, rest.scraped); families = rest.families; last = rest.last }
 
   -- a journal replays to a state where its parts do
-  pub replays_by_parts : (journal : List Entry) (state : Contents) → ReplaysByParts n c h g journal state
+  pub replays_by_parts : (journal : List Entry) (state : State) → ReplaysByParts n c h g journal state
       → Replays n c h g journal state
   replays_by_parts journal state parts = leads_by_parts nothing journal state (record {
     accepted = parts.accepted;
@@ -74,7 +74,7 @@ module _ (n c h g : ℕ) where
   })
 
   -- and only there
-  pub parts_of_replay : (journal : List Entry) (state : Contents) → Replays n c h g journal state
+  pub parts_of_replay : (journal : List Entry) (state : State) → Replays n c h g journal state
       → ReplaysByParts n c h g journal state
   parts_of_replay journal state replays =
       let parts = parts_of_leads nothing journal state replays in
@@ -85,9 +85,9 @@ module _ (n c h g : ℕ) where
         last = parts.last ∙ last_newest (scrapes journal);
       }
 
-  leads_more : (from : Contents) (entries : List Entry) (middle : Contents) (more : List Entry) (to : Contents)
+  leads_more : (from : State) (entries : List Entry) (middle : State) (more : List Entry) (to : State)
       → Leads n c h g from entries middle → Leads n c h g middle more to → Leads n c h g from (entries ++ more) to
-  leads_more from [] middle more to leads rest = subst (λ (s : Contents). Leads n c h g s more to) (sym leads) rest
+  leads_more from [] middle more to leads rest = subst (λ (s : State). Leads n c h g s more to) (sym leads) rest
   leads_more from (Changed change ∷ entries) middle more to leads rest = (
     leads.0,
     leads_more (record { families = after from.families change; last = from.last }) entries middle more to leads.1
@@ -97,7 +97,7 @@ module _ (n c h g : ℕ) where
       (leads.0, leads_more (record { families = from.families; last = Some answer }) entries middle more to leads.1 rest)
 
   -- one change further
-  pub replays_change : (journal : List Entry) (state : Contents) (change : RegistryChange) → Replays n c h g journal state
+  pub replays_change : (journal : List Entry) (state : State) (change : RegistryChange) → Replays n c h g journal state
       → IsAcceptedChange n c h g state.families change
       → Replays n c h g (journal ++ Changed change ∷ []) (record { families = after state.families change; last = state.last })
   replays_change journal state change replays accepted =
@@ -105,7 +105,7 @@ module _ (n c h g : ℕ) where
       (record { families = after state.families change; last = state.last }) replays (accepted, refl)
 
   -- one scrape further
-  pub replays_scrape : (journal : List Entry) (state : Contents) (answer : Answer) → Replays n c h g journal state
+  pub replays_scrape : (journal : List Entry) (state : State) (answer : Answer) → Replays n c h g journal state
       → IsNext n c h g state.last answer
       → Replays n c h g (journal ++ Scraped answer ∷ []) (record { families = state.families; last = Some answer })
   replays_scrape journal state answer replays next =
@@ -113,7 +113,7 @@ module _ (n c h g : ℕ) where
       (next, refl)
 
   -- where another scrape follows, the first one may be left out
-  leads_behind : (families : List Family) (first : Answer) (entries : List Entry) (to : Contents) → 0 < length (scrapes entries)
+  leads_behind : (families : List Family) (first : Answer) (entries : List Entry) (to : State) → 0 < length (scrapes entries)
       → Leads n c h g (record { families = families; last = Some first }) entries to
       → Leads n c h g (record { families = families; last = None }) entries to
   leads_behind families first [] to some leads = absurd (omega (arith, some))
@@ -122,7 +122,7 @@ module _ (n c h g : ℕ) where
   leads_behind families first (Scraped answer ∷ entries) to some leads =
       (record { whole = leads.0.whole; rises = λ before is. absurd (none-some before is) }, leads.1)
 
-  leads_less : (families : List Family) (entries : List Entry) (to : Contents) → 1 < length (scrapes entries)
+  leads_less : (families : List Family) (entries : List Entry) (to : State) → 1 < length (scrapes entries)
       → Leads n c h g (record { families = families; last = None }) entries to
       → Leads n c h g (record { families = families; last = None }) (without_oldest entries) to
   leads_less families [] to two leads = absurd (omega (arith, two))
@@ -132,7 +132,7 @@ module _ (n c h g : ℕ) where
       leads.1
 
   -- the oldest scrapes may be left out, as long as one stays where there was one
-  pub replays_without : (k : ℕ) (journal : List Entry) (state : Contents) → k ≤ length (scrapes journal) - 1
+  pub replays_without : (k : ℕ) (journal : List Entry) (state : State) → k ≤ length (scrapes journal) - 1
       → Replays n c h g journal state → Replays n c h g (without k journal) state
   replays_without zero journal state le replays = replays
   replays_without (suc k) journal state le replays =
@@ -141,7 +141,7 @@ module _ (n c h g : ℕ) where
       replays_without k (without_oldest journal) state (omega (arith, e, le))
       (leads_less [] journal state (omega (arith, le)) replays)
 
-  pub replays_within : (window : ℕ) (journal : List Entry) (state : Contents) → 1 ≤ window
+  pub replays_within : (window : ℕ) (journal : List Entry) (state : State) → 1 ≤ window
       → Replays n c h g journal state → Replays n c h g (within window journal) state
   replays_within window journal state some replays =
       replays_without (length (scrapes journal) - window) journal state (omega (arith, some)) replays

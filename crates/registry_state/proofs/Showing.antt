@@ -26,7 +26,7 @@ use Rattle.snapshot_scan.specs.Sources.{IsWhole}
 use Rattle.expo_text.specs.Scraped.{Child as ChildShown, Family as FamilyShown}
 use Rattle.expo_text.specs.Order.{IsBefore, IsNumberOf, IsFamily, IsScrape, IsChildBefore as IsShownBefore}
 use Rattle.registry_state.specs.Replay.{Child, Family, slots}
-use Rattle.registry_state.specs.Shown.{number_at, child_shown, family_shown, IsShown}
+use Rattle.registry_state.specs.Shown.{value_at, child_shown, family_shown, IsShown}
 use Rattle.registry_state.specs.Held.{AreChildren, AreShowable, AreHeld, IsOrder, family_at, no_family}
 use Rattle.registry_state.specs.Filled.{arranged, AreWithin}
 use Rattle.registry_state.proofs.Lists.{cases_order, pairs_map, pairs_weaker}
@@ -54,18 +54,18 @@ few_children c h g family all are =
     let most = few_slots c h g family.desc.kind all in
     omega (arith, n, few, most)
 
--- the number of a slot is of its kind, and the count of a histogram is the sum of its buckets
-number_is : (n c h g : ℕ) (answer : Answer) (kind : Kind) (slot : ℕ) → IsWhole n c h g answer → slot < slots c h g kind
-    → IsNumberOf kind (number_at c h answer.totals kind slot)
-number_is n c h g answer Counter slot whole lt = refl
-number_is n c h g answer Histogram slot whole lt =
+-- the value of a slot is of its kind, and the count of a histogram is the sum of its buckets
+value_is : (n c h g : ℕ) (answer : Answer) (kind : Kind) (slot : ℕ) → IsWhole n c h g answer → slot < slots c h g kind
+    → IsNumberOf kind (value_at c h answer.totals kind slot)
+value_is n c h g answer Counter slot whole lt = refl
+value_is n c h g answer Histogram slot whole lt =
     let wide = whole.totals in (
       refl,
       legal_buckets c h slot answer.totals (slice_index answer.totals (c + 27 * slot + 26))
           (take 25 (drop (c + 27 * slot) answer.totals)) lt
           (omega (arith, wide, lt)) whole.legal refl refl,
     )
-number_is n c h g answer Gauge slot whole lt = refl
+value_is n c h g answer Gauge slot whole lt = refl
 
 pub family_is : (n c h g : ℕ) (answer : Answer) (family : Family) → AreSlots c h g → IsWhole n c h g answer
     → AreChildren (slots c h g) family → IsFamily (family_shown c h answer.totals family)
@@ -78,8 +78,8 @@ family_is n c h g answer family all whole are =
       fit = All-map (λ (child : ChildShown). length child.values ≡ length family.desc.labels) shown family.children are.fit;
       numbers = All-map (λ (child : ChildShown). IsNumberOf kind child.number) shown family.children
           (All-weaker (λ (child : Child). child.slot < slots c h g kind)
-          (λ (child : Child). IsNumberOf kind (number_at c h answer.totals kind child.slot))
-          (λ child lt. number_is n c h g answer kind child.slot whole lt) family.children are.below);
+          (λ (child : Child). IsNumberOf kind (value_at c h answer.totals kind child.slot))
+          (λ child lt. value_is n c h g answer kind child.slot whole lt) family.children are.below);
       ordered = pairs_map IsShownBefore shown family.children are.ordered;
     }
 

@@ -7,13 +7,13 @@ use Rattle.snapshot_scan.specs.Moments.{AreMoments}
 use Rattle.snapshot_scan.specs.Sources.{Records}
 use Rattle.register_rule.specs.Members.{newest}
 use Rattle.registry_state.specs.Journal.{Entry, Scraped, scrapes, within}
-use Rattle.registry_state.specs.Replay.{Family, Contents}
+use Rattle.registry_state.specs.Replay.{Family, State}
 use Rattle.snapshot_scan.specs.declared.contended.Contended.{Contended}
 use Rattle.registry_state.specs.Faults.{IsWindow, Leaves}
 use Rattle.registry_state.specs.declared.fault.ScrapeFault.{ScrapeFault}
 use Rattle.registry_state.specs.declared.fault.ScrapeFault.TheVariants as Scrape
 use Rattle.registry_state.specs.Kept.{RegistryView, IsKept}
-use Rattle.registry_state.specs.Changed.{KeepsScrape}
+use Rattle.registry_state.specs.Calls.{KeepsScrape}
 use Rattle.registry_state.specs.Held.{IsHeld}
 use Rattle.registry_state.proofs.Entries.{newest_within, newest_scrape}
 use Rattle.registry_state.proofs.Keeping.{keeps_at_window, kept_scrape}
@@ -60,7 +60,7 @@ module _ (n c h g : ℕ) (recorded : List Answer) (journal : List Entry) (window
       → journal' ≡ within window (journal ++ Scraped answer ∷ [])
       → IsHeld n c h g recorded' journal' window families order used
   held_scrape recorded' journal' answer records same =
-      let before : Contents = record { families = families; last = newest (scrapes journal) } in
+      let before : State = record { families = families; last = newest (scrapes journal) } in
       let now : List Entry = within window (journal ++ Scraped answer ∷ []) in
       subst (λ (j : List Entry). IsHeld n c h g recorded' j window families order used) (sym same)
       (record {

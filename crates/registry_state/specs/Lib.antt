@@ -7,4 +7,4 @@ pub mod Kept
 pub mod Shown
 pub mod Held
 pub mod Filled
-pub mod Changed
+pub mod Calls

@@ -3,7 +3,7 @@ use Rattle.std.specs.Prelude.{◌≡◌, ⊤, ℕ, List, [], ◌∷◌, Option, 
 use Rattle.register_rule.specs.declared.view.Answer.{Answer}
 use Rattle.register_rule.specs.Members.{newest}
 use Rattle.registry_state.specs.Journal.{RegistryChange, Entry, changes, scrapes}
-use Rattle.registry_state.specs.Replay.{Family, Contents, IsAcceptedChange, IsNext, after}
+use Rattle.registry_state.specs.Replay.{Family, State, IsAcceptedChange, IsNext, after}
 
 -- the families after these changes
 abbrev pub families_after : List Family → List RegistryChange → List Family
@@ -23,7 +23,7 @@ module _ (n c h g : ℕ) where
 
   -- the changes are accepted one after the other, and so are the scrapes; and the state has what the changes made, and the last
   -- scrape
-  pub record ReplaysByParts (journal : List Entry) (state : Contents) : Type 0 where
+  pub record ReplaysByParts (journal : List Entry) (state : State) : Type 0 where
     pub accepted : AreAccepted [] (changes journal)
     pub scraped : AreNext None (scrapes journal)
     pub families : state.families ≡ families_after [] (changes journal)

@@ -22,13 +22,13 @@ pub record Family : Type 0 where
   pub desc : Descriptor
   pub children : List Child
 
--- what a registry holds: its families in the order of their registration, and the last scrape, if there is one
-pub record Contents : Type 0 where
+-- what a registry holds: its families in the order of their registration, and the last scrape, if there is one: the newest that is kept
+pub record State : Type 0 where
   pub families : List Family
   pub last : Option Answer
 
 -- what a new registry holds: no family, and no scrape
-abbrev pub nothing : Contents
+abbrev pub nothing : State
 nothing = record { families = []; last = None }
 
 -- how many slots a row of c counters, h histograms and g gauges has for a kind
@@ -91,7 +91,7 @@ after families (ChildMade family values slot) = with_child families family (reco
 
 module _ (n c h g : ℕ) where
   -- the entries lead from the one state to the other, each of them accepted where it stands
-  abbrev pub Leads : Contents → List Entry → Contents → Type 0
+  abbrev pub Leads : State → List Entry → State → Type 0
   Leads from [] to = from ≡ to
   Leads from (Changed change ∷ entries) to =
       IsAcceptedChange n c h g from.families change
@@ -100,5 +100,5 @@ module _ (n c h g : ℕ) where
       IsNext n c h g from.last answer × Leads (record { families = from.families; last = Some answer }) entries to
 
   -- the journal replays to this state
-  abbrev pub Replays : List Entry → Contents → Type 0
+  abbrev pub Replays : List Entry → State → Type 0
   Replays journal state = Leads nothing journal state

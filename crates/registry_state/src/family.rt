@@ -1,4 +1,4 @@
-//! Families and their children.
+//! Families and their children: their types, which family may be registered, where a child stands, and one put there.
 ghost use Rattle.std.specs.Prelude.{◌≡◌, ◌≢◌, ◌↔◌, ◌<◌, length, slice_get, All, AllPairs, IsSomeAnd, IsTrue, MatchOption, OnOk};
 ghost use Rattle.std.specs.Prelude.{OnErr, IfErr, IfOk, IsOk};
 ghost use Rattle.std.specs.Ordering.{nat_cmp};
@@ -48,6 +48,9 @@ impl Model for Family {
     ghost view = { λ f. record { desc = arc_value f.desc; children = f.children.items } };
 }
 
+/// The most families of a registry (`IsAcceptedChange`, `AreFamilies`).
+const MAX_FAMILIES: usize = 128;
+
 /// The least number of a family that clashes with a descriptor.
 pub(crate) fn first_clash(families: &[Family], desc: &Desc) -> Option<usize>
     ensures { MatchOption result (IsApart families.now desc.now) (IsFirstClash families.now desc.now) }
@@ -90,7 +93,7 @@ pub(crate) fn may_register(families: &[Family], desc: &Desc) -> Result<(), Regis
     if let Some(with) = first_clash(families, desc) {
         return Err(RegisterFault::Clash { with });
     }
-    if families.len() >= 128 {
+    if families.len() >= MAX_FAMILIES {
         return Err(RegisterFault::TooManyFamilies);
     }
     Ok(())

@@ -4,7 +4,8 @@ ghost use Rattle.std.specs.Prelude.{◌≡◌};
 use ledger_core::{Counter, Gauge, Histogram};
 use metric_desc::{Desc, Kind};
 
-/// A family of a registry.
+/// A family of a registry, by its number alone. Unlike a [`Handle`] it does not have the registry's id: a family of another registry is
+/// taken for the one of that number, and refused (20) only where there are not so many.
 #[derive(Clone, Copy, Debug, PartialEq, Eq)]
 pub struct FamilyId {
     pub(crate) number: usize,
@@ -31,7 +32,7 @@ pub enum Handle {
 }
 
 impl Handle {
-    ghost use Rattle.registry_state.specs.Changed.{IsHandle};
+    ghost use Rattle.registry_state.specs.Calls.{IsHandle};
 
     /// The handle of a slot, for a family of this descriptor in the registry of this id.
     pub(crate) fn of(registry: u64, desc: &Desc, slot: usize) -> Handle

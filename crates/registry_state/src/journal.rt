@@ -83,14 +83,14 @@ impl<const N: usize, const C: usize, const H: usize, const G: usize> Journal<N, 
         Ok(())
     }
 
-    /// Makes a scrape of the source, and keeps it and of those before it so many that they are `window` at most, the
-    /// newest. It takes all its memory before it scans.
+    /// Scans the source and notes what it gave as a scrape: that is kept, and of those before it so many that they are `window` at most,
+    /// the newest. It takes all its memory before it scans.
     ///
     /// # Errors
     ///
     /// 6 [`ScrapeFault::NoMemory`]: nothing was scanned. 14 [`ScrapeFault::Contended`]: the scan was given up. The
     /// journal is unchanged.
-    pub(crate) fn scrape<S: Source<N, C, H, G>>(
+    pub(crate) fn note_scrape<S: Source<N, C, H, G>>(
         &mut self,
         source: &mut S,
         window: usize,
@@ -98,7 +98,7 @@ impl<const N: usize, const C: usize, const H: usize, const G: usize> Journal<N, 
         requires { 1 ≤ window }
         ensures scraped { OnOk result ((answer : Answer) × Records N C H G (S.recorded source.old) (S.recorded source.new) answer
             × S.gave source.old source.new answer × (self.new ≡ within window (self.old ++ Scraped answer ∷ []))) }
-        ensures kept { OnOk result (S.quit source.new ≡ S.quit source.old) }
+        ensures quit { OnOk result (S.quit source.new ≡ S.quit source.old) }
         ensures fault { IfErr result (Leaves N S.recorded S.quit S.gave_up source.old source.new) }
         ensures unchanged { OnErr result (self.new ≡ self.old) }
     {

@@ -1,4 +1,4 @@
-//! What a registry over a source of one thread does beside.
+//! What a registry can do besides where its source is of one thread: apply operations to it.
 ghost use Rattle.std.specs.Prelude.{◌≡◌, IfErr, OnErr, OnOk};
 ghost use Rattle.snapshot_scan.specs.Plain.{row_of, count_of, recorded_by, IsApplied, IsPlainFault};
 
@@ -25,7 +25,7 @@ impl<const N: usize, const C: usize, const H: usize, const G: usize> RegistrySta
         ensures recorded { recorded_by self.new.source ≡ recorded_by self.old.source }
         ensures same { self.new ≡ record self.old { source = self.new.source } }
         ensures fault { IfErr result (IsPlainFault C H G (row_of self.old.source) (count_of self.old.source) ops.now) }
-        ensures unchanged { OnErr result ((row_of self.new.source ≡ row_of self.old.source)
+        ensures row_and_count { OnErr result ((row_of self.new.source ≡ row_of self.old.source)
             × (count_of self.new.source ≡ count_of self.old.source)) }
     {
         self.source.apply(ops)

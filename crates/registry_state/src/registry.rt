@@ -3,13 +3,13 @@ ghost use Rattle.std.specs.Prelude.{◌≡◌, ◌<◌, ◌↔◌, IsTrue};
 ghost use Rattle.registry_state.specs.Replay.{slots};
 ghost use Rattle.registry_state.specs.Faults.{IsWindow};
 
-use crate::children::{child_of, put_noted};
-use crate::families::push_noted;
 use crate::family::{Family, may_register, number_named, place_of};
 use crate::fault::{BadWindow, ChildFault, NewFault, RegisterFault, ScrapeFault};
 use crate::handle::{FamilyId, Handle};
 use crate::journal::Journal;
 use crate::kept::Kept;
+use crate::noted_child::{child_of, put_noted};
+use crate::noted_family::push_noted;
 use crate::ordering::place_of_name;
 use crate::shown::Blank;
 use crate::used::Used;
@@ -83,14 +83,14 @@ pub(crate) fn slots_of<const C: usize, const H: usize, const G: usize>(kind: Kin
     }
 }
 
-/// The most scrapes that a registry may keep.
-const MOST: usize = 1_024;
+/// The most scrapes that a registry may keep (`IsWindow`).
+const MAX_WINDOW: usize = 1_024;
 
 /// Whether a registry may keep so many scrapes.
 pub(crate) fn is_window(window: usize) -> bool
     ensures { IsTrue result ↔ IsWindow window }
 {
-    1 <= window && window <= MOST
+    1 <= window && window <= MAX_WINDOW
 }
 
 impl<
@@ -107,7 +107,7 @@ impl<
     ghost use Rattle.registry_state.specs.Replay.{nothing, IsAcceptedChange};
     ghost use Rattle.registry_state.specs.Faults.{IsChildFault, IsMissingChild, IsWindow, IsNewFault, IsRegisterFault, Leaves};
     ghost use Rattle.registry_state.specs.Held.{IsPlaceOfValues};
-    ghost use Rattle.registry_state.specs.Changed.{IsGiven, IsInside, WasMade, changed, KeepsScrape};
+    ghost use Rattle.registry_state.specs.Calls.{IsGiven, IsInside, WasMade, changed, KeepsScrape};
     ghost use Rattle.registry_state.specs.Kept.{IsKept};
     ghost use Rattle.registry_state.specs.Shown.{IsShown};
 
@@ -226,7 +226,7 @@ impl<
     ///
     /// 6 [`ScrapeFault::NoMemory`]: nothing was scanned. 14 [`ScrapeFault::Contended`]: the scan was given up. Nothing is kept then.
     pub fn scrape(&mut self) -> Result<Scrape, ScrapeFault>
-        ensures kept { OnOk result (KeepsScrape N C H G S.recorded S.gave self.old self.new) }
+        ensures scraped { OnOk result (KeepsScrape N C H G S.recorded S.gave self.old self.new) }
         ensures quit { OnOk result (S.quit self.new.source ≡ S.quit self.old.source) }
         ensures shown { IfOk result
             (λ scrape. IsSomeAnd self.new.state.last (λ answer. IsShown C H self.new.state.families answer scrape)) }
@@ -239,7 +239,7 @@ impl<
             return Err(ScrapeFault::NoMemory);
         };
         let window = self.window;
-        self.journal.scrape(&mut self.source, window)?;
+        self.journal.note_scrape(&mut self.source, window)?;
         let Some(newest) = self.journal.newest() else {
             unreachable!()
         };
@@ -270,7 +270,7 @@ impl<
     pub fn set_window(&mut self, window: usize) -> Result<usize, BadWindow>
         ensures window { OnOk result (IsWindow window) }
         ensures set { OnOk result (self.new ≡ record self.old { window = window; journal = within window self.old.journal }) }
-        ensures kept { IfOk result (λ kept. kept ≡ length (scrapes self.new.journal)) }
+        ensures count { IfOk result (λ count. count ≡ length (scrapes self.new.journal)) }
         ensures refused { OnErr result (¬ (IsWindow window)) }
         ensures unchanged { OnErr result (self.new ≡ self.old) }
     {

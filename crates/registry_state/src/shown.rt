@@ -2,7 +2,7 @@
 ghost use Rattle.std.specs.Prelude.{◌≡◌, ◌<◌, length, map, All, IfOk};
 ghost use Rattle.snapshot_scan.specs.Snapshots.{as_answer};
 ghost use Rattle.registry_state.specs.Replay.{slots};
-ghost use Rattle.registry_state.specs.Shown.{number_at, child_shown, family_shown, IsShown};
+ghost use Rattle.registry_state.specs.Shown.{value_at, child_shown, family_shown, IsShown};
 ghost use Rattle.registry_state.specs.Held.{IsOrder};
 ghost use Rattle.registry_state.specs.Filled.{zero_of, child_blank, family_blank, blanks, arranged, AreWithin, IsFillable};
 
@@ -15,7 +15,7 @@ use snapshot_scan::Snapshot;
 use std::alloc::Global;
 use std::sync::Arc;
 
-/// The number of this kind of which nothing was counted.
+/// The value of this kind where nothing was counted.
 fn zero(kind: Kind) -> Number
     ensures { result ≡ zero_of kind }
 {
@@ -49,7 +49,7 @@ fn blank_family(alloc: Global, family: &Family) -> Result<FamilyScrape, NoMemory
     Ok(FamilyScrape { desc, children })
 }
 
-/// The families of these numbers, in this order, with zeros.
+/// The families, in this order of their numbers, with zeros.
 ///
 /// Refusal 6 [`NoMemory`], and no other.
 fn blank_families(
@@ -57,24 +57,24 @@ fn blank_families(
     families: &[Family],
     order: &[usize],
 ) -> Result<Vec<FamilyScrape>, NoMemory>
-    requires { All (λ number. number < length families.now) order.now }
+    requires { All (λ family. family < length families.now) order.now }
     ensures { IfOk result (λ shown. shown.items ≡ blanks families.now order.now) }
 {
     let mut shown = Vec::with_capacity(alloc, order.len())?;
-    for number in order {
-        shown.push(blank_family(alloc, &families[*number])?)?;
+    for family in order {
+        shown.push(blank_family(alloc, &families[*family])?)?;
     }
     Ok(shown)
 }
 
-/// The number of a slot in a snapshot.
-fn number_of<const N: usize, const C: usize, const H: usize, const G: usize>(
+/// The value of a slot in a snapshot.
+fn value_of<const N: usize, const C: usize, const H: usize, const G: usize>(
     snapshot: &Snapshot<N, C, H, G>,
     kind: Kind,
     slot: usize,
 ) -> Number
     requires { slot < slots C H G kind }
-    ensures { result ≡ number_at C H snapshot.now.totals kind slot }
+    ensures { result ≡ value_at C H snapshot.now.totals kind slot }
 {
     match kind {
         Kind::Counter => Number::Counter(snapshot.counter(slot)),
@@ -83,7 +83,7 @@ fn number_of<const N: usize, const C: usize, const H: usize, const G: usize>(
     }
 }
 
-/// Writes the numbers of children of one kind over their zeros.
+/// Writes the values of the slots of children of one kind over their zeros.
 fn fill_children<const N: usize, const C: usize, const H: usize, const G: usize>(
     shown: &mut [ChildScrape],
     children: &[Child],
@@ -96,11 +96,11 @@ fn fill_children<const N: usize, const C: usize, const H: usize, const G: usize>
 {
     for (place, child) in children.iter().enumerate() {
         let one = &mut shown[place];
-        one.number = number_of(snapshot, kind, child.slot);
+        one.number = value_of(snapshot, kind, child.slot);
     }
 }
 
-/// Writes the numbers of a family's children over their zeros.
+/// Writes the values of the slots of a family's children over their zeros.
 fn fill_family<const N: usize, const C: usize, const H: usize, const G: usize>(
     shown: &mut FamilyScrape,
     family: &Family,
@@ -118,7 +118,7 @@ fn fill_family<const N: usize, const C: usize, const H: usize, const G: usize>(
     );
 }
 
-/// Writes the totals of the families of these places in their list, in this order, over their zeros. It takes no memory.
+/// Writes the values of the families, in this order of their numbers, over their zeros. It takes no memory.
 fn fill_families<const N: usize, const C: usize, const H: usize, const G: usize>(
     shown: &mut [FamilyScrape],
     families: &[Family],
@@ -126,12 +126,12 @@ fn fill_families<const N: usize, const C: usize, const H: usize, const G: usize>
     snapshot: &Snapshot<N, C, H, G>,
 )
     requires blank { shown.old ≡ blanks families.now order.now }
-    requires numbers { All (λ number. number < length families.now) order.now }
+    requires order { All (λ family. family < length families.now) order.now }
     requires slots { All (AreWithin C H G) families.now }
     ensures { shown.new ≡ arranged C H snapshot.now.totals families.now order.now }
 {
-    for (place, number) in order.iter().enumerate() {
-        fill_family(&mut shown[place], &families[*number], snapshot);
+    for (place, family) in order.iter().enumerate() {
+        fill_family(&mut shown[place], &families[*family], snapshot);
     }
 }
 

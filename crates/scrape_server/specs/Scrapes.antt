@@ -3,7 +3,7 @@ use Rattle.std.specs.Prelude.{◌≡◌, ℕ, List, Result, Ok, Err}
 use Rattle.expo_text.specs.Scraped.{Scraped}
 use Rattle.register_rule.specs.declared.view.Answer.{Answer}
 use Rattle.snapshot_scan.specs.declared.contended.Contended.{Contended}
-use Rattle.registry_state.specs.Changed.{KeepsScrape}
+use Rattle.registry_state.specs.Calls.{KeepsScrape}
 use Rattle.registry_state.specs.Faults.{Leaves}
 use Rattle.registry_state.specs.Kept.{RegistryView}
 use Rattle.registry_state.specs.Shown.{IsShown}

@@ -1,5 +1,5 @@
 use Rattle.std.proofs.Common.{◌≡◌, [], ◌∷◌, codes, length, ap, ◌∙◌, arith}
-use Rattle.registry_state.specs.Replay.{Contents}
+use Rattle.registry_state.specs.Replay.{State}
 use Rattle.metrics_program.proofs.Making.{HasCodes, all_apart, more_codes, new_code, next_slot, no_codes}
 use Rattle.metrics_program.proofs.metrics.registered.Goals as goal
 
@@ -8,7 +8,7 @@ counter_of-requires-4 c =
     let r = c.register.new.self in
     let desc = c.in_ok-replies_desc.field-0 in
     let number = c.in-Ok.family.number in
-    let first : number ≡ 0 = c.in-Ok.ensures.number ∙ ap (λ (s : Contents). length s.families) c.requires.nothing in
+    let first : number ≡ 0 = c.in-Ok.ensures.number ∙ ap (λ (s : State). length s.families) c.requires.nothing in
     let none : HasCodes 0 [] r = no_codes c.args.registry.now r desc c.requires.nothing c.in-Ok.ensures.registered
     c.in_ok-replies_desc.ensures in
     let has1 : HasCodes 1 (codes "200" ∷ []) c.counter_of.new.registry = more_codes 0 ([]) r c.counter_of.new.registry number
@@ -32,7 +32,7 @@ counter_of-requires-5 c =
     let r = c.register.new.self in
     let desc = c.in_ok-replies_desc.field-0 in
     let number = c.in-Ok.family.number in
-    let first : number ≡ 0 = c.in-Ok.ensures.number ∙ ap (λ (s : Contents). length s.families) c.requires.nothing in
+    let first : number ≡ 0 = c.in-Ok.ensures.number ∙ ap (λ (s : State). length s.families) c.requires.nothing in
     let none : HasCodes 0 [] r = no_codes c.args.registry.now r desc c.requires.nothing c.in-Ok.ensures.registered
     c.in_ok-replies_desc.ensures in
     let has1 : HasCodes 1 (codes "200" ∷ []) c.counter_of.new.registry = more_codes 0 ([]) r c.counter_of.new.registry number
@@ -62,7 +62,7 @@ counter_of-requires-6 c =
     let r = c.register.new.self in
     let desc = c.in_ok-replies_desc.field-0 in
     let number = c.in-Ok.family.number in
-    let first : number ≡ 0 = c.in-Ok.ensures.number ∙ ap (λ (s : Contents). length s.families) c.requires.nothing in
+    let first : number ≡ 0 = c.in-Ok.ensures.number ∙ ap (λ (s : State). length s.families) c.requires.nothing in
     let none : HasCodes 0 [] r = no_codes c.args.registry.now r desc c.requires.nothing c.in-Ok.ensures.registered
     c.in_ok-replies_desc.ensures in
     let has1 : HasCodes 1 (codes "200" ∷ []) c.counter_of.new.registry = more_codes 0 ([]) r c.counter_of.new.registry number
@@ -100,7 +100,7 @@ returns-clause-six c =
     let r = c.register.new.self in
     let desc = c.in_ok-replies_desc.field-0 in
     let number = c.in-Ok.family.number in
-    let first : number ≡ 0 = c.in-Ok.ensures.number ∙ ap (λ (s : Contents). length s.families) c.requires.nothing in
+    let first : number ≡ 0 = c.in-Ok.ensures.number ∙ ap (λ (s : State). length s.families) c.requires.nothing in
     let none : HasCodes 0 [] r = no_codes c.args.registry.now r desc c.requires.nothing c.in-Ok.ensures.registered
     c.in_ok-replies_desc.ensures in
     let has1 : HasCodes 1 (codes "200" ∷ []) c.counter_of.new.registry = more_codes 0 ([]) r c.counter_of.new.registry number

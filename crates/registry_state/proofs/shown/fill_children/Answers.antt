@@ -3,7 +3,7 @@ use Rattle.std.specs.Arc.{arc_value}
 use Rattle.expo_text.specs.Scraped.{Child as ChildShown}
 use Rattle.expo_text.specs.declared.number.Number.{Number}
 use Rattle.registry_state.specs.Replay.{Child}
-use Rattle.registry_state.specs.Shown.{number_at, child_shown}
+use Rattle.registry_state.specs.Shown.{value_at, child_shown}
 use Rattle.registry_state.specs.Filled.{child_blank}
 use Rattle.registry_state.proofs.Lists.{filled_at, filled_more}
 use Rattle.registry_state.proofs.shown.fill_children.Goals as goal
@@ -25,8 +25,8 @@ loop-place-preserved g c =
     let values : (arc_value c.one.inside.values).items ≡ child.values = ap (λ (it : ChildShown). it.values)
     (c.one.view_is ∙ was) in
     let slot : c.child.inside.slot ≡ child.slot = ap (λ (it : Child). it.slot) c.child.view_is in
-    let number : c.number_of-one-inside.result ≡ number_at g.row.C g.row.H totals c.args.kind child.slot =
-    c.number_of-one-inside.ensures ∙ ap (number_at g.row.C g.row.H totals c.args.kind) slot in
+    let value : c.value_of-one-inside.result ≡ value_at g.row.C g.row.H totals c.args.kind child.slot =
+    c.value_of-one-inside.ensures ∙ ap (value_at g.row.C g.row.H totals c.args.kind) slot in
     filled_more shown blank c.args.children.now c.loop-place.shown c.loop-place.place child (omega arith) c.loop-place.invariant
     c.index-children-place.is _
-    (both _ _ _ _ values number)
+    (both _ _ _ _ values value)

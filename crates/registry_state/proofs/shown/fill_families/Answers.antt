@@ -15,9 +15,9 @@ loop-place-preserved g c =
     let number : ℕ = get_or c.args.order.now c.loop-place.place 0 in
     let shown : ℕ → FamilyShown = λ i. family_shown g.row.C g.row.H totals (family_at families i) in
     let blank : ℕ → FamilyShown = λ i. family_blank (family_at families i) in
-    let lt : number < length families = c.requires.numbers c.loop-place.place 0 (omega arith) in
-    let family : c.index-families-number.result ≡ family_at families number =
-    get_or_read families number c.index-families-number.result lt (search rules) no_family in
+    let lt : number < length families = c.requires.order c.loop-place.place 0 (omega arith) in
+    let family : c.index-families-family.result ≡ family_at families number =
+    get_or_read families number c.index-families-family.result lt (search rules) no_family in
     let written : c.fill_family.new.shown ≡ shown number = c.fill_family.ensures
     ∙ ap (family_shown g.row.C g.row.H totals) family in
     filled_more shown blank c.args.order.now c.loop-place.shown c.loop-place.place number (omega arith) c.loop-place.invariant

@@ -1,5 +1,5 @@
 use Rattle.std.proofs.Common.{List, ℕ, refl, ◌∙◌, inr, subst, rules}
-use Rattle.registry_state.specs.Changed.{IsGiven}
+use Rattle.registry_state.specs.Calls.{IsGiven}
 use Rattle.registry_state.specs.Faults.{IsChildFault}
 use Rattle.metrics_program.proofs.state.State.child.Goals as goal
 

@@ -3,7 +3,7 @@ use Rattle.registry_state.specs.Journal.{Registered}
 use Rattle.registry_state.specs.Replay.{Family, IsApart}
 use Rattle.registry_state.specs.Kept.{RegistryView}
 use Rattle.registry_state.specs.Held.{IsPlaceOfName}
-use Rattle.registry_state.specs.Changed.{changed}
+use Rattle.registry_state.specs.Calls.{changed}
 use Rattle.registry_state.proofs.Growing.{held_same, held_more, seen_changed}
 use Rattle.registry_state.proofs.Ordered.{names_differ}
 use Rattle.registry_state.proofs.registry.RegistryState.add.Goals as goal

@@ -6,7 +6,7 @@ use Rattle.registry_state.specs.Replay.{Child, Family}
 use Rattle.registry_state.specs.Kept.{RegistryView}
 use Rattle.registry_state.specs.Held.{AreChildren, IsChildBefore, IsPlaceOfValues, used_of}
 use Rattle.registry_state.specs.Faults.{IsMissingChild}
-use Rattle.registry_state.specs.Changed.{IsHandle, IsGiven}
+use Rattle.registry_state.specs.Calls.{IsHandle, IsGiven}
 use Rattle.registry_state.proofs.Holding.{all_at}
 use Rattle.registry_state.proofs.Inside.{is_inside_there}
 use Rattle.registry_state.proofs.Making.{some_at, found_child}

@@ -7,7 +7,7 @@ use Rattle.registry_state.specs.Replay.{Child, Family, with_child, slots}
 use Rattle.registry_state.specs.Kept.{RegistryView}
 use Rattle.registry_state.specs.Held.{used_of}
 use Rattle.registry_state.specs.Faults.{IsChildFault, IsMissingChild}
-use Rattle.registry_state.specs.Changed.{IsHandle, WasMade}
+use Rattle.registry_state.specs.Calls.{IsHandle, WasMade}
 use Rattle.registry_state.specs.declared.fault.ChildFault.TheVariants.{Full, NoMemory}
 use Rattle.registry_state.proofs.Inside.{is_inside}
 use Rattle.registry_state.proofs.Making.{some_within, on_err, seen_still, only_memory, is_full, is_no_memory, was_made}

@@ -8,7 +8,7 @@ use Rattle.registry_state.specs.Replay.{Family}
 use Rattle.registry_state.specs.Kept.{RegistryView}
 use Rattle.registry_state.specs.Held.{AreShowable, IsOrder}
 use Rattle.registry_state.specs.Filled.{blanks}
-use Rattle.registry_state.specs.Changed.{KeepsScrape}
+use Rattle.registry_state.specs.Calls.{KeepsScrape}
 use Rattle.registry_state.specs.Shown.{IsShown}
 use Rattle.registry_state.proofs.Making.{some_is}
 use Rattle.registry_state.proofs.Windowed.{is_newest, is_some, held_scrape, held_left, recorded_left, keeps_scrape}
@@ -17,13 +17,13 @@ use Rattle.registry_state.proofs.registry.RegistryState.scrape.Goals as goal
 
 pub unreachable-requires : goal.unreachable-requires
 unreachable-requires g c =
-    let scraped = c.in_ok-scrape.ensures.scraped in
-    is_some c.self.inside.window c.self.inside.journal c.scrape.new.self scraped.0 c.self.invariant.kept.room.0 scraped.3
+    let scraped = c.in_ok-note_scrape.ensures.scraped in
+    is_some c.self.inside.window c.self.inside.journal c.note_scrape.new.self scraped.0 c.self.invariant.kept.room.0 scraped.3
     c.in_default-newest.ensures
 
 pub fill-requires : goal.fill-requires
 fill-requires g c =
-    let scraped = c.in_ok-scrape.ensures.scraped in
+    let scraped = c.in_ok-note_scrape.ensures.scraped in
     let families : c.deref.result.now ≡ c.deref-3.result.now = c.deref.ensures.value ∙ sym c.deref-3.ensures.value in
     let order : c.deref-2.result.now ≡ c.deref-4.result.now = c.deref-2.ensures.value ∙ sym c.deref-4.ensures.value in
     let blank : c.in-Ok.blank.families.items ≡ blanks c.deref-3.result.now c.deref-4.result.now =
@@ -34,8 +34,8 @@ fill-requires g c =
     let ordered : IsOrder c.deref-3.result.now c.deref-4.result.now =
     subst (λ (l : List Family). IsOrder l c.deref-4.result.now) (sym c.deref-3.ensures.value)
     (subst (λ (o : List ℕ). IsOrder c.self.inside.families.items o) (sym c.deref-4.ensures.value) c.self.invariant.ordered) in
-    let same : scraped.0 ≡ as_answer c.in-Some.newest.now = is_newest c.self.inside.window c.self.inside.journal c.scrape.new.self
-    scraped.0 (as_answer c.in-Some.newest.now) c.self.invariant.kept.room.0 scraped.3 c.in-Some.ensures in
+    let same : scraped.0 ≡ as_answer c.in-Some.newest.now = is_newest c.self.inside.window c.self.inside.journal
+    c.note_scrape.new.self scraped.0 (as_answer c.in-Some.newest.now) c.self.invariant.kept.room.0 scraped.3 c.in-Some.ensures in
     let whole : IsWhole g.row.N g.row.C g.row.H g.row.G (as_answer c.in-Some.newest.now) =
     subst (λ (a : Answer). IsWhole g.row.N g.row.C g.row.H g.row.G a) same scraped.1.whole in (
       omega arith,
@@ -43,7 +43,7 @@ fill-requires g c =
         vector = c.in-Ok.ensures.vector;
         families = blank;
         showable = shown;
-        order = ordered;
+        ordered = ordered;
         slots = c.self.invariant.geometry.slots;
         whole = whole;
       },
@@ -51,27 +51,27 @@ fill-requires g c =
 
 pub invariant_of-self-2 : goal.invariant_of-self-2
 invariant_of-self-2 g c =
-    let scraped = c.in_ok-scrape.ensures.scraped in
+    let scraped = c.in_ok-note_scrape.ensures.scraped in
     held_scrape _ _ _ _ _ _ _ _ _ _ c.self.invariant _ _ scraped.0 scraped.1 scraped.3
 
-pub returns-clause-kept : goal.returns-clause-kept
-returns-clause-kept g c =
-    let scraped = c.in_ok-scrape.ensures.scraped in
-    let held = held_scrape _ _ _ _ _ _ _ _ _ _ c.self.invariant (g.S.Source.recorded c.scrape.new.source) c.scrape.new.self
-    scraped.0 scraped.1 scraped.3 in
+pub returns-clause-scraped : goal.returns-clause-scraped
+returns-clause-scraped g c =
+    let scraped = c.in_ok-note_scrape.ensures.scraped in
+    let held = held_scrape _ _ _ _ _ _ _ _ _ _ c.self.invariant (g.S.Source.recorded c.note_scrape.new.source)
+    c.note_scrape.new.self scraped.0 scraped.1 scraped.3 in
     let now : RegistryView g.row.S.Denot = record {
       id = c.self.inside.id;
       window = c.self.inside.window;
-      source = c.scrape.new.source;
-      journal = c.scrape.new.self;
-      state = record { families = c.self.inside.families.items; last = newest (scrapes c.scrape.new.self) };
+      source = c.note_scrape.new.source;
+      journal = c.note_scrape.new.self;
+      state = record { families = c.self.inside.families.items; last = newest (scrapes c.note_scrape.new.self) };
     } in
     subst (λ (old : RegistryView g.row.S.Denot). KeepsScrape g.row.N g.row.C g.row.H g.row.G g.S.Source.recorded
     g.S.Source.gave old
     now) c.self.view_is
     (keeps_scrape g.row.N g.row.C g.row.H g.row.G g.S.Source.recorded g.S.Source.gave c.self.inside.id c.self.inside.window
-    c.self.inside.source c.scrape.new.source c.self.inside.journal
-    c.scrape.new.self c.self.inside.families.items scraped.0 c.self.invariant.kept.room.0 scraped.1 scraped.2 scraped.3
+    c.self.inside.source c.note_scrape.new.source c.self.inside.journal
+    c.note_scrape.new.self c.self.inside.families.items scraped.0 c.self.invariant.kept.room.0 scraped.1 scraped.2 scraped.3
     held.kept.moments)
 
 pub new-requires : goal.new-requires
@@ -81,14 +81,14 @@ new-requires g c =
 
 pub invariant_of-self : goal.invariant_of-self
 invariant_of-self g c =
-    let left = c.in_err-scrape.ensures in
+    let left = c.in_err-note_scrape.ensures in
     held_left _ _ _ _ _ _ _ _ _ _ c.self.invariant _ _
-    (recorded_left g.row.N g.S.Source.recorded g.S.Source.quit g.S.Source.gave_up _ _ c.in_err-scrape.field-0.0 left.fault)
+    (recorded_left g.row.N g.S.Source.recorded g.S.Source.quit g.S.Source.gave_up _ _ c.in_err-note_scrape.field-0.0 left.fault)
     left.unchanged
 
 pub returns-clause-quit : goal.returns-clause-quit
 returns-clause-quit g c =
-    c.in_ok-scrape.ensures.kept ∙ ap (λ (r : RegistryView g.row.S.Denot). g.S.Source.quit r.source) c.self.view_is
+    c.in_ok-note_scrape.ensures.quit ∙ ap (λ (r : RegistryView g.row.S.Denot). g.S.Source.quit r.source) c.self.view_is
 
 pub returns-clause-shown : goal.returns-clause-shown
 returns-clause-shown g c =

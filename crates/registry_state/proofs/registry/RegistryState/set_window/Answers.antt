@@ -23,5 +23,5 @@ returns-clause-set g c =
     ∙ ap (λ (r : RegistryView g.row.S.Denot). record r { window = c.args.window; journal = within c.args.window r.journal })
     c.self.view_is
 
-pub returns-clause-kept : goal.returns-clause-kept
-returns-clause-kept g c = c.len.ensures ∙ ap length c.kept.ensures
+pub returns-clause-count : goal.returns-clause-count
+returns-clause-count g c = c.len.ensures ∙ ap length c.kept.ensures

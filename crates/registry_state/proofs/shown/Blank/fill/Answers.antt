@@ -14,7 +14,7 @@ fill_families-requires g c = (
   (
     search rules,
     (
-      order_below c.args.families.now c.args.order.now c.requires.order,
+      order_below c.args.families.now c.args.order.now c.requires.ordered,
       showable_within g.row.C g.row.H g.row.G c.args.families.now c.requires.showable,
     ),
   ),
@@ -40,7 +40,7 @@ new-requires g c =
     (written c.fill_families.new.shown c.args.self.families.items _ c.args.self.families.len
     (c.fill_families.auto.shown ∙ c.deref_mut.ensures.len) c.fill_families.ensures)
     (is_scrape g.row.N g.row.C g.row.H g.row.G c.args.families.now c.args.order.now (as_answer c.args.snapshot.now)
-    c.requires.slots c.requires.showable c.requires.order c.requires.whole)
+    c.requires.slots c.requires.showable c.requires.ordered c.requires.whole)
 
 pub returns : goal.returns
 returns g c =
@@ -51,4 +51,4 @@ returns g c =
     (c.copy_from_slice.ensures.len ∙ c.as_mut_slice.ensures.len) (c.copy_from_slice.ensures.after ∙ c.vector.ensures.numbers))
     (written c.fill_families.new.shown c.args.self.families.items _ c.args.self.families.len
     (c.fill_families.auto.shown ∙ c.deref_mut.ensures.len) c.fill_families.ensures)
-    (is_shown g.row.C g.row.H c.args.families.now c.args.order.now (as_answer c.args.snapshot.now) c.requires.order))
+    (is_shown g.row.C g.row.H c.args.families.now c.args.order.now (as_answer c.args.snapshot.now) c.requires.ordered))

@@ -1,4 +1,4 @@
-//! Families are put behind the others, and noted in the journal.
+//! A family is noted in the journal and put behind the others, or neither is done.
 ghost use Rattle.std.specs.Prelude.{◌≡◌, ◌≤◌, ◌++◌, ◌∷◌, [], length, OnErr, OnOk};
 ghost use Rattle.std.specs.List.{insert};
 ghost use Rattle.std.specs.Arc.{arc_value};

@@ -5,8 +5,8 @@ use Rattle.registry_state.specs.Journal.{Scraped, within}
 use Rattle.registry_state.specs.Merged.{merged, AreInOrder}
 use Rattle.registry_state.specs.Merged.{change_of}
 use Rattle.registry_state.proofs.Merging.{noted_scrape, noted_drop, merged_scrape, merged_within}
-use Rattle.registry_state.proofs.journal.Journal.scrape.Given.{Over}
-use Rattle.registry_state.proofs.journal.Journal.scrape.Goals as goal
+use Rattle.registry_state.proofs.journal.Journal.note_scrape.Given.{Over}
+use Rattle.registry_state.proofs.journal.Journal.note_scrape.Goals as goal
 
 -- all kept scrapes and the new one
 abbrev all_of : (g : Over) (c : goal.After-keep g) → List (Taken × ℕ)

@@ -3,7 +3,7 @@ use Rattle.std.specs.Arc.{arc_value}
 use Rattle.registry_state.specs.Replay.{Child, Family, put}
 use Rattle.registry_state.specs.Held.{IsPlaceOfValues}
 use Rattle.registry_state.proofs.Making.{at_some, on_err_both, there_at, still_at, with_child_at}
-use Rattle.registry_state.proofs.children.put_noted.Goals as goal
+use Rattle.registry_state.proofs.noted_child.put_noted.Goals as goal
 
 pub returns-in_err-reserve-clause-unchanged : goal.returns-in_err-reserve-clause-unchanged
 returns-in_err-reserve-clause-unchanged g c =

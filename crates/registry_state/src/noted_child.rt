@@ -1,4 +1,4 @@
-//! Children are made, and noted in the journal.
+//! A child is noted in the journal and put at its place among its family's, or neither is done.
 ghost use Rattle.std.specs.Prelude.{◌≡◌, ◌++◌, ◌∷◌, [], slice_get, IfOk, IsSomeAnd, OnErr, OnOk};
 ghost use Rattle.registry_state.specs.Journal.{Changed, ChildMade};
 ghost use Rattle.registry_state.specs.Replay.{with_child};

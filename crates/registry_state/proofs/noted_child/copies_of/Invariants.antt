@@ -1,5 +1,5 @@
 use Rattle.std.proofs.Common.{◌≡◌, take}
-use Rattle.registry_state.proofs.children.copies_of.Given as goal
+use Rattle.registry_state.proofs.noted_child.copies_of.Given as goal
 
 abbrev pub invariant-loop-value : goal.invariant-loop-value
 invariant-loop-value l = l.copies.items ≡ take l.value-index l.values
