@@ -1,6 +1,6 @@
 -- What serving one request does to the ends of a connection and to the source: x' is what x is after the call.
 use Rattle.std.specs.Prelude.{◌≡◌, ℕ, ◌-◌, ◌<◌, ◌≤◌, Bool, true, false, List, [], ◌++◌, length, take, Option, Some, None, Result}
-use Rattle.std.specs.Prelude.{Ok, Err}
+use Rattle.std.specs.Prelude.{Ok, Err, IsOk}
 use Rattle.std.specs.Io.KnownBytes.{Consumes, Appends, Keeps, IsAtEnd}
 use Rattle.scrape_http.specs.declared.fault.WireFault.{WireFault}
 use Rattle.scrape_http.specs.declared.fault.WireFault.TheVariants.{ReadFailed, WriteFailed, EndBeforeHead}
@@ -68,6 +68,11 @@ Sends output output' (Some reply) (Err (WriteFailed sent)) =
     (sent ≤ length reply.bytes) × Appends output output' (take sent reply.bytes)
 Sends output output' None (Err EndBeforeHead) = Keeps output output'
 Sends output output' _ _ = ⊥
+
+-- what was noted of the writer that a reply was sent to: that it failed exactly after refusal 25, and after Ok that all is flushed
+pub record IsWritten (noted_failed noted_flushed : Bool) (result : Result Served WireFault) : Type 0 where
+  pub failed : noted_failed ≡ is_write_failed result
+  pub flushed : IsOk result → noted_flushed ≡ true
 
 -- What is written is the reply to the bytes that were read, at most 8,192, and to what the source gave. It would be the same,
 -- whatever came after them, and no read was made once it was known.

@@ -3,7 +3,7 @@ ghost use Rattle.std.specs.Prelude.{◌≡◌, ◌<◌, ◌≤◌, ◌^◌, ◌+
 ghost use Rattle.std.specs.Io.KnownBytes.{Keeps};
 ghost use Rattle.expo_text.specs.Text.{text};
 ghost use Rattle.scrape_http.specs.Reply.{outcome_reply, refusal_reply};
-ghost use Rattle.scrape_http.specs.Serves.{Sends, IsServed, IsUnserved, is_read_failed, is_write_failed};
+ghost use Rattle.scrape_http.specs.Serves.{Sends, IsWritten, IsServed, IsUnserved, is_read_failed, is_write_failed};
 
 use crate::fault::WireFault;
 use crate::reply::{head_of, refusal_text};
@@ -33,8 +33,7 @@ fn finish<W: Write>(
     ensures kept { Keeps (W.contents writer.old.inner) (W.contents writer.new.inner) }
     ensures ok { IfOk result (λ served. served ≡ record { status = status; sent = sent }) }
     ensures err { IfErr result (λ fault. fault ≡ WireFault.WriteFailed sent) }
-    ensures failed { writer.new.failed ≡ is_write_failed result }
-    ensures flushed { IsOk result → writer.new.flushed ≡ true }
+    ensures written { IsWritten writer.new.failed writer.new.flushed result }
 {
     match writer.flush() {
         Ok(()) => Ok(Served { status, sent }),
@@ -51,8 +50,7 @@ fn send_bytes<W: Write>(
     requires { writer.old.failed ≡ false }
     ensures sends { Sends (W.contents writer.old.inner) (W.contents writer.new.inner)
         (Some (record { status = status; bytes = bytes.now })) result }
-    ensures failed { writer.new.failed ≡ is_write_failed result }
-    ensures flushed { IsOk result → writer.new.flushed ≡ true }
+    ensures written { IsWritten writer.new.failed writer.new.flushed result }
 {
     if let Err(WriteFailed { sent }) = send(bytes, writer) {
         return Err(WireFault::WriteFailed { sent });
@@ -74,8 +72,7 @@ fn send_text<W: Write>(
     requires bounded { len < 2 ^ 33 }
     ensures sends { Sends (W.contents writer.old.inner) (W.contents writer.new.inner)
         (Some (record { status = Status.Success; bytes = head.now ++ text scrape.now })) result }
-    ensures failed { writer.new.failed ≡ is_write_failed result }
-    ensures flushed { IsOk result → writer.new.flushed ≡ true }
+    ensures written { IsWritten writer.new.failed writer.new.flushed result }
 {
     if let Err(WriteFailed { sent }) = write_after(head, scrape, writer) {
         return Err(WireFault::WriteFailed { sent });
@@ -92,8 +89,7 @@ fn send_refusal<W: Write>(
     requires { writer.old.failed ≡ false }
     ensures sends { Sends (W.contents writer.old.inner) (W.contents writer.new.inner)
         (Some (refusal_reply status with_body)) result }
-    ensures failed { writer.new.failed ≡ is_write_failed result }
-    ensures flushed { IsOk result → writer.new.flushed ≡ true }
+    ensures written { IsWritten writer.new.failed writer.new.flushed result }
 {
     send_bytes(writer, status, refusal_text(status, with_body).bytes())
 }
@@ -107,8 +103,7 @@ fn send_scrape<W: Write>(
     requires { writer.old.failed ≡ false }
     ensures sends { Sends (W.contents writer.old.inner) (W.contents writer.new.inner)
         (Some (outcome_reply (Ok scrape.now) with_body)) result }
-    ensures failed { writer.new.failed ≡ is_write_failed result }
-    ensures flushed { IsOk result → writer.new.flushed ≡ true }
+    ensures written { IsWritten writer.new.failed writer.new.flushed result }
 {
     let len = text_len(scrape);
     let head = head_of(Status::Success, len);
@@ -128,8 +123,7 @@ fn send_outcome<W: Write>(
     requires { writer.old.failed ≡ false }
     ensures sends { Sends (W.contents writer.old.inner) (W.contents writer.new.inner)
         (Some (outcome_reply outcome.now with_body)) result }
-    ensures failed { writer.new.failed ≡ is_write_failed result }
-    ensures flushed { IsOk result → writer.new.flushed ≡ true }
+    ensures written { IsWritten writer.new.failed writer.new.flushed result }
 {
     match outcome {
         Ok(scrape) => send_scrape(writer, scrape, with_body),
