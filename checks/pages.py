@@ -1,5 +1,6 @@
 """The pages: the README shows each step of the tutorial word for word, and the guide what stands in the tutorial and the example; each link
-of a page leads to a file, a page of calls names no call that its crate does not have, and wrong bodies that stand aside can be tried still."""
+of a page leads to a file, and a page names no file, call or definition that is not there; and wrong bodies that stand aside can be tried
+still."""
 import re
 
 from started import check
@@ -28,10 +29,18 @@ def quoted(root):
     return len(pieces)
 
 
+def pages_of(root):
+    return [root / "README.md", *root.glob("docs/*.md"), *root.glob("crates/*/*.md"), *root.glob("checks/*.md"), *root.glob("compare/*.md")]
+
+
+def sources_of(root):
+    return [*root.glob("crates/*/src/**/*.rt"), *root.glob("crates/*/specs/**/*.antt"), *root.glob("crates/*/proofs/**/*.antt")]
+
+
 def links(root):
     """How many links to files of the repository the pages have."""
     count = 0
-    for page in [root / "README.md", *root.glob("docs/*.md"), *root.glob("crates/*/*.md"), *root.glob("checks/*.md"), *root.glob("compare/*.md")]:
+    for page in pages_of(root):
         for target in re.findall(r"\]\(([^)#\s]+)[^)]*\)", page.read_text()):
             if not target.startswith("http"):
                 check((page.parent / target).exists(), f"{page.relative_to(root)}: {target} is there")
@@ -53,6 +62,30 @@ def calls(root):
     return count
 
 
+def files(root):
+    """How many files the pages name, by the path from the top or by the name alone, each of which is there."""
+    names = {file.name for file in sources_of(root)}
+    count = 0
+    for page in pages_of(root):
+        text = page.read_text()
+        for path in re.findall(r"`((?:crates|docs|checks|compare)/[\w./-]+)`", text):
+            check("NAME" in path or (root / path).exists(), f"{page.relative_to(root)}: {path} is there")
+            count += 1
+        for name in re.findall(r"`(\w+\.(?:rt|antt))`", text):
+            check(name in names, f"{page.relative_to(root)}: {name} is a file of a crate")
+            count += 1
+    return count
+
+
+def definitions(root):
+    """How many names docs/DEFINITIONS.md tells of, each of which stands in the crates."""
+    there = set(re.findall(r"[A-Za-z_][\w']*", "\n".join(file.read_text() for file in sources_of(root))))
+    named = re.findall(r"`(?:\w+(?:::|\.))*([A-Za-z_]\w*)`", (root / "docs/DEFINITIONS.md").read_text())
+    for name in named:
+        check(name in there, f"docs/DEFINITIONS.md: {name} is a name of the crates")
+    return len(named)
+
+
 def aside(root):
     """How many wrong bodies stand aside, each of which can be tried still: the lines that it changes stand once in the file that it names."""
     bodies = [*root.glob("crates/*/wrong-bodies/*.edit")]
@@ -65,4 +98,4 @@ def aside(root):
 
 
 def check_all(root):
-    return shown(root) + quoted(root) + links(root) + calls(root) + aside(root)
+    return sum(part(root) for part in (shown, quoted, links, calls, files, definitions, aside))
