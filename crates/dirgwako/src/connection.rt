@@ -1,6 +1,7 @@
 //! One connection is answered, within the time that it may take.
-ghost use Rattle.std.specs.Prelude.{◌≡◌, ◌⊎◌, true, false, Ok, IfSome, IsNone, IsSome};
-ghost use Rattle.scrape_http.specs.Serves.{IsServed};
+ghost use Rattle.std.specs.Prelude.{◌≡◌, ◌⊎◌, true, false, Ok, Err, IfSome, IsNone, IsSome};
+ghost use Rattle.scrape_http.specs.declared.fault.WireFault.{WireFault};
+ghost use Rattle.scrape_http.specs.Serves.{IsServed, IsUnserved};
 ghost use Rattle.scrape_server.specs.Again.{AsksAgain};
 ghost use Rattle.dirgwako.specs.Answering.{Answers};
 
@@ -71,6 +72,12 @@ fn reply<I: Read, O: Write, S: ScrapeFrom>(
         (I.remaining reader.old.inner) (I.remaining reader.new.inner)
         (O.contents writer.old.inner) (O.contents writer.new.inner) reader.new.ended reader.new.latest (Ok served)) }
     ensures flushed { IsSome result → writer.new.flushed ≡ true }
+    ensures none { IsNone result → (fault : WireFault) × (reader.new.failed ≡ false
+        → IsServed (λ before after answer. AsksAgain S.gave 3 before.source after.source answer) source.old source.new
+        (I.remaining reader.old.inner) (I.remaining reader.new.inner)
+        (O.contents writer.old.inner) (O.contents writer.new.inner) reader.new.ended reader.new.latest (Err fault))
+        × (reader.new.failed ≡ true → IsUnserved source.old source.new
+        (O.contents writer.old.inner) (O.contents writer.new.inner)) }
     ensures fault { IsNone result → (reader.new.failed ≡ true) ⊎ ((writer.new.failed ≡ true) ⊎ (reader.new.ended ≡ true)) }
 {
     match serve_one(reader, writer, source) {

@@ -15,3 +15,6 @@ returns-in-Err-clause-answers g c =
 pub returns-in-Err-clause-fault : goal.returns-in-Err-clause-fault
 returns-in-Err-clause-fault g c = λ _.
     no_reply _ _ _ _ _ _ _ _ _ _ _ _ c.in-Err.ensures.read_failed c.in-Err.ensures.write_failed c.in-Err.ensures.served
+
+pub returns-in-Err-clause-none : goal.returns-in-Err-clause-none
+returns-in-Err-clause-none g c = λ _. (_, c.in-Err.ensures.served, c.in-Err.ensures.unserved)
