@@ -9,9 +9,9 @@ use Rattle.ledger_core.specs.declared.op.Op.TheVariants.{Inc, Observe, Up, Down}
 use Rattle.ledger_core.specs.Ops.{IsWithin}
 use Rattle.ledger_core.specs.Joining.{IsSameSlot, IsSumOf}
 use Rattle.ledger_core.specs.declared.tally_fault.TallyFault.{TallyFault}
-use Rattle.ledger_core.specs.Takes.{Takes, IsPlaced, IsFollowed}
+use Rattle.ledger_core.specs.Takes.{Takes, IsPlaced, IsFollowed, IsApartAt}
 use Rattle.ledger_core.proofs.Summing.{sums_stay, sums_observe, inc_beside, up_beside, down_beside}
-use Rattle.ledger_core.specs.Tally.{AreMerged, IsKnownAt, AreKnown, AreSums, IsTally}
+use Rattle.ledger_core.specs.Tally.{AreMerged, IsKnownAt, AreKnown, AreSums, IsTally, JoinsNone}
 
 -- what stands in a list after a write
 pub at_set : {A : Type 0} (l : List A) (i : ℕ) (x : A) (j : ℕ) (y : A) → slice_get (set l i x) j ≡ Some y → ((j ≡ i) × (x ≡ y))
@@ -89,6 +89,12 @@ at_inc counters ups downs slot by place i (Observe hist bucket value) same known
 at_inc counters ups downs slot by place i (Up k more) same known joins = absurd same
 at_inc counters ups downs slot by place i (Down k more) same known joins = absurd same
 
+-- where its slot's does not stand at the place that the table has, nothing is listed that the operation would join
+pub apart_inc : (ops : List Op) (counters ups downs : List ℕ) (slot by : ℕ) → AreKnown ops counters ups downs
+    → IsApartAt (get_or counters slot 0) ops (Inc slot by) → JoinsNone ops (Inc slot by)
+apart_inc ops counters ups downs slot by known apart = λ i o is same.
+    apart o (rw (at_inc counters ups downs slot by (get_or counters slot 0) i o same (known i o is) (λ e. refl)) is) same
+
 pub known_inc : (ops ops' : List Op) (counters ups downs : List ℕ) (slot by place : ℕ) → slot < length counters
     → AreKnown ops counters ups downs → IsPlaced (get_or counters slot 0) ops (Inc slot by) ops' place
     → AreKnown ops' (set counters slot place) ups downs
@@ -126,6 +132,12 @@ at_up counters ups downs slot by place i (Up k more) same known joins =
     let e : get_or ups slot 0 ≡ i = ap (λ x. get_or ups x 0) (sym same) ∙ known in joins e ∙ e
 at_up counters ups downs slot by place i (Down k more) same known joins = absurd same
 
+-- where its slot's does not stand at the place that the table has, nothing is listed that the operation would join
+pub apart_up : (ops : List Op) (counters ups downs : List ℕ) (slot by : ℕ) → AreKnown ops counters ups downs
+    → IsApartAt (get_or ups slot 0) ops (Up slot by) → JoinsNone ops (Up slot by)
+apart_up ops counters ups downs slot by known apart = λ i o is same.
+    apart o (rw (at_up counters ups downs slot by (get_or ups slot 0) i o same (known i o is) (λ e. refl)) is) same
+
 pub known_up : (ops ops' : List Op) (counters ups downs : List ℕ) (slot by place : ℕ) → slot < length ups
     → AreKnown ops counters ups downs → IsPlaced (get_or ups slot 0) ops (Up slot by) ops' place
     → AreKnown ops' counters (set ups slot place) downs
@@ -162,6 +174,12 @@ at_down counters ups downs slot by place i (Observe hist bucket value) same know
 at_down counters ups downs slot by place i (Up k more) same known joins = absurd same
 at_down counters ups downs slot by place i (Down k more) same known joins =
     let e : get_or downs slot 0 ≡ i = ap (λ x. get_or downs x 0) (sym same) ∙ known in joins e ∙ e
+
+-- where its slot's does not stand at the place that the table has, nothing is listed that the operation would join
+pub apart_down : (ops : List Op) (counters ups downs : List ℕ) (slot by : ℕ) → AreKnown ops counters ups downs
+    → IsApartAt (get_or downs slot 0) ops (Down slot by) → JoinsNone ops (Down slot by)
+apart_down ops counters ups downs slot by known apart = λ i o is same.
+    apart o (rw (at_down counters ups downs slot by (get_or downs slot 0) i o same (known i o is) (λ e. refl)) is) same
 
 pub known_down : (ops ops' : List Op) (counters ups downs : List ℕ) (slot by place : ℕ) → slot < length downs
     → AreKnown ops counters ups downs → IsPlaced (get_or downs slot 0) ops (Down slot by) ops' place

@@ -9,11 +9,11 @@ use Rattle.bucket_math.specs.Words.{greatest_word}
 use Rattle.ledger_core.specs.declared.op.Op.{Op}
 use Rattle.ledger_core.specs.declared.op.Op.TheVariants.{Inc, Observe, Up, Down}
 use Rattle.ledger_core.specs.Ops.{only, part, sum_ops, IsWithin}
-use Rattle.ledger_core.specs.Joining.{amount_of, IsSumOf, PassTogether}
+use Rattle.ledger_core.specs.Joining.{amount_of, IsSameSlot, IsSumOf, PassTogether}
 use Rattle.ledger_core.specs.declared.tally_fault.TallyFault.{TallyFault}
 use Rattle.ledger_core.specs.declared.tally_fault.TallyFault.TheVariants.{WrongRegistry, Outside, TooLarge, Full}
-use Rattle.ledger_core.specs.Takes.{AddsUpTo, Takes, PassesLimit, IsListFault}
-use Rattle.ledger_core.specs.Tally.{Tallied, IsTallyFault, AreSums}
+use Rattle.ledger_core.specs.Takes.{AddsUpTo, Takes, PassesLimit, IsListFault, IsApartAt, IsJoinFault}
+use Rattle.ledger_core.specs.Tally.{Tallied, JoinsNone, IsTallyFault, AreSums}
 
 pub only_here : (k by : ℕ) → only k by k ≡ by
 only_here k by = grind (arith, nat_tests)
@@ -93,26 +93,50 @@ downs_pass gauge had by lt = λ c h g inside.
 pub incs_pass : (counter had by : ℕ) → greatest_word < had + by → PassTogether (Inc counter had) (Inc counter by)
 incs_pass counter had by lt = λ c h g inside. (counter, omega arith, rw (only_here counter had, only_here counter by) lt)
 
-pub fault_of : (c h g room registry : ℕ) (op : Op) (t : Tallied) (fault : TallyFault) → registry ≡ t.registry → IsWithin c h g op
-    → IsListFault room t.ops op fault → IsTallyFault c h g room registry op t fault
-fault_of c h g room registry op t WrongRegistry same inside why = absurd why
-fault_of c h g room registry op t Outside same inside why = absurd why
-fault_of c h g room registry op t TooLarge same inside why = (same, inside, why c h g inside)
-fault_of c h g room registry op t Full same inside why = (same, inside, why)
+-- where nothing stands to be joined, a list's fault is one of joining
+pub apart_of : (room hint : ℕ) (ops : List Op) (op : Op) (fault : TallyFault) → IsApartAt hint ops op
+    → IsListFault room ops op fault → IsJoinFault room hint ops op fault
+apart_of room hint ops op WrongRegistry apart why = absurd why
+apart_of room hint ops op Outside apart why = absurd why
+apart_of room hint ops op TooLarge apart why = why
+apart_of room hint ops op Full apart why = (why, apart)
 
-pub fault_told : (c h g room registry : ℕ) (op : Op) (r : ℕ) (ops : List Op) (t : Tallied) (fault : TallyFault)
-    → ◌≡◌ {A = Tallied} (record { registry = r; ops = ops }) t → registry ≡ r → IsWithin c h g op
-    → IsListFault room ops op fault → IsTallyFault c h g room registry op t fault
-fault_told c h g room registry op r ops t fault e same inside why =
-    subst (λ (t : Tallied). IsTallyFault c h g room registry op t fault) e
-    (fault_of c h g room registry op (record { registry = r; ops = ops }) fault same inside why)
+pub apart_if : {T : Type 0} (room hint : ℕ) (ops : List Op) (op : Op) (r : Result T TallyFault) → IsApartAt hint ops op
+    → IfErr r (IsListFault room ops op) → IfErr r (IsJoinFault room hint ops op)
+apart_if room hint ops op (Ok v) apart why = tt
+apart_if room hint ops op (Err fault) apart why = apart_of room hint ops op fault apart why
 
-pub fault_if : {T : Type 0} (c h g room registry : ℕ) (op : Op) (id : ℕ) (ops : List Op) (t : Tallied) (r : Result T TallyFault)
-    → ◌≡◌ {A = Tallied} (record { registry = id; ops = ops }) t → registry ≡ id → IsWithin c h g op
-    → IfErr r (IsListFault room ops op) → IfErr r (IsTallyFault c h g room registry op t)
-fault_if c h g room registry op id ops t (Ok v) e same inside why = tt
-fault_if c h g room registry op id ops t (Err fault) e same inside why = fault_told c h g room registry op id ops t fault e same
-    inside why
+-- an observation joins nothing
+pub joins_no : (hist place value : ℕ) (o : Op) → IsSameSlot o (Observe hist place value) → ⊥
+joins_no hist place value (Inc k more) same = absurd same
+joins_no hist place value (Observe other bucket more) same = absurd same
+joins_no hist place value (Up k more) same = absurd same
+joins_no hist place value (Down k more) same = absurd same
+
+-- A refused operation, where `hint` is the place at which its slot's would stand.
+module _ (c h g room registry hint : ℕ) (op : Op) where
+  fault_of : (t : Tallied) (fault : TallyFault) → registry ≡ t.registry → IsWithin c h g op
+      → (IsApartAt hint t.ops op → JoinsNone t.ops op)
+      → IsJoinFault room hint t.ops op fault → IsTallyFault c h g room registry op t fault
+  fault_of t WrongRegistry same inside none why = absurd why
+  fault_of t Outside same inside none why = absurd why
+  fault_of t TooLarge same inside none why = (same, inside, why c h g inside)
+  fault_of t Full same inside none why = (same, inside, why.0, none why.1)
+
+  pub fault_told : (r : ℕ) (ops : List Op) (t : Tallied) (fault : TallyFault)
+      → ◌≡◌ {A = Tallied} (record { registry = r; ops = ops }) t → registry ≡ r → IsWithin c h g op
+      → (IsApartAt hint ops op → JoinsNone ops op)
+      → IsJoinFault room hint ops op fault → IsTallyFault c h g room registry op t fault
+  fault_told r ops t fault e same inside none why =
+      subst (λ (t : Tallied). IsTallyFault c h g room registry op t fault) e
+      (fault_of (record { registry = r; ops = ops }) fault same inside none why)
+
+  pub fault_if : {T : Type 0} (id : ℕ) (ops : List Op) (t : Tallied) (r : Result T TallyFault)
+      → ◌≡◌ {A = Tallied} (record { registry = id; ops = ops }) t → registry ≡ id → IsWithin c h g op
+      → (IsApartAt hint ops op → JoinsNone ops op)
+      → IfErr r (IsJoinFault room hint ops op) → IfErr r (IsTallyFault c h g room registry op t)
+  fault_if id ops t (Ok v) e same inside none why = tt
+  fault_if id ops t (Err fault) e same inside none why = fault_told id ops t fault e same inside none why
 
 -- a value that takes its histogram's sum past the limit
 pub sum_passes : (c h g registry id hist place value room : ℕ) (ops : List Op) (sums : List ℕ) (t : Tallied)

@@ -41,3 +41,14 @@ IsListFault room ops op WrongRegistry = ⊥
 IsListFault room ops op Outside = ⊥
 IsListFault room ops op TooLarge = PassesLimit ops op
 IsListFault room ops op Full = length ops ≡ room
+
+-- at this place of the list, if there is one, no operation stands that this one would join
+abbrev pub IsApartAt : (hint : ℕ) → List Op → Op → Type 0
+IsApartAt hint ops op = (o : Op) → slice_get ops hint ≡ Some o → ¬ (IsSameSlot o op)
+
+-- why it does not take the operation by a table that has the place of its slot's: it is full only where nothing stands there to join
+abbrev pub IsJoinFault : (room hint : ℕ) → List Op → Op → TallyFault → Type 0
+IsJoinFault room hint ops op WrongRegistry = ⊥
+IsJoinFault room hint ops op Outside = ⊥
+IsJoinFault room hint ops op TooLarge = PassesLimit ops op
+IsJoinFault room hint ops op Full = (length ops ≡ room) × IsApartAt hint ops op

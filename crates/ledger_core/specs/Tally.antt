@@ -23,14 +23,19 @@ pub record IsTallied (c h g registry : ℕ) (op : Op) (t t' : Tallied) : Type 0 
   pub inside : IsWithin c h g op
   pub takes : Takes t.ops op t'.ops
 
+-- the list has no operation that this one would join: an increment of its counter, or a rise, or a fall, of its gauge
+abbrev pub JoinsNone : List Op → Op → Type 0
+JoinsNone ops op = (i : ℕ) (o : Op) → slice_get ops i ≡ Some o → ¬ (IsSameSlot o op)
+
 -- why a tally with room for so many operations does not take one: the handle is not of its registry; or else the operation is
--- outside the row; or else a word of the sums would pass 2^48 - 1, or the tally is full
+-- outside the row; or else a word of the sums would pass 2^48 - 1, or the tally is full and has nothing that it would join
 abbrev pub IsTallyFault : (c h g room registry : ℕ) → Op → Tallied → TallyFault → Type 0
 IsTallyFault c h g room registry op t WrongRegistry = registry ≢ t.registry
 IsTallyFault c h g room registry op t Outside = (registry ≡ t.registry) × (¬ (IsWithin c h g op))
 IsTallyFault c h g room registry op t TooLarge =
     (registry ≡ t.registry) × IsWithin c h g op × LacksRoom (width c h g) (sum_ops c h t.ops) (part c h op)
-IsTallyFault c h g room registry op t Full = (registry ≡ t.registry) × IsWithin c h g op × (length t.ops ≡ room)
+IsTallyFault c h g room registry op t Full =
+    (registry ≡ t.registry) × IsWithin c h g op × (length t.ops ≡ room) × JoinsNone t.ops op
 
 -- the number of each fault
 abbrev pub tally_fault_number : TallyFault → ℕ

@@ -1,10 +1,10 @@
 //! Operations in the order in which they came, kept in place.
-ghost use Rattle.std.specs.Prelude.{◌≡◌, ◌+◌, ◌<◌, ◌≤◌, Some, [], ◌∷◌, ◌++◌, length, slice_get, slice_set, min, OnOk, OnErr};
+ghost use Rattle.std.specs.Prelude.{◌≡◌, ◌+◌, ◌<◌, ◌≤◌, Some, [], ◌∷◌, ◌++◌, length, slice_get, slice_set, slice_index, min, OnOk, OnErr};
 ghost use Rattle.std.specs.Prelude.{IfOk, IfErr, All};
 ghost use Rattle.bucket_math.specs.Words.{greatest_word};
 ghost use Rattle.ledger_core.specs.declared.op.Op.{Op};
 ghost use Rattle.ledger_core.specs.Joining.{IsSmall, with_amount};
-ghost use Rattle.ledger_core.specs.Takes.{Takes, IsPlaced, IsFollowed, IsListFault};
+ghost use Rattle.ledger_core.specs.Takes.{Takes, IsPlaced, IsFollowed, IsListFault, IsJoinFault};
 
 use crate::joining::{Joined, amount, join_ops};
 use crate::op::Op;
@@ -126,7 +126,7 @@ impl<const K: usize> OpList<K> {
         requires { slot < M }
         ensures taken { OnOk result (Takes self.old op self.new) }
         ensures placed { OnOk result (IsFollowed slot self.old op self.new places.old places.new) }
-        ensures fault { IfErr result (IsListFault (min K 65536) self.old op) }
+        ensures fault { IfErr result (IsJoinFault (min K 65536) (slice_index places.old slot) self.old op) }
         ensures unchanged { OnErr result ((self.new ≡ self.old) × (places.new ≡ places.old)) }
     {
         let hint = places[slot] as usize;
@@ -148,7 +148,7 @@ impl<const K: usize> OpList<K> {
         ensures taken { OnOk result (Takes self.old op self.new) }
         ensures placed { IfOk result (IsPlaced hint self.old op self.new) }
         ensures inside { IfOk result (λ place. (place < K) × (place < 65536)) }
-        ensures fault { IfErr result (IsListFault (min K 65536) self.old op) }
+        ensures fault { IfErr result (IsJoinFault (min K 65536) hint self.old op) }
         ensures unchanged { OnErr result (self.new ≡ self.old) }
     {
         if hint >= self.len() {

@@ -1,6 +1,6 @@
-use Rattle.std.proofs.Common.{arith, min}
+use Rattle.std.proofs.Common.{arith, min, get_or}
 use Rattle.ledger_core.specs.declared.op.Op.TheVariants.{Down}
-use Rattle.ledger_core.proofs.Placing.{offered_down}
+use Rattle.ledger_core.proofs.Placing.{offered_down, apart_down}
 use Rattle.ledger_core.proofs.Taking.{fault_if}
 use Rattle.ledger_core.proofs.tally.Tally.down.Goals as goal
 
@@ -14,6 +14,8 @@ invariant_of-self g c =
 
 pub returns-clause-fault : goal.returns-clause-fault
 returns-clause-fault g c =
-    fault_if g.row.C g.row.H g.row.G (min g.row.K 65536) c.args.gauge.now.registry (Down c.args.gauge.now.slot c.args.by)
-    c.self.inside.registry c.self.inside.list
-    c.args.self.now c.take.result c.self.view_is c.if-gauge-self.false (omega arith) c.take.ensures.fault
+    let f = c.self.inside in
+    let slot = c.args.gauge.now.slot in
+    fault_if g.row.C g.row.H g.row.G (min g.row.K 65536) c.args.gauge.now.registry (get_or f.downs slot 0) (Down slot c.args.by)
+    f.registry f.list c.args.self.now c.take.result c.self.view_is c.if-gauge-self.false (omega arith)
+    (apart_down f.list f.counters f.ups f.downs slot c.args.by c.self.invariant.known) c.take.ensures.fault

@@ -1,7 +1,7 @@
 use Rattle.std.proofs.Common.{◌<◌, arith, min}
 use Rattle.ledger_core.specs.declared.op.Op.TheVariants.{Observe}
 use Rattle.ledger_core.proofs.Placing.{offered_observe}
-use Rattle.ledger_core.proofs.Taking.{fault_told, sum_passes}
+use Rattle.ledger_core.proofs.Taking.{fault_told, sum_passes, apart_of, joins_no}
 use Rattle.ledger_core.proofs.tally.Tally.observe.Goals as goal
 
 pub returns-then-value-self-clause-fault : goal.returns-then-value-self-clause-fault
@@ -29,8 +29,13 @@ returns-in-Err-clause-fault g c =
     let few = c.as_slice.ensures.rising.few in
     let low = c.place-place.ensures.within in
     let lt : c.place-place.result < 25 = omega arith in
+    let hist = c.args.hist.now.slot in
+    let place = c.place-place.result in
+    let value = c.args.value in
+    let f = c.self.inside in
     rw (← c.place-place.ensures.place)
-    (fault_told g.row.C g.row.H g.row.G (min g.row.K 65536) c.args.hist.now.registry
-    (Observe c.args.hist.now.slot c.place-place.result c.args.value)
-    c.self.inside.registry c.self.inside.list c.args.self.now c.in-Err.fault c.self.view_is c.if-hist-self.false
-    (omega arith, lt) c.in-Err.ensures.fault)
+    (fault_told g.row.C g.row.H g.row.G (min g.row.K 65536) c.args.hist.now.registry 0 (Observe hist place value)
+    f.registry f.list c.args.self.now c.in-Err.fault c.self.view_is c.if-hist-self.false (omega arith, lt)
+    (λ apart i o is. joins_no hist place value o)
+    (apart_of (min g.row.K 65536) 0 f.list (Observe hist place value) c.in-Err.fault (λ o is. joins_no hist place value o)
+    c.in-Err.ensures.fault))
