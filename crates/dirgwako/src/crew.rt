@@ -9,7 +9,7 @@ ghost use Rattle.snapshot_scan.specs.Order.{IsAlone};
 ghost use Rattle.snapshot_scan.specs.Readers.{IsReaderOf};
 ghost use Rattle.snapshot_scan.specs.Scanners.{reader_in};
 ghost use Rattle.dirgwako.specs.Scanning.{ScansOn, IsFront};
-ghost use Rattle.snapshot_update.specs.Workers.{index_of, lists_of, IsWorkerOf};
+ghost use Rattle.snapshot_update.specs.Workers.{index_of, lists_of, IsWorkerOf, AreFresh};
 ghost use Rattle.std.proofs.Props.{props};
 
 use crate::opened::OpenFault;
@@ -63,6 +63,7 @@ impl<const N: usize, const C: usize, const H: usize, const G: usize> Crew<N, C, 
         ensures new { IfOk result (λ c. map lists_of (workers_of c) ≡ replicate N []) }
         ensures alone { IfOk result (λ c. All IsAlone (readers_of c)) }
         ensures readers { IfOk result (λ c. length (readers_of c) ≡ readers) }
+        ensures fresh { IfOk result (λ c. AreFresh readers (workers_of c) (readers_of c)) }
         ensures fault { IfErr result (IsBoardFault N C H G readers) }
     {
         match snapshot_update::Crew::new(alloc, id, readers) {

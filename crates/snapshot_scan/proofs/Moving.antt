@@ -7,12 +7,12 @@ use native.Mathlib.Decide.{dec_lt}
 use Rattle.std.specs.Int.{bit_at}
 use lib.Bits.{bit_xor}
 use Rattle.std.proofs.lemmas.Nat.Bits.{same_from_bits, bit_at_xor, bit_at-zero, bit_at-lt}
-use Rattle.snapshot_scan.specs.ChangedItems.{ChangedView, Notes, Moves, Lists}
+use Rattle.snapshot_scan.specs.ChangedItems.{ChangedView, Notes, ListsChanges, Lists}
 use Rattle.snapshot_scan.specs.Exchange.{Exchanges, AreParts}
 use Rattle.snapshot_scan.proofs.Noted.{none_listed}
 
 -- nothing changes
-pub moves_none : (w : ℕ) (sums : List ℕ) (c : ChangedView) → Moves w sums sums c c
+pub moves_none : (w : ℕ) (sums : List ℕ) (c : ChangedView) → ListsChanges w sums sums c c
 moves_none w sums c = record {
   listed = λ h. h;
   keeps = λ _ j h. h;
@@ -21,7 +21,7 @@ moves_none w sums c = record {
 }
 
 -- first so, then so
-pub moves_then : (w : ℕ) (s t u : List ℕ) (a b c : ChangedView) → Moves w s t a b → Moves w t u b c → Moves w s u a c
+pub moves_then : (w : ℕ) (s t u : List ℕ) (a b c : ChangedView) → ListsChanges w s t a b → ListsChanges w t u b c → ListsChanges w s u a c
 moves_then w s t u a b c first second = record {
   listed = λ h. first.listed (second.listed h);
   keeps = λ h j was. second.keeps h j (first.keeps (second.listed h) j was);
@@ -30,7 +30,7 @@ moves_then w s t u a b c first second = record {
 }
 
 -- one sum changes, and is listed
-pub moves_one : (w k x : ℕ) (s t : List ℕ) (old new : ChangedView) → k < w → t ≡ set s k x → Notes k old new → Moves w s t old new
+pub moves_one : (w k x : ℕ) (s t : List ℕ) (old new : ChangedView) → k < w → t ≡ set s k x → Notes k old new → ListsChanges w s t old new
 moves_one w k x s t old new lt is notes = record {
   listed = notes.listed;
   keeps = notes.keeps;
@@ -40,7 +40,7 @@ moves_one w k x s t old new lt is notes = record {
 }
 
 -- from an empty list on
-pub lists_first : (w : ℕ) (s t : List ℕ) (old new : ChangedView) → old.items ≡ [] → Moves w s t old new → Lists w s t new
+pub lists_first : (w : ℕ) (s t : List ℕ) (old new : ChangedView) → old.items ≡ [] → ListsChanges w s t old new → Lists w s t new
 lists_first w s t old new empty is = record {
   same = is.same;
   inside = λ j h. ⊎_elim (λ was. absurd (none_listed j (subst (λ (l : List ℕ). Contains l j) empty was))) (λ lt. lt)
@@ -48,14 +48,14 @@ lists_first w s t old new empty is = record {
 }
 
 -- more is listed
-pub lists_then : (w : ℕ) (s t u : List ℕ) (a b : ChangedView) → Lists w s t a → Moves w t u a b → Lists w s u b
+pub lists_then : (w : ℕ) (s t u : List ℕ) (a b : ChangedView) → Lists w s t a → ListsChanges w t u a b → Lists w s u b
 lists_then w s t u a b first second = record {
   same = λ h k lt none. second.same h k lt none ∙ first.same (second.listed h) k lt (λ was. none (second.keeps h k was));
   inside = λ j h. ⊎_elim (λ was. first.inside j was) (λ lt. lt) (second.inside j h);
 }
 
 -- what is listed stays among the sums
-pub moves_inside : (w : ℕ) (s t : List ℕ) (old new : ChangedView) → ((j : ℕ) → Contains old.items j → j < w) → Moves w s t old new
+pub moves_inside : (w : ℕ) (s t : List ℕ) (old new : ChangedView) → ((j : ℕ) → Contains old.items j → j < w) → ListsChanges w s t old new
     → (j : ℕ) → Contains new.items j → j < w
 moves_inside w s t old new inside is j h = ⊎_elim (λ was. inside j was) (λ lt. lt) (is.inside j h)
 
@@ -71,8 +71,8 @@ module _ (n : ℕ) (old new : List ℕ) where
     inside = λ k lt lt'. let e = same k lt lt' in let f = ap (λ (l : List ℕ). get_or l k 0) is in omega (arith, e, f);
     low = λ k lt. ap (λ (l : List ℕ). get_or l k 0) is;
     high = λ k lt. ap (λ (l : List ℕ). get_or l k 0) is;
-    moves = subst (λ (x : ChangedView). Moves n s t a x) (sym is')
-        (subst (λ (l : List ℕ). Moves n s l a a) (sym is) (moves_none n s a));
+    moves = subst (λ (x : ChangedView). ListsChanges n s t a x) (sym is')
+        (subst (λ (l : List ℕ). ListsChanges n s l a a) (sym is) (moves_none n s a));
   }
 
   -- these words, and then those behind them

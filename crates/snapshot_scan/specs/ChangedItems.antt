@@ -23,7 +23,7 @@ pub record NotesEach (shift : ℕ) (items : List ℕ) (old new : ChangedView) : 
   pub others : (j : ℕ) → Contains new.items j → Contains old.items j ⊎ ((i : ℕ) × Contains items i × (j ≡ i + shift))
 
 -- of w sums those differ at no items but the ones that are listed: what was listed is listed, and no more but sums of them
-pub record Moves (w : ℕ) (sums sums' : List ℕ) (old new : ChangedView) : Type 0 where
+pub record ListsChanges (w : ℕ) (sums sums' : List ℕ) (old new : ChangedView) : Type 0 where
   pub listed : new.all ≡ false → old.all ≡ false
   pub keeps : new.all ≡ false → (j : ℕ) → Contains old.items j → Contains new.items j
   pub same : new.all ≡ false → (k : ℕ) → k < w → ¬ (Contains new.items k) → slice_index sums' k ≡ slice_index sums k

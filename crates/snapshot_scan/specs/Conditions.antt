@@ -12,7 +12,7 @@ use Rattle.snapshot_scan.specs.declared.remembered_row.RememberedRow.{Remembered
 use Rattle.snapshot_scan.specs.declared.scan_end.ScanEnd.{ScanEnd}
 use Rattle.snapshot_scan.specs.declared.scan_end.ScanEnd.TheVariants.{Direct, Lent, GaveUp}
 use Rattle.snapshot_scan.specs.Asking.{MayAsk, due_from}
-use Rattle.snapshot_scan.specs.ChangedItems.{ChangedView, Lists, Moves}
+use Rattle.snapshot_scan.specs.ChangedItems.{ChangedView, Lists, ListsChanges}
 use Rattle.snapshot_scan.specs.Contention.{IsFirstMoved}
 use Rattle.snapshot_scan.specs.Core.{CameTo, AnswersBy}
 use Rattle.snapshot_scan.specs.RememberedRows.{AreWide, AreTotals, AreKnown, HasOther, IsLoaded, pairs, version_of}
@@ -78,7 +78,7 @@ pub record HasTried (N C H G : ℕ) (s s' : Bundle) (gs gs' : List RememberedRow
   pub quiet : is_known ≡ true → IsQuiet gs gs' sums sums' opened
   pub unknown : is_known ≡ false → HasOther opened (map version_of gs)
   pub numbers : is_clean ≡ true → AreKnown opened gs'
-  pub listed : Moves (width C H G) sums sums' changed changed'
+  pub listed : ListsChanges (width C H G) sums sums' changed changed'
 
 -- what a scan that ended so leaves: of the seat s, of the rows gs and their sums; with the numbers of its last try, the words
 -- that were lent, and where the sums changed

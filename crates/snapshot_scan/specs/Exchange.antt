@@ -1,6 +1,6 @@
 -- One row in the place of another.
 use Rattle.std.specs.Prelude.{◌≡◌, ℕ, ◌+◌, ◌<◌, ◌≤◌, List, slice_index}
-use Rattle.snapshot_scan.specs.ChangedItems.{ChangedView, Moves}
+use Rattle.snapshot_scan.specs.ChangedItems.{ChangedView, ListsChanges}
 
 -- from `from` on the words of the row are parts of the n sums, each of which is at most 2^53
 abbrev pub AreParts : (from n : ℕ) → (row sums : List ℕ) → Type 0
@@ -12,4 +12,4 @@ pub record Exchanges (n from to : ℕ) (old new before after : List ℕ) (listed
   pub inside : (k : ℕ) → from ≤ k → k < to → slice_index after k + slice_index old k ≡ slice_index before k + slice_index new k
   pub low : (k : ℕ) → k < from → slice_index after k ≡ slice_index before k
   pub high : (k : ℕ) → to ≤ k → slice_index after k ≡ slice_index before k
-  pub moves : Moves n before after listed listed'
+  pub moves : ListsChanges n before after listed listed'

@@ -40,8 +40,8 @@ module _ {N C H G : ℕ} where
   found_in m = m.found.items
 
   -- where the last scan may have changed the sums
-  abbrev pub moved_in : ScanMemory N C H G → ChangedView
-  moved_in m = m.moved
+  abbrev pub changed_totals_in : ScanMemory N C H G → ChangedView
+  changed_totals_in m = m.changed_totals
 
   -- the answer of the scan that ended so: its own numbers with the sums of the rows, or the view that was lent; after a scan that
   -- gave up these are no answer, and what is stored of them stands under the flag 0

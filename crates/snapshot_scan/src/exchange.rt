@@ -1,7 +1,7 @@
 //! Sums of rows, where one row takes the place of another.
 ghost use Rattle.std.specs.Prelude.{◌≡◌, ℕ, ◌+◌, ◌-◌, ◌<◌, ◌≤◌, false, length, slice_index, slice_set, Contains};
 ghost use Rattle.bucket_math.specs.Words.{greatest_word};
-ghost use Rattle.snapshot_scan.specs.ChangedItems.{Notes, Moves};
+ghost use Rattle.snapshot_scan.specs.ChangedItems.{Notes, ListsChanges};
 ghost use Rattle.snapshot_scan.specs.Exchange.{Exchanges, AreParts};
 
 use crate::changed_items::ChangedItems;
@@ -10,14 +10,14 @@ use crate::changed_items::ChangedItems;
 const BLOCK: usize = 16;
 
 /// Takes the words of one row from the totals, and adds those of another, which take the place of the old ones. The two rows
-/// differ at no words but the `changed` ones. Where the totals may change is listed in `moved`.
+/// differ at no words but the `changed` ones. Where the totals may change is listed in `changed_totals`.
 #[inline]
 pub(crate) fn exchange(
     totals: &mut [u64],
     old: &mut [u64],
     new: &[u64],
     changed: &ChangedItems,
-    moved: &mut ChangedItems,
+    changed_totals: &mut ChangedItems,
 )
     requires lengths { (length old.old ≡ length totals.old) × (length new.now ≡ length totals.old) }
     requires words { (j : ℕ) → Contains changed.now.items j → j < length totals.old }
@@ -30,17 +30,17 @@ pub(crate) fn exchange(
     ensures same { old.new ≡ new.now }
     ensures sums { (k : ℕ) → k < length totals.old → slice_index totals.new k + slice_index old.old k ≡ slice_index totals.old
         k + slice_index new.now k }
-    ensures moved { Moves (length totals.old) totals.old totals.new moved.old moved.new }
+    ensures changed_totals { ListsChanges (length totals.old) totals.old totals.new changed_totals.old changed_totals.new }
 {
     if changed.is_all() {
-        exchange_all(totals, old, new, moved);
+        exchange_all(totals, old, new, changed_totals);
     } else {
-        exchange_at(totals, old, new, changed.as_slice(), moved);
+        exchange_at(totals, old, new, changed.as_slice(), changed_totals);
     }
 }
 
 /// As [`exchange`], where the two rows may differ at any word.
-fn exchange_all(totals: &mut [u64], old: &mut [u64], new: &[u64], moved: &mut ChangedItems)
+fn exchange_all(totals: &mut [u64], old: &mut [u64], new: &[u64], changed_totals: &mut ChangedItems)
     requires lengths { (length old.old ≡ length totals.old) × (length new.now ≡ length totals.old) }
     requires part { (k : ℕ) → k < length totals.old → (slice_index old.old k ≤ slice_index totals.old k)
         × (slice_index totals.old k ≤ 9007199254740992) }
@@ -48,9 +48,9 @@ fn exchange_all(totals: &mut [u64], old: &mut [u64], new: &[u64], moved: &mut Ch
     ensures same { old.new ≡ new.now }
     ensures sums { (k : ℕ) → k < length totals.old → slice_index totals.new k + slice_index old.old k ≡ slice_index totals.old
         k + slice_index new.now k }
-    ensures moved { Moves (length totals.old) totals.old totals.new moved.old moved.new }
+    ensures changed_totals { ListsChanges (length totals.old) totals.old totals.new changed_totals.old changed_totals.new }
 {
-    exchange_sums(totals, old, new, moved);
+    exchange_sums(totals, old, new, changed_totals);
     old.copy_from_slice(new);
 }
 
@@ -61,7 +61,7 @@ fn exchange_at(
     old: &mut [u64],
     new: &[u64],
     items: &[usize],
-    moved: &mut ChangedItems,
+    changed_totals: &mut ChangedItems,
 )
     requires lengths { (length old.old ≡ length totals.old) × (length new.now ≡ length totals.old) }
     requires words { (j : ℕ) → Contains items.now j → j < length totals.old }
@@ -73,10 +73,10 @@ fn exchange_at(
     ensures same { old.new ≡ new.now }
     ensures sums { (k : ℕ) → k < length totals.old → slice_index totals.new k + slice_index old.old k ≡ slice_index totals.old
         k + slice_index new.now k }
-    ensures moved { Moves (length totals.old) totals.old totals.new moved.old moved.new }
+    ensures changed_totals { ListsChanges (length totals.old) totals.old totals.new changed_totals.old changed_totals.new }
 {
     for &item in items {
-        exchange_word(totals, old, new, item, moved);
+        exchange_word(totals, old, new, item, changed_totals);
     }
 }
 
@@ -87,7 +87,7 @@ fn exchange_word(
     old: &mut [u64],
     new: &[u64],
     item: usize,
-    moved: &mut ChangedItems,
+    changed_totals: &mut ChangedItems,
 )
     requires inside { (item < length totals.old) × (item < length old.old) × (item < length new.now) }
     requires part { slice_index old.old item ≤ slice_index totals.old item }
@@ -95,33 +95,40 @@ fn exchange_word(
     ensures old { old.new ≡ slice_set old.old item (slice_index new.now item) }
     ensures totals { totals.new ≡ slice_set totals.old item
         (slice_index totals.old item - slice_index old.old item + slice_index new.now item) }
-    ensures notes { Notes item moved.old moved.new }
+    ensures notes { Notes item changed_totals.old changed_totals.new }
 {
     let word = new[item];
     totals[item] = totals[item] - old[item] + word;
     old[item] = word;
-    moved.note(item);
+    changed_totals.note(item);
 }
 
-/// Takes the words of one row from the totals, and adds those of another. Where these change is listed in `moved`.
+/// Takes the words of one row from the totals, and adds those of another. Where these change is listed in `changed_totals`.
 #[inline(never)]
-fn exchange_sums(totals: &mut [u64], old: &[u64], new: &[u64], moved: &mut ChangedItems)
+fn exchange_sums(totals: &mut [u64], old: &[u64], new: &[u64], changed_totals: &mut ChangedItems)
     requires lengths { (length old.now ≡ length totals.old) × (length new.now ≡ length totals.old) }
     requires part { (k : ℕ) → k < length totals.old → (slice_index old.now k ≤ slice_index totals.old k)
         × (slice_index totals.old k ≤ 9007199254740992) }
     requires low { (k : ℕ) → k < length totals.old → slice_index new.now k ≤ greatest_word }
     ensures sums { (k : ℕ) → k < length totals.old → slice_index totals.new k + slice_index old.now k ≡ slice_index totals.old
         k + slice_index new.now k }
-    ensures moved { Moves (length totals.old) totals.old totals.new moved.old moved.new }
+    ensures changed_totals { ListsChanges (length totals.old) totals.old totals.new changed_totals.old changed_totals.new }
 {
     let blocks = totals.len() / BLOCK;
     for block in 0..blocks {
         let from = BLOCK * block;
         if differ(old, new, from) {
-            exchange_some(totals, old, new, moved, from, from + BLOCK);
+            exchange_some(totals, old, new, changed_totals, from, from + BLOCK);
         }
     }
-    exchange_some(totals, old, new, moved, BLOCK * blocks, totals.len());
+    exchange_some(
+        totals,
+        old,
+        new,
+        changed_totals,
+        BLOCK * blocks,
+        totals.len(),
+    );
 }
 
 /// Whether two rows differ at one of the words of a block, which begins at `from`.
@@ -143,7 +150,7 @@ fn exchange_some(
     totals: &mut [u64],
     old: &[u64],
     new: &[u64],
-    moved: &mut ChangedItems,
+    changed_totals: &mut ChangedItems,
     from: usize,
     to: usize,
 )
@@ -151,12 +158,12 @@ fn exchange_some(
     requires lengths { (length old.now ≡ length totals.old) × (length new.now ≡ length totals.old) }
     requires part { AreParts from (length totals.old) old.now totals.old }
     requires low { (k : ℕ) → k < length totals.old → slice_index new.now k ≤ greatest_word }
-    ensures { Exchanges (length totals.old) from to old.now new.now totals.old totals.new moved.old moved.new }
+    ensures { Exchanges (length totals.old) from to old.now new.now totals.old totals.new changed_totals.old changed_totals.new }
 {
     for k in from..to {
         if old[k] != new[k] {
             totals[k] = totals[k] - old[k] + new[k];
-            moved.note(k);
+            changed_totals.note(k);
         }
     }
 }

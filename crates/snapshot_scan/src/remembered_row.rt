@@ -7,7 +7,7 @@ ghost use Rattle.segment_layout.specs.Layout.{depth};
 ghost use Rattle.register_rule.specs.Members.{led, scan_changed};
 ghost use Rattle.register_rule.specs.Told.{IsNumber};
 ghost use Rattle.register_rule.specs.Seats.{table_of, members_of, MayScan};
-ghost use Rattle.snapshot_scan.specs.ChangedItems.{Moves};
+ghost use Rattle.snapshot_scan.specs.ChangedItems.{ListsChanges};
 
 use crate::changed_items::ChangedItems;
 use crate::exchange::exchange;
@@ -83,9 +83,15 @@ impl RememberedRow {
     }
 
     /// The confirming load of the segment, which was opened at `opened`, found `found`. Where that is the same number, the
-    /// row is remembered, and its words take the place of the old ones in the totals. Where these change is listed in `moved`.
+    /// row is remembered, and its words take the place of the old ones in the totals. Where these change is listed in `changed_totals`.
     #[inline]
-    pub fn settle(&mut self, opened: u64, found: u64, totals: &mut [u64], moved: &mut ChangedItems)
+    pub fn settle(
+        &mut self,
+        opened: u64,
+        found: u64,
+        totals: &mut [u64],
+        changed_totals: &mut ChangedItems,
+    )
         requires wide { IsWide (length totals.old) self.old }
         requires part { (k : ℕ) → k < length totals.old → (slice_index self.old.row.items k ≤ slice_index totals.old k)
             × (slice_index totals.old k ≤ 9007199254740992) }
@@ -96,17 +102,17 @@ impl RememberedRow {
         ensures totals { (k : ℕ) → k < length totals.old
             → slice_index totals.new k + slice_index self.old.row.items k ≡ slice_index totals.old k + slice_index
             self.new.row.items k }
-        ensures moved { Moves (length totals.old) totals.old totals.new moved.old moved.new }
+        ensures changed_totals { ListsChanges (length totals.old) totals.old totals.new changed_totals.old changed_totals.new }
     {
         if found == opened && opened != self.number {
-            self.replace(opened, totals, moved);
+            self.replace(opened, totals, changed_totals);
         }
     }
 
     /// Remembers the row in `fresh`, under this number, and its words take the place of the old ones in the totals. Where
-    /// these change is listed in `moved`.
+    /// these change is listed in `changed_totals`.
     #[inline]
-    pub fn replace(&mut self, number: u64, totals: &mut [u64], moved: &mut ChangedItems)
+    pub fn replace(&mut self, number: u64, totals: &mut [u64], changed_totals: &mut ChangedItems)
         requires wide { IsWide (length totals.old) self.old }
         requires part { (k : ℕ) → k < length totals.old → (slice_index self.old.row.items k ≤ slice_index totals.old k)
             × (slice_index totals.old k ≤ 9007199254740992) }
@@ -116,26 +122,26 @@ impl RememberedRow {
         ensures totals { (k : ℕ) → k < length totals.old
             → slice_index totals.new k + slice_index self.old.row.items k ≡ slice_index totals.old k + slice_index
             self.old.fresh.items k }
-        ensures moved { Moves (length totals.old) totals.old totals.new moved.old moved.new }
+        ensures changed_totals { ListsChanges (length totals.old) totals.old totals.new changed_totals.old changed_totals.new }
     {
         exchange(
             totals,
             self.row.as_mut_slice(),
             self.fresh.as_slice(),
             &self.changed,
-            moved,
+            changed_totals,
         );
         self.changed.clear();
         self.number = number;
     }
 
-    /// Remembers this row under this number. Where the totals change is listed in `moved`.
+    /// Remembers this row under this number. Where the totals change is listed in `changed_totals`.
     pub fn learn<const C: usize, const H: usize, const G: usize>(
         &mut self,
         number: u64,
         row: &Row<C, H, G>,
         totals: &mut [u64],
-        moved: &mut ChangedItems,
+        changed_totals: &mut ChangedItems,
     )
         requires long { length totals.old ≡ width C H G }
         requires wide { IsWide (width C H G) self.old }
@@ -145,11 +151,11 @@ impl RememberedRow {
         ensures version { version_of self.new ≡ record { number = number; row = row.now } }
         ensures totals { (k : ℕ) → k < width C H G → slice_index totals.new k + slice_index self.old.row.items k ≡ slice_index
             totals.old k + slice_index row.now k }
-        ensures moved { Moves (width C H G) totals.old totals.new moved.old moved.new }
+        ensures changed_totals { ListsChanges (width C H G) totals.old totals.new changed_totals.old changed_totals.new }
     {
         copy_words(self.fresh.as_mut_slice(), row);
         self.changed.note_all();
-        self.replace(number, totals, moved);
+        self.replace(number, totals, changed_totals);
     }
 
     /// Remembers this row under this number, where it differs from the remembered one at these words alone.

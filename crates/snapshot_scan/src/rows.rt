@@ -6,7 +6,7 @@ ghost use Rattle.register_rule.specs.declared.view.Member.{Member};
 ghost use Rattle.register_rule.specs.Members.{led, scan_changed};
 ghost use Rattle.register_rule.specs.Seats.{table_of, members_of, HasMember, MayScan};
 ghost use Rattle.snapshot_scan.specs.Shape.{read_all};
-ghost use Rattle.snapshot_scan.specs.ChangedItems.{ChangedView, Notes, Moves};
+ghost use Rattle.snapshot_scan.specs.ChangedItems.{ChangedView, Notes, ListsChanges};
 ghost use Rattle.snapshot_scan.specs.Reading.{IsReadTo};
 
 use crate::changed_items::ChangedItems;
@@ -32,7 +32,7 @@ fn change_word(words: &mut [u64], changed: &mut ChangedItems, k: usize, word: u6
 fn put_word(words: &mut [u64], changed: &mut ChangedItems, k: usize, word: u64)
     requires { k < length words.old }
     ensures words { words.new ≡ slice_set words.old k word }
-    ensures moves { Moves (length words.old) words.old words.new changed.old changed.new }
+    ensures moves { ListsChanges (length words.old) words.old words.new changed.old changed.new }
 {
     if words[k] != word {
         change_word(words, changed, k, word);
@@ -151,7 +151,7 @@ pub(crate) fn read_row<
     ensures member { members_of (S.bundle seat.new) ≡ led (scan_changed (read_all (width C H G) place number 0 words.new))
         (members_of (S.bundle seat.old)) }
     ensures bounded { (k : ℕ) → k < width C H G → slice_index words.new k ≤ greatest_word }
-    ensures moves { Moves (width C H G) words.old words.new changed.old changed.new }
+    ensures moves { ListsChanges (width C H G) words.old words.new changed.old changed.new }
 {
     let turns = words.len() / TURN;
     for turn in 0..turns {

@@ -3,7 +3,7 @@ ghost use Rattle.std.specs.Prelude.{◌≡◌, ℕ, ◌+◌, ◌<◌, length, Co
 ghost use Rattle.ledger_core.specs.Ops.{width};
 ghost use Rattle.segment_layout.specs.Layout.{IsGeometry};
 ghost use Rattle.snapshot_scan.specs.RememberedRows.{AreWide, AreTotals, AreBlank, version_of};
-ghost use Rattle.snapshot_scan.specs.ChangedItems.{Moves};
+ghost use Rattle.snapshot_scan.specs.ChangedItems.{ListsChanges};
 ghost use mathlib.Core.Option.{some};
 ghost use lib.ListN.{get_elem?};
 
@@ -26,13 +26,13 @@ pub struct ScanMemory<const N: usize, const C: usize, const H: usize, const G: u
     pub(crate) opened: Vec<u64>,
     pub(crate) found: Vec<u64>,
     pub(crate) lent: Vec<u64>,
-    pub(crate) moved: ChangedItems,
+    pub(crate) changed_totals: ChangedItems,
     ghost geometry: { IsGeometry N C H G },
     ghost sizes: { (length remembered.items ≡ N) × (length totals.items ≡ width C H G) × (length opened.items ≡ N)
         × (length found.items ≡ N) × (length lent.items ≡ 1 + N + width C H G) },
     ghost wide: { AreWide (width C H G) remembered.items },
     ghost sums: { AreTotals (width C H G) remembered.items totals.items },
-    ghost listed: { (j : ℕ) → Contains moved.items j → j < width C H G },
+    ghost listed: { (j : ℕ) → Contains changed_totals.items j → j < width C H G },
 }
 
 impl<const N: usize, const C: usize, const H: usize, const G: usize> Drop
@@ -44,7 +44,7 @@ impl<const N: usize, const C: usize, const H: usize, const G: usize> Drop
             opened: _,
             found: _,
             lent: _,
-            moved: _,
+            changed_totals: _,
         } = self;
     }
 }
@@ -63,8 +63,9 @@ impl<const N: usize, const C: usize, const H: usize, const G: usize> ScanMemory<
     ghost use Rattle.snapshot_scan.specs.Contention.{IsFirstMoved, IsContended};
     ghost use Rattle.snapshot_scan.specs.Scanned.{IsAnswered, HasMoved, IsGivenUp};
     ghost use Rattle.snapshot_scan.specs.Core.{CameTo, AnswersBy};
-    ghost use Rattle.snapshot_scan.specs.ScanMemories.{rows_of, totals_in, opened_in, found_in, moved_in, answer_of, HasView};
+    ghost use Rattle.snapshot_scan.specs.ScanMemories.{rows_of, totals_in, opened_in, found_in, changed_totals_in, answer_of, HasView};
     ghost use Rattle.snapshot_scan.specs.ScanMemories.{IsReady};
+    ghost use Rattle.snapshot_scan.specs.ChangedItems.{Lists};
     ghost use Rattle.ledger_core.specs.Legal.{IsLegal};
     ghost use Rattle.snapshot_scan.specs.Snapshots.{as_answer};
     ghost use mathlib.Core.Option.{some};
@@ -82,19 +83,19 @@ impl<const N: usize, const C: usize, const H: usize, const G: usize> ScanMemory<
         let opened = vec![in alloc; 0u64; N]?;
         let found = vec![in alloc; 0u64; N]?;
         let lent = vec![in alloc; 0u64; 1 + N + row]?;
-        let moved = ChangedItems::new(alloc)?;
+        let changed_totals = ChangedItems::new(alloc)?;
         Ok(ScanMemory {
             remembered,
             totals,
             opened,
             found,
             lent,
-            moved,
+            changed_totals,
         })
     }
 
     /// A scan of at most `N` + 2 tries, which takes no memory and waits for nobody. Where it changes the sums of the remembered
-    /// rows is listed ([`ScanMemory::moved`]).
+    /// rows is listed ([`ScanMemory::changed_totals`]).
     #[inline(always)]
     pub fn scan<S: ScanSeat<N, C, H, G>>(
         &mut self,
@@ -119,9 +120,7 @@ impl<const N: usize, const C: usize, const H: usize, const G: usize> ScanMemory<
         ensures moved { result ≡ ScanEnd.Direct false → HasMoved N (rows_of self.old) (scan_in (S.bundle seat.old))
             (scan_in (S.bundle seat.new)) }
         ensures numbers { (q : Bool) → result ≡ ScanEnd.Direct q → AreNumbers (opened_in self.new) (rows_of self.new) }
-        ensures listed { (moved_in self.new).all ≡ false → (k : ℕ) → k < width C H G → ¬ (Contains (moved_in self.new).items k)
-            → slice_index (totals_in self.new) k ≡ slice_index (totals_in self.old) k }
-        ensures words { (j : ℕ) → Contains (moved_in self.new).items j → j < width C H G }
+        ensures listed { Lists (width C H G) (totals_in self.old) (totals_in self.new) (changed_totals_in self.new) }
         ensures gave_up { result ≡ ScanEnd.GaveUp → IsGivenUp N (scan_in (S.bundle seat.old)) (scan_in (S.bundle seat.new))
             (opened_in self.new) (found_in self.new) }
         ensures came_up { result ≡ ScanEnd.GaveUp → (e : Contended) → IsFirstMoved (opened_in self.new) (found_in self.new) e
@@ -136,7 +135,7 @@ impl<const N: usize, const C: usize, const H: usize, const G: usize> ScanMemory<
             self.opened.as_mut_slice(),
             self.found.as_mut_slice(),
             self.lent.as_mut_slice(),
-            &mut self.moved,
+            &mut self.changed_totals,
         )
     }
 
@@ -193,10 +192,10 @@ impl<const N: usize, const C: usize, const H: usize, const G: usize> ScanMemory<
 
     /// Where the last scan may have changed the sums of the remembered rows: at no other words.
     #[inline]
-    pub fn moved(&self) -> &ChangedItems
-        ensures { result.now ≡ moved_in self.now }
+    pub fn changed_totals(&self) -> &ChangedItems
+        ensures { result.now ≡ changed_totals_in self.now }
     {
-        &self.moved
+        &self.changed_totals
     }
 
     /// Remembers that the row of this segment is now `row`, under this number: its words take the place of the old ones in
@@ -211,7 +210,7 @@ impl<const N: usize, const C: usize, const H: usize, const G: usize> ScanMemory<
         learn_row(
             self.remembered.as_mut_slice(),
             self.totals.as_mut_slice(),
-            &mut self.moved,
+            &mut self.changed_totals,
             place,
             number,
             row,
@@ -259,7 +258,7 @@ fn blank_rows(alloc: Global, count: usize, row: usize) -> Result<Vec<RememberedR
 fn learn_row<const C: usize, const H: usize, const G: usize>(
     remembered: &mut [RememberedRow],
     totals: &mut [u64],
-    moved: &mut ChangedItems,
+    changed_totals: &mut ChangedItems,
     place: usize,
     number: u64,
     row: &Row<C, H, G>,
@@ -272,9 +271,9 @@ fn learn_row<const C: usize, const H: usize, const G: usize>(
     ensures totals { AreTotals (width C H G) remembered.new totals.new }
     ensures rows { map version_of remembered.new ≡ slice_set (map version_of remembered.old) place
         (record { number = number; row = row.now }) }
-    ensures moved { Moves (width C H G) totals.old totals.new moved.old moved.new }
+    ensures changed_totals { ListsChanges (width C H G) totals.old totals.new changed_totals.old changed_totals.new }
 {
-    remembered[place].learn(number, row, totals, moved);
+    remembered[place].learn(number, row, totals, changed_totals);
 }
 
 // As `ScanMemory::remember_at`.

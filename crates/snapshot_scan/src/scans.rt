@@ -13,7 +13,7 @@ use crate::second_collect::confirm;
 use register_rule::{Board, ScanSeat};
 
 /// A try of a scan. It says whether the try is clean, and in `known` whether each row is remembered: then nothing changes. Else
-/// where the totals change is listed in `moved`, too.
+/// where the totals change is listed in `changed_totals`, too.
 #[inline(always)]
 fn one_try<S: ScanSeat<N, C, H, G>, const N: usize, const C: usize, const H: usize, const G: usize>(
     board: &Board<N, C, H, G>,
@@ -22,7 +22,7 @@ fn one_try<S: ScanSeat<N, C, H, G>, const N: usize, const C: usize, const H: usi
     totals: &mut [u64],
     opened: &mut [u64],
     found: &mut [u64],
-    moved: &mut ChangedItems,
+    changed_totals: &mut ChangedItems,
     known: &mut bool,
 ) -> bool
     requires may { MayTry board.now (S.bundle seat.old) remembered.old opened.old }
@@ -30,11 +30,18 @@ fn one_try<S: ScanSeat<N, C, H, G>, const N: usize, const C: usize, const H: usi
         (width C H G) remembered.old totals.old }
     ensures { HasTried N C H G (S.bundle seat.old)
         (S.bundle seat.new) remembered.old remembered.new totals.old totals.new opened.new
-        found.new moved.old moved.new known.new result }
+        found.new changed_totals.old changed_totals.new known.new result }
 {
     *known = collect(board, seat, remembered, opened);
     confirm(
-        board, seat, remembered, totals, opened, found, moved, *known,
+        board,
+        seat,
+        remembered,
+        totals,
+        opened,
+        found,
+        changed_totals,
+        *known,
     )
 }
 
@@ -53,7 +60,7 @@ fn later_try<
     totals: &mut [u64],
     opened: &mut [u64],
     found: &mut [u64],
-    moved: &mut ChangedItems,
+    changed_totals: &mut ChangedItems,
     known: &mut bool,
 ) -> bool
     requires may { MayTry board.now (S.bundle seat.old) remembered.old opened.old }
@@ -61,16 +68,25 @@ fn later_try<
         (width C H G) remembered.old totals.old }
     ensures { HasTried N C H G (S.bundle seat.old)
         (S.bundle seat.new) remembered.old remembered.new totals.old totals.new opened.new
-        found.new moved.old moved.new known.new result }
+        found.new changed_totals.old changed_totals.new known.new result }
 {
-    one_try(board, seat, remembered, totals, opened, found, moved, known)
+    one_try(
+        board,
+        seat,
+        remembered,
+        totals,
+        opened,
+        found,
+        changed_totals,
+        known,
+    )
 }
 
 /// A scan of at most `N` + 2 tries.
 ///
 /// It reads the words only of those rows whose number is not the remembered one. Its memory: what is remembered of each
 /// segment, the sums of the remembered rows, the numbers of both collects, and the words that a worker lends. Where the sums
-/// change is listed in `moved`.
+/// change is listed in `changed_totals`.
 #[inline(always)]
 pub(crate) fn scan<
     S: ScanSeat<N, C, H, G>,
@@ -86,17 +102,24 @@ pub(crate) fn scan<
     opened: &mut [u64],
     found: &mut [u64],
     lent: &mut [u64],
-    moved: &mut ChangedItems,
+    changed_totals: &mut ChangedItems,
 ) -> ScanEnd
     requires { MayBegin board.now (S.bundle seat.old) remembered.old totals.old opened.old found.old lent.old }
     ensures { HasEnded N C H G (S.bundle seat.old)
         (S.bundle seat.new) remembered.old remembered.new totals.old totals.new opened.new
-        found.new lent.new moved.new result }
+        found.new lent.new changed_totals.new result }
 {
     let mut known = false;
-    moved.clear();
+    changed_totals.clear();
     let clean = one_try(
-        board, seat, remembered, totals, opened, found, moved, &mut known,
+        board,
+        seat,
+        remembered,
+        totals,
+        opened,
+        found,
+        changed_totals,
+        &mut known,
     );
     if clean {
         return ScanEnd::Direct { quiet: known };
@@ -108,7 +131,14 @@ pub(crate) fn scan<
     let row = totals.len();
     for _k in 0..N + 1 {
         let clean = later_try(
-            board, seat, remembered, totals, opened, found, moved, &mut known,
+            board,
+            seat,
+            remembered,
+            totals,
+            opened,
+            found,
+            changed_totals,
+            &mut known,
         );
         if clean {
             return ScanEnd::Direct { quiet: false };

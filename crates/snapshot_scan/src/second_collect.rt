@@ -10,7 +10,7 @@ ghost use Rattle.snapshot_scan.specs.RememberedRows.{AreKnown, settling, AreWide
 ghost use Rattle.snapshot_scan.specs.Collecting.{MayConfirm, HasConfirmed};
 ghost use mathlib.Core.Option.{some};
 ghost use lib.ListN.{get_elem?};
-ghost use Rattle.snapshot_scan.specs.ChangedItems.{Moves};
+ghost use Rattle.snapshot_scan.specs.ChangedItems.{ListsChanges};
 
 use crate::changed_items::ChangedItems;
 use crate::remembered_row::RememberedRow;
@@ -148,7 +148,7 @@ pub(crate) fn confirm_known<
     confirm_rest(board, seat, opened, found, TURN * turns, same)
 }
 
-/// The second collect of a try. It says whether each number was found again. Where the totals change is listed in `moved`.
+/// The second collect of a try. It says whether each number was found again. Where the totals change is listed in `changed_totals`.
 #[inline(never)]
 fn confirm_all<
     S: ScanSeat<N, C, H, G>,
@@ -163,7 +163,7 @@ fn confirm_all<
     totals: &mut [u64],
     opened: &[u64],
     found: &mut [u64],
-    moved: &mut ChangedItems,
+    changed_totals: &mut ChangedItems,
 ) -> bool
     requires may { MayConfirm board.now (S.bundle seat.old) remembered.old opened.now }
     requires room { length found.old ≡ N }
@@ -179,18 +179,18 @@ fn confirm_all<
     ensures held { (q : ℕ) (g : RememberedRow) → get_elem? remembered.new q ≡ some g
         → slice_index opened.now q ≡ slice_index found.new q → g.number ≡ slice_index opened.now q }
     ensures clean { IsTrue result ↔ (opened.now ≡ found.new) }
-    ensures listed { Moves (width C H G) totals.old totals.new moved.old moved.new }
+    ensures listed { ListsChanges (width C H G) totals.old totals.new changed_totals.old changed_totals.new }
 {
     for place in 0..remembered.len() {
         let number = board.confirm(seat, place);
-        remembered[place].settle(opened[place], number, totals, moved);
+        remembered[place].settle(opened[place], number, totals, changed_totals);
         found[place] = number;
     }
     opened == found
 }
 
 /// The second collect of a try. It says whether each number was found again. `known` says that all rows are remembered. Where
-/// the totals change is listed in `moved`.
+/// the totals change is listed in `changed_totals`.
 #[inline(always)]
 pub(crate) fn confirm<
     S: ScanSeat<N, C, H, G>,
@@ -205,7 +205,7 @@ pub(crate) fn confirm<
     totals: &mut [u64],
     opened: &[u64],
     found: &mut [u64],
-    moved: &mut ChangedItems,
+    changed_totals: &mut ChangedItems,
     known: bool,
 ) -> bool
     requires may { MayConfirm board.now (S.bundle seat.old) remembered.old opened.now }
@@ -224,10 +224,18 @@ pub(crate) fn confirm<
         → slice_index opened.now q ≡ slice_index found.new q → g.number ≡ slice_index opened.now q }
     ensures clean { IsTrue result ↔ (opened.now ≡ found.new) }
     ensures quiet { known ≡ true → (remembered.new ≡ remembered.old) × (totals.new ≡ totals.old) }
-    ensures listed { Moves (width C H G) totals.old totals.new moved.old moved.new }
+    ensures listed { ListsChanges (width C H G) totals.old totals.new changed_totals.old changed_totals.new }
 {
     if known {
         return confirm_known(board, seat, remembered, opened, found);
     }
-    confirm_all(board, seat, remembered, totals, opened, found, moved)
+    confirm_all(
+        board,
+        seat,
+        remembered,
+        totals,
+        opened,
+        found,
+        changed_totals,
+    )
 }

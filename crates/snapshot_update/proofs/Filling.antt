@@ -1,11 +1,16 @@
 -- A buffer that is filled item by item.
-use Rattle.std.proofs.Common.{◌≡◌, ◌⊎◌, ⊎_elim, inl, inr, ℕ, ◌+◌, ◌<◌, List, [], ◌∷◌, length, set, get_or, sym, ap}
+use Rattle.std.proofs.Common.{◌≡◌, ◌⊎◌, ⊎_elim, inl, inr, ℕ, ◌+◌, ◌<◌, List, [], ◌∷◌, length, set, get_or, sym, ap, refl}
 use Rattle.std.proofs.Common.{◌∙◌, subst, arith, get_or-set_same, get_or-set_other}
 use Rattle.std.specs.List.{Contains}
 use Rattle.std.proofs.lemmas.Bool.{cases_eq}
 use Rattle.std.proofs.lemmas.List.Elements.{Contains-append_right, Contains-append_cases}
 use Rattle.std.proofs.lemmas.List.{same_lists, get_or_default}
 use Rattle.snapshot_scan.specs.ChangedItems.{ChangedView, Notes}
+use Rattle.register_rule.specs.declared.board.Board.{Board}
+use Rattle.register_rule.specs.declared.seats.WorkSeat.{WorkSeat}
+use Rattle.register_rule.specs.Seats.{worker_of}
+use Rattle.snapshot_update.specs.BufferImages.{with_hidden}
+use Rattle.snapshot_update.specs.Conditions.{MayStore, HasFilled}
 use Rattle.snapshot_update.specs.Noting.{SoFar}
 use Rattle.snapshot_scan.proofs.Noted.{none_listed}
 
@@ -48,6 +53,23 @@ below_set xs ys now n word lt is e below j within = ap (λ (l : List ℕ). get_o
   | inl here ↦ subst (λ (k : ℕ). get_or (set xs n word) k 0 ≡ get_or ys k 0) (sym here) (get_or-set_same xs n word 0 lt ∙ e)
   | inr apart ↦ get_or-set_other xs n j word 0 apart ∙ below j (omega arith)
 ]
+
+-- stores that are none
+pub not_filled : {N C H G : ℕ} (b : Board N C H G) (hidden : List ℕ) (s : WorkSeat) → MayStore b s hidden → HasFilled b hidden s s
+not_filled b hidden s may = record {
+  stores = may;
+  index = refl;
+  member = ap (λ (l : List ℕ). with_hidden l (worker_of s)) may.exact;
+}
+
+-- stores after stores
+pub filled_on : {N C H G : ℕ} (b : Board N C H G) (one two : List ℕ) (s s' s'' : WorkSeat) → HasFilled b one s s'
+    → HasFilled b two s' s'' → HasFilled b two s s''
+filled_on b one two s s' s'' x y = record {
+  stores = y.stores;
+  index = y.index ∙ x.index;
+  member = y.member ∙ ap (with_hidden two) x.member;
+}
 
 -- whether an item is listed
 pub listed_or : (xs : List ℕ) (j : ℕ) → Contains xs j ⊎ ¬ (Contains xs j)

@@ -17,11 +17,11 @@ use Rattle.snapshot_scan.specs.declared.scan_end.ScanEnd.TheVariants.{Direct}
 use Rattle.snapshot_scan.specs.declared.scan_memory.ScanMemory.{ScanMemory}
 use Rattle.snapshot_scan.specs.ChangedItems.{ChangedView, Notes, NotesEach}
 use Rattle.snapshot_scan.specs.RememberedRows.{AreNumbers}
-use Rattle.snapshot_scan.specs.ScanMemories.{rows_of, totals_in, moved_in, answer_of, IsReady}
+use Rattle.snapshot_scan.specs.ScanMemories.{rows_of, totals_in, changed_totals_in, answer_of, IsReady}
 use Rattle.snapshot_scan.proofs.Words.{same_words}
 use Rattle.snapshot_update.specs.declared.buffer_images.BufferImages.{BufferImages}
 use Rattle.snapshot_update.specs.Fit.{AreInside, AreImages, number_in, idle_words, IsFit}
-use Rattle.snapshot_update.specs.Known.{IsStill, NotesRange, ListsMoved, IsFollowed}
+use Rattle.snapshot_update.specs.Known.{IsStill, NotesRange, ListsChangedTotals, IsFollowed}
 use Rattle.snapshot_update.specs.Updated.{IsRuledAlone}
 use Rattle.snapshot_update.proofs.VersionWords.{Which, which, in_row, at_flag, in_vector, in_totals, row_word, flag_word}
 use Rattle.snapshot_update.proofs.VersionWords.{total_word, words_long, numbers_long}
@@ -56,10 +56,10 @@ range_more first n old mid new a b = record {
         (below_or_last i n (omega (arith, lt)))
 
 -- all numbers of the vector, and then the totals of some words
-pub lists_moved : (n w : ℕ) (moved old mid new : ChangedView) → AreInside w moved → moved.all ≡ false
+pub lists_moved : (n w : ℕ) (changed_totals old mid new : ChangedView) → AreInside w changed_totals → changed_totals.all ≡ false
     → NotesRange (w + 1) n old mid
-    → NotesEach (w + 1 + n) moved.items mid new → ListsMoved n w moved old new
-lists_moved n w moved old mid new words few a b = record {
+    → NotesEach (w + 1 + n) changed_totals.items mid new → ListsChangedTotals n w changed_totals old new
+lists_moved n w changed_totals old mid new words few a b = record {
   listed = λ h. a.listed (b.listed h);
   few = λ _. few;
   keeps = λ h j was. b.keeps h j (a.keeps (b.listed h) j was);
@@ -71,9 +71,9 @@ lists_moved n w moved old mid new words few a b = record {
 }
 
 -- where not all that moved is listed, all count as late
-pub lists_all : (n w : ℕ) (moved old mid late new : ChangedView) → AreInside w moved → new.all ≡ true → new.items ≡ late.items
-    → NotesRange (w + 1) n old mid → NotesEach (w + 1 + n) moved.items mid late → ListsMoved n w moved old new
-lists_all n w moved old mid late new words all items a b = record {
+pub lists_all : (n w : ℕ) (changed_totals old mid late new : ChangedView) → AreInside w changed_totals → new.all ≡ true → new.items ≡ late.items
+    → NotesRange (w + 1) n old mid → NotesEach (w + 1 + n) changed_totals.items mid late → ListsChangedTotals n w changed_totals old new
+lists_all n w changed_totals old mid late new words all items a b = record {
   listed = λ h. absurd (let e = sym all ∙ h in cc);
   few = λ h. absurd (let e = sym all ∙ h in cc);
   keeps = λ h _ _. absurd (let e = sym all ∙ h in cc);
@@ -87,12 +87,12 @@ lists_all n w moved old mid late new words all items a b = record {
 
 -- the next version has moved, and what moved is listed
 pub images_moved : (n w : ℕ) (row : List ℕ) (rows rows' : List Version) (sums sums' : List ℕ) (im : BufferImages)
-    (late' moved : ChangedView) → length row ≡ w → length rows ≡ n → length rows' ≡ n → length sums' ≡ w
-    → (moved.all ≡ false → (k : ℕ) → k < w → ¬ (Contains moved.items k) → slice_index sums' k ≡ slice_index sums k)
-    → ListsMoved n w moved im.late late'
+    (late' changed_totals : ChangedView) → length row ≡ w → length rows ≡ n → length rows' ≡ n → length sums' ≡ w
+    → (changed_totals.all ≡ false → (k : ℕ) → k < w → ¬ (Contains changed_totals.items k) → slice_index sums' k ≡ slice_index sums k)
+    → ListsChangedTotals n w changed_totals im.late late'
     → AreImages (depth n w) (idle_words row rows sums) im
     → AreImages (depth n w) (idle_words row rows' sums') (record im { late = late' })
-images_moved n w row rows rows' sums sums' im late' moved wide many many' long same lists are = record {
+images_moved n w row rows rows' sums sums' im late' changed_totals wide many many' long same lists are = record {
   idle_deep = (let e = words_long w n row 1 (map number_in rows') sums' wide all' w long in omega (arith, e));
   hidden_deep = are.hidden_deep;
   shown_deep = are.shown_deep;
@@ -172,7 +172,7 @@ module _ (n c h g i : ℕ) (row : List ℕ) (memory memory' : ScanMemory n c h g
     (quiet : ended ≡ Direct true → (rows_of memory' ≡ rows_of memory) × (totals_in memory' ≡ totals_in memory)
     × AreNumbers (answer_of memory' ended).vector (rows_of memory'))
     (numbers : (q : Bool) → ended ≡ Direct q → AreNumbers (answer_of memory' ended).vector (rows_of memory'))
-    (listed : (moved_in memory').all ≡ false → (k : ℕ) → k < width c h g → ¬ (Contains (moved_in memory').items k)
+    (listed : (changed_totals_in memory').all ≡ false → (k : ℕ) → k < width c h g → ¬ (Contains (changed_totals_in memory').items k)
     → slice_index (totals_in memory') k ≡ slice_index (totals_in memory) k) where
   totals_are : (q : Bool) → ended ≡ Direct q → (answer_of memory' ended).totals ≡ totals_in memory'
   totals_are q e = ap (λ (x : ScanEnd). (answer_of memory' x).totals) e
@@ -205,7 +205,7 @@ module _ (n c h g i : ℕ) (row : List ℕ) (memory memory' : ScanMemory n c h g
             (λ k lt. fit.words k lt ∙ ap (λ (l : List PublishEntry). word_after (sum_ops c h) l k) (sym made))
             ∙ (λ z. some (record { number = length (made z); row = row }));
         images = images_moved n w row (rows_of memory) (rows_of memory') (totals_in memory) (totals_in memory') im
-            late' (moved_in memory') fit.wide (rows_many n c h g memory) (rows_many n c h g memory')
+            late' (changed_totals_in memory') fit.wide (rows_many n c h g memory) (rows_many n c h g memory')
             memory'.sizes.1 listed f.lists fit.images;
       }
 

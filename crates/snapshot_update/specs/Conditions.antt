@@ -7,7 +7,7 @@ use Rattle.segment_layout.specs.Layout.{IsGeometry, depth}
 use Rattle.register_rule.specs.declared.board.Board.{Board}
 use Rattle.register_rule.specs.declared.seats.WorkSeat.{WorkSeat}
 use Rattle.register_rule.specs.declared.view.Version.{Version}
-use Rattle.register_rule.specs.Seats.{worker_of, IsWorkSeatOf}
+use Rattle.register_rule.specs.Seats.{worker_of, index_of, IsWorkSeatOf}
 use Rattle.snapshot_scan.specs.declared.scan_end.ScanEnd.{ScanEnd}
 use Rattle.snapshot_scan.specs.declared.scan_end.ScanEnd.TheVariants.{Direct}
 use Rattle.snapshot_scan.specs.declared.scan_memory.ScanMemory.{ScanMemory}
@@ -15,16 +15,26 @@ use Rattle.snapshot_scan.specs.ChangedItems.{ChangedView}
 use Rattle.snapshot_scan.specs.ScanMemories.{rows_of, answer_of}
 use Rattle.snapshot_update.specs.declared.buffer_images.BufferImages.{BufferImages}
 use Rattle.snapshot_update.specs.declared.next_version.NextVersion.{NextVersion}
-use Rattle.snapshot_update.specs.BufferImages.{DifferAt, version_words, target_of}
+use Rattle.snapshot_update.specs.BufferImages.{DifferAt, version_words, with_hidden, target_of}
 use Rattle.snapshot_update.specs.Fit.{AreInside, AreImages}
+
+-- words of the hidden buffer may be stored by this seat: it is of the board, and its worker's hidden buffer holds these words
+pub record MayStore {N C H G : ℕ} (b : Board N C H G) (s : WorkSeat) (hidden : List ℕ) : Type 0 where
+  pub of_board : IsWorkSeatOf b s
+  pub exact : (worker_of s).work.hidden ≡ hidden
+
+-- after such stores it is the seat of the same worker, whose hidden buffer holds these words now; of its member nothing else has changed
+pub record HasFilled {N C H G : ℕ} (b : Board N C H G) (hidden : List ℕ) (s s' : WorkSeat) : Type 0 where
+  pub stores : MayStore b s' hidden
+  pub index : index_of s' ≡ index_of s
+  pub member : worker_of s' ≡ with_hidden hidden (worker_of s)
 
 -- the hidden buffer may be filled with the version: by the seat of a worker whose hidden buffer holds these words; `recent` lists
 -- where it differs from the shown one, and where it `is_known` that the shown one differs from the version at no items but the
 -- late and the touched ones, all three lists are whole
 pub record MayFill {N C H G : ℕ} (b : Board N C H G) (s : WorkSeat) (hidden shown : List ℕ) (recent late touched : ChangedView)
     (version : NextVersion C H G) (is_known : Bool) : Type 0 where
-  pub of_board : IsWorkSeatOf b s
-  pub exact : (worker_of s).work.hidden ≡ hidden
+  pub stores : MayStore b s hidden
   pub lengths : (length hidden ≡ depth N (width C H G)) × (length shown ≡ depth N (width C H G))
       × (length (target_of version) ≡ depth N (width C H G))
   pub few : depth N (width C H G) ≤ 2529
@@ -40,9 +50,8 @@ pub record MayFill {N C H G : ℕ} (b : Board N C H G) (s : WorkSeat) (hidden sh
 -- this version but for the touched words
 pub record MayMakeVersion {N C H G : ℕ} (b : Board N C H G) (s : WorkSeat) (row : List ℕ) (memory : ScanMemory N C H G)
     (im : BufferImages) (ended : ScanEnd) (is_known : Bool) : Type 0 where
-  pub of_board : IsWorkSeatOf b s
+  pub stores : MayStore b s im.hidden.items
   pub geometry : IsGeometry N C H G
-  pub exact : (worker_of s).work.hidden ≡ im.hidden.items
   pub touched : AreInside (width C H G) im.touched
   pub images : (idle : List ℕ) × AreImages (depth N (width C H G)) idle im
       × (is_known ≡ true → (im.touched.all ≡ false) × ((quiet : Bool) × (ended ≡ Direct quiet))

@@ -5,7 +5,7 @@ use Rattle.snapshot_scan.specs.declared.scan_end.ScanEnd.{ScanEnd}
 use Rattle.snapshot_scan.specs.declared.scan_end.ScanEnd.TheVariants.{Direct}
 use Rattle.snapshot_scan.specs.declared.scan_memory.ScanMemory.{ScanMemory}
 use Rattle.snapshot_scan.specs.ChangedItems.{ChangedView}
-use Rattle.snapshot_scan.specs.ScanMemories.{moved_in, answer_of}
+use Rattle.snapshot_scan.specs.ScanMemories.{changed_totals_in, answer_of}
 
 -- the scan found all that was remembered, and the worker's own row was: nothing more is late
 pub record IsStill (ended : ScanEnd) (row_known : Bool) (late late' : ChangedView) : Type 0 where
@@ -21,12 +21,12 @@ pub record NotesRange (first n : ℕ) (old new : ChangedView) : Type 0 where
   pub others : (j : ℕ) → Contains new.items j → Contains old.items j ⊎ ((i : ℕ) × (i < n) × (j ≡ first + i))
 
 -- in a buffer of rows of w words, all n numbers of the vector are listed, too, and the totals of these words
-pub record ListsMoved (n w : ℕ) (moved old new : ChangedView) : Type 0 where
+pub record ListsChangedTotals (n w : ℕ) (changed_totals old new : ChangedView) : Type 0 where
   pub listed : new.all ≡ false → old.all ≡ false
-  pub few : new.all ≡ false → moved.all ≡ false
+  pub few : new.all ≡ false → changed_totals.all ≡ false
   pub keeps : new.all ≡ false → (j : ℕ) → Contains old.items j → Contains new.items j
   pub numbers : new.all ≡ false → (i : ℕ) → i < n → Contains new.items (w + 1 + i)
-  pub totals : new.all ≡ false → (k : ℕ) → Contains moved.items k → Contains new.items (w + 1 + n + k)
+  pub totals : new.all ≡ false → (k : ℕ) → Contains changed_totals.items k → Contains new.items (w + 1 + n + k)
   pub inside : (j : ℕ) → Contains new.items j → Contains old.items j ⊎ (j < 2 * w + 1 + n)
 
 -- the scan ended direct, and found the number of its own worker; all numbers of the vector are late, too, and so are the totals
@@ -36,4 +36,4 @@ pub record IsFollowed (n c h g index number : ℕ) (memory : ScanMemory n c h g)
   where
     pub direct : (quiet : Bool) × (ended ≡ Direct quiet)
     pub found : slice_index (answer_of memory ended).vector index ≡ number
-    pub lists : ListsMoved n (width c h g) (moved_in memory) late late'
+    pub lists : ListsChangedTotals n (width c h g) (changed_totals_in memory) late late'

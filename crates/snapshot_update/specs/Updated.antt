@@ -6,7 +6,10 @@ use Rattle.ledger_core.specs.Row.{Accepts}
 use Rattle.register_rule.specs.declared.view.Answer.{Answer}
 use Rattle.register_rule.specs.declared.view.Member.{Member}
 use Rattle.register_rule.specs.declared.view.ScanLog.{ScanLog}
+use Rattle.register_rule.specs.declared.board.Board.{Board}
+use Rattle.register_rule.specs.declared.seats.WorkSeat.{WorkSeat}
 use Rattle.register_rule.specs.Members.{published}
+use Rattle.register_rule.specs.Seats.{worker_of, index_of, IsWorkSeatOf}
 use Rattle.register_rule.specs.Told.{AreRuled}
 use Rattle.snapshot_core.specs.declared.next.Next.TheVariants.{GaveUp}
 use Rattle.snapshot_scan.specs.declared.contended.Contended.{Contended}
@@ -24,6 +27,14 @@ ScanCameTo n w c c' false = (e : Contended) × IsContended n c c' e × CameTo n 
 -- all that the rule says of one member alone, on a board of n workers, c counters, h histograms and g gauges
 abbrev pub IsRuledAlone : (n c h g : ℕ) → Member → Type 0
 IsRuledAlone n c h g m = AreRuled n (width c h g) (sum_ops c h) (Accepts c h g) (m ∷ [])
+
+-- a worker's seat scanned: it is of the same worker, of which the rule said then all that it says of one member, and which has learned;
+-- of its member nothing else has changed
+pub record HasScanned {N C H G : ℕ} (b : Board N C H G) (s s' : WorkSeat) : Type 0 where
+  pub of_board : IsWorkSeatOf b s'
+  pub index : index_of s' ≡ index_of s
+  pub ruled : IsRuledAlone N C H G (worker_of s')
+  pub others : worker_of s' ≡ record (worker_of s) { scan = (worker_of s').scan }
 
 -- from m to m' worker i scanned, and then published one version, which adds these operations and lends the answer of that
 -- scan, or nothing where it was given up. After the scan the rule said of the worker all that it says of one member: the publishes of

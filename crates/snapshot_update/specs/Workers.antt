@@ -1,7 +1,8 @@
 -- What a clause reads of a worker.
-use Rattle.std.specs.Prelude.{◌≡◌, ◌≢◌, ℕ, ◌<◌, Option, Some, None, List, [], ◌∷◌, ◌++◌, map, length, IsSomeAnd}
+use Rattle.std.specs.Prelude.{◌≡◌, ◌≢◌, ℕ, ◌<◌, Option, Some, None, List, [], ◌∷◌, ◌++◌, map, length, replicate, IsSomeAnd}
+use Rattle.std.specs.List.{range_with_len}
 use Rattle.ledger_core.specs.declared.op.Op.{Op}
-use Rattle.ledger_core.specs.Ops.{sum_ops}
+use Rattle.ledger_core.specs.Ops.{width, sum_ops}
 use Rattle.ledger_core.specs.Row.{Accepts}
 use Rattle.ledger_core.specs.OpFault.{IsOpFault}
 use Rattle.register_rule.specs.declared.view.PublishEntry.{PublishEntry}
@@ -10,7 +11,7 @@ use Rattle.register_rule.specs.declared.view.ScanLog.{ScanLog}
 use Rattle.register_rule.specs.declared.seats.WorkSeat.{WorkSeat}
 use Rattle.register_rule.specs.declared.board.Board.{Board}
 use Rattle.register_rule.specs.Sums.{word_after}
-use Rattle.register_rule.specs.Members.{new_worker}
+use Rattle.register_rule.specs.Members.{new_worker, fresh_scan}
 use Rattle.register_rule.specs.Seats.{worker_of, IsWorkSeatOf}
 use Rattle.snapshot_update.specs.declared.worker.Worker.{Worker}
 use Rattle.snapshot_update.specs.declared.faults.ApplyFault.{ApplyFault}
@@ -20,7 +21,7 @@ use Rattle.snapshot_update.specs.declared.faults.CountFault.TheVariants.{WrongRe
 use Rattle.snapshot_update.specs.Updated.{IsUpdated}
 use Rattle.snapshot_scan.specs.declared.reader.Reader.{Reader}
 use Rattle.snapshot_scan.specs.Lent.{IsWorkerAmong}
-use Rattle.snapshot_scan.specs.Readers.{members_with}
+use Rattle.snapshot_scan.specs.Readers.{members_with, scan_by as scan_of_reader, index_of as reader_index}
 use Rattle.snapshot_update.specs.Fit.{IsFitOfSeat}
 
 -- the member of a worker's seat; where the seat is away, a blank one stands for it
@@ -88,3 +89,9 @@ module _ {N C H G : ℕ} where
   -- the worker is lent to this reader
   abbrev pub IsLent : Worker N C H G → Reader N C H G → Type 0
   IsLent w r = (m : Member) × IsLentAs m w r
+
+  -- workers and readers that have made no step: none has scanned, and there are so many readers, in order
+  pub record AreFresh (many : ℕ) (ws : List (Worker N C H G)) (rs : List (Reader N C H G)) : Type 0 where
+    pub workers : map scan_by ws ≡ replicate N (fresh_scan N (width C H G))
+    pub order : map reader_index rs ≡ range_with_len 0 many
+    pub readers : map scan_of_reader rs ≡ replicate many (fresh_scan N (width C H G))

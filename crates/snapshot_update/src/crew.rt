@@ -4,11 +4,11 @@ ghost use Rattle.std.specs.List.{range_with_len};
 ghost use Rattle.ledger_core.specs.Ops.{width};
 ghost use Rattle.segment_layout.specs.Layout.{depth, IsGeometry};
 ghost use Rattle.register_rule.specs.Faults.{IsBoardSize, IsBoardFault};
-ghost use Rattle.register_rule.specs.Members.{new_worker, workers_from, readers_from, fresh_scan};
+ghost use Rattle.register_rule.specs.Members.{new_worker, new_reader, workers_from, readers_from, fresh_scan};
 ghost use Rattle.register_rule.specs.Seats.{board_id, worker_of, reader_of, IsWorkSeatOf, IsReadSeatOf};
 ghost use Rattle.snapshot_scan.specs.Order.{IsAlone};
-ghost use Rattle.snapshot_scan.specs.Readers.{IsReaderOf};
-ghost use Rattle.snapshot_update.specs.Workers.{index_of, lists_of, IsWorkerOf};
+ghost use Rattle.snapshot_scan.specs.Readers.{IsReaderOf, scan_by as scan_of_reader, index_of as reader_index};
+ghost use Rattle.snapshot_update.specs.Workers.{index_of, lists_of, scan_by, IsWorkerOf, AreFresh};
 
 use crate::Worker;
 use register_rule::{Board, BoardFault, Parts, ReadSeat, WorkSeat};
@@ -40,6 +40,7 @@ fn to_worker<const N: usize, const C: usize, const H: usize, const G: usize>(
     ensures of_board { IfOk result (IsWorkerOf board.now) }
     ensures index { IfOk result (λ w. index_of w ≡ index) }
     ensures lists { IfOk result (λ w. lists_of w ≡ []) }
+    ensures scan { IfOk result (λ w. scan_by w ≡ fresh_scan N (width C H G)) }
 {
     match Worker::new(alloc, seat) {
         Ok(worker) => Ok(worker),
@@ -59,6 +60,7 @@ fn to_workers<const N: usize, const C: usize, const H: usize, const G: usize>(
     ensures of_board { IfOk result (λ v. All (IsWorkerOf board.now) v.items) }
     ensures all { IfOk result (λ v. map index_of v.items ≡ range_with_len 0 N) }
     ensures new { IfOk result (λ v. map lists_of v.items ≡ replicate N []) }
+    ensures scans { IfOk result (λ v. map scan_by v.items ≡ replicate N (fresh_scan N (width C H G))) }
 {
     let mut workers = Vec::new(alloc);
     let mut index = 0;
@@ -74,12 +76,15 @@ fn to_reader<const N: usize, const C: usize, const H: usize, const G: usize>(
     alloc: Global,
     board: &Board<N, C, H, G>,
     seat: ReadSeat,
+    index: usize,
 ) -> Result<Reader<N, C, H, G>, AllocError>
     requires geometry { IsGeometry N C H G }
     requires of_board { IsReadSeatOf board.now seat }
-    requires fresh { (reader_of seat).scan ≡ fresh_scan N (width C H G) }
+    requires fresh { reader_of seat ≡ new_reader N (width C H G) index }
     ensures of_board { IfOk result (IsReaderOf board.now) }
+    ensures index { IfOk result (λ r. reader_index r ≡ index) }
     ensures alone { IfOk result IsAlone }
+    ensures scan { IfOk result (λ r. scan_of_reader r ≡ fresh_scan N (width C H G)) }
 {
     match Reader::new(alloc, seat) {
         Ok(reader) => Ok(reader),
@@ -87,7 +92,7 @@ fn to_reader<const N: usize, const C: usize, const H: usize, const G: usize>(
     }
 }
 
-/// The readers of these seats, in order, of which there are so many.
+/// The readers of these seats, of which there are so many, in order.
 fn to_readers<const N: usize, const C: usize, const H: usize, const G: usize>(
     alloc: Global,
     board: &Board<N, C, H, G>,
@@ -100,10 +105,14 @@ fn to_readers<const N: usize, const C: usize, const H: usize, const G: usize>(
     ensures of_board { IfOk result (λ v. All (IsReaderOf board.now) v.items) }
     ensures alone { IfOk result (λ v. All IsAlone v.items) }
     ensures all { IfOk result (λ v. length v.items ≡ all) }
+    ensures order { IfOk result (λ v. map reader_index v.items ≡ range_with_len 0 all) }
+    ensures scans { IfOk result (λ v. map scan_of_reader v.items ≡ replicate all (fresh_scan N (width C H G))) }
 {
     let mut readers = Vec::new(alloc);
+    let mut index = 0;
     for seat in seats {
-        readers.push(to_reader(alloc, board, seat)?)?;
+        readers.push(to_reader(alloc, board, seat, index)?)?;
+        index += 1;
     }
     Ok(readers)
 }
@@ -117,14 +126,13 @@ impl<const N: usize, const C: usize, const H: usize, const G: usize> Crew<N, C, 
     /// 13 [`BoardFault::Geometry`], unless `N` is 1 to 32, `C` at most 256, `H` at most 32, `G` at most 64 and `readers` 1 to 4; then 6
     /// [`BoardFault::NoMemory`].
     pub fn new(alloc: Global, id: u64, readers: usize) -> Result<Crew<N, C, H, G>, BoardFault>
-        ensures id { IfOk result (λ c. board_id c.board ≡ id) }
-        ensures geometry { IfOk result (λ _. IsBoardSize N C H G readers) }
-        ensures workers { IfOk result (λ c. All (IsWorkerOf c.board) c.workers.items) }
+        ensures board { IfOk result (λ c. (board_id c.board ≡ id) × IsBoardSize N C H G readers) }
+        ensures of_board { IfOk result (λ c. All (IsWorkerOf c.board) c.workers.items × All (IsReaderOf c.board) c.readers.items) }
         ensures all { IfOk result (λ c. map index_of c.workers.items ≡ range_with_len 0 N) }
         ensures new { IfOk result (λ c. map lists_of c.workers.items ≡ replicate N []) }
-        ensures readers { IfOk result (λ c. All (IsReaderOf c.board) c.readers.items) }
         ensures alone { IfOk result (λ c. All IsAlone c.readers.items) }
         ensures count { IfOk result (λ c. length c.readers.items ≡ readers) }
+        ensures fresh { IfOk result (λ c. AreFresh readers c.workers.items c.readers.items) }
         ensures fault { IfErr result (IsBoardFault N C H G readers) }
     {
         let Parts { board, work, read } = match Board::new(alloc, id, readers) {

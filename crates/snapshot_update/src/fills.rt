@@ -7,8 +7,8 @@ ghost use Rattle.std.specs.Prelude.{◌≡◌, ◌<◌, ◌≤◌, ℕ, false, l
 ghost use Rattle.bucket_math.specs.Words.{greatest_word};
 ghost use Rattle.ledger_core.specs.Ops.{width};
 ghost use Rattle.segment_layout.specs.Layout.{depth};
-ghost use Rattle.register_rule.specs.Seats.{worker_of, index_of, IsWorkSeatOf};
-ghost use Rattle.snapshot_update.specs.BufferImages.{DifferAt, with_hidden, target_of};
+ghost use Rattle.snapshot_update.specs.BufferImages.{DifferAt, target_of};
+ghost use Rattle.snapshot_update.specs.Conditions.{MayStore, HasFilled};
 ghost use Rattle.snapshot_update.specs.Fit.{AreInside};
 ghost use Rattle.snapshot_update.specs.Noting.{SoFar};
 
@@ -25,15 +25,11 @@ pub(crate) fn fill_item<const N: usize, const C: usize, const H: usize, const G:
     item: usize,
     word: u64,
 )
-    requires of_board { IsWorkSeatOf board.now seat.old }
-    requires exact { (worker_of seat.old).work.hidden ≡ hidden.old }
+    requires stores { MayStore board.now seat.old hidden.old }
     requires inside { (item < length hidden.old) × (length hidden.old ≡ depth N (width C H G)) }
     requires bounded { item < width C H G → word ≤ greatest_word }
-    ensures of_board { IsWorkSeatOf board.now seat.new }
-    ensures index { index_of seat.new ≡ index_of seat.old }
-    ensures exact { (worker_of seat.new).work.hidden ≡ hidden.new }
+    ensures fills { HasFilled board.now hidden.new seat.old seat.new }
     ensures hidden { hidden.new ≡ slice_set hidden.old item word }
-    ensures member { worker_of seat.new ≡ with_hidden hidden.new (worker_of seat.old) }
 {
     if hidden[item] != word {
         hidden[item] = word;
@@ -50,14 +46,11 @@ pub(crate) fn fill_changes<const N: usize, const C: usize, const H: usize, const
     changes: &ChangedItems,
     version: &NextVersion<C, H, G>,
 )
-    requires of_board { IsWorkSeatOf board.now seat.old }
-    requires exact { (worker_of seat.old).work.hidden ≡ hidden.old }
+    requires stores { MayStore board.now seat.old hidden.old }
     requires lengths { (length hidden.old ≡ depth N (width C H G)) × (length (target_of version.now) ≡ depth N (width C H G)) }
     requires listed { changes.now.all ≡ false }
     requires inside { AreInside (depth N (width C H G)) changes.now }
-    ensures of_board { IsWorkSeatOf board.now seat.new }
-    ensures index { index_of seat.new ≡ index_of seat.old }
-    ensures member { worker_of seat.new ≡ with_hidden hidden.new (worker_of seat.old) }
+    ensures fills { HasFilled board.now hidden.new seat.old seat.new }
     ensures filled { (j : ℕ) → Contains changes.now.items j → slice_index hidden.new j ≡ slice_index (target_of version.now) j }
     ensures kept { (j : ℕ) → slice_index hidden.old j ≡ slice_index (target_of version.now) j
         → slice_index hidden.new j ≡ slice_index (target_of version.now) j }
@@ -80,18 +73,14 @@ pub(crate) fn fill_known<const N: usize, const C: usize, const H: usize, const G
     touched: &ChangedItems,
     version: &NextVersion<C, H, G>,
 )
-    requires of_board { IsWorkSeatOf board.now seat.old }
-    requires exact { (worker_of seat.old).work.hidden ≡ hidden.old }
+    requires stores { MayStore board.now seat.old hidden.old }
     requires lengths { (length hidden.old ≡ depth N (width C H G)) × (length (target_of version.now) ≡ depth N (width C H G)) }
     requires listed { (recent.now.all ≡ false) × (late.now.all ≡ false) × (touched.now.all ≡ false) }
-    requires recent { AreInside (depth N (width C H G)) recent.now }
-    requires late { AreInside (depth N (width C H G)) late.now }
-    requires touched { AreInside (depth N (width C H G)) touched.now }
+    requires inside { AreInside (depth N (width C H G)) recent.now × AreInside (depth N (width C H G)) late.now
+        × AreInside (depth N (width C H G)) touched.now }
     requires known { (j : ℕ) → j < depth N (width C H G) → ¬ (Contains recent.now.items j) → ¬ (Contains late.now.items j)
         → ¬ (Contains touched.now.items j) → slice_index hidden.old j ≡ slice_index (target_of version.now) j }
-    ensures of_board { IsWorkSeatOf board.now seat.new }
-    ensures index { index_of seat.new ≡ index_of seat.old }
-    ensures member { worker_of seat.new ≡ with_hidden hidden.new (worker_of seat.old) }
+    ensures fills { HasFilled board.now hidden.new seat.old seat.new }
     ensures hidden { hidden.new ≡ target_of version.now }
 {
     fill_changes(board, seat, hidden, recent, version);
@@ -112,16 +101,13 @@ fn fill_range<const N: usize, const C: usize, const H: usize, const G: usize>(
     from: usize,
     to: usize,
 )
-    requires of_board { IsWorkSeatOf board.now seat.old }
-    requires exact { (worker_of seat.old).work.hidden ≡ hidden.old }
+    requires stores { MayStore board.now seat.old hidden.old }
     requires lengths { (length hidden.old ≡ depth N (width C H G)) × (length shown.now ≡ depth N (width C H G))
         × (length (target_of version.now) ≡ depth N (width C H G)) }
     requires inside { (from ≤ to) × (to ≤ depth N (width C H G)) }
     requires filled { (j : ℕ) → j < from → slice_index hidden.old j ≡ slice_index (target_of version.now) j }
     requires noted { SoFar from recent.old shown.now (target_of version.now) }
-    ensures of_board { IsWorkSeatOf board.now seat.new }
-    ensures index { index_of seat.new ≡ index_of seat.old }
-    ensures member { worker_of seat.new ≡ with_hidden hidden.new (worker_of seat.old) }
+    ensures fills { HasFilled board.now hidden.new seat.old seat.new }
     ensures filled { (j : ℕ) → j < to → slice_index hidden.new j ≡ slice_index (target_of version.now) j }
     ensures noted { SoFar to recent.new shown.now (target_of version.now) }
 {
@@ -144,13 +130,10 @@ pub(crate) fn fill_all<const N: usize, const C: usize, const H: usize, const G: 
     recent: &mut ChangedItems,
     version: &NextVersion<C, H, G>,
 )
-    requires of_board { IsWorkSeatOf board.now seat.old }
-    requires exact { (worker_of seat.old).work.hidden ≡ hidden.old }
+    requires stores { MayStore board.now seat.old hidden.old }
     requires lengths { (length hidden.old ≡ depth N (width C H G)) × (length shown.now ≡ depth N (width C H G))
         × (length (target_of version.now) ≡ depth N (width C H G)) }
-    ensures of_board { IsWorkSeatOf board.now seat.new }
-    ensures index { index_of seat.new ≡ index_of seat.old }
-    ensures member { worker_of seat.new ≡ with_hidden hidden.new (worker_of seat.old) }
+    ensures fills { HasFilled board.now hidden.new seat.old seat.new }
     ensures hidden { hidden.new ≡ target_of version.now }
     ensures differ { DifferAt recent.new shown.now (target_of version.now) }
     ensures inside { AreInside (depth N (width C H G)) recent.new }

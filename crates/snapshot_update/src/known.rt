@@ -3,9 +3,9 @@ ghost use Rattle.std.specs.Prelude.{◌≡◌, ◌⊎◌, ◌+◌, ◌<◌, true
 ghost use Rattle.ledger_core.specs.Ops.{width};
 ghost use Rattle.segment_layout.specs.Layout.{IsGeometry};
 ghost use Rattle.register_rule.specs.Seats.{worker_of, index_of};
-ghost use Rattle.snapshot_scan.specs.ScanMemories.{moved_in};
+ghost use Rattle.snapshot_scan.specs.ScanMemories.{changed_totals_in};
 ghost use Rattle.snapshot_update.specs.Fit.{AreInside};
-ghost use Rattle.snapshot_update.specs.Known.{IsStill, ListsMoved, IsFollowed};
+ghost use Rattle.snapshot_update.specs.Known.{IsStill, ListsChangedTotals, IsFollowed};
 
 use crate::listing::{note_each, note_range};
 use crate::scanning::{is_direct, is_quiet};
@@ -27,7 +27,7 @@ pub(crate) fn know_next<const N: usize, const C: usize, const H: usize, const G:
 ) -> bool
     requires geometry { IsGeometry N C H G }
     requires inside { index_of seat.now < N }
-    requires words { AreInside (width C H G) (moved_in memory.now) }
+    requires words { AreInside (width C H G) (changed_totals_in memory.now) }
     ensures touched { result ≡ true → touched.now.all ≡ false }
     ensures known { result ≡ true → IsStill ended row_known late.old late.new
         ⊎ IsFollowed N C H G (index_of seat.now) (length (worker_of seat.now).work.made) memory.now ended late.old late.new }
@@ -52,7 +52,7 @@ fn follow<const N: usize, const C: usize, const H: usize, const G: usize>(
 ) -> bool
     requires geometry { IsGeometry N C H G }
     requires inside { index_of seat.now < N }
-    requires words { AreInside (width C H G) (moved_in memory.now) }
+    requires words { AreInside (width C H G) (changed_totals_in memory.now) }
     ensures touched { result ≡ true → touched.now.all ≡ false }
     ensures known { result ≡ true → IsFollowed N C H G (index_of seat.now) (length (worker_of seat.now).work.made) memory.now
         ended late.old late.new }
@@ -65,24 +65,24 @@ fn follow<const N: usize, const C: usize, const H: usize, const G: usize>(
     if vector[seat.worker()] != seat.number() {
         return false;
     }
-    list_moved::<N, C, H, G>(late, memory.moved());
+    list_changed_totals::<N, C, H, G>(late, memory.changed_totals());
     true
 }
 
 /// Lists all numbers of the vector, and the totals of these words, behind what is listed.
 #[inline]
-fn list_moved<const N: usize, const C: usize, const H: usize, const G: usize>(
+fn list_changed_totals<const N: usize, const C: usize, const H: usize, const G: usize>(
     late: &mut ChangedItems,
-    moved: &ChangedItems,
+    changed_totals: &ChangedItems,
 )
     requires geometry { IsGeometry N C H G }
-    requires words { AreInside (width C H G) moved.now }
-    ensures { ListsMoved N (width C H G) moved.now late.old late.new }
+    requires words { AreInside (width C H G) changed_totals.now }
+    ensures { ListsChangedTotals N (width C H G) changed_totals.now late.old late.new }
 {
     let numbers = item_at(N, C, H, G, Item::Flag) + 1;
     note_range(late, numbers, N);
-    note_each(late, moved, numbers + N);
-    if moved.is_all() {
+    note_each(late, changed_totals, numbers + N);
+    if changed_totals.is_all() {
         late.note_all();
     }
 }

@@ -3,10 +3,9 @@
 ghost use Rattle.std.specs.Prelude.{◌≡◌, ◌<◌};
 ghost use Rattle.ledger_core.specs.Ops.{width};
 ghost use Rattle.segment_layout.specs.Layout.{depth};
-ghost use Rattle.register_rule.specs.Seats.{worker_of, index_of, IsWorkSeatOf};
-ghost use Rattle.snapshot_update.specs.BufferImages.{DifferAt, with_hidden, target_of};
+ghost use Rattle.snapshot_update.specs.BufferImages.{DifferAt, target_of};
 ghost use Rattle.snapshot_update.specs.Fit.{AreInside};
-ghost use Rattle.snapshot_update.specs.Conditions.{MayFill};
+ghost use Rattle.snapshot_update.specs.Conditions.{MayFill, HasFilled};
 
 use crate::fills::{fill_all, fill_changes, fill_known};
 use crate::listing::{are_both, note_each};
@@ -30,9 +29,7 @@ pub(crate) fn fill_next<const N: usize, const C: usize, const H: usize, const G:
     listed: bool,
 )
     requires { MayFill board.now seat.old hidden.old shown.now recent.old late.now touched.now version.now listed }
-    ensures of_board { IsWorkSeatOf board.now seat.new }
-    ensures index { index_of seat.new ≡ index_of seat.old }
-    ensures member { worker_of seat.new ≡ with_hidden hidden.new (worker_of seat.old) }
+    ensures fills { HasFilled board.now hidden.new seat.old seat.new }
     ensures hidden { hidden.new ≡ target_of version.now }
     ensures recent { DifferAt recent.new shown.now (target_of version.now) }
     ensures inside { AreInside (depth N (width C H G)) recent.new }

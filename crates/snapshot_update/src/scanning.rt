@@ -1,8 +1,8 @@
 //! The scans of a worker.
-ghost use Rattle.std.specs.Prelude.{◌≡◌, ◌↔◌, ℕ, ◌<◌, Bool, Contains, true, false, IsTrue, slice_index, IfErr, OnOk, OnErr};
+ghost use Rattle.std.specs.Prelude.{◌≡◌, ◌↔◌, Bool, true, false, IsTrue, slice_index, IfErr, OnOk, OnErr};
 ghost use Rattle.ledger_core.specs.Ops.{width};
 ghost use Rattle.ledger_core.specs.Legal.{IsLegal};
-ghost use Rattle.register_rule.specs.Seats.{worker_of, index_of, IsWorkSeatOf};
+ghost use Rattle.register_rule.specs.Seats.{worker_of, IsWorkSeatOf};
 ghost use Rattle.snapshot_scan.specs.declared.scan_end.ScanEnd.TheVariants as ScanEnd;
 ghost use Rattle.snapshot_scan.specs.Scanned.{IsAnswered};
 ghost use Rattle.snapshot_core.specs.declared.next.Next.TheVariants as Next;
@@ -10,9 +10,9 @@ ghost use Rattle.snapshot_scan.specs.Contention.{IsContended};
 ghost use Rattle.snapshot_scan.specs.Core.{CameTo, AnswersBy};
 ghost use Rattle.snapshot_scan.specs.Snapshots.{as_answer};
 ghost use Rattle.snapshot_scan.specs.RememberedRows.{AreNumbers};
-ghost use Rattle.snapshot_scan.specs.ScanMemories.{rows_of, totals_in, moved_in, answer_of, HasView, IsReady};
-ghost use Rattle.snapshot_update.specs.Fit.{AreInside};
-ghost use Rattle.snapshot_update.specs.Updated.{ScanCameTo, IsRuledAlone};
+ghost use Rattle.snapshot_scan.specs.ScanMemories.{rows_of, totals_in, changed_totals_in, answer_of, HasView, IsReady};
+ghost use Rattle.snapshot_scan.specs.ChangedItems.{Lists};
+ghost use Rattle.snapshot_update.specs.Updated.{ScanCameTo, HasScanned};
 
 use register_rule::{Board, WorkSeat};
 use snapshot_scan::{Contended, ScanEnd, ScanMemory, Snapshot};
@@ -51,10 +51,7 @@ pub(crate) fn scan_for_update<const N: usize, const C: usize, const H: usize, co
 ) -> ScanEnd
     requires of_board { IsWorkSeatOf board.now seat.old }
     requires ready { IsReady (worker_of seat.old).scan memory.old }
-    ensures of_board { IsWorkSeatOf board.now seat.new }
-    ensures index { index_of seat.new ≡ index_of seat.old }
-    ensures ruled { IsRuledAlone N C H G (worker_of seat.new) }
-    ensures others { worker_of seat.new ≡ record (worker_of seat.old) { scan = (worker_of seat.new).scan } }
+    ensures scans { HasScanned board.now seat.old seat.new }
     ensures ready { IsReady (worker_of seat.new).scan memory.new }
     ensures view { HasView result → IsAnswered N (worker_of seat.old).scan (worker_of seat.new).scan
         (answer_of memory.new result) }
@@ -63,9 +60,7 @@ pub(crate) fn scan_for_update<const N: usize, const C: usize, const H: usize, co
         × (totals_in memory.new ≡ totals_in memory.old) × AreNumbers (answer_of memory.new result).vector (rows_of memory.new) }
     ensures numbers { (q : Bool) → result ≡ ScanEnd.Direct q → AreNumbers (answer_of memory.new result).vector
         (rows_of memory.new) }
-    ensures listed { (moved_in memory.new).all ≡ false → (k : ℕ) → k < width C H G → ¬ (Contains (moved_in memory.new).items k)
-        → slice_index (totals_in memory.new) k ≡ slice_index (totals_in memory.old) k }
-    ensures words { AreInside (width C H G) (moved_in memory.new) }
+    ensures listed { Lists (width C H G) (totals_in memory.old) (totals_in memory.new) (changed_totals_in memory.new) }
     ensures gave_up { result ≡ ScanEnd.GaveUp → ScanCameTo N (width C H G) (worker_of seat.old).scan (worker_of seat.new).scan
         false }
 {
@@ -82,10 +77,7 @@ pub(crate) fn scan_for_caller<const N: usize, const C: usize, const H: usize, co
 ) -> Result<(), Contended>
     requires of_board { IsWorkSeatOf board.now seat.old }
     requires ready { IsReady (worker_of seat.old).scan memory.old }
-    ensures of_board { IsWorkSeatOf board.now seat.new }
-    ensures index { index_of seat.new ≡ index_of seat.old }
-    ensures ruled { IsRuledAlone N C H G (worker_of seat.new) }
-    ensures others { worker_of seat.new ≡ record (worker_of seat.old) { scan = (worker_of seat.new).scan } }
+    ensures scans { HasScanned board.now seat.old seat.new }
     ensures ready { IsReady (worker_of seat.new).scan memory.new }
     ensures answered { OnOk result (IsAnswered N (worker_of seat.old).scan (worker_of seat.new).scan (as_answer out.new)) }
     ensures answers { OnOk result (AnswersBy N (width C H G) (worker_of seat.old).scan (worker_of seat.new).scan

@@ -8,7 +8,7 @@
 //! | `recent` | the hidden buffer may differ from the shown one | `fill_next` |
 //! | `late` | the shown buffer may differ from what an update of nothing would publish now | `turn`, and `know_next` what the scan moved |
 //! | `touched` | the list of operations changed a word of the row | `touch` |
-//! | `moved` of the scan's memory | a total may differ from before the scan | `ScanMemory::scan` |
+//! | `changed_totals` of the scan's memory | a total may differ from before the scan | `ScanMemory::scan` |
 //!
 //! So the next version differs from the shown buffer at most at the late and at the touched items (`know_next` says whether that is
 //! known), and from the hidden one at the recent ones besides.
@@ -25,9 +25,9 @@ ghost use Rattle.register_rule.specs.Sums.{word_after};
 ghost use Rattle.register_rule.specs.Seats.{worker_of, index_of, IsWorkSeatOf};
 ghost use Rattle.snapshot_scan.specs.declared.scan_end.ScanEnd.TheVariants as ScanEnd;
 ghost use Rattle.snapshot_scan.specs.ScanMemories.{rows_of, totals_in, answer_of, HasView};
-ghost use Rattle.snapshot_update.specs.BufferImages.{DifferAt, version_words, with_hidden};
+ghost use Rattle.snapshot_update.specs.BufferImages.{DifferAt, version_words};
 ghost use Rattle.snapshot_update.specs.Fit.{AreInside, IsFit};
-ghost use Rattle.snapshot_update.specs.Conditions.{MayMakeVersion, MayLearn};
+ghost use Rattle.snapshot_update.specs.Conditions.{MayMakeVersion, MayLearn, HasFilled};
 ghost use Rattle.snapshot_update.specs.Updated.{IsUpdated};
 
 use crate::buffer_images::BufferImages;
@@ -64,9 +64,7 @@ fn fill_version<const N: usize, const C: usize, const H: usize, const G: usize>(
     known: bool,
 ) -> bool
     requires { MayMakeVersion board.now seat.old row.now memory.now images.old ended known }
-    ensures of_board { IsWorkSeatOf board.now seat.new }
-    ensures index { index_of seat.new ≡ index_of seat.old }
-    ensures member { worker_of seat.new ≡ with_hidden images.new.hidden.items (worker_of seat.old) }
+    ensures fills { HasFilled board.now images.new.hidden.items seat.old seat.new }
     ensures hidden { images.new.hidden.items ≡ version_words row.now (cond result 1 0) (answer_of memory.now ended).vector
         (answer_of memory.now ended).totals }
     ensures others { (images.new.shown.items ≡ images.old.shown.items) × (images.new.late ≡ images.old.late)

@@ -1,5 +1,5 @@
 use Rattle.std.proofs.Common.{◌≡◌, ◌<◌, ◌≤◌, ◌+◌, ℕ, Contains, length, get_or}
-use Rattle.snapshot_scan.specs.ChangedItems.{Moves}
+use Rattle.snapshot_scan.specs.ChangedItems.{ListsChanges}
 use Rattle.snapshot_scan.proofs.exchange.exchange_at.Given as goal
 
 abbrev pub invariant-loop-item : goal.invariant-loop-item
@@ -8,5 +8,5 @@ invariant-loop-item l = record {
   others : (k : ℕ) → ¬ (Contains l.items k) → get_or l.old k 0 ≡ get_or l.fn.old k 0;
   low : (k : ℕ) → k < length l.fn.totals → get_or l.old k 0 ≤ 281474976710655;
   sums : (k : ℕ) → k < length l.fn.totals → get_or l.totals k 0 + get_or l.fn.old k 0 ≡ get_or l.fn.totals k 0 + get_or l.old k 0;
-  moves : Moves (length l.fn.totals) l.fn.totals l.totals l.fn.moved l.moved;
+  moves : ListsChanges (length l.fn.totals) l.fn.totals l.totals l.fn.changed_totals l.changed_totals;
 }

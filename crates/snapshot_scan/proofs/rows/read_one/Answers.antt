@@ -5,7 +5,7 @@ use Rattle.register_rule.specs.Members.{led, scan_changed}
 use Rattle.register_rule.specs.ScanSteps.{after_read}
 use Rattle.register_rule.specs.Seats.{HasMember, members_of}
 use Rattle.snapshot_scan.specs.Shape.{read_all}
-use Rattle.snapshot_scan.specs.ChangedItems.{Moves}
+use Rattle.snapshot_scan.specs.ChangedItems.{ListsChanges}
 use Rattle.snapshot_scan.proofs.Words.{take_next, length_take, read_snoc, led_led, led_some}
 use Rattle.snapshot_scan.proofs.Moving.{moves_then}
 use Rattle.snapshot_scan.proofs.rows.read_one.Goals as goal
@@ -35,5 +35,5 @@ returns-clause-read g c = λ ms row listed is.
           (subst (λ (z : ℕ). z ≤ 281474976710655) (sym (get_or-set_same ws k x 0 lt))
           (c.read_word-word.ensures.bounded (omega (arith, lt, long)))));
       moves = moves_then w row ws new listed c.args.changed.now c.put_word.new.changed is.moves
-          (subst (λ (n : ℕ). Moves n ws new c.args.changed.now c.put_word.new.changed) long c.put_word.ensures.moves);
+          (subst (λ (n : ℕ). ListsChanges n ws new c.args.changed.now c.put_word.new.changed) long c.put_word.ensures.moves);
     }

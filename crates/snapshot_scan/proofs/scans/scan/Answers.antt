@@ -91,7 +91,7 @@ loop-k-init g c =
             ba r.opened c.requires.may.of_board c.requires.may.geometry c.one_try-clean.ensures.table few long
             c.one_try-clean.ensures.wide refl stands;
         room = (deep, c.one_try-clean.auto.totals ∙ c.requires.room.1, c.one_try-clean.ensures.totals);
-        listed = lists_first w c.args.totals.now r.totals c.clear.new.self r.moved c.clear.ensures.none.1
+        listed = lists_first w c.args.totals.now r.totals c.clear.new.self r.changed_totals c.clear.ensures.none.1
             c.one_try-clean.ensures.listed;
         count = refl;
         above = each_push (λ (t : Tried). Below (scan_of ms).seen t.first) [] one (λ p y at. absurd (some-ne-none y (sym at)))
@@ -189,7 +189,7 @@ loop-k-preserved g c =
           c.later_try-clean.auto.totals ∙ (c.loop-k.auto.totals ∙ (c.one_try-clean.auto.totals ∙ c.requires.room.1)),
           c.later_try-clean.ensures.totals,
         );
-        listed = lists_then w c.args.totals.now c.loop-k.totals r.totals c.loop-k.moved r.moved inv.listed
+        listed = lists_then w c.args.totals.now c.loop-k.totals r.totals c.loop-k.changed_totals r.changed_totals inv.listed
             c.later_try-clean.ensures.listed;
         count = count_more tries t c.loop-k._k inv.count;
         above = each_push (λ (u : Tried). Below (scan_of ms).seen u.first) tries t inv.above
@@ -231,7 +231,7 @@ returns-then-clean g c =
       lent = λ e. absurd (direct_lent _ e);
       came_lent = λ e. absurd (direct_lent _ e);
       numbers = λ _ _. made.numbers c.if-clean.true;
-      listed = lists_first w c.args.totals.now r.totals c.clear.new.self r.moved c.clear.ensures.none.1 made.listed;
+      listed = lists_first w c.args.totals.now r.totals c.clear.new.self r.changed_totals c.clear.ensures.none.1 made.listed;
       gave_up = λ e. absurd (direct_up _ e);
       came_up = λ e. absurd (direct_up _ e);
     }
@@ -278,7 +278,7 @@ returns-then-clean-2 g c =
       lent = λ e. absurd (direct_lent _ e);
       came_lent = λ e. absurd (direct_lent _ e);
       numbers = λ _ _. made.numbers c.if-clean-2.true;
-      listed = lists_then w c.args.totals.now c.loop-k.totals r.totals c.loop-k.moved r.moved inv.listed made.listed;
+      listed = lists_then w c.args.totals.now c.loop-k.totals r.totals c.loop-k.changed_totals r.changed_totals inv.listed made.listed;
       gave_up = λ e. absurd (direct_up _ e);
       came_up = λ e. absurd (direct_up _ e);
     }
@@ -328,7 +328,7 @@ returns-then-lends g c =
           l.1 l.0 l.2 (asked_worker l.1 ∷ l.2) long deep (omega (arith, count, lt)) (made.rose c.if-clean-2.false) l.3 l.4 l.6
           (ap (lent_in n w) (sym l.5)));
       numbers = λ q e. absurd (lent_direct q e);
-      listed = lists_then w c.args.totals.now c.loop-k.totals r.totals c.loop-k.moved r.moved inv.listed made.listed;
+      listed = lists_then w c.args.totals.now c.loop-k.totals r.totals c.loop-k.changed_totals r.changed_totals inv.listed made.listed;
       gave_up = λ e. absurd (lent_up e);
       came_up = λ e. absurd (lent_up e);
     }

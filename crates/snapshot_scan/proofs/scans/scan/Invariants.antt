@@ -22,7 +22,7 @@ invariant-loop-k g l = let bundle = g.S.ScanSeat.bundle in let ms = members_of (
       wide : AreWide w l.remembered;
       may : l._k < g.row.N + 1 → MayTry l.board (bundle l.seat) l.remembered l.opened;
       room : (length l.found ≡ g.row.N) × (length l.totals ≡ w) × AreTotals w l.remembered l.totals;
-      listed : Lists w l.fn.totals l.totals l.moved;
+      listed : Lists w l.fn.totals l.totals l.changed_totals;
       count : length tries ≡ l._k + 1;
       tried : AreTries g.row.N l.floor l.base l.opened l.found tries;
       above : (q : ℕ) (t : Tried) → get_elem? tries q ≡ some t → Below (scan_of ms).seen t.first;

@@ -61,7 +61,7 @@ pub returns-clause-quiet : goal.returns-clause-quiet
 returns-clause-quiet g c = λ e. absurd (not_known (sym e ∙ c.if-known.false))
 
 pub returns-then-known-clause-listed : goal.returns-then-known-clause-listed
-returns-then-known-clause-listed g c = moves_none (width g.row.C g.row.H g.row.G) c.args.totals.now c.args.moved.now
+returns-then-known-clause-listed g c = moves_none (width g.row.C g.row.H g.row.G) c.args.totals.now c.args.changed_totals.now
 
 pub returns-clause-listed : goal.returns-clause-listed
 returns-clause-listed g c = c.confirm_all.ensures.listed

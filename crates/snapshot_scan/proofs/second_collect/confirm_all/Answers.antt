@@ -14,7 +14,7 @@ use Rattle.register_rule.specs.ScanSteps.{ended, after_confirm, confirmed_at}
 use Rattle.register_rule.specs.Seats.{HasMember, members_of}
 use Rattle.snapshot_scan.specs.declared.remembered_row.RememberedRow.{RememberedRow}
 use Rattle.snapshot_scan.specs.Shape.{scan_of, with_scan}
-use Rattle.snapshot_scan.specs.ChangedItems.{Moves}
+use Rattle.snapshot_scan.specs.ChangedItems.{ListsChanges}
 use Rattle.snapshot_scan.specs.RememberedRows.{IsWide, version_of, words_of, settling}
 use Rattle.snapshot_scan.proofs.Words.{take_next, take_all, length_take, led_some, with_led, with_same, scan_with, from_set}
 use Rattle.snapshot_scan.proofs.Settling.{confirms_more, row_in, sum_low, sum_set, words_wide, settling_starts, set_at}
@@ -39,7 +39,7 @@ loop-place-init g c =
       totals = c.requires.sums.1;
       view = sym (ap (λ (b : Bool). with_scan (cond b (ended g.row.N w z) z) ms) no
           ∙ (ap (λ (d : ScanLog). with_scan d ms) (sym starts) ∙ with_same ms));
-      moves = moves_none w c.args.totals.now c.args.moved.now;
+      moves = moves_none w c.args.totals.now c.args.changed_totals.now;
       risen = λ q lt. absurd (omega (arith, lt));
       held = λ q x lt. absurd (omega (arith, lt));
     }
@@ -117,9 +117,9 @@ loop-place-preserved g c =
       totals = λ k low. let e = inv.totals k low in let h = sum_set k gs p gg g' at in
           let d = c.settle.ensures.totals k (omega (arith, long, low)) in omega (arith, e, h, d);
       view = view;
-      moves = moves_then w c.args.totals.now c.loop-place.totals ts' c.args.moved.now c.loop-place.moved c.settle.new.moved
+      moves = moves_then w c.args.totals.now c.loop-place.totals ts' c.args.changed_totals.now c.loop-place.changed_totals c.settle.new.changed_totals
           inv.moves
-          (subst (λ (k : ℕ). Moves k c.loop-place.totals ts' c.loop-place.moved c.settle.new.moved) long c.settle.ensures.moved);
+          (subst (λ (k : ℕ). ListsChanges k c.loop-place.totals ts' c.loop-place.changed_totals c.settle.new.changed_totals) long c.settle.ensures.changed_totals);
       risen = below_more (λ (q : ℕ). get_or os q 0 ≤ get_or (set fs p s) q 0) p
           (λ q h. let ne : q ≢ p = omega (arith, h) in
           subst (λ (x : ℕ). get_or os q 0 ≤ x) (sym (get_or-set_other fs p q s 0 ne)) (inv.risen q h))

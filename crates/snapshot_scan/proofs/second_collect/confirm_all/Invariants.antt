@@ -6,7 +6,7 @@ use Rattle.register_rule.specs.ScanSteps.{ended}
 use Rattle.register_rule.specs.Seats.{MayScan, table_of, members_of}
 use Rattle.snapshot_scan.specs.declared.remembered_row.RememberedRow.{RememberedRow}
 use Rattle.snapshot_scan.specs.Shape.{scan_of, with_scan, IsRuled}
-use Rattle.snapshot_scan.specs.ChangedItems.{Moves}
+use Rattle.snapshot_scan.specs.ChangedItems.{ListsChanges}
 use Rattle.snapshot_scan.specs.RememberedRows.{AreWide, AreTotals, settling}
 use Rattle.snapshot_scan.proofs.second_collect.confirm_all.Given as goal
 
@@ -22,7 +22,7 @@ invariant-loop-place g l = let bundle = g.S.ScanSeat.bundle in let ms = members_
       view : members_of (bundle l.seat) ≡ with_scan
           (cond (l.place == g.row.N) (ended g.row.N w (settling l.opened (take l.place l.found) l.remembered (scan_of ms)))
           (settling l.opened (take l.place l.found) l.remembered (scan_of ms))) ms;
-      moves : Moves w l.fn.totals l.totals l.fn.moved l.moved;
+      moves : ListsChanges w l.fn.totals l.totals l.fn.changed_totals l.changed_totals;
       risen : (q : ℕ) → q < l.place → get_or l.opened q 0 ≤ get_or l.found q 0;
       held : (q : ℕ) (x : RememberedRow) → q < l.place → get_elem? l.remembered q ≡ some x → get_or l.opened q 0
           ≡ get_or l.found q 0

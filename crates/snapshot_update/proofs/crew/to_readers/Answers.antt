@@ -6,9 +6,9 @@ use Rattle.register_rule.specs.Members.{readers_from}
 use Rattle.register_rule.specs.Seats.{reader_of, IsReadSeatOf}
 use Rattle.snapshot_scan.specs.declared.reader.Reader.{Reader}
 use Rattle.snapshot_scan.specs.Order.{IsAlone}
-use Rattle.snapshot_scan.specs.Readers.{IsReaderOf}
+use Rattle.snapshot_scan.specs.Readers.{IsReaderOf, scan_by, index_of as reader_index}
 use Rattle.std.specs.Vec.Iter.{into_iter_items}
-use Rattle.snapshot_update.proofs.Seating.{length-readers_from, next_reader, next_all, all_more}
+use Rattle.snapshot_update.proofs.Seating.{length-readers_from, next_reader, next_all, one_more, one_more_same, all_more}
 use Rattle.snapshot_update.proofs.crew.to_readers.Goals as goal
 
 pub loop-seat-init : goal.loop-seat-init
@@ -32,6 +32,9 @@ loop-seat-init g c =
           (c.requires.fresh ∙ ap (readers_from g.row.N w 0) (sym long)));
       made = search rules;
       alone = search rules;
+      index = search rules;
+      order = search rules;
+      scans = search rules;
     }
 
 pub loop-seat-preserved : goal.loop-seat-preserved
@@ -49,4 +52,7 @@ loop-seat-preserved g c =
           ∙ ap (λ z. readers_from g.row.N w z (length rest)) (omega (arith, long));
       made = all_more (IsReaderOf c.args.board.now) _ _ _ c.in_ok-push.ensures.items inv.made c.in_ok-to_reader.ensures.of_board;
       alone = all_more IsAlone _ _ _ c.in_ok-push.ensures.items inv.alone c.in_ok-to_reader.ensures.alone;
+      index = omega (arith, long, inv.index);
+      order = one_more reader_index _ _ _ _ c.in_ok-push.ensures.items inv.order c.in_ok-to_reader.ensures.index;
+      scans = one_more_same scan_by _ _ _ _ _ c.in_ok-push.ensures.items inv.scans c.in_ok-to_reader.ensures.scan;
     }

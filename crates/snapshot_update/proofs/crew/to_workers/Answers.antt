@@ -5,7 +5,7 @@ use Rattle.segment_layout.specs.Layout.{depth}
 use Rattle.register_rule.specs.declared.seats.WorkSeat.{WorkSeat}
 use Rattle.register_rule.specs.Members.{workers_from}
 use Rattle.register_rule.specs.Seats.{worker_of, IsWorkSeatOf}
-use Rattle.snapshot_update.specs.Workers.{index_of, lists_of, IsWorkerOf}
+use Rattle.snapshot_update.specs.Workers.{index_of, lists_of, scan_by, IsWorkerOf}
 use Rattle.std.specs.Vec.Iter.{into_iter_items}
 use Rattle.snapshot_update.proofs.Seating.{length-workers_from, next_worker, next_all, one_more, one_more_same, all_more}
 use Rattle.snapshot_update.proofs.crew.to_workers.Goals as goal
@@ -25,6 +25,7 @@ loop-seat-init g c =
       made = search rules;
       all = search rules;
       new = search rules;
+      scans = search rules;
     }
 
 pub loop-seat-preserved : goal.loop-seat-preserved
@@ -41,4 +42,5 @@ loop-seat-preserved g c =
       made = all_more (IsWorkerOf c.args.board.now) _ _ _ c.in_ok-push.ensures.items inv.made c.in_ok-to_worker.ensures.of_board;
       all = one_more index_of _ _ _ _ c.in_ok-push.ensures.items inv.all c.in_ok-to_worker.ensures.index;
       new = one_more_same lists_of _ _ _ _ _ c.in_ok-push.ensures.items inv.new c.in_ok-to_worker.ensures.lists;
+      scans = one_more_same scan_by _ _ _ _ _ c.in_ok-push.ensures.items inv.scans c.in_ok-to_worker.ensures.scan;
     }

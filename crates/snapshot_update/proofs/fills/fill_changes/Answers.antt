@@ -1,20 +1,17 @@
-use Rattle.std.proofs.Common.{refl, ◌≡◌, ℕ, List, get_or, sym, ap, ◌∙◌, subst, arith}
+use Rattle.std.proofs.Common.{◌≡◌, ℕ, List, get_or, sym, ◌∙◌, subst, arith}
 use Rattle.std.specs.List.{Contains}
 use Rattle.std.proofs.lemmas.List.{get_or_default}
 use Rattle.std.proofs.lemmas.List.Elements.{Contains-get_or}
-use Rattle.register_rule.specs.Seats.{worker_of}
-use Rattle.snapshot_update.specs.BufferImages.{target_of, with_hidden}
+use Rattle.snapshot_update.specs.BufferImages.{target_of}
+use Rattle.snapshot_update.proofs.Filling.{not_filled}
 use Rattle.snapshot_update.proofs.fills.fill_changes.Goals as goal
 
 pub loop-item-init : goal.loop-item-init
 loop-item-init g c = let items = c.as_slice-items.result.now in record {
-  of_board = c.requires.of_board;
-  exact = c.requires.exact;
+  fills = not_filled c.args.board.now c.args.hidden.now c.args.seat.now c.requires.stores;
   deep = c.requires.lengths;
   inside = λ k lt. c.requires.inside (get_or items k 0) (subst (λ (l : List ℕ). Contains l (get_or items k 0))
       c.as_slice-items.ensures.listed (Contains-get_or items k 0 lt));
-  index = refl;
-  member = ap (λ (l : List ℕ). with_hidden l (worker_of c.args.seat.now)) c.requires.exact;
   filled = λ k lt. absurd (omega (arith, lt));
   kept = λ j same. same;
 }

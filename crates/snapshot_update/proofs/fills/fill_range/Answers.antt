@@ -1,9 +1,8 @@
-use Rattle.std.proofs.Common.{◌≡◌, ℕ, ◌<◌, ◌+◌, length, sym, ap, ◌∙◌, subst, arith}
+use Rattle.std.proofs.Common.{◌≡◌, ℕ, ◌<◌, ◌+◌, length, sym, ◌∙◌, subst, arith}
 use Rattle.snapshot_scan.specs.ChangedItems.{ChangedView}
-use Rattle.snapshot_update.specs.BufferImages.{with_hidden}
 use Rattle.snapshot_update.specs.BufferImages.{target_of}
 use Rattle.snapshot_update.specs.Noting.{SoFar}
-use Rattle.snapshot_update.proofs.Filling.{so_far_same, so_far_noted, below_set}
+use Rattle.snapshot_update.proofs.Filling.{filled_on, so_far_same, so_far_noted, below_set}
 use Rattle.snapshot_update.proofs.fills.fill_range.Goals as goal
 use Rattle.snapshot_update.proofs.fills.fill_range.Goals.{then-shown-item, else-shown-item}
 
@@ -13,9 +12,8 @@ loop-item-preserved g c =
     let lt : n < length c.loop-item.hidden = (let e = c.loop-item.auto.hidden in let t = c.loop-item-test.true in
     omega (arith, e, t, c.requires.inside.1, c.requires.lengths.0)) in
     record {
-      of_board = c.fill_item.ensures.of_board;
-      index = c.fill_item.ensures.index ∙ is.index;
-      member = c.fill_item.ensures.member ∙ ap (with_hidden c.fill_item.new.hidden) is.member;
+      fills = filled_on c.args.board.now c.loop-item.hidden c.fill_item.new.hidden c.args.seat.now c.loop-item.seat
+          c.fill_item.new.seat is.fills c.fill_item.ensures.fills;
       filled = below_set c.loop-item.hidden target c.fill_item.new.hidden n c.word-word.result lt c.fill_item.ensures.hidden
           c.word-word.ensures.word is.filled;
       noted = elim c.if-shown-item.branch [

@@ -6,9 +6,9 @@ use Rattle.segment_layout.specs.Layout.{depth}
 use Rattle.snapshot_scan.specs.declared.scan_end.ScanEnd.{ScanEnd}
 use Rattle.snapshot_scan.specs.declared.scan_end.ScanEnd.TheVariants.{Direct, GaveUp}
 use Rattle.snapshot_scan.specs.ScanMemories.{answer_of}
-use Rattle.snapshot_update.specs.BufferImages.{DifferAt, version_words, with_hidden}
+use Rattle.snapshot_update.specs.BufferImages.{DifferAt, version_words}
 use Rattle.snapshot_update.specs.BufferImages.{target_of}
-use Rattle.register_rule.specs.Seats.{worker_of}
+use Rattle.snapshot_update.specs.Conditions.{HasFilled}
 use Rattle.snapshot_scan.proofs.Words.{over}
 use Rattle.snapshot_update.proofs.update.fill_version.Goals as goal
 
@@ -30,8 +30,10 @@ fill_next-requires g c =
       (
         search rules,
         record {
-          of_board = c.requires.of_board;
-          exact = c.requires.exact ∙ sym hidden;
+          stores = record {
+            of_board = c.requires.stores.of_board;
+            exact = c.requires.stores.exact ∙ sym hidden;
+          };
           lengths = (
             ap (λ (l : List ℕ). length l) hidden ∙ deep,
             ap (λ (l : List ℕ). length l) shown ∙ t.shown_deep,
@@ -62,13 +64,14 @@ fill_next-requires g c =
     )
 
 -- what was written over the hidden buffer's words is what it holds
-pub returns-clause-member : goal.returns-clause-member
-returns-clause-member g c =
+pub returns-clause-fills : goal.returns-clause-fills
+returns-clause-fills g c =
     let old = c.args.images.now.hidden in let new = c.fill_next.new.hidden in let a = c.fill_next.auto.hidden in
     let v = c.as_mut_slice.ensures.value in let n = c.as_mut_slice.ensures.len in
     let written : take old.len (new ++ drop (length new) old.items) ≡ new = over new old.items old.len
     (a ∙ ap (λ (l : List ℕ). length l) v) (omega (arith, a)) in
-    c.fill_next.ensures.member ∙ ap (λ (l : List ℕ). with_hidden l (worker_of c.args.seat.now)) (sym written)
+    subst (λ (l : List ℕ). HasFilled c.args.board.now l c.args.seat.now c.fill_next.new.seat) (sym written)
+    c.fill_next.ensures.fills
 
 pub returns-clause-hidden : goal.returns-clause-hidden
 returns-clause-hidden g c =

@@ -59,16 +59,18 @@ fill_version-lends-requires g c =
         (
           search rules,
           record {
-            of_board = s.ensures.of_board;
+            stores = record {
+              of_board = s.ensures.scans.of_board;
+              exact = ap (λ (m : Member). m.work.hidden) s.ensures.scans.others ∙ fit.hidden_is;
+            };
             geometry = c.requires.geometry;
-            exact = ap (λ (m : Member). m.work.hidden) s.ensures.others ∙ fit.hidden_is;
             touched = c.touch.ensures.inside;
             images = by_known known (λ yes.
                 let next = next_is n g.row.C g.row.H g.row.G (index_of c.args.seat.now) row c.args.memory.now memory im
                 c.know_next-known.new.late (worker_of c.args.seat.now) (worker_of s.new.seat) s.result
-                fit c.requires.of_board.1 s.ensures.others s.ensures.ruled s.ensures.ready s.ensures.quiet s.ensures.numbers
-                s.ensures.listed (index_of s.new.seat) _ s.ensures.index
-                (ap (λ (x : Member). length x.work.made) s.ensures.others) (c.know_next-known.ensures.known yes) in
+                fit c.requires.of_board.1 s.ensures.scans.others s.ensures.scans.ruled s.ensures.ready s.ensures.quiet s.ensures.numbers
+                s.ensures.listed.same (index_of s.new.seat) _ s.ensures.scans.index
+                (ap (λ (x : Member). length x.work.made) s.ensures.scans.others) (c.know_next-known.ensures.known yes) in
                 let listed : c.touch.new.touched.all ≡ false = c.know_next-known.ensures.touched yes in (
                   idle_words row (rows_of memory) (totals_in memory),
                   touched_images b _ (record im { late = c.know_next-known.new.late }) c.touch.new.touched next.images,
@@ -108,8 +110,8 @@ publish-requires g c =
     let ops = c.args.ops.now in
     let wide : length row ≡ w = fit.wide in
     let a = answer_of memory s.result in let long = answer_long n g.row.C g.row.H g.row.G memory s.result in
-    let is : worker_of f.new.seat ≡ ready_member f.new.images.hidden.items m c' = f.ensures.member
-    ∙ ap (with_hidden f.new.images.hidden.items) s.ensures.others in
+    let is : worker_of f.new.seat ≡ ready_member f.new.images.hidden.items m c' = f.ensures.fills.member
+    ∙ ap (with_hidden f.new.images.hidden.items) s.ensures.scans.others in
     let full : HoldsNext n w b (sum_ops g.row.C g.row.H) ops f.result (ready_member f.new.images.hidden.items m c') =
     holds n w b (sum_ops g.row.C g.row.H) ops (ready_member f.new.images.hidden.items m c') row' a.vector a.totals
     (adds.width_stays ∙ wide) long.0 long.1
@@ -117,7 +119,7 @@ publish-requires g c =
     (λ lends. (m.scan.recorded, (s.ensures.view (f.ensures.view lends)).recorded)) in (
       search rules,
       (
-        f.ensures.of_board,
+        f.ensures.fills.stores.of_board,
         (
           subst (λ (x : Member). length x.work.made + 1 < 18446744073709551616) (sym is) c.requires.room,
           (
@@ -144,7 +146,7 @@ learn-requires g c =
     let row = c.args.row.now in let row' = c.try_apply.new.self in let adds = c.in_ok-try_apply.ensures.ok in
     let i : ℕ = index_of c.args.seat.now in
     let same : c.worker-index.result ≡ i = c.worker-index.ensures.index
-    ∙ (c.publish.ensures.index ∙ (f.ensures.index ∙ s.ensures.index)) in
+    ∙ (c.publish.ensures.index ∙ (f.ensures.fills.index ∙ s.ensures.scans.index)) in
     let touched : c.turn.new.images.touched ≡ c.touch.new.touched = c.turn.ensures.others.1 ∙ f.ensures.others.2 in (
       search rules,
       (
@@ -156,9 +158,9 @@ learn-requires g c =
           known = λ yes v at k lt none.
               let next = next_is n g.row.C g.row.H g.row.G (index_of c.args.seat.now) row c.args.memory.now memory im
               c.know_next-known.new.late (worker_of c.args.seat.now) (worker_of s.new.seat) s.result
-              fit c.requires.of_board.1 s.ensures.others s.ensures.ruled s.ensures.ready s.ensures.quiet s.ensures.numbers
-              s.ensures.listed (index_of s.new.seat) _ s.ensures.index
-              (ap (λ (x : Member). length x.work.made) s.ensures.others) (c.know_next-known.ensures.known yes) in
+              fit c.requires.of_board.1 s.ensures.scans.others s.ensures.scans.ruled s.ensures.ready s.ensures.quiet s.ensures.numbers
+              s.ensures.listed.same (index_of s.new.seat) _ s.ensures.scans.index
+              (ap (λ (x : Member). length x.work.made) s.ensures.scans.others) (c.know_next-known.ensures.known yes) in
               let listed : c.touch.new.touched.all ≡ false = c.know_next-known.ensures.touched yes in
               let here : some v ≡ some (record { number = length (worker_of c.args.seat.now).work.made; row = row }) = sym at
               ∙ (ap (get_elem? (rows_of memory)) same ∙ next.row_known) in
@@ -191,8 +193,8 @@ returns-clause-fit g c =
     let wide : length row ≡ w = fit.wide in
     let wide' : length row' ≡ w = adds.width_stays ∙ wide in
     let a = answer_of memory s.result in let long = answer_long n g.row.C g.row.H g.row.G memory s.result in
-    let is : worker_of f.new.seat ≡ ready_member f.new.images.hidden.items m c' = f.ensures.member
-    ∙ ap (with_hidden f.new.images.hidden.items) s.ensures.others in
+    let is : worker_of f.new.seat ≡ ready_member f.new.images.hidden.items m c' = f.ensures.fills.member
+    ∙ ap (with_hidden f.new.images.hidden.items) s.ensures.scans.others in
     let i : ℕ = index_of f.new.seat in
     let own : c.worker-index.result ≡ i = c.worker-index.ensures.index ∙ c.publish.ensures.index in
     let m3 = worker_of c.publish.new.seat in
@@ -210,7 +212,7 @@ returns-clause-fit g c =
     let lt : c.worker-index.result < n = (let h = c.publish.ensures.of_board.1 in let e = c.publish.ensures.index in
     omega (arith, h, own, e)) in
     let many = rows_many n g.row.C g.row.H g.row.G memory in
-    let own' : c.worker-index.result ≡ index_of c.args.seat.now = own ∙ (f.ensures.index ∙ s.ensures.index) in
+    let own' : c.worker-index.result ≡ index_of c.args.seat.now = own ∙ (f.ensures.fills.index ∙ s.ensures.scans.index) in
     let taken : take w f.new.images.hidden.items ≡ row' = ap (take w) hidden
     ∙ row_taken w n row' (cond f.result 1 0) a.vector a.totals wide' long.0 in
     let after = c.learn.new.memory in
@@ -252,9 +254,9 @@ returns-clause-fit g c =
         late = by_known known (λ yes.
             let next = next_is n g.row.C g.row.H g.row.G (index_of c.args.seat.now) row c.args.memory.now memory im
             c.know_next-known.new.late (worker_of c.args.seat.now) (worker_of s.new.seat) s.result
-            fit c.requires.of_board.1 s.ensures.others s.ensures.ruled s.ensures.ready s.ensures.quiet s.ensures.numbers
-            s.ensures.listed (index_of s.new.seat) _ s.ensures.index
-            (ap (λ (x : Member). length x.work.made) s.ensures.others) (c.know_next-known.ensures.known yes) in
+            fit c.requires.of_board.1 s.ensures.scans.others s.ensures.scans.ruled s.ensures.ready s.ensures.quiet s.ensures.numbers
+            s.ensures.listed.same (index_of s.new.seat) _ s.ensures.scans.index
+            (ap (λ (x : Member). length x.work.made) s.ensures.scans.others) (c.know_next-known.ensures.known yes) in
             let listed : c.touch.new.touched.all ≡ false = c.know_next-known.ensures.touched yes in
             let touched : f.new.images.touched ≡ c.touch.new.touched = f.ensures.others.2 in
             let yes' : f.result ≡ true = lends_direct f.result s.result next.direct.0 f.ensures.none next.direct.1 in
@@ -289,13 +291,13 @@ returns-clause-updated g c =
     let n : ℕ = g.row.N in let w : ℕ = width g.row.C g.row.H g.row.G in
     let s = c.scan_for_update-ended in let f = c.fill_version-lends in
     let m : Member = worker_of c.args.seat.now in let c' : ScanLog = (worker_of s.new.seat).scan in let ops = c.args.ops.now in
-    let is : worker_of f.new.seat ≡ ready_member f.new.images.hidden.items m c' = f.ensures.member
-    ∙ ap (with_hidden f.new.images.hidden.items) s.ensures.others in
-    let same : index_of f.new.seat ≡ index_of c.args.seat.now = f.ensures.index ∙ s.ensures.index in record {
+    let is : worker_of f.new.seat ≡ ready_member f.new.images.hidden.items m c' = f.ensures.fills.member
+    ∙ ap (with_hidden f.new.images.hidden.items) s.ensures.scans.others in
+    let same : index_of f.new.seat ≡ index_of c.args.seat.now = f.ensures.fills.index ∙ s.ensures.scans.index in record {
       scan = c';
       lends = f.result;
       hidden = f.new.images.hidden.items;
-      ruled = subst (λ (x : Member). IsRuledAlone n g.row.C g.row.H g.row.G x) s.ensures.others s.ensures.ruled;
+      ruled = subst (λ (x : Member). IsRuledAlone n g.row.C g.row.H g.row.G x) s.ensures.scans.others s.ensures.scans.ruled;
       came_to = met n w m.scan c' f.result (λ lends. s.ensures.came_to (f.ensures.view lends))
           (λ none. s.ensures.gave_up (f.ensures.none none));
       is = c.publish.ensures.member ∙ (λ z. published w (same z) ops f.result (is z));

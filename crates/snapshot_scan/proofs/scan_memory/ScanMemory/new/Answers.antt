@@ -22,7 +22,7 @@ invariant_of-result g c =
       sums = subst (AreTotals w c.in_ok-remembered.remembered.items)
           (sym (c.in_ok-totals.ensures.items_if_clones_equal (λ y h. h)))
           (are_totals w c.in_ok-remembered.remembered.items blank);
-      listed = λ j h. absurd (none_listed j (subst (λ (l : List ℕ). Contains l j) c.in_ok-moved.ensures.1 h));
+      listed = λ j h. absurd (none_listed j (subst (λ (l : List ℕ). Contains l j) c.in_ok-changed_totals.ensures.1 h));
     }
 
 pub returns : goal.returns

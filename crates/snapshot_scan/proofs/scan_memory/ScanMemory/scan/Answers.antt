@@ -217,12 +217,12 @@ returns-clause-numbers g c = λ quiet e.
     ap (λ (x : Version). x.number) (sym t.2) ∙ (known p t.0 t.1 ∙ ap (λ (l : List ℕ). slice_index l p) (sym opened))
 
 pub returns-clause-listed : goal.returns-clause-listed
-returns-clause-listed g c = λ few k lt none.
+returns-clause-listed g c =
     let old = c.args.self.now in let new = c.scan.new in
     let totals = written new.totals c.as_mut_slice-2.result.now old.totals.items old.totals.len c.as_mut_slice-2.ensures.value
     c.as_mut_slice-2.ensures.len c.scan.auto.totals in
-    ap (λ (l : List ℕ). slice_index l k) totals
-    ∙ (c.scan.ensures.listed.same few k lt none ∙ ap (λ (l : List ℕ). slice_index l k) c.as_mut_slice-2.ensures.value)
-
-pub returns-clause-words : goal.returns-clause-words
-returns-clause-words g c = c.scan.ensures.listed.inside
+    record {
+      same = λ few k lt none. ap (λ (l : List ℕ). slice_index l k) totals
+          ∙ (c.scan.ensures.listed.same few k lt none ∙ ap (λ (l : List ℕ). slice_index l k) c.as_mut_slice-2.ensures.value);
+      inside = c.scan.ensures.listed.inside;
+    }

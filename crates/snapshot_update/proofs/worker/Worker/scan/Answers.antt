@@ -32,13 +32,13 @@ invariant_of-self g c =
       holds = λ x e. subst (λ (y : WorkSeat). IsFitOfSeat n cs hs gs w.index w.number row s.memory im' (index_of y) (worker_of y))
           (same_seat s.seat x e)
           (subst (λ (y : Member). IsFitOfSeat n cs hs gs w.index w.number row s.memory im'
-          (index_of s.seat) y) (sym told.others) (
-            told.index ∙ old.0,
+          (index_of s.seat) y) (sym told.scans.others) (
+            told.scans.index ∙ old.0,
             old.1,
             subst (λ (i : ℕ). IsFit n cs hs gs i (length m.work.made) row s.memory im'
-                (record m { scan = scan })) (sym told.index) fit,
+                (record m { scan = scan })) (sym told.scans.index) fit,
           ));
       seen = λ x e. subst (λ (y : WorkSeat). HasSeenOwn w.index (worker_of y)) (same_seat s.seat x e)
-          (told_own n cs hs gs w.index (worker_of s.seat) (ap (λ (y : Member). y.who) told.others ∙ (old.2.who ∙ ap Worker old.0))
-          told.ruled);
+          (told_own n cs hs gs w.index (worker_of s.seat) (ap (λ (y : Member). y.who) told.scans.others ∙ (old.2.who ∙ ap Worker old.0))
+          told.scans.ruled);
     }
