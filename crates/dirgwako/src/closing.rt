@@ -25,8 +25,13 @@ impl<X: MakesScrapes> ScrapeFrom for Owned<X> {
     }
 }
 
-/// The text of a scrape of what makes scrapes, and that.
-fn text_of<X: MakesScrapes + Drop>(state: X) -> Result<(Vec<u8>, X), TextFault>
+/// The text of a scrape of a registry that nobody shares, and the registry after it ([`RegistryState`], as it is behind a lock; or what else
+/// makes scrapes). A scrape that was given up is asked for up to three times more.
+///
+/// # Errors
+///
+/// 6 [`TextFault::NoMemory`]; 14 [`TextFault::Contended`]. The registry is gone then.
+pub fn text_of<X: MakesScrapes + Drop>(state: X) -> Result<(Vec<u8>, X), TextFault>
     ensures { IfOk result (λ made. IsText X.made state made.1 made.0.items) }
 {
     let mut owned = Owned { state };
@@ -35,8 +40,8 @@ fn text_of<X: MakesScrapes + Drop>(state: X) -> Result<(Vec<u8>, X), TextFault>
     Ok((text, state))
 }
 
-/// The text of a last scrape of a registry that no thread shares any more, and what stood behind its lock: its journal, the scrapes that
-/// it keeps, and its families. A scrape that was given up is asked for up to three times more.
+/// [`text_of`] a registry that no thread shares any more: the text of a last scrape, and what stood behind the lock, its journal, the
+/// scrapes that it keeps, and its families. What stood there before the last scrape no clause says.
 ///
 /// # Errors
 ///

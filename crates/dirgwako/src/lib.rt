@@ -28,7 +28,7 @@ pub use bounds::{exponential, linear};
 pub use bucket_math::{BadBounds, Bounds};
 pub use chain_law::NotAll;
 pub use change::{Change, down, inc, observe, up};
-pub use closing::{last_text, print_last};
+pub use closing::{last_text, print_last, text_of};
 pub use crew::Crew;
 pub use expo_text::{Scrape, render};
 pub use family::{CounterFamily, GaugeFamily, HistogramFamily};
@@ -51,7 +51,7 @@ pub use registry_state::{
 };
 pub use runtime::ServiceRuntime;
 pub use scrape_http::{NoScrape, ScrapeFrom, Served, Status, WireFault, serve_one};
-pub use scrape_server::{FromRegistry, serve_stream};
+pub use scrape_server::{FromRegistry, MakesScrapes, serve_stream};
 pub use serving::{Answered, serve, serve_forever};
 pub use settling::settle;
 pub use snapshot_scan::{Contended, PlainSource, Reader, Scanner, Snapshot, Source};
