@@ -43,6 +43,8 @@ raised_fit n c h g i k row memory im seen m f = record {
   hidden_is = f.hidden_is;
   shown_is = f.shown_is;
   images = f.images;
+  late = f.late;
+  covered = f.covered;
 }
 
 pub raised_holds : (n c h g index number : ℕ) (row : List ℕ) (memory : ScanMemory n c h g) (im : BufferImages) (i : ℕ)

@@ -8,3 +8,4 @@ pub mod FirstFit
 pub mod ScannedFit
 pub mod Lending
 pub mod Seating
+pub mod Covering

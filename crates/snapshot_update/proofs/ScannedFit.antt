@@ -15,7 +15,11 @@ use Rattle.snapshot_update.proofs.Fitting.{rows_many}
 pub scanned_fit : (n c h g index number : ℕ) (row : List ℕ) (memory memory' : ScanMemory n c h g) (im : BufferImages)
     (late : ChangedView) (m : Member) (s : ScanLog)
     → IsFit n c h g index number row memory im m → IsReady s memory' → late.all ≡ true → late.items ≡ im.late.items
-    → IsFit n c h g index number row memory' (record im { late = late; row_known = false }) (record m { scan = s })
+    → IsFit n c h g index number row memory' (record im {
+    late = late;
+    row_known = false;
+    covered = false;
+}) (record m { scan = s })
 scanned_fit n c h g index number row memory memory' im late m s fit ready all items = record {
   who = fit.who;
   counts = fit.counts;
@@ -35,4 +39,6 @@ scanned_fit n c h g index number row memory memory' im late m s fit ready all it
     late = λ listed. absurd (let e = sym all ∙ listed in cc);
     late_inside = λ j has. fit.images.late_inside j (subst (λ (l : List ℕ). Contains l j) items has);
   };
+  late = λ listed. absurd (let e = sym all ∙ listed in cc);
+  covered = λ yes. absurd (cc);
 }

@@ -1,5 +1,7 @@
 -- Noting items at which something changes.
 use Rattle.std.specs.Prelude.{◌≡◌, ℕ, ◌+◌, ◌<◌, ◌≤◌, ◌⊎◌, false, List, length, slice_index, Contains, ◌*◌}
+use Rattle.ledger_core.specs.declared.op.Op.{Op}
+use Rattle.ledger_core.specs.Ops.{sum_ops}
 use Rattle.snapshot_scan.specs.ChangedItems.{ChangedView}
 use Rattle.std.specs.Int.{bit_at}
 use Rattle.snapshot_update.specs.declared.run.Run.{Run}
@@ -14,6 +16,13 @@ pub record Touches (n w : ℕ) (by : ℕ → ℕ) (old new : ChangedView) : Type
   pub inside : (j : ℕ) → Contains new.items j → Contains old.items j ⊎ (j < w)
   pub longer : length new.items ≤ length old.items + n
   pub fits : old.all ≡ false → length old.items + n ≤ 256 → new.all ≡ false
+
+-- not all words may have changed: of a row of w words those are listed that these operations add to, and no items that are not words
+-- of the row
+pub record AreTouched (c h w : ℕ) (ops : List Op) (touched : ChangedView) : Type 0 where
+  pub listed : touched.all ≡ false
+  pub rises : (k : ℕ) → ¬ (Contains touched.items k) → sum_ops c h ops k ≡ 0
+  pub inside : (j : ℕ) → Contains touched.items j → j < w
 
 -- where two images differ is listed, of their items below n
 pub record SoFar (n : ℕ) (changed : ChangedView) (old new : List ℕ) : Type 0 where

@@ -1,5 +1,5 @@
 //! What a worker knows of its buffers.
-ghost use Rattle.std.specs.Prelude.{◌≡◌, true, [], replicate, IfOk};
+ghost use Rattle.std.specs.Prelude.{◌≡◌, true, false, [], replicate, IfOk};
 
 use snapshot_scan::ChangedItems;
 use std::alloc::{AllocError, Global};
@@ -20,6 +20,8 @@ pub(crate) struct BufferImages {
     pub(crate) row_known: bool,
     /// The words of the row that the last list of operations touched.
     pub(crate) touched: ChangedItems,
+    /// Whether `recent` has all that `late` and `touched` have, and none of the three stands for all items.
+    pub(crate) covered: bool,
 }
 
 impl BufferImages {
@@ -29,6 +31,7 @@ impl BufferImages {
         ensures shown { IfOk result (λ i. i.shown.items ≡ replicate words 0) }
         ensures recent { IfOk result (λ i. (i.recent.all ≡ true) × (i.recent.items ≡ [])) }
         ensures late { IfOk result (λ i. (i.late.all ≡ true) × (i.late.items ≡ [])) }
+        ensures covered { IfOk result (λ i. i.covered ≡ false) }
     {
         Ok(BufferImages {
             hidden: vec![in alloc; 0u64; words]?,
@@ -37,6 +40,7 @@ impl BufferImages {
             late: ChangedItems::new(alloc)?,
             row_known: true,
             touched: ChangedItems::new(alloc)?,
+            covered: false,
         })
     }
 }

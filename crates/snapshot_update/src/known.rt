@@ -14,8 +14,8 @@ use segment_layout::{Item, item_at};
 use snapshot_scan::{ChangedItems, ScanEnd, ScanMemory};
 
 /// Whether the version that an update publishes is known to differ from what the shown buffer holds at no items but the late
-/// and the touched ones. What the scan found anew is listed as late, too. `row_known` says that the row that was remembered of the
-/// worker's own segment is known to be its row.
+/// and the touched ones. What the scan found anew is listed as late, too; it says next whether that was nothing. `row_known` says that
+/// the row that was remembered of the worker's own segment is known to be its row.
 #[inline(always)]
 pub(crate) fn know_next<const N: usize, const C: usize, const H: usize, const G: usize>(
     seat: &WorkSeat,
@@ -24,20 +24,21 @@ pub(crate) fn know_next<const N: usize, const C: usize, const H: usize, const G:
     touched: &ChangedItems,
     row_known: bool,
     ended: ScanEnd,
-) -> bool
+) -> (bool, bool)
     requires geometry { IsGeometry N C H G }
     requires inside { index_of seat.now < N }
     requires words { AreInside (width C H G) (changed_totals_in memory.now) }
-    ensures touched { result ≡ true → touched.now.all ≡ false }
-    ensures known { result ≡ true → IsStill ended row_known late.old late.new
+    ensures touched { result.0 ≡ true → touched.now.all ≡ false }
+    ensures known { result.0 ≡ true → IsStill ended row_known late.old late.new
         ⊎ IsFollowed N C H G (index_of seat.now) (length (worker_of seat.now).work.made) memory.now ended late.old late.new }
-    ensures unknown { result ≡ false → late.new ≡ late.old }
+    ensures unknown { result.0 ≡ false → late.new ≡ late.old }
+    ensures still { result.1 ≡ true → (result.0 ≡ true) × (late.new ≡ late.old) }
 {
     let still = is_quiet(ended) & !touched.is_all() & row_known;
     if still {
-        return true;
+        return (true, true);
     }
-    follow(seat, memory, late, touched, ended)
+    (follow(seat, memory, late, touched, ended), false)
 }
 
 /// Where that is not known at once: whether the scan ended direct, with the number of its own worker, and all touched words are listed.

@@ -1,10 +1,10 @@
 //! Filling the hidden buffer with the version that is published next, by the cheapest way that is known to be enough (`fills.rt`), and
 //! listing where it then differs from the shown one.
-ghost use Rattle.std.specs.Prelude.{◌≡◌, ◌<◌};
+ghost use Rattle.std.specs.Prelude.{◌≡◌, ◌<◌, true, false};
 ghost use Rattle.ledger_core.specs.Ops.{width};
 ghost use Rattle.segment_layout.specs.Layout.{depth};
 ghost use Rattle.snapshot_update.specs.BufferImages.{DifferAt, target_of};
-ghost use Rattle.snapshot_update.specs.Fit.{AreInside};
+ghost use Rattle.snapshot_update.specs.Fit.{AreInside, Covers};
 ghost use Rattle.snapshot_update.specs.Conditions.{MayFill, HasFilled};
 
 use crate::fills::{fill_all, fill_changes, fill_known};
@@ -15,7 +15,7 @@ use snapshot_scan::ChangedItems;
 
 /// Fills the hidden buffer with the version, and lists in `recent` where it differs from what the shown buffer holds. Where
 /// it is `listed` that the version differs from that at no items but the late and the touched ones, no items but those of the
-/// three lists are compared.
+/// three lists are compared, and the new recent items have all that are late and touched. `covered` says that the old ones have.
 #[inline(always)]
 pub(crate) fn fill_next<const N: usize, const C: usize, const H: usize, const G: usize>(
     board: &Board<N, C, H, G>,
@@ -27,15 +27,18 @@ pub(crate) fn fill_next<const N: usize, const C: usize, const H: usize, const G:
     touched: &ChangedItems,
     version: &NextVersion<C, H, G>,
     listed: bool,
+    covered: bool,
 )
-    requires { MayFill board.now seat.old hidden.old shown.now recent.old late.now touched.now version.now listed }
+    requires may { MayFill board.now seat.old hidden.old shown.now recent.old late.now touched.now version.now listed }
+    requires covered { covered ≡ true → Covers recent.old late.now touched.now }
     ensures fills { HasFilled board.now hidden.new seat.old seat.new }
     ensures hidden { hidden.new ≡ target_of version.now }
     ensures recent { DifferAt recent.new shown.now (target_of version.now) }
     ensures inside { AreInside (depth N (width C H G)) recent.new }
+    ensures covers { listed ≡ true → recent.new.all ≡ false → Covers recent.new late.now touched.now }
 {
     if listed {
-        let all_recent = are_both(recent.as_slice(), late.as_slice(), touched.as_slice());
+        let all_recent = covers(recent, late, touched, covered);
         if all_recent {
             fill_changes(board, seat, hidden, recent, version);
             return;
@@ -47,4 +50,23 @@ pub(crate) fn fill_next<const N: usize, const C: usize, const H: usize, const G:
         return;
     }
     fill_all(board, seat, hidden, shown, recent, version);
+}
+
+/// Whether the recent items are known to have all that are late and touched: it is `covered` already, or they are those of both lists,
+/// one behind the other.
+#[inline(always)]
+fn covers(
+    recent: &ChangedItems,
+    late: &ChangedItems,
+    touched: &ChangedItems,
+    covered: bool,
+) -> bool
+    requires listed { (recent.now.all ≡ false) × (late.now.all ≡ false) × (touched.now.all ≡ false) }
+    requires covered { covered ≡ true → Covers recent.now late.now touched.now }
+    ensures { result ≡ true → Covers recent.now late.now touched.now }
+{
+    if covered {
+        return true;
+    }
+    are_both(recent.as_slice(), late.as_slice(), touched.as_slice())
 }

@@ -1,9 +1,9 @@
 //! Which words of a row operations change.
-ghost use Rattle.std.specs.Prelude.{◌≡◌, ◌+◌, ◌*◌, ◌<◌, ◌≤◌, ℕ, false, length, All, Contains};
+ghost use Rattle.std.specs.Prelude.{◌≡◌, ◌+◌, ◌*◌, ◌<◌, ◌≤◌, ℕ, true, false, length, All, Contains};
 ghost use Rattle.ledger_core.specs.Ops.{width, only, part, sum_ops, IsWithin};
 ghost use Rattle.ledger_core.specs.Limits.{AreSlots};
 ghost use Rattle.snapshot_update.specs.Fit.{AreInside};
-ghost use Rattle.snapshot_update.specs.Noting.{Touches, IsRun};
+ghost use Rattle.snapshot_update.specs.Noting.{Touches, AreTouched, IsRun};
 
 use crate::run::Run;
 use ledger_core::Op;
@@ -22,10 +22,7 @@ const COUNT: usize = 26;
 /// that is observed many times one after the other are listed once. A list has room for 256 items, and an operation touches three words
 /// at most: so 85 operations always fit.
 #[inline(always)]
-pub(crate) fn touch<const C: usize, const H: usize, const G: usize>(
-    ops: &[Op],
-    touched: &mut ChangedItems,
-)
+fn touch_all<const C: usize, const H: usize, const G: usize>(ops: &[Op], touched: &mut ChangedItems)
     requires within { All (IsWithin C H G) ops.now }
     requires slots { AreSlots C H G }
     ensures rises { touched.new.all ≡ false → (k : ℕ) → ¬ (Contains touched.new.items k) → sum_ops C H ops.now k ≡ 0 }
@@ -36,6 +33,62 @@ pub(crate) fn touch<const C: usize, const H: usize, const G: usize>(
     let mut run = Run { hist: H, seen: 0 };
     for op in ops {
         touch_one::<C, H, G>(op, touched, &mut run);
+    }
+}
+
+/// As [`touch_all`]. It says whether the list is as it was: then one operation touches the words that the last list touched.
+#[inline(always)]
+pub(crate) fn touch<const C: usize, const H: usize, const G: usize>(
+    ops: &[Op],
+    touched: &mut ChangedItems,
+) -> bool
+    requires within { All (IsWithin C H G) ops.now }
+    requires slots { AreSlots C H G }
+    ensures rises { touched.new.all ≡ false → (k : ℕ) → ¬ (Contains touched.new.items k) → sum_ops C H ops.now k ≡ 0 }
+    ensures inside { AreInside (width C H G) touched.new }
+    ensures few { length ops.now ≤ 85 → touched.new.all ≡ false }
+    ensures again { result ≡ true → touched.new ≡ touched.old }
+{
+    let again = is_again::<C, H, G>(ops, touched);
+    if again {
+        return true;
+    }
+    touch_all::<C, H, G>(ops, touched);
+    false
+}
+
+/// Whether just the words that one operation adds to are listed. Of a list of more it says no.
+#[inline(always)]
+fn is_again<const C: usize, const H: usize, const G: usize>(
+    ops: &[Op],
+    touched: &ChangedItems,
+) -> bool
+    requires within { All (IsWithin C H G) ops.now }
+    requires slots { AreSlots C H G }
+    ensures { result ≡ true → AreTouched C H (width C H G) ops.now touched.now }
+{
+    if ops.len() != 1 || touched.is_all() {
+        return false;
+    }
+    is_one::<C, H, G>(&ops[0], touched.as_slice())
+}
+
+/// Whether these are the words that the operation adds to.
+#[inline(always)]
+fn is_one<const C: usize, const H: usize, const G: usize>(op: &Op, words: &[usize]) -> bool
+    requires within { IsWithin C H G op.now }
+    requires slots { AreSlots C H G }
+    ensures rises { result ≡ true → (k : ℕ) → ¬ (Contains words.now k) → part C H op.now k ≡ 0 }
+    ensures inside { result ≡ true → (j : ℕ) → Contains words.now j → j < width C H G }
+{
+    match *op {
+        Op::Inc { counter, .. } => words == [counter].as_slice(),
+        Op::Observe { hist, place, .. } => {
+            let first = C + HIST * hist;
+            words == [first + SUM, first + COUNT, first + place].as_slice()
+        }
+        Op::Up { gauge, .. } => words == [C + HIST * H + 2 * gauge].as_slice(),
+        Op::Down { gauge, .. } => words == [C + HIST * H + 2 * gauge + 1].as_slice(),
     }
 }
 

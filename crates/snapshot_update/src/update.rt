@@ -26,7 +26,7 @@ ghost use Rattle.register_rule.specs.Seats.{worker_of, index_of, IsWorkSeatOf};
 ghost use Rattle.snapshot_scan.specs.declared.scan_end.ScanEnd.TheVariants as ScanEnd;
 ghost use Rattle.snapshot_scan.specs.ScanMemories.{rows_of, totals_in, answer_of, HasView};
 ghost use Rattle.snapshot_update.specs.BufferImages.{DifferAt, version_words};
-ghost use Rattle.snapshot_update.specs.Fit.{AreInside, IsFit};
+ghost use Rattle.snapshot_update.specs.Fit.{AreInside, AreLate, OnlyLate, Covers, IsFit};
 ghost use Rattle.snapshot_update.specs.Conditions.{MayMakeVersion, MayLearn, HasFilled};
 ghost use Rattle.snapshot_update.specs.Updated.{IsUpdated};
 
@@ -52,7 +52,8 @@ fn flag_word(lends: bool) -> u64
 }
 
 /// Fills the hidden buffer with the version of this row, with the answer of the scan that ended so, and says whether it lends
-/// that. `known` is what `know_next` answered.
+/// that. `known` is what `know_next` answered; `covered` says that the recent items have all that are late and touched, and it notes
+/// whether they have then.
 #[inline(always)]
 fn fill_version<const N: usize, const C: usize, const H: usize, const G: usize>(
     board: &Board<N, C, H, G>,
@@ -62,8 +63,10 @@ fn fill_version<const N: usize, const C: usize, const H: usize, const G: usize>(
     images: &mut BufferImages,
     ended: ScanEnd,
     known: bool,
+    covered: bool,
 ) -> bool
-    requires { MayMakeVersion board.now seat.old row.now memory.now images.old ended known }
+    requires may { MayMakeVersion board.now seat.old row.now memory.now images.old ended known }
+    requires covered { covered ≡ true → Covers images.old.recent images.old.late images.old.touched }
     ensures fills { HasFilled board.now images.new.hidden.items seat.old seat.new }
     ensures hidden { images.new.hidden.items ≡ version_words row.now (cond result 1 0) (answer_of memory.now ended).vector
         (answer_of memory.now ended).totals }
@@ -71,6 +74,7 @@ fn fill_version<const N: usize, const C: usize, const H: usize, const G: usize>(
         × (images.new.touched ≡ images.old.touched) × (images.new.row_known ≡ images.old.row_known) }
     ensures recent { DifferAt images.new.recent images.old.shown.items images.new.hidden.items }
     ensures inside { AreInside (depth N (width C H G)) images.new.recent }
+    ensures covers { images.new.covered ≡ true → Covers images.new.recent images.new.late images.new.touched }
     ensures view { result ≡ true → HasView ended }
     ensures none { result ≡ false → ended ≡ ScanEnd.GaveUp }
 {
@@ -88,22 +92,29 @@ fn fill_version<const N: usize, const C: usize, const H: usize, const G: usize>(
         &images.touched,
         &version,
         listed,
+        covered,
     );
+    images.covered = listed & !images.recent.is_all();
     lends
 }
 
 /// After the publish the buffers have changed their roles: exchanges their images, and lists anew where the shown one differs from what
 /// an update of nothing would publish now (`late`): anywhere, where it is not `known`, as `know_next` answered. Where the two differ from
-/// each other (`recent`) stays as it is.
+/// each other (`recent`) stays as it is. `again` says that the touched words are those of the update before; where the update `repeats`
+/// that one in all, what is late is listed already.
 #[inline(always)]
 fn turn<const N: usize, const C: usize, const H: usize, const G: usize>(
     images: &mut BufferImages,
     index: usize,
     known: bool,
+    again: bool,
+    repeats: bool,
 )
     requires geometry { IsGeometry N C H G }
     requires inside { index < N }
     requires touched { AreInside (width C H G) images.old.touched }
+    requires repeats { repeats ≡ true → (known ≡ true) × (again ≡ true) × (images.old.late.all ≡ false)
+        × AreInside (depth N (width C H G)) images.old.late × AreLate N (width C H G) index images.old.touched images.old.late }
     ensures buffers { (images.new.hidden.items ≡ images.old.shown.items) × (images.new.shown.items ≡ images.old.hidden.items) }
     ensures others { (images.new.recent ≡ images.old.recent) × (images.new.touched ≡ images.old.touched) }
     ensures unknown { known ≡ false → images.new.late.all ≡ true }
@@ -111,11 +122,17 @@ fn turn<const N: usize, const C: usize, const H: usize, const G: usize>(
     ensures totals { images.new.late.all ≡ false → (k : ℕ) → Contains images.old.touched.items k
         → Contains images.new.late.items (width C H G + 1 + N + k) }
     ensures inside { AreInside (depth N (width C H G)) images.new.late }
+    ensures covered { images.new.covered ≡ true → (images.old.covered ≡ true) × (again ≡ true)
+        × OnlyLate N (width C H G) index images.old.touched images.old.late images.new.late }
 {
     swap(&mut images.hidden, &mut images.shown);
+    if repeats {
+        return;
+    }
     let number = item_at(N, C, H, G, Item::Vector { worker: index });
     let totals_at = item_at(N, C, H, G, Item::Flag) + 1 + N;
     list_late(&mut images.late, &images.touched, number, totals_at, known);
+    images.covered = images.covered & again & !images.late.is_all();
 }
 
 /// Remembers the worker's own new row. Where `known`, as `know_next` answered, it differs from the remembered one at the touched words alone.
@@ -170,8 +187,8 @@ pub(crate) fn update<const N: usize, const C: usize, const H: usize, const G: us
 {
     row.try_apply(ops)?;
     let ended = scan_for_update(board, seat, memory);
-    touch::<C, H, G>(ops, &mut images.touched);
-    let known = know_next(
+    let again = touch::<C, H, G>(ops, &mut images.touched);
+    let (known, still) = know_next(
         seat,
         memory,
         &mut images.late,
@@ -179,10 +196,11 @@ pub(crate) fn update<const N: usize, const C: usize, const H: usize, const G: us
         images.row_known,
         ended,
     );
-    let lends = fill_version(board, seat, row, memory, images, ended, known);
+    let repeats = images.covered & again & still;
+    let lends = fill_version(board, seat, row, memory, images, ended, known, repeats);
     board.publish(seat, ops, lends);
     let index = seat.worker();
-    turn::<N, C, H, G>(images, index, known);
+    turn::<N, C, H, G>(images, index, known, again, repeats);
     let number = seat.number();
     learn(memory, index, number, row, images, known);
     images.row_known = true;

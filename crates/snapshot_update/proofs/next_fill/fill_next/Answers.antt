@@ -9,13 +9,13 @@ use Rattle.snapshot_update.proofs.next_fill.fill_next.Goals as goal
 
 pub note_each-requires : goal.note_each-requires
 note_each-requires g c = record {
-  room = λ j has. let lt = c.requires.inside.1 j has in let few = c.requires.few in
+  room = λ j has. let lt = c.requires.may.inside.1 j has in let few = c.requires.may.few in
       omega (arith, lt, few);
 }
 
 pub note_each-requires-then-listed : goal.note_each-requires-then-listed
 note_each-requires-then-listed g c = record {
-  room = λ j has. let lt = c.requires.inside.2 j has in let few = c.requires.few in
+  room = λ j has. let lt = c.requires.may.inside.2 j has in let few = c.requires.may.few in
       omega (arith, lt, few);
 }
 
@@ -38,31 +38,38 @@ both_inside n one two cleared a b empty x y in_one in_two j has = ⊎_elim
     (λ t. let lt = in_two t.0 t.1 in let e = t.2 in omega (arith, lt, e)) (y.others j has)
 
 pub returns-then-listed-clause-recent : goal.returns-then-listed-clause-recent
-returns-then-listed-clause-recent g c = λ listed j lt not. let lens = c.requires.lengths in
+returns-then-listed-clause-recent g c = λ listed j lt not. let lens = c.requires.may.lengths in
     let b = both_listed c.args.late.now.items c.args.touched.now.items c.clear.new.self c.note_each.new.to
     c.note_each-then-listed.new.to c.clear.ensures.none.1 c.note_each.ensures c.note_each-then-listed.ensures listed j not in
-    c.requires.known c.if-listed.true j (omega (arith, lens.2, lt)) b.0 b.1
+    c.requires.may.known c.if-listed.true j (omega (arith, lens.2, lt)) b.0 b.1
 
 pub returns-then-listed-clause-inside : goal.returns-then-listed-clause-inside
 returns-then-listed-clause-inside g c =
     both_inside (depth g.row.N (width g.row.C g.row.H g.row.G)) c.args.late.now.items c.args.touched.now.items c.clear.new.self
     c.note_each.new.to c.note_each-then-listed.new.to c.clear.ensures.none.1 c.note_each.ensures c.note_each-then-listed.ensures
-    c.requires.inside.1 c.requires.inside.2
+    c.requires.may.inside.1 c.requires.may.inside.2
 
 pub returns-then-all_recent-clause-recent : goal.returns-then-all_recent-clause-recent
-returns-then-all_recent-clause-recent g c = λ _ j lt not. let lens = c.requires.lengths in
-    let r = c.as_slice.ensures.listed in let a = c.as_slice-then-listed.ensures.listed in
-    let b = c.as_slice-then-listed-2.ensures.listed in
-    let both = c.are_both-all_recent.ensures in let yes = c.if-all_recent.true in
-    c.requires.known c.if-listed.true j (omega (arith, lens.2, lt))
-    (λ h. not (subst (λ (l : List ℕ). Contains l j) r (both.first yes j (subst (λ (l : List ℕ). Contains l j) (sym a) h))))
-    (λ h. not (subst (λ (l : List ℕ). Contains l j) r (both.second yes j (subst (λ (l : List ℕ). Contains l j) (sym b) h))))
+returns-then-all_recent-clause-recent g c = λ _ j lt not. let lens = c.requires.may.lengths in
+    let all = c.covers-all_recent.ensures c.if-all_recent.true in
+    c.requires.may.known c.if-listed.true j (omega (arith, lens.2, lt)) (all.late_too j not) (all.touched_too j not)
 
 pub returns-then-all_recent-clause-hidden : goal.returns-then-all_recent-clause-hidden
 returns-then-all_recent-clause-hidden g c =
-    let lens = c.requires.lengths in let fills = c.fill_changes.ensures in let listed = c.requires.listed c.if-listed.true in
+    let lens = c.requires.may.lengths in let fills = c.fill_changes.ensures in let listed = c.requires.may.listed c.if-listed.true in
     all_filled c.fill_changes.new.hidden (target_of c.args.version.now) (depth g.row.N (width g.row.C g.row.H g.row.G))
     (c.fill_changes.auto.hidden ∙ lens.0) lens.2 (λ j lt.
-    ⊎_elim (fills.filled j) (λ not_recent. fills.kept j (c.requires.differ listed.0 j (omega (arith, lens.1, lt)) not_recent
+    ⊎_elim (fills.filled j) (λ not_recent. fills.kept j (c.requires.may.differ listed.0 j (omega (arith, lens.1, lt)) not_recent
     ∙ returns-then-all_recent-clause-recent g c listed.0 j (omega (arith, lens.2, lt)) not_recent))
     (listed_or c.args.recent.now.items j))
+
+pub returns-then-listed-clause-covers : goal.returns-then-listed-clause-covers
+returns-then-listed-clause-covers g c = λ _ few.
+    let listed = c.requires.may.listed c.if-listed.true in
+    let both = both_listed c.args.late.now.items c.args.touched.now.items c.clear.new.self c.note_each.new.to
+    c.note_each-then-listed.new.to c.clear.ensures.none.1 c.note_each.ensures c.note_each-then-listed.ensures few in
+    record {
+      listed = (few, listed.1, listed.2);
+      late_too = λ j not. (both j not).0;
+      touched_too = λ j not. (both j not).1;
+    }

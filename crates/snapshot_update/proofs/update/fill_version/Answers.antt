@@ -20,8 +20,8 @@ direct_views false e quiet none direct = absurd (let h = sym (none refl) ∙ dir
 pub fill_next-requires : goal.fill_next-requires
 fill_next-requires g c =
     let n : ℕ = g.row.N in let w : ℕ = width g.row.C g.row.H g.row.G in let b : ℕ = depth n w in
-    let im = c.args.images.now in let t = c.requires.images.1 in let q = c.requires.images.2 in
-    let geo = c.requires.geometry in let slots = geo.slots in let few = geo.workers.1 in
+    let im = c.args.images.now in let t = c.requires.may.images.1 in let q = c.requires.may.images.2 in
+    let geo = c.requires.may.geometry in let slots = geo.slots in let few = geo.workers.1 in
     let deep : length im.hidden.items ≡ b = t.hidden_deep in
     let hidden = c.as_mut_slice.ensures.value in let shown = c.as_slice.ensures.value in
     let lens = c.answer.ensures.lengths in let long = c.new-version.ensures.lengths in
@@ -29,10 +29,10 @@ fill_next-requires g c =
       search rules,
       (
         search rules,
-        record {
+        (record {
           stores = record {
-            of_board = c.requires.stores.of_board;
-            exact = c.requires.stores.exact ∙ sym hidden;
+            of_board = c.requires.may.stores.of_board;
+            exact = c.requires.may.stores.exact ∙ sym hidden;
           };
           lengths = (
             ap (λ (l : List ℕ). length l) hidden ∙ deep,
@@ -40,7 +40,7 @@ fill_next-requires g c =
             (let e : length (target_of v) ≡ b = omega (arith, long, lens.0, lens.1) in e),
           );
           few = let c1 = slots.counters in let c2 = slots.histograms in let c3 = slots.gauges in omega (arith, few, c1, c2, c3);
-          inside = (t.recent_inside, t.late_inside, λ j has. let lt = c.requires.touched j has in omega (arith, lt));
+          inside = (t.recent_inside, t.late_inside, λ j has. let lt = c.requires.may.touched j has in omega (arith, lt));
           listed = λ known. let a = and_parts _ _ known in let a' = and_parts _ _ a.0 in
               (sym c.is_all.ensures ∙ not-true _ a'.1, sym c.is_all-2.ensures ∙ not-true _ a.1, (q a'.0).0);
           differ = λ listed j lt not_there. ap (λ (l : List ℕ). slice_index l j) hidden
@@ -51,7 +51,7 @@ fill_next-requires g c =
               let lends : c.has_view-lends.result ≡ true = direct_views c.has_view-lends.result c.args.ended is.1.0
               c.has_view-lends.ensures.none is.1.1 in
               let flag : c.flag_word.result ≡ 1 = c.flag_word.ensures ∙ ap (λ (x : Bool). cond x 1 0) lends in
-              let next = c.requires.images.0 in
+              let next = c.requires.may.images.0 in
               let same : slice_index im.shown.items j ≡ slice_index next j = t.late (sym c.is_all-2.ensures ∙ not-true _ a.1) j
               (let e = t.idle_deep in omega (arith, lt, e)) not_late in
               let words : target_of v ≡ version_words c.args.row.now 1 (answer_of c.args.memory.now c.args.ended).vector
@@ -59,9 +59,14 @@ fill_next-requires g c =
               ∙ (λ z. version_words c.args.row.now (flag z) (c.answer.ensures.vector z) (c.answer.ensures.totals z)) in
               ap (λ (l : List ℕ). slice_index l j) shown
               ∙ (same ∙ (is.2 j lt not_touched ∙ ap (λ (l : List ℕ). slice_index l j) (sym words)));
-        },
+        }, c.requires.covered),
       ),
     )
+
+pub returns-clause-covers : goal.returns-clause-covers
+returns-clause-covers g c = λ yes.
+    let both = and_parts _ _ yes in
+    c.fill_next.ensures.covers both.0 (sym c.is_all-3.ensures ∙ not-true _ both.1)
 
 -- what was written over the hidden buffer's words is what it holds
 pub returns-clause-fills : goal.returns-clause-fills

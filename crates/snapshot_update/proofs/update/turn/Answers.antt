@@ -1,4 +1,6 @@
-use Rattle.std.proofs.Common.{◌≡◌, ⊎_elim, ◌+◌, ℕ, Contains, arith, subst}
+use Rattle.std.proofs.Common.{◌≡◌, ◌⊎◌, inl, inr, ⊎_elim, ◌+◌, ℕ, List, Contains, refl, sym, ◌∙◌, arith, subst}
+use Rattle.std.proofs.lemmas.Bool.{and_parts, not-true}
+use Rattle.snapshot_update.proofs.Filling.{listed_or}
 use Rattle.snapshot_update.proofs.update.turn.Goals as goal
 
 pub list_late-requires : goal.list_late-requires
@@ -8,6 +10,21 @@ list_late-requires g c = record {
       let s = c.requires.geometry.slots in let a = s.counters in let b = s.histograms in let d = s.gauges in
       omega (arith, lt, e, few, a, b, d);
 }
+
+-- what is not missing is listed
+listed_if : (l : List ℕ) (j : ℕ) → ((Contains l j → ⊥) → ⊥) → Contains l j
+listed_if l j h = ⊎_elim (λ has. has) (λ none. absurd (h none)) (listed_or l j)
+
+pub returns-then-repeats-clause-number : goal.returns-then-repeats-clause-number
+returns-then-repeats-clause-number g c = λ listed.
+    let late = (c.requires.repeats c.if-repeats.true).4 in listed_if _ _ (λ none. late.number _ none refl)
+
+pub returns-then-repeats-clause-totals : goal.returns-then-repeats-clause-totals
+returns-then-repeats-clause-totals g c = λ listed k has.
+    let late = (c.requires.repeats c.if-repeats.true).4 in listed_if _ _ (λ none. late.totals k none has)
+
+pub returns-then-repeats-clause-inside : goal.returns-then-repeats-clause-inside
+returns-then-repeats-clause-inside g c = (c.requires.repeats c.if-repeats.true).3
 
 pub returns-clause-totals : goal.returns-clause-totals
 returns-clause-totals g c = λ listed k has. let e = c.item_at.ensures.place in
@@ -19,3 +36,16 @@ returns-clause-inside g c = λ j has. let e = c.item_at.ensures.place in let e' 
     let own = c.requires.inside in
     ⊎_elim (λ h. omega (arith, e', own, h)) (λ t. let lt = c.requires.touched t.0 t.1 in let h = t.2 in omega (arith, e, lt, h))
     (c.list_late.ensures.others j has)
+
+pub returns-clause-covered : goal.returns-clause-covered
+returns-clause-covered g c = λ yes.
+    let e = c.item_at.ensures.place in let e' = c.item_at-number.ensures.place in
+    let outer = and_parts _ _ yes in let inner = and_parts _ _ outer.0 in (
+      inner.0,
+      inner.1,
+      (
+        sym c.is_all.ensures ∙ not-true _ outer.1,
+        λ j has. inr (⊎_elim (λ h. inl (omega (arith, e', h))) (λ t. let h = t.2 in inr (t.0, t.1, omega (arith, e, h)))
+            (c.list_late.ensures.others j has)),
+      ),
+    )

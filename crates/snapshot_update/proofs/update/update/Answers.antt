@@ -3,6 +3,7 @@ use Rattle.std.proofs.Common.{take, set, slice_index, Contains, sym, refl, ap, �
 use mathlib.Core.Option.{some, some-injective}
 use lib.ListN.{get_elem?}
 use Rattle.std.proofs.lemmas.List.{length_push}
+use Rattle.std.proofs.lemmas.Bool.{and_parts}
 use Rattle.ledger_core.specs.Ops.{width, sum_ops}
 use Rattle.ledger_core.specs.Row.{Accepts}
 use Rattle.segment_layout.specs.Layout.{depth}
@@ -20,12 +21,13 @@ use Rattle.snapshot_scan.specs.ScanMemories.{rows_of, totals_in, answer_of}
 use Rattle.snapshot_scan.specs.ChangedItems.{ChangedView}
 use Rattle.snapshot_update.specs.declared.buffer_images.BufferImages.{BufferImages}
 use Rattle.snapshot_update.specs.BufferImages.{DifferAt, version_words, with_hidden}
-use Rattle.snapshot_update.specs.Fit.{AreInside, AreImages, number_in, idle_words}
+use Rattle.snapshot_update.specs.Fit.{AreInside, AreImages, AreLate, Covers, number_in, idle_words}
 use Rattle.snapshot_update.specs.Updated.{ScanCameTo, IsRuledAlone}
 use Rattle.snapshot_update.proofs.VersionWords.{known_words, late_words, words_long, row_taken, numbers_long}
 use Rattle.register_rule.proofs.Publish.{total_last}
 use Rattle.snapshot_update.proofs.Fitting.{answer_long, rows_many, accepts_same, holds}
 use Rattle.snapshot_update.proofs.Following.{next_is}
+use Rattle.snapshot_update.proofs.Covering.{late_on, covers_on, known_keeps}
 use Rattle.snapshot_update.proofs.update.update.Goals as goal
 
 -- what is touched says nothing of the images
@@ -52,35 +54,35 @@ fill_version-lends-requires g c =
     let row = c.args.row.now in let row' = c.try_apply.new.self in let adds = c.in_ok-try_apply.ensures.ok in
     let wide : length row ≡ w = fit.wide in
     let a = answer_of memory s.result in let long = answer_long n g.row.C g.row.H g.row.G memory s.result in
-    let known = c.know_next-known.result in (
+    let known = c.know_next-known.result.0 in (
       search rules,
       (
         search rules,
         (
           search rules,
-          record {
+          (record {
             stores = record {
               of_board = s.ensures.scans.of_board;
               exact = ap (λ (m : Member). m.work.hidden) s.ensures.scans.others ∙ fit.hidden_is;
             };
             geometry = c.requires.geometry;
-            touched = c.touch.ensures.inside;
+            touched = c.touch-again.ensures.inside;
             images = by_known known (λ yes.
                 let next = next_is n g.row.C g.row.H g.row.G (index_of c.args.seat.now) row c.args.memory.now memory im
                 c.know_next-known.new.late (worker_of c.args.seat.now) (worker_of s.new.seat) s.result
                 fit c.requires.of_board.1 s.ensures.scans.others s.ensures.scans.ruled s.ensures.ready s.ensures.quiet s.ensures.numbers
                 s.ensures.listed.same (index_of s.new.seat) _ s.ensures.scans.index
                 (ap (λ (x : Member). length x.work.made) s.ensures.scans.others) (c.know_next-known.ensures.known yes) in
-                let listed : c.touch.new.touched.all ≡ false = c.know_next-known.ensures.touched yes in (
+                let listed : c.touch-again.new.touched.all ≡ false = c.know_next-known.ensures.touched yes in (
                   idle_words row (rows_of memory) (totals_in memory),
-                  touched_images b _ (record im { late = c.know_next-known.new.late }) c.touch.new.touched next.images,
+                  touched_images b _ (record im { late = c.know_next-known.new.late }) c.touch-again.new.touched next.images,
                   λ _. (
                     listed,
                     next.direct,
                     λ j lt none. known_words w n row row' (rows_of memory) (totals_in memory) a.vector a.totals wide
                         (adds.width_stays ∙ wide) (rows_many n g.row.C g.row.H g.row.G memory) long.0 next.numbers
-                        next.totals c.touch.new.touched.items
-                        (λ k lt' none'. let e = adds.sums k in let z = c.touch.ensures.rises listed k none' in
+                        next.totals c.touch-again.new.touched.items
+                        (λ k lt' none'. let e = adds.sums k in let z = c.touch-again.ensures.rises listed k none' in
                         omega (arith, e, z)) j (omega (arith, lt)) none,
                   ),
                 ))
@@ -88,11 +90,16 @@ fill_version-lends-requires g c =
                   idle_words row (rows_of c.args.memory.now) (totals_in c.args.memory.now),
                   subst (λ (x : ChangedView). AreImages b (idle_words row (rows_of c.args.memory.now)
                       (totals_in c.args.memory.now))
-                      (record im { late = x; touched = c.touch.new.touched })) (sym (c.know_next-known.ensures.unknown no))
-                      (touched_images b _ im c.touch.new.touched fit.images),
+                      (record im { late = x; touched = c.touch-again.new.touched })) (sym (c.know_next-known.ensures.unknown no))
+                      (touched_images b _ im c.touch-again.new.touched fit.images),
                   λ yes. absurd (let h = sym yes ∙ no in cc),
                 ));
-          },
+          }, λ yes.
+              let both = and_parts _ _ yes in let first = and_parts _ _ both.0 in
+              let still = c.know_next-known.ensures.still both.1 in
+              subst (λ (x : ChangedView). Covers im.recent x c.touch-again.new.touched) (sym still.1)
+              (subst (λ (x : ChangedView). Covers im.recent im.late x) (sym (c.touch-again.ensures.again first.1))
+              (fit.covered first.0))),
         ),
       ),
     )
@@ -136,7 +143,32 @@ publish-requires g c =
 
 pub turn-requires-clause-touched : goal.turn-requires-clause-touched
 turn-requires-clause-touched g c = subst (AreInside (width g.row.C g.row.H g.row.G)) (sym c.fill_version-lends.ensures.others.2)
-    c.touch.ensures.inside
+    c.touch-again.ensures.inside
+
+-- what was late is late still, of the words that were touched before
+late_before : (n w i : ℕ) (touched touched' late late' : ChangedView) → touched' ≡ touched → late' ≡ late
+    → AreLate n w i touched late → AreLate n w i touched' late'
+late_before n w i touched touched' late late' t l is = subst (λ (x : ChangedView). AreLate n w i x late') (sym t)
+    (subst (λ (x : ChangedView). AreLate n w i touched x) (sym l) is)
+
+pub turn-requires-clause-repeats : goal.turn-requires-clause-repeats
+turn-requires-clause-repeats g c = λ yes.
+    let n : ℕ = g.row.N in let w : ℕ = width g.row.C g.row.H g.row.G in
+    let fit = c.requires.fit in let s = c.scan_for_update-ended in let f = c.fill_version-lends in let im = c.args.images.now in
+    let both = and_parts _ _ yes in let first = and_parts _ _ both.0 in
+    let still = c.know_next-known.ensures.still both.1 in let again = c.touch-again.ensures.again first.1 in
+    let cov = fit.covered first.0 in
+    let late : f.new.images.late ≡ im.late = f.ensures.others.1 ∙ still.1 in
+    let touched : f.new.images.touched ≡ im.touched = f.ensures.others.2 ∙ again in
+    let at : c.worker-index.result ≡ index_of c.args.seat.now = c.worker-index.ensures.index
+    ∙ (c.publish.ensures.index ∙ (f.ensures.fills.index ∙ s.ensures.scans.index)) in (
+      still.0,
+      first.1,
+      ap (λ (x : ChangedView). x.all) late ∙ cov.listed.1,
+      subst (AreInside (depth n w)) (sym late) fit.images.late_inside,
+      late_before n w c.worker-index.result im.touched f.new.images.touched im.late f.new.images.late touched late
+          (subst (λ (i : ℕ). AreLate n w i im.touched im.late) (sym at) (fit.late cov.listed.1)),
+    )
 
 pub learn-requires : goal.learn-requires
 learn-requires g c =
@@ -147,25 +179,25 @@ learn-requires g c =
     let i : ℕ = index_of c.args.seat.now in
     let same : c.worker-index.result ≡ i = c.worker-index.ensures.index
     ∙ (c.publish.ensures.index ∙ (f.ensures.fills.index ∙ s.ensures.scans.index)) in
-    let touched : c.turn.new.images.touched ≡ c.touch.new.touched = c.turn.ensures.others.1 ∙ f.ensures.others.2 in (
+    let touched : c.turn.new.images.touched ≡ c.touch-again.new.touched = c.turn.ensures.others.1 ∙ f.ensures.others.2 in (
       search rules,
       (
         search rules,
         record {
           geometry = c.requires.geometry;
           inside = let lt = c.requires.of_board.1 in omega (arith, same, lt);
-          touched = subst (AreInside w) (sym touched) c.touch.ensures.inside;
+          touched = subst (AreInside w) (sym touched) c.touch-again.ensures.inside;
           known = λ yes v at k lt none.
               let next = next_is n g.row.C g.row.H g.row.G (index_of c.args.seat.now) row c.args.memory.now memory im
               c.know_next-known.new.late (worker_of c.args.seat.now) (worker_of s.new.seat) s.result
               fit c.requires.of_board.1 s.ensures.scans.others s.ensures.scans.ruled s.ensures.ready s.ensures.quiet s.ensures.numbers
               s.ensures.listed.same (index_of s.new.seat) _ s.ensures.scans.index
               (ap (λ (x : Member). length x.work.made) s.ensures.scans.others) (c.know_next-known.ensures.known yes) in
-              let listed : c.touch.new.touched.all ≡ false = c.know_next-known.ensures.touched yes in
+              let listed : c.touch-again.new.touched.all ≡ false = c.know_next-known.ensures.touched yes in
               let here : some v ≡ some (record { number = length (worker_of c.args.seat.now).work.made; row = row }) = sym at
               ∙ (ap (get_elem? (rows_of memory)) same ∙ next.row_known) in
               let e = ap (λ (x : Version). slice_index x.row k) (some-injective v _ here) in
-              let z = c.touch.ensures.rises listed k (λ has. none (subst (λ (t : ChangedView). Contains t.items k)
+              let z = c.touch-again.ensures.rises listed k (λ has. none (subst (λ (t : ChangedView). Contains t.items k)
               (sym touched) has)) in
               let d = adds.sums k in omega (arith, e, z, d);
         },
@@ -218,7 +250,7 @@ returns-clause-fit g c =
     let after = c.learn.new.memory in
     let all_after : length (map number_in (rows_of after)) ≡ n = numbers_long (rows_of after)
     ∙ rows_many n g.row.C g.row.H g.row.G after in
-    let known = c.know_next-known.result in
+    let known = c.know_next-known.result.0 in
     record {
       who = c.publish.new.seat.is;
       counts = refl;
@@ -257,8 +289,8 @@ returns-clause-fit g c =
             fit c.requires.of_board.1 s.ensures.scans.others s.ensures.scans.ruled s.ensures.ready s.ensures.quiet s.ensures.numbers
             s.ensures.listed.same (index_of s.new.seat) _ s.ensures.scans.index
             (ap (λ (x : Member). length x.work.made) s.ensures.scans.others) (c.know_next-known.ensures.known yes) in
-            let listed : c.touch.new.touched.all ≡ false = c.know_next-known.ensures.touched yes in
-            let touched : f.new.images.touched ≡ c.touch.new.touched = f.ensures.others.2 in
+            let listed : c.touch-again.new.touched.all ≡ false = c.know_next-known.ensures.touched yes in
+            let touched : f.new.images.touched ≡ c.touch-again.new.touched = f.ensures.others.2 in
             let yes' : f.result ≡ true = lends_direct f.result s.result next.direct.0 f.ensures.none next.direct.1 in
             let words : c.turn.new.images.shown.items ≡ version_words row' 1 a.vector a.totals = c.turn.ensures.buffers.1
             ∙ (hidden ∙ ap (λ (t : Bool). version_words row' (cond t 1 0) a.vector a.totals) yes') in
@@ -271,13 +303,36 @@ returns-clause-fit g c =
             (late_words w n row row' (rows_of memory) (totals_in memory) a.vector a.totals wide wide' many long.0 next.numbers
             next.totals f.new.images.touched.items
             (λ k lt' none. let e = adds.sums k in
-            let z = c.touch.ensures.rises listed k
+            let z = c.touch-again.ensures.rises listed k
             (λ has. none (subst (λ (t : ChangedView). Contains t.items k) (sym touched) has)) in omega (arith, e, z))
             c.worker-index.result v (totals_in after) c.turn.new.images.late (c.learn.ensures.sums _ own_at) after.sizes.1
             c.turn.ensures.number c.turn.ensures.totals)))
             (λ unknown listed. absurd (let h = sym (c.turn.ensures.unknown unknown) ∙ listed in cc));
         late_inside = c.turn.ensures.inside;
       };
+      late = λ listed. record {
+        number = λ j none e. none (subst (λ (k : ℕ). Contains c.turn.new.images.late.items k)
+            (omega (arith, e, c.worker-index.ensures.index)) (c.turn.ensures.number listed));
+        totals = λ k none has. none (c.turn.ensures.totals listed k
+            (subst (λ (x : ChangedView). Contains x.items k) c.turn.ensures.others.1 has));
+      };
+      covered = λ yes.
+          let t = c.turn.ensures.covered yes in let cov = f.ensures.covers t.0 in
+          let again = c.touch-again.ensures.again t.1 in
+          let few : c.know_next-known.new.late.all ≡ false = ap (λ (x : ChangedView). x.all) (sym f.ensures.others.1)
+          ∙ cov.listed.1 in
+          let keeps = known_keeps n g.row.C g.row.H g.row.G _ _ memory s.result im.row_known known im.late
+          c.know_next-known.new.late c.know_next-known.ensures.known c.know_next-known.ensures.unknown few in
+          let before : AreLate n w c.worker-index.result im.touched im.late =
+          subst (λ (k : ℕ). AreLate n w k im.touched im.late) (sym own') (fit.late keeps.0) in
+          let are : AreLate n w c.worker-index.result f.new.images.touched f.new.images.late =
+          late_before n w c.worker-index.result im.touched f.new.images.touched c.know_next-known.new.late f.new.images.late
+          (f.ensures.others.2 ∙ again) f.ensures.others.1
+          (late_on n w c.worker-index.result im.touched im.late c.know_next-known.new.late keeps.1 before) in
+          subst (λ (x : ChangedView). Covers c.turn.new.images.recent c.turn.new.images.late x) (sym c.turn.ensures.others.1)
+          (subst (λ (x : ChangedView). Covers x c.turn.new.images.late f.new.images.touched) (sym c.turn.ensures.others.0)
+          (covers_on n w c.worker-index.result f.new.images.recent f.new.images.late c.turn.new.images.late
+          f.new.images.touched cov are t.2));
     }
 
 met : (n w : ℕ) (a b : ScanLog) (lends : Bool) → (lends ≡ true → ScanCameTo n w a b true) → (lends ≡ false

@@ -3,7 +3,7 @@ use Rattle.ledger_core.specs.Ops.{width, sum_ops}
 use Rattle.snapshot_update.specs.Noting.{Touches}
 use Rattle.snapshot_update.specs.Noting.{IsRun}
 use Rattle.snapshot_update.proofs.Touching.{none}
-use Rattle.snapshot_update.proofs.touched.touch.Given as goal
+use Rattle.snapshot_update.proofs.touched.touch_all.Given as goal
 
 abbrev pub invariant-loop-op : goal.invariant-loop-op
 invariant-loop-op g l = record {
