@@ -16,10 +16,10 @@ pub scanned_fit : (n c h g index number : ℕ) (row : List ℕ) (memory memory' 
     (late : ChangedView) (m : Member) (s : ScanLog)
     → IsFit n c h g index number row memory im m → IsReady s memory' → late.all ≡ true → late.items ≡ im.late.items
     → IsFit n c h g index number row memory' (record im {
-    late = late;
-    row_known = false;
-    covered = false;
-}) (record m { scan = s })
+      late = late;
+      row_known = false;
+      covered = false;
+    }) (record m { scan = s })
 scanned_fit n c h g index number row memory memory' im late m s fit ready all items = record {
   who = fit.who;
   counts = fit.counts;

@@ -7,6 +7,7 @@ ghost use Rattle.snapshot_update.specs.BufferImages.{DifferAt, target_of};
 ghost use Rattle.snapshot_update.specs.Fit.{AreInside, Covers};
 ghost use Rattle.snapshot_update.specs.Conditions.{MayFill, HasFilled};
 
+use crate::buffer_images::BufferImages;
 use crate::fills::{fill_all, fill_changes, fill_known};
 use crate::listing::{are_both, note_each};
 use crate::next_version::NextVersion;
@@ -38,8 +39,7 @@ pub(crate) fn fill_next<const N: usize, const C: usize, const H: usize, const G:
     ensures covers { listed ≡ true → recent.new.all ≡ false → Covers recent.new late.now touched.now }
 {
     if listed {
-        let all_recent = covers(recent, late, touched, covered);
-        if all_recent {
+        if covered {
             fill_changes(board, seat, hidden, recent, version);
             return;
         }
@@ -52,21 +52,22 @@ pub(crate) fn fill_next<const N: usize, const C: usize, const H: usize, const G:
     fill_all(board, seat, hidden, shown, recent, version);
 }
 
-/// Whether the recent items are known to have all that are late and touched: it is `covered` already, or they are those of both lists,
-/// one behind the other.
+/// Whether the recent items are known to have all that are late and touched: it is `covered` already, or, where the lists are `compared`,
+/// they are those of both, one behind the other.
 #[inline(always)]
-fn covers(
-    recent: &ChangedItems,
-    late: &ChangedItems,
-    touched: &ChangedItems,
-    covered: bool,
-) -> bool
-    requires listed { (recent.now.all ≡ false) × (late.now.all ≡ false) × (touched.now.all ≡ false) }
-    requires covered { covered ≡ true → Covers recent.now late.now touched.now }
-    ensures { result ≡ true → Covers recent.now late.now touched.now }
+pub(crate) fn covers(images: &BufferImages, covered: bool, compared: bool) -> bool
+    requires { covered ≡ true → Covers images.now.recent images.now.late images.now.touched }
+    ensures { result ≡ true → Covers images.now.recent images.now.late images.now.touched }
 {
-    if covered {
-        return true;
+    if covered || !compared {
+        return covered;
     }
-    are_both(recent.as_slice(), late.as_slice(), touched.as_slice())
+    if images.recent.is_all() || images.late.is_all() || images.touched.is_all() {
+        return false;
+    }
+    are_both(
+        images.recent.as_slice(),
+        images.late.as_slice(),
+        images.touched.as_slice(),
+    )
 }

@@ -33,7 +33,7 @@ ghost use Rattle.snapshot_update.specs.Updated.{IsUpdated};
 use crate::buffer_images::BufferImages;
 use crate::known::know_next;
 use crate::listing::list_late;
-use crate::next_fill::fill_next;
+use crate::next_fill::{covers, fill_next};
 use crate::next_version::NextVersion;
 use crate::scanning::{has_view, scan_for_update};
 use crate::touched::touch;
@@ -197,7 +197,9 @@ pub(crate) fn update<const N: usize, const C: usize, const H: usize, const G: us
         ended,
     );
     let repeats = images.covered & again & still;
-    let lends = fill_version(board, seat, row, memory, images, ended, known, repeats);
+    // A list of one operation that touches other words than the last one did repeats nothing.
+    let covered = covers(images, repeats, ops.len() != 1);
+    let lends = fill_version(board, seat, row, memory, images, ended, known, covered);
     board.publish(seat, ops, lends);
     let index = seat.worker();
     turn::<N, C, H, G>(images, index, known, again, repeats);

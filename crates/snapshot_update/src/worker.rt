@@ -188,14 +188,19 @@ impl<const N: usize, const C: usize, const H: usize, const G: usize> Worker<N, C
             (member_of self.old)) }
         ensures unchanged { OnErr result (self.new ≡ self.old) }
     {
-        self.count(
+        if counter.registry != board.id() {
+            return Err(CountFault::WrongRegistry);
+        }
+        match self.apply(
             board,
-            counter.registry,
-            Op::Inc {
+            &[Op::Inc {
                 counter: counter.slot,
                 by,
-            },
-        )
+            }],
+        ) {
+            Ok(()) => Ok(()),
+            Err(fault) => Err(CountFault::Apply(fault)),
+        }
     }
 
     /// Counts a value of a histogram: its bucket, the sum and the count rise in one version.
@@ -221,15 +226,20 @@ impl<const N: usize, const C: usize, const H: usize, const G: usize> Worker<N, C
         ensures unchanged { OnErr result (self.new ≡ self.old) }
     {
         let place = hist.bounds.place(value);
-        self.count(
+        if hist.registry != board.id() {
+            return Err(CountFault::WrongRegistry);
+        }
+        match self.apply(
             board,
-            hist.registry,
-            Op::Observe {
+            &[Op::Observe {
                 hist: hist.slot,
                 place,
                 value,
-            },
-        )
+            }],
+        ) {
+            Ok(()) => Ok(()),
+            Err(fault) => Err(CountFault::Apply(fault)),
+        }
     }
 
     /// Raises a gauge: one version.
@@ -386,8 +396,8 @@ impl<const N: usize, const C: usize, const H: usize, const G: usize> Worker<N, C
         self.take_back(board, reader);
     }
 
-    // One operation by a handle that has the id of this registry; 16 where that is not the board's.
-    #[inline(always)]
+    // One operation by a handle that has the id of this registry; 16 where that is not the board's. `inc` and `observe` do the same each for
+    // itself, so that the compiler makes of each an update of its own operation alone.
     fn count(&mut self, board: &Board<N, C, H, G>, registry: u64, op: Op) -> Result<(), CountFault>
         requires of_board { IsWorkerOf board.now self.old }
         ensures of_board { IsWorkerOf board.now self.new }

@@ -49,18 +49,18 @@ returns-then-listed-clause-inside g c =
     c.note_each.new.to c.note_each-then-listed.new.to c.clear.ensures.none.1 c.note_each.ensures c.note_each-then-listed.ensures
     c.requires.may.inside.1 c.requires.may.inside.2
 
-pub returns-then-all_recent-clause-recent : goal.returns-then-all_recent-clause-recent
-returns-then-all_recent-clause-recent g c = λ _ j lt not. let lens = c.requires.may.lengths in
-    let all = c.covers-all_recent.ensures c.if-all_recent.true in
+pub returns-then-covered-clause-recent : goal.returns-then-covered-clause-recent
+returns-then-covered-clause-recent g c = λ _ j lt not. let lens = c.requires.may.lengths in
+    let all = c.requires.covered c.if-covered.true in
     c.requires.may.known c.if-listed.true j (omega (arith, lens.2, lt)) (all.late_too j not) (all.touched_too j not)
 
-pub returns-then-all_recent-clause-hidden : goal.returns-then-all_recent-clause-hidden
-returns-then-all_recent-clause-hidden g c =
+pub returns-then-covered-clause-hidden : goal.returns-then-covered-clause-hidden
+returns-then-covered-clause-hidden g c =
     let lens = c.requires.may.lengths in let fills = c.fill_changes.ensures in let listed = c.requires.may.listed c.if-listed.true in
     all_filled c.fill_changes.new.hidden (target_of c.args.version.now) (depth g.row.N (width g.row.C g.row.H g.row.G))
     (c.fill_changes.auto.hidden ∙ lens.0) lens.2 (λ j lt.
     ⊎_elim (fills.filled j) (λ not_recent. fills.kept j (c.requires.may.differ listed.0 j (omega (arith, lens.1, lt)) not_recent
-    ∙ returns-then-all_recent-clause-recent g c listed.0 j (omega (arith, lens.2, lt)) not_recent))
+    ∙ returns-then-covered-clause-recent g c listed.0 j (omega (arith, lens.2, lt)) not_recent))
     (listed_or c.args.recent.now.items j))
 
 pub returns-then-listed-clause-covers : goal.returns-then-listed-clause-covers

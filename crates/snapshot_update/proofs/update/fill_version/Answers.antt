@@ -29,37 +29,40 @@ fill_next-requires g c =
       search rules,
       (
         search rules,
-        (record {
-          stores = record {
-            of_board = c.requires.may.stores.of_board;
-            exact = c.requires.may.stores.exact ∙ sym hidden;
-          };
-          lengths = (
-            ap (λ (l : List ℕ). length l) hidden ∙ deep,
-            ap (λ (l : List ℕ). length l) shown ∙ t.shown_deep,
-            (let e : length (target_of v) ≡ b = omega (arith, long, lens.0, lens.1) in e),
-          );
-          few = let c1 = slots.counters in let c2 = slots.histograms in let c3 = slots.gauges in omega (arith, few, c1, c2, c3);
-          inside = (t.recent_inside, t.late_inside, λ j has. let lt = c.requires.may.touched j has in omega (arith, lt));
-          listed = λ known. let a = and_parts _ _ known in let a' = and_parts _ _ a.0 in
-              (sym c.is_all.ensures ∙ not-true _ a'.1, sym c.is_all-2.ensures ∙ not-true _ a.1, (q a'.0).0);
-          differ = λ listed j lt not_there. ap (λ (l : List ℕ). slice_index l j) hidden
-              ∙ (t.recent listed j (let e = ap (λ (l : List ℕ). length l) shown in omega (arith, lt, e)) not_there
-              ∙ ap (λ (l : List ℕ). slice_index l j) (sym shown));
-          known = λ known j lt not_late not_touched.
-              let a = and_parts _ _ known in let a' = and_parts _ _ a.0 in let is = q a'.0 in
-              let lends : c.has_view-lends.result ≡ true = direct_views c.has_view-lends.result c.args.ended is.1.0
-              c.has_view-lends.ensures.none is.1.1 in
-              let flag : c.flag_word.result ≡ 1 = c.flag_word.ensures ∙ ap (λ (x : Bool). cond x 1 0) lends in
-              let next = c.requires.may.images.0 in
-              let same : slice_index im.shown.items j ≡ slice_index next j = t.late (sym c.is_all-2.ensures ∙ not-true _ a.1) j
-              (let e = t.idle_deep in omega (arith, lt, e)) not_late in
-              let words : target_of v ≡ version_words c.args.row.now 1 (answer_of c.args.memory.now c.args.ended).vector
-              (answer_of c.args.memory.now c.args.ended).totals = c.new-version.ensures.words
-              ∙ (λ z. version_words c.args.row.now (flag z) (c.answer.ensures.vector z) (c.answer.ensures.totals z)) in
-              ap (λ (l : List ℕ). slice_index l j) shown
-              ∙ (same ∙ (is.2 j lt not_touched ∙ ap (λ (l : List ℕ). slice_index l j) (sym words)));
-        }, c.requires.covered),
+        (
+          record {
+            stores = record {
+              of_board = c.requires.may.stores.of_board;
+              exact = c.requires.may.stores.exact ∙ sym hidden;
+            };
+            lengths = (
+              ap (λ (l : List ℕ). length l) hidden ∙ deep,
+              ap (λ (l : List ℕ). length l) shown ∙ t.shown_deep,
+              (let e : length (target_of v) ≡ b = omega (arith, long, lens.0, lens.1) in e),
+            );
+            few = let c1 = slots.counters in let c2 = slots.histograms in let c3 = slots.gauges in omega (arith, few, c1, c2, c3);
+            inside = (t.recent_inside, t.late_inside, λ j has. let lt = c.requires.may.touched j has in omega (arith, lt));
+            listed = λ known. let a = and_parts _ _ known in let a' = and_parts _ _ a.0 in
+                (sym c.is_all.ensures ∙ not-true _ a'.1, sym c.is_all-2.ensures ∙ not-true _ a.1, (q a'.0).0);
+            differ = λ listed j lt not_there. ap (λ (l : List ℕ). slice_index l j) hidden
+                ∙ (t.recent listed j (let e = ap (λ (l : List ℕ). length l) shown in omega (arith, lt, e)) not_there
+                ∙ ap (λ (l : List ℕ). slice_index l j) (sym shown));
+            known = λ known j lt not_late not_touched.
+                let a = and_parts _ _ known in let a' = and_parts _ _ a.0 in let is = q a'.0 in
+                let lends : c.has_view-lends.result ≡ true = direct_views c.has_view-lends.result c.args.ended is.1.0
+                c.has_view-lends.ensures.none is.1.1 in
+                let flag : c.flag_word.result ≡ 1 = c.flag_word.ensures ∙ ap (λ (x : Bool). cond x 1 0) lends in
+                let next = c.requires.may.images.0 in
+                let same : slice_index im.shown.items j ≡ slice_index next j = t.late (sym c.is_all-2.ensures ∙ not-true _ a.1) j
+                (let e = t.idle_deep in omega (arith, lt, e)) not_late in
+                let words : target_of v ≡ version_words c.args.row.now 1 (answer_of c.args.memory.now c.args.ended).vector
+                (answer_of c.args.memory.now c.args.ended).totals = c.new-version.ensures.words
+                ∙ (λ z. version_words c.args.row.now (flag z) (c.answer.ensures.vector z) (c.answer.ensures.totals z)) in
+                ap (λ (l : List ℕ). slice_index l j) shown
+                ∙ (same ∙ (is.2 j lt not_touched ∙ ap (λ (l : List ℕ). slice_index l j) (sym words)));
+          },
+          c.requires.covered,
+        ),
       ),
     )
 

@@ -47,6 +47,15 @@ by_known : {P : Type 0} (b : Bool) → (b ≡ true → P) → (b ≡ false → P
 by_known true p q = p refl
 by_known false p q = q refl
 
+-- an update that repeats the one before it: all is listed that it will compare
+pub covers-covered-requires : goal.covers-covered-requires
+covers-covered-requires g c = λ yes.
+    let fit = c.requires.fit in let im = c.args.images.now in
+    let both = and_parts _ _ yes in let first = and_parts _ _ both.0 in
+    let still = c.know_next-known.ensures.still both.1 in
+    subst (λ (x : ChangedView). Covers im.recent x c.touch-again.new.touched) (sym still.1)
+    (subst (λ (x : ChangedView). Covers im.recent im.late x) (sym (c.touch-again.ensures.again first.1)) (fit.covered first.0))
+
 pub fill_version-lends-requires : goal.fill_version-lends-requires
 fill_version-lends-requires g c =
     let n : ℕ = g.row.N in let w : ℕ = width g.row.C g.row.H g.row.G in let b : ℕ = depth n w in
@@ -60,46 +69,44 @@ fill_version-lends-requires g c =
         search rules,
         (
           search rules,
-          (record {
-            stores = record {
-              of_board = s.ensures.scans.of_board;
-              exact = ap (λ (m : Member). m.work.hidden) s.ensures.scans.others ∙ fit.hidden_is;
-            };
-            geometry = c.requires.geometry;
-            touched = c.touch-again.ensures.inside;
-            images = by_known known (λ yes.
-                let next = next_is n g.row.C g.row.H g.row.G (index_of c.args.seat.now) row c.args.memory.now memory im
-                c.know_next-known.new.late (worker_of c.args.seat.now) (worker_of s.new.seat) s.result
-                fit c.requires.of_board.1 s.ensures.scans.others s.ensures.scans.ruled s.ensures.ready s.ensures.quiet s.ensures.numbers
-                s.ensures.listed.same (index_of s.new.seat) _ s.ensures.scans.index
-                (ap (λ (x : Member). length x.work.made) s.ensures.scans.others) (c.know_next-known.ensures.known yes) in
-                let listed : c.touch-again.new.touched.all ≡ false = c.know_next-known.ensures.touched yes in (
-                  idle_words row (rows_of memory) (totals_in memory),
-                  touched_images b _ (record im { late = c.know_next-known.new.late }) c.touch-again.new.touched next.images,
-                  λ _. (
-                    listed,
-                    next.direct,
-                    λ j lt none. known_words w n row row' (rows_of memory) (totals_in memory) a.vector a.totals wide
-                        (adds.width_stays ∙ wide) (rows_many n g.row.C g.row.H g.row.G memory) long.0 next.numbers
-                        next.totals c.touch-again.new.touched.items
-                        (λ k lt' none'. let e = adds.sums k in let z = c.touch-again.ensures.rises listed k none' in
-                        omega (arith, e, z)) j (omega (arith, lt)) none,
-                  ),
-                ))
-                (λ no. (
-                  idle_words row (rows_of c.args.memory.now) (totals_in c.args.memory.now),
-                  subst (λ (x : ChangedView). AreImages b (idle_words row (rows_of c.args.memory.now)
-                      (totals_in c.args.memory.now))
-                      (record im { late = x; touched = c.touch-again.new.touched })) (sym (c.know_next-known.ensures.unknown no))
-                      (touched_images b _ im c.touch-again.new.touched fit.images),
-                  λ yes. absurd (let h = sym yes ∙ no in cc),
-                ));
-          }, λ yes.
-              let both = and_parts _ _ yes in let first = and_parts _ _ both.0 in
-              let still = c.know_next-known.ensures.still both.1 in
-              subst (λ (x : ChangedView). Covers im.recent x c.touch-again.new.touched) (sym still.1)
-              (subst (λ (x : ChangedView). Covers im.recent im.late x) (sym (c.touch-again.ensures.again first.1))
-              (fit.covered first.0))),
+          (
+            record {
+              stores = record {
+                of_board = s.ensures.scans.of_board;
+                exact = ap (λ (m : Member). m.work.hidden) s.ensures.scans.others ∙ fit.hidden_is;
+              };
+              geometry = c.requires.geometry;
+              touched = c.touch-again.ensures.inside;
+              images = by_known known (λ yes.
+                  let next = next_is n g.row.C g.row.H g.row.G (index_of c.args.seat.now) row c.args.memory.now memory im
+                  c.know_next-known.new.late (worker_of c.args.seat.now) (worker_of s.new.seat) s.result
+                  fit c.requires.of_board.1 s.ensures.scans.others s.ensures.scans.ruled s.ensures.ready s.ensures.quiet s.ensures.numbers
+                  s.ensures.listed.same (index_of s.new.seat) _ s.ensures.scans.index
+                  (ap (λ (x : Member). length x.work.made) s.ensures.scans.others) (c.know_next-known.ensures.known yes) in
+                  let listed : c.touch-again.new.touched.all ≡ false = c.know_next-known.ensures.touched yes in (
+                    idle_words row (rows_of memory) (totals_in memory),
+                    touched_images b _ (record im { late = c.know_next-known.new.late }) c.touch-again.new.touched next.images,
+                    λ _. (
+                      listed,
+                      next.direct,
+                      λ j lt none. known_words w n row row' (rows_of memory) (totals_in memory) a.vector a.totals wide
+                          (adds.width_stays ∙ wide) (rows_many n g.row.C g.row.H g.row.G memory) long.0 next.numbers
+                          next.totals c.touch-again.new.touched.items
+                          (λ k lt' none'. let e = adds.sums k in let z = c.touch-again.ensures.rises listed k none' in
+                          omega (arith, e, z)) j (omega (arith, lt)) none,
+                    ),
+                  ))
+                  (λ no. (
+                    idle_words row (rows_of c.args.memory.now) (totals_in c.args.memory.now),
+                    subst (λ (x : ChangedView). AreImages b (idle_words row (rows_of c.args.memory.now)
+                        (totals_in c.args.memory.now))
+                        (record im { late = x; touched = c.touch-again.new.touched })) (sym (c.know_next-known.ensures.unknown no))
+                        (touched_images b _ im c.touch-again.new.touched fit.images),
+                    λ yes. absurd (let h = sym yes ∙ no in cc),
+                  ));
+            },
+            c.covers-covered.ensures,
+          ),
         ),
       ),
     )
