@@ -22,13 +22,13 @@ pub record IsDescOf (kind : Kind) (labels : List (List ℕ)) (bounds : List ℕ)
   pub histogram : kind ≡ HistogramKind → IsHistogram labels bounds
   pub others : kind ≢ HistogramKind → bounds ≡ []
 
--- what the names of a family's samples have after the family's name
+-- what the names of a family's lines have after the family's name
 abbrev pub suffixes_of : Kind → List (List ℕ)
 suffixes_of Counter = [] ∷ []
 suffixes_of Histogram = [] ∷ codes "_bucket" ∷ codes "_sum" ∷ codes "_count" ∷ []
 suffixes_of Gauge = [] ∷ []
 
--- the names under which a family's samples stand, the family's own first
+-- the names that a family's lines take, the family's own first: of a histogram that is the name of its HELP and TYPE lines alone
 abbrev pub names_of : Descriptor → List (List ℕ)
 names_of desc = map (λ suffix. desc.name ++ suffix) (suffixes_of desc.kind)
 

@@ -189,8 +189,8 @@ impl Desc {
         }
     }
 
-    /// The names under which the family's samples stand: its own, and of a histogram also its own with `_bucket`, `_sum`
-    /// and `_count`, in this order.
+    /// The names that the family's lines take: its own, which of a histogram only the HELP and TYPE lines have, and of a histogram also its
+    /// own with `_bucket`, `_sum` and `_count`, those of its samples, in this order.
     ///
     /// Refusal 6 [`NoMemory`], and no other.
     pub fn names(&self) -> Result<Vec<String>, NoMemory>

@@ -49,7 +49,7 @@ fn has_name(desc: &Desc, name: &str, suffix: &str) -> bool
     false
 }
 
-/// Whether two families have samples of one name. Takes no memory.
+/// Whether the lines of two families take one name. Takes no memory.
 pub fn clashes(a: &Desc, b: &Desc) -> bool
     ensures { IsTrue result ↔ Clash a.now b.now }
 {

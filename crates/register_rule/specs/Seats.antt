@@ -24,7 +24,7 @@ HasMember ms = (m : Member) × (others : List Member) × (ms ≡ m ∷ others)
 abbrev pub work_bundle : WorkSeat → Bundle
 work_bundle s = s.bundle
 
--- the worker as a member: the seat has no other
+-- the worker as a member: the seat has no other. Its index, which `WorkSeat::worker` gives, is `index_of`
 abbrev pub worker_of : WorkSeat → Member
 worker_of s = first_of (members_of (work_bundle s))
 

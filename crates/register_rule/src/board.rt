@@ -37,7 +37,8 @@ impl<const N: usize, const C: usize, const H: usize, const G: usize> TableRule<(
     ghost first = { λ key. everyone N (width C H G) (depth N (width C H G)) key.readers };
 }
 
-// Placeholders: what a call tells, and how it splits a view, it picks by itself in its proof (`table_steps.rt` tells how).
+// Placeholders, for which `Brand` of std serves since it stands for nothing here: what a call tells, and how it splits a view, it picks by
+// itself in its proof (`table_steps.rt` tells how).
 impl Play<(), SeatView> for Brand {
     ghost then = { λ _ _ _ _. Unit {0} };
 }

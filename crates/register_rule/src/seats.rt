@@ -10,6 +10,7 @@ use atomic_table::Seat;
 #[derive(Drop)]
 pub struct Bundle {
     pub(crate) seat: Seat<(), SeatView>,
+    // It holds none of the table's slots, which a board does not use (`table_steps.rt`).
     ghost free: { seat.me.1 ≡ [] },
 }
 

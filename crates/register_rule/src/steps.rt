@@ -30,6 +30,7 @@ impl<const N: usize, const C: usize, const H: usize, const G: usize> Board<N, C,
         self.id
     }
 
+    // Where on the board the number of a segment stands.
     #[inline]
     fn word_of_number(&self, segment: usize) -> usize
         requires { segment < N }
@@ -38,6 +39,8 @@ impl<const N: usize, const C: usize, const H: usize, const G: usize> Board<N, C,
         segment_layout::place_of(N, C, H, G, segment, Part::Number)
     }
 
+    // Where on the board an item of a version stands. An item is counted along its buffer already, so that no part has to be told from it,
+    // as `place_of` of segment_layout would.
     #[inline]
     fn word_of_item(&self, segment: usize, version: u64, item: usize) -> usize
         requires { (segment < N) × (item < depth N (width C H G)) }
@@ -48,6 +51,7 @@ impl<const N: usize, const C: usize, const H: usize, const G: usize> Board<N, C,
         self.word_of_number(segment) + 1 + (version % 2) as usize * buffer_words(N, C, H, G) + item
     }
 
+    // Where on the board the word of a load stands.
     #[inline]
     fn word_of_load(&self, what: Load) -> usize
         requires { IsLoad N (depth N (width C H G)) what }

@@ -2,7 +2,8 @@
 //!
 //! What a step tells of a view is a play, which the types name, and a split says so which part goes where. The calls of this crate give
 //! `Brand` for both, whose own ghosts are placeholders: each call picks its play or split in its `Invariants.antt`, as `ghosts-load_as`
-//! in proofs/board/Board/load, and may speak there of `_about`. A table's view comes with the slots that a seat holds, `me.1`; the board
+//! in proofs/board/Board/load, and may speak there of `_about`. `step` is what the table notes of an access: the word, what was stored, and of
+//! slots nothing; `Allows` that the rule holds after it if it held before; a seat's `id` is its number at the table, not a board's. A table's view comes with the slots that a seat holds, `me.1`; the board
 //! uses none, so that list is empty.
 ghost use Rattle.std.specs.Prelude.{◌≡◌, ◌<◌, [], ◌++◌};
 ghost use mathlib.Core.Option.{none};

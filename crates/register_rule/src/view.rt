@@ -26,8 +26,8 @@ pub struct Look {
     pub place: usize,
     /// The number that the opening load found.
     pub number: u64,
-    /// The words of the buffer that this number shows, as many as were read, in their order: from the row's first word on in
-    /// a try, from the flag on where a worker is asked.
+    /// The words of the buffer that this number shows, from the row's first word on in their order: as many as were read, or all of the row
+    /// that is remembered under this number.
     pub words: LinkedList<u64>,
     /// Whether a confirming load found the number again.
     pub sure: bool,
@@ -60,7 +60,7 @@ pub struct Asked {
     /// The words of the buffer that this number shows, as many as were read, from the flag on: the flag, the vector, the
     /// totals.
     pub words: LinkedList<u64>,
-    /// The number that the confirming load found.
+    /// The number that the confirming load found, as `found` of a [`Look`].
     pub again: u64,
 }
 

@@ -9,7 +9,8 @@ pub data RegistryChange : Type 0 where
   Registered : (desc : Descriptor) → RegistryChange
   ChildMade : (family : ℕ) → (values : List (List ℕ)) → (slot : ℕ) → RegistryChange
 
--- one entry of the journal
+-- one entry of the journal: what was registered or made, or the answer of the scan that a scrape was made by (expo_text's `Scraped` is
+-- the scrape that it gave)
 pub data Entry : Type 0 where
   Changed : (change : RegistryChange) → Entry
   Scraped : (answer : Answer) → Entry

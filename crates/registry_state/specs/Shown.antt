@@ -10,7 +10,7 @@ use Rattle.registry_state.specs.Replay.{Child, Family}
 
 -- rows of c counters and h histograms
 module _ (c h : ℕ) (totals : List ℕ) where
-  -- the value of a slot
+  -- the number of a slot
   abbrev pub value_at : Kind → ℕ → Number
   value_at Counter slot = Number.Counter (slice_index totals slot)
   value_at Histogram slot = Number.Histogram (record {
@@ -21,15 +21,15 @@ module _ (c h : ℕ) (totals : List ℕ) where
   value_at Gauge slot = Number.Gauge
       (record { up = slice_index totals (c + 27 * h + 2 * slot); down = slice_index totals (c + 27 * h + 2 * slot + 1) })
 
-  -- a child with the value of its slot
+  -- a child with its label values and the number of its slot
   abbrev pub child_shown : Kind → Child → ChildShown
   child_shown kind child = record { values = child.values; number = value_at kind child.slot }
 
-  -- a family with the values of its children's slots
+  -- a family with the numbers of its children's slots
   abbrev pub family_shown : Family → FamilyShown
   family_shown family = record { desc = family.desc; children = map (child_shown family.desc.kind) family.children }
 
--- the scrape has the answer's vector, and each of these families once, with the values of its slots in the answer
+-- the scrape has the answer's vector, and each of these families once, with the numbers of its slots in the answer
 pub record IsShown (c h : ℕ) (families : List Family) (answer : Answer) (scrape : Scraped) : Type 0 where
   pub vector : scrape.vector ≡ answer.vector
   pub families_are : IsPermutation (map (family_shown c h answer.totals) families) scrape.families

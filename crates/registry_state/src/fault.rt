@@ -48,7 +48,7 @@ impl BadWindow {
 /// Why a family is not registered.
 #[derive(Clone, Copy, Debug, PartialEq, Eq, Error)]
 pub enum RegisterFault {
-    /// Refusal 19: a sample's name is shared with this family, by number, the least such.
+    /// Refusal 19: a name is shared with the lines of this family, by number, the least such.
     #[error("a sample's name is shared with the family {with}")]
     Clash { with: usize },
     /// Refusal 23: 128 families are there.

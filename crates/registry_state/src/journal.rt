@@ -24,8 +24,11 @@ use std::marker::Model;
 /// Contracts see it as the list of its entries.
 #[derive(Drop)]
 pub struct Journal<const N: usize, const C: usize, const H: usize, const G: usize> {
+    // What was registered and made, each with how many scrapes came before it.
     notes: Vec<NotedChange>,
+    // The scrapes that are kept.
     kept: History<N, C, H, G>,
+    // Room for the source to scan into.
     scanned: Snapshot<N, C, H, G>,
 }
 

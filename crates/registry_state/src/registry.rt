@@ -112,7 +112,8 @@ impl<
     ghost use Rattle.registry_state.specs.Shown.{IsShown};
 
     /// A registry of this id, with an empty journal and without families, that keeps `window` scrapes. Room for them is made
-    /// here. It asks for `N` from 1 to 32, and at most 256, 32 and 64 for `C`, `H` and `G`.
+    /// here. It asks for `N` from 1 to 32, and at most 256, 32 and 64 for `C`, `H` and `G`. Over a board the id has to be the board's
+    /// (`Board::id`): its workers refuse handles of another.
     ///
     /// # Errors
     ///
@@ -163,7 +164,7 @@ impl<
     ///
     /// # Errors
     ///
-    /// 19 [`RegisterFault::Clash`] with the least family that has a sample's name in common; 23
+    /// 19 [`RegisterFault::Clash`] with the least family whose lines share a name with its; 23
     /// [`RegisterFault::TooManyFamilies`] where 128 are there; 6 [`RegisterFault::NoMemory`]. Nothing has changed then.
     pub fn register(&mut self, desc: Desc) -> Result<FamilyId, RegisterFault>
         ensures number { IfOk result (λ family. family.number ≡ length self.old.state.families) }

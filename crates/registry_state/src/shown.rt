@@ -15,7 +15,7 @@ use snapshot_scan::Snapshot;
 use std::alloc::Global;
 use std::sync::Arc;
 
-/// The value of this kind where nothing was counted.
+/// The number of this kind where nothing was counted.
 fn zero(kind: Kind) -> Number
     ensures { result ≡ zero_of kind }
 {
@@ -30,7 +30,7 @@ fn zero(kind: Kind) -> Number
     }
 }
 
-/// A family with zeros. Its descriptor and the values of its children are shared.
+/// A family with zeros. Its descriptor and the label values of its children are shared.
 ///
 /// Refusal 6 [`NoMemory`], and no other.
 fn blank_family(alloc: Global, family: &Family) -> Result<FamilyScrape, NoMemory>
@@ -67,7 +67,7 @@ fn blank_families(
     Ok(shown)
 }
 
-/// The value of a slot in a snapshot.
+/// The number of a slot in a snapshot.
 fn value_of<const N: usize, const C: usize, const H: usize, const G: usize>(
     snapshot: &Snapshot<N, C, H, G>,
     kind: Kind,
@@ -83,7 +83,7 @@ fn value_of<const N: usize, const C: usize, const H: usize, const G: usize>(
     }
 }
 
-/// Writes the values of the slots of children of one kind over their zeros.
+/// Writes the numbers of the slots of children of one kind over their zeros.
 fn fill_children<const N: usize, const C: usize, const H: usize, const G: usize>(
     shown: &mut [ChildScrape],
     children: &[Child],

@@ -37,7 +37,8 @@ Known = Option (List ℕ)
 abbrev pub WasOpenBefore : (bytes : List ℕ) → (latest : ℕ) → Type 0
 WasOpenBefore bytes latest = latest < length bytes → IsOpen (take (length bytes - latest) bytes)
 
--- The bytes that a reader gave, at most 8,192, ask for this, and would, whatever came after them; no read was made once they did.
+-- The bytes that a reader gave, at most 8,192, ask for this, and would, whatever came after them; no read was made once a whole head
+-- stood there, or none could come.
 pub record IsHeard (input input' : Known) (ended : Bool) (latest : ℕ) (wanted : Wanted) : Type 0 where
   pub bytes : List ℕ
   pub consumed : Consumes input input' bytes
@@ -75,7 +76,7 @@ pub record IsWritten (noted_failed noted_flushed : Bool) (result : Result Served
   pub flushed : IsOk result → noted_flushed ≡ true
 
 -- What is written is the reply to the bytes that were read, at most 8,192, and to what the source gave. It would be the same,
--- whatever came after them, and no read was made once it was known.
+-- whatever came after them, and no read was made once a whole head stood there, or none could come.
 --   gave                what one scrape says of the source before it, of the source after it, and of what it gave
 --   source, source'     the source, before the call and after it
 --   input, input'       the bytes that the reader has left, before the call and after it

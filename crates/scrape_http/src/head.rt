@@ -60,6 +60,7 @@ pub(crate) fn wanted_of(bytes: &[u8], head: &RequestSpans, fields: &[HeaderSpan]
 {
     let hosts = hosts_in(bytes, &fields[..head.headers]);
     let method = head.method.of(bytes);
+    // What httparse calls a path is the whole target.
     Wanted {
         refusal: refusal(hosts, head.version, head.path.of(bytes), method),
         with_body: method != Method::HEAD.as_str().as_bytes(),

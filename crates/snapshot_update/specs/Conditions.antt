@@ -30,19 +30,20 @@ pub record HasFilled {N C H G : ℕ} (b : Board N C H G) (hidden : List ℕ) (s 
   pub member : worker_of s' ≡ with_hidden hidden (worker_of s)
 
 -- the hidden buffer may be filled with the version: by the seat of a worker whose hidden buffer holds these words; `recent` lists
--- where it differs from the shown one, and where it `is_known` that the shown one differs from the version at no items but the
+-- where it differs from the shown one, and where it `is_listed` (`know_next` said yes, and no list stands for all items) that the shown one differs from the version at no items but the
 -- late and the touched ones, all three lists are whole
 pub record MayFill {N C H G : ℕ} (b : Board N C H G) (s : WorkSeat) (hidden shown : List ℕ) (recent late touched : ChangedView)
-    (version : NextVersion C H G) (is_known : Bool) : Type 0 where
+    (version : NextVersion C H G) (is_listed : Bool) : Type 0 where
   pub stores : MayStore b s hidden
   pub lengths : (length hidden ≡ depth N (width C H G)) × (length shown ≡ depth N (width C H G))
       × (length (target_of version) ≡ depth N (width C H G))
+  -- the words of the greatest buffer, for 32 workers, 256 counters, 32 histograms and 64 gauges
   pub few : depth N (width C H G) ≤ 2529
   pub inside : AreInside (depth N (width C H G)) recent × AreInside (depth N (width C H G)) late
       × AreInside (depth N (width C H G)) touched
-  pub listed : is_known ≡ true → (recent.all ≡ false) × (late.all ≡ false) × (touched.all ≡ false)
+  pub listed : is_listed ≡ true → (recent.all ≡ false) × (late.all ≡ false) × (touched.all ≡ false)
   pub differ : DifferAt recent hidden shown
-  pub known : is_known ≡ true → (j : ℕ) → j < depth N (width C H G) → ¬ (Contains late.items j) → ¬ (Contains touched.items j)
+  pub known : is_listed ≡ true → (j : ℕ) → j < depth N (width C H G) → ¬ (Contains late.items j) → ¬ (Contains touched.items j)
       → slice_index shown j ≡ slice_index (target_of version) j
 
 -- the hidden buffer may be made the version of this row with the answer of a scan that ended so: by the seat of a worker whose

@@ -70,7 +70,8 @@ pub record IsFit (n c h g index number : ℕ) (row : List ℕ) (memory : ScanMem
   pub covered : im.covered ≡ true → Covers im.recent im.late im.touched
 
 -- a worker's data, of this index, fit a member whose seat has the index `seat`: the indexes are one, the worker has published as
--- often as it counted, and the data fit. So a worker's own fields stand beside the member's, and each is told of the other
+-- often as it counted, and the data fit by the member's own index and number. So a call whose step changes the member says what fits by
+-- the member alone, and what the worker's fields say follows from the two equations
 abbrev pub IsFitOfSeat : (n c h g index number : ℕ) (row : List ℕ) (memory : ScanMemory n c h g) (im : BufferImages) (seat : ℕ)
     (m : Member) → Type 0
 IsFitOfSeat n c h g index number row memory im seat m =

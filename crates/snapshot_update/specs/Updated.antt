@@ -38,7 +38,8 @@ pub record HasScanned {N C H G : ℕ} (b : Board N C H G) (s s' : WorkSeat) : Ty
 
 -- from m to m' worker i scanned, and then published one version, which adds these operations and lends the answer of that
 -- scan, or nothing where it was given up. After the scan the rule said of the worker all that it says of one member: the publishes of
--- all workers are of one history and legal, and what the worker loaded, remembers and recorded is right by them
+-- all workers are of one history and legal, and what the worker loaded, remembers and recorded is right by them. What the fills stored in
+-- the hidden buffer is not told here: the rule says what the buffer that is shown has
 pub record IsUpdated (n c h g i : ℕ) (ops : List Op) (m m' : Member) : Type 0 where
   pub scan : ScanLog
   pub lends : Bool

@@ -27,7 +27,7 @@ pub struct Crew<const N: usize, const C: usize, const H: usize, const G: usize> 
     pub readers: Vec<Reader<N, C, H, G>>,
 }
 
-/// The worker of a seat.
+/// The worker of a seat. `board` and `index` serve the contract alone.
 fn to_worker<const N: usize, const C: usize, const H: usize, const G: usize>(
     alloc: Global,
     board: &Board<N, C, H, G>,
@@ -71,7 +71,7 @@ fn to_workers<const N: usize, const C: usize, const H: usize, const G: usize>(
     Ok(workers)
 }
 
-/// The reader of a seat.
+/// The reader of a seat. `board` and `index` serve the contract alone.
 fn to_reader<const N: usize, const C: usize, const H: usize, const G: usize>(
     alloc: Global,
     board: &Board<N, C, H, G>,

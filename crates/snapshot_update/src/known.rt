@@ -14,8 +14,8 @@ use segment_layout::{Item, item_at};
 use snapshot_scan::{ChangedItems, ScanEnd, ScanMemory};
 
 /// Whether the version that an update publishes is known to differ from what the shown buffer holds at no items but the late
-/// and the touched ones. What the scan found anew is listed as late, too; it says next whether that was nothing. `row_known` says that
-/// the row that was remembered of the worker's own segment is known to be its row.
+/// and the touched ones. Where it is, what the scan found anew is listed as late, too. The second answer says that it was seen at once that
+/// this is nothing, the scan being quiet. `row_known` says that the row that was remembered of the worker's own segment is known to be its row.
 #[inline(always)]
 pub(crate) fn know_next<const N: usize, const C: usize, const H: usize, const G: usize>(
     seat: &WorkSeat,

@@ -34,7 +34,7 @@ pub(crate) fn is_quiet(ended: ScanEnd) -> bool
     matches!(ended, ScanEnd::Direct { quiet: true })
 }
 
-/// Whether the scan ended with numbers of its own.
+/// Whether the scan ended direct: with numbers of its own.
 #[inline]
 pub(crate) fn is_direct(ended: ScanEnd) -> bool
     ensures { IsTrue result ↔ ((quiet : Bool) × (ended ≡ ScanEnd.Direct quiet)) }

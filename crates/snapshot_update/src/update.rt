@@ -6,12 +6,21 @@
 //! | list | its items are where | who writes it |
 //! |---|---|---|
 //! | `recent` | the hidden buffer may differ from the shown one | `fill_next` |
-//! | `late` | the shown buffer may differ from what an update of nothing would publish now | `turn`, and `know_next` what the scan moved |
+//! | `late` | the shown buffer may differ from what an update of nothing would publish now | `turn`; `know_next`, what the scan found anew; `Worker::scan`, which makes it all |
 //! | `touched` | the list of operations changed a word of the row | `touch` |
 //! | `changed_totals` of the scan's memory | a total may differ from before the scan | `ScanMemory::scan` |
 //!
 //! So the next version differs from the shown buffer at most at the late and at the touched items (`know_next` says whether that is
-//! known), and from the hidden one at the recent ones besides.
+//! known), and from the hidden one at the recent ones besides. What an update knows beside the lists:
+//!
+//! | flag | it says that | who sets it |
+//! |---|---|---|
+//! | `row_known` of the images | the row that is remembered of the worker's own segment is its row | `update`; `Worker::scan` clears it |
+//! | `covered` of the images | the recent items have all that are late and touched | `fill_version` and `turn`; `Worker::scan` clears it |
+//! | `again` | the touched words are those of the update before | `touch` |
+//! | `known` | the late and the touched items are all at which the next version differs from the shown buffer | `know_next` |
+//! | `still` | so, and nothing more is late than was | `know_next` |
+//! | `repeats` | the update repeats the one before it: nothing has to be listed anew | `update` |
 ghost use Rattle.std.specs.Prelude.{◌≡◌, ℕ, ◌+◌, ◌<◌, true, false, cond, length, slice_index, slice_set, Contains, OnOk, OnErr};
 ghost use Rattle.std.specs.Prelude.{IfErr};
 ghost use Rattle.ledger_core.specs.Ops.{width, sum_ops};
@@ -52,8 +61,8 @@ fn flag_word(lends: bool) -> u64
 }
 
 /// Fills the hidden buffer with the version of this row, with the answer of the scan that ended so, and says whether it lends
-/// that. `known` is what `know_next` answered; `covered` says that the recent items have all that are late and touched, and it notes
-/// whether they have then.
+/// that. `known` is what `know_next` answered; `covered` says that the old recent items have all that are late and touched. Whether the
+/// new ones have is noted in the images.
 #[inline(always)]
 fn fill_version<const N: usize, const C: usize, const H: usize, const G: usize>(
     board: &Board<N, C, H, G>,
@@ -132,6 +141,7 @@ fn turn<const N: usize, const C: usize, const H: usize, const G: usize>(
     let number = item_at(N, C, H, G, Item::Vector { worker: index });
     let totals_at = item_at(N, C, H, G, Item::Flag) + 1 + N;
     list_late(&mut images.late, &images.touched, number, totals_at, known);
+    // Where the touched words are those of the update before, each item that is late now was late before, so that it is recent.
     images.covered = images.covered & again & !images.late.is_all();
 }
 
