@@ -17,8 +17,8 @@ use register_rule::{Board, ScanSeat};
 /// How many places are opened in one turn.
 const TURN: usize = 4;
 
-/// Opens a place, where those before it are opened. It says whether all of them were `known`, and this one's number is the one
-/// that is remembered.
+/// Opens a place, where those before it are opened. In `known` it says whether all of them were, and this one's number is the
+/// one that is remembered: it is written only where that is another number.
 #[inline(always)]
 fn open_one<
     S: ScanSeat<N, C, H, G>,
@@ -32,8 +32,8 @@ fn open_one<
     remembered: &mut [RememberedRow],
     opened: &mut [u64],
     place: usize,
-    known: bool,
-) -> bool
+    known: &mut bool,
+)
     requires of_board { MayScan board.now (S.bundle seat.old) }
     requires deep { depth N (width C H G) ≤ 2529 }
     requires inside { (place < N) × (length remembered.old ≡ N) × (length opened.old ≡ N) }
@@ -42,15 +42,13 @@ fn open_one<
     ensures leads { HasMember (members_of (S.bundle seat.new)) }
     ensures wide { All (IsWide (width C H G)) remembered.new }
     ensures opened { (ms : List Member) (rows : List RememberedRow)
-        → HasOpened (width C H G) place ms rows (members_of (S.bundle seat.old)) remembered.old opened.old known
-        → HasOpened (width C H G) (place + 1) ms rows (members_of (S.bundle seat.new)) remembered.new opened.new result }
+        → HasOpened (width C H G) place ms rows (members_of (S.bundle seat.old)) remembered.old opened.old known.old
+        → HasOpened (width C H G) (place + 1) ms rows (members_of (S.bundle seat.new)) remembered.new opened.new known.new }
 {
-    let number = remembered[place].look(board, seat, place);
-    opened[place] = number;
-    known & (number == remembered[place].number)
+    opened[place] = remembered[place].look(board, seat, place, known);
 }
 
-/// Opens four places.
+/// Opens four places, as [`open_one`].
 #[inline(always)]
 fn open_four<
     S: ScanSeat<N, C, H, G>,
@@ -64,8 +62,8 @@ fn open_four<
     remembered: &mut [RememberedRow],
     opened: &mut [u64],
     place: usize,
-    known: bool,
-) -> bool
+    known: &mut bool,
+)
     requires of_board { MayScan board.now (S.bundle seat.old) }
     requires deep { depth N (width C H G) ≤ 2529 }
     requires inside { (place + 4 ≤ N) × (length remembered.old ≡ N) × (length opened.old ≡ N) }
@@ -74,16 +72,16 @@ fn open_four<
     ensures leads { HasMember (members_of (S.bundle seat.new)) }
     ensures wide { All (IsWide (width C H G)) remembered.new }
     ensures opened { (ms : List Member) (rows : List RememberedRow)
-        → HasOpened (width C H G) place ms rows (members_of (S.bundle seat.old)) remembered.old opened.old known
-        → HasOpened (width C H G) (place + 4) ms rows (members_of (S.bundle seat.new)) remembered.new opened.new result }
+        → HasOpened (width C H G) place ms rows (members_of (S.bundle seat.old)) remembered.old opened.old known.old
+        → HasOpened (width C H G) (place + 4) ms rows (members_of (S.bundle seat.new)) remembered.new opened.new known.new }
 {
-    let one = open_one(board, seat, remembered, opened, place, known);
-    let two = open_one(board, seat, remembered, opened, place + 1, one);
-    let three = open_one(board, seat, remembered, opened, place + 2, two);
-    open_one(board, seat, remembered, opened, place + 3, three)
+    open_one(board, seat, remembered, opened, place, known);
+    open_one(board, seat, remembered, opened, place + 1, known);
+    open_one(board, seat, remembered, opened, place + 2, known);
+    open_one(board, seat, remembered, opened, place + 3, known);
 }
 
-/// Opens the places from `from` on, where those before are opened.
+/// Opens the places from `from` on, where those before are opened, as [`open_one`].
 #[inline(always)]
 fn open_rest<
     S: ScanSeat<N, C, H, G>,
@@ -97,22 +95,20 @@ fn open_rest<
     remembered: &mut [RememberedRow],
     opened: &mut [u64],
     from: usize,
-    known: bool,
-) -> bool
+    known: &mut bool,
+)
     requires of_board { MayScan board.now (S.bundle seat.old) }
     requires deep { depth N (width C H G) ≤ 2529 }
     requires inside { (from ≤ N) × (length remembered.old ≡ N) × (length opened.old ≡ N) }
     requires wide { All (IsWide (width C H G)) remembered.old }
     ensures table { table_of (S.bundle seat.new) ≡ table_of (S.bundle seat.old) }
     ensures opened { (ms : List Member) (rows : List RememberedRow)
-        → HasOpened (width C H G) from ms rows (members_of (S.bundle seat.old)) remembered.old opened.old known
-        → HasOpened (width C H G) N ms rows (members_of (S.bundle seat.new)) remembered.new opened.new result }
+        → HasOpened (width C H G) from ms rows (members_of (S.bundle seat.old)) remembered.old opened.old known.old
+        → HasOpened (width C H G) N ms rows (members_of (S.bundle seat.new)) remembered.new opened.new known.new }
 {
-    let mut all = known;
     for place in from..N {
-        all = open_one(board, seat, remembered, opened, place, all);
+        open_one(board, seat, remembered, opened, place, known);
     }
-    all
 }
 
 /// The first collect of a try. It says whether each number is the one that is remembered.
@@ -145,7 +141,8 @@ pub(crate) fn collect<
     let turns = N / TURN;
     let mut known = true;
     for turn in 0..turns {
-        known = open_four(board, seat, remembered, opened, TURN * turn, known);
+        open_four(board, seat, remembered, opened, TURN * turn, &mut known);
     }
-    open_rest(board, seat, remembered, opened, TURN * turns, known)
+    open_rest(board, seat, remembered, opened, TURN * turns, &mut known);
+    known
 }

@@ -1,6 +1,7 @@
 //! What a scan remembers of one segment. A buffer has at most 2,529
 //! words: twice the 1,248 of a row, the flag and 32 numbers.
-ghost use Rattle.std.specs.Prelude.{◌≡◌, ℕ, ◌+◌, ◌-◌, ◌<◌, ◌≤◌, ◌==◌, cond, Contains, length, slice_index, slice_set, IfOk};
+ghost use Rattle.std.specs.Prelude.{◌≡◌, ◌≢◌, ℕ, ◌+◌, ◌-◌, ◌<◌, ◌≤◌, ◌==◌, ◌⊎◌, true, false, cond, Contains};
+ghost use Rattle.std.specs.Prelude.{length, slice_index, slice_set, IfOk};
 ghost use Rattle.bucket_math.specs.Words.{greatest_word};
 ghost use Rattle.ledger_core.specs.Ops.{width};
 ghost use Rattle.segment_layout.specs.Layout.{depth};
@@ -47,7 +48,7 @@ impl RememberedRow {
     ghost use Rattle.snapshot_scan.specs.Shape.{looked_at};
     ghost use Rattle.snapshot_scan.specs.RememberedRows.{IsWide, version_of, words_of};
 
-    /// The opening load of the segment, and its row, where it is not the one that is remembered.
+    /// The opening load of the segment, and its row, where it is not the one that is remembered: then `known` becomes false.
     #[inline]
     pub fn look<
         S: ScanSeat<N, C, H, G>,
@@ -55,7 +56,7 @@ impl RememberedRow {
         const C: usize,
         const H: usize,
         const G: usize,
-    >(&mut self, board: &Board<N, C, H, G>, seat: &mut S, place: usize) -> u64
+    >(&mut self, board: &Board<N, C, H, G>, seat: &mut S, place: usize, known: &mut bool) -> u64
         requires of_board { MayScan board.now (S.bundle seat.old) }
         requires inside { place < N }
         requires deep { depth N (width C H G) ≤ 2529 }
@@ -67,9 +68,12 @@ impl RememberedRow {
         ensures told { IsNumber place (members_of (S.bundle seat.old)) result }
         ensures wide { IsWide (width C H G) self.new }
         ensures same { version_of self.new ≡ version_of self.old }
+        ensures known { known.new ≡ true → (known.old ≡ true) × (self.old.number ≡ result) }
+        ensures unknown { known.new ≡ false → (known.old ≡ false) ⊎ (self.old.number ≢ result) }
     {
         let number = board.open(seat, place);
         if number != self.number {
+            *known = false;
             read_row(
                 board,
                 seat,

@@ -40,13 +40,13 @@ pub loop-turn-preserved : goal.loop-turn-preserved
 loop-turn-preserved g c =
     let w : ℕ = width g.row.C g.row.H g.row.G in let bundle = g.S.ScanSeat.bundle in
     let ms = members_of (bundle c.args.seat.now) in
-    let inv = c.loop-turn.invariant in let r = c.open_four-known.new in record {
-      table = c.open_four-known.ensures.table ∙ inv.table;
-      leads = c.open_four-known.ensures.leads;
-      wide = c.open_four-known.ensures.wide;
+    let inv = c.loop-turn.invariant in let r = c.open_four.new in record {
+      table = c.open_four.ensures.table ∙ inv.table;
+      leads = c.open_four.ensures.leads;
+      wide = c.open_four.ensures.wide;
       deep = inv.deep;
       opened = subst (λ (z : ℕ). HasOpened w z ms c.args.remembered.now (members_of (bundle r.seat)) r.remembered r.opened
-          c.open_four-known.result) (omega arith) (c.open_four-known.ensures.opened ms c.args.remembered.now inv.opened);
+          r.known) (omega arith) (c.open_four.ensures.opened ms c.args.remembered.now inv.opened);
     }
 
 -- what the whole collect has opened

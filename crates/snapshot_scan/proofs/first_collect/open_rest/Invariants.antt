@@ -15,6 +15,6 @@ invariant-loop-place g l = let bundle = g.S.ScanSeat.bundle in let w : ℕ = wid
   wide : All (IsWide w) l.remembered;
   opened : (ms : List Member) (rows : List RememberedRow) → HasOpened w l.from ms rows
       (members_of (bundle l.fn.seat)) l.fn.remembered
-      l.fn.opened l.known
-      → HasOpened w l.place ms rows (members_of (bundle l.seat)) l.remembered l.opened l.all;
+      l.fn.opened l.fn.known
+      → HasOpened w l.place ms rows (members_of (bundle l.seat)) l.remembered l.opened l.known;
 }
