@@ -8,6 +8,7 @@ pub mod Settling
 pub mod Asking
 pub mod Trying
 pub mod Scanning
+pub mod Ends
 pub mod Coming
 pub mod Arriving
 pub mod Totals

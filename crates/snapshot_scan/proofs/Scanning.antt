@@ -19,13 +19,15 @@ use Rattle.register_rule.specs.declared.seats.Bundle.{Bundle}
 use Rattle.register_rule.specs.Seats.{HasMember, MayScan, table_of, members_of}
 use Rattle.ledger_core.specs.Ops.{width}
 use Rattle.segment_layout.specs.Layout.{IsGeometry}
-use Rattle.snapshot_scan.specs.Conditions.{MayTry}
+use Rattle.snapshot_scan.specs.ChangedItems.{ChangedView}
+use Rattle.snapshot_scan.specs.Conditions.{MayTry, HasTried, HasFailedOnce}
 use Rattle.snapshot_scan.specs.Shape.{scan_of, with_scan}
 use Rattle.snapshot_scan.specs.RememberedRows.{version_of, AreWide, HasOther, pairs, opening, settling, failing, IsLoaded}
 use Rattle.snapshot_scan.specs.Asking.{refused_all, due_from, asked_worker, asked_too, MayAsk}
-use Rattle.snapshot_scan.specs.Scanned.{Tried, all_opened, FailedTry, HasMoved, IsAnswered, IsGivenUp}
+use Rattle.snapshot_scan.specs.Scanned.{Tried, all_opened, FailedTry, HasMoved, IsIdle, IsAnswered, IsGivenUp}
 use Rattle.snapshot_scan.proofs.Words.{scan_with, with_led, led_some}
 use Rattle.snapshot_scan.proofs.Asking.{above_below}
+use Rattle.snapshot_scan.proofs.Moving.{lists_first}
 use Rattle.snapshot_scan.proofs.Trying.{stood, stood_more, AreTries, asking, fails_later, fails_first, asked_none, asked_some}
 use Rattle.snapshot_scan.proofs.Trying.{given_due, given_later, given_last, loads_in}
 
@@ -89,6 +91,19 @@ moved_first n rows opened c c' long other loads = record {
   opened = loads ∙ ap (λ z. c.opened ++ z) (sym (append-nil (pairs 0 opened)));
   all = long;
   why = inl other;
+}
+
+-- the first try is not clean
+pub failed_once : {N C H G : ℕ} (b : Board N C H G) (s s' : Bundle) (gs gs' : List RememberedRow)
+    (sums sums' opened found : List ℕ) (old changed : ChangedView) (known clean : Bool) → MayScan b s
+    → IsIdle (scan_of (members_of s)) gs → old.items ≡ [] → clean ≡ false
+    → HasTried N C H G s s' gs gs' sums sums' opened found old changed known clean
+    → HasFailedOnce b s s' gs gs' sums sums' opened found changed
+failed_once {N} {C} {H} {G} b s s' gs gs' sums sums' opened found old changed known clean own idle none failed tried = record {
+  of_board = own;
+  idle = idle;
+  tried = (old, known, subst (HasTried N C H G s s' gs gs' sums sums' opened found old changed known) failed tried);
+  listed = lists_first (width C H G) sums sums' old changed none tried.listed;
 }
 
 some_loads : (l : List (ℕ × ℕ)) (xs : List ℕ) → 0 < length xs → l ++ pairs 0 xs ≢ []

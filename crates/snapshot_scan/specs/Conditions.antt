@@ -80,6 +80,16 @@ pub record HasTried (N C H G : ℕ) (s s' : Bundle) (gs gs' : List RememberedRow
   pub numbers : is_clean ≡ true → AreKnown opened gs'
   pub listed : ListsChanges (width C H G) sums sums' changed changed'
 
+-- what the first try of a scan leaves, where it is not clean: of the seat s, which was in no scan, of the rows gs and their
+-- sums; with the numbers of both collects, and where the sums changed
+pub record HasFailedOnce {N C H G : ℕ} (b : Board N C H G) (s s' : Bundle) (gs gs' : List RememberedRow)
+    (sums sums' opened found : List ℕ) (changed : ChangedView) : Type 0 where
+  pub of_board : MayScan b s
+  pub idle : IsIdle (scan_in s) gs
+  pub tried : (old : ChangedView) × (is_known : Bool)
+      × HasTried N C H G s s' gs gs' sums sums' opened found old changed is_known false
+  pub listed : Lists (width C H G) sums sums' changed
+
 -- what a scan that ended so leaves: of the seat s, of the rows gs and their sums; with the numbers of its last try, the words
 -- that were lent, and where the sums changed
 pub record HasEnded (N C H G : ℕ) (s s' : Bundle) (gs gs' : List RememberedRow) (sums sums' opened found words : List ℕ)

@@ -1,8 +1,10 @@
 //! A scan.
-ghost use Rattle.std.specs.Prelude.{◌≡◌, length};
+ghost use Rattle.std.specs.Prelude.{◌≡◌, ℕ, ◌+◌, List, length};
 ghost use Rattle.ledger_core.specs.Ops.{width};
+ghost use Rattle.segment_layout.specs.Layout.{IsGeometry};
+ghost use Rattle.register_rule.specs.declared.seats.Bundle.{Bundle};
 ghost use Rattle.snapshot_scan.specs.RememberedRows.{AreTotals};
-ghost use Rattle.snapshot_scan.specs.Conditions.{MayTry, MayBegin, HasTried, HasEnded};
+ghost use Rattle.snapshot_scan.specs.Conditions.{MayTry, MayBegin, HasTried, HasFailedOnce, HasEnded};
 
 use crate::asks::ask_all;
 use crate::changed_items::ChangedItems;
@@ -45,9 +47,11 @@ fn one_try<S: ScanSeat<N, C, H, G>, const N: usize, const C: usize, const H: usi
     )
 }
 
-/// A later try of a scan, as [`one_try`]: a function of its own, so that a scan that is quiet has no more code than it needs.
+/// The later tries of a scan, at most `N` + 1, after a first one that was not clean, whose numbers are the floor and the base of
+/// the scan. After each that fails, workers are asked until one lends. A function of its own, so that a quiet scan has no more
+/// code and memory than it needs.
 #[inline(never)]
-fn later_try<
+fn later_tries<
     S: ScanSeat<N, C, H, G>,
     const N: usize,
     const C: usize,
@@ -60,26 +64,45 @@ fn later_try<
     totals: &mut [u64],
     opened: &mut [u64],
     found: &mut [u64],
+    lent: &mut [u64],
     changed_totals: &mut ChangedItems,
-    known: &mut bool,
-) -> bool
-    requires may { MayTry board.now (S.bundle seat.old) remembered.old opened.old }
-    requires room { (length found.old ≡ N) × (length totals.old ≡ width C H G) × AreTotals
-        (width C H G) remembered.old totals.old }
-    ensures { HasTried N C H G (S.bundle seat.old)
-        (S.bundle seat.new) remembered.old remembered.new totals.old totals.new opened.new
-        found.new changed_totals.old changed_totals.new known.new result }
+) -> ScanEnd
+    requires geometry { IsGeometry N C H G }
+    requires lengths { (length remembered.old ≡ N) × (length totals.old ≡ width C H G) × (length opened.old ≡ N)
+        × (length found.old ≡ N) × (length lent.old ≡ 1 + N + width C H G) }
+    requires failed { (s : Bundle) × (gs : List RememberedRow) × (sums : List ℕ) × HasFailedOnce board.now s
+        (S.bundle seat.old) gs remembered.old sums totals.old opened.old found.old changed_totals.old }
+    ensures { (s : Bundle) (gs : List RememberedRow) (sums : List ℕ)
+        → HasFailedOnce board.now s (S.bundle seat.old) gs remembered.old sums totals.old opened.old found.old changed_totals.old
+        → HasEnded N C H G s (S.bundle seat.new) gs remembered.new sums totals.new opened.new found.new lent.new
+        changed_totals.new result }
 {
-    one_try(
-        board,
-        seat,
-        remembered,
-        totals,
-        opened,
-        found,
-        changed_totals,
-        known,
-    )
+    let mut floor = [0; N];
+    floor.copy_from_slice(opened);
+    let mut base = [0; N];
+    base.copy_from_slice(found);
+    let row = totals.len();
+    let mut known = false;
+    for _k in 0..N + 1 {
+        let clean = one_try(
+            board,
+            seat,
+            remembered,
+            totals,
+            opened,
+            found,
+            changed_totals,
+            &mut known,
+        );
+        if clean {
+            return ScanEnd::Direct { quiet: false };
+        }
+        let lends = ask_all(board, seat, row, &floor, &base, found, lent);
+        if lends {
+            return ScanEnd::Lent;
+        }
+    }
+    ScanEnd::GaveUp
 }
 
 /// A scan of at most `N` + 2 tries.
@@ -124,29 +147,14 @@ pub(crate) fn scan<
     if clean {
         return ScanEnd::Direct { quiet: known };
     }
-    let mut floor = [0; N];
-    floor.copy_from_slice(opened);
-    let mut base = [0; N];
-    base.copy_from_slice(found);
-    let row = totals.len();
-    for _k in 0..N + 1 {
-        let clean = later_try(
-            board,
-            seat,
-            remembered,
-            totals,
-            opened,
-            found,
-            changed_totals,
-            &mut known,
-        );
-        if clean {
-            return ScanEnd::Direct { quiet: false };
-        }
-        let lends = ask_all(board, seat, row, &floor, &base, found, lent);
-        if lends {
-            return ScanEnd::Lent;
-        }
-    }
-    ScanEnd::GaveUp
+    later_tries(
+        board,
+        seat,
+        remembered,
+        totals,
+        opened,
+        found,
+        lent,
+        changed_totals,
+    )
 }

@@ -1,209 +1,17 @@
-use Rattle.std.proofs.Common.{◌≡◌, ◌+◌, ℕ, Bool, true, false, List, [], ◌∷◌, ◌++◌, length, map, take, drop, slice_index, sym}
-use Rattle.std.proofs.Common.{refl, ap, ◌∙◌, subst, arith, rules}
+use Rattle.std.proofs.Common.{◌≡◌, ℕ, length, map, subst, sym, refl, ap, ◌∙◌, rules}
 use Rattle.ledger_core.specs.Ops.{width}
-use Rattle.ledger_core.specs.Vectors.{is_above}
 use Rattle.register_rule.specs.declared.view.Answer.{Answer}
 use Rattle.register_rule.specs.declared.view.ScanLog.{ScanLog}
-use Rattle.register_rule.specs.ScanSteps.{answered, given_up_if_spent, lent_in}
 use Rattle.register_rule.specs.Seats.{members_of}
-use Rattle.register_rule.specs.History.{Below}
-use Rattle.register_rule.proofs.Words.{each_push}
-use mathlib.Core.Option.{some-ne-none}
-use Rattle.snapshot_scan.specs.declared.scan_end.ScanEnd.{ScanEnd}
-use Rattle.snapshot_scan.specs.declared.scan_end.ScanEnd.TheVariants as End
-use Rattle.snapshot_scan.specs.Shape.{scan_of, with_scan}
-use Rattle.snapshot_scan.specs.RememberedRows.{version_of, opening, settling, IsLoaded}
-use Rattle.snapshot_scan.specs.Asking.{due_from, asked_worker, MayAsk}
-use Rattle.snapshot_scan.specs.Scanned.{Tried, FailedTry, IsAnswered, IsGivenUp}
-use Rattle.snapshot_scan.proofs.Asking.{vector_long}
-use Rattle.snapshot_scan.proofs.Trying.{stood, AreTries, given_last, none_due}
-use Rattle.snapshot_scan.proofs.Scanning.{now_is, still_some, others_same, then_is, seen_below, direct_first, direct_later}
-use Rattle.snapshot_scan.proofs.Scanning.{moved_first, moved_later, lent_later, all_failed, tries_more, tries_one, may_start}
-use Rattle.snapshot_scan.proofs.Scanning.{may_try}
-use Rattle.snapshot_scan.proofs.Scanning.{first_starts, at_loop, loop_fails, loop_lends, loop_refuses, count_more}
-use Rattle.snapshot_core.specs.declared.next.Next.TheVariants.{GaveUp}
-use Rattle.snapshot_scan.specs.Core.{CameTo, AnswersBy}
-use Rattle.snapshot_scan.proofs.Arriving.{came_first, came_later, came_lending, came_up}
-use Rattle.snapshot_scan.proofs.Moving.{lists_first, lists_then}
+use Rattle.snapshot_scan.specs.Shape.{scan_of}
+use Rattle.snapshot_scan.specs.RememberedRows.{version_of}
+use Rattle.snapshot_scan.specs.Scanned.{IsAnswered}
+use Rattle.snapshot_scan.specs.Core.{AnswersBy}
+use Rattle.snapshot_scan.proofs.Scanning.{now_is, others_same, direct_first, moved_first, failed_once}
+use Rattle.snapshot_scan.proofs.Ends.{quiet_in, direct_lent, direct_up}
+use Rattle.snapshot_scan.proofs.Arriving.{came_first}
+use Rattle.snapshot_scan.proofs.Moving.{lists_first}
 use Rattle.snapshot_scan.proofs.scans.scan.Goals as goal
-
-abbrev quiet_in : ScanEnd → Bool
-quiet_in (End.Direct quiet) = quiet
-quiet_in End.Lent = false
-quiet_in End.GaveUp = false
-
--- the ways to end are apart
-direct_lent : (q : Bool) → End.Direct q ≡ End.Lent → ⊥
-direct_lent q e = cc
-
-direct_up : (q : Bool) → End.Direct q ≡ End.GaveUp → ⊥
-direct_up q e = cc
-
-lent_direct : (q : Bool) → End.Lent ≡ End.Direct q → ⊥
-lent_direct q e = cc
-
-lent_up : End.Lent ≡ End.GaveUp → ⊥
-lent_up e = cc
-
-up_direct : (q : Bool) → End.GaveUp ≡ End.Direct q → ⊥
-up_direct q e = cc
-
-up_lent : End.GaveUp ≡ End.Lent → ⊥
-up_lent e = cc
-
-not_quiet : false ≡ true → ⊥
-not_quiet e = cc
-
-pub loop-k-init : goal.loop-k-init
-loop-k-init g c =
-    let ms = members_of (g.S.ScanSeat.bundle c.args.seat.now) in
-    let n : ℕ = g.row.N in let w : ℕ = width g.row.C g.row.H g.row.G in
-    let r = c.one_try-clean.new in let lens = c.requires.may.lengths in
-    let fl = c.copy_from_slice.new.self in let ba = c.copy_from_slice-2.new.self in
-    let few : length r.remembered ≡ n = c.one_try-clean.auto.remembered ∙ lens.0 in
-    let long : length r.opened ≡ n = c.one_try-clean.auto.opened ∙ c.requires.may.lengths.1 in
-    let deep : length r.found ≡ n = c.one_try-clean.auto.found ∙ c.requires.room.0 in
-    let f : r.opened ≡ fl = sym c.copy_from_slice.ensures.after in let b : r.found ≡ ba = sym c.copy_from_slice-2.ensures.after in
-    let one : Tried = record { first = r.opened; second = r.found; asks = [] } in
-    let view : members_of (g.S.ScanSeat.bundle r.seat) ≡ with_scan
-    (given_up_if_spent n (stood (one ∷ []) r.remembered r.opened r.found (scan_of ms))) ms =
-    c.one_try-clean.ensures.failed c.if-clean.false ∙ ap (λ (x : ScanLog). with_scan (given_up_if_spent n x) ms)
-    (first_starts n w r.opened r.found r.remembered (scan_of ms) few long deep c.requires.idle.rest) in
-    let failed : FailedTry n r.opened r.found one = record {
-      opened = long;
-      found = deep;
-      risen = c.one_try-clean.ensures.risen;
-      rose = c.one_try-clean.ensures.rose c.if-clean.false;
-      asked = sym (none_due 0 r.found);
-      none = λ q e at. absurd (some-ne-none e (sym at));
-    } in
-    let stands : members_of (g.S.ScanSeat.bundle r.seat) ≡ with_scan
-    (given_up_if_spent n (stood (one ∷ []) r.remembered fl ba (scan_of ms))) ms =
-    view ∙ (λ z. with_scan (given_up_if_spent n (stood (one ∷ []) r.remembered (f z) (b z) (scan_of ms))) ms) in (
-      one ∷ [],
-      record {
-        table = c.one_try-clean.ensures.table;
-        ruled = c.one_try-clean.ensures.ruled;
-        leads = still_some _ ms _ c.requires.may.of_board.1 view;
-        wide = c.one_try-clean.ensures.wide;
-        may = may_try c.args.board.now (g.S.ScanSeat.bundle c.args.seat.now) (g.S.ScanSeat.bundle r.seat) 0
-            (one ∷ []) r.remembered fl
-            ba r.opened c.requires.may.of_board c.requires.may.geometry c.one_try-clean.ensures.table few long
-            c.one_try-clean.ensures.wide refl stands;
-        room = (deep, c.one_try-clean.auto.totals ∙ c.requires.room.1, c.one_try-clean.ensures.totals);
-        listed = lists_first w c.args.totals.now r.totals c.clear.new.self r.changed_totals c.clear.ensures.none.1
-            c.one_try-clean.ensures.listed;
-        count = refl;
-        above = each_push (λ (t : Tried). Below (scan_of ms).seen t.first) [] one (λ p y at. absurd (some-ne-none y (sym at)))
-            (seen_below n (scan_of ms) r.opened long c.one_try-clean.ensures.told);
-        tried = subst (λ (x : List ℕ). AreTries n x ba r.opened r.found (one ∷ [])) f
-            (subst (λ (x : List ℕ). AreTries n r.opened x r.opened r.found (one ∷ [])) b (tries_one n r.opened r.found failed));
-        lengths = (ap (λ (l : List ℕ). length l) (sym f) ∙ long, ap (λ (l : List ℕ). length l) (sym b) ∙ deep);
-        seen = subst (λ (x : List ℕ). Below (scan_of ms).seen x) f
-            (seen_below n (scan_of ms) r.opened long c.one_try-clean.ensures.told);
-        view = stands;
-      },
-    )
-
-pub ask_all-lends-requires : goal.ask_all-lends-requires
-ask_all-lends-requires g c =
-    let ms = members_of (g.S.ScanSeat.bundle c.args.seat.now) in
-    let n : ℕ = g.row.N in let w : ℕ = width g.row.C g.row.H g.row.G in
-    let inv = c.loop-k.invariant.1 in let tries = c.loop-k.invariant.0 in let lens = c.requires.may.lengths in
-    let fl = c.copy_from_slice.new.self in let ba = c.copy_from_slice-2.new.self in
-    let r = c.later_try-clean.new in
-    let few : length r.remembered ≡ n = c.later_try-clean.auto.remembered ∙
-    (c.loop-k.auto.remembered ∙ (c.one_try-clean.auto.remembered
-    ∙ lens.0)) in
-    let long : length r.opened ≡ n = c.later_try-clean.auto.opened
-    ∙ (c.loop-k.auto.opened ∙ (c.one_try-clean.auto.opened ∙ c.requires.may.lengths.1)) in
-    let deep : length r.found ≡ n = c.later_try-clean.auto.found
-    ∙ (c.loop-k.auto.found ∙ (c.one_try-clean.auto.found ∙ c.requires.room.0)) in
-    let view = at_loop n c.loop-k._k tries c.loop-k.remembered fl ba ms _ inv.count c.loop-k-test.true inv.view in
-    let d : ScanLog = stood tries c.loop-k.remembered fl ba (scan_of ms) in
-    let fails = loop_fails n w c.loop-k._k r.opened r.found r.remembered c.loop-k.remembered few long deep tries fl ba ms _ _
-    c.requires.may.of_board.1 inv.count view (c.later_try-clean.ensures.failed c.if-clean-2.false) in
-    let scan = now_is _ ms _ c.requires.may.of_board.1 fails in (
-      search rules,
-      record {
-        of_board = (
-          c.later_try-clean.ensures.table ∙ (inv.table
-              ∙ c.requires.may.of_board.0),
-          still_some _ ms _ c.requires.may.of_board.1 fails,
-        );
-        ruled = c.later_try-clean.ensures.ruled;
-        geometry = c.requires.may.geometry;
-        lengths = (
-          c.one_try-clean.auto.totals ∙ c.requires.room.1,
-          inv.lengths.0,
-          inv.lengths.1,
-          deep,
-          c.loop-k.auto.lent ∙ c.requires.lent,
-        );
-        may_ask = subst (MayAsk fl (due_from 0 ba r.found)) (sym scan)
-            (may_start n r.opened r.found r.remembered fl ba (due_from 0 ba r.found) d);
-      },
-    )
-
-pub loop-k-preserved : goal.loop-k-preserved
-loop-k-preserved g c =
-    let ms = members_of (g.S.ScanSeat.bundle c.args.seat.now) in
-    let n : ℕ = g.row.N in let w : ℕ = width g.row.C g.row.H g.row.G in
-    let inv = c.loop-k.invariant.1 in let tries = c.loop-k.invariant.0 in let lens = c.requires.may.lengths in
-    let fl = c.copy_from_slice.new.self in let ba = c.copy_from_slice-2.new.self in
-    let r = c.later_try-clean.new in
-    let few : length r.remembered ≡ n = c.later_try-clean.auto.remembered ∙
-    (c.loop-k.auto.remembered ∙ (c.one_try-clean.auto.remembered
-    ∙ lens.0)) in
-    let long : length r.opened ≡ n = c.later_try-clean.auto.opened
-    ∙ (c.loop-k.auto.opened ∙ (c.one_try-clean.auto.opened ∙ c.requires.may.lengths.1)) in
-    let deep : length r.found ≡ n = c.later_try-clean.auto.found
-    ∙ (c.loop-k.auto.found ∙ (c.one_try-clean.auto.found ∙ c.requires.room.0)) in
-    let view = at_loop n c.loop-k._k tries c.loop-k.remembered fl ba ms _ inv.count c.loop-k-test.true inv.view in
-    let d : ScanLog = stood tries c.loop-k.remembered fl ba (scan_of ms) in
-    let fails = loop_fails n w c.loop-k._k r.opened r.found r.remembered c.loop-k.remembered few long deep tries fl ba ms _ _
-    c.requires.may.of_board.1 inv.count view (c.later_try-clean.ensures.failed c.if-clean-2.false) in
-    let q = c.ask_all-lends.ensures.refuses c.if-lends.false in
-    let t : Tried = record { first = r.opened; second = r.found; asks = q.0 } in
-    let end = loop_refuses n w c.loop-k._k r.opened r.found r.remembered c.loop-k.remembered few long deep tries fl ba ms _ _
-    c.requires.may.of_board.1 inv.count view _ q.0 fails q.1 q.3 in
-    let failed : FailedTry n fl ba t = record {
-      opened = long;
-      found = deep;
-      risen = c.later_try-clean.ensures.risen;
-      rose = c.later_try-clean.ensures.rose c.if-clean-2.false;
-      asked = q.1;
-      none = q.2;
-    } in let own = c.ask_all-lends.ensures.table ∙ (c.later_try-clean.ensures.table ∙ inv.table) in (
-      tries ++ t ∷ [],
-      record {
-        table = own;
-        ruled = c.ask_all-lends.ensures.ruled;
-        leads = still_some _ ms _ c.requires.may.of_board.1 end;
-        wide = c.later_try-clean.ensures.wide;
-        may = may_try c.args.board.now (g.S.ScanSeat.bundle c.args.seat.now) (g.S.ScanSeat.bundle c.ask_all-lends.new.seat)
-            (c.loop-k._k + 1) (tries ++ t ∷ []) r.remembered fl ba r.opened c.requires.may.of_board c.requires.may.geometry own few long
-            c.later_try-clean.ensures.wide (count_more tries t c.loop-k._k inv.count) end;
-        room = (
-          deep,
-          c.later_try-clean.auto.totals ∙ (c.loop-k.auto.totals ∙ (c.one_try-clean.auto.totals ∙ c.requires.room.1)),
-          c.later_try-clean.ensures.totals,
-        );
-        listed = lists_then w c.args.totals.now c.loop-k.totals r.totals c.loop-k.changed_totals r.changed_totals inv.listed
-            c.later_try-clean.ensures.listed;
-        count = count_more tries t c.loop-k._k inv.count;
-        above = each_push (λ (u : Tried). Below (scan_of ms).seen u.first) tries t inv.above
-            (seen_below n (stood tries c.loop-k.remembered fl ba (scan_of ms)) r.opened long
-            (λ p lt. subst (λ (x : ScanLog). IsLoaded p x (slice_index r.opened p)) (now_is d ms _ c.requires.may.of_board.1 view)
-            (c.later_try-clean.ensures.told p lt)));
-        tried = tries_more n fl ba c.loop-k.opened c.loop-k.found tries inv.tried c.loop-k.remembered
-            (scan_of ms) r.opened r.found q.0
-            failed;
-        lengths = inv.lengths;
-        seen = inv.seen;
-        view = end;
-      },
-    )
 
 pub returns-then-clean : goal.returns-then-clean
 returns-then-clean g c =
@@ -236,135 +44,32 @@ returns-then-clean g c =
       came_up = λ e. absurd (direct_up _ e);
     }
 
-pub returns-then-clean-2 : goal.returns-then-clean-2
-returns-then-clean-2 g c =
-    let ms = members_of (g.S.ScanSeat.bundle c.args.seat.now) in
-    let n : ℕ = g.row.N in let w : ℕ = width g.row.C g.row.H g.row.G in
-    let inv = c.loop-k.invariant.1 in let tries = c.loop-k.invariant.0 in
-    let fl = c.copy_from_slice.new.self in let ba = c.copy_from_slice-2.new.self in
-    let made = c.later_try-clean.ensures in let r = c.later_try-clean.new in let clean = made.clean
-    c.if-clean-2.true in
-    let long : length r.opened ≡ n = c.later_try-clean.auto.opened
-    ∙ (c.loop-k.auto.opened ∙ (c.one_try-clean.auto.opened ∙ c.requires.may.lengths.1)) in
-    let a : Answer = record { vector = r.opened; totals = r.totals } in
-    let view = at_loop n c.loop-k._k tries c.loop-k.remembered fl ba ms _ inv.count c.loop-k-test.true inv.view in
-    let d : ScanLog = stood tries c.loop-k.remembered fl ba (scan_of ms) in
-    let end = then_is (λ (x : ScanLog). answered a (settling r.opened r.found r.remembered
-    (opening r.opened r.remembered x))) d ms _ _
-    c.requires.may.of_board.1 view clean in
-    let scan = now_is _ ms _ c.requires.may.of_board.1 end in let count = inv.count in let lt = c.loop-k-test.true in
-    record {
-      table = made.table ∙ inv.table;
-      ruled = made.ruled;
-      wide = made.wide;
-      totals = made.totals;
-      idle = record { remembered = ap (λ (x : ScanLog). x.remembered) scan; rest = ap (λ (x : ScanLog). x.trying) scan };
-      others = others_same _ ms _ c.requires.may.of_board.1 end;
-      direct = λ _ _. subst (λ (x : ScanLog). IsAnswered n (scan_of ms) x a) (sym scan)
-          (direct_later n fl ba c.loop-k.opened c.loop-k.found tries inv.tried c.loop-k.remembered
-          (scan_of ms) r.opened r.found r.totals
-          r.remembered inv.lengths.0 long
-          (λ q low. subst (λ (x : ScanLog). IsLoaded q x (slice_index r.opened q)) (now_is d ms _ c.requires.may.of_board.1 view)
-          (made.told q low)));
-      came_direct = λ _ _. subst (λ (x : ScanLog). AnswersBy n w (scan_of ms) x a) (sym scan)
-          (came_later n w fl ba c.loop-k.opened c.loop-k.found tries inv.tried c.loop-k.remembered
-          (scan_of ms) r.opened r.found r.remembered a
-          long (made.same c.if-clean-2.true) (omega (arith, count, lt)) refl);
-      quiet = λ e. absurd (not_quiet (ap quiet_in e));
-      once = λ e. absurd (not_quiet (ap quiet_in e));
-      moved = λ _. moved_later n fl ba c.loop-k.opened c.loop-k.found tries inv.tried c.loop-k.remembered (scan_of ms)
-          (map version_of c.args.remembered.now) r.opened _ c.requires.may.geometry.workers.0 inv.lengths.0 long
-          (ap (λ (x : ScanLog). x.opened) scan);
-      lent = λ e. absurd (direct_lent _ e);
-      came_lent = λ e. absurd (direct_lent _ e);
-      numbers = λ _ _. made.numbers c.if-clean-2.true;
-      listed = lists_then w c.args.totals.now c.loop-k.totals r.totals c.loop-k.changed_totals r.changed_totals inv.listed made.listed;
-      gave_up = λ e. absurd (direct_up _ e);
-      came_up = λ e. absurd (direct_up _ e);
-    }
-
-pub returns-then-lends : goal.returns-then-lends
-returns-then-lends g c =
-    let ms = members_of (g.S.ScanSeat.bundle c.args.seat.now) in
-    let n : ℕ = g.row.N in let w : ℕ = width g.row.C g.row.H g.row.G in
-    let inv = c.loop-k.invariant.1 in let tries = c.loop-k.invariant.0 in let lens = c.requires.may.lengths in
-    let fl = c.copy_from_slice.new.self in let ba = c.copy_from_slice-2.new.self in
-    let made = c.later_try-clean.ensures in let r = c.later_try-clean.new in
-    let few : length r.remembered ≡ n = c.later_try-clean.auto.remembered ∙
-    (c.loop-k.auto.remembered ∙ (c.one_try-clean.auto.remembered
-    ∙ lens.0)) in
-    let long : length r.opened ≡ n = c.later_try-clean.auto.opened
-    ∙ (c.loop-k.auto.opened ∙ (c.one_try-clean.auto.opened ∙ c.requires.may.lengths.1)) in
-    let deep : length r.found ≡ n = c.later_try-clean.auto.found ∙ (c.loop-k.auto.found ∙ (c.one_try-clean.auto.found
-    ∙ c.requires.room.0)) in
-    let view = at_loop n c.loop-k._k tries c.loop-k.remembered fl ba ms _ inv.count c.loop-k-test.true inv.view in
-    let fails = loop_fails n w c.loop-k._k r.opened r.found r.remembered c.loop-k.remembered few long deep tries fl ba ms _ _
-    c.requires.may.of_board.1 inv.count view (made.failed c.if-clean-2.false) in
-    let l = c.ask_all-lends.ensures.lends c.if-lends.true in let a = lent_in n w c.ask_all-lends.new.lent in
-    let end = loop_lends n w c.loop-k._k r.opened r.found r.remembered c.loop-k.remembered few long deep tries fl ba ms _ _
-    c.requires.may.of_board.1 inv.count view _ a l.1 l.0 l.2 fails l.3 l.7 in
-    let scan = now_is _ ms _ c.requires.may.of_board.1 end in let count = inv.count in let lt = c.loop-k-test.true in
-    record {
-      table = c.ask_all-lends.ensures.table ∙ (made.table ∙ inv.table);
-      ruled = c.ask_all-lends.ensures.ruled;
-      wide = made.wide;
-      totals = made.totals;
-      idle = record { remembered = ap (λ (x : ScanLog). x.remembered) scan; rest = ap (λ (x : ScanLog). x.trying) scan };
-      others = others_same _ ms _ c.requires.may.of_board.1 end;
-      direct = λ q e. absurd (lent_direct q e);
-      came_direct = λ q e. absurd (lent_direct q e);
-      quiet = λ e. absurd (lent_direct _ e);
-      once = λ e. absurd (lent_direct _ e);
-      moved = λ e. absurd (lent_direct _ e);
-      lent = λ _. subst (λ (x : ScanLog). IsAnswered n (scan_of ms) x a) (sym scan)
-          (lent_later n fl ba c.loop-k.opened c.loop-k.found tries inv.tried c.loop-k.remembered
-          (scan_of ms) r.opened r.found r.remembered a l.1
-          l.0 (asked_worker l.1 ∷ l.2) inv.lengths.0
-          (vector_long n w c.ask_all-lends.new.lent (c.ask_all-lends.auto.lent ∙ (c.loop-k.auto.lent ∙ c.requires.lent))) inv.seen
-          (ap (λ (ws : List ℕ). is_above fl (take n (drop 1 ws))) (sym l.5) ∙ l.6.above));
-      came_lent = λ _. subst (λ (x : ScanLog). AnswersBy n w (scan_of ms) x a) (sym scan)
-          (came_lending n w fl ba c.loop-k.opened c.loop-k.found tries inv.tried c.loop-k.remembered
-          (scan_of ms) r.opened r.found r.remembered a
-          l.1 l.0 l.2 (asked_worker l.1 ∷ l.2) long deep (omega (arith, count, lt)) (made.rose c.if-clean-2.false) l.3 l.4 l.6
-          (ap (lent_in n w) (sym l.5)));
-      numbers = λ q e. absurd (lent_direct q e);
-      listed = lists_then w c.args.totals.now c.loop-k.totals r.totals c.loop-k.changed_totals r.changed_totals inv.listed made.listed;
-      gave_up = λ e. absurd (lent_up e);
-      came_up = λ e. absurd (lent_up e);
-    }
+-- the first try failed
+pub later_tries-requires : goal.later_tries-requires
+later_tries-requires g c =
+    let r = c.one_try-clean.new in let a = c.one_try-clean.auto in let lens = c.requires.may.lengths in
+    let s = g.S.ScanSeat.bundle c.args.seat.now in let room = c.requires.room in (
+      search rules,
+      (
+        c.requires.may.geometry,
+        (
+          (a.remembered ∙ lens.0, a.totals ∙ room.1, a.opened ∙ lens.1, a.found ∙ room.0, c.requires.lent),
+          (
+            s,
+            c.args.remembered.now,
+            c.args.totals.now,
+            failed_once c.args.board.now s (g.S.ScanSeat.bundle r.seat) c.args.remembered.now r.remembered c.args.totals.now
+                r.totals r.opened r.found c.clear.new.self r.changed_totals r.known c.one_try-clean.result
+                c.requires.may.of_board c.requires.idle c.clear.ensures.none.1 c.if-clean.false c.one_try-clean.ensures,
+          ),
+        ),
+      ),
+    )
 
 pub returns : goal.returns
 returns g c =
-    let ms = members_of (g.S.ScanSeat.bundle c.args.seat.now) in
-    let n : ℕ = g.row.N in let w : ℕ = width g.row.C g.row.H g.row.G in
-    let inv = c.loop-k.invariant.1 in let tries = c.loop-k.invariant.0 in
-    let fl = c.copy_from_slice.new.self in let ba = c.copy_from_slice-2.new.self in
-    let t = c.loop-k-test.false in let last = c.loop-k.auto._k-end in let count = inv.count in
-    let scan = now_is _ ms _ c.requires.may.of_board.1 inv.view in
-    record {
-      table = inv.table;
-      ruled = inv.ruled;
-      wide = inv.wide;
-      totals = inv.room.2;
-      idle = let rest = scan ∙ given_last n (stood tries c.loop-k.remembered fl ba (scan_of ms)) refl
-          (omega (arith, count, t, last)) in
-          record { remembered = ap (λ (x : ScanLog). x.remembered) rest; rest = ap (λ (x : ScanLog). x.trying) rest };
-      others = others_same _ ms _ c.requires.may.of_board.1 inv.view;
-      direct = λ q e. absurd (up_direct q e);
-      came_direct = λ q e. absurd (up_direct q e);
-      quiet = λ e. absurd (up_direct _ e);
-      once = λ e. absurd (up_direct _ e);
-      moved = λ e. absurd (up_direct _ e);
-      lent = λ e. absurd (up_lent e);
-      came_lent = λ e. absurd (up_lent e);
-      numbers = λ q e. absurd (up_direct q e);
-      listed = inv.listed;
-      gave_up = λ _. subst (λ (x : ScanLog). IsGivenUp n (scan_of ms) x c.loop-k.opened c.loop-k.found) (sym scan)
-          (all_failed n fl ba c.loop-k.opened c.loop-k.found tries inv.tried c.loop-k.remembered (scan_of ms) (omega
-          (arith, count, t, last))
-          inv.above);
-      came_up = λ _ e moved. subst (λ (x : ScanLog). CameTo n w (scan_of ms) x (GaveUp e.worker e.first e.last)) (sym scan)
-          (came_up n w fl ba c.loop-k.opened c.loop-k.found tries inv.tried c.loop-k.remembered (scan_of ms) (omega
-          (arith, count, t, last)) e
-          moved);
-    }
+    let r = c.one_try-clean.new in let s = g.S.ScanSeat.bundle c.args.seat.now in
+    c.later_tries.ensures s c.args.remembered.now c.args.totals.now
+    (failed_once c.args.board.now s (g.S.ScanSeat.bundle r.seat) c.args.remembered.now r.remembered c.args.totals.now r.totals
+    r.opened r.found c.clear.new.self r.changed_totals r.known c.one_try-clean.result c.requires.may.of_board c.requires.idle
+    c.clear.ensures.none.1 c.if-clean.false c.one_try-clean.ensures)
