@@ -196,8 +196,9 @@ pub(crate) fn update<const N: usize, const C: usize, const H: usize, const G: us
         × (images.new ≡ images.old)) }
 {
     row.try_apply(ops)?;
-    let ended = scan_for_update(board, seat, memory);
+    // Before the scan, while the compiler still knows which operation a list of one has.
     let again = touch::<C, H, G>(ops, &mut images.touched);
+    let ended = scan_for_update(board, seat, memory);
     let (known, still) = know_next(
         seat,
         memory,
