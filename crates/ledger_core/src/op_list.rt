@@ -1,6 +1,6 @@
 //! Operations in the order in which they came, kept in place.
-ghost use Rattle.std.specs.Prelude.{◌≡◌, ◌+◌, ◌<◌, ◌≤◌, Some, [], ◌∷◌, ◌++◌, length, slice_get, slice_set, slice_index, min, OnOk, OnErr};
-ghost use Rattle.std.specs.Prelude.{IfOk, IfErr, All};
+ghost use Rattle.std.specs.Prelude.{◌≡◌, ◌+◌, ◌<◌, ◌≤◌, Some, [], ◌∷◌, ◌++◌, length, slice_get, slice_set, slice_index};
+ghost use Rattle.std.specs.Prelude.{min, OnOk, OnErr, IfOk, IfErr, All};
 ghost use Rattle.bucket_math.specs.Words.{greatest_word};
 ghost use Rattle.ledger_core.specs.declared.op.Op.{Op};
 ghost use Rattle.ledger_core.specs.Joining.{IsSmall, with_amount};

@@ -1,6 +1,8 @@
 -- What a clause reads of a board and of seats.
-use Rattle.std.specs.Prelude.{◌≡◌, ℕ, ◌<◌, List, ◌∷◌}
+use Rattle.std.specs.Prelude.{◌≡◌, ℕ, ◌+◌, ◌*◌, ◌<◌, List, ◌∷◌, length}
 use Rattle.atomic_table.specs.Seated.{TableId}
+use Rattle.segment_layout.specs.Layout.{depth, span}
+use Rattle.register_rule.specs.Words.{version_item}
 use Rattle.register_rule.specs.declared.view.Member.{Member}
 use Rattle.register_rule.specs.declared.seats.Bundle.{Bundle}
 use Rattle.register_rule.specs.declared.seats.WorkSeat.{WorkSeat}
@@ -31,6 +33,11 @@ worker_of s = first_of (members_of (work_bundle s))
 -- the worker whose seat it is
 abbrev pub index_of : WorkSeat → ℕ
 index_of s = s.worker
+
+-- where the hidden buffer of the worker begins on a board of n workers, of rows of w words: that of the version after all that it has
+-- published
+abbrev pub start_of : (n w : ℕ) → WorkSeat → ℕ
+start_of n w s = index_of s * span (depth n w) + version_item (depth n w) (length (worker_of s).work.made + 1) 0
 
 -- the seat of one reader as a bundle
 abbrev pub read_bundle : ReadSeat → Bundle

@@ -11,7 +11,8 @@ ghost use Rattle.register_rule.specs.ScanSteps.{after};
 ghost use Rattle.register_rule.specs.Members.{filled, published, picked, without, met};
 ghost use Rattle.register_rule.specs.Told.{IsLoad, word_of, LoadTells, IsNumber, AreRuledAt, HoldsNext};
 ghost use Rattle.register_rule.specs.Told.{ScanChangesBy};
-ghost use Rattle.register_rule.specs.Seats.{table_of, members_of, worker_of, index_of, board_id, IsSeatOf, MayScan, IsWorkSeatOf};
+ghost use Rattle.register_rule.specs.Seats.{table_of, members_of, worker_of, index_of, board_id, start_of};
+ghost use Rattle.register_rule.specs.Seats.{IsSeatOf, MayScan, IsWorkSeatOf};
 
 use crate::board::{Board, Key, Law};
 use crate::load::Load;
@@ -87,10 +88,40 @@ impl<const N: usize, const C: usize, const H: usize, const G: usize> Board<N, C,
         )
     }
 
-    /// Stores a word into the worker's own hidden buffer, at the item `item` of it.
+    /// Where on the board the worker's own hidden buffer begins, for [`Board::fill_at`]. It stays there until the worker publishes.
+    #[inline]
+    pub fn hidden_start(&self, seat: &WorkSeat) -> usize
+        requires of_board { IsWorkSeatOf self.now seat.now }
+        ensures { result ≡ start_of N (width C H G) seat.now }
+    {
+        // Of the next version only the parity counts, and so this sum never passes 2^64 - 1.
+        self.word_of_item(seat.worker, seat.number % 2 + 1, 0)
+    }
+
+    /// Stores a word into the worker's own hidden buffer, at the item `item` of it. `start` is what [`Board::hidden_start`] answers.
     ///
     /// An item is counted along the buffer: `item_at` of segment_layout says where the row's words, the flag, the vector
     /// and the lent totals stand. A word of the row is at most 2^48 - 1.
+    #[inline]
+    pub fn fill_at(&self, seat: &mut WorkSeat, start: usize, item: usize, word: u64)
+        requires of_board { IsWorkSeatOf self.now seat.old }
+        requires start { start ≡ start_of N (width C H G) seat.old }
+        requires inside { item < depth N (width C H G) }
+        requires bounded { item < width C H G → word ≤ greatest_word }
+        ensures of_board { IsWorkSeatOf self.now seat.new }
+        ensures index { index_of seat.new ≡ index_of seat.old }
+        ensures member { worker_of seat.new ≡ filled item word (worker_of seat.old) }
+    {
+        store_as::<usize, Key, Brand, Law<N, C, H, G>>(
+            &self.table.shared,
+            &mut seat.bundle.seat,
+            start + item,
+            word,
+            &item,
+        );
+    }
+
+    /// As [`Board::fill_at`], where the buffer begins.
     #[inline]
     pub fn fill_word(&self, seat: &mut WorkSeat, item: usize, word: u64)
         requires of_board { IsWorkSeatOf self.now seat.old }
@@ -100,15 +131,8 @@ impl<const N: usize, const C: usize, const H: usize, const G: usize> Board<N, C,
         ensures index { index_of seat.new ≡ index_of seat.old }
         ensures member { worker_of seat.new ≡ filled item word (worker_of seat.old) }
     {
-        // Of the next version only the parity counts, and so this sum never passes 2^64 - 1.
-        let at = self.word_of_item(seat.worker, seat.number % 2 + 1, item);
-        store_as::<usize, Key, Brand, Law<N, C, H, G>>(
-            &self.table.shared,
-            &mut seat.bundle.seat,
-            at,
-            word,
-            &item,
-        );
+        let start = self.hidden_start(seat);
+        self.fill_at(seat, start, item, word);
     }
 
     /// Stores the worker's own number plus one, which makes the hidden buffer the shown one: the worker has then

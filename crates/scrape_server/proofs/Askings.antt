@@ -1,5 +1,5 @@
 -- Scrapes that are asked for again.
-use Rattle.std.proofs.Common.{◌≡◌, ℕ, zero, suc, ◌⊎◌, Result, Err, inl, inr, subst, sym}
+use Rattle.std.proofs.Common.{◌≡◌, ℕ, zero, suc, Result, Err, inl, inr, subst, sym}
 use Rattle.expo_text.specs.Scraped.{Scraped}
 use Rattle.scrape_http.specs.declared.source.NoScrape.{NoScrape}
 use Rattle.scrape_http.specs.declared.source.NoScrape.TheVariants.{Contended}

@@ -21,7 +21,8 @@ moves_none w sums c = record {
 }
 
 -- first so, then so
-pub moves_then : (w : ℕ) (s t u : List ℕ) (a b c : ChangedView) → ListsChanges w s t a b → ListsChanges w t u b c → ListsChanges w s u a c
+pub moves_then : (w : ℕ) (s t u : List ℕ) (a b c : ChangedView) → ListsChanges w s t a b → ListsChanges w t u b
+    c → ListsChanges w s u a c
 moves_then w s t u a b c first second = record {
   listed = λ h. first.listed (second.listed h);
   keeps = λ h j was. second.keeps h j (first.keeps (second.listed h) j was);
@@ -30,7 +31,8 @@ moves_then w s t u a b c first second = record {
 }
 
 -- one sum changes, and is listed
-pub moves_one : (w k x : ℕ) (s t : List ℕ) (old new : ChangedView) → k < w → t ≡ set s k x → Notes k old new → ListsChanges w s t old new
+pub moves_one : (w k x : ℕ) (s t : List ℕ) (old new : ChangedView) → k < w → t ≡ set s k x → Notes k old new → ListsChanges w
+    s t old new
 moves_one w k x s t old new lt is notes = record {
   listed = notes.listed;
   keeps = notes.keeps;
@@ -55,7 +57,8 @@ lists_then w s t u a b first second = record {
 }
 
 -- what is listed stays among the sums
-pub moves_inside : (w : ℕ) (s t : List ℕ) (old new : ChangedView) → ((j : ℕ) → Contains old.items j → j < w) → ListsChanges w s t old new
+pub moves_inside : (w : ℕ) (s t : List ℕ) (old new : ChangedView) → ((j : ℕ) → Contains old.items j → j < w) → ListsChanges w
+    s t old new
     → (j : ℕ) → Contains new.items j → j < w
 moves_inside w s t old new inside is j h = ⊎_elim (λ was. inside j was) (λ lt. lt) (is.inside j h)
 

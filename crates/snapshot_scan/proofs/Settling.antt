@@ -142,7 +142,15 @@ confirms_more w s o opened pre gs g g' c at there wide same version =
     (ap (λ (z : List ℕ). length z) same ∙ wide)
     ∙ (ap (λ (z : List ℕ). cond (o == s) (set (map version_of gs) i (record { number = o; row = z })) (map version_of gs)) same
     ∙ go (o == s) version)) in
-    λ z. record c { confirmed = loads z; before = marks z; remembered = remembered z; trying = record c.trying { looks = looks z } }
+    λ z. record c {
+      confirmed = loads z;
+      before = marks z;
+      remembered = remembered z;
+      trying = record c.trying {
+        looks =
+            looks z;
+      };
+    }
   where
     go : (b : Bool) → version_of g' ≡ cond b (record { number = o; row = words_of o g }) (version_of g)
         → cond b (set (map version_of gs) (length pre) (record { number = o; row = words_of o g })) (map version_of gs) ≡ map

@@ -63,8 +63,8 @@ impl<const N: usize, const C: usize, const H: usize, const G: usize> ScanMemory<
     ghost use Rattle.snapshot_scan.specs.Contention.{IsFirstMoved, IsContended};
     ghost use Rattle.snapshot_scan.specs.Scanned.{IsAnswered, HasMoved, IsGivenUp};
     ghost use Rattle.snapshot_scan.specs.Core.{CameTo, AnswersBy};
-    ghost use Rattle.snapshot_scan.specs.ScanMemories.{rows_of, totals_in, opened_in, found_in, changed_totals_in, answer_of, HasView};
-    ghost use Rattle.snapshot_scan.specs.ScanMemories.{IsReady};
+    ghost use Rattle.snapshot_scan.specs.ScanMemories.{rows_of, totals_in, opened_in, found_in, changed_totals_in, answer_of};
+    ghost use Rattle.snapshot_scan.specs.ScanMemories.{HasView, IsReady};
     ghost use Rattle.snapshot_scan.specs.ChangedItems.{Lists};
     ghost use Rattle.ledger_core.specs.Legal.{IsLegal};
     ghost use Rattle.snapshot_scan.specs.Snapshots.{as_answer};

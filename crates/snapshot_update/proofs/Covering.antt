@@ -1,6 +1,5 @@
 -- Recent items that have all that are late and touched.
-use Rattle.std.proofs.Common.{◌≡◌, ◌⊎◌, ⊎_elim, ℕ, ◌+◌, Bool, true, false, List, Contains, refl, sym, ap, subst, ◌∙◌}
-use Rattle.ledger_core.specs.Ops.{width}
+use Rattle.std.proofs.Common.{◌≡◌, ◌⊎◌, ⊎_elim, ℕ, ◌+◌, Bool, true, false, Contains, refl, sym, ap, subst, ◌∙◌}
 use Rattle.snapshot_scan.specs.declared.scan_end.ScanEnd.{ScanEnd}
 use Rattle.snapshot_scan.specs.declared.scan_memory.ScanMemory.{ScanMemory}
 use Rattle.snapshot_scan.specs.ChangedItems.{ChangedView}

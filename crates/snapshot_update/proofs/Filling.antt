@@ -1,5 +1,5 @@
 -- A buffer that is filled item by item.
-use Rattle.std.proofs.Common.{◌≡◌, ◌⊎◌, ⊎_elim, inl, inr, ℕ, ◌+◌, ◌<◌, List, [], ◌∷◌, length, set, get_or, sym, ap, refl}
+use Rattle.std.proofs.Common.{◌≡◌, ◌⊎◌, ⊎_elim, inl, inr, ℕ, ◌+◌, ◌*◌, ◌<◌, List, [], ◌∷◌, length, set, get_or, sym, ap, refl}
 use Rattle.std.proofs.Common.{◌∙◌, subst, arith, get_or-set_same, get_or-set_other}
 use Rattle.std.specs.List.{Contains}
 use Rattle.std.proofs.lemmas.Bool.{cases_eq}
@@ -8,7 +8,10 @@ use Rattle.std.proofs.lemmas.List.{same_lists, get_or_default}
 use Rattle.snapshot_scan.specs.ChangedItems.{ChangedView, Notes}
 use Rattle.register_rule.specs.declared.board.Board.{Board}
 use Rattle.register_rule.specs.declared.seats.WorkSeat.{WorkSeat}
-use Rattle.register_rule.specs.Seats.{worker_of}
+use Rattle.segment_layout.specs.Layout.{depth, span}
+use Rattle.register_rule.specs.declared.view.Member.{Member}
+use Rattle.register_rule.specs.Seats.{worker_of, start_of}
+use Rattle.register_rule.specs.Words.{version_item}
 use Rattle.snapshot_update.specs.BufferImages.{with_hidden}
 use Rattle.snapshot_update.specs.Conditions.{MayStore, HasFilled}
 use Rattle.snapshot_update.specs.Noting.{SoFar}
@@ -70,6 +73,14 @@ filled_on b one two s s' s'' x y = record {
   index = y.index ∙ x.index;
   member = y.member ∙ ap (with_hidden two) x.member;
 }
+
+-- and the hidden buffer begins where it began
+pub start_stays : {N C H G : ℕ} (b : Board N C H G) (n w : ℕ) (hidden : List ℕ) (s s' : WorkSeat) → HasFilled b hidden s s'
+    → start_of n w s' ≡ start_of n w s
+start_stays b n w hidden s s' x =
+    let made : length (worker_of s').work.made ≡ length (worker_of s).work.made = ap (λ (m : Member). length m.work.made) x.member
+    in
+    λ z. x.index z * span (depth n w) + version_item (depth n w) (made z + 1) 0
 
 -- whether an item is listed
 pub listed_or : (xs : List ℕ) (j : ℕ) → Contains xs j ⊎ ¬ (Contains xs j)

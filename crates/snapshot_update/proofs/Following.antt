@@ -71,8 +71,10 @@ lists_moved n w changed_totals old mid new words few a b = record {
 }
 
 -- where not all that moved is listed, all count as late
-pub lists_all : (n w : ℕ) (changed_totals old mid late new : ChangedView) → AreInside w changed_totals → new.all ≡ true → new.items ≡ late.items
-    → NotesRange (w + 1) n old mid → NotesEach (w + 1 + n) changed_totals.items mid late → ListsChangedTotals n w changed_totals old new
+pub lists_all : (n w : ℕ) (changed_totals old mid late new : ChangedView) → AreInside w changed_totals → new.all ≡ true →
+    new.items ≡ late.items
+    → NotesRange (w + 1) n old mid → NotesEach (w + 1 + n) changed_totals.items mid late → ListsChangedTotals n w
+    changed_totals old new
 lists_all n w changed_totals old mid late new words all items a b = record {
   listed = λ h. absurd (let e = sym all ∙ h in cc);
   few = λ h. absurd (let e = sym all ∙ h in cc);
@@ -88,7 +90,8 @@ lists_all n w changed_totals old mid late new words all items a b = record {
 -- the next version has moved, and what moved is listed
 pub images_moved : (n w : ℕ) (row : List ℕ) (rows rows' : List Version) (sums sums' : List ℕ) (im : BufferImages)
     (late' changed_totals : ChangedView) → length row ≡ w → length rows ≡ n → length rows' ≡ n → length sums' ≡ w
-    → (changed_totals.all ≡ false → (k : ℕ) → k < w → ¬ (Contains changed_totals.items k) → slice_index sums' k ≡ slice_index sums k)
+    → (changed_totals.all ≡ false → (k : ℕ) → k < w → ¬ (Contains changed_totals.items k) → slice_index sums' k ≡ slice_index
+    sums k)
     → ListsChangedTotals n w changed_totals im.late late'
     → AreImages (depth n w) (idle_words row rows sums) im
     → AreImages (depth n w) (idle_words row rows' sums') (record im { late = late' })
@@ -172,7 +175,8 @@ module _ (n c h g i : ℕ) (row : List ℕ) (memory memory' : ScanMemory n c h g
     (quiet : ended ≡ Direct true → (rows_of memory' ≡ rows_of memory) × (totals_in memory' ≡ totals_in memory)
     × AreNumbers (answer_of memory' ended).vector (rows_of memory'))
     (numbers : (q : Bool) → ended ≡ Direct q → AreNumbers (answer_of memory' ended).vector (rows_of memory'))
-    (listed : (changed_totals_in memory').all ≡ false → (k : ℕ) → k < width c h g → ¬ (Contains (changed_totals_in memory').items k)
+    (listed : (changed_totals_in memory').all ≡ false → (k : ℕ) → k < width c h g → ¬
+    (Contains (changed_totals_in memory').items k)
     → slice_index (totals_in memory') k ≡ slice_index (totals_in memory) k) where
   totals_are : (q : Bool) → ended ≡ Direct q → (answer_of memory' ended).totals ≡ totals_in memory'
   totals_are q e = ap (λ (x : ScanEnd). (answer_of memory' x).totals) e

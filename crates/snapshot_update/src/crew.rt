@@ -127,7 +127,8 @@ impl<const N: usize, const C: usize, const H: usize, const G: usize> Crew<N, C, 
     /// [`BoardFault::NoMemory`].
     pub fn new(alloc: Global, id: u64, readers: usize) -> Result<Crew<N, C, H, G>, BoardFault>
         ensures board { IfOk result (λ c. (board_id c.board ≡ id) × IsBoardSize N C H G readers) }
-        ensures of_board { IfOk result (λ c. All (IsWorkerOf c.board) c.workers.items × All (IsReaderOf c.board) c.readers.items) }
+        ensures of_board { IfOk result (λ c. All (IsWorkerOf c.board) c.workers.items
+            × All (IsReaderOf c.board) c.readers.items) }
         ensures all { IfOk result (λ c. map index_of c.workers.items ≡ range_with_len 0 N) }
         ensures new { IfOk result (λ c. map lists_of c.workers.items ≡ replicate N []) }
         ensures alone { IfOk result (λ c. All IsAlone c.readers.items) }

@@ -7,6 +7,7 @@ ghost use Rattle.std.specs.Prelude.{◌≡◌, ◌<◌, ◌≤◌, ℕ, false, l
 ghost use Rattle.bucket_math.specs.Words.{greatest_word};
 ghost use Rattle.ledger_core.specs.Ops.{width};
 ghost use Rattle.segment_layout.specs.Layout.{depth};
+ghost use Rattle.register_rule.specs.Seats.{start_of};
 ghost use Rattle.snapshot_update.specs.BufferImages.{DifferAt, target_of};
 ghost use Rattle.snapshot_update.specs.Conditions.{MayStore, HasFilled};
 ghost use Rattle.snapshot_update.specs.Fit.{AreInside};
@@ -16,16 +17,19 @@ use crate::next_version::NextVersion;
 use register_rule::{Board, WorkSeat};
 use snapshot_scan::ChangedItems;
 
-/// Makes an item of the hidden buffer this word. `hidden` is what the buffer holds, and a word that it holds is not stored.
+/// Makes an item of the hidden buffer this word. `hidden` is what the buffer holds, and a word that it holds is not stored. The buffer
+/// begins at `start` (`Board::hidden_start`).
 #[inline(always)]
 pub(crate) fn fill_item<const N: usize, const C: usize, const H: usize, const G: usize>(
     board: &Board<N, C, H, G>,
     seat: &mut WorkSeat,
+    start: usize,
     hidden: &mut [u64],
     item: usize,
     word: u64,
 )
     requires stores { MayStore board.now seat.old hidden.old }
+    requires start { start ≡ start_of N (width C H G) seat.old }
     requires inside { (item < length hidden.old) × (length hidden.old ≡ depth N (width C H G)) }
     requires bounded { item < width C H G → word ≤ greatest_word }
     ensures fills { HasFilled board.now hidden.new seat.old seat.new }
@@ -33,7 +37,7 @@ pub(crate) fn fill_item<const N: usize, const C: usize, const H: usize, const G:
 {
     if hidden[item] != word {
         hidden[item] = word;
-        board.fill_word(seat, item, word);
+        board.fill_at(seat, start, item, word);
     }
 }
 
@@ -42,11 +46,13 @@ pub(crate) fn fill_item<const N: usize, const C: usize, const H: usize, const G:
 pub(crate) fn fill_changes<const N: usize, const C: usize, const H: usize, const G: usize>(
     board: &Board<N, C, H, G>,
     seat: &mut WorkSeat,
+    start: usize,
     hidden: &mut [u64],
     changes: &ChangedItems,
     version: &NextVersion<C, H, G>,
 )
     requires stores { MayStore board.now seat.old hidden.old }
+    requires start { start ≡ start_of N (width C H G) seat.old }
     requires lengths { (length hidden.old ≡ depth N (width C H G)) × (length (target_of version.now) ≡ depth N (width C H G)) }
     requires listed { changes.now.all ≡ false }
     requires inside { AreInside (depth N (width C H G)) changes.now }
@@ -57,7 +63,7 @@ pub(crate) fn fill_changes<const N: usize, const C: usize, const H: usize, const
 {
     let items = changes.as_slice();
     for &item in items {
-        fill_item(board, seat, hidden, item, version.word(item));
+        fill_item(board, seat, start, hidden, item, version.word(item));
     }
 }
 
@@ -67,6 +73,7 @@ pub(crate) fn fill_changes<const N: usize, const C: usize, const H: usize, const
 pub(crate) fn fill_known<const N: usize, const C: usize, const H: usize, const G: usize>(
     board: &Board<N, C, H, G>,
     seat: &mut WorkSeat,
+    start: usize,
     hidden: &mut [u64],
     recent: &ChangedItems,
     late: &ChangedItems,
@@ -74,6 +81,7 @@ pub(crate) fn fill_known<const N: usize, const C: usize, const H: usize, const G
     version: &NextVersion<C, H, G>,
 )
     requires stores { MayStore board.now seat.old hidden.old }
+    requires start { start ≡ start_of N (width C H G) seat.old }
     requires lengths { (length hidden.old ≡ depth N (width C H G)) × (length (target_of version.now) ≡ depth N (width C H G)) }
     requires listed { (recent.now.all ≡ false) × (late.now.all ≡ false) × (touched.now.all ≡ false) }
     requires inside { AreInside (depth N (width C H G)) recent.now × AreInside (depth N (width C H G)) late.now
@@ -83,9 +91,9 @@ pub(crate) fn fill_known<const N: usize, const C: usize, const H: usize, const G
     ensures fills { HasFilled board.now hidden.new seat.old seat.new }
     ensures hidden { hidden.new ≡ target_of version.now }
 {
-    fill_changes(board, seat, hidden, recent, version);
-    fill_changes(board, seat, hidden, late, version);
-    fill_changes(board, seat, hidden, touched, version);
+    fill_changes(board, seat, start, hidden, recent, version);
+    fill_changes(board, seat, start, hidden, late, version);
+    fill_changes(board, seat, start, hidden, touched, version);
 }
 
 /// Fills the items from `from` on and before `to` of the hidden buffer with the version, where those before are filled, and
@@ -111,12 +119,13 @@ fn fill_range<const N: usize, const C: usize, const H: usize, const G: usize>(
     ensures filled { (j : ℕ) → j < to → slice_index hidden.new j ≡ slice_index (target_of version.now) j }
     ensures noted { SoFar to recent.new shown.now (target_of version.now) }
 {
+    let start = board.hidden_start(seat);
     for item in from..to {
         let word = version.word(item);
         if shown[item] != word {
             recent.note(item);
         }
-        fill_item(board, seat, hidden, item, word);
+        fill_item(board, seat, start, hidden, item, word);
     }
 }
 

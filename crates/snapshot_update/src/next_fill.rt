@@ -39,11 +39,12 @@ pub(crate) fn fill_next<const N: usize, const C: usize, const H: usize, const G:
     ensures covers { listed ≡ true → recent.new.all ≡ false → Covers recent.new late.now touched.now }
 {
     if listed {
+        let start = board.hidden_start(seat);
         if covered {
-            fill_changes(board, seat, hidden, recent, version);
+            fill_changes(board, seat, start, hidden, recent, version);
             return;
         }
-        fill_known(board, seat, hidden, recent, late, touched, version);
+        fill_known(board, seat, start, hidden, recent, late, touched, version);
         recent.clear();
         note_each(recent, late, 0);
         note_each(recent, touched, 0);

@@ -51,7 +51,8 @@ loop-item-preserved c =
           let f' = ap (λ (j : ℕ). get_or c.args.totals.now j 0) e in omega (arith, h, t, s, p.0, f, f'))
           (λ e. let h = there k e in let t : get_or r.totals k 0 ≡ get_or totals k 0 = ap (λ (l : List ℕ). get_or l k 0) en.totals
           ∙ get_or-set_other totals x k y 0 e in let s = inv.sums k lt in omega (arith, h, t, s));
-      moves = moves_then n c.args.totals.now totals r.totals c.args.changed_totals.now c.loop-item.changed_totals r.changed_totals inv.moves
+      moves = moves_then n c.args.totals.now totals r.totals c.args.changed_totals.now c.loop-item.changed_totals
+          r.changed_totals inv.moves
           (moves_one n x y totals r.totals c.loop-item.changed_totals r.changed_totals within en.totals en.notes);
     }
 

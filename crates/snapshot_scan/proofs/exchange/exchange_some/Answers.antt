@@ -13,14 +13,18 @@ loop-k-preserved c =
     let a = c.loop-k.auto.totals in let t = c.loop-k-test.true in let i = c.requires.inside in let above = c.loop-k.auto.k in
     let lt : k < n = omega (arith, t, i.1) in let le : from ≤ k = omega (arith, above) in
     let at = inv.high k (omega arith) in let p = c.requires.part k le lt in
-    let both = exchanges_then n old new from k (k + 1) c.args.totals.now ts c.if-old-k.totals c.args.changed_totals.now c.loop-k.changed_totals
+    let both = exchanges_then n old new from k (k + 1) c.args.totals.now ts c.if-old-k.totals c.args.changed_totals.now
+    c.loop-k.changed_totals
     c.if-old-k.changed_totals le (omega arith) inv in
     elim c.if-old-k.branch [
-      | then-old-k w ↦ both (subst (λ (m : ChangedView). Exchanges n k (k + 1) old new ts c.if-old-k.totals c.loop-k.changed_totals m)
+      | then-old-k w ↦ both (subst
+          (λ (m : ChangedView). Exchanges n k (k + 1) old new ts c.if-old-k.totals c.loop-k.changed_totals m)
           (sym w.changed_totals-is)
-          (exchanges_one n old new k ts c.if-old-k.totals c.loop-k.changed_totals w.note.new.self lt (sym a) (omega (arith, at, p.0))
+          (exchanges_one n old new k ts c.if-old-k.totals c.loop-k.changed_totals w.note.new.self lt (sym a)
+          (omega (arith, at, p.0))
           w.totals-is w.note.ensures.notes))
-      | else-old-k w ↦ both (exchanges_same n old new k (k + 1) ts c.if-old-k.totals c.loop-k.changed_totals c.if-old-k.changed_totals
+      | else-old-k w ↦ both (exchanges_same n old new k (k + 1) ts c.if-old-k.totals c.loop-k.changed_totals
+          c.if-old-k.changed_totals
           (λ j le' lt'. let e : k ≡ j = omega (arith, le', lt') in
           subst (λ (i : ℕ). get_or old i 0 ≡ get_or new i 0) e w.if-old-k.false) w.totals-is w.changed_totals-is)
     ]

@@ -117,9 +117,11 @@ loop-place-preserved g c =
       totals = λ k low. let e = inv.totals k low in let h = sum_set k gs p gg g' at in
           let d = c.settle.ensures.totals k (omega (arith, long, low)) in omega (arith, e, h, d);
       view = view;
-      moves = moves_then w c.args.totals.now c.loop-place.totals ts' c.args.changed_totals.now c.loop-place.changed_totals c.settle.new.changed_totals
+      moves = moves_then w c.args.totals.now c.loop-place.totals ts' c.args.changed_totals.now c.loop-place.changed_totals
+          c.settle.new.changed_totals
           inv.moves
-          (subst (λ (k : ℕ). ListsChanges k c.loop-place.totals ts' c.loop-place.changed_totals c.settle.new.changed_totals) long c.settle.ensures.changed_totals);
+          (subst (λ (k : ℕ). ListsChanges k c.loop-place.totals ts' c.loop-place.changed_totals c.settle.new.changed_totals)
+          long c.settle.ensures.changed_totals);
       risen = below_more (λ (q : ℕ). get_or os q 0 ≤ get_or (set fs p s) q 0) p
           (λ q h. let ne : q ≢ p = omega (arith, h) in
           subst (λ (x : ℕ). get_or os q 0 ≤ x) (sym (get_or-set_other fs p q s 0 ne)) (inv.risen q h))

@@ -1,8 +1,9 @@
-use Rattle.std.proofs.Common.{◌≡◌, ℕ, ◌<◌, ◌+◌, length, sym, ◌∙◌, subst, arith}
+use Rattle.std.proofs.Common.{rules, ◌≡◌, ℕ, ◌<◌, ◌+◌, length, sym, ◌∙◌, subst, arith}
+use Rattle.ledger_core.specs.Ops.{width}
 use Rattle.snapshot_scan.specs.ChangedItems.{ChangedView}
 use Rattle.snapshot_update.specs.BufferImages.{target_of}
 use Rattle.snapshot_update.specs.Noting.{SoFar}
-use Rattle.snapshot_update.proofs.Filling.{filled_on, so_far_same, so_far_noted, below_set}
+use Rattle.snapshot_update.proofs.Filling.{filled_on, start_stays, so_far_same, so_far_noted, below_set}
 use Rattle.snapshot_update.proofs.fills.fill_range.Goals as goal
 use Rattle.snapshot_update.proofs.fills.fill_range.Goals.{then-shown-item, else-shown-item}
 
@@ -32,3 +33,16 @@ pub returns-clause-noted : goal.returns-clause-noted
 returns-clause-noted g c = let f = c.loop-item-test.false in let e = c.loop-item.auto.item-end in let r = c.requires.inside.0 in
     let same : c.loop-item.item ≡ c.args.to = omega (arith, f, e, r) in
     subst (λ (n : ℕ). SoFar n c.loop-item.recent c.args.shown.now (target_of c.args.version.now)) same c.loop-item.invariant.noted
+
+pub fill_item-requires : goal.fill_item-requires
+fill_item-requires g c = (
+  search rules,
+  (
+    c.loop-item.invariant.fills.stores,
+    (
+      c.hidden_start-start.ensures ∙ sym (start_stays c.args.board.now g.row.N (width g.row.C g.row.H g.row.G) c.loop-item.hidden
+          c.args.seat.now c.loop-item.seat c.loop-item.invariant.fills),
+      search rules,
+    ),
+  ),
+)

@@ -12,7 +12,8 @@ only_these number shift items none one both empty a b j has = ⊎_elim
     (λ t. inr t) (b.others j has)
 
 pub returns-then-not-known-clause-others : goal.returns-then-not-known-clause-others
-returns-then-not-known-clause-others c = λ j has. only_these c.args.number_item c.args.totals_at c.args.touched.now.items c.clear.new.self
+returns-then-not-known-clause-others c = λ j has. only_these c.args.number_item c.args.totals_at c.args.touched.now.items
+    c.clear.new.self
     c.note.new.self c.note_each.new.to c.clear.ensures.none.1 c.note.ensures.notes c.note_each.ensures
     j (subst (λ (l : List ℕ). Contains l j) c.note_all.ensures.items has)
 

@@ -1,4 +1,4 @@
-use Rattle.std.proofs.Common.{◌≡◌, ⊎_elim, ◌+◌, ◌<◌, ℕ, false, List, [], Contains, sym, ◌∙◌, subst, arith}
+use Rattle.std.proofs.Common.{◌≡◌, ⊎_elim, ◌+◌, ◌<◌, ℕ, false, List, [], Contains, ◌∙◌, subst, arith}
 use Rattle.ledger_core.specs.Ops.{width}
 use Rattle.segment_layout.specs.Layout.{depth}
 use Rattle.snapshot_scan.specs.ChangedItems.{ChangedView, NotesEach}
@@ -56,7 +56,8 @@ returns-then-covered-clause-recent g c = λ _ j lt not. let lens = c.requires.ma
 
 pub returns-then-covered-clause-hidden : goal.returns-then-covered-clause-hidden
 returns-then-covered-clause-hidden g c =
-    let lens = c.requires.may.lengths in let fills = c.fill_changes.ensures in let listed = c.requires.may.listed c.if-listed.true in
+    let lens = c.requires.may.lengths in let fills = c.fill_changes.ensures in let listed = c.requires.may.listed
+    c.if-listed.true in
     all_filled c.fill_changes.new.hidden (target_of c.args.version.now) (depth g.row.N (width g.row.C g.row.H g.row.G))
     (c.fill_changes.auto.hidden ∙ lens.0) lens.2 (λ j lt.
     ⊎_elim (fills.filled j) (λ not_recent. fills.kept j (c.requires.may.differ listed.0 j (omega (arith, lens.1, lt)) not_recent

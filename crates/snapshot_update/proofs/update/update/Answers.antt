@@ -80,7 +80,8 @@ fill_version-lends-requires g c =
               images = by_known known (λ yes.
                   let next = next_is n g.row.C g.row.H g.row.G (index_of c.args.seat.now) row c.args.memory.now memory im
                   c.know_next-known.new.late (worker_of c.args.seat.now) (worker_of s.new.seat) s.result
-                  fit c.requires.of_board.1 s.ensures.scans.others s.ensures.scans.ruled s.ensures.ready s.ensures.quiet s.ensures.numbers
+                  fit c.requires.of_board.1 s.ensures.scans.others s.ensures.scans.ruled s.ensures.ready s.ensures.quiet
+                  s.ensures.numbers
                   s.ensures.listed.same (index_of s.new.seat) _ s.ensures.scans.index
                   (ap (λ (x : Member). length x.work.made) s.ensures.scans.others) (c.know_next-known.ensures.known yes) in
                   let listed : c.touch-again.new.touched.all ≡ false = c.know_next-known.ensures.touched yes in (
@@ -100,7 +101,8 @@ fill_version-lends-requires g c =
                     idle_words row (rows_of c.args.memory.now) (totals_in c.args.memory.now),
                     subst (λ (x : ChangedView). AreImages b (idle_words row (rows_of c.args.memory.now)
                         (totals_in c.args.memory.now))
-                        (record im { late = x; touched = c.touch-again.new.touched })) (sym (c.know_next-known.ensures.unknown no))
+                        (record im { late = x; touched = c.touch-again.new.touched })) (sym
+                        (c.know_next-known.ensures.unknown no))
                         (touched_images b _ im c.touch-again.new.touched fit.images),
                     λ yes. absurd (let h = sym yes ∙ no in cc),
                   ));
@@ -197,7 +199,8 @@ learn-requires g c =
           known = λ yes v at k lt none.
               let next = next_is n g.row.C g.row.H g.row.G (index_of c.args.seat.now) row c.args.memory.now memory im
               c.know_next-known.new.late (worker_of c.args.seat.now) (worker_of s.new.seat) s.result
-              fit c.requires.of_board.1 s.ensures.scans.others s.ensures.scans.ruled s.ensures.ready s.ensures.quiet s.ensures.numbers
+              fit c.requires.of_board.1 s.ensures.scans.others s.ensures.scans.ruled s.ensures.ready s.ensures.quiet
+              s.ensures.numbers
               s.ensures.listed.same (index_of s.new.seat) _ s.ensures.scans.index
               (ap (λ (x : Member). length x.work.made) s.ensures.scans.others) (c.know_next-known.ensures.known yes) in
               let listed : c.touch-again.new.touched.all ≡ false = c.know_next-known.ensures.touched yes in
@@ -293,7 +296,8 @@ returns-clause-fit g c =
         late = by_known known (λ yes.
             let next = next_is n g.row.C g.row.H g.row.G (index_of c.args.seat.now) row c.args.memory.now memory im
             c.know_next-known.new.late (worker_of c.args.seat.now) (worker_of s.new.seat) s.result
-            fit c.requires.of_board.1 s.ensures.scans.others s.ensures.scans.ruled s.ensures.ready s.ensures.quiet s.ensures.numbers
+            fit c.requires.of_board.1 s.ensures.scans.others s.ensures.scans.ruled s.ensures.ready s.ensures.quiet
+            s.ensures.numbers
             s.ensures.listed.same (index_of s.new.seat) _ s.ensures.scans.index
             (ap (λ (x : Member). length x.work.made) s.ensures.scans.others) (c.know_next-known.ensures.known yes) in
             let listed : c.touch-again.new.touched.all ≡ false = c.know_next-known.ensures.touched yes in

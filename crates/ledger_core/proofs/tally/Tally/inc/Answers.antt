@@ -16,6 +16,7 @@ pub returns-clause-fault : goal.returns-clause-fault
 returns-clause-fault g c =
     let f = c.self.inside in
     let slot = c.args.counter.now.slot in
-    fault_if g.row.C g.row.H g.row.G (min g.row.K 65536) c.args.counter.now.registry (get_or f.counters slot 0) (Inc slot c.args.by)
+    fault_if g.row.C g.row.H g.row.G (min g.row.K 65536) c.args.counter.now.registry (get_or f.counters slot 0) (Inc slot
+    c.args.by)
     f.registry f.list c.args.self.now c.take.result c.self.view_is c.if-counter-self.false (omega arith)
     (apart_inc f.list f.counters f.ups f.downs slot c.args.by c.self.invariant.known) c.take.ensures.fault

@@ -27,4 +27,7 @@ invariant_of-result g c =
 
 pub returns : goal.returns
 returns g c = let w : ℕ = width g.row.C g.row.H g.row.G in
-    record { rows = rows_blank w c.in_ok-remembered.remembered.items g.row.N c.in_ok-remembered.ensures.0 c.in_ok-remembered.ensures.1 }
+    record {
+      rows = rows_blank w c.in_ok-remembered.remembered.items g.row.N c.in_ok-remembered.ensures.0
+          c.in_ok-remembered.ensures.1;
+    }

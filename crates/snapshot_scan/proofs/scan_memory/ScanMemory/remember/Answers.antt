@@ -46,5 +46,6 @@ invariant_of-self g c =
       sums = subst (λ (l : List RememberedRow). AreTotals w l
           (take old.totals.len (new.totals ++ drop (length new.totals) old.totals.items))) (sym remembered)
           (subst (AreTotals w new.remembered) (sym totals) c.learn_row.ensures.totals);
-      listed = moves_inside w c.as_mut_slice-2.result.now new.totals old.changed_totals new.changed_totals old.listed c.learn_row.ensures.changed_totals;
+      listed = moves_inside w c.as_mut_slice-2.result.now new.totals old.changed_totals new.changed_totals old.listed
+          c.learn_row.ensures.changed_totals;
     }

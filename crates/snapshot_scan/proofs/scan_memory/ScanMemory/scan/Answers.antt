@@ -86,7 +86,8 @@ returns-clause-came_up g c = λ t e moved.
 pub invariant_of-self : goal.invariant_of-self
 invariant_of-self g c =
     let old = c.args.self.now in let new = c.scan.new in let w : ℕ = width g.row.C g.row.H g.row.G in
-    let remembered = written new.remembered c.as_mut_slice.result.now old.remembered.items old.remembered.len c.as_mut_slice.ensures.value
+    let remembered = written new.remembered c.as_mut_slice.result.now old.remembered.items old.remembered.len
+    c.as_mut_slice.ensures.value
     c.as_mut_slice.ensures.len c.scan.auto.remembered in
     let totals = written new.totals c.as_mut_slice-2.result.now old.totals.items old.totals.len c.as_mut_slice-2.ensures.value
     c.as_mut_slice-2.ensures.len c.scan.auto.totals in
@@ -208,7 +209,8 @@ scan-requires g c =
 pub returns-clause-numbers : goal.returns-clause-numbers
 returns-clause-numbers g c = λ quiet e.
     let known = c.scan.ensures.numbers quiet e in let old = c.args.self.now in let new = c.scan.new in
-    let remembered = written new.remembered c.as_mut_slice.result.now old.remembered.items old.remembered.len c.as_mut_slice.ensures.value
+    let remembered = written new.remembered c.as_mut_slice.result.now old.remembered.items old.remembered.len
+    c.as_mut_slice.ensures.value
     c.as_mut_slice.ensures.len c.scan.auto.remembered in
     let opened = written new.opened c.as_mut_slice-3.result.now old.opened.items old.opened.len c.as_mut_slice-3.ensures.value
     c.as_mut_slice-3.ensures.len c.scan.auto.opened in

@@ -7,7 +7,8 @@ pub returns-then-item-flag-clause-word : goal.returns-then-item-flag-clause-word
 returns-then-item-flag-clause-word g c =
     let v = c.args.self.now in let is = c.len-flag.ensures.within in let t = c.if-item-flag.true in
     let lt : c.args.item < length v.row.now = omega (arith, is, t) in
-    c.word_at.ensures.word ∙ sym (row_word (length v.row.now) (length v.vector.now) v.row.now v.flag v.vector.now v.totals.now refl
+    c.word_at.ensures.word ∙ sym (row_word (length v.row.now) (length v.vector.now) v.row.now v.flag v.vector.now
+    v.totals.now refl
     refl c.args.item lt)
 
 pub returns-then-item-flag-2-clause-word : goal.returns-then-item-flag-2-clause-word

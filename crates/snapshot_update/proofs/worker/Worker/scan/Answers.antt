@@ -40,6 +40,7 @@ invariant_of-self g c =
                 (record m { scan = scan })) (sym told.scans.index) fit,
           ));
       seen = λ x e. subst (λ (y : WorkSeat). HasSeenOwn w.index (worker_of y)) (same_seat s.seat x e)
-          (told_own n cs hs gs w.index (worker_of s.seat) (ap (λ (y : Member). y.who) told.scans.others ∙ (old.2.who ∙ ap Worker old.0))
+          (told_own n cs hs gs w.index (worker_of s.seat)
+          (ap (λ (y : Member). y.who) told.scans.others ∙ (old.2.who ∙ ap Worker old.0))
           told.scans.ruled);
     }

@@ -1,6 +1,6 @@
 use Rattle.std.specs.Prelude.{◌≡◌}
 use Rattle.register_rule.specs.Members.{group, led, filled}
-use Rattle.register_rule.proofs.board.Board.fill_word.Given as goal
+use Rattle.register_rule.proofs.board.Board.fill_at.Given as goal
 
 abbrev pub ghosts-store_as : goal.ghosts-store_as
 ghosts-store_as g a = record {
