@@ -1,7 +1,7 @@
 //! A registry at its end.
-ghost use Rattle.std.specs.Prelude.{IfOk, IfErr};
+ghost use Rattle.std.specs.Prelude.{IfOk};
 ghost use Rattle.dirgwako.specs.Printing.{IsLastText};
-ghost use Rattle.dirgwako.specs.Printing.{IsText, IsTextFault};
+ghost use Rattle.dirgwako.specs.Printing.{IsText};
 
 use crate::printing::{PrintFault, TextFault, print_text, text_from};
 use expo_text::Scrape;
@@ -32,17 +32,12 @@ impl<X: MakesScrapes> ScrapeFrom for Owned<X> {
 ///
 /// 6 [`TextFault::NoMemory`]; 14 [`TextFault::Contended`]. The registry is gone then.
 pub fn text_of<X: MakesScrapes + Drop>(state: X) -> Result<(Vec<u8>, X), TextFault>
-    ensures text { IfOk result (λ made. IsText X.made state made.1 made.0.items) }
-    ensures fault { IfErr result (λ fault. (after : X) × IsTextFault X.made state after fault) }
+    ensures { IfOk result (λ made. IsText X.made state made.1 made.0.items) }
 {
     let mut owned = Owned { state };
-    match text_from(&mut owned) {
-        Ok(text) => {
-            let Owned { state } = owned;
-            Ok((text, state))
-        }
-        Err(fault) => Err(fault),
-    }
+    let text = text_from(&mut owned)?;
+    let Owned { state } = owned;
+    Ok((text, state))
 }
 
 /// [`text_of`] a registry that no thread shares any more: the text of a last scrape, and what stood behind the lock, its journal, the

@@ -32,7 +32,7 @@ pub record IsFamily (family : Family) : Type 0 where
   pub numbers : All (λ (child : Child). IsNumberOf family.desc.kind child.number) family.children
   pub ordered : AllPairs IsChildBefore family.children
 
--- a scrape's families stand in strict order of their names, no two have a sample's name in common, and they are at most 128
+-- a scrape's families stand in strict order of their names, the lines of no two take one name, and they are at most 128
 pub record IsScrape (scrape : Scraped) : Type 0 where
   pub few : length scrape.families ≤ 128
   pub each : All IsFamily scrape.families

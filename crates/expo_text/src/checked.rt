@@ -147,7 +147,7 @@ fn are_names_ordered(families: &[FamilyScrape]) -> bool
     true
 }
 
-/// Whether none of the families has a sample's name in common with this one.
+/// Whether no family's lines take a name that the lines of this one take.
 fn are_apart_from(families: &[FamilyScrape], last: &FamilyScrape) -> bool
     ensures { IsTrue result ↔ All (λ (family : Family). ¬ (Clash family.desc last.now.desc)) families.now }
 {
@@ -159,7 +159,7 @@ fn are_apart_from(families: &[FamilyScrape], last: &FamilyScrape) -> bool
     true
 }
 
-/// Whether no two of the families have a sample's name in common. Compares each pair of them.
+/// Whether the lines of no two of the families take one name. Compares each pair of them.
 fn are_apart(families: &[FamilyScrape]) -> bool
     ensures { IsTrue result ↔ AllPairs (λ (a b : Family). ¬ (Clash a.desc b.desc)) families.now }
 {

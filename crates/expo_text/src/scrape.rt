@@ -47,7 +47,7 @@ impl Model for FamilyScrape {
 
 /// All families at one moment, in the order of the text.
 ///
-/// Families stand in strict byte order of their names, at most 128 of them, and no two have a sample's name in common.
+/// Families stand in strict byte order of their names, at most 128 of them, and the lines of no two take one name.
 /// Children stand in strict order of their label values, compared one by one in byte order, at most 256 of a family.
 /// Each has as many values as its family has labels and a number of its family's kind, and the count of a histogram is
 /// the sum of its buckets. Contracts see it as a `Scraped`, the record of its vector and its families.
@@ -90,11 +90,11 @@ impl Scrape {
     }
 
     /// A scrape of these families, at this vector: how many lists of operations each worker had published. `None` where they
-    /// are no families of a scrape: more than 128, not in strict order of their names, two with a sample's name in common, or one
+    /// are no families of a scrape: more than 128, not in strict order of their names, two whose lines take one name, or one
     /// with more than 256 children, children not in strict order, too many or too few values, a number of another kind, or a
     /// histogram whose count is not the sum of its buckets.
     ///
-    /// Takes no memory. Looks for a sample's name in common in each pair of families, of which there are at most 8,128; families,
+    /// Takes no memory. Looks in each pair of families, of which there are at most 8,128, for a name that the lines of both take; families,
     /// and the children of each, are otherwise compared only with the next.
     pub fn checked(vector: Vec<u64>, families: Vec<FamilyScrape>) -> Option<Scrape>
         ensures some { IfSome result (λ scrape. scrape ≡ record { vector = vector.items; families = families.items }) }

@@ -94,7 +94,7 @@ impl<'a, B: Named, const N: usize, const C: usize, const H: usize, const G: usiz
     ///
     /// # Errors
     ///
-    /// 19 [`RegisterFault::Clash`] with the least family that has a sample's name in common; 23
+    /// 19 [`RegisterFault::Clash`] with the least family whose lines take a name of this one's; 23
     /// [`RegisterFault::TooManyFamilies`] where 128 are there; 6 [`RegisterFault::NoMemory`]. Nothing has changed then.
     pub fn register<R: Wait>(&self, rt: &R, desc: Desc) -> Result<FamilyId, RegisterFault>
         ensures few { IfOk result (λ family. family.number < 128) }

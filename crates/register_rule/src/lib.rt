@@ -3,8 +3,8 @@
 //!
 //! [`Board::new`] gives a seat for each worker and reader. A thread makes its steps with its seat: [`Board::open`],
 //! [`Board::read_word`], [`Board::confirm`], [`Board::ask`] and [`Board::end_ask`] are the loads of a scan,
-//! [`Board::fill_word`] and [`Board::publish`] the stores of a worker, [`Board::join`] and [`Board::part`] put the
-//! members of seats together and apart, and [`Board::tell`] is a load that only tells. No step is handed memory. What a
+//! [`Board::fill_word`], [`Board::fill_at`] and [`Board::publish`] the stores of a worker, [`Board::join`] and [`Board::part`]
+//! put the members of seats together and apart, and [`Board::tell`] is a load that only tells. No step is handed memory. What a
 //! seat knows is a [`SeatView`], which contracts see and no program makes.
 //!
 //! The algorithm is the unbounded single-writer snapshot of Afek, Attiya, Dolev, Gafni, Merritt and Shavit, "Atomic

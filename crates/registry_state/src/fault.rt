@@ -49,7 +49,7 @@ impl BadWindow {
 #[derive(Clone, Copy, Debug, PartialEq, Eq, Error)]
 pub enum RegisterFault {
     /// Refusal 19: a name is shared with the lines of this family, by number, the least such.
-    #[error("a sample's name is shared with the family {with}")]
+    #[error("a name is shared with the lines of the family {with}")]
     Clash { with: usize },
     /// Refusal 23: 128 families are there.
     #[error("128 families are there")]

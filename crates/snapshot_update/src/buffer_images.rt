@@ -20,7 +20,7 @@ pub(crate) struct BufferImages {
     pub(crate) row_known: bool,
     /// The words of the row that the last list of operations touched.
     pub(crate) touched: ChangedItems,
-    /// Whether `recent` has all that `late` and `touched` have, and none of the three stands for all items.
+    /// Whether it is known that `recent` has all that `late` and `touched` have, and that none of the three stands for all items.
     pub(crate) covered: bool,
 }
 

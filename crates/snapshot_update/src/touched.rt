@@ -36,7 +36,8 @@ fn touch_all<const C: usize, const H: usize, const G: usize>(ops: &[Op], touched
     }
 }
 
-/// As [`touch_all`]. It says whether the list is as it was: then one operation touches the words that the last list touched.
+/// As [`touch_all`]. Where it says yes, the list is as it was, and one operation touches the words that it has. It may say no of such a list,
+/// too: it always does of a list of more operations.
 #[inline(always)]
 pub(crate) fn touch<const C: usize, const H: usize, const G: usize>(
     ops: &[Op],

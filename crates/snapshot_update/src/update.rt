@@ -208,7 +208,7 @@ pub(crate) fn update<const N: usize, const C: usize, const H: usize, const G: us
         ended,
     );
     let repeats = images.covered & again & still;
-    // A list of one operation that touches other words than the last one did repeats nothing.
+    // A list of one operation that is not known to repeat the one before it is not compared.
     let covered = covers(images, repeats, ops.len() != 1);
     let lends = fill_version(board, seat, row, memory, images, ended, known, covered);
     board.publish(seat, ops, lends);

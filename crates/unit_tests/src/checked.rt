@@ -39,7 +39,7 @@ const H_COUNT: Family = Family {
     ..COUNTER
 };
 
-/// Families stand by their names, and no two have a sample's name in common: a histogram `h` has samples of the name `h_count`.
+/// Families stand by their names, and the lines of no two take one name: a histogram `h` has samples of the name `h_count`.
 static FAMILIES: [Case; 6] = [
     (
         &[

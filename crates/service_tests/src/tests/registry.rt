@@ -93,7 +93,7 @@ fn counts(
     shows_what_is_counted(rt, alloc, registry, board, &mut first, &mut second);
 }
 
-/// The registry refuses a sample's name that it has.
+/// The registry refuses a name that the lines of a family take already.
 fn refuses_a_name(rt: &(impl Wait + Abort), alloc: Global, registry: &Two<'_>) {
     let clash = registry.register(rt, done(rt, desc(alloc, Kind::Counter, "h_sum", &[])));
     same(rt, clash, Err(RegisterFault::Clash { with: 1 }));

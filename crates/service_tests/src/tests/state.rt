@@ -106,7 +106,7 @@ fn refuses_shared_names(rt: &impl Abort, alloc: Global, registry: &mut Plain) {
     holds(rt, registry, 1, 4);
 }
 
-/// A sample's name belongs to one family, whichever was registered first; of several the least is told.
+/// A name that lines take belongs to one family, whichever was registered first; of several the least is told.
 #[test]
 fn shared_names(rt: HostRuntime) {
     let mut registry = plain(&rt, rt.alloc(), 1);
@@ -214,7 +214,11 @@ fn is_told(rt: &(impl Abort + AllocGlobal), fault: &impl Display, expected: &str
 fn texts(rt: HostRuntime) {
     let rt = &rt;
     let clash = RegisterFault::Clash { with: 3 };
-    is_told(rt, &clash, "a sample's name is shared with the family 3");
+    is_told(
+        rt,
+        &clash,
+        "a name is shared with the lines of the family 3",
+    );
     let count = ChildFault::LabelCount { want: 2, got: 1 };
     is_told(rt, &count, "1 label values for 2 labels");
     let sent = WireFault::WriteFailed { sent: 50 };
