@@ -1,6 +1,6 @@
 -- The place of a value among rising bounds.
 use Rattle.std.proofs.Common.{◌≡◌, ℕ, zero, suc, ◌+◌, ◌<◌, ◌≤◌, ◌↔◌, cond, ltb, List, [], ◌∷◌, length, get_or, ◌∙◌, ap, refl}
-use Rattle.std.proofs.Common.{arith, inl, inr}
+use Rattle.std.proofs.Common.{arith, inl, inr, ⊎_elim}
 use Rattle.std.specs.Prelude.{AllPairs, slice_index}
 use Rattle.std.proofs.lemmas.Bool.{lt-ltb, le-ltb, cases_lt}
 use Rattle.std.proofs.lemmas.List.Sums.{sum_by-cons}
@@ -71,3 +71,31 @@ pub inclusive : (bounds : List ℕ) (value k : ℕ) → AreRising bounds → k <
     → (place_of bounds value ≤ k) ↔ (value ≤ slice_index bounds k)
 inclusive bounds value k rising within =
     (at_most-bound bounds value k rising within, at_most-place bounds value k rising within)
+
+-- no more bounds are below a value than there are
+few : (bounds : List ℕ) (value : ℕ) → place_of bounds value ≤ length bounds
+few [] value = omega arith
+few (bound ∷ bounds) value =
+    let rest = few bounds value in
+    elim (cases_lt bound value) [
+      | inl below ↦ let e = place_of-below bound value bounds below in omega arith
+      | inr above ↦ let e = place_of-above bound value bounds above in omega arith
+    ]
+
+-- as many as these first ones, where they are below the value, and the next one is not
+pub place_is : (bounds : List ℕ) (value k : ℕ) → AreRising bounds → k ≤ length bounds
+    → ((i : ℕ) → i < k → get_or bounds i 0 < value) → (k < length bounds → value ≤ get_or bounds k 0) → k ≡ place_of bounds value
+place_is bounds value k rising within below next =
+    let most = few bounds value in
+    let no_more : place_of bounds value ≤ k = ⊎_elim (λ lt. at_most-place bounds value k rising lt (next lt))
+    (λ ge. omega (arith, ge, most)) (cases_lt k (length bounds)) in
+    let no_fewer : k ≤ place_of bounds value = at_least k within below in
+    omega (arith, no_more, no_fewer)
+  where
+    at_least : (n : ℕ) → n ≤ length bounds → ((i : ℕ) → i < n → get_or bounds i 0 < value) → n ≤ place_of bounds value
+    at_least zero le lower = omega arith
+    at_least (suc n) le lower = ⊎_elim
+        (λ lt. let high = at_most-bound bounds value n rising (omega (arith, le)) (let h : place_of bounds value ≤ n = omega (arith, lt) in h) in
+        let low = lower n (omega arith) in absurd (omega (arith, high, low)))
+        (λ ge. ge)
+        (cases_lt (place_of bounds value) (suc n))

@@ -89,10 +89,13 @@ impl Bounds {
         ensures inclusive { (k : ℕ) → k < length self.now → (result ≤ k) ↔ (value ≤ slice_index self.now k) }
         ensures law { CumulationLaw self.now }
     {
-        self.as_slice()
-            .iter()
-            .filter(|bound| **bound < value)
-            .count()
+        let bounds = self.as_slice();
+        for place in 0..bounds.len() {
+            if value <= bounds[place] {
+                return place;
+            }
+        }
+        bounds.len()
     }
 }
 
