@@ -57,6 +57,14 @@ below_set xs ys now n word lt is e below j within = ap (λ (l : List ℕ). get_o
   | inr apart ↦ get_or-set_other xs n j word 0 apart ∙ below j (omega arith)
 ]
 
+-- a store of the word that is to be there: an item that was as it should be is so still
+pub kept_set : (xs ys : List ℕ) (i word j : ℕ) → i < length xs → word ≡ get_or ys i 0 → get_or xs j 0 ≡ get_or ys j 0
+    → get_or (set xs i word) j 0 ≡ get_or ys j 0
+kept_set xs ys i word j lt e same = elim (cases_eq j i) [
+  | inl here ↦ subst (λ (k : ℕ). get_or (set xs i word) k 0 ≡ get_or ys k 0) (sym here) (get_or-set_same xs i word 0 lt ∙ e)
+  | inr apart ↦ get_or-set_other xs i j word 0 apart ∙ same
+]
+
 -- stores that are none
 pub not_filled : {N C H G : ℕ} (b : Board N C H G) (hidden : List ℕ) (s : WorkSeat) → MayStore b s hidden → HasFilled b hidden s s
 not_filled b hidden s may = record {

@@ -63,7 +63,7 @@ module _ (n c h g index : ℕ) (row : List ℕ) (memory : ScanMemory n c h g) (i
       late_inside = none_in b im.late blank.late_none;
     };
     late = λ listed. absurd (let e = sym blank.late ∙ listed in cc);
-    covered = λ yes. absurd (let e = sym blank.covered ∙ yes in cc);
+    joined = λ yes. absurd (let e = sym blank.joined ∙ yes in cc);
   }
 
   pub first_fit : (m : Member) → m ≡ new_worker n (width c h g) (depth n (width c h g)) index

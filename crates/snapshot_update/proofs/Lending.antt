@@ -44,7 +44,7 @@ raised_fit n c h g i k row memory im seen m f = record {
   shown_is = f.shown_is;
   images = f.images;
   late = f.late;
-  covered = f.covered;
+  joined = f.joined;
 }
 
 pub raised_holds : (n c h g index number : ℕ) (row : List ℕ) (memory : ScanMemory n c h g) (im : BufferImages) (i : ℕ)

@@ -8,4 +8,3 @@ pub mod FirstFit
 pub mod ScannedFit
 pub mod Lending
 pub mod Seating
-pub mod Covering

@@ -18,7 +18,7 @@ pub scanned_fit : (n c h g index number : ℕ) (row : List ℕ) (memory memory' 
     → IsFit n c h g index number row memory' (record im {
       late = late;
       row_known = false;
-      covered = false;
+      joined = false;
     }) (record m { scan = s })
 scanned_fit n c h g index number row memory memory' im late m s fit ready all items = record {
   who = fit.who;
@@ -40,5 +40,5 @@ scanned_fit n c h g index number row memory memory' im late m s fit ready all it
     late_inside = λ j has. fit.images.late_inside j (subst (λ (l : List ℕ). Contains l j) items has);
   };
   late = λ listed. absurd (let e = sym all ∙ listed in cc);
-  covered = λ yes. absurd (cc);
+  joined = λ yes. absurd (cc);
 }

@@ -30,4 +30,4 @@ pub record AreBlank (b : ℕ) (i : BufferImages) : Type 0 where
   pub recent_none : i.recent.items ≡ []
   pub late : i.late.all ≡ true
   pub late_none : i.late.items ≡ []
-  pub covered : i.covered ≡ false
+  pub joined : i.joined ≡ false

@@ -1,5 +1,5 @@
 -- What a worker's data say of its member.
-use Rattle.std.specs.Prelude.{◌⊎◌, ◌≡◌, ◌≢◌, ℕ, ◌+◌, ◌<◌, true, false, List, Contains, length, map, slice_index}
+use Rattle.std.specs.Prelude.{◌≡◌, ◌≢◌, ℕ, ◌+◌, ◌<◌, true, false, List, Contains, length, map, slice_index}
 use mathlib.Core.Option.{some}
 use lib.ListN.{get_elem?}
 use Rattle.ledger_core.specs.Ops.{width, sum_ops}
@@ -36,22 +36,22 @@ pub record AreImages (b : ℕ) (idle : List ℕ) (im : BufferImages) : Type 0 wh
   pub late : DifferAt im.late im.shown.items idle
   pub late_inside : AreInside b im.late
 
--- in buffers of rows of w words on a board of n workers: what is not late is not the worker's own number, and no total of a touched
--- word
+-- in a buffer of rows of w words on a board of n workers: this item is neither the worker's own number nor the total of a touched word
+abbrev pub IsNoneOf : (n w index : ℕ) → (touched : ChangedView) → ℕ → Type 0
+IsNoneOf n w index touched j = (j ≢ w + 1 + index) × ((k : ℕ) → Contains touched.items k → j ≢ w + 1 + n + k)
+
+-- just the worker's own number and the totals of the touched words are late
 pub record AreLate (n w index : ℕ) (touched late : ChangedView) : Type 0 where
   pub number : (j : ℕ) → ¬ (Contains late.items j) → j ≢ w + 1 + index
   pub totals : (k : ℕ) → ¬ (Contains late.items (w + 1 + n + k)) → ¬ (Contains touched.items k)
+  pub only : (j : ℕ) → IsNoneOf n w index touched j → ¬ (Contains late.items j)
 
--- no items are late now but these, and those that were
-abbrev pub OnlyLate : (n w index : ℕ) → (touched old new : ChangedView) → Type 0
-OnlyLate n w index touched old new = (new.all ≡ false) × ((j : ℕ) → Contains new.items j → Contains old.items j
-    ⊎ ((j ≡ w + 1 + index) ⊎ ((k : ℕ) × Contains touched.items k × (j ≡ w + 1 + n + k))))
-
--- what is not recent is not late, and was not touched; none of the three lists stands for all items
-pub record Covers (recent late touched : ChangedView) : Type 0 where
+-- just the late and the touched items are recent; none of the three lists stands for all items
+pub record AreJoined (recent late touched : ChangedView) : Type 0 where
   pub listed : (recent.all ≡ false) × (late.all ≡ false) × (touched.all ≡ false)
   pub late_too : (j : ℕ) → ¬ (Contains recent.items j) → ¬ (Contains late.items j)
   pub touched_too : (j : ℕ) → ¬ (Contains recent.items j) → ¬ (Contains touched.items j)
+  pub only : (j : ℕ) → ¬ (Contains late.items j) → ¬ (Contains touched.items j) → ¬ (Contains recent.items j)
 
 -- the member is the worker of this index, which has published `number` times; this is its row, and these are images of its
 -- buffers. Where `row_known` is true, the row that is remembered of its own segment is this row
@@ -67,7 +67,7 @@ pub record IsFit (n c h g index number : ℕ) (row : List ℕ) (memory : ScanMem
   pub shown_is : m.work.shown ≡ im.shown.items
   pub images : AreImages (depth n (width c h g)) (idle_words row (rows_of memory) (totals_in memory)) im
   pub late : im.late.all ≡ false → AreLate n (width c h g) index im.touched im.late
-  pub covered : im.covered ≡ true → Covers im.recent im.late im.touched
+  pub joined : im.joined ≡ true → AreJoined im.recent im.late im.touched
 
 -- a worker's data, of this index, fit a member whose seat has the index `seat`: the indexes are one, the worker has published as
 -- often as it counted, and the data fit by the member's own index and number. So a call whose step changes the member says what fits by

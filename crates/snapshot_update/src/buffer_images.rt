@@ -20,8 +20,10 @@ pub(crate) struct BufferImages {
     pub(crate) row_known: bool,
     /// The words of the row that the last list of operations touched.
     pub(crate) touched: ChangedItems,
-    /// Whether it is known that `recent` has all that `late` and `touched` have, and that none of the three stands for all items.
-    pub(crate) covered: bool,
+    /// Room for the next list of touched words. What it has says nothing.
+    pub(crate) spare: ChangedItems,
+    /// Whether `recent` is known to have just what `late` and `touched` have, and none of the three to stand for all items.
+    pub(crate) joined: bool,
 }
 
 impl BufferImages {
@@ -31,7 +33,7 @@ impl BufferImages {
         ensures shown { IfOk result (λ i. i.shown.items ≡ replicate words 0) }
         ensures recent { IfOk result (λ i. (i.recent.all ≡ true) × (i.recent.items ≡ [])) }
         ensures late { IfOk result (λ i. (i.late.all ≡ true) × (i.late.items ≡ [])) }
-        ensures covered { IfOk result (λ i. i.covered ≡ false) }
+        ensures joined { IfOk result (λ i. i.joined ≡ false) }
     {
         Ok(BufferImages {
             hidden: vec![in alloc; 0u64; words]?,
@@ -40,7 +42,8 @@ impl BufferImages {
             late: ChangedItems::new(alloc)?,
             row_known: true,
             touched: ChangedItems::new(alloc)?,
-            covered: false,
+            spare: ChangedItems::new(alloc)?,
+            joined: false,
         })
     }
 }

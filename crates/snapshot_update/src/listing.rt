@@ -51,31 +51,3 @@ pub(crate) fn list_late(
         late.note_all();
     }
 }
-
-/// Whether these items are those of two lists, one behind the other.
-#[inline(always)]
-pub(crate) fn are_both(items: &[usize], first: &[usize], second: &[usize]) -> bool
-    ensures first { result ≡ true → (j : ℕ) → Contains first.now j → Contains items.now j }
-    ensures second { result ≡ true → (j : ℕ) → Contains second.now j → Contains items.now j }
-{
-    if second.len() > items.len() || items.len() - second.len() != first.len() {
-        return false;
-    }
-    let has_first = stands_at(items, 0, first);
-    let has_second = stands_at(items, first.len(), second);
-    has_first & has_second
-}
-
-/// Whether a part of these items, from the place `from` on, is this list.
-#[inline(always)]
-fn stands_at(items: &[usize], from: usize, part: &[usize]) -> bool
-    requires { from + length part.now ≤ length items.now }
-    ensures { result ≡ true → (j : ℕ) → Contains part.now j → Contains items.now j }
-{
-    for k in 0..part.len() {
-        if items[from + k] != part[k] {
-            return false;
-        }
-    }
-    true
-}

@@ -4,19 +4,18 @@ ghost use Rattle.std.specs.Prelude.{◌≡◌, ◌<◌, true, false};
 ghost use Rattle.ledger_core.specs.Ops.{width};
 ghost use Rattle.segment_layout.specs.Layout.{depth};
 ghost use Rattle.snapshot_update.specs.BufferImages.{DifferAt, target_of};
-ghost use Rattle.snapshot_update.specs.Fit.{AreInside, Covers};
+ghost use Rattle.snapshot_update.specs.Fit.{AreInside, AreJoined};
 ghost use Rattle.snapshot_update.specs.Conditions.{MayFill, HasFilled};
 
-use crate::buffer_images::BufferImages;
-use crate::fills::{fill_all, fill_changes, fill_known};
-use crate::listing::{are_both, note_each};
+use crate::fills::{fill_all, fill_known};
+use crate::listing::note_each;
 use crate::next_version::NextVersion;
 use register_rule::{Board, WorkSeat};
 use snapshot_scan::ChangedItems;
 
 /// Fills the hidden buffer with the version, and lists in `recent` where it differs from what the shown buffer holds. Where
 /// it is `listed` that the version differs from that at no items but the late and the touched ones, no items but those of the
-/// three lists are compared, and the new recent items have all that are late and touched. `covered` says that the old ones have.
+/// three lists are compared, and just the late and the touched ones are recent then.
 #[inline(always)]
 pub(crate) fn fill_next<const N: usize, const C: usize, const H: usize, const G: usize>(
     board: &Board<N, C, H, G>,
@@ -28,47 +27,21 @@ pub(crate) fn fill_next<const N: usize, const C: usize, const H: usize, const G:
     touched: &ChangedItems,
     version: &NextVersion<C, H, G>,
     listed: bool,
-    covered: bool,
 )
     requires may { MayFill board.now seat.old hidden.old shown.now recent.old late.now touched.now version.now listed }
-    requires covered { covered ≡ true → Covers recent.old late.now touched.now }
     ensures fills { HasFilled board.now hidden.new seat.old seat.new }
     ensures hidden { hidden.new ≡ target_of version.now }
     ensures recent { DifferAt recent.new shown.now (target_of version.now) }
     ensures inside { AreInside (depth N (width C H G)) recent.new }
-    ensures covers { listed ≡ true → recent.new.all ≡ false → Covers recent.new late.now touched.now }
+    ensures joined { listed ≡ true → recent.new.all ≡ false → AreJoined recent.new late.now touched.now }
 {
     if listed {
         let start = board.hidden_start(seat);
-        if covered {
-            fill_changes(board, seat, start, hidden, recent, version);
-            return;
-        }
         fill_known(board, seat, start, hidden, recent, late, touched, version);
         recent.clear();
         note_each(recent, late, 0);
         note_each(recent, touched, 0);
         return;
     }
-    fill_all(board, seat, hidden, shown, recent, version);
-}
-
-/// Whether the recent items are known to have all that are late and touched: it is `covered` already, or, where the lists are `compared`,
-/// they are those of both, one behind the other.
-#[inline(always)]
-pub(crate) fn covers(images: &BufferImages, covered: bool, compared: bool) -> bool
-    requires { covered ≡ true → Covers images.now.recent images.now.late images.now.touched }
-    ensures { result ≡ true → Covers images.now.recent images.now.late images.now.touched }
-{
-    if covered || !compared {
-        return covered;
-    }
-    if images.recent.is_all() || images.late.is_all() || images.touched.is_all() {
-        return false;
-    }
-    are_both(
-        images.recent.as_slice(),
-        images.late.as_slice(),
-        images.touched.as_slice(),
-    )
+    fill_all(board, seat, hidden, shown, recent, *version);
 }

@@ -6,7 +6,7 @@ ghost use Rattle.ledger_core.specs.Limits.{AreSlots};
 use ledger_core::Row;
 
 /// One version of a segment: a row, a flag, and the vector and the totals of the view that it lends.
-#[derive(Drop)]
+#[derive(Clone, Copy)]
 pub(crate) struct NextVersion<'a, const C: usize, const H: usize, const G: usize> {
     pub(crate) row: &'a Row<C, H, G>,
     pub(crate) flag: u64,
@@ -34,6 +34,7 @@ impl<'a, const C: usize, const H: usize, const G: usize> NextVersion<'a, C, H, G
         requires { AreSlots C H G }
         ensures words { target_of result ≡ version_words row.now flag vector.now totals.now }
         ensures lengths { length (target_of result) ≡ width C H G + 1 + length vector.now + length totals.now }
+        ensures view { (result.vector.now ≡ vector.now) × (result.totals.now ≡ totals.now) }
     {
         // The row's length tells the proof how many words it has.
         let _ = row.len();
@@ -43,6 +44,34 @@ impl<'a, const C: usize, const H: usize, const G: usize> NextVersion<'a, C, H, G
             vector,
             totals,
         }
+    }
+
+    /// A word of the row.
+    #[inline(always)]
+    pub(crate) fn row_word(&self, k: usize) -> u64
+        requires { k < width C H G }
+        ensures word { result ≡ slice_index (target_of self.now) k }
+        ensures bounded { result ≤ greatest_word }
+    {
+        self.row.word_at(k)
+    }
+
+    /// A worker's number.
+    #[inline(always)]
+    pub(crate) fn number_of(&self, worker: usize) -> u64
+        requires { worker < length self.now.vector.now }
+        ensures { result ≡ slice_index (target_of self.now) (width C H G + 1 + worker) }
+    {
+        self.vector[worker]
+    }
+
+    /// The total of a word.
+    #[inline(always)]
+    pub(crate) fn total_of(&self, k: usize) -> u64
+        requires { k < length self.now.totals.now }
+        ensures { result ≡ slice_index (target_of self.now) (width C H G + 1 + length self.now.vector.now + k) }
+    {
+        self.totals[k]
     }
 
     /// The word at an item, counted along the buffer.

@@ -1,5 +1,5 @@
 //! Which words of a row operations change.
-ghost use Rattle.std.specs.Prelude.{◌≡◌, ◌+◌, ◌*◌, ◌<◌, ◌≤◌, ℕ, true, false, length, All, Contains};
+ghost use Rattle.std.specs.Prelude.{◌≡◌, ◌≢◌, ◌+◌, ◌*◌, ◌<◌, ◌≤◌, ℕ, true, false, length, All, Contains, ◌∷◌, []};
 ghost use Rattle.ledger_core.specs.Ops.{width, only, part, sum_ops, IsWithin};
 ghost use Rattle.ledger_core.specs.Limits.{AreSlots};
 ghost use Rattle.snapshot_update.specs.Fit.{AreInside};
@@ -8,6 +8,7 @@ ghost use Rattle.snapshot_update.specs.Noting.{Touches, AreTouched, IsRun};
 use crate::run::Run;
 use ledger_core::Op;
 use snapshot_scan::ChangedItems;
+use std::mem::swap;
 
 /// How many words a histogram has.
 const HIST: usize = 27;
@@ -36,12 +37,13 @@ fn touch_all<const C: usize, const H: usize, const G: usize>(ops: &[Op], touched
     }
 }
 
-/// As [`touch_all`]. Where it says yes, the list is as it was, and one operation touches the words that it has. It may say no of such a list,
-/// too: it always does of a list of more operations.
+/// As [`touch_all`]. Where it says yes, the list is as it was, and the operations add to the words that it has. `spare` is room for a list, of
+/// which nothing is known.
 #[inline(always)]
 pub(crate) fn touch<const C: usize, const H: usize, const G: usize>(
     ops: &[Op],
     touched: &mut ChangedItems,
+    spare: &mut ChangedItems,
 ) -> bool
     requires within { All (IsWithin C H G) ops.now }
     requires slots { AreSlots C H G }
@@ -50,6 +52,9 @@ pub(crate) fn touch<const C: usize, const H: usize, const G: usize>(
     ensures few { length ops.now ≤ 85 → touched.new.all ≡ false }
     ensures again { result ≡ true → touched.new ≡ touched.old }
 {
+    if ops.len() != 1 {
+        return touch_list::<C, H, G>(ops, touched, spare);
+    }
     let again = is_again::<C, H, G>(ops, touched);
     if again {
         return true;
@@ -58,20 +63,83 @@ pub(crate) fn touch<const C: usize, const H: usize, const G: usize>(
     false
 }
 
-/// Whether just the words that one operation adds to are listed. Of a list of more it says no.
+/// As [`touch`], of operations that are not one. Where they are not seen at once to add to the listed words they are listed in `spare`, and
+/// where that list is another, the two change places.
+#[inline(never)]
+fn touch_list<const C: usize, const H: usize, const G: usize>(
+    ops: &[Op],
+    touched: &mut ChangedItems,
+    spare: &mut ChangedItems,
+) -> bool
+    requires within { All (IsWithin C H G) ops.now }
+    requires slots { AreSlots C H G }
+    ensures rises { touched.new.all ≡ false → (k : ℕ) → ¬ (Contains touched.new.items k) → sum_ops C H ops.now k ≡ 0 }
+    ensures inside { AreInside (width C H G) touched.new }
+    ensures few { length ops.now ≤ 85 → touched.new.all ≡ false }
+    ensures again { result ≡ true → touched.new ≡ touched.old }
+{
+    let whole = !touched.is_all();
+    if whole && are_single::<C, H, G>(ops, touched.as_slice()) {
+        return true;
+    }
+    touch_all::<C, H, G>(ops, spare);
+    if whole & !spare.is_all() && touched.as_slice() == spare.as_slice() {
+        return true;
+    }
+    swap(touched, spare);
+    false
+}
+
+/// Whether just the words that one operation adds to are listed.
 #[inline(always)]
 fn is_again<const C: usize, const H: usize, const G: usize>(
     ops: &[Op],
     touched: &ChangedItems,
 ) -> bool
+    requires one { length ops.now ≡ 1 }
     requires within { All (IsWithin C H G) ops.now }
     requires slots { AreSlots C H G }
     ensures { result ≡ true → AreTouched C H (width C H G) ops.now touched.now }
 {
-    if ops.len() != 1 || touched.is_all() {
+    if touched.is_all() {
         return false;
     }
     is_one::<C, H, G>(&ops[0], touched.as_slice())
+}
+
+/// Whether each operation adds to one word, and these are the words, place by place.
+#[inline(always)]
+fn are_single<const C: usize, const H: usize, const G: usize>(ops: &[Op], words: &[usize]) -> bool
+    requires within { All (IsWithin C H G) ops.now }
+    requires slots { AreSlots C H G }
+    ensures rises { result ≡ true → (k : ℕ) → ¬ (Contains words.now k) → sum_ops C H ops.now k ≡ 0 }
+    ensures inside { result ≡ true → (j : ℕ) → Contains words.now j → j < width C H G }
+{
+    if ops.len() != words.len() {
+        return false;
+    }
+    for at in 0..ops.len() {
+        if !is_single::<C, H, G>(&ops[at], words[at]) {
+            return false;
+        }
+    }
+    true
+}
+
+/// Whether the operation adds to one word, and this is the word.
+#[inline(always)]
+fn is_single<const C: usize, const H: usize, const G: usize>(op: &Op, word: usize) -> bool
+    requires within { IsWithin C H G op.now }
+    requires slots { AreSlots C H G }
+    ensures rises { result ≡ true → (k : ℕ) → k ≢ word → part C H op.now k ≡ 0 }
+    ensures inside { result ≡ true → word < width C H G }
+{
+    match *op {
+        Op::Inc { counter, .. } => counter == word,
+        Op::Observe { .. } => false,
+        Op::Up { gauge, .. } => C + HIST * H + 2 * gauge == word,
+        Op::Down { gauge, .. } => C + HIST * H + 2 * gauge + 1 == word,
+    }
 }
 
 /// Whether these are the words that the operation adds to.
@@ -83,14 +151,22 @@ fn is_one<const C: usize, const H: usize, const G: usize>(op: &Op, words: &[usiz
     ensures inside { result ≡ true → (j : ℕ) → Contains words.now j → j < width C H G }
 {
     match *op {
-        Op::Inc { counter, .. } => words == [counter].as_slice(),
+        Op::Inc { counter, .. } => is_word(words, counter),
         Op::Observe { hist, place, .. } => {
             let first = C + HIST * hist;
             words == [first + SUM, first + COUNT, first + place].as_slice()
         }
-        Op::Up { gauge, .. } => words == [C + HIST * H + 2 * gauge].as_slice(),
-        Op::Down { gauge, .. } => words == [C + HIST * H + 2 * gauge + 1].as_slice(),
+        Op::Up { gauge, .. } => is_word(words, C + HIST * H + 2 * gauge),
+        Op::Down { gauge, .. } => is_word(words, C + HIST * H + 2 * gauge + 1),
     }
+}
+
+/// Whether this is a list of one word.
+#[inline(always)]
+fn is_word(words: &[usize], word: usize) -> bool
+    ensures { result ≡ true → words.now ≡ word ∷ [] }
+{
+    words.len() == 1 && words[0] == word
 }
 
 // Lists the words of a row that an operation adds to, behind those that are listed.

@@ -16,11 +16,12 @@
 //! | flag | it says that | who sets it |
 //! |---|---|---|
 //! | `row_known` of the images | the row that is remembered of the worker's own segment is its row | `update`; `Worker::scan` clears it |
-//! | `covered` of the images | the recent items have all that are late and touched | `fill_version` and `turn`; `Worker::scan` clears it |
+//! | `joined` of the images | just the late and the touched items are recent | `fill_version` and `turn`; `Worker::scan` clears it |
 //! | `again` | the touched words are those of the update before | `touch` |
 //! | `known` | the late and the touched items are all at which the next version differs from the shown buffer | `know_next` |
 //! | `still` | so, and nothing more is late than was | `know_next` |
-//! | `repeats` | the update repeats the one before it: nothing has to be listed anew | `update` |
+//! | `same` | `again` and `still`: neither list says more than it did | `update` |
+//! | `repeats` | `same` and `joined`: the update repeats the one before it, and nothing has to be listed anew | `update` |
 ghost use Rattle.std.specs.Prelude.{◌≡◌, ℕ, ◌+◌, ◌<◌, true, false, cond, length, slice_index, slice_set, Contains, OnOk, OnErr};
 ghost use Rattle.std.specs.Prelude.{IfErr};
 ghost use Rattle.ledger_core.specs.Ops.{width, sum_ops};
@@ -35,14 +36,15 @@ ghost use Rattle.register_rule.specs.Seats.{worker_of, index_of, IsWorkSeatOf};
 ghost use Rattle.snapshot_scan.specs.declared.scan_end.ScanEnd.TheVariants as ScanEnd;
 ghost use Rattle.snapshot_scan.specs.ScanMemories.{rows_of, totals_in, answer_of, HasView};
 ghost use Rattle.snapshot_update.specs.BufferImages.{DifferAt, version_words};
-ghost use Rattle.snapshot_update.specs.Fit.{AreInside, AreLate, OnlyLate, Covers, IsFit};
+ghost use Rattle.snapshot_update.specs.Fit.{AreInside, IsNoneOf, AreLate, AreJoined, IsFit};
 ghost use Rattle.snapshot_update.specs.Conditions.{MayMakeVersion, MayLearn, HasFilled};
 ghost use Rattle.snapshot_update.specs.Updated.{IsUpdated};
 
 use crate::buffer_images::BufferImages;
+use crate::fills::fill_again;
 use crate::known::know_next;
 use crate::listing::list_late;
-use crate::next_fill::{covers, fill_next};
+use crate::next_fill::fill_next;
 use crate::next_version::NextVersion;
 use crate::scanning::{has_view, scan_for_update};
 use crate::touched::touch;
@@ -60,9 +62,42 @@ fn flag_word(lends: bool) -> u64
     if lends { 1 } else { 0 }
 }
 
+/// As [`fill_version`], where the update repeats the one before it: the scan was quiet, just the late and the touched items are recent, and
+/// just the worker's number and the totals of the touched words are late. The version lends a view, and all lists stay as they are.
+#[inline(always)]
+fn fill_version_again<const N: usize, const C: usize, const H: usize, const G: usize>(
+    board: &Board<N, C, H, G>,
+    seat: &mut WorkSeat,
+    row: &Row<C, H, G>,
+    memory: &ScanMemory<N, C, H, G>,
+    images: &mut BufferImages,
+    ended: ScanEnd,
+)
+    requires may { MayMakeVersion board.now seat.old row.now memory.now images.old ended true }
+    requires joined { AreJoined images.old.recent images.old.late images.old.touched }
+    requires late { AreLate N (width C H G) (index_of seat.old) images.old.touched images.old.late }
+    ensures fills { HasFilled board.now images.new.hidden.items seat.old seat.new }
+    ensures hidden { images.new.hidden.items ≡ version_words row.now 1 (answer_of memory.now ended).vector
+        (answer_of memory.now ended).totals }
+    ensures others { (images.new.shown.items ≡ images.old.shown.items) × (images.new.late ≡ images.old.late)
+        × (images.new.touched ≡ images.old.touched) × (images.new.row_known ≡ images.old.row_known)
+        × (images.new.recent ≡ images.old.recent) }
+    ensures recent { DifferAt images.new.recent images.old.shown.items images.new.hidden.items }
+{
+    let (vector, totals) = memory.answer(ended);
+    let version = NextVersion::new(row, 1, vector, totals);
+    fill_again(
+        board,
+        seat,
+        images.hidden.as_mut_slice(),
+        &images.touched,
+        &version,
+    );
+}
+
 /// Fills the hidden buffer with the version of this row, with the answer of the scan that ended so, and says whether it lends
-/// that. `known` is what `know_next` answered; `covered` says that the old recent items have all that are late and touched. Whether the
-/// new ones have is noted in the images.
+/// that. `known` is what `know_next` answered. Whether just the late and the touched items are recent then is noted in the images; where the
+/// update `repeats` the one before it, they were so before, and just the worker's number and the totals of the touched words are late.
 #[inline(always)]
 fn fill_version<const N: usize, const C: usize, const H: usize, const G: usize>(
     board: &Board<N, C, H, G>,
@@ -72,10 +107,11 @@ fn fill_version<const N: usize, const C: usize, const H: usize, const G: usize>(
     images: &mut BufferImages,
     ended: ScanEnd,
     known: bool,
-    covered: bool,
+    repeats: bool,
 ) -> bool
     requires may { MayMakeVersion board.now seat.old row.now memory.now images.old ended known }
-    requires covered { covered ≡ true → Covers images.old.recent images.old.late images.old.touched }
+    requires repeats { repeats ≡ true → (known ≡ true) × AreJoined images.old.recent images.old.late images.old.touched
+        × AreLate N (width C H G) (index_of seat.old) images.old.touched images.old.late }
     ensures fills { HasFilled board.now images.new.hidden.items seat.old seat.new }
     ensures hidden { images.new.hidden.items ≡ version_words row.now (cond result 1 0) (answer_of memory.now ended).vector
         (answer_of memory.now ended).totals }
@@ -83,10 +119,15 @@ fn fill_version<const N: usize, const C: usize, const H: usize, const G: usize>(
         × (images.new.touched ≡ images.old.touched) × (images.new.row_known ≡ images.old.row_known) }
     ensures recent { DifferAt images.new.recent images.old.shown.items images.new.hidden.items }
     ensures inside { AreInside (depth N (width C H G)) images.new.recent }
-    ensures covers { images.new.covered ≡ true → Covers images.new.recent images.new.late images.new.touched }
+    ensures joined { images.new.joined ≡ true → AreJoined images.new.recent images.new.late images.new.touched }
     ensures view { result ≡ true → HasView ended }
     ensures none { result ≡ false → ended ≡ ScanEnd.GaveUp }
 {
+    if repeats {
+        fill_version_again(board, seat, row, memory, images, ended);
+        images.joined = true;
+        return true;
+    }
     let (vector, totals) = memory.answer(ended);
     let lends = has_view(ended);
     let version = NextVersion::new(row, flag_word(lends), vector, totals);
@@ -101,28 +142,27 @@ fn fill_version<const N: usize, const C: usize, const H: usize, const G: usize>(
         &images.touched,
         &version,
         listed,
-        covered,
     );
-    images.covered = listed & !images.recent.is_all();
+    images.joined = listed & !images.recent.is_all();
     lends
 }
 
 /// After the publish the buffers have changed their roles: exchanges their images, and lists anew where the shown one differs from what
 /// an update of nothing would publish now (`late`): anywhere, where it is not `known`, as `know_next` answered. Where the two differ from
-/// each other (`recent`) stays as it is. `again` says that the touched words are those of the update before; where the update `repeats`
-/// that one in all, what is late is listed already.
+/// each other (`recent`) stays as it is. `same` says that the touched words are those of the update before, and that what was late before it is
+/// late; where the update `repeats` that one in all, what is late is listed already.
 #[inline(always)]
 fn turn<const N: usize, const C: usize, const H: usize, const G: usize>(
     images: &mut BufferImages,
     index: usize,
     known: bool,
-    again: bool,
+    same: bool,
     repeats: bool,
 )
     requires geometry { IsGeometry N C H G }
     requires inside { index < N }
     requires touched { AreInside (width C H G) images.old.touched }
-    requires repeats { repeats ≡ true → (known ≡ true) × (again ≡ true) × (images.old.late.all ≡ false)
+    requires repeats { repeats ≡ true → (known ≡ true) × (same ≡ true) × (images.old.late.all ≡ false)
         × AreInside (depth N (width C H G)) images.old.late × AreLate N (width C H G) index images.old.touched images.old.late }
     ensures buffers { (images.new.hidden.items ≡ images.old.shown.items) × (images.new.shown.items ≡ images.old.hidden.items) }
     ensures others { (images.new.recent ≡ images.old.recent) × (images.new.touched ≡ images.old.touched) }
@@ -130,9 +170,10 @@ fn turn<const N: usize, const C: usize, const H: usize, const G: usize>(
     ensures number { images.new.late.all ≡ false → Contains images.new.late.items (width C H G + 1 + index) }
     ensures totals { images.new.late.all ≡ false → (k : ℕ) → Contains images.old.touched.items k
         → Contains images.new.late.items (width C H G + 1 + N + k) }
+    ensures only { images.new.late.all ≡ false → (j : ℕ) → IsNoneOf N (width C H G) index images.old.touched j
+        → ¬ (Contains images.new.late.items j) }
     ensures inside { AreInside (depth N (width C H G)) images.new.late }
-    ensures covered { images.new.covered ≡ true → (images.old.covered ≡ true) × (again ≡ true)
-        × OnlyLate N (width C H G) index images.old.touched images.old.late images.new.late }
+    ensures joined { images.new.joined ≡ true → (images.old.joined ≡ true) × (same ≡ true) × (images.new.late.all ≡ false) }
 {
     swap(&mut images.hidden, &mut images.shown);
     if repeats {
@@ -141,8 +182,8 @@ fn turn<const N: usize, const C: usize, const H: usize, const G: usize>(
     let number = item_at(N, C, H, G, Item::Vector { worker: index });
     let totals_at = item_at(N, C, H, G, Item::Flag) + 1 + N;
     list_late(&mut images.late, &images.touched, number, totals_at, known);
-    // Where the touched words are those of the update before, each item that is late now was late before, so that it is recent.
-    images.covered = images.covered & again & !images.late.is_all();
+    // Where both lists say what they did, the same items are late now as before, so that just they and the touched ones are recent.
+    images.joined = images.joined & same & !images.late.is_all();
 }
 
 /// Remembers the worker's own new row. Where `known`, as `know_next` answered, it differs from the remembered one at the touched words alone.
@@ -197,7 +238,7 @@ pub(crate) fn update<const N: usize, const C: usize, const H: usize, const G: us
 {
     row.try_apply(ops)?;
     // Before the scan, while the compiler still knows which operation a list of one has.
-    let again = touch::<C, H, G>(ops, &mut images.touched);
+    let again = touch::<C, H, G>(ops, &mut images.touched, &mut images.spare);
     let ended = scan_for_update(board, seat, memory);
     let (known, still) = know_next(
         seat,
@@ -207,13 +248,12 @@ pub(crate) fn update<const N: usize, const C: usize, const H: usize, const G: us
         images.row_known,
         ended,
     );
-    let repeats = images.covered & again & still;
-    // A list of one operation that is not known to repeat the one before it is not compared.
-    let covered = covers(images, repeats, ops.len() != 1);
-    let lends = fill_version(board, seat, row, memory, images, ended, known, covered);
+    let same = again & still;
+    let repeats = images.joined & same;
+    let lends = fill_version(board, seat, row, memory, images, ended, known, repeats);
     board.publish(seat, ops, lends);
     let index = seat.worker();
-    turn::<N, C, H, G>(images, index, known, again, repeats);
+    turn::<N, C, H, G>(images, index, known, same, repeats);
     let number = seat.number();
     learn(memory, index, number, row, images, known);
     images.row_known = true;

@@ -336,7 +336,7 @@ impl<const N: usize, const C: usize, const H: usize, const G: usize> Worker<N, C
         // The scan may have remembered other rows, of which no list was kept: the next update compares all.
         self.images.late.note_all();
         self.images.row_known = false;
-        self.images.covered = false;
+        self.images.joined = false;
         end
     }
 

@@ -3,7 +3,6 @@ use Rattle.ledger_core.specs.Ops.{width}
 use Rattle.segment_layout.specs.Layout.{depth}
 use Rattle.snapshot_scan.specs.ChangedItems.{ChangedView, NotesEach}
 use Rattle.snapshot_update.specs.BufferImages.{target_of}
-use Rattle.snapshot_update.proofs.Filling.{listed_or, all_filled}
 use Rattle.snapshot_scan.proofs.Noted.{none_listed}
 use Rattle.snapshot_update.proofs.next_fill.fill_next.Goals as goal
 
@@ -49,28 +48,22 @@ returns-then-listed-clause-inside g c =
     c.note_each.new.to c.note_each-then-listed.new.to c.clear.ensures.none.1 c.note_each.ensures c.note_each-then-listed.ensures
     c.requires.may.inside.1 c.requires.may.inside.2
 
-pub returns-then-covered-clause-recent : goal.returns-then-covered-clause-recent
-returns-then-covered-clause-recent g c = λ _ j lt not. let lens = c.requires.may.lengths in
-    let all = c.requires.covered c.if-covered.true in
-    c.requires.may.known c.if-listed.true j (omega (arith, lens.2, lt)) (all.late_too j not) (all.touched_too j not)
-
-pub returns-then-covered-clause-hidden : goal.returns-then-covered-clause-hidden
-returns-then-covered-clause-hidden g c =
-    let lens = c.requires.may.lengths in let fills = c.fill_changes.ensures in let listed = c.requires.may.listed
-    c.if-listed.true in
-    all_filled c.fill_changes.new.hidden (target_of c.args.version.now) (depth g.row.N (width g.row.C g.row.H g.row.G))
-    (c.fill_changes.auto.hidden ∙ lens.0) lens.2 (λ j lt.
-    ⊎_elim (fills.filled j) (λ not_recent. fills.kept j (c.requires.may.differ listed.0 j (omega (arith, lens.1, lt)) not_recent
-    ∙ returns-then-covered-clause-recent g c listed.0 j (omega (arith, lens.2, lt)) not_recent))
-    (listed_or c.args.recent.now.items j))
-
-pub returns-then-listed-clause-covers : goal.returns-then-listed-clause-covers
-returns-then-listed-clause-covers g c = λ _ few.
+pub returns-then-listed-clause-joined : goal.returns-then-listed-clause-joined
+returns-then-listed-clause-joined g c = λ _ few.
     let listed = c.requires.may.listed c.if-listed.true in
-    let both = both_listed c.args.late.now.items c.args.touched.now.items c.clear.new.self c.note_each.new.to
-    c.note_each-then-listed.new.to c.clear.ensures.none.1 c.note_each.ensures c.note_each-then-listed.ensures few in
+    let late = c.args.late.now.items in let touched = c.args.touched.now.items in
+    let x = c.note_each.ensures in let y = c.note_each-then-listed.ensures in
+    let both = both_listed late touched c.clear.new.self
+    c.note_each.new.to c.note_each-then-listed.new.to c.clear.ensures.none.1 x y few in
     record {
       listed = (few, listed.1, listed.2);
       late_too = λ j not. (both j not).0;
       touched_too = λ j not. (both j not).1;
+      only = λ j not_late not_touched has. ⊎_elim
+          (λ h. ⊎_elim
+          (λ z. absurd (none_listed j (subst (λ (l : List ℕ). Contains l j) c.clear.ensures.none.1 z)))
+          (λ t. let e = t.2 in not_late (subst (λ (k : ℕ). Contains late k) (let s : t.0 ≡ j = omega (arith, e) in s) t.1))
+          (x.others j h))
+          (λ t. let e = t.2 in not_touched (subst (λ (k : ℕ). Contains touched k) (let s : t.0 ≡ j = omega (arith, e) in s) t.1))
+          (y.others j has);
     }

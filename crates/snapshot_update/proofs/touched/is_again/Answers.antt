@@ -13,7 +13,7 @@ sum_of_one c h k (op ∷ other ∷ ops) d long = absurd (omega (arith, long))
 pub returns : goal.returns
 returns g c = λ yes. record {
   listed = sym c.is_all.ensures ∙ c.if-is_all.false;
-  rises = λ k none. sum_of_one g.row.C g.row.H k c.args.ops.now _ (omega (arith, c.if-ops-ne1.false))
+  rises = λ k none. sum_of_one g.row.C g.row.H k c.args.ops.now _ c.requires.one
       ∙ c.is_one.ensures.rises yes k (rw c.as_slice.ensures.listed none);
   inside = λ j has. c.is_one.ensures.inside yes j (rw c.as_slice.ensures.listed has);
 }

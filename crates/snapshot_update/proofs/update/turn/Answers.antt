@@ -37,15 +37,16 @@ returns-clause-inside g c = λ j has. let e = c.item_at.ensures.place in let e' 
     ⊎_elim (λ h. omega (arith, e', own, h)) (λ t. let lt = c.requires.touched t.0 t.1 in let h = t.2 in omega (arith, e, lt, h))
     (c.list_late.ensures.others j has)
 
-pub returns-clause-covered : goal.returns-clause-covered
-returns-clause-covered g c = λ yes.
+pub returns-then-repeats-clause-only : goal.returns-then-repeats-clause-only
+returns-then-repeats-clause-only g c = λ listed j apart. (c.requires.repeats c.if-repeats.true).4.only j apart
+
+pub returns-clause-only : goal.returns-clause-only
+returns-clause-only g c = λ listed j apart has.
     let e = c.item_at.ensures.place in let e' = c.item_at-number.ensures.place in
-    let outer = and_parts _ _ yes in let inner = and_parts _ _ outer.0 in (
-      inner.0,
-      inner.1,
-      (
-        sym c.is_all.ensures ∙ not-true _ outer.1,
-        λ j has. inr (⊎_elim (λ h. inl (omega (arith, e', h))) (λ t. let h = t.2 in inr (t.0, t.1, omega (arith, e, h)))
-            (c.list_late.ensures.others j has)),
-      ),
-    )
+    ⊎_elim (λ h. apart.0 (omega (arith, e', h))) (λ t. let h = t.2 in apart.1 t.0 t.1 (omega (arith, e, h)))
+    (c.list_late.ensures.others j has)
+
+pub returns-clause-joined : goal.returns-clause-joined
+returns-clause-joined g c = λ yes.
+    let outer = and_parts _ _ yes in let inner = and_parts _ _ outer.0 in
+    (inner.0, inner.1, sym c.is_all.ensures ∙ not-true _ outer.1)

@@ -1,4 +1,4 @@
-use Rattle.std.proofs.Common.{zero, ◌≡◌, ◌<◌, ◌+◌, ℕ, suc, Bool, true, false, cond, List, [], ◌∷◌, ◌++◌, length, map}
+use Rattle.std.proofs.Common.{zero, ◌≡◌, ◌≢◌, ◌<◌, ◌+◌, ℕ, suc, Bool, true, false, cond, List, [], ◌∷◌, ◌++◌, length, map}
 use Rattle.std.proofs.Common.{take, set, slice_index, Contains, sym, refl, ap, ◌∙◌, subst, arith, rules}
 use mathlib.Core.Option.{some, some-injective}
 use lib.ListN.{get_elem?}
@@ -21,19 +21,18 @@ use Rattle.snapshot_scan.specs.ScanMemories.{rows_of, totals_in, answer_of}
 use Rattle.snapshot_scan.specs.ChangedItems.{ChangedView}
 use Rattle.snapshot_update.specs.declared.buffer_images.BufferImages.{BufferImages}
 use Rattle.snapshot_update.specs.BufferImages.{DifferAt, version_words, with_hidden}
-use Rattle.snapshot_update.specs.Fit.{AreInside, AreImages, AreLate, Covers, number_in, idle_words}
+use Rattle.snapshot_update.specs.Fit.{AreInside, AreImages, IsNoneOf, AreLate, AreJoined, number_in, idle_words}
 use Rattle.snapshot_update.specs.Updated.{ScanCameTo, IsRuledAlone}
 use Rattle.snapshot_update.proofs.VersionWords.{known_words, late_words, words_long, row_taken, numbers_long}
 use Rattle.register_rule.proofs.Publish.{total_last}
 use Rattle.snapshot_update.proofs.Fitting.{answer_long, rows_many, accepts_same, holds}
 use Rattle.snapshot_update.proofs.Following.{next_is}
-use Rattle.snapshot_update.proofs.Covering.{late_on, covers_on, known_keeps}
 use Rattle.snapshot_update.proofs.update.update.Goals as goal
 
 -- what is touched says nothing of the images
-touched_images : (b : ℕ) (next : List ℕ) (im : BufferImages) (touched : ChangedView) → AreImages b next im
-    → AreImages b next (record im { touched = touched })
-touched_images b next im touched are = record {
+touched_images : (b : ℕ) (next : List ℕ) (im : BufferImages) (touched spare : ChangedView) → AreImages b next im
+    → AreImages b next (record im { touched = touched; spare = spare })
+touched_images b next im touched spare are = record {
   idle_deep = are.idle_deep;
   hidden_deep = are.hidden_deep;
   shown_deep = are.shown_deep;
@@ -43,18 +42,43 @@ touched_images b next im touched are = record {
   late_inside = are.late_inside;
 }
 
+-- the item is none of these, of the words that were touched before, either
+none_before : (n w i i' : ℕ) (touched touched' : ChangedView) (j : ℕ) → i ≡ i' → touched' ≡ touched
+    → IsNoneOf n w i touched' j → IsNoneOf n w i' touched j
+none_before n w i i' touched touched' j e t is = (
+  subst (λ (k : ℕ). j ≢ w + 1 + k) e is.0,
+  λ k has. is.1 k (subst (λ (x : ChangedView). Contains x.items k) (sym t) has),
+)
+
+-- the same items are late as were
+joined_on : (n w index : ℕ) (recent late late' touched : ChangedView) → AreJoined recent late touched
+    → AreLate n w index touched late → late'.all ≡ false
+    → (late'.all ≡ false → Contains late'.items (w + 1 + index))
+    → (late'.all ≡ false → (k : ℕ) → Contains touched.items k → Contains late'.items (w + 1 + n + k))
+    → (late'.all ≡ false → (j : ℕ) → IsNoneOf n w index touched j → ¬ (Contains late'.items j))
+    → AreJoined recent late' touched
+joined_on n w index recent late late' touched is are few number totals only = record {
+  listed = (is.listed.0, few, is.listed.2);
+  late_too = λ j not. only few j (
+    λ e. are.number j (is.late_too j not) e,
+    λ k has e. are.totals k (λ there. is.late_too j not (subst (λ (i : ℕ). Contains late.items i) (sym e) there)) has,
+  );
+  touched_too = is.touched_too;
+  only = λ j not_late not_touched. is.only j (are.only j (
+    λ e. not_late (subst (λ (i : ℕ). Contains late'.items i) (sym e) (number few)),
+    λ k has e. not_late (subst (λ (i : ℕ). Contains late'.items i) (sym e) (totals few k has)),
+  )) not_touched;
+}
+
 by_known : {P : Type 0} (b : Bool) → (b ≡ true → P) → (b ≡ false → P) → P
 by_known true p q = p refl
 by_known false p q = q refl
 
--- an update that repeats the one before it: all is listed that it will compare
-pub covers-covered-requires : goal.covers-covered-requires
-covers-covered-requires g c = λ yes.
-    let fit = c.requires.fit in let im = c.args.images.now in
-    let both = and_parts _ _ yes in let first = and_parts _ _ both.0 in
-    let still = c.know_next-known.ensures.still both.1 in
-    subst (λ (x : ChangedView). Covers im.recent x c.touch-again.new.touched) (sym still.1)
-    (subst (λ (x : ChangedView). Covers im.recent im.late x) (sym (c.touch-again.ensures.again first.1)) (fit.covered first.0))
+-- what was late is late still, of the words that were touched before
+late_before : (n w i : ℕ) (touched touched' late late' : ChangedView) → touched' ≡ touched → late' ≡ late
+    → AreLate n w i touched late → AreLate n w i touched' late'
+late_before n w i touched touched' late late' t l is = subst (λ (x : ChangedView). AreLate n w i x late') (sym t)
+    (subst (λ (x : ChangedView). AreLate n w i touched x) (sym l) is)
 
 pub fill_version-lends-requires : goal.fill_version-lends-requires
 fill_version-lends-requires g c =
@@ -86,7 +110,8 @@ fill_version-lends-requires g c =
                   (ap (λ (x : Member). length x.work.made) s.ensures.scans.others) (c.know_next-known.ensures.known yes) in
                   let listed : c.touch-again.new.touched.all ≡ false = c.know_next-known.ensures.touched yes in (
                     idle_words row (rows_of memory) (totals_in memory),
-                    touched_images b _ (record im { late = c.know_next-known.new.late }) c.touch-again.new.touched next.images,
+                    touched_images b _ (record im { late = c.know_next-known.new.late }) c.touch-again.new.touched c.touch-again.new.spare
+                        next.images,
                     λ _. (
                       listed,
                       next.direct,
@@ -101,13 +126,23 @@ fill_version-lends-requires g c =
                     idle_words row (rows_of c.args.memory.now) (totals_in c.args.memory.now),
                     subst (λ (x : ChangedView). AreImages b (idle_words row (rows_of c.args.memory.now)
                         (totals_in c.args.memory.now))
-                        (record im { late = x; touched = c.touch-again.new.touched })) (sym
+                        (record im { late = x; touched = c.touch-again.new.touched; spare = c.touch-again.new.spare })) (sym
                         (c.know_next-known.ensures.unknown no))
-                        (touched_images b _ im c.touch-again.new.touched fit.images),
+                        (touched_images b _ im c.touch-again.new.touched c.touch-again.new.spare fit.images),
                     λ yes. absurd (let h = sym yes ∙ no in cc),
                   ));
             },
-            c.covers-covered.ensures,
+            λ yes.
+                let both = and_parts _ _ yes in let same = and_parts _ _ both.1 in
+                let still = c.know_next-known.ensures.still same.1 in let again = c.touch-again.ensures.again same.0 in
+                let cov = fit.joined both.0 in
+                let at : index_of s.new.seat ≡ index_of c.args.seat.now = s.ensures.scans.index in (
+                  still.0,
+                  subst (λ (x : ChangedView). AreJoined im.recent x c.touch-again.new.touched) (sym still.1)
+                      (subst (λ (x : ChangedView). AreJoined im.recent im.late x) (sym again) cov),
+                  late_before n w (index_of s.new.seat) im.touched c.touch-again.new.touched im.late c.know_next-known.new.late
+                      again still.1 (subst (λ (i : ℕ). AreLate n w i im.touched im.late) (sym at) (fit.late cov.listed.1)),
+                ),
           ),
         ),
       ),
@@ -154,25 +189,19 @@ pub turn-requires-clause-touched : goal.turn-requires-clause-touched
 turn-requires-clause-touched g c = subst (AreInside (width g.row.C g.row.H g.row.G)) (sym c.fill_version-lends.ensures.others.2)
     c.touch-again.ensures.inside
 
--- what was late is late still, of the words that were touched before
-late_before : (n w i : ℕ) (touched touched' late late' : ChangedView) → touched' ≡ touched → late' ≡ late
-    → AreLate n w i touched late → AreLate n w i touched' late'
-late_before n w i touched touched' late late' t l is = subst (λ (x : ChangedView). AreLate n w i x late') (sym t)
-    (subst (λ (x : ChangedView). AreLate n w i touched x) (sym l) is)
-
 pub turn-requires-clause-repeats : goal.turn-requires-clause-repeats
 turn-requires-clause-repeats g c = λ yes.
     let n : ℕ = g.row.N in let w : ℕ = width g.row.C g.row.H g.row.G in
     let fit = c.requires.fit in let s = c.scan_for_update-ended in let f = c.fill_version-lends in let im = c.args.images.now in
-    let both = and_parts _ _ yes in let first = and_parts _ _ both.0 in
-    let still = c.know_next-known.ensures.still both.1 in let again = c.touch-again.ensures.again first.1 in
-    let cov = fit.covered first.0 in
+    let both = and_parts _ _ yes in let same = and_parts _ _ both.1 in
+    let still = c.know_next-known.ensures.still same.1 in let again = c.touch-again.ensures.again same.0 in
+    let cov = fit.joined both.0 in
     let late : f.new.images.late ≡ im.late = f.ensures.others.1 ∙ still.1 in
     let touched : f.new.images.touched ≡ im.touched = f.ensures.others.2 ∙ again in
     let at : c.worker-index.result ≡ index_of c.args.seat.now = c.worker-index.ensures.index
     ∙ (c.publish.ensures.index ∙ (f.ensures.fills.index ∙ s.ensures.scans.index)) in (
       still.0,
-      first.1,
+      both.1,
       ap (λ (x : ChangedView). x.all) late ∙ cov.listed.1,
       subst (AreInside (depth n w)) (sym late) fit.images.late_inside,
       late_before n w c.worker-index.result im.touched f.new.images.touched im.late f.new.images.late touched late
@@ -326,24 +355,22 @@ returns-clause-fit g c =
             (omega (arith, e, c.worker-index.ensures.index)) (c.turn.ensures.number listed));
         totals = λ k none has. none (c.turn.ensures.totals listed k
             (subst (λ (x : ChangedView). Contains x.items k) c.turn.ensures.others.1 has));
+        only = λ j none. c.turn.ensures.only listed j (none_before n w _ _ _ _ j (sym c.worker-index.ensures.index)
+            c.turn.ensures.others.1 none);
       };
-      covered = λ yes.
-          let t = c.turn.ensures.covered yes in let cov = f.ensures.covers t.0 in
-          let again = c.touch-again.ensures.again t.1 in
-          let few : c.know_next-known.new.late.all ≡ false = ap (λ (x : ChangedView). x.all) (sym f.ensures.others.1)
-          ∙ cov.listed.1 in
-          let keeps = known_keeps n g.row.C g.row.H g.row.G _ _ memory s.result im.row_known known im.late
-          c.know_next-known.new.late c.know_next-known.ensures.known c.know_next-known.ensures.unknown few in
-          let before : AreLate n w c.worker-index.result im.touched im.late =
-          subst (λ (k : ℕ). AreLate n w k im.touched im.late) (sym own') (fit.late keeps.0) in
+      joined = λ yes.
+          let t = c.turn.ensures.joined yes in let cov = f.ensures.joined t.0 in let same = and_parts _ _ t.1 in
+          let still = c.know_next-known.ensures.still same.1 in let again = c.touch-again.ensures.again same.0 in
+          let late : f.new.images.late ≡ im.late = f.ensures.others.1 ∙ still.1 in
+          let touched : f.new.images.touched ≡ im.touched = f.ensures.others.2 ∙ again in
+          let few : im.late.all ≡ false = ap (λ (x : ChangedView). x.all) (sym late) ∙ cov.listed.1 in
           let are : AreLate n w c.worker-index.result f.new.images.touched f.new.images.late =
-          late_before n w c.worker-index.result im.touched f.new.images.touched c.know_next-known.new.late f.new.images.late
-          (f.ensures.others.2 ∙ again) f.ensures.others.1
-          (late_on n w c.worker-index.result im.touched im.late c.know_next-known.new.late keeps.1 before) in
-          subst (λ (x : ChangedView). Covers c.turn.new.images.recent c.turn.new.images.late x) (sym c.turn.ensures.others.1)
-          (subst (λ (x : ChangedView). Covers x c.turn.new.images.late f.new.images.touched) (sym c.turn.ensures.others.0)
-          (covers_on n w c.worker-index.result f.new.images.recent f.new.images.late c.turn.new.images.late
-          f.new.images.touched cov are t.2));
+          late_before n w c.worker-index.result im.touched f.new.images.touched im.late f.new.images.late touched late
+          (subst (λ (k : ℕ). AreLate n w k im.touched im.late) (sym own') (fit.late few)) in
+          subst (λ (x : ChangedView). AreJoined c.turn.new.images.recent c.turn.new.images.late x) (sym c.turn.ensures.others.1)
+          (subst (λ (x : ChangedView). AreJoined x c.turn.new.images.late f.new.images.touched) (sym c.turn.ensures.others.0)
+          (joined_on n w c.worker-index.result f.new.images.recent f.new.images.late c.turn.new.images.late
+          f.new.images.touched cov are t.2 c.turn.ensures.number c.turn.ensures.totals c.turn.ensures.only));
     }
 
 met : (n w : ℕ) (a b : ScanLog) (lends : Bool) → (lends ≡ true → ScanCameTo n w a b true) → (lends ≡ false

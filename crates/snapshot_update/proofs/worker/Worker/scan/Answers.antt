@@ -18,7 +18,7 @@ invariant_of-self g c =
     let row : List ℕ = w.row.value in let im = w.images in let im' : BufferImages = record im {
       late = c.note_all.new.self;
       row_known = false;
-      covered = false;
+      joined = false;
     } in
     let m : Member = worker_of seat in let scan : ScanLog = (worker_of s.seat).scan in
     let old = w.holds seat c.in-Some.is in
