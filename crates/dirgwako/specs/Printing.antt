@@ -36,11 +36,15 @@ module _ {S : Type 0} (gave : S → S → Result Scraped NoScrape → Type 0) (b
   IsTextFault NoMemory = AsksAgain gave 3 before after (Err none.NoMemory)
       ⊎ ((scrape : Scraped) × AsksAgain gave 3 before after (Ok scrape))
 
--- the journal replays to what the registry holds; the scrapes that it keeps are at most the window, the last of what
--- its reader recorded, and moments of one history of publishes, in order; and these bytes are the text of its
--- families at the newest of them
+module _ {N C H G : ℕ} where
+  -- the journal replays to what the registry holds; the scrapes that it keeps are at most the window, the last of what
+  -- its reader recorded, and moments of one history of publishes, in order
+  abbrev pub IsRegistryKept : RegistryView (Scanner N C H G) → Type 0
+  IsRegistryKept registry = IsKept N C H G (recorded_in registry.source) registry.journal registry.window registry.state
+
+-- all of that; and these bytes are the text of the registry's families at the newest scrape that it keeps
 pub record IsLastText {N C H G : ℕ} (bytes : List ℕ) (registry : RegistryView (Scanner N C H G)) : Type 0 where
-  pub kept : IsKept N C H G (recorded_in registry.source) registry.journal registry.window registry.state
+  pub kept : IsRegistryKept registry
   pub answer : Answer
   pub newest : registry.state.last ≡ Some answer
   pub scrape : Scraped

@@ -1,7 +1,6 @@
 //! A registry at its end.
-ghost use Rattle.std.specs.Prelude.{IfOk};
-ghost use Rattle.dirgwako.specs.Printing.{IsLastText};
-ghost use Rattle.dirgwako.specs.Printing.{IsText};
+ghost use Rattle.std.specs.Prelude.{IfOk, IfErr};
+ghost use Rattle.dirgwako.specs.Printing.{IsText, IsTextFault, IsLastText, IsRegistryKept};
 
 use crate::printing::{PrintFault, TextFault, print_text, text_from};
 use expo_text::Scrape;
@@ -30,14 +29,18 @@ impl<X: MakesScrapes> ScrapeFrom for Owned<X> {
 ///
 /// # Errors
 ///
-/// 6 [`TextFault::NoMemory`]; 14 [`TextFault::Contended`]. The registry is gone then.
-pub fn text_of<X: MakesScrapes + Drop>(state: X) -> Result<(Vec<u8>, X), TextFault>
-    ensures { IfOk result (λ made. IsText X.made state made.1 made.0.items) }
+/// 6 [`TextFault::NoMemory`]; 14 [`TextFault::Contended`]. The registry comes back with either, and can be asked again.
+pub fn text_of<X: MakesScrapes + Drop>(state: X) -> Result<(Vec<u8>, X), (TextFault, X)>
+    ensures text { IfOk result (λ made. IsText X.made state made.1 made.0.items) }
+    ensures fault { IfErr result (λ refused. IsTextFault X.made state refused.1 refused.0) }
 {
     let mut owned = Owned { state };
-    let text = text_from(&mut owned)?;
+    let made = text_from(&mut owned);
     let Owned { state } = owned;
-    Ok((text, state))
+    match made {
+        Ok(text) => Ok((text, state)),
+        Err(fault) => Err((fault, state)),
+    }
 }
 
 /// [`text_of`] a registry that no thread shares any more: the text of a last scrape, and what stood behind the lock, its journal, the
@@ -45,19 +48,31 @@ pub fn text_of<X: MakesScrapes + Drop>(state: X) -> Result<(Vec<u8>, X), TextFau
 ///
 /// # Errors
 ///
-/// 6 [`TextFault::NoMemory`]; 14 [`TextFault::Contended`], while recorders still count. The registry is gone then.
+/// 6 [`TextFault::NoMemory`]; 14 [`TextFault::Contended`], while recorders still count. What stood behind the lock comes with either, to be
+/// asked again by [`text_of`].
 pub fn last_text<'a, const N: usize, const C: usize, const H: usize, const G: usize>(
     registry: Registry<'a, N, C, H, G>,
-) -> Result<(Vec<u8>, RegistryState<Scanner<'a, N, C, H, G>, N, C, H, G>), TextFault>
-    ensures { IfOk result (λ last. IsLastText last.0.items last.1) }
+) -> Result<
+    (Vec<u8>, RegistryState<Scanner<'a, N, C, H, G>, N, C, H, G>),
+    (
+        TextFault,
+        RegistryState<Scanner<'a, N, C, H, G>, N, C, H, G>,
+    ),
+>
+    ensures text { IfOk result (λ last. IsLastText last.0.items last.1) }
+    ensures kept { IfErr result (λ refused. IsRegistryKept refused.1) }
 {
-    match text_of(registry.into_state()) {
+    let made = text_of(registry.into_state());
+    // A look into the journal tells the proof what is kept.
+    match made {
         Ok((text, state)) => {
-            // A look into the journal tells the proof what is kept.
             let _ = state.journal();
             Ok((text, state))
         }
-        Err(fault) => Err(fault),
+        Err((fault, state)) => {
+            let _ = state.journal();
+            Err((fault, state))
+        }
     }
 }
 
@@ -72,6 +87,6 @@ pub fn print_last<R: Print, const N: usize, const C: usize, const H: usize, cons
 ) -> Result<(), PrintFault> {
     match last_text(registry) {
         Ok((text, _state)) => print_text(rt, &text),
-        Err(fault) => Err(PrintFault::Text(fault)),
+        Err((fault, _state)) => Err(PrintFault::Text(fault)),
     }
 }
