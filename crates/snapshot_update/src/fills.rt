@@ -121,8 +121,8 @@ fn fill_pair<const N: usize, const C: usize, const H: usize, const G: usize>(
     ensures kept { (j : ℕ) → slice_index hidden.old j ≡ slice_index (target_of version.now) j
         → slice_index hidden.new j ≡ slice_index (target_of version.now) j }
 {
-    let (raised, total) = (version.row_word(word), version.total_of(word));
-    fill_item(board, seat, start, hidden, word, raised);
+    let (value, total) = (version.row_word(word), version.total_of(word));
+    fill_item(board, seat, start, hidden, word, value);
     fill_item(board, seat, start, hidden, totals_at + word, total);
 }
 
@@ -179,15 +179,9 @@ pub(crate) fn fill_again<const N: usize, const C: usize, const H: usize, const G
 {
     let start = board.hidden_start(seat);
     let worker = seat.worker();
-    let number = item_at(N, C, H, G, Item::Vector { worker });
-    fill_item(
-        board,
-        seat,
-        start,
-        hidden,
-        number,
-        version.number_of(worker),
-    );
+    let number_item = item_at(N, C, H, G, Item::Vector { worker });
+    let number = version.number_of(worker);
+    fill_item(board, seat, start, hidden, number_item, number);
     fill_touched(board, seat, start, hidden, touched, version);
 }
 

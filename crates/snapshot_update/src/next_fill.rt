@@ -1,5 +1,5 @@
-//! Filling the hidden buffer with the version that is published next, by the cheapest way that is known to be enough (`fills.rt`), and
-//! listing where it then differs from the shown one.
+//! Filling the hidden buffer with the version that is published next, where the update does not repeat the one before it: by lists where they
+//! are known to be enough, else whole (`fills.rt`). Where it then differs from the shown one is listed.
 ghost use Rattle.std.specs.Prelude.{◌≡◌, ◌<◌, true, false};
 ghost use Rattle.ledger_core.specs.Ops.{width};
 ghost use Rattle.segment_layout.specs.Layout.{depth};

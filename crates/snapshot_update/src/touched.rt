@@ -63,7 +63,7 @@ pub(crate) fn touch<const C: usize, const H: usize, const G: usize>(
     false
 }
 
-/// As [`touch`], of operations that are not one. Where they are not seen at once to add to the listed words they are listed in `spare`, and
+/// As [`touch`], of a list of none, or of two or more. Where they are not seen at once to add to the listed words they are listed in `spare`, and
 /// where that list is another, the two change places.
 #[inline(never)]
 fn touch_list<const C: usize, const H: usize, const G: usize>(
@@ -78,12 +78,12 @@ fn touch_list<const C: usize, const H: usize, const G: usize>(
     ensures few { length ops.now ≤ 85 → touched.new.all ≡ false }
     ensures again { result ≡ true → touched.new ≡ touched.old }
 {
-    let whole = !touched.is_all();
-    if whole && are_single::<C, H, G>(ops, touched.as_slice()) {
+    let listed = !touched.is_all();
+    if listed && are_single::<C, H, G>(ops, touched.as_slice()) {
         return true;
     }
     touch_all::<C, H, G>(ops, spare);
-    if whole & !spare.is_all() && touched.as_slice() == spare.as_slice() {
+    if listed & !spare.is_all() && touched.as_slice() == spare.as_slice() {
         return true;
     }
     swap(touched, spare);

@@ -20,7 +20,7 @@
 //! | `again` | the touched words are those of the update before | `touch` |
 //! | `known` | the late and the touched items are all at which the next version differs from the shown buffer | `know_next` |
 //! | `still` | so, and nothing more is late than was | `know_next` |
-//! | `same` | `again` and `still`: neither list says more than it did | `update` |
+//! | `same` | `again` and `still`: neither `touched` nor `late` has changed | `update` |
 //! | `repeats` | `same` and `joined`: the update repeats the one before it, and nothing has to be listed anew | `update` |
 ghost use Rattle.std.specs.Prelude.{◌≡◌, ℕ, ◌+◌, ◌<◌, true, false, cond, length, slice_index, slice_set, Contains, OnOk, OnErr};
 ghost use Rattle.std.specs.Prelude.{IfErr};
@@ -125,7 +125,6 @@ fn fill_version<const N: usize, const C: usize, const H: usize, const G: usize>(
 {
     if repeats {
         fill_version_again(board, seat, row, memory, images, ended);
-        images.joined = true;
         return true;
     }
     let (vector, totals) = memory.answer(ended);
@@ -149,7 +148,7 @@ fn fill_version<const N: usize, const C: usize, const H: usize, const G: usize>(
 
 /// After the publish the buffers have changed their roles: exchanges their images, and lists anew where the shown one differs from what
 /// an update of nothing would publish now (`late`): anywhere, where it is not `known`, as `know_next` answered. Where the two differ from
-/// each other (`recent`) stays as it is. `same` says that the touched words are those of the update before, and that what was late before it is
+/// each other (`recent`) stays as it is. `same` says that the touched words are those of the update before, and that its scan made nothing more
 /// late; where the update `repeats` that one in all, what is late is listed already.
 #[inline(always)]
 fn turn<const N: usize, const C: usize, const H: usize, const G: usize>(
@@ -182,7 +181,7 @@ fn turn<const N: usize, const C: usize, const H: usize, const G: usize>(
     let number = item_at(N, C, H, G, Item::Vector { worker: index });
     let totals_at = item_at(N, C, H, G, Item::Flag) + 1 + N;
     list_late(&mut images.late, &images.touched, number, totals_at, known);
-    // Where both lists say what they did, the same items are late now as before, so that just they and the touched ones are recent.
+    // Where `late` and `touched` were what they are, the same items are late now as before, so that just they and the touched ones are recent.
     images.joined = images.joined & same & !images.late.is_all();
 }
 

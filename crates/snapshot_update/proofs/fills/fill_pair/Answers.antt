@@ -1,9 +1,8 @@
-use Rattle.std.proofs.Common.{rules, ◌≡◌, ◌≢◌, ◌<◌, ◌+◌, ◌*◌, ℕ, List, length, set, get_or, sym, ap, ◌∙◌, subst, arith}
+use Rattle.std.proofs.Common.{rules, ◌≡◌, ◌≢◌, ◌+◌, ℕ, List, length, get_or, sym, ap, ◌∙◌, subst, arith}
 use Rattle.std.proofs.Common.{get_or-set_same, get_or-set_other}
 use Rattle.ledger_core.specs.Ops.{width}
-use Rattle.segment_layout.specs.Layout.{depth}
 use Rattle.snapshot_update.specs.BufferImages.{target_of}
-use Rattle.snapshot_update.proofs.Filling.{kept_set, filled_on, start_stays}
+use Rattle.snapshot_update.proofs.Filling.{kept_set, start_stays}
 use Rattle.snapshot_update.proofs.fills.fill_pair.Goals as goal
 
 pub fill_item-requires : goal.fill_item-requires
@@ -15,7 +14,7 @@ fill_item-requires g c = (
       c.requires.start,
       (
         (let lt = c.requires.inside.0 in let e = c.requires.lengths.0 in omega (arith, lt, e), c.requires.lengths.0),
-        λ _. c.row_word-raised.ensures.bounded,
+        λ _. c.row_word-value.ensures.bounded,
       ),
     ),
   ),
@@ -48,7 +47,7 @@ returns-clause-row g c =
     ap (λ (l : List ℕ). get_or l word 0) c.fill_item-2.ensures.hidden
     ∙ (get_or-set_other c.fill_item.new.hidden item word c.total_of-total.result 0 other
     ∙ (ap (λ (l : List ℕ). get_or l word 0) c.fill_item.ensures.hidden
-    ∙ (get_or-set_same h word c.row_word-raised.result 0 (omega (arith, lt, e)) ∙ c.row_word-raised.ensures.word)))
+    ∙ (get_or-set_same h word c.row_word-value.result 0 (omega (arith, lt, e)) ∙ c.row_word-value.ensures.word)))
 
 -- the version's total of the word
 total_there : goal.returns-clause-total
@@ -78,4 +77,4 @@ returns-clause-kept g c = λ j same.
     ∙ kept_set c.fill_item.new.hidden target item c.total_of-total.result j (omega (arith, lt, at, e, d))
     (c.total_of-total.ensures ∙ ap (λ (k : ℕ). get_or target k 0) place)
     (ap (λ (l : List ℕ). get_or l j 0) c.fill_item.ensures.hidden
-    ∙ kept_set c.args.hidden.now target word c.row_word-raised.result j (omega (arith, lt, e)) c.row_word-raised.ensures.word same)
+    ∙ kept_set c.args.hidden.now target word c.row_word-value.result j (omega (arith, lt, e)) c.row_word-value.ensures.word same)

@@ -1,8 +1,7 @@
-use Rattle.std.proofs.Common.{◌≡◌, ⊎_elim, ◌+◌, ◌<◌, ℕ, false, List, [], Contains, ◌∙◌, subst, arith}
+use Rattle.std.proofs.Common.{◌≡◌, ⊎_elim, ◌+◌, ◌<◌, ℕ, false, List, [], Contains, subst, arith}
 use Rattle.ledger_core.specs.Ops.{width}
 use Rattle.segment_layout.specs.Layout.{depth}
 use Rattle.snapshot_scan.specs.ChangedItems.{ChangedView, NotesEach}
-use Rattle.snapshot_update.specs.BufferImages.{target_of}
 use Rattle.snapshot_scan.proofs.Noted.{none_listed}
 use Rattle.snapshot_update.proofs.next_fill.fill_next.Goals as goal
 

@@ -10,9 +10,9 @@ returns-then-are_single-clause-inside g c = λ j has. c.are_single.ensures.insid
 
 pub returns-then-eq-clause-inside : goal.returns-then-eq-clause-inside
 returns-then-eq-clause-inside g c = λ j has.
-    let a = c.as_slice-then-whole-is_all.ensures.listed in let b = c.as_slice-then-whole-is_all-2.ensures.listed in
-    let same : c.as_slice-then-whole-is_all.result.now ≡ c.as_slice-then-whole-is_all-2.result.now =
-    (slice_eq-Decides Decides-eqb c.as_slice-then-whole-is_all.result.now c.as_slice-then-whole-is_all-2.result.now c.eq.result
+    let a = c.as_slice-then-listed-is_all.ensures.listed in let b = c.as_slice-then-listed-is_all-2.ensures.listed in
+    let same : c.as_slice-then-listed-is_all.result.now ≡ c.as_slice-then-listed-is_all-2.result.now =
+    (slice_eq-Decides Decides-eqb c.as_slice-then-listed-is_all.result.now c.as_slice-then-listed-is_all-2.result.now c.eq.result
     c.eq.ensures).0 c.if-eq.true in
     c.touch_all.ensures.inside j (subst (λ (l : List ℕ). Contains l j) (sym a ∙ (same ∙ b)) has)
 

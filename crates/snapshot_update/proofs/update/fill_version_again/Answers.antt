@@ -1,9 +1,9 @@
-use Rattle.std.proofs.Common.{◌≡◌, ◌<◌, ◌+◌, ◌*◌, ℕ, List, ◌++◌, Contains, length, take, drop, slice_index, sym, refl, ap, ◌∙◌, subst, arith}
+use Rattle.std.proofs.Common.{◌≡◌, ◌<◌, ℕ, List, ◌++◌, length, take, drop, slice_index, sym, refl, ap, ◌∙◌, subst, arith}
 use Rattle.std.proofs.Common.{rules}
 use Rattle.ledger_core.specs.Ops.{width}
 use Rattle.segment_layout.specs.Layout.{depth}
 use Rattle.snapshot_scan.specs.ScanMemories.{answer_of}
-use Rattle.snapshot_update.specs.BufferImages.{DifferAt, version_words, target_of}
+use Rattle.snapshot_update.specs.BufferImages.{version_words, target_of}
 use Rattle.snapshot_update.specs.Conditions.{HasFilled}
 use Rattle.snapshot_scan.proofs.Words.{over}
 use Rattle.snapshot_update.proofs.update.fill_version_again.Goals as goal
