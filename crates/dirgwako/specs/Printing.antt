@@ -30,21 +30,17 @@ module _ {S : Type 0} (gave : S → S → Result Scraped NoScrape → Type 0) (b
   abbrev pub IsText : List ℕ → Type 0
   IsText bytes = (scrape : Scraped) × AsksAgain gave 3 before after (Ok scrape) × (bytes ≡ text scrape)
 
-  -- the source has no scrape, or there is no memory for the text of the one that it gave
+  -- the source has no scrape, or gave one of which there is no text
   abbrev pub IsTextFault : TextFault → Type 0
   IsTextFault Contended = AsksAgain gave 3 before after (Err none.Contended)
   IsTextFault NoMemory = AsksAgain gave 3 before after (Err none.NoMemory)
       ⊎ ((scrape : Scraped) × AsksAgain gave 3 before after (Ok scrape))
 
-module _ {N C H G : ℕ} where
-  -- the journal replays to what the registry holds; the scrapes that it keeps are at most the window, the last of what
-  -- its reader recorded, and moments of one history of publishes, in order
-  abbrev pub IsRegistryKept : RegistryView (Scanner N C H G) → Type 0
-  IsRegistryKept registry = IsKept N C H G (recorded_in registry.source) registry.journal registry.window registry.state
-
--- all of that; and these bytes are the text of the registry's families at the newest scrape that it keeps
+-- the journal replays to what the registry holds; the scrapes that it keeps are at most the window, the last of what
+-- its reader recorded, and moments of one history of publishes, in order; and these bytes are the text of its
+-- families at the newest of them
 pub record IsLastText {N C H G : ℕ} (bytes : List ℕ) (registry : RegistryView (Scanner N C H G)) : Type 0 where
-  pub kept : IsRegistryKept registry
+  pub kept : IsKept N C H G (recorded_in registry.source) registry.journal registry.window registry.state
   pub answer : Answer
   pub newest : registry.state.last ≡ Some answer
   pub scrape : Scraped

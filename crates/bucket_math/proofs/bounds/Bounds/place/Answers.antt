@@ -1,4 +1,4 @@
-use Rattle.std.proofs.Common.{◌≡◌, ◌<◌, ◌≤◌, ℕ, List, length, get_or, sym, subst, arith}
+use Rattle.std.proofs.Common.{◌≡◌, ◌<◌, ◌≤◌, ◌↔◌, ℕ, List, length, get_or, slice_index, sym, ap, ◌∙◌, subst, arith}
 use Rattle.bucket_math.specs.Bounds.{AreBounds, place_of}
 use Rattle.bucket_math.proofs.Places.{inclusive, place_is}
 use Rattle.bucket_math.proofs.Cumulation.{law}
