@@ -81,7 +81,7 @@ def measure(programs, seconds, turns, has_wrk):
     programs = dict(programs)
     if RUST in programs:
         programs[BARE] = programs[RUST]
-    rates, errors, memory, texts = Found(), {}, {}, {}
+    rates, errors, memory, texts = Found(max), {}, {}, {}
     for size in SIZES:
         servers = {}
         try:

@@ -77,10 +77,10 @@ def compare(how):
     if table.cores() < 4:
         print(f"this machine has {table.cores()} cores: lines of four threads, and of requests, are no figures to tell", flush=True)
     started = programs.build_all(how.bench, lacks)
-    scrapes, rounds, turns, seconds = (500, 20_000, 1, 1) if how.quick else (5_000, 1_000_000, 3, 2)
+    scrapes, rounds, turns, loaded_turns = (500, 20_000, 1, 1) if how.quick else (5_000, 500_000, 8, 5)
     found = torn_scrapes(started, scrapes)
     measured = speeds.measure(started, rounds, turns)
-    loaded = loads.measure(started, seconds, min(turns, 2), "requests a second" not in lacks)
+    loaded = loads.measure(started, 1, loaded_turns, "requests a second" not in lacks)
     page = programs.OUT / "results.md" if how.quick else programs.HERE / "results.md"
     page.write_text(table.page(load, found, measured, loaded, how.quick))
     written = [page]

@@ -1,4 +1,5 @@
 """The nanoseconds of updates and of scrapes with their texts, of each program by turns."""
+import statistics
 from dataclasses import dataclass, field
 
 from programs import BARE, OURS, PEER_PYTHON
@@ -18,22 +19,31 @@ TALLY = f"{OURS}, in a tally"
 
 
 @dataclass
-class Range:
-    """The least and the most of the same measurement in several turns."""
+class Turns:
+    """What the same measurement gave in several turns. The best is the least of times, and the most of rates: what comes nearest to a
+    machine that nobody else uses."""
+    best_of: object = min
     all: list = field(default_factory=list)
 
     def add(self, value):
         self.all.append(value)
 
-    def ends(self):
-        return min(self.all), max(self.all)
+    def best(self):
+        return self.best_of(self.all)
+
+    def median(self):
+        return statistics.median(self.all)
 
 
 class Found(dict):
-    """A range for each key."""
+    """The turns of each key."""
+
+    def __init__(self, best_of=min):
+        super().__init__()
+        self.best_of = best_of
 
     def __missing__(self, key):
-        self[key] = Range()
+        self[key] = Turns(self.best_of)
         return self[key]
 
 
@@ -70,7 +80,7 @@ def peer(name, words, rounds, updates, gathers):
 
 
 def measure(programs, rounds, turns):
-    """The ranges of updates, of gathers, and of all lines of our program."""
+    """The turns of updates, of gathers, and of all lines of our program."""
     updates, gathers, lines = Found(), Found(), Found()
     for turn in range(turns):
         print(f"updates and scrapes, turn {turn + 1} of {turns}", flush=True)

@@ -3,7 +3,6 @@ import datetime
 import os
 import pathlib
 import platform
-import statistics
 import time
 
 from loads import CONNECTIONS
@@ -32,18 +31,18 @@ def short(number):
 
 
 def told(found, unit=1):
-    """A range, as `A to B`, or as `A` where both are spelled alike; a dash where nothing was measured."""
+    """The best and the median of all turns, as `A (B)`, or as `A` where both are spelled alike; a dash where nothing was measured."""
     if not found.all:
         return "-"
-    low, high = (short(it / unit) for it in found.ends())
-    return low if low == high else f"{low} to {high}"
+    best, median = (short(it / unit) for it in (found.best(), found.median()))
+    return best if best == median else f"{best} ({median})"
 
 
 def ratio(one, other):
-    """How many times the median of one is that of another."""
+    """How many times the best of one is that of another."""
     if not one.all or not other.all:
         return "-"
-    times = statistics.median(one.all) / statistics.median(other.all)
+    times = one.best() / other.best()
     return f"{times:.2f}" if times < 10 else f"{times:.0f}"
 
 
@@ -75,7 +74,8 @@ def machine(load, is_quick):
         "# One run of the comparison",
         "",
         "`python3 compare/run.py` makes this page, and the pictures [torn.svg](../docs/torn.svg) and [difference.svg](../docs/difference.svg).",
-        "What each line measures is told in [README.md](README.md). Two numbers, as `A to B`, are the least and the most of the turns of this run.",
+        "What each line measures is told in [README.md](README.md). Two numbers, as `A (B)`, are the best and the median of the turns of this",
+        "run. The best, the least of times and the most of rates, is what comes nearest to a machine that nobody else uses, and what ratios are of.",
         "",
         f"{datetime.date.today()}: {processor()}, {cores()} cores, {platform.system()} {platform.release()}; {load:.0%} of them busy in the two seconds before the run.",
     ]

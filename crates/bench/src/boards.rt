@@ -14,12 +14,15 @@ use std::time::Clock;
 /// A measurement by a worker: its name, what the worker makes, and how many words its floor stores.
 type Row = (&'static str, Does, usize);
 
+/// How many operations a list has, where there are as many counters: else it has one of each.
+const LISTED: usize = 100;
+
 /// A worker with its board, which publishes the same list again and again.
 #[derive(Drop)]
 struct Listing<'a, const N: usize, const C: usize, const H: usize, const G: usize> {
     board: &'a Board<N, C, H, G>,
     worker: Worker<N, C, H, G>,
-    ops: [Op; 100],
+    ops: [Op; LISTED],
     ghost of_board: { IsWorkerOf board.now worker } by { Prim.hlevel props },
 }
 
@@ -28,7 +31,7 @@ impl<'a, const N: usize, const C: usize, const H: usize, const G: usize> Listing
     fn new(board: &'a Board<N, C, H, G>, worker: Worker<N, C, H, G>) -> Listing<'a, N, C, H, G>
         requires { IsWorkerOf board.now worker }
     {
-        let ops = list(C);
+        let ops = list();
         Listing { board, worker, ops }
     }
 }
@@ -37,7 +40,8 @@ impl<const N: usize, const C: usize, const H: usize, const G: usize> Work
     for Listing<'_, N, C, H, G> {
     fn repeat(&mut self, rounds: u64) -> Option<()> {
         for _round in 0..rounds {
-            self.worker.apply(self.board, &self.ops).ok()?;
+            let ops = self.ops.get(..C.min(LISTED))?;
+            self.worker.apply(self.board, ops).ok()?;
         }
         Some(())
     }
@@ -60,12 +64,11 @@ impl<S: Source<N, C, H, G>, const N: usize, const C: usize, const H: usize, cons
     }
 }
 
-/// The list of 100 increments by 1 of so many counters in turn.
-fn list(counters: usize) -> [Op; 100] {
-    let mut ops = [Op::Inc { counter: 0, by: 1 }; 100];
-    for place in 0..100 {
-        let (counter, by) = (place % counters.max(1), 1);
-        ops[place] = Op::Inc { counter, by };
+/// An increment by 1 of each of so many counters.
+fn list() -> [Op; LISTED] {
+    let mut ops = [Op::Inc { counter: 0, by: 1 }; LISTED];
+    for counter in 0..LISTED {
+        ops[counter] = Op::Inc { counter, by: 1 };
     }
     ops
 }
@@ -145,7 +148,7 @@ impl<R: ServiceRuntime> Lines<'_, R> {
         self.line(name, rounds, taken, floor)
     }
 
-    /// Lists of 100 increments by the last worker of a board, of which a word and a total of each counter differ.
+    /// Lists of an increment of each of so many counters by the last worker of a board: of each a word and its total differ.
     fn listed<const N: usize, const C: usize, const H: usize, const G: usize>(
         &self,
         board: &Board<N, C, H, G>,
@@ -153,12 +156,12 @@ impl<R: ServiceRuntime> Lines<'_, R> {
     ) -> Result<()>
         requires { All (IsWorkerOf board.now) workers.old.items }
     {
-        let words = 2 * C.min(100) + 1;
+        let words = 2 * C.min(LISTED) + 1;
         let Some(worker) = workers.pop() else {
             bail!("no worker")
         };
         let mut listing = Listing::new(board, worker);
-        self.beside("apply_100", 100, Steps::Update, N, words, &mut listing)
+        self.beside("apply_list", 100, Steps::Update, N, words, &mut listing)
     }
 
     /// The same of a new board.

@@ -8,8 +8,8 @@ use std::fmt::{Display, Formatter, Write};
 use std::sync::atomic::{AtomicU64, Ordering};
 use std::time::{Clock, Instant};
 
-/// No measurement takes more nanoseconds: 31 years.
-const LONGEST: u64 = 1_000_000_000_000_000_000;
+/// No measurement takes more nanoseconds: three years.
+const LONGEST: u64 = 100_000_000_000_000_000;
 
 /// What is made again and again: an operation, or a floor.
 pub trait Work {
@@ -35,23 +35,23 @@ pub fn timed(clock: &impl Clock, rounds: u64, work: &mut impl Work) -> Result<u6
     nanos_since(clock, start)
 }
 
-/// A number in tenths. It is printed with one decimal.
+/// A number in hundredths. It is printed with two decimals.
 #[derive(Clone, Copy)]
-struct Tenths(u64);
+struct Hundredths(u64);
 
-impl Display for Tenths {
+impl Display for Hundredths {
     fn fmt<W: Write>(&self, f: &mut Formatter<W>) -> fmt::Result {
-        write!(f, "{}.{}", self.0 / 10, self.0 % 10)
+        write!(f, "{}.{}{}", self.0 / 100, self.0 / 10 % 10, self.0 % 10)
     }
 }
 
-/// The amount for each of `parts`, in tenths, of which the nearest is taken. Both count as 10^18 where they are more.
-fn in_tenths(amount: u64, parts: u64) -> Tenths
-    ensures { result.0 ≡ (min amount 1000000000000000000 * 10 + max (min parts 1000000000000000000) 1 / 2) / max
-        (min parts 1000000000000000000) 1 }
+/// The amount for each of `parts`, in hundredths, of which the nearest is taken. Both count as 10^17 where they are more.
+fn in_hundredths(amount: u64, parts: u64) -> Hundredths
+    ensures { result.0 ≡ (min amount 100000000000000000 * 100 + max (min parts 100000000000000000) 1 / 2) / max
+        (min parts 100000000000000000) 1 }
 {
     let parts = parts.min(LONGEST).max(1);
-    Tenths((amount.min(LONGEST) * 10 + parts / 2) / parts)
+    Hundredths((amount.min(LONGEST) * 100 + parts / 2) / parts)
 }
 
 /// What measures the operations of one board or text.
@@ -102,7 +102,8 @@ impl<'a, R: ServiceRuntime> Lines<'a, R> {
         if self.rounds == 0 {
             return Ok(());
         }
-        let (of, each, ratio) = (self.of, in_tenths(taken, rounds), in_tenths(taken, least));
+        let (of, each) = (self.of, in_hundredths(taken, rounds));
+        let ratio = in_hundredths(taken, least);
         println!(self.rt; "{name} {of} {each} {ratio}")?;
         Ok(())
     }
