@@ -7,7 +7,7 @@ import time
 
 from loads import CONNECTIONS
 from programs import BARE, GO, OURS, PEER_PYTHON, RUST, missing, versions
-from speeds import SIZES, TALLY, UPDATES
+from speeds import SIZES, TALLY, UPDATES, Turns
 
 PEERS = (RUST, GO, PEER_PYTHON)
 APART, TOGETHER = f"{OURS}, each change a version", f"{OURS}, a round one version"
@@ -38,11 +38,11 @@ def told(found, unit=1):
     return best if best == median else f"{best} ({median})"
 
 
-def ratio(one, other):
-    """How many times the best of one is that of another."""
+def ratio(one, other, of=Turns.best):
+    """How many times the best of one is that of another, or the median."""
     if not one.all or not other.all:
         return "-"
-    times = one.best() / other.best()
+    times = of(one) / of(other)
     return f"{times:.2f}" if times < 10 else f"{times:.0f}"
 
 
@@ -75,7 +75,8 @@ def machine(load, is_quick):
         "",
         "`python3 compare/run.py` makes this page, and the pictures [torn.svg](../docs/torn.svg) and [difference.svg](../docs/difference.svg).",
         "What each line measures is told in [README.md](README.md). Two numbers, as `A (B)`, are the best and the median of the turns of this",
-        "run. The best, the least of times and the most of rates, is what comes nearest to a machine that nobody else uses, and what ratios are of.",
+        "run. The best, the least of times and the most of rates, is what comes nearest to a machine that nobody else uses, and what ratios are of;",
+        "but of four threads they are of the median: where a busy machine runs threads one behind the other, they do not meet.",
         "",
         f"{datetime.date.today()}: {processor()}, {cores()} cores, {platform.system()} {platform.release()}; {load:.0%} of them busy in the two seconds before the run.",
     ]
@@ -109,7 +110,8 @@ def update_lines(updates):
     for what, name, _ours in UPDATES:
         for threads in (1, 4):
             one = {who: updates[who, name, threads] for who in (OURS, TALLY, *PEERS)}
-            ratios = (ratio(one[who], one[RUST]) for who in (OURS, TALLY))
+            of = Turns.best if threads == 1 else Turns.median
+            ratios = (ratio(one[who], one[RUST], of) for who in (OURS, TALLY))
             lines.append(row(what, threads, *(told(it) for it in one.values()), *ratios))
     return lines + [""]
 

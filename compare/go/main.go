@@ -88,10 +88,11 @@ func text(registry *prometheus.Registry) []byte {
 	return out.Bytes()
 }
 
-// Prints the nanoseconds of a scrape with its text: the fastest of ten batches.
+// Prints the nanoseconds of a scrape with its text: the fastest of a hundred batches of a tenth of the rounds.
 func gather(it service, rounds int) {
 	registry, least := it.registry(), time.Duration(1<<62)
-	for batch := 0; batch < 10; batch++ {
+	rounds = rounds/10 + 1
+	for batch := 0; batch < 100; batch++ {
 		start := time.Now()
 		for round := 0; round < rounds; round++ {
 			text(registry)

@@ -29,11 +29,12 @@ func each(threads, rounds int, operation func()) float64 {
 	return float64(time.Since(start).Nanoseconds()) / float64(rounds)
 }
 
-// Prints the nanoseconds of an operation: by one thread, the fastest of ten batches, and by four at once.
+// Prints the nanoseconds of an operation: by one thread, the fastest of a hundred batches of a tenth of the rounds, and by
+// four at once.
 func line(name string, rounds int, operation func()) {
-	least := each(1, rounds, operation)
-	for batch := 1; batch < 10; batch++ {
-		if taken := each(1, rounds, operation); taken < least {
+	least := each(1, rounds/10+1, operation)
+	for batch := 1; batch < 100; batch++ {
+		if taken := each(1, rounds/10+1, operation); taken < least {
 			least = taken
 		}
 	}

@@ -38,9 +38,9 @@ def service(counters, histograms, bounds):
 
 
 def gather(registry, rounds):
-    """Prints the nanoseconds of a scrape with its text: the fastest of ten batches."""
-    least = float("inf")
-    for _batch in range(10):
+    """Prints the nanoseconds of a scrape with its text: the fastest of a hundred batches of a tenth of the rounds."""
+    least, rounds = float("inf"), rounds // 10 + 1
+    for _batch in range(100):
         start = time.perf_counter_ns()
         for _round in range(rounds):
             generate_latest(registry)
@@ -90,18 +90,20 @@ def each(threads, rounds, operation):
         for _round in range(rounds):
             operation()
 
-    all_threads = [threading.Thread(target=often) for _thread in range(threads)]
+    # The last of them is this one.
+    all_threads = [threading.Thread(target=often) for _thread in range(threads - 1)]
     start = time.perf_counter_ns()
     for thread in all_threads:
         thread.start()
+    often()
     for thread in all_threads:
         thread.join()
     return (time.perf_counter_ns() - start) / rounds
 
 
 def line(name, rounds, operation):
-    """Prints the nanoseconds of an operation: by one thread, the fastest of ten batches, and by four at once."""
-    print(f"{name} 1 {min(each(1, rounds, operation) for _batch in range(10)):.1f}")
+    """Prints the nanoseconds of an operation: by one thread, the fastest of a hundred batches of a tenth of the rounds, and by four at once."""
+    print(f"{name} 1 {min(each(1, rounds // 10 + 1, operation) for _batch in range(100)):.1f}")
     print(f"{name} 4 {each(4, rounds, operation):.1f}")
 
 

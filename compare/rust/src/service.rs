@@ -86,11 +86,11 @@ pub fn text(registry: &Registry) -> String {
     String::from_utf8(text).expect("a text of UTF-8")
 }
 
-/// Prints the nanoseconds of a scrape with its text: the fastest of ten batches.
+/// Prints the nanoseconds of a scrape with its text: the fastest of a hundred batches of a tenth of the rounds.
 pub fn measure(service: Service, rounds: u64) {
-    let registry = service.registry();
+    let (registry, rounds) = (service.registry(), (rounds / 10).max(1));
     let mut least = f64::MAX;
-    for _batch in 0..10 {
+    for _batch in 0..100 {
         let (start, mut bytes) = (Instant::now(), 0);
         for _round in 0..rounds {
             let mut text = Vec::new();

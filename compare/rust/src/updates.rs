@@ -7,21 +7,24 @@ use std::time::Instant;
 /// The bounds of the histogram.
 const BOUNDS: [u64; 10] = [5, 10, 25, 50, 100, 250, 500, 1_000, 2_500, 5_000];
 
-/// Prints the nanoseconds of an operation: by one thread, the fastest of ten batches, and by four at once, the time until all have
-/// ended by the rounds of one.
+/// Prints the nanoseconds of an operation: by one thread, the fastest of a hundred batches of a tenth of the rounds, and by four at once,
+/// the time until all have ended by the rounds of one.
 fn line(name: &str, rounds: u64, operation: impl Fn() + Sync) {
-    let all = |threads: usize, rounds: u64| {
+    let each = |start: Instant, rounds: u64| start.elapsed().as_nanos() as f64 / rounds as f64;
+    let batch = |rounds: u64| {
         let start = Instant::now();
-        thread::scope(|scope| {
-            for _thread in 0..threads {
-                scope.spawn(|| (0..rounds).for_each(|_| operation()));
-            }
-        });
-        start.elapsed().as_nanos() as f64 / rounds as f64
+        (0..rounds).for_each(|_| operation());
+        each(start, rounds)
     };
-    let alone = (0..10).map(|_| all(1, rounds)).fold(f64::MAX, f64::min);
+    let alone = (0..100).map(|_| batch((rounds / 10).max(1))).fold(f64::MAX, f64::min);
     println!("{name} 1 {alone:.1}");
-    println!("{name} 4 {:.1}", all(4, rounds));
+    let start = Instant::now();
+    thread::scope(|scope| {
+        for _thread in 0..4 {
+            scope.spawn(|| (0..rounds).for_each(|_| operation()));
+        }
+    });
+    println!("{name} 4 {:.1}", each(start, rounds));
 }
 
 /// Prints all lines.

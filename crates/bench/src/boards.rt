@@ -5,7 +5,7 @@ ghost use Rattle.snapshot_update.specs.Workers.{IsWorkerOf};
 
 use crate::counting::{Counting, Counts, Does, by_four};
 use crate::floors::{Floor, Steps};
-use crate::measuring::{Lines, Work, timed};
+use crate::measuring::{BATCHES, Lines, Work, timed};
 use crate::registries::ID;
 use anyhow::{Context, Result, bail};
 use dirgwako::{Board, Crew, Op, Recorder, Registry, ServiceRuntime, Snapshot, Source, Worker};
@@ -217,13 +217,15 @@ impl<R: ServiceRuntime> Lines<'_, R> {
         floor: &mut Floor,
         operation: &mut impl Work,
     ) -> Result<()> {
-        let rounds = self.one_in(1_000);
-        let (mut least, mut taken) = (u64::MAX, u64::MAX);
-        for _batch in 0..10 {
+        let rounds = self.batch(1_000);
+        let (mut least, mut taken, mut nothing) = (u64::MAX, u64::MAX, u64::MAX);
+        for _batch in 0..BATCHES {
             least = least.min(timed(self.rt, rounds, floor)?);
-            taken = taken.min(timed_each(self.rt, rounds, moving, operation)?);
+            let (each, clock) = timed_each(self.rt, rounds, moving, operation)?;
+            taken = taken.min(each);
+            nothing = nothing.min(clock);
         }
-        self.line(name, rounds, taken, least)
+        self.line(name, rounds, taken.saturating_sub(nothing), least)
     }
 
     /// What workers of a board make: one of them what each row says, and then four at once. It is as often as `parts` say.
@@ -341,19 +343,19 @@ impl<R: ServiceRuntime> Lines<'_, R> {
     }
 }
 
-/// The nanoseconds of so many rounds of an operation, of which each is made after these workers have published. Each is timed by the
-/// clock, and so is nothing: what the clock itself takes is taken off.
+/// The nanoseconds of so many rounds of an operation, of which each is made after these workers have published, and of as many of nothing:
+/// each is timed by the clock, which takes time itself.
 fn timed_each(
     clock: &impl Clock,
     rounds: u64,
     moving: &mut [impl Counts],
     operation: &mut impl Work,
-) -> Result<u64> {
+) -> Result<(u64, u64)> {
     let (mut taken, mut nothing) = (0u64, 0u64);
     for _round in 0..rounds {
         raise_each(moving).context("no preparation")?;
         taken = taken.saturating_add(timed(clock, 1, operation)?);
         nothing = nothing.saturating_add(timed(clock, 0, operation)?);
     }
-    Ok(taken.saturating_sub(nothing))
+    Ok((taken, nothing))
 }

@@ -3,7 +3,7 @@
 //! A line has a measurement's name, the geometry of its board as `N,C,H,G` for `N` workers and rows of `C` counters, `H`
 //! histograms and `G` gauges, the nanoseconds of one operation, and how many times that is what its floor takes. The floor
 //! of an operation is as many sequentially consistent loads and stores of plain atomic numbers as the operation makes,
-//! measured in the same run. Both are made by turns, in ten batches each, of which the fastest ones count.
+//! measured in the same run. Both are made by turns, in a hundred batches each, of which the fastest ones count.
 //!
 //! `bench 0` makes each measurement a few times, and prints one line that is always the same.
 //!

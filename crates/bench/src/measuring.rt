@@ -1,4 +1,4 @@
-//! How operations are measured: by turns with their floors, in ten batches, of which the fastest ones count.
+//! How operations are measured: by turns with their floors, in a hundred batches, of which the fastest ones count.
 ghost use Rattle.std.specs.Prelude.{◌≡◌, ◌+◌, ◌*◌, ◌/◌, ◌<◌, min, max};
 
 use anyhow::{Context, Result};
@@ -10,6 +10,9 @@ use std::time::{Clock, Instant};
 
 /// No measurement takes more nanoseconds: three years.
 const LONGEST: u64 = 100_000_000_000_000_000;
+
+/// How many batches there are. They are short, so that some fall where nobody else uses the machine.
+pub const BATCHES: u64 = 100;
 
 /// What is made again and again: an operation, or a floor.
 pub trait Work {
@@ -78,7 +81,14 @@ impl<'a, R: ServiceRuntime> Lines<'a, R> {
         (self.rounds / part).max(1)
     }
 
-    /// Measures an operation and its floor, each made as often as `part` says, and prints the line.
+    /// The rounds of a batch: a tenth of one in so many, and at least one.
+    pub fn batch(&self, part: u64) -> u64
+        requires { 0 < part }
+    {
+        (self.one_in(part) / 10).max(1)
+    }
+
+    /// Measures an operation and its floor, in batches of as many rounds as `part` says, and prints the line.
     pub fn measure(
         &self,
         name: &str,
@@ -88,9 +98,9 @@ impl<'a, R: ServiceRuntime> Lines<'a, R> {
     ) -> Result<()>
         requires { 0 < part }
     {
-        let rounds = self.one_in(part);
+        let rounds = self.batch(part);
         let (mut least, mut taken) = (u64::MAX, u64::MAX);
-        for _batch in 0..10 {
+        for _batch in 0..BATCHES {
             least = least.min(timed(self.rt, rounds, floor)?);
             taken = taken.min(timed(self.rt, rounds, operation)?);
         }
