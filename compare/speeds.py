@@ -55,12 +55,12 @@ def lines_of(words, seconds=300):
 
 
 def ours(words, rounds, updates, gathers, lines):
-    """One turn of our program, which prints all at once; of each line the nanoseconds, and how many times those of its floor they are."""
+    """One turn of our program, which prints all at once; of each line the nanoseconds, and those of its floor."""
     printed = {}
     for name, of, each, ratio, *_second in lines_of([*words, rounds]):
         printed[name, of] = float(each)
         lines[name, of, "ns"].add(float(each))
-        lines[name, of, "floors"].add(float(ratio))
+        lines[name, of, "floor"].add(float(each) / max(float(ratio), 0.01))
     for _what, name, (alone, busy, tally, busy_tally) in UPDATES:
         wanted = [(OURS, 1, alone), (OURS, 4, busy), (TALLY, 1, tally), (TALLY, 4, busy_tally)]
         for who, threads, line in wanted:

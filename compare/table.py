@@ -162,7 +162,7 @@ def all_lines(lines):
     """What our program has printed, line by line."""
     told_lines = head("measurement", "of", "nanoseconds", "times its floor")
     for name, of in dict.fromkeys((name, of) for name, of, _what in lines):
-        told_lines.append(row(f"`{name}`", of, told(lines[name, of, "ns"]), told(lines[name, of, "floors"])))
+        told_lines.append(row(f"`{name}`", of, told(lines[name, of, "ns"]), ratio(lines[name, of, "ns"], lines[name, of, "floor"])))
     return ["## Each line of `bench`", "", "What they are is told in [MEASURING.md](../docs/MEASURING.md).", "", *told_lines]
 
 
