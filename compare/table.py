@@ -30,17 +30,19 @@ def short(number):
     return f"{number:.1f}" if number < 100 else f"{number:.0f}"
 
 
-def told(found, unit=1):
-    """The best and the median of all turns, as `A (B)`, or as `A` where both are spelled alike; a dash where nothing was measured."""
+def told(found, unit=1, threads=1):
+    """The best and the median of all turns, as `A (B)`, or as `A` where both are spelled alike; a dash where nothing was measured. Of four
+    threads that count the median stands first."""
     if not found.all:
         return "-"
-    best, median = (short(it / unit) for it in (found.best(), found.median()))
-    return best if best == median else f"{best} ({median})"
+    both = [short(it / unit) for it in (found.best(), found.median())]
+    one, other = both if threads == 1 else reversed(both)
+    return one if one == other else f"{one} ({other})"
 
 
 def ratio(one, other, of=Turns.best):
     """How many times the best of one is that of another, or the median."""
-    if not one.all or not other.all:
+    if not one.all or not other.all or of(other) == 0:
         return "-"
     times = of(one) / of(other)
     return f"{times:.2f}" if times < 10 else f"{times:.0f}"
@@ -75,8 +77,9 @@ def machine(load, is_quick):
         "",
         "`python3 compare/run.py` makes this page, and the pictures [torn.svg](../docs/torn.svg) and [difference.svg](../docs/difference.svg).",
         "What each line measures is told in [README.md](README.md). Two numbers, as `A (B)`, are the best and the median of the turns of this",
-        "run. The best, the least of times and the most of rates, is what comes nearest to a machine that nobody else uses, and what ratios are of;",
-        "but of four threads they are of the median: where a busy machine runs threads one behind the other, they do not meet.",
+        "run: the best, the least of times and the most of rates, comes nearest to a machine whose host nobody else uses, and ratios are of it.",
+        "Of four threads that count the median stands first: where a busy host runs them one behind the other they do not disturb each other, and",
+        "seem fast. There Dirgwako makes a hundredth of the rounds, but in tallies, and so ends sooner: of these lines no ratio is told.",
         "",
         f"{datetime.date.today()}: {processor()}, {cores()} cores, {platform.system()} {platform.release()}; {load:.0%} of them busy in the two seconds before the run.",
     ]
@@ -110,9 +113,10 @@ def update_lines(updates):
     for what, name, _ours in UPDATES:
         for threads in (1, 4):
             one = {who: updates[who, name, threads] for who in (OURS, TALLY, *PEERS)}
-            of = Turns.best if threads == 1 else Turns.median
-            ratios = (ratio(one[who], one[RUST], of) for who in (OURS, TALLY))
-            lines.append(row(what, threads, *(told(it) for it in one.values()), *ratios))
+            # Of four threads our lines have a hundredth of the rounds, but those of tallies.
+            ours = ratio(one[OURS], one[RUST]) if threads == 1 else "-"
+            tally = ratio(one[TALLY], one[RUST], Turns.best if threads == 1 else Turns.median)
+            lines.append(row(what, threads, *(told(it, threads=threads) for it in one.values()), ours, tally))
     return lines + [""]
 
 
@@ -162,7 +166,9 @@ def all_lines(lines):
     """What our program has printed, line by line."""
     told_lines = head("measurement", "of", "nanoseconds", "times its floor")
     for name, of in dict.fromkeys((name, of) for name, of, _what in lines):
-        told_lines.append(row(f"`{name}`", of, told(lines[name, of, "ns"]), ratio(lines[name, of, "ns"], lines[name, of, "floor"])))
+        threads = 4 if "busy_4" in name else 1
+        times = ratio(lines[name, of, "ns"], lines[name, of, "floor"]) if threads == 1 else "-"
+        told_lines.append(row(f"`{name}`", of, told(lines[name, of, "ns"], threads=threads), times))
     return ["## Each line of `bench`", "", "What they are is told in [MEASURING.md](../docs/MEASURING.md).", "", *told_lines]
 
 
