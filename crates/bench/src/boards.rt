@@ -64,7 +64,7 @@ impl<S: Source<N, C, H, G>, const N: usize, const C: usize, const H: usize, cons
     }
 }
 
-/// An increment by 1 of each of so many counters.
+/// An increment by 1 of each of the first [`LISTED`] counters.
 fn list() -> [Op; LISTED] {
     let mut ops = [Op::Inc { counter: 0, by: 1 }; LISTED];
     for counter in 0..LISTED {

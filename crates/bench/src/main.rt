@@ -3,9 +3,10 @@
 //! A line has a measurement's name, the geometry of its board as `N,C,H,G` for `N` workers and rows of `C` counters, `H`
 //! histograms and `G` gauges, the nanoseconds of one operation, and how many times that is what its floor takes. The floor
 //! of an operation is as many sequentially consistent loads and stores of plain atomic numbers as the operation makes,
-//! measured in the same run. Both are made by turns, in a hundred batches each, of which the fastest ones count.
+//! measured in the same run. Both are made by turns, in a hundred batches each, of which the fastest ones count; what four threads do at
+//! once has one batch.
 //!
-//! `bench 0` makes each measurement a few times, and prints one line that is always the same.
+//! `bench 0` makes one round in each batch, and prints one line that is always the same.
 //!
 //! `bench serve PORT REPLIES SIZE` serves a registry of 64 counters and 8 histograms, SIZE `small`, or of 256 and 32, `large`, on 127.0.0.1
 //! by four threads, each of which answers so many connections. Standard error tells the port, which the system chooses where PORT is 0;

@@ -61,7 +61,7 @@ fn in_hundredths(amount: u64, parts: u64) -> Hundredths
 #[derive(Drop)]
 pub struct Lines<'a, R> {
     pub rt: &'a R,
-    /// Rounds of the cheapest operations. With none, each measurement is made a few times and not printed.
+    /// Rounds of the cheapest operations. With none, each batch has one and nothing is printed.
     pub rounds: u64,
     /// The second column.
     pub of: &'a str,
