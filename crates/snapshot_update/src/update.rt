@@ -62,39 +62,6 @@ fn flag_word(lends: bool) -> u64
     if lends { 1 } else { 0 }
 }
 
-/// As [`fill_version`], where the update repeats the one before it: the scan was quiet, just the late and the touched items are recent, and
-/// just the worker's number and the totals of the touched words are late. The version lends a view, and all lists stay as they are.
-#[inline(always)]
-fn fill_version_again<const N: usize, const C: usize, const H: usize, const G: usize>(
-    board: &Board<N, C, H, G>,
-    seat: &mut WorkSeat,
-    row: &Row<C, H, G>,
-    memory: &ScanMemory<N, C, H, G>,
-    images: &mut BufferImages,
-    ended: ScanEnd,
-)
-    requires may { MayMakeVersion board.now seat.old row.now memory.now images.old ended true }
-    requires joined { AreJoined images.old.recent images.old.late images.old.touched }
-    requires late { AreLate N (width C H G) (index_of seat.old) images.old.touched images.old.late }
-    ensures fills { HasFilled board.now images.new.hidden.items seat.old seat.new }
-    ensures hidden { images.new.hidden.items ≡ version_words row.now 1 (answer_of memory.now ended).vector
-        (answer_of memory.now ended).totals }
-    ensures others { (images.new.shown.items ≡ images.old.shown.items) × (images.new.late ≡ images.old.late)
-        × (images.new.touched ≡ images.old.touched) × (images.new.row_known ≡ images.old.row_known)
-        × (images.new.recent ≡ images.old.recent) }
-    ensures recent { DifferAt images.new.recent images.old.shown.items images.new.hidden.items }
-{
-    let (vector, totals) = memory.answer(ended);
-    let version = NextVersion::new(row, 1, vector, totals);
-    fill_again(
-        board,
-        seat,
-        images.hidden.as_mut_slice(),
-        &images.touched,
-        &version,
-    );
-}
-
 /// Fills the hidden buffer with the version of this row, with the answer of the scan that ended so, and says whether it lends
 /// that. `known` is what `know_next` answered. Whether just the late and the touched items are recent then is noted in the images; where the
 /// update `repeats` the one before it, they were so before, and just the worker's number and the totals of the touched words are late.
@@ -123,13 +90,14 @@ fn fill_version<const N: usize, const C: usize, const H: usize, const G: usize>(
     ensures view { result ≡ true → HasView ended }
     ensures none { result ≡ false → ended ≡ ScanEnd.GaveUp }
 {
-    if repeats {
-        fill_version_again(board, seat, row, memory, images, ended);
-        return true;
-    }
     let (vector, totals) = memory.answer(ended);
     let lends = has_view(ended);
     let version = NextVersion::new(row, flag_word(lends), vector, totals);
+    if repeats {
+        let hidden = images.hidden.as_mut_slice();
+        fill_again(board, seat, hidden, &images.touched, &version);
+        return lends;
+    }
     let listed = known & !images.recent.is_all() & !images.late.is_all();
     fill_next(
         board,

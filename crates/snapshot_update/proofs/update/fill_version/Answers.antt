@@ -1,4 +1,4 @@
-use Rattle.std.proofs.Common.{◌≡◌, ℕ, Bool, true, false, cond, List, ◌++◌, Contains, length, take, drop, slice_index, sym, refl, ap}
+use Rattle.std.proofs.Common.{◌≡◌, ◌<◌, ℕ, Bool, true, false, cond, List, ◌++◌, length, take, drop, slice_index, sym, refl, ap}
 use Rattle.std.proofs.Common.{◌∙◌, subst, arith, rules}
 use Rattle.std.proofs.lemmas.Bool.{and_parts, not-true}
 use Rattle.ledger_core.specs.Ops.{width}
@@ -7,8 +7,6 @@ use Rattle.snapshot_scan.specs.declared.scan_end.ScanEnd.{ScanEnd}
 use Rattle.snapshot_scan.specs.declared.scan_end.ScanEnd.TheVariants.{Direct, GaveUp}
 use Rattle.snapshot_scan.specs.ScanMemories.{answer_of}
 use Rattle.snapshot_update.specs.BufferImages.{DifferAt, version_words}
-use Rattle.snapshot_scan.specs.ChangedItems.{ChangedView}
-use Rattle.snapshot_update.specs.Fit.{AreJoined}
 use Rattle.snapshot_update.specs.BufferImages.{target_of}
 use Rattle.snapshot_update.specs.Conditions.{HasFilled}
 use Rattle.snapshot_scan.proofs.Words.{over}
@@ -18,6 +16,11 @@ use Rattle.snapshot_update.proofs.update.fill_version.Goals as goal
 direct_views : (b : Bool) (e : ScanEnd) (quiet : Bool) → (b ≡ false → e ≡ GaveUp) → e ≡ Direct quiet → b ≡ true
 direct_views true e quiet none direct = refl
 direct_views false e quiet none direct = absurd (let h = sym (none refl) ∙ direct in cc)
+
+-- what was written over the first words of a buffer, all of them, is what it holds
+written : (new slice items : List ℕ) (n : ℕ) → slice ≡ items → length slice ≡ n → length new ≡ length slice
+    → take n (new ++ drop (length new) items) ≡ new
+written new slice items n value len same = over new items n (same ∙ ap (λ (l : List ℕ). length l) value) (omega (arith, len, same))
 
 pub fill_next-requires : goal.fill_next-requires
 fill_next-requires g c =
@@ -67,69 +70,113 @@ fill_next-requires g c =
       ),
     )
 
-pub fill_version_again-requires : goal.fill_version_again-requires
-fill_version_again-requires g c =
-    let r = c.requires.repeats c.if-repeats.true in let may = c.requires.may in (
+pub fill_again-requires : goal.fill_again-requires
+fill_again-requires g c =
+    let n : ℕ = g.row.N in let w : ℕ = width g.row.C g.row.H g.row.G in let b : ℕ = depth n w in
+    let may = c.requires.may in let t = may.images.1 in
+    let r = c.requires.repeats c.if-repeats.true in let q = may.images.2 r.0 in
+    let lends : c.has_view-lends.result ≡ true = direct_views c.has_view-lends.result c.args.ended q.1.0
+    c.has_view-lends.ensures.none q.1.1 in
+    let flag : c.flag_word.result ≡ 1 = c.flag_word.ensures ∙ ap (λ (x : Bool). cond x 1 0) lends in
+    let a = answer_of c.args.memory.now c.args.ended in
+    let hidden = c.as_mut_slice-hidden.ensures.value in let v = c.new-version.result in
+    let all : length v.vector.now ≡ n = ap (λ (l : List ℕ). length l) c.new-version.ensures.view.0 ∙ c.answer.ensures.lengths.0 in
+    let long : length v.totals.now ≡ w = ap (λ (l : List ℕ). length l) c.new-version.ensures.view.1 ∙ c.answer.ensures.lengths.1 in
+    let words : target_of v ≡ version_words c.args.row.now 1 a.vector a.totals = c.new-version.ensures.words
+    ∙ (λ z. version_words c.args.row.now (flag z) (c.answer.ensures.vector z) (c.answer.ensures.totals z)) in
+    let listed = r.1.listed in (
       search rules,
       (
         search rules,
         (
-          search rules,
+          record {
+            of_board = may.stores.of_board;
+            exact = may.stores.exact ∙ sym hidden;
+          },
           (
-            record {
-              stores = may.stores;
-              geometry = may.geometry;
-              touched = may.touched;
-              images = (may.images.0, may.images.1, λ _. may.images.2 r.0);
-            },
-            (r.1, r.2),
+            may.geometry,
+            (
+              (ap (λ (l : List ℕ). length l) hidden ∙ t.hidden_deep, all, long),
+              (
+                may.touched,
+                λ j lt not_touched none.
+                    let not_late = r.2.only j none in
+                    let not_recent = r.1.only j not_late not_touched in
+                    let e = t.shown_deep in let e' = t.idle_deep in
+                    ap (λ (l : List ℕ). slice_index l j) hidden
+                    ∙ (t.recent listed.0 j (omega (arith, lt, e)) not_recent
+                    ∙ (t.late listed.1 j (omega (arith, lt, e')) not_late
+                    ∙ (q.2 j lt not_touched ∙ ap (λ (l : List ℕ). slice_index l j) (sym words)))),
+              ),
+            ),
           ),
         ),
       ),
     )
 
+pub returns-then-repeats-clause-fills : goal.returns-then-repeats-clause-fills
+returns-then-repeats-clause-fills g c =
+    let old = c.args.images.now.hidden in let new = c.fill_again.new.hidden in let n = c.as_mut_slice-hidden.ensures.len in
+    subst (λ (l : List ℕ). HasFilled c.args.board.now l c.args.seat.now c.fill_again.new.seat)
+    (sym (written new c.as_mut_slice-hidden.result.now old.items old.len c.as_mut_slice-hidden.ensures.value n c.fill_again.auto.hidden))
+    c.fill_again.ensures.fills
+
+pub returns-then-repeats-clause-hidden : goal.returns-then-repeats-clause-hidden
+returns-then-repeats-clause-hidden g c =
+    let old = c.args.images.now.hidden in let new = c.fill_again.new.hidden in let n = c.as_mut_slice-hidden.ensures.len in
+    written new c.as_mut_slice-hidden.result.now old.items old.len c.as_mut_slice-hidden.ensures.value n c.fill_again.auto.hidden
+    ∙ (c.fill_again.ensures.hidden ∙ (c.new-version.ensures.words
+    ∙ (λ z. version_words c.args.row.now (c.flag_word.ensures z) (c.answer.ensures.vector z) (c.answer.ensures.totals z))))
+
+pub returns-then-repeats-clause-recent : goal.returns-then-repeats-clause-recent
+returns-then-repeats-clause-recent g c = λ _ j lt not.
+    let w : ℕ = width g.row.C g.row.H g.row.G in
+    let may = c.requires.may in let t = may.images.1 in
+    let r = c.requires.repeats c.if-repeats.true in let q = may.images.2 r.0 in
+    let lends : c.has_view-lends.result ≡ true = direct_views c.has_view-lends.result c.args.ended q.1.0
+    c.has_view-lends.ensures.none q.1.1 in
+    let here = returns-then-repeats-clause-hidden g c
+    ∙ ap (λ (x : Bool). version_words c.args.row.now (cond x 1 0) (answer_of c.args.memory.now c.args.ended).vector
+    (answer_of c.args.memory.now c.args.ended).totals) lends in
+    let old = c.args.images.now.hidden in let new = c.fill_again.new.hidden in let n = c.as_mut_slice-hidden.ensures.len in
+    let same = ap (λ (l : List ℕ). length l) (written new c.as_mut_slice-hidden.result.now old.items old.len
+    c.as_mut_slice-hidden.ensures.value n c.fill_again.auto.hidden) in
+    let deep = c.fill_again.auto.hidden in let e = t.hidden_deep in let e' = t.idle_deep in
+    let long = ap (λ (l : List ℕ). length l) c.as_mut_slice-hidden.ensures.value in
+    let lt' : j < depth g.row.N w = omega (arith, lt, same, deep, long, e) in
+    t.late r.1.listed.1 j (omega (arith, lt', e')) (r.1.late_too j not)
+    ∙ (q.2 j lt' (r.1.touched_too j not) ∙ ap (λ (l : List ℕ). slice_index l j) (sym here))
+
 pub returns-then-repeats-clause-joined : goal.returns-then-repeats-clause-joined
-returns-then-repeats-clause-joined g c = λ _.
-    let r = c.requires.repeats c.if-repeats.true in let o = c.fill_version_again.ensures.others in let im = c.args.images.now in
-    subst (λ (x : ChangedView). AreJoined x c.fill_version_again.new.images.late c.fill_version_again.new.images.touched) (sym o.4)
-    (subst (λ (x : ChangedView). AreJoined im.recent x c.fill_version_again.new.images.touched) (sym o.1)
-    (subst (λ (x : ChangedView). AreJoined im.recent im.late x) (sym o.2) r.1))
+returns-then-repeats-clause-joined g c = λ _. (c.requires.repeats c.if-repeats.true).1
 
 pub returns-then-repeats-clause-inside : goal.returns-then-repeats-clause-inside
-returns-then-repeats-clause-inside g c = λ j has.
-    c.requires.may.images.1.recent_inside j
-    (subst (λ (x : ChangedView). Contains x.items j) c.fill_version_again.ensures.others.4 has)
+returns-then-repeats-clause-inside g c = c.requires.may.images.1.recent_inside
 
 pub returns-clause-joined : goal.returns-clause-joined
 returns-clause-joined g c = λ yes.
     let both = and_parts _ _ yes in
     c.fill_next.ensures.joined both.0 (sym c.is_all-3.ensures ∙ not-true _ both.1)
 
--- what was written over the hidden buffer's words is what it holds
 pub returns-clause-fills : goal.returns-clause-fills
 returns-clause-fills g c =
-    let old = c.args.images.now.hidden in let new = c.fill_next.new.hidden in let a = c.fill_next.auto.hidden in
-    let v = c.as_mut_slice.ensures.value in let n = c.as_mut_slice.ensures.len in
-    let written : take old.len (new ++ drop (length new) old.items) ≡ new = over new old.items old.len
-    (a ∙ ap (λ (l : List ℕ). length l) v) (omega (arith, a)) in
-    subst (λ (l : List ℕ). HasFilled c.args.board.now l c.args.seat.now c.fill_next.new.seat) (sym written)
+    let old = c.args.images.now.hidden in let new = c.fill_next.new.hidden in let n = c.as_mut_slice.ensures.len in
+    subst (λ (l : List ℕ). HasFilled c.args.board.now l c.args.seat.now c.fill_next.new.seat)
+    (sym (written new c.as_mut_slice.result.now old.items old.len c.as_mut_slice.ensures.value n c.fill_next.auto.hidden))
     c.fill_next.ensures.fills
 
 pub returns-clause-hidden : goal.returns-clause-hidden
 returns-clause-hidden g c =
-    let old = c.args.images.now.hidden in let new = c.fill_next.new.hidden in let a = c.fill_next.auto.hidden in
-    let v = c.as_mut_slice.ensures.value in let n = c.as_mut_slice.ensures.len in
-    let written : take old.len (new ++ drop (length new) old.items) ≡ new = over new old.items old.len
-    (a ∙ ap (λ (l : List ℕ). length l) v) (omega (arith, a)) in
-    written ∙ (c.fill_next.ensures.hidden ∙ (c.new-version.ensures.words
+    let old = c.args.images.now.hidden in let new = c.fill_next.new.hidden in let n = c.as_mut_slice.ensures.len in
+    written new c.as_mut_slice.result.now old.items old.len c.as_mut_slice.ensures.value n c.fill_next.auto.hidden
+    ∙ (c.fill_next.ensures.hidden ∙ (c.new-version.ensures.words
     ∙ (λ z. version_words c.args.row.now (c.flag_word.ensures z) (c.answer.ensures.vector z) (c.answer.ensures.totals z))))
 
 pub returns-clause-recent : goal.returns-clause-recent
 returns-clause-recent g c =
-    let old = c.args.images.now.hidden in let new = c.fill_next.new.hidden in let a = c.fill_next.auto.hidden in
-    let v = c.as_mut_slice.ensures.value in let n = c.as_mut_slice.ensures.len in
-    let written : take old.len (new ++ drop (length new) old.items) ≡ new = over new old.items old.len
-    (a ∙ ap (λ (l : List ℕ). length l) v) (omega (arith, a)) in
-    subst (DifferAt c.fill_next.new.recent c.args.images.now.shown.items) (sym (written ∙ c.fill_next.ensures.hidden))
+    let old = c.args.images.now.hidden in let new = c.fill_next.new.hidden in let n = c.as_mut_slice.ensures.len in
+    subst (DifferAt c.fill_next.new.recent c.args.images.now.shown.items)
+    (sym (written new c.as_mut_slice.result.now old.items old.len c.as_mut_slice.ensures.value n c.fill_next.auto.hidden
+    ∙ c.fill_next.ensures.hidden))
     (subst (λ (l : List ℕ). DifferAt c.fill_next.new.recent l (target_of c.new-version.result)) c.as_slice.ensures.value
     c.fill_next.ensures.recent)
