@@ -30,7 +30,7 @@ module _ {S : Type 0} (gave : S → S → Result Scraped NoScrape → Type 0) (b
   abbrev pub IsText : List ℕ → Type 0
   IsText bytes = (scrape : Scraped) × AsksAgain gave 3 before after (Ok scrape) × (bytes ≡ text scrape)
 
-  -- the source has no scrape, or gave one of which there is no text
+  -- the source has no scrape; or it gave one, and 6 is of its text: that there was no memory for this no clause can say
   abbrev pub IsTextFault : TextFault → Type 0
   IsTextFault Contended = AsksAgain gave 3 before after (Err none.Contended)
   IsTextFault NoMemory = AsksAgain gave 3 before after (Err none.NoMemory)
