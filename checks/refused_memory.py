@@ -22,7 +22,7 @@ ROOT = pathlib.Path(__file__).resolve().parent.parent
 # more allocations goes up to the number here, so that one build serves.
 STEPS = [80, 400]
 FIRST = {"growth_server": 240}
-SCRIPT_STEPS = [200, 400]
+SCRIPT_STEPS = [220, 400]
 LAST = STEPS[-1]
 MINUTES = 20 * 60
 
