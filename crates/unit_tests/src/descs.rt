@@ -116,7 +116,7 @@ fn refused_histogram(
 }
 
 /// Labels of a histogram, what they are refused for with the bounds 5, 5, and its number. Of several causes the first one is told.
-static HISTOGRAMS: [(&[&str], HistogramFault, u8); 4] = [
+static HISTOGRAMS: [(&[&str], HistogramFault, u8); 5] = [
     (
         &["le", "le", "c", "d", "e", "f", "g", "h", "i"],
         HistogramFault::Labels(MANY),
@@ -124,6 +124,7 @@ static HISTOGRAMS: [(&[&str], HistogramFault, u8); 4] = [
     ),
     (&["le", "a", "le"], HistogramFault::Labels(TWICE), 7),
     (&["a", "le"], HistogramFault::LeOnHistogram, 8),
+    (&["le"], HistogramFault::LeOnHistogram, 8),
     (&["a"], HistogramFault::Bounds(BadBounds { at: 1 }), 10),
 ];
 
