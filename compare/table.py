@@ -30,13 +30,18 @@ def short(number):
     return f"{number:.1f}" if number < 100 else f"{number:.0f}"
 
 
+def which(threads):
+    """The number of all turns that stands first, and that ratios are of."""
+    return Turns.best if threads == 1 else Turns.median
+
+
 def told(found, unit=1, threads=1):
     """The best and the median of all turns, as `A (B)`, or as `A` where both are spelled alike; a dash where nothing was measured. Of four
     threads that count the median stands first."""
     if not found.all:
         return "-"
     both = [short(it / unit) for it in (found.best(), found.median())]
-    one, other = both if threads == 1 else reversed(both)
+    one, other = both if which(threads) is Turns.best else reversed(both)
     return one if one == other else f"{one} ({other})"
 
 
@@ -77,9 +82,9 @@ def machine(load, is_quick):
         "",
         "`python3 compare/run.py` makes this page, and the pictures [torn.svg](../docs/torn.svg) and [difference.svg](../docs/difference.svg).",
         "What each line measures is told in [README.md](README.md). Two numbers, as `A (B)`, are the best and the median of the turns of this",
-        "run: the best, the least of times and the most of rates, comes nearest to a machine whose host nobody else uses, and ratios are of it.",
-        "Of four threads that count the median stands first: where a busy host runs them one behind the other they do not disturb each other, and",
-        "seem fast. There Dirgwako makes a hundredth of the rounds, but in tallies, and so ends sooner: of these lines no ratio is told.",
+        "run: the best, the least of times and the most of rates, comes nearest to a machine whose host nobody else uses. Of four threads that",
+        "count the median stands first: where a busy host runs them one behind the other they do not disturb each other, and seem fast. Ratios",
+        "are of the number that stands first.",
         "",
         f"{datetime.date.today()}: {processor()}, {cores()} cores, {platform.system()} {platform.release()}; {load:.0%} of them busy in the two seconds before the run.",
     ]
@@ -113,10 +118,8 @@ def update_lines(updates):
     for what, name, _ours in UPDATES:
         for threads in (1, 4):
             one = {who: updates[who, name, threads] for who in (OURS, TALLY, *PEERS)}
-            # Of four threads our lines have a hundredth of the rounds, but those of tallies.
-            ours = ratio(one[OURS], one[RUST]) if threads == 1 else "-"
-            tally = ratio(one[TALLY], one[RUST], Turns.best if threads == 1 else Turns.median)
-            lines.append(row(what, threads, *(told(it, threads=threads) for it in one.values()), ours, tally))
+            ratios = (ratio(one[ours], one[RUST], which(threads)) for ours in (OURS, TALLY))
+            lines.append(row(what, threads, *(told(it, threads=threads) for it in one.values()), *ratios))
     return lines + [""]
 
 
@@ -167,7 +170,7 @@ def all_lines(lines):
     told_lines = head("measurement", "of", "nanoseconds", "times its floor")
     for name, of in dict.fromkeys((name, of) for name, of, _what in lines):
         threads = 4 if "busy_4" in name else 1
-        times = ratio(lines[name, of, "ns"], lines[name, of, "floor"]) if threads == 1 else "-"
+        times = ratio(lines[name, of, "ns"], lines[name, of, "floor"], which(threads))
         told_lines.append(row(f"`{name}`", of, told(lines[name, of, "ns"], threads=threads), times))
     return ["## Each line of `bench`", "", "What they are is told in [MEASURING.md](../docs/MEASURING.md).", "", *told_lines]
 

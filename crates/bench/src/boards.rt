@@ -269,16 +269,19 @@ impl<R: ServiceRuntime> Lines<'_, R> {
         self.counted::<N, C, H, G>((1, 1), Steps::Add, &rows, ("tally_busy_4", Does::TallyInc))
     }
 
-    /// Lists of changes of a new board, by one worker, whose floor stores so many words, and by four.
+    /// Lists of changes of a new board, by one worker, whose floor stores so many words, and by four, so often as `part` says.
     fn publishes<const N: usize, const C: usize, const H: usize, const G: usize>(
         &self,
         name: &'static str,
         busy: &'static str,
+        part: u64,
         does: Does,
         words: usize,
-    ) -> Result<()> {
+    ) -> Result<()>
+        requires { 0 < part }
+    {
         let rows = [(name, does, words)];
-        self.counted::<N, C, H, G>((10, 100), Steps::Update, &rows, (busy, does))
+        self.counted::<N, C, H, G>((10, part), Steps::Update, &rows, (busy, does))
     }
 
     /// Lists of ten increments, of as many counters, and of ten observations, one in each bucket of a bound; and a single observation.
@@ -286,9 +289,9 @@ impl<R: ServiceRuntime> Lines<'_, R> {
         &self,
     ) -> Result<()> {
         let (incs, observes, one) = (Does::PublishIncs, Does::PublishObserves, Does::PublishOne);
-        self.publishes::<N, C, H, G>("publish_10_inc", "busy_4_10_inc", incs, 21)?;
-        self.publishes::<N, C, H, G>("publish_10_observe", "busy_4_10_observe", observes, 25)?;
-        self.publishes::<N, C, H, G>("publish_observe", "busy_4_observe", one, 7)
+        self.publishes::<N, C, H, G>("publish_10_inc", "busy_4_10_inc", 10, incs, 21)?;
+        self.publishes::<N, C, H, G>("publish_10_observe", "busy_4_10_observe", 10, observes, 25)?;
+        self.publishes::<N, C, H, G>("publish_observe", "busy_4_observe", 1, one, 7)
     }
 
     /// Updates by one worker of a board, and lists of another.
@@ -329,7 +332,7 @@ impl<R: ServiceRuntime> Lines<'_, R> {
         let (registry, mut recorders, _) = crew.open(1)?;
         self.updates(&mut recorders)?;
         self.scanned(registry, &mut recorders, out, words)?;
-        self.busy("busy_4", 100, Steps::Update, recorders, Does::Inc)
+        self.busy("busy_4", 1, Steps::Update, recorders, Does::Inc)
     }
 
     /// Updates and scans of a new board of rows of so many words.
