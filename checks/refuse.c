@@ -5,7 +5,8 @@
 // CALLERS   the program's code that asks for memory: of each part, in hexadecimal, where it begins in the file, and how long it is
 // COUNTED   a file of eight bytes, which become the number of allocations
 //
-// Whoever else asks, as the C library for itself, is neither counted nor refused. No header is needed, and none included.
+// Whoever else asks, as the C library for itself and what starts a thread, is neither counted nor refused. No header is needed, and none
+// included.
 typedef unsigned long word;
 typedef struct {
   unsigned type, flags;

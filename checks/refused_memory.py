@@ -1,7 +1,7 @@
-"""Tests and scripts, as they are built, with each of their allocations refused in turn.
+"""Tests, scripts and a server, as they are built, with each of their allocations refused in turn.
 
-A library that is loaded before the C library refuses the Nth allocation of a process and counts them all (`refuse.c`). The runs of a test
-or of a script go up from N = 1 until one makes fewer than N: then nothing was refused in it.
+A library that is loaded before the C library refuses the Nth allocation of a process and counts them all (`refuse.c`). The runs of a test,
+of a script or of the server go up from N = 1 until one makes fewer than N: then nothing was refused in it.
 
 The tests are those whose names begin with `growth_`. Each of them calls again what was refused, so a run passes, or ends with an error that
 says that there was no memory, where that came while it was being prepared.
@@ -10,13 +10,17 @@ import os
 import pathlib
 import re
 import shutil
+import subprocess
 import tempfile
 
-from started import Failed, check, run
+from clients import counted
+from servers import ask, ends_its_side, expect, first_line
+from started import Failed, check, outcome, run, start
 
 ROOT = pathlib.Path(__file__).resolve().parent.parent
-# More allocations than any test or script makes.
+# More allocations than any run makes.
 MOST = 1_000
+BUSY = b"HTTP/1.1 503 Service Unavailable\r\n"
 MEMORY = re.compile(r"^(error|room): .*\b(NoMemory|AllocError|AllocFailed|OutOfMemory)\b", re.M)
 
 
@@ -53,11 +57,20 @@ class Refusing:
         self.program, self.counted = program, room / "counted"
         self.told = {"LD_PRELOAD": str(library(room)), "CALLERS": callers(program), "COUNTED": str(self.counted)}
 
+    def start(self, *words, number):
+        """A run, which is started."""
+        self.counted.write_bytes(bytes(8))
+        pipes = {"stdin": subprocess.PIPE, "stdout": subprocess.PIPE, "stderr": subprocess.PIPE}
+        return start(self.program, *words, env={**os.environ, **self.told, "REFUSED": str(number)}, **pipes)
+
+    def made(self):
+        """How many allocations the run has made."""
+        return int.from_bytes(self.counted.read_bytes(), "little")
+
     def run(self, *words, number, given=b""):
         """What a run writes to standard output and standard error, its status, and how many allocations it made."""
-        self.counted.write_bytes(bytes(8))
-        out, err, status = run(self.program, *words, given=given, env={**os.environ, **self.told, "REFUSED": str(number)})
-        return out.decode(), err.decode(), status, int.from_bytes(self.counted.read_bytes(), "little")
+        out, err, status = outcome(self.start(*words, number=number), given)
+        return out.decode(), err.decode(), status, self.made()
 
 
 def libraries(crate):
@@ -133,22 +146,60 @@ def check_script(refusing, name, script):
     return most
 
 
-def check_scripts(program, room):
+def check_scripts(refusing):
     """Runs the scripts of the folder refused_memory by the program. Returns how many runs met a refusal."""
-    refusing = Refusing(program, room)
     scripts = sorted((ROOT / "checks/refused_memory").iterdir())
     check(scripts, "there are scripts")
     return sum(check_script(refusing, it.name, it.read_text()) for it in scripts)
 
 
+def are_counted(first, second):
+    """Of two replies one at most is a 503, of 136 bytes. Where that is the first, the second one counts it; else the second one counts the
+    first reply, of 707 bytes. Returns whether one is."""
+    if second.startswith(BUSY):
+        check((len(first), len(second)) == (707, 136), f"behind a scrape the reply is {second}")
+    elif first.startswith(BUSY):
+        check(len(first) == 136 and second.endswith(counted(1, 136, {503: 1})), f"behind a 503 the reply is {second}")
+    else:
+        check(len(first) == 707 and second.endswith(counted(1, 707, {200: 1})), f"behind a scrape the reply is {second}")
+    return BUSY in (first[: len(BUSY)], second[: len(BUSY)])
+
+
+def check_server(refusing):
+    """The runs of a server whose first allocation, second and so on is refused: before it listens to anybody, which is told as 6; or
+    later, which is replied, and counted, as a 503. Returns how many met a refusal.
+
+    Of five connections the first and the last one ask for a scrape, and are answered by one thread."""
+    busy = 0
+    for number in range(1, MOST):
+        it = refusing.start("serve", "0", "5", number=number)
+        told = first_line(it.stdout).split()
+        if told == ["refused", "0", "6"]:
+            expect(it, (b"", b"", 1))
+            check(refusing.made() >= number, f"allocation {number} of a server was made, and it tells want of memory")
+            continue
+        check(len(told) == 2 and told[0] == "listening", f"allocation {number} refused: a server tells {told}")
+        port = int(told[1])
+        first, _ = ask(port), [ends_its_side(port) for _other in range(3)]
+        is_busy = are_counted(first, ask(port))
+        busy += is_busy
+        expect(it, (b"served 2\n", b"", 0))
+        if refusing.made() < number:
+            check(not is_busy and busy, "a scrape that wants memory is a 503, and no other is")
+            return number - 1
+    raise Failed(f"a server makes more than {MOST} allocations")
+
+
 def check_all(program):
-    """Returns how many runs met a refusal, and prints so of each crate."""
+    """Returns how many runs met a refusal, and prints so of each crate and each way to run the program."""
     names = sorted(it.name for it in (ROOT / "crates").iterdir() if (it / "src/growth.rt").is_file())
     check(names, "some crate has tests of growths")
     with tempfile.TemporaryDirectory() as room:
         room = pathlib.Path(room)
         refused = {name: check_tests(name, room) for name in names}
-        refused["metrics_run script"] = check_scripts(program, room)
+        refusing = Refusing(program, room)
+        refused["metrics_run script"] = check_scripts(refusing)
+        refused["metrics_run serve"] = check_server(refusing)
     for name, count in refused.items():
         print(f"refused memory: {name}: {count} allocations refused in turn", flush=True)
     return sum(refused.values())

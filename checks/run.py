@@ -4,6 +4,7 @@ import re
 import sys
 import time
 
+import clients
 import exit_statuses
 import pages
 import refused_memory
@@ -35,6 +36,7 @@ def main():
         ("exit statuses", lambda: exit_statuses.check_all(program, service, bench)),
         ("scripts", lambda: script_cases(program)),
         ("servers", lambda: servers.check_all(program, service, printed)),
+        ("clients", lambda: clients.check_all(program)),
         ("refused memory", lambda: refused_memory.check_all(program)),
     ]
     passed, failed = 0, 0

@@ -39,11 +39,24 @@ def connect(port, address="127.0.0.1"):
     return socket.create_connection((address, port), timeout=LIMIT)
 
 
-def ask(port):
-    """The reply to a scrape."""
+def read_all(client):
+    """All that a client reads until the end."""
+    return b"".join(iter(lambda: client.recv(65536), b""))
+
+
+def ask(port, request=GET):
+    """The reply to a request, which has a connection of its own."""
     with connect(port) as client:
-        client.sendall(GET)
-        return b"".join(iter(lambda: client.recv(65536), b""))
+        client.sendall(request)
+        return read_all(client)
+
+
+def ends_its_side(port, sent=b""):
+    """The reply to a client that sends this and then ends its writing side."""
+    with connect(port) as client:
+        client.sendall(sent)
+        client.shutdown(socket.SHUT_WR)
+        return read_all(client)
 
 
 def is_refused(port, address):
@@ -83,7 +96,7 @@ def a_body_that_nobody_reads(program, _service, _printed):
     with connect(port_told(it.stdout)) as client:
         # More than a head may have comes with it, so that input waits when the reply is sent.
         client.sendall(GET[:-2] + b"Content-Length: 100000\r\n\r\n" + b"x" * 100_000)
-        head, _, body = b"".join(iter(lambda: client.recv(65536), b"")).partition(b"\r\n\r\n")
+        head, _, body = read_all(client).partition(b"\r\n\r\n")
     check(head.startswith(OK) and f"Content-Length: {len(body)}\r\n".encode() in head + b"\r\n", f"the reply arrives whole: {head}")
     expect(it, (b"served 1\n", b"", 0))
 

@@ -6,6 +6,8 @@
 #![tactic(auto)]
 
 mod arguments;
+#[cfg(test)]
+mod tests;
 
 use arguments::{Command, read_serve};
 use metric_names::NoMemory;

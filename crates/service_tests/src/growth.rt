@@ -2,7 +2,6 @@
 //! answered the first one.
 mod front;
 mod registries;
-mod server;
 
 use crate::asserts::{once_more, same};
 use crate::helpers::{Plain, desc};
@@ -151,10 +150,4 @@ fn growth_of_lines(rt: &impl Abort, alloc: Global) -> Result<(), Fail> {
 #[test]
 fn growth_front(rt: HostRuntime) -> Result<(), Fail> {
     front::use_team(&rt)
-}
-
-/// A server: want of memory is told before it listens to anybody, and later replied and counted as a 503.
-#[test]
-fn growth_server(rt: HostRuntime) -> Result<(), Fail> {
-    server::serve(&rt, rt.alloc())
 }

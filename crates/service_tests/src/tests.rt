@@ -8,7 +8,6 @@ mod lines;
 mod pool;
 mod registry;
 mod replies;
-mod server;
 mod state;
 mod stream;
 mod tour;

@@ -2,7 +2,7 @@
 use crate::asserts::{need, same, there};
 use std::alloc::Global;
 use std::io::{Read, Write};
-use std::net::{Ipv4Addr, Net, Shutdown, TcpListener, TcpStream};
+use std::net::{Ipv4Addr, Net, TcpListener, TcpStream};
 use std::process::Abort;
 
 /// How many connections the clients of a test have at most.
@@ -17,10 +17,6 @@ pub(super) enum Step {
     Send(usize, &'static [u8]),
     /// Sends bytes and so many more, all at once.
     Fill(usize, &'static [u8], usize),
-    /// Sends until that fails, which it has to within 16 million bytes.
-    Flood(usize),
-    /// Ends its writing side.
-    End(usize),
     /// Closes.
     Close(usize),
     /// Reads 100 bytes, and closes. What is unread by then resets the connection.
@@ -59,16 +55,6 @@ fn fill(rt: &impl Abort, alloc: Global, stream: &TcpStream, bytes: &[u8], letter
         need(rt, all.push(b'x'));
     }
     send(rt, stream, &all);
-}
-
-/// Sends until that fails, at most 16 million bytes.
-fn flood(rt: &impl Abort, mut stream: &TcpStream) {
-    for _piece in 0..4_000 {
-        if stream.write_all(&[b'x'; 4_000]).is_err() {
-            return;
-        }
-    }
-    rt.panic("all of it was taken")
 }
 
 /// Reads 100 bytes.
@@ -155,10 +141,6 @@ impl Clients {
             Step::Send(number, bytes) => send(rt, self.stream(rt, number), bytes),
             Step::Fill(number, bytes, more) => {
                 fill(rt, alloc, self.stream(rt, number), bytes, more)
-            }
-            Step::Flood(number) => flood(rt, self.stream(rt, number)),
-            Step::End(number) => {
-                need(rt, self.stream(rt, number).shutdown(Shutdown::Write));
             }
             Step::Close(number) => self.close(number),
             Step::Leave(number) => self.leave(rt, number),

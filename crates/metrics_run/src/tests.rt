@@ -1,0 +1,111 @@
+//! A server whose writer or listener fails. They stand beside the program, since a crate with tests is proved twice, and it is small.
+use metrics_program::{ServeEnd, serve_on};
+use std::alloc::Global;
+use std::io::{self, Error, ErrorKind, Write};
+use std::net::{Ipv4Addr, Net, TcpListener, TcpStream};
+use std::process::Abort;
+use std::sync::Wait;
+use std::thread::Threads;
+
+/// How a server ended that serves so many connections, and what it wrote.
+fn serve<T: Threads + Wait + Sync>(
+    rt: &T,
+    alloc: Global,
+    listener: TcpListener,
+    count: u64,
+) -> (ServeEnd, Vec<u8>) {
+    let mut written = Vec::new(alloc);
+    let end = serve_on(rt, alloc, listener, count, &mut written);
+    (end, written)
+}
+
+/// A listener at a free port, and the port.
+fn listens<T>(rt: &T) -> (TcpListener, u16)
+where
+    T: Abort + Net<Listener = TcpListener, Stream = TcpStream>,
+{
+    let listener = TcpListener::bind(rt, (Ipv4Addr::LOCALHOST, 0)).expect(rt, "a listener");
+    let port = listener.local_addr().expect(rt, "an address").port();
+    (listener, port)
+}
+
+/// Takes all that is written, but at one call, where it fails or takes nothing.
+#[derive(Drop)]
+struct Fails {
+    kept: Vec<u8>,
+    calls: u64,
+    takes_nothing: bool,
+}
+
+impl Fails {
+    /// Whether this call is one that is done.
+    fn goes(&mut self) -> bool {
+        let goes = self.calls > 0;
+        self.calls = self.calls.saturating_sub(1);
+        goes
+    }
+}
+
+impl Write for Fails {
+    fn write(&mut self, buf: &[u8]) -> io::Result<usize> {
+        if self.goes() {
+            self.kept.extend_from_slice(buf)?;
+            Ok(buf.len())
+        } else if self.takes_nothing {
+            Ok(0)
+        } else {
+            Err(Error::from(ErrorKind::Other))
+        }
+    }
+
+    fn flush(&mut self) -> io::Result<()> {
+        if self.goes() {
+            Ok(())
+        } else {
+            Err(Error::from(ErrorKind::Other))
+        }
+    }
+}
+
+/// After so many calls of its writer the server ends, and what was written is a front of what is printed.
+fn ends_after<T>(rt: &T, alloc: Global, calls: u64)
+where
+    T: Abort + Threads + Wait + Sync + Net<Listener = TcpListener, Stream = TcpStream>,
+{
+    let (listener, port) = listens(rt);
+    let printed = format!(in alloc; "listening {port}\nserved 0\n").expect(rt, "memory");
+    let mut writer = Fails {
+        kept: Vec::new(alloc),
+        calls,
+        takes_nothing: calls % 2 == 0,
+    };
+    let end = serve_on(rt, alloc, listener, 0, &mut writer);
+    let status = if calls < 8 { 3 } else { 0 };
+    assert_eq!(rt; (calls, end.status()), (calls, status));
+    let kept = writer.kept.as_slice();
+    assert_eq!(rt; printed.as_bytes().get(..kept.len()), Some(kept));
+}
+
+/// Three writes and a flush are for the port, and as many for the replies.
+#[test]
+fn a_writer_that_fails(rt: HostRuntime) {
+    for calls in 0..9u64 {
+        ends_after(&rt, rt.alloc(), calls);
+    }
+}
+
+#[test]
+fn a_listener_that_fails(rt: HostRuntime) {
+    let rt = &rt;
+    let alloc = rt.alloc();
+    let (listener, port) = listens(rt);
+    listener
+        .set_nonblocking(true)
+        .expect(rt, "it does not block");
+    let (end, written) = serve(rt, alloc, listener, 1);
+    let told = format!(in alloc; "listening {port}\n").expect(rt, "memory");
+    assert_eq!(rt;
+        (end, written.as_slice()),
+        (ServeEnd::Broken, told.as_bytes())
+    );
+}
