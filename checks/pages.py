@@ -88,13 +88,17 @@ def definitions(root):
 
 
 def aside(root):
-    """How many wrong bodies stand aside, each of which can be tried still: the lines that it changes stand once in the file that it names."""
+    """How many wrong bodies stand aside, each of which can be tried still: the lines that it changes, one after the other, stand once in the file
+    that it names."""
     bodies = [*root.glob("crates/*/wrong-bodies/*.edit")]
     for body in bodies:
         text = body.read_text()
         source = (body.parent.parent / re.search(r"^file: (.*)$", text, re.M)[1]).read_text()
-        lines = re.findall(r"^old: (.*)$", text, re.M)
-        check(lines and all(source.count(line) == 1 for line in lines), f"{body.relative_to(root)}: its old lines stand once")
+        changes = re.findall(r"^old: (.*)\nnew: ?(.*)$", text, re.M)
+        check(len(changes) == len(re.findall("^old: ", text, re.M)) > 0, f"{body.relative_to(root)} changes something")
+        for old, new in changes:
+            check(source.count(old) == 1, f"{body.relative_to(root)}: its old line stands once: {old}")
+            source = source.replace(old, new)
     return len(bodies)
 
 
