@@ -82,6 +82,23 @@ fn joins(rt: HostRuntime) {
     same(rt, tally.ops(), JOINED.as_slice());
 }
 
+/// Increments of two counters are two operations.
+static APART: [Op; 2] = [Op::Inc { counter: 0, by: 5 }, Op::Inc { counter: 1, by: 2 }];
+
+/// An increment joins that of its own counter, and not another that comes before it.
+#[test]
+fn stands_apart(rt: HostRuntime) {
+    let rt = &rt;
+    let mut tally = Four::new(ID);
+    let taken = [
+        tally.inc(&FIRST, 1),
+        tally.inc(&SECOND, 2),
+        tally.inc(&FIRST, 4),
+    ];
+    same(rt, taken, [Ok(()); 3]);
+    same(rt, tally.ops(), APART.as_slice());
+}
+
 /// Where it is full, what joins an operation is taken still, and nothing else is. Emptied it takes all again.
 #[test]
 fn fills(rt: HostRuntime) {
