@@ -2,7 +2,7 @@
 // `realloc` stand behind these two.
 //
 // REFUSED   the number of the allocation that is refused, from 1; 0 refuses none
-// CALLERS   the program's code that asks for memory: of each part, in hexadecimal, where it begins in the file, and how long it is
+// CALLERS   the program's code that asks for memory: of each part, in hexadecimal, the address where it was linked, and how long it is
 // COUNTED   a file of eight bytes, which become the number of allocations
 //
 // Whoever else asks, as the C library for itself and what starts a thread, is neither counted nor refused. No header is needed, and none

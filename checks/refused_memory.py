@@ -10,6 +10,7 @@ import os
 import pathlib
 import re
 import shutil
+import signal
 import subprocess
 import tempfile
 
@@ -41,11 +42,12 @@ def library(room):
 
 
 def callers(program):
-    """Where a program's code that asks for memory begins, and how long it is, of each part."""
+    """At which address a program's code that asks for memory was linked, and how long it is, of each part."""
     out, err, status = run("llvm-nm", "--defined-only", "--print-size", program, executable=clang())
     check(status == 0, f"the names of {program} are listed: {err.decode()[-2000:]}")
     found = re.findall(r"^(\w+) (\w+) \w (rattle_alloc|rattle_realloc)$", out.decode(), re.M)
-    check(len(found) == 2, f"{program} asks for memory at two places: {found}")
+    is_whole = len(found) == 2 and all(int(length, 16) > 0 for _, length, _ in found)
+    check(is_whole, f"{program} asks for memory at two places: {found}")
     return " ".join(f"{at} {length}" for at, length, _ in found)
 
 
@@ -91,13 +93,23 @@ def calls_that_take_memory(crate):
     return sum(bool(tells.search(it)) for it in heads)
 
 
+def ended(said, status):
+    """How the run of a test ended: it passed; it told that there was no memory, by its result or where it stopped; or neither."""
+    if status == 0 and re.search("^test result: ok$", said, re.M):
+        return "passed"
+    is_told = status == 101 and "the test failed: its result" in said or status == -signal.SIGABRT and "test stopped at" in said
+    return "no memory" if is_told and MEMORY.search(said) else "neither"
+
+
 def check_test(refusing, test):
     """The runs of one test. Returns how many met a refusal."""
     for number in range(1, MOST):
         out, err, status, made = refusing.run(test, number=number)
-        is_well = status == 0 or made >= number and MEMORY.search(out + err)
+        end = ended(out + err, status)
+        is_well = end == "passed" or end == "no memory" and made >= number
         check(is_well, f"{test}: allocation {number} of {made} refused: status {status}: {(out + err)[-2000:]}")
         if made < number:
+            check(number > 1, f"{test} makes no allocation")
             return number - 1
     raise Failed(f"{test} makes more than {MOST} allocations")
 
@@ -107,7 +119,9 @@ def check_tests(name, room):
     refusing = Refusing(ROOT / "crates" / name / "out" / f"{name}_tests", room)
     listed, _, status = run(refusing.program, "--list")
     tests = re.findall(r"^((?:\w+::)*growth_\w+): test$", listed.decode(), re.M)
-    check(status == 0 and tests, f"{name} has tests of growths")
+    sources = (ROOT / "crates" / name / "src").glob("growth*/**/*.rt")
+    there = sum(it.read_text().count("#[test]") for it in [ROOT / "crates" / name / "src/growth.rt", *sources])
+    check(status == 0 and len(tests) == there > 0, f"{name} lists all its {there} tests of growths: {tests}")
     refused = sum(check_test(refusing, test) for test in tests)
     wanted = calls_that_take_memory(name)
     check(refused >= wanted, f"{name}: {refused} allocations were refused, and its libraries have {wanted} calls that take memory")
@@ -141,6 +155,8 @@ def check_script(refusing, name, script):
             wanted = f"{fronts[max(line - 1, 0)][0]}refused {line} 6\n"
             check((out, status) == (wanted, 1), f"{name}: allocation {number} refused, during line {line}: got {out} and {status}, expected {wanted}")
             told.add(line)
+    beyond = refusing.run("script", number=most + 1, given=script.encode())
+    check(beyond == (whole, "", final, most), f"{name}: {most} allocations are made, and with none refused: {beyond}")
     taking = {line for line, (_, _, made) in enumerate(fronts) if made > (fronts[line - 1][2] if line else 0)}
     check(len(taking) > 1 and told == taking, f"{name}: the lines {sorted(taking)} make allocations, and refusals are told at {sorted(told)}")
     return most
@@ -170,22 +186,25 @@ def check_server(refusing):
     later, which is replied, and counted, as a 503. Returns how many met a refusal.
 
     Of five connections the first and the last one ask for a scrape, and are answered by one thread."""
-    busy = 0
+    early, busy = 0, 0
     for number in range(1, MOST):
         it = refusing.start("serve", "0", "5", number=number)
-        told = first_line(it.stdout).split()
-        if told == ["refused", "0", "6"]:
+        told = first_line(it.stdout)
+        if told == "refused 0 6\n":
             expect(it, (b"", b"", 1))
             check(refusing.made() >= number, f"allocation {number} of a server was made, and it tells want of memory")
+            early += 1
             continue
-        check(len(told) == 2 and told[0] == "listening", f"allocation {number} refused: a server tells {told}")
-        port = int(told[1])
-        first, _ = ask(port), [ends_its_side(port) for _other in range(3)]
+        check(re.fullmatch(r"listening \d+\n", told), f"allocation {number} refused: a server tells {told}")
+        port = int(told.split()[1])
+        first, silent = ask(port), [ends_its_side(port) for _other in range(3)]
+        check(silent == [b""] * 3, f"who asks nothing is replied {silent}")
         is_busy = are_counted(first, ask(port))
         busy += is_busy
         expect(it, (b"served 2\n", b"", 0))
+        check(is_busy or refusing.made() < number, f"allocation {number} of a server was refused, and nothing came of it")
         if refusing.made() < number:
-            check(not is_busy and busy, "a scrape that wants memory is a 503, and no other is")
+            check(not is_busy and busy and early, "a scrape that wants memory is a 503, and no other is")
             return number - 1
     raise Failed(f"a server makes more than {MOST} allocations")
 

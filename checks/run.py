@@ -47,9 +47,9 @@ def main():
             check(count > 0, "something was checked")
             passed += count
             print(f"{name}: {count} as expected, in {time.monotonic() - since:.0f} s", flush=True)
-        except Failed as why:
+        except (Failed, OSError, ValueError) as why:
             failed += 1
-            print(f"{name}: FAILED: {why}", flush=True)
+            print(f"{name}: FAILED: {why if isinstance(why, Failed) else repr(why)}", flush=True)
     print(f"{passed} passed, {failed} failed")
     return 1 if failed else 0
 
