@@ -7,6 +7,8 @@
 
 mod arguments;
 #[cfg(test)]
+mod growth;
+#[cfg(test)]
 mod tests;
 
 use arguments::{Command, read_serve};
