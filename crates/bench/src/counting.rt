@@ -53,6 +53,9 @@ pub trait Counts {
     /// Adds 1 to the first counter.
     fn raise(&mut self) -> Option<()>;
 
+    /// How often it has published.
+    fn published(&self) -> u64;
+
     /// Makes this so often.
     fn count(&mut self, does: Does, rounds: u64) -> Option<()>;
 }
@@ -62,6 +65,10 @@ impl<const N: usize, const C: usize, const H: usize, const G: usize> Counts
     fn raise(&mut self) -> Option<()> {
         let (registry, slot) = (ID, 0);
         self.inc(&Counter { registry, slot }, 1).ok()
+    }
+
+    fn published(&self) -> u64 {
+        self.number()
     }
 
     fn count(&mut self, does: Does, rounds: u64) -> Option<()> {

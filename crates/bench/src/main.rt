@@ -15,6 +15,12 @@
 //! `bench torn SCRAPES apart`, or `together`, prints so many scrapes of a board on which a thread counts without rest, each behind a line
 //! `---`; a scrape that is given up has no text: [`torn`].
 //!
+//! `bench starved THREADS SPINS SCANS SIZE` makes scans at four paces beside so many threads that publish without rest, of which each loads a
+//! number of its own SPINS times between two versions: none, one each second, one each millisecond, and SCANS without rest. SIZE is `small`, a
+//! board of (4, 64, 8, 0), `large`, (16, 256, 32, 0), or `greatest`, (32, 256, 32, 64). Of each pace it prints how many scans were made and
+//! given up, the nanoseconds of one and of the longest; and those of a version of one thread, and which half, 99 and 99.9 of 100 updates took
+//! at most, and the longest one: [`starved`].
+//!
 //! Exit status 0 at the end; 2 for other arguments; 1 where something failed.
 #![tactic(auto)]
 
@@ -22,16 +28,20 @@ mod boards;
 mod counting;
 mod floors;
 mod measuring;
+mod publishers;
 mod registries;
 mod served;
+mod starved;
 mod texts;
 mod torn;
+mod update_times;
 
 use anyhow::Result;
 use dirgwako::ServiceRuntime;
 use measuring::Lines;
 use registries::{LARGE, SMALL};
 use served::serve;
+use starved::{Asked, starve};
 use std::env;
 use std::net::{Net, TcpListener, TcpStream};
 use std::process::ExitCode;
@@ -39,7 +49,7 @@ use std::rt::Env;
 use torn::print_scrapes;
 
 const USAGE: &str =
-    "usage: bench ROUNDS, at most 1000000000, or bench serve PORT REPLIES small|large, or bench torn SCRAPES apart|together";
+    "usage: bench ROUNDS, at most 1000000000, or bench serve PORT REPLIES small|large, or bench torn SCRAPES apart|together, or bench starved THREADS SPINS SCANS small|large|greatest";
 
 /// Measures updates and scans of three geometries.
 fn measure_boards(lines: &mut Lines<'_, impl ServiceRuntime>) -> Result<()> {
@@ -107,6 +117,27 @@ fn run_scrapes(rt: &impl ServiceRuntime, scrapes: &str, how: &str) -> Option<Res
     }
 }
 
+/// Scans beside threads that publish, if these words say so.
+fn run_starved(
+    rt: &impl ServiceRuntime,
+    threads: &str,
+    spins: &str,
+    scans: &str,
+    size: &str,
+) -> Option<Result<()>> {
+    let asked = Asked {
+        threads: threads.parse().ok()?,
+        spins: spins.parse().ok()?,
+        scans: scans.parse().ok()?,
+    };
+    match size {
+        "small" => Some(starve::<4, 64, 8, 0>(rt, "4,64,8,0", asked)),
+        "large" => Some(starve::<16, 256, 32, 0>(rt, "16,256,32,0", asked)),
+        "greatest" => Some(starve::<32, 256, 32, 64>(rt, "32,256,32,64", asked)),
+        _ => None,
+    }
+}
+
 /// Does what the arguments say; nothing if they say none of it.
 fn run_words(
     rt: &(impl ServiceRuntime + Eprint + Net<Listener = TcpListener, Stream = TcpStream>),
@@ -120,12 +151,16 @@ fn run_words(
         [_, word, scrapes, how] if word.as_str() == "torn" => {
             run_scrapes(rt, scrapes.as_str(), how.as_str())
         }
+        [_, word, threads, spins, scans, size] if word.as_str() == "starved" => {
+            let (threads, spins) = (threads.as_str(), spins.as_str());
+            run_starved(rt, threads, spins, scans.as_str(), size.as_str())
+        }
         _ => None,
     }
 }
 
-/// Measures so many rounds, serves so many replies by each thread at a port, or prints so many scrapes, as the arguments say; nothing if
-/// they say none of it.
+/// Measures so many rounds, serves so many replies by each thread at a port, prints so many scrapes, or scans beside threads that publish, as
+/// the arguments say; nothing if they say none of it.
 fn run(
     rt: &(impl ServiceRuntime + Eprint + Env + Net<Listener = TcpListener, Stream = TcpStream>),
 ) -> Option<Result<()>> {

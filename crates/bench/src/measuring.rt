@@ -40,7 +40,7 @@ pub fn timed(clock: &impl Clock, rounds: u64, work: &mut impl Work) -> Result<u6
 
 /// A number in hundredths. It is printed with two decimals.
 #[derive(Clone, Copy)]
-struct Hundredths(u64);
+pub struct Hundredths(u64);
 
 impl Display for Hundredths {
     fn fmt<W: Write>(&self, f: &mut Formatter<W>) -> fmt::Result {
@@ -49,7 +49,7 @@ impl Display for Hundredths {
 }
 
 /// The amount for each of `parts`, in hundredths, of which the nearest is taken. Both count as 10^17 where they are more.
-fn in_hundredths(amount: u64, parts: u64) -> Hundredths
+pub fn in_hundredths(amount: u64, parts: u64) -> Hundredths
     ensures { result.0 ≡ (min amount 100000000000000000 * 100 + max (min parts 100000000000000000) 1 / 2) / max
         (min parts 100000000000000000) 1 }
 {

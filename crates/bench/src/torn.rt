@@ -50,7 +50,7 @@ fn register(metrics: &mut Registrar<impl Registers>) -> Result<Chain> {
 }
 
 /// One round, whose changes are versions of their own if `is_apart` says so, and else one version together.
-fn round(recorder: &mut Recorder<'_, 1, 4, 1, 0>, chain: &Chain, is_apart: bool) -> Result<()> {
+fn round(recorder: &mut Recorder<'_, 4, 64, 8, 0>, chain: &Chain, is_apart: bool) -> Result<()> {
     if !is_apart {
         return Ok(recorder.publish(chain)?);
     }
@@ -63,7 +63,7 @@ fn round(recorder: &mut Recorder<'_, 1, 4, 1, 0>, chain: &Chain, is_apart: bool)
 /// Counts round after round. It tells when the first one is done, and ends when it is told to.
 fn count(
     rt: &impl Wait,
-    recorder: &mut Recorder<'_, 1, 4, 1, 0>,
+    recorder: &mut Recorder<'_, 4, 64, 8, 0>,
     chain: &Chain,
     is_apart: bool,
     begun: &AtomicBool,
@@ -90,7 +90,7 @@ fn await_flag(rt: &impl Wait, flag: &AtomicBool) {
 }
 
 /// Prints a scrape behind a line of its own, and nothing behind that line where the scrape is given up.
-fn print_next(rt: &impl ServiceRuntime, registry: &Registry<'_, 1, 4, 1, 0>) -> Result<()> {
+fn print_next(rt: &impl ServiceRuntime, registry: &Registry<'_, 4, 64, 8, 0>) -> Result<()> {
     println!(rt; "---")?;
     match print_scrape(rt, registry) {
         Ok(()) | Err(PrintFault::Text(TextFault::Contended)) => Ok(()),
@@ -101,7 +101,7 @@ fn print_next(rt: &impl ServiceRuntime, registry: &Registry<'_, 1, 4, 1, 0>) -> 
 /// Prints so many scrapes.
 fn print_all(
     rt: &impl ServiceRuntime,
-    registry: &Registry<'_, 1, 4, 1, 0>,
+    registry: &Registry<'_, 4, 64, 8, 0>,
     scrapes: u64,
 ) -> Result<()> {
     for _scrape in 0..scrapes {
@@ -113,8 +113,8 @@ fn print_all(
 /// Prints so many scrapes, while this recorder counts.
 fn print_beside(
     rt: &impl ServiceRuntime,
-    registry: &Registry<'_, 1, 4, 1, 0>,
-    recorder: &mut Recorder<'_, 1, 4, 1, 0>,
+    registry: &Registry<'_, 4, 64, 8, 0>,
+    recorder: &mut Recorder<'_, 4, 64, 8, 0>,
     scrapes: u64,
     is_apart: bool,
 ) -> Result<()> {
@@ -139,7 +139,7 @@ fn print_beside(
 /// Prints so many scrapes of this board's registry, while a thread counts.
 fn print_crew(
     rt: &impl ServiceRuntime,
-    crew: &mut Crew<1, 4, 1, 0>,
+    crew: &mut Crew<4, 64, 8, 0>,
     scrapes: u64,
     is_apart: bool,
 ) -> Result<()> {
@@ -150,6 +150,6 @@ fn print_crew(
 
 /// Prints so many scrapes of a new board's registry, while a thread counts.
 pub fn print_scrapes(rt: &impl ServiceRuntime, scrapes: u64, is_apart: bool) -> Result<()> {
-    let mut crew = Crew::<1, 4, 1, 0>::new(rt.alloc(), ID, 1)?;
+    let mut crew = Crew::<4, 64, 8, 0>::new(rt.alloc(), ID, 1)?;
     print_crew(rt, &mut crew, scrapes, is_apart)
 }

@@ -16,7 +16,8 @@ use snapshot_update::{CountFault, Worker};
 use std::alloc::{AllocError, Global};
 
 /// What a thread counts with: a worker of a board, and that board. It may move to a thread of its own. Its calls take no lock and no
-/// memory, and wait for nobody.
+/// memory, and wait for nobody: their steps are bounded whatever others do. Where a scrape has failed to read once, a call that publishes may
+/// rest first, some tens of microseconds at most ([`Board::rest_if_hushed`]).
 pub struct Recorder<'a, const N: usize, const C: usize, const H: usize, const G: usize> {
     board: &'a Board<N, C, H, G>,
     worker: Worker<N, C, H, G>,

@@ -6,6 +6,7 @@ ghost use Rattle.std.specs.Bool.{Decides};
 ghost use Rattle.register_rule.specs.Faults.{IsBoardSize};
 
 use crate::board_fault::BoardFault;
+use crate::hush::HushWord;
 use crate::seats::{Bundle, ReadSeat, WorkSeat};
 use crate::view::{SeatView, Who};
 use atomic_table::{Play, Split, Table, TableRule};
@@ -54,13 +55,18 @@ impl Split<SeatView> for Brand {
 pub struct Board<const N: usize, const C: usize, const H: usize, const G: usize> {
     pub(crate) table: Table<(), SeatView, Key, Law<N, C, H, G>, Global>,
     pub(crate) id: u64,
+    pub(crate) hush: HushWord,
     ghost sized: { IsGeometry N C H G × (table.shared.table_id.words ≡ words N (width C H G)) },
     ghost named: { table.shared.key.id ≡ id },
 }
 
 impl<const N: usize, const C: usize, const H: usize, const G: usize> Drop for Board<N, C, H, G> {
     fn drop(self) {
-        let Board { table: _, id: _ } = self;
+        let Board {
+            table: _,
+            id: _,
+            hush: _,
+        } = self;
     }
 }
 
@@ -108,7 +114,8 @@ impl<const N: usize, const C: usize, const H: usize, const G: usize> Board<N, C,
         let words = vec![in alloc; 0u64; words_needed(N, C, H, G)]?;
         let key = Key { id, readers };
         let (table, seat) = Table::of_words(alloc, words.as_slice(), &key)?;
-        let board = Board { table, id };
+        let hush = HushWord::new();
+        let board = Board { table, id, hush };
         let mut rest = Bundle { seat };
         let work = board.part_workers(alloc, &mut rest, readers)?;
         let read = board.part_readers(alloc, &mut rest, readers)?;

@@ -7,8 +7,8 @@ use scrape_http::{NoScrape, ScrapeFrom};
 /// How often a scrape that is given up is asked for again.
 const AGAIN: usize = 3;
 
-/// A scrape of a source, which is asked up to three times more where a scan was given up. Beside threads that publish without rest some are
-/// refused still, and beside one that does so alone a third or more: docs/HTTP.md has how many ("Scrapes that are given up").
+/// A scrape of a source, which is asked up to three times more where a scan was given up. That is rare, since a scan that fails has the threads
+/// that publish rest: docs/HTTP.md has how rare ("Scrapes that are given up").
 ///
 /// # Errors
 ///

@@ -1,3 +1,4 @@
+mod busy;
 mod clients;
 mod contended;
 mod ends;

@@ -95,12 +95,14 @@ impl<const N: usize, const C: usize, const H: usize, const G: usize> ScanMemory<
     }
 
     /// A scan of at most `N` + 2 tries, which takes no memory and waits for nobody. Where it changes the sums of the remembered
-    /// rows is listed ([`ScanMemory::changed_totals`]).
+    /// rows is listed ([`ScanMemory::changed_totals`]). One that `hushes` asks the workers to rest from its first failed try on to its end
+    /// ([`Board::hush`]); the scan of an update asks for nothing.
     #[inline(always)]
     pub fn scan<S: ScanSeat<N, C, H, G>>(
         &mut self,
         board: &Board<N, C, H, G>,
         seat: &mut S,
+        hushes: bool,
     ) -> ScanEnd
         requires of_board { MayScan board.now (S.bundle seat.old) }
         requires ready { IsReady (scan_in (S.bundle seat.old)) self.old }
@@ -136,10 +138,11 @@ impl<const N: usize, const C: usize, const H: usize, const G: usize> ScanMemory<
             self.found.as_mut_slice(),
             self.lent.as_mut_slice(),
             &mut self.changed_totals,
+            hushes,
         )
     }
 
-    /// A scan whose answer is written to `out`.
+    /// A scan whose answer is written to `out`. Workers are asked to rest from its first failed try on.
     ///
     /// # Errors
     ///
@@ -167,7 +170,7 @@ impl<const N: usize, const C: usize, const H: usize, const G: usize> ScanMemory<
             (Next.GaveUp e.worker e.first e.last)) }
         ensures unchanged { OnErr result (out.new ≡ out.old) }
     {
-        let ended = self.scan(board, seat);
+        let ended = self.scan(board, seat, true);
         if let ScanEnd::GaveUp = ended {
             return Err(first_moved(self.opened.as_slice(), self.found.as_slice()));
         }

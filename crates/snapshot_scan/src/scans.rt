@@ -48,8 +48,8 @@ fn one_try<S: ScanSeat<N, C, H, G>, const N: usize, const C: usize, const H: usi
 }
 
 /// The later tries of a scan, at most `N` + 1, after a first one that was not clean, whose numbers are the floor and the base of
-/// the scan. After each that fails, workers are asked until one lends. A function of its own, so that a quiet scan has no more
-/// code and memory than it needs.
+/// the scan. After each that fails, workers are asked until one lends; where none does, a scan that `hushes` asks all anew to rest. A function
+/// of its own, so that a quiet scan has no more code and memory than it needs.
 #[inline(never)]
 fn later_tries<
     S: ScanSeat<N, C, H, G>,
@@ -66,6 +66,7 @@ fn later_tries<
     found: &mut [u64],
     lent: &mut [u64],
     changed_totals: &mut ChangedItems,
+    hushes: bool,
 ) -> ScanEnd
     requires geometry { IsGeometry N C H G }
     requires lengths { (length remembered.old ≡ N) × (length totals.old ≡ width C H G) × (length opened.old ≡ N)
@@ -101,11 +102,43 @@ fn later_tries<
         if lends {
             return ScanEnd::Lent;
         }
+        hush_anew(board, hushes);
     }
     ScanEnd::GaveUp
 }
 
-/// A scan of at most `N` + 2 tries.
+// A scan that `hushes` asks the workers to rest. This and the next two are functions of their own, so that what is known of the try
+// before is known behind them, too.
+fn hush<const N: usize, const C: usize, const H: usize, const G: usize>(
+    board: &Board<N, C, H, G>,
+    hushes: bool,
+) {
+    if hushes {
+        board.hush();
+    }
+}
+
+// It asks anew.
+fn hush_anew<const N: usize, const C: usize, const H: usize, const G: usize>(
+    board: &Board<N, C, H, G>,
+    hushes: bool,
+) {
+    if hushes {
+        board.hush_anew();
+    }
+}
+
+// It has ended.
+fn end_hush<const N: usize, const C: usize, const H: usize, const G: usize>(
+    board: &Board<N, C, H, G>,
+    hushes: bool,
+) {
+    if hushes {
+        board.end_hush();
+    }
+}
+
+/// A scan of at most `N` + 2 tries. One that `hushes` asks the workers to rest from its first failed try on to its end.
 ///
 /// It reads the words only of those rows whose number is not the remembered one. Its memory: what is remembered of each
 /// segment, the sums of the remembered rows, the numbers of both collects, and the words that a worker lends. Where the sums
@@ -126,6 +159,7 @@ pub(crate) fn scan<
     found: &mut [u64],
     lent: &mut [u64],
     changed_totals: &mut ChangedItems,
+    hushes: bool,
 ) -> ScanEnd
     requires { MayBegin board.now (S.bundle seat.old) remembered.old totals.old opened.old found.old lent.old }
     ensures { HasEnded N C H G (S.bundle seat.old)
@@ -147,7 +181,8 @@ pub(crate) fn scan<
     if clean {
         return ScanEnd::Direct { quiet: known };
     }
-    later_tries(
+    hush(board, hushes);
+    let ended = later_tries(
         board,
         seat,
         remembered,
@@ -156,5 +191,8 @@ pub(crate) fn scan<
         found,
         lent,
         changed_totals,
-    )
+        hushes,
+    );
+    end_hush(board, hushes);
+    ended
 }

@@ -42,7 +42,7 @@ pub(crate) fn is_direct(ended: ScanEnd) -> bool
     matches!(ended, ScanEnd::Direct { .. })
 }
 
-/// The scan of a worker for its update, as its clauses say it of the worker: its other parts stay as they were.
+/// The scan of a worker for its update, as its clauses say it of the worker: its other parts stay as they were. It asks nobody to rest.
 #[inline(always)]
 pub(crate) fn scan_for_update<const N: usize, const C: usize, const H: usize, const G: usize>(
     board: &Board<N, C, H, G>,
@@ -64,7 +64,7 @@ pub(crate) fn scan_for_update<const N: usize, const C: usize, const H: usize, co
     ensures gave_up { result ≡ ScanEnd.GaveUp → ScanCameTo N (width C H G) (worker_of seat.old).scan (worker_of seat.new).scan
         false }
 {
-    memory.scan(board, seat)
+    memory.scan(board, seat, false)
 }
 
 /// The scan of a worker whose answer goes to its caller, with what the rule says of the worker alone: what the worker wrote stays as it

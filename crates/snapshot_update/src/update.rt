@@ -177,7 +177,8 @@ fn learn<const N: usize, const C: usize, const H: usize, const G: usize>(
 }
 
 /// An update: the operations are added to the row, a scan is made, and the version is published with the view of the scan, or
-/// without one where that was given up. It takes no memory and waits for nobody.
+/// without one where that was given up. It takes no memory and waits for nobody; where a scan asks the workers to rest, by a request after the
+/// last one that was `rested` for, it rests first, for so many looks at most as [`Board::rest_if_hushed`] tells.
 #[inline(always)]
 pub(crate) fn update<const N: usize, const C: usize, const H: usize, const G: usize>(
     board: &Board<N, C, H, G>,
@@ -185,6 +186,7 @@ pub(crate) fn update<const N: usize, const C: usize, const H: usize, const G: us
     row: &mut Row<C, H, G>,
     memory: &mut ScanMemory<N, C, H, G>,
     images: &mut BufferImages,
+    rested: &mut u64,
     ops: &[Op],
 ) -> Result<(), OpFault>
     requires of_board { IsWorkSeatOf board.now seat.old }
@@ -201,11 +203,12 @@ pub(crate) fn update<const N: usize, const C: usize, const H: usize, const G: us
     ensures row_known { OnOk result (images.new.row_known ≡ true) }
     ensures fault { IfErr result (IsOpFault C H G (word_after (sum_ops C H) (worker_of seat.old).work.made) ops.now) }
     ensures unchanged { OnErr result ((seat.new ≡ seat.old) × (row.new ≡ row.old) × (memory.new ≡ memory.old)
-        × (images.new ≡ images.old)) }
+        × (images.new ≡ images.old) × (rested.new ≡ rested.old)) }
 {
     row.try_apply(ops)?;
-    // Before the scan, while the compiler still knows which operation a list of one has.
+    // Before the look and the scan, while the compiler still knows which operation a list of one has.
     let again = touch::<C, H, G>(ops, &mut images.touched, &mut images.spare);
+    board.rest_if_hushed(rested);
     let ended = scan_for_update(board, seat, memory);
     let (known, still) = know_next(
         seat,

@@ -27,6 +27,8 @@ pub struct Worker<const N: usize, const C: usize, const H: usize, const G: usize
     pub(crate) row: Box<Row<C, H, G>>,
     pub(crate) memory: ScanMemory<N, C, H, G>,
     pub(crate) images: BufferImages,
+    // The last request to rest that the worker has rested for.
+    pub(crate) rested: u64,
     ghost geometry: { IsGeometry N C H G },
     ghost inside: { index < N },
     ghost holds: { ForSome seat (λ s. IsFitOfSeat N C H G index number row.value memory images (seat_index s) (worker_of s)) },
@@ -42,6 +44,7 @@ impl<const N: usize, const C: usize, const H: usize, const G: usize> Drop for Wo
             row: _,
             memory: _,
             images: _,
+            rested: _,
         } = self;
     }
 }
@@ -102,11 +105,13 @@ impl<const N: usize, const C: usize, const H: usize, const G: usize> Worker<N, C
             row,
             memory,
             images,
+            rested: 0,
         })
     }
 
     /// Publishes one version, which adds this list: all of it or nothing. An empty list is a version as well. It takes no
-    /// memory and waits for nobody.
+    /// memory and waits for nobody: its steps are bounded whatever others do. Where a scan's first try failed it may rest first, as
+    /// [`Board::rest_if_hushed`] tells.
     ///
     /// # Errors
     ///
@@ -135,6 +140,7 @@ impl<const N: usize, const C: usize, const H: usize, const G: usize> Worker<N, C
             &mut self.row,
             &mut self.memory,
             &mut self.images,
+            &mut self.rested,
             ops,
         ) {
             return Err(ApplyFault::Refused(fault));
@@ -303,7 +309,7 @@ impl<const N: usize, const C: usize, const H: usize, const G: usize> Worker<N, C
     }
 
     /// A scan: all segments at one moment, written to `out`, with all that the worker itself has published. It takes no memory
-    /// and waits for nobody.
+    /// and waits for nobody. Where its first try failed, other workers are asked to rest ([`Board::hush`]).
     ///
     /// It promises what [`Reader::scan`](snapshot_scan::Reader::scan) does, with what the rule says of the worker alone. The
     /// worker's versions stay as they were.

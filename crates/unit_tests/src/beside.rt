@@ -12,6 +12,7 @@ ghost use Rattle.unit_tests.specs.Beside.{IsWorkerOf-prop};
 
 use crate::asserts::{done, need, same};
 use crate::crew::{ID, counter, finds, inc, new_worker, one_seat};
+use crate::hushes::requests;
 use register_rule::{Board, Load, Parts, ReadSeat, ScanSeat, WorkSeat};
 use snapshot_scan::{Contended, ScanMemory, Snapshot};
 use snapshot_update::Worker;
@@ -139,7 +140,8 @@ fn scan_beside<S: ScanSeat<2, 1, 0, 0> + Drop>(
     memory.scan_to(board, &mut beside, out)
 }
 
-/// The numbers read are 0, 1 in the first try, 2, 3 in the second, and then 4, where the worker is asked.
+/// The numbers read are 0, 1 in the first try, 2, 3 in the second, and then 4, where the worker is asked. Behind the first try that failed the
+/// scan asked the workers to rest, and does so no more.
 #[test]
 fn a_running_worker_lends(rt: HostRuntime) {
     let rt = &rt;
@@ -153,10 +155,11 @@ fn a_running_worker_lends(rt: HostRuntime) {
     let mut out = need(rt, Snapshot::new(rt.alloc()));
     let found = scan_beside(rt, rt.alloc(), &board, worker, seat, plan, &mut out);
     finds(rt, found, &out, &[0, 3]);
-    same(rt, out.counter(0), 15);
+    same(rt, (out.counter(0), requests(&board)), (15, (0, 1)));
 }
 
-/// A scan of this seat is given up: a number rises in each of four tries, and while the worker is asked. The output stays as it was.
+/// A scan of this seat is given up: a number rises in each of four tries, and while the worker is asked. The output stays as it was. Behind
+/// each of the four the scan asked the workers to rest, and does so no more.
 fn is_given_up<S: ScanSeat<2, 1, 0, 0> + Drop>(
     rt: &impl Abort,
     alloc: Global,
@@ -184,6 +187,7 @@ fn is_given_up<S: ScanSeat<2, 1, 0, 0> + Drop>(
     same(rt, found, Err(contended));
     same(rt, out.vector(), [6, 7].as_slice());
     same(rt, (contended.number(), out.counter(0)), (14, 8));
+    same(rt, requests(board), (0, 4));
 }
 
 #[test]

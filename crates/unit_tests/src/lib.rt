@@ -23,6 +23,8 @@ mod growth;
 #[cfg(test)]
 mod history;
 #[cfg(test)]
+mod hushes;
+#[cfg(test)]
 mod jobs;
 #[cfg(test)]
 mod layout;

@@ -45,8 +45,8 @@ returns-then-clean g c =
     }
 
 -- the first try failed
-pub later_tries-requires : goal.later_tries-requires
-later_tries-requires g c =
+pub later_tries-ended-requires : goal.later_tries-ended-requires
+later_tries-ended-requires g c =
     let r = c.one_try-clean.new in let a = c.one_try-clean.auto in let lens = c.requires.may.lengths in
     let s = g.S.ScanSeat.bundle c.args.seat.now in let room = c.requires.room in (
       search rules,
@@ -69,7 +69,7 @@ later_tries-requires g c =
 pub returns : goal.returns
 returns g c =
     let r = c.one_try-clean.new in let s = g.S.ScanSeat.bundle c.args.seat.now in
-    c.later_tries.ensures s c.args.remembered.now c.args.totals.now
+    c.later_tries-ended.ensures s c.args.remembered.now c.args.totals.now
     (failed_once c.args.board.now s (g.S.ScanSeat.bundle r.seat) c.args.remembered.now r.remembered c.args.totals.now r.totals
     r.opened r.found c.clear.new.self r.changed_totals r.known c.one_try-clean.result c.requires.may.of_board c.requires.idle
     c.clear.ensures.none.1 c.if-clean.false c.one_try-clean.ensures)
