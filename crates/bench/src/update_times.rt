@@ -55,16 +55,17 @@ impl UpdateTimes {
         all
     }
 
-    /// The nanoseconds that all updates but so many in a thousand took at most, to the next ten; the longest where they took more than
-    /// the steps have.
+    /// The nanoseconds that all updates but so many in a thousand took at most: the end of their step, or the longest time if that is less, or
+    /// if it is the last step.
     pub fn all_but(&self, in_a_thousand: u64) -> u64 {
-        let mut left = (u128::from(self.all()) * u128::from(in_a_thousand) / 1_000) as u64;
-        for step in (0..STEPS).rev() {
-            let count = self.counts.get(step).copied().unwrap_or(0);
-            if count > left {
-                return ((step as u64).saturating_add(1).saturating_mul(STEP)).min(self.longest);
+        let mut left = self.all().saturating_mul(in_a_thousand) / 1_000;
+        let mut end = u64::MAX;
+        for count in self.counts.iter().rev() {
+            if *count > left {
+                return end.min(self.longest);
             }
-            left = left.saturating_sub(count);
+            left = left.saturating_sub(*count);
+            end = end.min(STEPS as u64 * STEP).saturating_sub(STEP);
         }
         0
     }

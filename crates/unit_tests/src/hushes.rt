@@ -3,7 +3,7 @@ ghost use Rattle.snapshot_update.specs.Workers.{IsWorkerOf};
 
 use crate::asserts::{need, same};
 use crate::crew::{inc, last_worker};
-use crate::jobs::{increments, make_team, runs, team_finds};
+use crate::jobs::{lists, make_team, team_after, team_finds};
 use register_rule::Board;
 use snapshot_update::Worker;
 use std::io;
@@ -90,20 +90,7 @@ fn a_worker_rests_once_for_a_request(rt: HostRuntime) {
 #[test]
 fn updates_ask_for_no_rest(rt: HostRuntime) {
     let rt = &rt;
-    let it = make_team::<2, 1, 0, 0>(rt, rt.alloc());
-    let mut jobs = need(rt, Vec::with_capacity(rt.alloc(), 2));
-    need(rt, jobs.push(increments(rt, rt.alloc(), 50_000)));
-    need(rt, jobs.push(increments(rt, rt.alloc(), 50_000)));
-    let workers = need(
-        rt,
-        runs(
-            rt,
-            rt.alloc(),
-            &it.board,
-            it.workers,
-            jobs.as_slice(),
-            &Open,
-        ),
-    );
-    same(rt, (workers.len(), requests(&it.board)), (2, (0, 0)));
+    let jobs = lists(rt, rt.alloc(), 2, 50_000);
+    let (it, fault) = team_after::<_, 2, 1, 0, 0>(rt, rt.alloc(), jobs, &Open);
+    same(rt, (fault, requests(&it.board)), (None, (0, 0)));
 }
