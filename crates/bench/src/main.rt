@@ -15,11 +15,11 @@
 //! `bench torn SCRAPES apart`, or `together`, prints so many scrapes of a board on which a thread counts without rest, each behind a line
 //! `---`; a scrape that is given up has no text: [`torn`].
 //!
-//! `bench starved THREADS SPINS SCANS SIZE` makes scans at four paces beside so many threads that publish without rest, of which each loads a
-//! number of its own SPINS times between two versions: none, one each second, one each millisecond, and SCANS without rest. SIZE is `small`, a
-//! board of (4, 64, 8, 0), `large`, (16, 256, 32, 0), or `greatest`, (32, 256, 32, 64). Of each pace it prints how many scans were made and
-//! given up, the nanoseconds of one and of the longest; and those of a version of one thread, and which half, 99 and 99.9 of 100 updates took
-//! at most, and the longest one: [`starved`].
+//! `bench starved THREADS SPINS SCANS SIZE` makes scans at four paces beside so many threads that publish without rest, at most those of the
+//! board, of which each loads a number of its own SPINS times between two versions: none, one each second, one each millisecond, and SCANS
+//! without rest. SIZE is `small`, a board of (4, 64, 8, 0), `large`, (16, 256, 32, 0), or `greatest`, (32, 256, 32, 64). Of each pace it prints
+//! how many scans were made and given up, the nanoseconds of one and of the longest; and those of a version of one thread, and which half, 99
+//! and 99.9 of 100 updates took at most, and the longest one: [`starved`].
 //!
 //! Exit status 0 at the end; 2 for other arguments; 1 where something failed.
 #![tactic(auto)]

@@ -14,7 +14,7 @@ use dirgwako::{Crew, ServiceRuntime, Snapshot};
 use std::thread::{join, sleep};
 use std::time::{Clock, Duration, Instant};
 
-/// What is asked for: so many threads, each of which loads a number of its own so often between two versions, and so many scans without
+/// What is asked for: so many threads, at most those of the board, each of which loads a number of its own so often between two versions, and so many scans without
 /// rest.
 #[derive(Clone, Copy)]
 pub struct Asked {
@@ -85,7 +85,10 @@ fn scan_all(rt: &impl ServiceRuntime, scanning: &mut impl Work, pace: Pace) -> R
         if pace.is_scanned {
             found.scan(rt, scanning)?;
         }
-        sleep(rt, Duration::from_micros(pace.micros));
+        // A sleep takes some 60 microseconds, also where it is of none.
+        if pace.micros > 0 {
+            sleep(rt, Duration::from_micros(pace.micros));
+        }
     }
     Ok(found)
 }

@@ -78,6 +78,8 @@ struct Plan {
     confirms: bool,
     asks: bool,
     ends: bool,
+    /// How often it publishes at most.
+    most: u64,
 }
 
 /// A seat that scans while the second worker publishes by plan, and adds 5 each time. The first load is left alone.
@@ -90,10 +92,13 @@ struct Beside<'a, S> {
     ghost of_board: { IsWorkerOf board.now worker } by { IsWorkerOf-prop board.now worker },
 }
 
-/// Whether the worker, which has published or not, publishes before this load.
-fn is_planned(plan: Plan, begun: bool, what: Load) -> bool {
+/// Whether the worker, which has published so often, publishes before this load.
+fn is_planned(plan: Plan, number: u64, what: Load) -> bool {
+    if number >= plan.most {
+        return false;
+    }
     match what {
-        Load::Open { place } => place == 1 && plan.opens && begun,
+        Load::Open { place } => place == 1 && plan.opens && number > 0,
         Load::Confirm { place } => place == 1 && plan.confirms,
         Load::Ask { place: _ } => plan.asks,
         Load::EndAsk { place: _ } => plan.ends,
@@ -110,7 +115,7 @@ impl<'a, S: ScanSeat<2, 1, 0, 0>> ScanSeat<2, 1, 0, 0> for Beside<'a, S> {
         ensures learns { ScanChangesBy 2 1 0 0 (after 2 1 what result) (S.bundle self.old.seat) (S.bundle self.new.seat) }
         ensures told { LoadTells 1 what (members_of (S.bundle self.old.seat)) result }
     {
-        if is_planned(self.plan, self.worker.number() > 0, what) {
+        if is_planned(self.plan, self.worker.number(), what) {
             let _ = self.worker.inc(self.board, &counter(0), 5);
         }
         self.seat.load(board, what)
@@ -150,12 +155,38 @@ fn a_running_worker_lends(rt: HostRuntime) {
         confirms: true,
         asks: true,
         ends: false,
+        most: u64::MAX,
     };
     let (board, worker, seat) = done(rt, with_reader(rt.alloc()));
     let mut out = need(rt, Snapshot::new(rt.alloc()));
     let found = scan_beside(rt, rt.alloc(), &board, worker, seat, plan, &mut out);
     finds(rt, found, &out, &[0, 3]);
     same(rt, (out.counter(0), requests(&board)), (15, (0, 1)));
+}
+
+/// The worker publishes so often, each time before a try confirms its number: the try behind the last one is direct. The scan asked the workers
+/// to rest once for each that failed, and does so no more.
+fn is_direct(rt: &impl Abort, alloc: Global, most: u64) {
+    let plan = Plan {
+        opens: false,
+        confirms: true,
+        asks: false,
+        ends: false,
+        most,
+    };
+    let (board, worker, seat) = done(rt, with_reader(alloc));
+    let mut out = need(rt, Snapshot::new(alloc));
+    let found = scan_beside(rt, alloc, &board, worker, seat, plan, &mut out);
+    finds(rt, found, &out, &[0, most]);
+    same(rt, requests(&board), (0, most));
+}
+
+/// None of the first three tries fails, or one, or two.
+#[test]
+fn a_running_scan_is_direct(rt: HostRuntime) {
+    for most in 0..3u64 {
+        is_direct(&rt, rt.alloc(), most);
+    }
 }
 
 /// A scan of this seat is given up: a number rises in each of four tries, and while the worker is asked. The output stays as it was. Behind
@@ -175,6 +206,7 @@ fn is_given_up<S: ScanSeat<2, 1, 0, 0> + Drop>(
         confirms: true,
         asks: false,
         ends: true,
+        most: u64::MAX,
     };
     let contended = Contended {
         worker: 1,

@@ -8,19 +8,38 @@ use register_rule::Board;
 use snapshot_update::Worker;
 use std::io;
 use std::process::Abort;
+use std::thread::join;
 use std::time::{Clock, Duration, Instant};
 use worker_pool::Open;
 
-/// The number of the last request for which a new worker would rest now, 0 where no scan asks; and how often scans have asked for a rest.
+/// The number of the last request, for which a new worker rests now; 0 where no scan asks.
+fn asked<const N: usize, const C: usize, const H: usize, const G: usize>(
+    board: &Board<N, C, H, G>,
+) -> u64 {
+    let mut rested = 0;
+    board.rest_if_hushed(&mut rested);
+    rested
+}
+
+/// The same, and how often a rest was asked for before, by this function, too.
 pub(crate) fn requests<const N: usize, const C: usize, const H: usize, const G: usize>(
     board: &Board<N, C, H, G>,
 ) -> (u64, u64) {
-    let (mut now, mut all) = (0, 0);
-    board.rest_if_hushed(&mut now);
+    let now = asked(board);
     board.hush();
-    board.rest_if_hushed(&mut all);
+    let all = asked(board);
     board.end_hush();
     (now, all.wrapping_sub(1))
+}
+
+/// All seats of a board may ask at one time, 32 workers and 4 readers.
+#[test]
+fn all_seats_ask_at_once(rt: HostRuntime) {
+    let board = make_team::<1, 1, 0, 0>(&rt, rt.alloc()).board;
+    for number in 1..37u64 {
+        board.hush();
+        same(&rt, asked(&board), number);
+    }
 }
 
 /// Two scans ask, of which one asks anew: the end of one does not end the hush of the other.
@@ -36,6 +55,24 @@ fn a_hush_lasts_while_any_scan_asks(rt: HostRuntime) {
     same(rt, requests(&board), (4, 4));
     board.end_hush();
     same(rt, requests(&board), (0, 5));
+}
+
+/// Asks, asks anew and ends it, again and again.
+fn ask_often(board: &Board<1, 1, 0, 0>) {
+    for _scan in 0..50_000u64 {
+        board.hush();
+        board.hush_anew();
+        board.end_hush();
+    }
+}
+
+/// Two threads ask at once: no request of theirs is lost, and none asks behind them.
+#[test]
+fn two_threads_ask(rt: HostRuntime) {
+    let rt = &rt;
+    let board = &make_team::<1, 1, 0, 0>(rt, rt.alloc()).board;
+    join(rt, || ask_often(board), || ask_often(board));
+    same(rt, requests(board), (0, 200_000));
 }
 
 /// How long an increment takes.
