@@ -49,7 +49,8 @@ use std::rt::Env;
 use torn::print_scrapes;
 
 const USAGE: &str =
-    "usage: bench ROUNDS, at most 1000000000, or bench serve PORT REPLIES small|large, or bench torn SCRAPES apart|together, or bench starved THREADS SPINS SCANS small|large|greatest";
+    "usage: bench ROUNDS, at most 1000000000, or bench serve PORT REPLIES small|large, or bench torn SCRAPES apart|together, \
+     or bench starved THREADS SPINS SCANS small|large|greatest";
 
 /// Measures updates and scans of three geometries.
 fn measure_boards(lines: &mut Lines<'_, impl ServiceRuntime>) -> Result<()> {

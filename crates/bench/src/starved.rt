@@ -14,8 +14,8 @@ use dirgwako::{Crew, ServiceRuntime, Snapshot};
 use std::thread::{join, sleep};
 use std::time::{Clock, Duration, Instant};
 
-/// What is asked for: so many threads, at most those of the board, each of which loads a number of its own so often between two versions, and so many scans without
-/// rest.
+/// What is asked for: so many threads, at most those of the board, each of which loads a number of its own so often between two versions,
+/// and so many scans without rest.
 #[derive(Clone, Copy)]
 pub struct Asked {
     pub threads: usize,

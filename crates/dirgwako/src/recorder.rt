@@ -136,6 +136,7 @@ impl<'a, const N: usize, const C: usize, const H: usize, const G: usize> Recorde
     ///
     /// 16 [`CountFault::WrongRegistry`], the id of one of them is not the board's; then [`CountFault::Apply`]: 15, or 11 or 12 of the
     /// first change that fails, with its place. Nothing has changed then.
+    #[inline(always)]
     pub fn publish<const K: usize>(&mut self, changes: &[Change; K]) -> Result<(), CountFault>
         ensures board { board_in self.new ≡ board_in self.old }
         ensures index { index_of (worker_in self.new) ≡ index_of (worker_in self.old) }

@@ -22,7 +22,7 @@ use std::sync::{Mutex, Wait};
 /// scrapes behind one lock.
 ///
 /// Its calls take `&self`, so that any number of threads may share it. They wait for the lock, in no order that is promised; while
-/// a scrape is made, the others wait for it. Workers count on the board meanwhile, and never wait.
+/// a scrape is made, the others wait for it. Workers count on the board meanwhile, and know nothing of the lock.
 ///
 /// Whatever the calls were, whenever the lock is free its journal replays to its families, and its kept scrapes are at most the
 /// window, the last that its reader recorded, and moments of one history of publishes: that is what [`RegistryOf::into_state`]

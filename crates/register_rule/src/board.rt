@@ -51,7 +51,8 @@ impl Split<SeatView> for Brand {
 }
 
 /// The words that all workers and readers share: `N` segments, 1 to 32, of rows of `C` counters, at most 256, `H`
-/// histograms, at most 32, and `G` gauges, at most 64. A row has `C + 27 * H + 2 * G` words of at most 2^48 - 1.
+/// histograms, at most 32, and `G` gauges, at most 64. A row has `C + 27 * H + 2 * G` words of at most 2^48 - 1. Beside them is the hush word,
+/// by which a scan asks the workers to rest ([`Board::hush`]).
 pub struct Board<const N: usize, const C: usize, const H: usize, const G: usize> {
     pub(crate) table: Table<(), SeatView, Key, Law<N, C, H, G>, Global>,
     pub(crate) id: u64,

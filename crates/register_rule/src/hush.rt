@@ -15,10 +15,10 @@ const REQUEST: u64 = 256;
 
 /// How often a worker looks at the word in one rest, at most.
 ///
-/// So many looks are 40 to 70 microseconds on the machine that docs/MEASURING.md speaks of, where a try of the greatest scan reads its 32 rows
-/// of 1,248 words in 30. Where a try takes longer than a rest, since the machine is slower or the thread that scans was held up, the worker
-/// goes on, the try may fail, and the scan asks anew; what it confirmed it need not read again. Plain loads, and no `PAUSE`, which takes six
-/// times as long on one processor as on another.
+/// So many looks are 40 to 70 microseconds on the machine that docs/MEASURING.md speaks of, where the greatest scan reads its 32 rows of 1,248
+/// words in some 30: twice its `scan_moved_16`. Where a try takes longer than a rest, since the machine is slower or the thread that scans was
+/// held up, the worker goes on, the try may fail, and the scan asks anew; what it confirmed it need not read again. Plain loads, and no `PAUSE`,
+/// whose length differs from processor to processor.
 const LOOKS: usize = 100_000;
 
 /// The word, alone on its cache line whatever lies beside the board: it is written only where a scan's try fails.
