@@ -29,7 +29,7 @@ use std::alloc::Global;
 use std::mem;
 use std::sync::Wait;
 use std::thread::Threads;
-use worker_pool::{Open, PoolFault, run_lists};
+use worker_pool::{PoolFault, run_freely};
 
 /// How many scrapes a script's registry keeps at first.
 const WINDOW: usize = 64;
@@ -157,7 +157,7 @@ impl<'a> State<'a> {
         ensures lost { OnErr result (IsLost self.old self.new) }
     {
         let workers = mem::replace(&mut self.workers, Vec::new(self.alloc));
-        match run_lists(rt, self.alloc, self.board, workers, &self.queue, &Open) {
+        match run_freely(rt, self.alloc, self.board, workers, &self.queue) {
             Ok(workers) => {
                 self.workers = workers;
                 self.queue.clear();

@@ -1,6 +1,4 @@
 //! Gates for tests.
-ghost use Rattle.std.specs.Prelude.{false};
-
 use std::sync::atomic::{AtomicU64, Ordering};
 use std::thread::yield_now;
 use worker_pool::Gate;
@@ -68,10 +66,6 @@ impl Meeting {
 }
 
 impl Gate for Meeting {
-    ghost ALWAYS_OPEN = { false };
-
-    const ALWAYS_OPEN: bool = false;
-
     fn open(&self, worker: usize) -> bool {
         if self.is_shut() {
             return false;
@@ -118,10 +112,6 @@ impl ShutsBehind {
 }
 
 impl Gate for ShutsBehind {
-    ghost ALWAYS_OPEN = { false };
-
-    const ALWAYS_OPEN: bool = false;
-
     fn open(&self, _worker: usize) -> bool {
         self.asked.fetch_add(1, Ordering::SeqCst);
         self.told.load(Ordering::SeqCst) == 0

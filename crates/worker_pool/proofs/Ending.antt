@@ -1,6 +1,6 @@
 -- What the threads promised and kept is how the run ended.
 use Rattle.std.proofs.Common.{◌≡◌, ℕ, zero, suc, ◌<◌, ◌≤◌, List, [], ◌∷◌, length, map, All, get_or, Result, Ok, Err, IfOk, IfErr}
-use Rattle.std.proofs.Common.{refl, subst, arith, Bool}
+use Rattle.std.proofs.Common.{refl, subst, arith, Bool, ⊎_elim, ◌≢◌}
 use Rattle.std.specs.declared.vec.Vec.{Vec}
 use Rattle.std.specs.declared.alloc.Global.{Global}
 use mathlib.Core.Option.{some}
@@ -41,6 +41,21 @@ pub own_back : {N C H G : ℕ} (b : Board N C H G) (lists : List (List Job)) (ws
 own_back b lists ws (Ok v) long did = all_own b lists ws v.items long did
 own_back b lists ws (Err f) long did = tt
 
+module _ {N C H G : ℕ} {Q : Type 0} (lists_of : Q → List (List Job)) (hs : List (Handle Q N C H G)) (many : ℕ) where
+  -- what the results of all threads came to is what the threads' promises came to
+  pub all_kept : (ends : List (End N C H G)) (r : Result (Vec (Worker N C H G) Global) PoolFault) → HaveKept lists_of hs ends
+      → IfOk r (λ v. (ends ≡ map Ok v.items) × (many ≤ length ends))
+      → IfOk r (λ v. HaveKept lists_of hs (map Ok v.items) × (many ≤ length hs))
+  all_kept ends (Err f) kept out = tt
+  all_kept ends (Ok v) kept out = let same = kept.all in let most = out.1 in
+      (subst (λ (l : List (End N C H G)). HaveKept lists_of hs l) out.0 kept, omega (arith, same, most))
+
+  pub all_told : (ends : List (End N C H G)) (r : Result (Vec (Worker N C H G) Global) PoolFault) → HaveKept lists_of hs ends
+      → IfErr r (IsLeast (Occurred many ends))
+      → IfErr r (λ f. (all : List (End N C H G)) × HaveKept lists_of hs all × IsLeast (Occurred many all) f)
+  all_told ends (Ok v) kept least = tt
+  all_told ends (Err f) kept least = (ends, kept, least)
+
 module _ {N C H G : ℕ} (always : Bool) (b : Board N C H G) (lists : List (List Job)) (ws : List (Worker N C H G)) {Q : Type 0}
     (lists_of : Q → List (List Job)) (hs : List (Handle Q N C H G)) (pledged : ArePledged lists_of always b lists ws hs) where
   ended : (ends : List (End N C H G)) → length hs ≤ length ws → HaveKept lists_of hs ends → AreEnds always b lists ws ends
@@ -62,6 +77,10 @@ module _ {N C H G : ℕ} (always : Bool) (b : Board N C H G) (lists : List (List
             promise.was.value end) p.always_open_is (kept.each i h.0 end h.1 came)))));
       }
 
+  -- this fault is told of the ends of all threads
+  abbrev TellsOf : (many : ℕ) → PoolFault → Type 0
+  TellsOf many f = (all : List (End N C H G)) × HaveKept lists_of hs all × IsLeast (Occurred many all) f
+
   did_all : (vs : List (Worker N C H G)) → length hs ≡ length ws → HaveKept lists_of hs (map Ok vs) → DidAll b lists ws vs
   did_all vs whole kept =
       let e = ended (map Ok vs) (omega (arith, whole)) kept in
@@ -71,14 +90,10 @@ module _ {N C H G : ℕ} (always : Bool) (b : Board N C H G) (lists : List (List
       }
 
   -- where a pool of so many workers hands them back, all of them did their jobs
-  pub handed_back : (many : ℕ) (ends : List (End N C H G)) (r : Result (Vec (Worker N C H G) Global) PoolFault) → many ≡ length ws
-      → HaveKept lists_of hs ends → length hs ≤ length ws
-      → IfOk r (λ v. (ends ≡ map Ok v.items) × (many ≤ length ends)) → IfOk r (λ v. DidAll b lists ws v.items)
-  handed_back many ends (Err f) whole kept few out = tt
-  handed_back many ends (Ok v) whole kept few out =
-      let same = kept.all in let most = out.1 in
-      did_all v.items (omega (arith, whole, same, few, most))
-      (subst (λ (l : List (End N C H G)). HaveKept lists_of hs l) out.0 kept)
+  pub handed_back : (many : ℕ) (r : Result (Vec (Worker N C H G) Global) PoolFault) → many ≡ length ws → length hs ≤ length ws
+      → IfOk r (λ v. HaveKept lists_of hs (map Ok v.items) × (many ≤ length hs)) → IfOk r (λ v. DidAll b lists ws v.items)
+  handed_back many (Err f) whole few out = tt
+  handed_back many (Ok v) whole few out = let most = out.1 in did_all v.items (omega (arith, whole, few, most)) out.0
 
   fault_of : (f : PoolFault) → 0 < length ws → IsFirstFault always b lists ws f → IsPoolFault always b lists ws f
   fault_of (Refused line number) one first = first
@@ -87,13 +102,37 @@ module _ {N C H G : ℕ} (always : Bool) (b : Board N C H G) (lists : List (List
   fault_of NoMemory one first = one
 
   -- where it does not, its first fault is told
-  pub told : (many : ℕ) (ends : List (End N C H G)) (r : Result (Vec (Worker N C H G) Global) PoolFault) → many ≡ length ws
-      → HaveKept lists_of hs ends → length hs ≤ length ws → 0 < length ws
-      → IfErr r (IsLeast (Occurred many ends)) → IfErr r (IsPoolFault always b lists ws)
-  told many ends (Ok v) whole kept few one least = tt
-  told many ends (Err f) whole kept few one least =
+  pub told : (many : ℕ) (r : Result (Vec (Worker N C H G) Global) PoolFault) → many ≡ length ws → length hs ≤ length ws
+      → 0 < length ws → IfErr r (λ f. TellsOf many f) → IfErr r (IsPoolFault always b lists ws)
+  told many (Ok v) whole few one tells = tt
+  told many (Err f) whole few one tells =
       fault_of f one (record {
-        ends = ends;
-        truly = ended ends few kept;
-        told = subst (λ (n : ℕ). IsLeast (Occurred n ends) f) whole least;
+        ends = tells.0;
+        truly = ended tells.0 few tells.1;
+        told = subst (λ (n : ℕ). IsLeast (Occurred n tells.0) f) whole tells.2;
       })
+
+  no_end : (i : ℕ) (jobs : List Job) (w : Worker N C H G) → IsWorkEnd always b i jobs w (Err NoMemory) → ⊥
+  no_end i jobs w end = end.stopped
+
+  is_memory : (f : PoolFault) → f ≡ NoMemory → (ends : List (End N C H G)) (i : ℕ) → get_elem? ends i ≡ some (Err f)
+      → get_elem? ends i ≡ some (Err NoMemory)
+  is_memory f is ends i at = subst (λ (x : PoolFault). get_elem? ends i ≡ some (Err x)) is at
+
+  no_thread : (k : ℕ) (f : PoolFault) → f ≡ NoMemory → f ≡ NoThread k → ⊥
+  no_thread k f one two = cc
+
+  -- where there was room, no want of memory is told
+  pub not_memory : (many : ℕ) (r : Result (Vec (Worker N C H G) Global) PoolFault) → length lists ≡ length ws → length hs ≤ length ws
+      → IfErr r (λ f. TellsOf many f) → IfErr r (λ f. f ≢ NoMemory)
+  not_memory many (Ok v) long few tells = tt
+  not_memory many (Err f) long few tells = λ is. let ends = tells.0 in let least = tells.2 in ⊎_elim
+      (λ met.
+      let at = is_memory f is ends least.place met in
+      let below = at_below ends least.place (Err NoMemory) at in
+      let e = ended ends few tells.1 in let most = e.few in
+      let jobs = item_at lists least.place (omega (arith, below, most, long)) in
+      let w = item_at ws least.place (omega (arith, below, most)) in
+      no_end least.place jobs.0 w.0 (e.each least.place jobs.0 w.0 (Err NoMemory) jobs.1 w.1 at))
+      (λ met. no_thread least.place f is met.2)
+      least.met

@@ -34,10 +34,10 @@ module _ {N C H G : ℕ} (b : Board N C H G) (lists : List (List Job)) (ws : Lis
   -- no worker ended by a fault of this number
   not_by : (place : ℕ) (jobs : List Job) (w : Worker N C H G) (f : PoolFault) → IsWorkEnd true b place jobs w (Err f)
       → pool_fault_number f ≢ 29
-  not_by place jobs w (Refused line number) refused e = of_worker refused.fault (sym refused.number_is ∙ e)
-  not_by place jobs w (GateShut worker) shut e = absurd (let t : true ≡ false = shut.1 in cc)
-  not_by place jobs w (NoThread worker) end e = end
-  not_by place jobs w NoMemory end e = end
+  not_by place jobs w (Refused line number) end e = of_worker end.stopped.fault (sym end.stopped.number_is ∙ e)
+  not_by place jobs w (GateShut worker) end e = absurd (let t : true ≡ false = end.stopped.1 in cc)
+  not_by place jobs w (NoThread worker) end e = end.stopped
+  not_by place jobs w NoMemory end e = end.stopped
 
   not_first : (f : PoolFault) → IsFirstFault true b lists ws f → pool_fault_number f ≢ 29
   not_first f is = ⊎_elim

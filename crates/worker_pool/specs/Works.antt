@@ -22,31 +22,40 @@ module _ {N C H G : ℕ} where
     pub lists : lists_of v ≡ lists_of w ++ map list_of_job jobs
     pub handles : All (λ job. registry_of job.what ≡ board_id b) jobs
 
-  -- the worker did the first k jobs, and then refused the next one, which is of this line, for a reason of this number
-  pub record WasRefused (b : Board N C H G) (jobs : List Job) (w : Worker N C H G) (line number : ℕ) : Type 0 where
+  -- from w to v the worker did the first k jobs, and then refused the next one, which is of this line, for a reason of this number: it
+  -- has published nothing else
+  pub record WasRefused (b : Board N C H G) (jobs : List Job) (line number : ℕ) (w v : Worker N C H G) : Type 0 where
     pub k : ℕ
     pub job : Job
     pub at : get_elem? jobs k ≡ some job
     pub line_is : line ≡ job.line
-    pub v : Worker N C H G
     pub did : Did b (take k jobs) w v
     pub fault : CountFault
     pub refused : IsCountFault C H G (board_id b) (registry_of job.what) (op_of job.what) (member_of v) fault
     pub number_is : number ≡ count_fault_number fault
 
-  -- the worker did the first k jobs, and there was a next one
-  pub record WasShutOut (b : Board N C H G) (jobs : List Job) (w : Worker N C H G) : Type 0 where
+  -- from w to v the worker did the first k jobs and nothing else, and there was a next one
+  pub record WasShutOut (b : Board N C H G) (jobs : List Job) (w v : Worker N C H G) : Type 0 where
     pub k : ℕ
     pub more : k < length jobs
-    pub v : Worker N C H G
     pub did : Did b (take k jobs) w v
 
-  -- how the work of the worker at this place, on its thread, ends: it did all its jobs, or was refused one, or was shut
-  -- out, by a gate that is not always open
+  -- by this fault the work of the worker at this place stopped, from w to v: it was refused a job, or was shut out, by a gate that is
+  -- not always open
+  abbrev pub HasStopped : (always_open : Bool) → Board N C H G → (place : ℕ) → List Job → (w v : Worker N C H G) → PoolFault → Type 0
+  HasStopped always_open b place jobs w v (Refused line number) = WasRefused b jobs line number w v
+  HasStopped always_open b place jobs w v (GateShut worker) = (worker ≡ place) × (always_open ≡ false) × WasShutOut b jobs w v
+  HasStopped always_open b place jobs w v (NoThread worker) = ⊥
+  HasStopped always_open b place jobs w v NoMemory = ⊥
+
+  -- it stopped, and is gone
+  pub record IsStopped (always_open : Bool) (b : Board N C H G) (place : ℕ) (jobs : List Job) (w : Worker N C H G) (f : PoolFault)
+      : Type 0 where
+    pub v : Worker N C H G
+    pub stopped : HasStopped always_open b place jobs w v f
+
+  -- how the work of the worker at this place, on its thread, ends: it did all its jobs, or stopped
   abbrev pub IsWorkEnd : (always_open : Bool) → Board N C H G → (place : ℕ) → List Job → Worker N C H G
       → Result (Worker N C H G) PoolFault → Type 0
   IsWorkEnd always_open b place jobs w (Ok v) = Did b jobs w v
-  IsWorkEnd always_open b place jobs w (Err (Refused line number)) = WasRefused b jobs w line number
-  IsWorkEnd always_open b place jobs w (Err (GateShut worker)) = (worker ≡ place) × (always_open ≡ false) × WasShutOut b jobs w
-  IsWorkEnd always_open b place jobs w (Err (NoThread worker)) = ⊥
-  IsWorkEnd always_open b place jobs w (Err NoMemory) = ⊥
+  IsWorkEnd always_open b place jobs w (Err f) = IsStopped always_open b place jobs w f

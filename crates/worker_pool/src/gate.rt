@@ -1,17 +1,9 @@
 //! Gates: what the threads of a pool wait for before each job.
-ghost use Rattle.std.specs.Prelude.{◌≡◌, Bool, true};
 
 /// What the threads of a pool ask before each job, and tell after it. A worker is named by its place in the pool's list, from 0.
 pub trait Gate {
-    // Whether it is always open, as clauses name it.
-    ghost ALWAYS_OPEN: { Bool };
-
-    /// Whether it is always open, for each worker. A pool behind a gate that is does not answer 29.
-    const ALWAYS_OPEN: bool;
-
     /// Whether the worker at this place may do its next job.
-    fn open(&self, worker: usize) -> bool
-        ensures { ALWAYS_OPEN ≡ true → result ≡ true };
+    fn open(&self, worker: usize) -> bool;
 
     /// The worker at this place has done a job.
     fn done(&self, worker: usize);
@@ -22,10 +14,6 @@ pub trait Gate {
 pub struct Open;
 
 impl Gate for Open {
-    ghost ALWAYS_OPEN = { true };
-
-    const ALWAYS_OPEN: bool = true;
-
     fn open(&self, _worker: usize) -> bool {
         true
     }

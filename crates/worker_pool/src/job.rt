@@ -1,5 +1,5 @@
 //! Jobs: what a worker of a pool is to do.
-ghost use Rattle.std.specs.Prelude.{◌≡◌, OnOk, IfErr};
+ghost use Rattle.std.specs.Prelude.{◌≡◌, OnOk, OnErr, IfErr};
 ghost use Rattle.register_rule.specs.Seats.{board_id};
 ghost use Rattle.snapshot_update.specs.Workers.{index_of, member_of, IsWorkerOf, IsCounted, IsCountFault};
 ghost use Rattle.worker_pool.specs.Jobs.{op_of, registry_of};
@@ -48,6 +48,7 @@ impl Job {
             (IsCounted (board_id board.now) (registry_of self.now.what) (op_of self.now.what) worker.old worker.new) }
         ensures fault { IfErr result (IsCountFault C H G (board_id board.now) (registry_of self.now.what) (op_of self.now.what)
             (member_of worker.old)) }
+        ensures unchanged { OnErr result (worker.new ≡ worker.old) }
     {
         match &self.what {
             JobOp::Inc(counter, by) => worker.inc(board, counter, *by),

@@ -10,9 +10,10 @@ mod promise;
 mod run;
 mod starting;
 mod thread_work;
+mod way;
 
 pub use fault::PoolFault;
 pub use gate::{Gate, Open};
 pub use job::{Job, JobOp};
 pub use job_lists::JobLists;
-pub use run::{run_lists, run_pool};
+pub use run::{run_freely, run_lists, run_pool};

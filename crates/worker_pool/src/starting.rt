@@ -1,18 +1,22 @@
 //! Starting the threads of a pool, and joining them.
-ghost use Rattle.std.specs.Prelude.{◌≡◌, ◌≢◌, true, ◌<◌, ◌≤◌, length, IfOk, IfErr, vec_len, vec_capacity, All};
+ghost use Rattle.std.specs.Prelude.{◌≡◌, ◌≢◌, true, ◌<◌, ◌≤◌, List, length, map, Result, Ok, IfOk, IfErr};
+ghost use Rattle.std.specs.Prelude.{vec_len, vec_capacity, All};
+ghost use Rattle.snapshot_update.specs.declared.worker.Worker.{Worker};
 ghost use Rattle.snapshot_update.specs.Workers.{IsWorkerOf};
-ghost use Rattle.worker_pool.specs.Faults.{pool_fault_number};
-ghost use Rattle.worker_pool.specs.Ends.{DidAll, IsPoolFault};
+ghost use Rattle.worker_pool.specs.declared.fault.PoolFault.{PoolFault};
+ghost use Rattle.worker_pool.specs.declared.fault.PoolFault.TheVariants.{NoMemory};
+ghost use Rattle.worker_pool.specs.Faults.{pool_fault_number, IsLeast};
+ghost use Rattle.worker_pool.specs.Ends.{DidAll, IsPoolFault, Occurred};
 ghost use Rattle.worker_pool.specs.Jobs.{jobs_at};
 ghost use Rattle.worker_pool.specs.Works.{IsWorkEnd};
 ghost use Rattle.worker_pool.specs.Pledges.{ArePledged, HaveKept};
 
 use crate::fault::PoolFault;
-use crate::gate::Gate;
 use crate::job_lists::JobLists;
 use crate::outcome::outcome;
 use crate::promise::Does;
 use crate::thread_work::work;
+use crate::way::Way;
 use register_rule::Board;
 use snapshot_update::Worker;
 use std::alloc::Global;
@@ -30,7 +34,7 @@ fn start_all<
     's,
     E: 's,
     Q: JobLists + Sync,
-    P: Gate + Sync,
+    W: Way + Sync,
     const N: usize,
     const C: usize,
     const H: usize,
@@ -40,13 +44,13 @@ fn start_all<
     board: &'s Board<N, C, H, G>,
     workers: Vec<Worker<N, C, H, G>>,
     lists: &'s Q,
-    gate: &'s P,
+    way: &'s W,
     threads: &mut Vec<Thread<'s, Q, N, C, H, G>>,
 )
     requires lists { length (Q.lists lists.now) ≡ vec_len workers }
     requires of_board { All (IsWorkerOf board.now) workers.items }
     requires room { (vec_len threads.old ≡ 0) × (vec_len workers ≤ vec_capacity threads.old) }
-    ensures pledged { ArePledged Q.lists P.ALWAYS_OPEN board.now (Q.lists lists.now) workers.entry.items threads.new.items }
+    ensures pledged { ArePledged Q.lists W.ALWAYS_OPEN board.now (Q.lists lists.now) workers.entry.items threads.new.items }
     ensures few { length threads.new.items ≤ length workers.entry.items }
 {
     let mut place = 0;
@@ -55,15 +59,15 @@ fn start_all<
             board,
             place,
             lists,
-            always_open: P::ALWAYS_OPEN,
+            always_open: W::always_open(),
             was: Snapshot::of(&worker),
         };
         let started = scope.spawn_with(
             promise,
             move || -> Result<Worker<N, C, H, G>, PoolFault>
                 requires { IsWorkerOf board.now worker × (place < length (Q.lists lists.now)) }
-                ensures { IsWorkEnd P.ALWAYS_OPEN board.entry.now place (jobs_at (Q.lists lists.entry.now) place) worker result }
-            { work(board, worker, place, lists, gate) },
+                ensures { IsWorkEnd W.ALWAYS_OPEN board.entry.now place (jobs_at (Q.lists lists.entry.now) place) worker result }
+            { work(board, worker, place, lists, way) },
         );
         let Ok(thread) = started else {
             return;
@@ -100,13 +104,78 @@ fn join_all<
     ends
 }
 
-/// Starts a thread for each worker, joins them all, and gives the workers back. Room is taken before the first thread.
+/// Joins all threads, those of the first of so many workers, and gives the workers back, or tells the fault that is told of all.
+fn finish<
+    's,
+    R: Threads,
+    Q: JobLists,
+    const N: usize,
+    const C: usize,
+    const H: usize,
+    const G: usize,
+>(
+    rt: &R,
+    threads: Vec<Thread<'s, Q, N, C, H, G>>,
+    ends: Vec<Result<Worker<N, C, H, G>, PoolFault>>,
+    workers: usize,
+    done: Vec<Worker<N, C, H, G>>,
+) -> Result<Vec<Worker<N, C, H, G>>, PoolFault>
+    requires ends { (vec_len ends ≡ 0) × (vec_len threads ≤ vec_capacity ends) }
+    requires done { (vec_len done ≡ 0) × (vec_len threads ≤ vec_capacity done) }
+    ensures all { IfOk result (λ v. HaveKept Q.lists threads.entry.items (map Ok v.items)
+        × (workers ≤ length threads.entry.items)) }
+    ensures told { IfErr result (λ f. (all : List (Result (Worker N C H G) PoolFault))
+        × HaveKept Q.lists threads.entry.items all × IsLeast (Occurred workers all) f) }
+{
+    let ends = join_all(rt, threads, ends);
+    outcome(ends, workers, done)
+}
+
+/// Starts a thread for each worker, joins them all, and gives the workers back. There is room for all, so it does not want memory.
+fn run_with_room<
+    's,
+    E: 's,
+    R: Threads,
+    Q: JobLists + Sync,
+    W: Way + Sync,
+    const N: usize,
+    const C: usize,
+    const H: usize,
+    const G: usize,
+>(
+    rt: &R,
+    scope: &'s Scope<'s, E>,
+    board: &'s Board<N, C, H, G>,
+    workers: Vec<Worker<N, C, H, G>>,
+    lists: &'s Q,
+    way: &'s W,
+    mut threads: Vec<Thread<'s, Q, N, C, H, G>>,
+    ends: Vec<Result<Worker<N, C, H, G>, PoolFault>>,
+    done: Vec<Worker<N, C, H, G>>,
+) -> Result<Vec<Worker<N, C, H, G>>, PoolFault>
+    requires lists { length (Q.lists lists.now) ≡ vec_len workers }
+    requires of_board { All (IsWorkerOf board.now) workers.items }
+    requires some { 0 < vec_len workers }
+    requires room { (vec_len threads ≡ 0) × (vec_len workers ≤ vec_capacity threads) × (vec_len ends ≡ 0)
+        × (vec_len workers ≤ vec_capacity ends) × (vec_len done ≡ 0) × (vec_len workers ≤ vec_capacity done) }
+    ensures did { IfOk result (λ v. DidAll board.now (Q.lists lists.now) workers.entry.items v.items) }
+    ensures of_board { IfOk result (λ v. All (IsWorkerOf board.now) v.items) }
+    ensures fault { IfErr result (IsPoolFault W.ALWAYS_OPEN board.now (Q.lists lists.now) workers.entry.items) }
+    ensures opened { W.ALWAYS_OPEN ≡ true → IfErr result (λ f. pool_fault_number f ≢ 29) }
+    ensures had_room { IfErr result (λ f. f ≢ NoMemory) }
+{
+    let many = workers.len();
+    start_all(scope, board, workers, lists, way, &mut threads);
+    finish(rt, threads, ends, many, done)
+}
+
+/// Takes room for the threads of all workers and what they hand back, and then runs them. So no thread was started where memory is wanted.
 pub(crate) fn run_in<
     's,
     E: 's,
     R: Threads,
     Q: JobLists + Sync,
-    P: Gate + Sync,
+    W: Way + Sync,
     const N: usize,
     const C: usize,
     const H: usize,
@@ -118,20 +187,20 @@ pub(crate) fn run_in<
     board: &'s Board<N, C, H, G>,
     workers: Vec<Worker<N, C, H, G>>,
     lists: &'s Q,
-    gate: &'s P,
+    way: &'s W,
 ) -> Result<Vec<Worker<N, C, H, G>>, PoolFault>
     requires lists { length (Q.lists lists.now) ≡ vec_len workers }
     requires of_board { All (IsWorkerOf board.now) workers.items }
     ensures did { IfOk result (λ v. DidAll board.now (Q.lists lists.now) workers.entry.items v.items) }
     ensures of_board { IfOk result (λ v. All (IsWorkerOf board.now) v.items) }
-    ensures fault { IfErr result (IsPoolFault P.ALWAYS_OPEN board.now (Q.lists lists.now) workers.entry.items) }
-    ensures opened { P.ALWAYS_OPEN ≡ true → IfErr result (λ f. pool_fault_number f ≢ 29) }
+    ensures fault { IfErr result (IsPoolFault W.ALWAYS_OPEN board.now (Q.lists lists.now) workers.entry.items) }
+    ensures opened { W.ALWAYS_OPEN ≡ true → IfErr result (λ f. pool_fault_number f ≢ 29) }
 {
     if workers.is_empty() {
         return Ok(workers);
     }
     let many = workers.len();
-    let Ok(mut threads) = Vec::with_capacity(alloc, many) else {
+    let Ok(threads) = Vec::with_capacity(alloc, many) else {
         return Err(PoolFault::NoMemory);
     };
     let Ok(ends) = Vec::with_capacity(alloc, many) else {
@@ -140,7 +209,5 @@ pub(crate) fn run_in<
     let Ok(done) = Vec::with_capacity(alloc, many) else {
         return Err(PoolFault::NoMemory);
     };
-    start_all(scope, board, workers, lists, gate, &mut threads);
-    let ends = join_all(rt, threads, ends);
-    outcome(ends, many, done)
+    run_with_room(rt, scope, board, workers, lists, way, threads, ends, done)
 }

@@ -24,13 +24,13 @@ loop-worker-preserved g c =
       many = search rules;
       room = search rules;
       pledged = subst (λ (l : List (Handle g.row.Q.Denot g.row.N g.row.C g.row.H g.row.G)). ArePledged lists_of
-          g.P.Gate.ALWAYS_OPEN c.args.board.now lists ws l) (sym pushed.items)
-          (pledged_more lists_of g.P.Gate.ALWAYS_OPEN c.args.board.now lists ws c.loop-worker.threads.items c.in-Ok.thread place
+          g.W.Way.ALWAYS_OPEN c.args.board.now lists ws l) (sym pushed.items)
+          (pledged_more lists_of g.W.Way.ALWAYS_OPEN c.args.board.now lists ws c.loop-worker.threads.items c.in-Ok.thread place
           (jobs_at lists place) c.in-Some.worker inv.many
           (there lists place _ lt) next.0
           (record {
             board = ap (λ (p : D). p.board.now) ok;
-            always_open_is = ap (λ (p : D). p.always_open) ok ∙ c.ALWAYS_OPEN.ensures;
+            always_open_is = ap (λ (p : D). p.always_open) ok ∙ c.always_open.ensures;
             place_is = ap (λ (p : D). p.place) ok;
             jobs_are = ap (λ (p : D). jobs_at (lists_of p.lists.now) p.place) ok;
             worker = ap (λ (p : D). p.was.value) ok ∙ c.of.ensures;

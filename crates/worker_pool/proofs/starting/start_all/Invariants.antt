@@ -10,6 +10,6 @@ invariant-loop-worker g l = record {
   count : l.place + into_iter_len l.worker-iterator ≡ length l.fn.workers.items;
   many : length l.threads.items ≡ l.place;
   room : length l.fn.workers.items ≤ vec_capacity l.threads;
-  pledged : ArePledged g.Q.JobLists.lists g.P.Gate.ALWAYS_OPEN l.board (g.Q.JobLists.lists l.lists) l.fn.workers.items
+  pledged : ArePledged g.Q.JobLists.lists g.W.Way.ALWAYS_OPEN l.board (g.Q.JobLists.lists l.lists) l.fn.workers.items
       l.threads.items;
 }

@@ -2,4 +2,4 @@ use Rattle.std.proofs.Common.{◌≡◌, true}
 use Rattle.worker_pool.proofs.thread_work.opens.Given as goal
 
 abbrev pub invariant-loop : goal.invariant-loop
-invariant-loop g l = (g.P.Gate.ALWAYS_OPEN ≡ true → l.counter ≡ 0)
+invariant-loop g l = (g.W.Way.ALWAYS_OPEN ≡ true → l.counter ≡ 0)

@@ -1,38 +1,4 @@
-use Rattle.std.proofs.Common.{rules, ◌<◌, length, refl}
-use Rattle.worker_pool.specs.Jobs.{jobs_at}
-use Rattle.worker_pool.proofs.Places.{item_is}
-use Rattle.worker_pool.proofs.Working.{did_more, not_always}
 use Rattle.worker_pool.proofs.thread_work.work.Goals as goal
 
-pub returns-then-not-opens : goal.returns-then-not-opens
-returns-then-not-opens g c =
-    let jobs = jobs_at (g.Q.JobLists.lists c.args.lists.now) c.args.place in
-    let lt : c.loop-next.next < length jobs = search rules in (
-      refl,
-      not_always g.P.Gate.ALWAYS_OPEN c.opens.result c.opens.ensures (search rules),
-      record { k = c.loop-next.next; more = lt; v = c.loop-next.worker; did = c.loop-next.invariant },
-    )
-
 pub returns-in-Err : goal.returns-in-Err
-returns-in-Err g c =
-    let k = c.loop-next.next in let jobs = jobs_at (g.Q.JobLists.lists c.args.lists.now) c.args.place in
-    let job = c.job-job.result in
-    record {
-      k = k;
-      job = job;
-      at = item_is jobs k job c.job-job.ensures;
-      line_is = refl;
-      v = c.loop-next.worker;
-      did = c.loop-next.invariant;
-      fault = c.in-Err.fault;
-      refused = c.in-Err.ensures.fault;
-      number_is = c.number.ensures;
-    }
-
-pub loop-next-preserved : goal.loop-next-preserved
-loop-next-preserved g c =
-    let k = c.loop-next.next in let jobs = jobs_at (g.Q.JobLists.lists c.args.lists.now) c.args.place in
-    let job = c.job-job.result in
-    did_more c.args.board.now jobs c.args.worker c.loop-next.worker c.run.new.worker k job (item_is jobs k job c.job-job.ensures)
-    c.loop-next.invariant
-    c.in_default.ensures.of_board c.in_default.ensures.index c.in_default.ensures.counted
+returns-in-Err g c = record { v = c.work_on.new.worker; stopped = c.in-Err.ensures.stopped }
