@@ -5,7 +5,6 @@ ghost use Rattle.snapshot_update.specs.Workers.{IsWorkerOf};
 
 use crate::asserts::{done, need, same};
 use crate::helpers::desc;
-use dirgwako::OpenFault;
 use ledger_core::Counter;
 use metric_desc::Kind;
 use metric_registry::Registry;
@@ -35,17 +34,6 @@ pub(crate) type TwoCrew = Crew<2, 4, 1, 1>;
 
 /// A registry of it.
 pub(crate) type Two<'a> = Registry<'a, 2, 4, 1, 1>;
-
-/// Why a crew of the library for services is not opened, if it is not.
-pub(crate) fn why_shut<const N: usize, const C: usize, const H: usize, const G: usize>(
-    crew: &mut dirgwako::Crew<N, C, H, G>,
-    window: usize,
-) -> Option<OpenFault> {
-    match crew.open(window) {
-        Ok((_registry, _recorders, _scanners)) => None,
-        Err(fault) => Some(fault),
-    }
-}
 
 /// Takes the last reader.
 pub(crate) fn last_reader<const N: usize, const C: usize, const H: usize, const G: usize>(

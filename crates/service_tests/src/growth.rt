@@ -1,6 +1,5 @@
 //! Calls that take memory. Each that answers want of memory has changed nothing, and answers the same call again as it would have
 //! answered the first one.
-mod front;
 mod registries;
 
 use crate::asserts::{once_more, same};
@@ -144,10 +143,4 @@ fn growth_of_lines(rt: &impl Abort, alloc: Global) -> Result<(), Fail> {
         Err(NoMemory) => once_more(Lines::new(alloc, b"go\nscrape".as_slice()))?,
     };
     has_lines(rt, &mut lines)
-}
-
-/// The library for services: a crew, a family with a child, a metric without labels, and a scrape's text.
-#[test]
-fn growth_front(rt: HostRuntime) -> Result<(), Fail> {
-    front::use_team(&rt)
 }

@@ -1,7 +1,7 @@
 //! Registries of one thread, and what is registered.
 use crate::asserts::{done, need, same};
 use crate::crew::ID;
-use dirgwako::Registers;
+use crate::seen::Looked;
 use expo_text::render;
 use ledger_core::{Counter, Gauge};
 use metric_desc::{Desc, Kind};
@@ -66,9 +66,9 @@ pub(crate) fn values(alloc: Global, texts: &[&str]) -> Result<Vec<LabelValue>, F
 }
 
 /// Registers a family of this kind and name, with these labels.
-pub(crate) fn family<R: Registers>(
+pub(crate) fn family<L: Looked>(
     rt: &impl Abort,
-    registry: &mut R,
+    registry: &mut L,
     alloc: Global,
     kind: Kind,
     name: &str,

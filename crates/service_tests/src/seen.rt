@@ -1,17 +1,24 @@
 //! All that is seen of a registry.
 use crate::helpers::{Over, Plain, values};
-use dirgwako::{Behind, Registers};
 use expo_text::Scrape;
 use ledger_core::{GaugeTotals, HistTotals};
+use metric_desc::Desc;
 use metric_names::LabelValue;
-use registry_state::{FamilyId, Handle, Journal, ScrapeFault};
+use metric_registry::Registry;
+use registry_state::{ChildFault, FamilyId, Handle, Journal, RegisterFault, ScrapeFault};
 use snapshot_scan::{Scanner, Snapshot};
 use std::alloc::Global;
 use std::sync::Wait;
 use std::test::Fail;
 
 /// A registry, shared or not, as it is used and looked at. To look at it takes no memory.
-pub(crate) trait Looked: Registers {
+pub(crate) trait Looked {
+    /// Registers a family.
+    fn register(&mut self, desc: Desc) -> Result<FamilyId, RegisterFault>;
+
+    /// The child of these label values.
+    fn child(&mut self, family: FamilyId, values: &[LabelValue]) -> Result<Handle, ChildFault>;
+
     /// Makes a scrape.
     fn scrape(&mut self) -> Result<Scrape, ScrapeFault>;
 
@@ -23,6 +30,14 @@ pub(crate) trait Looked: Registers {
 }
 
 impl Looked for Plain {
+    fn register(&mut self, desc: Desc) -> Result<FamilyId, RegisterFault> {
+        Plain::register(self, desc)
+    }
+
+    fn child(&mut self, family: FamilyId, values: &[LabelValue]) -> Result<Handle, ChildFault> {
+        Plain::child(self, family, values)
+    }
+
     fn scrape(&mut self) -> Result<Scrape, ScrapeFault> {
         Plain::scrape(self)
     }
@@ -37,6 +52,14 @@ impl Looked for Plain {
 }
 
 impl Looked for Over<Scanner<'_, 1, 1, 1, 1>> {
+    fn register(&mut self, desc: Desc) -> Result<FamilyId, RegisterFault> {
+        Over::<Scanner<'_, 1, 1, 1, 1>>::register(self, desc)
+    }
+
+    fn child(&mut self, family: FamilyId, values: &[LabelValue]) -> Result<Handle, ChildFault> {
+        Over::<Scanner<'_, 1, 1, 1, 1>>::child(self, family, values)
+    }
+
     fn scrape(&mut self) -> Result<Scrape, ScrapeFault> {
         Over::<Scanner<'_, 1, 1, 1, 1>>::scrape(self)
     }
@@ -50,7 +73,22 @@ impl Looked for Over<Scanner<'_, 1, 1, 1, 1>> {
     }
 }
 
-impl<T: Wait> Looked for Behind<'_, '_, T, 1, 1, 1, 1> {
+/// A registry behind its lock, and the runtime that waits for it.
+#[derive(Drop)]
+pub(crate) struct Behind<'a, 'b, T: Wait> {
+    pub(crate) rt: &'a T,
+    pub(crate) registry: &'a Registry<'b, 1, 1, 1, 1>,
+}
+
+impl<T: Wait> Looked for Behind<'_, '_, T> {
+    fn register(&mut self, desc: Desc) -> Result<FamilyId, RegisterFault> {
+        self.registry.register(self.rt, desc)
+    }
+
+    fn child(&mut self, family: FamilyId, values: &[LabelValue]) -> Result<Handle, ChildFault> {
+        self.registry.child(self.rt, family, values)
+    }
+
     fn scrape(&mut self) -> Result<Scrape, ScrapeFault> {
         self.registry.scrape(self.rt)
     }

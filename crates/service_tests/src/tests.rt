@@ -1,14 +1,10 @@
-mod busy;
-mod clients;
 mod contended;
 mod ends;
 mod failing;
-mod front;
 mod hands_on;
 mod lines;
 mod pool;
 mod registry;
 mod replies;
 mod state;
-mod stream;
 mod tour;

@@ -16,11 +16,17 @@ fn nobody_settles(rt: HostRuntime) {
     same(rt, missing.number(), 18);
 }
 
-/// The third of four workers is not handed in. Those who are stand in any order.
+/// Four workers count 10,000 times each. Then the third of them is not handed in; those who are stand in any order.
 #[test]
-fn the_third_worker_is_missing(rt: HostRuntime) {
+fn four_workers_settle(rt: HostRuntime) {
     let rt = &rt;
-    let mut it = make_team::<4, 1, 0, 0>(rt, rt.alloc());
+    let jobs = lists(rt, rt.alloc(), 4, 10_000);
+    let (mut it, fault) = team_after::<_, 4, 1, 0, 0>(rt, rt.alloc(), jobs, &Open);
+    same(rt, fault, None);
+    let found = settle(&it.board, &mut it.reader, &mut it.workers, &mut it.out);
+    same(rt, found, Ok(()));
+    same(rt, it.out.vector(), [10_000; 4].as_slice());
+    same(rt, it.out.counter(0), 40_000);
     let fourth = last_worker(rt, &it.board, &mut it.workers);
     let _third = last_worker(rt, &it.board, &mut it.workers);
     let second = last_worker(rt, &it.board, &mut it.workers);
@@ -28,6 +34,7 @@ fn the_third_worker_is_missing(rt: HostRuntime) {
     let workers = &mut [fourth, first, second];
     let found = settle(&it.board, &mut it.reader, workers, &mut it.out);
     same(rt, found, Err(NotAll { missing: 2 }));
+    same(rt, it.out.counter(0), 40_000);
 }
 
 #[test]

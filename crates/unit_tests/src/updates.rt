@@ -14,19 +14,22 @@ const MAX: u64 = 281_474_976_710_655;
 fn workers_meet_a_reader(rt: HostRuntime) {
     let rt = &rt;
     let mut it = make_team::<4, 1, 0, 0>(rt, rt.alloc());
-    let mut first = last_worker(rt, &it.board, &mut it.workers);
+    let _fourth = last_worker(rt, &it.board, &mut it.workers);
+    let _third = last_worker(rt, &it.board, &mut it.workers);
     let mut second = last_worker(rt, &it.board, &mut it.workers);
+    let mut first = last_worker(rt, &it.board, &mut it.workers);
+    same(rt, first.index(), 0);
     inc(rt, &it.board, &mut first, 0, 3);
     first.meet(&it.board, &mut it.reader);
     let scan = it.reader.scan(&it.board, &mut it.out);
-    finds(rt, scan, &it.out, &[0, 0, 0, 1]);
+    finds(rt, scan, &it.out, &[1, 0, 0, 0]);
     same(rt, it.out.counter(0), 3);
     second.meet(&it.board, &mut it.reader);
     finds(
         rt,
         second.scan(&it.board, &mut it.out),
         &it.out,
-        &[0, 0, 0, 1],
+        &[1, 0, 0, 0],
     );
 }
 

@@ -6,8 +6,7 @@ ghost use Rattle.snapshot_update.specs.Workers.{IsWorkerOf};
 use crate::asserts::{once_more, same};
 use crate::crew::{ID, last_reader, last_worker};
 use crate::helpers::{OnePlain, Plain, desc, first_counter, first_gauge};
-use crate::seen::{Look, Looked, Moment, Seen};
-use dirgwako::Behind;
+use crate::seen::{Behind, Look, Looked, Moment, Seen};
 use expo_text::{Scrape, render};
 use ledger_core::{Counter, Gauge, GaugeTotals, HistTotals, Op};
 use metric_desc::Kind;
@@ -278,7 +277,7 @@ fn grow_both<R: Wait + Abort>(
     alloc: Global,
     board: &OneBoard,
     worker: &mut Worker<1, 1, 1, 1>,
-    grown: &mut Behind<'_, '_, R, 1, 1, 1, 1>,
+    grown: &mut Behind<'_, '_, R>,
     look: &mut Look,
 ) -> Result<(), Fail>
     requires { IsWorkerOf board.now worker.old }

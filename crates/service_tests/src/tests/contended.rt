@@ -9,9 +9,9 @@ use crate::helpers::{OnePlain, Over, family};
 use crate::seen::{Look, Looked};
 use expo_text::{Scrape, render};
 use ledger_core::Op;
-use metric_desc::Kind;
+use metric_desc::{Desc, Kind};
 use metric_names::LabelValue;
-use registry_state::{FamilyId, Journal, ScrapeFault};
+use registry_state::{ChildFault, FamilyId, Handle, Journal, RegisterFault, ScrapeFault};
 use scrape_http::Status;
 use scrape_server::serve_state;
 use snapshot_scan::{Contended, Snapshot, Source};
@@ -67,6 +67,14 @@ impl Source<1, 1, 1, 1> for GivesUp {
 }
 
 impl Looked for Over<GivesUp> {
+    fn register(&mut self, desc: Desc) -> Result<FamilyId, RegisterFault> {
+        Over::<GivesUp>::register(self, desc)
+    }
+
+    fn child(&mut self, family: FamilyId, values: &[LabelValue]) -> Result<Handle, ChildFault> {
+        Over::<GivesUp>::child(self, family, values)
+    }
+
     fn scrape(&mut self) -> Result<Scrape, ScrapeFault> {
         Over::<GivesUp>::scrape(self)
     }

@@ -1,10 +1,9 @@
 //! A registry behind its lock, served over loopback, one connection after the other.
-use super::clients::{Step, begin, play};
-use super::ends::OK_A;
+use super::clients::{OK_A, Step, begin, play};
+use super::{Names, new_team, opened};
 use crate::asserts::{need, same};
-use crate::crew::{ID, Two, TwoCrew, ends_with, made_counter, registry_of};
-use scrape_http::{Served, Status, WireFault};
-use scrape_server::{FromRegistry, serve_stream};
+use crate::crew::ID;
+use dirgwako::{FromRegistry, Registrar, Served, Status, WireFault, serve_stream};
 use std::alloc::Global;
 use std::net::{Ipv4Addr, Net, TcpListener, TcpStream};
 use std::process::Abort;
@@ -23,19 +22,19 @@ const STEPS: [Step; 4] = [
 ];
 
 /// Serves a connection.
-fn serve_next(rt: &(impl Wait + Abort), registry: &Two<'_>, listener: &TcpListener) -> One {
+fn serve_next(rt: &(impl Wait + Abort), registry: &Names<'_>, listener: &TcpListener) -> One {
     let (stream, _peer) = need(rt, listener.accept());
     serve_stream(&stream, &mut FromRegistry { rt, registry })
 }
 
 /// Serves two connections.
-fn serve_two(rt: &(impl Wait + Abort), registry: &Two<'_>, listener: &TcpListener) -> (One, One) {
+fn serve_two(rt: &(impl Wait + Abort), registry: &Names<'_>, listener: &TcpListener) -> (One, One) {
     let first = serve_next(rt, registry, listener);
     (first, serve_next(rt, registry, listener))
 }
 
 /// Serves the two that ask, and gives the replies that they read.
-fn serve_while_asked<T>(rt: &T, alloc: Global, registry: &Two<'_>) -> Vec<Vec<u8>>
+fn serve_while_asked<T>(rt: &T, alloc: Global, registry: &Names<'_>) -> Vec<Vec<u8>>
 where
     T: Abort + Threads + Wait + Sync + Net<Listener = TcpListener, Stream = TcpStream>,
 {
@@ -59,12 +58,17 @@ fn are_served(rt: &impl Abort, served: (One, One)) {
 }
 
 /// Both clients read their replies.
-fn asks_two<T>(rt: &T, alloc: Global, registry: &Two<'_>)
+fn asks_two<T>(rt: &T, registry: &Names<'_>)
 where
-    T: Abort + Threads + Wait + Sync + Net<Listener = TcpListener, Stream = TcpStream>,
+    T: Abort
+        + AllocGlobal
+        + Threads
+        + Wait
+        + Sync
+        + Net<Listener = TcpListener, Stream = TcpStream>,
 {
-    made_counter(rt, alloc, registry, "a");
-    let replies = serve_while_asked(rt, alloc, registry);
+    need(rt, Registrar::new(rt, registry).counter("a", ""));
+    let replies = serve_while_asked(rt, rt.alloc(), registry);
     let large = b"HTTP/1.1 431 Request Header Fields Too Large\r\n".as_slice();
     begin(rt, &replies, &[OK_A, large]);
 }
@@ -73,8 +77,9 @@ where
 #[test]
 fn two_connections(rt: HostRuntime) {
     let rt = &rt;
-    let mut crew = need(rt, TwoCrew::new(rt.alloc(), ID, 1));
-    let registry = registry_of(rt, rt.alloc(), &crew.board, &mut crew.readers, 4);
-    asks_two(rt, rt.alloc(), &registry);
-    ends_with(rt, registry, 1, 3);
+    let mut team = new_team(rt, rt.alloc(), ID);
+    let registry = opened(rt, &mut team, 4);
+    asks_two(rt, &registry);
+    let state = registry.into_state();
+    same(rt, (state.kept().len(), state.journal().len()), (1, 3));
 }

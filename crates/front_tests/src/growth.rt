@@ -1,4 +1,4 @@
-//! The library for services: its calls that take memory.
+//! Calls that take memory. Each that is refused has changed nothing, and answers the same call again as it would have answered the first one.
 use crate::asserts::{once_more, same};
 use crate::crew::{ID, why_shut};
 use dirgwako::{
@@ -132,9 +132,15 @@ fn use_one(rt: &(impl Abort + Wait + AllocGlobal)) -> Result<bool, Fail> {
 }
 
 /// A crew, and another one where it is spent.
-pub(super) fn use_team(rt: &(impl Abort + Wait + AllocGlobal)) -> Result<(), Fail> {
+fn use_team(rt: &(impl Abort + Wait + AllocGlobal)) -> Result<(), Fail> {
     if !use_one(rt)? {
         same(rt, use_one(rt)?, true);
     }
     Ok(())
+}
+
+/// A crew, a family with a child, a metric without labels, and a scrape's text.
+#[test]
+fn growth_front(rt: HostRuntime) -> Result<(), Fail> {
+    use_team(&rt)
 }

@@ -3,11 +3,11 @@
 use super::{Counts, Names, Tried, prints, try_out};
 use crate::asserts::{need, same};
 use crate::crew::ID;
-use crate::helpers::{self, Plain, plain};
 use dirgwako::{
-    CountFault, Counter, Gauge, Histogram, PrintFault, Registers, Registrar, TextFault, down, inc,
-    linear, observe, up,
+    CountFault, Counter, Gauge, Histogram, PlainSource, PrintFault, Registers, Registrar,
+    RegistryState, TextFault, down, inc, linear, observe, render, up,
 };
+use std::alloc::Global;
 use std::process::Abort;
 use std::sync::Wait;
 
@@ -108,6 +108,37 @@ pub(super) fn counts_and_shows(
     prints(rt, registry, SHOWN);
 }
 
+/// Two children of a counter, the later one in the text made first.
+pub(super) fn shows_requests(
+    rt: &(impl Wait + Abort + AllocGlobal),
+    registry: &Names<'_>,
+    recorder: &mut Counts<'_>,
+) {
+    let mut metrics = Registrar::new(rt, registry);
+    let help = "The total number of HTTP requests.";
+    let family = metrics.counter_family("http_requests_total", help, &["method", "code"]);
+    let family = need(rt, family);
+    let bad = need(rt, metrics.counter_of(&family, &["post", "400"]));
+    need(rt, recorder.inc(&bad, 3));
+    let good = need(rt, metrics.counter_of(&family, &["post", "200"]));
+    need(rt, recorder.inc(&good, 1_027));
+    prints(
+        rt,
+        registry,
+        r#"# HELP http_requests_total The total number of HTTP requests.
+# TYPE http_requests_total counter
+http_requests_total{method="post",code="200"} 1027
+http_requests_total{method="post",code="400"} 3
+"#,
+    );
+}
+
+/// A scrape shows children by their label values, whichever was made first.
+#[test]
+fn children_made_in_another_order(rt: HostRuntime) {
+    try_out(&rt, Tried::Requests, 2);
+}
+
 /// A scrape shows what was counted of each kind, by seven versions.
 #[test]
 fn metrics_of_each_kind(rt: HostRuntime) {
@@ -122,16 +153,29 @@ fn has_first_counter<S: Registers>(rt: &impl Abort, metrics: &mut Registrar<S>) 
     same(rt, counter, Counter { registry, slot });
 }
 
+/// A registry of one thread.
+type Plain = RegistryState<PlainSource<1, 1, 1, 1>, 1, 1, 1, 1>;
+
+/// One that keeps eight scrapes.
+fn plain(rt: &impl Abort, alloc: Global) -> Plain {
+    match Plain::new(alloc, need(rt, PlainSource::new(alloc)), ID, 8) {
+        Ok(registry) => registry,
+        Err(_) => rt.panic("no registry"),
+    }
+}
+
 /// A scrape shows it.
 fn shows_first_counter(rt: &impl Abort, metrics: &mut Registrar<Plain>) {
     has_first_counter(rt, metrics);
-    helpers::prints(rt, &mut metrics.at, "# TYPE c counter\nc{l=\"x\"} 0\n");
+    let text = need(rt, render(&need(rt, metrics.at.scrape())));
+    let shown = b"# TYPE c counter\nc{l=\"x\"} 0\n".as_slice();
+    same(rt, text.as_slice(), shown);
 }
 
 /// Metrics of a registry of one thread, which has no lock.
 #[test]
 fn a_registry_without_a_lock(rt: HostRuntime) {
-    let registry = plain(&rt, rt.alloc(), 8);
+    let registry = plain(&rt, rt.alloc());
     shows_first_counter(&rt, &mut Registrar::of(rt.alloc(), registry));
 }
 

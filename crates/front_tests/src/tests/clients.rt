@@ -27,6 +27,14 @@ pub(super) enum Step {
     Ask(&'static [u8]),
 }
 
+/// The reply of the counter `a`, which nobody has counted.
+pub(super) const OK_A: &[u8] =
+    b"HTTP/1.1 200 OK\r\nContent-Type: text/plain; version=0.0.4; charset=utf-8\r\nContent-Length: 21\r\nConnection: close\r\n\r\n# TYPE a counter\na 0\n";
+
+/// The reply where nothing is.
+pub(super) const MISSING: &[u8] =
+    b"HTTP/1.1 404 Not Found\r\nContent-Type: text/plain; charset=utf-8\r\nContent-Length: 10\r\nConnection: close\r\n\r\nNot Found\n";
+
 /// Connects to a port of this machine.
 pub(super) fn connect<T>(rt: &T, port: u16) -> TcpStream
 where

@@ -2,12 +2,16 @@
 //! is tried here is what none of them says: that the numbers and places are the documented ones, that each call succeeds, at its limits
 //! too, what a scrape prints, and how a server goes on behind clients that are not as they should be.
 mod bounds;
+mod busy;
+mod clients;
 mod counting;
+mod kept;
 mod limits;
 mod refused;
 mod serving;
 mod settled;
 mod shown;
+mod stream;
 mod tallies;
 
 use crate::asserts::{need, same, there};
@@ -49,6 +53,7 @@ enum Tried {
     Families,
     Children,
     EachKind,
+    Requests,
     Refusals,
     Tally,
     TallyRefused,
@@ -65,6 +70,7 @@ fn try_of(
         Tried::Families => refused::refuses_families(rt, &mut Registrar::new(rt, registry)),
         Tried::Children => refused::shows_children(rt, registry),
         Tried::EachKind => shown::counts_and_shows(rt, registry, recorder),
+        Tried::Requests => shown::shows_requests(rt, registry, recorder),
         Tried::Refusals => counting::refuses_all(rt, registry, recorder),
         Tried::Tally => tallies::publishes(rt, registry, recorder),
         Tried::TallyRefused => tallies::refuses(rt, recorder),

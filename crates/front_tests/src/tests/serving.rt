@@ -1,9 +1,8 @@
 //! Connections that a server answers, whoever comes between them.
+use super::clients::{MISSING, OK_A, Step, connect, play};
 use super::{Names, new_team, opened};
 use crate::asserts::{need, same, there};
 use crate::crew::ID;
-use crate::tests::clients::{Step, connect, play};
-use crate::tests::ends::{MISSING, OK_A};
 use dirgwako::{Answered, Registrar, listen, port_of, serve, serve_forever};
 use std::alloc::Global;
 use std::io::{self, ErrorKind, Write};
