@@ -1,4 +1,5 @@
 mod Answering
+mod Wrapping
 mod Mapping
 mod Reading
 mod Seating

@@ -2,8 +2,6 @@
 use Rattle.std.specs.Prelude.{◌≡◌, ◌≢◌, ℕ, List, [], Vec}
 use Rattle.std.specs.declared.alloc.Global.{Global}
 use Rattle.register_rule.specs.declared.board.Board.{Board}
-use Rattle.metric_registry.specs.declared.naming.Named.{Ghosts}
-use Rattle.metric_registry.specs.declared.registry.RegistryOf.{RegistryOf}
 use Rattle.registry_state.specs.Faults.{IsNewFault, new_fault_number}
 use Rattle.snapshot_scan.specs.declared.reader.Reader.{Reader}
 use Rattle.snapshot_scan.specs.declared.scanner.Scanner.{Scanner}
@@ -27,13 +25,11 @@ module _ {N C H G : ℕ} where
   readers_of c = c.readers.items
 
   -- what an open crew hands out beside the registry: its recorders, in order
-  abbrev pub recorders_in : {B : Type 0} {named : Ghosts B} → RegistryOf B N C H G named × Vec (Recorder N C H G) Global
-      × Vec (Scanner N C H G) Global → List (Recorder N C H G)
+  abbrev pub recorders_in : {R : Type 0} → R × Vec (Recorder N C H G) Global × Vec (Scanner N C H G) Global → List (Recorder N C H G)
   recorders_in o = o.1.items
 
   -- and its scanners
-  abbrev pub scanners_in : {B : Type 0} {named : Ghosts B} → RegistryOf B N C H G named × Vec (Recorder N C H G) Global
-      × Vec (Scanner N C H G) Global → List (Scanner N C H G)
+  abbrev pub scanners_in : {R : Type 0} → R × Vec (Recorder N C H G) Global × Vec (Scanner N C H G) Global → List (Scanner N C H G)
   scanners_in o = o.2.items
 
   -- why a crew is not opened

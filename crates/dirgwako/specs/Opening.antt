@@ -3,10 +3,9 @@ use Rattle.std.specs.Prelude.{◌≡◌, ℕ, [], ◌∷◌, ◌++◌, map, Vec,
 use Rattle.std.specs.declared.alloc.Global.{Global}
 use Rattle.register_rule.specs.Seats.{board_id}
 use Rattle.register_rule.specs.declared.board.Board.{Board}
-use Rattle.metric_registry.specs.Names.{id_of}
-use Rattle.metric_registry.specs.declared.naming.Named.{Ghosts}
-use Rattle.metric_registry.specs.declared.registry.RegistryOf.{RegistryOf}
 use Rattle.registry_state.specs.Faults.{IsWindow, IsNewFault}
+use Rattle.registry_state.specs.Kept.{RegistryView}
+use Rattle.registry_state.specs.Replay.{nothing}
 use Rattle.snapshot_scan.specs.Readers.{IsReaderOf}
 use Rattle.snapshot_scan.specs.Scanners.{reader_in}
 use Rattle.snapshot_scan.specs.declared.scanner.Scanner.{Scanner}
@@ -42,10 +41,19 @@ module _ {N C H G : ℕ} where
     pub workers : workers_of new ≡ workers_of old
     pub readers : readers_of new ≡ readers_of old
 
-  -- what is handed out for what was taken: all on this board, with its workers and its readers in order, but for the last
-  pub record IsHandedOut {B : Type 0} {named : Ghosts B} (b : Board N C H G) (t : Taken N C H G)
-      (o : RegistryOf B N C H G named × Vec (Recorder N C H G) Global × Vec (Scanner N C H G) Global) : Type 0 where
-    pub id : id_of o.0 ≡ board_id b
+  -- a registry in which nothing was registered and no scrape is kept: it scans this board, has its id, and keeps so many scrapes
+  pub record IsNewOn (b : Board N C H G) (window : ℕ) (r : RegistryView (Scanner N C H G)) : Type 0 where
+    pub scans : ScansOn b r.source
+    pub id : r.id ≡ board_id b
+    pub window_is : r.window ≡ window
+    pub journal : r.journal ≡ []
+    pub state : r.state ≡ nothing
+
+  -- what is handed out for what was taken: all on this board; the registry scans by the last reader, and the others are in order
+  pub record IsHandedOut (b : Board N C H G) (t : Taken N C H G) (window : ℕ)
+      (o : RegistryView (Scanner N C H G) × Vec (Recorder N C H G) Global × Vec (Scanner N C H G) Global) : Type 0 where
+    pub registry : IsNewOn b window o.0
+    pub last : reader_in o.0.source ≡ t.last
     pub boards : All (IsOn b) (recorders_in o)
     pub workers : map worker_in (recorders_in o) ≡ t.workers.items
     pub scanners : All (ScansOn b) (scanners_in o)

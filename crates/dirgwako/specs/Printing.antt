@@ -4,14 +4,18 @@ use Rattle.expo_text.specs.Scraped.{Scraped}
 use Rattle.expo_text.specs.Text.{text}
 use Rattle.scrape_http.specs.declared.source.NoScrape.{NoScrape}
 use Rattle.scrape_server.specs.Again.{AsksAgain}
+use Rattle.scrape_server.specs.Scrapes.{Scrapes}
 use Rattle.dirgwako.specs.declared.printing.TextFault.{TextFault}
 use Rattle.dirgwako.specs.declared.printing.TextFault.TheVariants.{NoMemory, Contended}
 use Rattle.dirgwako.specs.declared.printing.PrintFault.{PrintFault}
 use Rattle.dirgwako.specs.declared.printing.PrintFault.TheVariants.{Text, Output}
 use Rattle.register_rule.specs.declared.view.Answer.{Answer}
 use Rattle.snapshot_scan.specs.Scanners.{recorded_in}
+use Rattle.scrape_server.specs.Scans.{quit_in, gave_in, gave_up_in}
 use Rattle.snapshot_scan.specs.declared.scanner.Scanner.{Scanner}
 use Rattle.registry_state.specs.Kept.{IsKept, RegistryView}
+use Rattle.registry_state.specs.Journal.{RegistryChange}
+use Rattle.metric_registry.specs.Naming.{ShowsMoment}
 use Rattle.registry_state.specs.Shown.{IsShown}
 use Rattle.scrape_http.specs.declared.source.NoScrape.TheVariants as none
 
@@ -35,6 +39,19 @@ module _ {S : Type 0} (gave : S → S → Result Scraped NoScrape → Type 0) (b
   IsTextFault Contended = AsksAgain gave 3 before after (Err none.Contended)
   IsTextFault NoMemory = AsksAgain gave 3 before after (Err none.NoMemory)
       ⊎ ((scrape : Scraped) × AsksAgain gave 3 before after (Ok scrape))
+
+-- these bytes are the text of a scrape that shows the families which the first changes and some more made, at one moment of a
+-- history of publishes
+pub record ShowsText (n c h g : ℕ) (first : List RegistryChange) (bytes : List ℕ) : Type 0 where
+  pub scrape : Scraped
+  pub moment : ShowsMoment n c h g first scrape
+  pub text_is : bytes ≡ text scrape
+
+-- why there is no last text: what comes back was asked four times, and gave each scan up; that there was no memory no clause can say
+abbrev pub IsLastFault : {N C H G : ℕ} → TextFault → RegistryView (Scanner N C H G) → Type 0
+IsLastFault {N} {C} {H} {G} Contended registry = (before : RegistryView (Scanner N C H G))
+    × AsksAgain (Scrapes N C H G recorded_in quit_in gave_in gave_up_in) 3 before registry (Err none.Contended)
+IsLastFault NoMemory registry = Unit {0}
 
 -- the journal replays to what the registry holds; the scrapes that it keeps are at most the window, the last of what
 -- its reader recorded, and moments of one history of publishes, in order; and these bytes are the text of its

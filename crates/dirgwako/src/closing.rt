@@ -1,6 +1,8 @@
 //! A registry at its end.
 ghost use Rattle.std.specs.Prelude.{IfOk, IfErr};
-ghost use Rattle.dirgwako.specs.Printing.{IsText, IsTextFault, IsLastText};
+ghost use Rattle.registry_state.specs.Kept.{IsKept};
+ghost use Rattle.snapshot_scan.specs.Scanners.{recorded_in};
+ghost use Rattle.dirgwako.specs.Printing.{IsText, IsTextFault, IsLastText, IsLastFault};
 
 use crate::printing::{PrintFault, TextFault, print_text, text_from};
 use expo_text::Scrape;
@@ -12,8 +14,8 @@ use snapshot_scan::Scanner;
 
 /// What makes scrapes, as a source of them that is owned.
 #[derive(Drop)]
-struct Owned<X: MakesScrapes> {
-    state: X,
+pub(crate) struct Owned<X: MakesScrapes> {
+    pub(crate) state: X,
 }
 
 impl<X: MakesScrapes> ScrapeFrom for Owned<X> {
@@ -59,15 +61,21 @@ pub fn last_text<'a, const N: usize, const C: usize, const H: usize, const G: us
         RegistryState<Scanner<'a, N, C, H, G>, N, C, H, G>,
     ),
 >
-    ensures { IfOk result (λ last. IsLastText last.0.items last.1) }
+    ensures text { IfOk result (λ last. IsLastText last.0.items last.1) }
+    ensures fault { IfErr result (λ refused. IsLastFault refused.0 refused.1) }
+    ensures kept { IfErr result (λ refused. IsKept N C H G (recorded_in refused.1.source) refused.1.journal refused.1.window
+        refused.1.state) }
 {
+    // A look into the journal tells the proof what is kept.
     match text_of(registry.into_state()) {
         Ok((text, state)) => {
-            // A look into the journal tells the proof what is kept.
             let _ = state.journal();
             Ok((text, state))
         }
-        Err(refused) => Err(refused),
+        Err((fault, state)) => {
+            let _ = state.journal();
+            Err((fault, state))
+        }
     }
 }
 

@@ -1,5 +1,5 @@
 //! A board and all who work on it.
-ghost use Rattle.std.specs.Prelude.{◌≡◌, [], map, length, replicate, IfOk, IfErr, OnOk, OnErr, All};
+ghost use Rattle.std.specs.Prelude.{◌≡◌, [], ◌∷◌, ◌++◌, map, length, replicate, IfOk, IfErr, OnOk, OnErr, All};
 ghost use Rattle.std.specs.List.{range_with_len};
 ghost use Rattle.register_rule.specs.Faults.{IsBoardSize, IsBoardFault};
 ghost use Rattle.register_rule.specs.Seats.{board_id};
@@ -17,7 +17,7 @@ use crate::opening::{Taken, hand_out};
 use crate::recorder::Recorder;
 use metric_registry::Registry;
 use register_rule::{Board, BoardFault};
-use registry_state::NewFault;
+use registry_state::{NewFault, RegistryState};
 use snapshot_scan::{Reader, Scanner};
 use snapshot_update::Worker;
 use std::alloc::Global;
@@ -46,7 +46,7 @@ impl<const N: usize, const C: usize, const H: usize, const G: usize> Drop for Cr
 
 impl<const N: usize, const C: usize, const H: usize, const G: usize> Crew<N, C, H, G> {
     ghost use Rattle.dirgwako.specs.Crews.{board_of, workers_of, readers_of, recorders_in, scanners_in, IsOpenFault};
-    ghost use Rattle.dirgwako.specs.Opening.{IsTaken, IsKept};
+    ghost use Rattle.dirgwako.specs.Opening.{IsTaken, IsKept, IsNewOn};
     ghost use Rattle.dirgwako.specs.Recorders.{worker_in, IsOn};
 
     /// A new board of this id, on which nothing was counted, with its `N` workers and `readers` readers. All memory that counting and
@@ -99,6 +99,37 @@ impl<const N: usize, const C: usize, const H: usize, const G: usize> Crew<N, C, 
         })
     }
 
+    /// [`Crew::open`] with the registry as it is behind the lock: for a thread that shares it with nobody, so that the clauses of its calls
+    /// ([`RegistryState`]) say all that they do; and for one that registers before it shares ([`metric_registry::RegistryOf::lock`]).
+    ///
+    /// # Errors
+    ///
+    /// Those of [`Crew::open`]: 32 [`OpenFault::Opened`]; 31 and 6, [`OpenFault::Registry`].
+    pub fn open_state<'a>(
+        &'a mut self,
+        window: usize,
+    ) -> Result<
+        (
+            RegistryState<Scanner<'a, N, C, H, G>, N, C, H, G>,
+            Vec<Recorder<'a, N, C, H, G>>,
+            Vec<Scanner<'a, N, C, H, G>>,
+        ),
+        OpenFault,
+    >
+        ensures registry { IfOk result (λ o. IsNewOn (board_of self.old) window o.0) }
+        ensures boards { IfOk result (λ o. All (IsOn (board_of self.old)) (recorders_in o)) }
+        ensures workers { IfOk result (λ o. map worker_in (recorders_in o) ≡ workers_of self.old) }
+        ensures scanners { IfOk result (λ o. All (ScansOn (board_of self.old)) (scanners_in o)) }
+        ensures readers { IfOk result (λ o. readers_of self.old ≡ map reader_in (scanners_in o) ++ reader_in o.0.source ∷ []) }
+        ensures window { OnOk result (IsWindow window) }
+        ensures fault { IfErr result (IsOpenFault self.old window) }
+    {
+        match self.take(window) {
+            Ok(taken) => hand_out(self.alloc, &self.board, taken, window),
+            Err(fault) => Err(fault),
+        }
+    }
+
     /// Hands all out: `let (registry, mut recorders, scanners) = crew.open(64)?`. The registry keeps `window` scrapes, and scrapes by the
     /// last reader. There is a recorder for each of the `N` workers, in order, one for each thread that counts, and a scanner for each
     /// other reader, in order, which scans the board for itself.
@@ -126,8 +157,8 @@ impl<const N: usize, const C: usize, const H: usize, const G: usize> Crew<N, C, 
         ensures window { OnOk result (IsWindow window) }
         ensures fault { IfErr result (IsOpenFault self.old window) }
     {
-        match self.take(window) {
-            Ok(taken) => hand_out(self.alloc, &self.board, taken, window),
+        match self.open_state(window) {
+            Ok((state, recorders, scanners)) => Ok((Registry::lock(state), recorders, scanners)),
             Err(fault) => Err(fault),
         }
     }

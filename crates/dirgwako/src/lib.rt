@@ -39,7 +39,7 @@ pub use metric_desc::{Desc, HistogramFault, Kind, LabelsFault};
 pub use metric_names::{
     HelpTextFault, LabelNameFault, LabelValue, LabelValueFault, MetricNameFault,
 };
-pub use metric_registry::{AnyBoard, Named, Registry, RegistryOf};
+pub use metric_registry::{AnyBoard, Named, NotSettled, Registry, RegistryOf, settle_state};
 pub use opened::OpenFault;
 pub use printing::{PrintFault, TextFault, print_scrape, scrape_text};
 pub use recorder::Recorder;
@@ -47,12 +47,13 @@ pub use register_rule::{Board, BoardFault};
 pub use registers::{Behind, Registers};
 pub use registrar::Registrar;
 pub use registry_state::{
-    BadWindow, ChildFault, FamilyId, Handle, NewFault, RegisterFault, RegistryState, ScrapeFault,
+    BadWindow, ChildFault, FamilyId, Handle, Journal, Kept, NewFault, RegisterFault, RegistryState,
+    ScrapeFault,
 };
 pub use runtime::ServiceRuntime;
 pub use scrape_http::{NoScrape, ScrapeFrom, Served, Status, WireFault, serve_one};
 pub use scrape_server::{FromRegistry, MakesScrapes, serve_stream};
-pub use serving::{Answered, serve, serve_forever};
+pub use serving::{Answered, serve, serve_alone, serve_forever};
 pub use settling::settle;
 pub use snapshot_scan::{Contended, PlainSource, Reader, Scanner, Snapshot, Source};
 pub use snapshot_update::{ApplyFault, CountFault, Worker};

@@ -7,9 +7,8 @@ ghost use Rattle.dirgwako.specs.Scanning.{ScansOn};
 
 use crate::opened::OpenFault;
 use crate::recorder::Recorder;
-use metric_registry::Registry;
 use register_rule::Board;
-use registry_state::NewFault;
+use registry_state::{NewFault, RegistryState};
 use snapshot_scan::{Reader, Scanner};
 use snapshot_update::Worker;
 use std::alloc::{AllocError, Global};
@@ -22,7 +21,6 @@ pub(crate) struct Taken<const N: usize, const C: usize, const H: usize, const G:
 }
 
 /// Hands out all that was taken of a crew of this board: the registry first, then the recorders, then the scanners.
-#[tactic(auto, using(crate::proofs::Naming::any_board))]
 pub(crate) fn hand_out<'a, const N: usize, const C: usize, const H: usize, const G: usize>(
     alloc: Global,
     board: &'a Board<N, C, H, G>,
@@ -30,14 +28,14 @@ pub(crate) fn hand_out<'a, const N: usize, const C: usize, const H: usize, const
     window: usize,
 ) -> Result<
     (
-        Registry<'a, N, C, H, G>,
+        RegistryState<Scanner<'a, N, C, H, G>, N, C, H, G>,
         Vec<Recorder<'a, N, C, H, G>>,
         Vec<Scanner<'a, N, C, H, G>>,
     ),
     OpenFault,
 >
     requires { AreOf board.now taken }
-    ensures made { IfOk result (IsHandedOut board.now taken.entry) }
+    ensures made { IfOk result (IsHandedOut board.now taken.entry window) }
     ensures fault { IfErr result (IsNotHandedOut window) }
 {
     let Taken {
@@ -45,15 +43,15 @@ pub(crate) fn hand_out<'a, const N: usize, const C: usize, const H: usize, const
         readers,
         last,
     } = taken;
-    let registry = match Registry::new(alloc, board, last, window) {
-        Ok(registry) => registry,
+    let state = match RegistryState::new(alloc, Scanner::new(board, last), board.id(), window) {
+        Ok(state) => state,
         Err(no) => return Err(OpenFault::Registry(no.fault)),
     };
     let Ok(recorders) = Recorder::all(alloc, board, workers) else {
         return Err(OpenFault::Registry(NewFault::NoMemory));
     };
     match all_scanners(alloc, board, readers) {
-        Ok(scanners) => Ok((registry, recorders, scanners)),
+        Ok(scanners) => Ok((state, recorders, scanners)),
         Err(_) => Err(OpenFault::Registry(NewFault::NoMemory)),
     }
 }

@@ -1,7 +1,7 @@
 //! The text of a scrape, by itself and printed.
-ghost use Rattle.std.specs.Prelude.{◌≡◌, IfErr, IfOk, Ok, Err};
+ghost use Rattle.std.specs.Prelude.{◌≡◌, [], IfErr, IfOk, Ok, Err};
 ghost use Rattle.scrape_http.specs.declared.source.NoScrape.TheVariants as none;
-ghost use Rattle.dirgwako.specs.Printing.{IsText, IsTextFault, text_fault_number, print_fault_number};
+ghost use Rattle.dirgwako.specs.Printing.{IsText, IsTextFault, ShowsText, text_fault_number, print_fault_number};
 
 use expo_text::render;
 use metric_registry::Registry;
@@ -80,7 +80,9 @@ pub(crate) fn text_from<S: ScrapeFrom>(source: &mut S) -> Result<Vec<u8>, TextFa
 pub fn scrape_text<R: Wait, const N: usize, const C: usize, const H: usize, const G: usize>(
     rt: &R,
     registry: &Registry<'_, N, C, H, G>,
-) -> Result<Vec<u8>, TextFault> {
+) -> Result<Vec<u8>, TextFault>
+    ensures moment { IfOk result (λ bytes. ShowsText N C H G [] bytes.items) }
+{
     text_from(&mut FromRegistry { rt, registry })
 }
 

@@ -59,6 +59,17 @@ impl<'a, const N: usize, const C: usize, const H: usize, const G: usize> Recorde
         worker
     }
 
+    /// Its board and its worker: a service that has all workers of a board back may [`settle`](metric_registry::settle_state) with its
+    /// registry, and workers may meet ([`Worker::meet`]).
+    pub fn into_parts(self) -> (&'a Board<N, C, H, G>, Worker<N, C, H, G>)
+        ensures board { result.0.now ≡ board_in self.entry }
+        ensures worker { result.1 ≡ worker_in self.entry }
+        ensures of_board { IsWorkerOf result.0.now result.1 }
+    {
+        let Recorder { board, worker } = self;
+        (board, worker)
+    }
+
     /// Adds `by` to a counter: one version. [`Worker::inc`].
     ///
     /// # Errors

@@ -1,13 +1,14 @@
 //! Connections are accepted and answered, one after the other.
-ghost use Rattle.std.specs.Prelude.{◌≡◌, ◌+◌, ◌<◌, ℕ, Option, IfOk, OnErr, IsErr};
+ghost use Rattle.std.specs.Prelude.{◌≡◌, ◌+◌, ◌<◌, ◌⊎◌, ℕ, Option, IfOk, OnErr, IsErr};
 ghost use Rattle.std.specs.Duration.{as_nanos};
 ghost use Rattle.scrape_http.specs.declared.serve.Served.{Served};
 ghost use Rattle.dirgwako.specs.Answering.{Answers, AreAnswered, IsBroken};
 
+use crate::closing::Owned;
 use crate::connection::answer;
 use metric_registry::Registry;
 use scrape_http::{ScrapeFrom, Served};
-use scrape_server::{AskedAgain, FromRegistry};
+use scrape_server::{AskedAgain, FromRegistry, MakesScrapes};
 use std::io::{self, ErrorKind};
 use std::net::{TcpListener, TcpStream};
 use std::sync::Wait;
@@ -134,6 +135,49 @@ pub fn serve<R: Wait + Clock, const N: usize, const C: usize, const H: usize, co
         },
         connections,
     )
+}
+
+/// [`serve`] of a registry that nobody shares ([`RegistryState`](registry_state::RegistryState), as it is behind a lock; or what else makes
+/// scrapes), which comes back after it. So its clauses say what each reply did to the registry: each 200 came of a scrape that this registry
+/// made and kept, and each other reply than 503 left it as it was.
+///
+/// # Errors
+///
+/// As [`serve`]. What was answered until then is in the registry.
+pub fn serve_alone<R: Clock, X: MakesScrapes + Drop>(
+    clock: &R,
+    listener: &TcpListener,
+    state: X,
+    patience: Duration,
+    connections: u64,
+) -> (io::Result<Answered>, X)
+    ensures replied { IfOk result.0 (λ answered. AreAnswered (Answers X.made) connections answered.replies state result.1) }
+    ensures all { IfOk result.0 (λ answered. answered.replies + answered.faults ≡ connections) }
+    ensures broken { OnErr result.0 (((as_nanos patience ≡ 0) × (result.1 ≡ state))
+        ⊎ ((met : ℕ) × (met < connections) × IsBroken (Answers X.made) (λ before after. after ≡ before) met state result.1)) }
+    ensures patient { as_nanos patience ≡ 0 → IsErr result.0 }
+{
+    if patience.is_zero() {
+        return (Err(ErrorKind::InvalidInput.into()), state);
+    }
+    let mut at = Listening {
+        clock,
+        listener,
+        source: AskedAgain {
+            source: Owned { state },
+        },
+        patience,
+    };
+    let answered = answer_all(&mut at, connections);
+    let Listening {
+        clock: _,
+        listener: _,
+        source,
+        patience: _,
+    } = at;
+    let AskedAgain { source } = source;
+    let Owned { state } = source;
+    (answered, state)
 }
 
 /// Answers connections for ever, as [`serve`].

@@ -5,8 +5,8 @@
 
 use anyhow::{Context, Result};
 use dirgwako::{
-    Counter, Crew, Gauge, Histogram, Registrar, Registry, ServiceRuntime, Snapshot, down,
-    histogram_totals, inc, listen_aloud, observe, print_last, serve, settle,
+    Counter, Crew, Gauge, Histogram, Registers, Registrar, RegistryState, Scanner, ServiceRuntime,
+    Snapshot, down, histogram_totals, inc, listen_aloud, observe, serve_alone, settle, text_of,
 };
 use std::env;
 use std::net::TcpListener;
@@ -16,6 +16,9 @@ use std::time::Duration;
 
 /// What a thread counts with. There are 2 workers, 8 counters, 1 histogram and 1 gauge.
 type Recorder<'a> = dirgwako::Recorder<'a, 2, 8, 1, 1>;
+
+/// What is scraped. All is registered before it is served, and one thread serves it: it needs no lock.
+type Registry<'a> = RegistryState<Scanner<'a, 2, 8, 1, 1>, 2, 8, 1, 1>;
 
 /// The handles of what is counted.
 #[derive(Clone, Copy)]
@@ -27,8 +30,7 @@ struct Jobs {
 }
 
 /// Registers what is counted.
-fn register(rt: &impl ServiceRuntime, registry: &Registry<'_, 2, 8, 1, 1>) -> Result<Jobs> {
-    let mut metrics = Registrar::new(rt, registry);
+fn register(metrics: &mut Registrar<impl Registers>) -> Result<Jobs> {
     let total = metrics.counter_family("jobs_total", "Jobs by their result.", &["result"])?;
     Ok(Jobs {
         ok: metrics.counter_of(&total, &["ok"])?,
@@ -61,23 +63,23 @@ fn do_all(rt: &impl ServiceRuntime, recorders: &mut [Recorder<'_>], jobs: &Jobs)
     one.and(other)
 }
 
-/// Does all jobs and answers connections meanwhile, with a patience of five seconds each. It gives the handles of what was counted.
-fn work(
+/// Does all jobs and answers connections meanwhile, with a patience of five seconds each. It gives the registry back.
+fn work<'a>(
     rt: &impl ServiceRuntime,
     listener: &TcpListener,
     replies: u64,
-    registry: &Registry<'_, 2, 8, 1, 1>,
+    registry: Registry<'a>,
     recorders: &mut [Recorder<'_>],
-) -> Result<Jobs> {
-    let jobs = register(rt, registry)?;
-    let (done, served) = join(
+    jobs: &Jobs,
+) -> Result<Registry<'a>> {
+    let (done, (served, registry)) = join(
         rt,
-        || do_all(rt, recorders, &jobs),
-        || serve(rt, listener, registry, Duration::from_secs(5), replies),
+        || do_all(rt, recorders, jobs),
+        || serve_alone(rt, listener, registry, Duration::from_secs(5), replies),
     );
     done?;
     served?;
-    Ok(jobs)
+    Ok(registry)
 }
 
 /// Prints how many jobs were done in all, exactly, when nobody counts any more.
@@ -86,6 +88,14 @@ fn print_done(rt: &impl ServiceRuntime, recorders: &[Recorder<'_>], jobs: &Jobs)
     settle(recorders, &mut totals)?;
     let done = histogram_totals(&totals, &jobs.bytes).context("no histogram")?;
     Ok(println!(rt; "# {} jobs were done.", done.count)?)
+}
+
+/// Prints a last scrape.
+fn print_last(rt: &impl ServiceRuntime, registry: Registry<'_>) -> Result<()> {
+    match text_of(registry) {
+        Ok((text, _)) => Ok(rt.write_all(&text)?),
+        Err((fault, _)) => Err(fault.into()),
+    }
 }
 
 /// The port, and how many connections are answered.
@@ -100,9 +110,10 @@ fn main(rt: HostRuntime) -> Result<()> {
     let (port, replies) = asked(&rt).context("usage: example_service PORT REPLIES")?;
     let listener = listen_aloud(&rt, port)?;
     let mut crew = Crew::<2, 8, 1, 1>::new(rt.alloc(), 1, 1)?;
-    let (registry, mut recorders, _) = crew.open(64)?;
-    let jobs = work(&rt, &listener, replies, &registry, &mut recorders)?;
+    let (registry, mut recorders, _) = crew.open_state(64)?;
+    let mut metrics = Registrar::of(rt.alloc(), registry);
+    let jobs = register(&mut metrics)?;
+    let registry = work(&rt, &listener, replies, metrics.at, &mut recorders, &jobs)?;
     print_done(&rt, &recorders, &jobs)?;
-    // Nobody shares the registry any more.
-    Ok(print_last(&rt, registry)?)
+    print_last(&rt, registry)
 }

@@ -4,6 +4,7 @@ use Rattle.metric_desc.specs.Desc.{Descriptor}
 use Rattle.metric_desc.specs.declared.kind.Kind.{Kind}
 use Rattle.metric_desc.specs.declared.kind.Kind.TheVariants as kind
 use Rattle.snapshot_scan.specs.Scanners.{recorded_in}
+use Rattle.scrape_server.specs.Scans.{quit_in, gave_in, gave_up_in}
 use Rattle.registry_state.specs.Calls.{KeepsScrape}
 use Rattle.registry_state.specs.Faults.{IsWindow, IsRegisterFault, IsChildFault, Leaves}
 use Rattle.registry_state.specs.declared.fault.BadWindow.{BadWindow}
@@ -17,7 +18,6 @@ use Rattle.worker_pool.specs.declared.fault.PoolFault.{PoolFault}
 use Rattle.worker_pool.specs.declared.fault.PoolFault.TheVariants as pool
 use Rattle.metrics_program.specs.Waiting.{lists_in}
 use Rattle.metrics_program.specs.Parts.{IsDescribed, AreRead, AreValuesRefused, IsPlainRefusal, IsHistogramRefusal}
-use Rattle.metrics_program.specs.State.{gave_in, gave_up_in, quit_in}
 use Rattle.metrics_program.specs.State.{job_in, IsBeside, IsSame}
 use Rattle.metrics_program.specs.declared.line_fault.LineFault.{LineFault}
 use Rattle.metrics_program.specs.declared.line_fault.LineFault.TheVariants as fault

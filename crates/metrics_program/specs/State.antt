@@ -6,8 +6,9 @@ use Rattle.expo_text.specs.Text.{text}
 use Rattle.metric_desc.specs.Desc.{Descriptor}
 use Rattle.register_rule.specs.Seats.{board_id}
 use Rattle.register_rule.specs.declared.board.Board.{Board}
-use Rattle.snapshot_scan.specs.Readers.{IsReaderOf, scan_by}
+use Rattle.snapshot_scan.specs.Readers.{IsReaderOf}
 use Rattle.snapshot_scan.specs.Scanners.{board_in, reader_in, recorded_in}
+use Rattle.scrape_server.specs.Scans.{gave_in}
 use Rattle.snapshot_update.specs.declared.worker.Worker.{Worker}
 use Rattle.snapshot_update.specs.Workers.{index_of, lists_of, IsWorkerOf}
 use Rattle.registry_state.specs.Calls.{changed, IsGiven, KeepsScrape}
@@ -24,26 +25,11 @@ use Rattle.metrics_program.specs.Jobs.{job_for, with_jobs}
 use Rattle.metrics_program.specs.Waiting.{lists_in}
 use Rattle.metrics_program.specs.declared.state.State.{State}
 use Rattle.metrics_program.specs.declared.state.Count.{Count}
-use Rattle.register_rule.specs.declared.view.Answer.{Answer}
-use Rattle.snapshot_scan.specs.Answered.{HasAnswered, HasGivenUp}
-use Rattle.snapshot_scan.specs.declared.contended.Contended.{Contended}
 use Rattle.snapshot_scan.specs.declared.scanner.Scanner.{Scanner}
 
 -- a source over the program's board
 abbrev pub Scans : Type 0
 Scans = Scanner 4 64 8 16
-
--- how many scans it gave up
-abbrev pub quit_in : Scans → ℕ
-quit_in s = (scan_by (reader_in s)).quit
-
--- it scanned its board, by its reader, which got this answer
-abbrev pub gave_in : Scans → Scans → Answer → Type 0
-gave_in s t answer = (board_in t ≡ board_in s) × HasAnswered (reader_in s) (reader_in t) answer
-
--- its reader gave a scan of its board up, for this reason
-abbrev pub gave_up_in : Scans → Scans → Contended → Type 0
-gave_up_in s t why = (board_in t ≡ board_in s) × HasGivenUp (reader_in s) (reader_in t) why
 
 -- the workers are the four of the board, in order and at home; the registry scans the board and has its id; the
 -- reader that settles is of the board; and each worker has a list of jobs

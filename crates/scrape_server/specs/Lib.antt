@@ -1,3 +1,4 @@
 pub mod Again
 pub mod Scrapes
+pub mod Scans
 pub mod Stream

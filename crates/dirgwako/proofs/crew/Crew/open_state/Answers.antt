@@ -1,13 +1,16 @@
-use Rattle.std.proofs.Common.{◌++◌, ◌∷◌, [], Result, Ok, Err, IfOk, All, ap, subst, sym, ◌∙◌}
-use Rattle.register_rule.specs.Seats.{board_id}
+use Rattle.std.proofs.Common.{◌++◌, ◌∷◌, [], map, All, ap, subst, sym, ◌∙◌}
+use Rattle.snapshot_scan.specs.Scanners.{reader_in}
 use Rattle.dirgwako.specs.Crews.{recorders_in, scanners_in}
+use Rattle.dirgwako.specs.Opening.{IsNewOn}
 use Rattle.dirgwako.specs.Recorders.{IsOn}
 use Rattle.dirgwako.specs.Scanning.{ScansOn}
-use Rattle.dirgwako.proofs.crew.Crew.open.Goals as goal
+use Rattle.dirgwako.proofs.Wrapping.{if_ok_from}
+use Rattle.dirgwako.proofs.crew.Crew.open_state.Goals as goal
 
-if_ok_from : {X E : Type 0} {P Q : X → Type 0} (r : Result X E) → ((x : X) → Q x → P x) → IfOk r Q → IfOk r P
-if_ok_from (Ok x) f q = f x q
-if_ok_from (Err e) f q = tt
+pub returns-in-Ok-clause-registry : goal.returns-in-Ok-clause-registry
+returns-in-Ok-clause-registry g c =
+    if_ok_from c.hand_out.result (λ o made. subst (λ b. IsNewOn b c.args.window o.0) c.in-Ok.ensures.taken.board made.registry)
+    c.hand_out.ensures.made
 
 pub returns-in-Ok-clause-boards : goal.returns-in-Ok-clause-boards
 returns-in-Ok-clause-boards g c =
@@ -22,14 +25,10 @@ returns-in-Ok-clause-scanners g c =
 
 pub returns-in-Ok-clause-readers : goal.returns-in-Ok-clause-readers
 returns-in-Ok-clause-readers g c =
-    let last = c.in-Ok.taken.last in
     if_ok_from c.hand_out.result (λ o made.
-    (last, c.in-Ok.ensures.taken.readers ∙ ap (λ readers. readers ++ last ∷ []) (sym made.readers)))
+    c.in-Ok.ensures.taken.readers ∙ (ap (λ readers. readers ++ c.in-Ok.taken.last ∷ []) (sym made.readers)
+    ∙ ap (λ last. map reader_in (scanners_in o) ++ last ∷ []) (sym made.last)))
     c.hand_out.ensures.made
-
-pub returns-in-Ok-clause-id : goal.returns-in-Ok-clause-id
-returns-in-Ok-clause-id g c =
-    if_ok_from c.hand_out.result (λ o made. made.id ∙ ap board_id c.in-Ok.ensures.taken.board) c.hand_out.ensures.made
 
 pub returns-in-Ok-clause-workers : goal.returns-in-Ok-clause-workers
 returns-in-Ok-clause-workers g c =
