@@ -6,6 +6,7 @@ import time
 
 import clients
 import exit_statuses
+import no_memory
 import pages
 import refused_memory
 import servers
@@ -38,6 +39,7 @@ def main():
         ("servers", lambda: servers.check_all(program, service, printed)),
         ("clients", lambda: clients.check_all(program)),
         ("refused memory", lambda: refused_memory.check_all(program)),
+        ("no memory", no_memory.check_all),
     ]
     passed, failed = 0, 0
     for name, it in checks:

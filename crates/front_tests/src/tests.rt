@@ -7,6 +7,7 @@ mod clients;
 mod counting;
 mod kept;
 mod limits;
+mod memory;
 mod refused;
 mod serving;
 mod settled;

@@ -2,6 +2,7 @@ mod contended;
 mod ends;
 mod failing;
 mod hands_on;
+mod kept;
 mod lines;
 mod pool;
 mod registry;

@@ -76,6 +76,7 @@ impl ChangedItems {
     pub fn note_each(&mut self, items: &[usize], shift: usize)
         requires room { (j : ℕ) → Contains items.now j → j + shift < 18446744073709551616 }
         ensures notes { NotesEach shift items.now self.old self.new }
+        ensures fits { self.old.all ≡ false → length self.old.items + length items.now ≤ 256 → self.new.all ≡ false }
     {
         if self.all {
             return;

@@ -4,6 +4,7 @@ ghost use Rattle.ledger_core.specs.Ops.{width};
 ghost use Rattle.segment_layout.specs.Layout.{IsGeometry};
 ghost use Rattle.register_rule.specs.Seats.{worker_of, index_of};
 ghost use Rattle.snapshot_scan.specs.ScanMemories.{changed_totals_in};
+ghost use Rattle.snapshot_scan.specs.declared.scan_end.ScanEnd.TheVariants as ScanEnd;
 ghost use Rattle.snapshot_update.specs.Fit.{AreInside};
 ghost use Rattle.snapshot_update.specs.Known.{IsStill, ListsChangedTotals, IsFollowed};
 
@@ -33,6 +34,7 @@ pub(crate) fn know_next<const N: usize, const C: usize, const H: usize, const G:
         ⊎ IsFollowed N C H G (index_of seat.now) (length (worker_of seat.now).work.made) memory.now ended late.old late.new }
     ensures unknown { result.0 ≡ false → late.new ≡ late.old }
     ensures still { result.1 ≡ true → (result.0 ≡ true) × (late.new ≡ late.old) }
+    ensures sees { ended ≡ ScanEnd.Direct true → touched.now.all ≡ false → row_known ≡ true → result.1 ≡ true }
 {
     let still = is_quiet(ended) & !touched.is_all() & row_known;
     if still {

@@ -35,6 +35,8 @@ mod made;
 #[cfg(test)]
 mod making;
 #[cfg(test)]
+mod memory;
+#[cfg(test)]
 mod names;
 #[cfg(test)]
 mod pools;
