@@ -55,6 +55,6 @@ pub use scrape_http::{NoScrape, ScrapeFrom, Served, Status, WireFault, serve_one
 pub use scrape_server::{FromRegistry, MakesScrapes, serve_stream};
 pub use serving::{Answered, serve, serve_alone, serve_forever};
 pub use settling::settle;
-pub use snapshot_scan::{Contended, PlainSource, Reader, Scanner, Snapshot, Source};
+pub use snapshot_scan::{Contended, PlainSource, PlainSourceOf, Reader, Scanner, Snapshot, Source};
 pub use snapshot_update::{ApplyFault, CountFault, Worker};
 pub use totals::{counter_total, gauge_value, histogram_totals};

@@ -4,10 +4,10 @@ ghost use Rattle.snapshot_scan.specs.Plain.{row_of, count_of, recorded_by, IsApp
 
 use crate::registry::RegistryState;
 use ledger_core::Op;
-use snapshot_scan::{PlainFault, PlainSource};
+use snapshot_scan::{PlainFault, PlainSourceOf};
 
 impl<const N: usize, const C: usize, const H: usize, const G: usize> RegistryState<
-    PlainSource<N, C, H, G>,
+    PlainSourceOf<N, C, H, G>,
     N,
     C,
     H,

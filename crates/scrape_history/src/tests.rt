@@ -14,7 +14,7 @@ type Plain = History<1, 1, 1, 1>;
 fn scrape(
     alloc: Global,
     history: &mut Plain,
-    source: &mut PlainSource<1, 1, 1, 1>,
+    source: &mut PlainSource<1, 1, 1>,
     by: u64,
 ) -> Result<(), Fail> {
     if by > 0 {

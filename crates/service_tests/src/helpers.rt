@@ -13,7 +13,7 @@ use std::process::Abort;
 use std::test::Fail;
 
 /// A source of one thread, of a counter, a histogram and a gauge.
-pub(crate) type OnePlain = PlainSource<1, 1, 1, 1>;
+pub(crate) type OnePlain = PlainSource<1, 1, 1>;
 
 /// A registry over a source of as many slots.
 pub(crate) type Over<S> = RegistryState<S, 1, 1, 1, 1>;

@@ -4,29 +4,29 @@ use Rattle.ledger_core.specs.OpFault.{IsOpFault, number_of}
 use Rattle.ledger_core.specs.Row.{Accepts, Adds}
 use Rattle.ledger_core.specs.declared.op.Op.{Op}
 use Rattle.register_rule.specs.declared.view.Answer.{Answer}
-use Rattle.snapshot_scan.specs.declared.plain.PlainSource.{PlainSource}
+use Rattle.snapshot_scan.specs.declared.plain.PlainSourceOf.{PlainSourceOf}
 use Rattle.snapshot_scan.specs.declared.plain_fault.PlainFault.{PlainFault}
 use Rattle.snapshot_scan.specs.declared.plain_fault.PlainFault.TheVariants.{Exhausted, Refused}
 
 module _ {N C H G : ℕ} where
   -- the words of its row
-  abbrev pub row_of : PlainSource N C H G → List ℕ
+  abbrev pub row_of : PlainSourceOf N C H G → List ℕ
   row_of s = s.row
 
   -- how many lists were applied to it
-  abbrev pub count_of : PlainSource N C H G → ℕ
+  abbrev pub count_of : PlainSourceOf N C H G → ℕ
   count_of s = s.count
 
   -- what its scans recorded, in order
-  abbrev pub recorded_by : PlainSource N C H G → List Answer
+  abbrev pub recorded_by : PlainSourceOf N C H G → List Answer
   recorded_by s = s.seat.me.0.entries
 
   -- how many of its scans were given up: none ever is
-  abbrev pub quit_by : PlainSource N C H G → ℕ
+  abbrev pub quit_by : PlainSourceOf N C H G → ℕ
   quit_by s = 0
 
   -- from s to s' one scan was made, which gave this answer: the count and the row, which stay as they were
-  pub record GivesRow (s s' : PlainSource N C H G) (a : Answer) : Type 0 where
+  pub record GivesRow (s s' : PlainSourceOf N C H G) (a : Answer) : Type 0 where
     pub vector : a.vector ≡ count_of s ∷ []
     pub totals : a.totals ≡ row_of s
     pub count : count_of s' ≡ count_of s

@@ -39,7 +39,7 @@ pub use changed_items::ChangedItems;
 pub use contended::Contended;
 pub use no_memory_for_seat::NoMemoryForSeat;
 pub use ordering::order;
-pub use plain::PlainSource;
+pub use plain::{PlainSource, PlainSourceOf};
 pub use plain_fault::PlainFault;
 pub use reader::Reader;
 pub use scan_end::ScanEnd;

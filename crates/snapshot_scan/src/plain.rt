@@ -18,9 +18,11 @@ use ledger_core::{Op, Row};
 use std::alloc::{AllocError, Global};
 use std::marker::Brand;
 
-/// A source of one thread: one worker (`N` is 1), which has applied `count` lists of operations to its row. It is never
-/// contended.
-pub struct PlainSource<const N: usize, const C: usize, const H: usize, const G: usize> {
+/// A source of one thread, as its name says it without the number of workers, which is 1.
+pub type PlainSource<const C: usize, const H: usize, const G: usize> = PlainSourceOf<1, C, H, G>;
+
+/// A [`PlainSource`]: one worker (`N` is 1), which has applied `count` lists of operations to its row. It is never contended.
+pub struct PlainSourceOf<const N: usize, const C: usize, const H: usize, const G: usize> {
     pub(crate) table: Table<(), Recordings, (), NoLaw, Global>,
     pub(crate) seat: Seat<(), Recordings>,
     pub(crate) row: Row<C, H, G>,
@@ -36,9 +38,9 @@ pub struct PlainSource<const N: usize, const C: usize, const H: usize, const G: 
 }
 
 impl<const N: usize, const C: usize, const H: usize, const G: usize> Drop
-    for PlainSource<N, C, H, G> {
+    for PlainSourceOf<N, C, H, G> {
     fn drop(self) {
-        let PlainSource {
+        let PlainSourceOf {
             table: _,
             seat: _,
             row: _,
@@ -47,7 +49,7 @@ impl<const N: usize, const C: usize, const H: usize, const G: usize> Drop
     }
 }
 
-impl<const N: usize, const C: usize, const H: usize, const G: usize> PlainSource<N, C, H, G> {
+impl<const N: usize, const C: usize, const H: usize, const G: usize> PlainSourceOf<N, C, H, G> {
     ghost use Rattle.std.specs.Prelude.{◌≡◌, ◌+◌, ◌<◌, ◌++◌, [], ◌∷◌, replicate, IfOk, IfErr, OnOk, OnErr};
     ghost use Rattle.ledger_core.specs.Ops.{width};
     ghost use Rattle.ledger_core.specs.Limits.{AreSlots};
@@ -59,7 +61,7 @@ impl<const N: usize, const C: usize, const H: usize, const G: usize> PlainSource
     /// # Errors
     ///
     /// Refusal 6 for want of memory.
-    pub fn new(alloc: Global) -> Result<PlainSource<N, C, H, G>, AllocError>
+    pub fn new(alloc: Global) -> Result<PlainSourceOf<N, C, H, G>, AllocError>
         requires one { N ≡ 1 }
         requires slots { AreSlots C H G }
         ensures row { IfOk result (λ s. row_of s ≡ replicate (width C H G) 0) }
@@ -67,7 +69,7 @@ impl<const N: usize, const C: usize, const H: usize, const G: usize> PlainSource
         ensures recorded { IfOk result (λ s. recorded_by s ≡ []) }
     {
         let (table, seat) = Table::of_words(alloc, &[0], &())?;
-        Ok(PlainSource {
+        Ok(PlainSourceOf {
             table,
             seat,
             row: Row::new(),
@@ -115,7 +117,7 @@ impl<const N: usize, const C: usize, const H: usize, const G: usize> PlainSource
 }
 
 impl<const N: usize, const C: usize, const H: usize, const G: usize> Source<N, C, H, G>
-    for PlainSource<N, C, H, G> {
+    for PlainSourceOf<N, C, H, G> {
     ghost use Rattle.std.specs.Prelude.{◌≡◌, ◌+◌, ◌<◌, IsOk, IfErr, OnOk, OnErr};
     ghost use Rattle.snapshot_scan.specs.Snapshots.{as_answer};
     ghost use Rattle.snapshot_scan.specs.Sources.{Records};
@@ -129,7 +131,7 @@ impl<const N: usize, const C: usize, const H: usize, const G: usize> Source<N, C
 
     ghost gave_up = { λ _ _ _. ⊥ };
 
-    /// A scan, which is never given up: [`PlainSource::take`].
+    /// A scan, which is never given up: [`PlainSourceOf::take`].
     fn scan(&mut self, out: &mut Snapshot<N, C, H, G>) -> Result<(), Contended>
         ensures recorded { OnOk result (Records N C H G (recorded_by self.old) (recorded_by self.new) (as_answer out.new)) }
         ensures gave { OnOk result (GivesRow self.old self.new (as_answer out.new)) }

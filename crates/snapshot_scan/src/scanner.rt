@@ -14,8 +14,10 @@ use register_rule::Board;
 
 /// A board and a reader of it: its scans are those of the reader.
 pub struct Scanner<'a, const N: usize, const C: usize, const H: usize, const G: usize> {
-    board: &'a Board<N, C, H, G>,
-    reader: Reader<N, C, H, G>,
+    /// The board.
+    pub board: &'a Board<N, C, H, G>,
+    /// Its reader.
+    pub reader: Reader<N, C, H, G>,
     ghost of_board: { IsReaderOf board.now reader },
 }
 

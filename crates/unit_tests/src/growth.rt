@@ -70,7 +70,7 @@ static THREE: [Op; 1] = [Op::Inc { counter: 0, by: 3 }];
 #[test]
 fn growth_source(rt: HostRuntime) -> Result<(), Fail> {
     let rt = &rt;
-    let mut source = match PlainSource::<1, 1, 0, 0>::new(rt.alloc()) {
+    let mut source = match PlainSource::<1, 0, 0>::new(rt.alloc()) {
         Ok(source) => source,
         Err(AllocError) => once_more(rt, PlainSource::new(rt.alloc())),
     };

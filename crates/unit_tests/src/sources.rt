@@ -37,7 +37,7 @@ fn one_and(more: u64) -> [Op; 2] {
 #[test]
 fn a_plain_source(rt: HostRuntime) {
     let rt = &rt;
-    let mut source = need(rt, PlainSource::<1, 1, 0, 1>::new(rt.alloc()));
+    let mut source = need(rt, PlainSource::<1, 0, 1>::new(rt.alloc()));
     let mut out = need(rt, Snapshot::new(rt.alloc()));
     same(rt, scans(&mut source, &mut out), Ok((0, 0)));
     same(rt, source.apply(&[]), Ok(()));
@@ -48,7 +48,7 @@ fn a_plain_source(rt: HostRuntime) {
 }
 
 /// A source refuses what is outside its row and what is too large, and is as it was.
-fn refuses(rt: &impl Abort, source: &mut PlainSource<1, 1, 0, 0>, out: &mut Snapshot<1, 1, 0, 0>) {
+fn refuses(rt: &impl Abort, source: &mut PlainSource<1, 0, 0>, out: &mut Snapshot<1, 1, 0, 0>) {
     let outside = PlainFault::Refused(OpFault::OutOfGeometry { at: 0 });
     let large = PlainFault::Refused(OpFault::TooLarge { at: 1 });
     let other = [Op::Inc { counter: 1, by: 1 }];

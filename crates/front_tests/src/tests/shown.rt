@@ -154,7 +154,7 @@ fn has_first_counter<S: Registers>(rt: &impl Abort, metrics: &mut Registrar<S>) 
 }
 
 /// A registry of one thread.
-type Plain = RegistryState<PlainSource<1, 1, 1, 1>, 1, 1, 1, 1>;
+type Plain = RegistryState<PlainSource<1, 1, 1>, 1, 1, 1, 1>;
 
 /// One that keeps eight scrapes.
 fn plain(rt: &impl Abort, alloc: Global) -> Plain {

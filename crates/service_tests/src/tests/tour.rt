@@ -10,7 +10,7 @@ use std::alloc::Global;
 use std::process::Abort;
 
 /// A registry over a source of two counters, a histogram and a gauge.
-type Service = RegistryState<PlainSource<1, 2, 1, 1>, 1, 2, 1, 1>;
+type Service = RegistryState<PlainSource<2, 1, 1>, 1, 2, 1, 1>;
 
 /// Counters by a label.
 fn requests(rt: &impl Abort, alloc: Global) -> Desc {

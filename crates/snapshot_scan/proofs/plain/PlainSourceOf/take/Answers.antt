@@ -3,7 +3,7 @@ use Rattle.ledger_core.specs.Ops.{width}
 use Rattle.snapshot_scan.specs.Snapshots.{as_answer}
 use Rattle.snapshot_scan.proofs.Sourced.{plain_newest}
 use Rattle.snapshot_scan.proofs.Publishing.{comes_taken}
-use Rattle.snapshot_scan.proofs.plain.PlainSource.take.Goals as goal
+use Rattle.snapshot_scan.proofs.plain.PlainSourceOf.take.Goals as goal
 
 pub invariant_of-self : goal.invariant_of-self
 invariant_of-self g c =

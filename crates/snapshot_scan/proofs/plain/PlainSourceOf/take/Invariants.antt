@@ -1,6 +1,6 @@
 use Rattle.std.specs.Prelude.{◌≡◌, [], ◌∷◌, ◌++◌}
 use Rattle.snapshot_scan.specs.Snapshots.{as_answer}
-use Rattle.snapshot_scan.proofs.plain.PlainSource.take.Given as goal
+use Rattle.snapshot_scan.proofs.plain.PlainSourceOf.take.Given as goal
 
 abbrev pub ghosts-load_as : goal.ghosts-load_as
 ghosts-load_as g a = record {

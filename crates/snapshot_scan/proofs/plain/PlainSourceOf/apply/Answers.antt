@@ -1,7 +1,7 @@
 use Rattle.std.proofs.Common.{refl, ◌+◌}
 use Rattle.snapshot_scan.proofs.Sourced.{plain_rises}
 use Rattle.snapshot_scan.proofs.Publishing.{comes_more}
-use Rattle.snapshot_scan.proofs.plain.PlainSource.apply.Goals as goal
+use Rattle.snapshot_scan.proofs.plain.PlainSourceOf.apply.Goals as goal
 
 pub invariant_of-self-2-clause-below : goal.invariant_of-self-2-clause-below
 invariant_of-self-2-clause-below g c =

@@ -1,6 +1,6 @@
 use Rattle.std.proofs.Common.{rules, refl}
 use Rattle.snapshot_scan.proofs.Publishing.{comes_first}
-use Rattle.snapshot_scan.proofs.plain.PlainSource.new.Goals as goal
+use Rattle.snapshot_scan.proofs.plain.PlainSourceOf.new.Goals as goal
 
 pub invariant_of-result-clause-comes_to : goal.invariant_of-result-clause-comes_to
 invariant_of-result-clause-comes_to g c =

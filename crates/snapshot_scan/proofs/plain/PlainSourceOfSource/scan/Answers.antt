@@ -1,7 +1,7 @@
 use Rattle.std.proofs.Common.{rules}
 use Rattle.snapshot_scan.specs.Plain.{row_of, count_of, recorded_by}
 use Rattle.snapshot_scan.proofs.Publishing.{comes_moments}
-use Rattle.snapshot_scan.proofs.plain.PlainSourceSource.scan.Goals as goal
+use Rattle.snapshot_scan.proofs.plain.PlainSourceOfSource.scan.Goals as goal
 
 pub returns-clause-recorded : goal.returns-clause-recorded
 returns-clause-recorded g c =
