@@ -34,6 +34,7 @@ pub mod Parted
 pub mod Whole
 pub mod Printed
 pub mod ReadingLaw
+pub mod Utf8
 pub mod Elements
 pub mod Compared
 pub mod Sent

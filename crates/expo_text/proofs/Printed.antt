@@ -121,7 +121,7 @@ abbrev pub IsSmall : Sample → Type 0
 IsSmall sample = nat_abs sample.value < 2 ^ 64
 
 -- the values of a number's samples are below 2^64 on either side
-number_small : (desc : Descriptor) (own : List (List ℕ × List ℕ)) (number : Number) → IsNumberOf desc.kind number
+pub number_small : (desc : Descriptor) (own : List (List ℕ × List ℕ)) (number : Number) → IsNumberOf desc.kind number
     → IsOfWords number
     → Each IsSmall (samples_of_number desc own number)
 number_small desc own (Counter total) is words = (words, tt)
@@ -174,7 +174,7 @@ gauge_or_not HistogramKind = inr (λ e. cc)
 gauge_or_not GaugeKind = inl refl
 
 -- what holds of each sample of a spelled family
-each_sample : (P : Sample → Type 0) (family : Family) → IsFamily family → IsSpelled family
+pub each_sample : (P : Sample → Type 0) (family : Family) → IsFamily family → IsSpelled family
     → ((child : Child) → IsNumberOf family.desc.kind child.number → IsSpelledChild child
     → Each P (samples_of_child family.desc child))
     → Each P (samples_of_family family)

@@ -9,8 +9,8 @@ use Rattle.std.proofs.lemmas.Grind.{flat_map-append}
 use Rattle.std.proofs.lemmas.Fmt.{length-decimal-le}
 use Rattle.metric_names.specs.Escapes.{help_byte, label_byte}
 use Rattle.metric_names.specs.LabelName.{IsLabelName}
-use Rattle.metric_names.specs.LabelValue.{IsLabelValue}
 use Rattle.expo_text.specs.Samples.{Sample}
+use Rattle.expo_text.specs.Spelled.{IsSpelledValue}
 use Rattle.expo_text.specs.Text.{label_text, labels_text, sample_line}
 use Rattle.expo_text.specs.Walk.{mark, opened, bucket_front}
 
@@ -62,14 +62,15 @@ label_text-short name value short_name short_value =
     let escaped = flat_map-short label_byte 2 value (λ k d within. label_byte-short (get_or value k d)) in
     simp length-append (omega (arith, short_name, short_value, escaped))
 
-pub zip-short : (names values : List (List ℕ)) → All IsLabelName names → All IsLabelValue values
+pub zip-short : (names values : List (List ℕ)) → All IsLabelName names → All IsSpelledValue values
     → All IsShortLabel (zip names values)
-zip-short [] values spelled short = All-nil IsShortLabel
-zip-short (name ∷ names) [] spelled short = All-nil IsShortLabel
-zip-short (name ∷ names) (value ∷ values) spelled short =
+zip-short [] values is_names is_values = All-nil IsShortLabel
+zip-short (name ∷ names) [] is_names is_values = All-nil IsShortLabel
+zip-short (name ∷ names) (value ∷ values) is_names is_values =
     All-cons IsShortLabel (name, value) (zip names values)
-    (label_text-short name value (All-head IsLabelName name names spelled).short (All-head IsLabelValue value values short))
-    (zip-short names values (All-tail IsLabelName name names spelled) (All-tail IsLabelValue value values short))
+    (label_text-short name value (All-head IsLabelName name names is_names).short
+    (All-head IsSpelledValue value values is_values).short)
+    (zip-short names values (All-tail IsLabelName name names is_names) (All-tail IsSpelledValue value values is_values))
 
 braces-short : (first rest : List ℕ) (n : ℕ) → length first ≤ 643 → length rest ≤ 644 * n
     → length (codes "{" ++ (first ++ rest) ++ codes "}") ≤ 2 + 644 * suc n

@@ -1,5 +1,5 @@
 -- What the types of a family's parts say of it, so that its text can be read back.
-use Rattle.std.specs.Prelude.{◌≡◌, ◌<◌, ◌^◌, length, All}
+use Rattle.std.specs.Prelude.{◌≡◌, ℕ, ◌<◌, ◌^◌, List, length, All, IsUtf8}
 use Rattle.metric_names.specs.MetricName.{IsMetricName}
 use Rattle.metric_names.specs.LabelName.{IsLabelName}
 use Rattle.metric_names.specs.LabelValue.{IsLabelValue}
@@ -15,16 +15,22 @@ IsOfWords (Counter total) = total < 2 ^ 64
 IsOfWords (Histogram totals) = (length totals.buckets ≡ 25) × (totals.sum < 2 ^ 64) × (totals.count < 2 ^ 64)
 IsOfWords (Gauge totals) = (totals.up < 2 ^ 64) × (totals.down < 2 ^ 64)
 
--- a descriptor's names and help are of their grammars
+-- a label value is of its grammar, and UTF-8
+pub record IsSpelledValue (value : List ℕ) : Type 0 where
+  pub short : IsLabelValue value
+  pub utf8 : IsUtf8 value
+
+-- a descriptor's names and help are of their grammars, and its help is UTF-8
 pub record IsSpelledDesc (desc : Descriptor) : Type 0 where
   pub name : IsMetricName desc.name
   pub help : IsHelpText desc.help
+  pub utf8 : IsUtf8 desc.help
   pub labels : All IsLabelName desc.labels
   pub kept : IsDescOf desc.kind desc.labels desc.bounds
 
--- a child's label values are of their grammar, and its number is of words
+-- a child's label values are so spelled, and its number is of words
 pub record IsSpelledChild (child : Child) : Type 0 where
-  pub values : All IsLabelValue child.values
+  pub values : All IsSpelledValue child.values
   pub number : IsOfWords child.number
 
 -- a family's descriptor and its children are spelled so

@@ -1,7 +1,7 @@
 ghost use Rattle.std.specs.Prelude.{◌≡◌, ◌++◌, [], ◌∷◌, length, zip, All, MatchOption};
 ghost use Rattle.std.specs.List.{flat_map};
 ghost use Rattle.metric_names.specs.LabelName.{IsLabelName};
-ghost use Rattle.metric_names.specs.LabelValue.{IsLabelValue};
+ghost use Rattle.expo_text.specs.Spelled.{IsSpelledValue};
 ghost use Rattle.expo_text.specs.Text.{label_text, labels_text};
 ghost use Rattle.expo_text.specs.Walk.{byte_text, mark, opened, closing};
 
@@ -58,7 +58,7 @@ pub(crate) fn put_opened<S: Sink>(sink: &mut S, names: &[LabelName], values: &[L
     requires { length values.now ≡ length names.now }
     ensures text { S.took sink.old sink.new (opened (zip names.now values.now)) }
     ensures names { All IsLabelName names.now }
-    ensures values { All IsLabelValue values.now }
+    ensures values { All IsSpelledValue values.now }
 {
     for place in 0..names.len() {
         put_label(
@@ -84,7 +84,7 @@ pub(crate) fn put_labels<S: Sink>(sink: &mut S, names: &[LabelName], values: &[L
     requires { length values.now ≡ length names.now }
     ensures text { S.took sink.old sink.new (labels_text (zip names.now values.now)) }
     ensures names { All IsLabelName names.now }
-    ensures values { All IsLabelValue values.now }
+    ensures values { All IsSpelledValue values.now }
 {
     put_opened(sink, names, values);
     put_closing(sink, names.len());

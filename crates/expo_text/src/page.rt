@@ -1,4 +1,4 @@
-ghost use Rattle.std.specs.Prelude.{◌≡◌, ◌↔◌, ◌≤◌, List, length, IfOk};
+ghost use Rattle.std.specs.Prelude.{◌≡◌, ◌↔◌, ◌≤◌, List, length, IfOk, IsUtf8};
 ghost use Rattle.expo_text.specs.Text.{text};
 ghost use Rattle.expo_text.specs.Groups.{Group, groups_of};
 ghost use Rattle.expo_text.specs.Reads.{Reads};
@@ -36,13 +36,14 @@ impl Sink for Page {
     ghost chain = { λ a b c xs ys. fills-chain a.bytes.items b.bytes.items c.bytes.items a.filled b.filled c.filled xs ys };
 }
 
-/// The text of a scrape, in memory that the code takes once, at the text's length. It is read back as the groups that the
-/// scrape prints, and as no others.
+/// The text of a scrape, in memory that the code takes once, at the text's length. It is UTF-8, and is read back as the groups
+/// that the scrape prints, and as no others.
 ///
 /// Refusal 6 [`NoMemory`], and no other. Source: Prometheus documentation, "Exposition formats",
 /// "Text format details".
 pub fn render(scrape: &Scrape) -> Result<Vec<u8>, NoMemory>
     ensures text { IfOk result (λ bytes. bytes.items ≡ text scrape.now) }
+    ensures utf8 { IfOk result (λ bytes. IsUtf8 bytes.items) }
     ensures reading { IfOk result (λ bytes. (groups : List Group) → Reads bytes.items groups ↔ (groups ≡ groups_of scrape.now)) }
 {
     let bytes = vec![in scrape.allocator(); 0; text_len(scrape)]?;

@@ -3,10 +3,9 @@ ghost use Rattle.std.specs.Prelude.{◌-ℤ◌, All};
 ghost use Rattle.std.specs.Fmt.{signed_decimal};
 ghost use Rattle.std.specs.List.{flat_map};
 ghost use Rattle.metric_names.specs.LabelName.{IsLabelName};
-ghost use Rattle.metric_names.specs.LabelValue.{IsLabelValue};
 ghost use Rattle.metric_names.specs.MetricName.{IsMetricName};
 ghost use Rattle.expo_text.specs.Order.{IsNumberOf};
-ghost use Rattle.expo_text.specs.Spelled.{IsOfWords};
+ghost use Rattle.expo_text.specs.Spelled.{IsOfWords, IsSpelledValue};
 ghost use Rattle.expo_text.specs.Samples.{samples_of_number};
 ghost use Rattle.expo_text.specs.Text.{sample_line};
 ghost use Rattle.expo_text.specs.Walk.{series, value_text, bucket_front, bucket_line, bucket_lines};
@@ -25,7 +24,7 @@ fn put_series<S: Sink>(sink: &mut S, desc: &Desc, values: &[LabelValue], suffix:
     requires { length values.now ≡ length desc.now.labels }
     ensures text { S.took sink.old sink.new (series (desc.now.name ++ suffix.now) (zip desc.now.labels values.now)) }
     ensures names { All IsLabelName desc.now.labels }
-    ensures values { All IsLabelValue values.now }
+    ensures values { All IsSpelledValue values.now }
 {
     sink.put(desc.name().as_str().as_bytes());
     sink.put(suffix.as_bytes());
@@ -48,7 +47,7 @@ fn put_sample<S: Sink>(sink: &mut S, desc: &Desc, values: &[LabelValue], suffix:
     ensures text { S.took sink.old sink.new
         (series (desc.now.name ++ suffix.now) (zip desc.now.labels values.now) ++ value_text [] (decimal value)) }
     ensures names { All IsLabelName desc.now.labels }
-    ensures values { All IsLabelValue values.now }
+    ensures values { All IsSpelledValue values.now }
 {
     put_series(sink, desc, values, suffix);
     put_value(sink, "", value);
@@ -60,7 +59,7 @@ fn put_front<S: Sink>(sink: &mut S, desc: &Desc, values: &[LabelValue])
     ensures text { S.took sink.old sink.new (bucket_front desc.now.name (zip desc.now.labels values.now)) }
     ensures name { IsMetricName desc.now.name }
     ensures names { All IsLabelName desc.now.labels }
-    ensures values { All IsLabelValue values.now }
+    ensures values { All IsSpelledValue values.now }
 {
     sink.put(desc.name().as_str().as_bytes());
     sink.put(b"_bucket");
@@ -74,7 +73,7 @@ fn spell(front: &mut Front, desc: &Desc, values: &[LabelValue])
     requires { length values.now ≡ length desc.now.labels }
     ensures front { take front.new.filled front.new.places ≡ bucket_front desc.now.name (zip desc.now.labels values.now) }
     ensures names { All IsLabelName desc.now.labels }
-    ensures values { All IsLabelValue values.now }
+    ensures values { All IsSpelledValue values.now }
 {
     let _ = desc.labels();
     front.clear();
@@ -156,7 +155,7 @@ fn put_histogram<S: Sink>(
     ensures text { S.took sink.old sink.new
         (flat_map sample_line (samples_of_number desc.now (zip desc.now.labels values.now) (Number.Histogram totals.now))) }
     ensures names { All IsLabelName desc.now.labels }
-    ensures values { All IsLabelValue values.now }
+    ensures values { All IsSpelledValue values.now }
     ensures words { IsOfWords (Number.Histogram totals.now) }
 {
     let (sum, count) = sum_and_count(totals);
@@ -186,7 +185,7 @@ fn put_gauge<S: Sink>(sink: &mut S, desc: &Desc, values: &[LabelValue], totals: 
     ensures text { S.took sink.old sink.new
         (flat_map sample_line (samples_of_number desc.now (zip desc.now.labels values.now) (Number.Gauge totals.now))) }
     ensures names { All IsLabelName desc.now.labels }
-    ensures values { All IsLabelValue values.now }
+    ensures values { All IsSpelledValue values.now }
     ensures words { IsOfWords (Number.Gauge totals.now) }
 {
     let (sign, size) = difference(totals.up, totals.down);
@@ -200,7 +199,7 @@ fn put_counter<S: Sink>(sink: &mut S, desc: &Desc, values: &[LabelValue], total:
     ensures text { S.took sink.old sink.new
         (flat_map sample_line (samples_of_number desc.now (zip desc.now.labels values.now) (Number.Counter total))) }
     ensures names { All IsLabelName desc.now.labels }
-    ensures values { All IsLabelValue values.now }
+    ensures values { All IsSpelledValue values.now }
     ensures words { IsOfWords (Number.Counter total) }
 {
     put_sample(sink, desc, values, "", total);
@@ -219,7 +218,7 @@ pub(crate) fn put_number<S: Sink>(
     ensures text { S.took sink.old sink.new
         (flat_map sample_line (samples_of_number desc.now (zip desc.now.labels values.now) number.now)) }
     ensures names { All IsLabelName desc.now.labels }
-    ensures values { All IsLabelValue values.now }
+    ensures values { All IsSpelledValue values.now }
     ensures words { IsOfWords number.now }
 {
     match number {

@@ -1,4 +1,4 @@
-ghost use Rattle.std.specs.Prelude.{◌≡◌, ◌<◌, ◌++◌, length, codes, All};
+ghost use Rattle.std.specs.Prelude.{◌≡◌, ◌<◌, ◌++◌, length, codes, All, IsUtf8};
 ghost use Rattle.std.specs.List.{flat_map};
 ghost use Rattle.metric_names.specs.Escapes.{help_byte};
 ghost use Rattle.metric_names.specs.HelpText.{IsHelpText};
@@ -32,6 +32,7 @@ fn put_help_line<S: Sink>(sink: &mut S, name: &str, help: &str)
 fn put_help<S: Sink>(sink: &mut S, desc: &Desc)
     ensures text { S.took sink.old sink.new (help_line desc.now.name desc.now.help) }
     ensures help { IsHelpText desc.now.help }
+    ensures utf8 { IsUtf8 desc.now.help }
 {
     let help = desc.help().as_str();
     if !help.is_empty() {

@@ -1,4 +1,4 @@
-ghost use Rattle.std.specs.Prelude.{◌≡◌, [], slice_index, IfOk, IfErr};
+ghost use Rattle.std.specs.Prelude.{◌≡◌, [], slice_index, IfOk, IfErr, IsUtf8};
 ghost use Rattle.metric_names.specs.HelpText.{IsHelpTextFault, is_blank, number_of};
 
 use crate::no_memory::NoMemory;
@@ -101,6 +101,7 @@ impl HelpText {
     pub fn as_str(&self) -> &str
         ensures text { result.now ≡ self.now }
         ensures grammar { IsHelpText self.now }
+        ensures utf8 { IsUtf8 self.now }
         ensures written { IsWrittenAlone EscHelp self.now }
     {
         self.text.as_str()

@@ -1,4 +1,4 @@
-ghost use Rattle.std.specs.Prelude.{◌≡◌, IfOk, IfErr};
+ghost use Rattle.std.specs.Prelude.{◌≡◌, IfOk, IfErr, IsUtf8};
 ghost use Rattle.metric_names.specs.LabelValue.{IsLabelValueFault, number_of};
 
 use crate::no_memory::NoMemory;
@@ -75,6 +75,7 @@ impl LabelValue {
     pub fn as_str(&self) -> &str
         ensures text { result.now ≡ self.now }
         ensures grammar { IsLabelValue self.now }
+        ensures utf8 { IsUtf8 self.now }
         ensures written { IsWrittenAlone EscLabel self.now }
     {
         self.text.as_str()

@@ -3,7 +3,7 @@ use Rattle.std.specs.List.{zip}
 use Rattle.std.proofs.lemmas.List.{take_all}
 use Rattle.std.proofs.lemmas.Slice.Zip.{length-zip}
 use Rattle.metric_names.specs.LabelName.{IsLabelName}
-use Rattle.metric_names.specs.LabelValue.{IsLabelValue}
+use Rattle.expo_text.specs.Spelled.{IsSpelledValue}
 use Rattle.expo_text.proofs.Lines.{All-next}
 use Rattle.expo_text.proofs.Braces.{opened-next}
 use Rattle.expo_text.proofs.labels.put_opened.Goals as goal
@@ -20,10 +20,11 @@ loop-place-preserved g c =
     let value_is = c.index-values-place.is in
     let label = rw (c.mark.ensures, c.as_str.ensures.text, c.as_str-in-loop-place.ensures.text) at c.put_label.ensures in
     let text = opened-next names values place _ _ in_names c.requires name_is value_is in
-    let took = g.met.S.Sink.chain _ _ _ _ _ before.0 label in (
+    let took = g.met.S.Sink.chain _ _ _ _ _ before.0 label in
+    let value = c.as_str-in-loop-place.ensures in (
       rw text at took,
       All-next IsLabelName names place _ in_names name_is before.1 c.as_str.ensures.grammar,
-      All-next IsLabelValue values place _ in_values value_is before.2 c.as_str-in-loop-place.ensures.grammar,
+      All-next IsSpelledValue values place _ in_values value_is before.2 (record { short = value.grammar; utf8 = value.utf8 }),
     )
 
 pub returns : goal.returns

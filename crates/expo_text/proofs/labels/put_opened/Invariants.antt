@@ -1,7 +1,7 @@
 use Rattle.std.proofs.Common.{take}
 use Rattle.std.specs.Prelude.{zip, All}
 use Rattle.metric_names.specs.LabelName.{IsLabelName}
-use Rattle.metric_names.specs.LabelValue.{IsLabelValue}
+use Rattle.expo_text.specs.Spelled.{IsSpelledValue}
 use Rattle.expo_text.specs.Walk.{opened}
 use Rattle.expo_text.proofs.labels.put_opened.Given as goal
 
@@ -9,4 +9,4 @@ use Rattle.expo_text.proofs.labels.put_opened.Given as goal
 abbrev pub invariant-loop-place : goal.invariant-loop-place
 invariant-loop-place g l =
     g.S.Sink.took l.fn.sink l.sink (opened (take l.place (zip l.names l.values))) × All IsLabelName (take l.place l.names)
-    × All IsLabelValue (take l.place l.values)
+    × All IsSpelledValue (take l.place l.values)
