@@ -1,6 +1,6 @@
 -- Replies that a worker has counted.
 use Rattle.std.proofs.Common.{◌≡◌, ℕ, List, [], ◌∷◌, ◌++◌, Result, Ok, Err, OnOk, OnErr, IfErr, map, refl, sym, subst, ap, ap₂}
-use Rattle.std.proofs.Common.{All, ◌∙◌, append-nil, append_assoc, inl, inr}
+use Rattle.std.proofs.Common.{All, ◌∙◌, append-nil, append_assoc, inl, inr, zero, suc, subst₂}
 use Rattle.std.proofs.lemmas.List.{map-append}
 use Rattle.std.proofs.lemmas.List.Elements.{All-nil, All-cons}
 use Rattle.ledger_core.specs.declared.op.Op.{Op}
@@ -14,7 +14,7 @@ use Rattle.snapshot_update.specs.Workers.{index_of, lists_of, member_of, ops_in,
 use Rattle.metrics_program.specs.declared.metrics.Metrics.{Metrics}
 use Rattle.metrics_program.specs.declared.threads.Four.{Four}
 use Rattle.metrics_program.specs.Counted.{AreFour, AreNewWorkers, HasCounted, HaveCounted, IsNewWorker, WasCounted, list_for}
-use Rattle.metrics_program.specs.Counted.{all_of}
+use Rattle.metrics_program.specs.Counted.{AreAnswered, all_of}
 
 module _ (b : Board 4 64 8 16) (m : Metrics) where
   -- no reply yet
@@ -94,3 +94,36 @@ module _ (b : Board 4 64 8 16) (m : Metrics) where
             (ap₂ (λ (i : ℕ) (is : List ℕ). i ∷ is) (index 2 was.c four.c new.2 counted.2)
             (ap (λ (i : ℕ). i ∷ []) (index 3 was.d four.d new.3 counted.3))));
       }
+
+-- connections were answered, one after the other, by who has this board, these metrics and this worker
+module _ {P : Type 0} (board_of : P → Board 4 64 8 16) (metrics_of : P → Metrics) (worker_of : P → Worker 4 64 8 16) where
+  abbrev Answered : P → P → Type 0
+  Answered before after = (board_of after ≡ board_of before) × (metrics_of after ≡ metrics_of before)
+      × ((result : Result Served WireFault)
+      × WasCounted (board_of before) (metrics_of before) (worker_of before) (worker_of after) result)
+
+  abbrev Counted : P → P → Type 0
+  Counted before after = HasCounted (board_of before) (metrics_of before) (worker_of before) (worker_of after)
+
+  counted_so_far : (many : ℕ) (before after : P) → IsWorkerOf (board_of before) (worker_of before)
+      → AreAnswered Answered many before after
+      → (board_of after ≡ board_of before) × (metrics_of after ≡ metrics_of before) × Counted before after
+  counted_so_far zero before after own same = (
+    ap board_of same,
+    ap metrics_of same,
+    subst (Counted before) (sym same) (none_yet (board_of before) (metrics_of before) (worker_of before) own),
+  )
+  counted_so_far (suc more) before after own answered =
+      let (mid, met, last) = answered in
+      let (same_board, same_metrics, counted) = counted_so_far more before mid own met in
+      let one = one_more (board_of mid) (metrics_of mid) (worker_of mid) (worker_of after) last.2.0 last.2.1 in (
+        last.0 ∙ same_board,
+        last.1 ∙ same_metrics,
+        counted_more (board_of before) (metrics_of before) (worker_of before) (worker_of mid) (worker_of after) counted
+            (subst₂ (λ (b : Board 4 64 8 16) (m : Metrics). HasCounted b m (worker_of mid) (worker_of after)) same_board
+            same_metrics one),
+      )
+
+  pub counted_by : (many : ℕ) (before after : P) → IsWorkerOf (board_of before) (worker_of before)
+      → AreAnswered Answered many before after → Counted before after
+  counted_by many before after own met = (counted_so_far many before after own met).2

@@ -1,5 +1,7 @@
 pub mod SettledFour
 pub mod Printing
+mod ChildOf
+mod Codes
 mod Counting
 mod Four
 mod Making

@@ -1,5 +1,5 @@
 -- The counters that a registry gives, one by one: each is the least that is free.
-use Rattle.std.proofs.Common.{◌≡◌, ◌≢◌, ℕ, ◌+◌, ◌<◌, List, [], ◌∷◌, ◌++◌, All, sym, subst, ap, ◌∙◌, arith}
+use Rattle.std.proofs.Common.{◌≡◌, ◌≢◌, ℕ, ◌+◌, ◌<◌, List, [], ◌∷◌, ◌++◌, All, refl, sym, subst, ap, ◌∙◌, arith}
 use Rattle.std.specs.Prelude.{⊤, slice_get, slice_index, slice_index_or, IsSomeAnd}
 use Rattle.std.proofs.lemmas.List.Elements.{All-nil, All-cons, All-head, All-tail}
 use Rattle.ledger_core.specs.declared.handles.Counter.{Counter as Counting}
@@ -12,6 +12,8 @@ use Rattle.registry_state.specs.Kept.{RegistryView}
 use Rattle.registry_state.specs.Replay.{Child, Family, State, IsFree, IsNew, MayMake, nothing, after, put}
 use Rattle.registry_state.specs.declared.handle.Handle.TheVariants as handle
 use Rattle.registry_state.proofs.Slots.{all_put, put_has, put_keeps}
+use Rattle.metrics_program.specs.Families.{IsChildOf}
+use Rattle.metrics_program.proofs.ChildOf.{IsSo, made_child as child_made}
 
 abbrev HasNot : ℕ → Child → Type 0
 HasNot slot child = child.slot ≢ slot
@@ -75,9 +77,8 @@ one_more kids n child is first = record {
       absurd (grind (arith, is, low, other, not_less));
 }
 
--- a registry of one family of counters, whose children have the first n slots, and these codes
-pub record HasCodes {S : Type 0} (n : ℕ) (codes : List (List ℕ)) (r : RegistryView S) : Type 0 where
-  pub desc : Descriptor
+-- a registry of one family, of counters and so described, whose children have the first n slots, and these codes
+pub record HasCodes {S : Type 0} (desc : Descriptor) (n : ℕ) (codes : List (List ℕ)) (r : RegistryView S) : Type 0 where
   pub kids : List Child
   pub counters : desc.kind ≡ Counter
   pub only : r.state.families ≡ of_kids desc kids ∷ []
@@ -87,9 +88,8 @@ pub record HasCodes {S : Type 0} (n : ℕ) (codes : List (List ℕ)) (r : Regist
 module _ {S : Type 0} where
   -- at first there is none
   pub no_codes : (r r' : RegistryView S) (desc : Descriptor) → r.state ≡ nothing → r' ≡ changed (Registered desc) r
-      → desc.kind ≡ Counter → HasCodes 0 [] r'
+      → desc.kind ≡ Counter → HasCodes desc 0 [] r'
   no_codes r r' desc none is counters = record {
-    desc = desc;
     kids = [];
     counters = counters;
     only = ap (λ (it : RegistryView S). it.state.families) is ∙ ap (λ (s : State). s.families ++ of_kids desc [] ∷ []) none;
@@ -98,40 +98,46 @@ module _ {S : Type 0} where
   }
 
   -- a code that is none of them is new
-  pub new_code : (n : ℕ) (codes : List (List ℕ)) (r : RegistryView S) (code : List ℕ) → HasCodes n codes r
-      → All (λ (old : List ℕ). old ≢ code) codes
+  pub new_code : (desc : Descriptor) (n : ℕ) (codes : List (List ℕ)) (r : RegistryView S) (code : List ℕ)
+      → HasCodes desc n codes r → All (λ (old : List ℕ). old ≢ code) codes
       → All (λ (it : Family). IsNew it (code ∷ [])) r.state.families
-  new_code n codes r code has none =
+  new_code desc n codes r code has none =
       let P : Family → Type 0 = λ it. IsNew it (code ∷ []) in
-      subst (All P) (sym has.only) (All-cons P (of_kids has.desc has.kids) [] (has.fresh code none) (All-nil P))
+      subst (All P) (sym has.only) (All-cons P (of_kids desc has.kids) [] (has.fresh code none) (All-nil P))
 
-  module _ (n : ℕ) (codes : List (List ℕ)) (r r' : RegistryView S) (number : ℕ) (code : List ℕ) (counter : Counting)
-      (first_one : number ≡ 0) (has : HasCodes n codes r)
+  module _ (desc : Descriptor) (n : ℕ) (codes : List (List ℕ)) (r r' : RegistryView S) (number : ℕ) (code : List ℕ)
+      (counter : Counting) (first_one : number ≡ 0) (has : HasCodes desc n codes r)
       (made : WasMade 64 8 16 r r' number (code ∷ []) (handle.Counter counter)) where
     abbrev Says : List Family → ℕ → Type 0
     Says families of = IsSomeAnd (slice_get families of) (λ (it : Family).
         MayMake 64 8 16 families (code ∷ []) made.slot it × IsLeastFree families it.desc.kind made.slot
         × IsHandle r.id it.desc made.slot (handle.Counter counter))
 
-    said : Says (of_kids has.desc has.kids ∷ []) 0
+    said : Says (of_kids desc has.kids ∷ []) 0
     said = subst (λ (families : List Family). Says families 0) has.only (subst (Says r.state.families) first_one made.made)
 
     slot_is : made.slot ≡ n
-    slot_is = least_is has.desc has.kids n made.slot has.counters has.first
-        (subst (λ (kind : Kind). IsLeastFree (of_kids has.desc has.kids ∷ []) kind made.slot) has.counters said.1)
+    slot_is = least_is desc has.kids n made.slot has.counters has.first
+        (subst (λ (kind : Kind). IsLeastFree (of_kids desc has.kids ∷ []) kind made.slot) has.counters said.1)
 
     -- the code's counter has the next slot
     pub next_slot : counter.slot ≡ n
     next_slot = said.2.2 ∙ slot_is
 
+    -- it is that of the code's child
+    pub child_of : IsChildOf r'.id r'.state.families desc (code ∷ []) (handle.Counter counter)
+    child_of =
+        let P : List Family → ℕ → Type 0 = λ families of. IsSomeAnd (slice_get families of) (IsSo desc) in
+        child_made 64 8 16 r r' number (code ∷ []) (handle.Counter counter) desc
+        (subst (P r.state.families) (sym first_one) (subst (λ (families : List Family). P families 0) (sym has.only) refl)) made
+
     made_child : Child
     made_child = record { values = code ∷ []; slot = made.slot }
 
     -- and the code is there
-    pub more_codes : HasCodes (n + 1) (code ∷ codes) r'
+    pub more_codes : HasCodes desc (n + 1) (code ∷ codes) r'
     unfolding made_child
     more_codes = record {
-      desc = has.desc;
       kids = put made_child has.kids;
       counters = has.counters;
       only = ap (λ (it : RegistryView S). it.state.families) made.after_it

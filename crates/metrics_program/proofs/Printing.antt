@@ -1,10 +1,10 @@
 -- Bytes that are printed, or a beginning of them.
-use Rattle.std.proofs.Common.{ℕ, Option, List, [], ◌++◌, take, drop, Result, Ok, Err, OnErr, inl, ◌<◌, refl, sym, ap, ◌∙◌}
+use Rattle.std.proofs.Common.{ℕ, Option, List, [], ◌++◌, take, drop, Result, Ok, Err, OnErr, inl, inr, ◌<◌, refl, sym, ap, ◌∙◌}
 use Rattle.std.proofs.Common.{append-nil, append_assoc, take-append-drop}
 use Rattle.std.proofs.KnownBytes.{Appends-kept, Appends-nil, Appends-trans}
 use Rattle.std.specs.Io.KnownBytes.{Appends, Keeps}
 use Rattle.metrics_program.specs.declared.sending.Broken.{Broken}
-use Rattle.metrics_program.specs.Printed.{Begins, Prints, listening_line, served_line}
+use Rattle.metrics_program.specs.Printed.{Begins, Prints, WereCounted, listening_line, served_line}
 use Rattle.metrics_program.specs.declared.serve.ServeEnd.TheVariants.{Done, Broken as BrokenOff}
 
 -- nothing yet
@@ -56,13 +56,15 @@ on_err_of (Ok done) P p = tt
 on_err_of (Err broken) P p = p
 
 -- the port, and then the replies or a beginning of their line
-module _ (a b c : Option (List ℕ)) (port replies : ℕ) (small : port < 65536) (before : Appends a b (listening_line port)) where
+module _ (a b c : Option (List ℕ)) (port replies : ℕ) (small : port < 65536) (before : Appends a b (listening_line port))
+    (counted : WereCounted replies) where
   pub printed : Appends b c (served_line replies) → Prints a c Done
-  printed after = (port, replies, small, Appends-trans a b c (listening_line port) (served_line replies) before after)
+  printed after = (port, replies, small, counted, Appends-trans a b c (listening_line port) (served_line replies) before after)
 
   pub printed_begun : Begins b c (served_line replies) → Prints a c BrokenOff
-  printed_begun after = inl (port, replies, small, begun_after a b c (listening_line port) (served_line replies) before after)
+  printed_begun after =
+      inl (port, replies, small, counted, begun_after a b c (listening_line port) (served_line replies) before after)
 
 -- no more than a beginning of the port's line
 pub broken_off : (a b : Option (List ℕ)) (port : ℕ) → port < 65536 → Begins a b (listening_line port) → Prints a b BrokenOff
-broken_off a b port small begins = inl (port, 0, small, begun_before a b (listening_line port) (served_line 0) begins)
+broken_off a b port small begins = inr (inl (port, small, begins))

@@ -17,8 +17,9 @@ use Rattle.chain_law.specs.Settled.{joined, made_all}
 use Rattle.chain_law.specs.Settled.{IsSettled}
 use Rattle.metrics_program.specs.declared.metrics.Metrics.{Metrics}
 use Rattle.metrics_program.specs.declared.threads.Four.{Four}
-use Rattle.metrics_program.specs.Counted.{AreNewWorkers, AreSix, HasCounted, HaveCounted, IsNewWorker, all_of, counter_for}
+use Rattle.metrics_program.specs.Counted.{AreNewWorkers, AreSix, HasCounted, HaveCounted, IsNewWorker, all_of}
 use Rattle.metrics_program.specs.Counted.{list_for, replies_counted, replies_in}
+use Rattle.metrics_program.specs.Families.{counter_for}
 use Rattle.metrics_program.proofs.SixCounters.{one_of_six, six_same, six_both, six_list}
 
 module _ (m : Metrics) (are : AreSix m) where

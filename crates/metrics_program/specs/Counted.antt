@@ -1,15 +1,12 @@
 -- What the server counts of itself.
-use Rattle.std.specs.Prelude.{◌≡◌, ◌⊎◌, ℕ, ◌+◌, ◌<◌, List, [], ◌∷◌, ◌++◌, map, length, slice_index, All, Result, IfOk, OnErr}
+use Rattle.std.specs.Prelude.{◌≡◌, ◌⊎◌, ℕ, zero, suc, ◌+◌, ◌<◌, List, [], ◌∷◌, ◌++◌, map, length, slice_index, All, Result, IfOk, OnErr}
 use Rattle.bucket_math.specs.Bounds.{place_of}
-use Rattle.ledger_core.specs.declared.handles.Counter.{Counter}
 use Rattle.ledger_core.specs.declared.op.Op.{Op}
 use Rattle.ledger_core.specs.declared.op.Op.TheVariants.{Inc, Observe}
+use Rattle.register_rule.specs.Seats.{board_id}
 use Rattle.register_rule.specs.declared.board.Board.{Board}
 use Rattle.scrape_http.specs.declared.fault.WireFault.{WireFault}
 use Rattle.scrape_http.specs.declared.serve.Served.{Served}
-use Rattle.scrape_http.specs.declared.status.Status.{Status}
-use Rattle.scrape_http.specs.declared.status.Status.TheVariants.{Success, BadRequest, NotFound, MethodNotAllowed, TooLarge}
-use Rattle.scrape_http.specs.declared.status.Status.TheVariants.{Unavailable}
 use Rattle.snapshot_update.specs.declared.faults.ApplyFault.{ApplyFault}
 use Rattle.snapshot_update.specs.declared.worker.Worker.{Worker}
 use Rattle.snapshot_update.specs.Workers.{index_of, lists_of, member_of, IsApplyFault, IsWorkerOf}
@@ -18,18 +15,11 @@ use Rattle.snapshot_scan.specs.Snapshots.{Taken, as_answer}
 use Rattle.snapshot_scan.specs.declared.scanner.Scanner.{Scanner}
 use Rattle.registry_state.specs.Journal.{Entry, changes, scrapes}
 use Rattle.registry_state.specs.Kept.{RegistryView}
+use Rattle.registry_state.specs.Replay.{State, Replays}
 use Rattle.metric_registry.specs.Naming.{BeginsWith}
+use Rattle.metrics_program.specs.Families.{AreRegistered, counter_for}
 use Rattle.metrics_program.specs.declared.metrics.Metrics.{Metrics}
 use Rattle.metrics_program.specs.declared.threads.Four.{Four}
-
--- the counter of the replies of a status
-abbrev pub counter_for : Metrics → Status → Counter
-counter_for m Success = m.success
-counter_for m BadRequest = m.bad_request
-counter_for m NotFound = m.not_found
-counter_for m MethodNotAllowed = m.method_not_allowed
-counter_for m TooLarge = m.too_large
-counter_for m Unavailable = m.unavailable
 
 -- the list that counts a reply: 1 of its status, and its bytes
 abbrev pub list_for : Metrics → Served → List Op
@@ -70,6 +60,12 @@ pub record WasCounted (b : Board 4 64 8 16) (m : Metrics) (w v : Worker 4 64 8 1
         × ((why : ApplyFault) × IsApplyFault 64 8 16 (member_of w) (list_for m served) why)))
     pub fault : OnErr result (member_of v ≡ member_of w)
 
+module _ {A : Type 0} (answered : A → A → Type 0) where
+  -- so many connections were answered, one after the other, and nothing else was done
+  abbrev pub AreAnswered : (many : ℕ) → (before after : A) → Type 0
+  AreAnswered zero before after = after ≡ before
+  AreAnswered (suc more) before after = (mid : A) × AreAnswered more before mid × answered mid after
+
 -- this is the worker of this index, at home, and it has published nothing
 pub record IsNewWorker (b : Board 4 64 8 16) (index : ℕ) (w : Worker 4 64 8 16) : Type 0 where
   pub of_board : IsWorkerOf b w
@@ -101,18 +97,20 @@ pub record AreFour (b : Board 4 64 8 16) (four : Four) : Type 0 where
 
 -- So many replies were counted: each of the four workers of a new board has counted replies, and nothing else, and
 -- these are so many together; and that is the total of the counters of all statuses, of which no two are one, by a
--- snapshot of all that the four have counted. The scrapes that the registry kept, and that snapshot after them, are
--- moments of the one history of what they counted; and what was registered before the registry was served stands
--- first in its journal.
+-- snapshot of all that the four have counted. The journal of the registry that was served replays: it begins with what
+-- was registered first, before the registry was served, and in the end these are its metrics, each counter that of the
+-- child of its code. The scrapes that it kept, and that snapshot after them, are moments of the one history of what the
+-- four counted.
 pub record AreReplies (b : Board 4 64 8 16) (m : Metrics) (first : RegistryView (Scanner 4 64 8 16)) (was : Four)
-    (replies : ℕ) : Type
-    0 where
+    (journal : List Entry) (replies : ℕ) : Type 0 where
   pub four : Four
   pub counted : HaveCounted b m was four
   pub number : replies ≡ replies_counted counted
   pub out : Taken
   pub settled : IsSettled (all_of four) out
   pub total : replies ≡ replies_in m out.totals
-  pub journal : List Entry
+  pub state : State
+  pub replays : Replays 4 64 8 16 journal state
   pub begins : BeginsWith (changes first.journal) journal
+  pub registered : ∥ AreRegistered (board_id b) state.families m ∥₁
   pub moments : AreMomentsOf (all_of four) (scrapes journal ++ as_answer out ∷ [])

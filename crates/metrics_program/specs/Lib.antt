@@ -1,3 +1,4 @@
+pub mod Families
 pub mod Counted
 pub mod Services
 pub mod Printed

@@ -1,10 +1,11 @@
 //! What the server counts of itself.
-ghost use Rattle.std.specs.Prelude.{◌≡◌, ◌<◌, [], ◌∷◌, IfOk, IfSome, All};
-ghost use Rattle.metric_desc.specs.declared.kind.Kind.TheVariants as kind;
-ghost use Rattle.registry_state.specs.Calls.{WasMade};
+ghost use Rattle.std.specs.Prelude.{◌≡◌, ◌<◌, [], ◌∷◌, codes, length, IfOk, IfSome, All};
+ghost use Rattle.registry_state.specs.Calls.{IsGiven, WasMade, changed};
+ghost use Rattle.registry_state.specs.Journal.{Registered};
 ghost use Rattle.registry_state.specs.Replay.{nothing, IsNew};
 ghost use Rattle.registry_state.specs.declared.handle.Handle.TheVariants as handle;
-ghost use Rattle.metrics_program.specs.Counted.{AreSix, counter_for, list_for, replies_in};
+ghost use Rattle.metrics_program.specs.Counted.{AreSix, list_for, replies_in};
+ghost use Rattle.metrics_program.specs.Families.{AreRegistered, bytes_family, counter_for, replies_family};
 ghost use Rattle.metrics_program.specs.Services.{IsSameBoard};
 
 use crate::board::{Registry, Snapshot};
@@ -28,19 +29,27 @@ pub(crate) struct Metrics {
     pub(crate) bytes: Histogram,
 }
 
-/// The family of replies, by their code. There is none for want of memory alone; so below.
+/// The label of replies. There is none for want of memory alone; so below.
+fn code_label(alloc: Global) -> Option<Vec<LabelName>>
+    ensures { IfSome result (λ labels. labels.items ≡ codes "code" ∷ []) }
+{
+    let code = LabelName::read(alloc, "code").ok()?;
+    Vec::from_array(alloc, [code]).ok()
+}
+
+/// The family of replies, by their code.
 fn replies_desc(alloc: Global) -> Option<Desc>
-    ensures { IfSome result (λ desc. desc.kind ≡ kind.Counter) }
+    ensures { IfSome result (λ desc. desc ≡ replies_family) }
 {
     let name = MetricName::read(alloc, "scrape_requests_total").ok()?;
     let help = HelpText::read(alloc, "Replies by status.").ok()?;
-    let mut labels = Vec::new(alloc);
-    labels.push(LabelName::read(alloc, "code").ok()?).ok()?;
-    Desc::counter(name, help, labels).ok()
+    Desc::counter(name, help, code_label(alloc)?).ok()
 }
 
 /// The family of the bytes of replies.
-fn bytes_desc(alloc: Global) -> Option<Desc> {
+fn bytes_desc(alloc: Global) -> Option<Desc>
+    ensures { IfSome result (λ desc. desc ≡ bytes_family) }
+{
     let name = MetricName::read(alloc, "scrape_reply_bytes").ok()?;
     let help = HelpText::read(alloc, "Bytes of each reply.").ok()?;
     Desc::histogram(name, help, Vec::new(alloc), &[100, 1_000, 10_000]).ok()
@@ -65,11 +74,15 @@ fn counter_of(
     }
 }
 
-/// The histogram of the bytes of replies.
+/// Registers the family of the bytes of replies, and gives the histogram of its one child.
 fn histogram_of(alloc: Global, registry: &mut Registry<'_>) -> Option<Histogram>
+    ensures given { IfSome result (λ histogram. IsGiven 64 8 16 (changed (Registered bytes_family) registry.old) registry.new
+        (length registry.old.state.families) [] (handle.Histogram histogram)) }
     ensures same { IfSome result (λ _. IsSameBoard registry.old registry.new) }
 {
-    let family = registry.register(bytes_desc(alloc)?).ok()?;
+    let Ok(family) = registry.register(bytes_desc(alloc)?) else {
+        return None;
+    };
     match registry.child(family, &[]) {
         Ok(Handle::Histogram(histogram)) => Some(histogram),
         _ => None,
@@ -80,6 +93,7 @@ fn histogram_of(alloc: Global, registry: &mut Registry<'_>) -> Option<Histogram>
 fn registered(alloc: Global, registry: &mut Registry<'_>) -> Option<Metrics>
     requires nothing { registry.old.state ≡ nothing }
     ensures six { IfSome result AreSix }
+    ensures registered { IfSome result (AreRegistered registry.new.id registry.new.state.families) }
     ensures same { IfSome result (λ _. IsSameBoard registry.old registry.new) }
 {
     let Ok(family) = registry.register(replies_desc(alloc)?) else {
@@ -101,6 +115,7 @@ impl Metrics {
     pub(crate) fn new(alloc: Global, registry: &mut Registry<'_>) -> Result<Metrics, NoMemory>
         requires nothing { registry.old.state ≡ nothing }
         ensures six { IfOk result AreSix }
+        ensures registered { IfOk result (AreRegistered registry.new.id registry.new.state.families) }
         ensures same { IfOk result (λ _. IsSameBoard registry.old registry.new) }
     {
         match registered(alloc, registry) {

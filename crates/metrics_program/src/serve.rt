@@ -2,6 +2,7 @@
 ghost use Rattle.std.specs.Prelude.{◌≡◌, [], ◌∷◌, ◌++◌, codes, decimal, map, replicate, ◌<◌, All, OnErr, OnOk, IfOk, IfSome};
 ghost use Rattle.std.specs.Prelude.{IsSome};
 ghost use Rattle.std.specs.Io.KnownBytes.{Appends};
+ghost use Rattle.register_rule.specs.Seats.{board_id};
 ghost use Rattle.snapshot_scan.specs.Readers.{IsReaderOf};
 ghost use Rattle.snapshot_update.specs.Workers.{index_of, lists_of, IsWorkerOf};
 ghost use Rattle.registry_state.specs.Journal.{changes};
@@ -16,6 +17,7 @@ use crate::sending::{Broken, send, tell_number};
 use crate::threads::{Four, Queues, Shared, serve_in_threads};
 use metric_names::NoMemory;
 use metric_registry::{Named, RegistryOf};
+use registry_state::Journal;
 use scrape_server::{AskedAgain, FromRegistry};
 use snapshot_scan::Scanner;
 use std::alloc::Global;
@@ -65,7 +67,7 @@ impl<'b> Service<'b> {
     /// A registry with the server's metrics, and empty queues. There is none for want of memory alone.
     fn new(alloc: Global, board: &'b Board, scraper: Reader) -> Option<Service<'b>>
         requires { IsReaderOf board.now scraper }
-        ensures { IfSome result (IsService board.now) }
+        ensures { IfSome result (λ service. IsService board.now service.registry service.metrics) }
     {
         let source = Scanner::new(board, scraper);
         let Ok(mut registry) = Registry::new(alloc, source, board.id(), WINDOW) else {
@@ -74,6 +76,8 @@ impl<'b> Service<'b> {
         let Ok(metrics) = Metrics::new(alloc, &mut registry) else {
             return None;
         };
+        // A look into the journal tells the proof that it replays.
+        let _ = registry.journal();
         Some(Service {
             registry,
             metrics,
@@ -122,8 +126,8 @@ fn to_four(board: &Board, mut workers: Vec<Worker>) -> Four
     Four { a, b, c, d }
 }
 
-/// Answers so many connections, and tells how many replies were counted, by all workers together. None where a thread could not be
-/// started or the listener has failed.
+/// Answers so many connections, and tells how many replies were counted, by all workers together, and the journal of the registry that
+/// was served. None where a thread could not be started or the listener has failed.
 #[tactic(auto, using(crate::proofs::Counting::all_own))]
 fn serve_counting<B: Named + Send, T: Threads + Wait + Sync>(
     rt: &T,
@@ -132,15 +136,15 @@ fn serve_counting<B: Named + Send, T: Threads + Wait + Sync>(
     service: Service<'_>,
     listener: &TcpListener,
     count: u64,
-) -> Option<u64>
+) -> Option<(u64, Journal<4, 64, 8, 16>)>
     requires new { AreNewWorkers board.now workers }
-    requires service { IsService board.now service }
+    requires service { IsService board.now service.registry service.metrics }
     requires some { IsSome B.board }
     requires named { IsNamed B.board board.now }
     requires of { IsOf B.board service.registry }
     requires begins { BeginsWith B.first service.registry.journal }
     requires first { B.first ≡ changes service.registry.journal }
-    ensures { IfSome result (AreReplies board.now service.entry.metrics service.entry.registry workers) }
+    ensures { IfSome result (λ r. AreReplies board.now service.entry.metrics service.entry.registry workers r.1 r.0) }
 {
     let Service {
         registry,
@@ -168,10 +172,10 @@ fn serve_counting<B: Named + Send, T: Threads + Wait + Sync>(
         return None;
     };
     let mut workers = [four.a, four.b, four.c, four.d];
-    let Ok(_journal) = registry.settle(board, &mut workers, &mut settled) else {
+    let Ok(journal) = registry.settle(board, &mut workers, &mut settled) else {
         unreachable!()
     };
-    Some(metrics.replies(&settled))
+    Some((metrics.replies(&settled), journal))
 }
 
 /// Writes the line that tells the port of the listener, and lets it go.
@@ -194,6 +198,7 @@ fn serve_by<T: Threads + Wait + Sync, W: Write>(
     count: u64,
     writer: &mut W,
 ) -> ServeEnd
+    requires id { board_id board.now ≡ 1 }
     requires of_board { All (IsWorkerOf board.now) staff.workers.items }
     requires all { map index_of staff.workers.items ≡ 0 ∷ 1 ∷ 2 ∷ 3 ∷ [] }
     requires new { map lists_of staff.workers.items ≡ replicate 4 [] }
@@ -213,7 +218,7 @@ fn serve_by<T: Threads + Wait + Sync, W: Write>(
         return ServeEnd::Broken;
     };
     match serve_counting::<Brand, T>(rt, board, four, service, listener, count) {
-        Some(replies) => match tell(writer, b"served ", replies) {
+        Some((replies, _journal)) => match tell(writer, b"served ", replies) {
             Ok(()) => ServeEnd::Done,
             Err(Broken) => ServeEnd::Broken,
         },

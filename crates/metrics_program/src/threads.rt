@@ -1,9 +1,9 @@
 //! The threads of the server: each answers the connections of its queue, in order.
-ghost use Rattle.std.specs.Prelude.{◌≡◌, IfSome};
+ghost use Rattle.std.specs.Prelude.{◌≡◌, ℕ, IfSome};
 ghost use Rattle.snapshot_update.specs.Workers.{IsWorkerOf};
-ghost use Rattle.metrics_program.specs.Counted.{AreNewWorkers, HasCounted, HaveCounted};
+ghost use Rattle.metrics_program.specs.Counted.{AreAnswered, AreNewWorkers, HasCounted, HaveCounted};
 
-use crate::answer::answer;
+use crate::answer::{Answering, Answers};
 use crate::board::{Board, Worker};
 use crate::metrics::Metrics;
 use crossbeam_channel::{Receiver, Sender, bounded};
@@ -84,21 +84,36 @@ impl<'a> Promise<Worker> for Counts<'a> {
     ghost kept_by = { λ p w. HasCounted p.board.now p.metrics.now p.was.value w };
 }
 
+/// Answers connections until no more come. Whoever it is that answers them, nothing else is done to it.
+fn answer_all<T: Wait, A: Answers>(rt: &T, at: &mut A, connections: Connections)
+    requires { A.ready at.old }
+    ensures { (many : ℕ) × AreAnswered A.answered many at.old at.new }
+{
+    for stream in connections.iter(rt) {
+        at.answer(&stream);
+    }
+}
+
 /// Answers connections until no more come, and hands the worker back.
-fn answer_all<T: Wait, S: ScrapeFrom + Drop>(
+fn work<T: Wait, S: ScrapeFrom + Drop>(
     rt: &T,
     board: &Board,
     metrics: &Metrics,
-    mut source: S,
-    mut worker: Worker,
+    source: S,
+    worker: Worker,
     connections: Connections,
 ) -> Worker
     requires of_board { IsWorkerOf board.now worker }
     ensures { HasCounted board.now metrics.now worker result }
 {
-    for stream in connections.iter(rt) {
-        let _ = answer(board, metrics, &mut source, &mut worker, &stream);
-    }
+    let mut at = Answering {
+        board,
+        metrics,
+        source,
+        worker,
+    };
+    answer_all(rt, &mut at, connections);
+    let Answering { worker, .. } = at;
     worker
 }
 
@@ -126,7 +141,7 @@ fn start<'s, E: 's, T: Threads + Wait + Sync, S: ScrapeFrom + Send + Drop + 's>(
             move || -> Worker
                 requires { IsWorkerOf board.now worker }
                 ensures { HasCounted board.entry.now metrics.entry.now worker result }
-            { answer_all(rt, board, metrics, source, worker, connections) },
+            { work(rt, board, metrics, source, worker, connections) },
         )
         .ok()
 }

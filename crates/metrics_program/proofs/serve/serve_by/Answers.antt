@@ -7,12 +7,32 @@ use Rattle.metrics_program.proofs.serve.serve_by.Goals as goal
 pub returns-in-Ok-tell : goal.returns-in-Ok-tell
 returns-in-Ok-tell g c =
     let port = c.in-Ok.ensures.told in
-    printed _ _ _ c.in-Ok._port c.in-Some-serve_counting.replies port.0 port.1 c.in-Ok-tell.ensures.told
+    printed _ _ _ c.in-Ok._port c.in-Some-serve_counting.replies port.0 port.1 (record {
+      board = c.args.board.now;
+      id = c.requires.id;
+      workers = c.to_four-four.result;
+      new = c.to_four-four.ensures;
+      first = c.in-Some.service.registry;
+      metrics = c.in-Some.service.metrics;
+      service = c.in-Some.ensures;
+      journal = c.in-Some-serve_counting._journal;
+      are_replies = c.in-Some-serve_counting.ensures;
+    }) c.in-Ok-tell.ensures.told
 
 pub returns-in-Some-serve_counting : goal.returns-in-Some-serve_counting
 returns-in-Some-serve_counting g c =
     let port = c.in-Ok.ensures.told in
-    printed_begun _ _ _ c.in-Ok._port c.in-Some-serve_counting.replies port.0 port.1 c.in-Err.ensures.front
+    printed_begun _ _ _ c.in-Ok._port c.in-Some-serve_counting.replies port.0 port.1 (record {
+      board = c.args.board.now;
+      id = c.requires.id;
+      workers = c.to_four-four.result;
+      new = c.to_four-four.ensures;
+      first = c.in-Some.service.registry;
+      metrics = c.in-Some.service.metrics;
+      service = c.in-Some.ensures;
+      journal = c.in-Some-serve_counting._journal;
+      are_replies = c.in-Some-serve_counting.ensures;
+    }) c.in-Err.ensures.front
 
 pub returns : goal.returns
 returns g c =

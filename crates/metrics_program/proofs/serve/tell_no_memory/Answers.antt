@@ -7,4 +7,5 @@ pub returns-in-Ok-Ok : goal.returns-in-Ok-Ok
 returns-in-Ok-Ok g c = Appends-kept _ _ _ _ c.in-Ok-Ok.ensures.sent c.flush.ensures.bytes
 
 pub returns-in_default-2 : goal.returns-in_default-2
-returns-in_default-2 g c = inr (begun_kept _ _ _ _ (begun _ _ _ _ c.in_default.ensures.front.1) c.flush.ensures.bytes)
+returns-in_default-2 g c =
+    inr (inr (begun_kept _ _ _ _ (begun _ _ _ _ c.in_default.ensures.front.1) c.flush.ensures.bytes))

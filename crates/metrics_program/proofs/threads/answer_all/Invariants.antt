@@ -1,6 +1,10 @@
-use Rattle.metrics_program.specs.Counted.{HasCounted}
+use Rattle.std.specs.Prelude.{ℕ}
+use Rattle.metrics_program.specs.Counted.{AreAnswered}
 use Rattle.metrics_program.proofs.threads.answer_all.Given as goal
 
--- replies were counted, and nothing else
+-- connections were answered, and nothing else was done
 abbrev pub invariant-loop-stream : goal.invariant-loop-stream
-invariant-loop-stream g l = HasCounted l.board l.metrics l.initial.worker l.worker
+invariant-loop-stream g l = record {
+  ready : g.A.Answers.ready l.at;
+  answered : (many : ℕ) × AreAnswered g.A.Answers.answered many l.initial.at l.at;
+}
