@@ -60,7 +60,7 @@ fn tallies(
     tally.clear();
 }
 
-/// A worker scans and meets a reader, which scans, also while the worker is lent to it.
+/// A worker meets a reader, which scans while the worker is lent to it.
 fn meets(
     rt: &impl Abort,
     board: &Board<2, 1, 1, 1>,
@@ -73,7 +73,6 @@ fn meets(
     ensures worker { IsWorkerOf board.now worker.new }
     ensures reader { IsReaderOf board.now reader.new }
 {
-    need(rt, worker.scan(board, out));
     worker.meet(board, reader);
     worker.lend_to(board, reader);
     need(rt, reader.scan(board, out));
@@ -99,30 +98,81 @@ fn compares(
     let _ = order(board, ones, one, others, other);
 }
 
-/// All these calls, so many times.
-fn calls(rt: &impl Abort, alloc: Global, times: u64) {
-    let mut crew = need(rt, Crew::<2, 1, 1, 1>::new(alloc, ID, 3));
-    let mut worker = last_worker(rt, &crew.board, &mut crew.workers);
-    let mut reader = last_reader(rt, &crew.board, &mut crew.readers);
-    let mut one = last_reader(rt, &crew.board, &mut crew.readers);
-    let mut other = last_reader(rt, &crew.board, &mut crew.readers);
-    let mut ones = need(rt, Snapshot::new(alloc));
-    let mut others = need(rt, Snapshot::new(alloc));
-    let (board, hist, mut tally) = (&crew.board, histogram(rt), Tally::new(ID));
+/// Who makes the calls, and what their scans find.
+#[derive(Drop)]
+struct Team {
+    worker: Worker<2, 1, 1, 1>,
+    reader: Reader<2, 1, 1, 1>,
+    one: Reader<2, 1, 1, 1>,
+    other: Reader<2, 1, 1, 1>,
+    ones: Snapshot<2, 1, 1, 1>,
+    others: Snapshot<2, 1, 1, 1>,
+}
+
+/// All these calls.
+fn calls(
+    rt: &impl Abort,
+    board: &Board<2, 1, 1, 1>,
+    it: &mut Team,
+    tally: &mut Tally<1, 1, 1, 8>,
+    hist: &Histogram,
+)
+    requires worker { IsWorkerOf board.now it.old.worker }
+    requires reader { IsReaderOf board.now it.old.reader }
+    requires of_board { IsReaderOf board.now it.old.one × IsReaderOf board.now it.old.other }
+    requires alone { IsAlone it.old.one × IsAlone it.old.other }
+    ensures worker { IsWorkerOf board.now it.new.worker }
+    ensures reader { IsReaderOf board.now it.new.reader }
+    ensures of_board { IsReaderOf board.now it.new.one × IsReaderOf board.now it.new.other }
+    ensures alone { IsAlone it.new.one × IsAlone it.new.other }
+{
+    counts(rt, board, &mut it.worker, hist);
+    tallies(rt, board, &mut it.worker, tally, hist);
+    need(rt, it.worker.scan(board, &mut it.ones));
+    meets(rt, board, &mut it.worker, &mut it.reader, &mut it.ones);
+    compares(
+        rt,
+        board,
+        &mut it.one,
+        &mut it.other,
+        &mut it.ones,
+        &mut it.others,
+    );
+}
+
+/// The same, so many times.
+fn rounds(rt: &impl Abort, board: &Board<2, 1, 1, 1>, it: &mut Team, times: u64)
+    requires worker { IsWorkerOf board.now it.old.worker }
+    requires reader { IsReaderOf board.now it.old.reader }
+    requires of_board { IsReaderOf board.now it.old.one × IsReaderOf board.now it.old.other }
+    requires alone { IsAlone it.old.one × IsAlone it.old.other }
+{
+    let (hist, mut tally) = (histogram(rt), Tally::new(ID));
     for _time in 0..times {
-        counts(rt, board, &mut worker, &hist);
-        tallies(rt, board, &mut worker, &mut tally, &hist);
-        meets(rt, board, &mut worker, &mut reader, &mut ones);
-        compares(rt, board, &mut one, &mut other, &mut ones, &mut others);
+        calls(rt, board, it, &mut tally, &hist);
     }
+}
+
+/// The same, on a new board.
+fn rounds_on_new(rt: &impl Abort, alloc: Global, times: u64) {
+    let mut crew = need(rt, Crew::<2, 1, 1, 1>::new(alloc, ID, 3));
+    let mut it = Team {
+        worker: last_worker(rt, &crew.board, &mut crew.workers),
+        reader: last_reader(rt, &crew.board, &mut crew.readers),
+        one: last_reader(rt, &crew.board, &mut crew.readers),
+        other: last_reader(rt, &crew.board, &mut crew.readers),
+        ones: need(rt, Snapshot::new(alloc)),
+        others: need(rt, Snapshot::new(alloc)),
+    };
+    rounds(rt, &crew.board, &mut it, times);
 }
 
 #[test]
 fn each_call_once(rt: HostRuntime) {
-    calls(&rt, rt.alloc(), 1);
+    rounds_on_new(&rt, rt.alloc(), 1);
 }
 
 #[test]
 fn each_call_a_thousand_times(rt: HostRuntime) {
-    calls(&rt, rt.alloc(), 1_000);
+    rounds_on_new(&rt, rt.alloc(), 1_000);
 }
