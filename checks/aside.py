@@ -99,10 +99,12 @@ def digest(crate):
 
 
 def changed(crate, body):
-    """The files that a wrong body of a crate makes, by their paths, or why it cannot be made: each line that it changes has to stand once in
-    the file that it names last, one after the other."""
-    texts, path = {}, ""
-    for file, old, new in re.findall(r"^(?:file: (.*)|old: (.*)\nnew: ?(.*))$", body.read_text(), re.M):
+    """The files that a wrong body of a crate makes, by their paths. Each line that it changes has to stand once in the file that it names last,
+    one after the other."""
+    texts, path, said = {}, "", body.read_text()
+    parts = re.findall(r"^(?:file: (.*)|old: (.*)\nnew: ?(.*))$", said, re.M)
+    check(sum(bool(old) for _, old, _ in parts) == len(re.findall("^(?:old|new):", said, re.M)) / 2, f"{crate.name}, {body.name}: old, new by turns")
+    for file, old, new in parts:
         path = file or path
         text = texts.setdefault(path, (crate / path).read_text())
         if old:
