@@ -1,6 +1,5 @@
 """The pages: the README shows each step of the tutorial word for word, and the guide what stands in the tutorial and the example; each link
-of a page leads to a file, and a page names no file, call or definition that is not there; and wrong bodies that stand aside can be tried
-still."""
+of a page leads to a file, and a page names no file, call or definition that is not there."""
 import re
 
 from started import check
@@ -87,20 +86,5 @@ def definitions(root):
     return len(named)
 
 
-def aside(root):
-    """How many wrong bodies stand aside, each of which can be tried still: the lines that it changes, one after the other, stand once in the file
-    that it names."""
-    bodies = [*root.glob("crates/*/wrong-bodies/*.edit")]
-    for body in bodies:
-        text = body.read_text()
-        source = (body.parent.parent / re.search(r"^file: (.*)$", text, re.M)[1]).read_text()
-        changes = re.findall(r"^old: (.*)\nnew: ?(.*)$", text, re.M)
-        check(len(changes) == len(re.findall("^old: ", text, re.M)) > 0, f"{body.relative_to(root)} changes something")
-        for old, new in changes:
-            check(source.count(old) == 1, f"{body.relative_to(root)}: its old line stands once: {old}")
-            source = source.replace(old, new)
-    return len(bodies)
-
-
 def check_all(root):
-    return sum(part(root) for part in (shown, quoted, links, calls, files, definitions, aside))
+    return sum(part(root) for part in (shown, quoted, links, calls, files, definitions))

@@ -4,6 +4,7 @@ import re
 import sys
 import time
 
+import aside
 import clients
 import exit_statuses
 import no_memory
@@ -34,6 +35,7 @@ def main():
     printed = ROOT / "crates/example_service/stdout"
     checks = [
         ("pages", lambda: pages.check_all(ROOT)),
+        ("wrong bodies", lambda: aside.check_all(ROOT)),
         ("exit statuses", lambda: exit_statuses.check_all(program, service, bench)),
         ("scripts", lambda: script_cases(program)),
         ("servers", lambda: servers.check_all(program, service, printed)),

@@ -1,0 +1,154 @@
+"""Wrong bodies. Each can be made still, of those that the gate tries and of those that stand aside in a folder `wrong-bodies/`. Those that
+stand aside were tried at the clauses and definitions that their crate has now: the file `tried.txt` beside them has the digest of these.
+After a trial of a crate `python3 -B checks/aside.py --tried CRATE` writes it."""
+import hashlib
+import pathlib
+import re
+import sys
+
+from started import Failed, check
+
+ROOT = pathlib.Path(__file__).resolve().parent.parent
+
+# What a source is read as: comments, texts, letters, lifetimes, words of Rust and of clauses, and single signs.
+TOKEN = re.compile(
+    r"""(?P<comment>//[^\n]*|/\*.*?\*/)|b?"(?:\\.|[^"\\])*"|b?'(?:\\.[^']*|[^'\\])'|'\w+|[\w◌]+'*|[^\s\w]""",
+    re.S,
+)
+OPENING, CLOSING = "([{", ")]}"
+CLAUSES = ("requires", "ensures")
+
+
+def tokens_of(source):
+    return [it[0] for it in TOKEN.finditer(source) if not it["comment"]]
+
+
+def end_of_group(tokens, at):
+    """The place behind the bracket that closes the one at this place."""
+    depth = 0
+    for place in range(at, len(tokens)):
+        depth += (tokens[place] in OPENING) - (tokens[place] in CLOSING)
+        if depth == 0:
+            return place + 1
+    raise ValueError("a bracket is not closed")
+
+
+def end_of(tokens, at, sign):
+    """The place behind the next such sign that stands in no bracket."""
+    while tokens[at] != sign:
+        at = end_of_group(tokens, at) if tokens[at] in OPENING else at + 1
+    return at + 1
+
+
+def clauses_in(tokens):
+    """The clauses of a body's closures."""
+    told = []
+    for at, word in enumerate(tokens):
+        if word in CLAUSES:
+            told += tokens[at : end_of_group(tokens, tokens.index("{", at))]
+    return told
+
+
+def function(tokens, at):
+    """What a function promises, with its signature, if it has a clause; and the place behind its body."""
+    begin, has_clause = at, False
+    while tokens[at] not in ("{", ";"):
+        if tokens[at] in CLAUSES:
+            has_clause = True
+            at = tokens.index("{", at)
+        at = end_of_group(tokens, at) if tokens[at] in OPENING else at + 1
+    end = end_of_group(tokens, at) if tokens[at] == "{" else at + 1
+    return (tokens[begin:at] if has_clause else []) + clauses_in(tokens[at:end]), end
+
+
+def outline(source):
+    """A source without its comments, attributes, imports of code, and bodies: its types with what is true of them, its constants, and its
+    functions that have clauses, with these."""
+    tokens, told, at = tokens_of(source), [], 0
+    while at < len(tokens):
+        word = tokens[at]
+        if word == "fn":
+            promise, at = function(tokens, at)
+            told += promise
+        elif word == "pub":
+            at = end_of_group(tokens, at + 1) if tokens[at + 1] == "(" else at + 1
+        elif word == "#":
+            at = end_of_group(tokens, tokens.index("[", at))
+        elif word == "mod" or word == "use" and told[-1:] != ["ghost"]:
+            at = end_of(tokens, at, ";")
+        else:
+            told.append(word)
+            at += 1
+    return told
+
+
+def definitions(source):
+    """A file of definitions, without its comments."""
+    return re.sub(r"\{-.*?-\}|--[^\n]*", "", source, flags=re.S).split()
+
+
+def digest(crate):
+    """The sum of all clauses and definitions of a crate, in the order of their files."""
+    told = hashlib.sha256()
+    for file in sorted([*crate.glob("src/**/*.rt"), *crate.glob("specs/**/*.antt")]):
+        words = (outline if file.suffix == ".rt" else definitions)(file.read_text())
+        # A list that is broken into lines ends with a sign which one of a single line has not.
+        part = re.sub(r" ?[,;] ([)\]}>])", r" \1", " ".join(words))
+        told.update(f"{file.relative_to(crate).as_posix()}\n{part}\n".encode())
+    return told.hexdigest()
+
+
+def changed(crate, body):
+    """The files that a wrong body of a crate makes, by their paths. Each line that it changes has to stand once in the file that it names last,
+    one after the other."""
+    texts, path, said = {}, "", body.read_text()
+    parts = re.findall(r"^(?:file: (.*)|old: (.*)\nnew: ?(.*))$", said, re.M)
+    check(sum(bool(old) for _, old, _ in parts) == len(re.findall("^(?:old|new):", said, re.M)) / 2, f"{crate.name}, {body.name}: old, new by turns")
+    for file, old, new in parts:
+        path = file or path
+        text = texts.setdefault(path, (crate / path).read_text())
+        if old:
+            check(text.count(old) == 1, f"{crate.name}, {body.name}: its old line stands once in {path}: {old}")
+            texts[path] = text.replace(old, new)
+    return {path: text for path, text in texts.items() if text != (crate / path).read_text()}
+
+
+def can_be_made(root):
+    """How many wrong bodies there are, each of which changes something."""
+    bodies = [*root.glob("crates/*/must-fail/*.edit"), *root.glob("crates/*/wrong-bodies/*.edit")]
+    for body in bodies:
+        check(changed(body.parent.parent, body), f"{body.relative_to(root)} changes something")
+    return len(bodies)
+
+
+def were_tried(root):
+    """In how many crates wrong bodies stand aside, which were tried at the clauses and definitions that are there."""
+    folders = sorted(root.glob("crates/*/wrong-bodies"))
+    for folder in folders:
+        crate, told = folder.parent, folder / "tried.txt"
+        was = told.read_text().strip() if told.is_file() else "none"
+        check(
+            was == digest(crate),
+            f"clauses or definitions of {crate.name} have changed since its wrong bodies were tried that stand aside. Try them, in a clone: "
+            f"mkdir -p crates/{crate.name}/must-fail; git mv crates/{crate.name}/wrong-bodies/*.edit crates/{crate.name}/must-fail; "
+            f"rt ci {crate.name}; where each is refused, write it down here: python3 -B checks/aside.py --tried {crate.name}",
+        )
+    return len(folders)
+
+
+def check_all(root):
+    return can_be_made(root) + were_tried(root)
+
+
+def main():
+    if len(sys.argv) < 3 or sys.argv[1] != "--tried":
+        print("usage: aside.py --tried CRATE.., after the wrong bodies of these crates that stand aside were tried")
+        return 2
+    for name in sys.argv[2:]:
+        crate = ROOT / "crates" / name
+        (crate / "wrong-bodies/tried.txt").write_text(digest(crate) + "\n")
+    return 0
+
+
+if __name__ == "__main__":
+    sys.exit(main())
