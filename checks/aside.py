@@ -123,7 +123,7 @@ def can_be_made(root):
 
 def were_tried(root):
     """In how many crates wrong bodies stand aside, which were tried at the clauses and definitions that are there."""
-    folders = sorted(root.glob("crates/*/wrong-bodies"))
+    folders = sorted({body.parent for body in root.glob("crates/*/wrong-bodies/*.edit")})
     for folder in folders:
         crate, told = folder.parent, folder / "tried.txt"
         was = told.read_text().strip() if told.is_file() else "none"
