@@ -6,7 +6,7 @@ import pathlib
 import re
 import sys
 
-from started import Failed, check
+from started import check
 
 ROOT = pathlib.Path(__file__).resolve().parent.parent
 
