@@ -31,6 +31,7 @@ impl BadBounds {
 /// The bounds of a histogram: at most 24, each above the one before and at most 2^48 - 1. Plain data.
 ///
 /// Contracts see it as the list of its bounds.
+#[repr(C)]
 #[derive(Clone, Copy, Debug, PartialEq, Eq)]
 pub struct Bounds {
     bounds: [u64; 24],

@@ -4,6 +4,7 @@ use metric_desc::{Desc, Kind};
 use registry_state::FamilyId;
 
 /// A family of counters of a registry.
+#[repr(C)]
 #[derive(Clone, Copy, Debug, PartialEq, Eq)]
 pub struct CounterFamily {
     /// The id of its registry.
@@ -13,6 +14,7 @@ pub struct CounterFamily {
 }
 
 /// A family of gauges of a registry.
+#[repr(C)]
 #[derive(Clone, Copy, Debug, PartialEq, Eq)]
 pub struct GaugeFamily {
     /// The id of its registry.
@@ -22,6 +24,7 @@ pub struct GaugeFamily {
 }
 
 /// A family of histograms of a registry.
+#[repr(C)]
 #[derive(Clone, Copy, Debug, PartialEq, Eq)]
 pub struct HistogramFamily {
     /// The id of its registry.

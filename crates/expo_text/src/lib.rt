@@ -23,3 +23,4 @@ pub use number::Number;
 pub use page::render;
 pub use scrape::{ChildScrape, FamilyScrape, Scrape};
 pub use sending::{WriteFailed, send, write_after, write_to};
+pub use watched::Watched;

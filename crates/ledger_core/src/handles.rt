@@ -1,6 +1,7 @@
 use bucket_math::Bounds;
 
 /// A counter: names a slot of the registry whose id it carries.
+#[repr(C)]
 #[derive(Clone, Copy, Debug, PartialEq, Eq)]
 pub struct Counter {
     pub registry: u64,
@@ -8,6 +9,7 @@ pub struct Counter {
 }
 
 /// A histogram: names a slot of the registry whose id it carries, and has the bounds by which a value's bucket is found.
+#[repr(C)]
 #[derive(Clone, Copy, Debug, PartialEq, Eq)]
 pub struct Histogram {
     pub registry: u64,
@@ -16,6 +18,7 @@ pub struct Histogram {
 }
 
 /// A gauge: names a slot of the registry whose id it carries.
+#[repr(C)]
 #[derive(Clone, Copy, Debug, PartialEq, Eq)]
 pub struct Gauge {
     pub registry: u64,

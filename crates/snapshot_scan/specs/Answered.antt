@@ -5,7 +5,8 @@ use Rattle.register_rule.specs.declared.view.Answer.{Answer}
 use Rattle.snapshot_scan.specs.Shape.{with_scan}
 use Rattle.snapshot_scan.specs.Scanned.{IsAnswered}
 use Rattle.snapshot_scan.specs.Contention.{IsContended}
-use Rattle.snapshot_scan.specs.Core.{AnswersBy}
+use Rattle.snapshot_core.specs.declared.next.Next.TheVariants.{GaveUp}
+use Rattle.snapshot_scan.specs.Core.{CameTo, AnswersBy}
 use Rattle.snapshot_scan.specs.Lent.{HasNumbers}
 use Rattle.snapshot_scan.specs.Readers.{index_of, members_with, scan_by}
 use Rattle.snapshot_scan.specs.declared.contended.Contended.{Contended}
@@ -24,7 +25,8 @@ module _ {N C H G : ℕ} where
     pub answers : AnswersBy N (width C H G) (scan_by r) (scan_by r') a
     pub lent : HasNumbers (members_with r) a.vector
 
-  -- it gave one scan up
+  -- it gave one scan up, and by what it loaded it had to: in its last try the number of this worker rose
   pub record HasGivenUp (r r' : Reader N C H G) (e : Contended) : Type 0 where
     pub scanned : HasScanned r r'
     pub contended : IsContended N (scan_by r) (scan_by r') e
+    pub came : CameTo N (width C H G) (scan_by r) (scan_by r') (GaveUp e.worker e.first e.last)

@@ -1,4 +1,5 @@
 //! Gates: what the threads of a pool wait for before each job.
+ghost use Rattle.std.specs.Prelude.{◌≡◌, true};
 
 /// What the threads of a pool ask before each job, and tell after it. A worker is named by its place in the pool's list, from 0.
 pub trait Gate {
@@ -14,7 +15,10 @@ pub trait Gate {
 pub struct Open;
 
 impl Gate for Open {
-    fn open(&self, _worker: usize) -> bool {
+    /// It is.
+    fn open(&self, _worker: usize) -> bool
+        ensures { result ≡ true }
+    {
         true
     }
 
