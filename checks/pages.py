@@ -29,7 +29,7 @@ def quoted(root):
 
 
 def pages_of(root):
-    return [root / "README.md", *root.glob("docs/*.md"), *root.glob("crates/*/*.md"), *root.glob("checks/*.md"), *root.glob("compare/*.md")]
+    return [root / "README.md", *root.glob("docs/*.md"), *root.glob("crates/*/*.md"), *root.glob("checks/*.md"), *root.glob("compare/*.md"), *root.glob("bindings/*/*.md")]
 
 
 def sources_of(root):

@@ -5,13 +5,14 @@ import sys
 import time
 
 import aside
+import c_library
 import clients
 import exit_statuses
 import no_memory
 import pages
 import refused_memory
 import servers
-from started import Failed, check, run
+from started import Failed, Skipped, check, run
 
 ROOT = pathlib.Path(__file__).resolve().parent.parent
 
@@ -42,8 +43,9 @@ def main():
         ("clients", lambda: clients.check_all(program)),
         ("refused memory", lambda: refused_memory.check_all(program)),
         ("no memory", no_memory.check_all),
+        ("c library", c_library.check_all),
     ]
-    passed, failed = 0, 0
+    passed, failed, skipped = 0, 0, 0
     for name, it in checks:
         since = time.monotonic()
         try:
@@ -51,9 +53,14 @@ def main():
             check(count > 0, "something was checked")
             passed += count
             print(f"{name}: {count} as expected, in {time.monotonic() - since:.0f} s", flush=True)
+        except Skipped as why:
+            skipped += 1
+            print(f"{name}: SKIPPED: {why}", flush=True)
         except (Failed, OSError, ValueError) as why:
             failed += 1
             print(f"{name}: FAILED: {why if isinstance(why, Failed) else repr(why)}", flush=True)
+    if skipped:
+        print(f"{skipped} skipped")
     print(f"{passed} passed, {failed} failed")
     return 1 if failed else 0
 

@@ -14,6 +14,10 @@ class Failed(Exception):
     """Something is not as it should be."""
 
 
+class Skipped(Exception):
+    """The machine lacks what is needed to look."""
+
+
 def check(is_so, what):
     if not is_so:
         raise Failed(what)

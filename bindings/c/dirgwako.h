@@ -1,0 +1,300 @@
+/* Dirgwako for C99 and C++11: numbers that threads count without a lock and without memory, and scrapes in which all of them stood together, as a
+   text for Prometheus (text exposition format 0.0.4).
+
+   Each function answers DIRGWAKO_OK, which is 0, or the number of a refusal (docs/REFUSALS.md). After a refusal nothing has changed, but where a
+   function says otherwise. Of this interface alone are
+
+     34  DIRGWAKO_EMPTY        the handle holds nothing: it was not made, or was freed or given back
+     35  DIRGWAKO_NO_WORKER    each worker has a recorder
+     36  DIRGWAKO_NOT_UTF8     a text is not UTF-8
+     37  DIRGWAKO_TOO_SHORT    the buffer is too short; the length tells what it needs
+     38  DIRGWAKO_NULL         a pointer is null
+
+   Ownership. A dirgwako_registry and a dirgwako_recorder begin as zeros ({0}), are written by these functions alone, and are never copied while
+   they hold something: two copies own the same, so the second use of either is a use after free. They may be freed in any order, and freeing one
+   twice is refused (34). The board lives as long as its registry or a recorder of it. Counters, gauges and histograms are plain data, which are
+   copied as one likes and never freed. A histogram's bounds are written by this library alone.
+
+   Threads. One call at a time uses a handle; two handles may be used by two threads at the same moment. So a recorder belongs to one thread at a
+   time, and a registry wants a mutex where several threads register or scrape. Counting takes no lock and waits for nobody. A handle goes to
+   another thread by a lock, by a thread's start or join, or by a flag that is stored with release order and loaded with acquire order.
+
+   What else the caller owes: a pointer that is not null points to what its type says, a length counts what is there, texts end in a zero byte where
+   no length is given; no call from a signal handler, nor in the forked child of a process with threads; malloc and free are of one
+   allocator. */
+#ifndef DIRGWAKO_H
+#define DIRGWAKO_H
+
+#include <stddef.h>
+#include <stdint.h>
+#include <string.h>
+
+#ifdef __cplusplus
+extern "C" {
+#endif
+
+/* The version of this interface. */
+#define DIRGWAKO_ABI 1
+
+enum {
+    DIRGWAKO_OK = 0,
+    DIRGWAKO_EMPTY = 34,
+    DIRGWAKO_NO_WORKER = 35,
+    DIRGWAKO_NOT_UTF8 = 36,
+    DIRGWAKO_TOO_SHORT = 37,
+    DIRGWAKO_NULL = 38
+};
+
+/* A registry over a board. Opaque; zeros where it holds nothing. */
+typedef struct dirgwako_registry {
+    void *at;
+    uint64_t live;
+} dirgwako_registry;
+
+/* What a thread counts with. Opaque; zeros where it holds nothing. */
+typedef struct dirgwako_recorder {
+    void *at;
+    uint64_t live;
+} dirgwako_recorder;
+
+/* A counter: a number that rises. */
+typedef struct dirgwako_counter {
+    uint64_t registry;
+    size_t slot;
+} dirgwako_counter;
+
+/* A gauge: a number that rises and falls. */
+typedef struct dirgwako_gauge {
+    uint64_t registry;
+    size_t slot;
+} dirgwako_gauge;
+
+/* A histogram: how many values were at most each of its bounds, their sum and their count. */
+typedef struct dirgwako_histogram {
+    uint64_t registry;
+    size_t slot;
+    uint64_t bounds[24];
+    size_t count;
+} dirgwako_histogram;
+
+/* Families of counters, gauges and histograms with labels. */
+typedef struct dirgwako_counter_family {
+    uint64_t registry;
+    size_t number;
+} dirgwako_counter_family;
+
+typedef struct dirgwako_gauge_family {
+    uint64_t registry;
+    size_t number;
+} dirgwako_gauge_family;
+
+typedef struct dirgwako_histogram_family {
+    uint64_t registry;
+    size_t number;
+} dirgwako_histogram_family;
+
+/* The bytes of a text. */
+typedef struct dirgwako_text {
+    const uint8_t *at;
+    size_t len;
+} dirgwako_text;
+
+/* The most labels of a family, and the most that these functions hand on. */
+enum { DIRGWAKO_MOST_LABELS = 8 };
+
+/* The library's own functions, for bindings of other languages. They take no null pointer, also where a length is 0. */
+uint32_t dirgwako_c_registry_new(dirgwako_registry *registry, uint64_t id, size_t window);
+uint32_t dirgwako_c_registry_free(dirgwako_registry *registry);
+uint32_t dirgwako_c_recorder_take(dirgwako_registry *registry, dirgwako_recorder *recorder);
+uint32_t dirgwako_c_recorder_give_back(dirgwako_registry *registry, dirgwako_recorder *recorder);
+uint32_t dirgwako_c_recorder_free(dirgwako_recorder *recorder);
+uint32_t dirgwako_c_counter_new(dirgwako_registry *registry, const uint8_t *name, size_t name_len, const uint8_t *help, size_t help_len,
+                                dirgwako_counter *counter);
+uint32_t dirgwako_c_gauge_new(dirgwako_registry *registry, const uint8_t *name, size_t name_len, const uint8_t *help, size_t help_len,
+                              dirgwako_gauge *gauge);
+uint32_t dirgwako_c_histogram_new(dirgwako_registry *registry, const uint8_t *name, size_t name_len, const uint8_t *help, size_t help_len,
+                                  const uint64_t *bounds, size_t count, dirgwako_histogram *histogram);
+uint32_t dirgwako_c_counter_family_new(dirgwako_registry *registry, const uint8_t *name, size_t name_len, const uint8_t *help,
+                                    size_t help_len, const dirgwako_text *labels, size_t count,
+                                    dirgwako_counter_family *family);
+uint32_t dirgwako_c_counter_of(dirgwako_registry *registry, const dirgwako_counter_family *family, const dirgwako_text *values, size_t count,
+                            dirgwako_counter *counter);
+uint32_t dirgwako_c_gauge_family_new(dirgwako_registry *registry, const uint8_t *name, size_t name_len, const uint8_t *help,
+                                    size_t help_len, const dirgwako_text *labels, size_t count,
+                                    dirgwako_gauge_family *family);
+uint32_t dirgwako_c_gauge_of(dirgwako_registry *registry, const dirgwako_gauge_family *family, const dirgwako_text *values, size_t count,
+                            dirgwako_gauge *gauge);
+uint32_t dirgwako_c_histogram_family_new(dirgwako_registry *registry, const uint8_t *name, size_t name_len, const uint8_t *help,
+                                    size_t help_len, const dirgwako_text *labels, size_t count, const uint64_t *bounds, size_t bound_count,
+                                    dirgwako_histogram_family *family);
+uint32_t dirgwako_c_histogram_of(dirgwako_registry *registry, const dirgwako_histogram_family *family, const dirgwako_text *values, size_t count,
+                            dirgwako_histogram *histogram);
+uint32_t dirgwako_c_inc(dirgwako_recorder *recorder, const dirgwako_counter *counter, uint64_t by);
+uint32_t dirgwako_c_observe(dirgwako_recorder *recorder, const dirgwako_histogram *histogram, uint64_t value);
+uint32_t dirgwako_c_up(dirgwako_recorder *recorder, const dirgwako_gauge *gauge, uint64_t by);
+uint32_t dirgwako_c_down(dirgwako_recorder *recorder, const dirgwako_gauge *gauge, uint64_t by);
+uint32_t dirgwako_c_scrape(dirgwako_registry *registry, uint8_t *buffer, size_t room, size_t *len);
+
+/* An id that no other board of this process has. */
+uint64_t dirgwako_next_id(void);
+
+/* A new board and its registry, which keeps the last `window` scrapes, 1 to 1,024. What the handle held is freed.
+   31, the window is none; 6, out of memory. */
+static inline uint32_t dirgwako_registry_new(dirgwako_registry *registry, size_t window) {
+    return registry ? dirgwako_c_registry_new(registry, dirgwako_next_id(), window) : (uint32_t)DIRGWAKO_NULL;
+}
+
+/* Frees a registry, and the recorders that nobody has taken. Recorders that were taken count on. 34. */
+static inline uint32_t dirgwako_registry_free(dirgwako_registry *registry) {
+    return registry ? dirgwako_c_registry_free(registry) : (uint32_t)DIRGWAKO_NULL;
+}
+
+/* A recorder of a worker that nobody has; what the handle held is freed. Takes no memory. 34; 35. */
+static inline uint32_t dirgwako_recorder_take(dirgwako_registry *registry, dirgwako_recorder *recorder) {
+    return registry && recorder ? dirgwako_c_recorder_take(registry, recorder) : (uint32_t)DIRGWAKO_NULL;
+}
+
+/* Gives a recorder back, for another thread to take; its handle is empty then. 34; 16, it is of another registry. */
+static inline uint32_t dirgwako_recorder_give_back(dirgwako_registry *registry, dirgwako_recorder *recorder) {
+    return registry && recorder ? dirgwako_c_recorder_give_back(registry, recorder) : (uint32_t)DIRGWAKO_NULL;
+}
+
+/* Frees a recorder: what it counted stays in each scrape, and its worker counts no more. 34. */
+static inline uint32_t dirgwako_recorder_free(dirgwako_recorder *recorder) {
+    return recorder ? dirgwako_c_recorder_free(recorder) : (uint32_t)DIRGWAKO_NULL;
+}
+
+/* A counter without labels. 34; 36; 1 to 5, the name or the help is none; 19, a name clashes with another family's; 22, no slot is left; 23, there
+   are 128 families; 6, out of memory. After 22 its family stands, without a number. */
+static inline uint32_t dirgwako_counter_new(dirgwako_registry *registry, const char *name, const char *help, dirgwako_counter *counter) {
+    if (!registry || !name || !help || !counter) return DIRGWAKO_NULL;
+    return dirgwako_c_counter_new(registry, (const uint8_t *)name, strlen(name), (const uint8_t *)help, strlen(help), counter);
+}
+
+/* A gauge without labels. As a counter. */
+static inline uint32_t dirgwako_gauge_new(dirgwako_registry *registry, const char *name, const char *help, dirgwako_gauge *gauge) {
+    if (!registry || !name || !help || !gauge) return DIRGWAKO_NULL;
+    return dirgwako_c_gauge_new(registry, (const uint8_t *)name, strlen(name), (const uint8_t *)help, strlen(help), gauge);
+}
+
+/* A histogram without labels, of at most 24 rising bounds, none over 2^48 - 1. As a counter; and 10, a bound is none. */
+static inline uint32_t dirgwako_histogram_new(dirgwako_registry *registry, const char *name, const char *help, const uint64_t *bounds,
+                                              size_t count, dirgwako_histogram *histogram) {
+    static const uint64_t none = 0;
+    if (!registry || !name || !help || !histogram || (!bounds && count)) return DIRGWAKO_NULL;
+    return dirgwako_c_histogram_new(registry, (const uint8_t *)name, strlen(name), (const uint8_t *)help, strlen(help),
+                                    bounds ? bounds : &none, count, histogram);
+}
+
+/* Texts by their bytes; whether none of them is null. */
+static inline int dirgwako_texts(const char *const *texts, size_t count, dirgwako_text *out) {
+    if (!texts && count) return 0;
+    for (size_t i = 0; i < count; i++) {
+        if (!texts[i]) return 0;
+        out[i].at = (const uint8_t *)texts[i];
+        out[i].len = strlen(texts[i]);
+    }
+    return 1;
+}
+
+/* A family of counters with at most 8 labels. 34; 36; 1 to 5, 7, 9, a text is none; 19, a name clashes; 23, there are 128 families; 6, out of memory. */
+static inline uint32_t dirgwako_counter_family_new(dirgwako_registry *registry, const char *name, const char *help, const char *const *labels,
+                                                size_t count, dirgwako_counter_family *family) {
+    dirgwako_text texts[DIRGWAKO_MOST_LABELS];
+    if (!registry || !name || !help || !family) return DIRGWAKO_NULL;
+    if (count > DIRGWAKO_MOST_LABELS) return 9;
+    if (!dirgwako_texts(labels, count, texts)) return DIRGWAKO_NULL;
+    return dirgwako_c_counter_family_new(registry, (const uint8_t *)name, strlen(name), (const uint8_t *)help, strlen(help), texts, count,
+                                      family);
+}
+
+/* The counter of these label values, in the order of the labels, which is made where there is none. 34; 36; 20, the family is of another registry; 3, a
+   value is too long; 21, there are not as many values as labels; 22, no slot is left; 6, out of memory. */
+static inline uint32_t dirgwako_counter_of(dirgwako_registry *registry, const dirgwako_counter_family *family, const char *const *values, size_t count,
+                                        dirgwako_counter *counter) {
+    dirgwako_text texts[DIRGWAKO_MOST_LABELS];
+    if (!registry || !family || !counter) return DIRGWAKO_NULL;
+    if (count > DIRGWAKO_MOST_LABELS) return 21;
+    if (!dirgwako_texts(values, count, texts)) return DIRGWAKO_NULL;
+    return dirgwako_c_counter_of(registry, family, texts, count, counter);
+}
+
+/* A family of gauges with at most 8 labels. 34; 36; 1 to 5, 7, 9, a text is none; 19, a name clashes; 23, there are 128 families; 6, out of memory. */
+static inline uint32_t dirgwako_gauge_family_new(dirgwako_registry *registry, const char *name, const char *help, const char *const *labels,
+                                                size_t count, dirgwako_gauge_family *family) {
+    dirgwako_text texts[DIRGWAKO_MOST_LABELS];
+    if (!registry || !name || !help || !family) return DIRGWAKO_NULL;
+    if (count > DIRGWAKO_MOST_LABELS) return 9;
+    if (!dirgwako_texts(labels, count, texts)) return DIRGWAKO_NULL;
+    return dirgwako_c_gauge_family_new(registry, (const uint8_t *)name, strlen(name), (const uint8_t *)help, strlen(help), texts, count,
+                                      family);
+}
+
+/* The gauge of these label values, in the order of the labels, which is made where there is none. 34; 36; 20, the family is of another registry; 3, a
+   value is too long; 21, there are not as many values as labels; 22, no slot is left; 6, out of memory. */
+static inline uint32_t dirgwako_gauge_of(dirgwako_registry *registry, const dirgwako_gauge_family *family, const char *const *values, size_t count,
+                                        dirgwako_gauge *gauge) {
+    dirgwako_text texts[DIRGWAKO_MOST_LABELS];
+    if (!registry || !family || !gauge) return DIRGWAKO_NULL;
+    if (count > DIRGWAKO_MOST_LABELS) return 21;
+    if (!dirgwako_texts(values, count, texts)) return DIRGWAKO_NULL;
+    return dirgwako_c_gauge_of(registry, family, texts, count, gauge);
+}
+
+/* A family of histograms with at most 8 labels, of at most 24 rising bounds, none over 2^48 - 1. As one of counters; 8, a label is `le`; 10, a bound
+   is none. */
+static inline uint32_t dirgwako_histogram_family_new(dirgwako_registry *registry, const char *name, const char *help, const char *const *labels,
+                                                size_t count, const uint64_t *bounds, size_t bound_count, dirgwako_histogram_family *family) {
+    static const uint64_t none = 0;
+    dirgwako_text texts[DIRGWAKO_MOST_LABELS];
+    if (!registry || !name || !help || !family || (!bounds && bound_count)) return DIRGWAKO_NULL;
+    if (count > DIRGWAKO_MOST_LABELS) return 9;
+    if (!dirgwako_texts(labels, count, texts)) return DIRGWAKO_NULL;
+    return dirgwako_c_histogram_family_new(registry, (const uint8_t *)name, strlen(name), (const uint8_t *)help, strlen(help), texts, count, bounds ? bounds : &none, bound_count,
+                                      family);
+}
+
+/* The histogram of these label values, in the order of the labels, which is made where there is none. 34; 36; 20, the family is of another registry; 3, a
+   value is too long; 21, there are not as many values as labels; 22, no slot is left; 6, out of memory. */
+static inline uint32_t dirgwako_histogram_of(dirgwako_registry *registry, const dirgwako_histogram_family *family, const char *const *values, size_t count,
+                                        dirgwako_histogram *histogram) {
+    dirgwako_text texts[DIRGWAKO_MOST_LABELS];
+    if (!registry || !family || !histogram) return DIRGWAKO_NULL;
+    if (count > DIRGWAKO_MOST_LABELS) return 21;
+    if (!dirgwako_texts(values, count, texts)) return DIRGWAKO_NULL;
+    return dirgwako_c_histogram_of(registry, family, texts, count, histogram);
+}
+
+/* Adds `by` to a counter. 34; 16, the counter is of another registry; 15, this worker has published 2^64 - 1 times; 11, there is no such slot; 12,
+   the number would pass 2^48 - 1. */
+static inline uint32_t dirgwako_inc(dirgwako_recorder *recorder, const dirgwako_counter *counter, uint64_t by) {
+    return recorder && counter ? dirgwako_c_inc(recorder, counter, by) : (uint32_t)DIRGWAKO_NULL;
+}
+
+/* Counts a value: its bucket, the sum and the count rise together. As dirgwako_inc. */
+static inline uint32_t dirgwako_observe(dirgwako_recorder *recorder, const dirgwako_histogram *histogram, uint64_t value) {
+    return recorder && histogram ? dirgwako_c_observe(recorder, histogram, value) : (uint32_t)DIRGWAKO_NULL;
+}
+
+/* Raises a gauge. As dirgwako_inc. */
+static inline uint32_t dirgwako_up(dirgwako_recorder *recorder, const dirgwako_gauge *gauge, uint64_t by) {
+    return recorder && gauge ? dirgwako_c_up(recorder, gauge, by) : (uint32_t)DIRGWAKO_NULL;
+}
+
+/* Lowers a gauge. As dirgwako_inc. */
+static inline uint32_t dirgwako_down(dirgwako_recorder *recorder, const dirgwako_gauge *gauge, uint64_t by) {
+    return recorder && gauge ? dirgwako_c_down(recorder, gauge, by) : (uint32_t)DIRGWAKO_NULL;
+}
+
+/* The text of a scrape, all series at one moment, at the front of the buffer; `len` is how many bytes it has. No zero byte stands behind it.
+   34; 14, four scans were given up, one after the other; 6, out of memory; 37, the buffer is too short, and `len` tells what this text needs. */
+static inline uint32_t dirgwako_scrape(dirgwako_registry *registry, char *buffer, size_t room, size_t *len) {
+    static uint8_t none;
+    if (!registry || !len || (!buffer && room)) return DIRGWAKO_NULL;
+    return dirgwako_c_scrape(registry, buffer ? (uint8_t *)buffer : &none, room, len);
+}
+
+#ifdef __cplusplus
+}
+#endif
+#endif

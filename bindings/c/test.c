@@ -1,0 +1,306 @@
+/* The tests of the C interface: each function once on its happy path, each refusal once by its number, handles that are freed twice or used after
+   they were freed, and four threads that count while the main thread scrapes. Ends in `N passed, 0 failed`. */
+#include "dirgwako.h"
+#include <pthread.h>
+#include <stdio.h>
+#include <stdlib.h>
+
+enum { THREADS = 4, ROUNDS = 200000 };
+
+static unsigned passed, failed;
+
+/* Whether what was answered is what was wanted. */
+static void is(const char *what, long long got, long long want) {
+    if (got == want) {
+        passed++;
+        return;
+    }
+    failed++;
+    fprintf(stderr, "%s: %lld, not %lld\n", what, got, want);
+}
+
+/* The number of a series of a text, or -1 where there is none. */
+static long long number(const char *text, size_t len, const char *series) {
+    size_t n = strlen(series);
+    const char *end = text + len;
+    for (const char *line = text; line < end;) {
+        const char *next = memchr(line, '\n', (size_t)(end - line));
+        if (!next) next = end;
+        if ((size_t)(next - line) > n && !memcmp(line, series, n) && line[n] == ' ') return atoll(line + n + 1);
+        line = next + 1;
+    }
+    return -1;
+}
+
+static char text[1 << 17];
+
+static long long scraped(dirgwako_registry *registry, const char *series) {
+    size_t len = 0;
+    return dirgwako_scrape(registry, text, sizeof text, &len) ? -2 : number(text, len, series);
+}
+
+/* Null pointers are refused, each by 38. */
+static void nulls(void) {
+    dirgwako_registry registry = {0};
+    dirgwako_recorder recorder = {0};
+    dirgwako_counter counter = {0};
+    dirgwako_gauge gauge = {0};
+    dirgwako_histogram histogram = {0};
+    dirgwako_counter_family counters = {0};
+    const char *one[1] = {"code"};
+    size_t len = 0;
+    is("new", dirgwako_registry_new(NULL, 1), DIRGWAKO_NULL);
+    is("free", dirgwako_registry_free(NULL), DIRGWAKO_NULL);
+    is("take", dirgwako_recorder_take(&registry, NULL), DIRGWAKO_NULL);
+    is("give back", dirgwako_recorder_give_back(NULL, &recorder), DIRGWAKO_NULL);
+    is("free recorder", dirgwako_recorder_free(NULL), DIRGWAKO_NULL);
+    is("counter", dirgwako_counter_new(&registry, NULL, "Help.", &counter), DIRGWAKO_NULL);
+    is("gauge", dirgwako_gauge_new(&registry, "a", NULL, &gauge), DIRGWAKO_NULL);
+    is("histogram", dirgwako_histogram_new(&registry, "a", "Help.", NULL, 1, &histogram), DIRGWAKO_NULL);
+    is("family", dirgwako_counter_family_new(&registry, "a", "Help.", NULL, 1, &counters), DIRGWAKO_NULL);
+    is("child", dirgwako_counter_of(&registry, &counters, one, 1, NULL), DIRGWAKO_NULL);
+    is("inc", dirgwako_inc(NULL, &counter, 1), DIRGWAKO_NULL);
+    is("observe", dirgwako_observe(&recorder, NULL, 1), DIRGWAKO_NULL);
+    is("up", dirgwako_up(NULL, &gauge, 1), DIRGWAKO_NULL);
+    is("down", dirgwako_down(&recorder, NULL, 1), DIRGWAKO_NULL);
+    is("scrape", dirgwako_scrape(&registry, NULL, 1, &len), DIRGWAKO_NULL);
+}
+
+/* Handles that hold nothing are refused, each by 34. */
+static void empties(void) {
+    dirgwako_registry registry = {0};
+    dirgwako_recorder recorder = {0};
+    dirgwako_counter counter = {0};
+    dirgwako_gauge gauge = {0};
+    dirgwako_histogram histogram = {0};
+    dirgwako_counter_family counters = {0};
+    dirgwako_gauge_family gauges = {0};
+    dirgwako_histogram_family histograms = {0};
+    const char *one[1] = {"code"};
+    const uint64_t bounds[1] = {1};
+    size_t len = 7;
+    is("free", dirgwako_registry_free(&registry), DIRGWAKO_EMPTY);
+    is("take", dirgwako_recorder_take(&registry, &recorder), DIRGWAKO_EMPTY);
+    is("give back", dirgwako_recorder_give_back(&registry, &recorder), DIRGWAKO_EMPTY);
+    is("free recorder", dirgwako_recorder_free(&recorder), DIRGWAKO_EMPTY);
+    is("counter", dirgwako_counter_new(&registry, "a", "Help.", &counter), DIRGWAKO_EMPTY);
+    is("gauge", dirgwako_gauge_new(&registry, "a", "Help.", &gauge), DIRGWAKO_EMPTY);
+    is("histogram", dirgwako_histogram_new(&registry, "a", "Help.", bounds, 1, &histogram), DIRGWAKO_EMPTY);
+    is("counters", dirgwako_counter_family_new(&registry, "a", "Help.", one, 1, &counters), DIRGWAKO_EMPTY);
+    is("gauges", dirgwako_gauge_family_new(&registry, "a", "Help.", one, 1, &gauges), DIRGWAKO_EMPTY);
+    is("histograms", dirgwako_histogram_family_new(&registry, "a", "Help.", one, 1, bounds, 1, &histograms), DIRGWAKO_EMPTY);
+    is("a counter", dirgwako_counter_of(&registry, &counters, one, 1, &counter), DIRGWAKO_EMPTY);
+    is("a gauge", dirgwako_gauge_of(&registry, &gauges, one, 1, &gauge), DIRGWAKO_EMPTY);
+    is("a histogram", dirgwako_histogram_of(&registry, &histograms, one, 1, &histogram), DIRGWAKO_EMPTY);
+    is("inc", dirgwako_inc(&recorder, &counter, 1), DIRGWAKO_EMPTY);
+    is("observe", dirgwako_observe(&recorder, &histogram, 1), DIRGWAKO_EMPTY);
+    is("up", dirgwako_up(&recorder, &gauge, 1), DIRGWAKO_EMPTY);
+    is("down", dirgwako_down(&recorder, &gauge, 1), DIRGWAKO_EMPTY);
+    is("scrape", dirgwako_scrape(&registry, text, sizeof text, &len), DIRGWAKO_EMPTY);
+    is("the length is as it was", (long long)len, 7);
+}
+
+/* Metrics without labels are counted and scraped. */
+static void metrics(void) {
+    dirgwako_registry registry = {0};
+    dirgwako_recorder recorder = {0};
+    dirgwako_counter visits;
+    dirgwako_gauge open;
+    dirgwako_histogram bytes;
+    const uint64_t bounds[3] = {10, 20, 30}, bad[2] = {5, 5};
+    size_t len = 0;
+    is("window", dirgwako_registry_new(&registry, 0), 31);
+    is("window", dirgwako_registry_new(&registry, 1025), 31);
+    is("new", dirgwako_registry_new(&registry, 4), 0);
+    is("take", dirgwako_recorder_take(&registry, &recorder), 0);
+    is("counter", dirgwako_counter_new(&registry, "visits_total", "Visits.", &visits), 0);
+    is("gauge", dirgwako_gauge_new(&registry, "open", "Open.", &open), 0);
+    is("bounds", dirgwako_histogram_new(&registry, "answer_bytes", "Bytes.", bad, 2, &bytes), 10);
+    is("histogram", dirgwako_histogram_new(&registry, "answer_bytes", "Bytes.", bounds, 3, &bytes), 0);
+    is("clash", dirgwako_counter_new(&registry, "visits_total", "Again.", &visits), 19);
+    is("name", dirgwako_counter_new(&registry, "9", "Help.", &visits), 2);
+    is("no name", dirgwako_counter_new(&registry, "", "Help.", &visits), 1);
+    is("not UTF-8", dirgwako_counter_new(&registry, "\xff", "Help.", &visits), DIRGWAKO_NOT_UTF8);
+    is("not UTF-8", dirgwako_counter_new(&registry, "b_total", "\xc3", &visits), DIRGWAKO_NOT_UTF8);
+    is("inc", dirgwako_inc(&recorder, &visits, 3), 0);
+    is("up", dirgwako_up(&recorder, &open, 5), 0);
+    is("down", dirgwako_down(&recorder, &open, 8), 0);
+    is("observe", dirgwako_observe(&recorder, &bytes, 20), 0);
+    is("observe", dirgwako_observe(&recorder, &bytes, 31), 0);
+    is("too large", dirgwako_inc(&recorder, &visits, UINT64_MAX), 12);
+    is("visits", scraped(&registry, "visits_total"), 3);
+    is("open", scraped(&registry, "open"), -3);
+    is("10", scraped(&registry, "answer_bytes_bucket{le=\"10\"}"), 0);
+    is("20", scraped(&registry, "answer_bytes_bucket{le=\"20\"}"), 1);
+    is("+Inf", scraped(&registry, "answer_bytes_bucket{le=\"+Inf\"}"), 2);
+    is("sum", scraped(&registry, "answer_bytes_sum"), 51);
+    is("count", scraped(&registry, "answer_bytes_count"), 2);
+    is("too short", dirgwako_scrape(&registry, text, 3, &len), DIRGWAKO_TOO_SHORT);
+    size_t needs = len;
+    is("too short by one", dirgwako_scrape(&registry, text, needs - 1, &len), DIRGWAKO_TOO_SHORT);
+    is("long enough", dirgwako_scrape(&registry, text, needs, &len), 0);
+    is("its length", (long long)len, (long long)needs);
+    is("no buffer", dirgwako_scrape(&registry, NULL, 0, &len), DIRGWAKO_TOO_SHORT);
+    is("give back", dirgwako_recorder_give_back(&registry, &recorder), 0);
+    is("gone", dirgwako_inc(&recorder, &visits, 1), DIRGWAKO_EMPTY);
+    is("free", dirgwako_registry_free(&registry), 0);
+    is("freed twice", dirgwako_registry_free(&registry), DIRGWAKO_EMPTY);
+    is("used when freed", dirgwako_scrape(&registry, text, sizeof text, &len), DIRGWAKO_EMPTY);
+}
+
+/* Families with labels, and their children. */
+static void families(void) {
+    dirgwako_registry registry = {0};
+    dirgwako_recorder recorder = {0};
+    dirgwako_counter_family answers;
+    dirgwako_gauge_family queues;
+    dirgwako_histogram_family times;
+    dirgwako_counter ok, again, missing;
+    dirgwako_gauge first;
+    dirgwako_histogram slow;
+    const char *labels[2] = {"code", "route"}, *twice[2] = {"a", "a"}, *reserved[1] = {"__a"}, *le[1] = {"le"}, *bad[1] = {"\xff"};
+    const char *found[2] = {"200", "/a\"b"}, *other[2] = {"404", "/"};
+    const uint64_t bounds[2] = {5, 50};
+    is("new", dirgwako_registry_new(&registry, 2), 0);
+    is("take", dirgwako_recorder_take(&registry, &recorder), 0);
+    is("counters", dirgwako_counter_family_new(&registry, "answers_total", "Answers.", labels, 2, &answers), 0);
+    is("gauges", dirgwako_gauge_family_new(&registry, "queued", "Queued.", labels, 1, &queues), 0);
+    is("histograms", dirgwako_histogram_family_new(&registry, "time_microseconds", "Times.", labels, 1, bounds, 2, &times), 0);
+    is("a label twice", dirgwako_counter_family_new(&registry, "b_total", "B.", twice, 2, &answers), 7);
+    is("a reserved label", dirgwako_counter_family_new(&registry, "b_total", "B.", reserved, 1, &answers), 4);
+    is("le", dirgwako_histogram_family_new(&registry, "b", "B.", le, 1, bounds, 2, &times), 8);
+    is("a label that is not UTF-8", dirgwako_counter_family_new(&registry, "b_total", "B.", bad, 1, &answers), DIRGWAKO_NOT_UTF8);
+    is("a child", dirgwako_counter_of(&registry, &answers, found, 2, &ok), 0);
+    is("the same", dirgwako_counter_of(&registry, &answers, found, 2, &again), 0);
+    is("its slot", (long long)again.slot, (long long)ok.slot);
+    is("another", dirgwako_counter_of(&registry, &answers, other, 2, &missing), 0);
+    is("a label too few", dirgwako_counter_of(&registry, &answers, other, 1, &missing), 21);
+    is("a value that is not UTF-8", dirgwako_counter_of(&registry, &answers, (const char *[]){"\xff", ""}, 2, &missing), DIRGWAKO_NOT_UTF8);
+    is("a gauge", dirgwako_gauge_of(&registry, &queues, found, 1, &first), 0);
+    is("a histogram", dirgwako_histogram_of(&registry, &times, other, 1, &slow), 0);
+    is("inc", dirgwako_inc(&recorder, &ok, 2), 0);
+    is("inc", dirgwako_inc(&recorder, &missing, 1), 0);
+    is("up", dirgwako_up(&recorder, &first, 9), 0);
+    is("observe", dirgwako_observe(&recorder, &slow, 50), 0);
+    is("200", scraped(&registry, "answers_total{code=\"200\",route=\"/a\\\"b\"}"), 2);
+    is("404", scraped(&registry, "answers_total{code=\"404\",route=\"/\"}"), 1);
+    is("queued", scraped(&registry, "queued{code=\"200\"}"), 9);
+    is("slow", scraped(&registry, "time_microseconds_bucket{code=\"404\",le=\"50\"}"), 1);
+    answers.registry++;
+    is("a family of another registry", dirgwako_counter_of(&registry, &answers, found, 2, &ok), 20);
+    is("free", dirgwako_registry_free(&registry), 0);
+    is("it counts on", dirgwako_inc(&recorder, &missing, 1), 0);
+    is("free recorder", dirgwako_recorder_free(&recorder), 0);
+    is("freed twice", dirgwako_recorder_free(&recorder), DIRGWAKO_EMPTY);
+}
+
+/* Two registries do not take each other's handles; each worker has one recorder. */
+static void apart(void) {
+    dirgwako_registry one = {0}, two = {0};
+    dirgwako_recorder recorder = {0}, all[64];
+    dirgwako_counter counter, far;
+    size_t many = 0;
+    memset(all, 0, sizeof all);
+    is("one", dirgwako_registry_new(&one, 1), 0);
+    is("two", dirgwako_registry_new(&two, 1), 0);
+    is("counter", dirgwako_counter_new(&one, "a_total", "A.", &counter), 0);
+    is("take", dirgwako_recorder_take(&two, &recorder), 0);
+    is("another's counter", dirgwako_inc(&recorder, &counter, 1), 16);
+    far = counter;
+    far.registry++;
+    far.slot = 100000;
+    is("no such slot", dirgwako_inc(&recorder, &far, 1), 11);
+    is("another's recorder", dirgwako_recorder_give_back(&one, &recorder), 16);
+    is("it stays", dirgwako_recorder_give_back(&two, &recorder), 0);
+    while (many < 64 && !dirgwako_recorder_take(&one, &all[many])) many++;
+    is("no worker is left", dirgwako_recorder_take(&one, &recorder), DIRGWAKO_NO_WORKER);
+    is("give back", dirgwako_recorder_give_back(&one, &all[0]), 0);
+    is("take again", dirgwako_recorder_take(&one, &recorder), 0);
+    is("free", dirgwako_recorder_free(&recorder), 0);
+    is("it is lost", dirgwako_recorder_take(&one, &recorder), DIRGWAKO_NO_WORKER);
+    for (size_t i = 1; i < many; i++) is("free", dirgwako_recorder_free(&all[i]), 0);
+    is("free", dirgwako_registry_free(&one), 0);
+    is("free", dirgwako_registry_free(&two), 0);
+}
+
+struct thread {
+    dirgwako_recorder recorder;
+    dirgwako_counter first, then;
+    uint32_t answer;
+};
+
+/* Raises one counter, and then the other: so the first is the second, or one more. */
+static void *count(void *given) {
+    struct thread *it = given;
+    for (int i = 0; i < ROUNDS && !it->answer; i++) {
+        it->answer = dirgwako_inc(&it->recorder, &it->first, 1);
+        if (!it->answer) it->answer = dirgwako_inc(&it->recorder, &it->then, 1);
+    }
+    return NULL;
+}
+
+/* Whether a scrape shows what never was, or less than the one before; `done` is whether all have ended. */
+static int torn(size_t len, long long before[THREADS], int *done) {
+    int is_torn = 0;
+    *done = 1;
+    for (int i = 0; i < THREADS; i++) {
+        char series[32];
+        snprintf(series, sizeof series, "first_%d_total", i);
+        long long first = number(text, len, series);
+        snprintf(series, sizeof series, "then_%d_total", i);
+        long long then = number(text, len, series);
+        if ((first - then != 0 && first - then != 1) || first < before[i]) is_torn = 1;
+        if (then < ROUNDS) *done = 0;
+        before[i] = first;
+    }
+    return is_torn;
+}
+
+static void threads(void) {
+    dirgwako_registry registry = {0};
+    struct thread all[THREADS];
+    pthread_t run[THREADS];
+    long long before[THREADS] = {0}, scrapes = 0, bad = 0;
+    memset(all, 0, sizeof all);
+    is("new", dirgwako_registry_new(&registry, 8), 0);
+    for (int i = 0; i < THREADS; i++) {
+        char name[32];
+        is("take", dirgwako_recorder_take(&registry, &all[i].recorder), 0);
+        snprintf(name, sizeof name, "first_%d_total", i);
+        is("first", dirgwako_counter_new(&registry, name, "First.", &all[i].first), 0);
+        snprintf(name, sizeof name, "then_%d_total", i);
+        is("then", dirgwako_counter_new(&registry, name, "Then.", &all[i].then), 0);
+    }
+    for (int i = 0; i < THREADS; i++) is("thread", pthread_create(&run[i], NULL, count, &all[i]), 0);
+    for (int done = 0; !done || scrapes < 10000;) {
+        size_t len = 0;
+        uint32_t answer = dirgwako_scrape(&registry, text, sizeof text, &len);
+        if (answer == 14) continue;
+        if (answer) {
+            is("scrape", answer, 0);
+            break;
+        }
+        scrapes++;
+        bad += torn(len, before, &done);
+    }
+    for (int i = 0; i < THREADS; i++) {
+        is("join", pthread_join(run[i], NULL), 0);
+        is("counted", all[i].answer, 0);
+        is("its total", before[i], ROUNDS);
+        is("free", dirgwako_recorder_free(&all[i].recorder), 0);
+    }
+    is("torn scrapes", bad, 0);
+    is("10,000 scrapes at least", scrapes >= 10000, 1);
+    is("free", dirgwako_registry_free(&registry), 0);
+}
+
+int main(void) {
+    nulls();
+    empties();
+    metrics();
+    families();
+    apart();
+    threads();
+    printf("%u passed, %u failed\n", passed, failed);
+    return failed != 0;
+}

@@ -1,0 +1,33 @@
+-- Texts that C hands in, one by one.
+use Rattle.std.proofs.Common.{◌≡◌, ℕ, ◌+◌, ◌<◌, List, [], ◌∷◌, ◌++◌, Bor, All, map, take, length, get_or, ap, sym, subst, ◌∙◌, arith}
+use Rattle.std.proofs.lemmas.List.{take_more, take-map, take_all, get_or-map, length-map, map-append}
+use Rattle.std.proofs.lemmas.List.Elements.{All-push}
+use mathlib.Core.Option.{some}
+use Rattle.register_rule.proofs.Words.{there, from_all}
+use Rattle.dirgwako.specs.Texts.{text_at, texts_of}
+
+-- one text more
+pub more_texts : (items : List (Bor (List ℕ))) (i : ℕ) (d : Bor (List ℕ)) → i < length items
+    → take (i + 1) (texts_of items) ≡ take i (texts_of items) ++ text_at (get_or items i d) ∷ []
+more_texts items i d lt =
+    take-map text_at (i + 1) items
+    ∙ (ap (map text_at) (take_more items i d lt) ∙ (map-append text_at (take i items) (get_or items i d ∷ [])
+    ∙ ap (λ (l : List (List ℕ)). l ++ text_at (get_or items i d) ∷ []) (sym (take-map text_at i items))))
+
+-- all texts
+pub all_texts : (items : List (Bor (List ℕ))) (i : ℕ) → length items ≡ i → take i (texts_of items) ≡ texts_of items
+all_texts items i e = take_all i (texts_of items) (omega (arith, e, length-map items text_at))
+
+-- one more good one
+pub more_good : (P : List ℕ → Type 0) (items : List (Bor (List ℕ))) (i : ℕ) (d : Bor (List ℕ)) → i < length items
+    → All P (take i (texts_of items)) → P (text_at (get_or items i d)) → All P (take (i + 1) (texts_of items))
+more_good P items i d lt all p = subst (λ (l : List (List ℕ)). All P l) (sym (more_texts items i d lt))
+    (All-push P (take i (texts_of items)) (text_at (get_or items i d)) all p)
+
+-- what is so of all texts is so of one
+pub good_there : (P : List ℕ → Type 0) (items : List (Bor (List ℕ))) (i : ℕ) (d : Bor (List ℕ)) → i < length items
+    → All P (texts_of items) → P (text_at (get_or items i d))
+good_there P items i d lt all =
+    let lt' : i < length (map text_at items) = omega (arith, lt, length-map items text_at) in
+    from_all P (texts_of items) all i (text_at (get_or items i d))
+    (there (texts_of items) i [] lt' ∙ ap some (get_or-map text_at items i d [] lt))

@@ -1,0 +1,34 @@
+use Rattle.std.proofs.Common.{rules, ◌≡◌, ℕ, List, [], ap, ◌∙◌}
+use Rattle.dirgwako.specs.Refused.{family_refusal_number}
+use Rattle.dirgwako.specs.Texts.{texts_of}
+use Rattle.dirgwako.specs.declared.family.GaugeFamily.{GaugeFamily}
+use Rattle.metric_desc.specs.Desc.{Descriptor}
+use Rattle.metric_desc.specs.declared.kind.Kind.TheVariants as Kinds
+use Rattle.dirgwako_c.proofs.Made.{family_made, family_refused}
+use Rattle.dirgwako_c.proofs.families.gauge_family_in.Goals as goal
+
+abbrev said : (bounds : List ℕ) → (name help : List ℕ) → (labels : List (List ℕ)) → Descriptor
+said bounds name help labels = record {
+  name = name;
+  help = help;
+  labels = labels;
+  kind = Kinds.Gauge;
+  bounds = bounds;
+}
+
+pub returns-in-Ok-gauge_family : goal.returns-in-Ok-gauge_family
+returns-in-Ok-gauge_family c =
+    family_made c.args.registrar.now.at c.gauge_family.new.self.at c.args.family.now c.in-Ok-gauge_family.made
+    (λ (f : GaugeFamily). f.id) (λ (f : GaugeFamily). f.registry) c.args.name.now c.args.help.now (texts_of c.args.labels.now)
+    (said []) c.in-Some-Some.name.now c.in-Some-Some.help.now (texts_of c.deref.result.now) c.in-Some-Some.ensures
+    c.in-Some-Some.ensures' (ap texts_of c.deref.ensures.value ∙ c.in-Ok.ensures.texts) c.in-Ok.ensures.all
+    c.in-Ok-gauge_family.ensures.registry c.in-Ok-gauge_family.ensures.made
+
+pub returns : goal.returns
+returns c =
+    let number : c.from.result ≡ family_refusal_number c.in-Err-gauge_family.fault = search rules in
+    family_refused c.args.registrar.now.at c.gauge_family.new.self.at c.args.family.now c.args.family.now
+    (λ (f : GaugeFamily). f.id) (λ (f : GaugeFamily). f.registry) c.args.name.now c.args.help.now (texts_of c.args.labels.now)
+    (said []) c.in-Some-Some.name.now c.in-Some-Some.help.now (texts_of c.deref.result.now) c.in-Err-gauge_family.fault
+    c.from.result number c.in-Some-Some.ensures c.in-Some-Some.ensures'
+    (ap texts_of c.deref.ensures.value ∙ c.in-Ok.ensures.texts) c.in-Ok.ensures.all c.in-Err-gauge_family.ensures.fault

@@ -1,0 +1,203 @@
+-- What the calls of C by a registry's handle come to.
+use Rattle.std.specs.Prelude.{◌≡◌, ◌≢◌, ◌⊎◌, ℕ, ◌<◌, ◌≤◌, List, [], ◌∷◌, ◌++◌, map, length, take, replicate, All, Option, Some, None, Result, Ok, Err, IfOk, OnErr, IsSomeAnd, IsUtf8}
+use Rattle.std.specs.List.{range_with_len}
+use Rattle.std.specs.Arc.{arc_value}
+use Rattle.dirgwako.specs.Alone.{RegistersAlone, GivesAlone}
+use Rattle.dirgwako.specs.Printing.{IsText, IsTextFault, text_fault_number}
+use Rattle.dirgwako.specs.declared.printing.TextFault.{TextFault}
+use Rattle.dirgwako.specs.Registering.{AsksFamily, AsksChild, AsksMetric}
+use Rattle.dirgwako.specs.Refused.{family_refusal_number, child_refusal_number, metric_refusal_number}
+use Rattle.dirgwako.specs.declared.fault.ChildRefusal.{ChildRefusal}
+use Rattle.dirgwako.specs.declared.fault.FamilyRefusal.{FamilyRefusal}
+use Rattle.dirgwako.specs.declared.fault.MetricRefusal.{MetricRefusal}
+use Rattle.expo_text.specs.Scraped.{Scraped}
+use Rattle.metric_desc.specs.Desc.{Descriptor}
+use Rattle.metric_desc.specs.declared.kind.Kind.{Kind}
+use Rattle.ledger_core.specs.declared.op.Op.{Op}
+use Rattle.register_rule.specs.Faults.{IsBoardSize}
+use Rattle.register_rule.specs.Seats.{board_id}
+use Rattle.register_rule.specs.declared.view.Answer.{Answer}
+use Rattle.registry_state.specs.Kept.{RegistryView}
+use Rattle.registry_state.specs.Replay.{nothing}
+use Rattle.registry_state.specs.Faults.{IsWindow}
+use Rattle.registry_state.specs.declared.handle.Handle.{Handle}
+use Rattle.registry_state.specs.declared.handle.FamilyId.{FamilyId}
+use Rattle.scrape_http.specs.declared.source.NoScrape.{NoScrape}
+use Rattle.scrape_server.specs.Scrapes.{Scrapes}
+use Rattle.snapshot_scan.specs.Answered.{HasAnswered, HasGivenUp}
+use Rattle.snapshot_scan.specs.Readers.{scan_by}
+use Rattle.snapshot_scan.specs.declared.contended.Contended.{Contended}
+use Rattle.snapshot_update.specs.Workers.{index_of, lists_of}
+use Rattle.dirgwako_c.specs.Held.{answer_of}
+use Rattle.dirgwako_c.specs.Recorders.{board_in, id_in, worker_in}
+use Rattle.dirgwako_c.specs.declared.geometry.TheConstants.{WORKERS, COUNTERS, HISTOGRAMS, GAUGES}
+use Rattle.dirgwako_c.specs.declared.shared_recorder.SharedRecorder.{SharedRecorder}
+use Rattle.dirgwako_c.specs.declared.held.HeldRecorder.{HeldRecorder}
+use Rattle.dirgwako_c.specs.declared.held.HeldRegistry.{HeldRegistry}
+use Rattle.dirgwako_c.specs.declared.shared_scanner.SharedScanner.{SharedScanner}
+use Rattle.dirgwako_c.specs.declared.spare.Spare.{Spare}
+
+module _ {N C H G : ℕ} where
+  -- what its scans recorded, in order
+  abbrev pub recorded_in : SharedScanner N C H G → List Answer
+  recorded_in s = (scan_by s.reader).recorded
+
+  -- how many of them were given up
+  abbrev pub quit_in : SharedScanner N C H G → ℕ
+  quit_in s = (scan_by s.reader).quit
+
+  -- it is of the same board, and its reader has learned this answer by one scan
+  abbrev pub gave_in : SharedScanner N C H G → SharedScanner N C H G → Answer → Type 0
+  gave_in s t a = (arc_value t.board ≡ arc_value s.board) × HasAnswered s.reader t.reader a
+
+  -- it is of the same board, and its reader gave one scan up
+  abbrev pub gave_up_in : SharedScanner N C H G → SharedScanner N C H G → Contended → Type 0
+  gave_up_in s t e = (arc_value t.board ≡ arc_value s.board) × HasGivenUp s.reader t.reader e
+
+-- the recorder that a handle holds
+abbrev pub recorder_in : HeldRecorder → SharedRecorder WORKERS COUNTERS HISTOGRAMS GAUGES
+recorder_in held = held.recorder
+
+-- the recorders that nobody has, in order
+abbrev pub recorders_in : Spare → List HeldRecorder
+recorders_in spare = map (λ b. b.value) spare.recorders.items
+
+-- the registry that a handle holds
+abbrev pub registry_in : HeldRegistry → RegistryView (SharedScanner WORKERS COUNTERS HISTOGRAMS GAUGES)
+registry_in held = held.registrar.at
+
+-- the recorders of its board that nobody has
+abbrev pub spare_in : HeldRegistry → List HeldRecorder
+spare_in held = recorders_in held.spare
+
+-- which worker it counts as
+abbrev pub index_in : HeldRecorder → ℕ
+index_in held = index_of (worker_in held.recorder)
+
+-- all lists that it has published
+abbrev pub lists_in : HeldRecorder → List (List Op)
+lists_in held = lists_of (worker_in held.recorder)
+
+-- A registry of this id and window in which nothing was registered and no scrape is kept, over a board of this id, of which nobody has a
+-- recorder: there is one of each worker, in order, that has published nothing
+pub record IsNew (id window : ℕ) (held : HeldRegistry) : Type 0 where
+  pub id_is : (registry_in held).id ≡ id
+  pub window_is : (registry_in held).window ≡ window
+  pub journal : (registry_in held).journal ≡ []
+  pub state : (registry_in held).state ≡ nothing
+  pub board : board_id (arc_value (registry_in held).source.board) ≡ id
+  pub boards : All (λ recorder. board_in (recorder_in recorder) ≡ arc_value (registry_in held).source.board) (spare_in held)
+  pub workers : map index_in (spare_in held) ≡ range_with_len 0 WORKERS
+  pub lists : map lists_in (spare_in held) ≡ replicate WORKERS []
+
+-- why there is none: 31 the window is none; else 6, there was no memory, or 13, the library was built for numbers out of range
+abbrev pub IsNewAnswer : (window answer : ℕ) → Type 0
+IsNewAnswer window answer = (¬ (IsWindow window) × (answer ≡ 31))
+    ⊎ (IsWindow window × ((answer ≡ 6) ⊎ ((answer ≡ 13) × ¬ (IsBoardSize WORKERS COUNTERS HISTOGRAMS GAUGES 1))))
+
+-- a handle was given such a registry; or it is as it was
+abbrev pub Opens : (id window answer : ℕ) → (before after : Option HeldRegistry) → Type 0
+Opens id window answer before after = ((answer ≡ 0) × IsSomeAnd after (IsNew id window))
+    ⊎ (IsNewAnswer window answer × (after ≡ before))
+
+-- the last spare recorder was handed out; or there is none (35)
+abbrev pub HandsOut : (answer : ℕ) → (before after : HeldRegistry) → (had has : Option HeldRecorder) → Type 0
+HandsOut answer before after had has = (registry_in after ≡ registry_in before)
+    × (((answer ≡ 0) × ((recorder : HeldRecorder) × (has ≡ Some recorder) × (spare_in before ≡ spare_in after ++ recorder ∷ [])))
+    ⊎ ((answer ≡ 35) × (spare_in before ≡ []) × (spare_in after ≡ []) × (has ≡ had)))
+
+-- A recorder was taken back, behind the spare ones. Or it is of a board of another id, or one of each worker is spare already (16); or there is
+-- none (34): nothing has changed then
+abbrev pub TakesBack : (answer : ℕ) → (before after : HeldRegistry) → (had has : Option HeldRecorder) → Type 0
+TakesBack answer before after None has = (answer ≡ 34) × (has ≡ None) × (registry_in after ≡ registry_in before)
+    × (spare_in after ≡ spare_in before)
+TakesBack answer before after (Some recorder) has = (registry_in after ≡ registry_in before)
+    × (((answer ≡ 0) × (has ≡ None) × (spare_in after ≡ spare_in before ++ recorder ∷ [])
+    × (id_in (recorder_in recorder) ≡ (registry_in before).id))
+    ⊎ ((answer ≡ 16) × (has ≡ Some recorder) × (spare_in after ≡ spare_in before)
+    × ((id_in (recorder_in recorder) ≢ (registry_in before).id) ⊎ (WORKERS ≤ length (spare_in before)))))
+
+-- one scrape of a registry, and its answer
+abbrev pub ScrapesBy : (before after : RegistryView (SharedScanner WORKERS COUNTERS HISTOGRAMS GAUGES)) → Result Scraped NoScrape → Type 0
+ScrapesBy = Scrapes WORKERS COUNTERS HISTOGRAMS GAUGES recorded_in quit_in gave_in gave_up_in
+
+-- one scrape of the registry that a handle holds, and its answer
+abbrev pub scrapes_by : (before after : HeldRegistry) → Result Scraped NoScrape → Type 0
+scrapes_by before after answer = ScrapesBy (registry_in before) (registry_in after) answer × (spare_in after ≡ spare_in before)
+
+-- what is done and answered where a metric without labels is asked for
+abbrev pub AsksMetricAt : (before after : RegistryView (SharedScanner WORKERS COUNTERS HISTOGRAMS GAUGES)) → Descriptor
+    → Result Handle MetricRefusal → Type 0
+AsksMetricAt = AsksMetric (λ registry. registry.id) (RegistersAlone WORKERS COUNTERS HISTOGRAMS GAUGES)
+    (GivesAlone COUNTERS HISTOGRAMS GAUGES)
+
+module _ {A : Type 0} (handle_of : A → Handle) (answer : ℕ)
+    (before after : RegistryView (SharedScanner WORKERS COUNTERS HISTOGRAMS GAUGES)) (had has : A) where
+  -- A metric without labels was asked for, of this descriptor: this was done, and the answer is 0, or the number of its refusal, and then
+  -- what C has is as it was. No refusal's number is 0
+  pub record MakesMetric (desc : Descriptor) : Type 0 where
+    pub made : Result Handle MetricRefusal
+    pub asks : AsksMetricAt before after desc made
+    pub answer_is : answer ≡ answer_of metric_refusal_number made
+    pub told : IfOk made (λ handle. handle ≡ handle_of has)
+    pub kept : OnErr made (has ≡ had)
+
+  -- the same, by bytes; where the name or the help is not UTF-8 that is refused by 36, and nothing has changed
+  abbrev pub MakesNamed : (name help : List ℕ) → Descriptor → Type 0
+  MakesNamed name help desc = ((¬ (IsUtf8 name) ⊎ ¬ (IsUtf8 help)) × (answer ≡ 36) × (after ≡ before) × (has ≡ had))
+      ⊎ (IsUtf8 name × IsUtf8 help × MakesMetric desc)
+
+-- what is done and answered where a family is asked for
+abbrev pub AsksFamilyAt : (before after : RegistryView (SharedScanner WORKERS COUNTERS HISTOGRAMS GAUGES)) → Descriptor
+    → Result FamilyId FamilyRefusal → Type 0
+AsksFamilyAt = AsksFamily (RegistersAlone WORKERS COUNTERS HISTOGRAMS GAUGES)
+
+-- what is done and answered where a child is asked for
+abbrev pub AsksChildAt : (before after : RegistryView (SharedScanner WORKERS COUNTERS HISTOGRAMS GAUGES)) → (registry : ℕ)
+    → FamilyId → (values : List (List ℕ)) → Kind → Result Handle ChildRefusal → Type 0
+AsksChildAt = AsksChild (λ registry. registry.id) (GivesAlone COUNTERS HISTOGRAMS GAUGES)
+
+module _ {A : Type 0} (answer : ℕ) (before after : RegistryView (SharedScanner WORKERS COUNTERS HISTOGRAMS GAUGES)) (had has : A) where
+  -- there was no memory for the list of texts, or one of them is not UTF-8, and nothing has changed
+  abbrev pub IsNoList : (texts : List (List ℕ)) → Type 0
+  IsNoList texts = ((answer ≡ 6) ⊎ ((answer ≡ 36) × ¬ (All IsUtf8 texts))) × (after ≡ before) × (has ≡ had)
+
+  -- A family was asked for, of this descriptor: this was done, and the answer is 0, or the number of its refusal, and then what C has is as
+  -- it was. No refusal's number is 0
+  pub record MakesFamily (id_of : A → FamilyId) (registry_of : A → ℕ) (desc : Descriptor) : Type 0 where
+    pub made : Result FamilyId FamilyRefusal
+    pub asks : AsksFamilyAt before after desc made
+    pub answer_is : answer ≡ answer_of family_refusal_number made
+    pub told : IfOk made (λ id. (id_of has ≡ id) × (registry_of has ≡ after.id))
+    pub kept : OnErr made (has ≡ had)
+
+  -- the same, by bytes; where some are not UTF-8 that is refused by 36, and nothing has changed
+  abbrev pub MakesFamilyBy : (id_of : A → FamilyId) (registry_of : A → ℕ) → (name help : List ℕ) (labels : List (List ℕ)) → Descriptor → Type 0
+  MakesFamilyBy id_of registry_of name help labels desc =
+      ((¬ (IsUtf8 name) ⊎ ¬ (IsUtf8 help)) × (answer ≡ 36) × (after ≡ before) × (has ≡ had))
+      ⊎ (IsNoList labels ⊎ (IsUtf8 name × IsUtf8 help × All IsUtf8 labels × MakesFamily id_of registry_of desc))
+
+  -- A child of a family was asked for, by these label values: this was done, and the answer is 0, or the number of its refusal, and then what C
+  -- has is as it was. No refusal's number is 0
+  pub record GivesChild (handle_of : A → Handle) (registry : ℕ) (id : FamilyId) (values : List (List ℕ)) (kind : Kind) : Type 0 where
+    pub given : Result Handle ChildRefusal
+    pub asks : AsksChildAt before after registry id values kind given
+    pub answer_is : answer ≡ answer_of child_refusal_number given
+    pub told : IfOk given (λ handle. handle ≡ handle_of has)
+    pub kept : OnErr given (has ≡ had)
+
+  -- the same, by bytes
+  abbrev pub GivesChildBy : (handle_of : A → Handle) (registry : ℕ) (id : FamilyId) (values : List (List ℕ)) (kind : Kind) → Type 0
+  GivesChildBy handle_of registry id values kind = IsNoList values
+      ⊎ (All IsUtf8 values × GivesChild handle_of registry id values kind)
+
+module _ (answer : ℕ) (before after : HeldRegistry) (had has : List ℕ)
+    (had_len has_len : ℕ) where
+  -- The buffer begins with the text of a scrape that the registry gave, which has so many bytes; or it is too short for it (37), and the
+  -- length tells what it needs; or there is no scrape or no memory for its text, and both are as they were
+  abbrev pub PrintsTo : Type 0
+  PrintsTo = ((answer ≡ 0) × IsText scrapes_by before after (take has_len has) × (has_len ≤ length has))
+      ⊎ (((answer ≡ 37) × ((bytes : List ℕ) × IsText scrapes_by before after bytes × (has_len ≡ length bytes)
+      × (length had < length bytes)) × (has ≡ had))
+      ⊎ ((fault : TextFault) × (answer ≡ text_fault_number fault) × IsTextFault scrapes_by before after fault × (has ≡ had)
+      × (has_len ≡ had_len)))

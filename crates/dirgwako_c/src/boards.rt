@@ -1,0 +1,135 @@
+//! What C calls to have a board, and what its threads count with.
+ghost use Rattle.std.specs.Prelude.{◌≡◌, ◌≢◌, ◌⊎◌, ◌≤◌, [], ◌∷◌, ◌++◌, length, IfErr, OnOk, OnErr};
+ghost use Rattle.dirgwako_c.specs.Recorders.{id_in};
+ghost use Rattle.dirgwako_c.specs.Held.{Calls, Frees};
+ghost use Rattle.dirgwako_c.specs.Registries.{registry_in, recorder_in, spare_in, Opens, HandsOut, TakesBack};
+
+use crate::geometry::WORKERS;
+use crate::held::{HeldRecorder, HeldRegistry};
+use crate::opening::open;
+use crate::recorder_handle::RecorderHandle;
+use crate::registry_handle::RegistryHandle;
+use std::alloc::Global;
+
+/// A new board of this id and its registry, which keeps `window` scrapes, into a registry's handle. What the handle held is freed. Boards of one
+/// program have different ids: `dirgwako_registry_new` of the header gives each its own.
+///
+/// Answers 31, unless `window` is 1 to 1,024; then 6, out of memory, and 13, the library was built for numbers out of range.
+#[unsafe(no_mangle)]
+pub extern "C" fn dirgwako_c_registry_new(
+    alloc: Global,
+    registry: &mut RegistryHandle,
+    id: u64,
+    window: usize,
+) -> u32
+    ensures { Opens id window result registry.old.value registry.new.value }
+{
+    match open(alloc, id, window) {
+        Ok(made) => match Box::new(alloc, made) {
+            Ok(made) => {
+                registry.put(alloc, made);
+                0
+            }
+            Err(_) => 6,
+        },
+        Err(number) => number,
+    }
+}
+
+/// Frees a registry, and the recorders that nobody has. The board is freed with the last recorder of it.
+///
+/// Answers 34, the handle is empty.
+#[unsafe(no_mangle)]
+pub extern "C" fn dirgwako_c_registry_free(alloc: Global, registry: &mut RegistryHandle) -> u32
+    ensures { Frees result registry.old.value registry.new.value }
+{
+    match registry.take(alloc) {
+        Some(_) => 0,
+        None => 34,
+    }
+}
+
+/// A recorder that nobody has, into a recorder's handle. What that held is freed: its worker counts no more. Takes no memory.
+///
+/// Answers 34, the registry's handle is empty; 35, each worker has a recorder.
+#[unsafe(no_mangle)]
+pub extern "C" fn dirgwako_c_recorder_take(
+    alloc: Global,
+    registry: &mut RegistryHandle,
+    recorder: &mut RecorderHandle,
+) -> u32
+    ensures { Calls (recorder.new.value ≡ recorder.old.value)
+        (λ before after. HandsOut result before after recorder.old.value recorder.new.value) result
+        registry.old.value registry.new.value }
+{
+    let Some(mut held) = registry.take(alloc) else {
+        return 34;
+    };
+    let taken = held.spare.take();
+    registry.put(alloc, held);
+    match taken {
+        Some(made) => {
+            recorder.put(alloc, made);
+            0
+        }
+        None => 35,
+    }
+}
+
+/// Takes a recorder back, or hands it back in its box.
+fn take_back(registry: &mut HeldRegistry, given: Box<HeldRecorder>) -> Result<(), Box<HeldRecorder>>
+    ensures registry { registry_in registry.new ≡ registry_in registry.old }
+    ensures taken { OnOk result ((id_in (recorder_in given.value) ≡ (registry_in registry.old).id)
+        × (spare_in registry.new ≡ spare_in registry.old ++ given.value ∷ [])) }
+    ensures back { IfErr result (λ back. back ≡ given) }
+    ensures refused { OnErr result ((spare_in registry.new ≡ spare_in registry.old)
+        × ((id_in (recorder_in given.value) ≢ (registry_in registry.old).id) ⊎ (WORKERS ≤ length (spare_in registry.old)))) }
+{
+    if given.recorder.id() != registry.registrar.at.id() {
+        return Err(given);
+    }
+    registry.spare.put(given)
+}
+
+/// Gives a recorder back to its registry, which may hand it out again, to whichever thread. Its handle is empty then. Takes no memory.
+///
+/// Answers 34, one of the handles is empty; 16, the recorder is of another registry. Nothing has changed then.
+#[unsafe(no_mangle)]
+pub extern "C" fn dirgwako_c_recorder_give_back(
+    alloc: Global,
+    registry: &mut RegistryHandle,
+    recorder: &mut RecorderHandle,
+) -> u32
+    ensures { Calls (recorder.new.value ≡ recorder.old.value)
+        (λ before after. TakesBack result before after recorder.old.value recorder.new.value) result
+        registry.old.value registry.new.value }
+{
+    let Some(mut held) = registry.take(alloc) else {
+        return 34;
+    };
+    let answer = match recorder.take(alloc) {
+        Some(given) => match take_back(&mut held, given) {
+            Ok(()) => 0,
+            Err(back) => {
+                recorder.put(alloc, back);
+                16
+            }
+        },
+        None => 34,
+    };
+    registry.put(alloc, held);
+    answer
+}
+
+/// Frees a recorder. All that it counted stays in every scrape, and its worker counts no more.
+///
+/// Answers 34, the handle is empty.
+#[unsafe(no_mangle)]
+pub extern "C" fn dirgwako_c_recorder_free(alloc: Global, recorder: &mut RecorderHandle) -> u32
+    ensures { Frees result recorder.old.value recorder.new.value }
+{
+    match recorder.take(alloc) {
+        Some(_) => 0,
+        None => 34,
+    }
+}

@@ -1,0 +1,334 @@
+//! What C calls to register families with labels, and to have their children.
+ghost use Rattle.std.specs.Prelude.{◌≡◌, []};
+ghost use Rattle.dirgwako.specs.Registering.{family_of};
+ghost use Rattle.dirgwako.specs.Texts.{texts_of};
+ghost use Rattle.metric_desc.specs.declared.kind.Kind.TheVariants as Kinds;
+ghost use Rattle.registry_state.specs.declared.handle.Handle.TheVariants as Handles;
+ghost use Rattle.dirgwako_c.specs.Held.{Calls};
+ghost use Rattle.dirgwako_c.specs.Registries.{registry_in, spare_in, MakesFamilyBy, GivesChildBy};
+
+use crate::held::SharedRegistry;
+use crate::registry_handle::RegistryHandle;
+use crate::texts::{text, texts};
+use dirgwako::{CounterFamily, GaugeFamily, HistogramFamily, Registrar};
+use ledger_core::{Counter, Gauge, Histogram};
+use std::alloc::Global;
+
+/// A family of counters of a registry.
+fn counter_family_in(
+    alloc: Global,
+    registrar: &mut Registrar<SharedRegistry>,
+    name: &[u8],
+    help: &[u8],
+    labels: &[&[u8]],
+    family: &mut CounterFamily,
+) -> u32
+    ensures { MakesFamilyBy result registrar.old.at registrar.new.at family.old family.new (λ family. family.id)
+        (λ family. family.registry) name.now help.now (texts_of labels.now)
+        (family_of Kinds.Counter name.now help.now labels.now []) }
+{
+    let (Some(name), Some(help)) = (text(name), text(help)) else {
+        return 36;
+    };
+    let labels = match texts(alloc, labels) {
+        Ok(labels) => labels,
+        Err(answer) => return answer,
+    };
+    match registrar.counter_family(name, help, &labels) {
+        Ok(made) => {
+            *family = made;
+            0
+        }
+        Err(fault) => u32::from(fault.number()),
+    }
+}
+
+/// A family of counters with labels.
+///
+/// Answers 34, the handle is empty; 36, a text is not UTF-8; 1 to 5, 9, 7 of the texts; 19, 23, 6 as
+/// [`dirgwako::Registrar::counter_family`]. Nothing has changed then.
+#[unsafe(no_mangle)]
+pub extern "C" fn dirgwako_c_counter_family_new(
+    alloc: Global,
+    registry: &mut RegistryHandle,
+    name: &[u8],
+    help: &[u8],
+    labels: &[&[u8]],
+    family: &mut CounterFamily,
+) -> u32
+    ensures { Calls (family.new ≡ family.old) (λ before after. (spare_in after ≡ spare_in before) × MakesFamilyBy result (registry_in before) (registry_in after)
+        family.old family.new (λ family. family.id) (λ family. family.registry) name.now help.now (texts_of labels.now)
+        (family_of Kinds.Counter name.now help.now labels.now [])) result registry.old.value registry.new.value }
+{
+    let Some(mut held) = registry.take(alloc) else {
+        return 34;
+    };
+    let answer = counter_family_in(alloc, &mut held.registrar, name, help, labels, family);
+    registry.put(alloc, held);
+    answer
+}
+
+/// The counter of these label values, which is made where there is none.
+#[tactic(auto, using(crate::proofs::Made::child_given, crate::proofs::Made::child_refused))]
+fn counter_of_in(
+    alloc: Global,
+    registrar: &mut Registrar<SharedRegistry>,
+    family: &CounterFamily,
+    values: &[&[u8]],
+    counter: &mut Counter,
+) -> u32
+    ensures { GivesChildBy result registrar.old.at registrar.new.at counter.old counter.new Handles.Counter family.now.registry family.now.id
+        (texts_of values.now) Kinds.Counter }
+{
+    let values = match texts(alloc, values) {
+        Ok(values) => values,
+        Err(answer) => return answer,
+    };
+    match registrar.counter_of(family, &values) {
+        Ok(given) => {
+            *counter = given;
+            0
+        }
+        Err(fault) => u32::from(fault.number()),
+    }
+}
+
+/// The counter of these label values, which is made where there is none.
+///
+/// Answers 34, the handle is empty; 36, a text is not UTF-8; 20, the family is of another registry; 3 of a value; 21, 22, 6 as
+/// [`dirgwako::Registrar::counter_of`]. Nothing has changed then.
+#[unsafe(no_mangle)]
+pub extern "C" fn dirgwako_c_counter_of(
+    alloc: Global,
+    registry: &mut RegistryHandle,
+    family: &CounterFamily,
+    values: &[&[u8]],
+    counter: &mut Counter,
+) -> u32
+    ensures { Calls (counter.new ≡ counter.old) (λ before after. (spare_in after ≡ spare_in before) × GivesChildBy result (registry_in before) (registry_in after)
+        counter.old counter.new Handles.Counter family.now.registry family.now.id (texts_of values.now) Kinds.Counter) result
+        registry.old.value registry.new.value }
+{
+    let Some(mut held) = registry.take(alloc) else {
+        return 34;
+    };
+    let answer = counter_of_in(alloc, &mut held.registrar, family, values, counter);
+    registry.put(alloc, held);
+    answer
+}
+
+/// A family of gauges of a registry.
+fn gauge_family_in(
+    alloc: Global,
+    registrar: &mut Registrar<SharedRegistry>,
+    name: &[u8],
+    help: &[u8],
+    labels: &[&[u8]],
+    family: &mut GaugeFamily,
+) -> u32
+    ensures { MakesFamilyBy result registrar.old.at registrar.new.at family.old family.new (λ family. family.id)
+        (λ family. family.registry) name.now help.now (texts_of labels.now)
+        (family_of Kinds.Gauge name.now help.now labels.now []) }
+{
+    let (Some(name), Some(help)) = (text(name), text(help)) else {
+        return 36;
+    };
+    let labels = match texts(alloc, labels) {
+        Ok(labels) => labels,
+        Err(answer) => return answer,
+    };
+    match registrar.gauge_family(name, help, &labels) {
+        Ok(made) => {
+            *family = made;
+            0
+        }
+        Err(fault) => u32::from(fault.number()),
+    }
+}
+
+/// A family of gauges with labels.
+///
+/// Answers 34, the handle is empty; 36, a text is not UTF-8; 1 to 5, 9, 7 of the texts; 19, 23, 6 as
+/// [`dirgwako::Registrar::gauge_family`]. Nothing has changed then.
+#[unsafe(no_mangle)]
+pub extern "C" fn dirgwako_c_gauge_family_new(
+    alloc: Global,
+    registry: &mut RegistryHandle,
+    name: &[u8],
+    help: &[u8],
+    labels: &[&[u8]],
+    family: &mut GaugeFamily,
+) -> u32
+    ensures { Calls (family.new ≡ family.old) (λ before after. (spare_in after ≡ spare_in before) × MakesFamilyBy result (registry_in before) (registry_in after)
+        family.old family.new (λ family. family.id) (λ family. family.registry) name.now help.now (texts_of labels.now)
+        (family_of Kinds.Gauge name.now help.now labels.now [])) result registry.old.value registry.new.value }
+{
+    let Some(mut held) = registry.take(alloc) else {
+        return 34;
+    };
+    let answer = gauge_family_in(alloc, &mut held.registrar, name, help, labels, family);
+    registry.put(alloc, held);
+    answer
+}
+
+/// The gauge of these label values, which is made where there is none.
+#[tactic(auto, using(crate::proofs::Made::child_given, crate::proofs::Made::child_refused))]
+fn gauge_of_in(
+    alloc: Global,
+    registrar: &mut Registrar<SharedRegistry>,
+    family: &GaugeFamily,
+    values: &[&[u8]],
+    gauge: &mut Gauge,
+) -> u32
+    ensures { GivesChildBy result registrar.old.at registrar.new.at gauge.old gauge.new Handles.Gauge family.now.registry family.now.id
+        (texts_of values.now) Kinds.Gauge }
+{
+    let values = match texts(alloc, values) {
+        Ok(values) => values,
+        Err(answer) => return answer,
+    };
+    match registrar.gauge_of(family, &values) {
+        Ok(given) => {
+            *gauge = given;
+            0
+        }
+        Err(fault) => u32::from(fault.number()),
+    }
+}
+
+/// The gauge of these label values, which is made where there is none.
+///
+/// Answers 34, the handle is empty; 36, a text is not UTF-8; 20, the family is of another registry; 3 of a value; 21, 22, 6 as
+/// [`dirgwako::Registrar::gauge_of`]. Nothing has changed then.
+#[unsafe(no_mangle)]
+pub extern "C" fn dirgwako_c_gauge_of(
+    alloc: Global,
+    registry: &mut RegistryHandle,
+    family: &GaugeFamily,
+    values: &[&[u8]],
+    gauge: &mut Gauge,
+) -> u32
+    ensures { Calls (gauge.new ≡ gauge.old) (λ before after. (spare_in after ≡ spare_in before) × GivesChildBy result (registry_in before) (registry_in after)
+        gauge.old gauge.new Handles.Gauge family.now.registry family.now.id (texts_of values.now) Kinds.Gauge) result
+        registry.old.value registry.new.value }
+{
+    let Some(mut held) = registry.take(alloc) else {
+        return 34;
+    };
+    let answer = gauge_of_in(alloc, &mut held.registrar, family, values, gauge);
+    registry.put(alloc, held);
+    answer
+}
+
+/// A family of histograms of a registry with these bounds: at most 24, rising, none over 2^48 - 1.
+fn histogram_family_in(
+    alloc: Global,
+    registrar: &mut Registrar<SharedRegistry>,
+    name: &[u8],
+    help: &[u8],
+    labels: &[&[u8]],
+    bounds: &[u64],
+    family: &mut HistogramFamily,
+) -> u32
+    ensures { MakesFamilyBy result registrar.old.at registrar.new.at family.old family.new (λ family. family.id)
+        (λ family. family.registry) name.now help.now (texts_of labels.now)
+        (family_of Kinds.Histogram name.now help.now labels.now bounds.now) }
+{
+    let (Some(name), Some(help)) = (text(name), text(help)) else {
+        return 36;
+    };
+    let labels = match texts(alloc, labels) {
+        Ok(labels) => labels,
+        Err(answer) => return answer,
+    };
+    match registrar.histogram_family(name, help, &labels, bounds) {
+        Ok(made) => {
+            *family = made;
+            0
+        }
+        Err(fault) => u32::from(fault.number()),
+    }
+}
+
+/// A family of histograms with labels with these bounds: at most 24, rising, none over 2^48 - 1.
+///
+/// Answers 34, the handle is empty; 36, a text is not UTF-8; 1 to 5, 9, 7 of the texts; 8, 10 of the bounds; 19, 23, 6 as
+/// [`dirgwako::Registrar::histogram_family`]. Nothing has changed then.
+#[unsafe(no_mangle)]
+pub extern "C" fn dirgwako_c_histogram_family_new(
+    alloc: Global,
+    registry: &mut RegistryHandle,
+    name: &[u8],
+    help: &[u8],
+    labels: &[&[u8]],
+    bounds: &[u64],
+    family: &mut HistogramFamily,
+) -> u32
+    ensures { Calls (family.new ≡ family.old) (λ before after. (spare_in after ≡ spare_in before) × MakesFamilyBy result (registry_in before) (registry_in after)
+        family.old family.new (λ family. family.id) (λ family. family.registry) name.now help.now (texts_of labels.now)
+        (family_of Kinds.Histogram name.now help.now labels.now bounds.now)) result registry.old.value registry.new.value }
+{
+    let Some(mut held) = registry.take(alloc) else {
+        return 34;
+    };
+    let answer = histogram_family_in(
+        alloc,
+        &mut held.registrar,
+        name,
+        help,
+        labels,
+        bounds,
+        family,
+    );
+    registry.put(alloc, held);
+    answer
+}
+
+/// The histogram of these label values, which is made where there is none.
+#[tactic(auto, using(crate::proofs::Made::child_given, crate::proofs::Made::child_refused))]
+fn histogram_of_in(
+    alloc: Global,
+    registrar: &mut Registrar<SharedRegistry>,
+    family: &HistogramFamily,
+    values: &[&[u8]],
+    histogram: &mut Histogram,
+) -> u32
+    ensures { GivesChildBy result registrar.old.at registrar.new.at histogram.old histogram.new Handles.Histogram family.now.registry family.now.id
+        (texts_of values.now) Kinds.Histogram }
+{
+    let values = match texts(alloc, values) {
+        Ok(values) => values,
+        Err(answer) => return answer,
+    };
+    match registrar.histogram_of(family, &values) {
+        Ok(given) => {
+            *histogram = given;
+            0
+        }
+        Err(fault) => u32::from(fault.number()),
+    }
+}
+
+/// The histogram of these label values, which is made where there is none.
+///
+/// Answers 34, the handle is empty; 36, a text is not UTF-8; 20, the family is of another registry; 3 of a value; 21, 22, 6 as
+/// [`dirgwako::Registrar::histogram_of`]. Nothing has changed then.
+#[unsafe(no_mangle)]
+pub extern "C" fn dirgwako_c_histogram_of(
+    alloc: Global,
+    registry: &mut RegistryHandle,
+    family: &HistogramFamily,
+    values: &[&[u8]],
+    histogram: &mut Histogram,
+) -> u32
+    ensures { Calls (histogram.new ≡ histogram.old) (λ before after. (spare_in after ≡ spare_in before) × GivesChildBy result (registry_in before) (registry_in after)
+        histogram.old histogram.new Handles.Histogram family.now.registry family.now.id (texts_of values.now) Kinds.Histogram) result
+        registry.old.value registry.new.value }
+{
+    let Some(mut held) = registry.take(alloc) else {
+        return 34;
+    };
+    let answer = histogram_of_in(alloc, &mut held.registrar, family, values, histogram);
+    registry.put(alloc, held);
+    answer
+}

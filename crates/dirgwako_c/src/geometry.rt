@@ -1,0 +1,13 @@
+//! The geometry of the board, which is settled when the library is built. Another is another library: `bindings/c/build.sh` takes four numbers.
+
+/// Threads that count, 1 to 32.
+pub const WORKERS: usize = 4;
+
+/// Counters, at most 256.
+pub const COUNTERS: usize = 64;
+
+/// Histograms, at most 32.
+pub const HISTOGRAMS: usize = 8;
+
+/// Gauges, at most 64.
+pub const GAUGES: usize = 8;

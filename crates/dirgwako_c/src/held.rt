@@ -1,0 +1,32 @@
+//! What C's handles hold: the geometry is settled here.
+
+use crate::geometry::{COUNTERS, GAUGES, HISTOGRAMS, WORKERS};
+use crate::shared_recorder::SharedRecorder;
+use crate::shared_scanner::SharedScanner;
+use crate::spare::Spare;
+use dirgwako::{Registrar, RegistryState};
+
+/// What a recorder's handle holds.
+#[derive(Drop)]
+pub struct HeldRecorder {
+    /// The recorder.
+    pub recorder: SharedRecorder<WORKERS, COUNTERS, HISTOGRAMS, GAUGES>,
+}
+
+/// A registry over a share in a board.
+pub type SharedRegistry = RegistryState<
+    SharedScanner<WORKERS, COUNTERS, HISTOGRAMS, GAUGES>,
+    WORKERS,
+    COUNTERS,
+    HISTOGRAMS,
+    GAUGES,
+>;
+
+/// What a registry's handle holds.
+#[derive(Drop)]
+pub struct HeldRegistry {
+    /// The registry, and what registers by plain texts.
+    pub registrar: Registrar<SharedRegistry>,
+    /// The recorders that nobody has.
+    pub spare: Spare,
+}

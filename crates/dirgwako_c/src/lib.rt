@@ -1,0 +1,37 @@
+//! Dirgwako for C: a board of one geometry, its registry, and recorders that threads count with.
+//!
+//! What C holds is a handle of two words, zeros where it holds nothing. A call that needs what an empty handle has not is refused. Each call
+//! answers 0, or the number of a refusal (docs/REFUSALS.md).
+#![tactic(auto)]
+
+mod boards;
+mod counting;
+mod families;
+mod geometry;
+mod held;
+mod loose;
+mod metrics;
+mod opening;
+mod recorder_handle;
+mod registry_handle;
+mod scraping;
+mod sends;
+mod shared_recorder;
+mod shared_scanner;
+mod spare;
+mod texts;
+
+pub use boards::{
+    dirgwako_c_recorder_free, dirgwako_c_recorder_give_back, dirgwako_c_recorder_take,
+    dirgwako_c_registry_free, dirgwako_c_registry_new,
+};
+pub use counting::{dirgwako_c_down, dirgwako_c_inc, dirgwako_c_observe, dirgwako_c_up};
+pub use families::{
+    dirgwako_c_counter_family_new, dirgwako_c_counter_of, dirgwako_c_gauge_family_new,
+    dirgwako_c_gauge_of, dirgwako_c_histogram_family_new, dirgwako_c_histogram_of,
+};
+pub use metrics::{dirgwako_c_counter_new, dirgwako_c_gauge_new, dirgwako_c_histogram_new};
+pub use recorder_handle::RecorderHandle;
+pub use registry_handle::RegistryHandle;
+pub use scraping::dirgwako_c_scrape;
+pub use sends::{recorder_sent, registry_sent};

@@ -1,0 +1,96 @@
+//! A handle that C holds.
+ghost use Rattle.std.specs.Prelude.{◌≡◌, ◌≢◌, IsNone, IsSome, MatchOption, Some};
+ghost use Rattle.std.specs.declared.option.Option.{Option};
+ghost use Rattle.std.specs.Coded.{coded_option};
+ghost use Rattle.dirgwako_c.specs.Held.{holds};
+ghost use Rattle.dirgwako_c.specs.declared.held.HeldRegistry.{HeldRegistry};
+ghost use Rattle.dirgwako_c.specs.contracts.held.HeldRegistry.{the_row as held_row};
+
+use crate::held::HeldRegistry;
+use crate::loose::Loose;
+use std::alloc::Global;
+use std::marker::Model;
+use std::mem::replace;
+
+/// What C holds of a registry: two words, zeros where it holds none.
+#[repr(C)]
+#[derive(Drop)]
+pub struct RegistryHandle {
+    at: *mut u8,
+    live: u64,
+    pub ghost value: { Option HeldRegistry } by { coded_option held_row.coded },
+    ghost empty: { live ≡ 0 → IsNone value },
+    ghost full: { live ≢ 0 → IsSome value },
+}
+
+impl Model for RegistryHandle {
+    ghost also_owns = { λ h. holds held_row h.at h.value };
+}
+
+// It may go to another thread, as what it holds may.
+unsafe impl Send for RegistryHandle {}
+
+impl RegistryHandle {
+    fn empty() -> RegistryHandle
+        ensures { IsNone result.value }
+    {
+        RegistryHandle {
+            at: std::ptr::null_mut(),
+            live: 0,
+        }
+    }
+
+    fn full(from: Loose<HeldRegistry, Global>) -> RegistryHandle
+        ensures { result.value ≡ Some from.value }
+    {
+        let Loose { at, alloc: _ } = from;
+        RegistryHandle {
+            at: at as *mut u8,
+            live: 1,
+        }
+    }
+
+    // Whether it is full, and the handle again.
+    fn with_live(self) -> (u64, RegistryHandle)
+        ensures { (result.0 ≡ self.live) × (result.1 ≡ self) }
+    {
+        let RegistryHandle { at, live } = self;
+        (live, RegistryHandle { at, live })
+    }
+
+    fn into_loose(self, alloc: Global) -> Loose<HeldRegistry, Global>
+        requires { IsSome self.value }
+        ensures { self.value ≡ Some result.value }
+    {
+        let RegistryHandle { at, live: _ } = self;
+        Loose {
+            at: at as *mut HeldRegistry,
+            alloc,
+        }
+    }
+
+    fn into_option(self, alloc: Global) -> Option<Box<HeldRegistry>>
+        ensures { MatchOption result (IsNone self.value) (λ b. self.value ≡ Some b.value) }
+    {
+        let (live, handle) = self.with_live();
+        if live == 0 {
+            return None;
+        }
+        Some(handle.into_loose(alloc).into_box())
+    }
+
+    /// Takes it out.
+    pub fn take(&mut self, alloc: Global) -> Option<Box<HeldRegistry>>
+        ensures taken { MatchOption result (IsNone self.old.value) (λ b. self.old.value ≡ Some b.value) }
+        ensures left { IsNone self.new.value }
+    {
+        replace(self, RegistryHandle::empty()).into_option(alloc)
+    }
+
+    /// Puts one in, in the place of what was there.
+    pub fn put(&mut self, alloc: Global, b: Box<HeldRegistry>)
+        ensures { self.new.value ≡ Some b.value }
+    {
+        let _old = replace(self, RegistryHandle::full(Loose::of(b))).into_option(alloc);
+    }
+}

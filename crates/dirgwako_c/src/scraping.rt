@@ -1,0 +1,85 @@
+//! What C calls for the text of a scrape.
+ghost use Rattle.std.specs.Prelude.{◌≡◌, ◌≤◌, length, take, IfOk, IfErr};
+ghost use Rattle.dirgwako.specs.Printing.{IsText, IsTextFault};
+ghost use Rattle.dirgwako_c.specs.Held.{Calls};
+ghost use Rattle.dirgwako_c.specs.Registries.{scrapes_by, PrintsTo};
+
+use crate::held::HeldRegistry;
+use crate::registry_handle::RegistryHandle;
+use dirgwako::{NoScrape, Scrape, TextFault, render};
+use scrape_http::ScrapeFrom;
+use scrape_server::{MakesScrapes, scrape_again};
+use std::alloc::Global;
+
+/// A text, at the front of a buffer that has room for it.
+#[tactic(auto, using(std::proofs::lemmas::List::take_at))]
+fn fill(buffer: &mut [u8], text: &[u8])
+    requires { length text.now ≤ length buffer.old }
+    ensures front { take (length text.now) buffer.new ≡ text.now }
+    ensures length { length buffer.new ≡ length buffer.old }
+{
+    buffer[..text.len()].copy_from_slice(text);
+}
+
+impl ScrapeFrom for HeldRegistry {
+    ghost gave = { scrapes_by };
+
+    fn scrape(&mut self) -> Result<Scrape, NoScrape> {
+        MakesScrapes::scrape(&mut self.registrar.at)
+    }
+}
+
+/// The text of a scrape of a registry. A scrape that was given up is asked for up to three times more.
+fn text_of(registry: &mut HeldRegistry) -> Result<Vec<u8>, TextFault>
+    ensures text { IfOk result (λ bytes. IsText scrapes_by registry.old registry.new bytes.items) }
+    ensures fault { IfErr result (IsTextFault scrapes_by registry.old registry.new) }
+{
+    match scrape_again(registry) {
+        Ok(scrape) => match render(&scrape) {
+            Ok(text) => Ok(text),
+            Err(_) => Err(TextFault::NoMemory),
+        },
+        Err(NoScrape::NoMemory) => Err(TextFault::NoMemory),
+        Err(NoScrape::Contended) => Err(TextFault::Contended),
+    }
+}
+
+/// The text of a scrape, at the front of a buffer that has room for it.
+fn print_to(registry: &mut HeldRegistry, buffer: &mut [u8], len: &mut usize) -> u32
+    ensures { PrintsTo result registry.old registry.new buffer.old buffer.new len.old len.new }
+{
+    match text_of(registry) {
+        Ok(text) => {
+            *len = text.len();
+            if text.len() > buffer.len() {
+                return 37;
+            }
+            fill(buffer, &text);
+            0
+        }
+        Err(fault) => u32::from(fault.number()),
+    }
+}
+
+/// The text of a scrape, in the text exposition format 0.0.4: all series at one moment. It stands at the front of the buffer, and `len` is how
+/// many bytes it has.
+///
+/// Answers 34, the handle is empty; 14, four scans were given up, one after the other; 6, out of memory; 37, the buffer is too short: `len`
+/// tells how many bytes this text has, and a later one may have more. The scrape is kept then as well.
+#[unsafe(no_mangle)]
+pub extern "C" fn dirgwako_c_scrape(
+    alloc: Global,
+    registry: &mut RegistryHandle,
+    buffer: &mut [u8],
+    len: &mut usize,
+) -> u32
+    ensures { Calls ((buffer.new ≡ buffer.old) × (len.new ≡ len.old)) (λ before after. PrintsTo result before after buffer.old buffer.new
+        len.old len.new) result registry.old.value registry.new.value }
+{
+    let Some(mut held) = registry.take(alloc) else {
+        return 34;
+    };
+    let answer = print_to(&mut held, buffer, len);
+    registry.put(alloc, held);
+    answer
+}
