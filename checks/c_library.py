@@ -22,7 +22,7 @@ def done(*words, seconds=120):
 
 def names(prefix):
     """The functions that the header declares for other languages are those that the archive defines."""
-    declared = set(re.findall(r"^uint32_t (dirgwako_c_\w+)\(", (prefix / "include/dirgwako.h").read_text(), re.M))
+    declared = set(re.findall(r"^(?:uint32_t|size_t) (dirgwako_c_\w+)\(", (prefix / "include/dirgwako.h").read_text(), re.M))
     defined = set(re.findall(r" T (dirgwako_c_\w+)", done("nm", "-g", prefix / "lib/libdirgwako.a")))
     check(declared and declared == defined, f"the header declares {sorted(declared)}, the archive has {sorted(defined)}")
     return len(declared)

@@ -9,6 +9,7 @@
      36  DIRGWAKO_NOT_UTF8     a text is not UTF-8
      37  DIRGWAKO_TOO_SHORT    the buffer is too short; the length tells what it needs
      38  DIRGWAKO_NULL         a pointer is null
+     39  DIRGWAKO_NO_KIND      a change is of no kind
 
    Ownership. A dirgwako_registry and a dirgwako_recorder begin as zeros ({0}), are written by these functions alone, and are never copied while
    they hold something: two copies own the same, so the second use of either is a use after free. They may be freed in any order, and freeing one
@@ -42,7 +43,8 @@ enum {
     DIRGWAKO_NO_WORKER = 35,
     DIRGWAKO_NOT_UTF8 = 36,
     DIRGWAKO_TOO_SHORT = 37,
-    DIRGWAKO_NULL = 38
+    DIRGWAKO_NULL = 38,
+    DIRGWAKO_NO_KIND = 39
 };
 
 /* A registry over a board. Opaque; zeros where it holds nothing. */
@@ -93,6 +95,16 @@ typedef struct dirgwako_histogram_family {
     size_t number;
 } dirgwako_histogram_family;
 
+/* A change, of which several are published as one version. `place` is that of a value's bucket; `kind` is 0 where a counter rises, 1 where a value
+   is counted, 2 where a gauge rises and 3 where it falls. */
+typedef struct dirgwako_change {
+    uint64_t registry;
+    size_t slot;
+    uint64_t by;
+    size_t place;
+    uint64_t kind;
+} dirgwako_change;
+
 /* The bytes of a text. */
 typedef struct dirgwako_text {
     const uint8_t *at;
@@ -133,6 +145,9 @@ uint32_t dirgwako_c_inc(dirgwako_recorder *recorder, const dirgwako_counter *cou
 uint32_t dirgwako_c_observe(dirgwako_recorder *recorder, const dirgwako_histogram *histogram, uint64_t value);
 uint32_t dirgwako_c_up(dirgwako_recorder *recorder, const dirgwako_gauge *gauge, uint64_t by);
 uint32_t dirgwako_c_down(dirgwako_recorder *recorder, const dirgwako_gauge *gauge, uint64_t by);
+uint32_t dirgwako_c_publish(dirgwako_recorder *recorder, const dirgwako_change *changes, size_t count);
+size_t dirgwako_c_place(const dirgwako_histogram *histogram, uint64_t value);
+uint32_t dirgwako_c_set_window(dirgwako_registry *registry, size_t window, size_t *kept);
 uint32_t dirgwako_c_scrape(dirgwako_registry *registry, uint8_t *buffer, size_t room, size_t *len);
 
 /* An id that no other board of this process has. */
@@ -284,6 +299,43 @@ static inline uint32_t dirgwako_up(dirgwako_recorder *recorder, const dirgwako_g
 /* Lowers a gauge. As dirgwako_inc. */
 static inline uint32_t dirgwako_down(dirgwako_recorder *recorder, const dirgwako_gauge *gauge, uint64_t by) {
     return recorder && gauge ? dirgwako_c_down(recorder, gauge, by) : (uint32_t)DIRGWAKO_NULL;
+}
+
+/* That a counter rises by `by`. The pointer is not null. */
+static inline dirgwako_change dirgwako_change_inc(const dirgwako_counter *counter, uint64_t by) {
+    dirgwako_change change = {counter->registry, counter->slot, by, 0, 0};
+    return change;
+}
+
+/* That a value is counted. The pointer is not null. */
+static inline dirgwako_change dirgwako_change_observe(const dirgwako_histogram *histogram, uint64_t value) {
+    dirgwako_change change = {histogram->registry, histogram->slot, value, dirgwako_c_place(histogram, value), 1};
+    return change;
+}
+
+/* That a gauge rises by `by`. The pointer is not null. */
+static inline dirgwako_change dirgwako_change_up(const dirgwako_gauge *gauge, uint64_t by) {
+    dirgwako_change change = {gauge->registry, gauge->slot, by, 0, 2};
+    return change;
+}
+
+/* That a gauge falls by `by`. The pointer is not null. */
+static inline dirgwako_change dirgwako_change_down(const dirgwako_gauge *gauge, uint64_t by) {
+    dirgwako_change change = {gauge->registry, gauge->slot, by, 0, 3};
+    return change;
+}
+
+/* Publishes these changes as one version, all of them or nothing: no scrape sees some of them alone. 34; 33, there are more than the library has
+   counters, histograms and twice its gauges; 16, a change is of another registry; 39, a change is of no kind; 15, 11, 12 as dirgwako_inc. */
+static inline uint32_t dirgwako_publish(dirgwako_recorder *recorder, const dirgwako_change *changes, size_t count) {
+    static const dirgwako_change none = {0, 0, 0, 0, 0};
+    if (!recorder || (!changes && count)) return DIRGWAKO_NULL;
+    return dirgwako_c_publish(recorder, changes ? changes : &none, count);
+}
+
+/* Keeps the last `window` scrapes from now on, 1 to 1,024; `kept` is how many are kept now. 34; 31, the window is none. */
+static inline uint32_t dirgwako_set_window(dirgwako_registry *registry, size_t window, size_t *kept) {
+    return registry && kept ? dirgwako_c_set_window(registry, window, kept) : (uint32_t)DIRGWAKO_NULL;
 }
 
 /* The text of a scrape, all series at one moment, at the front of the buffer; `len` is how many bytes it has. No zero byte stands behind it.

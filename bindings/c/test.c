@@ -63,6 +63,8 @@ static void nulls(void) {
     is("observe", dirgwako_observe(&recorder, NULL, 1), DIRGWAKO_NULL);
     is("up", dirgwako_up(NULL, &gauge, 1), DIRGWAKO_NULL);
     is("down", dirgwako_down(&recorder, NULL, 1), DIRGWAKO_NULL);
+    is("publish", dirgwako_publish(&recorder, NULL, 1), DIRGWAKO_NULL);
+    is("window", dirgwako_set_window(&registry, 1, NULL), DIRGWAKO_NULL);
     is("scrape", dirgwako_scrape(&registry, NULL, 1, &len), DIRGWAKO_NULL);
 }
 
@@ -96,6 +98,8 @@ static void empties(void) {
     is("observe", dirgwako_observe(&recorder, &histogram, 1), DIRGWAKO_EMPTY);
     is("up", dirgwako_up(&recorder, &gauge, 1), DIRGWAKO_EMPTY);
     is("down", dirgwako_down(&recorder, &gauge, 1), DIRGWAKO_EMPTY);
+    is("publish", dirgwako_publish(&recorder, NULL, 0), DIRGWAKO_EMPTY);
+    is("window", dirgwako_set_window(&registry, 1, &len), DIRGWAKO_EMPTY);
     is("scrape", dirgwako_scrape(&registry, text, sizeof text, &len), DIRGWAKO_EMPTY);
     is("the length is as it was", (long long)len, 7);
 }
@@ -223,6 +227,53 @@ static void apart(void) {
     is("free", dirgwako_registry_free(&two), 0);
 }
 
+/* Several changes are one version, all of them or nothing; a window is set. */
+static void lists(void) {
+    dirgwako_registry registry = {0};
+    dirgwako_recorder recorder = {0};
+    dirgwako_counter visits, full;
+    dirgwako_gauge open;
+    dirgwako_histogram bytes;
+    const uint64_t bounds[2] = {10, 20};
+    static dirgwako_change many[1000];
+    size_t kept = 9;
+    is("new", dirgwako_registry_new(&registry, 4), 0);
+    is("take", dirgwako_recorder_take(&registry, &recorder), 0);
+    is("counter", dirgwako_counter_new(&registry, "visits_total", "Visits.", &visits), 0);
+    is("counter", dirgwako_counter_new(&registry, "full_total", "Full.", &full), 0);
+    is("gauge", dirgwako_gauge_new(&registry, "open", "Open.", &open), 0);
+    is("histogram", dirgwako_histogram_new(&registry, "answer_bytes", "Bytes.", bounds, 2, &bytes), 0);
+    is("full", dirgwako_inc(&recorder, &full, 281474976710655), 0);
+    const dirgwako_change all[4] = {dirgwako_change_inc(&visits, 2), dirgwako_change_observe(&bytes, 11), dirgwako_change_up(&open, 5),
+                                    dirgwako_change_down(&open, 1)};
+    is("publish", dirgwako_publish(&recorder, all, 4), 0);
+    is("publish nothing", dirgwako_publish(&recorder, NULL, 0), 0);
+    dirgwako_change wrong[2] = {all[0], dirgwako_change_inc(&full, 1)};
+    is("too large", dirgwako_publish(&recorder, wrong, 2), 12);
+    wrong[1].slot = 100000;
+    is("no such slot", dirgwako_publish(&recorder, wrong, 2), 11);
+    wrong[1] = all[1];
+    wrong[1].place = 25;
+    is("no such place", dirgwako_publish(&recorder, wrong, 2), 11);
+    wrong[1] = all[1];
+    wrong[1].registry++;
+    is("another registry", dirgwako_publish(&recorder, wrong, 2), 16);
+    wrong[1] = all[1];
+    wrong[1].kind = 4;
+    is("no kind", dirgwako_publish(&recorder, wrong, 2), DIRGWAKO_NO_KIND);
+    for (size_t i = 0; i < 1000; i++) many[i] = all[0];
+    is("too many", dirgwako_publish(&recorder, many, 1000), 33);
+    is("visits", scraped(&registry, "visits_total"), 2);
+    is("open", scraped(&registry, "open"), 4);
+    is("20", scraped(&registry, "answer_bytes_bucket{le=\"20\"}"), 1);
+    is("window", dirgwako_set_window(&registry, 0, &kept), 31);
+    is("it is as it was", (long long)kept, 9);
+    is("window", dirgwako_set_window(&registry, 2, &kept), 0);
+    is("kept", (long long)kept, 2);
+    is("free recorder", dirgwako_recorder_free(&recorder), 0);
+    is("free", dirgwako_registry_free(&registry), 0);
+}
+
 struct thread {
     dirgwako_recorder recorder;
     dirgwako_counter first, then;
@@ -300,6 +351,7 @@ int main(void) {
     metrics();
     families();
     apart();
+    lists();
     threads();
     printf("%u passed, %u failed\n", passed, failed);
     return failed != 0;

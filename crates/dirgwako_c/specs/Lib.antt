@@ -1,3 +1,4 @@
 pub mod Held
 pub mod Recorders
 pub mod Registries
+pub mod Changes

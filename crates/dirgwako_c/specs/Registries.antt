@@ -17,6 +17,7 @@ use Rattle.ledger_core.specs.declared.op.Op.{Op}
 use Rattle.register_rule.specs.Faults.{IsBoardSize}
 use Rattle.register_rule.specs.Seats.{board_id}
 use Rattle.register_rule.specs.declared.view.Answer.{Answer}
+use Rattle.registry_state.specs.Journal.{scrapes, within}
 use Rattle.registry_state.specs.Kept.{RegistryView}
 use Rattle.registry_state.specs.Replay.{nothing}
 use Rattle.registry_state.specs.Faults.{IsWindow}
@@ -116,6 +117,13 @@ TakesBack answer before after (Some recorder) has = (registry_in after ≡ regis
     × (id_in (recorder_in recorder) ≡ (registry_in before).id))
     ⊎ ((answer ≡ 16) × (has ≡ Some recorder) × (spare_in after ≡ spare_in before)
     × ((id_in (recorder_in recorder) ≢ (registry_in before).id) ⊎ (WORKERS ≤ length (spare_in before)))))
+
+-- so many scrapes are kept from now on, the newest ones, and so many are kept now; or the window is none (31), and nothing has changed
+abbrev pub SetsWindow : (window answer : ℕ) → (before after : RegistryView (SharedScanner WORKERS COUNTERS HISTOGRAMS GAUGES))
+    → (had has : ℕ) → Type 0
+SetsWindow window answer before after had has = (IsWindow window × (answer ≡ 0)
+    × (after ≡ record before { window = window; journal = within window before.journal }) × (has ≡ length (scrapes after.journal)))
+    ⊎ (¬ (IsWindow window) × (answer ≡ 31) × (after ≡ before) × (has ≡ had))
 
 -- one scrape of a registry, and its answer
 abbrev pub ScrapesBy : (before after : RegistryView (SharedScanner WORKERS COUNTERS HISTOGRAMS GAUGES)) → Result Scraped NoScrape → Type 0

@@ -11,3 +11,6 @@ pub const HISTOGRAMS: usize = 8;
 
 /// Gauges, at most 64.
 pub const GAUGES: usize = 8;
+
+/// The most changes of one version that C publishes: each counter, one value of each histogram, and each gauge both ways.
+pub const MOST_CHANGES: usize = COUNTERS + HISTOGRAMS + 2 * GAUGES;

@@ -5,12 +5,15 @@ use crate::shared_recorder::SharedRecorder;
 use crate::shared_scanner::SharedScanner;
 use crate::spare::Spare;
 use dirgwako::{Registrar, RegistryState};
+use ledger_core::Op;
 
 /// What a recorder's handle holds.
 #[derive(Drop)]
 pub struct HeldRecorder {
     /// The recorder.
     pub recorder: SharedRecorder<WORKERS, COUNTERS, HISTOGRAMS, GAUGES>,
+    /// Room for the operations of a list.
+    pub list: Vec<Op>,
 }
 
 /// A registry over a share in a board.

@@ -5,6 +5,7 @@
 #![tactic(auto)]
 
 mod boards;
+mod change;
 mod counting;
 mod families;
 mod geometry;
@@ -12,6 +13,7 @@ mod held;
 mod loose;
 mod metrics;
 mod opening;
+mod publishing;
 mod recorder_handle;
 mod registry_handle;
 mod scraping;
@@ -20,18 +22,22 @@ mod shared_recorder;
 mod shared_scanner;
 mod spare;
 mod texts;
+mod windows;
 
 pub use boards::{
     dirgwako_c_recorder_free, dirgwako_c_recorder_give_back, dirgwako_c_recorder_take,
     dirgwako_c_registry_free, dirgwako_c_registry_new,
 };
+pub use change::Change;
 pub use counting::{dirgwako_c_down, dirgwako_c_inc, dirgwako_c_observe, dirgwako_c_up};
 pub use families::{
     dirgwako_c_counter_family_new, dirgwako_c_counter_of, dirgwako_c_gauge_family_new,
     dirgwako_c_gauge_of, dirgwako_c_histogram_family_new, dirgwako_c_histogram_of,
 };
 pub use metrics::{dirgwako_c_counter_new, dirgwako_c_gauge_new, dirgwako_c_histogram_new};
+pub use publishing::{dirgwako_c_place, dirgwako_c_publish};
 pub use recorder_handle::RecorderHandle;
 pub use registry_handle::RegistryHandle;
 pub use scraping::dirgwako_c_scrape;
 pub use sends::{recorder_sent, registry_sent};
+pub use windows::dirgwako_c_set_window;

@@ -5,7 +5,7 @@ ghost use Rattle.snapshot_update.specs.Workers.{IsWorkerOf};
 ghost use Rattle.dirgwako_c.specs.Recorders.{board_in, worker_in};
 ghost use Rattle.dirgwako_c.specs.Registries.{recorder_in, recorders_in, IsNew, IsNewAnswer};
 
-use crate::geometry::{COUNTERS, GAUGES, HISTOGRAMS, WORKERS};
+use crate::geometry::{COUNTERS, GAUGES, HISTOGRAMS, MOST_CHANGES, WORKERS};
 use crate::held::{HeldRecorder, HeldRegistry};
 use crate::shared_recorder::SharedRecorder;
 use crate::shared_scanner::SharedScanner;
@@ -30,7 +30,8 @@ fn boxed(
     ensures worker { IfOk result (λ b. worker_in (recorder_in b.value) ≡ worker) }
 {
     let recorder = SharedRecorder::new(Arc::try_clone(board)?, worker);
-    match Box::new(alloc, HeldRecorder { recorder }) {
+    let list = Vec::with_capacity(alloc, MOST_CHANGES)?;
+    match Box::new(alloc, HeldRecorder { recorder, list }) {
         Ok(made) => Ok(made),
         Err(_) => Err(AllocError),
     }

@@ -1,0 +1,74 @@
+//! Changes, of which C publishes several as one version.
+ghost use Rattle.std.specs.Prelude.{◌≡◌, ◌⊎◌, map, Some, All, OnOk, IfErr};
+ghost use Rattle.dirgwako_c.specs.Changes.{op_in, IsOf, IsNoList};
+
+use ledger_core::Op;
+
+/// A change of a metric.
+#[repr(C)]
+#[derive(Clone, Copy)]
+pub struct Change {
+    /// The id in the handle.
+    pub registry: u64,
+    /// The slot in the handle.
+    pub slot: usize,
+    /// What is added, or the value.
+    pub by: u64,
+    /// Of a value, the place of its bucket.
+    pub place: usize,
+    /// 0 a counter rises, 1 a value of a histogram is counted, 2 a gauge rises, 3 a gauge falls.
+    pub kind: u64,
+}
+
+impl Change {
+    /// The operation, if this is a kind.
+    fn op(&self) -> Option<Op>
+        ensures { result ≡ op_in self.now }
+    {
+        match self.kind {
+            0 => Some(Op::Inc {
+                counter: self.slot,
+                by: self.by,
+            }),
+            1 => Some(Op::Observe {
+                hist: self.slot,
+                place: self.place,
+                value: self.by,
+            }),
+            2 => Some(Op::Up {
+                gauge: self.slot,
+                by: self.by,
+            }),
+            3 => Some(Op::Down {
+                gauge: self.slot,
+                by: self.by,
+            }),
+            _ => None,
+        }
+    }
+}
+
+/// The operations of these changes, into a list, if each is by a handle of this registry, and of a kind.
+///
+/// # Errors
+///
+/// 16, 39 and 6.
+pub(crate) fn list_ops(list: &mut Vec<Op>, registry: u64, changes: &[Change]) -> Result<(), u32>
+    ensures listed { OnOk result (map Some list.new.items ≡ map op_in changes.now) }
+    ensures of_it { OnOk result (All (IsOf registry) changes.now) }
+    ensures fault { IfErr result (IsNoList registry changes.now) }
+{
+    list.clear();
+    for place in 0..changes.len() {
+        if changes[place].registry != registry {
+            return Err(16);
+        }
+        let Some(op) = changes[place].op() else {
+            return Err(39);
+        };
+        let Ok(()) = list.push(op) else {
+            return Err(6);
+        };
+    }
+    Ok(())
+}
