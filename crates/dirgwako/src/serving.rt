@@ -138,8 +138,8 @@ pub fn serve<R: Wait + Clock, const N: usize, const C: usize, const H: usize, co
 }
 
 /// [`serve`] of a registry that nobody shares ([`RegistryState`](registry_state::RegistryState), as it is behind a lock; or what else makes
-/// scrapes), which comes back after it. So its clauses say what each reply did to the registry: each 200 came of a scrape that this registry
-/// made and kept, and each other reply than 503 left it as it was.
+/// scrapes), which comes back after it. So its clauses say what each reply that it tells did to the registry: each 200 came of a scrape that this
+/// registry made and kept, and each other reply than 503 left it as it was.
 ///
 /// # Errors
 ///

@@ -1,5 +1,5 @@
 -- Lists of operations that are told one more.
-use Rattle.std.proofs.Common.{◌≡◌, ℕ, ◌+◌, ◌*◌, ◌<◌, List, [], ◌∷◌, ◌++◌, Some, length, slice_get, get_or, set, arith, subst, length-append, length-set}
+use Rattle.std.proofs.Common.{◌≡◌, ℕ, ◌+◌, ◌*◌, ◌<◌, List, [], ◌∷◌, ◌++◌, Some, length, slice_get, get_or, set, arith, subst, length-set, refl, inl, inr}
 use Rattle.std.proofs.Common.{Result, Ok, Err, IfErr}
 use Rattle.std.proofs.lemmas.List.Elements.{All-set, All-push}
 use Rattle.std.proofs.lemmas.List.Sums.{sum_by-set, sum_by_push, get_or-le-sum_by}
@@ -38,7 +38,7 @@ told_last ops op =
       sums = sums;
       adds_up = λ told so_far. adds_more ops (ops ++ op ∷ []) told op sums so_far;
       within = λ c h g all inside. All-push (IsWithin c h g) ops op all inside;
-      longer = let l = length-append ops (op ∷ []) in omega (arith, l);
+      longer = inr refl;
     }
 
 sums_at : (ops : List Op) (at : ℕ) (first second both : Op) → slice_get ops at ≡ Some first → at < length ops
@@ -54,7 +54,7 @@ told_at ops at first second both is lt joins = record {
   sums = sums_at ops at first second both is lt joins;
   adds_up = λ told so_far. adds_more ops (set ops at both) told second (sums_at ops at first second both is lt joins) so_far;
   within = λ c h g all op. All-set (IsWithin c h g) ops at both (joins.within c h g op) all;
-  longer = let l = length-set ops at both in omega (arith, l);
+  longer = inl (length-set ops at both);
 }
 
 pub passes_at : (ops : List Op) (at : ℕ) (first second : Op) → slice_get ops at ≡ Some first → at < length ops

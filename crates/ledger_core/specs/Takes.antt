@@ -1,5 +1,5 @@
 -- What a list of operations has taken, and why it takes no more.
-use Rattle.std.specs.Prelude.{◌≡◌, ◌≢◌, ◌≤◌, ℕ, ◌+◌, ◌⊎◌, Some, List, [], ◌∷◌, ◌++◌, length, slice_get, slice_set, slice_index, All}
+use Rattle.std.specs.Prelude.{◌≡◌, ◌≢◌, ℕ, ◌+◌, ◌⊎◌, Some, List, [], ◌∷◌, ◌++◌, length, slice_get, slice_set, slice_index, All}
 use Rattle.ledger_core.specs.declared.op.Op.{Op}
 use Rattle.ledger_core.specs.Ops.{width, part, sum_ops, IsWithin}
 use Rattle.ledger_core.specs.Rise.{LacksRoom}
@@ -12,13 +12,13 @@ abbrev pub AddsUpTo : (ops told : List Op) → Type 0
 AddsUpTo ops told = (c h k : ℕ) → sum_ops c h ops k ≡ sum_ops c h told k
 
 -- the new list adds at each word of each row what the old one does, and what this operation does: so it adds up to all that was
--- told before, and this operation. Each of its operations is within each row that the others and this one are within. It is at most
--- one operation longer: nothing is listed beside the one that was told
+-- told before, and this operation. Each of its operations is within each row that the others and this one are within. It has as
+-- many operations as the old one, or just this one behind those: nothing is listed beside it
 pub record Takes (old : List Op) (op : Op) (new : List Op) : Type 0 where
   pub sums : (c h k : ℕ) → sum_ops c h new k ≡ sum_ops c h old k + part c h op k
   pub adds_up : (told : List Op) → AddsUpTo old told → AddsUpTo new (told ++ op ∷ [])
   pub within : (c h g : ℕ) → All (IsWithin c h g) old → IsWithin c h g op → All (IsWithin c h g) new
-  pub longer : length new ≤ length old + 1
+  pub longer : (length new ≡ length old) ⊎ (new ≡ old ++ op ∷ [])
 
 -- the new list has the old one's operations, and at this place this one, or one of its slot. That is the place `hint`, if an
 -- operation of its slot stands there

@@ -29,7 +29,7 @@ use Rattle.register_rule.specs.declared.seats.Bundle.{Bundle}
 use Rattle.register_rule.specs.Seats.{table_of, members_of}
 
 -- x is the number of the segment i: it is at least each number that the first member found there before or has seen,
--- and where worker i is among the members, it is how often that worker published
+-- and where worker i is among the members, it is just how often that worker published
 pub record IsNumber (i : ℕ) (ms : List Member) (x : ℕ) : Type 0 where
   pub opened : (q y : ℕ) → get_elem? (first_of ms).scan.opened q ≡ some (i, y) → y ≤ x
   pub confirmed : (q y : ℕ) → get_elem? (first_of ms).scan.confirmed q ≡ some (i, y) → y ≤ x

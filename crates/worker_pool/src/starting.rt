@@ -169,7 +169,8 @@ fn run_with_room<
     finish(rt, threads, ends, many, done)
 }
 
-/// Takes room for the threads of all workers and what they hand back, and then runs them. So no thread was started where memory is wanted.
+/// Takes room for the threads of all workers and what they hand back, and then runs them. That no thread is started where
+/// memory is wanting lies in this order: no clause says it.
 pub(crate) fn run_in<
     's,
     E: 's,
