@@ -105,6 +105,15 @@ typedef struct dirgwako_change {
     uint64_t kind;
 } dirgwako_change;
 
+/* What a library was built for: the version of this interface, threads that count, counters, histograms and gauges. */
+typedef struct dirgwako_abi {
+    size_t version;
+    size_t workers;
+    size_t counters;
+    size_t histograms;
+    size_t gauges;
+} dirgwako_abi;
+
 /* The bytes of a text. */
 typedef struct dirgwako_text {
     const uint8_t *at;
@@ -148,6 +157,10 @@ uint32_t dirgwako_c_down(dirgwako_recorder *recorder, const dirgwako_gauge *gaug
 uint32_t dirgwako_c_publish(dirgwako_recorder *recorder, const dirgwako_change *changes, size_t count);
 size_t dirgwako_c_place(const dirgwako_histogram *histogram, uint64_t value);
 uint32_t dirgwako_c_set_window(dirgwako_registry *registry, size_t window, size_t *kept);
+uint32_t dirgwako_c_is_name(const uint8_t *name, size_t len);
+uint32_t dirgwako_c_abi(dirgwako_abi *abi);
+uint32_t dirgwako_c_reply(dirgwako_registry *registry, const uint8_t *request, size_t request_len, uint8_t *buffer, size_t room,
+                          size_t *len);
 uint32_t dirgwako_c_scrape(dirgwako_registry *registry, uint8_t *buffer, size_t room, size_t *len);
 
 /* An id that no other board of this process has. */
@@ -344,6 +357,26 @@ static inline uint32_t dirgwako_scrape(dirgwako_registry *registry, char *buffer
     static uint8_t none;
     if (!registry || !len || (!buffer && room)) return DIRGWAKO_NULL;
     return dirgwako_c_scrape(registry, buffer ? (uint8_t *)buffer : &none, room, len);
+}
+
+/* The reply to a request of HTTP/1.1 that was read whole: head and body, at the front of the buffer; `len` is how many bytes it has. The status is in
+   its first line: 200 with the text of a scrape, 404, 405, 400, 431, or 503 where a scan was given up or memory was wanting. 34; 26, the request has
+   no byte; 25, there is no memory for the reply; 37, the buffer is too short, and `len` tells what this reply needs. */
+static inline uint32_t dirgwako_reply(dirgwako_registry *registry, const char *request, size_t request_len, char *buffer, size_t room,
+                                      size_t *len) {
+    static uint8_t none;
+    if (!registry || !len || (!request && request_len) || (!buffer && room)) return DIRGWAKO_NULL;
+    return dirgwako_c_reply(registry, request ? (const uint8_t *)request : &none, request_len, buffer ? (uint8_t *)buffer : &none, room, len);
+}
+
+/* Whether this is a metric's name, before there is a registry. 36; 1, 2, 3, it is none; 6, out of memory. */
+static inline uint32_t dirgwako_is_name(const char *name) {
+    return name ? dirgwako_c_is_name((const uint8_t *)name, strlen(name)) : (uint32_t)DIRGWAKO_NULL;
+}
+
+/* What the library was built for: its version is DIRGWAKO_ABI, if this header is its own. */
+static inline uint32_t dirgwako_built_for(dirgwako_abi *abi) {
+    return abi ? dirgwako_c_abi(abi) : (uint32_t)DIRGWAKO_NULL;
 }
 
 #ifdef __cplusplus

@@ -65,6 +65,9 @@ static void nulls(void) {
     is("down", dirgwako_down(&recorder, NULL, 1), DIRGWAKO_NULL);
     is("publish", dirgwako_publish(&recorder, NULL, 1), DIRGWAKO_NULL);
     is("window", dirgwako_set_window(&registry, 1, NULL), DIRGWAKO_NULL);
+    is("name", dirgwako_is_name(NULL), DIRGWAKO_NULL);
+    is("built for", dirgwako_built_for(NULL), DIRGWAKO_NULL);
+    is("reply", dirgwako_reply(&registry, NULL, 1, text, sizeof text, &len), DIRGWAKO_NULL);
     is("scrape", dirgwako_scrape(&registry, NULL, 1, &len), DIRGWAKO_NULL);
 }
 
@@ -100,6 +103,7 @@ static void empties(void) {
     is("down", dirgwako_down(&recorder, &gauge, 1), DIRGWAKO_EMPTY);
     is("publish", dirgwako_publish(&recorder, NULL, 0), DIRGWAKO_EMPTY);
     is("window", dirgwako_set_window(&registry, 1, &len), DIRGWAKO_EMPTY);
+    is("reply", dirgwako_reply(&registry, "GET", 3, text, sizeof text, &len), DIRGWAKO_EMPTY);
     is("scrape", dirgwako_scrape(&registry, text, sizeof text, &len), DIRGWAKO_EMPTY);
     is("the length is as it was", (long long)len, 7);
 }
@@ -274,6 +278,49 @@ static void lists(void) {
     is("free", dirgwako_registry_free(&registry), 0);
 }
 
+/* The status of the reply to a request, which is handed over whole; or a refusal. */
+static long long status_of(dirgwako_registry *registry, const char *request, size_t *len) {
+    uint32_t answer = dirgwako_reply(registry, request, strlen(request), text, sizeof text, len);
+    return answer ? (long long)answer : atoll(text + strlen("HTTP/1.1 "));
+}
+
+/* Replies to requests, by their status. */
+static void replies(void) {
+    dirgwako_registry registry = {0};
+    dirgwako_counter visits;
+    size_t len = 0, needs;
+    is("new", dirgwako_registry_new(&registry, 4), 0);
+    is("counter", dirgwako_counter_new(&registry, "visits_total", "Visits.", &visits), 0);
+    const char *get = "GET /metrics HTTP/1.1\r\nHost: a\r\n\r\n";
+    is("a scrape", status_of(&registry, get, &len), 200);
+    is("its number", number(text, len, "visits_total"), 0);
+    is("another page", status_of(&registry, "GET / HTTP/1.1\r\nHost: a\r\n\r\n", &len), 404);
+    is("another method", status_of(&registry, "PUT /metrics HTTP/1.1\r\nHost: a\r\n\r\n", &len), 405);
+    is("no request", status_of(&registry, "metrics\r\n\r\n", &len), 400);
+    is("no whole head", status_of(&registry, "GET /metrics HTTP/1.1\r\n", &len), 400);
+    is("no byte", status_of(&registry, "", &len), 26);
+    is("the head alone", status_of(&registry, "HEAD /metrics HTTP/1.1\r\nHost: a\r\n\r\n", &len), 200);
+    is("no body", number(text, len, "visits_total"), -1);
+    is("too short", dirgwako_reply(&registry, get, strlen(get), text, 9, &len), DIRGWAKO_TOO_SHORT);
+    needs = len;
+    is("long enough", dirgwako_reply(&registry, get, strlen(get), text, needs, &len), 0);
+    is("its length", (long long)len, (long long)needs);
+    is("free", dirgwako_registry_free(&registry), 0);
+}
+
+/* What is asked without a registry. */
+static void asked(void) {
+    dirgwako_abi abi = {0};
+    is("a name", dirgwako_is_name("visits_total"), 0);
+    is("no name", dirgwako_is_name("9"), 2);
+    is("no byte", dirgwako_is_name(""), 1);
+    is("not UTF-8", dirgwako_is_name("\xff"), DIRGWAKO_NOT_UTF8);
+    is("built for", dirgwako_built_for(&abi), 0);
+    is("the version", (long long)abi.version, DIRGWAKO_ABI);
+    is("workers", abi.workers >= 1 && abi.workers <= 32, 1);
+    is("slots", abi.counters <= 256 && abi.histograms <= 32 && abi.gauges <= 64, 1);
+}
+
 struct thread {
     dirgwako_recorder recorder;
     dirgwako_counter first, then;
@@ -352,6 +399,8 @@ int main(void) {
     families();
     apart();
     lists();
+    replies();
+    asked();
     threads();
     printf("%u passed, %u failed\n", passed, failed);
     return failed != 0;

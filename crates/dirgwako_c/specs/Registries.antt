@@ -1,5 +1,5 @@
 -- What the calls of C by a registry's handle come to.
-use Rattle.std.specs.Prelude.{◌≡◌, ◌≢◌, ◌⊎◌, ℕ, ◌<◌, ◌≤◌, List, [], ◌∷◌, ◌++◌, map, length, take, replicate, All, Option, Some, None, Result, Ok, Err, IfOk, OnErr, IsSomeAnd, IsUtf8}
+use Rattle.std.specs.Prelude.{Bool, true, false, ◌≡◌, ◌≢◌, ◌⊎◌, ℕ, ◌<◌, ◌≤◌, List, [], ◌∷◌, ◌++◌, map, length, take, replicate, All, Option, Some, None, Result, Ok, Err, IfOk, OnErr, IsSomeAnd, IsUtf8}
 use Rattle.std.specs.List.{range_with_len}
 use Rattle.std.specs.Arc.{arc_value}
 use Rattle.dirgwako.specs.Alone.{RegistersAlone, GivesAlone}
@@ -23,6 +23,9 @@ use Rattle.registry_state.specs.Replay.{nothing}
 use Rattle.registry_state.specs.Faults.{IsWindow}
 use Rattle.registry_state.specs.declared.handle.Handle.{Handle}
 use Rattle.registry_state.specs.declared.handle.FamilyId.{FamilyId}
+use Rattle.scrape_http.specs.Serves.{IsServed, IsUnserved, is_read_failed, number_of as wire_fault_number}
+use Rattle.scrape_http.specs.declared.fault.WireFault.{WireFault}
+use Rattle.scrape_http.specs.declared.serve.Served.{Served}
 use Rattle.scrape_http.specs.declared.source.NoScrape.{NoScrape}
 use Rattle.scrape_server.specs.Scrapes.{Scrapes}
 use Rattle.snapshot_scan.specs.Answered.{HasAnswered, HasGivenUp}
@@ -209,3 +212,30 @@ module _ (answer : ℕ) (before after : HeldRegistry) (had has : List ℕ)
       × (length had < length bytes)) × (has ≡ had))
       ⊎ ((fault : TextFault) × (answer ≡ text_fault_number fault) × IsTextFault scrapes_by before after fault × (has ≡ had)
       × (has_len ≡ had_len)))
+
+-- The buffer begins with these bytes, and so many they are; or it is too short for them (37), and is as it was
+abbrev pub IsHandedOver : (bytes : List ℕ) → (answer : ℕ) → (had has : List ℕ) → (has_len : ℕ) → Type 0
+IsHandedOver bytes answer had has has_len = (has_len ≡ length bytes)
+    × (((answer ≡ 0) × (take has_len has ≡ bytes)) ⊎ ((answer ≡ 37) × (length had < length bytes) × (has ≡ had)))
+
+-- what became of a reply that was written whole, or why there is none: then the buffer and the length are as they were
+abbrev pub IsReplied : (bytes : List ℕ) → (answer : ℕ) → (had has : List ℕ) → (had_len has_len : ℕ) → Result Served WireFault → Type 0
+IsReplied bytes answer had has had_len has_len (Ok served) = IsHandedOver bytes answer had has has_len
+IsReplied bytes answer had has had_len has_len (Err fault) = (answer ≡ wire_fault_number fault) × (has ≡ had) × (has_len ≡ had_len)
+
+module _ (request : List ℕ) (answer : ℕ) (before after : RegistryView (SharedScanner WORKERS COUNTERS HISTOGRAMS GAUGES))
+    (had has : List ℕ) (had_len has_len : ℕ) where
+  -- The reply to what the request's bytes ask for was written and handed over, as a server gives it: a 200 is the text of a scrape that this
+  -- registry made and kept. Where a read failed, which bytes do not, nothing was written
+  pub record Replies : Type 0 where
+    pub rest : List ℕ
+    pub bytes : List ℕ
+    pub failed : Bool
+    pub ended : Bool
+    pub latest : ℕ
+    pub served : Result Served WireFault
+    pub is_served : failed ≡ false
+        → IsServed ScrapesBy before after (Some request) (Some rest) (Some []) (Some bytes) ended latest served
+    pub is_unserved : failed ≡ true → IsUnserved before after (Some []) (Some bytes)
+    pub failed_is : failed ≡ is_read_failed served
+    pub replied : IsReplied bytes answer had has had_len has_len served

@@ -4,7 +4,9 @@
 //! answers 0, or the number of a refusal (docs/REFUSALS.md).
 #![tactic(auto)]
 
+mod about;
 mod boards;
+mod buffers;
 mod change;
 mod counting;
 mod families;
@@ -16,6 +18,7 @@ mod opening;
 mod publishing;
 mod recorder_handle;
 mod registry_handle;
+mod replying;
 mod scraping;
 mod sends;
 mod shared_recorder;
@@ -24,6 +27,7 @@ mod spare;
 mod texts;
 mod windows;
 
+pub use about::{ABI, Abi, dirgwako_c_abi, dirgwako_c_is_name};
 pub use boards::{
     dirgwako_c_recorder_free, dirgwako_c_recorder_give_back, dirgwako_c_recorder_take,
     dirgwako_c_registry_free, dirgwako_c_registry_new,
@@ -38,6 +42,7 @@ pub use metrics::{dirgwako_c_counter_new, dirgwako_c_gauge_new, dirgwako_c_histo
 pub use publishing::{dirgwako_c_place, dirgwako_c_publish};
 pub use recorder_handle::RecorderHandle;
 pub use registry_handle::RegistryHandle;
+pub use replying::dirgwako_c_reply;
 pub use scraping::dirgwako_c_scrape;
 pub use sends::{recorder_sent, registry_sent};
 pub use windows::dirgwako_c_set_window;

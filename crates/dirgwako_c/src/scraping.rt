@@ -4,22 +4,13 @@ ghost use Rattle.dirgwako.specs.Printing.{IsText, IsTextFault};
 ghost use Rattle.dirgwako_c.specs.Held.{Calls};
 ghost use Rattle.dirgwako_c.specs.Registries.{scrapes_by, PrintsTo};
 
+use crate::buffers::hand_over;
 use crate::held::HeldRegistry;
 use crate::registry_handle::RegistryHandle;
 use dirgwako::{NoScrape, Scrape, TextFault, render};
 use scrape_http::ScrapeFrom;
 use scrape_server::{MakesScrapes, scrape_again};
 use std::alloc::Global;
-
-/// A text, at the front of a buffer that has room for it.
-#[tactic(auto, using(std::proofs::lemmas::List::take_at))]
-fn fill(buffer: &mut [u8], text: &[u8])
-    requires { length text.now ≤ length buffer.old }
-    ensures front { take (length text.now) buffer.new ≡ text.now }
-    ensures length { length buffer.new ≡ length buffer.old }
-{
-    buffer[..text.len()].copy_from_slice(text);
-}
 
 impl ScrapeFrom for HeldRegistry {
     ghost gave = { scrapes_by };
@@ -49,14 +40,7 @@ fn print_to(registry: &mut HeldRegistry, buffer: &mut [u8], len: &mut usize) -> 
     ensures { PrintsTo result registry.old registry.new buffer.old buffer.new len.old len.new }
 {
     match text_of(registry) {
-        Ok(text) => {
-            *len = text.len();
-            if text.len() > buffer.len() {
-                return 37;
-            }
-            fill(buffer, &text);
-            0
-        }
+        Ok(text) => hand_over(&text, buffer, len),
         Err(fault) => u32::from(fault.number()),
     }
 }
