@@ -192,8 +192,8 @@ static inline uint32_t dirgwako_recorder_free(dirgwako_recorder *recorder) {
     return recorder ? dirgwako_c_recorder_free(recorder) : (uint32_t)DIRGWAKO_NULL;
 }
 
-/* A counter without labels. 34; 36; 1 to 5, the name or the help is none; 19, a name clashes with another family's; 22, no slot is left; 23, there
-   are 128 families; 6, out of memory. After 22 its family stands, without a number. */
+/* A counter without labels. 34; 36; 1, 2, 3, 5, the name or the help is none; 19, a name clashes with another family's; 22, no slot is left; 23, there
+   are 128 families; 6, out of memory. After 22, and after 6 for its number alone, its family stands without it. */
 static inline uint32_t dirgwako_counter_new(dirgwako_registry *registry, const char *name, const char *help, dirgwako_counter *counter) {
     if (!registry || !name || !help || !counter) return DIRGWAKO_NULL;
     return dirgwako_c_counter_new(registry, (const uint8_t *)name, strlen(name), (const uint8_t *)help, strlen(help), counter);

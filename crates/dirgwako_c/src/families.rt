@@ -56,7 +56,8 @@ pub extern "C" fn dirgwako_c_counter_family_new(
     labels: &[&[u8]],
     family: &mut CounterFamily,
 ) -> u32
-    ensures { Calls (family.new ≡ family.old) (λ before after. (spare_in after ≡ spare_in before) × MakesFamilyBy result (registry_in before) (registry_in after)
+    ensures { Calls (family.new ≡ family.old) (λ before after. (spare_in after ≡ spare_in before)
+        × MakesFamilyBy result (registry_in before) (registry_in after)
         family.old family.new (λ family. family.id) (λ family. family.registry) name.now help.now (texts_of labels.now)
         (family_of Kinds.Counter name.now help.now labels.now [])) result registry.old.value registry.new.value }
 {
@@ -105,7 +106,8 @@ pub extern "C" fn dirgwako_c_counter_of(
     values: &[&[u8]],
     counter: &mut Counter,
 ) -> u32
-    ensures { Calls (counter.new ≡ counter.old) (λ before after. (spare_in after ≡ spare_in before) × GivesChildBy result (registry_in before) (registry_in after)
+    ensures { Calls (counter.new ≡ counter.old) (λ before after. (spare_in after ≡ spare_in before)
+        × GivesChildBy result (registry_in before) (registry_in after)
         counter.old counter.new Handles.Counter family.now.registry family.now.id (texts_of values.now) Kinds.Counter) result
         registry.old.value registry.new.value }
 {
@@ -159,7 +161,8 @@ pub extern "C" fn dirgwako_c_gauge_family_new(
     labels: &[&[u8]],
     family: &mut GaugeFamily,
 ) -> u32
-    ensures { Calls (family.new ≡ family.old) (λ before after. (spare_in after ≡ spare_in before) × MakesFamilyBy result (registry_in before) (registry_in after)
+    ensures { Calls (family.new ≡ family.old) (λ before after. (spare_in after ≡ spare_in before)
+        × MakesFamilyBy result (registry_in before) (registry_in after)
         family.old family.new (λ family. family.id) (λ family. family.registry) name.now help.now (texts_of labels.now)
         (family_of Kinds.Gauge name.now help.now labels.now [])) result registry.old.value registry.new.value }
 {
@@ -208,7 +211,8 @@ pub extern "C" fn dirgwako_c_gauge_of(
     values: &[&[u8]],
     gauge: &mut Gauge,
 ) -> u32
-    ensures { Calls (gauge.new ≡ gauge.old) (λ before after. (spare_in after ≡ spare_in before) × GivesChildBy result (registry_in before) (registry_in after)
+    ensures { Calls (gauge.new ≡ gauge.old) (λ before after. (spare_in after ≡ spare_in before)
+        × GivesChildBy result (registry_in before) (registry_in after)
         gauge.old gauge.new Handles.Gauge family.now.registry family.now.id (texts_of values.now) Kinds.Gauge) result
         registry.old.value registry.new.value }
 {
@@ -264,7 +268,8 @@ pub extern "C" fn dirgwako_c_histogram_family_new(
     bounds: &[u64],
     family: &mut HistogramFamily,
 ) -> u32
-    ensures { Calls (family.new ≡ family.old) (λ before after. (spare_in after ≡ spare_in before) × MakesFamilyBy result (registry_in before) (registry_in after)
+    ensures { Calls (family.new ≡ family.old) (λ before after. (spare_in after ≡ spare_in before)
+        × MakesFamilyBy result (registry_in before) (registry_in after)
         family.old family.new (λ family. family.id) (λ family. family.registry) name.now help.now (texts_of labels.now)
         (family_of Kinds.Histogram name.now help.now labels.now bounds.now)) result registry.old.value registry.new.value }
 {
@@ -321,7 +326,8 @@ pub extern "C" fn dirgwako_c_histogram_of(
     values: &[&[u8]],
     histogram: &mut Histogram,
 ) -> u32
-    ensures { Calls (histogram.new ≡ histogram.old) (λ before after. (spare_in after ≡ spare_in before) × GivesChildBy result (registry_in before) (registry_in after)
+    ensures { Calls (histogram.new ≡ histogram.old) (λ before after. (spare_in after ≡ spare_in before)
+        × GivesChildBy result (registry_in before) (registry_in after)
         histogram.old histogram.new Handles.Histogram family.now.registry family.now.id (texts_of values.now) Kinds.Histogram) result
         registry.old.value registry.new.value }
 {

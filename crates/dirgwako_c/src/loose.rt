@@ -1,10 +1,11 @@
-// A box as its pointer.
+//! A box as its pointer, which a handle can have.
 ghost use Rattle.std.specs.Prelude.{◌≡◌};
 ghost use Rattle.std_alloc.specs.Box.Ownership.{box_owns};
 
 use std::alloc::Allocator;
 use std::marker::Model;
 
+/// A box that was taken apart: its pointer and its allocator, which own what is in it.
 pub struct Loose<T, A: Allocator> {
     pub(crate) at: *mut T,
     pub(crate) alloc: A,
@@ -16,6 +17,7 @@ impl<T, A: Allocator> Model for Loose<T, A> {
 }
 
 impl<T: Drop, A: Allocator> Loose<T, A> {
+    /// Takes a box apart.
     pub fn of(value: Box<T, A>) -> Loose<T, A>
         ensures { result.value ≡ value.value }
     {
@@ -23,6 +25,7 @@ impl<T: Drop, A: Allocator> Loose<T, A> {
         Loose { at, alloc }
     }
 
+    /// Puts it together again.
     pub fn into_box(self) -> Box<T, A>
         ensures { result.value ≡ self.value }
     {

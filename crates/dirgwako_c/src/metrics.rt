@@ -47,7 +47,8 @@ pub extern "C" fn dirgwako_c_counter_new(
     help: &[u8],
     counter: &mut Counter,
 ) -> u32
-    ensures { Calls (counter.new ≡ counter.old) (λ before after. MakesNamed Handles.Counter result (registry_in before) (registry_in after)
+    ensures { Calls (counter.new ≡ counter.old) (λ before after. (spare_in after ≡ spare_in before)
+        × MakesNamed Handles.Counter result (registry_in before) (registry_in after)
         counter.old counter.new name.now help.now (family_of Kinds.Counter name.now help.now [] [])) result
         registry.old.value registry.new.value }
 {
@@ -93,7 +94,8 @@ pub extern "C" fn dirgwako_c_gauge_new(
     help: &[u8],
     gauge: &mut Gauge,
 ) -> u32
-    ensures { Calls (gauge.new ≡ gauge.old) (λ before after. MakesNamed Handles.Gauge result (registry_in before) (registry_in after)
+    ensures { Calls (gauge.new ≡ gauge.old) (λ before after. (spare_in after ≡ spare_in before)
+        × MakesNamed Handles.Gauge result (registry_in before) (registry_in after)
         gauge.old gauge.new name.now help.now (family_of Kinds.Gauge name.now help.now [] [])) result
         registry.old.value registry.new.value }
 {
@@ -130,7 +132,7 @@ fn histogram_in(
 
 /// A histogram without labels with these bounds: at most 24, rising, none over 2^48 - 1: its family is registered, and its one child made.
 ///
-/// Answers 34, the handle is empty; 36, a text is not UTF-8; 1, 2, 3, 5 of the name or the help; 8, 10 of the bounds; 19, 23, 22, 6 as
+/// Answers 34, the handle is empty; 36, a text is not UTF-8; 1, 2, 3, 5 of the name or the help; 10 of the bounds; 19, 23, 22, 6 as
 /// [`dirgwako::Registrar::histogram`]. What C has is as it was then.
 #[unsafe(no_mangle)]
 pub extern "C" fn dirgwako_c_histogram_new(
@@ -141,7 +143,8 @@ pub extern "C" fn dirgwako_c_histogram_new(
     bounds: &[u64],
     histogram: &mut Histogram,
 ) -> u32
-    ensures { Calls (histogram.new ≡ histogram.old) (λ before after. MakesNamed Handles.Histogram result (registry_in before) (registry_in after)
+    ensures { Calls (histogram.new ≡ histogram.old) (λ before after. (spare_in after ≡ spare_in before)
+        × MakesNamed Handles.Histogram result (registry_in before) (registry_in after)
         histogram.old histogram.new name.now help.now (family_of Kinds.Histogram name.now help.now [] bounds.now)) result
         registry.old.value registry.new.value }
 {
