@@ -10,6 +10,9 @@
      37  DIRGWAKO_TOO_SHORT    the buffer is too short; the length tells what it needs
      38  DIRGWAKO_NULL         a pointer is null
      39  DIRGWAKO_NO_KIND      a change is of no kind
+     40  DIRGWAKO_NO_SUCH      so many scrapes are not kept; no refusal has this number
+     41  DIRGWAKO_NO_NUMBERS   these are no numbers that were read
+     42  DIRGWAKO_NOT_YET      digits and groups are 0
 
    Ownership. A dirgwako_registry and a dirgwako_recorder begin as zeros ({0}), are written by these functions alone, and are never copied while
    they hold something: two copies own the same, so the second use of either is a use after free. They may be freed in any order, and freeing one
@@ -44,7 +47,10 @@ enum {
     DIRGWAKO_NOT_UTF8 = 36,
     DIRGWAKO_TOO_SHORT = 37,
     DIRGWAKO_NULL = 38,
-    DIRGWAKO_NO_KIND = 39
+    DIRGWAKO_NO_KIND = 39,
+    DIRGWAKO_NO_SUCH = 40,
+    DIRGWAKO_NO_NUMBERS = 41,
+    DIRGWAKO_NOT_YET = 42
 };
 
 /* A registry over a board. Opaque; zeros where it holds nothing. */
@@ -105,6 +111,14 @@ typedef struct dirgwako_change {
     uint64_t kind;
 } dirgwako_change;
 
+/* The totals of a histogram: how many values fell into the bucket of each bound alone, behind the last bound those that are over it; their sum and
+   their count. */
+typedef struct dirgwako_totals {
+    uint64_t buckets[25];
+    uint64_t sum;
+    uint64_t count;
+} dirgwako_totals;
+
 /* What a library was built for: the version of this interface, threads that count, counters, histograms and gauges. */
 typedef struct dirgwako_abi {
     size_t version;
@@ -120,8 +134,8 @@ typedef struct dirgwako_text {
     size_t len;
 } dirgwako_text;
 
-/* The most labels of a family, and the most that these functions hand on. */
-enum { DIRGWAKO_MOST_LABELS = 8 };
+/* The most labels of a family, and the most numbers that a moment has, whatever the library was built for. */
+enum { DIRGWAKO_MOST_LABELS = 8, DIRGWAKO_MOST_NUMBERS = 1281 };
 
 /* The library's own functions, for bindings of other languages. They take no null pointer, also where a length is 0. */
 uint32_t dirgwako_c_registry_new(dirgwako_registry *registry, uint64_t id, size_t window);
@@ -137,17 +151,17 @@ uint32_t dirgwako_c_histogram_new(dirgwako_registry *registry, const uint8_t *na
                                   const uint64_t *bounds, size_t count, dirgwako_histogram *histogram);
 uint32_t dirgwako_c_counter_family_new(dirgwako_registry *registry, const uint8_t *name, size_t name_len, const uint8_t *help,
                                     size_t help_len, const dirgwako_text *labels, size_t count,
-                                    dirgwako_counter_family *family);
+                                    size_t digits, size_t group, dirgwako_counter_family *family);
 uint32_t dirgwako_c_counter_of(dirgwako_registry *registry, const dirgwako_counter_family *family, const dirgwako_text *values, size_t count,
                             dirgwako_counter *counter);
 uint32_t dirgwako_c_gauge_family_new(dirgwako_registry *registry, const uint8_t *name, size_t name_len, const uint8_t *help,
                                     size_t help_len, const dirgwako_text *labels, size_t count,
-                                    dirgwako_gauge_family *family);
+                                    size_t digits, size_t group, dirgwako_gauge_family *family);
 uint32_t dirgwako_c_gauge_of(dirgwako_registry *registry, const dirgwako_gauge_family *family, const dirgwako_text *values, size_t count,
                             dirgwako_gauge *gauge);
 uint32_t dirgwako_c_histogram_family_new(dirgwako_registry *registry, const uint8_t *name, size_t name_len, const uint8_t *help,
                                     size_t help_len, const dirgwako_text *labels, size_t count, const uint64_t *bounds, size_t bound_count,
-                                    dirgwako_histogram_family *family);
+                                    size_t digits, size_t group, dirgwako_histogram_family *family);
 uint32_t dirgwako_c_histogram_of(dirgwako_registry *registry, const dirgwako_histogram_family *family, const dirgwako_text *values, size_t count,
                             dirgwako_histogram *histogram);
 uint32_t dirgwako_c_inc(dirgwako_recorder *recorder, const dirgwako_counter *counter, uint64_t by);
@@ -157,6 +171,16 @@ uint32_t dirgwako_c_down(dirgwako_recorder *recorder, const dirgwako_gauge *gaug
 uint32_t dirgwako_c_publish(dirgwako_recorder *recorder, const dirgwako_change *changes, size_t count);
 size_t dirgwako_c_place(const dirgwako_histogram *histogram, uint64_t value);
 uint32_t dirgwako_c_set_window(dirgwako_registry *registry, size_t window, size_t *kept);
+uint32_t dirgwako_c_kept(dirgwako_registry *registry, size_t *kept);
+uint32_t dirgwako_c_read(dirgwako_registry *registry, uint64_t *numbers, size_t room, size_t *len);
+uint32_t dirgwako_c_read_kept(dirgwako_registry *registry, size_t number, uint64_t *numbers, size_t room, size_t *len);
+uint32_t dirgwako_c_settle(dirgwako_registry *registry, uint64_t *numbers, size_t room, size_t *len, size_t *missing);
+uint32_t dirgwako_c_counter_total(const uint64_t *numbers, size_t len, const dirgwako_counter *counter, uint64_t *total);
+uint32_t dirgwako_c_gauge_value(const uint64_t *numbers, size_t len, const dirgwako_gauge *gauge, int64_t *value);
+uint32_t dirgwako_c_histogram_totals(const uint64_t *numbers, size_t len, const dirgwako_histogram *histogram, dirgwako_totals *totals);
+uint32_t dirgwako_c_linear(uint64_t start, uint64_t width, uint64_t *bounds, size_t count);
+uint32_t dirgwako_c_exponential(uint64_t start, uint64_t factor, uint64_t *bounds, size_t count);
+uint32_t dirgwako_c_refusal(size_t number, uint8_t *buffer, size_t room, size_t *len);
 uint32_t dirgwako_c_is_name(const uint8_t *name, size_t len);
 uint32_t dirgwako_c_abi(dirgwako_abi *abi);
 uint32_t dirgwako_c_reply(dirgwako_registry *registry, const uint8_t *request, size_t request_len, uint8_t *buffer, size_t room,
@@ -233,7 +257,7 @@ static inline uint32_t dirgwako_counter_family_new(dirgwako_registry *registry, 
     if (count > DIRGWAKO_MOST_LABELS) return 9;
     if (!dirgwako_texts(labels, count, texts)) return DIRGWAKO_NULL;
     return dirgwako_c_counter_family_new(registry, (const uint8_t *)name, strlen(name), (const uint8_t *)help, strlen(help), texts, count,
-                                      family);
+                                      0, 0, family);
 }
 
 /* The counter of these label values, in the order of the labels, which is made where there is none. 34; 36; 20, the family is of another registry; 3, a
@@ -255,7 +279,7 @@ static inline uint32_t dirgwako_gauge_family_new(dirgwako_registry *registry, co
     if (count > DIRGWAKO_MOST_LABELS) return 9;
     if (!dirgwako_texts(labels, count, texts)) return DIRGWAKO_NULL;
     return dirgwako_c_gauge_family_new(registry, (const uint8_t *)name, strlen(name), (const uint8_t *)help, strlen(help), texts, count,
-                                      family);
+                                      0, 0, family);
 }
 
 /* The gauge of these label values, in the order of the labels, which is made where there is none. 34; 36; 20, the family is of another registry; 3, a
@@ -279,7 +303,7 @@ static inline uint32_t dirgwako_histogram_family_new(dirgwako_registry *registry
     if (count > DIRGWAKO_MOST_LABELS) return 9;
     if (!dirgwako_texts(labels, count, texts)) return DIRGWAKO_NULL;
     return dirgwako_c_histogram_family_new(registry, (const uint8_t *)name, strlen(name), (const uint8_t *)help, strlen(help), texts, count, bounds ? bounds : &none, bound_count,
-                                      family);
+                                      0, 0, family);
 }
 
 /* The histogram of these label values, in the order of the labels, which is made where there is none. 34; 36; 20, the family is of another registry; 3, a
@@ -351,6 +375,65 @@ static inline uint32_t dirgwako_set_window(dirgwako_registry *registry, size_t w
     return registry && kept ? dirgwako_c_set_window(registry, window, kept) : (uint32_t)DIRGWAKO_NULL;
 }
 
+/* How many scrapes are kept. 34. */
+static inline uint32_t dirgwako_kept(dirgwako_registry *registry, size_t *kept) {
+    return registry && kept ? dirgwako_c_kept(registry, kept) : (uint32_t)DIRGWAKO_NULL;
+}
+
+/* Makes a scrape, which is kept, and reads its numbers, all of one moment, for the three functions below: at most DIRGWAKO_MOST_NUMBERS, at the front
+   of the array; `len` is how many. The first is the registry's id, behind it stands how often each worker has published, and then the totals.
+   34; 14, four scans were given up, one after the other; 6, out of memory; 37, the array is too short, and `len` tells what is needed. */
+static inline uint32_t dirgwako_read(dirgwako_registry *registry, uint64_t *numbers, size_t room, size_t *len) {
+    static uint64_t none;
+    if (!registry || !len || (!numbers && room)) return DIRGWAKO_NULL;
+    return dirgwako_c_read(registry, numbers ? numbers : &none, room, len);
+}
+
+/* The same of a scrape that is kept, of which the oldest has number 0. Takes no memory. 34; 40, so many are not kept; 37. */
+static inline uint32_t dirgwako_read_kept(dirgwako_registry *registry, size_t number, uint64_t *numbers, size_t room, size_t *len) {
+    static uint64_t none;
+    if (!registry || !len || (!numbers && room)) return DIRGWAKO_NULL;
+    return dirgwako_c_read_kept(registry, number, numbers ? numbers : &none, room, len);
+}
+
+/* Exact totals, once all recorders are given back: each is exactly the sum of all that was counted. Nothing is scanned or kept. Takes no memory.
+   34; 18, the recorder of worker `missing` was not given back (that of a worker whose recorder was freed never is); 37. */
+static inline uint32_t dirgwako_settle(dirgwako_registry *registry, uint64_t *numbers, size_t room, size_t *len, size_t *missing) {
+    static uint64_t none;
+    if (!registry || !len || !missing || (!numbers && room)) return DIRGWAKO_NULL;
+    return dirgwako_c_settle(registry, numbers ? numbers : &none, room, len, missing);
+}
+
+/* The total of a counter among numbers that were read. 41, these are none; 16, they are of another registry; 11, there is no such slot. */
+static inline uint32_t dirgwako_counter_total(const uint64_t *numbers, size_t len, const dirgwako_counter *counter, uint64_t *total) {
+    return numbers && counter && total ? dirgwako_c_counter_total(numbers, len, counter, total) : (uint32_t)DIRGWAKO_NULL;
+}
+
+/* The value of a gauge among them. As dirgwako_counter_total. */
+static inline uint32_t dirgwako_gauge_value(const uint64_t *numbers, size_t len, const dirgwako_gauge *gauge, int64_t *value) {
+    return numbers && gauge && value ? dirgwako_c_gauge_value(numbers, len, gauge, value) : (uint32_t)DIRGWAKO_NULL;
+}
+
+/* The totals of a histogram among them. As dirgwako_counter_total. */
+static inline uint32_t dirgwako_histogram_totals(const uint64_t *numbers, size_t len, const dirgwako_histogram *histogram,
+                                                 dirgwako_totals *totals) {
+    return numbers && histogram && totals ? dirgwako_c_histogram_totals(numbers, len, histogram, totals) : (uint32_t)DIRGWAKO_NULL;
+}
+
+/* Fills an array with `count` bounds for a histogram: the first is `start`, and each other `width` above the one before. 10, they are no bounds. */
+static inline uint32_t dirgwako_linear(uint64_t start, uint64_t width, uint64_t *bounds, size_t count) {
+    static uint64_t none;
+    if (!bounds && count) return DIRGWAKO_NULL;
+    return dirgwako_c_linear(start, width, bounds ? bounds : &none, count);
+}
+
+/* The same, where each is `factor` times the one before. */
+static inline uint32_t dirgwako_exponential(uint64_t start, uint64_t factor, uint64_t *bounds, size_t count) {
+    static uint64_t none;
+    if (!bounds && count) return DIRGWAKO_NULL;
+    return dirgwako_c_exponential(start, factor, bounds ? bounds : &none, count);
+}
+
 /* The text of a scrape, all series at one moment, at the front of the buffer; `len` is how many bytes it has. No zero byte stands behind it.
    34; 14, four scans were given up, one after the other; 6, out of memory; 37, the buffer is too short, and `len` tells what this text needs. */
 static inline uint32_t dirgwako_scrape(dirgwako_registry *registry, char *buffer, size_t room, size_t *len) {
@@ -372,6 +455,19 @@ static inline uint32_t dirgwako_reply(dirgwako_registry *registry, const char *r
 /* Whether this is a metric's name, before there is a registry. 36; 1, 2, 3, it is none; 6, out of memory. */
 static inline uint32_t dirgwako_is_name(const char *name) {
     return name ? dirgwako_c_is_name((const uint8_t *)name, strlen(name)) : (uint32_t)DIRGWAKO_NULL;
+}
+
+/* What a refusal says, in a few words, with a zero byte behind them, at the front of the buffer, which is handed back; they are cut where it is too
+   short. Of a number that no refusal has, that there is none. */
+static inline const char *dirgwako_refusal(uint32_t number, char *buffer, size_t room) {
+    uint8_t words[128];
+    size_t len = 0;
+    if (!buffer || !room) return "";
+    if (dirgwako_c_refusal(number, words, sizeof words, &len) && dirgwako_c_refusal(DIRGWAKO_NO_SUCH, words, sizeof words, &len)) len = 0;
+    if (len >= room) len = room - 1;
+    memcpy(buffer, words, len);
+    buffer[len] = 0;
+    return buffer;
 }
 
 /* What the library was built for: its version is DIRGWAKO_ABI, if this header is its own. */

@@ -1,6 +1,9 @@
 pub mod Called
 pub mod HandleValues
+pub mod Handing
 pub mod Made
+pub mod Newest
 pub mod Reading
 pub mod Seating
+pub mod Settled
 pub mod Values

@@ -2,4 +2,6 @@ pub mod Held
 pub mod Recorders
 pub mod Registries
 pub mod Changes
+pub mod Numbers
+pub mod Settling
 pub mod About

@@ -188,6 +188,11 @@ module _ {A : Type 0} (answer : ℕ) (before after : RegistryView (SharedScanner
       ((¬ (IsUtf8 name) ⊎ ¬ (IsUtf8 help)) × (answer ≡ 36) × (after ≡ before) × (has ≡ had))
       ⊎ (IsNoList labels ⊎ (IsUtf8 name × IsUtf8 help × All IsUtf8 labels × MakesFamily id_of registry_of desc))
 
+  -- this was made, of no digits and in group 0; or digits or a group were asked for, which there are none of yet (42), and nothing has changed
+  abbrev pub MakesPlain : (digits group : ℕ) → (made : Type 0) → Type 0
+  MakesPlain digits group made = ((digits ≡ 0) × (group ≡ 0) × made)
+      ⊎ (((digits ≢ 0) ⊎ (group ≢ 0)) × (answer ≡ 42) × (after ≡ before) × (has ≡ had))
+
   -- A child of a family was asked for, by these label values: this was done, and the answer is 0, or the number of its refusal, and then what C
   -- has is as it was. No refusal's number is 0
   pub record GivesChild (handle_of : A → Handle) (registry : ℕ) (id : FamilyId) (values : List (List ℕ)) (kind : Kind) : Type 0 where

@@ -5,7 +5,7 @@ ghost use Rattle.dirgwako.specs.Texts.{texts_of};
 ghost use Rattle.metric_desc.specs.declared.kind.Kind.TheVariants as Kinds;
 ghost use Rattle.registry_state.specs.declared.handle.Handle.TheVariants as Handles;
 ghost use Rattle.dirgwako_c.specs.Held.{Calls};
-ghost use Rattle.dirgwako_c.specs.Registries.{registry_in, spare_in, MakesFamilyBy, GivesChildBy};
+ghost use Rattle.dirgwako_c.specs.Registries.{registry_in, spare_in, MakesFamilyBy, MakesPlain, GivesChildBy};
 
 use crate::held::SharedRegistry;
 use crate::registry_handle::RegistryHandle;
@@ -45,7 +45,7 @@ fn counter_family_in(
 
 /// A family of counters with labels.
 ///
-/// Answers 34, the handle is empty; 36, a text is not UTF-8; 1 to 5, 9, 7 of the texts; 19, 23, 6 as
+/// Answers 34, the handle is empty; 42, `digits` or `group` is not 0; 36, a text is not UTF-8; 1 to 5, 9, 7 of the texts; 19, 23, 6 as
 /// [`dirgwako::Registrar::counter_family`]. Nothing has changed then.
 #[unsafe(no_mangle)]
 pub extern "C" fn dirgwako_c_counter_family_new(
@@ -54,17 +54,24 @@ pub extern "C" fn dirgwako_c_counter_family_new(
     name: &[u8],
     help: &[u8],
     labels: &[&[u8]],
+    digits: usize,
+    group: usize,
     family: &mut CounterFamily,
 ) -> u32
     ensures { Calls (family.new ≡ family.old) (λ before after. (spare_in after ≡ spare_in before)
-        × MakesFamilyBy result (registry_in before) (registry_in after)
-        family.old family.new (λ family. family.id) (λ family. family.registry) name.now help.now (texts_of labels.now)
-        (family_of Kinds.Counter name.now help.now labels.now [])) result registry.old.value registry.new.value }
+        × MakesPlain result (registry_in before) (registry_in after) family.old family.new digits group
+        (MakesFamilyBy result (registry_in before) (registry_in after) family.old family.new (λ family. family.id)
+        (λ family. family.registry) name.now help.now (texts_of labels.now)
+        (family_of Kinds.Counter name.now help.now labels.now []))) result registry.old.value registry.new.value }
 {
     let Some(mut held) = registry.take(alloc) else {
         return 34;
     };
-    let answer = counter_family_in(alloc, &mut held.registrar, name, help, labels, family);
+    let answer = if digits != 0 || group != 0 {
+        42
+    } else {
+        counter_family_in(alloc, &mut held.registrar, name, help, labels, family)
+    };
     registry.put(alloc, held);
     answer
 }
@@ -150,7 +157,7 @@ fn gauge_family_in(
 
 /// A family of gauges with labels.
 ///
-/// Answers 34, the handle is empty; 36, a text is not UTF-8; 1 to 5, 9, 7 of the texts; 19, 23, 6 as
+/// Answers 34, the handle is empty; 42, `digits` or `group` is not 0; 36, a text is not UTF-8; 1 to 5, 9, 7 of the texts; 19, 23, 6 as
 /// [`dirgwako::Registrar::gauge_family`]. Nothing has changed then.
 #[unsafe(no_mangle)]
 pub extern "C" fn dirgwako_c_gauge_family_new(
@@ -159,17 +166,24 @@ pub extern "C" fn dirgwako_c_gauge_family_new(
     name: &[u8],
     help: &[u8],
     labels: &[&[u8]],
+    digits: usize,
+    group: usize,
     family: &mut GaugeFamily,
 ) -> u32
     ensures { Calls (family.new ≡ family.old) (λ before after. (spare_in after ≡ spare_in before)
-        × MakesFamilyBy result (registry_in before) (registry_in after)
-        family.old family.new (λ family. family.id) (λ family. family.registry) name.now help.now (texts_of labels.now)
-        (family_of Kinds.Gauge name.now help.now labels.now [])) result registry.old.value registry.new.value }
+        × MakesPlain result (registry_in before) (registry_in after) family.old family.new digits group
+        (MakesFamilyBy result (registry_in before) (registry_in after) family.old family.new (λ family. family.id)
+        (λ family. family.registry) name.now help.now (texts_of labels.now)
+        (family_of Kinds.Gauge name.now help.now labels.now []))) result registry.old.value registry.new.value }
 {
     let Some(mut held) = registry.take(alloc) else {
         return 34;
     };
-    let answer = gauge_family_in(alloc, &mut held.registrar, name, help, labels, family);
+    let answer = if digits != 0 || group != 0 {
+        42
+    } else {
+        gauge_family_in(alloc, &mut held.registrar, name, help, labels, family)
+    };
     registry.put(alloc, held);
     answer
 }
@@ -266,25 +280,32 @@ pub extern "C" fn dirgwako_c_histogram_family_new(
     help: &[u8],
     labels: &[&[u8]],
     bounds: &[u64],
+    digits: usize,
+    group: usize,
     family: &mut HistogramFamily,
 ) -> u32
     ensures { Calls (family.new ≡ family.old) (λ before after. (spare_in after ≡ spare_in before)
-        × MakesFamilyBy result (registry_in before) (registry_in after)
-        family.old family.new (λ family. family.id) (λ family. family.registry) name.now help.now (texts_of labels.now)
-        (family_of Kinds.Histogram name.now help.now labels.now bounds.now)) result registry.old.value registry.new.value }
+        × MakesPlain result (registry_in before) (registry_in after) family.old family.new digits group
+        (MakesFamilyBy result (registry_in before) (registry_in after) family.old family.new (λ family. family.id)
+        (λ family. family.registry) name.now help.now (texts_of labels.now)
+        (family_of Kinds.Histogram name.now help.now labels.now bounds.now))) result registry.old.value registry.new.value }
 {
     let Some(mut held) = registry.take(alloc) else {
         return 34;
     };
-    let answer = histogram_family_in(
-        alloc,
-        &mut held.registrar,
-        name,
-        help,
-        labels,
-        bounds,
-        family,
-    );
+    let answer = if digits != 0 || group != 0 {
+        42
+    } else {
+        histogram_family_in(
+            alloc,
+            &mut held.registrar,
+            name,
+            help,
+            labels,
+            bounds,
+            family,
+        )
+    };
     registry.put(alloc, held);
     answer
 }

@@ -14,3 +14,6 @@ pub const GAUGES: usize = 8;
 
 /// The most changes of one version that C publishes: each counter, one value of each histogram, and each gauge both ways.
 pub const MOST_CHANGES: usize = COUNTERS + HISTOGRAMS + 2 * GAUGES;
+
+/// How many numbers a moment has: the registry's id, how often each worker has published, and the words of a row.
+pub const NUMBERS: usize = 1 + WORKERS + COUNTERS + 27 * HISTOGRAMS + 2 * GAUGES;

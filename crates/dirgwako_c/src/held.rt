@@ -6,6 +6,7 @@ use crate::shared_scanner::SharedScanner;
 use crate::spare::Spare;
 use dirgwako::{Registrar, RegistryState};
 use ledger_core::Op;
+use snapshot_scan::Snapshot;
 
 /// What a recorder's handle holds.
 #[derive(Drop)]
@@ -32,4 +33,6 @@ pub struct HeldRegistry {
     pub registrar: Registrar<SharedRegistry>,
     /// The recorders that nobody has.
     pub spare: Spare,
+    /// Room for the numbers of a moment.
+    pub numbers: Snapshot<WORKERS, COUNTERS, HISTOGRAMS, GAUGES>,
 }

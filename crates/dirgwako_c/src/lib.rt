@@ -14,15 +14,20 @@ mod geometry;
 mod held;
 mod loose;
 mod metrics;
+mod numbers;
 mod opening;
 mod publishing;
+mod readings;
 mod recorder_handle;
+mod refusals;
 mod registry_handle;
 mod replying;
 mod scraping;
 mod sends;
+mod settling;
 mod shared_recorder;
 mod shared_scanner;
+mod spaced;
 mod spare;
 mod texts;
 mod windows;
@@ -39,10 +44,17 @@ pub use families::{
     dirgwako_c_gauge_of, dirgwako_c_histogram_family_new, dirgwako_c_histogram_of,
 };
 pub use metrics::{dirgwako_c_counter_new, dirgwako_c_gauge_new, dirgwako_c_histogram_new};
+pub use numbers::{
+    HistogramTotals, dirgwako_c_counter_total, dirgwako_c_gauge_value, dirgwako_c_histogram_totals,
+};
 pub use publishing::{dirgwako_c_place, dirgwako_c_publish};
+pub use readings::{dirgwako_c_kept, dirgwako_c_read, dirgwako_c_read_kept};
 pub use recorder_handle::RecorderHandle;
+pub use refusals::dirgwako_c_refusal;
 pub use registry_handle::RegistryHandle;
 pub use replying::dirgwako_c_reply;
 pub use scraping::dirgwako_c_scrape;
 pub use sends::{recorder_sent, registry_sent};
+pub use settling::dirgwako_c_settle;
+pub use spaced::{dirgwako_c_exponential, dirgwako_c_linear};
 pub use windows::dirgwako_c_set_window;

@@ -12,6 +12,7 @@ use crate::shared_scanner::SharedScanner;
 use crate::spare::Spare;
 use dirgwako::{Registrar, RegistryState};
 use register_rule::Board;
+use snapshot_scan::Snapshot;
 use snapshot_update::{Crew, Worker};
 use std::alloc::{AllocError, Global};
 use std::sync::Arc;
@@ -92,10 +93,15 @@ pub(crate) fn open(alloc: Global, id: u64, window: usize) -> Result<HeldRegistry
     let Ok(spare) = spare_of(alloc, &board, workers) else {
         return Err(6);
     };
-    match RegistryState::new(alloc, SharedScanner::new(theirs, reader), id, window) {
+    let scanner = SharedScanner::new(theirs, reader);
+    let Ok(numbers) = Snapshot::new(alloc) else {
+        return Err(6);
+    };
+    match RegistryState::new(alloc, scanner, id, window) {
         Ok(state) => Ok(HeldRegistry {
             registrar: Registrar::of(alloc, state),
             spare,
+            numbers,
         }),
         Err(_) => Err(6),
     }

@@ -1,13 +1,15 @@
 //! A share in a board and a worker of it: what a thread counts with.
-ghost use Rattle.std.specs.Prelude.{◌≡◌, map, IfOk, OnOk, OnErr, IfErr, All};
+ghost use Rattle.std.specs.Prelude.{◌≡◌, ℕ, ◌<◌, length, slice_index, map, IfOk, OnOk, OnErr, IfErr, All};
 ghost use Rattle.std.specs.Arc.{arc_value};
 ghost use Rattle.bucket_math.specs.Bounds.{place_of};
+ghost use Rattle.ledger_core.specs.Ops.{width, sum_ops};
 ghost use Rattle.ledger_core.specs.declared.op.Op.TheVariants.{Inc, Observe, Up, Down};
+ghost use Rattle.register_rule.specs.Sums.{word_after};
 ghost use Rattle.snapshot_update.specs.Updated.{IsUpdated};
 ghost use Rattle.snapshot_update.specs.Workers.{index_of, member_of, IsWorkerOf, IsApplyFault, IsCounted, IsCountFault};
 ghost use Rattle.std.proofs.Props.{props};
 
-use ledger_core::{Counter, Gauge, Histogram, Op};
+use ledger_core::{Counter, Gauge, Histogram, Op, Row};
 use register_rule::Board;
 use snapshot_update::{ApplyFault, CountFault, Worker};
 use std::sync::Arc;
@@ -49,6 +51,29 @@ impl<const N: usize, const C: usize, const H: usize, const G: usize> SharedRecor
         ensures { result ≡ id_in self.now }
     {
         self.board.id()
+    }
+
+    /// Which worker it is, from 0.
+    pub fn index(&self) -> usize
+        ensures index { result ≡ index_of (worker_in self.now) }
+        ensures inside { result < N }
+    {
+        self.worker.index()
+    }
+
+    /// How often the worker has published.
+    pub fn number(&self) -> u64
+        ensures { result ≡ length (member_of (worker_in self.now)).work.made }
+    {
+        self.worker.number()
+    }
+
+    /// The sum of all that it has published.
+    pub fn row(&self) -> &Row<C, H, G>
+        ensures { (k : ℕ) → k < width C H G
+            → slice_index result.now k ≡ word_after (sum_ops C H) (member_of (worker_in self.now)).work.made k }
+    {
+        self.worker.row()
     }
 
     /// Adds `by` to a counter: one version. [`Worker::inc`].

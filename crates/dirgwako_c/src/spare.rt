@@ -1,5 +1,7 @@
 //! The recorders of a board that nobody has.
 ghost use Rattle.std.specs.Prelude.{◌≡◌, ◌<◌, ◌≤◌, [], ◌∷◌, ◌++◌, length, vec_capacity, IfOk, IfErr, OnOk, OnErr, MatchOption};
+ghost use mathlib.Core.Option.{some};
+ghost use lib.ListN.{get_elem?};
 ghost use Rattle.dirgwako_c.specs.declared.geometry.TheConstants.{WORKERS};
 
 use crate::geometry::WORKERS;
@@ -12,6 +14,7 @@ use std::alloc::{AllocError, Global};
 pub struct Spare {
     recorders: Vec<Box<HeldRecorder>>,
     ghost room: { WORKERS ≤ vec_capacity recorders },
+    ghost few: { length recorders.items ≤ WORKERS },
 }
 
 impl Spare {
@@ -24,6 +27,22 @@ impl Spare {
         Ok(Spare {
             recorders: Vec::with_capacity(alloc, WORKERS)?,
         })
+    }
+
+    /// How many there are.
+    pub fn len(&self) -> usize
+        ensures count { result ≡ length (recorders_in self.now) }
+        ensures few { result ≤ WORKERS }
+    {
+        self.recorders.len()
+    }
+
+    /// The one at this place.
+    pub fn at(&self, place: usize) -> &HeldRecorder
+        requires { place < length (recorders_in self.now) }
+        ensures { get_elem? (recorders_in self.now) place ≡ some result.now }
+    {
+        &self.recorders[place]
     }
 
     /// Takes the last one.

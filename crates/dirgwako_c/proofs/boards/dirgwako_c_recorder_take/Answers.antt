@@ -1,7 +1,6 @@
 use Rattle.std.proofs.Common.{rules, ◌≡◌, ◌++◌, ◌∷◌, [], inl, refl, sym, ap, ◌∙◌}
 use Rattle.std.specs.Prelude.{Some}
 use Rattle.dirgwako_c.specs.Registries.{recorders_in}
-use Rattle.dirgwako_c.specs.declared.held.HeldRegistry.{HeldRegistry}
 use Rattle.dirgwako_c.proofs.Called.{called}
 use Rattle.dirgwako_c.proofs.boards.dirgwako_c_recorder_take.Goals as goal
 
@@ -10,6 +9,6 @@ returns-in-Some-taken c =
     let before = c.deref_mut.result.now in
     let gave : recorders_in before.spare ≡ recorders_in c.take-taken.new.self ++ c.in-Some-taken.made.value ∷ [] = search rules in
     called _ _ _ c.args.registry.now.value c.put.new.self.value before
-    (record { registrar = before.registrar; spare = c.take-taken.new.self })
+    (record before { spare = c.take-taken.new.self })
     (c.in-Some.ensures.taken ∙ ap Some (sym c.deref_mut.ensures.value)) c.put.ensures
     (refl, inl (refl, (c.in-Some-taken.made.value, c.put-in-Some-taken.ensures, gave)))

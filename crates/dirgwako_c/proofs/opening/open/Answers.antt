@@ -12,14 +12,14 @@ use Rattle.dirgwako_c.specs.declared.held.HeldRecorder.{HeldRecorder}
 use Rattle.dirgwako_c.specs.declared.shared_scanner.SharedScanner.{SharedScanner}
 use Rattle.dirgwako_c.proofs.opening.open.Goals as goal
 
-pub returns-in-Ok-new-2-clause-new : goal.returns-in-Ok-new-2-clause-new
-returns-in-Ok-new-2-clause-new c =
+pub returns-in-Ok-new-3-clause-new : goal.returns-in-Ok-new-3-clause-new
+returns-in-Ok-new-3-clause-new c =
     let V : Type 0 = RegistryView (SharedScanner WORKERS COUNTERS HISTOGRAMS GAUGES) in
-    let is = c.of.ensures ∙ c.in-Ok-new-2.ensures.made in
+    let is = c.of.ensures ∙ c.in-Ok-new-3.ensures.made in
     let spare = c.in-Ok-spare_of.spare in
     let worker_of = λ (r : HeldRecorder). worker_in (recorder_in r) in
     let same = ap (λ (r : V). arc_value r.source.board) is
-    ∙ (c.new-4.ensures.board ∙ (c.in-Ok-try_clone.ensures ∙ c.in-Ok-new.ensures.ok)) in
+    ∙ (c.new-scanner.ensures.board ∙ (c.in-Ok-try_clone.ensures ∙ c.in-Ok-new.ensures.ok)) in
     record {
       id_is = ap (λ (r : V). r.id) is;
       window_is = ap (λ (r : V). r.window) is;

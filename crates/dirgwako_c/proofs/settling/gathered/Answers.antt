@@ -1,0 +1,31 @@
+use Rattle.std.proofs.Common.{rules, ◌≡◌, ℕ, zero, suc, ◌<◌, Bool, true, false, length, replicate, sym, refl, ap, ◌∙◌, arith}
+use Rattle.std.specs.Prelude.{IsTrue}
+use mathlib.Core.Logic.{dite}
+use native.Mathlib.Decide.{ℕ_discrete}
+use mathlib.Core.Option.{some}
+use lib.ListN.{get_elem?, length-replicate}
+use Rattle.register_rule.proofs.Words.{there}
+use Rattle.dirgwako_c.specs.declared.geometry.TheConstants.{WORKERS}
+use Rattle.dirgwako_c.proofs.settling.gathered.Goals as goal
+
+pub returns-then-not-marks-worker-clause-apart : goal.returns-then-not-marks-worker-clause-apart
+returns-then-not-marks-worker-clause-apart c =
+    let i : ℕ = c.loop-worker.worker in let marks = c.mark.new.marks in let lt = c.loop-worker-test.true in
+    let all : length marks ≡ WORKERS = c.mark.auto.marks in
+    record {
+      inside = lt;
+      none = (c.if-not-mark.ensures.marks refl i lt).1 (there marks i false (omega (arith, lt, all)) ∙ ap some c.if-not-marks-worker.true);
+      least = λ j below. (c.if-not-mark.ensures.marks refl j (omega (arith, below, lt))).0 (c.loop-worker.invariant j below);
+    }
+
+pub loop-worker-preserved : goal.loop-worker-preserved
+loop-worker-preserved c = λ j below.
+    let i : ℕ = c.loop-worker.worker in let marks = c.mark.new.marks in let lt = c.loop-worker-test.true in
+    let all : length marks ≡ WORKERS = c.mark.auto.marks in
+    dite (ℕ_discrete j i)
+    (λ last. ap (get_elem? marks) last ∙ (there marks i false (omega (arith, lt, all)) ∙ ap some c.if-not-marks-worker.false))
+    (λ other. c.loop-worker.invariant j (omega (arith, below, other)))
+
+pub returns-clause-all : goal.returns-clause-all
+returns-clause-all c = λ i lt. (c.if-not-mark.ensures.marks refl i lt).0
+    (c.loop-worker.invariant i (let f = c.loop-worker-test.false in omega (arith, lt, f)))

@@ -1,0 +1,92 @@
+-- The numbers of a moment as C has them, what handles find in them, and what the calls that read them come to.
+use Rattle.std.specs.Prelude.{◌≡◌, ◌≢◌, ◌⊎◌, ℕ, ◌+◌, ◌*◌, ◌<◌, ◌≤◌, ◌-ℤ◌, ℤ, pos, List, ◌∷◌, ◌++◌, length, take, drop, slice_index, slice_get, Option, Some, None, Result, Ok, Err}
+use Rattle.expo_text.specs.Scraped.{Scraped}
+use Rattle.ledger_core.specs.declared.handles.Counter.{Counter}
+use Rattle.ledger_core.specs.declared.handles.Gauge.{Gauge}
+use Rattle.ledger_core.specs.declared.handles.Histogram.{Histogram}
+use Rattle.register_rule.specs.declared.view.Answer.{Answer}
+use Rattle.registry_state.specs.Journal.{scrapes}
+use Rattle.registry_state.specs.Kept.{RegistryView}
+use Rattle.scrape_http.specs.declared.source.NoScrape.{NoScrape}
+use Rattle.scrape_http.specs.declared.source.NoScrape.TheVariants.{NoMemory, Contended}
+use Rattle.scrape_server.specs.Again.{AsksAgain}
+use Rattle.dirgwako_c.specs.Registries.{ScrapesBy, IsHandedOver, registry_in, spare_in}
+use Rattle.dirgwako_c.specs.declared.geometry.TheConstants.{WORKERS, COUNTERS, HISTOGRAMS, GAUGES, NUMBERS}
+use Rattle.dirgwako_c.specs.declared.held.HeldRegistry.{HeldRegistry}
+use Rattle.dirgwako_c.specs.declared.numbers.HistogramTotals.{HistogramTotals}
+use Rattle.dirgwako_c.specs.declared.shared_scanner.SharedScanner.{SharedScanner}
+
+-- the numbers of a moment: the id of the registry, how often each worker had published, and the totals of all words of a row
+abbrev pub numbers_of : (id : ℕ) → Answer → List ℕ
+numbers_of id moment = id ∷ (moment.vector ++ moment.totals)
+
+-- the totals among them
+abbrev pub totals_in : List ℕ → List ℕ
+totals_in numbers = drop (1 + WORKERS) numbers
+
+-- why they tell nothing of a handle: there are not as many as a moment has (41), they are of another registry (16), or there is no such slot (11)
+abbrev pub TellsNothing : (numbers : List ℕ) (registry slot slots answer : ℕ) → Type 0
+TellsNothing numbers registry slot slots answer = ((answer ≡ 41) × (length numbers ≢ NUMBERS))
+    ⊎ (((answer ≡ 16) × (slice_index numbers 0 ≢ registry)) ⊎ ((answer ≡ 11) × (slots ≤ slot)))
+
+-- the total of a counter was told, or nothing
+abbrev pub TellsCounter : (numbers : List ℕ) → Counter → (answer had has : ℕ) → Type 0
+TellsCounter numbers counter answer had has = ((answer ≡ 0) × (slice_index numbers 0 ≡ counter.registry) × (counter.slot < COUNTERS)
+    × (has ≡ slice_index (totals_in numbers) counter.slot))
+    ⊎ (TellsNothing numbers counter.registry counter.slot COUNTERS answer × (has ≡ had))
+
+-- the place of a gauge's ups among the totals; its downs stand behind them
+abbrev pub place_of_gauge : (slot : ℕ) → ℕ
+place_of_gauge slot = COUNTERS + 27 * HISTOGRAMS + 2 * slot
+
+-- the value of a gauge was told, its ups less its downs; or nothing, also where one of them is no total (41)
+abbrev pub TellsGauge : (numbers : List ℕ) → Gauge → (answer : ℕ) → (had has : ℤ) → Type 0
+TellsGauge numbers gauge answer had has = ((answer ≡ 0) × (slice_index numbers 0 ≡ gauge.registry) × (gauge.slot < GAUGES)
+    × (has ≡ pos (slice_index (totals_in numbers) (place_of_gauge gauge.slot))
+    -ℤ pos (slice_index (totals_in numbers) (place_of_gauge gauge.slot + 1))))
+    ⊎ ((TellsNothing numbers gauge.registry gauge.slot GAUGES answer
+    ⊎ ((answer ≡ 41) × ((9007199254740992 ≤ slice_index (totals_in numbers) (place_of_gauge gauge.slot))
+    ⊎ (9007199254740992 ≤ slice_index (totals_in numbers) (place_of_gauge gauge.slot + 1))))) × (has ≡ had))
+
+-- the place of a histogram's buckets among the totals; its sum and its count stand behind them
+abbrev pub place_of_histogram : (slot : ℕ) → ℕ
+place_of_histogram slot = COUNTERS + 27 * slot
+
+-- the totals of a histogram were told, or nothing
+abbrev pub TellsHistogram : (numbers : List ℕ) → Histogram → (answer : ℕ) → (had has : HistogramTotals) → Type 0
+TellsHistogram numbers histogram answer had has = ((answer ≡ 0) × (slice_index numbers 0 ≡ histogram.registry) × (histogram.slot < HISTOGRAMS)
+    × (has.buckets ≡ take 25 (drop (place_of_histogram histogram.slot) (totals_in numbers)))
+    × (has.sum ≡ slice_index (totals_in numbers) (place_of_histogram histogram.slot + 25))
+    × (has.count ≡ slice_index (totals_in numbers) (place_of_histogram histogram.slot + 26)))
+    ⊎ (TellsNothing numbers histogram.registry histogram.slot HISTOGRAMS answer × (has ≡ had))
+
+-- the number of each reason why there is no scrape
+abbrev pub no_scrape_number : NoScrape → ℕ
+no_scrape_number NoMemory = 6
+no_scrape_number Contended = 14
+
+module _ (before after : RegistryView (SharedScanner WORKERS COUNTERS HISTOGRAMS GAUGES)) where
+  -- a scrape was made, asked for up to three times more where a scan was given up; or there is none, for this reason
+  abbrev pub AsksScrape : Result (Unit {0}) NoScrape → Type 0
+  AsksScrape (Ok done) = (scrape : Scraped) × AsksAgain ScrapesBy 3 before after (Ok scrape)
+  AsksScrape (Err why) = AsksAgain ScrapesBy 3 before after (Err why)
+
+  -- the numbers of the newest scrape that is kept were handed over; or there is none, and the buffer and the length are as they were
+  abbrev pub ReadsNewest : (answer : ℕ) → (had has : List ℕ) → (had_len has_len : ℕ) → Result (Unit {0}) NoScrape → Type 0
+  ReadsNewest answer had has had_len has_len (Ok done) = (moment : Answer) × (after.state.last ≡ Some moment)
+      × IsHandedOver (numbers_of after.id moment) answer had has has_len
+  ReadsNewest answer had has had_len has_len (Err why) = (answer ≡ no_scrape_number why) × (has ≡ had) × (has_len ≡ had_len)
+
+  -- a scrape was made, which is the newest that is kept, and its numbers were handed over; or there is none
+  pub record Reads (answer : ℕ) (had has : List ℕ) (had_len has_len : ℕ) : Type 0 where
+    pub made : Result (Unit {0}) NoScrape
+    pub asks : AsksScrape made
+    pub reads : ReadsNewest answer had has had_len has_len made
+
+-- what is held is as it was, and the numbers of the kept scrape of this number were handed over; or there is none (40), and the buffer and the
+-- length are as they were
+abbrev pub ReadsKept : (number answer : ℕ) → (before after : HeldRegistry) → (had has : List ℕ) → (had_len has_len : ℕ) → Type 0
+ReadsKept number answer before after had has had_len has_len = (registry_in after ≡ registry_in before) × (spare_in after ≡ spare_in before)
+    × (((length (scrapes (registry_in before).journal) ≤ number) × (answer ≡ 40) × (has ≡ had) × (has_len ≡ had_len))
+    ⊎ ((moment : Answer) × (slice_get (scrapes (registry_in before).journal) number ≡ Some moment)
+    × IsHandedOver (numbers_of (registry_in before).id moment) answer had has has_len))
