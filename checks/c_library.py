@@ -1,5 +1,5 @@
-"""The library for C: it is built and installed by two commands, its header and the archive name the same functions, and its tests and its first
-program are compiled without a warning, and run."""
+"""The library for C: it is built and installed by two commands, and by both compilers; its header and the archives name the same functions, and its
+tests and its first program are compiled without a warning, and run."""
 import pathlib
 import re
 import shutil
@@ -10,6 +10,7 @@ from started import Skipped, check, run
 
 HERE = ROOT / "bindings/c"
 STRICT = ("-Wall", "-Wextra", "-Werror", "-pedantic", "-O2")
+LIBRARIES = ("dirgwako", "dirgwako16", "dirgwako32")
 HELLO = "# HELP visits_total Visits so far.\n# TYPE visits_total counter\nvisits_total 3\n"
 
 
@@ -21,20 +22,29 @@ def done(*words, seconds=120):
 
 
 def names(prefix):
-    """The functions that the header declares for other languages are those that the archive defines."""
+    """The functions that the header declares for other languages are those that each archive defines."""
     declared = set(re.findall(r"^(?:uint32_t|size_t) (dirgwako_c_\w+)\(", (prefix / "include/dirgwako.h").read_text(), re.M))
-    defined = set(re.findall(r" T (dirgwako_c_\w+)", done("nm", "-g", prefix / "lib/libdirgwako.a")))
-    check(declared and declared == defined, f"the header declares {sorted(declared)}, the archive has {sorted(defined)}")
-    return len(declared)
+    for library in LIBRARIES:
+        defined = set(re.findall(r" T (dirgwako_c_\w+)", done("nm", "-g", prefix / f"lib/lib{library}.a")))
+        check(declared and declared == defined, f"the header declares {sorted(declared)}, {library} has {sorted(defined)}")
+    return len(declared) * len(LIBRARIES)
 
 
-def flags(prefix):
-    """What a compiler is told to find the library, by pkg-config where the machine has it."""
+def refusals(prefix):
+    """The last number that the header names, up to which each has its words (test_numbers.c), is the last of docs/REFUSALS.md."""
+    numbers = [int(it) for it in re.findall(r"^\| (\d+) \|", (ROOT / "docs/REFUSALS.md").read_text(), re.M)]
+    named = [int(it) for it in re.findall(r"^    DIRGWAKO_\w+ = (\d+),?$", (prefix / "include/dirgwako.h").read_text(), re.M)]
+    check(numbers == list(range(1, max(named) + 1)), f"the header names {named}, docs/REFUSALS.md {numbers}")
+    return 1
+
+
+def flags(prefix, library="dirgwako"):
+    """What a compiler is told to find a library, by pkg-config where the machine has it."""
     if not shutil.which("pkg-config"):
-        print("c library: no pkg-config on this machine: its file is not tried", flush=True)
-        return [f"-I{prefix}/include", f"-L{prefix}/lib", "-ldirgwako"]
+        print("c library: no pkg-config on this machine: its files are not tried", flush=True)
+        return [f"-I{prefix}/include", f"-L{prefix}/lib", f"-l{library}"]
     path = f"PKG_CONFIG_PATH={prefix}/lib/pkgconfig"
-    return done("env", path, "pkg-config", "--cflags", "--libs", "dirgwako").split()
+    return done("env", path, "pkg-config", "--cflags", "--libs", library).split()
 
 
 def hello(prefix, room):
@@ -60,14 +70,34 @@ def languages(prefix, room):
     return count
 
 
-def tests(prefix, room, *more):
-    """The tests, with the archive; returns how many passed."""
-    program = room / "test"
-    done("cc", "-std=c99", "-D_POSIX_C_SOURCE=200809L", *STRICT, *more, HERE / "test.c", f"-I{prefix}/include", prefix / "lib/libdirgwako.a",
-         "-lpthread", "-o", program)
-    told = re.fullmatch(r"(\d+) passed, 0 failed\n", done(program, seconds=300))
-    check(told, "test.c passes")
+def passes(program, *words, seconds=300):
+    """How many tests a program tells that passed, where none failed."""
+    told = re.fullmatch(r"(\d+) passed, 0 failed\n", done(*words, program, seconds=seconds))
+    check(told, f"{program.name} passes")
     return int(told[1])
+
+
+def tests(prefix, room, *more, library="dirgwako"):
+    """The tests, with an archive; returns how many passed."""
+    sources = [HERE / f"test{it}.c" for it in ("", "_numbers", "_shared")]
+    done("cc", "-std=c99", "-D_POSIX_C_SOURCE=200809L", *STRICT, *more, *sources, f"-I{prefix}/include", prefix / f"lib/lib{library}.a",
+         "-lpthread", "-o", room / "test")
+    return passes(room / "test")
+
+
+def shared(prefix, room):
+    """The tests with the shared library of most threads, which pkg-config finds."""
+    sources = [HERE / f"test{it}.c" for it in ("", "_numbers", "_shared")]
+    done("cc", "-std=c99", "-D_POSIX_C_SOURCE=200809L", *STRICT, *sources, "-o", room / "test_shared", *flags(prefix, "dirgwako32"), "-lpthread")
+    return passes(room / "test_shared", "env", f"LD_LIBRARY_PATH={prefix}/lib")
+
+
+def memory(prefix, room):
+    """Each allocation of each call refused in turn."""
+    wraps = "-Wl,--wrap=malloc,--wrap=realloc,--wrap=free"
+    done("cc", "-std=c99", "-D_POSIX_C_SOURCE=200809L", *STRICT, wraps, HERE / "test_memory.c", HERE / "test_shared.c", f"-I{prefix}/include",
+         prefix / "lib/libdirgwako.a", "-o", room / "test_memory")
+    return passes(room / "test_memory")
 
 
 def sanitized(prefix, room):
@@ -86,7 +116,11 @@ def check_all():
         raise Skipped("there is no cc")
     with tempfile.TemporaryDirectory() as made:
         room = pathlib.Path(made)
-        prefix = room / "installed"
+        prefix, other = room / "installed", room / "by rattle"
         done(HERE / "build.sh", "--proved", seconds=3600)
         done(HERE / "build.sh", "install", prefix)
-        return names(prefix) + hello(prefix, room) + languages(prefix, room) + tests(prefix, room) + sanitized(prefix, room)
+        count = names(prefix) + refusals(prefix) + hello(prefix, room) + languages(prefix, room) + tests(prefix, room)
+        count += shared(prefix, room) + memory(prefix, room) + sanitized(prefix, room)
+        done(HERE / "build.sh", "--proved", "--compiler", "4", "64", "8", "8", seconds=3600)
+        done(HERE / "build.sh", "install", other)
+        return count + tests(other, room)

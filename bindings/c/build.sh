@@ -63,7 +63,7 @@ library() {
     done
     # (each word is one: no path here has a blank)
     "$kit/bin/rattle" build --crate-name dirgwako_c src/lib.rt $words --antt-project "$kit/rattle/logic/antt-project.json" \
-        --logic-built "$kit/logic_built" --jobs 2 --links dirgwako_c= --crate-type staticlib --toolchain "$kit/toolchain" \
+        --logic-built "$kit/logic_built" --jobs "$(getconf _NPROCESSORS_ONLN)" --links dirgwako_c= --crate-type staticlib --toolchain "$kit/toolchain" \
         --backend "${compiler:-llvm}" -o archive.a
 }
 

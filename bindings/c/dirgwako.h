@@ -119,13 +119,11 @@ typedef struct dirgwako_totals {
     uint64_t count;
 } dirgwako_totals;
 
-/* What a library was built for: the version of this interface, threads that count, counters, histograms and gauges. */
+/* What a library was built for: the version of this interface; threads that count, counters, histograms and gauges; how many numbers a moment has, and
+   the most changes of one version; and the bytes of each plain struct, a family of each kind being alike. */
 typedef struct dirgwako_abi {
-    size_t version;
-    size_t workers;
-    size_t counters;
-    size_t histograms;
-    size_t gauges;
+    size_t version, workers, counters, histograms, gauges, numbers, changes;
+    size_t counter_bytes, gauge_bytes, histogram_bytes, family_bytes, change_bytes, totals_bytes;
 } dirgwako_abi;
 
 /* The bytes of a text. */

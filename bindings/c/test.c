@@ -1,43 +1,11 @@
 /* The tests of the C interface: each function once on its happy path, each refusal once by its number, handles that are freed twice or used after
    they were freed, and four threads that count while the main thread scrapes. Ends in `N passed, 0 failed`. */
-#include "dirgwako.h"
+#include "test.h"
 #include <pthread.h>
 #include <stdio.h>
 #include <stdlib.h>
 
 enum { THREADS = 4, ROUNDS = 200000 };
-
-static unsigned passed, failed;
-
-/* Whether what was answered is what was wanted. */
-static void is(const char *what, long long got, long long want) {
-    if (got == want) {
-        passed++;
-        return;
-    }
-    failed++;
-    fprintf(stderr, "%s: %lld, not %lld\n", what, got, want);
-}
-
-/* The number of a series of a text, or -1 where there is none. */
-static long long number(const char *text, size_t len, const char *series) {
-    size_t n = strlen(series);
-    const char *end = text + len;
-    for (const char *line = text; line < end;) {
-        const char *next = memchr(line, '\n', (size_t)(end - line));
-        if (!next) next = end;
-        if ((size_t)(next - line) > n && !memcmp(line, series, n) && line[n] == ' ') return atoll(line + n + 1);
-        line = next + 1;
-    }
-    return -1;
-}
-
-static char text[1 << 17];
-
-static long long scraped(dirgwako_registry *registry, const char *series) {
-    size_t len = 0;
-    return dirgwako_scrape(registry, text, sizeof text, &len) ? -2 : number(text, len, series);
-}
 
 /* Null pointers are refused, each by 38. */
 static void nulls(void) {
@@ -65,6 +33,15 @@ static void nulls(void) {
     is("down", dirgwako_down(&recorder, NULL, 1), DIRGWAKO_NULL);
     is("publish", dirgwako_publish(&recorder, NULL, 1), DIRGWAKO_NULL);
     is("window", dirgwako_set_window(&registry, 1, NULL), DIRGWAKO_NULL);
+    is("kept", dirgwako_kept(&registry, NULL), DIRGWAKO_NULL);
+    is("read", dirgwako_read(&registry, NULL, 1, &len), DIRGWAKO_NULL);
+    is("read kept", dirgwako_read_kept(&registry, 0, NULL, 1, &len), DIRGWAKO_NULL);
+    is("settle", dirgwako_settle(&registry, NULL, 0, &len, NULL), DIRGWAKO_NULL);
+    is("total", dirgwako_counter_total(NULL, 0, &counter, NULL), DIRGWAKO_NULL);
+    is("value", dirgwako_gauge_value(NULL, 0, &gauge, NULL), DIRGWAKO_NULL);
+    is("totals", dirgwako_histogram_totals(NULL, 0, &histogram, NULL), DIRGWAKO_NULL);
+    is("linear", dirgwako_linear(1, 1, NULL, 1), DIRGWAKO_NULL);
+    is("exponential", dirgwako_exponential(1, 2, NULL, 1), DIRGWAKO_NULL);
     is("name", dirgwako_is_name(NULL), DIRGWAKO_NULL);
     is("built for", dirgwako_built_for(NULL), DIRGWAKO_NULL);
     is("reply", dirgwako_reply(&registry, NULL, 1, text, sizeof text, &len), DIRGWAKO_NULL);
@@ -105,6 +82,10 @@ static void empties(void) {
     is("window", dirgwako_set_window(&registry, 1, &len), DIRGWAKO_EMPTY);
     is("reply", dirgwako_reply(&registry, "GET", 3, text, sizeof text, &len), DIRGWAKO_EMPTY);
     is("scrape", dirgwako_scrape(&registry, text, sizeof text, &len), DIRGWAKO_EMPTY);
+    is("kept", dirgwako_kept(&registry, &len), DIRGWAKO_EMPTY);
+    is("read", dirgwako_read(&registry, NULL, 0, &len), DIRGWAKO_EMPTY);
+    is("read kept", dirgwako_read_kept(&registry, 0, NULL, 0, &len), DIRGWAKO_EMPTY);
+    is("settle", dirgwako_settle(&registry, NULL, 0, &len, &len), DIRGWAKO_EMPTY);
     is("the length is as it was", (long long)len, 7);
 }
 
@@ -319,6 +300,17 @@ static void asked(void) {
     is("the version", (long long)abi.version, DIRGWAKO_ABI);
     is("workers", abi.workers >= 1 && abi.workers <= 32, 1);
     is("slots", abi.counters <= 256 && abi.histograms <= 32 && abi.gauges <= 64, 1);
+    is("changes", (long long)abi.changes, (long long)(abi.counters + abi.histograms + 2 * abi.gauges));
+    is("numbers", (long long)abi.numbers, (long long)(1 + abi.workers + abi.counters + 27 * abi.histograms + 2 * abi.gauges));
+    is("most numbers", abi.numbers <= DIRGWAKO_MOST_NUMBERS, 1);
+    is("a counter's bytes", (long long)abi.counter_bytes, sizeof(dirgwako_counter));
+    is("a gauge's bytes", (long long)abi.gauge_bytes, sizeof(dirgwako_gauge));
+    is("a histogram's bytes", (long long)abi.histogram_bytes, sizeof(dirgwako_histogram));
+    is("a family's bytes", (long long)abi.family_bytes, sizeof(dirgwako_counter_family));
+    is("a family's bytes", (long long)abi.family_bytes, sizeof(dirgwako_gauge_family));
+    is("a family's bytes", (long long)abi.family_bytes, sizeof(dirgwako_histogram_family));
+    is("a change's bytes", (long long)abi.change_bytes, sizeof(dirgwako_change));
+    is("totals' bytes", (long long)abi.totals_bytes, sizeof(dirgwako_totals));
 }
 
 struct thread {
@@ -401,7 +393,7 @@ int main(void) {
     lists();
     replies();
     asked();
+    numbers();
     threads();
-    printf("%u passed, %u failed\n", passed, failed);
-    return failed != 0;
+    return told();
 }

@@ -1,6 +1,6 @@
 -- What a registry has done, as C is answered.
 use Rattle.std.proofs.Common.{◌≡◌, ℕ, List, All, refl, inr, subst}
-use Rattle.std.specs.Prelude.{Result, Ok, Err, IsUtf8}
+use Rattle.std.specs.Prelude.{Ok, Err, IsUtf8}
 use Rattle.dirgwako.specs.Refused.{family_refusal_number, child_refusal_number, metric_refusal_number}
 use Rattle.dirgwako.specs.declared.fault.ChildRefusal.{ChildRefusal}
 use Rattle.dirgwako.specs.declared.fault.FamilyRefusal.{FamilyRefusal}

@@ -1,5 +1,5 @@
 -- The numbers of a moment as C has them, what handles find in them, and what the calls that read them come to.
-use Rattle.std.specs.Prelude.{◌≡◌, ◌≢◌, ◌⊎◌, ℕ, ◌+◌, ◌*◌, ◌<◌, ◌≤◌, ◌-ℤ◌, ℤ, pos, List, ◌∷◌, ◌++◌, length, take, drop, slice_index, slice_get, Option, Some, None, Result, Ok, Err}
+use Rattle.std.specs.Prelude.{◌≡◌, ◌≢◌, ◌⊎◌, ℕ, ◌+◌, ◌*◌, ◌<◌, ◌≤◌, ◌-ℤ◌, ℤ, pos, List, ◌∷◌, ◌++◌, length, take, drop, slice_index, slice_get, Some, Result, Ok, Err}
 use Rattle.expo_text.specs.Scraped.{Scraped}
 use Rattle.ledger_core.specs.declared.handles.Counter.{Counter}
 use Rattle.ledger_core.specs.declared.handles.Gauge.{Gauge}
@@ -29,9 +29,13 @@ abbrev pub TellsNothing : (numbers : List ℕ) (registry slot slots answer : ℕ
 TellsNothing numbers registry slot slots answer = ((answer ≡ 41) × (length numbers ≢ NUMBERS))
     ⊎ (((answer ≡ 16) × (slice_index numbers 0 ≢ registry)) ⊎ ((answer ≡ 11) × (slots ≤ slot)))
 
+-- they are the numbers of a moment of this registry, and there is such a slot
+abbrev pub HaveSlot : (numbers : List ℕ) (registry slot slots : ℕ) → Type 0
+HaveSlot numbers registry slot slots = (length numbers ≡ NUMBERS) × (slice_index numbers 0 ≡ registry) × (slot < slots)
+
 -- the total of a counter was told, or nothing
 abbrev pub TellsCounter : (numbers : List ℕ) → Counter → (answer had has : ℕ) → Type 0
-TellsCounter numbers counter answer had has = ((answer ≡ 0) × (slice_index numbers 0 ≡ counter.registry) × (counter.slot < COUNTERS)
+TellsCounter numbers counter answer had has = ((answer ≡ 0) × HaveSlot numbers counter.registry counter.slot COUNTERS
     × (has ≡ slice_index (totals_in numbers) counter.slot))
     ⊎ (TellsNothing numbers counter.registry counter.slot COUNTERS answer × (has ≡ had))
 
@@ -41,7 +45,7 @@ place_of_gauge slot = COUNTERS + 27 * HISTOGRAMS + 2 * slot
 
 -- the value of a gauge was told, its ups less its downs; or nothing, also where one of them is no total (41)
 abbrev pub TellsGauge : (numbers : List ℕ) → Gauge → (answer : ℕ) → (had has : ℤ) → Type 0
-TellsGauge numbers gauge answer had has = ((answer ≡ 0) × (slice_index numbers 0 ≡ gauge.registry) × (gauge.slot < GAUGES)
+TellsGauge numbers gauge answer had has = ((answer ≡ 0) × HaveSlot numbers gauge.registry gauge.slot GAUGES
     × (has ≡ pos (slice_index (totals_in numbers) (place_of_gauge gauge.slot))
     -ℤ pos (slice_index (totals_in numbers) (place_of_gauge gauge.slot + 1))))
     ⊎ ((TellsNothing numbers gauge.registry gauge.slot GAUGES answer
@@ -54,7 +58,7 @@ place_of_histogram slot = COUNTERS + 27 * slot
 
 -- the totals of a histogram were told, or nothing
 abbrev pub TellsHistogram : (numbers : List ℕ) → Histogram → (answer : ℕ) → (had has : HistogramTotals) → Type 0
-TellsHistogram numbers histogram answer had has = ((answer ≡ 0) × (slice_index numbers 0 ≡ histogram.registry) × (histogram.slot < HISTOGRAMS)
+TellsHistogram numbers histogram answer had has = ((answer ≡ 0) × HaveSlot numbers histogram.registry histogram.slot HISTOGRAMS
     × (has.buckets ≡ take 25 (drop (place_of_histogram histogram.slot) (totals_in numbers)))
     × (has.sum ≡ slice_index (totals_in numbers) (place_of_histogram histogram.slot + 25))
     × (has.count ≡ slice_index (totals_in numbers) (place_of_histogram histogram.slot + 26)))

@@ -207,21 +207,18 @@ module _ {A : Type 0} (answer : ℕ) (before after : RegistryView (SharedScanner
   GivesChildBy handle_of registry id values kind = IsNoList values
       ⊎ (All IsUtf8 values × GivesChild handle_of registry id values kind)
 
-module _ (answer : ℕ) (before after : HeldRegistry) (had has : List ℕ)
-    (had_len has_len : ℕ) where
-  -- The buffer begins with the text of a scrape that the registry gave, which has so many bytes; or it is too short for it (37), and the
-  -- length tells what it needs; or there is no scrape or no memory for its text, and both are as they were
-  abbrev pub PrintsTo : Type 0
-  PrintsTo = ((answer ≡ 0) × IsText scrapes_by before after (take has_len has) × (has_len ≤ length has))
-      ⊎ (((answer ≡ 37) × ((bytes : List ℕ) × IsText scrapes_by before after bytes × (has_len ≡ length bytes)
-      × (length had < length bytes)) × (has ≡ had))
-      ⊎ ((fault : TextFault) × (answer ≡ text_fault_number fault) × IsTextFault scrapes_by before after fault × (has ≡ had)
-      × (has_len ≡ had_len)))
-
 -- The buffer begins with these bytes, and so many they are; or it is too short for them (37), and is as it was
 abbrev pub IsHandedOver : (bytes : List ℕ) → (answer : ℕ) → (had has : List ℕ) → (has_len : ℕ) → Type 0
 IsHandedOver bytes answer had has has_len = (has_len ≡ length bytes)
     × (((answer ≡ 0) × (take has_len has ≡ bytes)) ⊎ ((answer ≡ 37) × (length had < length bytes) × (has ≡ had)))
+
+module _ (answer : ℕ) (before after : HeldRegistry) (had has : List ℕ) (had_len has_len : ℕ) where
+  -- the text of a scrape that the registry gave was handed over; or there is no scrape or no memory for its text, and the buffer and the length
+  -- are as they were
+  abbrev pub PrintsTo : Type 0
+  PrintsTo = ((bytes : List ℕ) × IsText scrapes_by before after bytes × IsHandedOver bytes answer had has has_len)
+      ⊎ ((fault : TextFault) × (answer ≡ text_fault_number fault) × IsTextFault scrapes_by before after fault × (has ≡ had)
+      × (has_len ≡ had_len))
 
 -- what became of a reply that was written whole, or why there is none: then the buffer and the length are as they were
 abbrev pub IsReplied : (bytes : List ℕ) → (answer : ℕ) → (had has : List ℕ) → (had_len has_len : ℕ) → Result Served WireFault → Type 0

@@ -2,13 +2,36 @@
 ghost use Rattle.std.specs.Prelude.{◌≡◌, ◌⊎◌, IsUtf8};
 ghost use Rattle.dirgwako_c.specs.About.{IsNameAnswer};
 
-use crate::geometry::{COUNTERS, GAUGES, HISTOGRAMS, WORKERS};
+use crate::change::Change;
+use crate::geometry::{COUNTERS, GAUGES, HISTOGRAMS, MOST_CHANGES, NUMBERS, WORKERS};
+use crate::numbers::HistogramTotals;
 use crate::texts::text;
+use dirgwako::CounterFamily;
+use ledger_core::{Counter, Gauge, Histogram};
 use metric_names::MetricName;
 use std::alloc::Global;
+use std::mem::size_of;
 
 /// The version of the interface for C.
 pub const ABI: usize = 1;
+
+/// The bytes of a counter's handle.
+pub const COUNTER_BYTES: usize = size_of::<Counter>();
+
+/// The bytes of a gauge's handle.
+pub const GAUGE_BYTES: usize = size_of::<Gauge>();
+
+/// The bytes of a histogram's handle.
+pub const HISTOGRAM_BYTES: usize = size_of::<Histogram>();
+
+/// The bytes of a family of each kind.
+pub const FAMILY_BYTES: usize = size_of::<CounterFamily>();
+
+/// The bytes of a change.
+pub const CHANGE_BYTES: usize = size_of::<Change>();
+
+/// The bytes of a histogram's totals.
+pub const TOTALS_BYTES: usize = size_of::<HistogramTotals>();
 
 /// What a library was built for.
 #[repr(C)]
@@ -24,9 +47,25 @@ pub struct Abi {
     pub histograms: usize,
     /// Gauges.
     pub gauges: usize,
+    /// How many numbers a moment has.
+    pub numbers: usize,
+    /// The most changes of one version.
+    pub changes: usize,
+    /// The bytes of a counter's handle.
+    pub counter_bytes: usize,
+    /// The bytes of a gauge's handle.
+    pub gauge_bytes: usize,
+    /// The bytes of a histogram's handle.
+    pub histogram_bytes: usize,
+    /// The bytes of a family.
+    pub family_bytes: usize,
+    /// The bytes of a change.
+    pub change_bytes: usize,
+    /// The bytes of a histogram's totals.
+    pub totals_bytes: usize,
 }
 
-/// What this library was built for, so that a binding and its library do not differ. Answers 0.
+/// What this library was built for, and how large what crosses is, so that a binding and its library do not differ. Answers 0.
 #[unsafe(no_mangle)]
 pub extern "C" fn dirgwako_c_abi(abi: &mut Abi) -> u32
     ensures told { abi.new ≡ record {
@@ -35,6 +74,14 @@ pub extern "C" fn dirgwako_c_abi(abi: &mut Abi) -> u32
       counters = COUNTERS;
       histograms = HISTOGRAMS;
       gauges = GAUGES;
+      numbers = NUMBERS;
+      changes = MOST_CHANGES;
+      counter_bytes = COUNTER_BYTES;
+      gauge_bytes = GAUGE_BYTES;
+      histogram_bytes = HISTOGRAM_BYTES;
+      family_bytes = FAMILY_BYTES;
+      change_bytes = CHANGE_BYTES;
+      totals_bytes = TOTALS_BYTES;
     } }
     ensures answer { result ≡ 0 }
 {
@@ -44,6 +91,14 @@ pub extern "C" fn dirgwako_c_abi(abi: &mut Abi) -> u32
         counters: COUNTERS,
         histograms: HISTOGRAMS,
         gauges: GAUGES,
+        numbers: NUMBERS,
+        changes: MOST_CHANGES,
+        counter_bytes: COUNTER_BYTES,
+        gauge_bytes: GAUGE_BYTES,
+        histogram_bytes: HISTOGRAM_BYTES,
+        family_bytes: FAMILY_BYTES,
+        change_bytes: CHANGE_BYTES,
+        totals_bytes: TOTALS_BYTES,
     };
     0
 }

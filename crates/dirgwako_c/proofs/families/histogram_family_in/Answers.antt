@@ -1,4 +1,4 @@
-use Rattle.std.proofs.Common.{rules, ◌≡◌, ℕ, List, [], ap, ◌∙◌}
+use Rattle.std.proofs.Common.{rules, ◌≡◌, ℕ, List, ap, ◌∙◌}
 use Rattle.dirgwako.specs.Refused.{family_refusal_number}
 use Rattle.dirgwako.specs.Texts.{texts_of}
 use Rattle.dirgwako.specs.declared.family.HistogramFamily.{HistogramFamily}

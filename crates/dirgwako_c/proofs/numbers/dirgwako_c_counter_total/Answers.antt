@@ -6,7 +6,6 @@ use Rattle.dirgwako_c.proofs.numbers.dirgwako_c_counter_total.Goals as goal
 pub returns : goal.returns
 returns c = inl (
   refl,
-  c.if-numbers-counter.false,
-  c.if-counter-ge-COUNTERS.false,
+  (c.if-numbers-ne-NUMBERS.false, c.if-numbers-counter.false, c.if-counter-ge-COUNTERS.false),
   sym (get_or-drop (1 + WORKERS) c.args.numbers.now c.args.counter.now.slot 0),
 )

@@ -32,8 +32,7 @@ returns c =
     let numbers = c.args.numbers.now in let slot = c.args.gauge.now.slot in
     inl (
       refl,
-      c.if-numbers-gauge.false,
-      c.if-gauge-ge-GAUGES.false,
+      (c.if-numbers-ne-NUMBERS.false, c.if-numbers-gauge.false, c.if-gauge-ge-GAUGES.false),
       c.tell_difference.ensures ∙ (ap (λ (n : ℕ). pos n -ℤ pos (get_or numbers (place slot + 1) 0)) (sym (up_at numbers slot))
           ∙ ap (λ (n : ℕ). pos (slice_index (totals_in numbers) (place_of_gauge slot)) -ℤ pos n) (sym (down_at numbers slot))),
     )

@@ -1,4 +1,4 @@
-use Rattle.std.proofs.Common.{rules, ◌≡◌, ℕ, ◌+◌, ◌-◌, ◌*◌, List, take, drop, inl, refl, sym, ap, ◌∙◌, arith}
+use Rattle.std.proofs.Common.{rules, ◌≡◌, ℕ, ◌+◌, ◌-◌, ◌*◌, take, drop, inl, refl, sym, ap, ◌∙◌, arith}
 use Rattle.dirgwako_c.specs.declared.geometry.TheConstants.{WORKERS, COUNTERS}
 use Rattle.dirgwako_c.proofs.Settled.{drop_both}
 use Rattle.dirgwako_c.proofs.numbers.dirgwako_c_histogram_totals.Goals as goal
@@ -11,8 +11,7 @@ returns c =
     let there : place + (1 + WORKERS) ≡ first = omega arith in
     inl (
       refl,
-      search rules,
-      search rules,
+      (c.if-numbers-ne-NUMBERS.false, c.if-numbers-histogram.false, c.if-histogram-ge-HISTOGRAMS.false),
       c.copy_from_slice.ensures.after ∙ (ap (λ (n : ℕ). take n (drop first numbers)) many
           ∙ ap (take 25) (ap (λ (n : ℕ). drop n numbers) (sym there) ∙ sym (drop_both place (1 + WORKERS) numbers))),
       search rules,

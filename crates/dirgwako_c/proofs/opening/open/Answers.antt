@@ -1,4 +1,4 @@
-use Rattle.std.proofs.Common.{◌≡◌, ℕ, map, All, sym, ap, ◌∙◌, subst}
+use Rattle.std.proofs.Common.{◌≡◌, map, All, sym, ap, ◌∙◌, subst}
 use mathlib.Core.List.{map-map}
 use Rattle.std.specs.Arc.{arc_value}
 use Rattle.register_rule.specs.Seats.{board_id}

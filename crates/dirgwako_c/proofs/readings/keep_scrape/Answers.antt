@@ -1,4 +1,4 @@
-use Rattle.std.proofs.Common.{◌≡◌, sym, subst}
+use Rattle.std.proofs.Common.{sym, subst}
 use Rattle.std.specs.Prelude.{Result}
 use Rattle.expo_text.specs.Scraped.{Scraped}
 use Rattle.scrape_http.specs.declared.source.NoScrape.{NoScrape}

@@ -1,5 +1,5 @@
 use Rattle.std.proofs.Common.{rules, ◌≡◌, ℕ, List, [], Bor, ap, ◌∙◌, refl, subst}
-use Rattle.std.specs.Prelude.{Option, Some, Result, Ok, Err, Vec}
+use Rattle.std.specs.Prelude.{Option, Some, Ok, Err, Vec}
 use Rattle.std.specs.declared.alloc.Global.{Global}
 use Rattle.scrape_http.specs.Serves.{IsServed, IsUnserved, number_of}
 use Rattle.dirgwako_c.specs.Registries.{ScrapesBy, IsHandedOver}

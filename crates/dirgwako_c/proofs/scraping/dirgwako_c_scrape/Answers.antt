@@ -1,4 +1,4 @@
-use Rattle.std.proofs.Common.{◌≡◌, sym, ap, ◌∙◌}
+use Rattle.std.proofs.Common.{sym, ap, ◌∙◌}
 use Rattle.std.specs.Prelude.{Some}
 use Rattle.dirgwako_c.proofs.Called.{called}
 use Rattle.dirgwako_c.proofs.scraping.dirgwako_c_scrape.Goals as goal

@@ -1,9 +1,8 @@
-use Rattle.std.proofs.Common.{rules, ◌≡◌, ℕ, zero, suc, ◌<◌, Bool, true, false, length, replicate, sym, refl, ap, ◌∙◌, arith}
-use Rattle.std.specs.Prelude.{IsTrue}
+use Rattle.std.proofs.Common.{◌≡◌, ℕ, false, length, refl, ap, ◌∙◌, arith}
 use mathlib.Core.Logic.{dite}
 use native.Mathlib.Decide.{ℕ_discrete}
 use mathlib.Core.Option.{some}
-use lib.ListN.{get_elem?, length-replicate}
+use lib.ListN.{get_elem?}
 use Rattle.register_rule.proofs.Words.{there}
 use Rattle.dirgwako_c.specs.declared.geometry.TheConstants.{WORKERS}
 use Rattle.dirgwako_c.proofs.settling.gathered.Goals as goal

@@ -1,4 +1,4 @@
-use Rattle.std.proofs.Common.{rules, arith, refl, inr, List, ℕ, [], ◌∷◌, ◌++◌, ◌≡◌, All, take, map, ap, sym, ◌∙◌, subst}
+use Rattle.std.proofs.Common.{rules, arith, refl, inr, List, ℕ, [], ◌∷◌, ◌++◌, ◌≡◌, All, take, ap, sym, ◌∙◌, subst}
 use Rattle.std.specs.Prelude.{IsUtf8}
 use Rattle.std.proofs.lemmas.List.{map-append}
 use Rattle.dirgwako.specs.Texts.{text_at, texts_of}

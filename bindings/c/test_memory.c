@@ -1,0 +1,165 @@
+/* Memory that is refused. Each allocation of each call is refused in turn: the call answers a refusal, what was held is as it was, and the call
+   succeeds when it is made again. What counts takes no memory, and no block is lost. Linked with -Wl,--wrap=malloc,--wrap=realloc,--wrap=free. */
+#include "test.h"
+#include <stdio.h>
+
+void *__real_malloc(size_t size);
+void *__real_realloc(void *old, size_t size);
+void __real_free(void *block);
+void *__wrap_malloc(size_t size);
+void *__wrap_realloc(void *old, size_t size);
+void __wrap_free(void *block);
+
+/* How many allocations are still given, all where that is below zero; how many were asked for; how many blocks are there. */
+static long long left = -1, asked, blocks;
+
+static int is_given(void) {
+    asked++;
+    if (left > 0) left--;
+    else if (!left) return 0;
+    return 1;
+}
+
+void *__wrap_malloc(size_t size) {
+    void *made = is_given() ? __real_malloc(size) : NULL;
+    if (made) blocks++;
+    return made;
+}
+
+void *__wrap_realloc(void *old, size_t size) {
+    void *made = is_given() ? __real_realloc(old, size) : NULL;
+    if (made && !old) blocks++;
+    return made;
+}
+
+void __wrap_free(void *block) {
+    if (block) blocks--;
+    __real_free(block);
+}
+
+static dirgwako_registry registry;
+static dirgwako_recorder recorder;
+static dirgwako_counter counter;
+static dirgwako_gauge gauge;
+static dirgwako_histogram histogram;
+static dirgwako_counter_family counters;
+static dirgwako_gauge_family gauges;
+static dirgwako_histogram_family histograms;
+static const uint64_t bounds[2] = {1, 2};
+static const char *const labels[2] = {"code", "route"};
+static char name[16], reply[1 << 17], was[1 << 17];
+static uint64_t before[DIRGWAKO_MOST_NUMBERS], after[DIRGWAKO_MOST_NUMBERS];
+static size_t tries;
+
+/* A name that was not there. */
+static const char *another(void) {
+    snprintf(name, sizeof name, "a%u_total", (unsigned)tries++);
+    return name;
+}
+
+static uint32_t new_registry(void) { return dirgwako_registry_new(&registry, 3); }
+static uint32_t new_counter(void) { return dirgwako_counter_new(&registry, another(), "Help.", &counter); }
+static uint32_t new_gauge(void) { return dirgwako_gauge_new(&registry, another(), "Help.", &gauge); }
+static uint32_t new_histogram(void) { return dirgwako_histogram_new(&registry, another(), "Help.", bounds, 2, &histogram); }
+static uint32_t new_counters(void) { return dirgwako_counter_family_new(&registry, "counters_total", "Help.", labels, 2, &counters); }
+static uint32_t new_gauges(void) { return dirgwako_gauge_family_new(&registry, "gauges", "Help.", labels, 2, &gauges); }
+static uint32_t new_histograms(void) { return dirgwako_histogram_family_new(&registry, "histograms", "Help.", labels, 2, bounds, 2, &histograms); }
+static uint32_t counter_of(void) { return dirgwako_counter_of(&registry, &counters, labels, 2, &counter); }
+static uint32_t gauge_of(void) { return dirgwako_gauge_of(&registry, &gauges, labels, 2, &gauge); }
+static uint32_t histogram_of(void) { return dirgwako_histogram_of(&registry, &histograms, labels, 2, &histogram); }
+static uint32_t is_name(void) { return dirgwako_is_name("visits_total"); }
+
+static uint32_t scrape(void) {
+    size_t len = 0;
+    return dirgwako_scrape(&registry, reply, sizeof reply, &len);
+}
+
+static uint32_t read(void) {
+    size_t len = 0;
+    return dirgwako_read(&registry, after, DIRGWAKO_MOST_NUMBERS, &len);
+}
+
+/* 6 as well where it was told in a reply. */
+static uint32_t replied(void) {
+    const char *get = "GET /metrics HTTP/1.1\r\nHost: a\r\n\r\n";
+    size_t len = 0;
+    uint32_t answer = dirgwako_reply(&registry, get, strlen(get), reply, sizeof reply, &len);
+    if (answer == 25 || (!answer && !memcmp(reply, "HTTP/1.1 503 ", 13))) return 6;
+    return answer;
+}
+
+/* The text of what is held: of a registry that is not there, nothing. Of metrics, since a family may stand without its number, the numbers alone. */
+static size_t held(char *into, size_t room, int is_metric) {
+    size_t len = 0, kept = 0;
+    if (dirgwako_scrape(&registry, into, room, &len)) return 0;
+    if (!is_metric) return len;
+    for (const char *line = into; line < into + len; line = (const char *)memchr(line, '\n', (size_t)(into + len - line)) + 1) {
+        size_t many = (size_t)((const char *)memchr(line, '\n', (size_t)(into + len - line)) - line) + 1;
+        if (*line != '#') {
+            memmove(into + kept, line, many);
+            kept += many;
+        }
+    }
+    return kept;
+}
+
+/* Makes a call whose allocations are refused in turn, until it succeeds; returns how many it makes. */
+static long long refuse(const char *what, uint32_t (*call)(void), int is_metric) {
+    for (long long given = 0;; given++) {
+        size_t length = held(was, sizeof was, is_metric);
+        left = given;
+        uint32_t answer = call();
+        left = -1;
+        if (!answer) return given;
+        is(what, answer, 6);
+        is(what, (long long)held(text, sizeof text, is_metric), (long long)length);
+        is(what, memcmp(text, was, length), 0);
+        if (answer != 6) return given;
+    }
+}
+
+/* Whether a call takes no memory, where all of it is refused. */
+static void none(const char *what, uint32_t answer, uint32_t wanted) {
+    is(what, answer, wanted);
+    is("no memory is asked for", asked, 0);
+}
+
+static void counting(void) {
+    const dirgwako_change changes[3] = {dirgwako_change_inc(&counter, 1), dirgwako_change_observe(&histogram, 2), dirgwako_change_up(&gauge, 1)};
+    size_t len = 0, missing = 0, kept = 0;
+    asked = left = 0;
+    none("take", dirgwako_recorder_take(&registry, &recorder), 0);
+    none("inc", dirgwako_inc(&recorder, &counter, 1), 0);
+    none("observe", dirgwako_observe(&recorder, &histogram, 1), 0);
+    none("up", dirgwako_up(&recorder, &gauge, 1), 0);
+    none("down", dirgwako_down(&recorder, &gauge, 1), 0);
+    none("publish", dirgwako_publish(&recorder, changes, 3), 0);
+    none("give back", dirgwako_recorder_give_back(&registry, &recorder), 0);
+    none("settle", dirgwako_settle(&registry, before, DIRGWAKO_MOST_NUMBERS, &len, &missing), 0);
+    none("kept", dirgwako_kept(&registry, &kept), 0);
+    none("read kept", dirgwako_read_kept(&registry, 0, before, DIRGWAKO_MOST_NUMBERS, &len), 0);
+    none("window", dirgwako_set_window(&registry, 2, &kept), 0);
+    left = -1;
+}
+
+int main(void) {
+    is("registry", refuse("registry", new_registry, 0) > 4, 1);
+    is("a registry again", refuse("registry", new_registry, 0) > 4, 1);
+    is("counter", refuse("counter", new_counter, 1) > 0, 1);
+    is("gauge", refuse("gauge", new_gauge, 1) > 0, 1);
+    is("histogram", refuse("histogram", new_histogram, 1) > 0, 1);
+    is("counters", refuse("counters", new_counters, 0) > 0, 1);
+    is("gauges", refuse("gauges", new_gauges, 0) > 0, 1);
+    is("histograms", refuse("histograms", new_histograms, 0) > 0, 1);
+    is("a counter", refuse("a counter", counter_of, 0) > 0, 1);
+    is("a gauge", refuse("a gauge", gauge_of, 0) > 0, 1);
+    is("a histogram", refuse("a histogram", histogram_of, 0) > 0, 1);
+    is("name", refuse("name", is_name, 0) > 0, 1);
+    is("scrape", refuse("scrape", scrape, 0) > 0, 1);
+    is("reply", refuse("reply", replied, 0) > 0, 1);
+    is("read", refuse("read", read, 0) > 0, 1);
+    counting();
+    is("free", dirgwako_registry_free(&registry), 0);
+    is("no block is lost", blocks, 0);
+    return told();
+}
