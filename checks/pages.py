@@ -1,21 +1,22 @@
-"""The pages: the README shows each step of the tutorial word for word, and the guide what stands in the tutorial and the example; each link
+"""The pages: the README and the guides show programs word for word, and what stands in the tutorial and the example; each link
 of a page leads to a file, and a page names no file, call or definition that is not there."""
 import re
 
 from started import check
 
-STEPS = ("counter", "labels", "threads", "endpoint")
+STEPS = {"README.md": ("counter", "labels", "endpoint"), "docs/GUIDE.md": ("threads",)}
 MOST = 230
 
 
 def shown(root):
-    """How many steps of the tutorial the README shows."""
-    readme = (root / "README.md").read_text()
-    check(len(readme.splitlines()) <= MOST, f"the README has at most {MOST} lines")
-    blocks = re.findall(r"^```rust\n(.*?)^```$", readme, re.M | re.S)
-    for step in STEPS:
-        check((root / f"crates/tutorial/src/{step}.rt").read_text() in blocks, f"the README shows {step}.rt word for word")
-    return len(STEPS)
+    """How many programs the README and the guides show, each word for word: steps of the tutorial, and the first program in C."""
+    check(len((root / "README.md").read_text().splitlines()) <= MOST, f"the README has at most {MOST} lines")
+    wanted = [(page, f"crates/tutorial/src/{step}.rt", "rust") for page, steps in STEPS.items() for step in steps]
+    wanted += [(page, "bindings/c/hello.c", "c") for page in ("README.md", "bindings/c/README.md")]
+    for page, program, language in wanted:
+        blocks = re.findall(rf"^```{language}\n(.*?)^```$", (root / page).read_text(), re.M | re.S)
+        check((root / program).read_text() in blocks, f"{page} shows {program} word for word")
+    return len(wanted)
 
 
 def quoted(root):

@@ -15,7 +15,7 @@ OUT = HERE / "out"
 PYTHON = "/usr/bin/python3"
 REGISTRY = pathlib.Path("/usr/share/cargo/registry")
 GOPATH = pathlib.Path("/usr/share/gocode")
-OURS, RUST, GO, PEER_PYTHON, BARE = "Dirgwako", "prometheus (Rust)", "client_golang (Go)", "prometheus_client (Python)", "a text made before"
+OURS, FROM_C, RUST, GO, PEER_PYTHON, BARE = "Dirgwako", "Dirgwako from C", "prometheus (Rust)", "client_golang (Go)", "prometheus_client (Python)", "a text made before"
 
 
 def can_import(module):
@@ -30,6 +30,7 @@ def needs():
     has_crate = any(REGISTRY.glob("prometheus-0.13*"))
     has_go = (GOPATH / "src/github.com/prometheus/client_golang").is_dir()
     return {
+        FROM_C: [(shutil.which("cc"), "cc", "gcc")],
         RUST: [(shutil.which("cargo"), "cargo", "cargo"), (has_crate, "the crate prometheus 0.13", "librust-prometheus-dev")],
         GO: [(shutil.which("go"), "go", "golang-go"), (has_go, "client_golang", "golang-github-prometheus-client-golang-dev")],
         PEER_PYTHON: [(can_import("prometheus_client"), "prometheus_client", "python3-prometheus-client")],
@@ -53,6 +54,31 @@ def build(words, where, environment, seconds=300):
     """Builds a program, by one line of a shell's words."""
     out, err, status = run(*words, cwd=where, env={**os.environ, **environment}, seconds=seconds)
     check(status == 0, f"{words[0]} does not build {where.relative_to(ROOT)}:\n{(out + err).decode()[-2000:]}")
+
+
+def is_older(made, crate, *files):
+    """Whether what was made of a crate is missing, or older than its sources."""
+    sources = [file for it in below(crate) for file in (ROOT / "crates" / it / "src").glob("**/*.rt")]
+    return not made.is_file() or made.stat().st_mtime < max(it.stat().st_mtime for it in [*sources, *files])
+
+
+def build_c():
+    """A program over the library for C of 4 threads, and beside it the same over that of 16."""
+    bindings = ROOT / "bindings/c"
+    if is_older(ROOT / "bindings/out/libdirgwako16.a", "dirgwako_c", bindings / "dirgwako.h"):
+        check(shutil.which("rt"), "no rt on the path, which proves and builds the library for C")
+        print("the library for C is proved and built first: minutes where all below it is proved", flush=True)
+        build([bindings / "build.sh"], bindings, {}, seconds=7200)
+    made = []
+    for name in ("dirgwako", "dirgwako16"):
+        made.append(OUT / f"c_peer_{name}")
+        build(["cc", "-std=c99", "-D_POSIX_C_SOURCE=200809L", "-Wall", "-Wextra", "-O2", HERE / "c/peer.c", f"-I{bindings}", ROOT / f"bindings/out/lib{name}.a", "-lpthread", "-o", made[-1]], HERE, {})
+    return [made[0]]
+
+
+def of_size(name, words, size):
+    """The words by which a program is started that makes scrapes of this size."""
+    return [OUT / "c_peer_dirgwako16"] if name == FROM_C and size == "large" else words
 
 
 def build_rust():
@@ -89,8 +115,7 @@ def build_ours(given):
         check(os.access(given, os.X_OK), f"{given} is no program")
         return [pathlib.Path(given).resolve()]
     built = ROOT / "crates/bench/out/bench"
-    sources = [file for crate in below("bench") for file in (ROOT / "crates" / crate / "src").glob("**/*.rt")]
-    if not built.is_file() or built.stat().st_mtime < max(it.stat().st_mtime for it in sources):
+    if is_older(built, "bench"):
         check(shutil.which("rt"), "no rt on the path, which proves and builds crates/bench, and no --bench PROGRAM")
         print("crates/bench is proved and built first: seconds after small changes, a quarter of an hour from nothing", flush=True)
         build(["rt", "run", "--", "0"], ROOT / "crates/bench", {}, seconds=3600)
@@ -101,7 +126,7 @@ def build_ours(given):
 def build_all(given, lacks):
     """The words by which each program is started, in the order of the tables."""
     OUT.mkdir(exist_ok=True)
-    makers = {OURS: lambda: build_ours(given), RUST: build_rust, GO: build_go, PEER_PYTHON: build_python}
+    makers = {OURS: lambda: build_ours(given), FROM_C: build_c, RUST: build_rust, GO: build_go, PEER_PYTHON: build_python}
     return {name: make() for name, make in makers.items() if name not in lacks}
 
 
@@ -124,6 +149,7 @@ def versions():
     is_changed = run("git", "-C", ROOT, "status", "--porcelain", "--", "crates")[0]
     return [
         (OURS, f"commit {commit}{', with changes' if is_changed else ''}; {first_line('rt', 'version')}"),
+        (FROM_C, f"the same; {first_line('cc', '--version')}"),
         (RUST, f"librust-prometheus-dev {package('librust-prometheus-dev')}; {first_line('rustc', '--version')}"),
         (GO, f"golang-github-prometheus-client-golang-dev {package('golang-github-prometheus-client-golang-dev')}; {first_line('go', 'version')}"),
         (PEER_PYTHON, f"python3-prometheus-client {package('python3-prometheus-client')}; {first_line(PYTHON, '--version')}"),

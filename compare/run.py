@@ -78,9 +78,11 @@ def compare(how):
         print(f"this machine has {table.cores()} cores: lines of four threads, and of requests, are no figures to tell", flush=True)
     started = programs.build_all(how.bench, lacks)
     scrapes, rounds, turns, loaded_turns = (500, 20_000, 1, 1) if how.quick else (5_000, 500_000, 8, 5)
-    found = torn_scrapes(started, scrapes)
+    # (from C it is the same library, whose scrapes and sockets are measured once)
+    others = {name: words for name, words in started.items() if name != programs.FROM_C}
+    found = torn_scrapes(others, scrapes)
     measured = speeds.measure(started, rounds, turns)
-    loaded = loads.measure(started, 1, loaded_turns, "requests a second" not in lacks)
+    loaded = loads.measure(others, 1, loaded_turns, "requests a second" not in lacks)
     page = programs.OUT / "results.md" if how.quick else programs.HERE / "results.md"
     page.write_text(table.page(load, found, measured, loaded, how.quick))
     written = [page]

@@ -2,7 +2,7 @@
 import statistics
 from dataclasses import dataclass, field
 
-from programs import BARE, OURS, PEER_PYTHON
+from programs import BARE, FROM_C, OURS, PEER_PYTHON, of_size
 from started import check, run
 
 # An update, as the tables call it; the name that the peers print it by; and ours: of one thread, of four, and the same two in a tally.
@@ -15,7 +15,7 @@ UPDATES = [
 BOARD = "4,64,8,0"
 SIZES = {"small": "64 counters, 8 histograms of 10 bounds", "large": "256 counters, 32 histograms of 24 bounds"}
 GATHERS = {"small": "4,64,8,0", "large": "16,256,32,0"}
-TALLY = f"{OURS}, in a tally"
+TALLY, FROM_C_TALLY = f"{OURS}, in a tally", f"{FROM_C}, in a tally"
 
 
 @dataclass
@@ -74,9 +74,10 @@ def peer(name, words, rounds, updates, gathers):
     """One turn of another one. Python's gets a tenth of the rounds."""
     less = 10 if name == PEER_PYTHON else 1
     for line, threads, each in lines_of([*words, "updates", rounds // less]):
-        updates[name, line, int(threads)].add(float(each))
+        who = FROM_C_TALLY if line.startswith("tally_") else name
+        updates[who, line.removeprefix("tally_"), int(threads)].add(float(each))
     for size in SIZES:
-        gathers[name, size].add(float(lines_of([*words, "gather", max(rounds // 1_000 // less, 1), size])[0][0]))
+        gathers[name, size].add(float(lines_of([*of_size(name, words, size), "gather", max(rounds // 1_000 // less, 1), size])[0][0]))
 
 
 def measure(programs, rounds, turns):

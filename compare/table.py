@@ -6,8 +6,8 @@ import platform
 import time
 
 from loads import CONNECTIONS
-from programs import BARE, GO, OURS, PEER_PYTHON, RUST, missing, versions
-from speeds import SIZES, TALLY, UPDATES, Turns
+from programs import BARE, FROM_C, GO, OURS, PEER_PYTHON, RUST, missing, versions
+from speeds import FROM_C_TALLY, SIZES, TALLY, UPDATES, Turns
 
 PEERS = (RUST, GO, PEER_PYTHON)
 APART, TOGETHER = f"{OURS}, each change a version", f"{OURS}, a round one version"
@@ -114,21 +114,22 @@ def torn_lines(torn):
 
 def update_lines(updates):
     lines = ["## Updates, in nanoseconds", ""]
-    lines += head("what", "threads", OURS, "in a tally", *PEERS, f"{OURS} to {RUST}", f"in a tally to {RUST}")
+    lines += head("what", "threads", OURS, "in a tally", FROM_C, "from C, in a tally", *PEERS, f"{OURS} to {RUST}", f"in a tally to {RUST}", f"{FROM_C} to {OURS}")
     for what, name, _ours in UPDATES:
         for threads in (1, 4):
-            one = {who: updates[who, name, threads] for who in (OURS, TALLY, *PEERS)}
-            ratios = (ratio(one[ours], one[RUST], which(threads)) for ours in (OURS, TALLY))
+            one = {who: updates[who, name, threads] for who in (OURS, TALLY, FROM_C, FROM_C_TALLY, *PEERS)}
+            pairs = ((OURS, RUST), (TALLY, RUST), (FROM_C, OURS))
+            ratios = (ratio(one[a], one[b], which(threads)) for a, b in pairs)
             lines.append(row(what, threads, *(told(it, threads=threads) for it in one.values()), *ratios))
     return lines + [""]
 
 
 def gather_lines(gathers, texts):
     lines = ["## A scrape with its text, in microseconds", ""]
-    lines += head("of", OURS, *PEERS, f"{OURS} to {RUST}")
+    lines += head("of", OURS, FROM_C, *PEERS, f"{OURS} to {RUST}", f"{FROM_C} to {OURS}")
     for size, what in SIZES.items():
-        each = {who: gathers[who, size] for who in (OURS, *PEERS)}
-        lines.append(row(what, *(told(it, 1_000) for it in each.values()), ratio(each[OURS], each[RUST])))
+        each = {who: gathers[who, size] for who in (OURS, FROM_C, *PEERS)}
+        lines.append(row(what, *(told(it, 1_000) for it in each.values()), ratio(each[OURS], each[RUST]), ratio(each[FROM_C], each[OURS])))
     lines += ["", *head("the text", *texts["small"]), *(text_row(size, each) for size, each in texts.items())]
     return lines + [""]
 

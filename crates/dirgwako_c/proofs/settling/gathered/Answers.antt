@@ -1,4 +1,4 @@
-use Rattle.std.proofs.Common.{◌≡◌, ℕ, false, length, refl, ap, ◌∙◌, arith}
+use Rattle.std.proofs.Common.{◌≡◌, ℕ, zero, suc, ◌<◌, Bool, false, length, replicate, refl, ap, ◌∙◌, arith}
 use mathlib.Core.Logic.{dite}
 use native.Mathlib.Decide.{ℕ_discrete}
 use mathlib.Core.Option.{some}
@@ -6,6 +6,15 @@ use lib.ListN.{get_elem?}
 use Rattle.register_rule.proofs.Words.{there}
 use Rattle.dirgwako_c.specs.declared.geometry.TheConstants.{WORKERS}
 use Rattle.dirgwako_c.proofs.settling.gathered.Goals as goal
+
+-- marks that are made say nothing
+all_false : (n i : ℕ) → i < n → get_elem? {A = Bool} (replicate n false) i ≡ some false
+all_false zero i h = absurd (omega (arith, h))
+all_false (suc n) zero h = refl
+all_false (suc n) (suc i) h = all_false n i (omega (arith, h))
+
+pub mark-requires-clause-none : goal.mark-requires-clause-none
+mark-requires-clause-none c = λ i lt. all_false WORKERS i lt
 
 pub returns-then-not-marks-worker-clause-apart : goal.returns-then-not-marks-worker-clause-apart
 returns-then-not-marks-worker-clause-apart c =
