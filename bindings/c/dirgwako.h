@@ -441,7 +441,7 @@ static inline uint32_t dirgwako_scrape(dirgwako_registry *registry, char *buffer
 }
 
 /* The reply to a request of HTTP/1.1 that was read whole: head and body, at the front of the buffer; `len` is how many bytes it has. The status is in
-   its first line: 200 with the text of a scrape, 404, 405, 400, 431, or 503 where a scan was given up or memory was wanting. 34; 26, the request has
+   its first line: 200 with the text of a scrape, 404, 405, 400, 431, or 503 where four scans were given up or memory was wanting. 34; 26, the request has
    no byte; 25, there is no memory for the reply; 37, the buffer is too short, and `len` tells what this reply needs. */
 static inline uint32_t dirgwako_reply(dirgwako_registry *registry, const char *request, size_t request_len, char *buffer, size_t room,
                                       size_t *len) {

@@ -175,12 +175,52 @@ static void families(void) {
     is("404", scraped(&registry, "answers_total{code=\"404\",route=\"/\"}"), 1);
     is("queued", scraped(&registry, "queued{code=\"200\"}"), 9);
     is("slow", scraped(&registry, "time_microseconds_bucket{code=\"404\",le=\"50\"}"), 1);
+    const dirgwako_gauge_family other_kind = {answers.registry, answers.number};
+    const dirgwako_counter_family no_family = {answers.registry, 100};
+    is("of another kind", dirgwako_gauge_of(&registry, &other_kind, found, 2, &first), 28);
+    is("no family", dirgwako_counter_of(&registry, &no_family, found, 2, &ok), 20);
     answers.registry++;
     is("a family of another registry", dirgwako_counter_of(&registry, &answers, found, 2, &ok), 20);
     is("free", dirgwako_registry_free(&registry), 0);
     is("it counts on", dirgwako_inc(&recorder, &missing, 1), 0);
     is("free recorder", dirgwako_recorder_free(&recorder), 0);
     is("freed twice", dirgwako_recorder_free(&recorder), DIRGWAKO_EMPTY);
+}
+
+/* Texts that are too long or have too many, and slots and families of which there are no more. */
+static void limits(void) {
+    dirgwako_registry registry = {0};
+    dirgwako_counter counter;
+    dirgwako_counter_family family, more;
+    dirgwako_abi abi;
+    char name[160], value[258];
+    const char *const labels[9] = {"a", "b", "c", "d", "e", "f", "g", "h", "i"}, *const long_value[1] = {value};
+    dirgwako_text texts[9];
+    is("built for", dirgwako_built_for(&abi), 0);
+    is("new", dirgwako_registry_new(&registry, 1), 0);
+    memset(name, 'a', sizeof name);
+    name[129] = 0;
+    is("a long name", dirgwako_counter_new(&registry, name, "Help.", &counter), 3);
+    is("a help with an edge", dirgwako_counter_new(&registry, "a_total", " Help.", &counter), 5);
+    is("nine labels", dirgwako_counter_family_new(&registry, "a_total", "A.", labels, 9, &family), 9);
+    is("nine texts", dirgwako_texts(labels, 9, texts), 1);
+    is("nine labels, by the library", dirgwako_c_counter_family_new(&registry, texts[0].at, 1, texts[0].at, 1, texts, 9, 0, 0, &family), 9);
+    is("one label", dirgwako_counter_family_new(&registry, "a_total", "A.", labels, 1, &family), 0);
+    memset(value, 'v', sizeof value);
+    value[257] = 0;
+    is("a long value", dirgwako_counter_of(&registry, &family, long_value, 1, &counter), 3);
+    is("nine values", dirgwako_counter_of(&registry, &family, labels, 9, &counter), 21);
+    for (size_t i = 0; i < abi.counters; i++) {
+        snprintf(value, sizeof value, "%u", (unsigned)i);
+        is("a slot", dirgwako_counter_of(&registry, &family, long_value, 1, &counter), 0);
+    }
+    is("no slot is left", dirgwako_counter_of(&registry, &family, labels, 1, &counter), 22);
+    for (int i = 1; i < 128; i++) {
+        snprintf(name, sizeof name, "b%d_total", i);
+        is("a family", dirgwako_counter_family_new(&registry, name, "B.", labels, 1, &more), 0);
+    }
+    is("no more families", dirgwako_counter_family_new(&registry, "c_total", "C.", labels, 1, &more), 23);
+    is("free", dirgwako_registry_free(&registry), 0);
 }
 
 /* Two registries do not take each other's handles; each worker has one recorder. */
@@ -389,6 +429,7 @@ int main(void) {
     empties();
     metrics();
     families();
+    limits();
     apart();
     lists();
     replies();

@@ -27,6 +27,7 @@ use Rattle.scrape_http.specs.Serves.{IsServed, IsUnserved, is_read_failed, numbe
 use Rattle.scrape_http.specs.declared.fault.WireFault.{WireFault}
 use Rattle.scrape_http.specs.declared.serve.Served.{Served}
 use Rattle.scrape_http.specs.declared.source.NoScrape.{NoScrape}
+use Rattle.scrape_server.specs.Again.{AsksAgain}
 use Rattle.scrape_server.specs.Scrapes.{Scrapes}
 use Rattle.snapshot_scan.specs.Answered.{HasAnswered, HasGivenUp}
 use Rattle.snapshot_scan.specs.Readers.{scan_by}
@@ -136,6 +137,10 @@ ScrapesBy = Scrapes WORKERS COUNTERS HISTOGRAMS GAUGES recorded_in quit_in gave_
 abbrev pub scrapes_by : (before after : HeldRegistry) → Result Scraped NoScrape → Type 0
 scrapes_by before after answer = ScrapesBy (registry_in before) (registry_in after) answer × (spare_in after ≡ spare_in before)
 
+-- the same, asked for up to three times more where a scan was given up
+abbrev pub asks_by : (before after : HeldRegistry) → Result Scraped NoScrape → Type 0
+asks_by = AsksAgain scrapes_by 3
+
 -- what is done and answered where a metric without labels is asked for
 abbrev pub AsksMetricAt : (before after : RegistryView (SharedScanner WORKERS COUNTERS HISTOGRAMS GAUGES)) → Descriptor
     → Result Handle MetricRefusal → Type 0
@@ -225,8 +230,7 @@ abbrev pub IsReplied : (bytes : List ℕ) → (answer : ℕ) → (had has : List
 IsReplied bytes answer had has had_len has_len (Ok served) = IsHandedOver bytes answer had has has_len
 IsReplied bytes answer had has had_len has_len (Err fault) = (answer ≡ wire_fault_number fault) × (has ≡ had) × (has_len ≡ had_len)
 
-module _ (request : List ℕ) (answer : ℕ) (before after : RegistryView (SharedScanner WORKERS COUNTERS HISTOGRAMS GAUGES))
-    (had has : List ℕ) (had_len has_len : ℕ) where
+module _ (request : List ℕ) (answer : ℕ) (before after : HeldRegistry) (had has : List ℕ) (had_len has_len : ℕ) where
   -- The reply to what the request's bytes ask for was written and handed over, as a server gives it: a 200 is the text of a scrape that this
   -- registry made and kept. Where a read failed, which bytes do not, nothing was written
   pub record Replies : Type 0 where
@@ -237,7 +241,7 @@ module _ (request : List ℕ) (answer : ℕ) (before after : RegistryView (Share
     pub latest : ℕ
     pub served : Result Served WireFault
     pub is_served : failed ≡ false
-        → IsServed ScrapesBy before after (Some request) (Some rest) (Some []) (Some bytes) ended latest served
+        → IsServed asks_by before after (Some request) (Some rest) (Some []) (Some bytes) ended latest served
     pub is_unserved : failed ≡ true → IsUnserved before after (Some []) (Some bytes)
     pub failed_is : failed ≡ is_read_failed served
     pub replied : IsReplied bytes answer had has had_len has_len served
