@@ -23,9 +23,9 @@
    time, and a registry wants a mutex where several threads register or scrape. Counting takes no lock and waits for nobody. A handle goes to
    another thread by a lock, by a thread's start or join, or by a flag that is stored with release order and loaded with acquire order.
 
-   What else the caller owes: a pointer that is not null points to what its type says, a length counts what is there, texts end in a zero byte where
-   no length is given; no call from a signal handler, nor in the forked child of a process with threads; malloc and free are of one
-   allocator. */
+   What else the caller owes: a pointer that is not null points to what its type says, and what a call writes to overlaps nothing else that it is
+   given; a length counts what is there, texts end in a zero byte where no length is given; no call from a signal handler, nor in the forked child of a
+   process with threads; malloc and free are of one allocator. */
 #ifndef DIRGWAKO_H
 #define DIRGWAKO_H
 

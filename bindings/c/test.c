@@ -60,7 +60,7 @@ static void empties(void) {
     dirgwako_histogram_family histograms = {0};
     const char *one[1] = {"code"};
     const uint64_t bounds[1] = {1};
-    size_t len = 7;
+    size_t len = 7, missing = 7;
     is("free", dirgwako_registry_free(&registry), DIRGWAKO_EMPTY);
     is("take", dirgwako_recorder_take(&registry, &recorder), DIRGWAKO_EMPTY);
     is("give back", dirgwako_recorder_give_back(&registry, &recorder), DIRGWAKO_EMPTY);
@@ -85,7 +85,8 @@ static void empties(void) {
     is("kept", dirgwako_kept(&registry, &len), DIRGWAKO_EMPTY);
     is("read", dirgwako_read(&registry, NULL, 0, &len), DIRGWAKO_EMPTY);
     is("read kept", dirgwako_read_kept(&registry, 0, NULL, 0, &len), DIRGWAKO_EMPTY);
-    is("settle", dirgwako_settle(&registry, NULL, 0, &len, &len), DIRGWAKO_EMPTY);
+    is("settle", dirgwako_settle(&registry, NULL, 0, &len, &missing), DIRGWAKO_EMPTY);
+    is("the worker is as it was", (long long)missing, 7);
     is("the length is as it was", (long long)len, 7);
 }
 

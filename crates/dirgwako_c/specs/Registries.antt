@@ -1,5 +1,5 @@
 -- What the calls of C by a registry's handle come to.
-use Rattle.std.specs.Prelude.{Bool, true, false, ◌≡◌, ◌≢◌, ◌⊎◌, ℕ, ◌<◌, ◌≤◌, List, [], ◌∷◌, ◌++◌, map, length, take, replicate, All, Option, Some, None, Result, Ok, Err, IfOk, OnErr, IsSomeAnd, IsUtf8}
+use Rattle.std.specs.Prelude.{Bool, true, false, ◌≡◌, ◌≢◌, ◌⊎◌, ℕ, ◌<◌, ◌≤◌, List, [], ◌∷◌, ◌++◌, map, length, drop, replicate, All, Option, Some, None, Result, Ok, Err, IfOk, OnErr, IsSomeAnd, IsUtf8}
 use Rattle.std.specs.List.{range_with_len}
 use Rattle.std.specs.Arc.{arc_value}
 use Rattle.dirgwako.specs.Alone.{RegistersAlone, GivesAlone}
@@ -212,10 +212,10 @@ module _ {A : Type 0} (answer : ℕ) (before after : RegistryView (SharedScanner
   GivesChildBy handle_of registry id values kind = IsNoList values
       ⊎ (All IsUtf8 values × GivesChild handle_of registry id values kind)
 
--- The buffer begins with these bytes, and so many they are; or it is too short for them (37), and is as it was
+-- The buffer begins with these bytes, behind which it is as it was, and so many they are; or it is too short for them (37), and is as it was
 abbrev pub IsHandedOver : (bytes : List ℕ) → (answer : ℕ) → (had has : List ℕ) → (has_len : ℕ) → Type 0
 IsHandedOver bytes answer had has has_len = (has_len ≡ length bytes)
-    × (((answer ≡ 0) × (take has_len has ≡ bytes)) ⊎ ((answer ≡ 37) × (length had < length bytes) × (has ≡ had)))
+    × (((answer ≡ 0) × (has ≡ bytes ++ drop (length bytes) had)) ⊎ ((answer ≡ 37) × (length had < length bytes) × (has ≡ had)))
 
 module _ (answer : ℕ) (before after : HeldRegistry) (had has : List ℕ) (had_len has_len : ℕ) where
   -- the text of a scrape that the registry gave was handed over; or there is no scrape or no memory for its text, and the buffer and the length

@@ -1,12 +1,11 @@
 //! Bytes in C's buffers.
-ghost use Rattle.std.specs.Prelude.{◌≡◌, ◌≤◌, length, take};
+ghost use Rattle.std.specs.Prelude.{◌≡◌, ◌≤◌, ◌++◌, length, drop};
 ghost use Rattle.dirgwako_c.specs.Registries.{IsHandedOver};
 
 /// Bytes, at the front of a buffer that has room for them.
-#[tactic(auto, using(std::proofs::lemmas::List::take_at))]
 fn fill(buffer: &mut [u8], bytes: &[u8])
     requires { length bytes.now ≤ length buffer.old }
-    ensures { take (length bytes.now) buffer.new ≡ bytes.now }
+    ensures { buffer.new ≡ bytes.now ++ drop (length bytes.now) buffer.old }
 {
     buffer[..bytes.len()].copy_from_slice(bytes);
 }
