@@ -9,7 +9,7 @@ use Rattle.metric_names.specs.declared.metric_name.MetricNameFault.{MetricNameFa
 -- 0 for one, and else why it is none: 36, it is not UTF-8; or the name's own refusal
 abbrev pub IsNameAnswer : (name : List ℕ) → (answer : ℕ) → Type 0
 IsNameAnswer name answer = ((answer ≡ 0) × IsMetricName name) ⊎ (((answer ≡ 36) × ¬ (IsUtf8 name))
-    ⊎ ((fault : MetricNameFault) × (answer ≡ number_of fault) × IsMetricNameFault name fault))
+    ⊎ ((fault : MetricNameFault) × IsUtf8 name × (answer ≡ number_of fault) × IsMetricNameFault name fault))
 
 -- what the refusal says was handed over; or there is none of this number (40), and the buffer and the length are as they were
 abbrev pub TellsRefusal : Option (List ℕ) → (answer : ℕ) → (had has : List ℕ) → (had_len has_len : ℕ) → Type 0

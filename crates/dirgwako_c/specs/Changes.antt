@@ -1,5 +1,5 @@
 -- Changes that C publishes as one version.
-use Rattle.std.specs.Prelude.{◌≡◌, ◌==◌, if◌then◌else◌, ◌⊎◌, ℕ, ◌<◌, List, map, length, All, Option, Some, None, IsSome, Result, OnOk, OnErr, IfErr}
+use Rattle.std.specs.Prelude.{◌≡◌, ◌==◌, if◌then◌else◌, ◌⊎◌, ℕ, ◌<◌, ◌≤◌, List, map, length, All, Option, Some, None, IsSome, Result, OnOk, OnErr, IfErr}
 use Rattle.ledger_core.specs.declared.op.Op.{Op}
 use Rattle.ledger_core.specs.declared.op.Op.TheVariants.{Inc, Observe, Up, Down}
 use Rattle.snapshot_update.specs.Faults.{apply_fault_number}
@@ -20,10 +20,10 @@ op_in c = if c.kind == 0 then Some (Inc c.slot c.by) else if c.kind == 1 then So
 abbrev pub IsOf : (registry : ℕ) → Change → Type 0
 IsOf registry c = c.registry ≡ registry
 
--- why there is no list of operations: some change is by a handle of another registry (16), or is of no kind (39); or there was no memory (6)
+-- why there is no list of operations: some change is by a handle of another registry (16), or is of no kind (39)
 abbrev pub IsNoList : (registry : ℕ) → List Change → (answer : ℕ) → Type 0
 IsNoList registry changes answer = ((answer ≡ 16) × ¬ (All (IsOf registry) changes))
-    ⊎ (((answer ≡ 39) × ¬ (All (λ c. IsSome (op_in c)) changes)) ⊎ (answer ≡ 6))
+    ⊎ ((answer ≡ 39) × ¬ (All (λ c. IsSome (op_in c)) changes))
 
 module _ {N C H G : ℕ} where
   -- The recorder is of the same board and worker. It did this, and the answer is 0, or the number of its refusal: it has published the
@@ -44,4 +44,4 @@ module _ {N C H G : ℕ} where
   -- at most so many changes were published as one version; or there are more (33), or no list, and nothing has changed
   abbrev pub Publishes : (most : ℕ) → List Change → (answer : ℕ) → (before after : SharedRecorder N C H G) → Type 0
   Publishes most changes answer before after = ((most < length changes) × (answer ≡ 33) × (after ≡ before))
-      ⊎ ((IsNoList (id_in before) changes answer × (after ≡ before)) ⊎ PublishesAll changes answer before after)
+      ⊎ ((IsNoList (id_in before) changes answer × (after ≡ before)) ⊎ ((length changes ≤ most) × PublishesAll changes answer before after))

@@ -4,6 +4,7 @@ use Rattle.expo_text.specs.Scraped.{Scraped}
 use Rattle.ledger_core.specs.declared.handles.Counter.{Counter}
 use Rattle.ledger_core.specs.declared.handles.Gauge.{Gauge}
 use Rattle.ledger_core.specs.declared.handles.Histogram.{Histogram}
+use Rattle.ledger_core.specs.Ops.{width}
 use Rattle.register_rule.specs.declared.view.Answer.{Answer}
 use Rattle.registry_state.specs.Journal.{scrapes}
 use Rattle.registry_state.specs.Kept.{RegistryView}
@@ -11,7 +12,7 @@ use Rattle.scrape_http.specs.declared.source.NoScrape.{NoScrape}
 use Rattle.scrape_http.specs.declared.source.NoScrape.TheVariants.{NoMemory, Contended}
 use Rattle.scrape_server.specs.Again.{AsksAgain}
 use Rattle.dirgwako_c.specs.Registries.{ScrapesBy, IsHandedOver, registry_in, spare_in}
-use Rattle.dirgwako_c.specs.declared.geometry.TheConstants.{WORKERS, COUNTERS, HISTOGRAMS, GAUGES, NUMBERS}
+use Rattle.dirgwako_c.specs.declared.geometry.TheConstants.{WORKERS, COUNTERS, HISTOGRAMS, GAUGES}
 use Rattle.dirgwako_c.specs.declared.held.HeldRegistry.{HeldRegistry}
 use Rattle.dirgwako_c.specs.declared.numbers.HistogramTotals.{HistogramTotals}
 use Rattle.dirgwako_c.specs.declared.shared_scanner.SharedScanner.{SharedScanner}
@@ -20,18 +21,24 @@ use Rattle.dirgwako_c.specs.declared.shared_scanner.SharedScanner.{SharedScanner
 abbrev pub numbers_of : (id : ℕ) → Answer → List ℕ
 numbers_of id moment = id ∷ (moment.vector ++ moment.totals)
 
+-- how many numbers a moment has
+abbrev pub many : ℕ
+many = 1 + WORKERS + width COUNTERS HISTOGRAMS GAUGES
+
 -- the totals among them
 abbrev pub totals_in : List ℕ → List ℕ
 totals_in numbers = drop (1 + WORKERS) numbers
 
--- why they tell nothing of a handle: there are not as many as a moment has (41), they are of another registry (16), or there is no such slot (11)
+-- why they tell nothing of a handle, the first that is so: there are not as many as a moment has (41), they are of another registry (16), or
+-- there is no such slot (11)
 abbrev pub TellsNothing : (numbers : List ℕ) (registry slot slots answer : ℕ) → Type 0
-TellsNothing numbers registry slot slots answer = ((answer ≡ 41) × (length numbers ≢ NUMBERS))
-    ⊎ (((answer ≡ 16) × (slice_index numbers 0 ≢ registry)) ⊎ ((answer ≡ 11) × (slots ≤ slot)))
+TellsNothing numbers registry slot slots answer = ((answer ≡ 41) × (length numbers ≢ many))
+    ⊎ ((length numbers ≡ many) × (((answer ≡ 16) × (slice_index numbers 0 ≢ registry))
+    ⊎ ((answer ≡ 11) × (slice_index numbers 0 ≡ registry) × (slots ≤ slot))))
 
 -- they are the numbers of a moment of this registry, and there is such a slot
 abbrev pub HaveSlot : (numbers : List ℕ) (registry slot slots : ℕ) → Type 0
-HaveSlot numbers registry slot slots = (length numbers ≡ NUMBERS) × (slice_index numbers 0 ≡ registry) × (slot < slots)
+HaveSlot numbers registry slot slots = (length numbers ≡ many) × (slice_index numbers 0 ≡ registry) × (slot < slots)
 
 -- the total of a counter was told, or nothing
 abbrev pub TellsCounter : (numbers : List ℕ) → Counter → (answer had has : ℕ) → Type 0

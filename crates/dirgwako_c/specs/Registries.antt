@@ -191,7 +191,8 @@ module _ {A : Type 0} (answer : ℕ) (before after : RegistryView (SharedScanner
   abbrev pub MakesFamilyBy : (id_of : A → FamilyId) (registry_of : A → ℕ) → (name help : List ℕ) (labels : List (List ℕ)) → Descriptor → Type 0
   MakesFamilyBy id_of registry_of name help labels desc =
       ((¬ (IsUtf8 name) ⊎ ¬ (IsUtf8 help)) × (answer ≡ 36) × (after ≡ before) × (has ≡ had))
-      ⊎ (IsNoList labels ⊎ (IsUtf8 name × IsUtf8 help × All IsUtf8 labels × MakesFamily id_of registry_of desc))
+      ⊎ ((IsUtf8 name × IsUtf8 help × IsNoList labels)
+      ⊎ (IsUtf8 name × IsUtf8 help × All IsUtf8 labels × MakesFamily id_of registry_of desc))
 
   -- this was made, of no digits and in group 0; or digits or a group were asked for, which there are none of yet (42), and nothing has changed
   abbrev pub MakesPlain : (digits group : ℕ) → (made : Type 0) → Type 0

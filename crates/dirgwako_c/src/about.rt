@@ -1,5 +1,6 @@
 //! What C asks without a registry.
-ghost use Rattle.std.specs.Prelude.{◌≡◌, ◌⊎◌, IsUtf8};
+ghost use Rattle.std.specs.Prelude.{◌≡◌, ◌⊎◌, ◌+◌, ◌*◌, IsUtf8};
+ghost use Rattle.ledger_core.specs.Ops.{width};
 ghost use Rattle.dirgwako_c.specs.About.{IsNameAnswer};
 
 use crate::change::Change;
@@ -69,19 +70,19 @@ pub struct Abi {
 #[unsafe(no_mangle)]
 pub extern "C" fn dirgwako_c_abi(abi: &mut Abi) -> u32
     ensures told { abi.new ≡ record {
-      version = ABI;
+      version = 1;
       workers = WORKERS;
       counters = COUNTERS;
       histograms = HISTOGRAMS;
       gauges = GAUGES;
-      numbers = NUMBERS;
-      changes = MOST_CHANGES;
-      counter_bytes = COUNTER_BYTES;
-      gauge_bytes = GAUGE_BYTES;
-      histogram_bytes = HISTOGRAM_BYTES;
-      family_bytes = FAMILY_BYTES;
-      change_bytes = CHANGE_BYTES;
-      totals_bytes = TOTALS_BYTES;
+      numbers = 1 + WORKERS + width COUNTERS HISTOGRAMS GAUGES;
+      changes = COUNTERS + HISTOGRAMS + 2 * GAUGES;
+      counter_bytes = 16;
+      gauge_bytes = 16;
+      histogram_bytes = 216;
+      family_bytes = 16;
+      change_bytes = 40;
+      totals_bytes = 216;
     } }
     ensures answer { result ≡ 0 }
 {

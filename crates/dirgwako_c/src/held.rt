@@ -1,4 +1,6 @@
 //! What C's handles hold: the geometry is settled here.
+ghost use Rattle.std.specs.Prelude.{◌≤◌, vec_capacity};
+ghost use Rattle.dirgwako_c.specs.declared.geometry.TheConstants.{MOST_CHANGES};
 
 use crate::geometry::{COUNTERS, GAUGES, HISTOGRAMS, WORKERS};
 use crate::shared_recorder::SharedRecorder;
@@ -13,8 +15,9 @@ use snapshot_scan::Snapshot;
 pub struct HeldRecorder {
     /// The recorder.
     pub recorder: SharedRecorder<WORKERS, COUNTERS, HISTOGRAMS, GAUGES>,
-    /// Room for the operations of a list.
+    /// Room for the operations of a list, the longest that there is.
     pub list: Vec<Op>,
+    ghost room: { MOST_CHANGES ≤ vec_capacity list },
 }
 
 /// A registry over a share in a board.

@@ -48,7 +48,7 @@ fn publish(held: &mut HeldRecorder, changes: &[Change]) -> u32
 /// Publishes these changes as one version, all of them or nothing: no scrape sees some of them alone.
 ///
 /// Answers 34, the handle is empty; 33, there are more than counters, histograms and twice the gauges; 16, a change is by a handle of another
-/// registry; 39, a change is of no kind; 15, 11, 12 as [`dirgwako::Recorder::publish`]; 6, out of memory. Nothing has changed then.
+/// registry; 39, a change is of no kind; 15, 11, 12 as [`dirgwako::Recorder::publish`]. Nothing has changed then. Takes no memory.
 #[unsafe(no_mangle)]
 pub extern "C" fn dirgwako_c_publish(
     alloc: Global,

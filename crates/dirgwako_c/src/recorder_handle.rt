@@ -14,7 +14,6 @@ use std::mem::replace;
 
 /// What C holds of a recorder: two words, zeros where it holds none.
 #[repr(C)]
-#[derive(Drop)]
 pub struct RecorderHandle {
     at: *mut u8,
     live: u64,
@@ -74,6 +73,7 @@ impl RecorderHandle {
     {
         let (live, handle) = self.with_live();
         if live == 0 {
+            let RecorderHandle { at: _, live: _ } = handle;
             return None;
         }
         Some(handle.into_loose(alloc).into_box())

@@ -21,6 +21,8 @@ loop-place-preserved c =
           ∙ (ap (λ (l : List (Option Op)). l ++ Some op ∷ []) kept.listed
           ∙ (ap (λ (o : Option Op). take place (map op_in changes) ++ o ∷ []) c.in-Some.ensures
           ∙ sym (more_mapped op_in changes place _ lt))));
+      room = omega (arith, kept.room, c.push.ensures.capacity);
+      count = search rules;
       of_it = subst (λ (l : List Change). All (IsOf c.args.registry) l) (sym (take_more changes place _ lt))
           (All-push (IsOf c.args.registry) (take place changes) _ kept.of_it c.if-changes-place.false);
     }

@@ -1,4 +1,4 @@
-use Rattle.std.proofs.Common.{rules, ◌≡◌, ℕ, ap, subst}
+use Rattle.std.proofs.Common.{rules, ◌≡◌, ap}
 use Rattle.std.specs.Prelude.{Option, Some, None, Result}
 use Rattle.expo_text.specs.Scraped.{Scraped}
 use Rattle.scrape_http.specs.Serves.{Gives}
