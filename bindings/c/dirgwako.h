@@ -5,7 +5,7 @@
    function says otherwise. Of this interface alone are
 
      34  DIRGWAKO_EMPTY        the handle holds nothing: it was not made, or was freed or given back
-     35  DIRGWAKO_NO_WORKER    each worker has a recorder
+     35  DIRGWAKO_NO_WORKER    no recorder is left
      36  DIRGWAKO_NOT_UTF8     a text is not UTF-8
      37  DIRGWAKO_TOO_SHORT    the buffer is too short; the length tells what it needs
      38  DIRGWAKO_NULL         a pointer is null
@@ -23,9 +23,9 @@
    time, and a registry wants a mutex where several threads register or scrape. Counting takes no lock and waits for nobody. A handle goes to
    another thread by a lock, by a thread's start or join, or by a flag that is stored with release order and loaded with acquire order.
 
-   What else the caller owes: a pointer that is not null points to what its type says, and what a call writes to overlaps nothing else that it is
-   given; a length counts what is there, texts end in a zero byte where no length is given; no call from a signal handler, nor in the forked child of a
-   process with threads; malloc and free are of one allocator. */
+   What else the caller owes: a pointer that is not null points to what its type says (what a call only writes to may be uninitialised), and what
+   a call writes to overlaps nothing else that it is given; a length counts what is there, texts end in a zero byte where no length is given; no
+   call from a signal handler, nor in the forked child of a process with threads; malloc and free are of one allocator. */
 #ifndef DIRGWAKO_H
 #define DIRGWAKO_H
 
@@ -119,8 +119,8 @@ typedef struct dirgwako_totals {
     uint64_t count;
 } dirgwako_totals;
 
-/* What a library was built for: the version of this interface; threads that count, counters, histograms and gauges; how many numbers a moment has, and
-   the most changes of one version; and the bytes of each plain struct, a family of each kind being alike. */
+/* What a library was built for: the version of this interface; threads that count, counters, histograms and gauges; how many numbers a moment has,
+   and the most changes of one version; and the bytes of each plain struct, a family of each kind being alike. */
 typedef struct dirgwako_abi {
     size_t version, workers, counters, histograms, gauges, numbers, changes;
     size_t counter_bytes, gauge_bytes, histogram_bytes, family_bytes, change_bytes, totals_bytes;
@@ -189,7 +189,7 @@ uint32_t dirgwako_c_scrape(dirgwako_registry *registry, uint8_t *buffer, size_t 
 uint64_t dirgwako_next_id(void);
 
 /* A new board and its registry, which keeps the last `window` scrapes, 1 to 1,024. What the handle held is freed.
-   31, the window is none; 6, out of memory. */
+   31, the window is none; 6, out of memory; 13, the library was built for numbers out of range. */
 static inline uint32_t dirgwako_registry_new(dirgwako_registry *registry, size_t window) {
     return registry ? dirgwako_c_registry_new(registry, dirgwako_next_id(), window) : (uint32_t)DIRGWAKO_NULL;
 }
@@ -214,8 +214,8 @@ static inline uint32_t dirgwako_recorder_free(dirgwako_recorder *recorder) {
     return recorder ? dirgwako_c_recorder_free(recorder) : (uint32_t)DIRGWAKO_NULL;
 }
 
-/* A counter without labels. 34; 36; 1, 2, 3, 5, the name or the help is none; 19, a name clashes with another family's; 22, no slot is left; 23, there
-   are 128 families; 6, out of memory. After 22, and after 6 for its number alone, its family stands without it. */
+/* A counter without labels. 34; 36; 1, 2, 3, 5, the name or the help is none; 19, a name clashes with another family's; 22, no slot is left; 23,
+   there are 128 families; 6, out of memory. After 22, and after 6 for its number alone, its family stands without it. */
 static inline uint32_t dirgwako_counter_new(dirgwako_registry *registry, const char *name, const char *help, dirgwako_counter *counter) {
     if (!registry || !name || !help || !counter) return DIRGWAKO_NULL;
     return dirgwako_c_counter_new(registry, (const uint8_t *)name, strlen(name), (const uint8_t *)help, strlen(help), counter);
@@ -247,7 +247,8 @@ static inline int dirgwako_texts(const char *const *texts, size_t count, dirgwak
     return 1;
 }
 
-/* A family of counters with at most 8 labels. 34; 36; 1 to 5, 7, 9, a text is none; 19, a name clashes; 23, there are 128 families; 6, out of memory. */
+/* A family of counters with at most 8 labels. 34; 36; 1 to 5, 7, 9, a text is none; 19, a name clashes; 23, there are 128 families; 6, out of
+   memory. */
 static inline uint32_t dirgwako_counter_family_new(dirgwako_registry *registry, const char *name, const char *help, const char *const *labels,
                                                 size_t count, dirgwako_counter_family *family) {
     dirgwako_text texts[DIRGWAKO_MOST_LABELS];
@@ -258,8 +259,9 @@ static inline uint32_t dirgwako_counter_family_new(dirgwako_registry *registry, 
                                       0, 0, family);
 }
 
-/* The counter of these label values, in the order of the labels, which is made where there is none. 34; 36; 20, the family is of another registry; 3, a
-   value is too long; 21, there are not as many values as labels; 22, no slot is left; 6, out of memory. */
+/* The counter of these label values, in the order of the labels, which is made where there is none. 34; 36; 20, the family is of another registry;
+   3, a value is too long; 21, there are not as many values as labels; 22, no slot is left; 6, out of memory; 28, the child is of another kind, by
+   two registries of one id. */
 static inline uint32_t dirgwako_counter_of(dirgwako_registry *registry, const dirgwako_counter_family *family, const char *const *values, size_t count,
                                         dirgwako_counter *counter) {
     dirgwako_text texts[DIRGWAKO_MOST_LABELS];
@@ -269,7 +271,8 @@ static inline uint32_t dirgwako_counter_of(dirgwako_registry *registry, const di
     return dirgwako_c_counter_of(registry, family, texts, count, counter);
 }
 
-/* A family of gauges with at most 8 labels. 34; 36; 1 to 5, 7, 9, a text is none; 19, a name clashes; 23, there are 128 families; 6, out of memory. */
+/* A family of gauges with at most 8 labels. 34; 36; 1 to 5, 7, 9, a text is none; 19, a name clashes; 23, there are 128 families; 6, out of
+   memory. */
 static inline uint32_t dirgwako_gauge_family_new(dirgwako_registry *registry, const char *name, const char *help, const char *const *labels,
                                                 size_t count, dirgwako_gauge_family *family) {
     dirgwako_text texts[DIRGWAKO_MOST_LABELS];
@@ -280,8 +283,9 @@ static inline uint32_t dirgwako_gauge_family_new(dirgwako_registry *registry, co
                                       0, 0, family);
 }
 
-/* The gauge of these label values, in the order of the labels, which is made where there is none. 34; 36; 20, the family is of another registry; 3, a
-   value is too long; 21, there are not as many values as labels; 22, no slot is left; 6, out of memory. */
+/* The gauge of these label values, in the order of the labels, which is made where there is none. 34; 36; 20, the family is of another registry;
+   3, a value is too long; 21, there are not as many values as labels; 22, no slot is left; 6, out of memory; 28, the child is of another kind, by
+   two registries of one id. */
 static inline uint32_t dirgwako_gauge_of(dirgwako_registry *registry, const dirgwako_gauge_family *family, const char *const *values, size_t count,
                                         dirgwako_gauge *gauge) {
     dirgwako_text texts[DIRGWAKO_MOST_LABELS];
@@ -300,12 +304,14 @@ static inline uint32_t dirgwako_histogram_family_new(dirgwako_registry *registry
     if (!registry || !name || !help || !family || (!bounds && bound_count)) return DIRGWAKO_NULL;
     if (count > DIRGWAKO_MOST_LABELS) return 9;
     if (!dirgwako_texts(labels, count, texts)) return DIRGWAKO_NULL;
-    return dirgwako_c_histogram_family_new(registry, (const uint8_t *)name, strlen(name), (const uint8_t *)help, strlen(help), texts, count, bounds ? bounds : &none, bound_count,
+    return dirgwako_c_histogram_family_new(registry, (const uint8_t *)name, strlen(name), (const uint8_t *)help, strlen(help), texts, count,
+                                      bounds ? bounds : &none, bound_count,
                                       0, 0, family);
 }
 
-/* The histogram of these label values, in the order of the labels, which is made where there is none. 34; 36; 20, the family is of another registry; 3, a
-   value is too long; 21, there are not as many values as labels; 22, no slot is left; 6, out of memory. */
+/* The histogram of these label values, in the order of the labels, which is made where there is none. 34; 36; 20, the family is of another
+   registry; 3, a value is too long; 21, there are not as many values as labels; 22, no slot is left; 6, out of memory; 28, the child is of another
+   kind, by two registries of one id. */
 static inline uint32_t dirgwako_histogram_of(dirgwako_registry *registry, const dirgwako_histogram_family *family, const char *const *values, size_t count,
                                         dirgwako_histogram *histogram) {
     dirgwako_text texts[DIRGWAKO_MOST_LABELS];
@@ -380,7 +386,8 @@ static inline uint32_t dirgwako_kept(dirgwako_registry *registry, size_t *kept) 
 
 /* Makes a scrape, which is kept, and reads its numbers, all of one moment, for the three functions below: at most DIRGWAKO_MOST_NUMBERS, at the front
    of the array; `len` is how many. The first is the registry's id, behind it stands how often each worker has published, and then the totals.
-   34; 14, four scans were given up, one after the other; 6, out of memory; 37, the array is too short, and `len` tells what is needed. */
+   34; 14, four scans were given up, one after the other; 6, out of memory; 37, the array is too short, `len` tells what is needed, and the scrape is
+   kept. */
 static inline uint32_t dirgwako_read(dirgwako_registry *registry, uint64_t *numbers, size_t room, size_t *len) {
     static uint64_t none;
     if (!registry || !len || (!numbers && room)) return DIRGWAKO_NULL;
@@ -395,7 +402,8 @@ static inline uint32_t dirgwako_read_kept(dirgwako_registry *registry, size_t nu
 }
 
 /* Exact totals, once all recorders are given back: each is exactly the sum of all that was counted. Nothing is scanned or kept. Takes no memory.
-   34; 18, the recorder of worker `missing` was not given back (that of a worker whose recorder was freed never is); 37. */
+   34; 18, the recorder of worker `missing` was not given back (that of a worker whose recorder was freed never is); 16, two that were are of one
+   worker, by two boards of one id; 37. */
 static inline uint32_t dirgwako_settle(dirgwako_registry *registry, uint64_t *numbers, size_t room, size_t *len, size_t *missing) {
     static uint64_t none;
     if (!registry || !len || !missing || (!numbers && room)) return DIRGWAKO_NULL;
@@ -407,7 +415,7 @@ static inline uint32_t dirgwako_counter_total(const uint64_t *numbers, size_t le
     return numbers && counter && total ? dirgwako_c_counter_total(numbers, len, counter, total) : (uint32_t)DIRGWAKO_NULL;
 }
 
-/* The value of a gauge among them. As dirgwako_counter_total. */
+/* The value of a gauge among them. As dirgwako_counter_total; and 41 where its ups or its downs are 2^53 or more. */
 static inline uint32_t dirgwako_gauge_value(const uint64_t *numbers, size_t len, const dirgwako_gauge *gauge, int64_t *value) {
     return numbers && gauge && value ? dirgwako_c_gauge_value(numbers, len, gauge, value) : (uint32_t)DIRGWAKO_NULL;
 }
@@ -433,16 +441,18 @@ static inline uint32_t dirgwako_exponential(uint64_t start, uint64_t factor, uin
 }
 
 /* The text of a scrape, all series at one moment, at the front of the buffer; `len` is how many bytes it has. No zero byte stands behind it.
-   34; 14, four scans were given up, one after the other; 6, out of memory; 37, the buffer is too short, and `len` tells what this text needs. */
+   34; 14, four scans were given up, one after the other; 6, out of memory; 37, the buffer is too short, `len` tells what this text needs, and the
+   scrape is kept. */
 static inline uint32_t dirgwako_scrape(dirgwako_registry *registry, char *buffer, size_t room, size_t *len) {
     static uint8_t none;
     if (!registry || !len || (!buffer && room)) return DIRGWAKO_NULL;
     return dirgwako_c_scrape(registry, buffer ? (uint8_t *)buffer : &none, room, len);
 }
 
-/* The reply to a request of HTTP/1.1 that was read whole: head and body, at the front of the buffer; `len` is how many bytes it has. The status is in
-   its first line: 200 with the text of a scrape, 404, 405, 400, 431, or 503 where four scans were given up or memory was wanting. 34; 26, the request has
-   no byte; 25, there is no memory for the reply; 37, the buffer is too short, and `len` tells what this reply needs. */
+/* The reply to a request of HTTP/1.1 that was read whole: head and body, at the front of the buffer; `len` is how many bytes it has. The status is
+   in its first line: 200 with the text of a scrape, 404, 405, 400, 431, or 503 where four scans were given up or memory was wanting. 34; 26, the
+   request has no byte; 25, there is no memory for the reply; 37, the buffer is too short, and `len` tells what this reply needs. After these two a
+   scrape may be kept. */
 static inline uint32_t dirgwako_reply(dirgwako_registry *registry, const char *request, size_t request_len, char *buffer, size_t room,
                                       size_t *len) {
     static uint8_t none;

@@ -98,7 +98,8 @@ pub record IsNew (id window : ℕ) (held : HeldRegistry) : Type 0 where
 -- why there is none: 31 the window is none; else 6, there was no memory, or 13, the library was built for numbers out of range
 abbrev pub IsNewAnswer : (window answer : ℕ) → Type 0
 IsNewAnswer window answer = (¬ (IsWindow window) × (answer ≡ 31))
-    ⊎ (IsWindow window × ((answer ≡ 6) ⊎ ((answer ≡ 13) × ¬ (IsBoardSize WORKERS COUNTERS HISTOGRAMS GAUGES 1))))
+    ⊎ (IsWindow window × (((answer ≡ 6) × IsBoardSize WORKERS COUNTERS HISTOGRAMS GAUGES 1)
+    ⊎ ((answer ≡ 13) × ¬ (IsBoardSize WORKERS COUNTERS HISTOGRAMS GAUGES 1))))
 
 -- a handle was given such a registry; or it is as it was
 abbrev pub Opens : (id window answer : ℕ) → (before after : Option HeldRegistry) → Type 0

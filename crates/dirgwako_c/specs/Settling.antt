@@ -46,7 +46,7 @@ pub record IsTwice (workers : List OneWorker) : Type 0 where
 
 -- they are not all workers, each once
 abbrev pub IsApart : List OneWorker → Apart → Type 0
-IsApart workers (Missing worker) = IsMissing workers worker
+IsApart workers (Missing worker) = AreOnce workers × IsMissing workers worker
 IsApart workers Twice = IsTwice workers
 
 -- a vector has how often each of them has published, at its place
@@ -62,12 +62,12 @@ pub record AreExact (workers : List OneWorker) (taken : Taken) : Type 0 where
   pub settled : IsSettled workers taken
 
 -- What is held is as it was. The numbers of all that the spare recorders have published were handed over, as those of a moment, and they are
--- the recorders of all workers; or worker `missing` is the least whose recorder is not there (18), or two are of one worker (16), and the rest
--- is as it was
+-- the recorders of all workers; or each is there once at most, and worker `missing` is the least whose recorder is not (18), or two are of one
+-- worker (16), and the rest is as it was
 abbrev pub Settles : (answer : ℕ) → (before after : HeldRegistry) → (had has : List ℕ) → (had_len has_len had_missing has_missing : ℕ) → Type 0
 Settles answer before after had has had_len has_len had_missing has_missing = (registry_in after ≡ registry_in before)
     × (spare_in after ≡ spare_in before)
     × (((taken : Taken) × AreExact (workers_of (spare_in before)) taken
     × IsHandedOver (numbers_of (registry_in before).id (as_answer taken)) answer had has has_len × (has_missing ≡ had_missing))
-    ⊎ (((answer ≡ 18) × IsMissing (workers_of (spare_in before)) has_missing × (has ≡ had) × (has_len ≡ had_len))
+    ⊎ (((answer ≡ 18) × AreOnce (workers_of (spare_in before)) × IsMissing (workers_of (spare_in before)) has_missing × (has ≡ had) × (has_len ≡ had_len))
     ⊎ ((answer ≡ 16) × IsTwice (workers_of (spare_in before)) × (has ≡ had) × (has_len ≡ had_len) × (has_missing ≡ had_missing))))

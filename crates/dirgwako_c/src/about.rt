@@ -25,7 +25,7 @@ pub const GAUGE_BYTES: usize = size_of::<Gauge>();
 /// The bytes of a histogram's handle.
 pub const HISTOGRAM_BYTES: usize = size_of::<Histogram>();
 
-/// The bytes of a family of each kind.
+/// The bytes of a family; those of each kind are laid out alike.
 pub const FAMILY_BYTES: usize = size_of::<CounterFamily>();
 
 /// The bytes of a change.

@@ -51,7 +51,7 @@ pub extern "C" fn dirgwako_c_registry_free(alloc: Global, registry: &mut Registr
 
 /// A recorder that nobody has, into a recorder's handle. What that held is freed: its worker counts no more. Takes no memory.
 ///
-/// Answers 34, the registry's handle is empty; 35, each worker has a recorder.
+/// Answers 34, the registry's handle is empty; 35, no recorder is left.
 #[unsafe(no_mangle)]
 pub extern "C" fn dirgwako_c_recorder_take(
     alloc: Global,

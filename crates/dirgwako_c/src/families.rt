@@ -103,8 +103,9 @@ fn counter_of_in(
 
 /// The counter of these label values, which is made where there is none.
 ///
-/// Answers 34, the handle is empty; 36, a text is not UTF-8; 20, the family is of another registry; 3 of a value; 21, 22, 6 as
-/// [`dirgwako::Registrar::counter_of`]. Nothing has changed then.
+/// Answers 34, the handle is empty; 36, a text is not UTF-8; 20, the family is of another registry; 3 of a value; 21, 22, 6, 28 as
+/// [`dirgwako::Registrar::counter_of`]. What C has is as it was then, and nothing else has
+/// changed, unless by 28, which two registries of one id alone bring about, the child was made.
 #[unsafe(no_mangle)]
 pub extern "C" fn dirgwako_c_counter_of(
     alloc: Global,
@@ -215,8 +216,9 @@ fn gauge_of_in(
 
 /// The gauge of these label values, which is made where there is none.
 ///
-/// Answers 34, the handle is empty; 36, a text is not UTF-8; 20, the family is of another registry; 3 of a value; 21, 22, 6 as
-/// [`dirgwako::Registrar::gauge_of`]. Nothing has changed then.
+/// Answers 34, the handle is empty; 36, a text is not UTF-8; 20, the family is of another registry; 3 of a value; 21, 22, 6, 28 as
+/// [`dirgwako::Registrar::gauge_of`]. What C has is as it was then, and nothing else has
+/// changed, unless by 28, which two registries of one id alone bring about, the child was made.
 #[unsafe(no_mangle)]
 pub extern "C" fn dirgwako_c_gauge_of(
     alloc: Global,
@@ -337,8 +339,9 @@ fn histogram_of_in(
 
 /// The histogram of these label values, which is made where there is none.
 ///
-/// Answers 34, the handle is empty; 36, a text is not UTF-8; 20, the family is of another registry; 3 of a value; 21, 22, 6 as
-/// [`dirgwako::Registrar::histogram_of`]. Nothing has changed then.
+/// Answers 34, the handle is empty; 36, a text is not UTF-8; 20, the family is of another registry; 3 of a value; 21, 22, 6, 28 as
+/// [`dirgwako::Registrar::histogram_of`]. What C has is as it was then, and nothing else has
+/// changed, unless by 28, which two registries of one id alone bring about, the child was made.
 #[unsafe(no_mangle)]
 pub extern "C" fn dirgwako_c_histogram_of(
     alloc: Global,

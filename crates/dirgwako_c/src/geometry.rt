@@ -1,4 +1,5 @@
-//! The geometry of the board, which is settled when the library is built. Another is another library: `bindings/c/build.sh` takes four numbers.
+//! The geometry of the board, which is settled when the library is built: `bindings/c/build.sh` sets these four numbers, and proves the crate for
+//! them. Here no two of them are alike, so that no proof takes one for another.
 
 /// Threads that count, 1 to 32.
 pub const WORKERS: usize = 4;
@@ -10,7 +11,7 @@ pub const COUNTERS: usize = 64;
 pub const HISTOGRAMS: usize = 8;
 
 /// Gauges, at most 64.
-pub const GAUGES: usize = 8;
+pub const GAUGES: usize = 16;
 
 /// The most changes of one version that C publishes: each counter, one value of each histogram, and each gauge both ways.
 pub const MOST_CHANGES: usize = COUNTERS + HISTOGRAMS + 2 * GAUGES;

@@ -1,7 +1,7 @@
 //! Dirgwako for C: a board of one geometry, its registry, and recorders that threads count with.
 //!
 //! What C holds is a handle of two words, zeros where it holds nothing. A call that needs what an empty handle has not is refused. Each call
-//! answers 0, or the number of a refusal (docs/REFUSALS.md).
+//! answers 0, or the number of a refusal (docs/REFUSALS.md); `dirgwako_c_place` alone a place.
 #![tactic(auto)]
 
 mod about;

@@ -96,7 +96,7 @@ fn tell_difference(up: u64, down: u64, value: &mut i64)
 
 /// The value of a gauge, its ups less its downs, among numbers that were read.
 ///
-/// Answers 41, 16 and 11 as [`dirgwako_c_counter_total`].
+/// Answers 41, 16 and 11 as [`dirgwako_c_counter_total`], and 41 also where the ups or the downs are 2^53 or more.
 #[unsafe(no_mangle)]
 pub extern "C" fn dirgwako_c_gauge_value(numbers: &[u64], gauge: &Gauge, value: &mut i64) -> u32
     ensures { TellsGauge numbers.now gauge.now result value.old value.new }

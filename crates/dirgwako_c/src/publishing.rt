@@ -1,5 +1,6 @@
 //! What a thread calls that publishes several changes as one version.
-ghost use Rattle.std.specs.Prelude.{◌≡◌};
+ghost use Rattle.std.specs.Prelude.{◌≡◌, ◌+◌, ◌*◌};
+ghost use Rattle.dirgwako_c.specs.declared.geometry.TheConstants.{COUNTERS, HISTOGRAMS, GAUGES};
 ghost use Rattle.bucket_math.specs.Bounds.{place_of};
 ghost use Rattle.snapshot_update.specs.Faults.{apply_fault_number};
 ghost use Rattle.dirgwako_c.specs.Held.{answer_of, Calls};
@@ -33,7 +34,7 @@ fn answer(done: Result<(), ApplyFault>) -> u32
 
 /// Publishes these changes as one version, if there are not too many.
 fn publish(held: &mut HeldRecorder, changes: &[Change]) -> u32
-    ensures { Publishes MOST_CHANGES changes.now result held.old.recorder held.new.recorder }
+    ensures { Publishes (COUNTERS + HISTOGRAMS + 2 * GAUGES) changes.now result held.old.recorder held.new.recorder }
 {
     if changes.len() > MOST_CHANGES {
         return 33;
@@ -55,7 +56,7 @@ pub extern "C" fn dirgwako_c_publish(
     recorder: &mut RecorderHandle,
     changes: &[Change],
 ) -> u32
-    ensures { Calls (Unit {0}) (λ before after. Publishes MOST_CHANGES changes.now result before.recorder after.recorder) result
+    ensures { Calls (Unit {0}) (λ before after. Publishes (COUNTERS + HISTOGRAMS + 2 * GAUGES) changes.now result before.recorder after.recorder) result
         recorder.old.value recorder.new.value }
 {
     let Some(mut held) = recorder.take(alloc) else {

@@ -42,7 +42,7 @@ pub const REFUSALS: [&str; 43] = [
     "the crew was opened before",
     "the list or the tally is full",
     "the handle holds nothing",
-    "each worker has a recorder",
+    "no recorder is left",
     "a text is not UTF-8",
     "the buffer is too short",
     "a pointer is null",

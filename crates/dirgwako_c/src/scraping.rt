@@ -49,7 +49,7 @@ fn print_to(registry: &mut HeldRegistry, buffer: &mut [u8], len: &mut usize) -> 
 /// many bytes it has.
 ///
 /// Answers 34, the handle is empty; 14, four scans were given up, one after the other; 6, out of memory; 37, the buffer is too short: `len`
-/// tells how many bytes this text has, and a later one may have more. The scrape is kept then as well.
+/// tells how many bytes this text has, and a later one may have more. The scrape is kept then as well, and at 6 where its text alone found none.
 #[unsafe(no_mangle)]
 pub extern "C" fn dirgwako_c_scrape(
     alloc: Global,

@@ -1,19 +1,26 @@
 //! What C holds may go to another thread.
+ghost use Rattle.std.specs.Prelude.{◌≡◌};
 
 use crate::recorder_handle::RecorderHandle;
 use crate::registry_handle::RegistryHandle;
 
 /// What may go to another thread, as it was.
-fn sent<T: Send>(held: T) -> T {
+fn sent<T: Send>(held: T) -> T
+    ensures { result ≡ held }
+{
     held
 }
 
 /// A recorder's handle may go to another thread.
-pub fn recorder_sent(handle: RecorderHandle) -> RecorderHandle {
+pub fn recorder_sent(handle: RecorderHandle) -> RecorderHandle
+    ensures { result ≡ handle }
+{
     sent(handle)
 }
 
 /// A registry's may.
-pub fn registry_sent(handle: RegistryHandle) -> RegistryHandle {
+pub fn registry_sent(handle: RegistryHandle) -> RegistryHandle
+    ensures { result ≡ handle }
+{
     sent(handle)
 }

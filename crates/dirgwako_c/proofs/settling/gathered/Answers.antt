@@ -19,12 +19,14 @@ mark-requires-clause-none c = λ i lt. all_false WORKERS i lt
 pub returns-then-not-marks-worker-clause-apart : goal.returns-then-not-marks-worker-clause-apart
 returns-then-not-marks-worker-clause-apart c =
     let i : ℕ = c.loop-worker.worker in let marks = c.mark.new.marks in let lt = c.loop-worker-test.true in
-    let all : length marks ≡ WORKERS = c.mark.auto.marks in
-    record {
-      inside = lt;
-      none = (c.if-not-mark.ensures.marks refl i lt).1 (there marks i false (omega (arith, lt, all)) ∙ ap some c.if-not-marks-worker.true);
-      least = λ j below. (c.if-not-mark.ensures.marks refl j (omega (arith, below, lt))).0 (c.loop-worker.invariant j below);
-    }
+    let all : length marks ≡ WORKERS = c.mark.auto.marks in (
+      c.if-not-mark.ensures.once refl,
+      record {
+        inside = lt;
+        none = (c.if-not-mark.ensures.marks refl i lt).1 (there marks i false (omega (arith, lt, all)) ∙ ap some c.if-not-marks-worker.true);
+        least = λ j below. (c.if-not-mark.ensures.marks refl j (omega (arith, below, lt))).0 (c.loop-worker.invariant j below);
+      },
+    )
 
 pub loop-worker-preserved : goal.loop-worker-preserved
 loop-worker-preserved c = λ j below.
