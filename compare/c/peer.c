@@ -43,20 +43,17 @@ static void observe(struct counting *it, long rounds) {
     for (long i = 0; i < rounds; i++) want(dirgwako_observe(&it->recorder, &it->sizes, 7));
 }
 
+/* Lists of ten changes, which are made before, as within Rattle. */
 static void inc_10(struct counting *it, long rounds) {
     dirgwako_change changes[TEN];
-    for (long i = 0; i < rounds; i++) {
-        for (int k = 0; k < TEN; k++) changes[k] = dirgwako_change_inc(&it->ten[k], 1);
-        want(dirgwako_publish(&it->recorder, changes, TEN));
-    }
+    for (int k = 0; k < TEN; k++) changes[k] = dirgwako_change_inc(&it->ten[k], 1);
+    for (long i = 0; i < rounds; i++) want(dirgwako_publish(&it->recorder, changes, TEN));
 }
 
 static void observe_10(struct counting *it, long rounds) {
     dirgwako_change changes[TEN];
-    for (long i = 0; i < rounds; i++) {
-        for (int k = 0; k < TEN; k++) changes[k] = dirgwako_change_observe(&it->sizes, BOUNDS[k]);
-        want(dirgwako_publish(&it->recorder, changes, TEN));
-    }
+    for (int k = 0; k < TEN; k++) changes[k] = dirgwako_change_observe(&it->sizes, BOUNDS[k]);
+    for (long i = 0; i < rounds; i++) want(dirgwako_publish(&it->recorder, changes, TEN));
 }
 
 /* A tally of one counter, which is published every thousandth time. The barrier keeps the compiler from adding up a whole loop at once. */
