@@ -101,14 +101,14 @@ typedef struct dirgwako_histogram_family {
     size_t number;
 } dirgwako_histogram_family;
 
-/* A change, of which several are published as one version. `place` is that of a value's bucket; `kind` is 0 where a counter rises, 1 where a value
-   is counted, 2 where a gauge rises and 3 where it falls. */
+/* A change, of which several are published as one version. `kind` is 0 where a counter rises, 1 where a value is counted, 2 where a gauge rises and 3
+   where it falls; `by` is what is added, or of a value the place of its bucket; `value` is the value that is counted. */
 typedef struct dirgwako_change {
     uint64_t registry;
+    uint64_t kind;
     size_t slot;
     uint64_t by;
-    size_t place;
-    uint64_t kind;
+    uint64_t value;
 } dirgwako_change;
 
 /* The totals of a histogram: how many values fell into the bucket of each bound alone, behind the last bound those that are over it; their sum and
@@ -344,25 +344,25 @@ static inline uint32_t dirgwako_down(dirgwako_recorder *recorder, const dirgwako
 
 /* That a counter rises by `by`. The pointer is not null. */
 static inline dirgwako_change dirgwako_change_inc(const dirgwako_counter *counter, uint64_t by) {
-    dirgwako_change change = {counter->registry, counter->slot, by, 0, 0};
+    dirgwako_change change = {counter->registry, 0, counter->slot, by, 0};
     return change;
 }
 
 /* That a value is counted. The pointer is not null. */
 static inline dirgwako_change dirgwako_change_observe(const dirgwako_histogram *histogram, uint64_t value) {
-    dirgwako_change change = {histogram->registry, histogram->slot, value, dirgwako_c_place(histogram, value), 1};
+    dirgwako_change change = {histogram->registry, 1, histogram->slot, dirgwako_c_place(histogram, value), value};
     return change;
 }
 
 /* That a gauge rises by `by`. The pointer is not null. */
 static inline dirgwako_change dirgwako_change_up(const dirgwako_gauge *gauge, uint64_t by) {
-    dirgwako_change change = {gauge->registry, gauge->slot, by, 0, 2};
+    dirgwako_change change = {gauge->registry, 2, gauge->slot, by, 0};
     return change;
 }
 
 /* That a gauge falls by `by`. The pointer is not null. */
 static inline dirgwako_change dirgwako_change_down(const dirgwako_gauge *gauge, uint64_t by) {
-    dirgwako_change change = {gauge->registry, gauge->slot, by, 0, 3};
+    dirgwako_change change = {gauge->registry, 3, gauge->slot, by, 0};
     return change;
 }
 

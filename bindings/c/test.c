@@ -279,7 +279,7 @@ static void lists(void) {
     wrong[1].slot = 100000;
     is("no such slot", dirgwako_publish(&recorder, wrong, 2), 11);
     wrong[1] = all[1];
-    wrong[1].place = 25;
+    wrong[1].by = 25;
     is("no such place", dirgwako_publish(&recorder, wrong, 2), 11);
     wrong[1] = all[1];
     wrong[1].registry++;

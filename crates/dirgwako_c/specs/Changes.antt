@@ -13,7 +13,7 @@ use Rattle.dirgwako_c.specs.declared.shared_recorder.SharedRecorder.{SharedRecor
 
 -- its operation, if it is of a kind
 abbrev pub op_in : Change → Option Op
-op_in c = if c.kind == 0 then Some (Inc c.slot c.by) else if c.kind == 1 then Some (Observe c.slot c.place c.by)
+op_in c = if c.kind == 0 then Some (Inc c.slot c.by) else if c.kind == 1 then Some (Observe c.slot c.by c.value)
     else if c.kind == 2 then Some (Up c.slot c.by) else if c.kind == 3 then Some (Down c.slot c.by) else None
 
 -- it is by a handle of this registry

@@ -5,20 +5,20 @@ ghost use Rattle.dirgwako_c.specs.Changes.{op_in, IsOf, IsNoList};
 
 use ledger_core::Op;
 
-/// A change of a metric.
+/// A change of a metric. Its words stand as those of an operation do, so that a list is copied and not converted.
 #[repr(C)]
 #[derive(Clone, Copy)]
 pub struct Change {
     /// The id in the handle.
     pub registry: u64,
-    /// The slot in the handle.
-    pub slot: usize,
-    /// What is added, or the value.
-    pub by: u64,
-    /// Of a value, the place of its bucket.
-    pub place: usize,
     /// 0 a counter rises, 1 a value of a histogram is counted, 2 a gauge rises, 3 a gauge falls.
     pub kind: u64,
+    /// The slot in the handle.
+    pub slot: usize,
+    /// What is added; of a value, the place of its bucket.
+    pub by: u64,
+    /// The value that is counted; of other kinds nothing.
+    pub value: u64,
 }
 
 impl Change {
@@ -33,8 +33,8 @@ impl Change {
             }),
             1 => Some(Op::Observe {
                 hist: self.slot,
-                place: self.place,
-                value: self.by,
+                place: self.by as usize,
+                value: self.value,
             }),
             2 => Some(Op::Up {
                 gauge: self.slot,
