@@ -1,6 +1,5 @@
 //! Changes, of which C publishes several as one version.
-ghost use Rattle.std.specs.Prelude.{◌≡◌, ◌≤◌, ◌⊎◌, length, vec_capacity, map, Some, All, OnOk, IfErr};
-ghost use Rattle.dirgwako_c.specs.declared.geometry.TheConstants.{MOST_CHANGES};
+ghost use Rattle.std.specs.Prelude.{◌≡◌, ◌≤◌, ◌⊎◌, length, take, map, Some, All, OnOk, IfErr};
 ghost use Rattle.dirgwako_c.specs.Changes.{op_in, IsOf, IsNoList};
 
 use ledger_core::Op;
@@ -49,20 +48,18 @@ impl Change {
     }
 }
 
-/// The operations of these changes, into a list that has room for them, if each is by a handle of this registry, and of a kind.
+/// The operations of these changes, at the front of a list that has room for them, if each is by a handle of this registry, and of a kind.
 ///
 /// # Errors
 ///
 /// 16 and 39.
-pub(crate) fn list_ops(list: &mut Vec<Op>, registry: u64, changes: &[Change]) -> Result<(), u32>
-    requires room { MOST_CHANGES ≤ vec_capacity list.old }
-    requires few { length changes.now ≤ MOST_CHANGES }
-    ensures room { MOST_CHANGES ≤ vec_capacity list.new }
-    ensures listed { OnOk result (map Some list.new.items ≡ map op_in changes.now) }
+pub(crate) fn list_ops(list: &mut [Op], registry: u64, changes: &[Change]) -> Result<(), u32>
+    requires few { length changes.now ≤ length list.old }
+    ensures room { length list.new ≡ length list.old }
+    ensures listed { OnOk result (map Some (take (length changes.now) list.new) ≡ map op_in changes.now) }
     ensures of_it { OnOk result (All (IsOf registry) changes.now) }
     ensures fault { IfErr result (IsNoList registry changes.now) }
 {
-    list.clear();
     for place in 0..changes.len() {
         if changes[place].registry != registry {
             return Err(16);
@@ -70,9 +67,7 @@ pub(crate) fn list_ops(list: &mut Vec<Op>, registry: u64, changes: &[Change]) ->
         let Some(op) = changes[place].op() else {
             return Err(39);
         };
-        let Ok(()) = list.push(op) else {
-            unreachable!()
-        };
+        list[place] = op;
     }
     Ok(())
 }

@@ -1,5 +1,5 @@
 //! What C's handles hold: the geometry is settled here.
-ghost use Rattle.std.specs.Prelude.{◌≤◌, vec_capacity};
+ghost use Rattle.std.specs.Prelude.{◌≡◌, length};
 ghost use Rattle.dirgwako_c.specs.declared.geometry.TheConstants.{MOST_CHANGES};
 
 use crate::geometry::{COUNTERS, GAUGES, HISTOGRAMS, WORKERS};
@@ -15,9 +15,9 @@ use snapshot_scan::Snapshot;
 pub struct HeldRecorder {
     /// The recorder.
     pub recorder: SharedRecorder<WORKERS, COUNTERS, HISTOGRAMS, GAUGES>,
-    /// Room for the operations of a list, the longest that there is.
+    /// Where the operations of a list stand, of the longest that there is.
     pub list: Vec<Op>,
-    ghost room: { MOST_CHANGES ≤ vec_capacity list },
+    ghost room: { length list.items ≡ MOST_CHANGES },
 }
 
 /// A registry over a share in a board.

@@ -11,6 +11,7 @@ use crate::shared_recorder::SharedRecorder;
 use crate::shared_scanner::SharedScanner;
 use crate::spare::Spare;
 use dirgwako::{Registrar, RegistryState};
+use ledger_core::Op;
 use register_rule::Board;
 use snapshot_scan::Snapshot;
 use snapshot_update::{Crew, Worker};
@@ -31,7 +32,7 @@ fn boxed(
     ensures worker { IfOk result (λ b. worker_in (recorder_in b.value) ≡ worker) }
 {
     let recorder = SharedRecorder::new(Arc::try_clone(board)?, worker);
-    let list = Vec::with_capacity(alloc, MOST_CHANGES)?;
+    let list = vec![in alloc; Op::Inc { counter: 0, by: 0 }; MOST_CHANGES]?;
     match Box::new(alloc, HeldRecorder { recorder, list }) {
         Ok(made) => Ok(made),
         Err(_) => Err(AllocError),

@@ -41,7 +41,7 @@ fn publish(held: &mut HeldRecorder, changes: &[Change]) -> u32
     }
     let registry = held.recorder.id();
     match list_ops(&mut held.list, registry, changes) {
-        Ok(()) => answer(held.recorder.apply(&held.list)),
+        Ok(()) => answer(held.recorder.apply(&held.list[..changes.len()])),
         Err(number) => number,
     }
 }
