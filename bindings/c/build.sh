@@ -8,7 +8,7 @@
 #   build.sh --compiler ..    the same by Rattle's own compiler and not by LLVM
 #   build.sh install PREFIX   copies what was built last to PREFIX/lib, PREFIX/include and PREFIX/lib/pkgconfig
 #
-# The first build proves all crates below: a quarter of an hour on 4 cores, or more.
+# The first build proves all crates below: twenty to thirty minutes on 4 cores.
 set -eu
 here=$(cd "$(dirname "$0")" && pwd)
 top=$(cd "$here/../.." && pwd)
