@@ -76,10 +76,10 @@ def passes(program, *words, seconds=300):
     return int(told[1])
 
 
-def tests(prefix, room, *more, library="dirgwako"):
-    """The tests, with an archive; returns how many passed."""
+def tests(prefix, room, *more):
+    """The tests, with the archive; returns how many passed."""
     sources = [HERE / f"test{it}.c" for it in ("", "_numbers", "_shared")]
-    done("cc", "-std=c99", "-D_POSIX_C_SOURCE=200809L", *STRICT, *more, *sources, f"-I{prefix}/include", prefix / f"lib/lib{library}.a",
+    done("cc", "-std=c99", "-D_POSIX_C_SOURCE=200809L", *STRICT, *more, *sources, f"-I{prefix}/include", prefix / "lib/libdirgwako.a",
          "-lpthread", "-o", room / "test")
     return passes(room / "test")
 
