@@ -15,6 +15,7 @@ OUT = HERE / "out"
 PYTHON = "/usr/bin/python3"
 REGISTRY = pathlib.Path("/usr/share/cargo/registry")
 GOPATH = pathlib.Path("/usr/share/gocode")
+C_LIBRARY = ROOT / "bindings/out/libdirgwako16.a"
 OURS, FROM_C, RUST, GO, PEER_PYTHON, BARE = "Dirgwako", "Dirgwako from C", "prometheus (Rust)", "client_golang (Go)", "prometheus_client (Python)", "a text made before"
 
 
@@ -30,7 +31,7 @@ def needs():
     has_crate = any(REGISTRY.glob("prometheus-0.13*"))
     has_go = (GOPATH / "src/github.com/prometheus/client_golang").is_dir()
     return {
-        FROM_C: [(shutil.which("cc"), "cc", "gcc")],
+        FROM_C: [(shutil.which("cc"), "cc", "gcc"), (shutil.which("rt") or C_LIBRARY.is_file(), "the toolchain's rt, or a built bindings/out", "")],
         RUST: [(shutil.which("cargo"), "cargo", "cargo"), (has_crate, "the crate prometheus 0.13", "librust-prometheus-dev")],
         GO: [(shutil.which("go"), "go", "golang-go"), (has_go, "client_golang", "golang-github-prometheus-client-golang-dev")],
         PEER_PYTHON: [(can_import("prometheus_client"), "prometheus_client", "python3-prometheus-client")],
@@ -45,8 +46,8 @@ def missing():
     for what, wanted in needs().items():
         lacks = [(name, package) for is_there, name, package in wanted if not is_there]
         if lacks:
-            names, packages = ", ".join(it for it, _ in lacks), " ".join(it for _, it in lacks)
-            lines[what] = f"left out: {what}, for want of {names}: apt-get install {packages}"
+            names, packages = ", ".join(it for it, _ in lacks), " ".join(it for _, it in lacks if it)
+            lines[what] = f"left out: {what}, for want of {names}{packages and ': apt-get install ' + packages}"
     return lines
 
 
@@ -65,8 +66,7 @@ def is_older(made, crate, *files):
 def build_c():
     """A program over the library for C of 4 threads, and beside it the same over that of 16."""
     bindings = ROOT / "bindings/c"
-    if is_older(ROOT / "bindings/out/libdirgwako16.a", "dirgwako_c", bindings / "dirgwako.h"):
-        check(shutil.which("rt"), "no rt on the path, which proves and builds the library for C")
+    if shutil.which("rt") and is_older(C_LIBRARY, "dirgwako_c", bindings / "dirgwako.h"):
         print("the library for C is proved and built first: minutes where all below it is proved", flush=True)
         build([bindings / "build.sh"], bindings, {}, seconds=7200)
     made = []

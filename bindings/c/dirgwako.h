@@ -215,7 +215,7 @@ static inline uint32_t dirgwako_recorder_free(dirgwako_recorder *recorder) {
 }
 
 /* A counter without labels. 34; 36; 1, 2, 3, 5, the name or the help is none; 19, a name clashes with another family's; 22, no slot is left; 23,
-   there are 128 families; 6, out of memory. After 22, and after 6 for its number alone, its family stands without it. */
+   there are 128 families; 6, out of memory. After 22, and after 6 for its number alone, its family is there without it. */
 static inline uint32_t dirgwako_counter_new(dirgwako_registry *registry, const char *name, const char *help, dirgwako_counter *counter) {
     if (!registry || !name || !help || !counter) return DIRGWAKO_NULL;
     return dirgwako_c_counter_new(registry, (const uint8_t *)name, strlen(name), (const uint8_t *)help, strlen(help), counter);
@@ -385,7 +385,7 @@ static inline uint32_t dirgwako_kept(dirgwako_registry *registry, size_t *kept) 
 }
 
 /* Makes a scrape, which is kept, and reads its numbers, all of one moment, for the three functions below: at most DIRGWAKO_MOST_NUMBERS, at the front
-   of the array; `len` is how many. The first is the registry's id, behind it stands how often each worker has published, and then the totals.
+   of the array; `len` is how many. The first is the registry's id, the next ones are how often each worker has published, and then come the totals.
    34; 14, four scans were given up, one after the other; 6, out of memory; 37, the array is too short, `len` tells what is needed, and the scrape is
    kept. */
 static inline uint32_t dirgwako_read(dirgwako_registry *registry, uint64_t *numbers, size_t room, size_t *len) {

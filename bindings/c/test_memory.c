@@ -88,7 +88,7 @@ static uint32_t replied(void) {
     return answer;
 }
 
-/* The text of what is held: of a registry that is not there, nothing. Of metrics, since a family may stand without its number, the numbers alone. */
+/* The text of what is held: of a registry that is not there, nothing. Of metrics, since a family may be there without its number, the numbers alone. */
 static size_t held(char *into, size_t room, int is_metric) {
     size_t len = 0, kept = 0;
     if (dirgwako_scrape(&registry, into, room, &len)) return 0;
@@ -144,7 +144,10 @@ static void counting(void) {
 
 int main(void) {
     is("registry", refuse("registry", new_registry, 0) > 4, 1);
-    is("a registry again", refuse("registry", new_registry, 0) > 4, 1);
+    is("a counter", new_counter(), 0);
+    is("there is a text to lose", held(was, sizeof was, 0) > 0, 1);
+    is("a registry in its place", refuse("registry", new_registry, 0) > 4, 1);
+    is("the old one is gone", (long long)held(was, sizeof was, 0), 0);
     is("counter", refuse("counter", new_counter, 1) > 0, 1);
     is("gauge", refuse("gauge", new_gauge, 1) > 0, 1);
     is("histogram", refuse("histogram", new_histogram, 1) > 0, 1);
