@@ -8,13 +8,15 @@ use Rattle.metric_desc.specs.declared.kind.Kind.TheVariants.{Histogram as Histog
 use Rattle.metric_desc.specs.declared.kind.Shape.{Shape}
 use Rattle.metric_desc.specs.declared.kind.Shape.TheVariants.{Counter, Histogram, Gauge}
 
--- the name, the help and the names of the labels, as bytes; the kind; and the bounds, which only a histogram has
+-- the name, the help and the names of the labels, as bytes; the kind; the bounds, which only a histogram has; and by how many
+-- decimal digits a text shifts the numbers
 pub record Descriptor : Type 0 where
   pub name : List ℕ
   pub help : List ℕ
   pub labels : List (List ℕ)
   pub kind : Kind
   pub bounds : List ℕ
+  pub digits : ℕ
 
 -- labels and bounds that a family of this kind may have; only a histogram has bounds
 pub record IsDescOf (kind : Kind) (labels : List (List ℕ)) (bounds : List ℕ) : Type 0 where

@@ -1,9 +1,10 @@
-ghost use Rattle.std.specs.Prelude.{◌≡◌, ◌≢◌, ◌↔◌, [], ◌++◌, map, IfOk, IfErr, IsSome, IfSome};
+ghost use Rattle.std.specs.Prelude.{◌≡◌, ◌≢◌, ◌↔◌, ◌<◌, ◌≤◌, [], ◌++◌, map, IfOk, IfErr, IsSome, IfSome};
 ghost use Rattle.std.specs.String.{string_bytes};
 ghost use Rattle.metric_desc.specs.Labels.{AreLabels, IsLabelsFault};
 ghost use Rattle.metric_desc.specs.Histogram.{IsHistogram, IsHistogramFault};
 ghost use Rattle.metric_desc.specs.Desc.{IsDescOf, names_of};
 
+use crate::digits::{MAX_DIGITS, TooManyDigits};
 use crate::histogram_fault::HistogramFault;
 use crate::kind::{Kind, Shape};
 use crate::labels::{LabelsFault, check_labels, has_le};
@@ -13,8 +14,8 @@ use metric_names::{HelpText, LabelName, MetricName, NoMemory};
 use std::alloc::Global;
 use std::marker::Model;
 
-/// The descriptor of a family: its kind, its name, its help, the names of its labels, at most 8 and no two the same, and
-/// of a histogram its bounds.
+/// The descriptor of a family: its kind, its name, its help, the names of its labels, at most 8 and no two the same, of a
+/// histogram its bounds, and by how many decimal digits a text shifts its numbers, at most 9.
 ///
 /// Contracts see it as a `Descriptor`, the record of these.
 #[derive(Debug)]
@@ -23,6 +24,7 @@ pub struct Desc {
     help: HelpText,
     labels: Vec<LabelName>,
     shape: Shape,
+    digits: u8,
 }
 
 // Written out, so that it is proved once: a derived drop is proved anew, with the drops of all its parts, in each crate that lets a
@@ -34,11 +36,13 @@ impl Drop for Desc {
             help: _,
             labels: _,
             shape: _,
+            digits: _,
         } = self;
     }
 }
 
 impl Model for Desc {
+    ghost use Rattle.std.specs.Prelude.{◌≤◌};
     ghost use Rattle.metric_desc.specs.Desc.{Descriptor, IsDescOf};
     ghost use Rattle.metric_desc.specs.Desc.{kind_of, bounds_of};
 
@@ -50,9 +54,10 @@ impl Model for Desc {
       labels = d.labels.items;
       kind = kind_of d.shape;
       bounds = bounds_of d.shape;
+      digits = d.digits;
     } };
 
-    ghost invariant = { λ d. IsDescOf (kind_of d.shape) d.labels.items (bounds_of d.shape) };
+    ghost invariant = { λ d. IsDescOf (kind_of d.shape) d.labels.items (bounds_of d.shape) × (d.digits ≤ 9) };
 }
 
 impl Desc {
@@ -70,6 +75,7 @@ impl Desc {
           labels = labels.items;
           kind = Kind.Counter;
           bounds = [];
+          digits = 0;
         }) }
         ensures labels_ok { IfOk result (λ desc. AreLabels desc.labels) }
         ensures fault { IfErr result (IsLabelsFault labels.items) }
@@ -80,6 +86,7 @@ impl Desc {
             help,
             labels,
             shape: Shape::Counter,
+            digits: 0,
         })
     }
 
@@ -97,6 +104,7 @@ impl Desc {
           labels = labels.items;
           kind = Kind.Gauge;
           bounds = [];
+          digits = 0;
         }) }
         ensures labels_ok { IfOk result (λ desc. AreLabels desc.labels) }
         ensures fault { IfErr result (IsLabelsFault labels.items) }
@@ -107,6 +115,7 @@ impl Desc {
             help,
             labels,
             shape: Shape::Gauge,
+            digits: 0,
         })
     }
 
@@ -126,6 +135,7 @@ impl Desc {
           labels = labels.items;
           kind = Kind.Histogram;
           bounds = bounds.now;
+          digits = 0;
         }) }
         ensures histogram_ok { IfOk result (λ desc. IsHistogram desc.labels desc.bounds) }
         ensures fault { IfErr result (IsHistogramFault labels.items bounds.now) }
@@ -140,7 +150,25 @@ impl Desc {
             help,
             labels,
             shape: Shape::Histogram(bounds),
+            digits: 0,
         })
+    }
+
+    /// The same descriptor, whose family's numbers a text shifts by so many decimal digits: of 6 digits 2250401 is shown as
+    /// `2.250401`. Its names stay, and so do its bounds, which are of the same unit as its numbers. Takes no memory.
+    ///
+    /// Refusal 43 [`TooManyDigits`] of more than 9, and no other. The descriptor is dropped then.
+    pub fn with_digits(self, digits: u8) -> Result<Desc, TooManyDigits>
+        ensures made { IfOk result (λ desc. desc ≡ record self { digits = digits }) }
+        ensures few { IfOk result (λ _. digits ≤ 9) }
+        ensures fault { IfErr result (λ _. 9 < digits) }
+    {
+        if digits > MAX_DIGITS {
+            return Err(TooManyDigits);
+        }
+        let mut desc = self;
+        desc.digits = digits;
+        Ok(desc)
     }
 
     /// The name of the family.
@@ -189,6 +217,14 @@ impl Desc {
         }
     }
 
+    /// By how many decimal digits a text shifts the family's numbers; 0 where it was not said.
+    pub fn digits(&self) -> u8
+        ensures digits { result ≡ self.now.digits }
+        ensures few { result ≤ 9 }
+    {
+        self.digits
+    }
+
     /// The names that the family's lines take: its own, which of a histogram only the HELP and TYPE lines have, and of a histogram also its
     /// own with `_bucket`, `_sum` and `_count`, those of its samples, in this order.
     ///
@@ -218,6 +254,7 @@ impl Desc {
             help,
             labels,
             shape: self.shape,
+            digits: self.digits,
         })
     }
 

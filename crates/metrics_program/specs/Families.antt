@@ -30,6 +30,7 @@ replies_family = record {
   labels = codes "code" ∷ [];
   kind = kind.Counter;
   bounds = [];
+  digits = 0;
 }
 
 -- the family of their bytes
@@ -40,6 +41,7 @@ bytes_family = record {
   labels = [];
   kind = kind.Histogram;
   bounds = 100 ∷ 1000 ∷ 10000 ∷ [];
+  digits = 0;
 }
 
 -- in a registry of this id and of these families, the handle is that of the child of these values, of the family that is so described

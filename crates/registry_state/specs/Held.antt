@@ -66,7 +66,7 @@ pub record AreHeld (c h g : ℕ) (families : List Family) (used : Kind → ℕ) 
 
 -- what stands for a family that is not there
 abbrev pub no_family : Family
-no_family = record { desc = record { name = []; help = []; labels = []; kind = Counter; bounds = [] }; children = [] }
+no_family = record { desc = record { name = []; help = []; labels = []; kind = Counter; bounds = []; digits = 0 }; children = [] }
 
 -- the family of this number
 abbrev pub family_at : List Family → ℕ → Family
