@@ -1,7 +1,7 @@
 -- The text of what a registry has just kept.
 use Rattle.std.proofs.Common.{◌≡◌, ℕ, List, Ok, sym, ap, subst}
 use Rattle.expo_text.specs.Scraped.{Scraped}
-use Rattle.expo_text.specs.Text.{text}
+use Rattle.expo_text.specs.Shown.{shown_text}
 use Rattle.scrape_server.specs.Scrapes.{Scrapes, ShowsScrape}
 use Rattle.snapshot_scan.specs.Scanners.{recorded_in}
 use Rattle.snapshot_scan.specs.declared.contended.Contended.{Contended}
@@ -19,7 +19,7 @@ module _ {N C H G : ℕ} (quit : Scanner N C H G → ℕ) (gave : Scanner N C H 
     (gave_up : Scanner N C H G → Scanner N C H G → Contended → Type 0) where
   pub last_text_of : (old new : RegistryView (Scanner N C H G)) (scrape : Scraped) (bytes : List ℕ)
       → ShowsScrape N C H G recorded_in quit gave gave_up old new scrape
-      → IsKept N C H G (recorded_in new.source) new.journal new.window new.state → bytes ≡ text scrape → IsLastText bytes new
+      → IsKept N C H G (recorded_in new.source) new.journal new.window new.state → bytes ≡ shown_text scrape → IsLastText bytes new
   last_text_of old new scrape bytes shows kept is = record {
     kept = kept;
     answer = shows.kept.answer;

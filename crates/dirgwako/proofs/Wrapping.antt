@@ -1,5 +1,5 @@
 -- Sources that wrap others: what is said of the one is said of the other.
-use Rattle.std.proofs.Common.{◌≡◌, ℕ, zero, suc, ◌<◌, ◌⊎◌, inl, inr, Option, Some, None, Result, Ok, Err, IfOk, OnErr, ap}
+use Rattle.std.proofs.Common.{ℕ, zero, suc, ◌<◌, inl, inr, Option, Some, None, Result, Ok, Err, IfOk, OnErr, ap}
 use Rattle.expo_text.specs.Scraped.{Scraped}
 use Rattle.scrape_http.specs.declared.serve.Served.{Served}
 use Rattle.scrape_http.specs.declared.source.NoScrape.{NoScrape}

@@ -1,7 +1,7 @@
 -- The text of a scrape that is asked for again where a scan was given up, and why there is none.
 use Rattle.std.specs.Prelude.{◌≡◌, ℕ, ◌⊎◌, List, Option, Some, None, Result, Ok, Err}
 use Rattle.expo_text.specs.Scraped.{Scraped}
-use Rattle.expo_text.specs.Text.{text}
+use Rattle.expo_text.specs.Shown.{shown_text}
 use Rattle.scrape_http.specs.declared.source.NoScrape.{NoScrape}
 use Rattle.scrape_server.specs.Again.{AsksAgain}
 use Rattle.scrape_server.specs.Scrapes.{Scrapes}
@@ -32,7 +32,7 @@ print_fault_number Output = None
 module _ {S : Type 0} (gave : S → S → Result Scraped NoScrape → Type 0) (before after : S) where
   -- these bytes are the text of the scrape that the source gave
   abbrev pub IsText : List ℕ → Type 0
-  IsText bytes = (scrape : Scraped) × AsksAgain gave 3 before after (Ok scrape) × (bytes ≡ text scrape)
+  IsText bytes = (scrape : Scraped) × AsksAgain gave 3 before after (Ok scrape) × (bytes ≡ shown_text scrape)
 
   -- the source has no scrape; or it gave one, and 6 is of its text: that there was no memory for this no clause can say
   abbrev pub IsTextFault : TextFault → Type 0
@@ -45,7 +45,7 @@ module _ {S : Type 0} (gave : S → S → Result Scraped NoScrape → Type 0) (b
 pub record ShowsText (n c h g : ℕ) (first : List RegistryChange) (bytes : List ℕ) : Type 0 where
   pub scrape : Scraped
   pub moment : ShowsMoment n c h g first scrape
-  pub text_is : bytes ≡ text scrape
+  pub text_is : bytes ≡ shown_text scrape
 
 -- why there is no last text: what comes back was asked four times, and gave each scan up; that there was no memory no clause can say
 abbrev pub IsLastFault : {N C H G : ℕ} → TextFault → RegistryView (Scanner N C H G) → Type 0
@@ -62,4 +62,4 @@ pub record IsLastText {N C H G : ℕ} (bytes : List ℕ) (registry : RegistryVie
   pub newest : registry.state.last ≡ Some answer
   pub scrape : Scraped
   pub shown : IsShown C H registry.state.families answer scrape
-  pub text_is : bytes ≡ text scrape
+  pub text_is : bytes ≡ shown_text scrape

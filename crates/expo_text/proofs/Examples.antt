@@ -6,7 +6,9 @@ use Rattle.std.specs.List.{slice_split}
 use Rattle.expo_text.specs.Groups.{Group}
 use Rattle.expo_text.specs.Lines.{Malformed}
 use Rattle.expo_text.specs.Walked.{entry_of, parts_of}
-use Rattle.expo_text.specs.Reads.{Match, word_of, IsGroup, Reads}
+use Rattle.expo_text.specs.Reads.{Match, word_of, Reads}
+use Rattle.expo_text.specs.ReadsTo.{IsGroupTo}
+use Rattle.expo_text.proofs.PlainLaw.{reads_plain}
 use Rattle.expo_text.proofs.Walks.{walked}
 
 -- no line of an exposition is none of the format
@@ -20,7 +22,7 @@ filled x xs e = cc
 bad_second : (bytes first second : List ℕ) (groups : List Group) → slice_split (λ b. b == 10) bytes ≡ first ∷ second ∷ [] ∷ []
     → entry_of second ≡ Malformed → ¬ (Reads bytes groups)
 bad_second bytes first second groups cut bad reads =
-    let found = walked bytes groups reads in
+    let found = walked 0 bytes groups ((reads_plain bytes groups).1 reads) in
     let same = same_from_push found.lines (first ∷ second ∷ []) [] [] (sym found.cut ∙ cut) in
     let formed : All IsGood (first ∷ second ∷ []) = subst (λ (l : List (List ℕ)). All IsGood l) same.0 found.formed in
     All-head IsGood second [] (All-tail IsGood first (second ∷ []) formed) bad
@@ -67,11 +69,11 @@ no_end groups reads =
 
 -- a text of these lines, each of which is one of the format
 parts_are : (bytes : List ℕ) (lines : List (List ℕ)) (groups : List Group) → slice_split (λ b. b == 10) bytes ≡ lines ++ [] ∷ []
-    → Reads bytes groups → Match IsGroup (parts_of (map entry_of lines)) groups
+    → Reads bytes groups → Match (IsGroupTo 0) (parts_of (map entry_of lines)) groups
 parts_are bytes lines groups cut reads =
-    let found = walked bytes groups reads in
+    let found = walked 0 bytes groups ((reads_plain bytes groups).1 reads) in
     let same = same_from_push found.lines lines [] [] (sym found.cut ∙ cut) in
-    subst (λ (l : List (List ℕ)). Match IsGroup (parts_of (map entry_of l)) groups) same.0 found.parts
+    subst (λ (l : List (List ℕ)). Match (IsGroupTo 0) (parts_of (map entry_of l)) groups) same.0 found.parts
 
 -- a group has a type
 no_type : (groups : List Group) → ¬ (Reads (codes "a 1\n") groups)

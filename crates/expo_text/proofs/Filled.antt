@@ -13,7 +13,8 @@ placed old new i n bytes rest before from count =
     take-add i n new ∙ ap₂ (λ a b. a ++ b) before (ap (λ l. take n l) from ∙ ap (λ k. take k (bytes ++ rest)) (sym count)
     ∙ take-append_seam bytes rest)
 
-ten-pos : (k : ℕ) → 0 < 10 ^ k
+-- a power of ten is not zero
+pub ten-pos : (k : ℕ) → 0 < 10 ^ k
 ten-pos zero = omega arith
 ten-pos (suc k) = let next : 10 ^ suc k ≡ 10 ^ k * 10 = pow-suc 10 k in let some = ten-pos k in omega (arith, next, some)
 

@@ -2,6 +2,8 @@ pub mod Lines
 pub mod Runs
 pub mod Braces
 pub mod Filled
+pub mod Fractions
+pub mod ShiftedNumbers
 pub mod Rows
 pub mod Sizes
 pub mod Limits
@@ -17,6 +19,7 @@ pub mod LabelsRead
 pub mod Names
 pub mod Feeds
 pub mod LineRead
+pub mod ShownGroups
 pub mod LinesRead
 pub mod SamplesRead
 pub mod OneReading
@@ -34,6 +37,7 @@ pub mod Parted
 pub mod Whole
 pub mod Printed
 pub mod ReadingLaw
+pub mod PlainLaw
 pub mod Utf8
 pub mod Elements
 pub mod Compared

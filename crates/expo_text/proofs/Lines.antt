@@ -8,8 +8,9 @@ use Rattle.std.proofs.lemmas.Grind.{flat_map-append}
 use Rattle.metric_names.specs.Escapes.{help_byte}
 use Rattle.metric_desc.specs.Desc.{Descriptor}
 use Rattle.expo_text.specs.Scraped.{Child}
-use Rattle.expo_text.specs.Samples.{Sample, samples_of_child}
-use Rattle.expo_text.specs.Text.{help_line, type_line, sample_line, group_of}
+use Rattle.expo_text.specs.Shown.{Shown, shown_of_child}
+use Rattle.expo_text.specs.Text.{help_line, type_line}
+use Rattle.expo_text.specs.Shown.{shown_line, shown_group_of}
 
 -- the pieces of one more element
 pub flat_map-next : {X A : Type 0} (f : X → List A) (xs : List X) (n : ℕ) (x : X) → n < length xs → x ≡ get_or xs n x
@@ -19,15 +20,15 @@ flat_map-next f xs n x within is =
 
 -- the lines of some children of a family
 abbrev pub lines : Descriptor → List Child → List ℕ
-lines desc children = flat_map sample_line (flat_map (samples_of_child desc) children)
+lines desc children = flat_map shown_line (flat_map (shown_of_child desc) children)
 
 -- the lines of one more child
 pub lines-next : (desc : Descriptor) (children : List Child) (n : ℕ) (child : Child) → n < length children
-    → child ≡ get_or children n child → lines desc (take (n + 1) children) ≡ lines desc (take n children) ++ flat_map sample_line
-    (samples_of_child desc child)
+    → child ≡ get_or children n child → lines desc (take (n + 1) children) ≡ lines desc (take n children) ++ flat_map shown_line
+    (shown_of_child desc child)
 lines-next desc children n child within is =
-    ap (flat_map sample_line) (flat_map-next (samples_of_child desc) children n child within is)
-    ∙ flat_map-append sample_line (flat_map (samples_of_child desc) (take n children)) (samples_of_child desc child)
+    ap (flat_map shown_line) (flat_map-next (shown_of_child desc) children n child within is)
+    ∙ flat_map-append shown_line (flat_map (shown_of_child desc) (take n children)) (shown_of_child desc child)
 
 -- one more element of which it holds
 pub All-next : {X : Type 0} (P : X → Type 0) (xs : List X) (n : ℕ) (x : X) → n < length xs → x ≡ get_or xs n x → All P (take n xs)
@@ -35,8 +36,8 @@ pub All-next : {X : Type 0} (P : X → Type 0) (xs : List X) (n : ℕ) (x : X) �
 All-next P xs n x within is before here = All-more P xs n x within before (subst P is here)
 
 -- a family with children has a group
-pub group_of-some : (desc : Descriptor) (children : List Child) (all : List Sample) → 0 < length children
-    → help_line desc.name desc.help ++ type_line desc ++ flat_map sample_line all ≡ group_of desc children all
+pub group_of-some : (desc : Descriptor) (children : List Child) (all : List Shown) → 0 < length children
+    → help_line desc.name desc.help ++ type_line desc ++ flat_map shown_line all ≡ shown_group_of desc children all
 group_of-some desc [] all some = absurd (omega (arith, some))
 group_of-some desc (_ ∷ _) all some = refl
 

@@ -3,7 +3,7 @@ use Rattle.std.proofs.Common.{◌≡◌, ◌≢◌, ℕ, ◌==◌, List, [], ◌
 use Rattle.std.proofs.Common.{append-nil}
 use Rattle.std.specs.Prelude.{flat_map}
 use Rattle.std.specs.List.{slice_split}
-use Rattle.std.specs.Fmt.{signed_decimal}
+use Rattle.expo_text.specs.Shifted.{signed_shifted}
 use Rattle.std.proofs.lemmas.Bool.{not-true}
 use Rattle.std.proofs.lemmas.Grind.{flat_map-append}
 use Rattle.std.proofs.lemmas.List.Elements.{All-head, All-tail, All-cons, All-nil}
@@ -14,9 +14,9 @@ use Rattle.metric_desc.specs.Desc.{Descriptor}
 use Rattle.metric_desc.specs.declared.kind.Kind.{Kind}
 use Rattle.metric_desc.specs.declared.kind.Kind.TheVariants.{Counter, Histogram, Gauge}
 use Rattle.expo_text.specs.Scraped.{Child, Family, Scraped}
-use Rattle.expo_text.specs.Samples.{Sample, samples_of_family}
-use Rattle.expo_text.specs.Groups.{Group, groups_of, group_of_family, group_of_children}
-use Rattle.expo_text.specs.Text.{text, labels_text, sample_line, help_line, kind_text, type_line, group_of, group_text}
+use Rattle.expo_text.specs.Shown.{Shown, shown_of_family, shown_line, shown_group_of, shown_group_text, shown_text}
+use Rattle.expo_text.proofs.ShownGroups.{ShownGroup, shown_groups, shown_group, shown_group_of_children}
+use Rattle.expo_text.specs.Text.{labels_text, help_line, kind_text, type_line}
 use Rattle.expo_text.specs.Lines.{AreLines, LineEntry, Typed, Malformed}
 use Rattle.expo_text.specs.Walked.{in_token, entry_of}
 use Rattle.expo_text.specs.Reads.{Match, word_of}
@@ -55,15 +55,15 @@ abbrev type_body : (name : List ℕ) → Kind → List ℕ
 type_body name kind = codes "# TYPE " ++ (name ++ (32 ∷ kind_text kind))
 
 -- the line of a sample, without its line feed
-abbrev sample_body : Sample → List ℕ
-sample_body sample = sample.name ++ (labels_text sample.labels ++ (32 ∷ signed_decimal sample.value))
+abbrev sample_body : Shown → List ℕ
+sample_body sample = sample.name ++ (labels_text sample.labels ++ (32 ∷ signed_shifted sample.digits sample.value))
 
 -- the lines of a group, without their line feeds
-abbrev group_lines : Group → List (List ℕ)
+abbrev group_lines : ShownGroup → List (List ℕ)
 group_lines group = help_lines group.name group.help ++ (type_body group.name group.kind ∷ map sample_body group.samples)
 
 -- the lines of groups
-abbrev lines_of : List Group → List (List ℕ)
+abbrev lines_of : List ShownGroup → List (List ℕ)
 lines_of groups = flat_map group_lines groups
 
 -- a line with its line feed
@@ -75,22 +75,22 @@ abbrev feed : List (List ℕ) → List ℕ
 feed lines = flat_map ended lines
 
 -- the line of a sample, as it is printed
-is_sample_line : (sample : Sample) → IsPrintedSample sample → IsPrintedLine (sample_body sample) (sampled sample)
+is_sample_line : (sample : Shown) → IsPrintedSample sample → IsPrintedLine (sample_body sample) (sampled sample)
 is_sample_line sample printed =
     let named = named_from sample.name printed.nonempty (each_from_All is_name_byte sample.name printed.spelled) in
     let labels = labels_named sample.labels printed.labels in
-    let token = value_token sample.value printed.value in
+    let token = value_token sample.digits sample.value printed.value in
     record {
-      kept = each_append is_kept sample.name (labels_text sample.labels ++ (32 ∷ signed_decimal sample.value))
+      kept = each_append is_kept sample.name (labels_text sample.labels ++ (32 ∷ signed_shifted sample.digits sample.value))
           (named_kept sample.name named)
-          (each_append is_kept (labels_text sample.labels) (32 ∷ signed_decimal sample.value) (labels_kept sample.labels labels)
-          (refl, token_kept (signed_decimal sample.value) token));
-      reads = sample_read sample.name (signed_decimal sample.value) sample.labels named labels token;
+          (each_append is_kept (labels_text sample.labels) (32 ∷ signed_shifted sample.digits sample.value) (labels_kept sample.labels labels)
+          (refl, token_kept (signed_shifted sample.digits sample.value) token));
+      reads = sample_read sample.name (signed_shifted sample.digits sample.value) sample.labels named labels token;
       formed = λ e. cc;
     }
 
 -- the lines of samples
-are_sample_lines : (samples : List Sample) → All IsPrintedSample samples → Match IsPrintedLine (map sample_body samples)
+are_sample_lines : (samples : List Shown) → All IsPrintedSample samples → Match IsPrintedLine (map sample_body samples)
     (map sampled samples)
 are_sample_lines [] printed = tt
 are_sample_lines (sample ∷ samples) printed = (
@@ -142,7 +142,7 @@ is_type_line name kind named = record {
 }
 
 -- the lines of a group, and the entries in them
-are_group_lines : (group : Group) → IsPrintedGroup group → Match IsPrintedLine (group_lines group) (group_entries group)
+are_group_lines : (group : ShownGroup) → IsPrintedGroup group → Match IsPrintedLine (group_lines group) (group_entries group)
 are_group_lines group printed =
     let named = metric_named group.name printed.name in
     match_append IsPrintedLine (help_lines group.name group.help)
@@ -152,7 +152,7 @@ are_group_lines group printed =
     (is_type_line group.name group.kind named, are_sample_lines group.samples printed.samples)
 
 -- the lines of groups, and the entries in them
-are_lines : (groups : List Group) → All IsPrintedGroup groups → Match IsPrintedLine (lines_of groups) (entries_of groups)
+are_lines : (groups : List ShownGroup) → All IsPrintedGroup groups → Match IsPrintedLine (lines_of groups) (entries_of groups)
 are_lines [] printed = tt
 are_lines (group ∷ groups) printed =
     match_append IsPrintedLine (group_lines group) (lines_of groups) (group_entries group) (entries_of groups)
@@ -187,11 +187,11 @@ formed_each (line ∷ lines) (entry ∷ entries) h =
     All-cons (λ line. entry_of line ≢ Malformed) line lines (λ e. h.0.formed (sym h.0.reads ∙ e)) (formed_each lines entries h.1)
 
 -- the line of a sample is printed with its line feed
-fed_sample : (sample : Sample) → sample_line sample ≡ ended (sample_body sample)
+fed_sample : (sample : Shown) → shown_line sample ≡ ended (sample_body sample)
 fed_sample sample = simp append_assoc
 
 -- the lines of samples, with their line feeds
-fed_samples : (samples : List Sample) → flat_map sample_line samples ≡ feed (map sample_body samples)
+fed_samples : (samples : List Shown) → flat_map shown_line samples ≡ feed (map sample_body samples)
 fed_samples [] = refl
 fed_samples (sample ∷ samples) = ap₂ ◌++◌ (fed_sample sample) (fed_samples samples)
 
@@ -211,34 +211,34 @@ fed_type : (desc : Descriptor) → type_line desc ≡ ended (type_body desc.name
 fed_type desc = simp append_assoc
 
 -- the text of a family is that of its group
-fed_children : (desc : Descriptor) (children : List Child) (samples : List Sample)
-    → group_of desc children samples ≡ feed (lines_of (group_of_children desc children samples))
+fed_children : (desc : Descriptor) (children : List Child) (samples : List Shown)
+    → shown_group_of desc children samples ≡ feed (lines_of (shown_group_of_children desc children samples))
 fed_children desc [] samples = refl
 fed_children desc (child ∷ children) samples =
-    append_assoc (help_line desc.name desc.help) (type_line desc) (flat_map sample_line samples)
+    append_assoc (help_line desc.name desc.help) (type_line desc) (flat_map shown_line samples)
     ∙ ap₂ ◌++◌ (fed_help desc.name desc.help) (ap₂ ◌++◌ (fed_type desc) (fed_samples samples))
     ∙ sym (flat_map-append ended (help_lines desc.name desc.help) (type_body desc.name desc.kind ∷ map sample_body samples))
     ∙ ap feed (sym (append-nil (help_lines desc.name desc.help ++ (type_body desc.name desc.kind ∷ map sample_body samples))))
 
 -- the text of families is that of their groups
-fed_families : (families : List Family) → flat_map group_text families ≡ feed (lines_of (flat_map group_of_family families))
+fed_families : (families : List Family) → flat_map shown_group_text families ≡ feed (lines_of (flat_map shown_group families))
 fed_families [] = refl
 fed_families (family ∷ families) =
-    ap₂ ◌++◌ (fed_children family.desc family.children (samples_of_family family)) (fed_families families)
-    ∙ sym (flat_map-append ended (lines_of (group_of_family family)) (lines_of (flat_map group_of_family families)))
-    ∙ ap feed (sym (flat_map-append group_lines (group_of_family family) (flat_map group_of_family families)))
+    ap₂ ◌++◌ (fed_children family.desc family.children (shown_of_family family)) (fed_families families)
+    ∙ sym (flat_map-append ended (lines_of (shown_group family)) (lines_of (flat_map shown_group families)))
+    ∙ ap feed (sym (flat_map-append group_lines (shown_group family) (flat_map shown_group families)))
 
 -- the lines of a scrape: the text is cut into them, and a scraper reads the entries of the groups in them
 pub record LinesRead (scrape : Scraped) : Type 0 where
   pub lines : List (List ℕ)
-  pub cut : AreLines (text scrape) lines
-  pub read : map entry_of lines ≡ entries_of (groups_of scrape)
+  pub cut : AreLines (shown_text scrape) lines
+  pub read : map entry_of lines ≡ entries_of (shown_groups scrape)
   pub formed : All (λ line. entry_of line ≢ Malformed) lines
 
 -- what a scraper reads in the text of a scrape
-pub lines_read : (scrape : Scraped) → All IsPrintedGroup (groups_of scrape) → LinesRead scrape
+pub lines_read : (scrape : Scraped) → All IsPrintedGroup (shown_groups scrape) → LinesRead scrape
 lines_read scrape printed =
-    let groups = groups_of scrape in
+    let groups = shown_groups scrape in
     let found : Match IsPrintedLine (lines_of groups) (entries_of groups) = are_lines groups printed in
     record {
       lines = lines_of groups;

@@ -1,10 +1,10 @@
 -- Names, helps and values by their bytes.
-use Rattle.std.proofs.Common.{◌≡◌, ℕ, ◌<◌, ◌^◌, Bool, true, false, ◌-◌, suc, slice_index, ◌&&◌, ◌||◌, ◌==◌, nat_lt, IsTrue, List}
-use Rattle.std.proofs.Common.{[], ◌∷◌, ◌++◌, length, get_or, All, pos, nat_abs, decimal, refl, inl, inr, arith, le-leb}
+use Rattle.std.proofs.Common.{◌≡◌, ℕ, ◌<◌, ◌^◌, Bool, true, false, ◌-◌, suc, slice_index, ◌&&◌, ◌||◌, ◌==◌, nat_lt, IsTrue, List, subst, length-append, sym}
+use Rattle.std.proofs.Common.{[], ◌∷◌, ◌++◌, length, get_or, All, pos, nat_abs, refl, inl, inr, arith, le-leb}
 use Rattle.std.specs.Prelude.{ℤ, negsuc, flat_map}
-use Rattle.std.specs.Fmt.{signed_decimal}
+use Rattle.expo_text.specs.Shifted.{pointed, WritesTo, shifted, signed_shifted}
+use Rattle.expo_text.proofs.ShiftedNumbers.{shifted_writes}
 use Rattle.std.specs.Str.Parse.{AllDigits}
-use Rattle.std.proofs.lemmas.Fmt.{decimal_is_IsNumeral}
 use Rattle.std.proofs.lemmas.Str.Parse.{digit_at}
 use Rattle.std.proofs.lemmas.Bool.{cases_Bool, or_parts, or_left, and_from}
 use Rattle.std.proofs.lemmas.List.Elements.{All-from_get_or, All-head, All-tail}
@@ -13,7 +13,7 @@ use Rattle.metric_names.specs.MetricName.{IsMetricName}
 use Rattle.metric_names.specs.LabelName.{IsLabelName}
 use Rattle.metric_names.specs.HelpText.{is_blank, IsHelpText}
 use Rattle.metric_names.specs.Escapes.{help_byte}
-use Rattle.expo_text.proofs.Tokens.{Each, Stops, each_from_All}
+use Rattle.expo_text.proofs.Tokens.{Each, Stops, each_from_All, each_append}
 use Rattle.expo_text.proofs.LabelsRead.{is_name_byte, IsNamed, AreNamed}
 
 -- a byte that one place of one kind of name takes, the second place of a metric name takes
@@ -76,9 +76,9 @@ help_stops b bs is =
 
 -- a byte of a value
 abbrev pub is_value_byte : ℕ → Bool
-is_value_byte b = is_digit b || b == 45
+is_value_byte b = (is_digit b || b == 45) || b == 46
 
--- a value as it is written: a byte or more, digits or a minus
+-- a value as it is written: a byte or more, digits, a minus or a point
 abbrev pub IsToken : List ℕ → Type 0
 IsToken [] = ⊥
 IsToken (c ∷ cs) = (is_value_byte c ≡ true) × Each is_value_byte cs
@@ -89,18 +89,30 @@ digits_each [] h = tt
 digits_each (c ∷ cs) h =
     let range = digit_at (c ∷ []) 0 (h.0, tt) (omega arith) in
     let digit : is_digit c ≡ true = and_from _ _ (le-leb 48 c range.0) (le-leb c 57 range.1) in
-    (or_left (is_digit c) (c == 45) digit, digits_each cs h.1)
+    (or_left (is_digit c || c == 45) (c == 46) (or_left (is_digit c) (c == 45) digit), digits_each cs h.1)
+
+-- a point and digits are, too
+pointed_each : (digits : List ℕ) → AllDigits 10 digits → Each is_value_byte (pointed digits)
+pointed_each [] h = tt
+pointed_each (c ∷ cs) h = (refl, digits_each (c ∷ cs) h)
 
 -- a text that is not empty, by its bytes
 token_from : (text : List ℕ) → 0 < length text → Each is_value_byte text → IsToken text
 token_from [] some h = absurd (omega arith)
 token_from (c ∷ cs) some h = h
 
--- decimal digits are a token
-pub decimal_token : (n : ℕ) → n < 2 ^ 64 → IsToken (decimal n)
-decimal_token n small =
-    let numeral = (decimal_is_IsNumeral n small).0 in
-    token_from (decimal n) numeral.0 (digits_each (decimal n) numeral.1)
+-- what writes a number is a token
+writes_token : (places : ℕ) (text : List ℕ) (n : ℕ) → WritesTo places text n → IsToken text
+writes_token places text n writes =
+    subst IsToken (sym writes.is)
+    (token_from (writes.whole ++ pointed writes.part)
+    (let some = writes.numeral.0 in let all = length-append writes.whole (pointed writes.part) in omega (arith, some, all))
+    (each_append is_value_byte writes.whole (pointed writes.part) (digits_each writes.whole writes.numeral.1)
+    (pointed_each writes.part writes.digits)))
+
+-- a shifted number is one
+pub shifted_token : (digits n : ℕ) → n < 2 ^ 64 → IsToken (shifted digits n)
+shifted_token digits n small = writes_token digits (shifted digits n) n (shifted_writes digits n small)
 
 -- the bytes of a token
 token_each : (text : List ℕ) → IsToken text → Each is_value_byte text
@@ -108,6 +120,6 @@ token_each [] h = absurd h
 token_each (c ∷ cs) h = h
 
 -- a value is a token
-pub value_token : (value : ℤ) → nat_abs value < 2 ^ 64 → IsToken (signed_decimal value)
-value_token (pos n) small = decimal_token n small
-value_token (negsuc n) small = (refl, token_each (decimal (suc n)) (decimal_token (suc n) small))
+pub value_token : (digits : ℕ) (value : ℤ) → nat_abs value < 2 ^ 64 → IsToken (signed_shifted digits value)
+value_token digits (pos n) small = shifted_token digits n small
+value_token digits (negsuc n) small = (refl, token_each (shifted digits (suc n)) (shifted_token digits (suc n) small))

@@ -5,10 +5,10 @@ use Rattle.std.proofs.lemmas.Bool.{cond-true}
 use Rattle.metric_desc.specs.declared.kind.Kind.{Kind}
 use Rattle.metric_desc.specs.declared.kind.Kind.TheVariants.{Counter, Histogram, Gauge}
 use Rattle.expo_text.specs.Scraped.{Scraped}
-use Rattle.expo_text.specs.Samples.{Sample}
+use Rattle.expo_text.specs.Shown.{Shown}
 use Rattle.expo_text.specs.Order.{IsScrape}
 use Rattle.expo_text.specs.Spelled.{IsSpelledIfPrinted}
-use Rattle.expo_text.specs.Groups.{Group, groups_of}
+use Rattle.expo_text.proofs.ShownGroups.{ShownGroup, shown_groups, group_for}
 use Rattle.expo_text.specs.Lines.{is_same_text, LineEntry, Help, Typed}
 use Rattle.expo_text.specs.Parts.{Part}
 use Rattle.expo_text.specs.Walked.{ends_of, has_end, begun, gathered, parts_of}
@@ -17,18 +17,18 @@ use Rattle.expo_text.proofs.Entries.{written_of, help_entries, sampled, entries_
 use Rattle.expo_text.proofs.Tokened.{same_self, same_other}
 use Rattle.expo_text.proofs.PartsWalked.{end_here, end_later}
 use Rattle.expo_text.proofs.Pairs.{Each, Pairs, each_weaker}
-use Rattle.expo_text.proofs.Families.{IsPrinted, group_for, each_group, unbroken_pairs}
+use Rattle.expo_text.proofs.Families.{IsPrinted, each_group, unbroken_pairs}
 use Rattle.expo_text.proofs.Owned.{IsOfNames, family_names}
 use Rattle.expo_text.proofs.Once.{IsKnown, all_known}
 
 -- each sample's name is one of its group
-abbrev pub IsNamed : Group → Type 0
-IsNamed group = Each (λ (sample : Sample). has_end sample.name group.name (ends_of (word_of group.kind ∷ [])) ≡ true)
+abbrev pub IsNamed : ShownGroup → Type 0
+IsNamed group = Each (λ (sample : Shown). has_end sample.name group.name (ends_of (word_of group.kind ∷ [])) ≡ true)
     group.samples
 
 -- the samples after the types of their group
-gathered-samples : (part : Part) (samples : List Sample) (rest : List LineEntry)
-    → Each (λ (sample : Sample). has_end sample.name part.name (ends_of part.types) ≡ true) samples
+gathered-samples : (part : Part) (samples : List Shown) (rest : List LineEntry)
+    → Each (λ (sample : Shown). has_end sample.name part.name (ends_of part.types) ≡ true) samples
     → gathered part (map sampled samples ++ rest) ≡ gathered (record part { samples = part.samples ++ map written_of samples })
     rest
 gathered-samples part [] rest named = ap (λ written. gathered (record part { samples = written }) rest)
@@ -65,7 +65,7 @@ gathered-next part name [] kind rest differ = rw differ refl
 gathered-next part name (byte ∷ bytes) kind rest differ = rw (differ, same_self name) refl
 
 -- the lines of all groups after one whose lines are read
-gathered-groups : (group : Group) (groups : List Group) → Pairs (λ (a b : Group). a.name ≢ b.name) (group ∷ groups)
+gathered-groups : (group : ShownGroup) (groups : List ShownGroup) → Pairs (λ (a b : ShownGroup). a.name ≢ b.name) (group ∷ groups)
     → Each IsNamed groups
     → gathered (part_of group) (entries_of groups) ≡ part_of group ∷ map part_of groups
 gathered-groups group [] differ named = refl
@@ -80,7 +80,7 @@ gathered-groups group (next ∷ groups) differ named =
     ∙ gathered-groups next groups differ.1 named.1)
 
 -- the lines of groups whose names differ are parted into them
-pub parted_groups : (groups : List Group) → Pairs (λ (a b : Group). a.name ≢ b.name) groups → Each IsNamed groups
+pub parted_groups : (groups : List ShownGroup) → Pairs (λ (a b : ShownGroup). a.name ≢ b.name) groups → Each IsNamed groups
     → parts_of (entries_of groups) ≡ map part_of groups
 parted_groups [] differ named = refl
 parted_groups (group ∷ groups) differ named =
@@ -120,7 +120,7 @@ kind_ends name Gauge = record {
 }
 
 -- each sample of each group is named after it
-pub all_named : (scrape : Scraped) → IsScrape scrape → All IsSpelledIfPrinted scrape.families → Each IsNamed (groups_of scrape)
+pub all_named : (scrape : Scraped) → IsScrape scrape → All IsSpelledIfPrinted scrape.families → Each IsNamed (shown_groups scrape)
 all_named scrape is spelled =
     each_group IsNamed scrape.families
     (each_weaker IsKnown (λ family. IsPrinted family → IsNamed (group_for family))
@@ -130,5 +130,5 @@ all_named scrape is spelled =
 
 -- the entries of a scrape's groups are parted into those groups
 pub parted : (scrape : Scraped) → IsScrape scrape → All IsSpelledIfPrinted scrape.families
-    → parts_of (entries_of (groups_of scrape)) ≡ map part_of (groups_of scrape)
-parted scrape is spelled = parted_groups (groups_of scrape) (unbroken_pairs scrape is) (all_named scrape is spelled)
+    → parts_of (entries_of (shown_groups scrape)) ≡ map part_of (shown_groups scrape)
+parted scrape is spelled = parted_groups (shown_groups scrape) (unbroken_pairs scrape is) (all_named scrape is spelled)

@@ -1,5 +1,5 @@
 -- The groups of a scrape are such as a scrape prints: names, labels, values and signs.
-use Rattle.std.proofs.Common.{◌≡◌, ◌≢◌, ℕ, zero, suc, ◌-◌, ◌<◌, ◌^◌, Bool, true, false, ltb, List, [], ◌∷◌, ◌++◌, length, ◌⊎◌}
+use Rattle.std.proofs.Common.{◌≡◌, ◌≢◌, ℕ, zero, suc, ◌-◌, ◌<◌, ◌^◌, Bool, true, false, ltb, List, [], ◌∷◌, ◌++◌, length, ◌⊎◌, ◌≤◌}
 use Rattle.std.proofs.Common.{inl, inr, refl, sym, subst, arith, length-append}
 use Rattle.std.specs.Prelude.{pos, negsuc, ◌-ℤ◌, nat_abs, All, IsTrue, ◌&&◌, ◌||◌, ◌==◌, nat_lt, sum, zip, codes, slice_index}
 use Rattle.std.proofs.lemmas.Bool.{cond_both}
@@ -15,13 +15,14 @@ use Rattle.metric_desc.specs.declared.kind.Kind.TheVariants.{Gauge as GaugeKind}
 use Rattle.expo_text.specs.declared.number.Number.{Number}
 use Rattle.expo_text.specs.declared.number.Number.TheVariants.{Counter, Histogram, Gauge}
 use Rattle.expo_text.specs.Scraped.{Child, Family, Scraped}
-use Rattle.expo_text.specs.Samples.{Sample, bound_samples, last_samples, samples_of_number, samples_of_child, samples_of_family}
+use Rattle.expo_text.specs.Shown.{Shown, shown_bounds, shown_last, shown_of_number, shown_of_child, shown_of_family}
 use Rattle.expo_text.specs.Order.{IsNumberOf, IsFamily, IsScrape}
 use Rattle.expo_text.specs.Spelled.{IsOfWords, IsSpelledChild, IsSpelled, IsSpelledIfPrinted}
-use Rattle.expo_text.specs.Groups.{groups_of}
+use Rattle.expo_text.proofs.ShownGroups.{ShownGroup, shown_groups, group_for}
 use Rattle.expo_text.proofs.Entries.{IsPrintedSample, IsPrintedGroup}
-use Rattle.expo_text.proofs.Pairs.{Each, each_weaker, each_both, each_append, each_flat_map}
-use Rattle.expo_text.proofs.Families.{IsPrinted, group_for, each_group}
+use Rattle.expo_text.proofs.Pairs.{Each, each_weaker, each_both, each_any, each_append, each_flat_map}
+use Rattle.expo_text.proofs.SamplesRead.{IsWithin}
+use Rattle.expo_text.proofs.Families.{IsPrinted, HasFew, each_group}
 use Rattle.expo_text.proofs.Owned.{IsOfNames, IsOwned, each_bound, number_names, number_owned}
 use Rattle.expo_text.proofs.Once.{IsKnown, all_known}
 use Rattle.expo_text.proofs.Whole.{cumulated-le_sum}
@@ -101,7 +102,7 @@ own_labels (label ∷ labels) [] names = tt
 own_labels (label ∷ labels) (value ∷ values) names = (names.0, own_labels labels values names.1)
 
 -- the labels of a child's samples have label names
-owned_labels : (own : List (List ℕ × List ℕ)) (sample : Sample) → All IsNamedLabel own → IsOwned own sample
+owned_labels : (own : List (List ℕ × List ℕ)) (sample : Shown) → All IsNamedLabel own → IsOwned own sample
     → All IsNamedLabel sample.labels
 owned_labels own sample names (inl e) = subst (All IsNamedLabel) (sym e) names
 owned_labels own sample names (inr e) =
@@ -117,16 +118,16 @@ difference up (suc down) few fewer =
     (λ _. omega arith)
 
 -- a value below 2^64 on either side of zero
-abbrev pub IsSmall : Sample → Type 0
+abbrev pub IsSmall : Shown → Type 0
 IsSmall sample = nat_abs sample.value < 2 ^ 64
 
 -- the values of a number's samples are below 2^64 on either side
 pub number_small : (desc : Descriptor) (own : List (List ℕ × List ℕ)) (number : Number) → IsNumberOf desc.kind number
     → IsOfWords number
-    → Each IsSmall (samples_of_number desc own number)
+    → Each IsSmall (shown_of_number desc own number)
 number_small desc own (Counter total) is words = (words, tt)
 number_small desc own (Histogram totals) is words =
-    each_append IsSmall (bound_samples desc own totals.buckets) (last_samples desc own totals)
+    each_append IsSmall (shown_bounds desc own totals.buckets) (shown_last desc own totals)
     (each_bound IsSmall desc own totals.buckets (λ k _.
     let le = cumulated-le_sum totals.buckets (length desc.bounds) k in
     let few : totals.count < 2 ^ 64 = words.2 in
@@ -138,7 +139,7 @@ number_small desc own (Gauge totals) is words = (difference totals.up totals.dow
 -- the samples of a number are such as a scrape prints
 number_printed : (desc : Descriptor) (own : List (List ℕ × List ℕ)) (number : Number) → IsNumberOf desc.kind number
     → IsOfWords number
-    → IsMetricName desc.name → All IsNamedLabel own → Each IsPrintedSample (samples_of_number desc own number)
+    → IsMetricName desc.name → All IsNamedLabel own → Each IsPrintedSample (shown_of_number desc own number)
 number_printed desc own number is words name labels =
     each_weaker (λ sample. (IsSampleName sample.name × IsOwned own sample) × IsSmall sample) IsPrintedSample
     (λ sample known. record {
@@ -146,23 +147,23 @@ number_printed desc own number is words name labels =
       spelled = known.0.0.spelled;
       labels = owned_labels own sample labels known.0.1;
       value = known.1;
-    }) (samples_of_number desc own number)
-    (each_both (λ sample. IsSampleName sample.name × IsOwned own sample) IsSmall (samples_of_number desc own number)
-    (each_both (λ sample. IsSampleName sample.name) (IsOwned own) (samples_of_number desc own number)
+    }) (shown_of_number desc own number)
+    (each_both (λ sample. IsSampleName sample.name × IsOwned own sample) IsSmall (shown_of_number desc own number)
+    (each_both (λ sample. IsSampleName sample.name) (IsOwned own) (shown_of_number desc own number)
     (number_names IsSampleName desc own number is (metric_names desc.name desc.kind name)) (number_owned desc own number))
     (number_small desc own number is words))
 
 -- a value not below zero
-abbrev pub IsNatural : Sample → Type 0
+abbrev pub IsNatural : Shown → Type 0
 IsNatural sample = (n : ℕ) × (sample.value ≡ pos n)
 
 -- no value of another kind than a gauge is below zero
 number_natural : (desc : Descriptor) (own : List (List ℕ × List ℕ)) (number : Number) → IsNumberOf desc.kind number
     → desc.kind ≢ GaugeKind
-    → Each IsNatural (samples_of_number desc own number)
+    → Each IsNatural (shown_of_number desc own number)
 number_natural desc own (Counter total) is other = ((total, refl), tt)
 number_natural desc own (Histogram totals) is other =
-    each_append IsNatural (bound_samples desc own totals.buckets) (last_samples desc own totals)
+    each_append IsNatural (shown_bounds desc own totals.buckets) (shown_last desc own totals)
     (each_bound IsNatural desc own totals.buckets (λ k _. (cumulated totals.buckets (length desc.bounds) k, refl)))
     ((sum totals.buckets, refl), ((totals.sum, refl), ((totals.count, refl), tt)))
 number_natural desc own (Gauge totals) is other = absurd (other is)
@@ -174,14 +175,14 @@ gauge_or_not HistogramKind = inr (λ e. cc)
 gauge_or_not GaugeKind = inl refl
 
 -- what holds of each sample of a spelled family
-pub each_sample : (P : Sample → Type 0) (family : Family) → IsFamily family → IsSpelled family
+pub each_sample : (P : Shown → Type 0) (family : Family) → IsFamily family → IsSpelled family
     → ((child : Child) → IsNumberOf family.desc.kind child.number → IsSpelledChild child
-    → Each P (samples_of_child family.desc child))
-    → Each P (samples_of_family family)
+    → Each P (shown_of_child family.desc child))
+    → Each P (shown_of_family family)
 each_sample P family is spelled holds =
-    each_flat_map P (samples_of_child family.desc) family.children
+    each_flat_map P (shown_of_child family.desc) family.children
     (each_weaker (λ (child : Child). IsNumberOf family.desc.kind child.number × IsSpelledChild child)
-    (λ child. Each P (samples_of_child family.desc child))
+    (λ child. Each P (shown_of_child family.desc child))
     (λ child known. holds child known.0 known.1) family.children
     (each_both (λ (child : Child). IsNumberOf family.desc.kind child.number) IsSpelledChild family.children
     (recursion_from_All (λ (child : Child). IsNumberOf family.desc.kind child.number) family.children is.numbers)
@@ -193,7 +194,7 @@ family_printed family is spelled = record {
   name = spelled.desc.name;
   help = spelled.desc.help;
   samples =
-      All-from_recursion IsPrintedSample (samples_of_family family)
+      All-from_recursion IsPrintedSample (shown_of_family family)
       (each_sample IsPrintedSample family is spelled (λ child number known.
       number_printed family.desc (zip family.desc.labels child.values) child.number number known.number spelled.desc.name
       (All-from_recursion IsNamedLabel (zip family.desc.labels child.values)
@@ -202,7 +203,7 @@ family_printed family is spelled = record {
       (elim (gauge_or_not family.desc.kind) [
         | inl e ↦ inl e
         | inr other ↦
-            inr (All-from_recursion IsNatural (samples_of_family family)
+            inr (All-from_recursion IsNatural (shown_of_family family)
             (each_sample IsNatural family is spelled (λ child number known.
             number_natural family.desc (zip family.desc.labels child.values) child.number number other)))
       ]);
@@ -210,10 +211,32 @@ family_printed family is spelled = record {
 
 -- the groups of a scrape are such as a scrape prints
 pub printed : (scrape : Scraped) → IsScrape scrape → All IsSpelledIfPrinted scrape.families
-    → All IsPrintedGroup (groups_of scrape)
+    → All IsPrintedGroup (shown_groups scrape)
 printed scrape is spelled =
-    All-from_recursion IsPrintedGroup (groups_of scrape)
+    All-from_recursion IsPrintedGroup (shown_groups scrape)
     (each_group IsPrintedGroup scrape.families
     (each_weaker IsKnown (λ family. IsPrinted family → IsPrintedGroup (group_for family))
     (λ family known printed. family_printed family known.kept (known.spelled printed)) scrape.families
     (all_known scrape is spelled)))
+
+-- the samples of a number are shifted by no more digits than their family
+pub number_within : (places : ℕ) (desc : Descriptor) (own : List (List ℕ × List ℕ)) (number : Number) → desc.digits ≤ places
+    → Each (IsWithin places) (shown_of_number desc own number)
+number_within places desc own (Counter total) within = (within, tt)
+number_within places desc own (Histogram totals) within =
+    each_append (IsWithin places) (shown_bounds desc own totals.buckets) (shown_last desc own totals)
+    (each_bound (IsWithin places) desc own totals.buckets (λ k _. omega arith))
+    ((omega arith), (within, ((omega arith), tt)))
+number_within places desc own (Gauge totals) within = (within, tt)
+
+-- the samples of each group are shifted by at most so many digits
+pub all_within : (places : ℕ) (scrape : Scraped) → Each (HasFew places) scrape.families
+    → Each (λ (group : ShownGroup). Each (IsWithin places) group.samples) (shown_groups scrape)
+all_within places scrape few =
+    each_group (λ (group : ShownGroup). Each (IsWithin places) group.samples) scrape.families
+    (each_weaker (HasFew places) (λ family. IsPrinted family → Each (IsWithin places) (shown_of_family family))
+    (λ family within printed.
+    each_flat_map (IsWithin places) (shown_of_child family.desc) family.children
+    (each_any (λ child. Each (IsWithin places) (shown_of_child family.desc child))
+    (λ child. number_within places family.desc (zip family.desc.labels child.values) child.number (within printed))
+    family.children)) scrape.families few)

@@ -1,17 +1,20 @@
 -- How long the parts of a text are at most.
-use Rattle.std.proofs.Common.{rules, ◌≡◌, ℕ, zero, suc, ◌+◌, ◌-◌, ◌*◌, ◌<◌, ◌≤◌, ◌^◌, Bool, true, false, List, [], ◌∷◌, ◌++◌}
+use Rattle.std.proofs.Common.{rules, ◌≡◌, ℕ, zero, suc, ◌+◌, ◌-◌, ◌*◌, ◌/◌, ◌%◌, ◌<◌, ◌≤◌, ◌^◌, Bool, true, false, List, [], ◌∷◌, ◌++◌}
 use Rattle.std.proofs.Common.{length, get_or, codes, decimal, All, arith, length-append}
 use Rattle.std.specs.Prelude.{ℤ, pos, negsuc, ◌-ℤ◌, ◌==◌, if◌then◌else◌, nat_lt}
-use Rattle.std.specs.Fmt.{signed_decimal}
+use Rattle.expo_text.specs.Shifted.{pointed, fraction, shifted, signed_shifted}
+use Rattle.expo_text.proofs.Fractions.{fraction_is}
+use Rattle.expo_text.proofs.ShiftedNumbers.{left_below}
+use Rattle.std.proofs.Math.Nat.{div-le_self}
 use Rattle.std.specs.List.{flat_map, zip}
 use Rattle.std.proofs.lemmas.List.Elements.{All-head, All-tail, All-weaker, All-cons, All-nil}
 use Rattle.std.proofs.lemmas.Grind.{flat_map-append}
 use Rattle.std.proofs.lemmas.Fmt.{length-decimal-le}
 use Rattle.metric_names.specs.Escapes.{help_byte, label_byte}
 use Rattle.metric_names.specs.LabelName.{IsLabelName}
-use Rattle.expo_text.specs.Samples.{Sample}
+use Rattle.expo_text.specs.Shown.{Shown, shown_line}
 use Rattle.expo_text.specs.Spelled.{IsSpelledValue}
-use Rattle.expo_text.specs.Text.{label_text, labels_text, sample_line}
+use Rattle.expo_text.specs.Text.{label_text, labels_text}
 use Rattle.expo_text.specs.Walk.{mark, opened, bucket_front}
 
 -- pieces of at most `most` bytes
@@ -107,14 +110,14 @@ front-short name labels short_name each few =
     simp length-append (omega (arith, short_name, few, all, one))
 
 -- a sample whose line has at most 6,000 bytes
-pub record IsShortSample (sample : Sample) : Type 0 where
+pub record IsShortSample (sample : Shown) : Type 0 where
   pub name : length sample.name ≤ 135
   pub labels : All IsShortLabel sample.labels
   pub few : length sample.labels ≤ 9
-  pub value : length (signed_decimal sample.value) ≤ 21
+  pub value : length (signed_shifted sample.digits sample.value) ≤ 31
 
-pub sample_line-short : (sample : Sample) → IsShortSample sample → length (sample_line sample) ≤ 6000
-sample_line-short sample short =
+pub shown_line-short : (sample : Shown) → IsShortSample sample → length (shown_line sample) ≤ 6000
+shown_line-short sample short =
     let labels = labels_text-short sample.labels short.labels in
     simp length-append (omega (arith, short.name, short.few, short.value, labels))
 
@@ -122,19 +125,34 @@ sample_line-short sample short =
 pub decimal-short : (n : ℕ) → n < 2 ^ 64 → length (decimal n) ≤ 20
 decimal-short n small = length-decimal-le 20 n (omega arith) (omega (arith, small)) small
 
-either-value : (c : Bool) (a b : ℤ) → length (signed_decimal a) ≤ 21 → length (signed_decimal b) ≤ 21
-    → length (signed_decimal (if c then a else b)) ≤ 21
-either-value true a b first second = first
-either-value false a b first second = second
+pointed-short : (part : List ℕ) → length (pointed part) ≤ 1 + length part
+pointed-short [] = omega arith
+pointed-short (c ∷ cs) = omega arith
 
-pub pos-short : (n : ℕ) → n < 2 ^ 64 → length (signed_decimal (pos n)) ≤ 21
-pos-short n small = let short = decimal-short n small in omega (arith, short)
+pub shifted-short : (digits n : ℕ) → digits ≤ 9 → n < 2 ^ 64 → length (shifted digits n) ≤ 30
+shifted-short digits n few small =
+    let less = div-le_self n (10 ^ digits) in
+    let front = decimal-short (n / 10 ^ digits) (omega (arith, small, less)) in
+    let part = fraction digits (n % 10 ^ digits) in
+    let rest = (fraction_is digits (n % 10 ^ digits) (left_below digits n)).few in
+    let end = pointed-short part in
+    rw length-append (omega (arith, few, front, rest, end))
 
-neg-short : (n : ℕ) → n + 1 < 2 ^ 64 → length (signed_decimal (negsuc n)) ≤ 21
-neg-short n small = let short = decimal-short (suc n) (omega (arith, small)) in omega (arith, short)
+either-value : (digits : ℕ) (c : Bool) (a b : ℤ) → length (signed_shifted digits a) ≤ 31 → length (signed_shifted digits b) ≤ 31
+    → length (signed_shifted digits (if c then a else b)) ≤ 31
+either-value digits true a b first second = first
+either-value digits false a b first second = second
 
-pub difference-short : (up down : ℕ) → up < 2 ^ 64 → down < 2 ^ 64 → length (signed_decimal (pos up -ℤ pos down)) ≤ 21
-difference-short up zero small_up small_down = pos-short (up + 0) (omega (arith, small_up))
-difference-short up (suc n) small_up small_down =
-    either-value (nat_lt up (suc n)) (negsuc (suc n - suc up)) (pos (up - suc n))
-    (neg-short (suc n - suc up) (omega (arith, small_down))) (pos-short (up - suc n) (omega (arith, small_up)))
+pub pos-short : (digits n : ℕ) → digits ≤ 9 → n < 2 ^ 64 → length (signed_shifted digits (pos n)) ≤ 31
+pos-short digits n few small = let short = shifted-short digits n few small in omega (arith, short)
+
+neg-short : (digits n : ℕ) → digits ≤ 9 → n + 1 < 2 ^ 64 → length (signed_shifted digits (negsuc n)) ≤ 31
+neg-short digits n few small = let short = shifted-short digits (suc n) few (omega (arith, small)) in omega (arith, short)
+
+pub difference-short : (digits up down : ℕ) → digits ≤ 9 → up < 2 ^ 64 → down < 2 ^ 64
+    → length (signed_shifted digits (pos up -ℤ pos down)) ≤ 31
+difference-short digits up zero few small_up small_down = pos-short digits (up + 0) few (omega (arith, small_up))
+difference-short digits up (suc n) few small_up small_down =
+    either-value digits (nat_lt up (suc n)) (negsuc (suc n - suc up)) (pos (up - suc n))
+    (neg-short digits (suc n - suc up) few (omega (arith, small_down)))
+    (pos-short digits (up - suc n) few (omega (arith, small_up)))

@@ -1,12 +1,11 @@
 -- The text of a scrape is UTF-8.
-use Rattle.std.proofs.Common.{◌≡◌, ℕ, suc, ◌<◌, ◌≤◌, ◌^◌, Bool, true, false, List, [], ◌∷◌, ◌++◌, length, get_or, codes, decimal}
+use Rattle.std.proofs.Common.{◌≡◌, ℕ, suc, ◌<◌, ◌≤◌, Bool, true, false, List, [], ◌∷◌, ◌++◌, length, get_or, codes}
 use Rattle.std.proofs.Common.{All, IsUtf8, IsAscii, inl, inr, refl, sym, ap, ap₂, ◌∙◌, subst, arith, append-nil, ltb-true, ne_eqb}
-use Rattle.std.specs.Prelude.{ℤ, pos, negsuc, nat_abs, nat_lt, ◌==◌, if◌then◌else◌, slice_index, zip, flat_map}
-use Rattle.std.specs.Fmt.{signed_decimal}
+use Rattle.std.specs.Prelude.{nat_lt, ◌==◌, if◌then◌else◌, slice_index, zip, flat_map}
+use Rattle.expo_text.specs.Shifted.{shifted, signed_shifted}
 use Rattle.std.specs.List.{list_all}
 use Rattle.std.proofs.lemmas.Bool.{and_parts, cases_lt}
 use Rattle.std.proofs.lemmas.Bool.Decides.{nat_tests}
-use Rattle.std.proofs.lemmas.Fmt.{IsAscii-decimal}
 use Rattle.std.proofs.lemmas.Grind.{flat_map-append}
 use Rattle.std.proofs.lemmas.List.Elements.{recursion_from_All}
 use Rattle.std.proofs.lemmas.Str.{IsUtf8-append, IsUtf8-nil, IsUtf8-encode, IsUtf8-from_ascii, encode_ascii, inside_one}
@@ -21,13 +20,14 @@ use Rattle.metric_desc.specs.declared.kind.Kind.TheVariants.{Gauge as GaugeKind}
 use Rattle.expo_text.specs.declared.number.Number.{Number}
 use Rattle.expo_text.specs.declared.number.Number.TheVariants.{Counter, Histogram, Gauge}
 use Rattle.expo_text.specs.Scraped.{Child, Family, Scraped}
-use Rattle.expo_text.specs.Samples.{Sample, bound_samples, last_samples, samples_of_number, samples_of_family}
+use Rattle.expo_text.specs.Shown.{Shown, shown_bounds, shown_last, shown_of_number, shown_of_family}
 use Rattle.expo_text.specs.Order.{IsNumberOf, IsFamily, IsScrape}
 use Rattle.expo_text.specs.Spelled.{IsOfWords, IsSpelledValue, IsSpelled, IsSpelledIfPrinted}
-use Rattle.expo_text.specs.Text.{label_text, labels_text, sample_line, help_line, kind_text, type_line, group_of, group_text, text}
+use Rattle.expo_text.specs.Text.{label_text, labels_text, help_line, kind_text, type_line}
+use Rattle.expo_text.specs.Shown.{shown_line, shown_group_of, shown_group_text, shown_text}
 use Rattle.expo_text.proofs.Tokens.{Each as EachByte, each_of, each_weaker as each_byte_weaker}
 use Rattle.expo_text.proofs.LabelsRead.{is_name_byte, IsNamed}
-use Rattle.expo_text.proofs.Names.{metric_named, label_named}
+use Rattle.expo_text.proofs.Names.{metric_named, label_named, is_value_byte, IsToken, shifted_token, value_token}
 use Rattle.expo_text.proofs.Pairs.{Each, each_weaker, each_both, each_append}
 use Rattle.expo_text.proofs.Owned.{IsOfNames, each_bound, number_names}
 use Rattle.expo_text.proofs.Once.{IsKnown, all_known}
@@ -128,12 +128,12 @@ named_utf8 [] is = absurd is
 named_utf8 (b ∷ bytes) is = ascii (b ∷ bytes) (each_byte_weaker is_name_byte is_ascii name_ascii (b ∷ bytes) is)
 
 -- a value
-decimal_utf8 : (n : ℕ) → n < 2 ^ 64 → IsUtf8 (decimal n)
-decimal_utf8 n small = IsUtf8-from_ascii (decimal n) (IsAscii-decimal n small)
+value_ascii : (b : ℕ) → is_value_byte b ≡ true → is_ascii b ≡ true
+value_ascii b h = grind (arith, nat_tests)
 
-value_utf8 : (value : ℤ) → nat_abs value < 2 ^ 64 → IsUtf8 (signed_decimal value)
-value_utf8 (pos n) small = decimal_utf8 n small
-value_utf8 (negsuc n) small = IsUtf8-append (codes "-") (decimal (suc n)) (fixed (codes "-") refl) (decimal_utf8 (suc n) small)
+token_utf8 : (token : List ℕ) → IsToken token → IsUtf8 token
+token_utf8 [] is = absurd is
+token_utf8 (b ∷ bytes) is = ascii (b ∷ bytes) (each_byte_weaker is_value_byte is_ascii value_ascii (b ∷ bytes) is)
 
 -- a label
 abbrev IsUtf8Label : List ℕ × List ℕ → Type 0
@@ -167,7 +167,7 @@ labels_utf8 (label ∷ labels) each =
     (IsUtf8-append (label_text label) (flat_map next labels) each.0 rest) (fixed (codes "}") refl)
 
 -- the labels of a sample
-abbrev HasUtf8Labels : Sample → Type 0
+abbrev HasUtf8Labels : Shown → Type 0
 HasUtf8Labels sample = IsUtf8 (labels_text sample.labels)
 
 bucket_labels : (own : List (List ℕ × List ℕ)) (bound : List ℕ) → Each IsUtf8Label own → IsUtf8 bound
@@ -177,26 +177,27 @@ bucket_labels own bound each is =
     (each_append IsUtf8Label own ((codes "le", bound) ∷ []) each (label_utf8 (codes "le") bound (fixed (codes "le") refl) is, tt))
 
 number_labels : (desc : Descriptor) (own : List (List ℕ × List ℕ)) (number : Number) → IsNumberOf desc.kind number
-    → IsDescOf desc.kind desc.labels desc.bounds → Each IsUtf8Label own → Each HasUtf8Labels (samples_of_number desc own number)
+    → IsDescOf desc.kind desc.labels desc.bounds → Each IsUtf8Label own → Each HasUtf8Labels (shown_of_number desc own number)
 number_labels desc own (Counter total) is kept each = (labels_utf8 own each, tt)
 number_labels desc own (Histogram totals) is kept each =
     let plain = labels_utf8 own each in
     let bounds = (kept.histogram is.0).bounds_ok in
-    each_append HasUtf8Labels (bound_samples desc own totals.buckets) (last_samples desc own totals)
+    each_append HasUtf8Labels (shown_bounds desc own totals.buckets) (shown_last desc own totals)
     (each_bound HasUtf8Labels desc own totals.buckets (λ k within. let bound = bounds.bounded k 0 within in
-    bucket_labels own (decimal (slice_index desc.bounds k)) each
-    (decimal_utf8 (slice_index desc.bounds k) (omega (arith, bound)))))
+    bucket_labels own (shifted desc.digits (slice_index desc.bounds k)) each
+    (token_utf8 (shifted desc.digits (slice_index desc.bounds k))
+    (shifted_token desc.digits (slice_index desc.bounds k) (omega (arith, bound))))))
     (bucket_labels own (codes "+Inf") each (fixed (codes "+Inf") refl), (plain, (plain, tt)))
 number_labels desc own (Gauge totals) is kept each = (labels_utf8 own each, tt)
 
 -- the line of a sample
-abbrev IsUtf8Line : Sample → Type 0
-IsUtf8Line sample = IsUtf8 (sample_line sample)
+abbrev IsUtf8Line : Shown → Type 0
+IsUtf8Line sample = IsUtf8 (shown_line sample)
 
-line_utf8 : (sample : Sample) → IsUtf8 sample.name → HasUtf8Labels sample → IsSmall sample → IsUtf8Line sample
+line_utf8 : (sample : Shown) → IsUtf8 sample.name → HasUtf8Labels sample → IsSmall sample → IsUtf8Line sample
 line_utf8 sample name labels small =
-    five sample.name (labels_text sample.labels) (codes " ") (signed_decimal sample.value) (codes "\n") name labels
-    (fixed (codes " ") refl) (value_utf8 sample.value small) (fixed (codes "\n") refl)
+    five sample.name (labels_text sample.labels) (codes " ") (signed_shifted sample.digits sample.value) (codes "\n") name labels
+    (fixed (codes " ") refl) (token_utf8 (signed_shifted sample.digits sample.value) (value_token sample.digits sample.value small)) (fixed (codes "\n") refl)
 
 -- the names of a kind's samples
 names_utf8 : (name : List ℕ) (kind : Kind) → IsUtf8 name → IsOfNames IsUtf8 name kind
@@ -211,20 +212,20 @@ names_utf8 name kind is = record {
 -- the lines of a number's samples
 number_lines : (desc : Descriptor) (own : List (List ℕ × List ℕ)) (number : Number) → IsNumberOf desc.kind number
     → IsOfWords number → IsUtf8 desc.name → IsDescOf desc.kind desc.labels desc.bounds → Each IsUtf8Label own
-    → Each IsUtf8Line (samples_of_number desc own number)
+    → Each IsUtf8Line (shown_of_number desc own number)
 number_lines desc own number is words name kept each =
-    let all = samples_of_number desc own number in
+    let all = shown_of_number desc own number in
     let named = number_names IsUtf8 desc own number is (names_utf8 desc.name desc.kind name) in
     let labelled = number_labels desc own number is kept each in
-    each_weaker (λ (sample : Sample). (IsUtf8 sample.name × HasUtf8Labels sample) × IsSmall sample) IsUtf8Line
+    each_weaker (λ (sample : Shown). (IsUtf8 sample.name × HasUtf8Labels sample) × IsSmall sample) IsUtf8Line
     (λ sample known. line_utf8 sample known.0.0 known.0.1 known.1) all
-    (each_both (λ (sample : Sample). IsUtf8 sample.name × HasUtf8Labels sample) IsSmall all
-    (each_both (λ (sample : Sample). IsUtf8 sample.name) HasUtf8Labels all named labelled)
+    (each_both (λ (sample : Shown). IsUtf8 sample.name × HasUtf8Labels sample) IsSmall all
+    (each_both (λ (sample : Shown). IsUtf8 sample.name) HasUtf8Labels all named labelled)
     (number_small desc own number is words))
 
 -- the lines of a family's samples
 family_lines : (family : Family) → IsFamily family → IsSpelled family → IsUtf8 family.desc.name
-    → Each IsUtf8Line (samples_of_family family)
+    → Each IsUtf8Line (shown_of_family family)
 family_lines family is spelled name =
     each_sample IsUtf8Line family is spelled (λ child number known.
     number_lines family.desc (zip family.desc.labels child.values) child.number number known.number name spelled.desc.kept
@@ -252,25 +253,25 @@ type_utf8 desc name =
 -- the lines of a family that is printed
 family_utf8 : (family : Family) → IsFamily family → IsSpelled family
     → IsUtf8 (help_line family.desc.name family.desc.help ++ type_line family.desc
-    ++ flat_map sample_line (samples_of_family family))
+    ++ flat_map shown_line (shown_of_family family))
 family_utf8 family is spelled =
     let desc = family.desc in
     let name = named_utf8 desc.name (metric_named desc.name spelled.desc.name) in
-    three (help_line desc.name desc.help) (type_line desc) (flat_map sample_line (samples_of_family family))
+    three (help_line desc.name desc.help) (type_line desc) (flat_map shown_line (shown_of_family family))
     (help_utf8 desc.name desc.help name spelled.desc.utf8) (type_utf8 desc name)
-    (pieces sample_line (samples_of_family family) (family_lines family is spelled name))
+    (pieces shown_line (shown_of_family family) (family_lines family is spelled name))
 
 -- a group, where there are children, and nothing else
-group_utf8 : (desc : Descriptor) (children : List Child) (all : List Sample)
-    → (0 < length children → IsUtf8 (help_line desc.name desc.help ++ type_line desc ++ flat_map sample_line all))
-    → IsUtf8 (group_of desc children all)
+group_utf8 : (desc : Descriptor) (children : List Child) (all : List Shown)
+    → (0 < length children → IsUtf8 (help_line desc.name desc.help ++ type_line desc ++ flat_map shown_line all))
+    → IsUtf8 (shown_group_of desc children all)
 group_utf8 desc [] all holds = IsUtf8-nil
 group_utf8 desc (_ ∷ _) all holds = holds (omega arith)
 
-pub text_utf8 : (scrape : Scraped) → IsScrape scrape → All IsSpelledIfPrinted scrape.families → IsUtf8 (text scrape)
+pub text_utf8 : (scrape : Scraped) → IsScrape scrape → All IsSpelledIfPrinted scrape.families → IsUtf8 (shown_text scrape)
 text_utf8 scrape is spelled =
-    pieces group_text scrape.families
-    (each_weaker IsKnown (λ family. IsUtf8 (group_text family))
-    (λ family known. group_utf8 family.desc family.children (samples_of_family family)
+    pieces shown_group_text scrape.families
+    (each_weaker IsKnown (λ family. IsUtf8 (shown_group_text family))
+    (λ family known. group_utf8 family.desc family.children (shown_of_family family)
     (λ printed. family_utf8 family known.kept (known.spelled printed))) scrape.families
     (all_known scrape is spelled))

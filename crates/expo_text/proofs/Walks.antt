@@ -5,7 +5,8 @@ use Rattle.std.proofs.lemmas.List.Elements.{All-head, All-tail, All-cons, All-ni
 use Rattle.expo_text.specs.Groups.{Group}
 use Rattle.expo_text.specs.Lines.{LineEntry, Malformed, IsLine}
 use Rattle.expo_text.specs.Parts.{Part}
-use Rattle.expo_text.specs.Reads.{Match, word_of, IsGroup, Reads}
+use Rattle.expo_text.specs.Reads.{Match, word_of}
+use Rattle.expo_text.specs.ReadsTo.{IsGroupTo, ReadsTo}
 use Rattle.expo_text.specs.Walked.{entry_of, parts_of, ReadsWalked}
 use Rattle.expo_text.proofs.LinesWalked.{line_walked}
 use Rattle.expo_text.proofs.LinesFound.{line_found}
@@ -52,49 +53,49 @@ each_formed (line ∷ lines) formed = (
 )
 
 -- a part of a group has one type
-each_typed : (parts : List Part) (groups : List Group) → Match IsGroup parts groups → Each IsTyped parts
-each_typed [] [] are = tt
-each_typed [] (_ ∷ _) are = absurd are
-each_typed (_ ∷ _) [] are = absurd are
-each_typed (part ∷ parts) (group ∷ groups) are = (
+each_typed : (places : ℕ) (parts : List Part) (groups : List Group) → Match (IsGroupTo places) parts groups → Each IsTyped parts
+each_typed places [] [] are = tt
+each_typed places [] (_ ∷ _) are = absurd are
+each_typed places (_ ∷ _) [] are = absurd are
+each_typed places (part ∷ parts) (group ∷ groups) are = (
   record { word = word_of group.kind; is = are.0.kind },
-  each_typed parts groups are.1,
+  each_typed places parts groups are.1,
 )
 
 -- a part's name is none of others
-each_apart : (part : Part) (group : Group) → group.name ≡ part.name → (parts : List Part) (groups : List Group)
-    → Match IsGroup parts groups
+each_apart : (places : ℕ) (part : Part) (group : Group) → group.name ≡ part.name → (parts : List Part) (groups : List Group)
+    → Match (IsGroupTo places) parts groups
     → Each (λ (other : Group). group.name ≢ other.name) groups → Each (AreApart part) parts
-each_apart part group same_name [] [] are apart = tt
-each_apart part group same_name [] (_ ∷ _) are apart = absurd are
-each_apart part group same_name (_ ∷ _) [] are apart = absurd are
-each_apart part group same_name (next ∷ parts) (other ∷ groups) are apart =
-    ((λ e. apart.0 (same_name ∙ e ∙ sym are.0.name)), each_apart part group same_name parts groups are.1 apart.1)
+each_apart places part group same_name [] [] are apart = tt
+each_apart places part group same_name [] (_ ∷ _) are apart = absurd are
+each_apart places part group same_name (_ ∷ _) [] are apart = absurd are
+each_apart places part group same_name (next ∷ parts) (other ∷ groups) are apart =
+    ((λ e. apart.0 (same_name ∙ e ∙ sym are.0.name)), each_apart places part group same_name parts groups are.1 apart.1)
 
 -- where no two groups have one name, no two parts have
-pairs_apart : (parts : List Part) (groups : List Group) → Match IsGroup parts groups
+pairs_apart : (places : ℕ) (parts : List Part) (groups : List Group) → Match (IsGroupTo places) parts groups
     → Pairs (λ (a b : Group). a.name ≢ b.name) groups → Pairs AreApart parts
-pairs_apart [] [] are apart = tt
-pairs_apart [] (_ ∷ _) are apart = absurd are
-pairs_apart (_ ∷ _) [] are apart = absurd are
-pairs_apart (part ∷ parts) (group ∷ groups) are apart = (
-  each_apart part group are.0.name parts groups are.1 apart.0,
-  pairs_apart parts groups are.1 apart.1,
+pairs_apart places [] [] are apart = tt
+pairs_apart places [] (_ ∷ _) are apart = absurd are
+pairs_apart places (_ ∷ _) [] are apart = absurd are
+pairs_apart places (part ∷ parts) (group ∷ groups) are apart = (
+  each_apart places part group are.0.name parts groups are.1 apart.0,
+  pairs_apart places parts groups are.1 apart.1,
 )
 
 -- an exposition is what the walk finds
-pub walked : (bytes : List ℕ) (groups : List Group) → Reads bytes groups → ReadsWalked bytes groups
-walked bytes groups reads =
-    let apart = pairs_apart reads.parts groups reads.matched
+pub walked : (places : ℕ) (bytes : List ℕ) (groups : List Group) → ReadsTo places bytes groups → ReadsWalked places bytes groups
+walked places bytes groups reads =
+    let apart = pairs_apart places reads.parts groups reads.matched
     (pairs_recursion (λ (a b : Group). a.name ≢ b.name) groups reads.unbroken) in
     let found : parts_of (map entry_of reads.lines) ≡ reads.parts =
     ap parts_of (entries_walked reads.lines reads.entries reads.formed) ∙ parts_walked reads.entries reads.parts reads.blocks
-    (each_typed reads.parts groups reads.matched) apart in
+    (each_typed places reads.parts groups reads.matched) apart in
     record {
       lines = reads.lines;
       cut = reads.cut;
       formed = all_formed reads.lines reads.entries reads.formed;
-      parts = subst (λ parts. Match IsGroup parts groups) (sym found) reads.matched;
+      parts = subst (λ parts. Match (IsGroupTo places) parts groups) (sym found) reads.matched;
       unbroken = reads.unbroken;
       once = reads.once;
       labels = reads.labels;
@@ -102,15 +103,15 @@ walked bytes groups reads =
     }
 
 -- what the walk finds is an exposition
-pub found : (bytes : List ℕ) (groups : List Group) → ReadsWalked bytes groups → Reads bytes groups
-found bytes groups reads = record {
+pub found : (places : ℕ) (bytes : List ℕ) (groups : List Group) → ReadsWalked places bytes groups → ReadsTo places bytes groups
+found places bytes groups reads = record {
   lines = reads.lines;
   cut = reads.cut;
   entries = map entry_of reads.lines;
   formed = entries_found reads.lines reads.formed;
   parts = parts_of (map entry_of reads.lines);
   blocks = parts_found (map entry_of reads.lines) (each_formed reads.lines reads.formed)
-      (each_typed (parts_of (map entry_of reads.lines)) groups reads.parts);
+      (each_typed places (parts_of (map entry_of reads.lines)) groups reads.parts);
   matched = reads.parts;
   unbroken = reads.unbroken;
   once = reads.once;
@@ -119,5 +120,5 @@ found bytes groups reads = record {
 }
 
 -- the two are the same
-pub reads_walked : (bytes : List ℕ) (groups : List Group) → Reads bytes groups ↔ ReadsWalked bytes groups
-reads_walked bytes groups = (walked bytes groups, found bytes groups)
+pub reads_walked : (places : ℕ) (bytes : List ℕ) (groups : List Group) → ReadsTo places bytes groups ↔ ReadsWalked places bytes groups
+reads_walked places bytes groups = (walked places bytes groups, found places bytes groups)

@@ -1,6 +1,8 @@
 pub mod Scraped
 pub mod Samples
 pub mod Text
+pub mod Shifted
+pub mod Shown
 pub mod Order
 pub mod Spelled
 pub mod Counts
@@ -11,4 +13,5 @@ pub mod Groups
 pub mod Lines
 pub mod Parts
 pub mod Reads
+pub mod ReadsTo
 pub mod Walked

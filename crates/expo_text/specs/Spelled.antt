@@ -1,5 +1,5 @@
 -- What the types of a family's parts say of it, so that its text can be read back.
-use Rattle.std.specs.Prelude.{◌≡◌, ℕ, ◌<◌, ◌^◌, List, length, All, IsUtf8}
+use Rattle.std.specs.Prelude.{◌≡◌, ℕ, ◌<◌, ◌≤◌, ◌^◌, List, length, All, IsUtf8}
 use Rattle.metric_names.specs.MetricName.{IsMetricName}
 use Rattle.metric_names.specs.LabelName.{IsLabelName}
 use Rattle.metric_names.specs.LabelValue.{IsLabelValue}
@@ -20,13 +20,14 @@ pub record IsSpelledValue (value : List ℕ) : Type 0 where
   pub short : IsLabelValue value
   pub utf8 : IsUtf8 value
 
--- a descriptor's names and help are of their grammars, and its help is UTF-8
+-- a descriptor's names and help are of their grammars, its help is UTF-8, and its digits are at most 9
 pub record IsSpelledDesc (desc : Descriptor) : Type 0 where
   pub name : IsMetricName desc.name
   pub help : IsHelpText desc.help
   pub utf8 : IsUtf8 desc.help
   pub labels : All IsLabelName desc.labels
   pub kept : IsDescOf desc.kind desc.labels desc.bounds
+  pub digits : desc.digits ≤ 9
 
 -- a child's label values are so spelled, and its number is of words
 pub record IsSpelledChild (child : Child) : Type 0 where

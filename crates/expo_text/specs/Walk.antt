@@ -4,6 +4,7 @@ use Rattle.std.specs.Prelude.{decimal}
 use Rattle.std.specs.List.{flat_map, join_by, range_with_len}
 use Rattle.metric_names.specs.Escapes.{help_byte, label_byte}
 use Rattle.expo_text.specs.Text.{label_text, labels_text}
+use Rattle.expo_text.specs.Shifted.{shifted}
 
 -- how a byte is written, in quotes or in a help
 abbrev pub byte_text : Bool → ℕ → List ℕ
@@ -27,9 +28,9 @@ closing count = if count == 0 then [] else codes "}"
 abbrev pub series : (name : List ℕ) → List (List ℕ × List ℕ) → List ℕ
 series name labels = name ++ labels_text labels
 
--- the rest of a line: a blank and the value
-abbrev pub value_text : (sign digits : List ℕ) → List ℕ
-value_text sign digits = codes " " ++ (sign ++ digits) ++ codes "\n"
+-- the rest of a line: a blank, behind which a minus may stand, and the value
+abbrev pub value_text : (blank digits : List ℕ) → List ℕ
+value_text blank digits = blank ++ digits ++ codes "\n"
 
 -- what the lines of a child's buckets begin with, up to the bound
 abbrev pub bucket_front : (name : List ℕ) → List (List ℕ × List ℕ) → List ℕ
@@ -39,8 +40,8 @@ bucket_front name labels = name ++ codes "_bucket" ++ opened labels ++ mark (len
 abbrev pub bucket_line : (front bound digits : List ℕ) → List ℕ
 bucket_line front bound digits = front ++ bound ++ codes "\"} " ++ digits ++ codes "\n"
 
--- the lines of the first `n` buckets, of these bounds and these cumulated values
-abbrev pub bucket_lines : (front : List ℕ) → (bounds cumulated : List ℕ) → (n : ℕ) → List ℕ
-bucket_lines front bounds cumulated n =
-    flat_map (λ line. line) (map (λ k. bucket_line front (decimal (slice_index bounds k)) (decimal (slice_index cumulated k)))
+-- the lines of the first `n` buckets, of these bounds, which are shifted, and these cumulated values
+abbrev pub bucket_lines : (front : List ℕ) → (digits : ℕ) → (bounds cumulated : List ℕ) → (n : ℕ) → List ℕ
+bucket_lines front digits bounds cumulated n =
+    flat_map (λ line. line) (map (λ k. bucket_line front (shifted digits (slice_index bounds k)) (decimal (slice_index cumulated k)))
     (range_with_len 0 n))

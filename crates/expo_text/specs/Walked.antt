@@ -8,7 +8,8 @@ use Rattle.metric_desc.specs.declared.kind.Kind.TheVariants.{Histogram}
 use Rattle.expo_text.specs.Groups.{Group}
 use Rattle.expo_text.specs.Lines.{AreLines, is_same_text, Written, LineEntry, Nothing, Help, Typed, Sampled, Malformed}
 use Rattle.expo_text.specs.Parts.{Part}
-use Rattle.expo_text.specs.Reads.{Match, IsGroup, IsSameSeries, HasDistinctLabels, IsHistogramGroup}
+use Rattle.expo_text.specs.Reads.{Match, IsSameSeries, HasDistinctLabels}
+use Rattle.expo_text.specs.ReadsTo.{IsGroupTo, IsHistogramGroupTo}
 
 -- what stands from the first byte on that fails the test
 abbrev pub drop_while : (ℕ → Bool) → List ℕ → List ℕ
@@ -179,13 +180,14 @@ parts_of (Typed name word ∷ entries) = gathered (begun (Typed name word)) entr
 parts_of (Sampled sample ∷ entries) = gathered (begun (Sampled sample)) entries
 parts_of (Malformed ∷ entries) = parts_of entries
 
--- a walk over the bytes finds these groups, and they keep what an exposition demands
-pub record ReadsWalked (bytes : List ℕ) (groups : List Group) : Type 0 where
+-- a walk over the bytes finds these groups, with at most so many digits after the point of each number, and they keep what an
+-- exposition demands
+pub record ReadsWalked (places : ℕ) (bytes : List ℕ) (groups : List Group) : Type 0 where
   pub lines : List (List ℕ)
   pub cut : AreLines bytes lines
   pub formed : All (λ line. entry_of line ≢ Malformed) lines
-  pub parts : Match IsGroup (parts_of (map entry_of lines)) groups
+  pub parts : Match (IsGroupTo places) (parts_of (map entry_of lines)) groups
   pub unbroken : AllPairs (λ (a b : Group). a.name ≢ b.name) groups
   pub once : AllPairs (λ a b. ¬ (IsSameSeries a b)) (flat_map (λ (group : Group). group.samples) groups)
   pub labels : All HasDistinctLabels (flat_map (λ (group : Group). group.samples) groups)
-  pub histograms : All (λ (group : Group). group.kind ≡ Histogram → IsHistogramGroup group) groups
+  pub histograms : All (λ (group : Group). group.kind ≡ Histogram → IsHistogramGroupTo places group) groups

@@ -15,6 +15,7 @@ mod piece;
 mod samples;
 mod scrape;
 mod sending;
+mod shifting;
 mod sink;
 mod writer;
 

@@ -1,18 +1,18 @@
 ghost use Rattle.std.specs.Prelude.{◌≡◌, ℕ, slice_index, ◌<◌, ◌≤◌, ◌^◌, ◌++◌, [], length, sum, take, zip, codes, decimal, pos};
 ghost use Rattle.std.specs.Prelude.{◌-ℤ◌, All};
-ghost use Rattle.std.specs.Fmt.{signed_decimal};
 ghost use Rattle.std.specs.List.{flat_map};
 ghost use Rattle.metric_names.specs.LabelName.{IsLabelName};
 ghost use Rattle.metric_names.specs.MetricName.{IsMetricName};
 ghost use Rattle.expo_text.specs.Order.{IsNumberOf};
 ghost use Rattle.expo_text.specs.Spelled.{IsOfWords, IsSpelledValue};
-ghost use Rattle.expo_text.specs.Samples.{samples_of_number};
-ghost use Rattle.expo_text.specs.Text.{sample_line};
+ghost use Rattle.expo_text.specs.Shifted.{shifted, signed_shifted};
+ghost use Rattle.expo_text.specs.Shown.{shown_of_number, shown_line};
 ghost use Rattle.expo_text.specs.Walk.{series, value_text, bucket_front, bucket_line, bucket_lines};
 
 use crate::front::Front;
 use crate::labels::{mark, put_labels, put_opened};
 use crate::number::Number;
+use crate::shifting::put_shifted;
 use crate::sink::Sink;
 use bucket_math::cumulate;
 use ledger_core::{GaugeTotals, HistTotals};
@@ -31,26 +31,34 @@ fn put_series<S: Sink>(sink: &mut S, desc: &Desc, values: &[LabelValue], suffix:
     put_labels(sink, desc.labels(), values);
 }
 
-/// Writes a blank, a number after its sign, and a line feed.
-fn put_value<S: Sink>(sink: &mut S, sign: &str, value: u64)
-    ensures { S.took sink.old sink.new (value_text sign.now (decimal value)) }
+/// Writes a blank, behind which a minus may stand, a shifted number and a line feed.
+fn put_value<S: Sink>(sink: &mut S, blank: &str, digits: u8, value: u64)
+    requires { digits ≤ 9 }
+    ensures { S.took sink.old sink.new (value_text blank.now (shifted digits value)) }
 {
-    sink.put(b" ");
-    sink.put(sign.as_bytes());
-    sink.put_decimal(value);
+    sink.put(blank.as_bytes());
+    put_shifted(sink, digits, value);
     sink.put(b"\n");
 }
 
 /// Writes the line of a sample whose value has no sign.
-fn put_sample<S: Sink>(sink: &mut S, desc: &Desc, values: &[LabelValue], suffix: &str, value: u64)
-    requires { length values.now ≡ length desc.now.labels }
+fn put_sample<S: Sink>(
+    sink: &mut S,
+    desc: &Desc,
+    values: &[LabelValue],
+    suffix: &str,
+    digits: u8,
+    value: u64,
+)
+    requires fit { length values.now ≡ length desc.now.labels }
+    requires few { digits ≤ 9 }
     ensures text { S.took sink.old sink.new
-        (series (desc.now.name ++ suffix.now) (zip desc.now.labels values.now) ++ value_text [] (decimal value)) }
+        (series (desc.now.name ++ suffix.now) (zip desc.now.labels values.now) ++ value_text (codes " ") (shifted digits value)) }
     ensures names { All IsLabelName desc.now.labels }
     ensures values { All IsSpelledValue values.now }
 {
     put_series(sink, desc, values, suffix);
-    put_value(sink, "", value);
+    put_value(sink, " ", digits, value);
 }
 
 /// Writes what the lines of a child's buckets begin with, up to the bound.
@@ -81,23 +89,31 @@ fn spell(front: &mut Front, desc: &Desc, values: &[LabelValue])
 }
 
 /// Writes the line of a bucket after its front.
-fn put_bucket<S: Sink>(sink: &mut S, front: &[u8], bound: u64, value: u64)
-    ensures { S.took sink.old sink.new (bucket_line front.now (decimal bound) (decimal value)) }
+fn put_bucket<S: Sink>(sink: &mut S, front: &[u8], digits: u8, bound: u64, value: u64)
+    requires { digits ≤ 9 }
+    ensures { S.took sink.old sink.new (bucket_line front.now (shifted digits bound) (decimal value)) }
 {
     sink.put(front);
-    sink.put_decimal(bound);
+    put_shifted(sink, digits, bound);
     sink.put(b"\"} ");
     sink.put_decimal(value);
     sink.put(b"\n");
 }
 
 /// Writes the lines of a histogram's buckets under its bounds.
-fn put_buckets<S: Sink>(sink: &mut S, front: &[u8], bounds: &[u64], cumulated: &[u64; 25])
-    requires { length bounds.now ≤ 24 }
-    ensures { S.took sink.old sink.new (bucket_lines front.now bounds.now cumulated.now (length bounds.now)) }
+fn put_buckets<S: Sink>(
+    sink: &mut S,
+    front: &[u8],
+    digits: u8,
+    bounds: &[u64],
+    cumulated: &[u64; 25],
+)
+    requires short { length bounds.now ≤ 24 }
+    requires few { digits ≤ 9 }
+    ensures { S.took sink.old sink.new (bucket_lines front.now digits bounds.now cumulated.now (length bounds.now)) }
 {
     for place in 0..bounds.len() {
-        put_bucket(sink, front, bounds[place], cumulated[place]);
+        put_bucket(sink, front, digits, bounds[place], cumulated[place]);
     }
 }
 
@@ -153,29 +169,31 @@ fn put_histogram<S: Sink>(
     requires kind { desc.now.kind ≡ Kind.Histogram }
     requires count { totals.now.count ≡ sum totals.now.buckets }
     ensures text { S.took sink.old sink.new
-        (flat_map sample_line (samples_of_number desc.now (zip desc.now.labels values.now) (Number.Histogram totals.now))) }
+        (flat_map shown_line (shown_of_number desc.now (zip desc.now.labels values.now) (Number.Histogram totals.now))) }
     ensures names { All IsLabelName desc.now.labels }
     ensures values { All IsSpelledValue values.now }
     ensures words { IsOfWords (Number.Histogram totals.now) }
 {
     let (sum, count) = sum_and_count(totals);
     let bounds = bounds_of(desc);
+    let digits = desc.digits();
     let cumulated = cumulate(&totals.buckets, bounds.len());
     spell(front, desc, values);
-    put_buckets(sink, front.bytes(), bounds, &cumulated);
+    put_buckets(sink, front.bytes(), digits, bounds, &cumulated);
     put_last_bucket(sink, front.bytes(), count);
-    put_sample(sink, desc, values, "_sum", sum);
-    put_sample(sink, desc, values, "_count", count);
+    put_sample(sink, desc, values, "_sum", digits, sum);
+    put_sample(sink, desc, values, "_count", 0, count);
 }
 
-/// A difference: its sign, which is empty where it is not below zero, and how large it is.
+/// A difference: a blank, with a minus behind it where it is below zero, and how large it is.
 fn difference(up: u64, down: u64) -> (&'static str, u64)
-    ensures { result.0.now ++ decimal result.1 ≡ signed_decimal (pos up -ℤ pos down) }
+    ensures { (digits : ℕ) → result.0.now ++ shifted digits result.1
+        ≡ codes " " ++ signed_shifted digits (pos up -ℤ pos down) }
 {
     if up >= down {
-        ("", up - down)
+        (" ", up - down)
     } else {
-        ("-", down - up)
+        (" -", down - up)
     }
 }
 
@@ -183,26 +201,26 @@ fn difference(up: u64, down: u64) -> (&'static str, u64)
 fn put_gauge<S: Sink>(sink: &mut S, desc: &Desc, values: &[LabelValue], totals: &GaugeTotals)
     requires { length values.now ≡ length desc.now.labels }
     ensures text { S.took sink.old sink.new
-        (flat_map sample_line (samples_of_number desc.now (zip desc.now.labels values.now) (Number.Gauge totals.now))) }
+        (flat_map shown_line (shown_of_number desc.now (zip desc.now.labels values.now) (Number.Gauge totals.now))) }
     ensures names { All IsLabelName desc.now.labels }
     ensures values { All IsSpelledValue values.now }
     ensures words { IsOfWords (Number.Gauge totals.now) }
 {
-    let (sign, size) = difference(totals.up, totals.down);
+    let (blank, size) = difference(totals.up, totals.down);
     put_series(sink, desc, values, "");
-    put_value(sink, sign, size);
+    put_value(sink, blank, desc.digits(), size);
 }
 
 /// Writes the line of a counter.
 fn put_counter<S: Sink>(sink: &mut S, desc: &Desc, values: &[LabelValue], total: u64)
     requires { length values.now ≡ length desc.now.labels }
     ensures text { S.took sink.old sink.new
-        (flat_map sample_line (samples_of_number desc.now (zip desc.now.labels values.now) (Number.Counter total))) }
+        (flat_map shown_line (shown_of_number desc.now (zip desc.now.labels values.now) (Number.Counter total))) }
     ensures names { All IsLabelName desc.now.labels }
     ensures values { All IsSpelledValue values.now }
     ensures words { IsOfWords (Number.Counter total) }
 {
-    put_sample(sink, desc, values, "", total);
+    put_sample(sink, desc, values, "", desc.digits(), total);
 }
 
 /// Writes the lines of a number in a family.
@@ -216,7 +234,7 @@ pub(crate) fn put_number<S: Sink>(
     requires fit { length values.now ≡ length desc.now.labels }
     requires kind { IsNumberOf desc.now.kind number.now }
     ensures text { S.took sink.old sink.new
-        (flat_map sample_line (samples_of_number desc.now (zip desc.now.labels values.now) number.now)) }
+        (flat_map shown_line (shown_of_number desc.now (zip desc.now.labels values.now) number.now)) }
     ensures names { All IsLabelName desc.now.labels }
     ensures values { All IsSpelledValue values.now }
     ensures words { IsOfWords number.now }

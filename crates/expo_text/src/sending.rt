@@ -1,7 +1,8 @@
 ghost use Rattle.std.specs.Prelude.{◌≡◌, ◌<◌, ◌≤◌, ◌++◌, [], true, false, length, take, IfErr, OnOk, is_err};
 ghost use Rattle.std.specs.Io.KnownBytes.{Appends};
-ghost use Rattle.expo_text.specs.Text.{text};
+ghost use Rattle.expo_text.specs.Shown.{shown_text};
 
+use crate::front::Front;
 use crate::piece::Piece;
 use crate::scrape::Scrape;
 use crate::sink::Sink;
@@ -175,9 +176,9 @@ pub fn write_after<W: Write>(
 ) -> Result<(), WriteFailed>
     requires not_failed { out.old.failed ≡ false }
     requires short { length front.now ≤ 16384 }
-    ensures sent { OnOk result (Appends (W.contents out.old.inner) (W.contents out.new.inner) (front.now ++ text scrape.now)) }
-    ensures part { IfErr result (λ fault. (fault.sent < length (front.now ++ text scrape.now))
-        × Appends (W.contents out.old.inner) (W.contents out.new.inner) (take fault.sent (front.now ++ text scrape.now))) }
+    ensures sent { OnOk result (Appends (W.contents out.old.inner) (W.contents out.new.inner) (front.now ++ shown_text scrape.now)) }
+    ensures part { IfErr result (λ fault. (fault.sent < length (front.now ++ shown_text scrape.now))
+        × Appends (W.contents out.old.inner) (W.contents out.new.inner) (take fault.sent (front.now ++ shown_text scrape.now))) }
     ensures failed { out.new.failed ≡ is_err result }
     ensures ended { out.new.ended ≡ out.old.ended }
 {
@@ -187,7 +188,7 @@ pub fn write_after<W: Write>(
         sent: 0,
     };
     sending.put(front);
-    put_groups(&mut sending, scrape);
+    put_groups(&mut sending, &mut Front::new(), scrape);
     sending.send();
     if sending.out.failed() {
         return Err(WriteFailed { sent: sending.sent });
@@ -202,9 +203,9 @@ pub fn write_after<W: Write>(
 /// "Exposition formats", "Text format details".
 pub fn write_to<W: Write>(scrape: &Scrape, out: &mut Watched<W>) -> Result<(), WriteFailed>
     requires not_failed { out.old.failed ≡ false }
-    ensures sent { OnOk result (Appends (W.contents out.old.inner) (W.contents out.new.inner) (text scrape.now)) }
-    ensures part { IfErr result (λ fault. (fault.sent < length (text scrape.now))
-        × Appends (W.contents out.old.inner) (W.contents out.new.inner) (take fault.sent (text scrape.now))) }
+    ensures sent { OnOk result (Appends (W.contents out.old.inner) (W.contents out.new.inner) (shown_text scrape.now)) }
+    ensures part { IfErr result (λ fault. (fault.sent < length (shown_text scrape.now))
+        × Appends (W.contents out.old.inner) (W.contents out.new.inner) (take fault.sent (shown_text scrape.now))) }
     ensures failed { out.new.failed ≡ is_err result }
     ensures ended { out.new.ended ≡ out.old.ended }
 {

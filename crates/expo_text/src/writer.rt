@@ -7,8 +7,8 @@ ghost use Rattle.metric_names.specs.MetricName.{IsMetricName};
 ghost use Rattle.expo_text.specs.Scraped.{Child};
 ghost use Rattle.expo_text.specs.Order.{IsFamily, IsNumberOf, IsScrape};
 ghost use Rattle.expo_text.specs.Spelled.{IsSpelledChild, IsSpelledDesc, IsSpelledIfPrinted};
-ghost use Rattle.expo_text.specs.Samples.{samples_of_child};
-ghost use Rattle.expo_text.specs.Text.{help_line, kind_text, sample_line, type_line, group_of, group_text, text};
+ghost use Rattle.expo_text.specs.Shown.{shown_of_child, shown_line, shown_group_of, shown_group_text, shown_text};
+ghost use Rattle.expo_text.specs.Text.{help_line, kind_text, type_line};
 
 use crate::front::Front;
 use crate::labels::put_escaped;
@@ -67,7 +67,7 @@ fn put_type<S: Sink>(sink: &mut S, desc: &Desc)
 fn put_child<S: Sink>(sink: &mut S, front: &mut Front, desc: &Desc, child: &ChildScrape)
     requires fit { length child.now.values ≡ length desc.now.labels }
     requires kind { IsNumberOf desc.now.kind child.now.number }
-    ensures text { S.took sink.old sink.new (flat_map sample_line (samples_of_child desc.now child.now)) }
+    ensures text { S.took sink.old sink.new (flat_map shown_line (shown_of_child desc.now child.now)) }
     ensures names { All IsLabelName desc.now.labels }
     ensures spelled { IsSpelledChild child.now }
 {
@@ -78,7 +78,7 @@ fn put_child<S: Sink>(sink: &mut S, front: &mut Front, desc: &Desc, child: &Chil
 fn put_children<S: Sink>(sink: &mut S, front: &mut Front, desc: &Desc, children: &[ChildScrape])
     requires fit { All (λ (child : Child). length child.values ≡ length desc.now.labels) children.now }
     requires numbers { All (λ (child : Child). IsNumberOf desc.now.kind child.number) children.now }
-    ensures text { S.took sink.old sink.new (flat_map sample_line (flat_map (samples_of_child desc.now) children.now)) }
+    ensures text { S.took sink.old sink.new (flat_map shown_line (flat_map (shown_of_child desc.now) children.now)) }
     ensures names { 0 < length children.now → All IsLabelName desc.now.labels }
     ensures spelled { All IsSpelledChild children.now }
 {
@@ -92,11 +92,12 @@ fn put_lines<S: Sink>(sink: &mut S, front: &mut Front, desc: &Desc, children: &[
     requires fit { All (λ (child : Child). length child.values ≡ length desc.now.labels) children.now }
     requires numbers { All (λ (child : Child). IsNumberOf desc.now.kind child.number) children.now }
     requires some { 0 < length children.now }
-    ensures text { S.took sink.old sink.new (group_of desc.now children.now (flat_map (samples_of_child desc.now) children.now)) }
+    ensures text { S.took sink.old sink.new (shown_group_of desc.now children.now (flat_map (shown_of_child desc.now) children.now)) }
     ensures spelled { IsSpelledDesc desc.now }
     ensures children { All IsSpelledChild children.now }
 {
     let _ = desc.labels();
+    let _ = desc.digits();
     put_help(sink, desc);
     put_type(sink, desc);
     put_children(sink, front, desc, children);
@@ -105,7 +106,7 @@ fn put_lines<S: Sink>(sink: &mut S, front: &mut Front, desc: &Desc, children: &[
 /// Writes the group of a family; nothing where it has no children.
 fn put_group<S: Sink>(sink: &mut S, front: &mut Front, family: &FamilyScrape)
     requires { IsFamily family.now }
-    ensures text { S.took sink.old sink.new (group_text family.now) }
+    ensures text { S.took sink.old sink.new (shown_group_text family.now) }
     ensures spelled { IsSpelledIfPrinted family.now }
 {
     if !family.children.is_empty() {
@@ -113,14 +114,13 @@ fn put_group<S: Sink>(sink: &mut S, front: &mut Front, family: &FamilyScrape)
     }
 }
 
-/// Writes the groups of a scrape.
-pub(crate) fn put_groups<S: Sink>(sink: &mut S, scrape: &Scrape)
-    ensures text { S.took sink.old sink.new (text scrape.now) }
+/// Writes the groups of a scrape. What the front holds before is of no matter.
+pub(crate) fn put_groups<S: Sink>(sink: &mut S, front: &mut Front, scrape: &Scrape)
+    ensures text { S.took sink.old sink.new (shown_text scrape.now) }
     ensures spelled { All IsSpelledIfPrinted scrape.now.families }
     ensures ordered { IsScrape scrape.now }
 {
-    let mut front = Front::new();
     for family in scrape.families() {
-        put_group(sink, &mut front, family);
+        put_group(sink, front, family);
     }
 }

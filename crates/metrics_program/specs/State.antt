@@ -2,7 +2,7 @@
 use Rattle.std.specs.Prelude.{◌≡◌, ◌⊎◌, ℕ, List, [], ◌∷◌, ◌++◌, map, length, replicate, slice_get, option_and_then, Option, Some}
 use Rattle.std.specs.Prelude.{All, IsSomeAnd}
 use Rattle.expo_text.specs.Scraped.{Scraped}
-use Rattle.expo_text.specs.Text.{text}
+use Rattle.expo_text.specs.Shown.{shown_text}
 use Rattle.metric_desc.specs.Desc.{Descriptor}
 use Rattle.register_rule.specs.Seats.{board_id}
 use Rattle.register_rule.specs.declared.board.Board.{Board}
@@ -118,7 +118,7 @@ pub record IsScraped (old : State) (bytes : List ℕ) (new : State) : Type 0 whe
   pub kept : KeepsScrape 4 64 8 16 recorded_in gave_in old.registry new.registry
   pub scrape : Scraped
   pub shown : IsShown 64 8 old.registry.state.families kept.answer scrape
-  pub text_is : bytes ≡ text scrape
+  pub text_is : bytes ≡ shown_text scrape
   pub beside : IsBeside old new
 
 -- how often each worker has published was found, worker by worker

@@ -3,7 +3,7 @@ use Rattle.std.specs.Prelude.{◌≡◌, ℕ, ◌<◌, Bool, true, List, [], ◌
 use Rattle.std.specs.Prelude.{Result, Ok, Err}
 use Rattle.httparse.specs.Ascii.{crlf_bytes}
 use Rattle.expo_text.specs.Scraped.{Scraped}
-use Rattle.expo_text.specs.Text.{text}
+use Rattle.expo_text.specs.Shown.{shown_text}
 use Rattle.scrape_http.specs.declared.source.NoScrape.{NoScrape}
 use Rattle.scrape_http.specs.declared.status.Status.{Status}
 use Rattle.scrape_http.specs.declared.status.Status.TheVariants.{Success, MethodNotAllowed, Unavailable}
@@ -58,7 +58,7 @@ Outcome = Result Scraped NoScrape
 
 -- the reply with the text of a scrape; where there is none, the service is unavailable
 abbrev pub outcome_reply : Outcome → (with_body : Bool) → Reply
-outcome_reply (Ok scrape) with_body = reply_of Success (text scrape) with_body
+outcome_reply (Ok scrape) with_body = reply_of Success (shown_text scrape) with_body
 outcome_reply (Err _) with_body = refusal_reply Unavailable with_body
 
 -- The reply to what is asked for: a refusal, for which no source is asked, or else that of what the source gave.

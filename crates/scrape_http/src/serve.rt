@@ -1,7 +1,7 @@
 //! Requests are served.
 ghost use Rattle.std.specs.Prelude.{◌≡◌, ◌<◌, ◌≤◌, ◌^◌, ◌++◌, true, false, length, IfOk, IfErr, Some, Ok, IsOk};
 ghost use Rattle.std.specs.Io.KnownBytes.{Keeps};
-ghost use Rattle.expo_text.specs.Text.{text};
+ghost use Rattle.expo_text.specs.Shown.{shown_text};
 ghost use Rattle.scrape_http.specs.Reply.{outcome_reply, refusal_reply};
 ghost use Rattle.scrape_http.specs.Serves.{Sends, IsWritten, IsServed, IsUnserved, is_read_failed, is_write_failed};
 
@@ -68,10 +68,10 @@ fn send_text<W: Write>(
 ) -> Result<Served, WireFault>
     requires going { writer.old.failed ≡ false }
     requires short { length head.now ≤ 256 }
-    requires len { len ≡ length (text scrape.now) }
+    requires len { len ≡ length (shown_text scrape.now) }
     requires bounded { len < 2 ^ 33 }
     ensures sends { Sends (W.contents writer.old.inner) (W.contents writer.new.inner)
-        (Some (record { status = Status.Success; bytes = head.now ++ text scrape.now })) result }
+        (Some (record { status = Status.Success; bytes = head.now ++ shown_text scrape.now })) result }
     ensures written { IsWritten writer.new.failed writer.new.flushed result }
 {
     if let Err(WriteFailed { sent }) = write_after(head, scrape, writer) {

@@ -1,6 +1,6 @@
 use Rattle.std.proofs.Common.{arith}
 use Rattle.expo_text.proofs.Limits.{text-bounded}
-use Rattle.expo_text.proofs.byte_count.text_len.Goals as goal
+use Rattle.expo_text.proofs.byte_count.count.Goals as goal
 
 pub returns-clause-len : goal.returns-clause-len
 returns-clause-len c =
