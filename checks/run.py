@@ -12,6 +12,7 @@ import no_memory
 import pages
 import refused_memory
 import servers
+import shifted
 from started import Failed, Skipped, check, run
 
 ROOT = pathlib.Path(__file__).resolve().parent.parent
@@ -37,6 +38,9 @@ def main():
     checks = [
         ("pages", lambda: pages.check_all(ROOT)),
         ("wrong bodies", lambda: aside.check_all(ROOT)),
+        ("shifted numbers", lambda: shifted.check_exact(ROOT)),
+        ("Prometheus' parser for Python", lambda: shifted.check_python(ROOT)),
+        ("promtool", lambda: shifted.check_promtool(ROOT)),
         ("exit statuses", lambda: exit_statuses.check_all(program, service, bench)),
         ("scripts", lambda: script_cases(program)),
         ("servers", lambda: servers.check_all(program, service, printed)),

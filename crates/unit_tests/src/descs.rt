@@ -3,15 +3,15 @@ use crate::asserts::{are_names, need, same, there};
 use crate::limits::GREATEST_BOUNDS;
 use crate::made::{COUNTER, Family, desc, labels};
 use bucket_math::BadBounds;
-use metric_desc::{Desc, HistogramFault, Kind, LabelsFault, clashes};
+use metric_desc::{Desc, HistogramFault, Kind, LabelsFault, MAX_DIGITS, TooManyDigits, clashes};
 use metric_names::{HelpText, MetricName};
 use std::alloc::Global;
 use std::process::Abort;
 
 /// A descriptor is that of this family, with 8 labels and 24 bounds.
 fn is_longest(rt: &impl Abort, copy: &Desc, written: &Family<'_>) {
-    let found = (copy.help().as_str(), copy.labels().len());
-    same(rt, found, (written.help, 8));
+    let found = (copy.help().as_str(), copy.labels().len(), copy.digits());
+    same(rt, found, (written.help, 8, 9));
     let bounds = there(rt, copy.bounds());
     same(
         rt,
@@ -29,6 +29,7 @@ static LONGEST: Family = Family {
     help: "",
     labels: &["a", "b", "c", "d", "e", "f", "g", "h"],
     bounds: &GREATEST_BOUNDS,
+    digits: 9,
     children: &[],
 };
 
@@ -219,4 +220,20 @@ fn are_told_apart(rt: &impl Abort, alloc: Global, cases: &[(Family<'_>, Family<'
 #[test]
 fn which_clash(rt: HostRuntime) {
     are_told_apart(&rt, rt.alloc(), &CLASHES);
+}
+
+/// More than 9 digits are refused by 43, and the names of a family and what clashes with it do not look at them.
+#[test]
+fn digits(rt: HostRuntime) {
+    let rt = &rt;
+    let plain = desc(rt, rt.alloc(), &COUNTER);
+    same(rt, plain.digits(), 0);
+    for digits in [MAX_DIGITS + 1, u8::MAX] {
+        let refused = desc(rt, rt.alloc(), &COUNTER).with_digits(digits).err();
+        same(rt, refused, Some(TooManyDigits));
+    }
+    same(rt, TooManyDigits.number(), 43);
+    let shifted = need(rt, desc(rt, rt.alloc(), &COUNTER).with_digits(MAX_DIGITS));
+    are_names(rt, need(rt, shifted.names()).as_slice(), &["a"]);
+    same(rt, clashes(&plain, &shifted), true);
 }

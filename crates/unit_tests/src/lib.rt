@@ -53,6 +53,8 @@ mod sending;
 #[cfg(test)]
 mod settling;
 #[cfg(test)]
+mod shifts;
+#[cfg(test)]
 mod sources;
 #[cfg(test)]
 mod tallies;

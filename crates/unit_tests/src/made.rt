@@ -15,6 +15,7 @@ pub struct Family<'a> {
     pub help: &'a str,
     pub labels: &'a [&'a str],
     pub bounds: &'a [u64],
+    pub digits: u8,
     pub children: &'a [(&'a [&'a str], Number)],
 }
 
@@ -25,6 +26,7 @@ pub const COUNTER: Family = Family {
     help: "",
     labels: &[],
     bounds: &[],
+    digits: 0,
     children: &[(&[], Number::Counter(0))],
 };
 
@@ -46,11 +48,12 @@ pub fn desc(rt: &impl Abort, alloc: Global, family: &Family<'_>) -> Desc {
     let labels = labels(rt, alloc, family.labels);
     let name = need(rt, MetricName::read(alloc, family.name));
     let help = need(rt, HelpText::read(alloc, family.help));
-    match family.kind {
+    let made = match family.kind {
         Kind::Counter => need(rt, Desc::counter(name, help, labels)),
         Kind::Gauge => need(rt, Desc::gauge(name, help, labels)),
         Kind::Histogram => need(rt, Desc::histogram(name, help, labels, family.bounds)),
-    }
+    };
+    need(rt, made.with_digits(family.digits))
 }
 
 /// These label values.

@@ -1,0 +1,77 @@
+"""The rows of numbers that a text shows shifted: each is the exact decimal, and Prometheus' own parsers read it as the float nearest to that."""
+import decimal
+import re
+import shutil
+import sys
+
+from started import Failed, Skipped, check, run
+
+ROW = re.compile(r'^    \((\d), (u64::MAX|[\d_]+), b"([^"]*)"\),$', re.M)
+TEXT = re.compile(r'b"(# TYPE (?:[^"\\]|\\.|\\\n)*)",\n', re.S)
+
+
+def rows_of(root):
+    """Digits, a number, and how it is shown."""
+    source = (root / "crates/unit_tests/src/shifts.rt").read_text()
+    rows = [(int(digits), 2**64 - 1 if number == "u64::MAX" else int(number), shown) for digits, number, shown in ROW.findall(source)]
+    check(len(rows) > 10, "shifts.rt has rows")
+    return rows
+
+
+def texts_of(root):
+    """Whole texts: the rows, each of them a counter, those of gauges and histograms, and what the example prints."""
+    source = (root / "crates/unit_tests/src/shifts.rt").read_text()
+    texts = [f"# TYPE a counter\na {shown}\n" for _, _, shown in rows_of(root)]
+    whole = [re.sub(r"\\\n\s*", "", text).encode().decode("unicode_escape") for text in TEXT.findall(source)]
+    check(len(whole) == 2, "shifts.rt has the text of a gauge and of a histogram")
+    return texts + whole + [(root / "crates/example_service/stdout").read_text()]
+
+
+def check_exact(root):
+    decimal.getcontext().prec = 60
+    for digits, number, shown in rows_of(root):
+        exact = decimal.Decimal(number).scaleb(-digits)
+        check(decimal.Decimal(shown) == exact, f"{number} shifted by {digits} is {exact}, and not {shown}")
+        check("." not in shown or shown[-1] not in "0.", f"{shown} ends with no zero that could be left out")
+    return len(rows_of(root))
+
+
+def check_python(root):
+    try:
+        from prometheus_client.parser import text_string_to_metric_families
+    except ImportError as why:
+        raise Skipped("there is no Python client of Prometheus") from why
+    for digits, number, shown in rows_of(root):
+        (family,) = text_string_to_metric_families(f"# TYPE a counter\na {shown}\n")
+        value = family.samples[0].value
+        nearest = float(decimal.Decimal(number).scaleb(-digits))
+        check(value == nearest, f"Prometheus' parser for Python reads {shown} as {value}, where {nearest} is nearest")
+    for text in texts_of(root):
+        samples = [sample for family in text_string_to_metric_families(text) for sample in family.samples]
+        lines = [line for line in text.splitlines() if not line.startswith("#")]
+        check(len(samples) == len(lines), f"Prometheus' parser for Python reads a sample in each line of\n{text}")
+    return len(rows_of(root)) + len(texts_of(root))
+
+
+def check_promtool(root):
+    if not shutil.which("promtool"):
+        raise Skipped("there is no promtool")
+    for text in texts_of(root):
+        out, err, status = run("promtool", "check", "metrics", given=text.encode())
+        told = (out + err).decode()
+        check("error while linting" not in told and status in (0, 3), f"promtool reads\n{text}{told}")
+    out, err, status = run("promtool", "check", "metrics", given=(root / "crates/example_service/stdout").read_bytes())
+    check(status == 0, f"promtool finds nothing amiss in the example's metrics: {(out + err).decode()}")
+    return len(texts_of(root)) + 1
+
+
+if __name__ == "__main__":
+    import pathlib
+
+    for it in (check_exact, check_python, check_promtool):
+        try:
+            print(it.__name__, it(pathlib.Path(__file__).resolve().parent.parent))
+        except Skipped as why:
+            print(it.__name__, "SKIPPED:", why)
+        except Failed as why:
+            sys.exit(f"{it.__name__}: {why}")
