@@ -21,6 +21,7 @@ family_refusal_number (family.Help fault) = help.number_of fault
 family_refusal_number (family.Label _ fault) = label.number_of fault
 family_refusal_number (family.Labels fault) = labels.number_of fault
 family_refusal_number (family.Histogram fault) = histogram.number_of fault
+family_refusal_number (family.Digits _) = 43
 family_refusal_number (family.Register fault) = state.register_fault_number fault
 
 -- the number of each refusal of a child

@@ -1,11 +1,11 @@
 -- What plain texts register, and why they are refused.
-use Rattle.std.specs.Prelude.{◌≡◌, ◌≢◌, ℕ, List, [], All, Result, Ok, Err}
+use Rattle.std.specs.Prelude.{◌≡◌, ◌≢◌, ◌<◌, ℕ, List, [], All, Result, Ok, Err}
 use Rattle.std.specs.Borrow.{Bor}
 use Rattle.metric_names.specs.MetricName.{IsMetricName, IsMetricNameFault}
 use Rattle.metric_names.specs.HelpText.{IsHelpText, IsHelpTextFault}
 use Rattle.metric_names.specs.LabelName.{IsLabelName}
 use Rattle.metric_names.specs.LabelValue.{IsLabelValue}
-use Rattle.metric_desc.specs.Desc.{Descriptor}
+use Rattle.metric_desc.specs.Desc.{Descriptor, IsDescOf}
 use Rattle.metric_desc.specs.Labels.{IsLabelsFault}
 use Rattle.metric_desc.specs.Histogram.{IsHistogramFault}
 use Rattle.metric_desc.specs.declared.kind.Kind.{Kind}
@@ -24,15 +24,21 @@ use Rattle.dirgwako.specs.declared.fault.FamilyRefusal.TheVariants as family
 use Rattle.dirgwako.specs.declared.fault.ChildRefusal.TheVariants as child
 use Rattle.dirgwako.specs.declared.fault.MetricRefusal.TheVariants as metric
 
--- the family that these texts say
-abbrev pub family_of : Kind → (name help : List ℕ) → (labels : List (Bor (List ℕ))) → (bounds : List ℕ) → Descriptor
-family_of kind name help labels bounds = record {
+-- the family that these texts say, whose numbers a text shifts by so many decimal digits
+abbrev pub shifted_family_of : Kind → (name help : List ℕ) → (labels : List (Bor (List ℕ))) → (bounds : List ℕ) → (digits : ℕ)
+    → Descriptor
+shifted_family_of kind name help labels bounds digits = record {
   name = name;
   help = help;
   labels = texts_of labels;
   kind = kind;
   bounds = bounds;
+  digits = digits;
 }
+
+-- the family that these texts say, whose numbers are not shifted
+abbrev pub family_of : Kind → (name help : List ℕ) → (labels : List (Bor (List ℕ))) → (bounds : List ℕ) → Descriptor
+family_of kind name help labels bounds = shifted_family_of kind name help labels bounds 0
 
 -- its name, its help and its labels' names are such
 pub record AreGood (desc : Descriptor) : Type 0 where
@@ -48,6 +54,7 @@ IsUnread desc (family.Label at fault) = IsMetricName desc.name × IsHelpText des
 IsUnread desc (family.Labels fault) = AreGood desc × (desc.kind ≢ Kinds.Histogram) × IsLabelsFault desc.labels fault
 IsUnread desc (family.Histogram fault) = AreGood desc × (desc.kind ≡ Kinds.Histogram)
     × IsHistogramFault desc.labels desc.bounds fault
+IsUnread desc (family.Digits fault) = AreGood desc × IsDescOf desc.kind desc.labels desc.bounds × (9 < desc.digits)
 IsUnread desc (family.Register fault) = ⊥
 
 module _ {S : Type 0} (registered : S → S → Descriptor → Result FamilyId RegisterFault → Type 0) (old new : S) (desc : Descriptor)

@@ -1,7 +1,7 @@
 //! Families and children are asked for by plain texts.
-ghost use Rattle.std.specs.Prelude.{◌≡◌, Result, IfErr, IfOk, OnOk};
+ghost use Rattle.std.specs.Prelude.{◌≡◌, ◌≤◌, Result, IfErr, IfOk, OnOk};
 ghost use Rattle.registry_state.specs.declared.handle.Handle.{Handle};
-ghost use Rattle.dirgwako.specs.Registering.{AreGood, AsksFamily, AsksHandle, IsUnread, family_of};
+ghost use Rattle.dirgwako.specs.Registering.{AreGood, AsksFamily, AsksHandle, IsUnread, family_of, shifted_family_of};
 ghost use Rattle.dirgwako.specs.Registering.{kind_of, bounds_of};
 ghost use Rattle.dirgwako.specs.Texts.{texts_of};
 
@@ -22,20 +22,22 @@ struct Texts {
     labels: Vec<LabelName>,
 }
 
-/// Reads the name, the help and the labels, in this order.
+/// Reads the name, the help and the labels, in this order. The shape and the digits are what its clauses say them of.
 fn read_texts(
     alloc: Global,
     shape: Shape<'_>,
     name: &str,
     help: &str,
     labels: &[&str],
+    digits: u8,
 ) -> Result<Texts, FamilyRefusal>
     ensures name { IfOk result (λ read. read.name ≡ name.now) }
     ensures help { IfOk result (λ read. read.help ≡ help.now) }
     ensures labels { IfOk result (λ read. read.labels.items ≡ texts_of labels.now) }
-    ensures good { OnOk result (AreGood (family_of (kind_of shape.entry) name.now help.now labels.now (bounds_of shape.entry))) }
+    ensures good { OnOk result
+        (AreGood (shifted_family_of (kind_of shape.entry) name.now help.now labels.now (bounds_of shape.entry) digits)) }
     ensures fault { IfErr result
-        (IsUnread (family_of (kind_of shape.entry) name.now help.now labels.now (bounds_of shape.entry))) }
+        (IsUnread (shifted_family_of (kind_of shape.entry) name.now help.now labels.now (bounds_of shape.entry) digits)) }
 {
     match MetricName::read(alloc, name) {
         Ok(name) => match HelpText::read(alloc, help) {
@@ -52,21 +54,23 @@ fn read_texts(
     }
 }
 
-/// The descriptor of these texts.
+/// The descriptor of these texts, before its family's numbers are shifted by so many digits.
 fn describe(
     alloc: Global,
     shape: Shape<'_>,
     name: &str,
     help: &str,
     labels: &[&str],
+    digits: u8,
 ) -> Result<Desc, FamilyRefusal>
     ensures made { IfOk result (λ desc. desc ≡ family_of (kind_of shape.entry) name.now help.now labels.now
         (bounds_of shape.entry)) }
-    ensures good { OnOk result (AreGood (family_of (kind_of shape.entry) name.now help.now labels.now (bounds_of shape.entry))) }
+    ensures good { OnOk result
+        (AreGood (shifted_family_of (kind_of shape.entry) name.now help.now labels.now (bounds_of shape.entry) digits)) }
     ensures fault { IfErr result
-        (IsUnread (family_of (kind_of shape.entry) name.now help.now labels.now (bounds_of shape.entry))) }
+        (IsUnread (shifted_family_of (kind_of shape.entry) name.now help.now labels.now (bounds_of shape.entry) digits)) }
 {
-    let Texts { name, help, labels } = match read_texts(alloc, shape, name, help, labels) {
+    let Texts { name, help, labels } = match read_texts(alloc, shape, name, help, labels, digits) {
         Ok(read) => read,
         Err(fault) => return Err(fault),
     };
@@ -79,6 +83,32 @@ fn describe(
     }
 }
 
+/// The descriptor of these texts, whose family's numbers are shifted by so many digits.
+fn describe_shifted(
+    alloc: Global,
+    shape: Shape<'_>,
+    name: &str,
+    help: &str,
+    labels: &[&str],
+    digits: u8,
+) -> Result<Desc, FamilyRefusal>
+    ensures made { IfOk result (λ desc. desc ≡ shifted_family_of (kind_of shape.entry) name.now help.now labels.now
+        (bounds_of shape.entry) digits) }
+    ensures good { OnOk result
+        (AreGood (shifted_family_of (kind_of shape.entry) name.now help.now labels.now (bounds_of shape.entry) digits)) }
+    ensures few { IfOk result (λ _. digits ≤ 9) }
+    ensures fault { IfErr result
+        (IsUnread (shifted_family_of (kind_of shape.entry) name.now help.now labels.now (bounds_of shape.entry) digits)) }
+{
+    match describe(alloc, shape, name, help, labels, digits) {
+        Ok(desc) => {
+            let _ = desc.labels();
+            desc.with_digits(digits).map_err(FamilyRefusal::Digits)
+        }
+        Err(fault) => Err(fault),
+    }
+}
+
 /// Registers a family by plain texts.
 pub(crate) fn ask_family<S: Registers>(
     at: &mut S,
@@ -87,11 +117,13 @@ pub(crate) fn ask_family<S: Registers>(
     name: &str,
     help: &str,
     labels: &[&str],
+    digits: u8,
 ) -> Result<FamilyId, FamilyRefusal>
-    ensures { AsksFamily S.registered at.old at.new
-        (family_of (kind_of shape.entry) name.now help.now labels.now (bounds_of shape.entry)) result }
+    ensures asks { AsksFamily S.registered at.old at.new
+        (shifted_family_of (kind_of shape.entry) name.now help.now labels.now (bounds_of shape.entry) digits) result }
+    ensures few { IfOk result (λ _. digits ≤ 9) }
 {
-    match describe(alloc, shape, name, help, labels) {
+    match describe_shifted(alloc, shape, name, help, labels, digits) {
         Ok(desc) => at.register(desc).map_err(FamilyRefusal::Register),
         Err(fault) => Err(fault),
     }

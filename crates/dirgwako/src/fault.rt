@@ -2,7 +2,7 @@
 ghost use Rattle.std.specs.Prelude.{◌≡◌};
 ghost use Rattle.dirgwako.specs.Refused.{family_refusal_number, child_refusal_number, metric_refusal_number};
 
-use metric_desc::{HistogramFault, LabelsFault};
+use metric_desc::{HistogramFault, LabelsFault, TooManyDigits};
 use metric_names::{HelpTextFault, LabelNameFault, LabelValueFault, MetricNameFault};
 use registry_state::{ChildFault, FamilyId, RegisterFault};
 use thiserror::Error;
@@ -25,6 +25,9 @@ pub enum FamilyRefusal {
     /// Refusals 9, 7, 8 and 10 of the labels and the bounds of a histogram.
     #[error(transparent)]
     Histogram(HistogramFault),
+    /// Refusal 43: a text shifts numbers by at most 9 digits.
+    #[error(transparent)]
+    Digits(TooManyDigits),
     /// Refusals 19, 23 and 6 of the registry.
     #[error(transparent)]
     Register(RegisterFault),
@@ -41,6 +44,7 @@ impl FamilyRefusal {
             FamilyRefusal::Label { at: _, fault } => fault.number(),
             FamilyRefusal::Labels(fault) => fault.number(),
             FamilyRefusal::Histogram(fault) => fault.number(),
+            FamilyRefusal::Digits(fault) => fault.number(),
             FamilyRefusal::Register(fault) => fault.number(),
         }
     }

@@ -21,10 +21,11 @@ mod registrar;
 mod runtime;
 mod serving;
 mod settling;
+mod shifted;
 mod texts;
 mod totals;
 
-pub use bounds::{exponential, linear};
+pub use bounds::{exponential, linear, seconds_default};
 pub use bucket_math::{BadBounds, Bounds};
 pub use chain_law::NotAll;
 pub use change::{Change, down, inc, observe, up};
@@ -35,7 +36,7 @@ pub use family::{CounterFamily, GaugeFamily, HistogramFamily};
 pub use fault::{ChildRefusal, FamilyRefusal, MetricRefusal};
 pub use ledger_core::{Counter, Gauge, HistTotals, Histogram, Op, OpFault, Tally, TallyFault};
 pub use listening::{listen, listen_aloud, port_of};
-pub use metric_desc::{Desc, HistogramFault, Kind, LabelsFault};
+pub use metric_desc::{Desc, HistogramFault, Kind, LabelsFault, TooManyDigits};
 pub use metric_names::{
     HelpTextFault, LabelNameFault, LabelValue, LabelValueFault, MetricNameFault,
 };

@@ -17,12 +17,13 @@ use std::sync::Wait;
 
 /// Registers metrics by plain texts. [`Registrar::new`] makes one of a registry.
 ///
-/// All numbers are whole, so a name tells its unit: `job_bytes`, `answer_milliseconds`.
+/// All numbers are whole. A name tells their unit, `job_bytes`, or the unit in which a text shows them, shifted: counted in microseconds
+/// and shown in seconds, `answer_seconds` ([`Registrar::histogram_seconds`]).
 #[derive(Drop)]
 pub struct Registrar<S> {
     /// What registers them.
     pub at: S,
-    alloc: Global,
+    pub(crate) alloc: Global,
 }
 
 impl<
@@ -77,7 +78,15 @@ impl<S: Registers> Registrar<S> {
             (λ fault. AsksFamily S.registered self.old.at self.new.at (family_of Kinds.Counter name.now help.now labels.now [])
             (Result.Err fault)) }
     {
-        match ask_family(&mut self.at, self.alloc, Shape::Counter, name, help, labels) {
+        match ask_family(
+            &mut self.at,
+            self.alloc,
+            Shape::Counter,
+            name,
+            help,
+            labels,
+            0,
+        ) {
             Ok(id) => Ok(CounterFamily {
                 registry: self.at.id(),
                 id,
@@ -157,7 +166,15 @@ impl<S: Registers> Registrar<S> {
             (λ fault. AsksFamily S.registered self.old.at self.new.at (family_of Kinds.Gauge name.now help.now labels.now [])
             (Result.Err fault)) }
     {
-        match ask_family(&mut self.at, self.alloc, Shape::Gauge, name, help, labels) {
+        match ask_family(
+            &mut self.at,
+            self.alloc,
+            Shape::Gauge,
+            name,
+            help,
+            labels,
+            0,
+        ) {
             Ok(id) => Ok(GaugeFamily {
                 registry: self.at.id(),
                 id,
@@ -241,6 +258,7 @@ impl<S: Registers> Registrar<S> {
             name,
             help,
             labels,
+            0,
         ) {
             Ok(id) => Ok(HistogramFamily {
                 registry: self.at.id(),

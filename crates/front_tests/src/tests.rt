@@ -9,6 +9,7 @@ mod kept;
 mod limits;
 mod memory;
 mod refused;
+mod seconds;
 mod serving;
 mod settled;
 mod shown;
@@ -56,6 +57,7 @@ enum Tried {
     EachKind,
     Requests,
     Refusals,
+    Seconds,
     Tally,
     TallyRefused,
 }
@@ -73,6 +75,7 @@ fn try_of(
         Tried::EachKind => shown::counts_and_shows(rt, registry, recorder),
         Tried::Requests => shown::shows_requests(rt, registry, recorder),
         Tried::Refusals => counting::refuses_all(rt, registry, recorder),
+        Tried::Seconds => seconds::counts_and_shows(rt, registry, recorder),
         Tried::Tally => tallies::publishes(rt, registry, recorder),
         Tried::TallyRefused => tallies::refuses(rt, recorder),
     }

@@ -1,0 +1,143 @@
+//! Families whose numbers are counted in one unit and shown in another, a power of ten as large.
+ghost use Rattle.std.specs.Prelude.{◌≡◌, ◌≤◌, [], Result, IfErr, IfOk};
+ghost use Rattle.metric_desc.specs.declared.kind.Kind.TheVariants as Kinds;
+ghost use Rattle.registry_state.specs.declared.handle.Handle.TheVariants as Handles;
+ghost use Rattle.dirgwako.specs.Registering.{AsksFamily, AsksMetric, shifted_family_of};
+
+use crate::asking::ask_family;
+use crate::family::{CounterFamily, GaugeFamily, HistogramFamily, Shape};
+use crate::fault::{FamilyRefusal, MetricRefusal};
+use crate::registers::Registers;
+use crate::registrar::Registrar;
+use ledger_core::Histogram;
+
+/// Microseconds are shown as seconds.
+const SECONDS: u8 = 6;
+
+impl<S: Registers> Registrar<S> {
+    /// A family of counters with labels, whose numbers the text shows shifted by `digits` decimal digits, at most 9: by 6 digits
+    /// 2250401 is shown as `2.250401`. [`Registrar::counter_of`] gives its children.
+    ///
+    /// # Errors
+    ///
+    /// Those of [`Registrar::counter_family`], in its order, and before those of the registry [`FamilyRefusal::Digits`], 43. Nothing has
+    /// changed then.
+    pub fn counter_family_shifted(
+        &mut self,
+        name: &str,
+        help: &str,
+        labels: &[&str],
+        digits: u8,
+    ) -> Result<CounterFamily, FamilyRefusal>
+        ensures made { IfOk result (λ family. AsksFamily S.registered self.old.at self.new.at
+            (shifted_family_of Kinds.Counter name.now help.now labels.now [] digits) (Result.Ok family.id)) }
+        ensures registry { IfOk result (λ family. family.registry ≡ S.id_in self.new.at) }
+        ensures few { IfOk result (λ _. digits ≤ 9) }
+        ensures fault { IfErr result (λ fault. AsksFamily S.registered self.old.at self.new.at
+            (shifted_family_of Kinds.Counter name.now help.now labels.now [] digits) (Result.Err fault)) }
+    {
+        let shape = Shape::Counter;
+        match ask_family(&mut self.at, self.alloc, shape, name, help, labels, digits) {
+            Ok(id) => Ok(CounterFamily {
+                registry: self.at.id(),
+                id,
+            }),
+            Err(fault) => Err(fault),
+        }
+    }
+
+    /// A family of gauges with labels, whose numbers the text shows shifted by `digits` decimal digits, at most 9: by 6 digits
+    /// 2250401 is shown as `2.250401`. [`Registrar::gauge_of`] gives its children.
+    ///
+    /// # Errors
+    ///
+    /// Those of [`Registrar::gauge_family`], in its order, and before those of the registry [`FamilyRefusal::Digits`], 43. Nothing has
+    /// changed then.
+    pub fn gauge_family_shifted(
+        &mut self,
+        name: &str,
+        help: &str,
+        labels: &[&str],
+        digits: u8,
+    ) -> Result<GaugeFamily, FamilyRefusal>
+        ensures made { IfOk result (λ family. AsksFamily S.registered self.old.at self.new.at
+            (shifted_family_of Kinds.Gauge name.now help.now labels.now [] digits) (Result.Ok family.id)) }
+        ensures registry { IfOk result (λ family. family.registry ≡ S.id_in self.new.at) }
+        ensures few { IfOk result (λ _. digits ≤ 9) }
+        ensures fault { IfErr result (λ fault. AsksFamily S.registered self.old.at self.new.at
+            (shifted_family_of Kinds.Gauge name.now help.now labels.now [] digits) (Result.Err fault)) }
+    {
+        let shape = Shape::Gauge;
+        match ask_family(&mut self.at, self.alloc, shape, name, help, labels, digits) {
+            Ok(id) => Ok(GaugeFamily {
+                registry: self.at.id(),
+                id,
+            }),
+            Err(fault) => Err(fault),
+        }
+    }
+
+    /// A family of histograms with labels, whose bounds and sums the text shows shifted by `digits` decimal digits, at most 9. The bounds
+    /// are of the unit of the numbers. [`Registrar::histogram_of`] gives its children.
+    ///
+    /// # Errors
+    ///
+    /// Those of [`Registrar::histogram_family`], in its order, and before those of the registry [`FamilyRefusal::Digits`], 43. Nothing
+    /// has changed then.
+    pub fn histogram_family_shifted(
+        &mut self,
+        name: &str,
+        help: &str,
+        labels: &[&str],
+        bounds: &[u64],
+        digits: u8,
+    ) -> Result<HistogramFamily, FamilyRefusal>
+        ensures made { IfOk result (λ family. AsksFamily S.registered self.old.at self.new.at
+            (shifted_family_of Kinds.Histogram name.now help.now labels.now bounds.now digits) (Result.Ok family.id)) }
+        ensures registry { IfOk result (λ family. family.registry ≡ S.id_in self.new.at) }
+        ensures few { IfOk result (λ _. digits ≤ 9) }
+        ensures fault { IfErr result (λ fault. AsksFamily S.registered self.old.at self.new.at
+            (shifted_family_of Kinds.Histogram name.now help.now labels.now bounds.now digits) (Result.Err fault)) }
+    {
+        let shape = Shape::Histogram(bounds);
+        match ask_family(&mut self.at, self.alloc, shape, name, help, labels, digits) {
+            Ok(id) => Ok(HistogramFamily {
+                registry: self.at.id(),
+                id,
+            }),
+            Err(fault) => Err(fault),
+        }
+    }
+
+    /// A histogram without labels that is told microseconds and shown in seconds, with these bounds, in microseconds: at most 24, rising,
+    /// none over 2^48 - 1, which is some nine years. [`seconds_default`](crate::seconds_default) has those that Prometheus' libraries
+    /// have.
+    ///
+    /// # Errors
+    ///
+    /// Those of [`Registrar::histogram`].
+    pub fn histogram_seconds(
+        &mut self,
+        name: &str,
+        help: &str,
+        bounds: &[u64],
+    ) -> Result<Histogram, MetricRefusal>
+        ensures made { IfOk result
+            (λ handle. AsksMetric S.id_in S.registered S.gave self.old.at self.new.at
+            (shifted_family_of Kinds.Histogram name.now help.now [] bounds.now 6) (Result.Ok (Handles.Histogram handle))) }
+        ensures fault { IfErr result
+            (λ fault. AsksMetric S.id_in S.registered S.gave self.old.at self.new.at
+            (shifted_family_of Kinds.Histogram name.now help.now [] bounds.now 6) (Result.Err fault)) }
+    {
+        match self.histogram_family_shifted(name, help, &[], bounds, SECONDS) {
+            Ok(family) => match self.histogram_of(&family, &[]) {
+                Ok(handle) => Ok(handle),
+                Err(fault) => Err(MetricRefusal::Child {
+                    family: family.id,
+                    fault,
+                }),
+            },
+            Err(fault) => Err(MetricRefusal::Family(fault)),
+        }
+    }
+}
