@@ -6,7 +6,8 @@
 use anyhow::{Context, Result};
 use dirgwako::{
     Counter, Crew, Gauge, Histogram, Registers, Registrar, RegistryState, Scanner, ServiceRuntime,
-    Snapshot, down, histogram_totals, inc, listen_aloud, observe, serve_alone, settle, text_of,
+    Snapshot, down, histogram_totals, inc, listen_aloud, observe, seconds_default, serve_alone,
+    settle, text_of,
 };
 use std::env;
 use std::net::TcpListener;
@@ -14,11 +15,11 @@ use std::rt::Env;
 use std::thread::join;
 use std::time::Duration;
 
-/// What a thread counts with. There are 2 workers, 8 counters, 1 histogram and 1 gauge.
-type Recorder<'a> = dirgwako::Recorder<'a, 2, 8, 1, 1>;
+/// What a thread counts with. There are 2 workers, 8 counters, 2 histograms and 1 gauge.
+type Recorder<'a> = dirgwako::Recorder<'a, 2, 8, 2, 1>;
 
 /// What is scraped. All is registered before it is served, and one thread serves it: it needs no lock.
-type Registry<'a> = RegistryState<Scanner<'a, 2, 8, 1, 1>, 2, 8, 1, 1>;
+type Registry<'a> = RegistryState<Scanner<'a, 2, 8, 2, 1>, 2, 8, 2, 1>;
 
 /// The handles of what is counted.
 #[derive(Clone, Copy)]
@@ -26,6 +27,7 @@ struct Jobs {
     ok: Counter,
     bad: Counter,
     bytes: Histogram,
+    time: Histogram,
     open: Gauge,
 }
 
@@ -36,6 +38,7 @@ fn register(metrics: &mut Registrar<impl Registers>) -> Result<Jobs> {
         ok: metrics.counter_of(&total, &["ok"])?,
         bad: metrics.counter_of(&total, &["failed"])?,
         bytes: metrics.histogram("job_bytes", "Bytes of each job.", &[100, 250, 500])?,
+        time: metrics.histogram_seconds("job_seconds", "Time of each job.", &seconds_default())?,
         open: metrics.gauge("jobs_open", "Jobs that are being done.")?,
     })
 }
@@ -44,10 +47,11 @@ fn register(metrics: &mut Registrar<impl Registers>) -> Result<Jobs> {
 fn do_jobs(recorder: &mut Recorder<'_>, jobs: &Jobs) -> Result<()> {
     for bytes in 1..=1_000 {
         recorder.up(&jobs.open, 1)?;
-        // Here a service does the job, of which each tenth fails.
+        // Here a service does the job, of which each tenth fails, and takes its time in microseconds.
         let end = if bytes % 10 == 0 { &jobs.bad } else { &jobs.ok };
         recorder.publish(&[
             observe(&jobs.bytes, bytes),
+            observe(&jobs.time, 20 * bytes),
             inc(end, 1),
             down(&jobs.open, 1),
         ])?;
@@ -109,7 +113,7 @@ fn asked(rt: &(impl Env + AllocGlobal)) -> Option<(u16, u64)> {
 fn main(rt: HostRuntime) -> Result<()> {
     let (port, replies) = asked(&rt).context("usage: example_service PORT REPLIES")?;
     let listener = listen_aloud(&rt, port)?;
-    let mut crew = Crew::<2, 8, 1, 1>::new(rt.alloc(), 1, 1)?;
+    let mut crew = Crew::<2, 8, 2, 1>::new(rt.alloc(), 1, 1)?;
     let (registry, mut recorders, _) = crew.open_state(64)?;
     let mut metrics = Registrar::of(rt.alloc(), registry);
     let jobs = register(&mut metrics)?;
