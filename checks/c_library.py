@@ -55,8 +55,22 @@ def hello(prefix, room):
 
 
 def languages(prefix, room):
-    """The header is C99 and C++11."""
-    source = '#include "dirgwako.h"\nint main() { return 0; }\n'
+    """The header is C99 and C++11, and what it has inline has no warning where it is used, also without labels."""
+    source = """#include "dirgwako.h"
+int main() {
+    static const uint64_t bounds[11] = DIRGWAKO_SECONDS_DEFAULT;
+    dirgwako_registry registry = {0, 0};
+    dirgwako_counter_family counters;
+    dirgwako_gauge_family gauges;
+    dirgwako_counter counter;
+    dirgwako_gauge gauge;
+    dirgwako_histogram histogram;
+    if (dirgwako_counter_family_new(&registry, "a", "A.", NULL, 0, 6, &counters)) return 1;
+    if (dirgwako_gauge_family_new(&registry, "b", "B.", NULL, 0, 6, &gauges)) return 1;
+    if (dirgwako_counter_of(&registry, &counters, NULL, 0, &counter) || dirgwako_gauge_of(&registry, &gauges, NULL, 0, &gauge)) return 1;
+    return (int)dirgwako_histogram_seconds_new(&registry, "c", "C.", bounds, 11, &histogram);
+}
+"""
     count = 0
     for compiler, standard, suffix in (("cc", "c99", "c"), ("c++", "c++11", "cc")):
         if not shutil.which(compiler):

@@ -12,7 +12,7 @@
      39  DIRGWAKO_NO_KIND      a change is of no kind
      40  DIRGWAKO_NO_SUCH      so many scrapes are not kept; no refusal has this number
      41  DIRGWAKO_NO_NUMBERS   these are no numbers that were read
-     42  DIRGWAKO_NOT_YET      digits and groups are 0
+     42  DIRGWAKO_NOT_YET      groups are 0, and 43  DIRGWAKO_TOO_MANY_DIGITS  numbers are shifted by over 9 digits
 
    Ownership. A dirgwako_registry and a dirgwako_recorder begin as zeros ({0}), are written by these functions alone, and are never copied while
    they hold something: two copies own the same, so the second use of either is a use after free. They may be freed in any order, and freeing one
@@ -40,6 +40,9 @@ extern "C" {
 /* The version of this interface. */
 #define DIRGWAKO_ABI 1
 
+/* Bounds for durations in microseconds, of 5 milliseconds to 10 seconds: const uint64_t bounds[11] = DIRGWAKO_SECONDS_DEFAULT; */
+#define DIRGWAKO_SECONDS_DEFAULT {5000, 10000, 25000, 50000, 100000, 250000, 500000, 1000000, 2500000, 5000000, 10000000}
+
 enum {
     DIRGWAKO_OK = 0,
     DIRGWAKO_EMPTY = 34,
@@ -50,7 +53,8 @@ enum {
     DIRGWAKO_NO_KIND = 39,
     DIRGWAKO_NO_SUCH = 40,
     DIRGWAKO_NO_NUMBERS = 41,
-    DIRGWAKO_NOT_YET = 42
+    DIRGWAKO_NOT_YET = 42,
+    DIRGWAKO_TOO_MANY_DIGITS = 43
 };
 
 /* A registry over a board. Opaque; zeros where it holds nothing. */
@@ -148,13 +152,11 @@ uint32_t dirgwako_c_gauge_new(dirgwako_registry *registry, const uint8_t *name, 
 uint32_t dirgwako_c_histogram_new(dirgwako_registry *registry, const uint8_t *name, size_t name_len, const uint8_t *help, size_t help_len,
                                   const uint64_t *bounds, size_t count, dirgwako_histogram *histogram);
 uint32_t dirgwako_c_counter_family_new(dirgwako_registry *registry, const uint8_t *name, size_t name_len, const uint8_t *help,
-                                    size_t help_len, const dirgwako_text *labels, size_t count,
-                                    size_t digits, size_t group, dirgwako_counter_family *family);
+                                    size_t help_len, const dirgwako_text *labels, size_t count, size_t digits, size_t group, dirgwako_counter_family *family);
 uint32_t dirgwako_c_counter_of(dirgwako_registry *registry, const dirgwako_counter_family *family, const dirgwako_text *values, size_t count,
                             dirgwako_counter *counter);
 uint32_t dirgwako_c_gauge_family_new(dirgwako_registry *registry, const uint8_t *name, size_t name_len, const uint8_t *help,
-                                    size_t help_len, const dirgwako_text *labels, size_t count,
-                                    size_t digits, size_t group, dirgwako_gauge_family *family);
+                                    size_t help_len, const dirgwako_text *labels, size_t count, size_t digits, size_t group, dirgwako_gauge_family *family);
 uint32_t dirgwako_c_gauge_of(dirgwako_registry *registry, const dirgwako_gauge_family *family, const dirgwako_text *values, size_t count,
                             dirgwako_gauge *gauge);
 uint32_t dirgwako_c_histogram_family_new(dirgwako_registry *registry, const uint8_t *name, size_t name_len, const uint8_t *help,
@@ -247,16 +249,17 @@ static inline int dirgwako_texts(const char *const *texts, size_t count, dirgwak
     return 1;
 }
 
-/* A family of counters with at most 8 labels. 34; 36; 1 to 5, 7, 9, a text is none; 19, a name clashes; 23, there are 128 families; 6, out of
+/* A family of counters with at most 8 labels, whose numbers the text shows shifted by so many decimal digits: 0 to show them as they are, 6 to count
+   microseconds and show seconds. 34; 43, over 9 digits; 36; 1 to 5, 7, 9, a text is none; 19, a name clashes; 23, there are 128 families; 6, out of
    memory. */
 static inline uint32_t dirgwako_counter_family_new(dirgwako_registry *registry, const char *name, const char *help, const char *const *labels,
-                                                size_t count, dirgwako_counter_family *family) {
-    dirgwako_text texts[DIRGWAKO_MOST_LABELS];
+                                                size_t count, size_t digits, dirgwako_counter_family *family) {
+    dirgwako_text texts[DIRGWAKO_MOST_LABELS] = {{NULL, 0}};
     if (!registry || !name || !help || !family) return DIRGWAKO_NULL;
     if (count > DIRGWAKO_MOST_LABELS) return 9;
     if (!dirgwako_texts(labels, count, texts)) return DIRGWAKO_NULL;
     return dirgwako_c_counter_family_new(registry, (const uint8_t *)name, strlen(name), (const uint8_t *)help, strlen(help), texts, count,
-                                      0, 0, family);
+                                      digits, 0, family);
 }
 
 /* The counter of these label values, in the order of the labels, which is made where there is none. 34; 36; 20, the family is of another registry;
@@ -264,23 +267,22 @@ static inline uint32_t dirgwako_counter_family_new(dirgwako_registry *registry, 
    two registries of one id. */
 static inline uint32_t dirgwako_counter_of(dirgwako_registry *registry, const dirgwako_counter_family *family, const char *const *values, size_t count,
                                         dirgwako_counter *counter) {
-    dirgwako_text texts[DIRGWAKO_MOST_LABELS];
+    dirgwako_text texts[DIRGWAKO_MOST_LABELS] = {{NULL, 0}};
     if (!registry || !family || !counter) return DIRGWAKO_NULL;
     if (count > DIRGWAKO_MOST_LABELS) return 21;
     if (!dirgwako_texts(values, count, texts)) return DIRGWAKO_NULL;
     return dirgwako_c_counter_of(registry, family, texts, count, counter);
 }
 
-/* A family of gauges with at most 8 labels. 34; 36; 1 to 5, 7, 9, a text is none; 19, a name clashes; 23, there are 128 families; 6, out of
-   memory. */
+/* A family of gauges, as one of counters. */
 static inline uint32_t dirgwako_gauge_family_new(dirgwako_registry *registry, const char *name, const char *help, const char *const *labels,
-                                                size_t count, dirgwako_gauge_family *family) {
-    dirgwako_text texts[DIRGWAKO_MOST_LABELS];
+                                                size_t count, size_t digits, dirgwako_gauge_family *family) {
+    dirgwako_text texts[DIRGWAKO_MOST_LABELS] = {{NULL, 0}};
     if (!registry || !name || !help || !family) return DIRGWAKO_NULL;
     if (count > DIRGWAKO_MOST_LABELS) return 9;
     if (!dirgwako_texts(labels, count, texts)) return DIRGWAKO_NULL;
     return dirgwako_c_gauge_family_new(registry, (const uint8_t *)name, strlen(name), (const uint8_t *)help, strlen(help), texts, count,
-                                      0, 0, family);
+                                      digits, 0, family);
 }
 
 /* The gauge of these label values, in the order of the labels, which is made where there is none. 34; 36; 20, the family is of another registry;
@@ -288,25 +290,25 @@ static inline uint32_t dirgwako_gauge_family_new(dirgwako_registry *registry, co
    two registries of one id. */
 static inline uint32_t dirgwako_gauge_of(dirgwako_registry *registry, const dirgwako_gauge_family *family, const char *const *values, size_t count,
                                         dirgwako_gauge *gauge) {
-    dirgwako_text texts[DIRGWAKO_MOST_LABELS];
+    dirgwako_text texts[DIRGWAKO_MOST_LABELS] = {{NULL, 0}};
     if (!registry || !family || !gauge) return DIRGWAKO_NULL;
     if (count > DIRGWAKO_MOST_LABELS) return 21;
     if (!dirgwako_texts(values, count, texts)) return DIRGWAKO_NULL;
     return dirgwako_c_gauge_of(registry, family, texts, count, gauge);
 }
 
-/* A family of histograms with at most 8 labels, of at most 24 rising bounds, none over 2^48 - 1. As one of counters; 8, a label is `le`; 10, a bound
-   is none. */
+/* A family of histograms of at most 24 rising bounds, none over 2^48 - 1, which are shifted as well. As one of counters; 8, a label is `le`; 10, a
+   bound is none. */
 static inline uint32_t dirgwako_histogram_family_new(dirgwako_registry *registry, const char *name, const char *help, const char *const *labels,
-                                                size_t count, const uint64_t *bounds, size_t bound_count, dirgwako_histogram_family *family) {
+                                                size_t count, const uint64_t *bounds, size_t bound_count, size_t digits,
+                                                dirgwako_histogram_family *family) {
     static const uint64_t none = 0;
-    dirgwako_text texts[DIRGWAKO_MOST_LABELS];
+    dirgwako_text texts[DIRGWAKO_MOST_LABELS] = {{NULL, 0}};
     if (!registry || !name || !help || !family || (!bounds && bound_count)) return DIRGWAKO_NULL;
     if (count > DIRGWAKO_MOST_LABELS) return 9;
     if (!dirgwako_texts(labels, count, texts)) return DIRGWAKO_NULL;
     return dirgwako_c_histogram_family_new(registry, (const uint8_t *)name, strlen(name), (const uint8_t *)help, strlen(help), texts, count,
-                                      bounds ? bounds : &none, bound_count,
-                                      0, 0, family);
+                                      bounds ? bounds : &none, bound_count, digits, 0, family);
 }
 
 /* The histogram of these label values, in the order of the labels, which is made where there is none. 34; 36; 20, the family is of another
@@ -314,11 +316,19 @@ static inline uint32_t dirgwako_histogram_family_new(dirgwako_registry *registry
    kind, by two registries of one id. */
 static inline uint32_t dirgwako_histogram_of(dirgwako_registry *registry, const dirgwako_histogram_family *family, const char *const *values, size_t count,
                                         dirgwako_histogram *histogram) {
-    dirgwako_text texts[DIRGWAKO_MOST_LABELS];
+    dirgwako_text texts[DIRGWAKO_MOST_LABELS] = {{NULL, 0}};
     if (!registry || !family || !histogram) return DIRGWAKO_NULL;
     if (count > DIRGWAKO_MOST_LABELS) return 21;
     if (!dirgwako_texts(values, count, texts)) return DIRGWAKO_NULL;
     return dirgwako_c_histogram_of(registry, family, texts, count, histogram);
+}
+
+/* A histogram without labels that is told microseconds and shown in seconds, with bounds in microseconds. As dirgwako_histogram_new. */
+static inline uint32_t dirgwako_histogram_seconds_new(dirgwako_registry *registry, const char *name, const char *help, const uint64_t *bounds,
+                                                      size_t count, dirgwako_histogram *histogram) {
+    dirgwako_histogram_family family;
+    uint32_t answer = histogram ? dirgwako_histogram_family_new(registry, name, help, NULL, 0, bounds, count, 6, &family) : (uint32_t)DIRGWAKO_NULL;
+    return answer ? answer : dirgwako_histogram_of(registry, &family, NULL, 0, histogram);
 }
 
 /* Adds `by` to a counter. 34; 16, the counter is of another registry; 15, this worker has published 2^64 - 1 times; 11, there is no such slot; 12,

@@ -25,7 +25,7 @@ static void nulls(void) {
     is("counter", dirgwako_counter_new(&registry, NULL, "Help.", &counter), DIRGWAKO_NULL);
     is("gauge", dirgwako_gauge_new(&registry, "a", NULL, &gauge), DIRGWAKO_NULL);
     is("histogram", dirgwako_histogram_new(&registry, "a", "Help.", NULL, 1, &histogram), DIRGWAKO_NULL);
-    is("family", dirgwako_counter_family_new(&registry, "a", "Help.", NULL, 1, &counters), DIRGWAKO_NULL);
+    is("family", dirgwako_counter_family_new(&registry, "a", "Help.", NULL, 1, 0, &counters), DIRGWAKO_NULL);
     is("child", dirgwako_counter_of(&registry, &counters, one, 1, NULL), DIRGWAKO_NULL);
     is("inc", dirgwako_inc(NULL, &counter, 1), DIRGWAKO_NULL);
     is("observe", dirgwako_observe(&recorder, NULL, 1), DIRGWAKO_NULL);
@@ -68,9 +68,9 @@ static void empties(void) {
     is("counter", dirgwako_counter_new(&registry, "a", "Help.", &counter), DIRGWAKO_EMPTY);
     is("gauge", dirgwako_gauge_new(&registry, "a", "Help.", &gauge), DIRGWAKO_EMPTY);
     is("histogram", dirgwako_histogram_new(&registry, "a", "Help.", bounds, 1, &histogram), DIRGWAKO_EMPTY);
-    is("counters", dirgwako_counter_family_new(&registry, "a", "Help.", one, 1, &counters), DIRGWAKO_EMPTY);
-    is("gauges", dirgwako_gauge_family_new(&registry, "a", "Help.", one, 1, &gauges), DIRGWAKO_EMPTY);
-    is("histograms", dirgwako_histogram_family_new(&registry, "a", "Help.", one, 1, bounds, 1, &histograms), DIRGWAKO_EMPTY);
+    is("counters", dirgwako_counter_family_new(&registry, "a", "Help.", one, 1, 0, &counters), DIRGWAKO_EMPTY);
+    is("gauges", dirgwako_gauge_family_new(&registry, "a", "Help.", one, 1, 0, &gauges), DIRGWAKO_EMPTY);
+    is("histograms", dirgwako_histogram_family_new(&registry, "a", "Help.", one, 1, bounds, 1, 0, &histograms), DIRGWAKO_EMPTY);
     is("a counter", dirgwako_counter_of(&registry, &counters, one, 1, &counter), DIRGWAKO_EMPTY);
     is("a gauge", dirgwako_gauge_of(&registry, &gauges, one, 1, &gauge), DIRGWAKO_EMPTY);
     is("a histogram", dirgwako_histogram_of(&registry, &histograms, one, 1, &histogram), DIRGWAKO_EMPTY);
@@ -153,13 +153,13 @@ static void families(void) {
     const uint64_t bounds[2] = {5, 50};
     is("new", dirgwako_registry_new(&registry, 2), 0);
     is("take", dirgwako_recorder_take(&registry, &recorder), 0);
-    is("counters", dirgwako_counter_family_new(&registry, "answers_total", "Answers.", labels, 2, &answers), 0);
-    is("gauges", dirgwako_gauge_family_new(&registry, "queued", "Queued.", labels, 1, &queues), 0);
-    is("histograms", dirgwako_histogram_family_new(&registry, "time_microseconds", "Times.", labels, 1, bounds, 2, &times), 0);
-    is("a label twice", dirgwako_counter_family_new(&registry, "b_total", "B.", twice, 2, &answers), 7);
-    is("a reserved label", dirgwako_counter_family_new(&registry, "b_total", "B.", reserved, 1, &answers), 4);
-    is("le", dirgwako_histogram_family_new(&registry, "b", "B.", le, 1, bounds, 2, &times), 8);
-    is("a label that is not UTF-8", dirgwako_counter_family_new(&registry, "b_total", "B.", bad, 1, &answers), DIRGWAKO_NOT_UTF8);
+    is("counters", dirgwako_counter_family_new(&registry, "answers_total", "Answers.", labels, 2, 0, &answers), 0);
+    is("gauges", dirgwako_gauge_family_new(&registry, "queued", "Queued.", labels, 1, 0, &queues), 0);
+    is("histograms", dirgwako_histogram_family_new(&registry, "time_microseconds", "Times.", labels, 1, bounds, 2, 0, &times), 0);
+    is("a label twice", dirgwako_counter_family_new(&registry, "b_total", "B.", twice, 2, 0, &answers), 7);
+    is("a reserved label", dirgwako_counter_family_new(&registry, "b_total", "B.", reserved, 1, 0, &answers), 4);
+    is("le", dirgwako_histogram_family_new(&registry, "b", "B.", le, 1, bounds, 2, 0, &times), 8);
+    is("a label that is not UTF-8", dirgwako_counter_family_new(&registry, "b_total", "B.", bad, 1, 0, &answers), DIRGWAKO_NOT_UTF8);
     is("a child", dirgwako_counter_of(&registry, &answers, found, 2, &ok), 0);
     is("the same", dirgwako_counter_of(&registry, &answers, found, 2, &again), 0);
     is("its slot", (long long)again.slot, (long long)ok.slot);
@@ -203,10 +203,10 @@ static void limits(void) {
     name[129] = 0;
     is("a long name", dirgwako_counter_new(&registry, name, "Help.", &counter), 3);
     is("a help with an edge", dirgwako_counter_new(&registry, "a_total", " Help.", &counter), 5);
-    is("nine labels", dirgwako_counter_family_new(&registry, "a_total", "A.", labels, 9, &family), 9);
+    is("nine labels", dirgwako_counter_family_new(&registry, "a_total", "A.", labels, 9, 0, &family), 9);
     is("nine texts", dirgwako_texts(labels, 9, texts), 1);
     is("nine labels, by the library", dirgwako_c_counter_family_new(&registry, texts[0].at, 1, texts[0].at, 1, texts, 9, 0, 0, &family), 9);
-    is("one label", dirgwako_counter_family_new(&registry, "a_total", "A.", labels, 1, &family), 0);
+    is("one label", dirgwako_counter_family_new(&registry, "a_total", "A.", labels, 1, 0, &family), 0);
     memset(value, 'v', sizeof value);
     value[257] = 0;
     is("a long value", dirgwako_counter_of(&registry, &family, long_value, 1, &counter), 3);
@@ -218,9 +218,9 @@ static void limits(void) {
     is("no slot is left", dirgwako_counter_of(&registry, &family, labels, 1, &counter), 22);
     for (int i = 1; i < 128; i++) {
         snprintf(name, sizeof name, "b%d_total", i);
-        is("a family", dirgwako_counter_family_new(&registry, name, "B.", labels, 1, &more), 0);
+        is("a family", dirgwako_counter_family_new(&registry, name, "B.", labels, 1, 0, &more), 0);
     }
-    is("no more families", dirgwako_counter_family_new(&registry, "c_total", "C.", labels, 1, &more), 23);
+    is("no more families", dirgwako_counter_family_new(&registry, "c_total", "C.", labels, 1, 0, &more), 23);
     is("free", dirgwako_registry_free(&registry), 0);
 }
 

@@ -61,9 +61,9 @@ static uint32_t new_registry(void) { return dirgwako_registry_new(&registry, 3);
 static uint32_t new_counter(void) { return dirgwako_counter_new(&registry, another(), "Help.", &counter); }
 static uint32_t new_gauge(void) { return dirgwako_gauge_new(&registry, another(), "Help.", &gauge); }
 static uint32_t new_histogram(void) { return dirgwako_histogram_new(&registry, another(), "Help.", bounds, 2, &histogram); }
-static uint32_t new_counters(void) { return dirgwako_counter_family_new(&registry, "counters_total", "Help.", labels, 2, &counters); }
-static uint32_t new_gauges(void) { return dirgwako_gauge_family_new(&registry, "gauges", "Help.", labels, 2, &gauges); }
-static uint32_t new_histograms(void) { return dirgwako_histogram_family_new(&registry, "histograms", "Help.", labels, 2, bounds, 2, &histograms); }
+static uint32_t new_counters(void) { return dirgwako_counter_family_new(&registry, "counters_total", "Help.", labels, 2, 0, &counters); }
+static uint32_t new_gauges(void) { return dirgwako_gauge_family_new(&registry, "gauges", "Help.", labels, 2, 0, &gauges); }
+static uint32_t new_histograms(void) { return dirgwako_histogram_family_new(&registry, "histograms", "Help.", labels, 2, bounds, 2, 0, &histograms); }
 static uint32_t counter_of(void) { return dirgwako_counter_of(&registry, &counters, labels, 2, &counter); }
 static uint32_t gauge_of(void) { return dirgwako_gauge_of(&registry, &gauges, labels, 2, &gauge); }
 static uint32_t histogram_of(void) { return dirgwako_histogram_of(&registry, &histograms, labels, 2, &histogram); }

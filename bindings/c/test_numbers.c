@@ -1,4 +1,4 @@
-/* The tests of numbers that are read, exact totals, bounds by rule, refusals in words, and digits and groups, which are 0. */
+/* The tests of numbers that are read, exact totals, bounds by rule, refusals in words, numbers that are shown shifted, and groups, which are 0. */
 #include "test.h"
 
 enum { MOST = DIRGWAKO_MOST_NUMBERS };
@@ -177,13 +177,13 @@ static void words(void) {
         is("there are words", dirgwako_c_refusal(i, (uint8_t *)buffer, sizeof buffer, &len), 0);
         is("they are whole", strlen(dirgwako_refusal(i, buffer, sizeof buffer)) == len && len >= 4, 1);
     }
-    is("no such", dirgwako_c_refusal(DIRGWAKO_NOT_YET + 1, short_one, sizeof short_one, &len), DIRGWAKO_NO_SUCH);
+    is("no such", dirgwako_c_refusal(DIRGWAKO_TOO_MANY_DIGITS + 1, short_one, sizeof short_one, &len), DIRGWAKO_NO_SUCH);
     is("too short", dirgwako_c_refusal(6, short_one, sizeof short_one, &len), DIRGWAKO_TOO_SHORT);
     is("it needs", (long long)len, 13);
     is("it is as it was", short_one[0], 0);
 }
 
-/* Digits and groups are 0, as yet. */
+/* Groups are 0, as yet, and digits at most 9. */
 static void later(void) {
     const uint8_t *name = (const uint8_t *)"a_total";
     const dirgwako_text label = {(const uint8_t *)"code", 4};
@@ -192,12 +192,53 @@ static void later(void) {
     dirgwako_gauge_family gauges = {7, 7};
     dirgwako_histogram_family histograms = {7, 7};
     is("new", dirgwako_registry_new(&registry, 1), 0);
-    is("digits", dirgwako_c_counter_family_new(&registry, name, 7, name, 7, &label, 1, 6, 0, &counters), DIRGWAKO_NOT_YET);
-    is("a group", dirgwako_c_counter_family_new(&registry, name, 7, name, 7, &label, 1, 0, 1, &counters), DIRGWAKO_NOT_YET);
-    is("digits", dirgwako_c_gauge_family_new(&registry, name, 7, name, 7, &label, 1, 6, 0, &gauges), DIRGWAKO_NOT_YET);
-    is("digits", dirgwako_c_histogram_family_new(&registry, name, 7, name, 7, &label, 1, &bound, 1, 6, 0, &histograms), DIRGWAKO_NOT_YET);
+    is("a group", dirgwako_c_counter_family_new(&registry, name, 7, name, 7, &label, 1, 10, 1, &counters), DIRGWAKO_NOT_YET);
+    is("a group", dirgwako_c_gauge_family_new(&registry, name, 7, name, 7, &label, 1, 0, 1, &gauges), DIRGWAKO_NOT_YET);
+    is("a group", dirgwako_c_histogram_family_new(&registry, name, 7, name, 7, &label, 1, &bound, 1, 0, 1, &histograms), DIRGWAKO_NOT_YET);
+    is("digits", dirgwako_c_counter_family_new(&registry, name, 7, name, 7, &label, 1, 10, 0, &counters), DIRGWAKO_TOO_MANY_DIGITS);
+    is("digits", dirgwako_c_gauge_family_new(&registry, name, 7, name, 7, &label, 1, 256, 0, &gauges), DIRGWAKO_TOO_MANY_DIGITS);
+    is("digits", dirgwako_c_histogram_family_new(&registry, name, 7, name, 7, &label, 1, &bound, 1, SIZE_MAX, 0, &histograms), DIRGWAKO_TOO_MANY_DIGITS);
     is("they are as they were", (long long)(counters.registry + gauges.number + histograms.number), 21);
     is("the name is free", dirgwako_c_counter_family_new(&registry, name, 7, name, 7, &label, 1, 0, 0, &counters), 0);
+    is("free", dirgwako_registry_free(&registry), 0);
+}
+
+/* What is counted in microseconds is shown in seconds, and a gauge in thousandths. */
+static void seconds(void) {
+    static const uint64_t bounds[11] = DIRGWAKO_SECONDS_DEFAULT;
+    static const char wanted[] =
+        "# HELP age_seconds Age.\n# TYPE age_seconds gauge\nage_seconds -0.001\n"
+        "# HELP answer_seconds Answers.\n# TYPE answer_seconds histogram\n"
+        "answer_seconds_bucket{le=\"0.005\"} 0\nanswer_seconds_bucket{le=\"0.01\"} 1\nanswer_seconds_bucket{le=\"0.025\"} 1\n"
+        "answer_seconds_bucket{le=\"0.05\"} 1\nanswer_seconds_bucket{le=\"0.1\"} 1\nanswer_seconds_bucket{le=\"0.25\"} 1\n"
+        "answer_seconds_bucket{le=\"0.5\"} 2\nanswer_seconds_bucket{le=\"1\"} 2\nanswer_seconds_bucket{le=\"2.5\"} 2\n"
+        "answer_seconds_bucket{le=\"5\"} 2\nanswer_seconds_bucket{le=\"10\"} 2\nanswer_seconds_bucket{le=\"+Inf\"} 3\n"
+        "answer_seconds_sum 20.307\nanswer_seconds_count 3\n"
+        "# HELP busy_seconds_total Busy.\n# TYPE busy_seconds_total counter\nbusy_seconds_total 2.250401\n";
+    dirgwako_counter_family of_busy;
+    dirgwako_gauge_family of_age;
+    dirgwako_counter busy;
+    dirgwako_gauge age;
+    dirgwako_histogram answers;
+    size_t len = 0;
+    is("new", dirgwako_registry_new(&registry, 1), 0);
+    is("take", dirgwako_recorder_take(&registry, &recorder), 0);
+    is("counters", dirgwako_counter_family_new(&registry, "busy_seconds_total", "Busy.", NULL, 0, 6, &of_busy), 0);
+    is("counter", dirgwako_counter_of(&registry, &of_busy, NULL, 0, &busy), 0);
+    is("gauges", dirgwako_gauge_family_new(&registry, "age_seconds", "Age.", NULL, 0, 3, &of_age), 0);
+    is("gauge", dirgwako_gauge_of(&registry, &of_age, NULL, 0, &age), 0);
+    is("null", dirgwako_histogram_seconds_new(&registry, "answer_seconds", "Answers.", bounds, 11, NULL), DIRGWAKO_NULL);
+    is("seconds", dirgwako_histogram_seconds_new(&registry, "answer_seconds", "Answers.", bounds, 11, &answers), 0);
+    is("without digits", dirgwako_histogram_new(&registry, "answer_seconds", "Answers.", bounds, 11, &answers), 19);
+    is("inc", dirgwako_inc(&recorder, &busy, 2250401), 0);
+    is("down", dirgwako_down(&recorder, &age, 1), 0);
+    is("observe", dirgwako_observe(&recorder, &answers, 7000), 0);
+    is("observe", dirgwako_observe(&recorder, &answers, 300000), 0);
+    is("observe", dirgwako_observe(&recorder, &answers, 20000000), 0);
+    is("scrape", dirgwako_scrape(&registry, text, sizeof text, &len), 0);
+    is("its length", (long long)len, (long long)(sizeof wanted - 1));
+    is("its text", memcmp(text, wanted, sizeof wanted - 1), 0);
+    is("recorder", dirgwako_recorder_free(&recorder), 0);
     is("free", dirgwako_registry_free(&registry), 0);
 }
 
@@ -210,4 +251,5 @@ void numbers(void) {
     spaced();
     words();
     later();
+    seconds();
 }

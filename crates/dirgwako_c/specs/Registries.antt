@@ -195,10 +195,12 @@ module _ {A : Type 0} (answer : ℕ) (before after : RegistryView (SharedScanner
       ⊎ ((IsUtf8 name × IsUtf8 help × IsNoList labels)
       ⊎ (IsUtf8 name × IsUtf8 help × All IsUtf8 labels × MakesFamily id_of registry_of desc))
 
-  -- this was made, of no digits and in group 0; or digits or a group were asked for, which there are none of yet (42), and nothing has changed
-  abbrev pub MakesPlain : (digits group : ℕ) → (made : Type 0) → Type 0
-  MakesPlain digits group made = ((digits ≡ 0) × (group ≡ 0) × made)
-      ⊎ (((digits ≢ 0) ⊎ (group ≢ 0)) × (answer ≡ 42) × (after ≡ before) × (has ≡ had))
+  -- this was made, of at most 9 digits and in group 0; or a group was asked for, which there are none of yet (42), or else more digits (43),
+  -- and nothing has changed
+  abbrev pub MakesShifted : (digits group : ℕ) → (made : Type 0) → Type 0
+  MakesShifted digits group made = ((group ≡ 0) × (digits ≤ 9) × made)
+      ⊎ ((group ≢ 0) × (answer ≡ 42) × (after ≡ before) × (has ≡ had))
+      ⊎ ((group ≡ 0) × (9 < digits) × (answer ≡ 43) × (after ≡ before) × (has ≡ had))
 
   -- A child of a family was asked for, by these label values: this was done, and the answer is 0, or the number of its refusal, and then what C
   -- has is as it was. No refusal's number is 0

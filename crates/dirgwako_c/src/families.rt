@@ -1,11 +1,11 @@
 //! What C calls to register families with labels, and to have their children.
 ghost use Rattle.std.specs.Prelude.{◌≡◌, []};
-ghost use Rattle.dirgwako.specs.Registering.{family_of};
+ghost use Rattle.dirgwako.specs.Registering.{shifted_family_of};
 ghost use Rattle.dirgwako.specs.Texts.{texts_of};
 ghost use Rattle.metric_desc.specs.declared.kind.Kind.TheVariants as Kinds;
 ghost use Rattle.registry_state.specs.declared.handle.Handle.TheVariants as Handles;
 ghost use Rattle.dirgwako_c.specs.Held.{Calls};
-ghost use Rattle.dirgwako_c.specs.Registries.{registry_in, spare_in, MakesFamilyBy, MakesPlain, GivesChildBy};
+ghost use Rattle.dirgwako_c.specs.Registries.{registry_in, spare_in, MakesFamilyBy, MakesShifted, GivesChildBy};
 
 use crate::held::SharedRegistry;
 use crate::registry_handle::RegistryHandle;
@@ -21,11 +21,12 @@ fn counter_family_in(
     name: &[u8],
     help: &[u8],
     labels: &[&[u8]],
+    digits: u8,
     family: &mut CounterFamily,
 ) -> u32
     ensures { MakesFamilyBy result registrar.old.at registrar.new.at family.old family.new (λ family. family.id)
         (λ family. family.registry) name.now help.now (texts_of labels.now)
-        (family_of Kinds.Counter name.now help.now labels.now []) }
+        (shifted_family_of Kinds.Counter name.now help.now labels.now [] digits) }
 {
     let (Some(name), Some(help)) = (text(name), text(help)) else {
         return 36;
@@ -34,7 +35,7 @@ fn counter_family_in(
         Ok(labels) => labels,
         Err(answer) => return answer,
     };
-    match registrar.counter_family(name, help, &labels) {
+    match registrar.counter_family_shifted(name, help, &labels, digits) {
         Ok(made) => {
             *family = made;
             0
@@ -45,8 +46,8 @@ fn counter_family_in(
 
 /// A family of counters with labels.
 ///
-/// Answers 34, the handle is empty; 42, `digits` or `group` is not 0; 36, a text is not UTF-8; 1 to 5, 9, 7 of the texts; 19, 23, 6 as
-/// [`dirgwako::Registrar::counter_family`]. Nothing has changed then.
+/// Answers 34, the handle is empty; 42, `group` is not 0; 43, `digits` is over 9; 36, a text is not UTF-8; 1 to 5, 9, 7 of the texts; 19,
+/// 23, 6 as [`dirgwako::Registrar::counter_family`]. Nothing has changed then.
 #[unsafe(no_mangle)]
 pub extern "C" fn dirgwako_c_counter_family_new(
     alloc: Global,
@@ -59,18 +60,28 @@ pub extern "C" fn dirgwako_c_counter_family_new(
     family: &mut CounterFamily,
 ) -> u32
     ensures { Calls (family.new ≡ family.old) (λ before after. (spare_in after ≡ spare_in before)
-        × MakesPlain result (registry_in before) (registry_in after) family.old family.new digits group
+        × MakesShifted result (registry_in before) (registry_in after) family.old family.new digits group
         (MakesFamilyBy result (registry_in before) (registry_in after) family.old family.new (λ family. family.id)
         (λ family. family.registry) name.now help.now (texts_of labels.now)
-        (family_of Kinds.Counter name.now help.now labels.now []))) result registry.old.value registry.new.value }
+        (shifted_family_of Kinds.Counter name.now help.now labels.now [] digits))) result registry.old.value registry.new.value }
 {
     let Some(mut held) = registry.take(alloc) else {
         return 34;
     };
-    let answer = if digits != 0 || group != 0 {
+    let answer = if group != 0 {
         42
+    } else if digits > 9 {
+        43
     } else {
-        counter_family_in(alloc, &mut held.registrar, name, help, labels, family)
+        counter_family_in(
+            alloc,
+            &mut held.registrar,
+            name,
+            help,
+            labels,
+            digits as u8,
+            family,
+        )
     };
     registry.put(alloc, held);
     answer
@@ -134,11 +145,12 @@ fn gauge_family_in(
     name: &[u8],
     help: &[u8],
     labels: &[&[u8]],
+    digits: u8,
     family: &mut GaugeFamily,
 ) -> u32
     ensures { MakesFamilyBy result registrar.old.at registrar.new.at family.old family.new (λ family. family.id)
         (λ family. family.registry) name.now help.now (texts_of labels.now)
-        (family_of Kinds.Gauge name.now help.now labels.now []) }
+        (shifted_family_of Kinds.Gauge name.now help.now labels.now [] digits) }
 {
     let (Some(name), Some(help)) = (text(name), text(help)) else {
         return 36;
@@ -147,7 +159,7 @@ fn gauge_family_in(
         Ok(labels) => labels,
         Err(answer) => return answer,
     };
-    match registrar.gauge_family(name, help, &labels) {
+    match registrar.gauge_family_shifted(name, help, &labels, digits) {
         Ok(made) => {
             *family = made;
             0
@@ -158,8 +170,8 @@ fn gauge_family_in(
 
 /// A family of gauges with labels.
 ///
-/// Answers 34, the handle is empty; 42, `digits` or `group` is not 0; 36, a text is not UTF-8; 1 to 5, 9, 7 of the texts; 19, 23, 6 as
-/// [`dirgwako::Registrar::gauge_family`]. Nothing has changed then.
+/// Answers 34, the handle is empty; 42, `group` is not 0; 43, `digits` is over 9; 36, a text is not UTF-8; 1 to 5, 9, 7 of the texts; 19,
+/// 23, 6 as [`dirgwako::Registrar::gauge_family`]. Nothing has changed then.
 #[unsafe(no_mangle)]
 pub extern "C" fn dirgwako_c_gauge_family_new(
     alloc: Global,
@@ -172,18 +184,28 @@ pub extern "C" fn dirgwako_c_gauge_family_new(
     family: &mut GaugeFamily,
 ) -> u32
     ensures { Calls (family.new ≡ family.old) (λ before after. (spare_in after ≡ spare_in before)
-        × MakesPlain result (registry_in before) (registry_in after) family.old family.new digits group
+        × MakesShifted result (registry_in before) (registry_in after) family.old family.new digits group
         (MakesFamilyBy result (registry_in before) (registry_in after) family.old family.new (λ family. family.id)
         (λ family. family.registry) name.now help.now (texts_of labels.now)
-        (family_of Kinds.Gauge name.now help.now labels.now []))) result registry.old.value registry.new.value }
+        (shifted_family_of Kinds.Gauge name.now help.now labels.now [] digits))) result registry.old.value registry.new.value }
 {
     let Some(mut held) = registry.take(alloc) else {
         return 34;
     };
-    let answer = if digits != 0 || group != 0 {
+    let answer = if group != 0 {
         42
+    } else if digits > 9 {
+        43
     } else {
-        gauge_family_in(alloc, &mut held.registrar, name, help, labels, family)
+        gauge_family_in(
+            alloc,
+            &mut held.registrar,
+            name,
+            help,
+            labels,
+            digits as u8,
+            family,
+        )
     };
     registry.put(alloc, held);
     answer
@@ -248,11 +270,12 @@ fn histogram_family_in(
     help: &[u8],
     labels: &[&[u8]],
     bounds: &[u64],
+    digits: u8,
     family: &mut HistogramFamily,
 ) -> u32
     ensures { MakesFamilyBy result registrar.old.at registrar.new.at family.old family.new (λ family. family.id)
         (λ family. family.registry) name.now help.now (texts_of labels.now)
-        (family_of Kinds.Histogram name.now help.now labels.now bounds.now) }
+        (shifted_family_of Kinds.Histogram name.now help.now labels.now bounds.now digits) }
 {
     let (Some(name), Some(help)) = (text(name), text(help)) else {
         return 36;
@@ -261,7 +284,7 @@ fn histogram_family_in(
         Ok(labels) => labels,
         Err(answer) => return answer,
     };
-    match registrar.histogram_family(name, help, &labels, bounds) {
+    match registrar.histogram_family_shifted(name, help, &labels, bounds, digits) {
         Ok(made) => {
             *family = made;
             0
@@ -272,7 +295,7 @@ fn histogram_family_in(
 
 /// A family of histograms with labels with these bounds: at most 24, rising, none over 2^48 - 1.
 ///
-/// Answers 34, the handle is empty; 36, a text is not UTF-8; 1 to 5, 9, 7 of the texts; 8, 10 of the bounds; 19, 23, 6 as
+/// Answers 34, the handle is empty; 42, `group` is not 0; 43, `digits` is over 9; 36, a text is not UTF-8; 1 to 5, 9, 7 of the texts; 8, 10 of the bounds; 19, 23, 6 as
 /// [`dirgwako::Registrar::histogram_family`]. Nothing has changed then.
 #[unsafe(no_mangle)]
 pub extern "C" fn dirgwako_c_histogram_family_new(
@@ -287,16 +310,18 @@ pub extern "C" fn dirgwako_c_histogram_family_new(
     family: &mut HistogramFamily,
 ) -> u32
     ensures { Calls (family.new ≡ family.old) (λ before after. (spare_in after ≡ spare_in before)
-        × MakesPlain result (registry_in before) (registry_in after) family.old family.new digits group
+        × MakesShifted result (registry_in before) (registry_in after) family.old family.new digits group
         (MakesFamilyBy result (registry_in before) (registry_in after) family.old family.new (λ family. family.id)
         (λ family. family.registry) name.now help.now (texts_of labels.now)
-        (family_of Kinds.Histogram name.now help.now labels.now bounds.now))) result registry.old.value registry.new.value }
+        (shifted_family_of Kinds.Histogram name.now help.now labels.now bounds.now digits))) result registry.old.value registry.new.value }
 {
     let Some(mut held) = registry.take(alloc) else {
         return 34;
     };
-    let answer = if digits != 0 || group != 0 {
+    let answer = if group != 0 {
         42
+    } else if digits > 9 {
+        43
     } else {
         histogram_family_in(
             alloc,
@@ -305,6 +330,7 @@ pub extern "C" fn dirgwako_c_histogram_family_new(
             help,
             labels,
             bounds,
+            digits as u8,
             family,
         )
     };

@@ -6,7 +6,7 @@ ghost use Rattle.dirgwako_c.specs.declared.refusals.TheConstants.{REFUSALS};
 use crate::buffers::hand_over;
 
 /// Each refusal, at the place of its number; at 0 what stands for none.
-pub const REFUSALS: [&str; 43] = [
+pub const REFUSALS: [&str; 44] = [
     "done",
     "a name has no byte",
     "a byte cannot stand there in a name",
@@ -49,7 +49,8 @@ pub const REFUSALS: [&str; 43] = [
     "a change is of no kind",
     "there is nothing of this number",
     "these are no numbers that were read",
-    "digits and groups are 0",
+    "groups are 0",
+    "a family's numbers are shifted by more than 9 digits",
 ];
 
 /// The text at a place, if there is one.

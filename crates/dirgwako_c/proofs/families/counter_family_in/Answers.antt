@@ -7,28 +7,29 @@ use Rattle.metric_desc.specs.declared.kind.Kind.TheVariants as Kinds
 use Rattle.dirgwako_c.proofs.Made.{family_made, family_refused}
 use Rattle.dirgwako_c.proofs.families.counter_family_in.Goals as goal
 
-abbrev said : (bounds : List ℕ) → (name help : List ℕ) → (labels : List (List ℕ)) → Descriptor
-said bounds name help labels = record {
+abbrev said : (bounds : List ℕ) → (digits : ℕ) → (name help : List ℕ) → (labels : List (List ℕ)) → Descriptor
+said bounds digits name help labels = record {
   name = name;
   help = help;
   labels = labels;
   kind = Kinds.Counter;
   bounds = bounds;
+  digits = digits;
 }
 
-pub returns-in-Ok-counter_family : goal.returns-in-Ok-counter_family
-returns-in-Ok-counter_family c =
-    family_made c.args.registrar.now.at c.counter_family.new.self.at c.args.family.now c.in-Ok-counter_family.made
+pub returns-in-Ok-counter_family_shifted : goal.returns-in-Ok-counter_family_shifted
+returns-in-Ok-counter_family_shifted c =
+    family_made c.args.registrar.now.at c.counter_family_shifted.new.self.at c.args.family.now c.in-Ok-counter_family_shifted.made
     (λ (f : CounterFamily). f.id) (λ (f : CounterFamily). f.registry) c.args.name.now c.args.help.now (texts_of c.args.labels.now)
-    (said []) c.in-Some-Some.name.now c.in-Some-Some.help.now (texts_of c.deref.result.now) c.in-Some-Some.ensures
+    (said [] c.args.digits) c.in-Some-Some.name.now c.in-Some-Some.help.now (texts_of c.deref.result.now) c.in-Some-Some.ensures
     c.in-Some-Some.ensures' (ap texts_of c.deref.ensures.value ∙ c.in-Ok.ensures.texts) c.in-Ok.ensures.all
-    c.in-Ok-counter_family.ensures.registry c.in-Ok-counter_family.ensures.made
+    c.in-Ok-counter_family_shifted.ensures.registry c.in-Ok-counter_family_shifted.ensures.made
 
 pub returns : goal.returns
 returns c =
-    let number : c.from.result ≡ family_refusal_number c.in-Err-counter_family.fault = search rules in
-    family_refused c.args.registrar.now.at c.counter_family.new.self.at c.args.family.now c.args.family.now
+    let number : c.from.result ≡ family_refusal_number c.in-Err-counter_family_shifted.fault = search rules in
+    family_refused c.args.registrar.now.at c.counter_family_shifted.new.self.at c.args.family.now c.args.family.now
     (λ (f : CounterFamily). f.id) (λ (f : CounterFamily). f.registry) c.args.name.now c.args.help.now (texts_of c.args.labels.now)
-    (said []) c.in-Some-Some.name.now c.in-Some-Some.help.now (texts_of c.deref.result.now) c.in-Err-counter_family.fault
+    (said [] c.args.digits) c.in-Some-Some.name.now c.in-Some-Some.help.now (texts_of c.deref.result.now) c.in-Err-counter_family_shifted.fault
     c.from.result number c.in-Some-Some.ensures c.in-Some-Some.ensures'
-    (ap texts_of c.deref.ensures.value ∙ c.in-Ok.ensures.texts) c.in-Ok.ensures.all c.in-Err-counter_family.ensures.fault
+    (ap texts_of c.deref.ensures.value ∙ c.in-Ok.ensures.texts) c.in-Ok.ensures.all c.in-Err-counter_family_shifted.ensures.fault
