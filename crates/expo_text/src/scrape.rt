@@ -113,6 +113,16 @@ impl Scrape {
         &self.vector
     }
 
+    /// The vector, and the families, in the order of the text. Takes no memory.
+    pub fn into_parts(self) -> (Vec<u64>, Vec<FamilyScrape>)
+        ensures vector { result.0.items ≡ self.vector }
+        ensures families { result.1.items ≡ self.families }
+        ensures ordered { IsScrape self }
+    {
+        let Scrape { vector, families } = self;
+        (vector, families)
+    }
+
     /// The allocator that the families were made with.
     pub(crate) fn allocator(&self) -> Global {
         *self.families.allocator()

@@ -11,7 +11,7 @@ use Rattle.metric_desc.specs.declared.kind.Kind.{Kind}
 use Rattle.metric_desc.specs.declared.kind.Kind.TheVariants.{Counter, Histogram, Gauge}
 use Rattle.registry_state.specs.Journal.{Registered, ChildMade}
 use Rattle.registry_state.specs.Replay.{Child, Family, IsFree, IsApart, MayMake, put, with_child, after, slots}
-use Rattle.registry_state.specs.Faults.{HasSlot}
+use Rattle.registry_state.specs.Faults.{HasSlot, AreFree}
 use Rattle.registry_state.specs.Calls.{IsLeastFree}
 use Rattle.registry_state.specs.Held.{AreChildren, AreHeld, IsOneMore, used_of}
 use Rattle.registry_state.proofs.Lists.{cases_order}
@@ -90,6 +90,15 @@ pub least_free : (c h g : ℕ) (families : List Family) (used : Kind → ℕ) (k
     → IsLeastFree families kind (used kind)
 least_free c h g families used kind held =
     record { free = free_from c h g families used kind (used kind) held (omega arith); least = λ k lt. held.taken kind k lt }
+
+-- the others are the free ones
+pub are_free : (c h g : ℕ) (families : List Family) (used : Kind → ℕ) (kind : Kind) (count : ℕ) → AreHeld c h g families used
+    → used kind + count ≡ slots c h g kind → AreFree c h g families kind count
+are_free c h g families used kind count held is = record {
+  within = omega arith;
+  free = λ slot within behind. free_from c h g families used kind slot held (omega arith);
+  used = λ slot before. held.taken kind slot (omega arith);
+}
 
 -- where all slots are used none is free
 pub none_free : (c h g : ℕ) (families : List Family) (used : Kind → ℕ) (kind : Kind) → AreHeld c h g families used

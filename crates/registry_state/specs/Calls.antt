@@ -30,6 +30,11 @@ IsHandle id desc slot (Handle.Histogram hist) = (desc.kind ≡ Kind.Histogram) �
     × (hist.bounds ≡ desc.bounds)
 IsHandle id desc slot (Handle.Gauge gauge) = (desc.kind ≡ Kind.Gauge) × (gauge.registry ≡ id) × (gauge.slot ≡ slot)
 
+-- the handle of the child of these values of the family of this number, in the registry of this id
+abbrev pub IsFound : (id : ℕ) → List Family → (family : ℕ) → (values : List (List ℕ)) → Handle → Type 0
+IsFound id families family values handle = IsSomeAnd (slice_get families family) (λ (it : Family). (slot : ℕ)
+    × Contains it.children (record { values = values; slot = slot }) × IsHandle id it.desc slot handle)
+
 -- its slot is one of a row of c counters, h histograms and g gauges
 abbrev pub IsInside : (c h g : ℕ) → Handle → Type 0
 IsInside c h g (Handle.Counter counter) = counter.slot < c

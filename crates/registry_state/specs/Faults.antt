@@ -38,6 +38,12 @@ IsRegisterFault families desc Register.NoMemory = IsApart families desc × (leng
 abbrev pub HasSlot : (c h g : ℕ) → List Family → Kind → Type 0
 HasSlot c h g families kind = (slot : ℕ) × (slot < slots c h g kind) × IsFree families kind slot
 
+-- so many slots of this kind are free: the last ones
+pub record AreFree (c h g : ℕ) (families : List Family) (kind : Kind) (count : ℕ) : Type 0 where
+  pub within : count ≤ slots c h g kind
+  pub free : (slot : ℕ) → slot < slots c h g kind → slots c h g kind ≤ slot + count → IsFree families kind slot
+  pub used : (slot : ℕ) → slot + count < slots c h g kind → ¬ (IsFree families kind slot)
+
 -- the values are as many as the family's labels, and no child of it has them
 abbrev pub IsMissingChild : Family → List (List ℕ) → Type 0
 IsMissingChild family values = (length values ≡ length family.desc.labels) × IsNew family values

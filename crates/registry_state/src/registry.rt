@@ -104,10 +104,11 @@ impl<
     ghost use Rattle.std.specs.Prelude.{OnErr, OnOk};
     ghost use Rattle.segment_layout.specs.Layout.{IsGeometry};
     ghost use Rattle.registry_state.specs.Journal.{Registered, scrapes, within};
-    ghost use Rattle.registry_state.specs.Replay.{nothing, IsAcceptedChange};
-    ghost use Rattle.registry_state.specs.Faults.{IsChildFault, IsMissingChild, IsWindow, IsNewFault, IsRegisterFault, Leaves};
+    ghost use Rattle.std.specs.Prelude.{⊤};
+    ghost use Rattle.registry_state.specs.Replay.{nothing, IsAcceptedChange, IsNew};
+    ghost use Rattle.registry_state.specs.Faults.{IsChildFault, IsMissingChild, IsWindow, IsNewFault, IsRegisterFault, Leaves, AreFree};
     ghost use Rattle.registry_state.specs.Held.{IsPlaceOfValues};
-    ghost use Rattle.registry_state.specs.Calls.{IsGiven, IsInside, WasMade, changed, KeepsScrape};
+    ghost use Rattle.registry_state.specs.Calls.{IsGiven, IsFound, IsInside, WasMade, changed, KeepsScrape};
     ghost use Rattle.registry_state.specs.Kept.{IsKept};
     ghost use Rattle.registry_state.specs.Shown.{IsShown};
 
@@ -245,6 +246,35 @@ impl<
             unreachable!()
         };
         Ok(blank.fill(&self.families, &self.order, newest))
+    }
+
+    /// How many families are registered.
+    pub fn family_count(&self) -> usize
+        ensures { result ≡ length self.now.state.families }
+    {
+        self.families.len()
+    }
+
+    /// How many slots of this kind are free: the last ones of the row.
+    pub fn free_slots(&self, kind: Kind) -> usize
+        ensures { AreFree C H G self.now.state.families kind result }
+    {
+        slots_of::<C, H, G>(kind) - self.used.of(kind)
+    }
+
+    /// The handle of the child of these label values, if there is one. `None`, too, where there is no family of this number.
+    pub fn find(&self, family: FamilyId, values: &[LabelValue]) -> Option<Handle>
+        ensures { MatchOption result
+            (MatchOption (slice_get self.now.state.families family.number) ⊤ (λ it. IsNew it values.now))
+            (IsFound self.now.id self.now.state.families family.number values.now) }
+    {
+        let Some(it) = self.families.get(family.number) else {
+            return None;
+        };
+        match place_of(&it.children, values) {
+            Ok(place) => Some(Handle::of(self.id, &it.desc, it.children[place].slot)),
+            Err(_) => None,
+        }
     }
 
     /// The journal, which replays to the state.

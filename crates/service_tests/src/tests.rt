@@ -4,6 +4,7 @@ mod failing;
 mod hands_on;
 mod kept;
 mod lines;
+mod pages;
 mod pool;
 mod registry;
 mod replies;

@@ -1,0 +1,106 @@
+-- Lists of boards, of families and of parts.
+use Rattle.std.proofs.Common.{◌≡◌, ℕ, zero, suc, ◌<◌, List, [], ◌∷◌, ◌++◌, Some, length, get_or, slice_get, slice_set}
+use Rattle.std.proofs.Common.{IsSomeAnd, MatchOption, All, Contains, arith, refl, ap, ◌∙◌, inl, inr}
+use Rattle.std.specs.Prelude.{⊤, Option, None}
+use Rattle.std.proofs.lemmas.List.Elements.{All-head, All-tail}
+use Rattle.metric_desc.specs.Desc.{Descriptor, Clash}
+use Rattle.registry_state.specs.Replay.{Child, Family, IsApart, IsNew}
+use Rattle.registry_state.specs.Faults.{HasSlot, IsMissingChild, IsRegisterFault}
+use Rattle.registry_state.specs.Kept.{RegistryView}
+use Rattle.registry_state.specs.Journal.{Registered}
+use Rattle.registry_state.specs.Calls.{IsGiven, IsHandle, WasMade, changed}
+use Rattle.registry_state.specs.declared.handle.Handle.{Handle}
+use Rattle.registry_state.specs.declared.fault.RegisterFault.{RegisterFault}
+use Rattle.registry_state.specs.declared.fault.RegisterFault.TheVariants as Register
+use Rattle.registry_state.proofs.Making.{some_at, at_some, there_at}
+use Rattle.scrape_page.specs.declared.family.Part.{Part}
+use Rattle.scrape_page.specs.Families.{PageFamily}
+use Rattle.scrape_page.specs.Places.{HasPart}
+use Rattle.scrape_page.specs.Calls.{IsRegisteredOn, IsMadeOn}
+
+-- what holds of the element of this number, and cannot hold beside what holds of all
+pub not_both : {X : Type 0} (P Q : X → Type 0) (xs : List X) (i : ℕ) → All P xs → IsSomeAnd (slice_get xs i) Q
+    → ((x : X) → P x → Q x → ⊥) → ⊥
+not_both P Q [] i all some never = some
+not_both P Q (x ∷ xs) zero all some never = never x (All-head P x xs all) some
+not_both P Q (x ∷ xs) (suc i) all some never = not_both P Q xs i (All-tail P x xs all) some never
+
+-- a family that may be registered is refused for want of memory, and for nothing else
+pub refused_only : (families : List Family) (desc : Descriptor) (fault : RegisterFault) → length families < 128
+    → IsApart families desc → IsRegisterFault families desc fault → fault ≡ Register.NoMemory
+refused_only families desc (Register.Clash with) few apart is =
+    absurd (not_both (λ (family : Family). ¬ (Clash family.desc desc)) (λ (family : Family). Clash family.desc desc) families with
+    apart is.clash (λ family not clash. not clash))
+refused_only families desc Register.TooManyFamilies few apart is = let many = is.1 in absurd (omega (arith, few, many))
+refused_only families desc Register.NoMemory few apart is = refl
+
+-- what holds of a value, if there is one, and there is one
+pub there_is : {X : Type 0} (P : X → Type 0) (o : Option X) → IsSomeAnd o (λ _. ⊤) → MatchOption o ⊤ P → IsSomeAnd o P
+there_is P None some all = absurd some
+there_is P (Some x) some all = all
+
+module _ {S : Type 0} (boards : List (RegistryView S)) (part : Part) (board : RegistryView S)
+    (has : HasPart boards part (λ _ _. ⊤)) (read : board ≡ get_or boards part.board board) where
+  -- the board of a part
+  pub part_board : slice_get boards part.board ≡ Some board
+  part_board = there_at (λ (b : RegistryView S). IsSomeAnd (slice_get b.state.families part.family.number)
+      (λ (_ : Family). ⊤)) boards part.board board has read
+
+  -- the family there has no child of these values
+  pub part_new : (values : List (List ℕ))
+      → MatchOption (slice_get board.state.families part.family.number) ⊤ (λ (it : Family). IsNew it values)
+      → HasPart boards part (λ _ (family : Family). IsNew family values)
+  part_new values new =
+      some_at (λ (b : RegistryView S). IsSomeAnd (slice_get b.state.families part.family.number)
+      (λ (family : Family). IsNew family values)) boards part.board board part_board
+      (there_is (λ (family : Family). IsNew family values) (slice_get board.state.families part.family.number)
+      (at_some (λ (b : RegistryView S). IsSomeAnd (slice_get b.state.families part.family.number)
+      (λ (_ : Family). ⊤)) boards part.board board part_board has) new)
+
+-- not both of one value
+some_never : {X : Type 0} (P Q : X → Type 0) (o : Option X) → IsSomeAnd o P → IsSomeAnd o Q → ((x : X) → P x → Q x → ⊥) → ⊥
+some_never P Q None one two never = absurd one
+some_never P Q (Some x) one two never = never x one two
+
+-- a child that was missing was made
+pub made_missing : {S : Type 0} (c h g : ℕ) (old new : RegistryView S) (number : ℕ) (values : List (List ℕ)) (handle : Handle)
+    → IsSomeAnd (slice_get old.state.families number) (λ (it : Family). IsMissingChild it values
+    × HasSlot c h g old.state.families it.desc.kind) → IsGiven c h g old new number values handle
+    → WasMade c h g old new number values handle
+made_missing c h g old new number values handle missing (inl was) =
+    absurd (some_never (λ (it : Family). IsMissingChild it values × HasSlot c h g old.state.families it.desc.kind)
+    (λ (it : Family). Contains it.children (record { values = values; slot = was.slot })
+    × IsHandle old.id it.desc was.slot handle) (slice_get old.state.families number) missing was.there
+    (λ it none some. let at = some.0 in
+    none.0.1 at.0 (record { values = values; slot = was.slot }) at.1 (ap (λ (child : Child). child.values) at.2)))
+made_missing c h g old new number values handle missing (inr made) = made
+
+-- the family of this number with one part more, in other words
+pub part_more : (families : List PageFamily) (number : ℕ) (seen family : PageFamily) (held parts : List Part) (part : Part)
+    → seen ≡ family → held ≡ seen.parts → parts ≡ held ++ part ∷ []
+    → slice_set families number (record seen { parts = parts })
+    ≡ slice_set families number (record family { parts = family.parts ++ part ∷ [] })
+part_more families number seen family held parts part same still more =
+    ap (λ (ps : List Part). slice_set families number (record seen { parts = ps }))
+    (more ∙ ap (λ (ps : List Part). ps ++ part ∷ []) still)
+    ∙ ap (λ (f : PageFamily). slice_set families number (record f { parts = f.parts ++ part ∷ [] })) same
+
+-- a copy of the descriptor of a family
+pub copied : (copy read : Descriptor) (seen family : PageFamily) → copy ≡ read → read ≡ seen.desc → seen ≡ family
+    → copy ≡ family.desc
+copied copy read seen family is_copy is_read same = is_copy ∙ is_read ∙ ap (λ (f : PageFamily). f.desc) same
+
+-- a family of this descriptor was registered on a board that was read
+pub registered_on : {S : Type 0} (boards : List (RegistryView S)) (place : ℕ) (desc : Descriptor) (board new : RegistryView S)
+    (number : ℕ) → slice_get boards place ≡ Some board → number ≡ length board.state.families
+    → new ≡ changed (Registered desc) board → IsRegisteredOn boards (slice_set boards place new) place desc number
+registered_on boards place desc board new number there number_is new_is =
+    record { board = board; at = there; number_is = number_is; boards = ap (slice_set boards place) new_is }
+
+-- a child was made on a board that was read
+pub made_on : {S : Type 0} (c h g : ℕ) (boards : List (RegistryView S)) (part : Part) (values : List (List ℕ)) (handle : Handle)
+    (board new : RegistryView S) → slice_get boards part.board ≡ Some board
+    → WasMade c h g board new part.family.number values handle
+    → IsMadeOn c h g boards (slice_set boards part.board new) part values handle
+made_on c h g boards part values handle board new there made =
+    record { board = board; board' = new; at = there; made = made; boards = refl }

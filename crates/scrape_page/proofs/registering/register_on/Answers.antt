@@ -1,0 +1,28 @@
+use Rattle.std.proofs.Common.{◌≡◌, ◌<◌, length, Some, slice_get, rules}
+use Rattle.registry_state.specs.Kept.{RegistryView}
+use Rattle.registry_state.specs.Replay.{IsApart}
+use Rattle.registry_state.specs.declared.fault.RegisterFault.TheVariants as Register
+use Rattle.registry_state.proofs.Making.{there_at, at_some}
+use Rattle.scrape_page.proofs.Listed.{refused_only, registered_on}
+use Rattle.scrape_page.proofs.registering.register_on.Goals as goal
+
+pub unreachable-requires : goal.unreachable-requires
+unreachable-requires g c =
+    let P : RegistryView g.row.S.Denot → Type 0 = λ (board : RegistryView g.row.S.Denot). (length board.state.families < 128)
+    × IsApart board.state.families c.args.desc in
+    let there : slice_get c.args.boards.now.items c.args.place ≡ Some c.index_mut.result.now =
+    there_at P c.args.boards.now.items c.args.place c.index_mut.result.now c.requires c.index_mut.ensures.value in
+    let may : P c.index_mut.result.now = at_some P c.args.boards.now.items c.args.place c.index_mut.result.now there c.requires in
+    let only : c.in-Err-Clash.field-0 ≡ Register.NoMemory =
+    refused_only c.index_mut.result.now.state.families c.args.desc c.in-Err-Clash.field-0 may.0 may.1
+    c.in-Err-Clash.ensures.fault in
+    search rules
+
+pub returns-in-Ok-clause-registered : goal.returns-in-Ok-clause-registered
+returns-in-Ok-clause-registered g c =
+    let P : RegistryView g.row.S.Denot → Type 0 = λ (board : RegistryView g.row.S.Denot). (length board.state.families < 128)
+    × IsApart board.state.families c.args.desc in
+    registered_on c.args.boards.now.items c.args.place c.args.desc c.index_mut.result.now c.register.new.self
+    c.in-Ok.family.number
+    (there_at P c.args.boards.now.items c.args.place c.index_mut.result.now c.requires c.index_mut.ensures.value)
+    c.in-Ok.ensures.number c.in-Ok.ensures.registered

@@ -1,0 +1,9 @@
+pub mod Families
+pub mod Places
+pub mod Kept
+pub mod Rooms
+pub mod Faults
+pub mod Calls
+pub mod Shown
+pub mod Scraping
+pub mod Framed
