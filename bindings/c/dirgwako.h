@@ -14,6 +14,9 @@
      41  DIRGWAKO_NO_NUMBERS   these are no numbers that were read
      42  DIRGWAKO_NOT_YET      groups are 0, and 43  DIRGWAKO_TOO_MANY_DIGITS  numbers are shifted by over 9 digits
 
+   44  DIRGWAKO_TOO_MANY_BOARDS, 45  DIRGWAKO_NOT_FRESH and 46  DIRGWAKO_TOO_MANY_CHILDREN  are of several boards behind one page, which no function
+   here answers.
+
    Ownership. A dirgwako_registry and a dirgwako_recorder begin as zeros ({0}), are written by these functions alone, and are never copied while
    they hold something: two copies own the same, so the second use of either is a use after free. They may be freed in any order, and freeing one
    twice is refused (34). The board lives as long as its registry or a recorder of it. Counters, gauges and histograms are plain data, which are
@@ -54,7 +57,10 @@ enum {
     DIRGWAKO_NO_SUCH = 40,
     DIRGWAKO_NO_NUMBERS = 41,
     DIRGWAKO_NOT_YET = 42,
-    DIRGWAKO_TOO_MANY_DIGITS = 43
+    DIRGWAKO_TOO_MANY_DIGITS = 43,
+    DIRGWAKO_TOO_MANY_BOARDS = 44,
+    DIRGWAKO_NOT_FRESH = 45,
+    DIRGWAKO_TOO_MANY_CHILDREN = 46
 };
 
 /* A registry over a board. Opaque; zeros where it holds nothing. */

@@ -6,7 +6,7 @@ ghost use Rattle.dirgwako_c.specs.declared.refusals.TheConstants.{REFUSALS};
 use crate::buffers::hand_over;
 
 /// Each refusal, at the place of its number; at 0 what stands for none.
-pub const REFUSALS: [&str; 44] = [
+pub const REFUSALS: [&str; 47] = [
     "done",
     "a name has no byte",
     "a byte cannot stand there in a name",
@@ -51,6 +51,9 @@ pub const REFUSALS: [&str; 44] = [
     "these are no numbers that were read",
     "groups are 0",
     "a family's numbers are shifted by more than 9 digits",
+    "96 boards are there",
+    "a family is registered on the board, or a board of the page has its id",
+    "the family has 256 children",
 ];
 
 /// The text at a place, if there is one.
