@@ -1,9 +1,8 @@
-use Rattle.std.proofs.Common.{◌≡◌, ◌≢◌, ◌<◌, ◌≤◌, ℕ, List, Some, length, slice_get, get_or, IsSomeAnd, All, Contains, refl, sym, ap, subst, ◌∙◌, inl, inr, arith, rules}
+use Rattle.std.proofs.Common.{◌≡◌, ◌<◌, ◌≤◌, List, Some, length, slice_get, get_or, IsSomeAnd, All, Contains, refl, sym, ap, subst, ◌∙◌, inl, inr, arith, rules}
 use Rattle.std.specs.Prelude.{⊤}
 use Rattle.std.specs.List.{Any}
 use Rattle.std.proofs.lemmas.Option.{slice_get_read}
 use Rattle.metric_desc.specs.Desc.{Descriptor}
-use Rattle.metric_desc.specs.declared.kind.Kind.{Kind}
 use Rattle.registry_state.specs.Replay.{Family, IsNew}
 use Rattle.registry_state.specs.Kept.{RegistryView}
 use Rattle.registry_state.proofs.Making.{some_at, some_within}
@@ -12,7 +11,7 @@ use Rattle.scrape_page.specs.Families.{PageFamily, PageView}
 use Rattle.scrape_page.specs.Places.{HasPart}
 use Rattle.scrape_page.specs.Rooms.{HasRoom, IsFirstWithRoom, IsFullPart}
 use Rattle.scrape_page.specs.Faults.{IsMissing}
-use Rattle.scrape_page.specs.Calls.{IsFoundAt, IsGivenOnPage}
+use Rattle.scrape_page.specs.Calls.{IsFoundAt}
 use Rattle.scrape_page.specs.Kept.{IsHeldPage}
 use Rattle.scrape_page.proofs.Asked.{parts_hold, parts_within, is_missing, first_at, any_at, contains_at}
 use Rattle.scrape_page.proofs.Facts.{one_fits}
