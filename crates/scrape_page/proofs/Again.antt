@@ -1,6 +1,6 @@
 -- What the scrapes of boards leave of them, and show.
 use Rattle.std.proofs.Common.{◌≡◌, ℕ, zero, suc, List, [], ◌∷◌, ◌++◌, length, refl, sym, ap, subst, ◌∙◌, inl, inr, Some}
-use Rattle.std.specs.Prelude.{◌⊎◌, Result, Ok, Err}
+use Rattle.std.specs.Prelude.{Result, Ok, Err}
 use Rattle.std.specs.List.{AllZip}
 use Rattle.expo_text.specs.Scraped.{Scraped}
 use Rattle.register_rule.specs.declared.view.Answer.{Answer}
