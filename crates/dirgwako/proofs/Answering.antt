@@ -49,13 +49,13 @@ asks_refusal bytes ended wanted asks = elim asks [
   | inr none ↦ refusal bytes ended wanted.refusal none.1
 ]
 
-module _ {P S : Type 0} (source : P → S) (gave : S → S → Outcome → Type 0) where
+module _ {P S : Type 0} (source : P → S) (gave : S → S → Outcome → Type 0) (again : ℕ) where
   abbrev pub Again : P → P → Outcome → Type 0
-  Again before after answer = AsksAgain gave 3 (source before) (source after) answer
+  Again before after answer = AsksAgain gave again (source before) (source after) answer
 
   -- a reply of this status
   abbrev By : P → P → Status → Type 0
-  By before after status = AnswersBy gave (source before) (source after) status
+  By before after status = AnswersBy gave again (source before) (source after) status
 
   by_refusal : (before after : P) (status : Status) → IsRefusal (Some status) → after ≡ before → By before after status
   by_refusal before after Success is same = absurd is
@@ -91,14 +91,14 @@ module _ {P S : Type 0} (source : P → S) (gave : S → S → Outcome → Type 
   -- a reply was sent
   pub replied : (before after : P) (input input_then output output_then : Known) (ended : Bool) (latest : ℕ) (served : Served)
       → IsServed Again before after input input_then output output_then ended latest (Ok served)
-      → AnswersBy gave (source before) (source after) served.status
+      → AnswersBy gave again (source before) (source after) served.status
   replied before after input input_then output output_then ended latest served is =
       by_reply before after (is.bytes ++ []) ended is.outcome is.reply output output_then served (is.is_reply [] (λ _. refl))
       is.gives is.sends
 
   by_asking : (before after : P) (outcome : Option Outcome) → Gives Again before after outcome
       → (source after ≡ source before)
-      ⊎ (GaveScrape gave (source before) (source after) ⊎ GaveNone gave (source before) (source after))
+      ⊎ (GaveScrape gave again (source before) (source after) ⊎ GaveNone gave again (source before) (source after))
   by_asking before after None same = inl (ap source same)
   by_asking before after (Some (Ok scrape)) given = inr (inl (scrape, given))
   by_asking before after (Some (Err why)) given = inr (inr (why, given))
@@ -109,7 +109,7 @@ module _ {P S : Type 0} (source : P → S) (gave : S → S → Outcome → Type 
       → (failed ≡ false → IsServed Again before after input input_then output output_then ended latest (Err fault))
       → (failed ≡ true → IsUnserved before after output output_then)
       → (source after ≡ source before)
-      ⊎ (GaveScrape gave (source before) (source after) ⊎ GaveNone gave (source before) (source after))
+      ⊎ (GaveScrape gave again (source before) (source after) ⊎ GaveNone gave again (source before) (source after))
   not_served before after input input_then output output_then ended failed latest ReadFailed is served none =
       inl (ap source (none is).same)
   not_served before after input input_then output output_then ended failed latest (WriteFailed sent) is served none =

@@ -31,7 +31,7 @@ module _ {N C H G : ℕ} (quit : Scanner N C H G → ℕ) (gave : Scanner N C H 
 
   -- and what was asked again
   pub last_text_seen : (old new : RegistryView (Scanner N C H G)) (bytes : List ℕ)
-      → IsText (Scrapes N C H G recorded_in quit gave gave_up) old new bytes
+      → IsText (Scrapes N C H G recorded_in quit gave gave_up) 3 old new bytes
       → IsKept N C H G (recorded_in new.source) new.journal new.window new.state → IsLastText bytes new
   last_text_seen old new bytes (scrape, asked, is) kept =
       let last = at_end (Scrapes N C H G recorded_in quit gave gave_up) 3 old new (Ok scrape) asked in

@@ -43,25 +43,25 @@ module _ {S T : Type 0} (f : S → T) where
         → (met : ℕ) × (met < connections) × IsBroken Q fails met (f a) (f b)
     some_broken failed fails also connections a b (met, less, is) = (met, less, broken_there failed fails also met a b is)
 
-  module _ (gave : T → T → Result Scraped NoScrape → Type 0) (a b : S) where
+  module _ (gave : T → T → Result Scraped NoScrape → Type 0) (again : ℕ) (a b : S) where
     abbrev Within : S → S → Result Scraped NoScrape → Type 0
     Within x y r = gave (f x) (f y) r
 
-    by_status : (status : Status) → AnswersBy Within a b status → AnswersBy gave (f a) (f b) status
-    by_status Success is = (is.0, asks_within gave f 3 a b (Ok is.0) is.1)
-    by_status Unavailable is = (is.0, asks_within gave f 3 a b (Err is.0) is.1)
+    by_status : (status : Status) → AnswersBy Within again a b status → AnswersBy gave again (f a) (f b) status
+    by_status Success is = (is.0, asks_within gave f again a b (Ok is.0) is.1)
+    by_status Unavailable is = (is.0, asks_within gave f again a b (Err is.0) is.1)
     by_status BadRequest is = ap f is
     by_status NotFound is = ap f is
     by_status MethodNotAllowed is = ap f is
     by_status TooLarge is = ap f is
 
     -- one connection did to what is wrapped what it did to what wraps it
-    pub answers_there : (r : Option Served) → Answers Within a b r → Answers gave (f a) (f b) r
+    pub answers_there : (r : Option Served) → Answers Within again a b r → Answers gave again (f a) (f b) r
     answers_there (Some served) is = by_status served.status is
     answers_there None is = elim is [
       | inl same ↦ inl (ap f same)
       | inr asked ↦ inr (elim asked [
-        | inl got ↦ inl (got.0, asks_within gave f 3 a b (Ok got.0) got.1)
-        | inr lost ↦ inr (lost.0, asks_within gave f 3 a b (Err lost.0) lost.1)
+        | inl got ↦ inl (got.0, asks_within gave f again a b (Ok got.0) got.1)
+        | inr lost ↦ inr (lost.0, asks_within gave f again a b (Err lost.0) lost.1)
       ])
     ]

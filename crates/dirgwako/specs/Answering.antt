@@ -7,14 +7,14 @@ use Rattle.scrape_http.specs.declared.status.Status.{Status}
 use Rattle.scrape_http.specs.declared.status.Status.TheVariants.{Success, Unavailable}
 use Rattle.scrape_server.specs.Again.{AsksAgain}
 
-module _ {S : Type 0} (gave : S → S → Result Scraped NoScrape → Type 0) (before after : S) where
-  -- the source was asked once, and again where a scan was given up, and answered by a scrape
+module _ {S : Type 0} (gave : S → S → Result Scraped NoScrape → Type 0) (again : ℕ) (before after : S) where
+  -- the source was asked once, and at most so many times more where a scan was given up, and answered by a scrape
   abbrev pub GaveScrape : Type 0
-  GaveScrape = (scrape : Scraped) × AsksAgain gave 3 before after (Ok scrape)
+  GaveScrape = (scrape : Scraped) × AsksAgain gave again before after (Ok scrape)
 
   -- or it told why it has none
   abbrev pub GaveNone : Type 0
-  GaveNone = (why : NoScrape) × AsksAgain gave 3 before after (Err why)
+  GaveNone = (why : NoScrape) × AsksAgain gave again before after (Err why)
 
   -- a reply of this status: 200 of a scrape, 503 where there is none, and every other without asking
   abbrev pub AnswersBy : Status → Type 0

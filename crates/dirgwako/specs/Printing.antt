@@ -29,16 +29,16 @@ abbrev pub print_fault_number : PrintFault → Option ℕ
 print_fault_number (Text fault) = Some (text_fault_number fault)
 print_fault_number Output = None
 
-module _ {S : Type 0} (gave : S → S → Result Scraped NoScrape → Type 0) (before after : S) where
-  -- these bytes are the text of the scrape that the source gave
+module _ {S : Type 0} (gave : S → S → Result Scraped NoScrape → Type 0) (again : ℕ) (before after : S) where
+  -- these bytes are the text of the scrape that the source gave, asked at most so many times more where a scan was given up
   abbrev pub IsText : List ℕ → Type 0
-  IsText bytes = (scrape : Scraped) × AsksAgain gave 3 before after (Ok scrape) × (bytes ≡ shown_text scrape)
+  IsText bytes = (scrape : Scraped) × AsksAgain gave again before after (Ok scrape) × (bytes ≡ shown_text scrape)
 
   -- the source has no scrape; or it gave one, and 6 is of its text: that there was no memory for this no clause can say
   abbrev pub IsTextFault : TextFault → Type 0
-  IsTextFault Contended = AsksAgain gave 3 before after (Err none.Contended)
-  IsTextFault NoMemory = AsksAgain gave 3 before after (Err none.NoMemory)
-      ⊎ ((scrape : Scraped) × AsksAgain gave 3 before after (Ok scrape))
+  IsTextFault Contended = AsksAgain gave again before after (Err none.Contended)
+  IsTextFault NoMemory = AsksAgain gave again before after (Err none.NoMemory)
+      ⊎ ((scrape : Scraped) × AsksAgain gave again before after (Ok scrape))
 
 -- these bytes are the text of a scrape that shows the families which the first changes and some more made, at one moment of a
 -- history of publishes

@@ -19,22 +19,28 @@ pub(crate) struct Owned<X: MakesScrapes> {
 }
 
 impl<X: MakesScrapes> ScrapeFrom for Owned<X> {
+    ghost again = { X.again };
+
     ghost gave = { λ before after answer. X.made before.state after.state answer };
 
     fn scrape(&mut self) -> Result<Scrape, NoScrape> {
         self.state.scrape()
     }
+
+    fn again(&self) -> usize {
+        self.state.again()
+    }
 }
 
 /// The text of a scrape of a registry that nobody shares, and the registry after it ([`RegistryState`], as it is behind a lock; or what else
-/// makes scrapes). A scrape that was given up is asked for up to three times more.
+/// makes scrapes). A scrape that was given up is asked for up to [`MakesScrapes::again`] times more.
 ///
 /// # Errors
 ///
 /// 6 [`TextFault::NoMemory`]; 14 [`TextFault::Contended`]. The registry comes back with either, and can be asked again.
 pub fn text_of<X: MakesScrapes + Drop>(state: X) -> Result<(Vec<u8>, X), (TextFault, X)>
-    ensures text { IfOk result (λ made. IsText X.made state made.1 made.0.items) }
-    ensures fault { IfErr result (λ refused. IsTextFault X.made state refused.1 refused.0) }
+    ensures text { IfOk result (λ made. IsText X.made X.again state made.1 made.0.items) }
+    ensures fault { IfErr result (λ refused. IsTextFault X.made X.again state refused.1 refused.0) }
 {
     let mut owned = Owned { state };
     let made = text_from(&mut owned);

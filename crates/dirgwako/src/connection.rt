@@ -66,14 +66,14 @@ fn reply<I: Read, O: Write, S: ScrapeFrom>(
     requires reader_going { reader.old.failed ≡ false }
     requires reader_unended { reader.old.ended ≡ false }
     requires writer_going { writer.old.failed ≡ false }
-    ensures answers { Answers S.gave source.old.source source.new.source result }
+    ensures answers { Answers S.gave S.again source.old.source source.new.source result }
     ensures whole { IfSome result
-        (λ served. IsServed (λ before after answer. AsksAgain S.gave 3 before.source after.source answer) source.old source.new
+        (λ served. IsServed (λ before after answer. AsksAgain S.gave S.again before.source after.source answer) source.old source.new
         (I.remaining reader.old.inner) (I.remaining reader.new.inner)
         (O.contents writer.old.inner) (O.contents writer.new.inner) reader.new.ended reader.new.latest (Ok served)) }
     ensures flushed { IsSome result → writer.new.flushed ≡ true }
     ensures none { IsNone result → (fault : WireFault) × (reader.new.failed ≡ false
-        → IsServed (λ before after answer. AsksAgain S.gave 3 before.source after.source answer) source.old source.new
+        → IsServed (λ before after answer. AsksAgain S.gave S.again before.source after.source answer) source.old source.new
         (I.remaining reader.old.inner) (I.remaining reader.new.inner)
         (O.contents writer.old.inner) (O.contents writer.new.inner) reader.new.ended reader.new.latest (Err fault))
         × (reader.new.failed ≡ true → IsUnserved source.old source.new
@@ -94,7 +94,7 @@ pub(crate) fn answer<R: Clock, S: ScrapeFrom>(
     patience: Duration,
     source: &mut AskedAgain<S>,
 ) -> Option<Served>
-    ensures { Answers S.gave source.old.source source.new.source result }
+    ensures { Answers S.gave S.again source.old.source source.new.source result }
 {
     let Ok(start) = Instant::now(clock) else {
         return None;

@@ -16,7 +16,7 @@ pub enum TextFault {
     /// Refusal 6: there is no memory, for the scrape or for its text.
     #[error("out of memory")]
     NoMemory,
-    /// Refusal 14: four scans were given up, one after the other.
+    /// Refusal 14: the scan was given up, and so was each that was asked for after it.
     #[error("the scan was given up")]
     Contended,
 }
@@ -58,8 +58,8 @@ impl PrintFault {
 
 /// The text of a source's scrape.
 pub(crate) fn text_from<S: ScrapeFrom>(source: &mut S) -> Result<Vec<u8>, TextFault>
-    ensures text { IfOk result (λ bytes. IsText S.gave source.old source.new bytes.items) }
-    ensures fault { IfErr result (IsTextFault S.gave source.old source.new) }
+    ensures text { IfOk result (λ bytes. IsText S.gave S.again source.old source.new bytes.items) }
+    ensures fault { IfErr result (IsTextFault S.gave S.again source.old source.new) }
 {
     match scrape_again(source) {
         Ok(scrape) => match render(&scrape) {

@@ -54,7 +54,7 @@ struct Listening<'a, R, S> {
 }
 
 impl<R: Clock, S: ScrapeFrom> Connections for Listening<'_, R, S> {
-    ghost answered = { λ before after reply. Answers S.gave before.source.source after.source.source reply };
+    ghost answered = { λ before after reply. Answers S.gave S.again before.source.source after.source.source reply };
 
     ghost failed = { λ before after. after.source ≡ before.source };
 
@@ -139,7 +139,8 @@ pub fn serve<R: Wait + Clock, const N: usize, const C: usize, const H: usize, co
 
 /// [`serve`] of a registry that nobody shares ([`RegistryState`](registry_state::RegistryState), as it is behind a lock; or what else makes
 /// scrapes), which comes back after it. So its clauses say what each reply that it tells did to the registry: each 200 came of a scrape that this
-/// registry made and kept, and each other reply than 503 left it as it was.
+/// registry made and kept, and each other reply than 503 left it as it was. A scrape that was given up is asked for up to
+/// [`MakesScrapes::again`] times more.
 ///
 /// # Errors
 ///
@@ -151,10 +152,10 @@ pub fn serve_alone<R: Clock, X: MakesScrapes + Drop>(
     patience: Duration,
     connections: u64,
 ) -> (io::Result<Answered>, X)
-    ensures replied { IfOk result.0 (λ answered. AreAnswered (Answers X.made) connections answered.replies state result.1) }
+    ensures replied { IfOk result.0 (λ answered. AreAnswered (Answers X.made X.again) connections answered.replies state result.1) }
     ensures all { IfOk result.0 (λ answered. answered.replies + answered.faults ≡ connections) }
     ensures broken { OnErr result.0 (((as_nanos patience ≡ 0) × (result.1 ≡ state))
-        ⊎ ((met : ℕ) × (met < connections) × IsBroken (Answers X.made) (λ before after. after ≡ before) met state result.1)) }
+        ⊎ ((met : ℕ) × (met < connections) × IsBroken (Answers X.made X.again) (λ before after. after ≡ before) met state result.1)) }
     ensures patient { as_nanos patience ≡ 0 → IsErr result.0 }
 {
     if patience.is_zero() {

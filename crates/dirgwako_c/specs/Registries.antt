@@ -225,8 +225,8 @@ module _ (answer : ℕ) (before after : HeldRegistry) (had has : List ℕ) (had_
   -- the text of a scrape that the registry gave was handed over; or there is no scrape or no memory for its text, and the buffer and the length
   -- are as they were
   abbrev pub PrintsTo : Type 0
-  PrintsTo = ((bytes : List ℕ) × IsText scrapes_by before after bytes × IsHandedOver bytes answer had has has_len)
-      ⊎ ((fault : TextFault) × (answer ≡ text_fault_number fault) × IsTextFault scrapes_by before after fault × (has ≡ had)
+  PrintsTo = ((bytes : List ℕ) × IsText scrapes_by 3 before after bytes × IsHandedOver bytes answer had has has_len)
+      ⊎ ((fault : TextFault) × (answer ≡ text_fault_number fault) × IsTextFault scrapes_by 3 before after fault × (has ≡ had)
       × (has_len ≡ had_len))
 
 -- what became of a reply that was written whole, or why there is none: then the buffer and the length are as they were

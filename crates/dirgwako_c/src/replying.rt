@@ -13,17 +13,23 @@ use scrape_server::scrape_again;
 use std::alloc::Global;
 use watched::Watched;
 
-/// A registry that is lent, which is asked again where a scan was given up.
+/// A registry that is lent, which is asked again where a scan was given up. Its own number is 0, since it has asked.
 #[derive(Drop)]
 struct Patient<'a> {
     held: &'a mut HeldRegistry,
 }
 
 impl ScrapeFrom for Patient<'_> {
+    ghost again = { 0 };
+
     ghost gave = { λ before after answer. (after.held.ghost_name ≡ before.held.ghost_name) × asks_by before.held.now after.held.now answer };
 
     fn scrape(&mut self) -> Result<Scrape, NoScrape> {
         scrape_again(&mut *self.held)
+    }
+
+    fn again(&self) -> usize {
+        0
     }
 }
 

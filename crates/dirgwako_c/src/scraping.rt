@@ -13,17 +13,23 @@ use scrape_server::{MakesScrapes, scrape_again};
 use std::alloc::Global;
 
 impl ScrapeFrom for HeldRegistry {
+    ghost again = { 3 };
+
     ghost gave = { scrapes_by };
 
     fn scrape(&mut self) -> Result<Scrape, NoScrape> {
         MakesScrapes::scrape(&mut self.registrar.at)
     }
+
+    fn again(&self) -> usize {
+        3
+    }
 }
 
 /// The text of a scrape of a registry. A scrape that was given up is asked for up to three times more.
 fn text_of(registry: &mut HeldRegistry) -> Result<Vec<u8>, TextFault>
-    ensures text { IfOk result (λ bytes. IsText scrapes_by registry.old registry.new bytes.items) }
-    ensures fault { IfErr result (IsTextFault scrapes_by registry.old registry.new) }
+    ensures text { IfOk result (λ bytes. IsText scrapes_by 3 registry.old registry.new bytes.items) }
+    ensures fault { IfErr result (IsTextFault scrapes_by 3 registry.old registry.new) }
 {
     match scrape_again(registry) {
         Ok(scrape) => match render(&scrape) {

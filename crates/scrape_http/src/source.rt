@@ -1,5 +1,5 @@
 //! Where a server gets its scrapes.
-ghost use Rattle.std.specs.Prelude.{Result};
+ghost use Rattle.std.specs.Prelude.{◌≡◌, ℕ, Result};
 ghost use Rattle.expo_text.specs.Scraped.{Scraped};
 ghost use Rattle.scrape_http.specs.declared.source.NoScrape.{NoScrape};
 
@@ -16,6 +16,9 @@ pub enum NoScrape {
 
 /// Where a server gets its scrapes. Each source names, for contracts alone, what one scrape does to it (`gave`).
 pub trait ScrapeFrom {
+    // How many times more it may be asked where a scan was given up.
+    ghost again: { ℕ };
+
     // What a scrape says of the source before it, of the source after it, and of its outcome.
     ghost gave: { Self → Self → Result Scraped NoScrape → Type 0 };
 
@@ -26,4 +29,9 @@ pub trait ScrapeFrom {
     /// [`NoScrape`], to which a server replies 503.
     fn scrape(&mut self) -> Result<Scrape, NoScrape>
         ensures { gave self.old self.new result };
+
+    /// How many times more, at most, whoever serves or prints its scrapes asks it where a scan was given up (14): the same number for all sources
+    /// of a type. [`serve_one`](crate::serve_one) asks once.
+    fn again(&self) -> usize
+        ensures { result ≡ again };
 }

@@ -1,6 +1,6 @@
 -- What the scrapes of boards leave of them, and show.
 use Rattle.std.proofs.Common.{◌≡◌, ℕ, zero, suc, List, [], ◌∷◌, ◌++◌, length, refl, sym, ap, subst, ◌∙◌, inl, inr, Some}
-use Rattle.std.specs.Prelude.{◌⊎◌, Result, Ok, Err}
+use Rattle.std.specs.Prelude.{Result, Ok, Err}
 use Rattle.std.specs.List.{AllZip}
 use Rattle.expo_text.specs.Scraped.{Scraped}
 use Rattle.register_rule.specs.declared.view.Answer.{Answer}
@@ -10,7 +10,7 @@ use Rattle.registry_state.specs.Kept.{RegistryView}
 use Rattle.registry_state.specs.Shown.{IsShown}
 use Rattle.scrape_http.specs.declared.source.NoScrape.{NoScrape}
 use Rattle.scrape_http.specs.declared.source.NoScrape.TheVariants.{Contended}
-use Rattle.scrape_server.specs.Again.{AsksAgain, IsDone}
+use Rattle.scrape_server.specs.Again.{AsksAgain}
 use Rattle.scrape_server.specs.Scrapes.{Scrapes}
 use Rattle.scrape_page.specs.Scraping.{AreMade, IsStopped, IsStoppedAt, BoardScrapes}
 
@@ -19,22 +19,13 @@ module _ {X Y : Type 0} (now : Y → X) (name : Y → ℕ) (made : X → X → R
   abbrev pub Lent : Y → Y → Result Scraped NoScrape → Type 0
   Lent before after result = (name after ≡ name before) × made (now before) (now after) result
 
-  asked : (more : ℕ) (a b : Y) (last : X) (result : Result Scraped NoScrape) → (name a ≡ name b → last ≡ now b)
+  pub asked : (more : ℕ) (last : X) (a b : Y) (result : Result Scraped NoScrape) → (name a ≡ name b → last ≡ now b)
       → AsksAgain Lent more a b result → AsksAgain made more (now a) last result
-  asked zero a b last result ends once = subst (λ x. made (now a) x result) (sym (ends (sym once.0))) once.1
-  asked (suc more) a b last result ends (inl done) =
+  asked zero last a b result ends once = subst (λ x. made (now a) x result) (sym (ends (sym once.0))) once.1
+  asked (suc more) last a b result ends (inl done) =
       inl (done.0, subst (λ x. made (now a) x result) (sym (ends (sym done.1.0))) done.1.1)
-  asked (suc more) a b last result ends (inr again) =
-      inr (now again.0, again.1.1, asked more again.0 b last result (λ same. ends (sym again.1.0 ∙ same)) again.2)
-
-  pub asked_lent : (more : ℕ) (lent : ℕ) (first last : X) (b : Y) (result : Result Scraped NoScrape) → (lent ≡ name b → last ≡ now b)
-      → (IsDone result × ((name b ≡ lent) × made first (now b) result))
-      ⊎ ((mid : Y) × ((name mid ≡ lent) × made first (now mid) (Err Contended)) × AsksAgain Lent more mid b result)
-      → AsksAgain made (suc more) first last result
-  asked_lent more lent first last b result ends (inl done) =
-      inl (done.0, subst (λ x. made first x result) (sym (ends (sym done.1.0))) done.1.1)
-  asked_lent more lent first last b result ends (inr again) =
-      inr (now again.0, again.1.1, asked more again.0 b last result (λ same. ends (sym again.1.0 ∙ same)) again.2)
+  asked (suc more) last a b result ends (inr again) =
+      inr (now again.0, again.1.1, asked more last again.0 b result (λ same. ends (sym again.1.0 ∙ same)) again.2)
 
 module _ {X : Type 0} (made : X → X → Result Scraped NoScrape → Type 0) where
   -- what each that made a scrape stands in to what it was

@@ -8,13 +8,13 @@ use scrape_http::NoScrape;
 use scrape_server::{FromState, MakesScrapes, scrape_again};
 use std::alloc::Global;
 
-/// A scrape of one board, which is asked again up to three times where the scan was given up.
+/// A scrape of one board, which is asked again where the scan was given up, up to [`MakesScrapes::again`] times: a registry three times.
 ///
 /// # Errors
 ///
-/// [`NoScrape`], 6 and 14: of 14 there were four.
+/// [`NoScrape`], 6 and 14: of 14 there was one more than [`MakesScrapes::again`].
 fn scrape_board<X: MakesScrapes>(board: &mut X) -> Result<Scrape, NoScrape>
-    ensures { AsksAgain X.made 3 board.old board.new result }
+    ensures { AsksAgain X.made X.again board.old board.new result }
 {
     scrape_again(&mut FromState { state: board })
 }
@@ -28,8 +28,8 @@ pub(crate) fn scrape_each<X: MakesScrapes>(
     alloc: Global,
     boards: &mut Vec<X>,
 ) -> Result<Vec<Scrape>, NoScrape>
-    ensures each { IfOk result (λ parts. AreMade (AsksAgain X.made 3) boards.old.items boards.new.items parts.items) }
-    ensures stopped { IfErr result (IsStopped (AsksAgain X.made 3) boards.old.items boards.new.items) }
+    ensures each { IfOk result (λ parts. AreMade (AsksAgain X.made X.again) boards.old.items boards.new.items parts.items) }
+    ensures stopped { IfErr result (IsStopped (AsksAgain X.made X.again) boards.old.items boards.new.items) }
 {
     let Ok(mut parts) = Vec::with_capacity(alloc, boards.len()) else {
         return Err(NoScrape::NoMemory);

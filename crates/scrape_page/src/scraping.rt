@@ -84,9 +84,16 @@ impl<
     const H: usize,
     const G: usize,
 > MakesScrapes for Page<S, N, C, H, G> {
+    ghost again = { 0 };
+
     ghost made = { PageScrapes N C H G S.recorded S.quit S.gave S.gave_up };
 
     fn scrape(&mut self) -> Result<Scrape, NoScrape> {
         Page::scrape(self)
+    }
+
+    /// A page is not asked again: it has asked each board again by itself, and the boards before one that gives up have scanned by then.
+    fn again(&self) -> usize {
+        0
     }
 }

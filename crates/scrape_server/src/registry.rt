@@ -41,6 +41,8 @@ impl<T: Wait, B: Named, const N: usize, const C: usize, const H: usize, const G:
 
 impl<T: Wait, B: Named, const N: usize, const C: usize, const H: usize, const G: usize> ScrapeFrom
     for FromRegistry<'_, '_, T, B, N, C, H, G> {
+    ghost again = { 3 };
+
     ghost gave = { λ before after answer. (after ≡ before) × IfOk answer (ShowsMoment N C H G B.first) };
 
     /// The registry's scrape.
@@ -49,5 +51,9 @@ impl<T: Wait, B: Named, const N: usize, const C: usize, const H: usize, const G:
             Ok(scrape) => Ok(scrape),
             Err(fault) => Err(no_scrape(fault)),
         }
+    }
+
+    fn again(&self) -> usize {
+        3
     }
 }

@@ -1,5 +1,5 @@
 //! Scrapes of a registry that is lent.
-ghost use Rattle.std.specs.Prelude.{◌≡◌, true, false, IsOk, Result};
+ghost use Rattle.std.specs.Prelude.{◌≡◌, ℕ, true, false, IsOk, Result};
 ghost use Rattle.expo_text.specs.Scraped.{Scraped};
 ghost use Rattle.scrape_http.specs.declared.source.NoScrape.{NoScrape};
 ghost use Rattle.scrape_http.specs.Serves.{IsServed, IsUnserved, is_read_failed, is_write_failed};
@@ -16,6 +16,9 @@ use watched::Watched;
 /// What makes scrapes by itself: a registry without a lock, of any source of snapshots. It names, for contracts alone, what one scrape does
 /// to it (`made`).
 pub trait MakesScrapes {
+    // How many times more it may be asked where a scan was given up.
+    ghost again: { ℕ };
+
     // What a scrape says of what made it, before and after it, and of its answer.
     ghost made: { Self → Self → Result Scraped NoScrape → Type 0 };
 
@@ -26,6 +29,11 @@ pub trait MakesScrapes {
     /// [`NoScrape`], 6 and 14.
     fn scrape(&mut self) -> Result<Scrape, NoScrape>
         ensures { made self.old self.new result };
+
+    /// How many times more, at most, whoever serves or prints its scrapes asks it where a scan was given up (14): the same number for all of a
+    /// type.
+    fn again(&self) -> usize
+        ensures { result ≡ again };
 }
 
 impl<
@@ -35,6 +43,8 @@ impl<
     const H: usize,
     const G: usize,
 > MakesScrapes for RegistryState<S, N, C, H, G> {
+    ghost again = { 3 };
+
     ghost made = { Scrapes N C H G S.recorded S.quit S.gave S.gave_up };
 
     fn scrape(&mut self) -> Result<Scrape, NoScrape> {
@@ -42,6 +52,10 @@ impl<
             Ok(scrape) => Ok(scrape),
             Err(fault) => Err(no_scrape(fault)),
         }
+    }
+
+    fn again(&self) -> usize {
+        3
     }
 }
 
@@ -53,12 +67,18 @@ pub struct FromState<'a, X: MakesScrapes> {
 }
 
 impl<X: MakesScrapes> ScrapeFrom for FromState<'_, X> {
+    ghost again = { X.again };
+
     ghost gave = { λ before after answer. (after.state.ghost_name ≡ before.state.ghost_name)
         × X.made before.state.now after.state.now answer };
 
     /// The registry's scrape.
     fn scrape(&mut self) -> Result<Scrape, NoScrape> {
         MakesScrapes::scrape(&mut *self.state)
+    }
+
+    fn again(&self) -> usize {
+        self.state.again()
     }
 }
 

@@ -12,8 +12,9 @@ use ledger_core::Op;
 use metric_desc::{Desc, Kind};
 use metric_names::LabelValue;
 use registry_state::{ChildFault, FamilyId, Handle, Journal, RegisterFault, ScrapeFault};
-use scrape_http::Status;
-use scrape_server::serve_state;
+use scrape_http::{NoScrape, Status};
+use scrape_page::Page;
+use scrape_server::{FromState, scrape_again, serve_state};
 use snapshot_scan::{Contended, Snapshot, Source};
 use std::alloc::Global;
 use std::process::Abort;
@@ -214,4 +215,26 @@ fn a_server_replies_503(rt: HostRuntime) {
         &mut done(rt, Look::new(rt.alloc())),
     );
     replies_in_turn(rt, rt.alloc(), &mut registry);
+}
+
+/// A page of one board, which gives so many scans up.
+fn page(rt: &impl Abort, alloc: Global, times: u64) -> Page<GivesUp, 1, 1, 1, 1> {
+    match Page::new(alloc, registry(rt, alloc, 0, times)) {
+        Ok(page) => page,
+        Err(_) => rt.panic("no page"),
+    }
+}
+
+/// A page asks its board four times, and is not asked again itself: of seven scans that are given up its first answer takes four, and its second
+/// one the others.
+#[test]
+fn a_page_is_asked_once(rt: HostRuntime) {
+    let rt = &rt;
+    let mut page = page(rt, rt.alloc(), 7);
+    let first = scrape_again(&mut FromState { state: &mut page });
+    same(rt, first.err(), Some(NoScrape::Contended));
+    let second = scrape_again(&mut FromState { state: &mut page });
+    same(rt, second.is_ok(), true);
+    let board = there(rt, page.into_boards().pop());
+    same(rt, board.into_source().given_up, 7);
 }

@@ -90,11 +90,17 @@ struct Busy {
 }
 
 impl ScrapeFrom for Busy {
+    ghost again = { 3 };
+
     ghost gave = { λ _ _ _. Unit {0} };
 
     fn scrape(&mut self) -> Result<Scrape, NoScrape> {
         self.asked = self.asked.saturating_add(1);
         Err(self.why)
+    }
+
+    fn again(&self) -> usize {
+        3
     }
 }
 

@@ -11,7 +11,7 @@ use Rattle.dirgwako.proofs.Moment.{last_text_seen}
 use Rattle.dirgwako.proofs.closing.last_text.Goals as goal
 
 why : {N C H G : ℕ} (before after : RegistryView (Scanner N C H G)) (fault : TextFault)
-    → IsTextFault (Scrapes N C H G recorded_in quit_in gave_in gave_up_in) before after fault → IsLastFault fault after
+    → IsTextFault (Scrapes N C H G recorded_in quit_in gave_in gave_up_in) 3 before after fault → IsLastFault fault after
 why before after Contended is = (before, is)
 why before after NoMemory is = tt
 

@@ -7,7 +7,7 @@ use Rattle.scrape_page.proofs.each.scrape_each.Goals as goal
 
 pub returns-in-Err-clause-stopped : goal.returns-in-Err-clause-stopped
 returns-in-Err-clause-stopped g c =
-    inr (stopped (AsksAgain g.X.MakesScrapes.made 3) c.args.boards.now.items c.loop-at.boards.items c.loop-at.at
+    inr (stopped (AsksAgain g.X.MakesScrapes.made g.X.MakesScrapes.again) c.args.boards.now.items c.loop-at.boards.items c.loop-at.at
     c.index_mut.result.now c.scrape_board.new.board c.loop-at.parts.items (omega arith) (omega arith) c.loop-at.invariant.rest
     c.index_mut.ensures.value c.loop-at.invariant.each c.in-Err.why c.in-Err.ensures)
 
@@ -16,13 +16,13 @@ loop-at-preserved g c = record {
   len = c.loop-at.invariant.len;
   count = search rules;
   room = search rules;
-  each = subst (λ (l : List Scraped). AreMade (AsksAgain g.X.MakesScrapes.made 3) (take (c.loop-at.at + 1) c.args.boards.now.items)
+  each = subst (λ (l : List Scraped). AreMade (AsksAgain g.X.MakesScrapes.made g.X.MakesScrapes.again) (take (c.loop-at.at + 1) c.args.boards.now.items)
       (take (c.loop-at.at + 1) (set c.loop-at.boards.items c.loop-at.at c.scrape_board.new.board)) l)
       (sym c.push_reserved.ensures.items)
-      (made_more (AsksAgain g.X.MakesScrapes.made 3) c.args.boards.now.items c.loop-at.boards.items c.loop-at.at
+      (made_more (AsksAgain g.X.MakesScrapes.made g.X.MakesScrapes.again) c.args.boards.now.items c.loop-at.boards.items c.loop-at.at
       c.index_mut.result.now c.scrape_board.new.board c.loop-at.parts.items (omega arith) (omega arith) c.loop-at.invariant.rest
       c.index_mut.ensures.value c.loop-at.invariant.each c.in-Ok-scrape_board.part c.in-Ok-scrape_board.ensures);
-  rest = still_behind (AsksAgain g.X.MakesScrapes.made 3) c.args.boards.now.items c.loop-at.boards.items c.loop-at.at
+  rest = still_behind (AsksAgain g.X.MakesScrapes.made g.X.MakesScrapes.again) c.args.boards.now.items c.loop-at.boards.items c.loop-at.at
       c.index_mut.result.now c.scrape_board.new.board c.loop-at.parts.items (omega arith) (omega arith) c.loop-at.invariant.rest
       c.index_mut.ensures.value c.loop-at.invariant.each;
 }

@@ -7,5 +7,5 @@ use Rattle.scrape_server.proofs.again.scrape_again.Given as goal
 
 abbrev pub invariant-loop-again : goal.invariant-loop-again
 invariant-loop-again g l = (after : g.row.S.Denot) (answer : Result Scraped NoScrape)
-    → AsksAgain g.S.ScrapeFrom.gave (3 - l._again) l.source after answer
-    → AsksAgain g.S.ScrapeFrom.gave 3 l.initial.source after answer
+    → AsksAgain g.S.ScrapeFrom.gave (g.S.ScrapeFrom.again - l._again) l.source after answer
+    → AsksAgain g.S.ScrapeFrom.gave g.S.ScrapeFrom.again l.initial.source after answer
