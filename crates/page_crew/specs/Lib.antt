@@ -1,0 +1,3 @@
+pub mod Shared
+pub mod Counting
+pub mod Held
