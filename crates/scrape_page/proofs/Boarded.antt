@@ -38,12 +38,12 @@ module _ {S : Type 0} (board : RegistryView S) where
       known = All-cons (λ (b : RegistryView S). All (λ (f : Family). Contains (descs_of []) f.desc) b.state.families) board []
           (each_none (λ (f : Family). Contains (descs_of []) f.desc) board.state.families (no_family empty))
           (All-nil (λ (b : RegistryView S). All (λ (f : Family). Contains (descs_of []) f.desc) b.state.families));
+      once = All-cons (λ (b : RegistryView S). AllPairs (λ (x y : Family). x.desc.name ≢ y.desc.name) b.state.families) board []
+          (pairs_none (λ (x y : Family). x.desc.name ≢ y.desc.name) board.state.families (no_family empty))
+          (All-nil (λ (b : RegistryView S). AllPairs (λ (x y : Family). x.desc.name ≢ y.desc.name) b.state.families));
       spread = All-nil (IsSpread (board ∷ []));
       groups = λ i j d lt within. absurd (omega (arith, within));
     };
-    once = All-cons (λ (b : RegistryView S). AllPairs (λ (x y : Family). x.desc.name ≢ y.desc.name) b.state.families) board []
-        (pairs_none (λ (x y : Family). x.desc.name ≢ y.desc.name) board.state.families (no_family empty))
-        (All-nil (λ (b : RegistryView S). AllPairs (λ (x y : Family). x.desc.name ≢ y.desc.name) b.state.families));
     ordered = order_none;
   }
 
@@ -64,8 +64,11 @@ module _ {S : Type 0} (board : RegistryView S) where
           apart = is.apart;
           known = All-push (λ (b : RegistryView S). All (λ (f : Family). Contains (descs_of families) f.desc) b.state.families) boards board
               is.known (each_none (λ (f : Family). Contains (descs_of families) f.desc) board.state.families none);
+          once = All-push (λ (b : RegistryView S). AllPairs (λ (x y : Family). x.desc.name ≢ y.desc.name) b.state.families) boards board
+              is.once (pairs_none (λ (x y : Family). x.desc.name ≢ y.desc.name) board.state.families none);
           spread = All-weaker (IsSpread boards) (IsSpread (boards ++ board ∷ [])) (λ family spread. record {
             parts = subst (λ l. IsPermutation l family.parts) (sym (places_push family.desc.name boards board none)) spread.parts;
+            first = spread.first;
             distinct = subst (AllPairs (λ a b. a ≢ b)) (sym (values_push family.desc.name boards board none)) spread.distinct;
             count = ap length (values_push family.desc.name boards board none) ∙ spread.count;
             limit = spread.limit;
@@ -73,7 +76,5 @@ module _ {S : Type 0} (board : RegistryView S) where
           }) families is.spread;
           groups = is.groups;
         };
-        once = All-push (λ (b : RegistryView S). AllPairs (λ (x y : Family). x.desc.name ≢ y.desc.name) b.state.families) boards board
-            held.once (pairs_none (λ (x y : Family). x.desc.name ≢ y.desc.name) board.state.families none);
         ordered = held.ordered;
       }

@@ -144,6 +144,7 @@ module _ {S : Type 0} (boards boards' : List (RegistryView S)) (it : Family) (ch
     pub spread_other : (q : PageFamily) → it.desc.name ≢ q.desc.name → IsSpread boards q → IsSpread boards' q
     spread_other q other spread = record {
       parts = subst (λ l. IsPermutation l q.parts) (sym (places_grown q.desc.name)) spread.parts;
+      first = spread.first;
       distinct = distinct_moved (values_of q.desc.name boards) (values_of q.desc.name boards') (others_grown q.desc.name other)
           spread.distinct;
       count = length_permutation (values_of q.desc.name boards) (values_of q.desc.name boards') (others_grown q.desc.name other)
@@ -165,6 +166,7 @@ module _ {S : Type 0} (boards boards' : List (RegistryView S)) (it : Family) (ch
         length_permutation (values_of p.desc.name boards ++ child.values ∷ []) (values_of p.desc.name boards') moved in
         record {
           parts = subst (λ l. IsPermutation l p.parts) (sym (places_grown p.desc.name)) spread.parts;
+          first = spread.first;
           distinct = distinct_moved (values_of p.desc.name boards ++ child.values ∷ []) (values_of p.desc.name boards') moved
               (all_pairs_push (λ a b. a ≢ b) (values_of p.desc.name boards) child.values spread.distinct none);
           count = omega (arith, one, more, count);
@@ -199,7 +201,7 @@ held_born c h g old new order number part values handle held may adds =
     (many_grown old.boards new.boards it child grown)
     (ids_grown old.boards new.boards it child grown)
     (all_grown old.boards new.boards it child grown (Contains (descs_of old.families)) held.page_is.known)
-    (once_grown old.boards new.boards it child grown held.once)
+    (once_grown old.boards new.boards it child grown held.page_is.once)
     (λ q other. spread_other old.boards new.boards it child grown q (λ same. other (sym same ∙ found.2)))
     (spread_own old.boards new.boards it child grown p found.2 can.0.1 can.1
     (all_there (IsSpread old.boards) old.families number p adds.it held.page_is.spread))

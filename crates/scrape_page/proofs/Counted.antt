@@ -66,7 +66,7 @@ module _ {S : Type 0} (page : PageView S) (order : List ℕ) (held : IsHeldPage 
   distinct : AllPairs (λ a b. a ≢ b) (map name_of board.state.families)
   distinct = pairs_map (λ a b. a ≢ b) name_of board.state.families
       (all_there (λ (b : RegistryView S). AllPairs (λ (f g : Family). f.desc.name ≢ g.desc.name) b.state.families) page.boards at board there
-      held.once)
+      held.page_is.once)
 
   -- as many families as the page, at most
   pub few_on : length board.state.families ≤ length page.families

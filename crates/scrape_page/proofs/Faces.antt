@@ -41,6 +41,7 @@ module _ {S : Type 0} where
         record {
           parts = subst (λ (places : List Part). IsPermutation places family.parts)
               (sym (places_still family.desc.name old new all)) spread.parts;
+          first = spread.first;
           distinct = subst (AllPairs (λ (a b : List (List ℕ)). a ≢ b)) (sym values) spread.distinct;
           count = ap length values ∙ spread.count;
           limit = spread.limit;
@@ -65,6 +66,10 @@ module _ {S : Type 0} where
               (λ (board : RegistryView S). All (λ (family : Family). Contains (descs_of families) family.desc) board.state.families)
               (λ a b known same. subst (All (λ (family : Family). Contains (descs_of families) family.desc)) (sym same.families) known)
               old new page.known all;
+          once = zip_all (λ (board : RegistryView S). AllPairs (λ (a b : Family). a.desc.name ≢ b.desc.name) board.state.families) SameFace
+              (λ (board : RegistryView S). AllPairs (λ (a b : Family). a.desc.name ≢ b.desc.name) board.state.families)
+              (λ a b once same. subst (AllPairs (λ (a b : Family). a.desc.name ≢ b.desc.name)) (sym same.families) once)
+              old new page.once all;
           spread = All-weaker (IsSpread old) (IsSpread new) spread_still families page.spread;
           groups = page.groups;
         }
@@ -74,9 +79,5 @@ module _ {S : Type 0} where
         → IsHeldPage (record { boards = new; families = families }) order
     held_still families order held = record {
       page_is = page_still families held.page_is;
-      once = zip_all (λ (board : RegistryView S). AllPairs (λ (a b : Family). a.desc.name ≢ b.desc.name) board.state.families) SameFace
-          (λ (board : RegistryView S). AllPairs (λ (a b : Family). a.desc.name ≢ b.desc.name) board.state.families)
-          (λ a b once same. subst (AllPairs (λ (a b : Family). a.desc.name ≢ b.desc.name)) (sym same.families) once)
-          old new held.once all;
       ordered = held.ordered;
     }

@@ -111,6 +111,11 @@ can_take {S} c h g page order number place held may =
     (some_at (λ (b : RegistryView S). (length b.state.families < 128) × IsApart b.state.families p.desc) page.boards place board roomy.1
     (omega (arith, few, fewer), apart_part page order held place board roomy.1 number p chosen.1 none))
 
+-- what holds of the first, with more behind it
+first_push : {A : Type 0} (P : A → Type 0) (xs ys : List A) → IsSomeAnd (slice_get xs 0) P → IsSomeAnd (slice_get (xs ++ ys) 0) P
+first_push P [] ys some = absurd some
+first_push P (x ∷ xs) ys some = some
+
 module _ {S : Type 0} (old new : PageView S) (number : ℕ) (part : Part) (adds : AddsPart old new number part) where
   -- the families of other names
   spread_other : (q : PageFamily) → q.desc.name ≢ adds.family.desc.name → IsSpread old.boards q → IsSpread new.boards q
@@ -118,6 +123,7 @@ module _ {S : Type 0} (old new : PageView S) (number : ℕ) (part : Part) (adds 
     parts = subst (λ l. IsPermutation l q.parts)
         (sym (other_places old.boards new.boards part.board part.family.number adds.family.desc adds.registered q.desc.name
         (λ e. other (sym e)))) spread.parts;
+    first = spread.first;
     distinct = subst (AllPairs (λ a b. a ≢ b))
         (sym (same_values old.boards new.boards part.board part.family.number adds.family.desc adds.registered q.desc.name))
         spread.distinct;
@@ -137,6 +143,7 @@ module _ {S : Type 0} (old new : PageView S) (number : ℕ) (part : Part) (adds 
         (IsPermutation-sym (places_of adds.family.desc.name old.boards ++ part ∷ []) (places_of adds.family.desc.name new.boards)
         (own_places old.boards new.boards part.board part.family.number adds.family.desc adds.registered))
         (IsPermutation-append_left (part ∷ []) (places_of adds.family.desc.name old.boards) adds.family.parts spread.parts);
+    first = first_push (λ (q : Part). q.board ≡ adds.family.home) adds.family.parts (part ∷ []) spread.first;
     distinct = subst (AllPairs (λ a b. a ≢ b))
         (sym (same_values old.boards new.boards part.board part.family.number adds.family.desc adds.registered adds.family.desc.name))
         spread.distinct;
@@ -156,7 +163,7 @@ module _ {S : Type 0} (old new : PageView S) (number : ℕ) (part : Part) (adds 
       (same_ids old.boards new.boards part.board part.family.number adds.family.desc adds.registered)
       (all_registered old.boards new.boards part.board part.family.number adds.family.desc adds.registered
       (λ (f : Family). Contains (descs_of old.families) f.desc) (desc_there old.families number adds.family adds.it) held.page_is.known)
-      (once_registered old.boards new.boards part.board part.family.number adds.family.desc adds.registered held.once none)
+      (once_registered old.boards new.boards part.board part.family.number adds.family.desc adds.registered held.page_is.once none)
       spread_other
       (spread_own (all_there (IsSpread old.boards) old.families number adds.family adds.it held.page_is.spread))
 

@@ -149,6 +149,7 @@ module _ {S : Type 0} (c h g : ℕ) (old new : PageView S) (desc : Descriptor) (
   spread_old q other spread = record {
     parts = subst (λ l. IsPermutation l q.parts) (sym (other_places old.boards new.boards home adds.number desc adds.registered q.desc.name
         (λ e. names_apart q.desc desc other (sym e)))) spread.parts;
+    first = spread.first;
     distinct = subst (AllPairs (λ a b. a ≢ b)) (sym (same_values old.boards new.boards home adds.number desc adds.registered q.desc.name))
         spread.distinct;
     count = ap length (same_values old.boards new.boards home adds.number desc adds.registered q.desc.name) ∙ spread.count;
@@ -164,6 +165,7 @@ module _ {S : Type 0} (c h g : ℕ) (old new : PageView S) (desc : Descriptor) (
     parts = IsPermutation-sym (part_at home adds.number ∷ []) (places_of desc.name new.boards)
         (subst (λ l. IsPermutation (l ++ part_at home adds.number ∷ []) (places_of desc.name new.boards))
         (places_none desc.name old.boards none) (own_places old.boards new.boards home adds.number desc adds.registered));
+    first = refl;
     distinct = subst (AllPairs (λ a b. a ≢ b)) (sym no_value) (λ i j d lt within. absurd (omega (arith, within)));
     count = ap length no_value;
     limit = omega arith;
@@ -199,6 +201,8 @@ module _ {S : Type 0} (c h g : ℕ) (old new : PageView S) (desc : Descriptor) (
             (λ (f : Family). Contains (descs_of old.families ++ desc ∷ []) f.desc)
             (λ f there. Contains-append_left (descs_of old.families) (desc ∷ []) f.desc there) board.state.families all)
             old.boards is.known));
+        once = once_registered old.boards new.boards home adds.number desc adds.registered is.once
+            (all_there (HasNone desc.name) old.boards home adds.registered.board adds.registered.at none);
         spread = subst (All (IsSpread new.boards)) (sym adds.families)
             (All-push (IsSpread new.boards) old.families the
             (λ k d within. spread_old (get_or old.families k d) (apart k d within) (is.spread k d within)) spread_new);
@@ -210,8 +214,6 @@ module _ {S : Type 0} (c h g : ℕ) (old new : PageView S) (desc : Descriptor) (
       → order' ≡ insert order place (length old.families) → IsHeldPage new order'
   held_registered order' place at after = record {
     page_is = page_registered;
-    once = once_registered old.boards new.boards home adds.number desc adds.registered held.once
-        (all_there (HasNone desc.name) old.boards home adds.registered.board adds.registered.at none);
     ordered =
         let the : PageFamily = record { desc = desc; group = group; home = home; parts = part_at home adds.number ∷ []; children = 0 } in
         subst (λ l. IsOrder l order') (sym (ap (map as_family) adds.families ∙ map-append as_family old.families (the ∷ [])))

@@ -61,6 +61,7 @@ module _ {S : Type 0} (old new : PageView S) (order : List ℕ) (held : IsHeldPa
               held.page_is.apart;
           known = subst (λ l. All (λ (board : RegistryView S). All (λ (f : Family). Contains l f.desc) board.state.families) new.boards)
               (sym same_descs) known;
+          once = once;
           spread = subst (All (IsSpread new.boards)) (sym families)
               (all_others (IsSpread new.boards) old.families number p'
               (λ k d within differ. others (get_or old.families k d) (other_name k d within differ) (held.page_is.spread k d within))
@@ -68,6 +69,5 @@ module _ {S : Type 0} (old new : PageView S) (order : List ℕ) (held : IsHeldPa
           groups = pairs_along (λ (a b : ℕ × ℕ). a.0 ≡ b.0 → a.1 ≡ b.1) grouped old.families new.families same_groups
               held.page_is.groups;
         };
-        once = once;
         ordered = subst (λ l. IsOrder l order) (sym same_names) held.ordered;
       }
