@@ -1,3 +1,5 @@
 pub mod Shared
 pub mod Counting
 pub mod Held
+pub mod Opened
+pub mod Rings

@@ -1,10 +1,14 @@
 //! All who work on the boards of a page: recorders that count on every board, boards that come when they are needed, and the page behind a lock.
 #![tactic(auto)]
 
+mod fault;
+mod opening;
 mod page_recorder;
+mod rings;
 mod shared_recorder;
 mod shared_scanner;
 
+pub use fault::NoBoard;
 pub use page_recorder::PageRecorder;
 pub use shared_recorder::SharedRecorder;
 pub use shared_scanner::SharedScanner;
