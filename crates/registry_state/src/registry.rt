@@ -264,9 +264,10 @@ impl<
 
     /// The handle of the child of these label values, if there is one. `None`, too, where there is no family of this number.
     pub fn find(&self, family: FamilyId, values: &[LabelValue]) -> Option<Handle>
-        ensures { MatchOption result
+        ensures found { MatchOption result
             (MatchOption (slice_get self.now.state.families family.number) ⊤ (λ it. IsNew it values.now))
             (IsFound self.now.id self.now.state.families family.number values.now) }
+        ensures inside { IfSome result (IsInside C H G) }
     {
         let Some(it) = self.families.get(family.number) else {
             return None;

@@ -1,5 +1,5 @@
 -- A family of a page that is asked for a child.
-use Rattle.std.proofs.Common.{◌≡◌, ◌≢◌, ℕ, zero, suc, ◌<◌, ◌≤◌, List, [], ◌∷◌, Some, length, get_or, refl, sym, ap, subst, ◌∙◌, arith, All, Contains}
+use Rattle.std.proofs.Common.{◌≡◌, ℕ, zero, suc, ◌<◌, List, [], ◌∷◌, Some, length, get_or, refl, arith, All, Contains}
 use Rattle.std.specs.Prelude.{⊤, slice_get, IsSomeAnd}
 use Rattle.std.specs.List.{Any}
 use Rattle.std.proofs.lemmas.List.Elements.{All-weaker}
@@ -8,13 +8,13 @@ use Rattle.std.proofs.lemmas.Option.{get_or_from_slice_get, slice_get_within}
 use Rattle.metric_desc.specs.declared.kind.Kind.{Kind}
 use Rattle.registry_state.specs.Replay.{Family, IsNew}
 use Rattle.registry_state.specs.Kept.{RegistryView}
-use Rattle.registry_state.proofs.Making.{some_at, at_some, some_within, there_at}
+use Rattle.registry_state.proofs.Making.{at_some, some_within, there_at}
 use Rattle.scrape_page.specs.declared.family.Part.{Part}
 use Rattle.scrape_page.specs.Families.{PageFamily, PageView}
 use Rattle.scrape_page.specs.Faults.{IsMissing}
-use Rattle.scrape_page.specs.Kept.{IsPage, IsSpread, IsHeldPage}
+use Rattle.scrape_page.specs.Kept.{IsSpread, IsHeldPage}
 use Rattle.scrape_page.specs.Places.{places_of, HasPart}
-use Rattle.scrape_page.specs.Rooms.{IsFirstWithRoom, HasRoom}
+use Rattle.scrape_page.specs.Rooms.{IsFirstWithRoom}
 use Rattle.scrape_page.proofs.Valued.{nowhere}
 use Rattle.scrape_page.proofs.Facts.{all_there, part_there}
 

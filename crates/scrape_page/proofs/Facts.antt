@@ -1,24 +1,20 @@
 -- What follows from what a page keeps.
-use Rattle.std.proofs.Common.{◌≡◌, ◌≢◌, ℕ, zero, suc, ◌+◌, ◌*◌, ◌<◌, ◌≤◌, List, [], ◌∷◌, ◌++◌, Some, length, map, set, get_or, refl, sym, ap}
-use Rattle.std.proofs.Common.{subst, ◌∙◌, arith, All, AllPairs, Contains, inl, inr, Bool, true, false}
-use Rattle.std.specs.Prelude.{slice_get, if◌then◌else◌, IsSomeAnd, flat_map}
-use Rattle.std.specs.Bool.{Decides}
-use Rattle.std.specs.Str.{bytes_eq}
-use Rattle.std.specs.List.Sorted.{IsPermutation}
+use Rattle.std.proofs.Common.{◌≡◌, ◌≢◌, ℕ, zero, suc, ◌*◌, ◌<◌, List, [], ◌∷◌, ◌++◌, Some, length, map, set, get_or, refl, sym, ap}
+use Rattle.std.proofs.Common.{subst, ◌∙◌, arith, All, AllPairs, Contains, inl, inr}
+use Rattle.std.specs.Prelude.{slice_get, if◌then◌else◌}
 use Rattle.std.proofs.lemmas.List.{get_or-set_other, get_or-set_same, length-map}
 use Rattle.std.proofs.Math.ListN.{length-set}
 use Rattle.std.proofs.lemmas.List.Elements.{All-head, All-tail, All-weaker, All-map}
-use Rattle.std.proofs.lemmas.List.Sorted.{All-permutation, IsPermutation-sym, Contains-permutation}
+use Rattle.std.proofs.lemmas.List.Sorted.{All-permutation}
 use Rattle.std.proofs.lemmas.Option.{get_or_from_slice_get, slice_get_within}
 use Rattle.metric_desc.specs.Desc.{Descriptor, Clash}
-use Rattle.registry_state.specs.Replay.{Child, Family}
+use Rattle.registry_state.specs.Replay.{Family}
 use Rattle.registry_state.specs.Kept.{RegistryView}
 use Rattle.registry_state.proofs.Lists.{cases_order}
 use Rattle.registry_state.proofs.Ordered.{own_name}
-use Rattle.scrape_page.specs.declared.family.Part.{Part}
 use Rattle.scrape_page.specs.Families.{PageFamily, PageView, descs_of}
 use Rattle.scrape_page.specs.Faults.{AreApart}
-use Rattle.scrape_page.specs.Kept.{IsPage, IsSpread, IsHeldPage}
+use Rattle.scrape_page.specs.Kept.{IsPage, IsSpread}
 use Rattle.scrape_page.specs.Places.{of_name, values_in, values_of, part_at, numbers_of, next_board, places_of, HasPart}
 use Rattle.scrape_page.proofs.Located.{name_no, places_named}
 

@@ -17,7 +17,7 @@ use Rattle.scrape_page.specs.declared.family.Part.{Part}
 use Rattle.scrape_page.specs.Families.{PageFamily, PageView}
 use Rattle.scrape_page.specs.Faults.{IsMissing}
 use Rattle.scrape_page.specs.Rooms.{HasRoom, AreFull, IsFullPart, IsRoomiest}
-use Rattle.scrape_page.specs.Calls.{AddsPart, AddsChild, WasMadeFurther}
+use Rattle.scrape_page.specs.Calls.{AddsPart, AddsChild, TakesPart, WasMadeFurther}
 use Rattle.scrape_page.proofs.Roomy.{room_there}
 use Rattle.scrape_page.proofs.Registered.{same_values}
 use Rattle.scrape_page.proofs.Born.{some_there, Growable, MayGrow}
@@ -109,21 +109,29 @@ module _ {S : Type 0} (c h g : ℕ) (old : PageView S) (number : ℕ) (kind : Ki
               (slot_still c h g board.state.families p.desc p.desc.kind room_old),
         )
 
-    -- and then it was made further
-    pub made_further : (mid new : PageView S) (part : Part) (handle : Handle) → AddsPart old mid number part → part.board ≡ place
-        → AddsChild c h g mid new number part values handle → WasMadeFurther c h g old new number values handle
-    made_further mid new part handle taken at made = record {
+    -- so it took a part
+    pub takes_part : (mid : PageView S) (part : Part) → AddsPart old mid number part → part.board ≡ place
+        → TakesPart c h g old mid number part
+    takes_part mid part taken at = record {
       room = room;
-      part = part;
-      mid = mid;
-      missing = some_at (λ (it : PageFamily). IsMissing old.boards it values
-          × All (IsFullPart c h g it.desc.kind old.boards) it.parts × IsRoomiest c h g it.desc.kind old.boards part.board room)
-          old.families number the.0 the.1 (
-            the.2.0,
+      some = some;
+      full = some_at (λ (it : PageFamily). All (IsFullPart c h g it.desc.kind old.boards) it.parts
+          × IsRoomiest c h g it.desc.kind old.boards part.board room) old.families number the.0 the.1 (
             the.2.3,
             subst (λ k. IsRoomiest c h g k old.boards part.board room) the.2.2
                 (subst (λ i. IsRoomiest c h g kind old.boards i room) (sym at) roomiest),
           );
       taken = taken;
+    }
+
+    -- and then it was made further
+    pub made_further : (mid new : PageView S) (part : Part) (handle : Handle) → AddsPart old mid number part → part.board ≡ place
+        → AddsChild c h g mid new number part values handle → WasMadeFurther c h g old new number values handle
+    made_further mid new part handle taken at made = record {
+      part = part;
+      mid = mid;
+      missing = some_at (λ (it : PageFamily). IsMissing old.boards it values × (it.children < 256)) old.families number the.0 the.1
+          (the.2.0, the.2.1);
+      taken = takes_part mid part taken at;
       made = made;
     }

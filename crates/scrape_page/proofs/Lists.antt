@@ -1,6 +1,6 @@
 -- Lists, of which one element is replaced, or whose elements change places.
-use Rattle.std.proofs.Common.{◌≡◌, ◌≢◌, ℕ, zero, suc, ◌+◌, ◌<◌, List, [], ◌∷◌, ◌++◌, Some, length, map, set, get_or, refl, sym, ap}
-use Rattle.std.proofs.Common.{subst, ◌∙◌, arith, append_assoc, AllPairs, Bool, true, false}
+use Rattle.std.proofs.Common.{◌≡◌, ◌≢◌, ℕ, zero, suc, List, [], ◌∷◌, ◌++◌, Some, length, map, set, get_or, refl, sym, ap}
+use Rattle.std.proofs.Common.{subst, ◌∙◌, arith, append_assoc, AllPairs, Bool}
 use Rattle.std.specs.Prelude.{flat_map, slice_get}
 use Rattle.std.specs.Bool.{Decides, one_answer}
 use Rattle.std.specs.List.Sorted.{IsPermutation}

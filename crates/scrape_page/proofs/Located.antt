@@ -1,15 +1,14 @@
 -- Where the families of a name are, as families, children and boards come.
-use Rattle.std.proofs.Common.{◌≡◌, ◌≢◌, ℕ, zero, suc, ◌+◌, ◌<◌, List, [], ◌∷◌, ◌++◌, Some, length, map, set, refl, sym, ap, ap₂}
-use Rattle.std.proofs.Common.{subst, ◌∙◌, arith, append_assoc, append-nil, Bool, true, false}
+use Rattle.std.proofs.Common.{◌≡◌, ◌≢◌, ℕ, zero, suc, List, [], ◌∷◌, ◌++◌, Some, length, map, set, refl, sym, ap}
+use Rattle.std.proofs.Common.{subst, ◌∙◌, append_assoc, Bool, true, false}
 use Rattle.std.specs.Prelude.{slice_get, if◌then◌else◌, IsSomeAnd}
 use Rattle.std.specs.Str.{bytes_eq}
 use Rattle.std.specs.Bool.{Decides}
 use Rattle.std.specs.List.Sorted.{IsPermutation}
 use Rattle.std.proofs.lemmas.List.{map-append}
-use Rattle.std.proofs.lemmas.List.Sorted.{IsPermutation-append_left, IsPermutation-map, IsPermutation-trans}
+use Rattle.std.proofs.lemmas.List.Sorted.{IsPermutation-map}
 use Rattle.std.proofs.lemmas.Slice.Eq.{bytes_eq-Decides}
-use Rattle.metric_desc.specs.Desc.{Descriptor}
-use Rattle.expo_text.proofs.Pairs.{Each, each_append, each_map, each_weaker}
+use Rattle.expo_text.proofs.Pairs.{Each, each_append, each_map}
 use Rattle.registry_state.specs.Replay.{Child, Family, with_child}
 use Rattle.registry_state.specs.Kept.{RegistryView}
 use Rattle.scrape_page.specs.declared.family.Part.{Part}

@@ -41,7 +41,7 @@ home_within c h g page kind group home is (inl any) =
     ∙ ap Some any.3 in
     let within : p.home < length page.boards = (all_there (IsSpread page.boards) page.families any.0 p there is.spread).home in
     subst (λ n. n < length page.boards) any.4.1 within
-home_within c h g page kind group home is (inr new) = some_within (λ board. HasFree c h g kind board new.1) page.boards home new.2.there
+home_within c h g page kind group home is (inr new) = slice_get_within page.boards home new.2.board new.2.there
 
 module _ {S : Type 0} (boards boards' : List (RegistryView S)) (at number : ℕ) (desc : Descriptor)
     (registered : IsRegisteredOn boards boards' at desc number) where

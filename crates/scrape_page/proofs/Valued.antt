@@ -1,24 +1,22 @@
 -- The label values of a name's children, as families, children and boards come.
-use Rattle.std.proofs.Common.{◌≡◌, ◌≢◌, ℕ, zero, suc, List, [], ◌∷◌, ◌++◌, Some, map, set, refl, sym, ap, subst, ◌∙◌, All, append_assoc}
+use Rattle.std.proofs.Common.{◌≡◌, ◌≢◌, ℕ, zero, suc, List, [], ◌∷◌, ◌++◌, Some, map, set, refl, sym, ap, subst, ◌∙◌, All}
 use Rattle.std.proofs.Common.{append-nil, Bool, true, false}
-use Rattle.std.specs.Prelude.{flat_map, slice_get, if◌then◌else◌, IsSomeAnd}
+use Rattle.std.specs.Prelude.{slice_get, if◌then◌else◌, IsSomeAnd}
 use Rattle.std.specs.Str.{bytes_eq}
-use Rattle.std.specs.Bool.{Decides}
 use Rattle.std.specs.Ordering.{is_lt}
 use Rattle.std.specs.List.Sorted.{IsPermutation}
 use Rattle.std.proofs.lemmas.List.{map-append}
 use Rattle.std.proofs.lemmas.List.Concat.{flat_map-append}
 use Rattle.std.proofs.lemmas.List.Elements.{All-from_recursion, recursion_from_All}
-use Rattle.std.proofs.lemmas.List.Sorted.{IsPermutation-refl, IsPermutation-trans, IsPermutation-cons, IsPermutation-map, IsPermutation-to_front}
-use Rattle.std.proofs.lemmas.Slice.Eq.{bytes_eq-Decides}
-use Rattle.expo_text.proofs.Pairs.{Each, each_append, each_map, each_weaker}
+use Rattle.std.proofs.lemmas.List.Sorted.{IsPermutation-refl, IsPermutation-cons, IsPermutation-map, IsPermutation-to_front}
+use Rattle.expo_text.proofs.Pairs.{Each, each_append, each_map}
 use Rattle.registry_state.specs.Replay.{Child, Family, IsNew, put, with_child}
 use Rattle.registry_state.specs.Kept.{RegistryView}
 use Rattle.registry_state.proofs.Lists.{either}
 use Rattle.registry_state.proofs.Placing.{stands}
 use Rattle.scrape_page.specs.declared.family.Part.{Part}
 use Rattle.scrape_page.specs.Places.{of_name, values_in, values_of, part_at, numbers_of, next_board, places_of, HasPart}
-use Rattle.scrape_page.proofs.Lists.{same_elements, moved_front, moved_back, flat_set, flat_set_same}
+use Rattle.scrape_page.proofs.Lists.{moved_front, moved_back, flat_set, flat_set_same}
 
 -- a child that is put among others
 put_moves : (child : Child) (xs : List Child) → IsPermutation (xs ++ child ∷ []) (put child xs)

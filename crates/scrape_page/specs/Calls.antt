@@ -1,5 +1,5 @@
 -- What the calls of a page do to it.
-use Rattle.std.specs.Prelude.{◌≡◌, ℕ, ◌+◌, ◌⊎◌, List, [], ◌∷◌, ◌++◌, Some, length, slice_set, slice_get, IsSomeAnd, All}
+use Rattle.std.specs.Prelude.{◌≡◌, ℕ, ◌+◌, ◌<◌, ◌⊎◌, List, [], ◌∷◌, ◌++◌, Some, length, slice_set, slice_get, IsSomeAnd, All}
 use Rattle.std.specs.List.{Any}
 use Rattle.metric_desc.specs.Desc.{Descriptor}
 use Rattle.registry_state.specs.Journal.{Registered}
@@ -58,6 +58,14 @@ module _ {S : Type 0} where
     pub made : IsMadeOn c h g old.boards new.boards part values handle
     pub families : new.families ≡ slice_set old.families number (record family { children = family.children + 1 })
 
+  -- no part of the family had a free slot, so it took this part, on the board with most of them, of which it has some
+  pub record TakesPart (c h g : ℕ) (old new : PageView S) (number : ℕ) (part : Part) : Type 0 where
+    pub room : ℕ
+    pub some : 0 < room
+    pub full : IsSomeAnd (slice_get old.families number) (λ (it : PageFamily). All (IsFullPart c h g it.desc.kind old.boards) it.parts
+        × IsRoomiest c h g it.desc.kind old.boards part.board room)
+    pub taken : AddsPart old new number part
+
   -- the handle is that of the child of these values on the board of this part
   abbrev pub IsFoundAt : List (RegistryView S) → (values : List (List ℕ)) → Handle → Part → Type 0
   IsFoundAt boards values handle part = IsSomeAnd (slice_get boards part.board) (λ (board : RegistryView S).
@@ -69,29 +77,28 @@ module _ {S : Type 0} where
       pub found : IsSomeAnd (slice_get old.families number) (λ (it : PageFamily). Any (IsFoundAt old.boards values handle) it.parts)
       pub same : new ≡ old
 
-    -- it was made on the board of the first part with a free slot
+    -- it was made, of a family that may have one more, on the board of the first part with a free slot
     pub record WasMadeThere : Type 0 where
       pub place : ℕ
       pub part : Part
       pub missing : IsSomeAnd (slice_get old.families number) (λ (it : PageFamily). IsMissing old.boards it values
-          × IsFirstWithRoom c h g it.desc.kind old.boards it.parts place part)
+          × (it.children < 256) × IsFirstWithRoom c h g it.desc.kind old.boards it.parts place part)
       pub made : AddsChild c h g old new number part values handle
 
-    -- no part had a free slot, so the family took a part on the board with most free slots, and there it was made
+    -- it was made, of a family that may have one more, on the board of the part that the family took for it
     pub record WasMadeFurther : Type 0 where
-      pub room : ℕ
       pub part : Part
       pub mid : PageView S
-      pub missing : IsSomeAnd (slice_get old.families number) (λ (it : PageFamily). IsMissing old.boards it values
-          × All (IsFullPart c h g it.desc.kind old.boards) it.parts × IsRoomiest c h g it.desc.kind old.boards part.board room)
-      pub taken : AddsPart old mid number part
+      pub missing : IsSomeAnd (slice_get old.families number) (λ (it : PageFamily). IsMissing old.boards it values × (it.children < 256))
+      pub taken : TakesPart c h g old mid number part
       pub made : AddsChild c h g mid new number part values handle
 
     -- the handle of the child of these values of the family of this number
     abbrev pub IsGivenOnPage : Type 0
     IsGivenOnPage = WasFound ⊎ (WasMadeThere ⊎ WasMadeFurther)
 
-  -- What a refusal of a child leaves: everything as it was; or, where memory was refused, a part without children on a further board
-  abbrev pub LeavesPage : (old new : PageView S) → (number : ℕ) → PageChildFault → Type 0
-  LeavesPage old new number NoMemory = (new ≡ old) ⊎ ((part : Part) × AddsPart old new number part)
-  LeavesPage old new number _ = new ≡ old
+  -- What a refusal of a child leaves: everything as it was; or, where memory was refused, the part that the family took for the child,
+  -- without it
+  abbrev pub LeavesPage : (c h g : ℕ) → (old new : PageView S) → (number : ℕ) → PageChildFault → Type 0
+  LeavesPage c h g old new number NoMemory = (new ≡ old) ⊎ ((part : Part) × TakesPart c h g old new number part)
+  LeavesPage c h g old new number _ = new ≡ old

@@ -1,5 +1,5 @@
 -- Why a page refuses, and the numbers of its refusals.
-use Rattle.std.specs.Prelude.{◌≡◌, ◌≢◌, ℕ, ◌<◌, ◌≤◌, ◌⊎◌, List, length, take, slice_get, IsSomeAnd, All}
+use Rattle.std.specs.Prelude.{◌≡◌, ◌≢◌, ℕ, ◌<◌, ◌≤◌, List, length, take, slice_get, IsSomeAnd, All}
 use Rattle.std.specs.List.{Any}
 use Rattle.metric_desc.specs.Desc.{Descriptor, Clash}
 use Rattle.registry_state.specs.Kept.{RegistryView}

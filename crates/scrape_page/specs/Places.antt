@@ -1,7 +1,6 @@
 -- Where the families of a name are, over all boards.
 use Rattle.std.specs.Prelude.{ℕ, suc, List, [], ◌∷◌, ◌++◌, map, flat_map, slice_get, IsSomeAnd, if◌then◌else◌}
 use Rattle.std.specs.Str.{bytes_eq}
-use Rattle.metric_desc.specs.Desc.{Descriptor}
 use Rattle.registry_state.specs.Replay.{Child, Family}
 use Rattle.registry_state.specs.Kept.{RegistryView}
 use Rattle.scrape_page.specs.declared.family.Part.{Part}

@@ -43,7 +43,8 @@ module _ {S : Type 0} (n c h g : ℕ) (recorded : S → List Answer) (quit : S �
   abbrev pub BoardScrapes : RegistryView S → RegistryView S → Result Scraped NoScrape → Type 0
   BoardScrapes = AsksAgain (Scrapes n c h g recorded quit gave gave_up) 3
 
-  -- each board made a scrape, these are merged, and so what all boards hold is shown at their newest scrapes
+  -- each board made a scrape, these are merged (the families of the merge are those that it shows: the page's, as `shown` says), and so what
+  -- all boards hold is shown at their newest scrapes
   pub record ShowsPage (old new : PageView S) (whole : Scraped) : Type 0 where
     pub families : new.families ≡ old.families
     pub parts : List Scraped

@@ -1,12 +1,12 @@
 -- What a scrape of a page shows.
-use Rattle.std.specs.Prelude.{◌≡◌, ℕ, List, [], ◌∷◌, Some, map, flat_map, zip, All}
+use Rattle.std.specs.Prelude.{◌≡◌, ℕ, List, Some, map, flat_map, zip, All}
 use Rattle.std.specs.List.Sorted.{IsPermutation}
 use Rattle.register_rule.specs.declared.view.Answer.{Answer}
 use Rattle.expo_text.specs.Scraped.{Child as ChildShown, Family as FamilyShown, Scraped}
 use Rattle.registry_state.specs.Replay.{Family}
 use Rattle.registry_state.specs.Kept.{RegistryView}
 use Rattle.registry_state.specs.Shown.{child_shown}
-use Rattle.scrape_page.specs.Families.{PageFamily, PageView, descs_of}
+use Rattle.scrape_page.specs.Families.{PageView, descs_of}
 use Rattle.scrape_page.specs.Places.{of_name}
 
 module _ {S : Type 0} (c h : ℕ) where

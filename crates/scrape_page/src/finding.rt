@@ -1,7 +1,8 @@
 //! Children are found, whichever board they are on.
-ghost use Rattle.std.specs.Prelude.{◌≡◌, ◌<◌, length, All, MatchOption, ⊤};
+ghost use Rattle.std.specs.Prelude.{◌≡◌, ◌<◌, length, All, IfSome, MatchOption, ⊤};
 ghost use Rattle.std.specs.List.{Any};
 ghost use Rattle.registry_state.specs.Replay.{IsNew};
+ghost use Rattle.registry_state.specs.Calls.{IsInside};
 ghost use Rattle.scrape_page.specs.Places.{HasPart};
 ghost use Rattle.scrape_page.specs.Calls.{IsFoundAt};
 
@@ -19,8 +20,9 @@ pub(crate) fn find_child<
     const G: usize,
 >(boards: &[RegistryState<S, N, C, H, G>], parts: &[Part], values: &[LabelValue]) -> Option<Handle>
     requires { All (λ part. HasPart boards.now part (λ _ _. ⊤)) parts.now }
-    ensures { MatchOption result (All (λ part. HasPart boards.now part (λ _ family. IsNew family values.now)) parts.now)
+    ensures found { MatchOption result (All (λ part. HasPart boards.now part (λ _ family. IsNew family values.now)) parts.now)
         (λ handle. Any (IsFoundAt boards.now values.now handle) parts.now) }
+    ensures inside { IfSome result (IsInside C H G) }
 {
     for part in parts {
         if let Some(handle) = boards[part.board].find(part.family, values) {

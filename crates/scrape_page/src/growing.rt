@@ -19,6 +19,7 @@ impl<S: Source<N, C, H, G>, const N: usize, const C: usize, const H: usize, cons
     G,
 > {
     ghost use Rattle.std.specs.Prelude.{◌≡◌, ◌<◌, slice_get, All, Contains, IfErr, IfOk, IsSomeAnd, OnErr};
+    ghost use Rattle.registry_state.specs.Calls.{IsInside};
     ghost use Rattle.scrape_page.specs.Rooms.{HasRoom, IsFullPart};
     ghost use Rattle.scrape_page.specs.Faults.{IsMissing, IsPageChildFault};
     ghost use Rattle.scrape_page.specs.Calls.{AddsPart, AddsChild, WasMadeFurther, LeavesPage};
@@ -34,6 +35,7 @@ impl<S: Source<N, C, H, G>, const N: usize, const C: usize, const H: usize, cons
             × (it.children < 256) × Contains it.parts part
             × IsSomeAnd (slice_get self.old.boards part.board) (HasRoom C H G it.desc.kind)) }
         ensures made { IfOk result (AddsChild C H G self.old self.new number part values.now) }
+        ensures inside { IfOk result (IsInside C H G) }
         ensures unchanged { OnErr result (self.new ≡ self.old) }
     {
         // A look at the boards tells the proof how large one is.
@@ -67,8 +69,9 @@ impl<S: Source<N, C, H, G>, const N: usize, const C: usize, const H: usize, cons
         requires { IsSomeAnd (slice_get self.old.families number) (λ it. IsMissing self.old.boards it values.now
             × (it.children < 256) × (kind ≡ it.desc.kind) × All (IsFullPart C H G it.desc.kind self.old.boards) it.parts) }
         ensures made { IfOk result (WasMadeFurther C H G self.old self.new number values.now) }
+        ensures inside { IfOk result (IsInside C H G) }
         ensures fault { IfErr result (IsPageChildFault C H G self.old number values.now) }
-        ensures leaves { IfErr result (LeavesPage self.old self.new number) }
+        ensures leaves { IfErr result (LeavesPage C H G self.old self.new number) }
     {
         let room = roomiest(&self.boards, kind);
         if room.free == 0 {

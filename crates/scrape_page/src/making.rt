@@ -2,6 +2,7 @@
 ghost use Rattle.std.specs.Prelude.{◌≡◌, ◌<◌, length, slice_get, IsSomeAnd, OnErr, OnOk, IfOk};
 ghost use Rattle.registry_state.specs.Replay.{IsApart};
 ghost use Rattle.registry_state.specs.Faults.{HasSlot, IsMissingChild};
+ghost use Rattle.registry_state.specs.Calls.{IsInside};
 ghost use Rattle.scrape_page.specs.Places.{HasPart};
 ghost use Rattle.scrape_page.specs.Calls.{AddsPart, IsMadeOn};
 
@@ -63,6 +64,7 @@ pub(crate) fn make_on<
     requires { HasPart boards.old.items part (λ board it. IsMissingChild it values.now
         × HasSlot C H G board.state.families it.desc.kind) }
     ensures made { IfOk result (IsMadeOn C H G boards.old.items boards.new.items part values.now) }
+    ensures inside { IfOk result (IsInside C H G) }
     ensures unchanged { OnErr result (boards.new.items ≡ boards.old.items) }
 {
     match boards[part.board].child(part.family, values) {

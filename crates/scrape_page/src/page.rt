@@ -89,6 +89,7 @@ impl<S: Source<N, C, H, G>, const N: usize, const C: usize, const H: usize, cons
 > {
     ghost use Rattle.std.specs.Prelude.{◌≡◌, ◌≢◌, ◌<◌, ◌++◌, ◌∷◌, [], length, slice_get, All, IfErr, IfOk, IfSome, IsSomeAnd, MatchOption};
     ghost use Rattle.std.specs.Prelude.{ℕ, OnErr, OnOk};
+    ghost use Rattle.registry_state.specs.Calls.{IsInside};
     ghost use Rattle.scrape_page.specs.Kept.{IsPage};
     ghost use Rattle.scrape_page.specs.Rooms.{IsHome};
     ghost use Rattle.scrape_page.specs.Faults.{AreApart, IsFresh, IsBoardFault, IsPageFamilyFault, IsPageChildFault};
@@ -170,8 +171,8 @@ impl<S: Source<N, C, H, G>, const N: usize, const C: usize, const H: usize, cons
     }
 
     /// Registers a family of this descriptor, without children, in a group. It is on the board of its group: what is in one group is of one
-    /// moment as long as it is on that board. A new group is on the board with most free slots of the kind. Families are numbered from 0, in
-    /// the order of their registration.
+    /// moment as long as it is on that board. A new group is on the board with most free slots of the kind; of several such, on the one
+    /// with fewest families, of several the first. Families are numbered from 0, in the order of their registration.
     ///
     /// # Errors
     ///
@@ -211,7 +212,8 @@ impl<S: Source<N, C, H, G>, const N: usize, const C: usize, const H: usize, cons
     }
 
     /// The handle of the child of these label values, whichever board it is on; a recorder of another board refuses it (16). Where there is none,
-    /// it is made: on the first board of the family's that has a free slot; or else the family takes a part on the board with most free slots.
+    /// it is made: on the first board of the family's that has a free slot; or else the family takes a part on the board where a new
+    /// group would be.
     ///
     /// # Errors
     ///
@@ -225,8 +227,9 @@ impl<S: Source<N, C, H, G>, const N: usize, const C: usize, const H: usize, cons
         values: &[LabelValue],
     ) -> Result<Handle, PageChildFault>
         ensures given { IfOk result (IsGivenOnPage C H G self.old self.new family.number values.now) }
+        ensures inside { IfOk result (IsInside C H G) }
         ensures fault { IfErr result (IsPageChildFault C H G self.old family.number values.now) }
-        ensures leaves { IfErr result (LeavesPage self.old self.new family.number) }
+        ensures leaves { IfErr result (LeavesPage C H G self.old self.new family.number) }
     {
         let number = family.number;
         let Some(it) = self.families.get(number) else {

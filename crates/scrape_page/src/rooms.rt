@@ -1,5 +1,5 @@
 //! Which board has room.
-ghost use Rattle.std.specs.Prelude.{◌≡◌, ◌<◌, length, slice_get, IsSomeAnd, All, MatchOption};
+ghost use Rattle.std.specs.Prelude.{◌≡◌, ◌<◌, ◌⊎◌, ◌↔◌, length, slice_get, IsSomeAnd, All, IsTrue, MatchOption};
 ghost use Rattle.scrape_page.specs.Rooms.{IsRoomiest, AreFull, IsFirstWithRoom, IsFullPart};
 
 use crate::family::Part;
@@ -7,14 +7,24 @@ use metric_desc::Kind;
 use registry_state::RegistryState;
 use snapshot_scan::Source;
 
-/// A board, and how many of its slots of a kind are free.
+/// A board, how many of its slots of a kind are free, and how many families it has.
 #[derive(Clone, Copy)]
 pub(crate) struct Room {
     pub(crate) board: usize,
     pub(crate) free: usize,
+    pub(crate) families: usize,
 }
 
-/// The board with most free slots of a kind, of several the first.
+impl Room {
+    /// Whether it has more free slots than the other, or as many and fewer families.
+    fn beats(self, other: Room) -> bool
+        ensures { IsTrue result ↔ ((other.free < self.free) ⊎ ((self.free ≡ other.free) × (self.families < other.families))) }
+    {
+        self.free > other.free || (self.free == other.free && self.families < other.families)
+    }
+}
+
+/// The board with most free slots of a kind, of several the one with fewest families, of several the first.
 pub(crate) fn roomiest<
     S: Source<N, C, H, G>,
     const N: usize,
@@ -26,14 +36,20 @@ pub(crate) fn roomiest<
     ensures roomiest { IsRoomiest C H G kind boards.now result.board result.free }
     ensures full { result.free ≡ 0 → AreFull C H G kind boards.now }
 {
+    let first = &boards[0];
     let mut best = Room {
         board: 0,
-        free: boards[0].free_slots(kind),
+        free: first.free_slots(kind),
+        families: first.family_count(),
     };
     for (board, other) in boards.iter().enumerate() {
-        let free = other.free_slots(kind);
-        if free > best.free {
-            best = Room { board, free };
+        let room = Room {
+            board,
+            free: other.free_slots(kind),
+            families: other.family_count(),
+        };
+        if room.beats(best) {
+            best = room;
         }
     }
     best

@@ -15,10 +15,10 @@ loop-part-preserved g c =
     let lt : c.loop-part.part-index < length c.args.parts.now = c.loop-part-test.true in
     All-more P c.args.parts.now c.loop-part.part-index (part_at 0 0) lt c.loop-part.invariant
     (part_new c.args.boards.now (get_or c.args.parts.now c.loop-part.part-index (part_at 0 0)) c.index-boards-part.result
-    (c.requires c.loop-part.part-index (part_at 0 0) lt) c.index-boards-part.is c.args.values.now c.in_default.ensures)
+    (c.requires c.loop-part.part-index (part_at 0 0) lt) c.index-boards-part.is c.args.values.now c.in_default.ensures.found)
 
-pub returns : goal.returns
-returns g c =
+pub returns-clause-found : goal.returns-clause-found
+returns-clause-found g c =
     subst (All (λ (part : Part). HasPart c.args.boards.now part
     (λ (board : RegistryView g.row.S.Denot) (family : Family). IsNew family c.args.values.now)))
     (take_all _ _ c.loop-part-test.false) c.loop-part.invariant

@@ -1,6 +1,5 @@
-use Rattle.std.proofs.Common.{◌≡◌, ◌<◌, ℕ, List, [], ◌∷◌, ◌++◌, length, sym, ap, subst, ◌∙◌, arith, rules}
+use Rattle.std.proofs.Common.{◌≡◌, ◌<◌, List, [], ◌∷◌, ◌++◌, length, sym, ap, subst, ◌∙◌, rules}
 use Rattle.registry_state.specs.Kept.{RegistryView}
-use Rattle.scrape_page.specs.Families.{PageFamily, PageView}
 use Rattle.scrape_page.specs.Faults.{IsFresh}
 use Rattle.scrape_page.specs.Kept.{IsHeldPage}
 use Rattle.scrape_page.proofs.Boarded.{held_board}

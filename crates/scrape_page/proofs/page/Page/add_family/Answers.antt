@@ -1,16 +1,11 @@
-use Rattle.std.proofs.Common.{◌≡◌, ◌≢◌, ◌<◌, ◌≤◌, ℕ, List, Some, Ok, Err, Result, length, map, slice_get, IsSomeAnd, All, OnOk, OnErr, ap, ap₂, sym, subst, ◌∙◌, arith, rules}
+use Rattle.std.proofs.Common.{◌≡◌, ◌≢◌, ◌<◌, ◌≤◌, ℕ, List, length, map, All, ap, sym, subst, ◌∙◌}
 use Rattle.std.proofs.lemmas.List.Elements.{All-weaker}
-use Rattle.std.proofs.lemmas.Option.{slice_get-get_or}
 use Rattle.metric_desc.specs.Desc.{Clash}
 use Rattle.registry_state.specs.Kept.{RegistryView}
-use Rattle.registry_state.specs.Replay.{IsApart}
 use Rattle.registry_state.specs.Held.{IsPlaceOfName}
-use Rattle.registry_state.proofs.Making.{at_some}
 use Rattle.scrape_page.specs.Families.{PageFamily, PageView, as_family}
 use Rattle.scrape_page.specs.Faults.{AreApart}
 use Rattle.scrape_page.specs.Rooms.{IsHome}
-use Rattle.scrape_page.specs.Calls.{AddsFamily}
-use Rattle.scrape_page.specs.Kept.{IsHeldPage}
 use Rattle.scrape_page.proofs.Counted.{fits_at}
 use Rattle.scrape_page.proofs.Facts.{one_fits, names_apart}
 use Rattle.scrape_page.proofs.Registered.{held_either}

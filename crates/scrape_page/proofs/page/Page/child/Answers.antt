@@ -1,9 +1,8 @@
-use Rattle.std.proofs.Common.{◌≡◌, ◌≢◌, ◌<◌, ◌≤◌, ℕ, List, Some, length, slice_get, get_or, IsSomeAnd, All, Contains, refl, sym, ap, subst, ◌∙◌, inl, inr, arith, rules}
+use Rattle.std.proofs.Common.{◌≡◌, ◌<◌, ◌≤◌, List, Some, length, slice_get, get_or, IsSomeAnd, All, Contains, refl, sym, ap, subst, ◌∙◌, inl, inr, arith, rules}
 use Rattle.std.specs.Prelude.{⊤}
 use Rattle.std.specs.List.{Any}
 use Rattle.std.proofs.lemmas.Option.{slice_get_read}
 use Rattle.metric_desc.specs.Desc.{Descriptor}
-use Rattle.metric_desc.specs.declared.kind.Kind.{Kind}
 use Rattle.registry_state.specs.Replay.{Family, IsNew}
 use Rattle.registry_state.specs.Kept.{RegistryView}
 use Rattle.registry_state.proofs.Making.{some_at, some_within}
@@ -12,7 +11,7 @@ use Rattle.scrape_page.specs.Families.{PageFamily, PageView}
 use Rattle.scrape_page.specs.Places.{HasPart}
 use Rattle.scrape_page.specs.Rooms.{HasRoom, IsFirstWithRoom, IsFullPart}
 use Rattle.scrape_page.specs.Faults.{IsMissing}
-use Rattle.scrape_page.specs.Calls.{IsFoundAt, IsGivenOnPage}
+use Rattle.scrape_page.specs.Calls.{IsFoundAt}
 use Rattle.scrape_page.specs.Kept.{IsHeldPage}
 use Rattle.scrape_page.proofs.Asked.{parts_hold, parts_within, is_missing, first_at, any_at, contains_at}
 use Rattle.scrape_page.proofs.Facts.{one_fits}
@@ -50,7 +49,7 @@ returns-in-Some-find_child-clause-given g c =
     let found : Any (IsFoundAt page.boards c.args.values.now handle) it.parts =
     subst (λ (l : List Part). Any (IsFoundAt page.boards c.args.values.now handle) l) (c.deref-4.ensures.value ∙ sym parts)
     (subst (λ (bs : List (RegistryView g.row.S.Denot)). Any (IsFoundAt bs c.args.values.now handle) c.deref-4.result.now)
-    c.deref-3.ensures.value c.in-Some-find_child.ensures) in
+    c.deref-3.ensures.value c.in-Some-find_child.ensures.found) in
     inl (record {
       found = subst (λ (p : PageView g.row.S.Denot). IsSomeAnd (slice_get p.families c.args.family.number)
           (λ (family : PageFamily). Any (IsFoundAt p.boards c.args.values.now handle) family.parts)) c.self.view_is
@@ -75,7 +74,7 @@ returns-then-it-ge-MAX_CHILDREN-clause-fault g c =
     subst (λ (l : List Part). All (λ part. HasPart page.boards part (λ _ (family : Family). IsNew family c.args.values.now)) l)
     (c.deref-4.ensures.value ∙ sym parts)
     (subst (λ (bs : List (RegistryView g.row.S.Denot)). All (λ part. HasPart bs part (λ _ (family : Family). IsNew family c.args.values.now))
-    c.deref-4.result.now) c.deref-3.ensures.value c.in_default-find_child.ensures) in
+    c.deref-4.result.now) c.deref-3.ensures.value c.in_default-find_child.ensures.found) in
     let lost : IsMissing page.boards it c.args.values.now =
     is_missing page c.self.inside.order.items held c.args.family.number it there c.args.values.now fit new in
     let children : c.it.inside.children ≡ it.children = ap (λ (f : PageFamily). f.children) c.it.view_is in
@@ -125,7 +124,7 @@ make_there-requires g c =
     subst (λ (l : List Part). All (λ part. HasPart page.boards part (λ _ (family : Family). IsNew family c.args.values.now)) l)
     (c.deref-4.ensures.value ∙ sym parts)
     (subst (λ (bs : List (RegistryView g.row.S.Denot)). All (λ part. HasPart bs part (λ _ (family : Family). IsNew family c.args.values.now))
-    c.deref-4.result.now) c.deref-3.ensures.value c.in_default-find_child.ensures) in
+    c.deref-4.result.now) c.deref-3.ensures.value c.in_default-find_child.ensures.found) in
     let lost : IsMissing page.boards it c.args.values.now =
     is_missing page c.self.inside.order.items held c.args.family.number it there c.args.values.now fit new in
     let children : c.it.inside.children ≡ it.children = ap (λ (f : PageFamily). f.children) c.it.view_is in
@@ -168,7 +167,7 @@ make_further-requires g c =
     subst (λ (l : List Part). All (λ part. HasPart page.boards part (λ _ (family : Family). IsNew family c.args.values.now)) l)
     (c.deref-4.ensures.value ∙ sym parts)
     (subst (λ (bs : List (RegistryView g.row.S.Denot)). All (λ part. HasPart bs part (λ _ (family : Family). IsNew family c.args.values.now))
-    c.deref-4.result.now) c.deref-3.ensures.value c.in_default-find_child.ensures) in
+    c.deref-4.result.now) c.deref-3.ensures.value c.in_default-find_child.ensures.found) in
     let lost : IsMissing page.boards it c.args.values.now =
     is_missing page c.self.inside.order.items held c.args.family.number it there c.args.values.now fit new in
     let children : c.it.inside.children ≡ it.children = ap (λ (f : PageFamily). f.children) c.it.view_is in
@@ -207,7 +206,7 @@ returns-in-Ok-clause-given g c =
     subst (λ (l : List Part). All (λ part. HasPart page.boards part (λ _ (family : Family). IsNew family c.args.values.now)) l)
     (c.deref-4.ensures.value ∙ sym parts)
     (subst (λ (bs : List (RegistryView g.row.S.Denot)). All (λ part. HasPart bs part (λ _ (family : Family). IsNew family c.args.values.now))
-    c.deref-4.result.now) c.deref-3.ensures.value c.in_default-find_child.ensures) in
+    c.deref-4.result.now) c.deref-3.ensures.value c.in_default-find_child.ensures.found) in
     let lost : IsMissing page.boards it c.args.values.now =
     is_missing page c.self.inside.order.items held c.args.family.number it there c.args.values.now fit new in
     let children : c.it.inside.children ≡ it.children = ap (λ (f : PageFamily). f.children) c.it.view_is in
@@ -229,12 +228,12 @@ returns-in-Ok-clause-given g c =
       place = c.in-Some-first_with_room.place;
       part = part;
       missing = subst (λ (p : PageView g.row.S.Denot). IsSomeAnd (slice_get p.families c.args.family.number)
-          (λ (family : PageFamily). IsMissing p.boards family c.args.values.now
+          (λ (family : PageFamily). IsMissing p.boards family c.args.values.now × (family.children < 256)
           × IsFirstWithRoom g.row.C g.row.H g.row.G family.desc.kind p.boards family.parts c.in-Some-first_with_room.place part))
           c.self.view_is
-          (some_at (λ (family : PageFamily). IsMissing page.boards family c.args.values.now
+          (some_at (λ (family : PageFamily). IsMissing page.boards family c.args.values.now × (family.children < 256)
           × IsFirstWithRoom g.row.C g.row.H g.row.G family.desc.kind page.boards family.parts c.in-Some-first_with_room.place part)
-          page.families c.args.family.number it there (lost, first));
+          page.families c.args.family.number it there (lost, few, first));
       made = c.in-Ok.ensures.made;
     }))
 
@@ -254,7 +253,7 @@ returns-in-Err-clause-fault g c =
     subst (λ (l : List Part). All (λ part. HasPart page.boards part (λ _ (family : Family). IsNew family c.args.values.now)) l)
     (c.deref-4.ensures.value ∙ sym parts)
     (subst (λ (bs : List (RegistryView g.row.S.Denot)). All (λ part. HasPart bs part (λ _ (family : Family). IsNew family c.args.values.now))
-    c.deref-4.result.now) c.deref-3.ensures.value c.in_default-find_child.ensures) in
+    c.deref-4.result.now) c.deref-3.ensures.value c.in_default-find_child.ensures.found) in
     let lost : IsMissing page.boards it c.args.values.now =
     is_missing page c.self.inside.order.items held c.args.family.number it there c.args.values.now fit new in
     let children : c.it.inside.children ≡ it.children = ap (λ (f : PageFamily). f.children) c.it.view_is in

@@ -1,4 +1,4 @@
-use Rattle.std.proofs.Common.{◌≡◌, ◌≢◌, ◌<◌, ℕ, List, length, All, sym, ap, subst, ◌∙◌, inl, inr}
+use Rattle.std.proofs.Common.{◌≡◌, ◌≢◌, ◌<◌, List, length, All, sym, subst, inl, inr}
 use Rattle.std.specs.List.{Any}
 use Rattle.registry_state.specs.Kept.{RegistryView}
 use Rattle.scrape_page.specs.Families.{PageFamily, PageView}

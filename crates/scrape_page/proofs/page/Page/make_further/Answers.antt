@@ -1,9 +1,10 @@
-use Rattle.std.proofs.Common.{◌≡◌, ◌<◌, List, length, ap, subst, sym, ◌∙◌, arith}
+use Rattle.std.proofs.Common.{◌≡◌, ◌<◌, List, length, ap, subst, sym, ◌∙◌, inr, arith}
 use Rattle.registry_state.specs.Kept.{RegistryView}
 use Rattle.scrape_page.specs.Families.{PageView}
 use Rattle.scrape_page.specs.Rooms.{AreFull, IsRoomiest}
+use Rattle.scrape_page.specs.Calls.{TakesPart}
 use Rattle.scrape_page.proofs.Facts.{one_fits}
-use Rattle.scrape_page.proofs.Further.{is_full, may_take, is_no_memory, may_grow, made_further}
+use Rattle.scrape_page.proofs.Further.{is_full, may_take, is_no_memory, may_grow, takes_part, made_further}
 use Rattle.scrape_page.proofs.page.Page.make_further.Goals as goal
 
 pub roomiest-room-requires : goal.roomiest-room-requires
@@ -76,3 +77,19 @@ returns-in-Err-clause-fault g c =
     c.roomiest-room.result.free
     (subst (λ (l : List (RegistryView g.row.S.Denot)). IsRoomiest C H G c.args.kind l c.roomiest-room.result.board
     c.roomiest-room.result.free) boards c.roomiest-room.ensures.roomiest) (omega arith)
+
+pub returns-in-Err-clause-leaves : goal.returns-in-Err-clause-leaves
+returns-in-Err-clause-leaves g c =
+    let C = g.row.C in let H = g.row.H in let G = g.row.G in
+    let boards : c.deref.result.now ≡ c.args.self.now.boards =
+    c.deref.ensures.value ∙ ap (λ (p : PageView g.row.S.Denot). p.boards) c.self.view_is in
+    inr (
+      c.in-Ok.part,
+      subst (λ (p : PageView g.row.S.Denot). TakesPart C H G c.args.self.now p c.args.number c.in-Ok.part)
+          (sym c.in-Err.ensures.unchanged)
+          (takes_part C H G c.args.self.now c.args.number c.args.kind c.args.values.now c.requires c.roomiest-room.result.board
+          c.roomiest-room.result.free
+          (subst (λ (l : List (RegistryView g.row.S.Denot)). IsRoomiest C H G c.args.kind l c.roomiest-room.result.board
+          c.roomiest-room.result.free) boards c.roomiest-room.ensures.roomiest) (omega arith)
+          c.add_part.new.self c.in-Ok.part c.in-Ok.ensures.taken c.in-Ok.ensures.place),
+    )
