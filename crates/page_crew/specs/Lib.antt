@@ -3,3 +3,5 @@ pub mod Counting
 pub mod Held
 pub mod Opened
 pub mod Rings
+pub mod Boards
+pub mod Owned

@@ -1,6 +1,7 @@
 //! A board is made, with its registry and a recorder for each of its workers.
-ghost use Rattle.std.specs.Prelude.{◌≡◌, map, All, IfErr, IfOk};
+ghost use Rattle.std.specs.Prelude.{◌≡◌, map, All, IfErr, IfOk, OnOk};
 ghost use Rattle.std.specs.Arc.{arc_value};
+ghost use Rattle.register_rule.specs.Faults.{IsBoardSize};
 ghost use Rattle.registry_state.specs.Faults.{IsWindow};
 ghost use Rattle.snapshot_update.specs.Workers.{IsWorkerOf};
 ghost use Rattle.page_crew.specs.Shared.{board_in, worker_in};
@@ -46,6 +47,7 @@ pub(crate) fn new_board<const N: usize, const C: usize, const H: usize, const G:
 ) -> Result<NewBoard<N, C, H, G>, NoBoard>
     requires { IsWindow window }
     ensures new { IfOk result (λ made. IsNewBoard id window made.registry made.recorders.items) }
+    ensures size { OnOk result (IsBoardSize N C H G 1) }
     ensures fault { IfErr result (IsNoBoard N C H G 0) }
 {
     let crew = match Crew::new(alloc, id, 1) {
