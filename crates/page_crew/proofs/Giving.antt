@@ -19,6 +19,7 @@ drop_step {A} (y ∷ xs) zero x rest is = (ap first is, sym (ap tail_of is))
     first : List A → Option A
     first [] = None
     first (z ∷ zs) = Some z
+
     tail_of : List A → List A
     tail_of [] = []
     tail_of (z ∷ zs) = zs

@@ -12,9 +12,11 @@ push_reserved-requires g c =
     let rest = into_iter_items c.loop-recorder.recorder-iterator in
     let kept = ring_kept c.loop-recorder.place c.args.rings.now c.loop-recorder.rings rest c.args.recorders.items c.loop-recorder.invariant
     c.requires.many c.in-Some.recorder (into_iter_items c.next.new.self) c.in-Some.ensures.steps.0 c.index-rings-place.result
-    c.index-rings-place.is in
-    (subst (λ (p : R). 0 < known_free p) c.index-rings-place.is
-    (all_there (λ (p : R). 0 < known_free p) c.args.rings.now c.loop-recorder.place c.index-rings-place.result kept c.requires.room), tt)
+    c.index-rings-place.is in (
+      subst (λ (p : R). 0 < known_free p) c.index-rings-place.is
+          (all_there (λ (p : R). 0 < known_free p) c.args.rings.now c.loop-recorder.place c.index-rings-place.result kept c.requires.room),
+      tt,
+    )
 
 pub loop-recorder-preserved : goal.loop-recorder-preserved
 loop-recorder-preserved g c =

@@ -51,8 +51,11 @@ loop-more-preserved g c =
     let longer = length_push now c.in-Ok.recorder in
     let after = ap length c.push_reserved.ensures.items in
     record {
-      came = (came.0 ++ c.in-Ok.recorder ∷ [], c.push_reserved.ensures.items ∙ ap (λ l. l ++ c.in-Ok.recorder ∷ []) came.1
-          ∙ append_assoc old came.0 (c.in-Ok.recorder ∷ []));
+      came = (
+        came.0 ++ c.in-Ok.recorder ∷ [],
+        c.push_reserved.ensures.items ∙ ap (λ l. l ++ c.in-Ok.recorder ∷ []) came.1
+            ∙ append_assoc old came.0 (c.in-Ok.recorder ∷ []),
+      );
       first_is = c.loop-more.invariant.first_is;
       few = omega (arith, few, longer, after);
     }
