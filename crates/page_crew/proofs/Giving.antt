@@ -5,7 +5,7 @@ use Rattle.std.proofs.Math.ListN.{length-set}
 use Rattle.std.proofs.lemmas.Option.{slice_get_read, slice_get_within, slice_get-get_or}
 use Rattle.ledger_core.proofs.Placing.{at_set}
 use Rattle.registry_state.proofs.Lists.{cases_order}
-use Rattle.rtrb.specs.Ring.{known_free}
+use Rattle.rtrb.specs.Ring.{sent, known_free}
 use Rattle.page_crew.specs.Rings.{Ring, IsGiven, AreGiven}
 use Rattle.page_crew.specs.declared.shared_recorder.SharedRecorder.{SharedRecorder}
 
@@ -92,3 +92,15 @@ module _ {N C H G : ℕ} (place : ℕ) (old new : List (Ring N C H G)) (rest rec
         given = λ k p q r old_at new_at at.
             let within = slice_get_within recorders k r at in giving.given k p q r (omega (arith, end, within)) old_at new_at at;
       }
+
+-- rings to which nothing was given have each been given its recorder alone
+pub first_given : {N C H G : ℕ} (old new : List (Ring N C H G)) (recorders : List (SharedRecorder N C H G)) → AreGiven old new recorders
+    → All (λ (p : Ring N C H G). (sent p ≡ []) × (known_free p ≡ 96)) old
+    → (k : ℕ) (p : Ring N C H G) (r : SharedRecorder N C H G) → slice_get new k ≡ Some p → slice_get recorders k ≡ Some r
+    → sent p ≡ r ∷ []
+first_given {N} {C} {H} {G} old new recorders given empty k p r new_at at =
+    let within = slice_get_within new k p new_at in
+    let many = given.many in
+    let in_old : k < length old = omega (arith, within, many) in
+    (given.given k (get_or old k p) p r (slice_get-get_or old k p in_old) new_at at).0
+    ∙ ap (λ (l : List (SharedRecorder N C H G)). l ++ r ∷ []) (empty k p in_old).0

@@ -4,7 +4,9 @@ use Rattle.std.specs.declared.alloc.Global.{Global}
 use Rattle.rtrb.specs.Ring.{sent, known_free}
 use Rattle.rtrb.specs.declared.producer.Producer.{Producer}
 use Rattle.rtrb.specs.declared.AnyItems.{AnyItems}
+use Rattle.page_crew.specs.declared.page_recorder.PageRecorder.{PageRecorder}
 use Rattle.page_crew.specs.declared.shared_recorder.SharedRecorder.{SharedRecorder}
+use Rattle.page_crew.specs.Held.{HasNone}
 
 -- the owner's end of a ring
 abbrev pub Ring : (N C H G : ℕ) → Type 0
@@ -25,3 +27,10 @@ module _ {N C H G : ℕ} where
   -- there is room in each ring for the recorders of all boards that may still come to a page of so many
   abbrev pub HaveRoom : (boards : ℕ) → List (Ring N C H G) → Type 0
   HaveRoom boards rings = All (λ (p : Ring N C H G). 96 ≤ known_free p + boards) rings
+
+  -- N rings with room for 96 each, to which nothing was given, and N recorders of a page whose first board has this id, which know no board
+  pub record AreOpen (first : ℕ) (rings : List (Ring N C H G)) (recorders : List (PageRecorder N C H G)) : Type 0 where
+    pub rings_many : length rings ≡ N
+    pub recorders_many : length recorders ≡ N
+    pub empty : All (λ (p : Ring N C H G). (sent p ≡ []) × (known_free p ≡ 96)) rings
+    pub none : All (HasNone first) recorders

@@ -31,3 +31,28 @@ impl NoBoard {
         }
     }
 }
+
+/// Why there is no page with those who work on it.
+#[derive(Clone, Copy, Debug, PartialEq, Eq, Error)]
+pub enum CrewsFault {
+    /// Refusal 31: the window is not 1 to 1,024.
+    #[error("the window is not 1 to 1024")]
+    BadWindow,
+    /// The first board is not made: refusal 13 or 6.
+    #[error("the first board is not made: {0}")]
+    Board(NoBoard),
+}
+
+impl CrewsFault {
+    ghost use Rattle.page_crew.specs.Opened.{crews_fault_number};
+
+    /// The refusal's number.
+    pub fn number(&self) -> u8
+        ensures { result ≡ crews_fault_number self.now }
+    {
+        match self {
+            CrewsFault::BadWindow => 31,
+            CrewsFault::Board(why) => why.number(),
+        }
+    }
+}

@@ -1,5 +1,5 @@
 //! What a thread counts with on all boards of a page.
-ghost use Rattle.std.specs.Prelude.{◌≡◌, ◌≢◌, ◌+◌, ◌<◌, ◌≤◌, length, slice_get, vec_capacity, All, IfErr, IsSomeAnd, MatchOption, OnOk};
+ghost use Rattle.std.specs.Prelude.{◌≡◌, ◌≢◌, ◌+◌, ◌<◌, ◌≤◌, length, slice_get, vec_capacity, All, IfErr, IfOk, IsSomeAnd, MatchOption, OnOk};
 ghost use Rattle.bucket_math.specs.Bounds.{place_of};
 ghost use Rattle.ledger_core.specs.declared.op.Op.TheVariants.{Inc, Observe, Up, Down};
 ghost use Rattle.page_crew.specs.Shared.{id_in};
@@ -9,6 +9,7 @@ use crate::shared_recorder::SharedRecorder;
 use ledger_core::{Counter, Gauge, Histogram, Op};
 use rtrb::Consumer;
 use snapshot_update::CountFault;
+use std::alloc::{AllocError, Global};
 
 /// The most boards of a page.
 const MOST: usize = 96;
@@ -38,9 +39,29 @@ impl<const N: usize, const C: usize, const H: usize, const G: usize> Drop
 
 impl<const N: usize, const C: usize, const H: usize, const G: usize> PageRecorder<N, C, H, G> {
     ghost use Rattle.std.specs.Prelude.{List, [], ◌∷◌, ◌++◌};
-    ghost use Rattle.page_crew.specs.Held.{recorders_of, first_of};
+    ghost use Rattle.page_crew.specs.Held.{recorders_of, first_of, HasNone};
     ghost use Rattle.page_crew.specs.Counting.{IsPublishedOn, IsRefusedOn};
     ghost use Rattle.page_crew.specs.declared.shared_recorder.SharedRecorder.{SharedRecorder};
+
+    /// That of a page whose first board has this id. It gets its worker of each board by this ring, and its room is made here: for all boards
+    /// that a page can have.
+    ///
+    /// Refusal 6 [`AllocError`], and no other.
+    pub(crate) fn new(
+        alloc: Global,
+        first: u64,
+        more: Consumer<SharedRecorder<N, C, H, G>>,
+    ) -> Result<PageRecorder<N, C, H, G>, AllocError>
+        requires { first + 96 < 18446744073709551616 }
+        ensures { IfOk result (HasNone first) }
+    {
+        let recorders = Vec::with_capacity(alloc, MOST)?;
+        Ok(PageRecorder {
+            first,
+            recorders,
+            more,
+        })
+    }
 
     /// Takes the workers of boards that came since, and answers how many boards it has now.
     pub fn join(&mut self) -> usize

@@ -27,6 +27,7 @@ invariant_of-self g c =
           (id ∙ ap (λ n. old.first + n) (ap length c.boards-number.ensures.boards)));
       low = old.low;
       kept = old.kept;
+      size = old.size;
       count = ap length items ∙ given.many ∙ old.count;
       room = subst (λ (l : List R). HaveRoom (length c.add_board.new.self.boards) l) (sym items)
           (room_left (length boards) (length c.add_board.new.self.boards) old.rings.items c.give.new.rings c.in_ok-registry.field-0.recorders.items
@@ -41,6 +42,7 @@ invariant_of-self-in-Err-1 g c =
       numbered = subst (λ (p : P). AreNumbered old.first p.boards) (sym c.in-Err.ensures.unchanged) old.numbered;
       low = old.low;
       kept = old.kept;
+      size = old.size;
       count = old.count;
       room = subst (λ (p : P). HaveRoom (length p.boards) old.rings.items) (sym c.in-Err.ensures.unchanged) old.room;
     }
