@@ -1,0 +1,106 @@
+-- Recorders that are given to rings, one after the other.
+use Rattle.std.proofs.Common.{◌≡◌, ◌≢◌, ℕ, zero, suc, ◌+◌, ◌<◌, ◌≤◌, List, [], ◌∷◌, ◌++◌, Some, length, slice_get, get_or, set, All, refl, sym, ap, subst, ◌∙◌, arith, inl, inr}
+use Rattle.std.specs.Prelude.{drop, Option, None}
+use Rattle.std.proofs.Math.ListN.{length-set}
+use Rattle.std.proofs.lemmas.Option.{slice_get_read, slice_get_within, slice_get-get_or}
+use Rattle.ledger_core.proofs.Placing.{at_set}
+use Rattle.registry_state.proofs.Lists.{cases_order}
+use Rattle.rtrb.specs.Ring.{sent, known_free}
+use Rattle.page_crew.specs.Rings.{Ring, IsGiven, AreGiven}
+use Rattle.page_crew.specs.declared.shared_recorder.SharedRecorder.{SharedRecorder}
+
+-- the first of what is left, and what is left behind it
+pub drop_step : {A : Type 0} (xs : List A) (n : ℕ) (x : A) (rest : List A) → drop n xs ≡ x ∷ rest
+    → (slice_get xs n ≡ Some x) × (rest ≡ drop (suc n) xs)
+drop_step [] zero x rest is = absurd (let n = ap length is in omega (arith, n))
+drop_step [] (suc n) x rest is = absurd (let n = ap length is in omega (arith, n))
+drop_step {A} (y ∷ xs) zero x rest is = (ap first is, sym (ap tail_of is))
+  where
+    first : List A → Option A
+    first [] = None
+    first (z ∷ zs) = Some z
+
+    tail_of : List A → List A
+    tail_of [] = []
+    tail_of (z ∷ zs) = zs
+drop_step (y ∷ xs) (suc n) x rest is = drop_step xs n x rest is
+
+-- nothing is left
+pub drop_end : {A : Type 0} (xs : List A) (n : ℕ) → length (drop n xs) ≡ 0 → length xs ≤ n
+drop_end [] n none = omega arith
+drop_end (x ∷ xs) zero none = absurd (omega (arith, none))
+drop_end (x ∷ xs) (suc n) none = let le = drop_end xs n none in omega (arith, le)
+
+pub record IsGiving {N C H G : ℕ} (place : ℕ) (old new : List (Ring N C H G)) (rest recorders : List (SharedRecorder N C H G)) : Type 0 where
+  pub many : length new ≡ length old
+  pub left : rest ≡ drop place recorders
+  pub given : (k : ℕ) (p q : Ring N C H G) (r : SharedRecorder N C H G) → k < place → slice_get old k ≡ Some p → slice_get new k ≡ Some q
+      → slice_get recorders k ≡ Some r → IsGiven p q r
+  pub kept : (k : ℕ) (q : Ring N C H G) → place ≤ k → slice_get new k ≡ Some q → slice_get old k ≡ Some q
+
+some_same : {A : Type 0} (o : Option A) (x y : A) → o ≡ Some x → o ≡ Some y → x ≡ y
+some_same {A} o x y a b = ap (value x) (sym a ∙ b)
+  where
+    value : A → Option A → A
+    value d None = d
+    value d (Some z) = z
+
+module _ {N C H G : ℕ} (place : ℕ) (old new : List (Ring N C H G)) (rest recorders : List (SharedRecorder N C H G))
+    (giving : IsGiving place old new rest recorders) (many : length recorders ≡ length old) where
+  module _ (r : SharedRecorder N C H G) (rest' : List (SharedRecorder N C H G)) (next : rest ≡ r ∷ rest') where
+    step : (slice_get recorders place ≡ Some r) × (rest' ≡ drop (suc place) recorders)
+    step = drop_step recorders place r rest' (sym giving.left ∙ next)
+
+    pub place_within : place < length new
+    place_within =
+        let within = slice_get_within recorders place r step.0 in let same = giving.many in omega (arith, within, many, same)
+
+    -- the ring at the place is as it was
+    pub ring_kept : (p : Ring N C H G) → p ≡ get_or new place p → slice_get old place ≡ Some p
+    ring_kept p read = giving.kept place p (omega arith) (slice_get_read new (length new) place p refl place_within read)
+
+    -- it was given the next recorder
+    pub gives : (p q : Ring N C H G) → p ≡ get_or new place p → IsGiven p q r → IsGiving (place + 1) old (set new place q) rest' recorders
+    gives p q read given = record {
+      many = length-set new place q ∙ giving.many;
+      left = let next_place : suc place ≡ place + 1 = omega arith in subst (λ n. rest' ≡ drop n recorders) next_place step.1;
+      given = λ k a b s within old_at new_at at. elim (at_set new place q k b new_at) [
+        | inl here ↦
+            let a_is : p ≡ a = some_same (slice_get old place) p a (ring_kept p read)
+            (subst (λ n. slice_get old n ≡ Some a) here.0 old_at) in
+            let s_is : r ≡ s = some_same (slice_get recorders place) r s step.0
+            (subst (λ n. slice_get recorders n ≡ Some s) here.0 at) in
+            subst (λ x. IsGiven x b s) a_is (subst (λ x. IsGiven p x s) here.1 (subst (IsGiven p q) s_is given))
+        | inr there ↦ elim (cases_order k place) [
+          | inl before ↦ giving.given k a b s before old_at there.1 at
+          | inr other ↦ elim other [ inl same ↦ absurd (there.0 same) | inr after ↦ absurd (omega (arith, within, after)) ]
+        ]
+      ];
+      kept = λ k b behind new_at. elim (at_set new place q k b new_at) [
+        | inl here ↦ absurd (let at = here.0 in omega (arith, at, behind))
+        | inr there ↦ giving.kept k b (omega (arith, behind)) there.1
+      ];
+    }
+
+  -- all are given
+  pub all_given : length rest ≡ 0 → AreGiven old new recorders
+  all_given none =
+      let end = drop_end recorders place (ap length (sym giving.left) ∙ none) in
+      record {
+        many = giving.many;
+        all = many;
+        given = λ k p q r old_at new_at at.
+            let within = slice_get_within recorders k r at in giving.given k p q r (omega (arith, end, within)) old_at new_at at;
+      }
+
+-- rings to which nothing was given have each been given its recorder alone
+pub first_given : {N C H G : ℕ} (old new : List (Ring N C H G)) (recorders : List (SharedRecorder N C H G)) → AreGiven old new recorders
+    → All (λ (p : Ring N C H G). (sent p ≡ []) × (known_free p ≡ 96)) old
+    → (k : ℕ) (p : Ring N C H G) (r : SharedRecorder N C H G) → slice_get new k ≡ Some p → slice_get recorders k ≡ Some r
+    → sent p ≡ r ∷ []
+first_given {N} {C} {H} {G} old new recorders given empty k p r new_at at =
+    let within = slice_get_within new k p new_at in
+    let many = given.many in
+    let in_old : k < length old = omega (arith, within, many) in
+    (given.given k (get_or old k p) p r (slice_get-get_or old k p in_old) new_at at).0
+    ∙ ap (λ (l : List (SharedRecorder N C H G)). l ++ r ∷ []) (empty k p in_old).0

@@ -1,0 +1,33 @@
+use Rattle.std.proofs.Common.{ap, length, ◌∙◌, subst, sym, refl, arith, ◌<◌}
+use Rattle.std.specs.Vec.Iter.{into_iter_items}
+use Rattle.rtrb.specs.Ring.{known_free}
+use Rattle.page_crew.specs.Rings.{Ring, IsGiven}
+use Rattle.scrape_page.proofs.Facts.{all_there}
+use Rattle.page_crew.proofs.Giving.{IsGiving, place_within, ring_kept, gives, all_given}
+use Rattle.page_crew.proofs.rings.give.Goals as goal
+
+pub push_reserved-requires : goal.push_reserved-requires
+push_reserved-requires g c =
+    let R = Ring g.row.N g.row.C g.row.H g.row.G in
+    let rest = into_iter_items c.loop-recorder.recorder-iterator in
+    let kept = ring_kept c.loop-recorder.place c.args.rings.now c.loop-recorder.rings rest c.args.recorders.items c.loop-recorder.invariant
+    c.requires.many c.in-Some.recorder (into_iter_items c.next.new.self) c.in-Some.ensures.steps.0 c.index-rings-place.result
+    c.index-rings-place.is in (
+      subst (λ (p : R). 0 < known_free p) c.index-rings-place.is
+          (all_there (λ (p : R). 0 < known_free p) c.args.rings.now c.loop-recorder.place c.index-rings-place.result kept c.requires.room),
+      tt,
+    )
+
+pub loop-recorder-preserved : goal.loop-recorder-preserved
+loop-recorder-preserved g c =
+    gives c.loop-recorder.place c.args.rings.now c.loop-recorder.rings (into_iter_items c.loop-recorder.recorder-iterator)
+    c.args.recorders.items c.loop-recorder.invariant c.requires.many c.in-Some.recorder (into_iter_items c.next.new.self)
+    c.in-Some.ensures.steps.0 c.index-rings-place.result c.push_reserved.new.self c.index-rings-place.is
+    (subst (λ (p : Ring g.row.N g.row.C g.row.H g.row.G). IsGiven p c.push_reserved.new.self c.in-Some.recorder) (sym c.index-rings-place.is)
+    c.push_reserved.ensures.sent)
+
+pub returns : goal.returns
+returns g c =
+    all_given c.loop-recorder.place c.args.rings.now c.loop-recorder.rings (into_iter_items c.loop-recorder.recorder-iterator)
+    c.args.recorders.items c.loop-recorder.invariant c.requires.many
+    (sym c.loop-recorder.recorder-iterator.rest.ok.0 ∙ c.in-None.ensures.steps.0)

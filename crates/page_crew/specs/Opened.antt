@@ -1,0 +1,62 @@
+-- Boards that are made for a page, and why one is not.
+use Rattle.std.specs.Prelude.{◌≡◌, ℕ, ◌<◌, ◌≤◌, List, [], map, length, replicate, All}
+use Rattle.std.specs.List.{range_with_len}
+use Rattle.std.specs.Arc.{arc_value}
+use Rattle.ledger_core.specs.declared.op.Op.{Op}
+use Rattle.register_rule.specs.Faults.{IsBoardSize}
+use Rattle.register_rule.specs.Seats.{board_id}
+use Rattle.snapshot_update.specs.Workers.{index_of, lists_of}
+use Rattle.registry_state.specs.Faults.{IsWindow}
+use Rattle.registry_state.specs.Kept.{RegistryView}
+use Rattle.registry_state.specs.Replay.{nothing}
+use Rattle.page_crew.specs.declared.fault.CrewsFault.{CrewsFault}
+use Rattle.page_crew.specs.declared.fault.CrewsFault.TheVariants as Opens
+use Rattle.page_crew.specs.declared.fault.NoBoard.{NoBoard}
+use Rattle.page_crew.specs.declared.fault.NoBoard.TheVariants as No
+use Rattle.page_crew.specs.declared.shared_recorder.SharedRecorder.{SharedRecorder}
+use Rattle.page_crew.specs.declared.shared_scanner.SharedScanner.{SharedScanner}
+use Rattle.page_crew.specs.Shared.{board_in, worker_in}
+
+module _ {N C H G : ℕ} where
+  -- which worker a recorder counts as
+  abbrev pub index_in : SharedRecorder N C H G → ℕ
+  index_in r = index_of (worker_in r)
+
+  -- all lists that it has published
+  abbrev pub lists_in : SharedRecorder N C H G → List (List Op)
+  lists_in r = lists_of (worker_in r)
+
+  -- A registry of this id and window in which nothing was registered and no scrape is kept, over a board of this id; and a recorder of each
+  -- worker of it, in order, that has published nothing
+  pub record IsNewBoard (id window : ℕ) (registry : RegistryView (SharedScanner N C H G)) (recorders : List (SharedRecorder N C H G))
+      : Type 0 where
+    pub id_is : registry.id ≡ id
+    pub window_is : registry.window ≡ window
+    pub journal : registry.journal ≡ []
+    pub state : registry.state ≡ nothing
+    pub board : board_id (arc_value registry.source.board) ≡ id
+    pub boards : All (λ r. board_in r ≡ arc_value registry.source.board) recorders
+    pub workers : map index_in recorders ≡ range_with_len 0 N
+    pub lists : map lists_in recorders ≡ replicate N []
+
+-- why a page of so many boards gets no further one of such a geometry
+abbrev pub IsNoBoard : (n c h g boards : ℕ) → NoBoard → Type 0
+IsNoBoard n c h g boards No.TooManyBoards = 96 ≤ boards
+IsNoBoard n c h g boards No.Geometry = (boards < 96) × ¬ (IsBoardSize n c h g 1)
+IsNoBoard n c h g boards No.NoMemory = (boards < 96) × IsBoardSize n c h g 1
+
+-- the number of each reason
+abbrev pub no_board_number : NoBoard → ℕ
+no_board_number No.TooManyBoards = 44
+no_board_number No.Geometry = 13
+no_board_number No.NoMemory = 6
+
+-- why there is no page of such a geometry that keeps so many scrapes: that many are not kept; or its first board is not made
+abbrev pub IsCrewsFault : (n c h g window : ℕ) → CrewsFault → Type 0
+IsCrewsFault n c h g window Opens.BadWindow = ¬ (IsWindow window)
+IsCrewsFault n c h g window (Opens.Board why) = IsWindow window × IsNoBoard n c h g 0 why
+
+-- the number of each reason
+abbrev pub crews_fault_number : CrewsFault → ℕ
+crews_fault_number Opens.BadWindow = 31
+crews_fault_number (Opens.Board why) = no_board_number why

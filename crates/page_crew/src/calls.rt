@@ -1,0 +1,113 @@
+//! What a page's owner asks of the page.
+ghost use Rattle.std.specs.Prelude.{◌≡◌};
+
+use crate::crews::Crews;
+use crate::fault::NoBoard;
+use crate::shared_scanner::SharedScanner;
+use metric_desc::{Desc, Kind};
+use metric_names::LabelValue;
+use registry_state::Handle;
+use scrape_page::{Page, PageChildFault, PageFamilyFault, PageFamilyId};
+
+impl<const N: usize, const C: usize, const H: usize, const G: usize> Crews<N, C, H, G> {
+    ghost use Rattle.std.specs.Prelude.{◌≡◌, ◌≢◌, ◌<◌, ℕ, length, slice_get, All, IfErr, IfOk, IsSomeAnd, MatchOption, OnErr, OnOk};
+    ghost use Rattle.registry_state.specs.Calls.{IsInside};
+    ghost use Rattle.registry_state.specs.Replay.{slots};
+    ghost use Rattle.scrape_page.specs.Rooms.{IsHome};
+    ghost use Rattle.scrape_page.specs.Faults.{AreApart, IsPageFamilyFault, IsPageChildFault};
+    ghost use Rattle.scrape_page.specs.Calls.{AddsFamily, IsGivenOnPage, LeavesPage};
+    ghost use Rattle.scrape_page.specs.declared.fault.PageChildFault.TheVariants.{Full};
+    ghost use Rattle.page_crew.specs.Owned.{page_of, PageDid, IsUnchanged, IsGivenByCrews, IsGivenFurther, IsRefusedByCrews, IsRefusedFurther};
+
+    /// Registers a family in a group: [`Page::register`].
+    ///
+    /// # Errors
+    ///
+    /// 19 [`PageFamilyFault::Clash`]; 23 [`PageFamilyFault::TooManyFamilies`]; 6 [`PageFamilyFault::NoMemory`]. Nothing has changed then.
+    pub fn register(&mut self, desc: Desc, group: u64) -> Result<PageFamilyId, PageFamilyFault>
+        ensures number { IfOk result (λ family. family.number ≡ length (page_of self.old).families) }
+        ensures accepted { OnOk result (AreApart (page_of self.old).families desc × (length (page_of self.old).families < 128)) }
+        ensures registered { OnOk result (PageDid self.old self.new (λ a b. (home : ℕ) × IsHome C H G a desc.kind group home
+            × AddsFamily a b desc group home)) }
+        ensures fault { IfErr result (IsPageFamilyFault (page_of self.old).families desc) }
+        ensures unchanged { OnErr result (IsUnchanged self.old self.new) }
+    {
+        self.page.register(desc, group)
+    }
+
+    /// The family of this name, if there is one.
+    pub fn family(&self, name: &str) -> Option<PageFamilyId>
+        ensures { MatchOption result (All (λ it. it.desc.name ≢ name.now) (page_of self.now).families)
+            (λ family. IsSomeAnd (slice_get (page_of self.now).families family.number) (λ it. it.desc.name ≡ name.now)) }
+    {
+        self.page.family(name)
+    }
+
+    /// The page.
+    pub fn page(&self) -> &Page<SharedScanner<N, C, H, G>, N, C, H, G>
+        ensures { result.now ≡ page_of self.now }
+    {
+        &self.page
+    }
+
+    // The child of these values, as the page gives it.
+    fn ask(&mut self, family: PageFamilyId, values: &[LabelValue]) -> Result<Handle, PageChildFault>
+        ensures given { IfOk result (λ handle. PageDid self.old self.new
+            (λ a b. IsGivenOnPage C H G a b family.number values.now handle)) }
+        ensures inside { IfOk result (IsInside C H G) }
+        ensures fault { IfErr result (IsPageChildFault C H G (page_of self.old) family.number values.now) }
+        ensures leaves { IfErr result (λ why. PageDid self.old self.new (λ a b. LeavesPage C H G a b family.number why)) }
+    {
+        self.page.child(family, values)
+    }
+
+    // A board is made, where one may come, and the page is asked again.
+    fn ask_further(
+        &mut self,
+        family: PageFamilyId,
+        values: &[LabelValue],
+        kind: Kind,
+    ) -> Result<Handle, PageChildFault>
+        requires full { IsPageChildFault C H G (page_of self.old) family.number values.now (Full kind) }
+        ensures given { IfOk result (IsGivenFurther self.old self.new family.number values.now) }
+        ensures inside { IfOk result (IsInside C H G) }
+        ensures fault { IfErr result (IsRefusedFurther self.old self.new family.number kind) }
+    {
+        let slots = match kind {
+            Kind::Counter => C,
+            Kind::Histogram => H,
+            Kind::Gauge => G,
+        };
+        if slots == 0 {
+            return Err(PageChildFault::Full { kind });
+        }
+        match self.add_board() {
+            Ok(_) => self.ask(family, values),
+            Err(NoBoard::TooManyBoards) => Err(PageChildFault::Full { kind }),
+            Err(NoBoard::NoMemory) => Err(PageChildFault::NoMemory),
+            Err(NoBoard::Geometry) => unreachable!(),
+        }
+    }
+
+    /// The handle of the child of these values, as [`Page::child`] gives it; but where every slot of the kind is used on every board, a
+    /// further board is made, and the child is made on it. Each recorder meets the board at its first call by the handle.
+    ///
+    /// # Errors
+    ///
+    /// 20, 21, 46 and 6 as [`Page::child`]; 22 [`PageChildFault::Full`] only where 96 boards are there, or a board has no slot of the kind at
+    /// all. After 6 there may be one board more, on which nothing is counted, and a part of the family there, which no text shows.
+    pub fn child(
+        &mut self,
+        family: PageFamilyId,
+        values: &[LabelValue],
+    ) -> Result<Handle, PageChildFault>
+        ensures given { IfOk result (IsGivenByCrews self.old self.new family.number values.now) }
+        ensures inside { IfOk result (IsInside C H G) }
+        ensures fault { IfErr result (IsRefusedByCrews self.old self.new family.number values.now) }
+    {
+        match self.ask(family, values) {
+            Err(PageChildFault::Full { kind }) => self.ask_further(family, values, kind),
+            answer => answer,
+        }
+    }
+}

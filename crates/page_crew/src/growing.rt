@@ -1,0 +1,49 @@
+//! A page's owner makes boards.
+ghost use Rattle.std.specs.Prelude.{◌≡◌};
+
+use crate::crews::Crews;
+use crate::fault::NoBoard;
+use crate::opening::{NewBoard, new_board};
+use crate::rings::give;
+use scrape_page::BoardFault;
+
+/// The most boards of a page.
+const MOST: usize = 96;
+
+impl<const N: usize, const C: usize, const H: usize, const G: usize> Crews<N, C, H, G> {
+    ghost use Rattle.std.specs.Prelude.{◌≡◌, length, IfErr, IfOk, OnErr, OnOk};
+    ghost use Rattle.page_crew.specs.Opened.{IsNoBoard};
+    ghost use Rattle.page_crew.specs.Owned.{page_of, IsGrown, IsUnchanged};
+
+    /// Makes a further board, behind those that are there, and gives each recorder its worker of it: it has it from its next call by a
+    /// handle of this board on. Answers the number of the board.
+    ///
+    /// # Errors
+    ///
+    /// 44 [`NoBoard::TooManyBoards`], 96 are there; 13 [`NoBoard::Geometry`]; 6 [`NoBoard::NoMemory`]. Nothing has changed then.
+    pub fn add_board(&mut self) -> Result<usize, NoBoard>
+        ensures number { IfOk result (λ number. number ≡ length (page_of self.old).boards) }
+        ensures grown { OnOk result (IsGrown self.old self.new) }
+        ensures fault { IfErr result (IsNoBoard N C H G (length (page_of self.old).boards)) }
+        ensures unchanged { OnErr result (IsUnchanged self.old self.new) }
+    {
+        let number = self.page.boards().len();
+        if number >= MOST {
+            return Err(NoBoard::TooManyBoards);
+        }
+        let NewBoard {
+            registry,
+            recorders,
+        } = new_board(self.alloc, self.first + number as u64, self.window)?;
+        match self.page.add_board(registry) {
+            Ok(number) => {
+                give(&mut self.rings, recorders);
+                Ok(number)
+            }
+            Err(refused) => match refused.fault {
+                BoardFault::NoMemory => Err(NoBoard::NoMemory),
+                BoardFault::TooManyBoards | BoardFault::NotFresh => unreachable!(),
+            },
+        }
+    }
+}

@@ -1,0 +1,19 @@
+//! All who work on the boards of a page: recorders that count on every board, boards that come when they are needed, and the page behind a lock.
+#![tactic(auto)]
+
+mod calls;
+mod crews;
+mod fault;
+mod growing;
+mod opening;
+mod page_recorder;
+mod rings;
+mod scraping;
+mod shared_recorder;
+mod shared_scanner;
+
+pub use crews::Crews;
+pub use fault::{CrewsFault, NoBoard};
+pub use page_recorder::PageRecorder;
+pub use shared_recorder::SharedRecorder;
+pub use shared_scanner::SharedScanner;
