@@ -1,4 +1,4 @@
-//! All who work on the boards of a page: recorders that count on every board, boards that come when they are needed, and the page behind a lock.
+//! All who work on the boards of a page: recorders that count on every board, and the page with boards that come when they are needed.
 #![tactic(auto)]
 
 mod calls;

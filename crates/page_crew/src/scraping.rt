@@ -22,9 +22,16 @@ impl<const N: usize, const C: usize, const H: usize, const G: usize> Crews<N, C,
 
 impl<const N: usize, const C: usize, const H: usize, const G: usize> MakesScrapes
     for Crews<N, C, H, G> {
+    ghost again = { 0 };
+
     ghost made = { CrewsScrape };
 
     fn scrape(&mut self) -> Result<Scrape, NoScrape> {
         Crews::scrape(self)
+    }
+
+    /// The page asks each board again by itself, and is not asked again.
+    fn again(&self) -> usize {
+        0
     }
 }
