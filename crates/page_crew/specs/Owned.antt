@@ -1,5 +1,5 @@
 -- What contracts see of a page with all who work on its boards, and what its calls do to it.
-use Rattle.std.specs.Prelude.{◌≡◌, ◌≢◌, ℕ, ◌+◌, ◌<◌, ◌≤◌, ◌⊎◌, List, [], ◌∷◌, ◌++◌, Some, Result, length, slice_get, All}
+use Rattle.std.specs.Prelude.{◌≡◌, ◌≢◌, ℕ, ◌+◌, ◌≤◌, ◌⊎◌, List, [], ◌∷◌, ◌++◌, Some, Result, length, slice_get, All}
 use Rattle.metric_desc.specs.declared.kind.Kind.{Kind}
 use Rattle.expo_text.specs.Scraped.{Scraped}
 use Rattle.registry_state.specs.Kept.{RegistryView}

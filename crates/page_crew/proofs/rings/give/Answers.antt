@@ -1,9 +1,9 @@
-use Rattle.std.proofs.Common.{ap, length, ◌∙◌, subst, sym, refl, arith, ◌<◌}
+use Rattle.std.proofs.Common.{◌∙◌, subst, sym, ◌<◌}
 use Rattle.std.specs.Vec.Iter.{into_iter_items}
 use Rattle.rtrb.specs.Ring.{known_free}
 use Rattle.page_crew.specs.Rings.{Ring, IsGiven}
 use Rattle.scrape_page.proofs.Facts.{all_there}
-use Rattle.page_crew.proofs.Giving.{IsGiving, place_within, ring_kept, gives, all_given}
+use Rattle.page_crew.proofs.Giving.{ring_kept, gives, all_given}
 use Rattle.page_crew.proofs.rings.give.Goals as goal
 
 pub push_reserved-requires : goal.push_reserved-requires

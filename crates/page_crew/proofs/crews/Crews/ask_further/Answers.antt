@@ -1,4 +1,4 @@
-use Rattle.std.proofs.Common.{◌≡◌, ℕ, ◌<◌, sym, ap, arith, ◌∙◌}
+use Rattle.std.proofs.Common.{◌≡◌, ◌<◌, sym, ap, arith, ◌∙◌}
 use Rattle.metric_desc.specs.declared.kind.Kind.{Kind}
 use Rattle.registry_state.specs.Replay.{slots}
 use Rattle.page_crew.proofs.Further.{given_further, refused_further}

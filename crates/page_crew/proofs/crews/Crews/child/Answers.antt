@@ -1,9 +1,7 @@
 use Rattle.std.proofs.Common.{subst}
-use Rattle.metric_desc.specs.declared.kind.Kind.{Kind}
 use Rattle.scrape_page.specs.Calls.{LeavesPage}
 use Rattle.scrape_page.specs.Faults.{IsPageChildFault}
 use Rattle.scrape_page.specs.declared.fault.PageChildFault.{PageChildFault}
-use Rattle.scrape_page.specs.declared.fault.PageChildFault.TheVariants.{Full}
 use Rattle.page_crew.specs.Owned.{page_of, PageDid, IsUnchanged}
 use Rattle.page_crew.proofs.Further.{given_then, refused_then}
 use Rattle.page_crew.proofs.crews.Crews.child.Goals as goal

@@ -1,4 +1,4 @@
-use Rattle.std.proofs.Common.{rules, ◌≡◌, ℕ, List, length, set, sym, ap, ◌∙◌, subst, arith, Some, slice_get}
+use Rattle.std.proofs.Common.{◌≡◌, ap, arith}
 use Rattle.std.proofs.Math.ListN.{length-set}
 use Rattle.register_rule.specs.Seats.{board_id}
 use Rattle.page_crew.specs.Shared.{id_in}

@@ -1,7 +1,5 @@
-use Rattle.std.proofs.Common.{rules, ◌≡◌, ℕ, ◌+◌, List, ◌∷◌, ◌++◌, [], length, sym, ap, ◌∙◌, subst, arith, refl, append-nil}
+use Rattle.std.proofs.Common.{◌+◌, ◌∷◌, ◌++◌, [], length, sym, ap, ◌∙◌, subst, arith, refl, append-nil}
 use Rattle.std.proofs.lemmas.List.{length_push, append_assoc}
-use Rattle.page_crew.specs.declared.shared_recorder.SharedRecorder.{SharedRecorder}
-use Rattle.page_crew.specs.Shared.{id_in}
 use Rattle.page_crew.specs.Counting.{AreInRow}
 use Rattle.page_crew.proofs.Rows.{row_more}
 use Rattle.page_crew.proofs.page_recorder.PageRecorder.join.Goals as goal
