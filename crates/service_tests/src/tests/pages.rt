@@ -1,4 +1,5 @@
 //! Several registries, each over a board of its own, as one page.
+mod crews;
 mod limits;
 mod shown;
 mod threads;
