@@ -39,7 +39,7 @@ impl<const N: usize, const C: usize, const H: usize, const G: usize> Drop
 
 impl<const N: usize, const C: usize, const H: usize, const G: usize> PageRecorder<N, C, H, G> {
     ghost use Rattle.std.specs.Prelude.{List, [], ◌∷◌, ◌++◌};
-    ghost use Rattle.page_crew.specs.Held.{recorders_of, first_of, HasNone};
+    ghost use Rattle.page_crew.specs.Held.{recorders_of, first_of, feed_of, HasNone};
     ghost use Rattle.page_crew.specs.Counting.{IsPublishedOn, IsRefusedOn};
     ghost use Rattle.page_crew.specs.declared.shared_recorder.SharedRecorder.{SharedRecorder};
 
@@ -53,7 +53,8 @@ impl<const N: usize, const C: usize, const H: usize, const G: usize> PageRecorde
         more: Consumer<SharedRecorder<N, C, H, G>>,
     ) -> Result<PageRecorder<N, C, H, G>, AllocError>
         requires { first + 96 < 18446744073709551616 }
-        ensures { IfOk result (HasNone first) }
+        ensures none { IfOk result (HasNone first) }
+        ensures feed { IfOk result (λ r. feed_of r ≡ more.entry) }
     {
         let recorders = Vec::with_capacity(alloc, MOST)?;
         Ok(PageRecorder {
