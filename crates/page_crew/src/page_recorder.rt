@@ -39,6 +39,7 @@ impl<const N: usize, const C: usize, const H: usize, const G: usize> Drop
 
 impl<const N: usize, const C: usize, const H: usize, const G: usize> PageRecorder<N, C, H, G> {
     ghost use Rattle.std.specs.Prelude.{List, [], ◌∷◌, ◌++◌};
+    ghost use Rattle.rtrb.specs.Ring.{SameConsumer};
     ghost use Rattle.page_crew.specs.Held.{recorders_of, first_of, feed_of, HasNone};
     ghost use Rattle.page_crew.specs.Counting.{IsPublishedOn, IsRefusedOn};
     ghost use Rattle.page_crew.specs.declared.shared_recorder.SharedRecorder.{SharedRecorder};
@@ -69,6 +70,7 @@ impl<const N: usize, const C: usize, const H: usize, const G: usize> PageRecorde
         ensures count { result ≡ length (recorders_of self.new) }
         ensures joined { (came : List (SharedRecorder N C H G)) × (recorders_of self.new ≡ recorders_of self.old ++ came) }
         ensures first { first_of self.new ≡ first_of self.old }
+        ensures feed { SameConsumer (feed_of self.old) (feed_of self.new) }
     {
         for _more in self.recorders.len()..MOST {
             let Ok(recorder) = self.more.pop() else {
@@ -103,6 +105,7 @@ impl<const N: usize, const C: usize, const H: usize, const G: usize> PageRecorde
         ensures place { MatchOption result (All (λ r. id_in r ≢ id) (recorders_of self.new))
             (λ place. IsSomeAnd (slice_get (recorders_of self.new) place) (λ r. id_in r ≡ id)) }
         ensures first { first_of self.new ≡ first_of self.old }
+        ensures feed { SameConsumer (feed_of self.old) (feed_of self.new) }
     {
         if let Some(place) = self.place_of(id) {
             return Some(place);
@@ -123,6 +126,7 @@ impl<const N: usize, const C: usize, const H: usize, const G: usize> PageRecorde
         ensures published { OnOk result (IsPublishedOn id ops.now (recorders_of self.old) (recorders_of self.new)) }
         ensures fault { IfErr result (IsRefusedOn id ops.now (recorders_of self.old) (recorders_of self.new)) }
         ensures first { first_of self.new ≡ first_of self.old }
+        ensures feed { SameConsumer (feed_of self.old) (feed_of self.new) }
     {
         let Some(place) = self.find(id) else {
             return Err(CountFault::WrongRegistry);
@@ -144,6 +148,7 @@ impl<const N: usize, const C: usize, const H: usize, const G: usize> PageRecorde
         ensures fault { IfErr result (IsRefusedOn counter.now.registry (Inc counter.now.slot by ∷ []) (recorders_of self.old)
             (recorders_of self.new)) }
         ensures first { first_of self.new ≡ first_of self.old }
+        ensures feed { SameConsumer (feed_of self.old) (feed_of self.new) }
     {
         self.apply(
             counter.registry,
@@ -165,6 +170,7 @@ impl<const N: usize, const C: usize, const H: usize, const G: usize> PageRecorde
         ensures fault { IfErr result (IsRefusedOn hist.now.registry
             (Observe hist.now.slot (place_of hist.now.bounds value) value ∷ []) (recorders_of self.old) (recorders_of self.new)) }
         ensures first { first_of self.new ≡ first_of self.old }
+        ensures feed { SameConsumer (feed_of self.old) (feed_of self.new) }
     {
         self.apply(
             hist.registry,
@@ -187,6 +193,7 @@ impl<const N: usize, const C: usize, const H: usize, const G: usize> PageRecorde
         ensures fault { IfErr result (IsRefusedOn gauge.now.registry (Up gauge.now.slot by ∷ []) (recorders_of self.old)
             (recorders_of self.new)) }
         ensures first { first_of self.new ≡ first_of self.old }
+        ensures feed { SameConsumer (feed_of self.old) (feed_of self.new) }
     {
         self.apply(
             gauge.registry,
@@ -208,6 +215,7 @@ impl<const N: usize, const C: usize, const H: usize, const G: usize> PageRecorde
         ensures fault { IfErr result (IsRefusedOn gauge.now.registry (Down gauge.now.slot by ∷ []) (recorders_of self.old)
             (recorders_of self.new)) }
         ensures first { first_of self.new ≡ first_of self.old }
+        ensures feed { SameConsumer (feed_of self.old) (feed_of self.new) }
     {
         self.apply(
             gauge.registry,
