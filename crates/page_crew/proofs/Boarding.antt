@@ -48,7 +48,7 @@ room_left {N} {C} {H} {G} boards boards' old new recorders more given room k d w
     elim (slice_get_cases recorders k).1 [
       | inl there ↦
           let left = (given.given k (get_or old k d) (get_or new k d) there.0 (slice_get-get_or old k d in_old)
-          (slice_get-get_or new k d within) there.2).1 in
+          (slice_get-get_or new k d within) there.2).2 in
           let before : 96 ≤ known_free (get_or old k d) + boards = room k d in_old in
           omega (arith, left, before, more)
       | inr none ↦ absurd (let past = none.0 in omega (arith, past, in_old, all))

@@ -2,11 +2,13 @@
 use Rattle.std.proofs.Common.{◌≡◌, ℕ, zero, suc, ◌+◌, ◌<◌, ◌≤◌, List, [], ◌∷◌, ◌++◌, Some, length, slice_get, get_or, set, All, refl, sym, ap, subst, ◌∙◌, arith, inl, inr}
 use Rattle.std.specs.Prelude.{drop, Option, None}
 use Rattle.std.proofs.Math.ListN.{length-set}
-use Rattle.std.proofs.lemmas.Option.{slice_get_read, slice_get_within, slice_get-get_or}
-use Rattle.ledger_core.proofs.Placing.{at_set}
+use Rattle.std.proofs.lemmas.Option.{slice_get_read, slice_get_within, slice_get-get_or, slice_get_cases}
+use Rattle.ledger_core.proofs.Placing.{at_set, at_push}
 use Rattle.registry_state.proofs.Lists.{cases_order}
-use Rattle.rtrb.specs.Ring.{sent, known_free}
-use Rattle.page_crew.specs.Rings.{Ring, IsGiven, AreGiven}
+use Rattle.rtrb.specs.Ring.{sent, known_free, IsPair, SameProducer}
+use Rattle.page_crew.specs.Rings.{Ring, IsGiven, AreGiven, ArePaired}
+use Rattle.page_crew.specs.Held.{feed_of}
+use Rattle.page_crew.specs.declared.page_recorder.PageRecorder.{PageRecorder}
 use Rattle.page_crew.specs.declared.shared_recorder.SharedRecorder.{SharedRecorder}
 
 -- the first of what is left, and what is left behind it
@@ -102,5 +104,41 @@ first_given {N} {C} {H} {G} old new recorders given empty k p r new_at at =
     let within = slice_get_within new k p new_at in
     let many = given.many in
     let in_old : k < length old = omega (arith, within, many) in
-    (given.given k (get_or old k p) p r (slice_get-get_or old k p in_old) new_at at).0
+    (given.given k (get_or old k p) p r (slice_get-get_or old k p in_old) new_at at).1
     ∙ ap (λ (l : List (SharedRecorder N C H G)). l ++ r ∷ []) (empty k p in_old).0
+
+module _ {N C H G : ℕ} where
+  -- the ends of one ring are so after a push
+  pair_then : (p q : Ring N C H G) (r : PageRecorder N C H G) → SameProducer p q → IsPair p (feed_of r) → IsPair q (feed_of r)
+  pair_then p q r same pair = (pair.0 ∙ sym same.0.0, pair.1 ∙ sym same.0.1, pair.2 ∙ sym same.0.2, pair.3 ∙ sym same.0.3)
+
+  -- one ring more, and its recorder
+  pub paired_more : (rings : List (Ring N C H G)) (recorders : List (PageRecorder N C H G)) (p : Ring N C H G) (r : PageRecorder N C H G)
+      → length rings ≡ length recorders → ArePaired rings recorders → IsPair p (feed_of r)
+      → ArePaired (rings ++ p ∷ []) (recorders ++ r ∷ [])
+  paired_more rings recorders p r many paired pair k q s at_q at_s = elim (at_push rings p k q at_q) [
+    | inl here ↦ elim (at_push recorders r k s at_s) [
+      | inl also ↦ subst (λ (x : Ring N C H G). IsPair x (feed_of s)) here.1
+          (subst (λ (x : PageRecorder N C H G). IsPair p (feed_of x)) also.1 pair)
+      | inr other ↦ absurd (other.0 (here.0 ∙ many))
+    ]
+    | inr there ↦ elim (at_push recorders r k s at_s) [
+      | inl here ↦ absurd (there.0 (here.0 ∙ sym many))
+      | inr other ↦ paired k q s there.1 other.1
+    ]
+  ]
+
+  -- rings that were given one recorder more are those that they were
+  pub paired_given : (old new : List (Ring N C H G)) (theirs : List (SharedRecorder N C H G)) (recorders : List (PageRecorder N C H G))
+      → AreGiven old new theirs → ArePaired old recorders → ArePaired new recorders
+  paired_given old new theirs recorders given paired k q r at_q at_r =
+      let within = slice_get_within new k q at_q in
+      let many = given.many in
+      let all = given.all in
+      let in_old : k < length old = omega (arith, within, many) in
+      let there_old = slice_get-get_or old k q in_old in
+      elim (slice_get_cases theirs k).1 [
+        | inl there ↦ pair_then (get_or old k q) q r (given.given k (get_or old k q) q there.0 there_old at_q there.2).0
+            (paired k (get_or old k q) r there_old at_r)
+        | inr none ↦ absurd (let past = none.0 in omega (arith, past, in_old, all))
+      ]

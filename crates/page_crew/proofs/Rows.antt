@@ -3,6 +3,8 @@ use Rattle.std.proofs.Common.{◌≡◌, ◌≢◌, ℕ, ◌+◌, ◌<◌, ◌�
 use Rattle.std.specs.Prelude.{Option, None, IsSomeAnd}
 use Rattle.std.proofs.lemmas.Option.{slice_get-get_or, get_or_from_slice_get}
 use Rattle.ledger_core.proofs.Placing.{at_push, at_set}
+use Rattle.rtrb.specs.Ring.{SameConsumer}
+use Rattle.rtrb.specs.declared.consumer.Consumer.{Consumer}
 use Rattle.page_crew.specs.declared.shared_recorder.SharedRecorder.{SharedRecorder}
 use Rattle.page_crew.specs.Shared.{id_in}
 use Rattle.page_crew.specs.Counting.{AreInRow, OneDid, IsSameSeat}
@@ -64,3 +66,8 @@ one_read {N} {C} {H} {G} P recorders place read some is = by (slice_get recorder
     by (Some x) at holds =
         let same : read ≡ x = is ∙ get_or_from_slice_get recorders place x read at in
         (at ∙ ap Some (sym same), subst P (sym same) holds)
+
+-- a consumer that is of the ring of one, which is of the ring of another
+pub feed_then : {T A P : Type 0} (a b c : Consumer T A P) → SameConsumer a b → SameConsumer b c → SameConsumer a c
+feed_then a b c first second =
+    ((second.0.0 ∙ first.0.0, second.0.1 ∙ first.0.1, second.0.2 ∙ first.0.2, second.0.3 ∙ first.0.3), second.1 ∙ first.1)

@@ -1,5 +1,8 @@
 -- What contracts see of a page's recorder.
 use Rattle.std.specs.Prelude.{◌≡◌, ℕ, List, []}
+use Rattle.std.specs.declared.alloc.Global.{Global}
+use Rattle.rtrb.specs.declared.consumer.Consumer.{Consumer}
+use Rattle.rtrb.specs.declared.AnyItems.{AnyItems}
 use Rattle.page_crew.specs.declared.page_recorder.PageRecorder.{PageRecorder}
 use Rattle.page_crew.specs.declared.shared_recorder.SharedRecorder.{SharedRecorder}
 
@@ -11,6 +14,10 @@ module _ {N C H G : ℕ} where
   -- the id of the page's first board
   abbrev pub first_of : PageRecorder N C H G → ℕ
   first_of r = r.first
+
+  -- its end of the ring by which it gets its recorders of boards that come later
+  abbrev pub feed_of : PageRecorder N C H G → Consumer (SharedRecorder N C H G) Global AnyItems
+  feed_of r = r.more
 
   -- it knows no board yet, and the first has this id
   abbrev pub HasNone : (first : ℕ) → PageRecorder N C H G → Type 0

@@ -19,7 +19,7 @@ use Rattle.page_crew.specs.declared.shared_recorder.SharedRecorder.{SharedRecord
 use Rattle.page_crew.specs.declared.shared_scanner.SharedScanner.{SharedScanner}
 use Rattle.page_crew.specs.Held.{HasNone}
 use Rattle.page_crew.specs.Opened.{IsNewBoard}
-use Rattle.page_crew.specs.Rings.{Ring, AreGiven}
+use Rattle.page_crew.specs.Rings.{Ring, AreGiven, ArePaired}
 use Rattle.page_crew.specs.Shared.{recorded_in, quit_in, gave_in, gave_up_in}
 
 module _ {N C H G : ℕ} where
@@ -62,7 +62,8 @@ module _ {N C H G : ℕ} where
   PageDid old new Did = IsSameOwner old new × Did (page_of old) (page_of new) × (rings_of new ≡ rings_of old)
 
   -- A page of one board, without families, the first of these ids, on which nothing was counted; each board keeps so many scrapes. Each ring
-  -- was given the board's recorder of its number, and there are as many recorders, which know no board yet
+  -- was given the board's recorder of its number, and is that of the page's recorder of its number; there are as many of these, and they know no
+  -- board yet
   pub record IsOpened (first window : ℕ) (crews : Crews N C H G) (recorders : List (PageRecorder N C H G)) : Type 0 where
     pub first_is : first_of crews ≡ first
     pub window_is : window_of crews ≡ window
@@ -75,6 +76,7 @@ module _ {N C H G : ℕ} where
         → slice_get theirs k ≡ Some r → sent p ≡ r ∷ []
     pub many : length recorders ≡ N
     pub none : All (HasNone first) recorders
+    pub pairs : ArePaired (rings_of crews) recorders
 
   module _ (old new : Crews N C H G) (number : ℕ) where
     -- a board came, and then the child of these values was given by the page

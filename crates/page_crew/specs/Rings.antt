@@ -1,21 +1,21 @@
 -- What a page's owner has given to its recorders, each by a ring of its own.
 use Rattle.std.specs.Prelude.{◌≡◌, ℕ, ◌+◌, ◌≤◌, List, [], ◌∷◌, ◌++◌, Some, length, slice_get, All}
 use Rattle.std.specs.declared.alloc.Global.{Global}
-use Rattle.rtrb.specs.Ring.{sent, known_free}
+use Rattle.rtrb.specs.Ring.{sent, known_free, IsPair, SameProducer}
 use Rattle.rtrb.specs.declared.producer.Producer.{Producer}
 use Rattle.rtrb.specs.declared.AnyItems.{AnyItems}
 use Rattle.page_crew.specs.declared.page_recorder.PageRecorder.{PageRecorder}
 use Rattle.page_crew.specs.declared.shared_recorder.SharedRecorder.{SharedRecorder}
-use Rattle.page_crew.specs.Held.{HasNone}
+use Rattle.page_crew.specs.Held.{HasNone, feed_of}
 
 -- the owner's end of a ring
 abbrev pub Ring : (N C H G : ℕ) → Type 0
 Ring N C H G = Producer (SharedRecorder N C H G) Global AnyItems
 
 module _ {N C H G : ℕ} where
-  -- the ring was given this recorder, behind those that it was given before
+  -- it is the same ring, and it was given this recorder, behind those that it was given before
   abbrev pub IsGiven : (p q : Ring N C H G) → SharedRecorder N C H G → Type 0
-  IsGiven p q r = (sent q ≡ sent p ++ r ∷ []) × (known_free p ≡ known_free q + 1)
+  IsGiven p q r = SameProducer p q × (sent q ≡ sent p ++ r ∷ []) × (known_free p ≡ known_free q + 1)
 
   -- each ring was given one recorder more, in order
   pub record AreGiven (old new : List (Ring N C H G)) (recorders : List (SharedRecorder N C H G)) : Type 0 where
@@ -28,9 +28,15 @@ module _ {N C H G : ℕ} where
   abbrev pub HaveRoom : (boards : ℕ) → List (Ring N C H G) → Type 0
   HaveRoom boards rings = All (λ (p : Ring N C H G). 96 ≤ known_free p + boards) rings
 
+  -- each ring and the recorder of its number have the two ends of one ring
+  abbrev pub ArePaired : List (Ring N C H G) → List (PageRecorder N C H G) → Type 0
+  ArePaired rings recorders = (k : ℕ) (p : Ring N C H G) (r : PageRecorder N C H G) → slice_get rings k ≡ Some p
+      → slice_get recorders k ≡ Some r → IsPair p (feed_of r)
+
   -- N rings with room for 96 each, to which nothing was given, and N recorders of a page whose first board has this id, which know no board
   pub record AreOpen (first : ℕ) (rings : List (Ring N C H G)) (recorders : List (PageRecorder N C H G)) : Type 0 where
     pub rings_many : length rings ≡ N
     pub recorders_many : length recorders ≡ N
     pub empty : All (λ (p : Ring N C H G). (sent p ≡ []) × (known_free p ≡ 96)) rings
     pub none : All (HasNone first) recorders
+    pub pairs : ArePaired rings recorders

@@ -39,7 +39,8 @@ impl<const N: usize, const C: usize, const H: usize, const G: usize> Drop
 
 impl<const N: usize, const C: usize, const H: usize, const G: usize> PageRecorder<N, C, H, G> {
     ghost use Rattle.std.specs.Prelude.{List, [], ◌∷◌, ◌++◌};
-    ghost use Rattle.page_crew.specs.Held.{recorders_of, first_of, HasNone};
+    ghost use Rattle.rtrb.specs.Ring.{SameConsumer};
+    ghost use Rattle.page_crew.specs.Held.{recorders_of, first_of, feed_of, HasNone};
     ghost use Rattle.page_crew.specs.Counting.{IsPublishedOn, IsRefusedOn};
     ghost use Rattle.page_crew.specs.declared.shared_recorder.SharedRecorder.{SharedRecorder};
 
@@ -53,7 +54,8 @@ impl<const N: usize, const C: usize, const H: usize, const G: usize> PageRecorde
         more: Consumer<SharedRecorder<N, C, H, G>>,
     ) -> Result<PageRecorder<N, C, H, G>, AllocError>
         requires { first + 96 < 18446744073709551616 }
-        ensures { IfOk result (HasNone first) }
+        ensures none { IfOk result (HasNone first) }
+        ensures feed { IfOk result (λ r. feed_of r ≡ more.entry) }
     {
         let recorders = Vec::with_capacity(alloc, MOST)?;
         Ok(PageRecorder {
@@ -68,6 +70,7 @@ impl<const N: usize, const C: usize, const H: usize, const G: usize> PageRecorde
         ensures count { result ≡ length (recorders_of self.new) }
         ensures joined { (came : List (SharedRecorder N C H G)) × (recorders_of self.new ≡ recorders_of self.old ++ came) }
         ensures first { first_of self.new ≡ first_of self.old }
+        ensures feed { SameConsumer (feed_of self.old) (feed_of self.new) }
     {
         for _more in self.recorders.len()..MOST {
             let Ok(recorder) = self.more.pop() else {
@@ -102,6 +105,7 @@ impl<const N: usize, const C: usize, const H: usize, const G: usize> PageRecorde
         ensures place { MatchOption result (All (λ r. id_in r ≢ id) (recorders_of self.new))
             (λ place. IsSomeAnd (slice_get (recorders_of self.new) place) (λ r. id_in r ≡ id)) }
         ensures first { first_of self.new ≡ first_of self.old }
+        ensures feed { SameConsumer (feed_of self.old) (feed_of self.new) }
     {
         if let Some(place) = self.place_of(id) {
             return Some(place);
@@ -122,6 +126,7 @@ impl<const N: usize, const C: usize, const H: usize, const G: usize> PageRecorde
         ensures published { OnOk result (IsPublishedOn id ops.now (recorders_of self.old) (recorders_of self.new)) }
         ensures fault { IfErr result (IsRefusedOn id ops.now (recorders_of self.old) (recorders_of self.new)) }
         ensures first { first_of self.new ≡ first_of self.old }
+        ensures feed { SameConsumer (feed_of self.old) (feed_of self.new) }
     {
         let Some(place) = self.find(id) else {
             return Err(CountFault::WrongRegistry);
@@ -143,6 +148,7 @@ impl<const N: usize, const C: usize, const H: usize, const G: usize> PageRecorde
         ensures fault { IfErr result (IsRefusedOn counter.now.registry (Inc counter.now.slot by ∷ []) (recorders_of self.old)
             (recorders_of self.new)) }
         ensures first { first_of self.new ≡ first_of self.old }
+        ensures feed { SameConsumer (feed_of self.old) (feed_of self.new) }
     {
         self.apply(
             counter.registry,
@@ -164,6 +170,7 @@ impl<const N: usize, const C: usize, const H: usize, const G: usize> PageRecorde
         ensures fault { IfErr result (IsRefusedOn hist.now.registry
             (Observe hist.now.slot (place_of hist.now.bounds value) value ∷ []) (recorders_of self.old) (recorders_of self.new)) }
         ensures first { first_of self.new ≡ first_of self.old }
+        ensures feed { SameConsumer (feed_of self.old) (feed_of self.new) }
     {
         self.apply(
             hist.registry,
@@ -186,6 +193,7 @@ impl<const N: usize, const C: usize, const H: usize, const G: usize> PageRecorde
         ensures fault { IfErr result (IsRefusedOn gauge.now.registry (Up gauge.now.slot by ∷ []) (recorders_of self.old)
             (recorders_of self.new)) }
         ensures first { first_of self.new ≡ first_of self.old }
+        ensures feed { SameConsumer (feed_of self.old) (feed_of self.new) }
     {
         self.apply(
             gauge.registry,
@@ -207,6 +215,7 @@ impl<const N: usize, const C: usize, const H: usize, const G: usize> PageRecorde
         ensures fault { IfErr result (IsRefusedOn gauge.now.registry (Down gauge.now.slot by ∷ []) (recorders_of self.old)
             (recorders_of self.new)) }
         ensures first { first_of self.new ≡ first_of self.old }
+        ensures feed { SameConsumer (feed_of self.old) (feed_of self.new) }
     {
         self.apply(
             gauge.registry,

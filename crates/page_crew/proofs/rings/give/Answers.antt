@@ -24,7 +24,7 @@ loop-recorder-preserved g c =
     c.args.recorders.items c.loop-recorder.invariant c.requires.many c.in-Some.recorder (into_iter_items c.next.new.self)
     c.in-Some.ensures.steps.0 c.index-rings-place.result c.push_reserved.new.self c.index-rings-place.is
     (subst (λ (p : Ring g.row.N g.row.C g.row.H g.row.G). IsGiven p c.push_reserved.new.self c.in-Some.recorder) (sym c.index-rings-place.is)
-    c.push_reserved.ensures.sent)
+    (c.push_reserved.ensures.ring, c.push_reserved.ensures.sent.0, c.push_reserved.ensures.sent.1))
 
 pub returns : goal.returns
 returns g c =

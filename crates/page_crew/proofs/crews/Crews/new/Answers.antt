@@ -7,9 +7,9 @@ use Rattle.scrape_page.specs.Families.{PageView}
 use Rattle.page_crew.specs.declared.shared_recorder.SharedRecorder.{SharedRecorder}
 use Rattle.page_crew.specs.declared.shared_scanner.SharedScanner.{SharedScanner}
 use Rattle.page_crew.specs.Boards.{AreNumbered}
-use Rattle.page_crew.specs.Rings.{Ring, AreGiven, HaveRoom}
+use Rattle.page_crew.specs.Rings.{Ring, AreGiven, ArePaired, HaveRoom}
 use Rattle.page_crew.proofs.Boarding.{numbered_more, room_left}
-use Rattle.page_crew.proofs.Giving.{first_given}
+use Rattle.page_crew.proofs.Giving.{first_given, paired_given}
 use Rattle.page_crew.proofs.crews.Crews.new.Goals as goal
 
 pub invariant_of-crews : goal.invariant_of-crews
@@ -62,4 +62,6 @@ returns-clause-opened g c =
           (first_given rings.items c.give.new.rings theirs given opened.empty);
       many = opened.recorders_many;
       none = opened.none;
+      pairs = subst (λ (l : List R). ArePaired l c.in-Ok-open_rings.field-0.recorders.items) (sym items)
+          (paired_given rings.items c.give.new.rings theirs c.in-Ok-open_rings.field-0.recorders.items given opened.pairs);
     }

@@ -1,13 +1,14 @@
 use Rattle.std.proofs.Common.{◌+◌, ◌∷◌, ◌++◌, [], length, sym, ap, ◌∙◌, subst, arith, refl, append-nil}
 use Rattle.std.proofs.lemmas.List.{length_push, append_assoc}
 use Rattle.page_crew.specs.Counting.{AreInRow}
-use Rattle.page_crew.proofs.Rows.{row_more}
+use Rattle.page_crew.proofs.Rows.{row_more, feed_then}
 use Rattle.page_crew.proofs.page_recorder.PageRecorder.join.Goals as goal
 
 pub loop-more-init : goal.loop-more-init
 loop-more-init g c = record {
   came = ([], sym (append-nil c.args.self.now.recorders.items));
   first_is = refl;
+  same = ((refl, refl, refl, refl), refl);
   few = let n = c.len-more.ensures in let len = c.args.self.now.recorders.ok.0 in omega (arith, n, len);
 }
 
@@ -55,5 +56,6 @@ loop-more-preserved g c =
             ∙ append_assoc old came.0 (c.in-Ok.recorder ∷ []),
       );
       first_is = c.loop-more.invariant.first_is;
+      same = feed_then c.args.self.now.more c.loop-more.self.more c.pop.new.self c.loop-more.invariant.same c.pop.ensures.ring;
       few = omega (arith, few, longer, after);
     }
