@@ -1,5 +1,7 @@
 //! Calls that take memory. Each that answers want of memory has changed nothing, and answers the same call again as it would have
 //! answered the first one.
+mod page_seen;
+mod pages;
 mod registries;
 
 use crate::asserts::{once_more, same};
@@ -24,6 +26,12 @@ fn growth_state(rt: HostRuntime) -> Result<(), Fail> {
 #[test]
 fn growth_registry(rt: HostRuntime) -> Result<(), Fail> {
     registries::grow_shared(&rt, rt.alloc())
+}
+
+/// A page of two boards.
+#[test]
+fn growth_pages(rt: HostRuntime) -> Result<(), Fail> {
+    pages::grow(&rt, rt.alloc())
 }
 
 /// The status of a request that is served from the registry, and how many bytes were sent.
