@@ -9,7 +9,7 @@ BENCH_USAGE = (
     2,
     "",
     "usage: bench ROUNDS, at most 1000000000, or bench serve PORT REPLIES small|large, or bench torn SCRAPES apart|together,"
-    " or bench starved THREADS SPINS SCANS small|large|greatest",
+    " or bench starved THREADS SPINS SCANS small|large|greatest, or bench page SCRAPES one|whole|spread",
 )
 # With so many kilobytes of addresses there is no room for a thread's stack.
 SMALL = "ulimit -v 6000 && "
@@ -41,13 +41,14 @@ def table(program, service, bench):
     yield shell('exec "$0" serve 0 1 >/dev/full', program), b"", (3, "", "fault")
     for words in ["", "0", "0 0 0"]:
         yield (service, *words.split()), b"", SERVICE_USAGE
-    for words in ["", "1000000001", "0 0", "serve 0 0 64", "torn 1", "torn x apart", "torn 1 beside", "starved 1 0 9", "starved x 0 9 small", "starved 1 0 9 tiny"]:
+    for words in ["", "1000000001", "0 0", "serve 0 0 64", "torn 1", "torn x apart", "torn 1 beside", "starved 1 0 9", "starved x 0 9 small", "starved 1 0 9 tiny", "page 1 two", "page x one"]:
         yield (bench, *words.split()), b"", BENCH_USAGE
     yield (bench, "serve", "0", "0", "small"), b"", (0, "10008 bytes", None)
     yield (bench, "serve", "0", "0", "large"), b"", (0, "69896 bytes", None)
     for how in ("apart", "together"):
         yield (bench, "torn", "3", how), b"", (0, "---", "")
     yield (bench, "starved", "1", "0", "9", "small"), b"", (0, "no_scan 4,64,8,0 scans 0 given_up 0 scan 0.00 longest 0", "")
+    yield (bench, "page", "0", "one"), b"", (0, "# HELP requests_00_total Requests answered so far by service part 00.", "")
 
 
 def check_all(program, service, bench):

@@ -21,6 +21,12 @@
 //! how many scans were made and given up, the nanoseconds of one and of the longest; and those of a version of one thread, and which half, 99
 //! and 99.9 of 100 updates took at most, and the longest one: [`starved`].
 //!
+//! `bench page SCRAPES one` registers and counts 256 counters, 32 histograms and 64 gauges on a page of one board, (4, 256, 32, 64), and prints the
+//! nanoseconds of registering them, those of a scrape with its text, the least and the median of so many, how many bytes it has, and those of
+//! the board's own scrape and text, without the page. `bench page SCRAPES whole`, or `spread`, does so with 10,000 counters, 1,000 histograms
+//! and 500 gauges on 40 boards, of which each family is on one, or has parts on many; of the boards it makes a scrape and a text of each. With 0
+//! for SCRAPES it prints the text: [`pages`].
+//!
 //! Exit status 0 at the end; 2 for other arguments; 1 where something failed.
 #![tactic(auto)]
 
@@ -28,6 +34,8 @@ mod boards;
 mod counting;
 mod floors;
 mod measuring;
+mod page_series;
+mod pages;
 mod publishers;
 mod registries;
 mod served;
@@ -39,6 +47,7 @@ mod update_times;
 use anyhow::Result;
 use dirgwako::ServiceRuntime;
 use measuring::Lines;
+use pages::{Layout, measure_page};
 use registries::{LARGE, SMALL};
 use served::serve;
 use starved::{Asked, starve};
@@ -50,7 +59,7 @@ use torn::print_scrapes;
 
 const USAGE: &str =
     "usage: bench ROUNDS, at most 1000000000, or bench serve PORT REPLIES small|large, or bench torn SCRAPES apart|together, \
-     or bench starved THREADS SPINS SCANS small|large|greatest";
+     or bench starved THREADS SPINS SCANS small|large|greatest, or bench page SCRAPES one|whole|spread";
 
 /// Measures updates and scans of three geometries.
 fn measure_boards(lines: &mut Lines<'_, impl ServiceRuntime>) -> Result<()> {
@@ -118,6 +127,18 @@ fn run_scrapes(rt: &impl ServiceRuntime, scrapes: &str, how: &str) -> Option<Res
     }
 }
 
+/// Measures a page by so many scrapes, if these words say so.
+fn run_page(rt: &impl ServiceRuntime, scrapes: &str, how: &str) -> Option<Result<()>> {
+    let scrapes = scrapes.parse().ok()?;
+    let layout = match how {
+        "one" => Layout::One,
+        "whole" => Layout::Whole,
+        "spread" => Layout::Spread,
+        _ => return None,
+    };
+    Some(measure_page(rt, scrapes, layout))
+}
+
 /// Scans beside threads that publish, if these words say so.
 fn run_starved(
     rt: &impl ServiceRuntime,
@@ -151,6 +172,9 @@ fn run_words(
         }
         [_, word, scrapes, how] if word.as_str() == "torn" => {
             run_scrapes(rt, scrapes.as_str(), how.as_str())
+        }
+        [_, word, scrapes, how] if word.as_str() == "page" => {
+            run_page(rt, scrapes.as_str(), how.as_str())
         }
         [_, word, threads, spins, scans, size] if word.as_str() == "starved" => {
             let (threads, spins) = (threads.as_str(), spins.as_str());

@@ -135,7 +135,12 @@ impl Service {
 }
 
 /// A text with a number of two digits in it.
-fn numbered(alloc: Global, front: &str, number: usize, back: &str) -> Result<String, AllocError> {
+pub fn numbered(
+    alloc: Global,
+    front: &str,
+    number: usize,
+    back: &str,
+) -> Result<String, AllocError> {
     Ok(format!(in alloc; "{front}{number:02}{back}")?)
 }
 
