@@ -9,6 +9,7 @@ import c_library
 import clients
 import exit_statuses
 import no_memory
+import page_text
 import pages
 import refused_memory
 import servers
@@ -41,6 +42,9 @@ def main():
         ("shifted numbers", lambda: shifted.check_exact(ROOT)),
         ("Prometheus' parser for Python", lambda: shifted.check_python(ROOT)),
         ("promtool", lambda: shifted.check_promtool(ROOT)),
+        ("texts of a page", lambda: page_text.check_exact(ROOT, bench)),
+        ("texts of a page by Prometheus' parser for Python", lambda: page_text.check_python(ROOT, bench)),
+        ("texts of a page by promtool", lambda: page_text.check_promtool(ROOT, bench)),
         ("exit statuses", lambda: exit_statuses.check_all(program, service, bench)),
         ("scripts", lambda: script_cases(program)),
         ("servers", lambda: servers.check_all(program, service, printed)),
