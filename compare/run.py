@@ -15,6 +15,7 @@ sys.dont_write_bytecode = True
 sys.path.insert(0, str(pathlib.Path(__file__).resolve().parent))
 import programs
 import loads
+import series
 import speeds
 import table
 import torn
@@ -82,9 +83,10 @@ def compare(how):
     others = {name: words for name, words in started.items() if name != programs.FROM_C}
     found = torn_scrapes(others, scrapes)
     measured = speeds.measure(started, rounds, turns)
+    paged = series.measure(started, 3 if how.quick else 100, turns)
     loaded = loads.measure(others, 1, loaded_turns, "requests a second" not in lacks)
     page = programs.OUT / "results.md" if how.quick else programs.HERE / "results.md"
-    page.write_text(table.page(load, found, measured, loaded, how.quick))
+    page.write_text(table.page(load, found, measured, paged, loaded, how.quick))
     written = [page]
     if "the pictures" not in lacks:
         written += draw(found, programs.OUT if how.quick else programs.ROOT / "docs")

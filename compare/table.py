@@ -7,6 +7,7 @@ import time
 
 from loads import CONNECTIONS
 from programs import BARE, FROM_C, GO, OURS, PEER_PYTHON, RUST, missing, versions
+from series import HOWS, as_peer
 from speeds import FROM_C_TALLY, SIZES, TALLY, UPDATES, Turns
 
 PEERS = (RUST, GO, PEER_PYTHON)
@@ -130,16 +131,29 @@ def gather_lines(gathers, texts):
     for size, what in SIZES.items():
         each = {who: gathers[who, size] for who in (OURS, FROM_C, *PEERS)}
         lines.append(row(what, *(told(it, 1_000) for it in each.values()), ratio(each[OURS], each[RUST]), ratio(each[FROM_C], each[OURS])))
-    lines += ["", *head("the text", *texts["small"]), *(text_row(size, each) for size, each in texts.items())]
+    lines += ["", *head("the text", *texts["small"]), *(text_row(SIZES[size], each) for size, each in texts.items())]
     return lines + [""]
 
 
-def text_row(size, each):
+def text_row(what, each):
     """The bytes of each text, and whether all series have the numbers that ours have."""
     def cell(found):
         length, series, differing = found
         return f"{length:,} bytes; {'the same numbers' if differing == 0 else f'{differing} of {series} series differ'}"
-    return row(SIZES[size], *(cell(it) for it in each.values()))
+    return row(what, *(cell(it) for it in each.values()))
+
+
+def series_lines(found, texts):
+    """Pages of several boards beside the crate, in microseconds."""
+    lines = ["## A page of several boards, in microseconds", ""]
+    lines += head("of", "registered", f"by {RUST}", "a scrape with its text", f"by {RUST}", f"{OURS} to {RUST}", "each board's scrape and text")
+    for how, what in HOWS.items():
+        ours = [found[OURS, how, line] for line in ("register", "gather", "boards")]
+        theirs = [found[RUST, as_peer(how), line] for line in ("register", "gather")]
+        cells = (ours[0], theirs[0], ours[1], theirs[1])
+        lines.append(row(what, *(told(it, 1_000) for it in cells), ratio(ours[1], theirs[1]), told(ours[2], 1_000)))
+    lines += ["", *head("the text", *texts["one"]), *(text_row(HOWS[how], each) for how, each in texts.items())]
+    return lines + [""]
 
 
 def load_lines(rates, errors):
@@ -176,9 +190,9 @@ def all_lines(lines):
     return ["## Each line of `bench`", "", "What they are is told in [MEASURING.md](../docs/MEASURING.md).", "", *told_lines]
 
 
-def page(load, torn, speeds, loads, is_quick):
+def page(load, torn, speeds, series, loads, is_quick):
     """The whole page."""
     (updates, gathers, lines), (rates, errors, memory, texts) = speeds, loads
-    parts = machine(load, is_quick) + torn_lines(torn) + update_lines(updates) + gather_lines(gathers, texts)
+    parts = machine(load, is_quick) + torn_lines(torn) + update_lines(updates) + gather_lines(gathers, texts) + series_lines(*series)
     parts += load_lines(rates, errors) + memory_lines(memory) + all_lines(lines)
     return "\n".join(parts).rstrip() + "\n"

@@ -5,9 +5,11 @@
 //! - `gather ROUNDS SIZE`: the nanoseconds of a scrape with its text; SIZE is `small` or `large`;
 //! - `serve PORT SIZE`: serves such scrapes, after a line `listening PORT`, until it is killed.
 //!
-//! This program alone has `bare PORT SIZE`, which serves a text that was made before.
+//! This program alone has `bare PORT SIZE`, which serves a text that was made before, and `page SCRAPES one`, or `whole`: the series of a page of one
+//! board, or of 40.
 
 mod chain;
+mod page;
 mod server;
 mod service;
 mod updates;
@@ -22,6 +24,7 @@ fn run(words: &[&str]) -> Option<()> {
         ["gather", rounds, size] => service::measure(service::of(size)?, rounds.parse().ok()?),
         ["serve", port, size] => server::serve(port.parse().ok()?, service::of(size)?, false),
         ["bare", port, size] => server::serve(port.parse().ok()?, service::of(size)?, true),
+        ["page", scrapes, how] => page::measure(page::of(how)?, scrapes.parse().ok()?),
         _ => return None,
     }
     Some(())
@@ -32,7 +35,7 @@ fn main() -> ExitCode {
     match run(&words.iter().map(String::as_str).collect::<Vec<_>>()) {
         Some(()) => ExitCode::SUCCESS,
         None => {
-            eprintln!("usage: peer torn SCRAPES | updates ROUNDS | gather ROUNDS SIZE | serve PORT SIZE | bare PORT SIZE");
+            eprintln!("usage: peer torn SCRAPES | updates ROUNDS | gather ROUNDS SIZE | serve PORT SIZE | bare PORT SIZE | page SCRAPES one|whole");
             ExitCode::from(2)
         }
     }

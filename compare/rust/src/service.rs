@@ -23,7 +23,7 @@ pub fn of(size: &str) -> Option<Service> {
 }
 
 /// The bound at a place: they are 5, 10, 25, 50, 100, 250 and so on.
-fn bound(place: usize) -> f64 {
+pub fn bound(place: usize) -> f64 {
     (0..place / 3).fold([5.0, 10.0, 25.0][place % 3], |bound: f64, _| bound * 10.0)
 }
 
@@ -79,11 +79,16 @@ impl Service {
     }
 }
 
-/// The text of a scrape.
-pub fn text(registry: &Registry) -> String {
+/// The bytes of a scrape.
+pub fn gather(registry: &Registry) -> Vec<u8> {
     let mut text = Vec::new();
     TextEncoder::new().encode(&registry.gather(), &mut text).expect("a text");
-    String::from_utf8(text).expect("a text of UTF-8")
+    text
+}
+
+/// The text of a scrape.
+pub fn text(registry: &Registry) -> String {
+    String::from_utf8(gather(registry)).expect("a text of UTF-8")
 }
 
 /// Prints the nanoseconds of a scrape with its text: the fastest of a hundred batches of a tenth of the rounds.
@@ -93,9 +98,7 @@ pub fn measure(service: Service, rounds: u64) {
     for _batch in 0..100 {
         let (start, mut bytes) = (Instant::now(), 0);
         for _round in 0..rounds {
-            let mut text = Vec::new();
-            TextEncoder::new().encode(&registry.gather(), &mut text).expect("a text");
-            bytes += std::hint::black_box(text).len();
+            bytes += std::hint::black_box(gather(&registry)).len();
         }
         assert!(bytes > 0);
         least = least.min(start.elapsed().as_nanos() as f64 / rounds as f64);
