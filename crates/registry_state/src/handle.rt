@@ -13,6 +13,13 @@ pub struct FamilyId {
 }
 
 impl FamilyId {
+    /// The family of this number.
+    pub fn of(number: usize) -> FamilyId
+        ensures { result.number ≡ number }
+    {
+        FamilyId { number }
+    }
+
     /// The family's number: how many families were registered before it.
     pub fn number(&self) -> usize
         ensures { result ≡ self.now.number }

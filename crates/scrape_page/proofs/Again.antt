@@ -109,6 +109,11 @@ module _ {S : Type 0} (n c h g : ℕ) (recorded : S → List Answer) (quit : S �
   part_again (suc more) a b part (inl done) = part_once a b part done.1
   part_again (suc more) a b part (inr again) = part_again more again.0 b part again.2
 
+  -- a board that was asked for a scrape has its id and its families
+  pub same_asked : (a b : RegistryView S) (result : Result Scraped NoScrape)
+      → BoardScrapes n c h g recorded quit gave gave_up a b result → SameFace a b
+  same_asked a b result asked = same_again 3 a b result asked
+
   module _ (old new : List (RegistryView S)) where
     -- boards that made a scrape each have their ids and their families
     pub same_made : (parts : List Scraped) → AreMade (BoardScrapes n c h g recorded quit gave gave_up) old new parts

@@ -1,5 +1,5 @@
 -- A page with one board more, and one without families.
-use Rattle.std.proofs.Common.{◌≡◌, ◌≢◌, ℕ, zero, suc, ◌+◌, ◌<◌, ◌≤◌, List, [], ◌∷◌, ◌++◌, Some, length, map, get_or, refl, sym, ap}
+use Rattle.std.proofs.Common.{◌≡◌, ◌≢◌, ℕ, ◌<◌, List, [], ◌∷◌, ◌++◌, length, sym, ap}
 use Rattle.std.proofs.Common.{subst, ◌∙◌, arith, All, AllPairs, Contains}
 use Rattle.std.specs.List.Sorted.{IsPermutation}
 use Rattle.std.proofs.lemmas.List.{length_push, nil_from_length}
@@ -8,10 +8,9 @@ use Rattle.std.proofs.lemmas.List.Quantifiers.{all_pairs_push}
 use Rattle.registry_state.specs.Replay.{Family}
 use Rattle.registry_state.specs.Kept.{RegistryView}
 use Rattle.registry_state.proofs.Ordered.{order_none}
-use Rattle.scrape_page.specs.Families.{PageFamily, PageView, descs_of}
+use Rattle.scrape_page.specs.Families.{PageFamily, descs_of}
 use Rattle.scrape_page.specs.Faults.{IsFresh}
-use Rattle.scrape_page.specs.Kept.{IsPage, IsSpread, IsHeldPage}
-use Rattle.scrape_page.specs.Places.{values_of, places_of}
+use Rattle.scrape_page.specs.Kept.{IsSpread, IsHeldPage}
 use Rattle.scrape_page.proofs.Located.{places_push}
 use Rattle.scrape_page.proofs.Valued.{values_push}
 

@@ -1,9 +1,7 @@
 -- A board has no more families than its page, and none that clashes with a new one.
-use Rattle.std.proofs.Common.{◌≡◌, ◌≢◌, ℕ, zero, suc, ◌+◌, ◌<◌, ◌≤◌, List, [], ◌∷◌, Some, length, map, get_or, refl, sym, ap, subst, ◌∙◌}
-use Rattle.std.proofs.Common.{arith, All, AllPairs, Contains, inl, inr}
+use Rattle.std.proofs.Common.{◌≡◌, ◌≢◌, ℕ, zero, suc, ◌<◌, ◌≤◌, List, [], ◌∷◌, Some, length, map, get_or, refl, sym, ap, subst, ◌∙◌}
+use Rattle.std.proofs.Common.{arith, All, AllPairs, Contains}
 use Rattle.std.specs.Prelude.{slice_get, IsSomeAnd}
-use Rattle.std.specs.Bool.{Decides}
-use Rattle.std.proofs.lemmas.Bool.Decides.{Decides-eqb}
 use Rattle.std.proofs.lemmas.Cmp.{nat_list_eq_equiv}
 use Rattle.std.proofs.lemmas.List.{length-map}
 use Rattle.std.proofs.lemmas.List.Elements.{All-map, All-weaker, All-contains, All-cons}
@@ -14,10 +12,10 @@ use Rattle.std.proofs.lemmas.Slice.Eq.{bytes_eq-Decides}
 use Rattle.metric_desc.specs.Desc.{Descriptor, Clash}
 use Rattle.registry_state.specs.Replay.{Family, IsApart}
 use Rattle.registry_state.specs.Kept.{RegistryView}
-use Rattle.registry_state.proofs.Lists.{cases_order, pairs_map}
+use Rattle.registry_state.proofs.Lists.{pairs_map}
 use Rattle.scrape_page.specs.Families.{PageFamily, PageView, descs_of}
 use Rattle.scrape_page.specs.Faults.{AreApart}
-use Rattle.scrape_page.specs.Kept.{IsPage, IsHeldPage}
+use Rattle.scrape_page.specs.Kept.{IsHeldPage}
 use Rattle.scrape_page.specs.Rooms.{IsHome}
 use Rattle.registry_state.proofs.Making.{some_at}
 use Rattle.scrape_page.proofs.Registered.{home_within}

@@ -9,6 +9,7 @@ pub mod Counted
 pub mod Boarded
 pub mod Again
 pub mod Turns
+pub mod Windowed
 pub mod Faces
 pub mod Named
 pub mod Framing

@@ -1,36 +1,33 @@
 -- A page with one family more.
-use Rattle.std.proofs.Common.{◌≡◌, ◌≢◌, ℕ, zero, suc, ◌+◌, ◌<◌, ◌≤◌, List, [], ◌∷◌, ◌++◌, Some, length, map, set, get_or, refl, sym, ap}
-use Rattle.std.proofs.Common.{subst, ◌∙◌, arith, All, AllPairs, Contains, inl, inr, Bool, true, false, append-nil}
-use Rattle.std.specs.Prelude.{◌⊎◌, Result, Ok, Err, OnOk, OnErr, slice_get, if◌then◌else◌, IsSomeAnd}
-use Rattle.std.specs.List.{Any, insert}
-use Rattle.std.specs.Str.{bytes_eq}
+use Rattle.std.proofs.Common.{◌≡◌, ◌≢◌, ℕ, ◌<◌, List, [], ◌∷◌, ◌++◌, Some, length, map, set, get_or, refl, sym, ap}
+use Rattle.std.proofs.Common.{subst, ◌∙◌, arith, All, AllPairs, Contains, inl, inr, append-nil}
+use Rattle.std.specs.Prelude.{Result, Ok, Err, OnOk, OnErr, slice_get, if◌then◌else◌}
+use Rattle.std.specs.List.{insert}
 use Rattle.std.specs.List.Sorted.{IsPermutation}
 use Rattle.std.proofs.Math.ListN.{length-set}
 use Rattle.std.proofs.lemmas.List.{length_push, map-append, length-map}
-use Rattle.std.proofs.lemmas.List.Elements.{All-head, All-tail, All-weaker, All-push, All-set, Contains-append_left, Contains-push}
+use Rattle.std.proofs.lemmas.List.Elements.{All-weaker, All-push, All-set, Contains-append_left, Contains-push}
 use Rattle.std.proofs.lemmas.List.Quantifiers.{all_pairs_push}
 use Rattle.std.proofs.lemmas.List.Sorted.{IsPermutation-sym}
 use Rattle.std.proofs.lemmas.Option.{get_or_from_slice_get, slice_get_within}
 use Rattle.metric_desc.specs.Desc.{Descriptor, Clash}
 use Rattle.metric_desc.specs.declared.kind.Kind.{Kind}
 use Rattle.registry_state.specs.Journal.{Registered}
-use Rattle.registry_state.specs.Replay.{Child, Family}
+use Rattle.registry_state.specs.Replay.{Family}
 use Rattle.registry_state.specs.Held.{IsOrder, IsPlaceOfName}
 use Rattle.registry_state.specs.Calls.{changed}
 use Rattle.registry_state.specs.Kept.{RegistryView}
 use Rattle.registry_state.proofs.Ordered.{order_more}
-use Rattle.registry_state.proofs.Making.{some_within}
-use Rattle.scrape_page.specs.declared.family.Part.{Part}
 use Rattle.scrape_page.specs.Families.{PageFamily, PageView, descs_of, as_family}
 use Rattle.scrape_page.specs.Faults.{AreApart}
 use Rattle.scrape_page.specs.Calls.{AddsFamily, IsRegisteredOn}
-use Rattle.scrape_page.specs.Rooms.{IsHome, HasFree}
+use Rattle.scrape_page.specs.Rooms.{IsHome}
 use Rattle.scrape_page.specs.Kept.{IsPage, IsSpread, IsHeldPage}
 use Rattle.scrape_page.specs.Places.{values_of, part_at, numbers_of, places_of}
 use Rattle.scrape_page.proofs.Lists.{map_set_same, pairs_along}
 use Rattle.scrape_page.proofs.Located.{name_yes, name_no, numbers_push, places_set_same, places_set_more}
 use Rattle.scrape_page.proofs.Valued.{values_registered}
-use Rattle.scrape_page.proofs.Facts.{all_there, pair_there, names_apart, HasNone, places_none, values_none, none_of}
+use Rattle.scrape_page.proofs.Facts.{all_there, names_apart, HasNone, places_none, values_none, none_of}
 
 -- the board of a group is there
 pub home_within : {S : Type 0} (c h g : ℕ) (page : PageView S) (kind : Kind) (group home : ℕ) → IsPage page

@@ -1,5 +1,5 @@
 -- What a page keeps, whenever nobody is at work in it.
-use Rattle.std.specs.Prelude.{◌≡◌, ◌≢◌, ℕ, ◌<◌, ◌≤◌, List, [], length, map, slice_get, IsSomeAnd, All, AllPairs, Contains}
+use Rattle.std.specs.Prelude.{◌≡◌, ◌≢◌, ℕ, ◌<◌, ◌≤◌, List, length, map, slice_get, IsSomeAnd, All, AllPairs, Contains}
 use Rattle.std.specs.List.Sorted.{IsPermutation}
 use Rattle.metric_desc.specs.Desc.{Clash}
 use Rattle.registry_state.specs.Replay.{Family}

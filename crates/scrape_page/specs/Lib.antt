@@ -6,4 +6,5 @@ pub mod Faults
 pub mod Calls
 pub mod Shown
 pub mod Scraping
+pub mod Windows
 pub mod Framed

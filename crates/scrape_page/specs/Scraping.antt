@@ -1,5 +1,5 @@
 -- What one scrape of a page does to its boards.
-use Rattle.std.specs.Prelude.{◌≡◌, ℕ, ⊤, ◌⊎◌, List, [], ◌∷◌, ◌++◌, map, Result, Ok, Err}
+use Rattle.std.specs.Prelude.{◌≡◌, ℕ, ⊤, ◌⊎◌, List, [], ◌∷◌, ◌++◌, Some, map, slice_get, slice_set, Result, Ok, Err}
 use Rattle.expo_text.specs.Scraped.{Family, Scraped}
 use Rattle.register_rule.specs.declared.view.Answer.{Answer}
 use Rattle.snapshot_scan.specs.declared.contended.Contended.{Contended}
@@ -42,6 +42,14 @@ module _ {S : Type 0} (n c h g : ℕ) (recorded : S → List Answer) (quit : S �
   -- what a board does that is asked for a scrape: its registry's own scrape, again up to three times where the scan was given up
   abbrev pub BoardScrapes : RegistryView S → RegistryView S → Result Scraped NoScrape → Type 0
   BoardScrapes = AsksAgain (Scrapes n c h g recorded quit gave gave_up) 3
+
+  -- the board of this number alone was asked for a scrape, and gave this answer; all else is as it was
+  pub record BoardAloneScrapes (number : ℕ) (old new : PageView S) (result : Result Scraped NoScrape) : Type 0 where
+    pub before : RegistryView S
+    pub after : RegistryView S
+    pub at : slice_get old.boards number ≡ Some before
+    pub scrapes : BoardScrapes before after result
+    pub new_is : new ≡ record old { boards = slice_set old.boards number after }
 
   -- each board made a scrape, these are merged (the families of the merge are those that it shows: the page's, as `shown` says), and so what
   -- all boards hold is shown at their newest scrapes

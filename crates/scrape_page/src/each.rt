@@ -13,7 +13,7 @@ use std::alloc::Global;
 /// # Errors
 ///
 /// [`NoScrape`], 6 and 14: of 14 there was one more than [`MakesScrapes::again`].
-fn scrape_board<X: MakesScrapes>(board: &mut X) -> Result<Scrape, NoScrape>
+pub(crate) fn scrape_board<X: MakesScrapes>(board: &mut X) -> Result<Scrape, NoScrape>
     ensures { AsksAgain X.made X.again board.old board.new result }
 {
     scrape_again(&mut FromState { state: board })

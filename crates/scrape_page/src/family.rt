@@ -24,6 +24,13 @@ pub struct PageFamilyId {
 }
 
 impl PageFamilyId {
+    /// The family of this number.
+    pub fn of(number: usize) -> PageFamilyId
+        ensures { result.number ≡ number }
+    {
+        PageFamilyId { number }
+    }
+
     /// The family's number: how many families were registered before it.
     pub fn number(&self) -> usize
         ensures { result ≡ self.now.number }

@@ -17,6 +17,7 @@ mod page;
 mod registering;
 mod rooms;
 mod scraping;
+mod windows;
 
 pub use family::{PageFamily, PageFamilyId, Part};
 pub use fault::{BoardFault, PageChildFault, PageFamilyFault};
