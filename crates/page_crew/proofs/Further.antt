@@ -15,9 +15,9 @@ use Rattle.scrape_page.specs.Rooms.{HasRoom, AreFull}
 use Rattle.scrape_page.specs.declared.fault.PageChildFault.{PageChildFault}
 use Rattle.scrape_page.specs.declared.fault.PageChildFault.TheVariants.{NoSuchFamily, LabelCount, TooManyChildren, Full, NoMemory}
 use Rattle.page_crew.specs.Opened.{IsNewBoard}
-use Rattle.page_crew.specs.Owned.{page_of, rings_of, first_of, window_of, IsGrown, IsUnchanged, PageDid, IsGivenFurther, IsRefusedFurther, IsGivenByCrews, IsRefusedByCrews}
+use Rattle.page_crew.specs.Owned.{page_of, rings_of, first_of, window_of, IsGrown, IsUnchanged, PageDid, IsGivenFurther, IsRefusedFurther, IsGivenByCrew, IsRefusedByCrew}
 use Rattle.page_crew.specs.Rings.{Ring, AreGiven}
-use Rattle.page_crew.specs.declared.crews.Crews.{Crews}
+use Rattle.page_crew.specs.declared.owner.PageCrew.{PageCrew}
 use Rattle.page_crew.specs.declared.shared_scanner.SharedScanner.{SharedScanner}
 
 -- what is there
@@ -74,7 +74,7 @@ module _ {S : Type 0} (c h g : ℕ) (page : PageView S) (board : RegistryView S)
   only_memory NoMemory is = refl
 
 module _ {N C H G : ℕ} where
-  module _ (old mid new : Crews N C H G) (same : IsUnchanged old mid) where
+  module _ (old mid new : PageCrew N C H G) (same : IsUnchanged old mid) where
     grown_from : IsGrown mid new → IsGrown old new
     grown_from grown = record {
       owner = (grown.owner.0 ∙ same.0.0, grown.owner.1 ∙ same.0.1);
@@ -92,7 +92,7 @@ module _ {N C H G : ℕ} where
     unchanged_from more = ((more.0.0 ∙ same.0.0, more.0.1 ∙ same.0.1), more.1 ∙ same.1, more.2 ∙ same.2)
 
   -- a board came, and the page was asked again
-  module _ (old mid new : Crews N C H G) (grown : IsGrown old mid) (number : ℕ) (values : List (List ℕ)) (kind : Kind) where
+  module _ (old mid new : PageCrew N C H G) (grown : IsGrown old mid) (number : ℕ) (values : List (List ℕ)) (kind : Kind) where
     pub given_further : (result : Result Handle PageChildFault)
         → IfOk result (λ handle. PageDid mid new (λ a b. IsGivenOnPage C H G a b number values handle))
         → IfOk result (IsGivenFurther old new number values)
@@ -117,10 +117,10 @@ module _ {N C H G : ℕ} where
         )
 
   -- nothing had changed before it came
-  module _ (old mid new : Crews N C H G) (same : IsUnchanged old mid) (number : ℕ) (values : List (List ℕ)) (kind : Kind)
+  module _ (old mid new : PageCrew N C H G) (same : IsUnchanged old mid) (number : ℕ) (values : List (List ℕ)) (kind : Kind)
       (full : IsPageChildFault C H G (page_of old) number values (Full kind)) where
     pub given_then : (result : Result Handle PageChildFault) → IfOk result (IsGivenFurther mid new number values)
-        → IfOk result (IsGivenByCrews old new number values)
+        → IfOk result (IsGivenByCrew old new number values)
     given_then (Ok handle) given = inr (kind, full, (given.0, grown_from old mid given.0 same given.1, given.2))
     given_then (Err why) given = tt
 
@@ -136,6 +136,6 @@ module _ {N C H G : ℕ} where
         inr (memory, inr (came.0, grown_from old mid came.0 same came.1, came.2))
 
     pub refused_then : (result : Result Handle PageChildFault) → IfErr result (IsRefusedFurther mid new number kind)
-        → IfErr result (IsRefusedByCrews old new number values)
+        → IfErr result (IsRefusedByCrew old new number values)
     refused_then (Ok handle) fault = tt
     refused_then (Err why) fault = inr (kind, full, refused_from why fault)

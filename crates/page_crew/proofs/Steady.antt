@@ -1,5 +1,5 @@
 -- Calls of a page keep the ids of its boards, and how many they are.
-use Rattle.std.proofs.Common.{◌≡◌, ℕ, zero, suc, List, [], ◌∷◌, Some, length, slice_get, set, refl, sym, ap, subst, ◌∙◌, inl, inr}
+use Rattle.std.proofs.Common.{◌≡◌, ℕ, zero, suc, List, [], ◌∷◌, Some, length, map, slice_get, set, refl, sym, ap, subst, ◌∙◌, inl, inr}
 use Rattle.std.specs.Prelude.{Result, Ok, Err, IfOk, IfErr, OnOk, OnErr}
 use Rattle.std.specs.List.{AllZip}
 use Rattle.std.proofs.Math.ListN.{length-set}
@@ -17,13 +17,15 @@ use Rattle.scrape_http.specs.declared.source.NoScrape.{NoScrape}
 use Rattle.scrape_page.specs.Calls.{IsRegisteredOn, IsMadeOn, AddsFamily, IsGivenOnPage, LeavesPage, TakesPart}
 use Rattle.scrape_page.specs.Families.{PageView}
 use Rattle.scrape_page.specs.Rooms.{IsHome}
-use Rattle.scrape_page.specs.Scraping.{PageScrapes}
+use Rattle.scrape_page.specs.Scraping.{PageScrapes, BoardAloneScrapes}
+use Rattle.scrape_page.specs.Windows.{with_window, page_with_window}
 use Rattle.scrape_page.specs.declared.family.Part.{Part}
 use Rattle.scrape_page.specs.declared.family.PageFamilyId.{PageFamilyId}
 use Rattle.scrape_page.specs.declared.fault.PageChildFault.{PageChildFault}
 use Rattle.scrape_page.specs.declared.fault.PageChildFault.TheVariants.{NoSuchFamily, LabelCount, TooManyChildren, Full, NoMemory}
 use Rattle.scrape_page.specs.declared.fault.PageFamilyFault.{PageFamilyFault}
-use Rattle.scrape_page.proofs.Again.{SameFace, same_made, same_stopped}
+use Rattle.scrape_page.proofs.Again.{SameFace, same_made, same_stopped, same_asked}
+use Rattle.scrape_page.proofs.Windowed.{same_windowed}
 use Rattle.page_crew.specs.Boards.{AreNumbered}
 use Rattle.page_crew.specs.Rings.{Ring, HaveRoom}
 
@@ -134,3 +136,17 @@ module _ {S : Type 0} where
       keeps_zip a.boards b.boards (same_made n c h g recorded quit gave gave_up a.boards b.boards did.parts did.each)
   scrape_keeps n c h g recorded quit gave gave_up a b (Err why) did =
       keeps_zip a.boards b.boards (same_stopped n c h g recorded quit gave gave_up a.boards b.boards why did.stopped)
+
+  -- one board was asked for a scrape
+  pub board_keeps : (n c h g : ℕ) (recorded : S → List Answer) (quit : S → ℕ) (gave : S → S → Answer → Type 0)
+      (gave_up : S → S → Contended → Type 0) (number : ℕ) (a b : PageView S) (result : Result Scraped NoScrape)
+      → BoardAloneScrapes n c h g recorded quit gave gave_up number a b result → KeepsIds a.boards b.boards
+  board_keeps n c h g recorded quit gave gave_up number a b result did =
+      keeps_set a.boards b.boards number did.before did.after did.at
+      (same_asked n c h g recorded quit gave gave_up did.before did.after result did.scrapes).id
+      (ap (λ (p : PageView S). p.boards) did.new_is)
+
+  -- each board keeps another number of scrapes
+  pub window_keeps : (window : ℕ) (a b : PageView S) → b ≡ page_with_window window a → KeepsIds a.boards b.boards
+  window_keeps window a b is = subst (KeepsIds a.boards) (sym (ap (λ (p : PageView S). p.boards) is))
+      (keeps_zip a.boards (map (with_window window) a.boards) (same_windowed window a.boards))

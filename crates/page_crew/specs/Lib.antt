@@ -1,7 +1,11 @@
 pub mod Shared
+pub mod Changes
 pub mod Counting
+pub mod Publishing
 pub mod Held
+pub mod Settling
 pub mod Opened
 pub mod Rings
 pub mod Boards
 pub mod Owned
+pub mod Locking

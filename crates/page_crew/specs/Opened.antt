@@ -9,8 +9,8 @@ use Rattle.snapshot_update.specs.Workers.{index_of, lists_of}
 use Rattle.registry_state.specs.Faults.{IsWindow}
 use Rattle.registry_state.specs.Kept.{RegistryView}
 use Rattle.registry_state.specs.Replay.{nothing}
-use Rattle.page_crew.specs.declared.fault.CrewsFault.{CrewsFault}
-use Rattle.page_crew.specs.declared.fault.CrewsFault.TheVariants as Opens
+use Rattle.page_crew.specs.declared.fault.PageCrewFault.{PageCrewFault}
+use Rattle.page_crew.specs.declared.fault.PageCrewFault.TheVariants as Opens
 use Rattle.page_crew.specs.declared.fault.NoBoard.{NoBoard}
 use Rattle.page_crew.specs.declared.fault.NoBoard.TheVariants as No
 use Rattle.page_crew.specs.declared.shared_recorder.SharedRecorder.{SharedRecorder}
@@ -52,11 +52,11 @@ no_board_number No.Geometry = 13
 no_board_number No.NoMemory = 6
 
 -- why there is no page of such a geometry that keeps so many scrapes: that many are not kept; or its first board is not made
-abbrev pub IsCrewsFault : (n c h g window : ℕ) → CrewsFault → Type 0
-IsCrewsFault n c h g window Opens.BadWindow = ¬ (IsWindow window)
-IsCrewsFault n c h g window (Opens.Board why) = IsWindow window × IsNoBoard n c h g 0 why
+abbrev pub IsPageCrewFault : (n c h g window : ℕ) → PageCrewFault → Type 0
+IsPageCrewFault n c h g window Opens.BadWindow = ¬ (IsWindow window)
+IsPageCrewFault n c h g window (Opens.Board why) = IsWindow window × IsNoBoard n c h g 0 why
 
 -- the number of each reason
-abbrev pub crews_fault_number : CrewsFault → ℕ
-crews_fault_number Opens.BadWindow = 31
-crews_fault_number (Opens.Board why) = no_board_number why
+abbrev pub page_crew_fault_number : PageCrewFault → ℕ
+page_crew_fault_number Opens.BadWindow = 31
+page_crew_fault_number (Opens.Board why) = no_board_number why

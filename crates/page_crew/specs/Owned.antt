@@ -13,7 +13,8 @@ use Rattle.scrape_page.specs.Faults.{IsPageChildFault}
 use Rattle.scrape_page.specs.declared.fault.PageChildFault.{PageChildFault}
 use Rattle.scrape_page.specs.declared.fault.PageChildFault.TheVariants.{Full, NoMemory}
 use Rattle.scrape_page.specs.Scraping.{PageScrapes}
-use Rattle.page_crew.specs.declared.crews.Crews.{Crews}
+use Rattle.scrape_page.specs.Windows.{page_with_window}
+use Rattle.page_crew.specs.declared.owner.PageCrew.{PageCrew}
 use Rattle.page_crew.specs.declared.page_recorder.PageRecorder.{PageRecorder}
 use Rattle.page_crew.specs.declared.shared_recorder.SharedRecorder.{SharedRecorder}
 use Rattle.page_crew.specs.declared.shared_scanner.SharedScanner.{SharedScanner}
@@ -24,28 +25,28 @@ use Rattle.page_crew.specs.Shared.{recorded_in, quit_in, gave_in, gave_up_in}
 
 module _ {N C H G : ℕ} where
   -- the page
-  abbrev pub page_of : Crews N C H G → PageView (SharedScanner N C H G)
+  abbrev pub page_of : PageCrew N C H G → PageView (SharedScanner N C H G)
   page_of c = c.page
 
   -- what was given to the recorders, each by its ring
-  abbrev pub rings_of : Crews N C H G → List (Ring N C H G)
+  abbrev pub rings_of : PageCrew N C H G → List (Ring N C H G)
   rings_of c = c.rings.items
 
   -- the id of the first board; the others follow it
-  abbrev pub first_of : Crews N C H G → ℕ
+  abbrev pub first_of : PageCrew N C H G → ℕ
   first_of c = c.first
 
   -- how many scrapes each board keeps
-  abbrev pub window_of : Crews N C H G → ℕ
+  abbrev pub window_of : PageCrew N C H G → ℕ
   window_of c = c.window
 
-  -- what neither is changed by a call: the first id, and how many scrapes are kept
-  abbrev pub IsSameOwner : (old new : Crews N C H G) → Type 0
+  -- the first id is the same, and how many scrapes each board keeps
+  abbrev pub IsSameOwner : (old new : PageCrew N C H G) → Type 0
   IsSameOwner old new = (first_of new ≡ first_of old) × (window_of new ≡ window_of old)
 
   -- A board came, behind the others, on which nothing is registered and nothing was counted; its recorders were given to the rings, that of each
   -- worker to the ring of its number
-  pub record IsGrown (old new : Crews N C H G) : Type 0 where
+  pub record IsGrown (old new : PageCrew N C H G) : Type 0 where
     pub owner : IsSameOwner old new
     pub board : RegistryView (SharedScanner N C H G)
     pub recorders : List (SharedRecorder N C H G)
@@ -54,34 +55,41 @@ module _ {N C H G : ℕ} where
     pub given : AreGiven (rings_of old) (rings_of new) recorders
 
   -- nothing has changed
-  abbrev pub IsUnchanged : (old new : Crews N C H G) → Type 0
+  abbrev pub IsUnchanged : (old new : PageCrew N C H G) → Type 0
   IsUnchanged old new = IsSameOwner old new × (page_of new ≡ page_of old) × (rings_of new ≡ rings_of old)
 
   -- the page did this, and nothing else has changed
-  abbrev pub PageDid : (old new : Crews N C H G) → (PageView (SharedScanner N C H G) → PageView (SharedScanner N C H G) → Type 0) → Type 0
+  abbrev pub PageDid : (old new : PageCrew N C H G) → (PageView (SharedScanner N C H G) → PageView (SharedScanner N C H G) → Type 0) → Type 0
   PageDid old new Did = IsSameOwner old new × Did (page_of old) (page_of new) × (rings_of new ≡ rings_of old)
+
+  -- each board keeps so many scrapes from now on, also one that comes later; nothing else has changed
+  pub record KeepsFromNow (window : ℕ) (old new : PageCrew N C H G) : Type 0 where
+    pub first_is : first_of new ≡ first_of old
+    pub window_is : window_of new ≡ window
+    pub page : page_of new ≡ page_with_window window (page_of old)
+    pub rings : rings_of new ≡ rings_of old
 
   -- A page of one board, without families, the first of these ids, on which nothing was counted; each board keeps so many scrapes. Each ring
   -- was given the board's recorder of its number, and is that of the page's recorder of its number; there are as many of these, and they know no
   -- board yet
-  pub record IsOpened (first window : ℕ) (crews : Crews N C H G) (recorders : List (PageRecorder N C H G)) : Type 0 where
-    pub first_is : first_of crews ≡ first
-    pub window_is : window_of crews ≡ window
+  pub record IsOpened (first window : ℕ) (crew : PageCrew N C H G) (recorders : List (PageRecorder N C H G)) : Type 0 where
+    pub first_is : first_of crew ≡ first
+    pub window_is : window_of crew ≡ window
     pub board : RegistryView (SharedScanner N C H G)
     pub theirs : List (SharedRecorder N C H G)
     pub is_new : IsNewBoard first window board theirs
-    pub page : page_of crews ≡ record { boards = board ∷ []; families = [] }
-    pub rings : length (rings_of crews) ≡ N
-    pub given : (k : ℕ) (p : Ring N C H G) (r : SharedRecorder N C H G) → slice_get (rings_of crews) k ≡ Some p
+    pub page : page_of crew ≡ record { boards = board ∷ []; families = [] }
+    pub rings : length (rings_of crew) ≡ N
+    pub given : (k : ℕ) (p : Ring N C H G) (r : SharedRecorder N C H G) → slice_get (rings_of crew) k ≡ Some p
         → slice_get theirs k ≡ Some r → sent p ≡ r ∷ []
     pub many : length recorders ≡ N
     pub none : All (HasNone first) recorders
-    pub pairs : ArePaired (rings_of crews) recorders
+    pub pairs : ArePaired (rings_of crew) recorders
 
-  module _ (old new : Crews N C H G) (number : ℕ) where
+  module _ (old new : PageCrew N C H G) (number : ℕ) where
     -- a board came, and then the child of these values was given by the page
     abbrev pub IsGivenFurther : (values : List (List ℕ)) → Handle → Type 0
-    IsGivenFurther values handle = (mid : Crews N C H G) × IsGrown old mid
+    IsGivenFurther values handle = (mid : PageCrew N C H G) × IsGrown old mid
         × PageDid mid new (λ a b. IsGivenOnPage C H G a b number values handle)
 
     -- Why it was not, where no board had a free slot of this kind. No board may come, or none has a slot of the kind (22). Or there was
@@ -90,20 +98,20 @@ module _ {N C H G : ℕ} where
     IsRefusedFurther kind why =
         ((why ≡ Full kind) × ((96 ≤ length (page_of old).boards) ⊎ (slots C H G kind ≡ 0)) × IsUnchanged old new)
         ⊎ ((why ≡ NoMemory) × (IsUnchanged old new
-        ⊎ ((mid : Crews N C H G) × IsGrown old mid × PageDid mid new (λ a b. LeavesPage C H G a b number NoMemory))))
+        ⊎ ((mid : PageCrew N C H G) × IsGrown old mid × PageDid mid new (λ a b. LeavesPage C H G a b number NoMemory))))
 
     -- the child of these values was given by the page; or no board had a free slot for it, one came, and then it was given
-    abbrev pub IsGivenByCrews : (values : List (List ℕ)) → Handle → Type 0
-    IsGivenByCrews values handle = PageDid old new (λ a b. IsGivenOnPage C H G a b number values handle)
+    abbrev pub IsGivenByCrew : (values : List (List ℕ)) → Handle → Type 0
+    IsGivenByCrew values handle = PageDid old new (λ a b. IsGivenOnPage C H G a b number values handle)
         ⊎ ((kind : Kind) × IsPageChildFault C H G (page_of old) number values (Full kind) × IsGivenFurther values handle)
 
     -- why there is none: the page's refusal, but for want of slots; or no board had a free slot, and none came, or there was no memory
-    abbrev pub IsRefusedByCrews : (values : List (List ℕ)) → PageChildFault → Type 0
-    IsRefusedByCrews values why =
+    abbrev pub IsRefusedByCrew : (values : List (List ℕ)) → PageChildFault → Type 0
+    IsRefusedByCrew values why =
         (IsPageChildFault C H G (page_of old) number values why × ((kind : Kind) → why ≢ Full kind)
         × PageDid old new (λ a b. LeavesPage C H G a b number why))
         ⊎ ((kind : Kind) × IsPageChildFault C H G (page_of old) number values (Full kind) × IsRefusedFurther kind why)
 
   -- what one scrape does, and answers: that of the page, and nothing else has changed
-  abbrev pub CrewsScrape : (old new : Crews N C H G) → Result Scraped NoScrape → Type 0
-  CrewsScrape old new result = PageDid old new (λ a b. PageScrapes N C H G recorded_in quit_in gave_in gave_up_in a b result)
+  abbrev pub ScrapesByCrew : (old new : PageCrew N C H G) → Result Scraped NoScrape → Type 0
+  ScrapesByCrew old new result = PageDid old new (λ a b. PageScrapes N C H G recorded_in quit_in gave_in gave_up_in a b result)

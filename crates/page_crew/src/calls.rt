@@ -1,15 +1,15 @@
 //! What a page's owner asks of the page.
 ghost use Rattle.std.specs.Prelude.{◌≡◌};
 
-use crate::crews::Crews;
 use crate::fault::NoBoard;
+use crate::owner::PageCrew;
 use crate::shared_scanner::SharedScanner;
 use metric_desc::{Desc, Kind};
 use metric_names::LabelValue;
 use registry_state::Handle;
 use scrape_page::{Page, PageChildFault, PageFamilyFault, PageFamilyId};
 
-impl<const N: usize, const C: usize, const H: usize, const G: usize> Crews<N, C, H, G> {
+impl<const N: usize, const C: usize, const H: usize, const G: usize> PageCrew<N, C, H, G> {
     ghost use Rattle.std.specs.Prelude.{◌≡◌, ◌≢◌, ◌<◌, ℕ, length, slice_get, All, IfErr, IfOk, IsSomeAnd, MatchOption, OnErr, OnOk};
     ghost use Rattle.registry_state.specs.Calls.{IsInside};
     ghost use Rattle.registry_state.specs.Replay.{slots};
@@ -17,7 +17,7 @@ impl<const N: usize, const C: usize, const H: usize, const G: usize> Crews<N, C,
     ghost use Rattle.scrape_page.specs.Faults.{AreApart, IsPageFamilyFault, IsPageChildFault};
     ghost use Rattle.scrape_page.specs.Calls.{AddsFamily, IsGivenOnPage, LeavesPage};
     ghost use Rattle.scrape_page.specs.declared.fault.PageChildFault.TheVariants.{Full};
-    ghost use Rattle.page_crew.specs.Owned.{page_of, PageDid, IsUnchanged, IsGivenByCrews, IsGivenFurther, IsRefusedByCrews, IsRefusedFurther};
+    ghost use Rattle.page_crew.specs.Owned.{page_of, PageDid, IsUnchanged, IsGivenByCrew, IsGivenFurther, IsRefusedByCrew, IsRefusedFurther};
 
     /// Registers a family in a group: [`Page::register`].
     ///
@@ -101,9 +101,9 @@ impl<const N: usize, const C: usize, const H: usize, const G: usize> Crews<N, C,
         family: PageFamilyId,
         values: &[LabelValue],
     ) -> Result<Handle, PageChildFault>
-        ensures given { IfOk result (IsGivenByCrews self.old self.new family.number values.now) }
+        ensures given { IfOk result (IsGivenByCrew self.old self.new family.number values.now) }
         ensures inside { IfOk result (IsInside C H G) }
-        ensures fault { IfErr result (IsRefusedByCrews self.old self.new family.number values.now) }
+        ensures fault { IfErr result (IsRefusedByCrew self.old self.new family.number values.now) }
     {
         match self.ask(family, values) {
             Err(PageChildFault::Full { kind }) => self.ask_further(family, values, kind),

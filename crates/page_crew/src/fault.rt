@@ -1,6 +1,7 @@
-//! Why there is no board.
+//! Why there is no board, and why changes are not published.
 ghost use Rattle.std.specs.Prelude.{◌≡◌};
 
+use snapshot_update::CountFault;
 use thiserror::Error;
 
 /// Why no board is made.
@@ -34,7 +35,7 @@ impl NoBoard {
 
 /// Why there is no page with those who work on it.
 #[derive(Clone, Copy, Debug, PartialEq, Eq, Error)]
-pub enum CrewsFault {
+pub enum PageCrewFault {
     /// Refusal 31: the window is not 1 to 1,024.
     #[error("the window is not 1 to 1024")]
     BadWindow,
@@ -43,16 +44,41 @@ pub enum CrewsFault {
     Board(NoBoard),
 }
 
-impl CrewsFault {
-    ghost use Rattle.page_crew.specs.Opened.{crews_fault_number};
+impl PageCrewFault {
+    ghost use Rattle.page_crew.specs.Opened.{page_crew_fault_number};
 
     /// The refusal's number.
     pub fn number(&self) -> u8
-        ensures { result ≡ crews_fault_number self.now }
+        ensures { result ≡ page_crew_fault_number self.now }
     {
         match self {
-            CrewsFault::BadWindow => 31,
-            CrewsFault::Board(why) => why.number(),
+            PageCrewFault::BadWindow => 31,
+            PageCrewFault::Board(why) => why.number(),
+        }
+    }
+}
+
+/// Why several changes are not published. No number has changed then.
+#[derive(Clone, Copy, Debug, PartialEq, Eq, Error)]
+pub enum PublishFault {
+    /// Refusal 47: the changes are of two boards, which are never one version.
+    #[error("the changes are of two boards, which are never one version")]
+    TwoBoards,
+    /// Refusals 16, 15, 11 and 12.
+    #[error("{0}")]
+    Count(CountFault),
+}
+
+impl PublishFault {
+    ghost use Rattle.page_crew.specs.Publishing.{publish_fault_number};
+
+    /// The refusal's number.
+    pub fn number(&self) -> u8
+        ensures { result ≡ publish_fault_number self.now }
+    {
+        match self {
+            PublishFault::TwoBoards => 47,
+            PublishFault::Count(fault) => fault.number(),
         }
     }
 }

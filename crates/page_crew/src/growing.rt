@@ -1,16 +1,16 @@
 //! A page's owner makes boards.
 ghost use Rattle.std.specs.Prelude.{◌≡◌};
 
-use crate::crews::Crews;
 use crate::fault::NoBoard;
 use crate::opening::{NewBoard, new_board};
+use crate::owner::PageCrew;
 use crate::rings::give;
 use scrape_page::BoardFault;
 
 /// The most boards of a page.
 const MOST: usize = 96;
 
-impl<const N: usize, const C: usize, const H: usize, const G: usize> Crews<N, C, H, G> {
+impl<const N: usize, const C: usize, const H: usize, const G: usize> PageCrew<N, C, H, G> {
     ghost use Rattle.std.specs.Prelude.{◌≡◌, length, IfErr, IfOk, OnErr, OnOk};
     ghost use Rattle.page_crew.specs.Opened.{IsNoBoard};
     ghost use Rattle.page_crew.specs.Owned.{page_of, IsGrown, IsUnchanged};

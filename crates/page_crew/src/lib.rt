@@ -2,18 +2,27 @@
 #![tactic(auto)]
 
 mod calls;
-mod crews;
+mod change;
 mod fault;
 mod growing;
+mod listing;
 mod opening;
+mod owner;
 mod page_recorder;
+mod page_registry;
+mod publishing;
 mod rings;
 mod scraping;
+mod settling;
 mod shared_recorder;
 mod shared_scanner;
 
-pub use crews::Crews;
-pub use fault::{CrewsFault, NoBoard};
+pub use change::{Change, down, inc, observe, up};
+pub use fault::{NoBoard, PageCrewFault, PublishFault};
+pub use listing::{are_of, ops_of};
+pub use owner::PageCrew;
 pub use page_recorder::PageRecorder;
+pub use page_registry::{FromPage, PageRegistry};
+pub use settling::settle_board;
 pub use shared_recorder::SharedRecorder;
 pub use shared_scanner::SharedScanner;

@@ -3,7 +3,9 @@ ghost use Rattle.std.specs.Prelude.{◌≡◌, ◌≢◌, ◌+◌, ◌<◌, ◌�
 ghost use Rattle.bucket_math.specs.Bounds.{place_of};
 ghost use Rattle.ledger_core.specs.declared.op.Op.TheVariants.{Inc, Observe, Up, Down};
 ghost use Rattle.page_crew.specs.Shared.{id_in};
-ghost use Rattle.page_crew.specs.Counting.{AreInRow};
+ghost use Rattle.rtrb.specs.Ring.{received};
+ghost use Rattle.page_crew.specs.Counting.{AreInRow, AreTaken};
+ghost use Rattle.std.proofs.Props.{props};
 
 use crate::shared_recorder::SharedRecorder;
 use ledger_core::{Counter, Gauge, Histogram, Op};
@@ -24,6 +26,7 @@ pub struct PageRecorder<const N: usize, const C: usize, const H: usize, const G:
     ghost low: { first + 96 < 18446744073709551616 },
     ghost few: { length recorders.items ≤ 96 },
     ghost room: { 96 ≤ vec_capacity recorders },
+    ghost taken: { AreTaken (received more) recorders.items } by { Prim.hlevel props },
 }
 
 impl<const N: usize, const C: usize, const H: usize, const G: usize> Drop
@@ -42,6 +45,7 @@ impl<const N: usize, const C: usize, const H: usize, const G: usize> PageRecorde
     ghost use Rattle.rtrb.specs.Ring.{SameConsumer};
     ghost use Rattle.page_crew.specs.Held.{recorders_of, first_of, feed_of, HasNone};
     ghost use Rattle.page_crew.specs.Counting.{IsPublishedOn, IsRefusedOn};
+    ghost use Rattle.page_crew.specs.Settling.{CountsWith};
     ghost use Rattle.page_crew.specs.declared.shared_recorder.SharedRecorder.{SharedRecorder};
 
     /// That of a page whose first board has this id. It gets its worker of each board by this ring, and its room is made here: for all boards
@@ -53,7 +57,8 @@ impl<const N: usize, const C: usize, const H: usize, const G: usize> PageRecorde
         first: u64,
         more: Consumer<SharedRecorder<N, C, H, G>>,
     ) -> Result<PageRecorder<N, C, H, G>, AllocError>
-        requires { first + 96 < 18446744073709551616 }
+        requires low { first + 96 < 18446744073709551616 }
+        requires fresh { received more ≡ [] }
         ensures none { IfOk result (HasNone first) }
         ensures feed { IfOk result (λ r. feed_of r ≡ more.entry) }
     {
@@ -65,6 +70,22 @@ impl<const N: usize, const C: usize, const H: usize, const G: usize> PageRecorde
         })
     }
 
+    /// The id of the page's first board; those of the others follow it.
+    pub fn first(&self) -> u64
+        ensures { result ≡ first_of self.now }
+    {
+        self.first
+    }
+
+    /// Its recorder of each board that it knows, in the order of the boards' ids: of those that it had after its last call.
+    pub fn recorders(&self) -> &[SharedRecorder<N, C, H, G>]
+        ensures recorders { result.now ≡ recorders_of self.now }
+        ensures ids { AreInRow (first_of self.now) result.now }
+        ensures taken { AreTaken (received (feed_of self.now)) result.now }
+    {
+        &self.recorders
+    }
+
     /// Takes the workers of boards that came since, and answers how many boards it has now.
     pub fn join(&mut self) -> usize
         ensures count { result ≡ length (recorders_of self.new) }
@@ -73,13 +94,14 @@ impl<const N: usize, const C: usize, const H: usize, const G: usize> PageRecorde
         ensures feed { SameConsumer (feed_of self.old) (feed_of self.new) }
     {
         for _more in self.recorders.len()..MOST {
-            let Ok(recorder) = self.more.pop() else {
-                break;
-            };
-            if recorder.id() != self.first + self.recorders.len() as u64 {
+            if self.more.is_empty() {
                 break;
             }
-            self.recorders.push_reserved(recorder);
+            // A worker of another board stays in the ring.
+            if self.more.peek_known().id() != self.first + self.recorders.len() as u64 {
+                break;
+            }
+            self.recorders.push_reserved(self.more.pop_known());
         }
         self.recorders.len()
     }
@@ -97,6 +119,16 @@ impl<const N: usize, const C: usize, const H: usize, const G: usize> PageRecorde
             return Some(place as usize);
         }
         None
+    }
+
+    // Its recorder of the board of this id, if it knows the board.
+    pub(crate) fn recorder_on(&self, board: u64) -> Option<&SharedRecorder<N, C, H, G>>
+        ensures { MatchOption result (All (λ r. id_in r ≢ board) (recorders_of self.now)) (λ r. CountsWith board self.now r.now) }
+    {
+        match self.place_of(board) {
+            Some(place) => Some(&self.recorders[place]),
+            None => None,
+        }
     }
 
     // The place of the board of this id, also where it came since.
@@ -119,8 +151,8 @@ impl<const N: usize, const C: usize, const H: usize, const G: usize> PageRecorde
     ///
     /// # Errors
     ///
-    /// 16 [`CountFault::WrongRegistry`], no board of the page has this id; then [`CountFault::Apply`]: 15, the worker has published
-    /// 2^64 - 1 times on this board; 11, a slot is none of the board's; 12, a number would pass 2^48 - 1. No number has changed then.
+    /// 16 [`CountFault::WrongRegistry`], no board that it knows has this id, also after it looked for boards that came; then
+    /// [`CountFault::Apply`]: 15, the worker has published 2^64 - 1 times on this board; 11, a slot is none of the board's; 12, a number would pass 2^48 - 1. No number has changed then.
     #[inline(always)]
     pub fn apply(&mut self, id: u64, ops: &[Op]) -> Result<(), CountFault>
         ensures published { OnOk result (IsPublishedOn id ops.now (recorders_of self.old) (recorders_of self.new)) }
@@ -141,7 +173,7 @@ impl<const N: usize, const C: usize, const H: usize, const G: usize> PageRecorde
     ///
     /// # Errors
     ///
-    /// 16, the counter is of no board of the page; 15, 11 and 12 as [`PageRecorder::apply`].
+    /// 16, the counter is of no board that it knows; 15, 11 and 12 as [`PageRecorder::apply`].
     pub fn inc(&mut self, counter: &Counter, by: u64) -> Result<(), CountFault>
         ensures counted { OnOk result (IsPublishedOn counter.now.registry (Inc counter.now.slot by ∷ []) (recorders_of self.old)
             (recorders_of self.new)) }
@@ -150,13 +182,13 @@ impl<const N: usize, const C: usize, const H: usize, const G: usize> PageRecorde
         ensures first { first_of self.new ≡ first_of self.old }
         ensures feed { SameConsumer (feed_of self.old) (feed_of self.new) }
     {
-        self.apply(
-            counter.registry,
-            &[Op::Inc {
-                counter: counter.slot,
-                by,
-            }],
-        )
+        let Some(place) = self.find(counter.registry) else {
+            return Err(CountFault::WrongRegistry);
+        };
+        match self.recorders[place].inc(counter, by) {
+            Ok(()) => Ok(()),
+            Err(fault) => Err(fault),
+        }
     }
 
     /// Counts a value of a histogram: its bucket, the sum and the count rise in one version of its board.
@@ -172,14 +204,13 @@ impl<const N: usize, const C: usize, const H: usize, const G: usize> PageRecorde
         ensures first { first_of self.new ≡ first_of self.old }
         ensures feed { SameConsumer (feed_of self.old) (feed_of self.new) }
     {
-        self.apply(
-            hist.registry,
-            &[Op::Observe {
-                hist: hist.slot,
-                place: hist.bounds.place(value),
-                value,
-            }],
-        )
+        let Some(place) = self.find(hist.registry) else {
+            return Err(CountFault::WrongRegistry);
+        };
+        match self.recorders[place].observe(hist, value) {
+            Ok(()) => Ok(()),
+            Err(fault) => Err(fault),
+        }
     }
 
     /// Raises a gauge by `by`: one version of its board.
@@ -195,13 +226,13 @@ impl<const N: usize, const C: usize, const H: usize, const G: usize> PageRecorde
         ensures first { first_of self.new ≡ first_of self.old }
         ensures feed { SameConsumer (feed_of self.old) (feed_of self.new) }
     {
-        self.apply(
-            gauge.registry,
-            &[Op::Up {
-                gauge: gauge.slot,
-                by,
-            }],
-        )
+        let Some(place) = self.find(gauge.registry) else {
+            return Err(CountFault::WrongRegistry);
+        };
+        match self.recorders[place].up(gauge, by) {
+            Ok(()) => Ok(()),
+            Err(fault) => Err(fault),
+        }
     }
 
     /// Lowers a gauge by `by`: one version of its board.
@@ -217,12 +248,12 @@ impl<const N: usize, const C: usize, const H: usize, const G: usize> PageRecorde
         ensures first { first_of self.new ≡ first_of self.old }
         ensures feed { SameConsumer (feed_of self.old) (feed_of self.new) }
     {
-        self.apply(
-            gauge.registry,
-            &[Op::Down {
-                gauge: gauge.slot,
-                by,
-            }],
-        )
+        let Some(place) = self.find(gauge.registry) else {
+            return Err(CountFault::WrongRegistry);
+        };
+        match self.recorders[place].down(gauge, by) {
+            Ok(()) => Ok(()),
+            Err(fault) => Err(fault),
+        }
     }
 }

@@ -1,16 +1,18 @@
 //! A share in a board and a worker of it: what a thread counts with.
 ghost use Rattle.std.specs.Prelude.{◌≡◌, ℕ, ◌<◌, [], ◌∷◌, ◌++◌, length, slice_index, OnOk, OnErr, IfErr};
 ghost use Rattle.std.specs.Arc.{arc_value};
+ghost use Rattle.bucket_math.specs.Bounds.{place_of};
 ghost use Rattle.ledger_core.specs.Ops.{width, sum_ops};
+ghost use Rattle.ledger_core.specs.declared.op.Op.TheVariants.{Inc, Observe, Up, Down};
 ghost use Rattle.ledger_core.specs.Row.{Accepts};
 ghost use Rattle.register_rule.specs.Sums.{word_after};
 ghost use Rattle.snapshot_update.specs.Updated.{IsUpdated};
-ghost use Rattle.snapshot_update.specs.Workers.{index_of, member_of, lists_of, IsWorkerOf, IsApplyFault};
+ghost use Rattle.snapshot_update.specs.Workers.{index_of, member_of, lists_of, IsWorkerOf, IsApplyFault, IsCounted, IsCountFault};
 ghost use Rattle.std.proofs.Props.{props};
 
-use ledger_core::{Op, Row};
+use ledger_core::{Counter, Gauge, Histogram, Op, Row};
 use register_rule::Board;
-use snapshot_update::{ApplyFault, Worker};
+use snapshot_update::{ApplyFault, CountFault, Worker};
 use std::sync::Arc;
 
 /// A worker, and a share in its board. It may move to a thread of its own. Its calls take no lock and no memory, and wait for nobody.
@@ -73,6 +75,76 @@ impl<const N: usize, const C: usize, const H: usize, const G: usize> SharedRecor
             → slice_index result.now k ≡ word_after (sum_ops C H) (member_of (worker_in self.now)).work.made k }
     {
         self.worker.row()
+    }
+
+    /// Adds `by` to a counter: one version. [`Worker::inc`].
+    ///
+    /// # Errors
+    ///
+    /// 16, 15, 11 and 12. Nothing has changed then.
+    pub fn inc(&mut self, counter: &Counter, by: u64) -> Result<(), CountFault>
+        ensures board { board_in self.new ≡ board_in self.old }
+        ensures index { index_of (worker_in self.new) ≡ index_of (worker_in self.old) }
+        ensures counted { OnOk result (IsCounted (id_in self.old) counter.now.registry (Inc counter.now.slot by)
+            (worker_in self.old) (worker_in self.new)) }
+        ensures fault { IfErr result (IsCountFault C H G (id_in self.old) counter.now.registry (Inc counter.now.slot by)
+            (member_of (worker_in self.old))) }
+        ensures unchanged { OnErr result (member_of (worker_in self.new) ≡ member_of (worker_in self.old)) }
+    {
+        self.worker.inc(&self.board, counter, by)
+    }
+
+    /// Counts a value of a histogram: one version. [`Worker::observe`].
+    ///
+    /// # Errors
+    ///
+    /// 16, 15, 11 and 12. Nothing has changed then.
+    pub fn observe(&mut self, hist: &Histogram, value: u64) -> Result<(), CountFault>
+        ensures board { board_in self.new ≡ board_in self.old }
+        ensures index { index_of (worker_in self.new) ≡ index_of (worker_in self.old) }
+        ensures counted { OnOk result
+            (IsCounted (id_in self.old) hist.now.registry (Observe hist.now.slot (place_of hist.now.bounds value) value)
+            (worker_in self.old) (worker_in self.new)) }
+        ensures fault { IfErr result
+            (IsCountFault C H G (id_in self.old) hist.now.registry (Observe hist.now.slot (place_of hist.now.bounds value) value)
+            (member_of (worker_in self.old))) }
+        ensures unchanged { OnErr result (member_of (worker_in self.new) ≡ member_of (worker_in self.old)) }
+    {
+        self.worker.observe(&self.board, hist, value)
+    }
+
+    /// Raises a gauge by `by`: one version. [`Worker::up`].
+    ///
+    /// # Errors
+    ///
+    /// 16, 15, 11 and 12. Nothing has changed then.
+    pub fn up(&mut self, gauge: &Gauge, by: u64) -> Result<(), CountFault>
+        ensures board { board_in self.new ≡ board_in self.old }
+        ensures index { index_of (worker_in self.new) ≡ index_of (worker_in self.old) }
+        ensures counted { OnOk result (IsCounted (id_in self.old) gauge.now.registry (Up gauge.now.slot by)
+            (worker_in self.old) (worker_in self.new)) }
+        ensures fault { IfErr result (IsCountFault C H G (id_in self.old) gauge.now.registry (Up gauge.now.slot by)
+            (member_of (worker_in self.old))) }
+        ensures unchanged { OnErr result (member_of (worker_in self.new) ≡ member_of (worker_in self.old)) }
+    {
+        self.worker.up(&self.board, gauge, by)
+    }
+
+    /// Lowers a gauge by `by`: one version. [`Worker::down`].
+    ///
+    /// # Errors
+    ///
+    /// 16, 15, 11 and 12. Nothing has changed then.
+    pub fn down(&mut self, gauge: &Gauge, by: u64) -> Result<(), CountFault>
+        ensures board { board_in self.new ≡ board_in self.old }
+        ensures index { index_of (worker_in self.new) ≡ index_of (worker_in self.old) }
+        ensures counted { OnOk result (IsCounted (id_in self.old) gauge.now.registry (Down gauge.now.slot by)
+            (worker_in self.old) (worker_in self.new)) }
+        ensures fault { IfErr result (IsCountFault C H G (id_in self.old) gauge.now.registry (Down gauge.now.slot by)
+            (member_of (worker_in self.old))) }
+        ensures unchanged { OnErr result (member_of (worker_in self.new) ≡ member_of (worker_in self.old)) }
+    {
+        self.worker.down(&self.board, gauge, by)
     }
 
     /// Publishes these operations as one version, all of them or nothing. By whose handles they are is the caller's to know.

@@ -1,10 +1,12 @@
 use Rattle.std.proofs.Common.{◌≡◌, ap, arith}
 use Rattle.std.proofs.Math.ListN.{length-set}
 use Rattle.register_rule.specs.Seats.{board_id}
+use Rattle.rtrb.specs.Ring.{received}
 use Rattle.page_crew.specs.Shared.{id_in}
 use Rattle.page_crew.specs.Counting.{IsPublished, IsRefused}
 use Rattle.snapshot_update.specs.declared.faults.CountFault.TheVariants.{Apply}
 use Rattle.page_crew.proofs.Rows.{row_set, one_did, one_read}
+use Rattle.page_crew.proofs.Taken.{taken_set}
 use Rattle.page_crew.proofs.page_recorder.PageRecorder.apply.Goals as goal
 
 pub invariant_of-self : goal.invariant_of-self
@@ -20,6 +22,8 @@ invariant_of-self g c =
       low = c.find.new.self.low;
       few = omega (arith, few, many);
       room = c.find.new.self.room;
+      taken = taken_set (received c.find.new.self.more) mid c.in-Some.place c.index_mut.result.now c.apply.new.self read.0
+          (c.apply.ensures.board, c.apply.ensures.index) c.find.new.self.taken;
     }
 
 pub returns-in-Ok-clause-published : goal.returns-in-Ok-clause-published

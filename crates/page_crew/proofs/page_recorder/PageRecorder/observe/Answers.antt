@@ -1,11 +1,46 @@
-use Rattle.std.proofs.Common.{ℕ, ◌∷◌, [], subst, IfErr}
+use Rattle.std.proofs.Common.{◌≡◌, ap, arith}
+use Rattle.std.proofs.Math.ListN.{length-set}
+use Rattle.bucket_math.specs.Bounds.{place_of}
 use Rattle.ledger_core.specs.declared.op.Op.TheVariants.{Observe}
-use Rattle.page_crew.specs.Held.{recorders_of}
-use Rattle.page_crew.specs.Counting.{IsRefusedOn}
+use Rattle.register_rule.specs.Seats.{board_id}
+use Rattle.rtrb.specs.Ring.{received}
+use Rattle.page_crew.specs.Shared.{id_in}
+use Rattle.page_crew.proofs.Counted.{one_counted, one_refused}
+use Rattle.page_crew.proofs.Rows.{row_set, one_read}
+use Rattle.page_crew.proofs.Taken.{taken_set}
 use Rattle.page_crew.proofs.page_recorder.PageRecorder.observe.Goals as goal
 
-pub returns-clause-fault : goal.returns-clause-fault
-returns-clause-fault g c =
-    subst (λ (place : ℕ). IfErr c.apply.result (IsRefusedOn c.args.hist.now.registry
-    (Observe c.args.hist.now.slot place c.args.value ∷ []) (recorders_of c.args.self.now) (recorders_of c.apply.new.self)))
-    c.place.ensures.place c.apply.ensures.fault
+pub invariant_of-self : goal.invariant_of-self
+invariant_of-self g c =
+    let mid = c.find.new.self.recorders.items in
+    let read = one_read (λ r. id_in r ≡ c.args.hist.now.registry) mid c.in-Some.place c.index_mut.result.now c.in-Some.ensures.place
+    c.index_mut.ensures.value in
+    let few = c.find.new.self.few in
+    let many = length-set mid c.in-Some.place c.observe.new.self in
+    record {
+      ids = row_set c.find.new.self.first mid c.find.new.self.ids c.in-Some.place c.index_mut.result.now c.observe.new.self read.0
+          (ap board_id c.observe.ensures.board);
+      low = c.find.new.self.low;
+      few = omega (arith, few, many);
+      room = c.find.new.self.room;
+      taken = taken_set (received c.find.new.self.more) mid c.in-Some.place c.index_mut.result.now c.observe.new.self read.0
+          (c.observe.ensures.board, c.observe.ensures.index) c.find.new.self.taken;
+    }
+
+pub returns-in-Ok-clause-counted : goal.returns-in-Ok-clause-counted
+returns-in-Ok-clause-counted g c =
+    let mid = c.find.new.self.recorders.items in
+    let read = one_read (λ r. id_in r ≡ c.args.hist.now.registry) mid c.in-Some.place c.index_mut.result.now c.in-Some.ensures.place
+    c.index_mut.ensures.value in
+    one_counted c.args.hist.now.registry c.args.self.now.recorders.items mid (Observe c.args.hist.now.slot (place_of c.args.hist.now.bounds c.args.value) c.args.value) c.in-Some.place
+    c.index_mut.result.now c.observe.new.self c.find.ensures.joined read.0 read.1 (c.observe.ensures.board, c.observe.ensures.index)
+    c.in-Ok.ensures.counted
+
+pub returns-in-Err-clause-fault : goal.returns-in-Err-clause-fault
+returns-in-Err-clause-fault g c =
+    let mid = c.find.new.self.recorders.items in
+    let read = one_read (λ r. id_in r ≡ c.args.hist.now.registry) mid c.in-Some.place c.index_mut.result.now c.in-Some.ensures.place
+    c.index_mut.ensures.value in
+    one_refused c.args.hist.now.registry c.args.self.now.recorders.items mid (Observe c.args.hist.now.slot (place_of c.args.hist.now.bounds c.args.value) c.args.value) c.in-Some.place
+    c.index_mut.result.now c.observe.new.self c.find.ensures.joined read.0 read.1 (c.observe.ensures.board, c.observe.ensures.index) c.in-Err.fault
+    c.in-Err.ensures.unchanged c.in-Err.ensures.fault

@@ -1,0 +1,31 @@
+-- One operation by the recorder at a place.
+use Rattle.std.proofs.Common.{◌≡◌, ℕ, List, [], ◌∷◌, ◌++◌, Some, slice_get, set, sym}
+use Rattle.ledger_core.specs.declared.op.Op.{Op}
+use Rattle.snapshot_update.specs.declared.faults.CountFault.{CountFault}
+use Rattle.snapshot_update.specs.declared.faults.CountFault.TheVariants.{WrongRegistry, Apply}
+use Rattle.snapshot_update.specs.Workers.{member_of, IsCounted, IsCountFault}
+use Rattle.page_crew.specs.declared.shared_recorder.SharedRecorder.{SharedRecorder}
+use Rattle.page_crew.specs.Shared.{id_in, worker_in}
+use Rattle.page_crew.specs.Counting.{IsPublished, IsRefused, IsPublishedOn, IsRefusedOn, IsSameSeat}
+use Rattle.page_crew.proofs.Rows.{one_did}
+
+module _ {N C H G : ℕ} (id : ℕ) (old mid : List (SharedRecorder N C H G)) (op : Op) (place : ℕ) (before after : SharedRecorder N C H G)
+    (came : (came : List (SharedRecorder N C H G)) × (mid ≡ old ++ came)) (at : slice_get mid place ≡ Some before)
+    (of_it : id_in before ≡ id) (seat : IsSameSeat before after) where
+  -- it was counted
+  pub one_counted : IsCounted (id_in before) id op (worker_in before) (worker_in after)
+      → IsPublishedOn id (op ∷ []) old (set mid place after)
+  one_counted counted = one_did id old mid (IsPublished (op ∷ [])) place before after came at of_it seat (record {
+    updated = counted.updated;
+    lists = counted.lists;
+    accepted = counted.accepted;
+    room = counted.room;
+  })
+
+  -- it was refused, and not for another board's handle, since the recorder is of that board
+  pub one_refused : (fault : CountFault) → member_of (worker_in after) ≡ member_of (worker_in before)
+      → IsCountFault C H G (id_in before) id op (member_of (worker_in before)) fault
+      → IsRefusedOn id (op ∷ []) old (set mid place after) fault
+  one_refused WrongRegistry same why = absurd (why (sym of_it))
+  one_refused (Apply fault) same why =
+      one_did id old mid (IsRefused (op ∷ []) (Apply fault)) place before after came at of_it seat (same, why.1)

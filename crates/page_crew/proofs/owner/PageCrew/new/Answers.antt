@@ -1,0 +1,67 @@
+use Rattle.std.proofs.Common.{◌≡◌, ℕ, ◌+◌, ◌*◌, List, ◌∷◌, [], Some, length, slice_get, ap, subst, sym, refl, ◌∙◌, arith}
+use Rattle.std.proofs.lemmas.List.{with_items_is}
+use Rattle.std.proofs.lemmas.Option.{none-some}
+use Rattle.registry_state.specs.Kept.{RegistryView}
+use Rattle.rtrb.specs.Ring.{sent}
+use Rattle.scrape_page.specs.Families.{PageView}
+use Rattle.page_crew.specs.declared.shared_recorder.SharedRecorder.{SharedRecorder}
+use Rattle.page_crew.specs.declared.shared_scanner.SharedScanner.{SharedScanner}
+use Rattle.page_crew.specs.Boards.{AreNumbered}
+use Rattle.page_crew.specs.Rings.{Ring, AreGiven, ArePaired, HaveRoom}
+use Rattle.page_crew.proofs.Boarding.{numbered_more, room_left}
+use Rattle.page_crew.proofs.Giving.{first_given, paired_given}
+use Rattle.page_crew.proofs.owner.PageCrew.new.Goals as goal
+
+pub invariant_of-crew : goal.invariant_of-crew
+invariant_of-crew g c =
+    let V = RegistryView (SharedScanner g.row.N g.row.C g.row.H g.row.G) in
+    let R = Ring g.row.N g.row.C g.row.H g.row.G in
+    let first = 128 * c.args.id in
+    let rings = c.in-Ok-open_rings.field-0.rings in
+    let opened = c.in-Ok-open_rings.ensures in
+    let board = c.in-Ok.made.registry in
+    let boards : c.in-Ok-new.page.boards ≡ board ∷ [] =
+    ap (λ (p : PageView (SharedScanner g.row.N g.row.C g.row.H g.row.G)). p.boards) c.in-Ok-new.ensures.made in
+    let id : board.id ≡ first + 0 = let is = c.in-Ok.ensures.new.id_is in omega (arith, is) in
+    let given : AreGiven rings.items c.give.new.rings c.in-Ok.made.recorders.items =
+    subst (λ (l : List R). AreGiven l c.give.new.rings c.in-Ok.made.recorders.items) c.deref_mut.ensures.value c.give.ensures in
+    let items = with_items_is rings c.give.new.rings (c.give.ensures.many ∙ c.deref_mut.ensures.len) in
+    let none : AreNumbered first [] = λ k (b : V) at. absurd (none-some b at) in
+    let free : HaveRoom 0 rings.items = λ k (d : R) within. let is = (opened.empty k d within).1 in omega (arith, is) in
+    let one : length c.in-Ok-new.page.boards ≡ 0 + 1 = ap length boards in
+    record {
+      numbered = subst (λ (l : List V). AreNumbered first l) (sym boards) (numbered_more first [] none board id);
+      low = let fits = c.ranges.id.fits in omega (arith, fits);
+      kept = let low = c.if-window-lt1.false in let high = c.if-window-gt-MAX_WINDOW.false in
+          (omega (arith, low), omega (arith, high));
+      count = ap length items ∙ given.many ∙ opened.rings_many;
+      room = subst (λ (l : List R). HaveRoom (length c.in-Ok-new.page.boards) l) (sym items)
+          (room_left 0 (length c.in-Ok-new.page.boards) rings.items c.give.new.rings c.in-Ok.made.recorders.items one given free);
+      size = c.in-Ok.ensures.size;
+    }
+
+pub returns-clause-opened : goal.returns-clause-opened
+returns-clause-opened g c =
+    let R = Ring g.row.N g.row.C g.row.H g.row.G in
+    let rings = c.in-Ok-open_rings.field-0.rings in
+    let opened = c.in-Ok-open_rings.ensures in
+    let theirs = c.in-Ok.made.recorders.items in
+    let given : AreGiven rings.items c.give.new.rings theirs =
+    subst (λ (l : List R). AreGiven l c.give.new.rings theirs) c.deref_mut.ensures.value c.give.ensures in
+    let items = with_items_is rings c.give.new.rings (c.give.ensures.many ∙ c.deref_mut.ensures.len) in
+    record {
+      first_is = refl;
+      window_is = refl;
+      board = c.in-Ok.made.registry;
+      theirs = theirs;
+      is_new = c.in-Ok.ensures.new;
+      page = c.in-Ok-new.ensures.made;
+      rings = ap length items ∙ given.many ∙ opened.rings_many;
+      given = subst (λ (l : List R). (k : ℕ) (p : R) (r : SharedRecorder g.row.N g.row.C g.row.H g.row.G) → slice_get l k ≡ Some p
+          → slice_get theirs k ≡ Some r → sent p ≡ r ∷ []) (sym items)
+          (first_given rings.items c.give.new.rings theirs given opened.empty);
+      many = opened.recorders_many;
+      none = opened.none;
+      pairs = subst (λ (l : List R). ArePaired l c.in-Ok-open_rings.field-0.recorders.items) (sym items)
+          (paired_given rings.items c.give.new.rings theirs c.in-Ok-open_rings.field-0.recorders.items given opened.pairs);
+    }

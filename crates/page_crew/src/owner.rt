@@ -1,0 +1,127 @@
+//! A page with all who work on its boards.
+ghost use Rattle.std.specs.Prelude.{◌≡◌, ◌+◌, ◌<◌, length};
+ghost use Rattle.register_rule.specs.Faults.{IsBoardSize};
+ghost use Rattle.registry_state.specs.Faults.{IsWindow};
+ghost use Rattle.page_crew.specs.Boards.{AreNumbered};
+ghost use Rattle.page_crew.specs.Rings.{HaveRoom};
+
+use crate::fault::{NoBoard, PageCrewFault};
+use crate::opening::{NewBoard, new_board};
+use crate::page_recorder::PageRecorder;
+use crate::rings::{Open, give, open_rings};
+use crate::shared_recorder::SharedRecorder;
+use crate::shared_scanner::SharedScanner;
+use rtrb::Producer;
+use scrape_page::{BoardFault, Page};
+use std::alloc::Global;
+
+/// A page, over boards of one geometry, with a worker of each board for each of its `N` recorders. Boards come when they are needed.
+pub struct PageCrew<const N: usize, const C: usize, const H: usize, const G: usize> {
+    pub(crate) alloc: Global,
+    pub(crate) first: u64,
+    pub(crate) window: usize,
+    pub(crate) page: Page<SharedScanner<N, C, H, G>, N, C, H, G>,
+    pub(crate) rings: Vec<Producer<SharedRecorder<N, C, H, G>>>,
+    ghost numbered: { AreNumbered first page.boards },
+    ghost low: { first + 96 < 18446744073709551616 },
+    ghost kept: { IsWindow window },
+    ghost count: { length rings.items ≡ N },
+    ghost room: { HaveRoom (length page.boards) rings.items },
+    ghost size: { IsBoardSize N C H G 1 },
+}
+
+impl<const N: usize, const C: usize, const H: usize, const G: usize> Drop for PageCrew<N, C, H, G> {
+    fn drop(self) {
+        let PageCrew {
+            alloc: _,
+            first: _,
+            window: _,
+            page: _,
+            rings: _,
+        } = self;
+    }
+}
+
+/// The most scrapes that a board keeps.
+const MAX_WINDOW: usize = 1024;
+
+impl<const N: usize, const C: usize, const H: usize, const G: usize> PageCrew<N, C, H, G> {
+    ghost use Rattle.std.specs.Prelude.{◌*◌, IfErr, IfOk};
+    ghost use Rattle.page_crew.specs.Opened.{IsPageCrewFault};
+    ghost use Rattle.page_crew.specs.Owned.{first_of, page_of, IsOpened};
+
+    /// A page of one board, without families, and `N` recorders, in the order of their numbers. Each board keeps `window` scrapes. The first
+    /// board has the id 128 times `id`, and the others follow it, so pages of different ids never share a board's id; boards that are made
+    /// otherwise keep away from these. A recorder takes its workers at its first call.
+    ///
+    /// # Errors
+    ///
+    /// 31 [`PageCrewFault::BadWindow`], the window is not 1 to 1,024; then [`PageCrewFault::Board`]: 13 [`NoBoard::Geometry`]; 6
+    /// [`NoBoard::NoMemory`].
+    pub fn new(
+        alloc: Global,
+        id: u32,
+        window: usize,
+    ) -> Result<(PageCrew<N, C, H, G>, Vec<PageRecorder<N, C, H, G>>), PageCrewFault>
+        ensures opened { IfOk result (λ r. IsOpened (128 * id) window r.0 r.1.items) }
+        ensures fault { IfErr result (IsPageCrewFault N C H G window) }
+    {
+        if window < 1 || window > MAX_WINDOW {
+            return Err(PageCrewFault::BadWindow);
+        }
+        let first = 128 * id as u64;
+        let NewBoard {
+            registry,
+            recorders,
+        } = match new_board(alloc, first, window) {
+            Ok(made) => made,
+            Err(why) => return Err(PageCrewFault::Board(why)),
+        };
+        let Ok(
+            Open {
+                mut rings,
+                recorders: seats,
+            },
+        ) = open_rings(alloc, first)
+        else {
+            return Err(PageCrewFault::Board(NoBoard::NoMemory));
+        };
+        let page = match Page::new(alloc, registry) {
+            Ok(page) => page,
+            Err(refused) => match refused.fault {
+                BoardFault::NoMemory => return Err(PageCrewFault::Board(NoBoard::NoMemory)),
+                BoardFault::TooManyBoards | BoardFault::NotFresh => unreachable!(),
+            },
+        };
+        give(&mut rings, recorders);
+        let crew = PageCrew {
+            alloc,
+            first,
+            window,
+            page,
+            rings,
+        };
+        Ok((crew, seats))
+    }
+
+    /// The id of the page's first board; the others follow it.
+    pub fn first(&self) -> u64
+        ensures { result ≡ first_of self.now }
+    {
+        self.first
+    }
+
+    /// The page, which gets no further board then.
+    pub fn into_page(self) -> Page<SharedScanner<N, C, H, G>, N, C, H, G>
+        ensures { result ≡ page_of self.entry }
+    {
+        let PageCrew {
+            alloc: _,
+            first: _,
+            window: _,
+            page,
+            rings: _,
+        } = self;
+        page
+    }
+}
