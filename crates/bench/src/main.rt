@@ -22,10 +22,11 @@
 //! and 99.9 of 100 updates took at most, and the longest one: [`starved`].
 //!
 //! `bench page SCRAPES one` registers and counts 256 counters, 32 histograms and 64 gauges on a page of one board, (4, 256, 32, 64), and prints the
-//! nanoseconds of registering them, those of a scrape with its text, the least and the median of so many, how many bytes it has, and those of
-//! the board's own scrape and text, without the page. `bench page SCRAPES whole`, or `spread`, does so with 10,000 counters, 1,000 histograms
-//! and 500 gauges on 40 boards, of which each family is on one, or has parts on many; of the boards it makes a scrape and a text of each. With 0
-//! for SCRAPES it prints the text: [`pages`].
+//! nanoseconds of registering them, those of a scrape with its text, the least and the median of so many, how many bytes it has, those of an
+//! increment of one counter, of one of each board in turn, and of one of a board that is in no page, and those of the board's own scrape and
+//! text, without the page. `bench page SCRAPES whole`, or `spread`, does so with 10,000 counters, 1,000 histograms and 500 gauges on some 40
+//! boards, of which each family is on one, or has parts on many; of the boards it makes a scrape and a text of each. `one16` and `whole16` are
+//! for boards of 16 threads. With 0 for SCRAPES it prints the text: [`pages`].
 //!
 //! Exit status 0 at the end; 2 for other arguments; 1 where something failed.
 #![tactic(auto)]
@@ -59,7 +60,7 @@ use torn::print_scrapes;
 
 const USAGE: &str =
     "usage: bench ROUNDS, at most 1000000000, or bench serve PORT REPLIES small|large, or bench torn SCRAPES apart|together, \
-     or bench starved THREADS SPINS SCANS small|large|greatest, or bench page SCRAPES one|whole|spread";
+     or bench starved THREADS SPINS SCANS small|large|greatest, or bench page SCRAPES one|one16|whole|whole16|spread";
 
 /// Measures updates and scans of three geometries.
 fn measure_boards(lines: &mut Lines<'_, impl ServiceRuntime>) -> Result<()> {
@@ -130,13 +131,14 @@ fn run_scrapes(rt: &impl ServiceRuntime, scrapes: &str, how: &str) -> Option<Res
 /// Measures a page by so many scrapes, if these words say so.
 fn run_page(rt: &impl ServiceRuntime, scrapes: &str, how: &str) -> Option<Result<()>> {
     let scrapes = scrapes.parse().ok()?;
-    let layout = match how {
-        "one" => Layout::One,
-        "whole" => Layout::Whole,
-        "spread" => Layout::Spread,
-        _ => return None,
-    };
-    Some(measure_page(rt, scrapes, layout))
+    match how {
+        "one" => Some(measure_page::<4>(rt, scrapes, Layout::One)),
+        "one16" => Some(measure_page::<16>(rt, scrapes, Layout::One)),
+        "whole" => Some(measure_page::<4>(rt, scrapes, Layout::Whole)),
+        "whole16" => Some(measure_page::<16>(rt, scrapes, Layout::Whole)),
+        "spread" => Some(measure_page::<4>(rt, scrapes, Layout::Spread)),
+        _ => None,
+    }
 }
 
 /// Scans beside threads that publish, if these words say so.

@@ -2,12 +2,9 @@
 
 use crate::registries::{BOUNDS, numbered};
 use anyhow::Result;
-use dirgwako::{Desc, Handle, Kind, LabelValue, Recorder};
+use dirgwako::{Counter, Desc, Handle, Kind, LabelValue, PageRecorder};
 use metric_names::{HelpText, LabelName, MetricName};
 use std::alloc::Global;
-
-/// A recorder of a board of a page.
-pub type PageRecorder<'a> = Recorder<'a, 4, 256, 32, 64>;
 
 /// How many bounds each histogram has.
 const HIST_BOUNDS: usize = 10;
@@ -128,13 +125,16 @@ fn labels(alloc: Global) -> Result<Vec<LabelName>> {
     Ok(labels)
 }
 
-/// Counts this of a child, by the recorder of its board: each bound of a histogram 100 times.
-pub fn count_child(recorders: &mut [PageRecorder<'_>], handle: &Handle, by: u64) -> Option<()> {
+/// Counts this of a child: each bound of a histogram 100 times.
+pub fn count_child<const N: usize>(
+    recorder: &mut PageRecorder<N, 256, 32, 64>,
+    handle: &Handle,
+    by: u64,
+) -> Option<()> {
     match handle {
-        Handle::Counter(counter) => of_board(recorders, counter.registry)?.inc(counter, by).ok(),
-        Handle::Gauge(gauge) => of_board(recorders, gauge.registry)?.up(gauge, by).ok(),
+        Handle::Counter(counter) => recorder.inc(counter, by).ok(),
+        Handle::Gauge(gauge) => recorder.up(gauge, by).ok(),
         Handle::Histogram(hist) => {
-            let recorder = of_board(recorders, hist.registry)?;
             for at in 0..HIST_BOUNDS * TIMES {
                 recorder.observe(hist, BOUNDS[at % HIST_BOUNDS]).ok()?;
             }
@@ -143,10 +143,13 @@ pub fn count_child(recorders: &mut [PageRecorder<'_>], handle: &Handle, by: u64)
     }
 }
 
-/// The recorder of the board of this id.
-fn of_board<'r, 'a>(
-    recorders: &'r mut [PageRecorder<'a>],
-    id: u64,
-) -> Option<&'r mut PageRecorder<'a>> {
-    recorders.get_mut(usize::try_from(id).ok()?)
+/// Keeps a counter of each board, the first that comes.
+pub fn keep_first(firsts: &mut Vec<Counter>, handle: &Handle) -> Result<()> {
+    let Handle::Counter(counter) = handle else {
+        return Ok(());
+    };
+    if !firsts.iter().any(|it| it.registry == counter.registry) {
+        firsts.push(*counter)?;
+    }
+    Ok(())
 }

@@ -1,30 +1,36 @@
-//! `bench page SCRAPES one`, `whole` or `spread`: a page of one full board, or of 40 boards with 11,500 series, whose families have each one part,
-//! or parts on all boards that there are. It prints how long it takes to register them, and how long one scrape with its text does.
+//! `bench page SCRAPES one`, `whole` or `spread`: a page of one full board, or of some 40 boards with 11,500 series, whose families have each one
+//! part, or parts on all boards that there are. It prints how long it takes to register them, an increment and increments of all boards in turn,
+//! and one scrape with its text. `whole16` is `whole` for 16 threads.
 
-use crate::measuring::{Work, keep, nanos_since, timed};
-use crate::page_series::{Family, OF_BOARD, OF_PAGE, PageRecorder, count_child};
+use crate::measuring::{BATCHES, Work, in_hundredths, keep, nanos_since, timed};
+use crate::page_series::{Family, OF_BOARD, OF_PAGE, count_child, keep_first};
 use crate::registries::WINDOW;
 use anyhow::{Context, Result};
-use dirgwako::{Crew, Handle, LabelValue, RegistryState, Scanner, ServiceRuntime, render};
-use scrape_page::{Page, PageChildFault, PageFamilyId};
+use dirgwako::{
+    Counter, Crew, PageCrew, PageFamilyId, PageRecorder, Recorder, Registrar, RegistryState,
+    ServiceRuntime, SharedScanner, render,
+};
 use std::alloc::Global;
 use std::sync::atomic::{AtomicU64, Ordering};
 use std::time::Instant;
 
-/// A board with all who work on it.
-type OneCrew = Crew<4, 256, 32, 64>;
+/// A page for so many threads.
+type OnePage<const N: usize> = PageCrew<N, 256, 32, 64>;
 
-/// A registry of it without a lock.
-type State<'a> = RegistryState<Scanner<'a, 4, 256, 32, 64>, 4, 256, 32, 64>;
+/// What a thread counts with on it.
+type OneRecorder<const N: usize> = PageRecorder<N, 256, 32, 64>;
 
-/// A page of such registries.
-type OnePage<'a> = Page<Scanner<'a, 4, 256, 32, 64>, 4, 256, 32, 64>;
+/// A registry of a board of it.
+type State<const N: usize> = RegistryState<SharedScanner<N, 256, 32, 64>, N, 256, 32, 64>;
 
-/// How many boards a page has.
+/// How many boards a page has, where series are not spread.
 const BOARDS: usize = 40;
 
 /// In so many rounds the children of a page that is spread are made.
 const ROUNDS: usize = 250;
+
+/// In so many rounds of a batch an increment is made.
+const INCREMENTS: u64 = 4_000;
 
 /// How the series lie.
 #[derive(Clone, Copy, PartialEq, Eq)]
@@ -37,174 +43,122 @@ pub enum Layout {
     Spread,
 }
 
-/// A page, the boards that it has not taken yet, and a recorder of each board.
-#[derive(Drop)]
-struct Boards<'a> {
-    page: OnePage<'a>,
-    spare: Vec<State<'a>>,
-    recorders: Vec<PageRecorder<'a>>,
-}
-
-impl<'a> Boards<'a> {
-    /// Takes one board more.
-    fn add_board(&mut self) -> Result<()> {
-        let board = self.spare.pop().context("no board is left")?;
-        match self.page.add_board(board) {
-            Ok(_number) => Ok(()),
-            Err(refused) => Err(refused.fault.into()),
-        }
-    }
-
-    /// Takes all boards.
-    fn add_boards(&mut self) -> Result<()> {
-        for _board in 0..self.spare.len() {
-            self.add_board()?;
-        }
-        Ok(())
-    }
-
-    /// The child of these values. Where all boards are full, one more is taken.
-    fn child(&mut self, family: PageFamilyId, values: &[LabelValue]) -> Result<Handle> {
-        let answer = self.page.child(family, values);
-        if let Err(PageChildFault::Full { .. }) = answer {
-            self.add_board()?;
-            return Ok(self.page.child(family, values)?);
-        }
-        Ok(answer?)
-    }
-
-    /// Makes all children of a family.
-    fn make_children(&mut self, alloc: Global, family: &Family, id: PageFamilyId) -> Result<()> {
-        for child in 0..family.children {
-            let values = family.values(alloc, child)?;
-            self.child(id, &values)?;
-        }
-        Ok(())
-    }
-
-    /// Registers each family in a group, and makes its children before the next one is registered.
-    fn register_whole(&mut self, alloc: Global, families: &[Family]) -> Result<Vec<PageFamilyId>> {
-        let mut ids = Vec::with_capacity(alloc, families.len())?;
-        for family in families {
-            let id = self
-                .page
-                .register(family.desc(alloc)?, family.number as u64)?;
-            self.make_children(alloc, family, id)?;
-            ids.push(id)?;
-        }
-        Ok(ids)
-    }
-
-    /// Makes a child of each family in this round, or of those with fewer children in one of several.
-    fn make_round(
-        &mut self,
-        alloc: Global,
-        families: &[Family],
-        ids: &[PageFamilyId],
-        round: usize,
-    ) -> Result<()> {
-        for (family, id) in families.iter().zip(ids) {
-            let each = (ROUNDS / family.children.max(1)).max(1);
-            if round % each == 0 {
-                let values = family.values(alloc, round / each)?;
-                self.child(*id, &values)?;
-            }
-        }
-        Ok(())
-    }
-
-    /// Registers all families in one group, and makes their children by turns, while boards are taken one by one.
-    fn register_spread(&mut self, alloc: Global, families: &[Family]) -> Result<Vec<PageFamilyId>> {
-        let mut ids = Vec::with_capacity(alloc, families.len())?;
-        for family in families {
-            ids.push(self.page.register(family.desc(alloc)?, 0)?)?;
-        }
-        for round in 0..ROUNDS {
-            self.make_round(alloc, families, &ids, round)?;
-        }
-        Ok(ids)
-    }
-
-    /// Registers all.
-    fn register(
-        &mut self,
-        alloc: Global,
-        families: &[Family],
-        layout: Layout,
-    ) -> Result<Vec<PageFamilyId>> {
-        match layout {
-            Layout::Spread => self.register_spread(alloc, families),
-            Layout::One | Layout::Whole => self.register_whole(alloc, families),
-        }
-    }
-
-    /// Counts each child of a family.
-    fn count_family(&mut self, alloc: Global, family: &Family, id: PageFamilyId) -> Result<()> {
-        for child in 0..family.children {
-            let handle = self.page.child(id, &family.values(alloc, child)?)?;
-            let counted = count_child(&mut self.recorders, &handle, family.amount(child));
-            counted.context("not counted")?;
-        }
-        Ok(())
-    }
-
-    /// Counts all.
-    fn count(&mut self, alloc: Global, families: &[Family], ids: &[PageFamilyId]) -> Result<()> {
-        for (family, id) in families.iter().zip(ids) {
-            self.count_family(alloc, family, *id)?;
-        }
-        Ok(())
-    }
-}
-
-/// Opens this board.
-fn open_one<'a>(crew: &'a mut OneCrew) -> Result<(State<'a>, PageRecorder<'a>)> {
-    let (state, mut recorders, _scanners) = crew.open_state(WINDOW)?;
-    Ok((state, recorders.pop().context("no recorder")?))
-}
-
-/// Opens these boards. The first one is the last of the list.
-fn open_all<'a>(
+/// Makes all children of a family.
+fn make_children<const N: usize>(
+    page: &mut OnePage<N>,
     alloc: Global,
-    crews: &'a mut [OneCrew],
-) -> Result<(Vec<State<'a>>, Vec<PageRecorder<'a>>)> {
-    let (mut spare, mut recorders) = (Vec::new(alloc), Vec::new(alloc));
-    for crew in crews {
-        let (state, recorder) = open_one(crew)?;
-        spare.push(state)?;
-        recorders.push(recorder)?;
+    family: &Family,
+    id: PageFamilyId,
+) -> Result<()> {
+    for child in 0..family.children {
+        let values = family.values(alloc, child)?;
+        page.child(id, &values)?;
     }
-    spare.reverse();
-    Ok((spare, recorders))
+    Ok(())
 }
 
-/// A page of the first of these boards, or of all where series are not spread.
-fn opened<'a>(alloc: Global, crews: &'a mut [OneCrew], layout: Layout) -> Result<Boards<'a>> {
-    let (mut spare, recorders) = open_all(alloc, crews)?;
-    let first = spare.pop().context("no board")?;
-    let page = match Page::new(alloc, first) {
-        Ok(page) => page,
-        Err(refused) => return Err(refused.fault.into()),
-    };
-    let mut boards = Boards {
-        page,
-        spare,
-        recorders,
-    };
-    if layout != Layout::Spread {
-        boards.add_boards()?;
+/// Registers each family in a group, and makes its children before the next one is registered.
+fn register_whole<const N: usize>(
+    page: &mut OnePage<N>,
+    alloc: Global,
+    families: &[Family],
+) -> Result<Vec<PageFamilyId>> {
+    let mut ids = Vec::with_capacity(alloc, families.len())?;
+    for family in families {
+        let id = page.register(family.desc(alloc)?, family.number as u64)?;
+        make_children(page, alloc, family, id)?;
+        ids.push(id)?;
     }
-    Ok(boards)
+    Ok(ids)
+}
+
+/// Makes a child of each family in this round, or of those with fewer children in one of several.
+fn make_round<const N: usize>(
+    page: &mut OnePage<N>,
+    alloc: Global,
+    families: &[Family],
+    ids: &[PageFamilyId],
+    round: usize,
+) -> Result<()> {
+    for (family, id) in families.iter().zip(ids) {
+        let each = (ROUNDS / family.children.max(1)).max(1);
+        if round % each == 0 {
+            let values = family.values(alloc, round / each)?;
+            page.child(*id, &values)?;
+        }
+    }
+    Ok(())
+}
+
+/// Registers all families in one group, and makes their children by turns, while boards come one by one.
+fn register_spread<const N: usize>(
+    page: &mut OnePage<N>,
+    alloc: Global,
+    families: &[Family],
+) -> Result<Vec<PageFamilyId>> {
+    let mut ids = Vec::with_capacity(alloc, families.len())?;
+    for family in families {
+        ids.push(page.register(family.desc(alloc)?, 0)?)?;
+    }
+    for round in 0..ROUNDS {
+        make_round(page, alloc, families, &ids, round)?;
+    }
+    Ok(ids)
+}
+
+/// Registers all.
+fn register<const N: usize>(
+    page: &mut OnePage<N>,
+    alloc: Global,
+    families: &[Family],
+    layout: Layout,
+) -> Result<Vec<PageFamilyId>> {
+    match layout {
+        Layout::Spread => register_spread(page, alloc, families),
+        Layout::One | Layout::Whole => register_whole(page, alloc, families),
+    }
+}
+
+/// Counts each child of a family.
+fn count_family<const N: usize>(
+    page: &mut OnePage<N>,
+    recorder: &mut OneRecorder<N>,
+    alloc: Global,
+    family: &Family,
+    id: PageFamilyId,
+    firsts: &mut Vec<Counter>,
+) -> Result<()> {
+    for child in 0..family.children {
+        let handle = page.child(id, &family.values(alloc, child)?)?;
+        count_child(recorder, &handle, family.amount(child)).context("not counted")?;
+        keep_first(firsts, &handle)?;
+    }
+    Ok(())
+}
+
+/// Counts all, and gives a counter of each board.
+fn count<const N: usize>(
+    page: &mut OnePage<N>,
+    recorder: &mut OneRecorder<N>,
+    alloc: Global,
+    families: &[Family],
+    ids: &[PageFamilyId],
+) -> Result<Vec<Counter>> {
+    let mut firsts = Vec::new(alloc);
+    for (family, id) in families.iter().zip(ids) {
+        count_family(page, recorder, alloc, family, *id, &mut firsts)?;
+    }
+    Ok(firsts)
 }
 
 /// Scrapes of a page with their texts.
 #[derive(Drop)]
-struct Gathers<'p, 'a> {
-    page: &'p mut OnePage<'a>,
+struct Gathers<'p, const N: usize> {
+    page: &'p mut OnePage<N>,
     kept: AtomicU64,
 }
 
-impl Work for Gathers<'_, '_> {
+impl<const N: usize> Work for Gathers<'_, N> {
     fn repeat(&mut self, rounds: u64) -> Option<()> {
         for _round in 0..rounds {
             let scrape = self.page.scrape().ok()?;
@@ -216,12 +170,12 @@ impl Work for Gathers<'_, '_> {
 
 /// A scrape of each board by itself, with its text.
 #[derive(Drop)]
-struct Apart<'a> {
-    boards: Vec<State<'a>>,
+struct Apart<const N: usize> {
+    boards: Vec<State<N>>,
     kept: AtomicU64,
 }
 
-impl Apart<'_> {
+impl<const N: usize> Apart<N> {
     /// One of each.
     fn once(&mut self) -> Option<()> {
         for board in self.boards.iter_mut() {
@@ -232,10 +186,50 @@ impl Apart<'_> {
     }
 }
 
-impl Work for Apart<'_> {
+impl<const N: usize> Work for Apart<N> {
     fn repeat(&mut self, rounds: u64) -> Option<()> {
         for _round in 0..rounds {
             self.once()?;
+        }
+        Some(())
+    }
+}
+
+/// What increments a counter.
+trait Increments {
+    /// Adds one.
+    fn add_one(&mut self, counter: &Counter) -> Option<()>;
+}
+
+impl<const N: usize> Increments for OneRecorder<N> {
+    fn add_one(&mut self, counter: &Counter) -> Option<()> {
+        self.inc(counter, 1).ok()
+    }
+}
+
+impl<const N: usize> Increments for Recorder<'_, N, 256, 32, 64> {
+    fn add_one(&mut self, counter: &Counter) -> Option<()> {
+        self.inc(counter, 1).ok()
+    }
+}
+
+/// Increments of these counters in turn.
+#[derive(Drop)]
+struct InTurn<'p, 'c, I> {
+    recorder: &'p mut I,
+    counters: &'c [Counter],
+}
+
+impl<I: Increments> Work for InTurn<'_, '_, I> {
+    fn repeat(&mut self, rounds: u64) -> Option<()> {
+        let mut at = 0;
+        for _round in 0..rounds {
+            self.recorder.add_one(self.counters.get(at)?)?;
+            at = if at + 1 < self.counters.len() {
+                at + 1
+            } else {
+                0
+            };
         }
         Some(())
     }
@@ -259,15 +253,61 @@ fn print_times(
     Ok(())
 }
 
+/// Prints the nanoseconds of one of so many rounds, in the fastest batch.
+fn print_each(rt: &impl ServiceRuntime, name: &str, work: &mut impl Work) -> Result<()> {
+    let mut least = u64::MAX;
+    for _batch in 0..BATCHES {
+        least = least.min(timed(rt, INCREMENTS, work)?);
+    }
+    println!(rt; "{name} {}", in_hundredths(least, INCREMENTS))?;
+    Ok(())
+}
+
+/// Prints what an increment takes, of these counters in turn.
+fn print_in_turn<I: Increments>(
+    rt: &impl ServiceRuntime,
+    name: &str,
+    recorder: &mut I,
+    counters: &[Counter],
+) -> Result<()> {
+    let mut work = InTurn { recorder, counters };
+    print_each(rt, name, &mut work)
+}
+
+/// Prints what an increment takes on a board that is in no page.
+fn print_of_a_board<const N: usize>(rt: &impl ServiceRuntime) -> Result<()> {
+    let mut crew = Crew::<N, 256, 32, 64>::new(rt.alloc(), 1, 1)?;
+    let (registry, mut recorders, _scanners) = crew.open(1)?;
+    let counter = Registrar::new(rt, &registry).counter("one_total", "One.")?;
+    let recorder = recorders.first_mut().context("no recorder")?;
+    print_in_turn(rt, "inc_of_a_board", recorder, &[counter])
+}
+
+/// Prints what an increment takes: of one counter of a page, and of one of each board in turn; and on a board that is in no page.
+fn print_increments<const N: usize>(
+    rt: &impl ServiceRuntime,
+    recorder: &mut OneRecorder<N>,
+    firsts: &[Counter],
+) -> Result<()> {
+    let one = firsts.get(..1).context("no counter")?;
+    print_in_turn(rt, "inc", recorder, one)?;
+    print_in_turn(rt, "inc_in_turn", recorder, firsts)?;
+    print_of_a_board::<N>(rt)
+}
+
 /// Prints what one text of a page has.
-fn print_text(rt: &impl ServiceRuntime, page: &mut OnePage<'_>) -> Result<()> {
+fn print_text<const N: usize>(rt: &impl ServiceRuntime, page: &mut OnePage<N>) -> Result<()> {
     let scrape = page.scrape().ok().context("no scrape")?;
     rt.write_all(&render(&scrape)?)?;
     Ok(())
 }
 
 /// Prints how long a scrape with its text takes, behind as many as the registries keep, and how many bytes it has.
-fn print_gathers(rt: &impl ServiceRuntime, page: &mut OnePage<'_>, times: usize) -> Result<()> {
+fn print_gathers<const N: usize>(
+    rt: &impl ServiceRuntime,
+    page: &mut OnePage<N>,
+    times: usize,
+) -> Result<()> {
     let kept = AtomicU64::new(0);
     let mut gathers = Gathers { page, kept };
     gathers.repeat(WINDOW as u64).context("no scrape")?;
@@ -277,33 +317,51 @@ fn print_gathers(rt: &impl ServiceRuntime, page: &mut OnePage<'_>, times: usize)
 }
 
 /// Prints how long a scrape of each board by itself takes, with its text.
-fn print_apart(rt: &impl ServiceRuntime, page: OnePage<'_>, times: usize) -> Result<()> {
-    let (boards, kept) = (page.into_boards(), AtomicU64::new(0));
+fn print_apart<const N: usize>(
+    rt: &impl ServiceRuntime,
+    page: OnePage<N>,
+    times: usize,
+) -> Result<()> {
+    let (boards, kept) = (page.into_page().into_boards(), AtomicU64::new(0));
     print_times(rt, "boards", times, &mut Apart { boards, kept })
 }
 
-/// Registers and counts these families, and prints how long that took.
-fn registered(
+/// Registers and counts these families, prints how long that took, and gives a counter of each board.
+fn registered<const N: usize>(
     rt: &impl ServiceRuntime,
-    boards: &mut Boards<'_>,
+    page: &mut OnePage<N>,
+    recorder: &mut OneRecorder<N>,
     families: &[Family],
     times: usize,
     layout: Layout,
-) -> Result<()> {
+) -> Result<Vec<Counter>> {
     let start = Instant::now(rt)?;
-    let ids = boards.register(rt.alloc(), families, layout)?;
+    let ids = register(page, rt.alloc(), families, layout)?;
     let taken = nanos_since(rt, start)?;
-    boards.count(rt.alloc(), families, &ids)?;
+    let firsts = count(page, recorder, rt.alloc(), families, &ids)?;
     if times > 0 {
         println!(rt; "register {taken}")?;
     }
-    Ok(())
+    Ok(firsts)
 }
 
-/// Measures a page of these boards, or prints one text of it.
-fn measure_on(
+/// A page of so many boards more, and its recorders.
+fn opened<const N: usize>(
     rt: &impl ServiceRuntime,
-    crews: &mut [OneCrew],
+    layout: Layout,
+) -> Result<(OnePage<N>, Vec<OneRecorder<N>>)> {
+    let (mut page, recorders) = OnePage::<N>::new(rt.alloc(), 0, WINDOW)?;
+    if layout == Layout::Whole {
+        for _board in 1..BOARDS {
+            page.add_board()?;
+        }
+    }
+    Ok((page, recorders))
+}
+
+/// Measures a page by so many scrapes, or prints one text where that is none.
+pub fn measure_page<const N: usize>(
+    rt: &impl ServiceRuntime,
     times: usize,
     layout: Layout,
 ) -> Result<()> {
@@ -312,22 +370,13 @@ fn measure_on(
         Layout::Whole | Layout::Spread => OF_PAGE,
     };
     let families = series.families(rt.alloc())?;
-    let mut boards = opened(rt.alloc(), crews, layout)?;
-    registered(rt, &mut boards, &families, times, layout)?;
-    let Boards { mut page, .. } = boards;
+    let (mut page, mut recorders) = opened::<N>(rt, layout)?;
+    let recorder = recorders.first_mut().context("no recorder")?;
+    let firsts = registered(rt, &mut page, recorder, &families, times, layout)?;
     if times == 0 {
         return print_text(rt, &mut page);
     }
     print_gathers(rt, &mut page, times)?;
+    print_increments(rt, recorder, &firsts)?;
     print_apart(rt, page, times)
-}
-
-/// Measures a page by so many scrapes, or prints one text where that is none.
-pub fn measure_page(rt: &impl ServiceRuntime, times: usize, layout: Layout) -> Result<()> {
-    let count = if layout == Layout::One { 1 } else { BOARDS };
-    let mut crews = Vec::with_capacity(rt.alloc(), count)?;
-    for id in 0..count {
-        crews.push(OneCrew::new(rt.alloc(), id as u64, 1)?)?;
-    }
-    measure_on(rt, &mut crews, times, layout)
 }

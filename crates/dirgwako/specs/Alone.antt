@@ -7,9 +7,19 @@ use Rattle.registry_state.specs.Journal.{Registered}
 use Rattle.registry_state.specs.Kept.{RegistryView}
 use Rattle.registry_state.specs.Replay.{IsAcceptedChange}
 use Rattle.registry_state.specs.declared.fault.ChildFault.{ChildFault}
+use Rattle.registry_state.specs.declared.fault.ChildFault.TheVariants as Of
 use Rattle.registry_state.specs.declared.fault.RegisterFault.{RegisterFault}
 use Rattle.registry_state.specs.declared.handle.FamilyId.{FamilyId}
 use Rattle.registry_state.specs.declared.handle.Handle.{Handle}
+use Rattle.scrape_page.specs.declared.fault.PageChildFault.{PageChildFault}
+use Rattle.scrape_page.specs.declared.fault.PageChildFault.TheVariants as OfPage
+
+-- a registry's fault as one of a page
+abbrev pub as_page_fault : ChildFault → PageChildFault
+as_page_fault Of.NoSuchFamily = OfPage.NoSuchFamily
+as_page_fault (Of.LabelCount want got) = OfPage.LabelCount want got
+as_page_fault (Of.Full kind) = OfPage.Full kind
+as_page_fault Of.NoMemory = OfPage.NoMemory
 
 module _ {S : Type 0} (n c h g : ℕ) (old new : RegistryView S) (desc : Descriptor) where
   -- a registration: a family behind all that were there, of this descriptor; or nothing
@@ -19,7 +29,12 @@ module _ {S : Type 0} (n c h g : ℕ) (old new : RegistryView S) (desc : Descrip
   RegistersAlone (Err fault) = IsRegisterFault old.state.families desc fault × (new ≡ old)
 
 module _ {S : Type 0} (c h g : ℕ) (old new : RegistryView S) (family : FamilyId) (values : List (List ℕ)) where
+  -- the registry's refusal of a child, told as a page's
+  abbrev pub IsRefusedAlone : PageChildFault → Type 0
+  IsRefusedAlone why = (fault : ChildFault) × IsChildFault c h g old.state.families family.number values fault
+      × (why ≡ as_page_fault fault)
+
   -- the asking for a child: one that was there or is made, or nothing
-  abbrev pub GivesAlone : Result Handle ChildFault → Type 0
+  abbrev pub GivesAlone : Result Handle PageChildFault → Type 0
   GivesAlone (Ok handle) = IsGiven c h g old new family.number values handle
-  GivesAlone (Err fault) = IsChildFault c h g old.state.families family.number values fault × (new ≡ old)
+  GivesAlone (Err why) = IsRefusedAlone why × (new ≡ old)

@@ -2,6 +2,7 @@ pub mod Alone
 pub mod Answering
 pub mod Crews
 pub mod Opening
+pub mod Paged
 pub mod Printing
 pub mod Recorders
 pub mod Refused
@@ -42,3 +43,12 @@ pub use Rattle.chain_law.specs.Settled
 pub use Rattle.metric_registry.specs.Naming
 pub use Rattle.metric_registry.specs.Names
 pub use Rattle.scrape_server.specs.Again
+pub use Rattle.scrape_page.specs.Families
+pub use Rattle.scrape_page.specs.Scraping
+pub use Rattle.page_crew.specs.Shared
+pub use Rattle.page_crew.specs.Counting
+pub use Rattle.page_crew.specs.Publishing
+pub use Rattle.page_crew.specs.Held
+pub use Rattle.page_crew.specs.Opened
+pub use Rattle.page_crew.specs.Owned
+pub use Rattle.page_crew.specs.Locking

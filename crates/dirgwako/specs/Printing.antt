@@ -14,8 +14,6 @@ use Rattle.snapshot_scan.specs.Scanners.{recorded_in}
 use Rattle.scrape_server.specs.Scans.{quit_in, gave_in, gave_up_in}
 use Rattle.snapshot_scan.specs.declared.scanner.Scanner.{Scanner}
 use Rattle.registry_state.specs.Kept.{IsKept, RegistryView}
-use Rattle.registry_state.specs.Journal.{RegistryChange}
-use Rattle.metric_registry.specs.Naming.{ShowsMoment}
 use Rattle.registry_state.specs.Shown.{IsShown}
 use Rattle.scrape_http.specs.declared.source.NoScrape.TheVariants as none
 
@@ -40,11 +38,10 @@ module _ {S : Type 0} (gave : S → S → Result Scraped NoScrape → Type 0) (a
   IsTextFault NoMemory = AsksAgain gave again before after (Err none.NoMemory)
       ⊎ ((scrape : Scraped) × AsksAgain gave again before after (Ok scrape))
 
--- these bytes are the text of a scrape that shows the families which the first changes and some more made, at one moment of a
--- history of publishes
-pub record ShowsText (n c h g : ℕ) (first : List RegistryChange) (bytes : List ℕ) : Type 0 where
+-- these bytes are the text of a scrape that shows this
+pub record ShowsText (shows : Scraped → Type 0) (bytes : List ℕ) : Type 0 where
   pub scrape : Scraped
-  pub moment : ShowsMoment n c h g first scrape
+  pub shown : shows scrape
   pub text_is : bytes ≡ shown_text scrape
 
 -- why there is no last text: what comes back was asked four times, and gave each scan up; that there was no memory no clause can say

@@ -1,30 +1,20 @@
 -- What a clause reads of a recorder.
 use Rattle.std.specs.Prelude.{◌≡◌, ◌≢◌, ℕ, ◌<◌, List, [], ◌∷◌, ◌++◌, map, length, All}
 use Rattle.ledger_core.specs.Ops.{sum_ops}
-use Rattle.ledger_core.specs.declared.op_fault.OpFault.TheVariants.{OutOfGeometry, TooLarge}
 use Rattle.ledger_core.specs.Row.{Accepts}
-use Rattle.ledger_core.specs.Tally.{Tallied, AcceptsAlike, RefusesAlike}
+use Rattle.ledger_core.specs.Tally.{Tallied, AcceptsAlike}
 use Rattle.register_rule.specs.declared.board.Board.{Board}
 use Rattle.register_rule.specs.Seats.{board_id}
 use Rattle.register_rule.specs.Sums.{word_after}
-use Rattle.snapshot_update.specs.declared.faults.ApplyFault.{ApplyFault}
-use Rattle.snapshot_update.specs.declared.faults.ApplyFault.TheVariants.{Exhausted, Refused}
 use Rattle.snapshot_update.specs.declared.faults.CountFault.{CountFault}
 use Rattle.snapshot_update.specs.declared.faults.CountFault.TheVariants.{WrongRegistry, Apply}
 use Rattle.snapshot_update.specs.declared.worker.Worker.{Worker}
 use Rattle.snapshot_update.specs.Updated.{IsUpdated}
 use Rattle.snapshot_update.specs.Workers.{index_of, member_of, lists_of, IsApplyFault}
-use Rattle.dirgwako.specs.declared.change.Change.{Change}
+use Rattle.page_crew.specs.Changes.{op_in, IsOf}
+use Rattle.page_crew.specs.Publishing.{IsRefusedAlike}
+use Rattle.page_crew.specs.declared.change.Change.{Change}
 use Rattle.dirgwako.specs.declared.recorder.Recorder.{Recorder}
-use Rattle.ledger_core.specs.declared.op.Op.{Op}
-
--- what it adds
-abbrev pub op_in : Change → Op
-op_in change = change.op
-
--- it was made with a handle of the registry of this id
-abbrev pub IsOf : (id : ℕ) → Change → Type 0
-IsOf id change = change.registry ≡ id
 
 module _ {N C H G : ℕ} where
   -- its board
@@ -68,15 +58,8 @@ module _ {N C H G : ℕ} where
     pub alike : AcceptsAlike C H G (word_after (sum_ops C H) (member_of r.worker).work.made) t.ops
     pub room : length (member_of r.worker).work.made < 18446744073709551615
 
-  -- why a worker does not take what a tally has: its number is the greatest that there is; or else a word would pass 2^48 - 1, in
-  -- whatever order it were counted
-  abbrev pub IsRefusedAlike : Tallied → Recorder N C H G → ApplyFault → Type 0
-  IsRefusedAlike t r Exhausted = Unit {0}
-  IsRefusedAlike t r (Refused (OutOfGeometry _)) = ⊥
-  IsRefusedAlike t r (Refused (TooLarge _)) = RefusesAlike C H G (word_after (sum_ops C H) (member_of r.worker).work.made) t.ops
-
   -- why a tally was not published: it is not of the registry of the board, or else as for a list of operations, but never 11
   abbrev pub IsFlushFault : Tallied → Recorder N C H G → CountFault → Type 0
   IsFlushFault t r WrongRegistry = t.registry ≢ id_in r
   IsFlushFault t r (Apply fault) = (t.registry ≡ id_in r) × IsApplyFault C H G (member_of r.worker) t.ops fault
-      × IsRefusedAlike t r fault
+      × IsRefusedAlike C H G t.ops (member_of r.worker) fault

@@ -7,6 +7,7 @@ use Rattle.metric_names.specs.LabelValue as value
 use Rattle.metric_desc.specs.Labels as labels
 use Rattle.metric_desc.specs.Histogram as histogram
 use Rattle.registry_state.specs.Faults as state
+use Rattle.scrape_page.specs.Faults as page
 use Rattle.dirgwako.specs.declared.fault.FamilyRefusal.{FamilyRefusal}
 use Rattle.dirgwako.specs.declared.fault.FamilyRefusal.TheVariants as family
 use Rattle.dirgwako.specs.declared.fault.ChildRefusal.{ChildRefusal}
@@ -28,7 +29,7 @@ family_refusal_number (family.Register fault) = state.register_fault_number faul
 abbrev pub child_refusal_number : ChildRefusal → ℕ
 child_refusal_number child.OtherRegistry = 20
 child_refusal_number (child.Value _ fault) = value.number_of fault
-child_refusal_number (child.Child fault) = state.child_fault_number fault
+child_refusal_number (child.Child fault) = page.child_fault_number fault
 child_refusal_number child.OtherKind = 28
 
 -- the number of each refusal of a metric: that of its family, or of its one child

@@ -9,10 +9,10 @@ use Rattle.metric_desc.specs.Desc.{Descriptor, IsDescOf}
 use Rattle.metric_desc.specs.Labels.{IsLabelsFault}
 use Rattle.metric_desc.specs.Histogram.{IsHistogramFault}
 use Rattle.metric_desc.specs.declared.kind.Kind.{Kind}
-use Rattle.registry_state.specs.declared.fault.ChildFault.{ChildFault}
 use Rattle.registry_state.specs.declared.fault.RegisterFault.{RegisterFault}
 use Rattle.registry_state.specs.declared.handle.FamilyId.{FamilyId}
 use Rattle.registry_state.specs.declared.handle.Handle.{Handle}
+use Rattle.scrape_page.specs.declared.fault.PageChildFault.{PageChildFault}
 use Rattle.dirgwako.specs.Texts.{texts_of, IsBadLabel, IsBadValue}
 use Rattle.dirgwako.specs.declared.fault.FamilyRefusal.{FamilyRefusal}
 use Rattle.dirgwako.specs.declared.fault.ChildRefusal.{ChildRefusal}
@@ -73,7 +73,7 @@ IsOther Kinds.Histogram (Handle.Histogram _) = ⊥
 IsOther Kinds.Gauge (Handle.Gauge _) = ⊥
 IsOther kind handle = Unit {0}
 
-module _ {S : Type 0} (id_in : S → ℕ) (gave : S → S → FamilyId → List (List ℕ) → Result Handle ChildFault → Type 0) (old new : S)
+module _ {S : Type 0} (id_in : S → ℕ) (gave : S → S → FamilyId → List (List ℕ) → Result Handle PageChildFault → Type 0) (old new : S)
     (registry : ℕ) (id : FamilyId) (values : List (List ℕ)) where
   -- What is done and answered where a child is asked for: it is asked for once, with just these values; or the family
   -- is of a registry of another id, or else some value is none, and nothing is done.
@@ -91,7 +91,7 @@ module _ {S : Type 0} (id_in : S → ℕ) (gave : S → S → FamilyId → List 
   AsksChild kind answer = AsksHandle answer
 
 module _ {S : Type 0} (id_in : S → ℕ) (registered : S → S → Descriptor → Result FamilyId RegisterFault → Type 0)
-    (gave : S → S → FamilyId → List (List ℕ) → Result Handle ChildFault → Type 0) (old new : S) (desc : Descriptor) where
+    (gave : S → S → FamilyId → List (List ℕ) → Result Handle PageChildFault → Type 0) (old new : S) (desc : Descriptor) where
   -- What is done and answered where a metric without labels is asked for: its family is registered, and then its one child is
   -- asked for.
   -- Where that is refused, the family stands, and is told.

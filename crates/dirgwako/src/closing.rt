@@ -99,3 +99,16 @@ pub fn print_last<R: Print, const N: usize, const C: usize, const H: usize, cons
         Err((fault, _state)) => Err(PrintFault::Text(fault)),
     }
 }
+
+/// Prints [`text_of`] a registry or a page that nobody shares on standard output, as a service does at its end: that of a page behind its lock is
+/// `registry.into_crew()`.
+///
+/// # Errors
+///
+/// [`PrintFault::Text`], 6 and 14; [`PrintFault::Output`].
+pub fn print_of<R: Print, X: MakesScrapes + Drop>(rt: &R, state: X) -> Result<(), PrintFault> {
+    match text_of(state) {
+        Ok((text, _state)) => print_text(rt, &text),
+        Err((fault, _state)) => Err(PrintFault::Text(fault)),
+    }
+}

@@ -4,7 +4,8 @@ ghost use Rattle.dirgwako.specs.Refused.{family_refusal_number, child_refusal_nu
 
 use metric_desc::{HistogramFault, LabelsFault, TooManyDigits};
 use metric_names::{HelpTextFault, LabelNameFault, LabelValueFault, MetricNameFault};
-use registry_state::{ChildFault, FamilyId, RegisterFault};
+use registry_state::{FamilyId, RegisterFault};
+use scrape_page::PageChildFault;
 use thiserror::Error;
 
 /// Why a family is not registered. Nothing has changed then.
@@ -50,8 +51,8 @@ impl FamilyRefusal {
     }
 }
 
-/// Why there is no handle of a family for some label values. Nothing has changed then, but that after 28 the child stands in the other
-/// family.
+/// Why there is no handle of a family for some label values. Nothing has changed then, but that after 28 the child is in the other family,
+/// and that after 6 a page may have a board more.
 #[derive(Clone, Copy, Debug, PartialEq, Eq, Error)]
 pub enum ChildRefusal {
     /// Refusal 20: the family is of a registry of another id.
@@ -60,9 +61,9 @@ pub enum ChildRefusal {
     /// Refusals 3 and 6 of the label value at the place `at`, from 0.
     #[error("value {at}: {fault}")]
     Value { at: usize, fault: LabelValueFault },
-    /// Refusals 20, 21, 22 and 6 of the registry.
+    /// Refusals 20, 21, 22 and 6 of the registry, and 46 of a page.
     #[error(transparent)]
-    Child(ChildFault),
+    Child(PageChildFault),
     /// Refusal 28: the registry's family of this number is of another kind. So a family is told that is of another registry of the same
     /// id, where the kinds differ.
     #[error("the family is of another kind")]

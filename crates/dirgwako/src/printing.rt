@@ -1,12 +1,12 @@
 //! The text of a scrape, by itself and printed.
-ghost use Rattle.std.specs.Prelude.{◌≡◌, [], IfErr, IfOk, Ok, Err};
+ghost use Rattle.std.specs.Prelude.{◌≡◌, IfErr, IfOk, Ok, Err};
 ghost use Rattle.scrape_http.specs.declared.source.NoScrape.TheVariants as none;
 ghost use Rattle.dirgwako.specs.Printing.{IsText, IsTextFault, ShowsText, text_fault_number, print_fault_number};
 
+use crate::shared::{FromShared, Shared};
 use expo_text::render;
-use metric_registry::Registry;
 use scrape_http::{NoScrape, ScrapeFrom};
-use scrape_server::{FromRegistry, scrape_again};
+use scrape_server::scrape_again;
 use std::sync::Wait;
 use thiserror::Error;
 
@@ -71,19 +71,19 @@ pub(crate) fn text_from<S: ScrapeFrom>(source: &mut S) -> Result<Vec<u8>, TextFa
     }
 }
 
-/// Scrapes a registry, and gives the text of the scrape, in the text exposition format 0.0.4: [`Registry::scrape`], [`render`]. A scrape
-/// that was given up is asked for up to three times more.
+/// Scrapes what is shared, a registry or a page behind its lock, and gives the text of the scrape, in the text exposition format 0.0.4: [`render`].
+/// A scrape of a registry that was given up is asked for up to three times more; a page asks each board again by itself.
 ///
 /// # Errors
 ///
 /// 6 [`TextFault::NoMemory`]; 14 [`TextFault::Contended`].
-pub fn scrape_text<R: Wait, const N: usize, const C: usize, const H: usize, const G: usize>(
-    rt: &R,
-    registry: &Registry<'_, N, C, H, G>,
-) -> Result<Vec<u8>, TextFault>
-    ensures moment { IfOk result (λ bytes. ShowsText N C H G [] bytes.items) }
+pub fn scrape_text<R: Wait, X: Shared>(rt: &R, registry: &X) -> Result<Vec<u8>, TextFault>
+    ensures shows { IfOk result (λ bytes. ShowsText X.shows bytes.items) }
 {
-    text_from(&mut FromRegistry { rt, registry })
+    text_from(&mut FromShared {
+        rt,
+        shared: registry,
+    })
 }
 
 /// Prints [`scrape_text`] on standard output.
@@ -91,13 +91,7 @@ pub fn scrape_text<R: Wait, const N: usize, const C: usize, const H: usize, cons
 /// # Errors
 ///
 /// [`PrintFault::Text`], 6 and 14; [`PrintFault::Output`].
-pub fn print_scrape<
-    R: Wait + Print,
-    const N: usize,
-    const C: usize,
-    const H: usize,
-    const G: usize,
->(rt: &R, registry: &Registry<'_, N, C, H, G>) -> Result<(), PrintFault> {
+pub fn print_scrape<R: Wait + Print, X: Shared>(rt: &R, registry: &X) -> Result<(), PrintFault> {
     let text = match scrape_text(rt, registry) {
         Ok(text) => text,
         Err(fault) => return Err(PrintFault::Text(fault)),

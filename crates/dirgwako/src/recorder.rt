@@ -8,9 +8,8 @@ ghost use Rattle.register_rule.specs.Sums.{word_after};
 ghost use Rattle.snapshot_update.specs.Workers.{index_of, member_of, IsWorkerOf, IsCounted, IsCountFault};
 ghost use Rattle.std.proofs.Props.{props};
 
-use crate::change::Change;
-use crate::listing::{are_of, ops_of};
 use ledger_core::{Counter, Gauge, Histogram, Row, Tally};
+use page_crew::{Change, are_of, ops_of};
 use register_rule::Board;
 use snapshot_update::{CountFault, Worker};
 use std::alloc::{AllocError, Global};

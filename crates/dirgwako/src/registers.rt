@@ -1,19 +1,20 @@
 //! What registers families and gives children: a registry behind its lock, and one that is nobody else's.
 ghost use Rattle.std.specs.Prelude.{◌≡◌, ℕ, ◌<◌, List, Result, IfOk};
 ghost use Rattle.metric_desc.specs.Desc.{Descriptor};
-ghost use Rattle.registry_state.specs.declared.fault.ChildFault.{ChildFault};
 ghost use Rattle.registry_state.specs.declared.fault.RegisterFault.{RegisterFault};
 ghost use Rattle.registry_state.specs.declared.handle.FamilyId.{FamilyId};
 ghost use Rattle.registry_state.specs.declared.handle.Handle.{Handle};
+ghost use Rattle.scrape_page.specs.declared.fault.PageChildFault.{PageChildFault};
 ghost use Rattle.metric_registry.specs.Names.{id_of};
 ghost use Rattle.metric_registry.specs.Naming.{HasId};
 ghost use Rattle.registry_state.specs.Calls.{IsInside};
-ghost use Rattle.dirgwako.specs.Alone.{RegistersAlone, GivesAlone};
+ghost use Rattle.dirgwako.specs.Alone.{RegistersAlone, GivesAlone, as_page_fault};
 
 use metric_desc::Desc;
 use metric_names::LabelValue;
 use metric_registry::Registry;
 use registry_state::{ChildFault, FamilyId, Handle, RegisterFault, RegistryState};
+use scrape_page::PageChildFault;
 use snapshot_scan::Source;
 use std::sync::Wait;
 
@@ -27,7 +28,7 @@ pub trait Registers {
     ghost registered: { Self → Self → Descriptor → Result FamilyId RegisterFault → Type 0 };
 
     // What asking for one child says of what was there before it, what is there after it, the family, the label values, and the answer.
-    ghost gave: { Self → Self → FamilyId → List (List ℕ) → Result Handle ChildFault → Type 0 };
+    ghost gave: { Self → Self → FamilyId → List (List ℕ) → Result Handle PageChildFault → Type 0 };
 
     /// The id that its handles have.
     fn id(&self) -> u64
@@ -45,9 +46,21 @@ pub trait Registers {
     ///
     /// # Errors
     ///
-    /// 20, 21, 22 and 6: [`ChildFault`].
-    fn child(&mut self, family: FamilyId, values: &[LabelValue]) -> Result<Handle, ChildFault>
+    /// 20, 21, 22 and 6, and of a page 46: [`PageChildFault`].
+    fn child(&mut self, family: FamilyId, values: &[LabelValue]) -> Result<Handle, PageChildFault>
         ensures { gave self.old self.new family values.now result };
+}
+
+/// A registry's fault as one of a page, which has one more (46).
+fn child_fault(fault: ChildFault) -> PageChildFault
+    ensures { result ≡ as_page_fault fault }
+{
+    match fault {
+        ChildFault::NoSuchFamily => PageChildFault::NoSuchFamily,
+        ChildFault::LabelCount { want, got } => PageChildFault::LabelCount { want, got },
+        ChildFault::Full { kind } => PageChildFault::Full { kind },
+        ChildFault::NoMemory => PageChildFault::NoMemory,
+    }
 }
 
 /// A registry behind its lock, and the runtime that waits for it.
@@ -76,8 +89,11 @@ impl<R: Wait, const N: usize, const C: usize, const H: usize, const G: usize> Re
         self.registry.register(self.rt, desc)
     }
 
-    fn child(&mut self, family: FamilyId, values: &[LabelValue]) -> Result<Handle, ChildFault> {
-        self.registry.child(self.rt, family, values)
+    fn child(&mut self, family: FamilyId, values: &[LabelValue]) -> Result<Handle, PageChildFault> {
+        match self.registry.child(self.rt, family, values) {
+            Ok(handle) => Ok(handle),
+            Err(fault) => Err(child_fault(fault)),
+        }
     }
 }
 
@@ -103,7 +119,10 @@ impl<
         RegistryState::register(self, desc)
     }
 
-    fn child(&mut self, family: FamilyId, values: &[LabelValue]) -> Result<Handle, ChildFault> {
-        RegistryState::child(self, family, values)
+    fn child(&mut self, family: FamilyId, values: &[LabelValue]) -> Result<Handle, PageChildFault> {
+        match RegistryState::child(self, family, values) {
+            Ok(handle) => Ok(handle),
+            Err(fault) => Err(child_fault(fault)),
+        }
     }
 }

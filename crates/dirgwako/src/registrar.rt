@@ -8,14 +8,17 @@ ghost use Rattle.dirgwako.specs.Texts.{texts_of};
 use crate::asking::{ask_family, ask_handle};
 use crate::family::{CounterFamily, GaugeFamily, HistogramFamily, Shape};
 use crate::fault::{ChildRefusal, FamilyRefusal, MetricRefusal};
+use crate::paged::{BehindPage, OnPage};
 use crate::registers::{Behind, Registers};
 use ledger_core::{Counter, Gauge, Histogram};
 use metric_registry::Registry;
+use page_crew::{PageCrew, PageRegistry};
 use registry_state::Handle;
 use std::alloc::Global;
 use std::sync::Wait;
 
-/// Registers metrics by plain texts. [`Registrar::new`] makes one of a registry.
+/// Registers metrics by plain texts. [`Registrar::new`] makes one of a registry, [`Registrar::page`] and
+/// [`Registrar::shared_page`] one of a page.
 ///
 /// All numbers are whole. A name tells their unit, `job_bytes`, or the unit in which a text shows them, shifted: counted in microseconds
 /// and shown in seconds, `answer_seconds` ([`Registrar::histogram_seconds`]).
@@ -49,12 +52,61 @@ impl<
     }
 }
 
+impl<const N: usize, const C: usize, const H: usize, const G: usize> Registrar<OnPage<N, C, H, G>> {
+    /// That of a page, whose families go into the group 0. `registrar.at.group` is the group of the families to come, and may be changed at
+    /// any time.
+    pub fn page(alloc: Global, crew: PageCrew<N, C, H, G>) -> Registrar<OnPage<N, C, H, G>>
+        ensures { result.at ≡ record { crew = crew.entry; group = 0 } }
+    {
+        Registrar {
+            at: OnPage { crew, group: 0 },
+            alloc,
+        }
+    }
+}
+
+impl<
+    'a,
+    R: Wait + AllocGlobal,
+    const N: usize,
+    const C: usize,
+    const H: usize,
+    const G: usize,
+> Registrar<BehindPage<'a, R, N, C, H, G>> {
+    /// That of a page behind its lock, whose families go into the group 0. `registrar.at.group` is the group of the families to come, and may be
+    /// changed at any time.
+    pub fn shared_page(
+        rt: &'a R,
+        registry: &'a PageRegistry<N, C, H, G>,
+    ) -> Registrar<BehindPage<'a, R, N, C, H, G>>
+        ensures registry { result.at.registry ≡ registry.entry }
+        ensures group { result.at.group ≡ 0 }
+    {
+        Registrar {
+            at: BehindPage {
+                rt,
+                registry,
+                group: 0,
+            },
+            alloc: rt.alloc(),
+        }
+    }
+}
+
 impl<S: Registers> Registrar<S> {
     /// That of whatever registers families.
     pub fn of(alloc: Global, at: S) -> Registrar<S>
         ensures { result.at ≡ at }
     {
         Registrar { at, alloc }
+    }
+
+    /// What registers them, given back whole.
+    pub fn into_inner(self) -> S
+        ensures { result ≡ self.at }
+    {
+        let Registrar { at, alloc: _ } = self;
+        at
     }
 
     /// A family of counters with labels. [`Registrar::counter_of`] gives its children.
@@ -100,7 +152,8 @@ impl<S: Registers> Registrar<S> {
     /// # Errors
     ///
     /// The first that is so: [`ChildRefusal::OtherRegistry`], 20, the family is of a registry of another id; [`ChildRefusal::Value`] with
-    /// the value's place, 3, 6; [`ChildRefusal::Child`], 21, 22, 6. Nothing has changed then. Of two registries of one id:
+    /// the value's place, 3, 6; [`ChildRefusal::Child`], 21, of a page 46, 22, 6. Nothing has changed then; but of a page,
+    /// after 6, there may be a board more, and a part of the family there, without children, which no text shows. Of two registries of one id:
     /// [`ChildRefusal::Child`], 20, and [`ChildRefusal::OtherKind`], 28, after which a child of another kind may have been made.
     pub fn counter_of(
         &mut self,
@@ -188,7 +241,8 @@ impl<S: Registers> Registrar<S> {
     /// # Errors
     ///
     /// The first that is so: [`ChildRefusal::OtherRegistry`], 20, the family is of a registry of another id; [`ChildRefusal::Value`] with
-    /// the value's place, 3, 6; [`ChildRefusal::Child`], 21, 22, 6. Nothing has changed then. Of two registries of one id:
+    /// the value's place, 3, 6; [`ChildRefusal::Child`], 21, of a page 46, 22, 6. Nothing has changed then; but of a page,
+    /// after 6, there may be a board more, and a part of the family there, without children, which no text shows. Of two registries of one id:
     /// [`ChildRefusal::Child`], 20, and [`ChildRefusal::OtherKind`], 28, after which a child of another kind may have been made.
     pub fn gauge_of(&mut self, family: &GaugeFamily, values: &[&str]) -> Result<Gauge, ChildRefusal>
         ensures given { IfOk result (λ handle. AsksChild S.id_in S.gave self.old.at self.new.at family.now.registry family.now.id
@@ -273,7 +327,8 @@ impl<S: Registers> Registrar<S> {
     /// # Errors
     ///
     /// The first that is so: [`ChildRefusal::OtherRegistry`], 20, the family is of a registry of another id; [`ChildRefusal::Value`] with
-    /// the value's place, 3, 6; [`ChildRefusal::Child`], 21, 22, 6. Nothing has changed then. Of two registries of one id:
+    /// the value's place, 3, 6; [`ChildRefusal::Child`], 21, of a page 46, 22, 6. Nothing has changed then; but of a page,
+    /// after 6, there may be a board more, and a part of the family there, without children, which no text shows. Of two registries of one id:
     /// [`ChildRefusal::Child`], 20, and [`ChildRefusal::OtherKind`], 28, after which a child of another kind may have been made.
     pub fn histogram_of(
         &mut self,

@@ -6,9 +6,9 @@ ghost use Rattle.dirgwako.specs.Answering.{Answers, AreAnswered, IsBroken};
 
 use crate::closing::Owned;
 use crate::connection::answer;
-use metric_registry::Registry;
+use crate::shared::{FromShared, Shared};
 use scrape_http::{ScrapeFrom, Served};
-use scrape_server::{AskedAgain, FromRegistry, MakesScrapes};
+use scrape_server::{AskedAgain, MakesScrapes};
 use std::io::{self, ErrorKind};
 use std::net::{TcpListener, TcpStream};
 use std::sync::Wait;
@@ -104,18 +104,19 @@ fn answer_forever<R: Wait, T: Connections>(rt: &R, at: &mut T) -> io::Result<()>
     unreachable!()
 }
 
-/// Answers so many connections, one after the other, with scrapes of this registry: [`scrape_http::serve_one`]. What goes wrong with one
-/// of them does not end the others. Each may take as long as `patience`, which is not 0: from when it is accepted until its request is
+/// Answers so many connections, one after the other, with scrapes of what is shared, a registry or a page behind its lock:
+/// [`scrape_http::serve_one`]. What goes wrong with one of them does not end the others. Each may take as long as `patience`, which is not 0: from when it is accepted until its request is
 /// read and its reply written, so that no client holds the server for longer, and the client has up to 20 seconds more to end its
-/// side. A scrape that was given up is asked for up to three times more; then the reply is 503.
+/// side. A scrape of a registry that was given up is asked for up to three times more, and a page asks each board again by itself; then the
+/// reply is 503.
 ///
 /// # Errors
 ///
 /// `InvalidInput` where `patience` is 0. The listener's, where it has failed 64 times in a row, a tenth of a second apart.
-pub fn serve<R: Wait + Clock, const N: usize, const C: usize, const H: usize, const G: usize>(
+pub fn serve<R: Wait + Clock, X: Shared>(
     rt: &R,
     listener: &TcpListener,
-    registry: &Registry<'_, N, C, H, G>,
+    registry: &X,
     patience: Duration,
     connections: u64,
 ) -> io::Result<Answered>
@@ -125,7 +126,10 @@ pub fn serve<R: Wait + Clock, const N: usize, const C: usize, const H: usize, co
     if patience.is_zero() {
         return Err(ErrorKind::InvalidInput.into());
     }
-    let source = FromRegistry { rt, registry };
+    let source = FromShared {
+        rt,
+        shared: registry,
+    };
     answer_all(
         &mut Listening {
             clock: rt,
@@ -186,16 +190,10 @@ pub fn serve_alone<R: Clock, X: MakesScrapes + Drop>(
 /// # Errors
 ///
 /// As [`serve`]: it ends with nothing else.
-pub fn serve_forever<
-    R: Wait + Clock,
-    const N: usize,
-    const C: usize,
-    const H: usize,
-    const G: usize,
->(
+pub fn serve_forever<R: Wait + Clock, X: Shared>(
     rt: &R,
     listener: &TcpListener,
-    registry: &Registry<'_, N, C, H, G>,
+    registry: &X,
     patience: Duration,
 ) -> io::Result<()>
     ensures { IsErr result }
@@ -203,7 +201,10 @@ pub fn serve_forever<
     if patience.is_zero() {
         return Err(ErrorKind::InvalidInput.into());
     }
-    let source = FromRegistry { rt, registry };
+    let source = FromShared {
+        rt,
+        shared: registry,
+    };
     answer_forever(
         rt,
         &mut Listening {

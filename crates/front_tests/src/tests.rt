@@ -1,17 +1,22 @@
 //! The library for services by its public calls, as who writes a service meets them. Its clauses hand on those of the calls below, so what
 //! is tried here is what none of them says: that the numbers and places are the documented ones, that each call succeeds, at its limits
 //! too, what a scrape prints, and how a server goes on behind clients that are not as they should be.
+mod alone;
+mod behind;
 mod bounds;
 mod busy;
 mod clients;
 mod counting;
+mod crowd;
 mod kept;
 mod limits;
 mod memory;
+mod pages;
 mod refused;
 mod seconds;
 mod serving;
 mod settled;
+mod sharing;
 mod shown;
 mod stream;
 mod tallies;

@@ -1,10 +1,11 @@
-//! A tutorial in five steps, each of which is a file: [`counter`], [`labels`], [`threads`], [`testing`] and [`endpoint`]. The program runs
-//! them in order.
+//! A tutorial in six steps, each of which is a file: [`counter`], [`labels`], [`threads`], [`testing`], [`routes`] and [`endpoint`]. The
+//! program runs them in order.
 #![tactic(auto)]
 
 mod counter;
 mod endpoint;
 mod labels;
+mod routes;
 mod testing;
 mod threads;
 
@@ -15,5 +16,6 @@ fn main(rt: HostRuntime) -> Result<()> {
     labels::run(&rt)?;
     threads::run(&rt)?;
     testing::run(&rt)?;
+    routes::run(&rt)?;
     endpoint::run(&rt, 0)
 }

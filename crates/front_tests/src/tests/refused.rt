@@ -3,9 +3,9 @@ use super::{Names, Tried, new_team, opened, prints, try_out};
 use crate::asserts::{need, same};
 use crate::crew::ID;
 use dirgwako::{
-    BadBounds, ChildFault, ChildRefusal, CounterFamily, FamilyRefusal, HelpTextFault,
-    HistogramFault, Kind, LabelNameFault, LabelValueFault, LabelsFault, MetricNameFault,
-    MetricRefusal, RegisterFault, Registers, Registrar,
+    BadBounds, ChildRefusal, CounterFamily, FamilyRefusal, HelpTextFault, HistogramFault, Kind,
+    LabelNameFault, LabelValueFault, LabelsFault, MetricNameFault, MetricRefusal, PageChildFault,
+    RegisterFault, Registers, Registrar,
 };
 use std::process::Abort;
 use std::sync::Wait;
@@ -201,7 +201,7 @@ fn refuses_children<S: Registers>(rt: &(impl Abort + AllocGlobal), metrics: &mut
     let value = ChildRefusal::Value { at, fault };
     refuses_values(rt, metrics, family, &["", long.as_str()], value, 3);
     let (want, got) = (2, 1);
-    let count = ChildRefusal::Child(ChildFault::LabelCount { want, got });
+    let count = ChildRefusal::Child(PageChildFault::LabelCount { want, got });
     refuses_values(rt, metrics, family, &["x"], count, 21);
     for value in ["1", "2", "3", "4"] {
         need(rt, metrics.counter_of(family, &["x", value]));
@@ -210,7 +210,7 @@ fn refuses_children<S: Registers>(rt: &(impl Abort + AllocGlobal), metrics: &mut
 }
 
 /// Every counter is used.
-const FULL: ChildRefusal = ChildRefusal::Child(ChildFault::Full {
+const FULL: ChildRefusal = ChildRefusal::Child(PageChildFault::Full {
     kind: Kind::Counter,
 });
 

@@ -1,6 +1,6 @@
 //! Several registries, each over a board of its own, as one page.
-mod crews;
 mod limits;
+mod owner;
 mod shown;
 mod threads;
 

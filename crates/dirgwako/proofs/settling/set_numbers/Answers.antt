@@ -9,7 +9,7 @@ use Rattle.snapshot_update.specs.Workers.{member_of}
 use Rattle.snapshot_scan.specs.Snapshots.{Taken}
 use Rattle.chain_law.proofs.Places.{set_else}
 use Rattle.dirgwako.specs.Recorders.{worker_in}
-use Rattle.dirgwako.proofs.Published.{set_here}
+use Rattle.page_crew.proofs.Places.{set_here}
 use Rattle.dirgwako.proofs.settling.set_numbers.Goals as goal
 
 pub loop-place-preserved : goal.loop-place-preserved

@@ -7,7 +7,7 @@ use lib.ListN.{get_elem?}
 use Rattle.snapshot_scan.specs.Snapshots.{Taken}
 use Rattle.chain_law.proofs.Places.{set_else}
 use Rattle.dirgwako.specs.Settling.{published_in}
-use Rattle.dirgwako.proofs.Published.{set_here}
+use Rattle.page_crew.proofs.Places.{set_here}
 use Rattle.dirgwako.proofs.settling.set_totals.Goals as goal
 
 pub loop-word-preserved : goal.loop-word-preserved

@@ -4,7 +4,7 @@ use crate::helpers::{desc, values};
 use expo_text::render;
 use ledger_core::Counter;
 use metric_desc::Kind;
-use page_crew::{Crews, CrewsFault, NoBoard, PageRecorder};
+use page_crew::{NoBoard, PageCrew, PageCrewFault, PageRecorder};
 use registry_state::Handle;
 use scrape_page::PageFamilyId;
 use snapshot_update::CountFault;
@@ -13,7 +13,7 @@ use std::process::Abort;
 use std::thread::{Threads, join};
 
 /// A page over boards of one counter, for two threads.
-type TwoCrews = Crews<2, 1, 0, 0>;
+type TwoBoards = PageCrew<2, 1, 0, 0>;
 
 /// What a thread counts with on it.
 type Recorder = PageRecorder<2, 1, 0, 0>;
@@ -22,12 +22,12 @@ type Recorder = PageRecorder<2, 1, 0, 0>;
 fn counter(
     rt: &impl Abort,
     alloc: Global,
-    crews: &mut TwoCrews,
+    crew: &mut TwoBoards,
     family: PageFamilyId,
     value: &str,
 ) -> Counter {
     let values = done(rt, values(alloc, &[value]));
-    match need(rt, crews.child(family, &values)) {
+    match need(rt, crew.child(family, &values)) {
         Handle::Counter(counter) => counter,
         _ => rt.panic("no counter"),
     }
@@ -61,16 +61,16 @@ const SHOWN: &[u8] = b"# TYPE a_total counter\na_total{l=\"x\"} 40001\na_total{l
 #[test]
 fn boards_come(rt: HostRuntime) {
     let (rt, alloc) = (&rt, rt.alloc());
-    let (mut crews, mut recorders) = need(rt, TwoCrews::new(alloc, 3, 64));
+    let (mut crew, mut recorders) = need(rt, TwoBoards::new(alloc, 3, 64));
     let mut other = there(rt, recorders.pop());
     let mut one = there(rt, recorders.pop());
     let desc = done(rt, desc(alloc, Kind::Counter, "a_total", &["l"]));
-    let a = need(rt, crews.register(desc, 1));
-    let x = counter(rt, alloc, &mut crews, a, "x");
+    let a = need(rt, crew.register(desc, 1));
+    let x = counter(rt, alloc, &mut crew, a, "x");
     let registry = 3 * 128;
     same(rt, x, Counter { registry, slot: 0 });
     need(rt, one.inc(&x, 1));
-    let y = counter(rt, alloc, &mut crews, a, "y");
+    let y = counter(rt, alloc, &mut crew, a, "y");
     let next = registry + 1;
     same(
         rt,
@@ -82,19 +82,19 @@ fn boards_come(rt: HostRuntime) {
     );
     count_both(rt, &mut one, &mut other, x, y);
     same(rt, one.join(), 2);
-    let last = need(rt, crews.scrape());
+    let last = need(rt, crew.scrape());
     same(rt, need(rt, render(&last)).as_slice(), SHOWN);
 }
 
 /// A handle of no board of the page is refused (16), and a window of no scrape (31).
 #[test]
-fn crews_refuse(rt: HostRuntime) {
+fn crew_refuses(rt: HostRuntime) {
     let (rt, alloc) = (&rt, rt.alloc());
-    match TwoCrews::new(alloc, 1, 0) {
+    match TwoBoards::new(alloc, 1, 0) {
         Ok(_) => rt.panic("a page of no scrape"),
-        Err(fault) => same(rt, (fault, fault.number()), (CrewsFault::BadWindow, 31)),
+        Err(fault) => same(rt, (fault, fault.number()), (PageCrewFault::BadWindow, 31)),
     }
-    let (mut crews, mut recorders) = need(rt, TwoCrews::new(alloc, 1, 1));
+    let (mut crew, mut recorders) = need(rt, TwoBoards::new(alloc, 1, 1));
     let mut one = there(rt, recorders.pop());
     let (behind, before) = (129, 127);
     same(
@@ -120,9 +120,9 @@ fn crews_refuse(rt: HostRuntime) {
         Err(CountFault::WrongRegistry),
     );
     for number in 1..96usize {
-        same(rt, crews.add_board(), Ok(number));
+        same(rt, crew.add_board(), Ok(number));
     }
-    same(rt, crews.add_board(), Err(NoBoard::TooManyBoards));
+    same(rt, crew.add_board(), Err(NoBoard::TooManyBoards));
     same(rt, NoBoard::TooManyBoards.number(), 44);
     same(rt, one.join(), 96);
 }

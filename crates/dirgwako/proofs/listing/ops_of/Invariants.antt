@@ -1,9 +1,0 @@
-use Rattle.std.proofs.Common.{◌≡◌, map, take, length}
-use Rattle.dirgwako.specs.Recorders.{op_in}
-use Rattle.dirgwako.proofs.listing.ops_of.Given as goal
-
-abbrev pub invariant-loop-at : goal.invariant-loop-at
-invariant-loop-at g l = record {
-  long : length l.ops ≡ g.row.K;
-  made : take l.at l.ops ≡ take l.at (map op_in l.changes);
-}

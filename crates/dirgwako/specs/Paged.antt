@@ -1,0 +1,38 @@
+-- What one call does to a page that is nobody else's, and answers.
+use Rattle.std.specs.Prelude.{◌≡◌, ℕ, ◌<◌, List, length, Result, Ok, Err}
+use Rattle.metric_desc.specs.Desc.{Descriptor}
+use Rattle.registry_state.specs.Calls.{IsInside}
+use Rattle.registry_state.specs.declared.fault.RegisterFault.{RegisterFault}
+use Rattle.registry_state.specs.declared.fault.RegisterFault.TheVariants as Of
+use Rattle.registry_state.specs.declared.handle.FamilyId.{FamilyId}
+use Rattle.registry_state.specs.declared.handle.Handle.{Handle}
+use Rattle.scrape_page.specs.Calls.{AddsFamily}
+use Rattle.scrape_page.specs.Faults.{AreApart, IsPageFamilyFault}
+use Rattle.scrape_page.specs.Rooms.{IsHome}
+use Rattle.scrape_page.specs.declared.fault.PageChildFault.{PageChildFault}
+use Rattle.scrape_page.specs.declared.fault.PageFamilyFault.{PageFamilyFault}
+use Rattle.scrape_page.specs.declared.fault.PageFamilyFault.TheVariants as OfPage
+use Rattle.page_crew.specs.Owned.{page_of, PageDid, IsUnchanged, IsGivenByCrew, IsRefusedByCrew}
+use Rattle.dirgwako.specs.declared.paged.OnPage.{OnPage}
+
+-- a page's fault as one of a registry
+abbrev pub as_register_fault : PageFamilyFault → RegisterFault
+as_register_fault (OfPage.Clash with) = Of.Clash with
+as_register_fault OfPage.TooManyFamilies = Of.TooManyFamilies
+as_register_fault OfPage.NoMemory = Of.NoMemory
+
+module _ {N C H G : ℕ} (old new : OnPage N C H G) where
+  module _ (desc : Descriptor) where
+    -- a registration: a family behind all that were there, of this descriptor, in the group; or nothing
+    abbrev pub RegistersOnPage : Result FamilyId RegisterFault → Type 0
+    RegistersOnPage (Ok family) = (new.group ≡ old.group) × (family.number ≡ length (page_of old.crew).families)
+        × AreApart (page_of old.crew).families desc × (length (page_of old.crew).families < 128)
+        × PageDid old.crew new.crew (λ a b. (home : ℕ) × IsHome C H G a desc.kind old.group home × AddsFamily a b desc old.group home)
+    RegistersOnPage (Err why) = (new.group ≡ old.group) × IsUnchanged old.crew new.crew
+        × ((fault : PageFamilyFault) × (why ≡ as_register_fault fault) × IsPageFamilyFault (page_of old.crew).families desc fault)
+
+  module _ (family : FamilyId) (values : List (List ℕ)) where
+    -- the asking for a child: one that was there or is made, on a board that came for it where it had to; or why there is none
+    abbrev pub GivesOnPage : Result Handle PageChildFault → Type 0
+    GivesOnPage (Ok handle) = (new.group ≡ old.group) × IsGivenByCrew old.crew new.crew family.number values handle × IsInside C H G handle
+    GivesOnPage (Err why) = (new.group ≡ old.group) × IsRefusedByCrew old.crew new.crew family.number values why

@@ -1,0 +1,123 @@
+//! A page behind its lock, by one thread: what no clause tells of a page that others share.
+use crate::asserts::{need, same, there};
+use dirgwako::{
+    BadWindow, ChildRefusal, Counter, FamilyRefusal, Kind, MetricRefusal, NoBoard, PageChildFault,
+    PageCrew, PageRecorder, PageRegistry, RegisterFault, Registrar, scrape_text,
+};
+use std::alloc::Global;
+use std::process::Abort;
+use std::sync::Wait;
+
+/// The id of the first board of the page of id 6.
+const FIRST: u64 = 6 * 128;
+
+/// A page over boards of `C` counters behind its lock, and its one recorder.
+fn locked<const C: usize>(
+    rt: &impl Abort,
+    alloc: Global,
+) -> (PageRegistry<1, C, 0, 0>, PageRecorder<1, C, 0, 0>) {
+    let (crew, mut recorders) = need(rt, PageCrew::new(alloc, 6, 64));
+    (PageRegistry::lock(crew), there(rt, recorders.pop()))
+}
+
+/// A scrape's text is this.
+fn shows<const C: usize>(
+    rt: &(impl Wait + Abort),
+    pages: &PageRegistry<1, C, 0, 0>,
+    expected: &str,
+) {
+    let text = need(rt, scrape_text(rt, pages));
+    same(rt, text.as_slice(), expected.as_bytes());
+}
+
+/// Families of two groups are on two boards, what was registered is found, and each scrape has what was counted last.
+#[test]
+fn groups_behind_a_lock(rt: HostRuntime) {
+    let (rt, alloc) = (&rt, rt.alloc());
+    let (pages, mut recorder) = locked::<2>(rt, alloc);
+    same(rt, pages.add_board(rt), Ok(1));
+    let mut metrics = Registrar::shared_page(rt, &pages);
+    let a = need(rt, metrics.counter("a", ""));
+    metrics.at.group = 1;
+    let b = need(rt, metrics.counter("b", ""));
+    let at = |registry: u64| Counter { registry, slot: 0 };
+    same(rt, (a, b), (at(FIRST), at(FIRST + 1)));
+    let number = |name: &str| pages.family(rt, name).map(|family| family.number());
+    same(
+        rt,
+        (number("a"), number("b"), number("c")),
+        (Some(0), Some(1), None),
+    );
+    shows(rt, &pages, "# TYPE a counter\na 0\n# TYPE b counter\nb 0\n");
+    need(rt, recorder.inc(&a, 3));
+    shows(rt, &pages, "# TYPE a counter\na 3\n# TYPE b counter\nb 0\n");
+    need(rt, recorder.inc(&b, 4));
+    shows(rt, &pages, "# TYPE a counter\na 3\n# TYPE b counter\nb 4\n");
+}
+
+/// How many scrapes each of two boards keeps.
+fn kept<const C: usize>(rt: &impl Abort, crew: &PageCrew<1, C, 0, 0>) -> (usize, usize) {
+    let boards = crew.page().boards();
+    let of = |number: usize| there(rt, boards.get(number)).kept().len();
+    (of(0), of(1))
+}
+
+/// A window of no scrape, and of over 1,024 (31); then each board keeps as many as it was told, also one that came later.
+#[test]
+fn a_window_behind_a_lock(rt: HostRuntime) {
+    let (rt, alloc) = (&rt, rt.alloc());
+    let (pages, _recorder) = locked::<2>(rt, alloc);
+    for window in [0, 1_025] {
+        same(rt, pages.set_window(rt, window), Err(BadWindow));
+    }
+    same(rt, pages.set_window(rt, 2), Ok(()));
+    same(rt, pages.add_board(rt), Ok(1));
+    for _scrape in 0..3usize {
+        shows(rt, &pages, "");
+    }
+    let mut crew = pages.into_crew();
+    same(rt, kept(rt, &crew), (2, 2));
+    same(rt, crew.set_window(1), Ok(()));
+    same(rt, kept(rt, &crew), (1, 1));
+    same(rt, crew.set_window(0), Err(BadWindow));
+    need(rt, crew.scrape());
+    same(rt, kept(rt, &crew), (1, 1));
+}
+
+/// A name that is taken (19), a gauge where boards have none (22), and the 257th child of a family (46), which is on the second of two boards.
+#[test]
+fn refused_behind_a_lock(rt: HostRuntime) {
+    let (rt, alloc) = (&rt, rt.alloc());
+    let (pages, _recorder) = locked::<200>(rt, alloc);
+    let mut metrics = Registrar::shared_page(rt, &pages);
+    let family = need(rt, metrics.counter_family("a", "", &["l"]));
+    let clash = FamilyRefusal::Register(RegisterFault::Clash { with: 0 });
+    same(
+        rt,
+        metrics.counter("a", ""),
+        Err(MetricRefusal::Family(clash)),
+    );
+    let kind = Kind::Gauge;
+    let full = ChildRefusal::Child(PageChildFault::Full { kind });
+    let gauges = need(rt, metrics.gauge_family("g", "", &[]));
+    same(rt, metrics.gauge_of(&gauges, &[]), Err(full));
+    for length in 0..256usize {
+        let value = need(rt, "x".repeat(alloc, length));
+        need(rt, metrics.counter_of(&family, &[value.as_str()]));
+    }
+    let many = ChildRefusal::Child(PageChildFault::TooManyChildren);
+    same(rt, metrics.counter_of(&family, &["y"]), Err(many));
+    let crew = pages.into_crew();
+    same(rt, (crew.first(), crew.page().boards().len()), (FIRST, 2));
+}
+
+/// The 97th board (44), and a child for which no board is left (22).
+#[test]
+fn boards_behind_a_lock(rt: HostRuntime) {
+    let (rt, alloc) = (&rt, rt.alloc());
+    let (pages, _recorder) = locked::<0>(rt, alloc);
+    for number in 1..96usize {
+        same(rt, pages.add_board(rt), Ok(number));
+    }
+    same(rt, pages.add_board(rt), Err(NoBoard::TooManyBoards));
+}
