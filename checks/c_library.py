@@ -65,8 +65,8 @@ int main() {
     dirgwako_counter counter;
     dirgwako_gauge gauge;
     dirgwako_histogram histogram;
-    if (dirgwako_counter_family_new(&registry, "a", "A.", NULL, 0, 6, &counters)) return 1;
-    if (dirgwako_gauge_family_new(&registry, "b", "B.", NULL, 0, 6, &gauges)) return 1;
+    if (dirgwako_counter_family_new(&registry, "a", "A.", NULL, 0, 6, 1, &counters)) return 1;
+    if (dirgwako_gauge_family_new(&registry, "b", "B.", NULL, 0, 6, 1, &gauges)) return 1;
     if (dirgwako_counter_of(&registry, &counters, NULL, 0, &counter) || dirgwako_gauge_of(&registry, &gauges, NULL, 0, &gauge)) return 1;
     return (int)dirgwako_histogram_seconds_new(&registry, "c", "C.", bounds, 11, &histogram);
 }
@@ -92,7 +92,7 @@ def passes(program, *words, seconds=300):
 
 def tests(prefix, room, *more):
     """The tests, with the archive; returns how many passed."""
-    sources = [HERE / f"test{it}.c" for it in ("", "_numbers", "_shared")]
+    sources = [HERE / f"test{it}.c" for it in ("", "_numbers", "_boards", "_shared")]
     done("cc", "-std=c99", "-D_POSIX_C_SOURCE=200809L", *STRICT, *more, *sources, f"-I{prefix}/include", prefix / "lib/libdirgwako.a",
          "-lpthread", "-o", room / "test")
     return passes(room / "test")
@@ -100,7 +100,7 @@ def tests(prefix, room, *more):
 
 def shared(prefix, room):
     """The tests with the shared library of most threads, which pkg-config finds."""
-    sources = [HERE / f"test{it}.c" for it in ("", "_numbers", "_shared")]
+    sources = [HERE / f"test{it}.c" for it in ("", "_numbers", "_boards", "_shared")]
     done("cc", "-std=c99", "-D_POSIX_C_SOURCE=200809L", *STRICT, *sources, "-o", room / "test_shared", *flags(prefix, "dirgwako32"), "-lpthread")
     return passes(room / "test_shared", "env", f"LD_LIBRARY_PATH={prefix}/lib")
 
@@ -113,6 +113,13 @@ def memory(prefix, room):
     return passes(room / "test_memory")
 
 
+def heap(prefix, room):
+    """A program's own memory in the place of malloc."""
+    done("cc", "-std=c99", "-D_POSIX_C_SOURCE=200809L", *STRICT, HERE / "test_heap.c", HERE / "test_shared.c", f"-I{prefix}/include",
+         prefix / "lib/libdirgwako.a", "-o", room / "test_heap")
+    return passes(room / "test_heap")
+
+
 def sanitized(prefix, room):
     """The tests again, with the sanitizers of addresses and of undefined behaviour, where the machine has them."""
     probe = room / "probe.c"
@@ -123,17 +130,17 @@ def sanitized(prefix, room):
     return tests(prefix, room, "-fsanitize=address,undefined", "-fno-sanitize-recover=all")
 
 
-def check_all():
-    """Returns how many things were as they should be."""
+def check_all(prefix):
+    """Installs the libraries below `prefix`, where the checks of other languages find them. Returns how many things were as they should be."""
     if not shutil.which("cc"):
         raise Skipped("there is no cc")
+    done(HERE / "build.sh", "--proved", seconds=3600)
+    done(HERE / "build.sh", "install", prefix)
     with tempfile.TemporaryDirectory() as made:
         room = pathlib.Path(made)
-        prefix, other = room / "installed", room / "by rattle"
-        done(HERE / "build.sh", "--proved", seconds=3600)
-        done(HERE / "build.sh", "install", prefix)
+        other = room / "by rattle"
         count = names(prefix) + refusals(prefix) + hello(prefix, room) + languages(prefix, room) + tests(prefix, room)
-        count += shared(prefix, room) + memory(prefix, room) + sanitized(prefix, room)
+        count += shared(prefix, room) + memory(prefix, room) + heap(prefix, room) + sanitized(prefix, room)
         done(HERE / "build.sh", "--proved", "--compiler", "4", "64", "8", "8", seconds=3600)
         done(HERE / "build.sh", "install", other)
         return count + tests(other, room)

@@ -25,7 +25,7 @@ if [ "${1-}" = install ]; then
     [ -f "$out/libdirgwako.a" ] || fail "nothing is built yet: run build.sh first"
     mkdir -p "$2/lib/pkgconfig" "$2/include"
     prefix=$(cd "$2" && pwd)
-    cp "$out/dirgwako.h" "$prefix/include/"
+    cp "$out/dirgwako.h" "$out/dirgwako_heap.h" "$prefix/include/"
     for it in "$out"/*.pc; do
         name=$(basename "$it" .pc)
         cp "$out/lib$name.a" "$out/lib$name.so.1" "$prefix/lib/"
@@ -50,9 +50,10 @@ for it in rt cc ar; do
 done
 kit=$(dirname "$(rt doc)")
 
-# The archive of the crate in this folder, over the libraries below: what `rt lib` does last.
+# The archive of the crate in this folder, over the libraries below: what `rt lib` does last. What was proved for these four numbers is kept in
+# $checked, and taken again only where nothing has changed that the proof has read.
 library() {
-    words=''
+    words='' checked=$out/checked/$1_$2_$3_$4
     for it in std $(sed -n 's/^dirgwako_c staticlib: //p' "$top/crates.txt"); do
         file=$kit/rlibs/$it.rlib
         [ ! -d "$top/crates/$it" ] || file=$top/crates/$it/out/rlib/$it.rlib
@@ -62,9 +63,13 @@ library() {
         words="$words -L dependency=$it"
     done
     # (each word is one: no path here has a blank)
-    "$kit/bin/rattle" build --crate-name dirgwako_c src/lib.rt $words --antt-project "$kit/rattle/logic/antt-project.json" \
-        --logic-built "$kit/logic_built" --jobs "$(getconf _NPROCESSORS_ONLN)" --links dirgwako_c= --crate-type staticlib --toolchain "$kit/toolchain" \
-        --backend "${compiler:-llvm}" -o archive.a
+    words="--crate-name dirgwako_c src/lib.rt $words --antt-project $kit/rattle/logic/antt-project.json --links dirgwako_c= --crate-type staticlib"
+    made="--toolchain $kit/toolchain --backend ${compiler:-llvm} -o archive.a"
+    [ -d "$checked" ] && "$kit/bin/rattle" build $words --crate-checked "$checked" $made && return
+    rm -rf "$checked"
+    mkdir -p "$out/checked"
+    "$kit/bin/rattle" check $words --logic-built "$kit/logic_built" --jobs "$(getconf _NPROCESSORS_ONLN)" -o "$checked" \
+        && "$kit/bin/rattle" build $words --crate-checked "$checked" $made
 }
 
 # The library of this name for these four numbers, from a copy of the crate, which is proved for them.
@@ -75,7 +80,7 @@ make() {
     for it in "WORKERS $2" "COUNTERS $3" "HISTOGRAMS $4" "GAUGES $5"; do
         sed -i "s/const ${it% *}: usize = .*;/const ${it% *}: usize = ${it#* };/" "$work/src/geometry.rt"
     done
-    (cd "$work" && library) > "$out/build.log" 2>&1 || fail "$name is not built: $out/build.log says why"
+    (cd "$work" && library "$2" "$3" "$4" "$5") > "$out/build.log" 2>&1 || fail "$name is not built: $out/build.log says why"
 
     # One archive has it all: the library, what it calls of the C library's heap, and the ids of boards.
     mkdir "$work/objects"
@@ -96,10 +101,10 @@ Cflags: -I\${includedir}
 END
 }
 
-rm -rf "$out"
 mkdir -p "$out"
+find "$out" -mindepth 1 -maxdepth 1 ! -name checked -exec rm -rf {} +
 [ "$proved" ] || (cd "$top/crates/dirgwako_c" && rt lib) > "$out/build.log" 2>&1 || fail "the library is not built: $out/build.log says why"
-cp "$here/dirgwako.h" "$out/"
+cp "$here/dirgwako.h" "$here/dirgwako_heap.h" "$out/"
 if [ $# = 4 ]; then
     make dirgwako "$@"
 else

@@ -1,5 +1,10 @@
-/* Dirgwako for C99 and C++11: numbers that threads count without a lock and without memory, and scrapes in which all of them stood together, as a
-   text for Prometheus (text exposition format 0.0.4).
+/* Dirgwako for C99 and C++11: numbers that threads count without a lock and without memory, and scrapes in which all those of a board stood together,
+   as a text for Prometheus (text exposition format 0.0.4).
+
+   Boards. A registry is a page of boards, each with the slots that the library was built for. It begins with one, and makes a further one where every
+   slot of a kind is used: up to 96. What was counted on one board is of one moment in each scrape, and between boards no moment is claimed: metrics
+   that shall agree go into one group. A group is any number that a family is given, 0 for metrics without labels: the families of a group begin on
+   one board, and stay there as long as it has room.
 
    Each function answers DIRGWAKO_OK, which is 0, or the number of a refusal (docs/REFUSALS.md). After a refusal nothing has changed, but where a
    function says otherwise. Of this interface alone are
@@ -12,19 +17,22 @@
      39  DIRGWAKO_NO_KIND      a change is of no kind
      40  DIRGWAKO_NO_SUCH      so many scrapes are not kept; no refusal has this number
      41  DIRGWAKO_NO_NUMBERS   these are no numbers that were read
-     42  DIRGWAKO_NOT_YET      groups are 0, and 43  DIRGWAKO_TOO_MANY_DIGITS  numbers are shifted by over 9 digits
+     42  DIRGWAKO_NO_BOARD     no board of the registry has this number
+     47  DIRGWAKO_TWO_BOARDS   two changes are of two boards
 
-   44  DIRGWAKO_TOO_MANY_BOARDS, 45  DIRGWAKO_NOT_FRESH and 46  DIRGWAKO_TOO_MANY_CHILDREN  are of several boards behind one page, which no function
-   here answers.
+   43  DIRGWAKO_TOO_MANY_DIGITS is that numbers are shifted by over 9 digits, 44  DIRGWAKO_TOO_MANY_BOARDS that 96 boards are there, and
+   46  DIRGWAKO_TOO_MANY_CHILDREN that a family has 256 children; 45  DIRGWAKO_NOT_FRESH no function here answers.
 
    Ownership. A dirgwako_registry and a dirgwako_recorder begin as zeros ({0}), are written by these functions alone, and are never copied while
    they hold something: two copies own the same, so the second use of either is a use after free. They may be freed in any order, and freeing one
-   twice is refused (34). The board lives as long as its registry or a recorder of it. Counters, gauges and histograms are plain data, which are
+   twice is refused (34). The boards live as long as their registry or a recorder of it. Counters, gauges and histograms are plain data, which are
    copied as one likes and never freed. A histogram's bounds are written by this library alone.
 
    Threads. One call at a time uses a handle; two handles may be used by two threads at the same moment. So a recorder belongs to one thread at a
-   time, and a registry wants a mutex where several threads register or scrape. Counting takes no lock and waits for nobody. A handle goes to
-   another thread by a lock, by a thread's start or join, or by a flag that is stored with release order and loaded with acquire order.
+   time, and a registry wants a mutex where several threads register or scrape. Counting takes no lock and waits for nobody. A recorder grows by
+   itself: it meets a board that came since at its next call by a handle of that board, without lock or memory. A handle, of a counter too that is on
+   such a board, goes to another thread by a lock, by a thread's start or join, or by a flag that is stored with release order and loaded with acquire
+   order. Counting writes to the recorder's handle: those of several threads are fastest where each has a cache line of its own.
 
    What else the caller owes: a pointer that is not null points to what its type says (what a call only writes to may be uninitialised), and what
    a call writes to overlaps nothing else that it is given; a length counts what is there, texts end in a zero byte where no length is given; no
@@ -56,26 +64,27 @@ enum {
     DIRGWAKO_NO_KIND = 39,
     DIRGWAKO_NO_SUCH = 40,
     DIRGWAKO_NO_NUMBERS = 41,
-    DIRGWAKO_NOT_YET = 42,
+    DIRGWAKO_NO_BOARD = 42,
     DIRGWAKO_TOO_MANY_DIGITS = 43,
     DIRGWAKO_TOO_MANY_BOARDS = 44,
     DIRGWAKO_NOT_FRESH = 45,
-    DIRGWAKO_TOO_MANY_CHILDREN = 46
+    DIRGWAKO_TOO_MANY_CHILDREN = 46,
+    DIRGWAKO_TWO_BOARDS = 47
 };
 
-/* A registry over a board. Opaque; zeros where it holds nothing. */
+/* A registry over a page of boards. Opaque; zeros where it holds nothing. */
 typedef struct dirgwako_registry {
     void *at;
     uint64_t live;
 } dirgwako_registry;
 
-/* What a thread counts with. Opaque; zeros where it holds nothing. */
+/* What a thread counts with, on all boards of a registry. Opaque; zeros where it holds nothing. */
 typedef struct dirgwako_recorder {
     void *at;
     uint64_t live;
 } dirgwako_recorder;
 
-/* A counter: a number that rises. */
+/* A counter: a number that rises. Of a counter, a gauge and a histogram `registry` is the id of the board that it is on. */
 typedef struct dirgwako_counter {
     uint64_t registry;
     size_t slot;
@@ -95,7 +104,7 @@ typedef struct dirgwako_histogram {
     size_t count;
 } dirgwako_histogram;
 
-/* Families of counters, gauges and histograms with labels. */
+/* Families of counters, gauges and histograms with labels, on whichever boards their children are. */
 typedef struct dirgwako_counter_family {
     uint64_t registry;
     size_t number;
@@ -146,7 +155,7 @@ typedef struct dirgwako_text {
 enum { DIRGWAKO_MOST_LABELS = 8, DIRGWAKO_MOST_NUMBERS = 1281 };
 
 /* The library's own functions, for bindings of other languages. They take no null pointer, also where a length is 0. */
-uint32_t dirgwako_c_registry_new(dirgwako_registry *registry, uint64_t id, size_t window);
+uint32_t dirgwako_c_registry_new(dirgwako_registry *registry, uint32_t id, size_t window);
 uint32_t dirgwako_c_registry_free(dirgwako_registry *registry);
 uint32_t dirgwako_c_recorder_take(dirgwako_registry *registry, dirgwako_recorder *recorder);
 uint32_t dirgwako_c_recorder_give_back(dirgwako_registry *registry, dirgwako_recorder *recorder);
@@ -176,11 +185,14 @@ uint32_t dirgwako_c_up(dirgwako_recorder *recorder, const dirgwako_gauge *gauge,
 uint32_t dirgwako_c_down(dirgwako_recorder *recorder, const dirgwako_gauge *gauge, uint64_t by);
 uint32_t dirgwako_c_publish(dirgwako_recorder *recorder, const dirgwako_change *changes, size_t count);
 size_t dirgwako_c_place(const dirgwako_histogram *histogram, uint64_t value);
-uint32_t dirgwako_c_set_window(dirgwako_registry *registry, size_t window, size_t *kept);
-uint32_t dirgwako_c_kept(dirgwako_registry *registry, size_t *kept);
-uint32_t dirgwako_c_read(dirgwako_registry *registry, uint64_t *numbers, size_t room, size_t *len);
-uint32_t dirgwako_c_read_kept(dirgwako_registry *registry, size_t number, uint64_t *numbers, size_t room, size_t *len);
-uint32_t dirgwako_c_settle(dirgwako_registry *registry, uint64_t *numbers, size_t room, size_t *len, size_t *missing);
+uint32_t dirgwako_c_board_add(dirgwako_registry *registry, size_t *number);
+uint32_t dirgwako_c_boards(dirgwako_registry *registry, size_t *count);
+uint32_t dirgwako_c_board_of(dirgwako_registry *registry, uint64_t id, size_t *number);
+uint32_t dirgwako_c_set_window(dirgwako_registry *registry, size_t window);
+uint32_t dirgwako_c_kept(dirgwako_registry *registry, size_t board, size_t *kept);
+uint32_t dirgwako_c_read(dirgwako_registry *registry, size_t board, uint64_t *numbers, size_t room, size_t *len);
+uint32_t dirgwako_c_read_kept(dirgwako_registry *registry, size_t board, size_t number, uint64_t *numbers, size_t room, size_t *len);
+uint32_t dirgwako_c_settle(dirgwako_registry *registry, size_t board, uint64_t *numbers, size_t room, size_t *len, size_t *missing);
 uint32_t dirgwako_c_counter_total(const uint64_t *numbers, size_t len, const dirgwako_counter *counter, uint64_t *total);
 uint32_t dirgwako_c_gauge_value(const uint64_t *numbers, size_t len, const dirgwako_gauge *gauge, int64_t *value);
 uint32_t dirgwako_c_histogram_totals(const uint64_t *numbers, size_t len, const dirgwako_histogram *histogram, dirgwako_totals *totals);
@@ -193,10 +205,10 @@ uint32_t dirgwako_c_reply(dirgwako_registry *registry, const uint8_t *request, s
                           size_t *len);
 uint32_t dirgwako_c_scrape(dirgwako_registry *registry, uint8_t *buffer, size_t room, size_t *len);
 
-/* An id that no other board of this process has. */
-uint64_t dirgwako_next_id(void);
+/* An id that none of the last 2^32 - 1 registries of this process has. */
+uint32_t dirgwako_next_id(void);
 
-/* A new board and its registry, which keeps the last `window` scrapes, 1 to 1,024. What the handle held is freed.
+/* A new registry of one board, which keeps the last `window` scrapes of each board, 1 to 1,024. What the handle held is freed.
    31, the window is none; 6, out of memory; 13, the library was built for numbers out of range. */
 static inline uint32_t dirgwako_registry_new(dirgwako_registry *registry, size_t window) {
     return registry ? dirgwako_c_registry_new(registry, dirgwako_next_id(), window) : (uint32_t)DIRGWAKO_NULL;
@@ -207,7 +219,7 @@ static inline uint32_t dirgwako_registry_free(dirgwako_registry *registry) {
     return registry ? dirgwako_c_registry_free(registry) : (uint32_t)DIRGWAKO_NULL;
 }
 
-/* A recorder of a worker that nobody has; what the handle held is freed. Takes no memory. 34; 35. */
+/* A recorder of a worker that nobody has, for all boards, also those that come; what the handle held is freed. Takes no memory. 34; 35. */
 static inline uint32_t dirgwako_recorder_take(dirgwako_registry *registry, dirgwako_recorder *recorder) {
     return registry && recorder ? dirgwako_c_recorder_take(registry, recorder) : (uint32_t)DIRGWAKO_NULL;
 }
@@ -222,8 +234,9 @@ static inline uint32_t dirgwako_recorder_free(dirgwako_recorder *recorder) {
     return recorder ? dirgwako_c_recorder_free(recorder) : (uint32_t)DIRGWAKO_NULL;
 }
 
-/* A counter without labels. 34; 36; 1, 2, 3, 5, the name or the help is none; 19, a name clashes with another family's; 22, no slot is left; 23,
-   there are 128 families; 6, out of memory. After 22, and after 6 for its number alone, its family is there without it. */
+/* A counter without labels, in the group 0. 34; 36; 1, 2, 3, 5, the name or the help is none; 19, a name clashes with another family's; 22, no slot
+   is left on 96 boards, or the library was built for none of the kind; 23, there are 128 families; 6, out of memory. After 22, and after 6 for its
+   number alone, its family is there without it. */
 static inline uint32_t dirgwako_counter_new(dirgwako_registry *registry, const char *name, const char *help, dirgwako_counter *counter) {
     if (!registry || !name || !help || !counter) return DIRGWAKO_NULL;
     return dirgwako_c_counter_new(registry, (const uint8_t *)name, strlen(name), (const uint8_t *)help, strlen(help), counter);
@@ -256,21 +269,22 @@ static inline int dirgwako_texts(const char *const *texts, size_t count, dirgwak
 }
 
 /* A family of counters with at most 8 labels, whose numbers the text shows shifted by so many decimal digits: 0 to show them as they are, 6 to count
-   microseconds and show seconds. 34; 43, over 9 digits; 36; 1 to 5, 7, 9, a text is none; 19, a name clashes; 23, there are 128 families; 6, out of
-   memory. */
+   microseconds and show seconds. `group` is any number: what shall agree goes into one group. 34; 43, over 9 digits; 36; 1 to 5, 7, 9, a text is none;
+   19, a name clashes, whichever board and group it is of; 23, there are 128 families; 6, out of memory. */
 static inline uint32_t dirgwako_counter_family_new(dirgwako_registry *registry, const char *name, const char *help, const char *const *labels,
-                                                size_t count, size_t digits, dirgwako_counter_family *family) {
+                                                size_t count, size_t digits, size_t group, dirgwako_counter_family *family) {
     dirgwako_text texts[DIRGWAKO_MOST_LABELS] = {{NULL, 0}};
     if (!registry || !name || !help || !family) return DIRGWAKO_NULL;
     if (count > DIRGWAKO_MOST_LABELS) return 9;
     if (!dirgwako_texts(labels, count, texts)) return DIRGWAKO_NULL;
     return dirgwako_c_counter_family_new(registry, (const uint8_t *)name, strlen(name), (const uint8_t *)help, strlen(help), texts, count,
-                                      digits, 0, family);
+                                      digits, group, family);
 }
 
-/* The counter of these label values, in the order of the labels, which is made where there is none. 34; 36; 20, the family is of another registry;
-   3, a value is too long; 21, there are not as many values as labels; 22, no slot is left; 6, out of memory; 28, the child is of another kind, by
-   two registries of one id. */
+/* The counter of these label values, in the order of the labels, which is made where there is none: on a board of the family's that has a slot, or on
+   another one, which is made where none has. 34; 36; 20, the family is of another registry; 3, a value is too long; 21, there are not as many values
+   as labels; 46, the family has 256 children; 22, no slot is left on 96 boards, or the library was built for none of the kind; 6, out of memory:
+   there may be a board more then, on which nothing is counted; 28, the child is of another kind, by two registries of one id. */
 static inline uint32_t dirgwako_counter_of(dirgwako_registry *registry, const dirgwako_counter_family *family, const char *const *values, size_t count,
                                         dirgwako_counter *counter) {
     dirgwako_text texts[DIRGWAKO_MOST_LABELS] = {{NULL, 0}};
@@ -282,18 +296,16 @@ static inline uint32_t dirgwako_counter_of(dirgwako_registry *registry, const di
 
 /* A family of gauges, as one of counters. */
 static inline uint32_t dirgwako_gauge_family_new(dirgwako_registry *registry, const char *name, const char *help, const char *const *labels,
-                                                size_t count, size_t digits, dirgwako_gauge_family *family) {
+                                                size_t count, size_t digits, size_t group, dirgwako_gauge_family *family) {
     dirgwako_text texts[DIRGWAKO_MOST_LABELS] = {{NULL, 0}};
     if (!registry || !name || !help || !family) return DIRGWAKO_NULL;
     if (count > DIRGWAKO_MOST_LABELS) return 9;
     if (!dirgwako_texts(labels, count, texts)) return DIRGWAKO_NULL;
     return dirgwako_c_gauge_family_new(registry, (const uint8_t *)name, strlen(name), (const uint8_t *)help, strlen(help), texts, count,
-                                      digits, 0, family);
+                                      digits, group, family);
 }
 
-/* The gauge of these label values, in the order of the labels, which is made where there is none. 34; 36; 20, the family is of another registry;
-   3, a value is too long; 21, there are not as many values as labels; 22, no slot is left; 6, out of memory; 28, the child is of another kind, by
-   two registries of one id. */
+/* The gauge of these label values, in the order of the labels, which is made where there is none. As dirgwako_counter_of. */
 static inline uint32_t dirgwako_gauge_of(dirgwako_registry *registry, const dirgwako_gauge_family *family, const char *const *values, size_t count,
                                         dirgwako_gauge *gauge) {
     dirgwako_text texts[DIRGWAKO_MOST_LABELS] = {{NULL, 0}};
@@ -307,19 +319,17 @@ static inline uint32_t dirgwako_gauge_of(dirgwako_registry *registry, const dirg
    bound is none. */
 static inline uint32_t dirgwako_histogram_family_new(dirgwako_registry *registry, const char *name, const char *help, const char *const *labels,
                                                 size_t count, const uint64_t *bounds, size_t bound_count, size_t digits,
-                                                dirgwako_histogram_family *family) {
+                                                size_t group, dirgwako_histogram_family *family) {
     static const uint64_t none = 0;
     dirgwako_text texts[DIRGWAKO_MOST_LABELS] = {{NULL, 0}};
     if (!registry || !name || !help || !family || (!bounds && bound_count)) return DIRGWAKO_NULL;
     if (count > DIRGWAKO_MOST_LABELS) return 9;
     if (!dirgwako_texts(labels, count, texts)) return DIRGWAKO_NULL;
     return dirgwako_c_histogram_family_new(registry, (const uint8_t *)name, strlen(name), (const uint8_t *)help, strlen(help), texts, count,
-                                      bounds ? bounds : &none, bound_count, digits, 0, family);
+                                      bounds ? bounds : &none, bound_count, digits, group, family);
 }
 
-/* The histogram of these label values, in the order of the labels, which is made where there is none. 34; 36; 20, the family is of another
-   registry; 3, a value is too long; 21, there are not as many values as labels; 22, no slot is left; 6, out of memory; 28, the child is of another
-   kind, by two registries of one id. */
+/* The histogram of these label values, in the order of the labels, which is made where there is none. As dirgwako_counter_of. */
 static inline uint32_t dirgwako_histogram_of(dirgwako_registry *registry, const dirgwako_histogram_family *family, const char *const *values, size_t count,
                                         dirgwako_histogram *histogram) {
     dirgwako_text texts[DIRGWAKO_MOST_LABELS] = {{NULL, 0}};
@@ -333,12 +343,12 @@ static inline uint32_t dirgwako_histogram_of(dirgwako_registry *registry, const 
 static inline uint32_t dirgwako_histogram_seconds_new(dirgwako_registry *registry, const char *name, const char *help, const uint64_t *bounds,
                                                       size_t count, dirgwako_histogram *histogram) {
     dirgwako_histogram_family family;
-    uint32_t answer = histogram ? dirgwako_histogram_family_new(registry, name, help, NULL, 0, bounds, count, 6, &family) : (uint32_t)DIRGWAKO_NULL;
+    uint32_t answer = histogram ? dirgwako_histogram_family_new(registry, name, help, NULL, 0, bounds, count, 6, 0, &family) : (uint32_t)DIRGWAKO_NULL;
     return answer ? answer : dirgwako_histogram_of(registry, &family, NULL, 0, histogram);
 }
 
-/* Adds `by` to a counter. 34; 16, the counter is of another registry; 15, this worker has published 2^64 - 1 times; 11, there is no such slot; 12,
-   the number would pass 2^48 - 1. */
+/* Adds `by` to a counter. The recorder meets a board that came since at its first call by a handle of it. 34; 16, the counter is of no board of the
+   recorder's registry; 15, this worker has published 2^64 - 1 times on its board; 11, there is no such slot; 12, the number would pass 2^48 - 1. */
 static inline uint32_t dirgwako_inc(dirgwako_recorder *recorder, const dirgwako_counter *counter, uint64_t by) {
     return recorder && counter ? dirgwako_c_inc(recorder, counter, by) : (uint32_t)DIRGWAKO_NULL;
 }
@@ -382,51 +392,67 @@ static inline dirgwako_change dirgwako_change_down(const dirgwako_gauge *gauge, 
     return change;
 }
 
-/* Publishes these changes as one version, all of them or nothing: no scrape sees some of them alone. 34; 33, there are more than the library has
-   counters, histograms and twice its gauges; 16, a change is of another registry; 39, a change is of no kind; 15, 11, 12 as dirgwako_inc. */
+/* Publishes these changes, which are of one board, as one version, all of them or nothing: no scrape sees some of them alone. Where there is none,
+   nothing is published. 34; 33, there are more than the library has counters, histograms and twice its gauges; 47, two changes are of two boards;
+   39, a change is of no kind; 16, 15, 11, 12 as dirgwako_inc. */
 static inline uint32_t dirgwako_publish(dirgwako_recorder *recorder, const dirgwako_change *changes, size_t count) {
     static const dirgwako_change none = {0, 0, 0, 0, 0};
     if (!recorder || (!changes && count)) return DIRGWAKO_NULL;
     return dirgwako_c_publish(recorder, changes ? changes : &none, count);
 }
 
-/* Keeps the last `window` scrapes from now on, 1 to 1,024; `kept` is how many are kept now. 34; 31, the window is none. */
-static inline uint32_t dirgwako_set_window(dirgwako_registry *registry, size_t window, size_t *kept) {
-    return registry && kept ? dirgwako_c_set_window(registry, window, kept) : (uint32_t)DIRGWAKO_NULL;
+/* Makes a further board, so that later calls have its memory already, and tells its number. 34; 44, 96 boards are there; 6, out of memory. */
+static inline uint32_t dirgwako_board_add(dirgwako_registry *registry, size_t *number) {
+    return registry && number ? dirgwako_c_board_add(registry, number) : (uint32_t)DIRGWAKO_NULL;
 }
 
-/* How many scrapes are kept. 34. */
-static inline uint32_t dirgwako_kept(dirgwako_registry *registry, size_t *kept) {
-    return registry && kept ? dirgwako_c_kept(registry, kept) : (uint32_t)DIRGWAKO_NULL;
+/* How many boards there are, whose numbers are 0 and on, in the order in which they came. 34. */
+static inline uint32_t dirgwako_boards(dirgwako_registry *registry, size_t *count) {
+    return registry && count ? dirgwako_c_boards(registry, count) : (uint32_t)DIRGWAKO_NULL;
 }
 
-/* Makes a scrape, which is kept, and reads its numbers, all of one moment, for the three functions below: at most DIRGWAKO_MOST_NUMBERS, at the front
-   of the array; `len` is how many. The first is the registry's id, the next ones are how often each worker has published, and then come the totals.
-   34; 14, four scans were given up, one after the other; 6, out of memory; 37, the array is too short, `len` tells what is needed, and the scrape is
-   kept. */
-static inline uint32_t dirgwako_read(dirgwako_registry *registry, uint64_t *numbers, size_t room, size_t *len) {
+/* The number of the board of this id: `registry` of a counter, a gauge or a histogram. 34; 16, no board of the registry has it. */
+static inline uint32_t dirgwako_board_of(dirgwako_registry *registry, uint64_t id, size_t *number) {
+    return registry && number ? dirgwako_c_board_of(registry, id, number) : (uint32_t)DIRGWAKO_NULL;
+}
+
+/* Keeps the last `window` scrapes of each board from now on, 1 to 1,024. 34; 31, the window is none. */
+static inline uint32_t dirgwako_set_window(dirgwako_registry *registry, size_t window) {
+    return registry ? dirgwako_c_set_window(registry, window) : (uint32_t)DIRGWAKO_NULL;
+}
+
+/* How many scrapes the board of this number keeps. 34; 42, no board has this number. */
+static inline uint32_t dirgwako_kept(dirgwako_registry *registry, size_t board, size_t *kept) {
+    return registry && kept ? dirgwako_c_kept(registry, board, kept) : (uint32_t)DIRGWAKO_NULL;
+}
+
+/* Makes a scrape of the board of this number alone, which it keeps, and reads its numbers, all of one moment, for the three functions below: at most
+   DIRGWAKO_MOST_NUMBERS, at the front of the array; `len` is how many. The first is the board's id, the next ones are how often each worker has
+   published on it, and then come the totals. 34; 42, no board has this number; 14, four scans were given up, one after the other; 6, out of memory;
+   37, the array is too short, `len` tells what is needed, and the scrape is kept. */
+static inline uint32_t dirgwako_read(dirgwako_registry *registry, size_t board, uint64_t *numbers, size_t room, size_t *len) {
     static uint64_t none;
     if (!registry || !len || (!numbers && room)) return DIRGWAKO_NULL;
-    return dirgwako_c_read(registry, numbers ? numbers : &none, room, len);
+    return dirgwako_c_read(registry, board, numbers ? numbers : &none, room, len);
 }
 
-/* The same of a scrape that is kept, of which the oldest has number 0. Takes no memory. 34; 40, so many are not kept; 37. */
-static inline uint32_t dirgwako_read_kept(dirgwako_registry *registry, size_t number, uint64_t *numbers, size_t room, size_t *len) {
+/* The same of a scrape that the board keeps, of which the oldest has number 0. Takes no memory. 34; 42; 40, so many are not kept; 37. */
+static inline uint32_t dirgwako_read_kept(dirgwako_registry *registry, size_t board, size_t number, uint64_t *numbers, size_t room, size_t *len) {
     static uint64_t none;
     if (!registry || !len || (!numbers && room)) return DIRGWAKO_NULL;
-    return dirgwako_c_read_kept(registry, number, numbers ? numbers : &none, room, len);
+    return dirgwako_c_read_kept(registry, board, number, numbers ? numbers : &none, room, len);
 }
 
-/* Exact totals, once all recorders are given back: each is exactly the sum of all that was counted. Nothing is scanned or kept. Takes no memory.
-   34; 18, the recorder of worker `missing` was not given back (that of a worker whose recorder was freed never is); 16, two that were are of one
-   worker, by two boards of one id; 37. */
-static inline uint32_t dirgwako_settle(dirgwako_registry *registry, uint64_t *numbers, size_t room, size_t *len, size_t *missing) {
+/* Exact totals of the board of this number, once all recorders are given back: each is exactly the sum of all that was counted on it. Nothing is
+   scanned or kept. Takes no memory. 34; 42; 18, the recorder of worker `missing` was not given back (that of a worker whose recorder was freed never
+   is); 16, two that were are of one worker, or one has not such a board, by two registries of one id; 37. */
+static inline uint32_t dirgwako_settle(dirgwako_registry *registry, size_t board, uint64_t *numbers, size_t room, size_t *len, size_t *missing) {
     static uint64_t none;
     if (!registry || !len || !missing || (!numbers && room)) return DIRGWAKO_NULL;
-    return dirgwako_c_settle(registry, numbers ? numbers : &none, room, len, missing);
+    return dirgwako_c_settle(registry, board, numbers ? numbers : &none, room, len, missing);
 }
 
-/* The total of a counter among numbers that were read. 41, these are none; 16, they are of another registry; 11, there is no such slot. */
+/* The total of a counter among numbers that were read. 41, these are none; 16, they are of another board; 11, there is no such slot. */
 static inline uint32_t dirgwako_counter_total(const uint64_t *numbers, size_t len, const dirgwako_counter *counter, uint64_t *total) {
     return numbers && counter && total ? dirgwako_c_counter_total(numbers, len, counter, total) : (uint32_t)DIRGWAKO_NULL;
 }
@@ -456,8 +482,8 @@ static inline uint32_t dirgwako_exponential(uint64_t start, uint64_t factor, uin
     return dirgwako_c_exponential(start, factor, bounds ? bounds : &none, count);
 }
 
-/* The text of a scrape, all series at one moment, at the front of the buffer; `len` is how many bytes it has. No zero byte stands behind it.
-   34; 14, four scans were given up, one after the other; 6, out of memory; 37, the buffer is too short, `len` tells what this text needs, and the
+/* The text of a scrape of all boards, all series of a board at one moment, at the front of the buffer; `len` is how many bytes it has. No zero byte
+   stands behind it. 34; 14, four scans of a board were given up, one after the other; 6, out of memory; 37, the buffer is too short, `len` tells what this text needs, and the
    scrape is kept. */
 static inline uint32_t dirgwako_scrape(dirgwako_registry *registry, char *buffer, size_t room, size_t *len) {
     static uint8_t none;
@@ -466,7 +492,7 @@ static inline uint32_t dirgwako_scrape(dirgwako_registry *registry, char *buffer
 }
 
 /* The reply to a request of HTTP/1.1 that was read whole: head and body, at the front of the buffer; `len` is how many bytes it has. The status is
-   in its first line: 200 with the text of a scrape, 404, 405, 400, 431, or 503 where four scans were given up or memory was wanting. 34; 26, the
+   in its first line: 200 with the text of a scrape, 404, 405, 400, 431, or 503 where four scans of a board were given up or memory was wanting. 34; 26, the
    request has no byte; 25, there is no memory for the reply; 37, the buffer is too short, and `len` tells what this reply needs. After these two a
    scrape may be kept. */
 static inline uint32_t dirgwako_reply(dirgwako_registry *registry, const char *request, size_t request_len, char *buffer, size_t room,

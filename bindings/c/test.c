@@ -25,18 +25,21 @@ static void nulls(void) {
     is("counter", dirgwako_counter_new(&registry, NULL, "Help.", &counter), DIRGWAKO_NULL);
     is("gauge", dirgwako_gauge_new(&registry, "a", NULL, &gauge), DIRGWAKO_NULL);
     is("histogram", dirgwako_histogram_new(&registry, "a", "Help.", NULL, 1, &histogram), DIRGWAKO_NULL);
-    is("family", dirgwako_counter_family_new(&registry, "a", "Help.", NULL, 1, 0, &counters), DIRGWAKO_NULL);
+    is("family", dirgwako_counter_family_new(&registry, "a", "Help.", NULL, 1, 0, 0, &counters), DIRGWAKO_NULL);
     is("child", dirgwako_counter_of(&registry, &counters, one, 1, NULL), DIRGWAKO_NULL);
     is("inc", dirgwako_inc(NULL, &counter, 1), DIRGWAKO_NULL);
     is("observe", dirgwako_observe(&recorder, NULL, 1), DIRGWAKO_NULL);
     is("up", dirgwako_up(NULL, &gauge, 1), DIRGWAKO_NULL);
     is("down", dirgwako_down(&recorder, NULL, 1), DIRGWAKO_NULL);
     is("publish", dirgwako_publish(&recorder, NULL, 1), DIRGWAKO_NULL);
-    is("window", dirgwako_set_window(&registry, 1, NULL), DIRGWAKO_NULL);
-    is("kept", dirgwako_kept(&registry, NULL), DIRGWAKO_NULL);
-    is("read", dirgwako_read(&registry, NULL, 1, &len), DIRGWAKO_NULL);
-    is("read kept", dirgwako_read_kept(&registry, 0, NULL, 1, &len), DIRGWAKO_NULL);
-    is("settle", dirgwako_settle(&registry, NULL, 0, &len, NULL), DIRGWAKO_NULL);
+    is("window", dirgwako_set_window(NULL, 1), DIRGWAKO_NULL);
+    is("a board", dirgwako_board_add(&registry, NULL), DIRGWAKO_NULL);
+    is("boards", dirgwako_boards(NULL, &len), DIRGWAKO_NULL);
+    is("board of", dirgwako_board_of(&registry, 0, NULL), DIRGWAKO_NULL);
+    is("kept", dirgwako_kept(&registry, 0, NULL), DIRGWAKO_NULL);
+    is("read", dirgwako_read(&registry, 0, NULL, 1, &len), DIRGWAKO_NULL);
+    is("read kept", dirgwako_read_kept(&registry, 0, 0, NULL, 1, &len), DIRGWAKO_NULL);
+    is("settle", dirgwako_settle(&registry, 0, NULL, 0, &len, NULL), DIRGWAKO_NULL);
     is("total", dirgwako_counter_total(NULL, 0, &counter, NULL), DIRGWAKO_NULL);
     is("value", dirgwako_gauge_value(NULL, 0, &gauge, NULL), DIRGWAKO_NULL);
     is("totals", dirgwako_histogram_totals(NULL, 0, &histogram, NULL), DIRGWAKO_NULL);
@@ -68,9 +71,9 @@ static void empties(void) {
     is("counter", dirgwako_counter_new(&registry, "a", "Help.", &counter), DIRGWAKO_EMPTY);
     is("gauge", dirgwako_gauge_new(&registry, "a", "Help.", &gauge), DIRGWAKO_EMPTY);
     is("histogram", dirgwako_histogram_new(&registry, "a", "Help.", bounds, 1, &histogram), DIRGWAKO_EMPTY);
-    is("counters", dirgwako_counter_family_new(&registry, "a", "Help.", one, 1, 0, &counters), DIRGWAKO_EMPTY);
-    is("gauges", dirgwako_gauge_family_new(&registry, "a", "Help.", one, 1, 0, &gauges), DIRGWAKO_EMPTY);
-    is("histograms", dirgwako_histogram_family_new(&registry, "a", "Help.", one, 1, bounds, 1, 0, &histograms), DIRGWAKO_EMPTY);
+    is("counters", dirgwako_counter_family_new(&registry, "a", "Help.", one, 1, 0, 0, &counters), DIRGWAKO_EMPTY);
+    is("gauges", dirgwako_gauge_family_new(&registry, "a", "Help.", one, 1, 0, 0, &gauges), DIRGWAKO_EMPTY);
+    is("histograms", dirgwako_histogram_family_new(&registry, "a", "Help.", one, 1, bounds, 1, 0, 0, &histograms), DIRGWAKO_EMPTY);
     is("a counter", dirgwako_counter_of(&registry, &counters, one, 1, &counter), DIRGWAKO_EMPTY);
     is("a gauge", dirgwako_gauge_of(&registry, &gauges, one, 1, &gauge), DIRGWAKO_EMPTY);
     is("a histogram", dirgwako_histogram_of(&registry, &histograms, one, 1, &histogram), DIRGWAKO_EMPTY);
@@ -79,13 +82,16 @@ static void empties(void) {
     is("up", dirgwako_up(&recorder, &gauge, 1), DIRGWAKO_EMPTY);
     is("down", dirgwako_down(&recorder, &gauge, 1), DIRGWAKO_EMPTY);
     is("publish", dirgwako_publish(&recorder, NULL, 0), DIRGWAKO_EMPTY);
-    is("window", dirgwako_set_window(&registry, 1, &len), DIRGWAKO_EMPTY);
+    is("window", dirgwako_set_window(&registry, 1), DIRGWAKO_EMPTY);
+    is("a board", dirgwako_board_add(&registry, &len), DIRGWAKO_EMPTY);
+    is("boards", dirgwako_boards(&registry, &len), DIRGWAKO_EMPTY);
+    is("board of", dirgwako_board_of(&registry, 0, &len), DIRGWAKO_EMPTY);
     is("reply", dirgwako_reply(&registry, "GET", 3, text, sizeof text, &len), DIRGWAKO_EMPTY);
     is("scrape", dirgwako_scrape(&registry, text, sizeof text, &len), DIRGWAKO_EMPTY);
-    is("kept", dirgwako_kept(&registry, &len), DIRGWAKO_EMPTY);
-    is("read", dirgwako_read(&registry, NULL, 0, &len), DIRGWAKO_EMPTY);
-    is("read kept", dirgwako_read_kept(&registry, 0, NULL, 0, &len), DIRGWAKO_EMPTY);
-    is("settle", dirgwako_settle(&registry, NULL, 0, &len, &missing), DIRGWAKO_EMPTY);
+    is("kept", dirgwako_kept(&registry, 0, &len), DIRGWAKO_EMPTY);
+    is("read", dirgwako_read(&registry, 0, NULL, 0, &len), DIRGWAKO_EMPTY);
+    is("read kept", dirgwako_read_kept(&registry, 0, 0, NULL, 0, &len), DIRGWAKO_EMPTY);
+    is("settle", dirgwako_settle(&registry, 0, NULL, 0, &len, &missing), DIRGWAKO_EMPTY);
     is("the worker is as it was", (long long)missing, 7);
     is("the length is as it was", (long long)len, 7);
 }
@@ -153,13 +159,13 @@ static void families(void) {
     const uint64_t bounds[2] = {5, 50};
     is("new", dirgwako_registry_new(&registry, 2), 0);
     is("take", dirgwako_recorder_take(&registry, &recorder), 0);
-    is("counters", dirgwako_counter_family_new(&registry, "answers_total", "Answers.", labels, 2, 0, &answers), 0);
-    is("gauges", dirgwako_gauge_family_new(&registry, "queued", "Queued.", labels, 1, 0, &queues), 0);
-    is("histograms", dirgwako_histogram_family_new(&registry, "time_microseconds", "Times.", labels, 1, bounds, 2, 0, &times), 0);
-    is("a label twice", dirgwako_counter_family_new(&registry, "b_total", "B.", twice, 2, 0, &answers), 7);
-    is("a reserved label", dirgwako_counter_family_new(&registry, "b_total", "B.", reserved, 1, 0, &answers), 4);
-    is("le", dirgwako_histogram_family_new(&registry, "b", "B.", le, 1, bounds, 2, 0, &times), 8);
-    is("a label that is not UTF-8", dirgwako_counter_family_new(&registry, "b_total", "B.", bad, 1, 0, &answers), DIRGWAKO_NOT_UTF8);
+    is("counters", dirgwako_counter_family_new(&registry, "answers_total", "Answers.", labels, 2, 0, 0, &answers), 0);
+    is("gauges", dirgwako_gauge_family_new(&registry, "queued", "Queued.", labels, 1, 0, 0, &queues), 0);
+    is("histograms", dirgwako_histogram_family_new(&registry, "time_microseconds", "Times.", labels, 1, bounds, 2, 0, 0, &times), 0);
+    is("a label twice", dirgwako_counter_family_new(&registry, "b_total", "B.", twice, 2, 0, 0, &answers), 7);
+    is("a reserved label", dirgwako_counter_family_new(&registry, "b_total", "B.", reserved, 1, 0, 0, &answers), 4);
+    is("le", dirgwako_histogram_family_new(&registry, "b", "B.", le, 1, bounds, 2, 0, 0, &times), 8);
+    is("a label that is not UTF-8", dirgwako_counter_family_new(&registry, "b_total", "B.", bad, 1, 0, 0, &answers), DIRGWAKO_NOT_UTF8);
     is("a child", dirgwako_counter_of(&registry, &answers, found, 2, &ok), 0);
     is("the same", dirgwako_counter_of(&registry, &answers, found, 2, &again), 0);
     is("its slot", (long long)again.slot, (long long)ok.slot);
@@ -188,39 +194,38 @@ static void families(void) {
     is("freed twice", dirgwako_recorder_free(&recorder), DIRGWAKO_EMPTY);
 }
 
-/* Texts that are too long or have too many, and slots and families of which there are no more. */
+/* Texts that are too long or have too many, and children and families of which there are no more. */
 static void limits(void) {
     dirgwako_registry registry = {0};
     dirgwako_counter counter;
     dirgwako_counter_family family, more;
-    dirgwako_abi abi;
     char name[160], value[258];
     const char *const labels[9] = {"a", "b", "c", "d", "e", "f", "g", "h", "i"}, *const long_value[1] = {value};
     dirgwako_text texts[9];
-    is("built for", dirgwako_built_for(&abi), 0);
     is("new", dirgwako_registry_new(&registry, 1), 0);
     memset(name, 'a', sizeof name);
     name[129] = 0;
     is("a long name", dirgwako_counter_new(&registry, name, "Help.", &counter), 3);
     is("a help with an edge", dirgwako_counter_new(&registry, "a_total", " Help.", &counter), 5);
-    is("nine labels", dirgwako_counter_family_new(&registry, "a_total", "A.", labels, 9, 0, &family), 9);
+    is("nine labels", dirgwako_counter_family_new(&registry, "a_total", "A.", labels, 9, 0, 0, &family), 9);
     is("nine texts", dirgwako_texts(labels, 9, texts), 1);
     is("nine labels, by the library", dirgwako_c_counter_family_new(&registry, texts[0].at, 1, texts[0].at, 1, texts, 9, 0, 0, &family), 9);
-    is("one label", dirgwako_counter_family_new(&registry, "a_total", "A.", labels, 1, 0, &family), 0);
+    is("one label", dirgwako_counter_family_new(&registry, "a_total", "A.", labels, 1, 0, 0, &family), 0);
     memset(value, 'v', sizeof value);
     value[257] = 0;
     is("a long value", dirgwako_counter_of(&registry, &family, long_value, 1, &counter), 3);
     is("nine values", dirgwako_counter_of(&registry, &family, labels, 9, &counter), 21);
-    for (size_t i = 0; i < abi.counters; i++) {
-        snprintf(value, sizeof value, "%u", (unsigned)i);
-        is("a slot", dirgwako_counter_of(&registry, &family, long_value, 1, &counter), 0);
+    for (int i = 0; i < 256; i++) {
+        snprintf(value, sizeof value, "%d", i);
+        is("a child", dirgwako_counter_of(&registry, &family, long_value, 1, &counter), 0);
     }
-    is("no slot is left", dirgwako_counter_of(&registry, &family, labels, 1, &counter), 22);
+    is("no more children", dirgwako_counter_of(&registry, &family, labels, 1, &counter), DIRGWAKO_TOO_MANY_CHILDREN);
+    is("one that is there", dirgwako_counter_of(&registry, &family, long_value, 1, &counter), 0);
     for (int i = 1; i < 128; i++) {
         snprintf(name, sizeof name, "b%d_total", i);
-        is("a family", dirgwako_counter_family_new(&registry, name, "B.", labels, 1, 0, &more), 0);
+        is("a family", dirgwako_counter_family_new(&registry, name, "B.", labels, 1, 0, 0, &more), 0);
     }
-    is("no more families", dirgwako_counter_family_new(&registry, "c_total", "C.", labels, 1, 0, &more), 23);
+    is("no more families", dirgwako_counter_family_new(&registry, "c_total", "C.", labels, 1, 0, 0, &more), 23);
     is("free", dirgwako_registry_free(&registry), 0);
 }
 
@@ -237,7 +242,7 @@ static void apart(void) {
     is("take", dirgwako_recorder_take(&two, &recorder), 0);
     is("another's counter", dirgwako_inc(&recorder, &counter, 1), 16);
     far = counter;
-    far.registry++;
+    far.registry += 128;
     far.slot = 100000;
     is("no such slot", dirgwako_inc(&recorder, &far, 1), 11);
     is("another's recorder", dirgwako_recorder_give_back(&one, &recorder), 16);
@@ -283,7 +288,10 @@ static void lists(void) {
     is("no such place", dirgwako_publish(&recorder, wrong, 2), 11);
     wrong[1] = all[1];
     wrong[1].registry++;
-    is("another registry", dirgwako_publish(&recorder, wrong, 2), 16);
+    is("two boards", dirgwako_publish(&recorder, wrong, 2), DIRGWAKO_TWO_BOARDS);
+    wrong[0].registry++;
+    is("no board of the registry", dirgwako_publish(&recorder, wrong, 2), 16);
+    wrong[0] = all[0];
     wrong[1] = all[1];
     wrong[1].kind = 4;
     is("no kind", dirgwako_publish(&recorder, wrong, 2), DIRGWAKO_NO_KIND);
@@ -292,10 +300,12 @@ static void lists(void) {
     is("visits", scraped(&registry, "visits_total"), 2);
     is("open", scraped(&registry, "open"), 4);
     is("20", scraped(&registry, "answer_bytes_bucket{le=\"20\"}"), 1);
-    is("window", dirgwako_set_window(&registry, 0, &kept), 31);
-    is("it is as it was", (long long)kept, 9);
-    is("window", dirgwako_set_window(&registry, 2, &kept), 0);
-    is("kept", (long long)kept, 2);
+    is("window", dirgwako_set_window(&registry, 0), 31);
+    is("kept", dirgwako_kept(&registry, 0, &kept), 0);
+    is("they are as they were", (long long)kept, 3);
+    is("window", dirgwako_set_window(&registry, 2), 0);
+    is("kept", dirgwako_kept(&registry, 0, &kept), 0);
+    is("two are kept", (long long)kept, 2);
     is("free recorder", dirgwako_recorder_free(&recorder), 0);
     is("free", dirgwako_registry_free(&registry), 0);
 }
@@ -436,6 +446,7 @@ int main(void) {
     replies();
     asked();
     numbers();
+    boards();
     threads();
     return told();
 }

@@ -1,5 +1,5 @@
-/* Memory that is refused. Each allocation of each call is refused in turn: the call answers a refusal, what was held is as it was, and the call
-   succeeds when it is made again. What counts takes no memory, and no block is lost. Linked with -Wl,--wrap=malloc,--wrap=realloc,--wrap=free. */
+/* Memory that is refused. Each allocation of each call is refused in turn, also of calls for which a board is made: the call answers a refusal, what
+   was held is as it was, and the call succeeds when it is made again. What counts takes no memory, and no block is lost. Linked with -Wl,--wrap=malloc,--wrap=realloc,--wrap=free. */
 #include "test.h"
 #include <stdio.h>
 
@@ -40,16 +40,16 @@ void __wrap_free(void *block) {
 static dirgwako_registry registry;
 static dirgwako_recorder recorder;
 static dirgwako_counter counter;
-static dirgwako_gauge gauge;
+static dirgwako_gauge gauge, far;
 static dirgwako_histogram histogram;
 static dirgwako_counter_family counters;
 static dirgwako_gauge_family gauges;
 static dirgwako_histogram_family histograms;
 static const uint64_t bounds[2] = {1, 2};
-static const char *const labels[2] = {"code", "route"};
+static const char *const labels[2] = {"code", "route"}, *const others[2] = {"further", ""};
 static char name[16], reply[1 << 17], was[1 << 17];
 static uint64_t before[DIRGWAKO_MOST_NUMBERS], after[DIRGWAKO_MOST_NUMBERS];
-static size_t tries;
+static size_t tries, board;
 
 /* A name that was not there. */
 static const char *another(void) {
@@ -61,12 +61,14 @@ static uint32_t new_registry(void) { return dirgwako_registry_new(&registry, 3);
 static uint32_t new_counter(void) { return dirgwako_counter_new(&registry, another(), "Help.", &counter); }
 static uint32_t new_gauge(void) { return dirgwako_gauge_new(&registry, another(), "Help.", &gauge); }
 static uint32_t new_histogram(void) { return dirgwako_histogram_new(&registry, another(), "Help.", bounds, 2, &histogram); }
-static uint32_t new_counters(void) { return dirgwako_counter_family_new(&registry, "counters_total", "Help.", labels, 2, 0, &counters); }
-static uint32_t new_gauges(void) { return dirgwako_gauge_family_new(&registry, "gauges", "Help.", labels, 2, 0, &gauges); }
-static uint32_t new_histograms(void) { return dirgwako_histogram_family_new(&registry, "histograms", "Help.", labels, 2, bounds, 2, 0, &histograms); }
+static uint32_t new_counters(void) { return dirgwako_counter_family_new(&registry, "counters_total", "Help.", labels, 2, 0, 0, &counters); }
+static uint32_t new_gauges(void) { return dirgwako_gauge_family_new(&registry, "gauges", "Help.", labels, 2, 0, 0, &gauges); }
+static uint32_t new_histograms(void) { return dirgwako_histogram_family_new(&registry, "histograms", "Help.", labels, 2, bounds, 2, 0, 0, &histograms); }
 static uint32_t counter_of(void) { return dirgwako_counter_of(&registry, &counters, labels, 2, &counter); }
 static uint32_t gauge_of(void) { return dirgwako_gauge_of(&registry, &gauges, labels, 2, &gauge); }
 static uint32_t histogram_of(void) { return dirgwako_histogram_of(&registry, &histograms, labels, 2, &histogram); }
+static uint32_t further(void) { return dirgwako_gauge_of(&registry, &gauges, others, 2, &far); }
+static uint32_t new_board(void) { return dirgwako_board_add(&registry, &board); }
 static uint32_t is_name(void) { return dirgwako_is_name("visits_total"); }
 
 static uint32_t scrape(void) {
@@ -76,7 +78,7 @@ static uint32_t scrape(void) {
 
 static uint32_t read(void) {
     size_t len = 0;
-    return dirgwako_read(&registry, after, DIRGWAKO_MOST_NUMBERS, &len);
+    return dirgwako_read(&registry, 0, after, DIRGWAKO_MOST_NUMBERS, &len);
 }
 
 /* 6 as well where it was told in a reply. */
@@ -118,6 +120,32 @@ static long long refuse(const char *what, uint32_t (*call)(void), int is_metric)
     }
 }
 
+/* Uses every slot of a gauge on the one board. */
+static void fill(void) {
+    dirgwako_abi abi;
+    char value[16];
+    const char *const values[2] = {"full", value};
+    is("built for", dirgwako_built_for(&abi), 0);
+    for (size_t i = 0; gauge.slot + 1 < abi.gauges; i++) {
+        snprintf(value, sizeof value, "%u", (unsigned)i);
+        is("a slot", dirgwako_gauge_of(&registry, &gauges, values, 2, &gauge), 0);
+    }
+}
+
+/* Boards come, one when a gauge finds no slot and one at once. */
+static void boards_come(void) {
+    size_t count = 0;
+    fill();
+    is("boards", dirgwako_boards(&registry, &count), 0);
+    is("one is there", (long long)count, 1);
+    is("a gauge on a further board", refuse("a gauge on a further board", further, 0) > 4, 1);
+    is("boards", dirgwako_boards(&registry, &count), 0);
+    is("one came", (long long)count, 2);
+    is("it is there", far.registry == gauge.registry + 1, 1);
+    is("a board", refuse("a board", new_board, 0) > 4, 1);
+    is("its number", (long long)board, 2);
+}
+
 /* Whether a call takes no memory, where all of it is refused. */
 static void none(const char *what, uint32_t answer, uint32_t wanted) {
     is(what, answer, wanted);
@@ -132,13 +160,17 @@ static void counting(void) {
     none("inc", dirgwako_inc(&recorder, &counter, 1), 0);
     none("observe", dirgwako_observe(&recorder, &histogram, 1), 0);
     none("up", dirgwako_up(&recorder, &gauge, 1), 0);
+    none("up on a further board", dirgwako_up(&recorder, &far, 1), 0);
     none("down", dirgwako_down(&recorder, &gauge, 1), 0);
     none("publish", dirgwako_publish(&recorder, changes, 3), 0);
     none("give back", dirgwako_recorder_give_back(&registry, &recorder), 0);
-    none("settle", dirgwako_settle(&registry, before, DIRGWAKO_MOST_NUMBERS, &len, &missing), 0);
-    none("kept", dirgwako_kept(&registry, &kept), 0);
-    none("read kept", dirgwako_read_kept(&registry, 0, before, DIRGWAKO_MOST_NUMBERS, &len), 0);
-    none("window", dirgwako_set_window(&registry, 2, &kept), 0);
+    none("settle", dirgwako_settle(&registry, 0, before, DIRGWAKO_MOST_NUMBERS, &len, &missing), 0);
+    none("settle the second", dirgwako_settle(&registry, 1, before, DIRGWAKO_MOST_NUMBERS, &len, &missing), 0);
+    none("boards", dirgwako_boards(&registry, &kept), 0);
+    none("board of", dirgwako_board_of(&registry, far.registry, &kept), 0);
+    none("kept", dirgwako_kept(&registry, 0, &kept), 0);
+    none("read kept", dirgwako_read_kept(&registry, 0, 0, before, DIRGWAKO_MOST_NUMBERS, &len), 0);
+    none("window", dirgwako_set_window(&registry, 2), 0);
     left = -1;
 }
 
@@ -161,6 +193,7 @@ int main(void) {
     is("scrape", refuse("scrape", scrape, 0) > 0, 1);
     is("reply", refuse("reply", replied, 0) > 0, 1);
     is("read", refuse("read", read, 0) > 0, 1);
+    boards_come();
     counting();
     is("free", dirgwako_registry_free(&registry), 0);
     is("no block is lost", blocks, 0);

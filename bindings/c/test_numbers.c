@@ -1,4 +1,4 @@
-/* The tests of numbers that are read, exact totals, bounds by rule, refusals in words, numbers that are shown shifted, and groups, which are 0. */
+/* The tests of numbers that are read, exact totals, bounds by rule, refusals in words, and numbers that are shown shifted. */
 #include "test.h"
 
 enum { MOST = DIRGWAKO_MOST_NUMBERS };
@@ -39,8 +39,8 @@ static void read(void) {
     dirgwako_totals totals;
     dirgwako_abi abi;
     is("built for", dirgwako_built_for(&abi), 0);
-    is("nothing is kept", dirgwako_read_kept(&registry, 0, first, MOST, &len), DIRGWAKO_NO_SUCH);
-    is("read", dirgwako_read(&registry, first, MOST, &len), 0);
+    is("nothing is kept", dirgwako_read_kept(&registry, 0, 0, first, MOST, &len), DIRGWAKO_NO_SUCH);
+    is("read", dirgwako_read(&registry, 0, first, MOST, &len), 0);
     is("its length", (long long)len, (long long)abi.numbers);
     is("the total", total(first, len), 5);
     is("gauge", dirgwako_gauge_value(first, len, &queued, &value), 0);
@@ -53,18 +53,18 @@ static void read(void) {
     is("the sum", (long long)totals.sum, 2011);
     is("the count", (long long)totals.count, 2);
     is("inc", dirgwako_inc(&recorder, &visits, 1), 0);
-    is("read", dirgwako_read(&registry, second, len, &len), 0);
+    is("read", dirgwako_read(&registry, 0, second, len, &len), 0);
     is("the total", total(second, len), 6);
     is("that of before", total(first, len), 5);
-    is("kept", dirgwako_kept(&registry, &kept), 0);
+    is("kept", dirgwako_kept(&registry, 0, &kept), 0);
     is("two are kept", (long long)kept, 2);
-    is("the oldest", dirgwako_read_kept(&registry, 0, other, MOST, &len), 0);
+    is("the oldest", dirgwako_read_kept(&registry, 0, 0, other, MOST, &len), 0);
     is("is the first", memcmp(other, first, len * sizeof *first), 0);
-    is("the newest", dirgwako_read_kept(&registry, 1, other, MOST, &len), 0);
+    is("the newest", dirgwako_read_kept(&registry, 0, 1, other, MOST, &len), 0);
     is("is the second", memcmp(other, second, len * sizeof *first), 0);
-    is("no third", dirgwako_read_kept(&registry, 2, other, MOST, &len), DIRGWAKO_NO_SUCH);
+    is("no third", dirgwako_read_kept(&registry, 0, 2, other, MOST, &len), DIRGWAKO_NO_SUCH);
     is("the text of a scrape is kept too", scraped(&registry, "visits_total"), 6);
-    is("the oldest goes", dirgwako_read_kept(&registry, 0, other, MOST, &len), 0);
+    is("the oldest goes", dirgwako_read_kept(&registry, 0, 0, other, MOST, &len), 0);
     is("the second is the oldest", memcmp(other, second, len * sizeof *first), 0);
 }
 
@@ -76,11 +76,11 @@ static void refused(void) {
     dirgwako_gauge away = queued;
     dirgwako_totals totals = {{7}, 7, 7};
     uint64_t got = 7;
-    is("no array", dirgwako_read(&registry, NULL, 0, &len), DIRGWAKO_TOO_SHORT);
+    is("no array", dirgwako_read(&registry, 0, NULL, 0, &len), DIRGWAKO_TOO_SHORT);
     needs = len;
     memset(other, 1, sizeof other);
-    is("too short", dirgwako_read(&registry, other, needs - 1, &len), DIRGWAKO_TOO_SHORT);
-    is("too short", dirgwako_read_kept(&registry, 0, other, needs - 1, &len), DIRGWAKO_TOO_SHORT);
+    is("too short", dirgwako_read(&registry, 0, other, needs - 1, &len), DIRGWAKO_TOO_SHORT);
+    is("too short", dirgwako_read_kept(&registry, 0, 0, other, needs - 1, &len), DIRGWAKO_TOO_SHORT);
     is("it is as it was", other[0] == other[1] && (long long)len == (long long)needs, 1);
     is("fewer numbers", total(first, needs - 1), -DIRGWAKO_NO_NUMBERS);
     is("more numbers", total(first, needs + 1), -DIRGWAKO_NO_NUMBERS);
@@ -111,26 +111,26 @@ static void settled(void) {
     dirgwako_abi abi;
     is("built for", dirgwako_built_for(&abi), 0);
     all = abi.workers;
-    is("one is out", dirgwako_settle(&registry, other, MOST, &len, &missing), 18);
+    is("one is out", dirgwako_settle(&registry, 0, other, MOST, &len, &missing), 18);
     is("the last worker's", (long long)missing, (long long)all - 1);
     is("nothing is told", (long long)len, 7);
     is("give back", dirgwako_recorder_give_back(&registry, &recorder), 0);
-    is("too short", dirgwako_settle(&registry, other, 3, &len, &missing), DIRGWAKO_TOO_SHORT);
-    is("settle", dirgwako_settle(&registry, other, len, &len, &missing), 0);
+    is("too short", dirgwako_settle(&registry, 0, other, 3, &len, &missing), DIRGWAKO_TOO_SHORT);
+    is("settle", dirgwako_settle(&registry, 0, other, len, &len, &missing), 0);
     is("the total", total(other, len), 6);
     is("how often the last worker has published", (long long)other[all], 6);
     is("another never has", all == 1 || other[1] == 0, 1);
-    is("the newest scrape", dirgwako_read(&registry, second, MOST, &len), 0);
+    is("the newest scrape", dirgwako_read(&registry, 0, second, MOST, &len), 0);
     is("has the same numbers", memcmp(second, other, len * sizeof *other), 0);
     is("free", dirgwako_registry_free(&registry), 0);
 }
 
-/* Two boards of one id, which the header never makes: a worker of the other one is found twice. */
+/* Two registries of one id, which the header never makes: a worker of the other one is found twice, and one that knows no such board. */
 static void foreign(void) {
     dirgwako_registry one = {0}, two = {0};
     dirgwako_recorder last = {0}, before = {0}, far = {0};
     dirgwako_abi abi;
-    size_t len = 0, missing = 0;
+    size_t len = 0, missing = 0, board = 0;
     is("built for", dirgwako_built_for(&abi), 0);
     if (abi.workers < 2) return;
     is("one", dirgwako_c_registry_new(&one, 900, 1), 0);
@@ -141,7 +141,9 @@ static void foreign(void) {
     is("give back", dirgwako_recorder_give_back(&one, &last), 0);
     is("give another's", dirgwako_recorder_give_back(&one, &far), 0);
     is("no room is left for it", dirgwako_recorder_give_back(&one, &before), 16);
-    is("twice", dirgwako_settle(&one, other, MOST, &len, &missing), 16);
+    is("twice", dirgwako_settle(&one, 0, other, MOST, &len, &missing), 16);
+    is("a board", dirgwako_board_add(&one, &board), 0);
+    is("one knows no such board", dirgwako_settle(&one, board, other, MOST, &len, &missing), 16);
     is("free", dirgwako_recorder_free(&before), 0);
     is("free", dirgwako_registry_free(&one), 0);
     is("free", dirgwako_registry_free(&two), 0);
@@ -173,33 +175,29 @@ static void words(void) {
     is("not UTF-8", strcmp(dirgwako_refusal(DIRGWAKO_NOT_UTF8, buffer, sizeof buffer), "a text is not UTF-8"), 0);
     is("no such", strcmp(dirgwako_refusal(1000, buffer, sizeof buffer), "there is nothing of this number"), 0);
     is("no buffer", strcmp(dirgwako_refusal(6, NULL, 0), ""), 0);
-    for (uint32_t i = 0; i <= DIRGWAKO_TOO_MANY_CHILDREN; i++) {
+    for (uint32_t i = 0; i <= DIRGWAKO_TWO_BOARDS; i++) {
         is("there are words", dirgwako_c_refusal(i, (uint8_t *)buffer, sizeof buffer, &len), 0);
         is("they are whole", strlen(dirgwako_refusal(i, buffer, sizeof buffer)) == len && len >= 4, 1);
     }
-    is("no such", dirgwako_c_refusal(DIRGWAKO_TOO_MANY_CHILDREN + 1, short_one, sizeof short_one, &len), DIRGWAKO_NO_SUCH);
+    is("no such", dirgwako_c_refusal(DIRGWAKO_TWO_BOARDS + 1, short_one, sizeof short_one, &len), DIRGWAKO_NO_SUCH);
     is("too short", dirgwako_c_refusal(6, short_one, sizeof short_one, &len), DIRGWAKO_TOO_SHORT);
     is("it needs", (long long)len, 13);
     is("it is as it was", short_one[0], 0);
 }
 
-/* Groups are 0, as yet, and digits at most 9. */
-static void later(void) {
-    const uint8_t *name = (const uint8_t *)"a_total";
-    const dirgwako_text label = {(const uint8_t *)"code", 4};
-    const uint64_t bound = 1;
+/* Digits are at most 9. */
+static void digits(void) {
+    const uint64_t bounds[1] = {1};
+    const char *const labels[1] = {"code"};
     dirgwako_counter_family counters = {7, 7};
     dirgwako_gauge_family gauges = {7, 7};
     dirgwako_histogram_family histograms = {7, 7};
     is("new", dirgwako_registry_new(&registry, 1), 0);
-    is("a group", dirgwako_c_counter_family_new(&registry, name, 7, name, 7, &label, 1, 10, 1, &counters), DIRGWAKO_NOT_YET);
-    is("a group", dirgwako_c_gauge_family_new(&registry, name, 7, name, 7, &label, 1, 0, 1, &gauges), DIRGWAKO_NOT_YET);
-    is("a group", dirgwako_c_histogram_family_new(&registry, name, 7, name, 7, &label, 1, &bound, 1, 0, 1, &histograms), DIRGWAKO_NOT_YET);
-    is("digits", dirgwako_c_counter_family_new(&registry, name, 7, name, 7, &label, 1, 10, 0, &counters), DIRGWAKO_TOO_MANY_DIGITS);
-    is("digits", dirgwako_c_gauge_family_new(&registry, name, 7, name, 7, &label, 1, 256, 0, &gauges), DIRGWAKO_TOO_MANY_DIGITS);
-    is("digits", dirgwako_c_histogram_family_new(&registry, name, 7, name, 7, &label, 1, &bound, 1, SIZE_MAX, 0, &histograms), DIRGWAKO_TOO_MANY_DIGITS);
+    is("digits", dirgwako_counter_family_new(&registry, "a_total", "A.", labels, 1, 10, 0, &counters), DIRGWAKO_TOO_MANY_DIGITS);
+    is("digits", dirgwako_gauge_family_new(&registry, "a_total", "A.", labels, 1, 256, 0, &gauges), DIRGWAKO_TOO_MANY_DIGITS);
+    is("digits", dirgwako_histogram_family_new(&registry, "a_total", "A.", labels, 1, bounds, 1, SIZE_MAX, 0, &histograms), DIRGWAKO_TOO_MANY_DIGITS);
     is("they are as they were", (long long)(counters.registry + gauges.number + histograms.number), 21);
-    is("the name is free", dirgwako_c_counter_family_new(&registry, name, 7, name, 7, &label, 1, 0, 0, &counters), 0);
+    is("the name is free", dirgwako_counter_family_new(&registry, "a_total", "A.", labels, 1, 0, 0, &counters), 0);
     is("free", dirgwako_registry_free(&registry), 0);
 }
 
@@ -223,9 +221,9 @@ static void seconds(void) {
     size_t len = 0;
     is("new", dirgwako_registry_new(&registry, 1), 0);
     is("take", dirgwako_recorder_take(&registry, &recorder), 0);
-    is("counters", dirgwako_counter_family_new(&registry, "busy_seconds_total", "Busy.", NULL, 0, 6, &of_busy), 0);
+    is("counters", dirgwako_counter_family_new(&registry, "busy_seconds_total", "Busy.", NULL, 0, 6, 0, &of_busy), 0);
     is("counter", dirgwako_counter_of(&registry, &of_busy, NULL, 0, &busy), 0);
-    is("gauges", dirgwako_gauge_family_new(&registry, "age_seconds", "Age.", NULL, 0, 3, &of_age), 0);
+    is("gauges", dirgwako_gauge_family_new(&registry, "age_seconds", "Age.", NULL, 0, 3, 7, &of_age), 0);
     is("gauge", dirgwako_gauge_of(&registry, &of_age, NULL, 0, &age), 0);
     is("null", dirgwako_histogram_seconds_new(&registry, "answer_seconds", "Answers.", bounds, 11, NULL), DIRGWAKO_NULL);
     is("seconds", dirgwako_histogram_seconds_new(&registry, "answer_seconds", "Answers.", bounds, 11, &answers), 0);
@@ -250,6 +248,6 @@ void numbers(void) {
     foreign();
     spaced();
     words();
-    later();
+    digits();
     seconds();
 }

@@ -1,9 +1,13 @@
+pub mod Alone
 pub mod Called
 pub mod HandleValues
 pub mod Handing
+pub mod Meeting
 pub mod Made
 pub mod Newest
+pub mod Places
 pub mod Reading
 pub mod Seating
 pub mod Settled
 pub mod Values
+mod Listing

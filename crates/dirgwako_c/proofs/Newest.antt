@@ -1,18 +1,12 @@
--- The newest scrape that is kept, and scrapes of what is lent.
-use Rattle.std.proofs.Common.{◌≡◌, ℕ, zero, suc, ◌≤◌, List, [], ◌∷◌, length, refl, sym, ap, ◌∙◌, inl, inr, arith}
-use Rattle.std.specs.Prelude.{Option, Some, None, Result, Ok, IsSome, slice_get}
+-- The newest scrape that is kept.
+use Rattle.std.proofs.Common.{◌≡◌, ℕ, zero, suc, ◌≤◌, List, [], ◌∷◌, length, refl, sym, ap, ◌∙◌, arith}
+use Rattle.std.specs.Prelude.{Option, Some, None, IsSome, slice_get}
 use Rattle.std.proofs.lemmas.Bool.{true≢false}
 use Rattle.std.proofs.lemmas.Option.{none-some}
-use Rattle.expo_text.specs.Scraped.{Scraped as Scrape}
 use Rattle.register_rule.specs.declared.view.Answer.{Answer}
 use Rattle.register_rule.specs.Members.{newest}
 use Rattle.registry_state.specs.Journal.{Entry, Changed, Scraped, scrapes}
 use Rattle.registry_state.specs.Replay.{State, Leads, Replays, after}
-use Rattle.scrape_http.specs.declared.source.NoScrape.{NoScrape}
-use Rattle.scrape_server.specs.Again.{AsksAgain}
-use Rattle.scrape_server.proofs.Askings.{at_end}
-use Rattle.dirgwako_c.specs.Registries.{registry_in, spare_in, scrapes_by}
-use Rattle.dirgwako_c.specs.declared.held.HeldRegistry.{HeldRegistry}
 
 -- the newest of these, or what was there before
 abbrev newest_or : Option Answer → List Answer → Option Answer
@@ -55,35 +49,3 @@ newest_at (b ∷ []) zero a last is = is
 newest_at (b ∷ []) (suc k) a last is = absurd (none-some a is)
 newest_at (b ∷ d ∷ answers) zero a last is = absurd (omega (arith, last))
 newest_at (b ∷ d ∷ answers) (suc k) a last is = newest_at (d ∷ answers) k a (omega (arith, last)) is
-
--- what is asked is a part of the source
-pub asks_of : {S T : Type 0} (gave : S → S → Result Scrape NoScrape → Type 0) (of : T → T → Result Scrape NoScrape → Type 0) (part : S → T)
-    → ((x y : S) (r : Result Scrape NoScrape) → gave x y r → of (part x) (part y) r) → (more : ℕ) (before later : S)
-    (answer : Result Scrape NoScrape) → AsksAgain gave more before later answer → AsksAgain of more (part before) (part later) answer
-asks_of gave of part one zero before later answer given = one before later answer given
-asks_of gave of part one (suc more) before later answer asked =
-    elim asked [
-      | inl done ↦ inl (done.0, one before later answer done.1)
-      | inr next ↦ inr (
-        part next.0,
-        one before next.0 _ next.1,
-        asks_of gave of part one more next.0 later answer next.2,
-      )
-    ]
-
--- where a scrape was made, one is kept
-pub scrape_kept : (before after : HeldRegistry) (scrape : Scrape) → AsksAgain scrapes_by 3 before after (Ok scrape)
-    → (moment : Answer) × ((registry_in after).state.last ≡ Some moment)
-scrape_kept before later scrape asked =
-    let (mid, given) = at_end scrapes_by 3 before later (Ok scrape) asked in
-    (given.0.kept.answer, ap (λ (s : State). s.last) given.0.kept.state)
-
--- what the asking leaves
-pub same_spare : (more : ℕ) (before after : HeldRegistry) (answer : Result Scrape NoScrape) → AsksAgain scrapes_by more before after answer
-    → spare_in after ≡ spare_in before
-same_spare zero before later answer given = given.1
-same_spare (suc more) before later answer asked =
-    elim asked [
-      | inl done ↦ done.1.1
-      | inr next ↦ same_spare more next.0 later answer next.2 ∙ next.1.1
-    ]

@@ -1,5 +1,8 @@
--- Recorders that nobody has, and what they have published together.
-use Rattle.std.proofs.Common.{◌≡◌, ℕ, zero, suc, ◌+◌, ◌<◌, ◌≤◌, List, [], ◌∷◌, length, map, drop, set, refl, sym, ap, ◌∙◌, arith}
+-- Recorders that nobody has, and what they have published together on one board.
+use Rattle.std.proofs.Common.{◌≡◌, ℕ, zero, suc, ◌+◌, ◌<◌, ◌≤◌, List, [], ◌∷◌, ◌++◌, All, length, map, drop, set, inl, inr, refl, sym, ap, ◌∙◌, arith}
+use Rattle.std.specs.Prelude.{Option, Some, slice_get}
+use Rattle.std.proofs.lemmas.Option.{slice_get_cases}
+use Rattle.std.proofs.lemmas.List.Elements.{All-head, All-tail}
 use mathlib.Core.Option.{some, some-injective, some-ne-none}
 use lib.ListN.{get_elem?}
 use Rattle.std.proofs.Math.ListN.{drop_of_length-le}
@@ -8,15 +11,16 @@ use Rattle.register_rule.specs.Sums.{word_after}
 use Rattle.register_rule.proofs.Words.{at_below}
 use Rattle.snapshot_update.specs.Workers.{member_of}
 use Rattle.chain_law.proofs.Totals.{one_more}
-use Rattle.dirgwako_c.specs.Recorders.{worker_in}
+use Rattle.page_crew.specs.Held.{recorders_of}
+use Rattle.page_crew.specs.Shared.{worker_in}
 use Rattle.dirgwako_c.specs.Registries.{recorder_in}
-use Rattle.dirgwako_c.specs.Settling.{OneWorker, workers_of, published_in}
-use Rattle.dirgwako_c.specs.declared.geometry.TheConstants.{WORKERS, COUNTERS, HISTOGRAMS}
+use Rattle.dirgwako_c.specs.Settling.{OneWorker, OneSeat, alone, seats_on, Knows, workers_of, published_in}
+use Rattle.dirgwako_c.specs.declared.geometry.TheConstants.{COUNTERS, HISTOGRAMS}
 use Rattle.dirgwako_c.specs.declared.held.HeldRecorder.{HeldRecorder}
 
 -- its worker
-abbrev pub its : HeldRecorder → OneWorker
-its r = worker_in (recorder_in r)
+abbrev pub its : OneSeat → OneWorker
+its r = worker_in r
 
 -- the items from a place on are the one at the place, and those behind it
 drop_next : {A : Type 0} (l : List A) (p : ℕ) (x : A) → get_elem? l p ≡ some x → drop p l ≡ x ∷ drop (suc p) l
@@ -53,30 +57,58 @@ set_here (x ∷ l) zero a lt = refl
 set_here (x ∷ l) (suc i) a lt = set_here l i a (omega (arith, lt))
 
 -- the worker of a recorder stands at its place
-pub worker_here : (rs : List HeldRecorder) (p : ℕ) (r : HeldRecorder) → get_elem? rs p ≡ some r → get_elem? (workers_of rs) p ≡ some (its r)
+pub worker_here : (rs : List OneSeat) (p : ℕ) (r : OneSeat) → get_elem? rs p ≡ some r → get_elem? (workers_of rs) p ≡ some (its r)
 worker_here rs p r e = mapped_here its rs p r e
 
 -- a worker of these recorders is that of the recorder at its place
-pub worker_at : (rs : List HeldRecorder) (p : ℕ) (w : OneWorker) → get_elem? (workers_of rs) p ≡ some w
-    → (r : HeldRecorder) × (get_elem? rs p ≡ some r) × (its r ≡ w)
+pub worker_at : (rs : List OneSeat) (p : ℕ) (w : OneWorker) → get_elem? (workers_of rs) p ≡ some w
+    → (r : OneSeat) × (get_elem? rs p ≡ some r) × (its r ≡ w)
 worker_at rs p w e = mapped_at its rs p w e
 
 -- a worker of these recorders stands before their end
-pub worker_below : (rs : List HeldRecorder) (p : ℕ) (w : OneWorker) → get_elem? (workers_of rs) p ≡ some w → p < length rs
+pub worker_below : (rs : List OneSeat) (p : ℕ) (w : OneWorker) → get_elem? (workers_of rs) p ≡ some w → p < length rs
 worker_below rs p w e = let (r, there, is) = worker_at rs p w e in at_below rs p r there
 
 -- what those from a place on have published is what the one there has, and those behind it
-pub next_published : (rs : List HeldRecorder) (p q k : ℕ) (r : HeldRecorder) → suc p ≡ q → get_elem? rs p ≡ some r
+pub next_published : (rs : List OneSeat) (p q k : ℕ) (r : OneSeat) → suc p ≡ q → get_elem? rs p ≡ some r
     → published_in (drop p rs) k ≡ word_after (sum_ops COUNTERS HISTOGRAMS) (member_of (its r)).work.made k + published_in (drop q rs) k
-next_published rs p q k r next at = ap (λ (l : List HeldRecorder). published_in l k) (drop_next rs p r at)
+next_published rs p q k r next at = ap (λ (l : List OneSeat). published_in l k) (drop_next rs p r at)
     ∙ (one_more COUNTERS HISTOGRAMS k (its r) (workers_of (drop (suc p) rs))
     ∙ ap (λ n. word_after (sum_ops COUNTERS HISTOGRAMS) (member_of (its r)).work.made k + published_in (drop n rs) k) next)
 
 -- behind the last one nothing is published
-pub none_published : (rs : List HeldRecorder) (p k : ℕ) → length rs ≤ p → published_in (drop p rs) k ≡ 0
-none_published rs p k few = ap (λ (l : List HeldRecorder). published_in l k) (drop_of_length-le rs few)
+pub none_published : (rs : List OneSeat) (p k : ℕ) → length rs ≤ p → published_in (drop p rs) k ≡ 0
+none_published rs p k few = ap (λ (l : List OneSeat). published_in l k) (drop_of_length-le rs few)
 
--- a board has 32 workers at most
-pub are_few : (rs : List HeldRecorder) → length rs ≤ WORKERS → length rs ≤ 32
-are_few [] many = omega arith
-are_few (r ∷ rs) many = let most = (its r).geometry.workers.1 in omega (arith, many, most)
+module _ (board : ℕ) where
+  -- what a recorder has on the board
+  abbrev seat_of : HeldRecorder → Option OneSeat
+  seat_of r = slice_get (recorders_of (recorder_in r)) board
+
+  has_seat : (r : HeldRecorder) → Knows board r → (s : OneSeat) × (seat_of r ≡ Some s)
+  has_seat r knows = elim (slice_get_cases (recorders_of (recorder_in r)) board).1 [
+    | inl there ↦ (there.0, there.2)
+    | inr none ↦ absurd (let past = none.0 in omega (arith, past, knows))
+  ]
+
+  first_seat : (r : HeldRecorder) (rs : List HeldRecorder) (s : OneSeat) → seat_of r ≡ Some s
+      → seats_on board (r ∷ rs) ≡ s ∷ seats_on board rs
+  first_seat r rs s is = ap (λ (o : Option OneSeat). alone o ++ seats_on board rs) is
+
+  -- where all know the board, there are as many seats on it
+  pub seats_many : (rs : List HeldRecorder) → All (Knows board) rs → length (seats_on board rs) ≡ length rs
+  seats_many [] all = refl
+  seats_many (r ∷ rs) all =
+      let (s, is) = has_seat r (All-head (Knows board) r rs all) in
+      ap length (first_seat r rs s is) ∙ ap (λ (n : ℕ). suc n) (seats_many rs (All-tail (Knows board) r rs all))
+
+  -- and each stands at the place of its recorder
+  pub seat_here : (rs : List HeldRecorder) → All (Knows board) rs → (p : ℕ) (r : HeldRecorder) (s : OneSeat) → get_elem? rs p ≡ some r
+      → seat_of r ≡ Some s → get_elem? (seats_on board rs) p ≡ some s
+  seat_here [] all p r s at is = absurd (some-ne-none r (sym at))
+  seat_here (q ∷ rs) all zero r s at is =
+      ap (λ (l : List OneSeat). get_elem? l zero) (first_seat q rs s (ap seat_of (some-injective q r at) ∙ is))
+  seat_here (q ∷ rs) all (suc p) r s at is =
+      let (t, there) = has_seat q (All-head (Knows board) q rs all) in
+      ap (λ (l : List OneSeat). get_elem? l (suc p)) (first_seat q rs t there)
+      ∙ seat_here rs (All-tail (Knows board) q rs all) p r s at is

@@ -1,47 +1,56 @@
 -- Changes that C publishes as one version.
-use Rattle.std.specs.Prelude.{◌≡◌, ◌==◌, if◌then◌else◌, ◌⊎◌, ℕ, ◌<◌, ◌≤◌, List, map, length, All, Option, Some, None, IsSome, Result, OnOk, OnErr, IfErr}
+use Rattle.std.specs.Prelude.{◌≡◌, ◌==◌, if◌then◌else◌, ◌⊎◌, ℕ, ◌<◌, ◌≤◌, List, map, length, All, Option, Some, None, IsSome, Result, OnOk, IfErr}
 use Rattle.ledger_core.specs.declared.op.Op.{Op}
 use Rattle.ledger_core.specs.declared.op.Op.TheVariants.{Inc, Observe, Up, Down}
-use Rattle.snapshot_update.specs.Faults.{apply_fault_number}
-use Rattle.snapshot_update.specs.Updated.{IsUpdated}
-use Rattle.snapshot_update.specs.Workers.{index_of, member_of, IsApplyFault}
-use Rattle.snapshot_update.specs.declared.faults.ApplyFault.{ApplyFault}
+use Rattle.page_crew.specs.Counting.{IsPublishedOn, IsRefusedOn}
+use Rattle.page_crew.specs.Held.{recorders_of}
+use Rattle.page_crew.specs.declared.page_recorder.PageRecorder.{PageRecorder}
+use Rattle.snapshot_update.specs.Faults.{count_fault_number}
+use Rattle.snapshot_update.specs.declared.faults.CountFault.{CountFault}
 use Rattle.dirgwako_c.specs.Held.{answer_of}
-use Rattle.dirgwako_c.specs.Recorders.{board_in, id_in, worker_in}
+use Rattle.dirgwako_c.specs.Recorders.{IsSamePage}
 use Rattle.dirgwako_c.specs.declared.change.Change.{Change}
-use Rattle.dirgwako_c.specs.declared.shared_recorder.SharedRecorder.{SharedRecorder}
 
 -- its operation, if it is of a kind
 abbrev pub op_in : Change → Option Op
 op_in c = if c.kind == 0 then Some (Inc c.slot c.by) else if c.kind == 1 then Some (Observe c.slot c.by c.value)
     else if c.kind == 2 then Some (Up c.slot c.by) else if c.kind == 3 then Some (Down c.slot c.by) else None
 
--- it is by a handle of this registry
-abbrev pub IsOf : (registry : ℕ) → Change → Type 0
-IsOf registry c = c.registry ≡ registry
+-- it is by a handle of the board of this id
+abbrev pub IsOf : (id : ℕ) → Change → Type 0
+IsOf id c = c.registry ≡ id
 
--- why there is no list of operations: some change is by a handle of another registry (16), or is of no kind (39)
-abbrev pub IsNoList : (registry : ℕ) → List Change → (answer : ℕ) → Type 0
-IsNoList registry changes answer = ((answer ≡ 16) × ¬ (All (IsOf registry) changes))
-    ⊎ ((answer ≡ 39) × ¬ (All (λ c. IsSome (op_in c)) changes))
+-- some change is of no kind (39)
+abbrev pub HasNoKind : List Change → (answer : ℕ) → Type 0
+HasNoKind changes answer = (answer ≡ 39) × ¬ (All (λ c. IsSome (op_in c)) changes)
+
+-- why there is no list of operations of this board: some change is by a handle of another one (47), or is of no kind
+abbrev pub IsNoList : (id : ℕ) → List Change → (answer : ℕ) → Type 0
+IsNoList id changes answer = ((answer ≡ 47) × ¬ (All (IsOf id) changes)) ⊎ HasNoKind changes answer
+
+-- why there is no list of operations of one board: there is no board whose handles made all changes (47), or some change is of no kind
+abbrev pub AreOfNoBoard : List Change → (answer : ℕ) → Type 0
+AreOfNoBoard changes answer = ((answer ≡ 47) × ((id : ℕ) → ¬ (All (IsOf id) changes))) ⊎ HasNoKind changes answer
 
 module _ {N C H G : ℕ} where
-  -- The recorder is of the same board and worker. It did this, and the answer is 0, or the number of its refusal: it has published the
-  -- operations of all these changes as one version; or it has refused them for that reason, and nothing of it has changed. No refusal's
-  -- number is 0
-  pub record PublishesAll (changes : List Change) (answer : ℕ) (before after : SharedRecorder N C H G) : Type 0 where
+  -- The recorder is of the same page, and all changes are by handles of one board. It did this, and the answer is 0, or the number of its
+  -- refusal: it has published the operations of all these changes as one version of that board; or it has refused them for that reason, and no
+  -- number has changed. Boards that came may have been met. No refusal's number is 0
+  pub record PublishesAll (changes : List Change) (answer : ℕ) (before after : PageRecorder N C H G) : Type 0 where
+    pub page : IsSamePage before after
+    pub id : ℕ
     pub ops : List Op
     pub are : map Some ops ≡ map op_in changes
-    pub of_it : All (IsOf (id_in before)) changes
-    pub board : board_in after ≡ board_in before
-    pub index : index_of (worker_in after) ≡ index_of (worker_in before)
-    pub did : Result (Unit {0}) ApplyFault
-    pub answer_is : answer ≡ answer_of apply_fault_number did
-    pub published : OnOk did (IsUpdated N C H G (index_of (worker_in before)) ops (member_of (worker_in before)) (member_of (worker_in after)))
-    pub refused : IfErr did (IsApplyFault C H G (member_of (worker_in before)) ops)
-    pub unchanged : OnErr did (member_of (worker_in after) ≡ member_of (worker_in before))
+    pub of_it : All (IsOf id) changes
+    pub did : Result (Unit {0}) CountFault
+    pub answer_is : answer ≡ answer_of count_fault_number did
+    pub published : OnOk did (IsPublishedOn id ops (recorders_of before) (recorders_of after))
+    pub refused : IfErr did (IsRefusedOn id ops (recorders_of before) (recorders_of after))
 
-  -- at most so many changes were published as one version; or there are more (33), or no list, and nothing has changed
-  abbrev pub Publishes : (most : ℕ) → List Change → (answer : ℕ) → (before after : SharedRecorder N C H G) → Type 0
-  Publishes most changes answer before after = ((most < length changes) × (answer ≡ 33) × (after ≡ before))
-      ⊎ ((IsNoList (id_in before) changes answer × (after ≡ before)) ⊎ ((length changes ≤ most) × PublishesAll changes answer before after))
+  -- some changes, at most so many, were published as one version; or there is none, and nothing was published; or there are more (33), or they
+  -- are no list of one board, and nothing has changed
+  abbrev pub Publishes : (most : ℕ) → List Change → (answer : ℕ) → (before after : PageRecorder N C H G) → Type 0
+  Publishes most changes answer before after = ((length changes ≡ 0) × (answer ≡ 0) × (after ≡ before))
+      ⊎ (((most < length changes) × (answer ≡ 33) × (after ≡ before))
+      ⊎ ((AreOfNoBoard changes answer × (after ≡ before))
+      ⊎ ((0 < length changes) × (length changes ≤ most) × PublishesAll changes answer before after)))

@@ -1,9 +1,8 @@
 -- What the calls of C by a registry's handle come to.
-use Rattle.std.specs.Prelude.{Bool, true, false, ◌≡◌, ◌≢◌, ◌⊎◌, ℕ, ◌<◌, ◌≤◌, List, [], ◌∷◌, ◌++◌, map, length, drop, replicate, All, Option, Some, None, Result, Ok, Err, IfOk, OnErr, IsSomeAnd, IsUtf8}
-use Rattle.std.specs.List.{range_with_len}
-use Rattle.std.specs.Arc.{arc_value}
-use Rattle.dirgwako.specs.Alone.{RegistersAlone, GivesAlone}
+use Rattle.std.specs.Prelude.{Bool, true, false, ◌≡◌, ◌≢◌, ◌⊎◌, ℕ, ◌*◌, ◌<◌, ◌≤◌, List, [], ◌∷◌, ◌++◌, map, length, drop, All, Option, Some, None, Result, Ok, Err, IfOk, OnErr, IsSomeAnd, IsUtf8}
+use Rattle.dirgwako.specs.Paged.{RegistersOnPage, GivesOnPage}
 use Rattle.dirgwako.specs.Printing.{IsText, IsTextFault, text_fault_number}
+use Rattle.dirgwako.specs.declared.paged.OnPage.{OnPage}
 use Rattle.dirgwako.specs.declared.printing.TextFault.{TextFault}
 use Rattle.dirgwako.specs.Registering.{AsksFamily, AsksChild, AsksMetric}
 use Rattle.dirgwako.specs.Refused.{family_refusal_number, child_refusal_number, metric_refusal_number}
@@ -13,13 +12,12 @@ use Rattle.dirgwako.specs.declared.fault.MetricRefusal.{MetricRefusal}
 use Rattle.expo_text.specs.Scraped.{Scraped}
 use Rattle.metric_desc.specs.Desc.{Descriptor}
 use Rattle.metric_desc.specs.declared.kind.Kind.{Kind}
-use Rattle.ledger_core.specs.declared.op.Op.{Op}
+use Rattle.page_crew.specs.Held.{first_of as first_board_of}
+use Rattle.page_crew.specs.Owned.{first_of, page_of, IsOpened, IsUnchanged, KeepsFromNow, ScrapesByCrew}
+use Rattle.page_crew.specs.declared.owner.PageCrew.{PageCrew}
+use Rattle.page_crew.specs.declared.page_recorder.PageRecorder.{PageRecorder}
+use Rattle.page_crew.specs.declared.shared_scanner.SharedScanner.{SharedScanner}
 use Rattle.register_rule.specs.Faults.{IsBoardSize}
-use Rattle.register_rule.specs.Seats.{board_id}
-use Rattle.register_rule.specs.declared.view.Answer.{Answer}
-use Rattle.registry_state.specs.Journal.{scrapes, within}
-use Rattle.registry_state.specs.Kept.{RegistryView}
-use Rattle.registry_state.specs.Replay.{nothing}
 use Rattle.registry_state.specs.Faults.{IsWindow}
 use Rattle.registry_state.specs.declared.handle.Handle.{Handle}
 use Rattle.registry_state.specs.declared.handle.FamilyId.{FamilyId}
@@ -27,73 +25,49 @@ use Rattle.scrape_http.specs.Serves.{IsServed, IsUnserved, is_read_failed, numbe
 use Rattle.scrape_http.specs.declared.fault.WireFault.{WireFault}
 use Rattle.scrape_http.specs.declared.serve.Served.{Served}
 use Rattle.scrape_http.specs.declared.source.NoScrape.{NoScrape}
-use Rattle.scrape_server.specs.Again.{AsksAgain}
-use Rattle.scrape_server.specs.Scrapes.{Scrapes}
-use Rattle.snapshot_scan.specs.Answered.{HasAnswered, HasGivenUp}
-use Rattle.snapshot_scan.specs.Readers.{scan_by}
-use Rattle.snapshot_scan.specs.declared.contended.Contended.{Contended}
-use Rattle.snapshot_update.specs.Workers.{index_of, lists_of}
+use Rattle.scrape_page.specs.Families.{PageView}
 use Rattle.dirgwako_c.specs.Held.{answer_of}
-use Rattle.dirgwako_c.specs.Recorders.{board_in, id_in, worker_in}
 use Rattle.dirgwako_c.specs.declared.geometry.TheConstants.{WORKERS, COUNTERS, HISTOGRAMS, GAUGES}
-use Rattle.dirgwako_c.specs.declared.shared_recorder.SharedRecorder.{SharedRecorder}
 use Rattle.dirgwako_c.specs.declared.held.HeldRecorder.{HeldRecorder}
 use Rattle.dirgwako_c.specs.declared.held.HeldRegistry.{HeldRegistry}
-use Rattle.dirgwako_c.specs.declared.shared_scanner.SharedScanner.{SharedScanner}
 use Rattle.dirgwako_c.specs.declared.spare.Spare.{Spare}
 
-module _ {N C H G : ℕ} where
-  -- what its scans recorded, in order
-  abbrev pub recorded_in : SharedScanner N C H G → List Answer
-  recorded_in s = (scan_by s.reader).recorded
+-- a page of this geometry, with all who work on its boards
+abbrev pub Owner : Type 0
+Owner = PageCrew WORKERS COUNTERS HISTOGRAMS GAUGES
 
-  -- how many of them were given up
-  abbrev pub quit_in : SharedScanner N C H G → ℕ
-  quit_in s = (scan_by s.reader).quit
-
-  -- it is of the same board, and its reader has learned this answer by one scan
-  abbrev pub gave_in : SharedScanner N C H G → SharedScanner N C H G → Answer → Type 0
-  gave_in s t a = (arc_value t.board ≡ arc_value s.board) × HasAnswered s.reader t.reader a
-
-  -- it is of the same board, and its reader gave one scan up
-  abbrev pub gave_up_in : SharedScanner N C H G → SharedScanner N C H G → Contended → Type 0
-  gave_up_in s t e = (arc_value t.board ≡ arc_value s.board) × HasGivenUp s.reader t.reader e
+-- such a page, and the group of the families to come
+abbrev pub Grouped : Type 0
+Grouped = OnPage WORKERS COUNTERS HISTOGRAMS GAUGES
 
 -- the recorder that a handle holds
-abbrev pub recorder_in : HeldRecorder → SharedRecorder WORKERS COUNTERS HISTOGRAMS GAUGES
+abbrev pub recorder_in : HeldRecorder → PageRecorder WORKERS COUNTERS HISTOGRAMS GAUGES
 recorder_in held = held.recorder
 
 -- the recorders that nobody has, in order
 abbrev pub recorders_in : Spare → List HeldRecorder
 recorders_in spare = map (λ b. b.value) spare.recorders.items
 
--- the registry that a handle holds
-abbrev pub registry_in : HeldRegistry → RegistryView (SharedScanner WORKERS COUNTERS HISTOGRAMS GAUGES)
-registry_in held = held.registrar.at
+-- the page that a registry's handle holds, with the group of the families to come
+abbrev pub grouped_in : HeldRegistry → Grouped
+grouped_in held = held.registrar.at
 
--- the recorders of its board that nobody has
+-- the page, with all who work on its boards
+abbrev pub owner_in : HeldRegistry → Owner
+owner_in held = (grouped_in held).crew
+
+-- its boards and families
+abbrev pub page_in : HeldRegistry → PageView (SharedScanner WORKERS COUNTERS HISTOGRAMS GAUGES)
+page_in held = page_of (owner_in held)
+
+-- the recorders of the page that nobody has
 abbrev pub spare_in : HeldRegistry → List HeldRecorder
 spare_in held = recorders_in held.spare
 
--- which worker it counts as
-abbrev pub index_in : HeldRecorder → ℕ
-index_in held = index_of (worker_in held.recorder)
-
--- all lists that it has published
-abbrev pub lists_in : HeldRecorder → List (List Op)
-lists_in held = lists_of (worker_in held.recorder)
-
--- A registry of this id and window in which nothing was registered and no scrape is kept, over a board of this id, of which nobody has a
--- recorder: there is one of each worker, in order, that has published nothing
-pub record IsNew (id window : ℕ) (held : HeldRegistry) : Type 0 where
-  pub id_is : (registry_in held).id ≡ id
-  pub window_is : (registry_in held).window ≡ window
-  pub journal : (registry_in held).journal ≡ []
-  pub state : (registry_in held).state ≡ nothing
-  pub board : board_id (arc_value (registry_in held).source.board) ≡ id
-  pub boards : All (λ recorder. board_in (recorder_in recorder) ≡ arc_value (registry_in held).source.board) (spare_in held)
-  pub workers : map index_in (spare_in held) ≡ range_with_len 0 WORKERS
-  pub lists : map lists_in (spare_in held) ≡ replicate WORKERS []
+-- A page of this id, of one board on which nothing is registered and nothing was counted; its recorders are there, one of each worker, in order,
+-- and nobody has them
+abbrev pub IsNew : (id window : ℕ) → HeldRegistry → Type 0
+IsNew id window held = IsOpened (128 * id) window (owner_in held) (map recorder_in (spare_in held))
 
 -- why there is none: 31 the window is none; else 6, there was no memory, or 13, the library was built for numbers out of range
 abbrev pub IsNewAnswer : (window answer : ℕ) → Type 0
@@ -108,53 +82,44 @@ Opens id window answer before after = ((answer ≡ 0) × IsSomeAnd after (IsNew 
 
 -- the last spare recorder was handed out; or there is none (35)
 abbrev pub HandsOut : (answer : ℕ) → (before after : HeldRegistry) → (had has : Option HeldRecorder) → Type 0
-HandsOut answer before after had has = (registry_in after ≡ registry_in before)
+HandsOut answer before after had has = (grouped_in after ≡ grouped_in before)
     × (((answer ≡ 0) × ((recorder : HeldRecorder) × (has ≡ Some recorder) × (spare_in before ≡ spare_in after ++ recorder ∷ [])))
     ⊎ ((answer ≡ 35) × (spare_in before ≡ []) × (spare_in after ≡ []) × (has ≡ had)))
 
--- A recorder was taken back, behind the spare ones. Or it is of a board of another id, or one of each worker is spare already (16); or there is
--- none (34): nothing has changed then
+-- A recorder was taken back, behind the spare ones. Or it is of a page of another first board, or one of each worker is spare already (16); or
+-- there is none (34): nothing has changed then
 abbrev pub TakesBack : (answer : ℕ) → (before after : HeldRegistry) → (had has : Option HeldRecorder) → Type 0
-TakesBack answer before after None has = (answer ≡ 34) × (has ≡ None) × (registry_in after ≡ registry_in before)
+TakesBack answer before after None has = (answer ≡ 34) × (has ≡ None) × (grouped_in after ≡ grouped_in before)
     × (spare_in after ≡ spare_in before)
-TakesBack answer before after (Some recorder) has = (registry_in after ≡ registry_in before)
+TakesBack answer before after (Some recorder) has = (grouped_in after ≡ grouped_in before)
     × (((answer ≡ 0) × (has ≡ None) × (spare_in after ≡ spare_in before ++ recorder ∷ [])
-    × (id_in (recorder_in recorder) ≡ (registry_in before).id))
+    × (first_board_of (recorder_in recorder) ≡ first_of (owner_in before)))
     ⊎ ((answer ≡ 16) × (has ≡ Some recorder) × (spare_in after ≡ spare_in before)
-    × ((id_in (recorder_in recorder) ≢ (registry_in before).id) ⊎ (WORKERS ≤ length (spare_in before)))))
+    × ((first_board_of (recorder_in recorder) ≢ first_of (owner_in before)) ⊎ (WORKERS ≤ length (spare_in before)))))
 
--- so many scrapes are kept from now on, the newest ones, and so many are kept now; or the window is none (31), and nothing has changed
-abbrev pub SetsWindow : (window answer : ℕ) → (before after : RegistryView (SharedScanner WORKERS COUNTERS HISTOGRAMS GAUGES))
-    → (had has : ℕ) → Type 0
-SetsWindow window answer before after had has = (IsWindow window × (answer ≡ 0)
-    × (after ≡ record before { window = window; journal = within window before.journal }) × (has ≡ length (scrapes after.journal)))
-    ⊎ (¬ (IsWindow window) × (answer ≡ 31) × (after ≡ before) × (has ≡ had))
+-- each board keeps so many scrapes from now on, the newest ones, and so does each that comes; or the window is none (31), and nothing has changed
+abbrev pub SetsWindow : (window answer : ℕ) → (before after : Owner) → Type 0
+SetsWindow window answer before after = (IsWindow window × (answer ≡ 0) × KeepsFromNow window before after)
+    ⊎ (¬ (IsWindow window) × (answer ≡ 31) × IsUnchanged before after)
 
--- one scrape of a registry, and its answer
-abbrev pub ScrapesBy : (before after : RegistryView (SharedScanner WORKERS COUNTERS HISTOGRAMS GAUGES)) → Result Scraped NoScrape → Type 0
-ScrapesBy = Scrapes WORKERS COUNTERS HISTOGRAMS GAUGES recorded_in quit_in gave_in gave_up_in
-
--- one scrape of the registry that a handle holds, and its answer
+-- one scrape of the page that a handle holds, and its answer
 abbrev pub scrapes_by : (before after : HeldRegistry) → Result Scraped NoScrape → Type 0
-scrapes_by before after answer = ScrapesBy (registry_in before) (registry_in after) answer × (spare_in after ≡ spare_in before)
+scrapes_by before after answer = ScrapesByCrew (owner_in before) (owner_in after) answer × (spare_in after ≡ spare_in before)
 
--- the same, asked for up to three times more where a scan was given up
-abbrev pub asks_by : (before after : HeldRegistry) → Result Scraped NoScrape → Type 0
-asks_by = AsksAgain scrapes_by 3
+-- the page, whose next families are of this group
+abbrev pub in_group : (group : ℕ) → Grouped → Grouped
+in_group group page = record page { group = group }
 
 -- what is done and answered where a metric without labels is asked for
-abbrev pub AsksMetricAt : (before after : RegistryView (SharedScanner WORKERS COUNTERS HISTOGRAMS GAUGES)) → Descriptor
-    → Result Handle MetricRefusal → Type 0
-AsksMetricAt = AsksMetric (λ registry. registry.id) (RegistersAlone WORKERS COUNTERS HISTOGRAMS GAUGES)
-    (GivesAlone COUNTERS HISTOGRAMS GAUGES)
+abbrev pub AsksMetricAt : (before after : Grouped) → Descriptor → Result Handle MetricRefusal → Type 0
+AsksMetricAt = AsksMetric (λ page. first_of page.crew) RegistersOnPage GivesOnPage
 
-module _ {A : Type 0} (handle_of : A → Handle) (answer : ℕ)
-    (before after : RegistryView (SharedScanner WORKERS COUNTERS HISTOGRAMS GAUGES)) (had has : A) where
-  -- A metric without labels was asked for, of this descriptor: this was done, and the answer is 0, or the number of its refusal, and then
-  -- what C has is as it was. No refusal's number is 0
+module _ {A : Type 0} (handle_of : A → Handle) (answer : ℕ) (before after : Grouped) (had has : A) where
+  -- A metric without labels was asked for, of this descriptor, in the group 0: this was done, and the answer is 0, or the number of its refusal,
+  -- and then what C has is as it was. No refusal's number is 0
   pub record MakesMetric (desc : Descriptor) : Type 0 where
     pub made : Result Handle MetricRefusal
-    pub asks : AsksMetricAt before after desc made
+    pub asks : AsksMetricAt (in_group 0 before) after desc made
     pub answer_is : answer ≡ answer_of metric_refusal_number made
     pub told : IfOk made (λ handle. handle ≡ handle_of has)
     pub kept : OnErr made (has ≡ had)
@@ -165,42 +130,39 @@ module _ {A : Type 0} (handle_of : A → Handle) (answer : ℕ)
       ⊎ (IsUtf8 name × IsUtf8 help × MakesMetric desc)
 
 -- what is done and answered where a family is asked for
-abbrev pub AsksFamilyAt : (before after : RegistryView (SharedScanner WORKERS COUNTERS HISTOGRAMS GAUGES)) → Descriptor
-    → Result FamilyId FamilyRefusal → Type 0
-AsksFamilyAt = AsksFamily (RegistersAlone WORKERS COUNTERS HISTOGRAMS GAUGES)
+abbrev pub AsksFamilyAt : (before after : Grouped) → Descriptor → Result FamilyId FamilyRefusal → Type 0
+AsksFamilyAt = AsksFamily RegistersOnPage
 
 -- what is done and answered where a child is asked for
-abbrev pub AsksChildAt : (before after : RegistryView (SharedScanner WORKERS COUNTERS HISTOGRAMS GAUGES)) → (registry : ℕ)
-    → FamilyId → (values : List (List ℕ)) → Kind → Result Handle ChildRefusal → Type 0
-AsksChildAt = AsksChild (λ registry. registry.id) (GivesAlone COUNTERS HISTOGRAMS GAUGES)
+abbrev pub AsksChildAt : (before after : Grouped) → (registry : ℕ) → FamilyId → (values : List (List ℕ)) → Kind → Result Handle ChildRefusal
+    → Type 0
+AsksChildAt = AsksChild (λ page. first_of page.crew) GivesOnPage
 
-module _ {A : Type 0} (answer : ℕ) (before after : RegistryView (SharedScanner WORKERS COUNTERS HISTOGRAMS GAUGES)) (had has : A) where
+module _ {A : Type 0} (answer : ℕ) (before after : Grouped) (had has : A) where
   -- there was no memory for the list of texts, or one of them is not UTF-8, and nothing has changed
   abbrev pub IsNoList : (texts : List (List ℕ)) → Type 0
   IsNoList texts = ((answer ≡ 6) ⊎ ((answer ≡ 36) × ¬ (All IsUtf8 texts))) × (after ≡ before) × (has ≡ had)
 
-  -- A family was asked for, of this descriptor: this was done, and the answer is 0, or the number of its refusal, and then what C has is as
-  -- it was. No refusal's number is 0
-  pub record MakesFamily (id_of : A → FamilyId) (registry_of : A → ℕ) (desc : Descriptor) : Type 0 where
+  -- A family was asked for, of this descriptor, in this group: this was done, and the answer is 0, or the number of its refusal, and then what
+  -- C has is as it was. No refusal's number is 0
+  pub record MakesFamily (group : ℕ) (id_of : A → FamilyId) (registry_of : A → ℕ) (desc : Descriptor) : Type 0 where
     pub made : Result FamilyId FamilyRefusal
-    pub asks : AsksFamilyAt before after desc made
+    pub asks : AsksFamilyAt (in_group group before) after desc made
     pub answer_is : answer ≡ answer_of family_refusal_number made
-    pub told : IfOk made (λ id. (id_of has ≡ id) × (registry_of has ≡ after.id))
+    pub told : IfOk made (λ id. (id_of has ≡ id) × (registry_of has ≡ first_of after.crew))
     pub kept : OnErr made (has ≡ had)
 
   -- the same, by bytes; where some are not UTF-8 that is refused by 36, and nothing has changed
-  abbrev pub MakesFamilyBy : (id_of : A → FamilyId) (registry_of : A → ℕ) → (name help : List ℕ) (labels : List (List ℕ)) → Descriptor → Type 0
-  MakesFamilyBy id_of registry_of name help labels desc =
+  abbrev pub MakesFamilyBy : (group : ℕ) (id_of : A → FamilyId) (registry_of : A → ℕ) → (name help : List ℕ) (labels : List (List ℕ))
+      → Descriptor → Type 0
+  MakesFamilyBy group id_of registry_of name help labels desc =
       ((¬ (IsUtf8 name) ⊎ ¬ (IsUtf8 help)) × (answer ≡ 36) × (after ≡ before) × (has ≡ had))
       ⊎ ((IsUtf8 name × IsUtf8 help × IsNoList labels)
-      ⊎ (IsUtf8 name × IsUtf8 help × All IsUtf8 labels × MakesFamily id_of registry_of desc))
+      ⊎ (IsUtf8 name × IsUtf8 help × All IsUtf8 labels × MakesFamily group id_of registry_of desc))
 
-  -- this was made, of at most 9 digits and in group 0; or a group was asked for, which there are none of yet (42), or else more digits (43),
-  -- and nothing has changed
-  abbrev pub MakesShifted : (digits group : ℕ) → (made : Type 0) → Type 0
-  MakesShifted digits group made = ((group ≡ 0) × (digits ≤ 9) × made)
-      ⊎ ((group ≢ 0) × (answer ≡ 42) × (after ≡ before) × (has ≡ had))
-      ⊎ ((group ≡ 0) × (9 < digits) × (answer ≡ 43) × (after ≡ before) × (has ≡ had))
+  -- this was made, of at most 9 digits; or more were asked for (43), and nothing has changed
+  abbrev pub MakesShifted : (digits : ℕ) → (made : Type 0) → Type 0
+  MakesShifted digits made = ((digits ≤ 9) × made) ⊎ ((9 < digits) × (answer ≡ 43) × (after ≡ before) × (has ≡ had))
 
   -- A child of a family was asked for, by these label values: this was done, and the answer is 0, or the number of its refusal, and then what C
   -- has is as it was. No refusal's number is 0
@@ -225,8 +187,8 @@ module _ (answer : ℕ) (before after : HeldRegistry) (had has : List ℕ) (had_
   -- the text of a scrape that the registry gave was handed over; or there is no scrape or no memory for its text, and the buffer and the length
   -- are as they were
   abbrev pub PrintsTo : Type 0
-  PrintsTo = ((bytes : List ℕ) × IsText scrapes_by 3 before after bytes × IsHandedOver bytes answer had has has_len)
-      ⊎ ((fault : TextFault) × (answer ≡ text_fault_number fault) × IsTextFault scrapes_by 3 before after fault × (has ≡ had)
+  PrintsTo = ((bytes : List ℕ) × IsText scrapes_by 0 before after bytes × IsHandedOver bytes answer had has has_len)
+      ⊎ ((fault : TextFault) × (answer ≡ text_fault_number fault) × IsTextFault scrapes_by 0 before after fault × (has ≡ had)
       × (has_len ≡ had_len))
 
 -- what became of a reply that was written whole, or why there is none: then the buffer and the length are as they were
@@ -245,7 +207,7 @@ module _ (request : List ℕ) (answer : ℕ) (before after : HeldRegistry) (had 
     pub latest : ℕ
     pub served : Result Served WireFault
     pub is_served : failed ≡ false
-        → IsServed asks_by before after (Some request) (Some rest) (Some []) (Some bytes) ended latest served
+        → IsServed scrapes_by before after (Some request) (Some rest) (Some []) (Some bytes) ended latest served
     pub is_unserved : failed ≡ true → IsUnserved before after (Some []) (Some bytes)
     pub failed_is : failed ≡ is_read_failed served
     pub replied : IsReplied bytes answer had has had_len has_len served

@@ -1,15 +1,18 @@
 -- Exact totals of the recorders that nobody has.
-use Rattle.std.specs.Prelude.{◌≡◌, ◌⊎◌, ℕ, ◌<◌, List, map, length}
+use Rattle.std.specs.Prelude.{◌≡◌, ◌⊎◌, ℕ, ◌<◌, ◌≤◌, List, [], ◌∷◌, ◌++◌, map, flat_map, length, slice_get, Option, Some, None, IsSomeAnd, All}
 use mathlib.Core.Option.{some}
 use lib.ListN.{get_elem?}
 use Rattle.chain_law.specs.Settled.{HasIndex, IsMissing, IsSettled, made_all}
 use Rattle.ledger_core.specs.Ops.{width, sum_ops}
+use Rattle.page_crew.specs.Held.{recorders_of}
+use Rattle.page_crew.specs.Shared.{worker_in}
+use Rattle.page_crew.specs.declared.shared_recorder.SharedRecorder.{SharedRecorder}
 use Rattle.snapshot_scan.specs.Snapshots.{Taken, as_answer}
 use Rattle.snapshot_update.specs.Workers.{index_of, lists_of}
 use Rattle.snapshot_update.specs.declared.worker.Worker.{Worker}
-use Rattle.dirgwako_c.specs.Numbers.{numbers_of}
-use Rattle.dirgwako_c.specs.Recorders.{worker_in}
-use Rattle.dirgwako_c.specs.Registries.{IsHandedOver, recorder_in, registry_in, spare_in}
+use Rattle.dirgwako_c.specs.Numbers.{Board, HasNoBoard, numbers_of}
+use Rattle.dirgwako_c.specs.Recorders.{IsSamePage}
+use Rattle.dirgwako_c.specs.Registries.{IsHandedOver, recorder_in, grouped_in, page_in, spare_in}
 use Rattle.dirgwako_c.specs.declared.geometry.TheConstants.{WORKERS, COUNTERS, HISTOGRAMS, GAUGES}
 use Rattle.dirgwako_c.specs.declared.held.HeldRecorder.{HeldRecorder}
 use Rattle.dirgwako_c.specs.declared.held.HeldRegistry.{HeldRegistry}
@@ -20,13 +23,45 @@ use Rattle.dirgwako_c.specs.declared.settling.Apart.TheVariants.{Missing, Twice}
 abbrev pub OneWorker : Type 0
 OneWorker = Worker WORKERS COUNTERS HISTOGRAMS GAUGES
 
--- the workers of these recorders, in order
-abbrev pub workers_of : List HeldRecorder → List OneWorker
-workers_of recorders = map (λ recorder. worker_in (recorder_in recorder)) recorders
+-- what a recorder counts with on one board
+abbrev pub OneSeat : Type 0
+OneSeat = SharedRecorder WORKERS COUNTERS HISTOGRAMS GAUGES
 
--- what all that these recorders have published adds to the word k of a row
-abbrev pub published_in : List HeldRecorder → (k : ℕ) → ℕ
-published_in recorders k = sum_ops COUNTERS HISTOGRAMS (made_all (workers_of recorders)) k
+-- it, where it is there
+abbrev pub alone : Option OneSeat → List OneSeat
+alone None = []
+alone (Some seat) = seat ∷ []
+
+-- what these recorders count with on the board of this number, in order, where they know it
+abbrev pub seats_on : (board : ℕ) → List HeldRecorder → List OneSeat
+seats_on board recorders = flat_map (λ (r : HeldRecorder). alone (slice_get (recorders_of (recorder_in r)) board)) recorders
+
+-- a recorder knows the board of this number
+abbrev pub Knows : (board : ℕ) → HeldRecorder → Type 0
+Knows board r = board < length (recorders_of (recorder_in r))
+
+-- one of these does not
+abbrev pub HasStranger : (board : ℕ) → List HeldRecorder → Type 0
+HasStranger board recorders = (place : ℕ) × (r : HeldRecorder) × (slice_get recorders place ≡ Some r)
+    × (length (recorders_of (recorder_in r)) ≤ board)
+
+-- the recorder is of the same page, and has met boards that came, or none
+abbrev pub HasMet : (before after : HeldRecorder) → Type 0
+HasMet before after = IsSamePage (recorder_in before) (recorder_in after)
+    × ((came : List OneSeat) × (recorders_of (recorder_in after) ≡ recorders_of (recorder_in before) ++ came))
+
+-- each of these has, and nothing else has changed
+pub record HaveMet (before after : List HeldRecorder) : Type 0 where
+  pub many : length after ≡ length before
+  pub each : (k : ℕ) (a b : HeldRecorder) → slice_get before k ≡ Some a → slice_get after k ≡ Some b → HasMet a b
+
+-- their workers, in order
+abbrev pub workers_of : List OneSeat → List OneWorker
+workers_of seats = map worker_in seats
+
+-- what all that these have published adds to the word k of a row
+abbrev pub published_in : List OneSeat → (k : ℕ) → ℕ
+published_in seats k = sum_ops COUNTERS HISTOGRAMS (made_all (workers_of seats)) k
 
 -- no two of them are one worker of a board
 abbrev pub AreOnce : List OneWorker → Type 0
@@ -61,13 +96,26 @@ pub record AreExact (workers : List OneWorker) (taken : Taken) : Type 0 where
   pub wide : length taken.totals ≡ width COUNTERS HISTOGRAMS GAUGES
   pub settled : IsSettled workers taken
 
--- What is held is as it was. The numbers of all that the spare recorders have published were handed over, as those of a moment, and they are
--- the recorders of all workers; or each is there once at most, and worker `missing` is the least whose recorder is not (18), or two are of one
--- worker (16), and the rest is as it was
-abbrev pub Settles : (answer : ℕ) → (before after : HeldRegistry) → (had has : List ℕ) → (had_len has_len had_missing has_missing : ℕ) → Type 0
-Settles answer before after had has had_len has_len had_missing has_missing = (registry_in after ≡ registry_in before)
-    × (spare_in after ≡ spare_in before)
-    × (((taken : Taken) × AreExact (workers_of (spare_in before)) taken
-    × IsHandedOver (numbers_of (registry_in before).id (as_answer taken)) answer had has has_len × (has_missing ≡ had_missing))
-    ⊎ (((answer ≡ 18) × AreOnce (workers_of (spare_in before)) × IsMissing (workers_of (spare_in before)) has_missing × (has ≡ had) × (has_len ≡ had_len))
-    ⊎ ((answer ≡ 16) × IsTwice (workers_of (spare_in before)) × (has ≡ had) × (has_len ≡ had_len) × (has_missing ≡ had_missing))))
+-- The numbers of all that these recorders have published on the board of this number were handed over, as those of a moment of it, and they are
+-- the recorders of all workers. Or each is there once at most, and worker `missing` is the least whose recorder is not (18); or two are of one
+-- worker, or one knows no board of this number (16): then the rest is as it was
+abbrev pub SettlesBoard : (number : ℕ) → Board → List HeldRecorder → (answer : ℕ) → (had has : List ℕ)
+    → (had_len has_len had_missing has_missing : ℕ) → Type 0
+SettlesBoard number board spare answer had has had_len has_len had_missing has_missing =
+    (All (Knows number) spare × ((taken : Taken) × AreExact (workers_of (seats_on number spare)) taken
+    × IsHandedOver (numbers_of board.id (as_answer taken)) answer had has has_len × (has_missing ≡ had_missing)))
+    ⊎ ((All (Knows number) spare × (answer ≡ 18) × AreOnce (workers_of (seats_on number spare))
+    × IsMissing (workers_of (seats_on number spare)) has_missing × (has ≡ had) × (has_len ≡ had_len))
+    ⊎ ((answer ≡ 16) × (IsTwice (workers_of (seats_on number spare)) ⊎ HasStranger number spare) × (has ≡ had) × (has_len ≡ had_len)
+    × (has_missing ≡ had_missing)))
+
+-- the page is as it was, each spare recorder has met boards that came, and the board of this number was settled; or no board has it, and nothing
+-- has changed
+abbrev pub Settles : (number answer : ℕ) → (before after : HeldRegistry) → (had has : List ℕ)
+    → (had_len has_len had_missing has_missing : ℕ) → Type 0
+Settles number answer before after had has had_len has_len had_missing has_missing =
+    ((grouped_in after ≡ grouped_in before) × HaveMet (spare_in before) (spare_in after)
+    × IsSomeAnd (slice_get (page_in before).boards number) (λ (board : Board).
+    SettlesBoard number board (spare_in after) answer had has had_len has_len had_missing has_missing))
+    ⊎ (HasNoBoard number answer before after × (spare_in after ≡ spare_in before) × (has ≡ had) × (has_len ≡ had_len)
+    × (has_missing ≡ had_missing))

@@ -1,8 +1,9 @@
-//! What C calls to have a board, and what its threads count with.
+//! What C calls to have a page of boards, and what its threads count with.
 ghost use Rattle.std.specs.Prelude.{◌≡◌, ◌≢◌, ◌⊎◌, ◌≤◌, [], ◌∷◌, ◌++◌, length, IfErr, OnOk, OnErr};
-ghost use Rattle.dirgwako_c.specs.Recorders.{id_in};
+ghost use Rattle.page_crew.specs.Held.{first_of as first_board_of};
+ghost use Rattle.page_crew.specs.Owned.{first_of};
 ghost use Rattle.dirgwako_c.specs.Held.{Calls, Frees};
-ghost use Rattle.dirgwako_c.specs.Registries.{registry_in, recorder_in, spare_in, Opens, HandsOut, TakesBack};
+ghost use Rattle.dirgwako_c.specs.Registries.{grouped_in, owner_in, recorder_in, spare_in, Opens, HandsOut, TakesBack};
 
 use crate::geometry::WORKERS;
 use crate::held::{HeldRecorder, HeldRegistry};
@@ -11,15 +12,16 @@ use crate::recorder_handle::RecorderHandle;
 use crate::registry_handle::RegistryHandle;
 use std::alloc::Global;
 
-/// A new board of this id and its registry, which keeps `window` scrapes, into a registry's handle. What the handle held is freed. Boards of one
-/// program have different ids: `dirgwako_registry_new` of the header gives each its own.
+/// A new registry of this id, over a page of one board, which keeps `window` scrapes of each board, into a registry's handle. What the handle held
+/// is freed. Registries of one program have different ids: `dirgwako_registry_new` of the header gives each its own. Its boards have the ids from
+/// 128 times its id on.
 ///
 /// Answers 31, unless `window` is 1 to 1,024; then 6, out of memory, and 13, the library was built for numbers out of range.
 #[unsafe(no_mangle)]
 pub extern "C" fn dirgwako_c_registry_new(
     alloc: Global,
     registry: &mut RegistryHandle,
-    id: u64,
+    id: u32,
     window: usize,
 ) -> u32
     ensures { Opens id window result registry.old.value registry.new.value }
@@ -36,7 +38,7 @@ pub extern "C" fn dirgwako_c_registry_new(
     }
 }
 
-/// Frees a registry, and the recorders that nobody has. The board is freed with the last recorder of it.
+/// Frees a registry, and the recorders that nobody has. The boards are freed with the last recorder of them.
 ///
 /// Answers 34, the handle is empty.
 #[unsafe(no_mangle)]
@@ -78,14 +80,14 @@ pub extern "C" fn dirgwako_c_recorder_take(
 
 /// Takes a recorder back, or hands it back in its box.
 fn take_back(registry: &mut HeldRegistry, given: Box<HeldRecorder>) -> Result<(), Box<HeldRecorder>>
-    ensures registry { registry_in registry.new ≡ registry_in registry.old }
-    ensures taken { OnOk result ((id_in (recorder_in given.value) ≡ (registry_in registry.old).id)
+    ensures page { grouped_in registry.new ≡ grouped_in registry.old }
+    ensures taken { OnOk result ((first_board_of (recorder_in given.value) ≡ first_of (owner_in registry.old))
         × (spare_in registry.new ≡ spare_in registry.old ++ given.value ∷ [])) }
     ensures back { IfErr result (λ back. back ≡ given) }
     ensures refused { OnErr result ((spare_in registry.new ≡ spare_in registry.old)
-        × ((id_in (recorder_in given.value) ≢ (registry_in registry.old).id) ⊎ (WORKERS ≤ length (spare_in registry.old)))) }
+        × ((first_board_of (recorder_in given.value) ≢ first_of (owner_in registry.old)) ⊎ (WORKERS ≤ length (spare_in registry.old)))) }
 {
-    if given.recorder.id() != registry.registrar.at.id() {
+    if given.recorder.first() != registry.registrar.at.crew.first() {
         return Err(given);
     }
     registry.spare.put(given)

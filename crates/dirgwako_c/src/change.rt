@@ -8,7 +8,7 @@ use ledger_core::Op;
 #[repr(C)]
 #[derive(Clone, Copy)]
 pub struct Change {
-    /// The id in the handle.
+    /// The id in the handle, which is that of its board.
     pub registry: u64,
     /// 0 a counter rises, 1 a value of a histogram is counted, 2 a gauge rises, 3 a gauge falls.
     pub kind: u64,
@@ -48,11 +48,11 @@ impl Change {
     }
 }
 
-/// The operations of these changes, at the front of a list that has room for them, if each is by a handle of this registry, and of a kind.
+/// The operations of these changes, at the front of a list that has room for them, if each is by a handle of the board of this id, and of a kind.
 ///
 /// # Errors
 ///
-/// 16 and 39.
+/// 47 and 39.
 pub(crate) fn list_ops(list: &mut [Op], registry: u64, changes: &[Change]) -> Result<(), u32>
     requires few { length changes.now ≤ length list.old }
     ensures room { length list.new ≡ length list.old }
@@ -62,7 +62,7 @@ pub(crate) fn list_ops(list: &mut [Op], registry: u64, changes: &[Change]) -> Re
 {
     for place in 0..changes.len() {
         if changes[place].registry != registry {
-            return Err(16);
+            return Err(47);
         }
         let Some(op) = changes[place].op() else {
             return Err(39);

@@ -12,7 +12,7 @@ use snapshot_update::CountFault;
 use std::alloc::Global;
 
 /// 0, or the number of a refusal.
-fn answer(done: Result<(), CountFault>) -> u32
+pub(crate) fn answer(done: Result<(), CountFault>) -> u32
     ensures { result ≡ answer_of count_fault_number done }
 {
     match done {
@@ -23,7 +23,7 @@ fn answer(done: Result<(), CountFault>) -> u32
 
 /// Adds `by` to a counter: one version.
 ///
-/// Answers 34, the handle is empty; 16, 15, 11, 12 as [`dirgwako::Recorder::inc`].
+/// Answers 34, the handle is empty; 16, 15, 11, 12 as [`dirgwako::PageRecorder::inc`].
 #[unsafe(no_mangle)]
 pub extern "C" fn dirgwako_c_inc(
     alloc: Global,
@@ -44,7 +44,7 @@ pub extern "C" fn dirgwako_c_inc(
 
 /// Counts a value of a histogram: its bucket, the sum and the count rise in one version.
 ///
-/// Answers 34, the handle is empty; 16, 15, 11, 12 as [`dirgwako::Recorder::observe`].
+/// Answers 34, the handle is empty; 16, 15, 11, 12 as [`dirgwako::PageRecorder::observe`].
 #[unsafe(no_mangle)]
 pub extern "C" fn dirgwako_c_observe(
     alloc: Global,
@@ -66,7 +66,7 @@ pub extern "C" fn dirgwako_c_observe(
 
 /// Raises a gauge by `by`: one version.
 ///
-/// Answers 34, the handle is empty; 16, 15, 11, 12 as [`dirgwako::Recorder::up`].
+/// Answers 34, the handle is empty; 16, 15, 11, 12 as [`dirgwako::PageRecorder::up`].
 #[unsafe(no_mangle)]
 pub extern "C" fn dirgwako_c_up(
     alloc: Global,
@@ -87,7 +87,7 @@ pub extern "C" fn dirgwako_c_up(
 
 /// Lowers a gauge by `by`: one version.
 ///
-/// Answers 34, the handle is empty; 16, 15, 11, 12 as [`dirgwako::Recorder::down`].
+/// Answers 34, the handle is empty; 16, 15, 11, 12 as [`dirgwako::PageRecorder::down`].
 #[unsafe(no_mangle)]
 pub extern "C" fn dirgwako_c_down(
     alloc: Global,

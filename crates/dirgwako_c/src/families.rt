@@ -5,9 +5,9 @@ ghost use Rattle.dirgwako.specs.Texts.{texts_of};
 ghost use Rattle.metric_desc.specs.declared.kind.Kind.TheVariants as Kinds;
 ghost use Rattle.registry_state.specs.declared.handle.Handle.TheVariants as Handles;
 ghost use Rattle.dirgwako_c.specs.Held.{Calls};
-ghost use Rattle.dirgwako_c.specs.Registries.{registry_in, spare_in, MakesFamilyBy, MakesShifted, GivesChildBy};
+ghost use Rattle.dirgwako_c.specs.Registries.{grouped_in, spare_in, MakesFamilyBy, MakesShifted, GivesChildBy};
 
-use crate::held::SharedRegistry;
+use crate::held::Grouped;
 use crate::registry_handle::RegistryHandle;
 use crate::texts::{text, texts};
 use dirgwako::{CounterFamily, GaugeFamily, HistogramFamily, Registrar};
@@ -17,14 +17,15 @@ use std::alloc::Global;
 /// A family of counters of a registry.
 fn counter_family_in(
     alloc: Global,
-    registrar: &mut Registrar<SharedRegistry>,
+    registrar: &mut Registrar<Grouped>,
     name: &[u8],
     help: &[u8],
     labels: &[&[u8]],
     digits: u8,
+    group: u64,
     family: &mut CounterFamily,
 ) -> u32
-    ensures { MakesFamilyBy result registrar.old.at registrar.new.at family.old family.new (λ family. family.id)
+    ensures { MakesFamilyBy result registrar.old.at registrar.new.at family.old family.new group (λ family. family.id)
         (λ family. family.registry) name.now help.now (texts_of labels.now)
         (shifted_family_of Kinds.Counter name.now help.now labels.now [] digits) }
 {
@@ -35,6 +36,7 @@ fn counter_family_in(
         Ok(labels) => labels,
         Err(answer) => return answer,
     };
+    registrar.at.group = group;
     match registrar.counter_family_shifted(name, help, &labels, digits) {
         Ok(made) => {
             *family = made;
@@ -46,7 +48,7 @@ fn counter_family_in(
 
 /// A family of counters with labels.
 ///
-/// Answers 34, the handle is empty; 42, `group` is not 0; 43, `digits` is over 9; 36, a text is not UTF-8; 1 to 5, 9, 7 of the texts; 19,
+/// Answers 34, the handle is empty; 43, `digits` is over 9; 36, a text is not UTF-8; 1 to 5, 9, 7 of the texts; 19,
 /// 23, 6 as [`dirgwako::Registrar::counter_family`]. Nothing has changed then.
 #[unsafe(no_mangle)]
 pub extern "C" fn dirgwako_c_counter_family_new(
@@ -60,17 +62,15 @@ pub extern "C" fn dirgwako_c_counter_family_new(
     family: &mut CounterFamily,
 ) -> u32
     ensures { Calls (family.new ≡ family.old) (λ before after. (spare_in after ≡ spare_in before)
-        × MakesShifted result (registry_in before) (registry_in after) family.old family.new digits group
-        (MakesFamilyBy result (registry_in before) (registry_in after) family.old family.new (λ family. family.id)
+        × MakesShifted result (grouped_in before) (grouped_in after) family.old family.new digits
+        (MakesFamilyBy result (grouped_in before) (grouped_in after) family.old family.new group (λ family. family.id)
         (λ family. family.registry) name.now help.now (texts_of labels.now)
         (shifted_family_of Kinds.Counter name.now help.now labels.now [] digits))) result registry.old.value registry.new.value }
 {
     let Some(mut held) = registry.take(alloc) else {
         return 34;
     };
-    let answer = if group != 0 {
-        42
-    } else if digits > 9 {
+    let answer = if digits > 9 {
         43
     } else {
         counter_family_in(
@@ -80,6 +80,7 @@ pub extern "C" fn dirgwako_c_counter_family_new(
             help,
             labels,
             digits as u8,
+            group as u64,
             family,
         )
     };
@@ -88,10 +89,9 @@ pub extern "C" fn dirgwako_c_counter_family_new(
 }
 
 /// The counter of these label values, which is made where there is none.
-#[tactic(auto, using(crate::proofs::Made::child_given, crate::proofs::Made::child_refused))]
 fn counter_of_in(
     alloc: Global,
-    registrar: &mut Registrar<SharedRegistry>,
+    registrar: &mut Registrar<Grouped>,
     family: &CounterFamily,
     values: &[&[u8]],
     counter: &mut Counter,
@@ -114,7 +114,7 @@ fn counter_of_in(
 
 /// The counter of these label values, which is made where there is none.
 ///
-/// Answers 34, the handle is empty; 36, a text is not UTF-8; 20, the family is of another registry; 3 of a value; 21, 22, 6, 28 as
+/// Answers 34, the handle is empty; 36, a text is not UTF-8; 20, the family is of another registry; 3 of a value; 21, 46, 22, 6, 28 as
 /// [`dirgwako::Registrar::counter_of`]. What C has is as it was then, and nothing else has
 /// changed, unless by 28, which two registries of one id alone bring about, the child was made.
 #[unsafe(no_mangle)]
@@ -126,7 +126,7 @@ pub extern "C" fn dirgwako_c_counter_of(
     counter: &mut Counter,
 ) -> u32
     ensures { Calls (counter.new ≡ counter.old) (λ before after. (spare_in after ≡ spare_in before)
-        × GivesChildBy result (registry_in before) (registry_in after)
+        × GivesChildBy result (grouped_in before) (grouped_in after)
         counter.old counter.new Handles.Counter family.now.registry family.now.id (texts_of values.now) Kinds.Counter) result
         registry.old.value registry.new.value }
 {
@@ -141,14 +141,15 @@ pub extern "C" fn dirgwako_c_counter_of(
 /// A family of gauges of a registry.
 fn gauge_family_in(
     alloc: Global,
-    registrar: &mut Registrar<SharedRegistry>,
+    registrar: &mut Registrar<Grouped>,
     name: &[u8],
     help: &[u8],
     labels: &[&[u8]],
     digits: u8,
+    group: u64,
     family: &mut GaugeFamily,
 ) -> u32
-    ensures { MakesFamilyBy result registrar.old.at registrar.new.at family.old family.new (λ family. family.id)
+    ensures { MakesFamilyBy result registrar.old.at registrar.new.at family.old family.new group (λ family. family.id)
         (λ family. family.registry) name.now help.now (texts_of labels.now)
         (shifted_family_of Kinds.Gauge name.now help.now labels.now [] digits) }
 {
@@ -159,6 +160,7 @@ fn gauge_family_in(
         Ok(labels) => labels,
         Err(answer) => return answer,
     };
+    registrar.at.group = group;
     match registrar.gauge_family_shifted(name, help, &labels, digits) {
         Ok(made) => {
             *family = made;
@@ -170,7 +172,7 @@ fn gauge_family_in(
 
 /// A family of gauges with labels.
 ///
-/// Answers 34, the handle is empty; 42, `group` is not 0; 43, `digits` is over 9; 36, a text is not UTF-8; 1 to 5, 9, 7 of the texts; 19,
+/// Answers 34, the handle is empty; 43, `digits` is over 9; 36, a text is not UTF-8; 1 to 5, 9, 7 of the texts; 19,
 /// 23, 6 as [`dirgwako::Registrar::gauge_family`]. Nothing has changed then.
 #[unsafe(no_mangle)]
 pub extern "C" fn dirgwako_c_gauge_family_new(
@@ -184,17 +186,15 @@ pub extern "C" fn dirgwako_c_gauge_family_new(
     family: &mut GaugeFamily,
 ) -> u32
     ensures { Calls (family.new ≡ family.old) (λ before after. (spare_in after ≡ spare_in before)
-        × MakesShifted result (registry_in before) (registry_in after) family.old family.new digits group
-        (MakesFamilyBy result (registry_in before) (registry_in after) family.old family.new (λ family. family.id)
+        × MakesShifted result (grouped_in before) (grouped_in after) family.old family.new digits
+        (MakesFamilyBy result (grouped_in before) (grouped_in after) family.old family.new group (λ family. family.id)
         (λ family. family.registry) name.now help.now (texts_of labels.now)
         (shifted_family_of Kinds.Gauge name.now help.now labels.now [] digits))) result registry.old.value registry.new.value }
 {
     let Some(mut held) = registry.take(alloc) else {
         return 34;
     };
-    let answer = if group != 0 {
-        42
-    } else if digits > 9 {
+    let answer = if digits > 9 {
         43
     } else {
         gauge_family_in(
@@ -204,6 +204,7 @@ pub extern "C" fn dirgwako_c_gauge_family_new(
             help,
             labels,
             digits as u8,
+            group as u64,
             family,
         )
     };
@@ -212,10 +213,9 @@ pub extern "C" fn dirgwako_c_gauge_family_new(
 }
 
 /// The gauge of these label values, which is made where there is none.
-#[tactic(auto, using(crate::proofs::Made::child_given, crate::proofs::Made::child_refused))]
 fn gauge_of_in(
     alloc: Global,
-    registrar: &mut Registrar<SharedRegistry>,
+    registrar: &mut Registrar<Grouped>,
     family: &GaugeFamily,
     values: &[&[u8]],
     gauge: &mut Gauge,
@@ -238,7 +238,7 @@ fn gauge_of_in(
 
 /// The gauge of these label values, which is made where there is none.
 ///
-/// Answers 34, the handle is empty; 36, a text is not UTF-8; 20, the family is of another registry; 3 of a value; 21, 22, 6, 28 as
+/// Answers 34, the handle is empty; 36, a text is not UTF-8; 20, the family is of another registry; 3 of a value; 21, 46, 22, 6, 28 as
 /// [`dirgwako::Registrar::gauge_of`]. What C has is as it was then, and nothing else has
 /// changed, unless by 28, which two registries of one id alone bring about, the child was made.
 #[unsafe(no_mangle)]
@@ -250,7 +250,7 @@ pub extern "C" fn dirgwako_c_gauge_of(
     gauge: &mut Gauge,
 ) -> u32
     ensures { Calls (gauge.new ≡ gauge.old) (λ before after. (spare_in after ≡ spare_in before)
-        × GivesChildBy result (registry_in before) (registry_in after)
+        × GivesChildBy result (grouped_in before) (grouped_in after)
         gauge.old gauge.new Handles.Gauge family.now.registry family.now.id (texts_of values.now) Kinds.Gauge) result
         registry.old.value registry.new.value }
 {
@@ -265,15 +265,16 @@ pub extern "C" fn dirgwako_c_gauge_of(
 /// A family of histograms of a registry with these bounds: at most 24, rising, none over 2^48 - 1.
 fn histogram_family_in(
     alloc: Global,
-    registrar: &mut Registrar<SharedRegistry>,
+    registrar: &mut Registrar<Grouped>,
     name: &[u8],
     help: &[u8],
     labels: &[&[u8]],
     bounds: &[u64],
     digits: u8,
+    group: u64,
     family: &mut HistogramFamily,
 ) -> u32
-    ensures { MakesFamilyBy result registrar.old.at registrar.new.at family.old family.new (λ family. family.id)
+    ensures { MakesFamilyBy result registrar.old.at registrar.new.at family.old family.new group (λ family. family.id)
         (λ family. family.registry) name.now help.now (texts_of labels.now)
         (shifted_family_of Kinds.Histogram name.now help.now labels.now bounds.now digits) }
 {
@@ -284,6 +285,7 @@ fn histogram_family_in(
         Ok(labels) => labels,
         Err(answer) => return answer,
     };
+    registrar.at.group = group;
     match registrar.histogram_family_shifted(name, help, &labels, bounds, digits) {
         Ok(made) => {
             *family = made;
@@ -295,7 +297,7 @@ fn histogram_family_in(
 
 /// A family of histograms with labels with these bounds: at most 24, rising, none over 2^48 - 1.
 ///
-/// Answers 34, the handle is empty; 42, `group` is not 0; 43, `digits` is over 9; 36, a text is not UTF-8; 1 to 5, 9, 7 of the texts; 8, 10 of the bounds; 19, 23, 6 as
+/// Answers 34, the handle is empty; 43, `digits` is over 9; 36, a text is not UTF-8; 1 to 5, 9, 7 of the texts; 8, 10 of the bounds; 19, 23, 6 as
 /// [`dirgwako::Registrar::histogram_family`]. Nothing has changed then.
 #[unsafe(no_mangle)]
 pub extern "C" fn dirgwako_c_histogram_family_new(
@@ -310,17 +312,15 @@ pub extern "C" fn dirgwako_c_histogram_family_new(
     family: &mut HistogramFamily,
 ) -> u32
     ensures { Calls (family.new ≡ family.old) (λ before after. (spare_in after ≡ spare_in before)
-        × MakesShifted result (registry_in before) (registry_in after) family.old family.new digits group
-        (MakesFamilyBy result (registry_in before) (registry_in after) family.old family.new (λ family. family.id)
+        × MakesShifted result (grouped_in before) (grouped_in after) family.old family.new digits
+        (MakesFamilyBy result (grouped_in before) (grouped_in after) family.old family.new group (λ family. family.id)
         (λ family. family.registry) name.now help.now (texts_of labels.now)
         (shifted_family_of Kinds.Histogram name.now help.now labels.now bounds.now digits))) result registry.old.value registry.new.value }
 {
     let Some(mut held) = registry.take(alloc) else {
         return 34;
     };
-    let answer = if group != 0 {
-        42
-    } else if digits > 9 {
+    let answer = if digits > 9 {
         43
     } else {
         histogram_family_in(
@@ -331,6 +331,7 @@ pub extern "C" fn dirgwako_c_histogram_family_new(
             labels,
             bounds,
             digits as u8,
+            group as u64,
             family,
         )
     };
@@ -339,10 +340,9 @@ pub extern "C" fn dirgwako_c_histogram_family_new(
 }
 
 /// The histogram of these label values, which is made where there is none.
-#[tactic(auto, using(crate::proofs::Made::child_given, crate::proofs::Made::child_refused))]
 fn histogram_of_in(
     alloc: Global,
-    registrar: &mut Registrar<SharedRegistry>,
+    registrar: &mut Registrar<Grouped>,
     family: &HistogramFamily,
     values: &[&[u8]],
     histogram: &mut Histogram,
@@ -365,7 +365,7 @@ fn histogram_of_in(
 
 /// The histogram of these label values, which is made where there is none.
 ///
-/// Answers 34, the handle is empty; 36, a text is not UTF-8; 20, the family is of another registry; 3 of a value; 21, 22, 6, 28 as
+/// Answers 34, the handle is empty; 36, a text is not UTF-8; 20, the family is of another registry; 3 of a value; 21, 46, 22, 6, 28 as
 /// [`dirgwako::Registrar::histogram_of`]. What C has is as it was then, and nothing else has
 /// changed, unless by 28, which two registries of one id alone bring about, the child was made.
 #[unsafe(no_mangle)]
@@ -377,7 +377,7 @@ pub extern "C" fn dirgwako_c_histogram_of(
     histogram: &mut Histogram,
 ) -> u32
     ensures { Calls (histogram.new ≡ histogram.old) (λ before after. (spare_in after ≡ spare_in before)
-        × GivesChildBy result (registry_in before) (registry_in after)
+        × GivesChildBy result (grouped_in before) (grouped_in after)
         histogram.old histogram.new Handles.Histogram family.now.registry family.now.id (texts_of values.now) Kinds.Histogram) result
         registry.old.value registry.new.value }
 {

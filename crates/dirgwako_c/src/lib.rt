@@ -1,4 +1,4 @@
-//! Dirgwako for C: a board of one geometry, its registry, and recorders that threads count with.
+//! Dirgwako for C: a page of boards of one geometry, which come when they are needed, and recorders that threads count with on all of them.
 //!
 //! What C holds is a handle of two words, zeros where it holds nothing. A call that needs what an empty handle has not is refused. Each call
 //! answers 0, or the number of a refusal (docs/REFUSALS.md); `dirgwako_c_place` alone a place.
@@ -12,10 +12,12 @@ mod counting;
 mod families;
 mod geometry;
 mod held;
+mod joining;
 mod loose;
 mod metrics;
 mod numbers;
 mod opening;
+mod page_boards;
 mod publishing;
 mod readings;
 mod recorder_handle;
@@ -25,8 +27,6 @@ mod replying;
 mod scraping;
 mod sends;
 mod settling;
-mod shared_recorder;
-mod shared_scanner;
 mod spaced;
 mod spare;
 mod texts;
@@ -47,6 +47,7 @@ pub use metrics::{dirgwako_c_counter_new, dirgwako_c_gauge_new, dirgwako_c_histo
 pub use numbers::{
     HistogramTotals, dirgwako_c_counter_total, dirgwako_c_gauge_value, dirgwako_c_histogram_totals,
 };
+pub use page_boards::{dirgwako_c_board_add, dirgwako_c_board_of, dirgwako_c_boards};
 pub use publishing::{dirgwako_c_place, dirgwako_c_publish};
 pub use readings::{dirgwako_c_kept, dirgwako_c_read, dirgwako_c_read_kept};
 pub use recorder_handle::RecorderHandle;

@@ -4,9 +4,9 @@ ghost use Rattle.dirgwako.specs.Registering.{family_of};
 ghost use Rattle.metric_desc.specs.declared.kind.Kind.TheVariants as Kinds;
 ghost use Rattle.registry_state.specs.declared.handle.Handle.TheVariants as Handles;
 ghost use Rattle.dirgwako_c.specs.Held.{Calls};
-ghost use Rattle.dirgwako_c.specs.Registries.{registry_in, spare_in, MakesNamed};
+ghost use Rattle.dirgwako_c.specs.Registries.{grouped_in, spare_in, MakesNamed};
 
-use crate::held::SharedRegistry;
+use crate::held::Grouped;
 use crate::registry_handle::RegistryHandle;
 use crate::texts::text;
 use dirgwako::Registrar;
@@ -15,7 +15,7 @@ use std::alloc::Global;
 
 /// A counter without labels of a registry.
 fn counter_in(
-    registrar: &mut Registrar<SharedRegistry>,
+    registrar: &mut Registrar<Grouped>,
     name: &[u8],
     help: &[u8],
     counter: &mut Counter,
@@ -26,6 +26,7 @@ fn counter_in(
     let (Some(name), Some(help)) = (text(name), text(help)) else {
         return 36;
     };
+    registrar.at.group = 0;
     match registrar.counter(name, help) {
         Ok(made) => {
             *counter = made;
@@ -35,7 +36,7 @@ fn counter_in(
     }
 }
 
-/// A counter without labels: its family is registered, and its one child made.
+/// A counter without labels: its family is registered in the group 0, and its one child made.
 ///
 /// Answers 34, the handle is empty; 36, a text is not UTF-8; 1, 2, 3, 5 of the name or the help; 19, 23, 22, 6 as
 /// [`dirgwako::Registrar::counter`]. What C has is as it was then.
@@ -48,7 +49,7 @@ pub extern "C" fn dirgwako_c_counter_new(
     counter: &mut Counter,
 ) -> u32
     ensures { Calls (counter.new ≡ counter.old) (λ before after. (spare_in after ≡ spare_in before)
-        × MakesNamed Handles.Counter result (registry_in before) (registry_in after)
+        × MakesNamed Handles.Counter result (grouped_in before) (grouped_in after)
         counter.old counter.new name.now help.now (family_of Kinds.Counter name.now help.now [] [])) result
         registry.old.value registry.new.value }
 {
@@ -61,18 +62,14 @@ pub extern "C" fn dirgwako_c_counter_new(
 }
 
 /// A gauge without labels of a registry.
-fn gauge_in(
-    registrar: &mut Registrar<SharedRegistry>,
-    name: &[u8],
-    help: &[u8],
-    gauge: &mut Gauge,
-) -> u32
+fn gauge_in(registrar: &mut Registrar<Grouped>, name: &[u8], help: &[u8], gauge: &mut Gauge) -> u32
     ensures { MakesNamed Handles.Gauge result registrar.old.at registrar.new.at gauge.old gauge.new name.now help.now
         (family_of Kinds.Gauge name.now help.now [] []) }
 {
     let (Some(name), Some(help)) = (text(name), text(help)) else {
         return 36;
     };
+    registrar.at.group = 0;
     match registrar.gauge(name, help) {
         Ok(made) => {
             *gauge = made;
@@ -82,7 +79,7 @@ fn gauge_in(
     }
 }
 
-/// A gauge without labels: its family is registered, and its one child made.
+/// A gauge without labels: its family is registered in the group 0, and its one child made.
 ///
 /// Answers 34, the handle is empty; 36, a text is not UTF-8; 1, 2, 3, 5 of the name or the help; 19, 23, 22, 6 as
 /// [`dirgwako::Registrar::gauge`]. What C has is as it was then.
@@ -95,7 +92,7 @@ pub extern "C" fn dirgwako_c_gauge_new(
     gauge: &mut Gauge,
 ) -> u32
     ensures { Calls (gauge.new ≡ gauge.old) (λ before after. (spare_in after ≡ spare_in before)
-        × MakesNamed Handles.Gauge result (registry_in before) (registry_in after)
+        × MakesNamed Handles.Gauge result (grouped_in before) (grouped_in after)
         gauge.old gauge.new name.now help.now (family_of Kinds.Gauge name.now help.now [] [])) result
         registry.old.value registry.new.value }
 {
@@ -109,7 +106,7 @@ pub extern "C" fn dirgwako_c_gauge_new(
 
 /// A histogram without labels of a registry with these bounds: at most 24, rising, none over 2^48 - 1.
 fn histogram_in(
-    registrar: &mut Registrar<SharedRegistry>,
+    registrar: &mut Registrar<Grouped>,
     name: &[u8],
     help: &[u8],
     bounds: &[u64],
@@ -121,6 +118,7 @@ fn histogram_in(
     let (Some(name), Some(help)) = (text(name), text(help)) else {
         return 36;
     };
+    registrar.at.group = 0;
     match registrar.histogram(name, help, bounds) {
         Ok(made) => {
             *histogram = made;
@@ -130,7 +128,8 @@ fn histogram_in(
     }
 }
 
-/// A histogram without labels with these bounds: at most 24, rising, none over 2^48 - 1: its family is registered, and its one child made.
+/// A histogram without labels with these bounds: at most 24, rising, none over 2^48 - 1: its family is registered in the
+/// group 0, and its one child made.
 ///
 /// Answers 34, the handle is empty; 36, a text is not UTF-8; 1, 2, 3, 5 of the name or the help; 10 of the bounds; 19, 23, 22, 6 as
 /// [`dirgwako::Registrar::histogram`]. What C has is as it was then.
@@ -144,7 +143,7 @@ pub extern "C" fn dirgwako_c_histogram_new(
     histogram: &mut Histogram,
 ) -> u32
     ensures { Calls (histogram.new ≡ histogram.old) (λ before after. (spare_in after ≡ spare_in before)
-        × MakesNamed Handles.Histogram result (registry_in before) (registry_in after)
+        × MakesNamed Handles.Histogram result (grouped_in before) (grouped_in after)
         histogram.old histogram.new name.now help.now (family_of Kinds.Histogram name.now help.now [] bounds.now)) result
         registry.old.value registry.new.value }
 {

@@ -2,16 +2,15 @@
 ghost use Rattle.std.specs.Prelude.{◌≡◌, ◌+◌, ◌*◌};
 ghost use Rattle.dirgwako_c.specs.declared.geometry.TheConstants.{COUNTERS, HISTOGRAMS, GAUGES};
 ghost use Rattle.bucket_math.specs.Bounds.{place_of};
-ghost use Rattle.snapshot_update.specs.Faults.{apply_fault_number};
-ghost use Rattle.dirgwako_c.specs.Held.{answer_of, Calls};
+ghost use Rattle.dirgwako_c.specs.Held.{Calls};
 ghost use Rattle.dirgwako_c.specs.Changes.{Publishes};
 
 use crate::change::{Change, list_ops};
+use crate::counting::answer;
 use crate::geometry::MOST_CHANGES;
 use crate::held::HeldRecorder;
 use crate::recorder_handle::RecorderHandle;
 use ledger_core::Histogram;
-use snapshot_update::ApplyFault;
 use std::alloc::Global;
 
 /// The place of a value's bucket among a histogram's bounds, for a change that counts it.
@@ -22,34 +21,29 @@ pub extern "C" fn dirgwako_c_place(histogram: &Histogram, value: u64) -> usize
     histogram.bounds.place(value)
 }
 
-/// 0, or the number of a refusal.
-fn answer(done: Result<(), ApplyFault>) -> u32
-    ensures { result ≡ answer_of apply_fault_number done }
-{
-    match done {
-        Ok(()) => 0,
-        Err(fault) => u32::from(fault.number()),
-    }
-}
-
-/// Publishes these changes as one version, if there are not too many.
+/// Publishes these changes as one version of the board of their handles, if there are some, and not too many.
 fn publish(held: &mut HeldRecorder, changes: &[Change]) -> u32
     ensures { Publishes (COUNTERS + HISTOGRAMS + 2 * GAUGES) changes.now result held.old.recorder held.new.recorder }
 {
+    if changes.is_empty() {
+        return 0;
+    }
     if changes.len() > MOST_CHANGES {
         return 33;
     }
-    let registry = held.recorder.id();
-    match list_ops(&mut held.list, registry, changes) {
-        Ok(()) => answer(held.recorder.apply(&held.list[..changes.len()])),
+    let id = changes[0].registry;
+    match list_ops(&mut held.list, id, changes) {
+        Ok(()) => answer(held.recorder.apply(id, &held.list[..changes.len()])),
         Err(number) => number,
     }
 }
 
-/// Publishes these changes as one version, all of them or nothing: no scrape sees some of them alone.
+/// Publishes these changes as one version of their board, all of them or nothing: no scrape sees some of them alone. Where there is none,
+/// nothing is published.
 ///
-/// Answers 34, the handle is empty; 33, there are more than counters, histograms and twice the gauges; 16, a change is by a handle of another
-/// registry; 39, a change is of no kind; 15, 11, 12 as [`dirgwako::Recorder::publish`]. Nothing has changed then. Takes no memory.
+/// Answers 34, the handle is empty; 33, there are more than counters, histograms and twice the gauges; 47, two changes are by handles of two
+/// boards; 39, a change is of no kind; 16, their board is none of the recorder's page; 15, 11, 12 as [`dirgwako::PageRecorder::apply`]. Nothing
+/// has changed then, but that the recorder may have met boards that came. Takes no memory.
 #[unsafe(no_mangle)]
 pub extern "C" fn dirgwako_c_publish(
     alloc: Global,

@@ -6,7 +6,7 @@ ghost use Rattle.dirgwako_c.specs.declared.refusals.TheConstants.{REFUSALS};
 use crate::buffers::hand_over;
 
 /// Each refusal, at the place of its number; at 0 what stands for none.
-pub const REFUSALS: [&str; 47] = [
+pub const REFUSALS: [&str; 48] = [
     "done",
     "a name has no byte",
     "a byte cannot stand there in a name",
@@ -49,11 +49,12 @@ pub const REFUSALS: [&str; 47] = [
     "a change is of no kind",
     "there is nothing of this number",
     "these are no numbers that were read",
-    "groups are 0",
+    "no board of the registry has this number",
     "a family's numbers are shifted by more than 9 digits",
     "96 boards are there",
     "a family is registered on the board, or a board of the page has its id",
     "the family has 256 children",
+    "two changes are of two boards",
 ];
 
 /// The text at a place, if there is one.

@@ -1,54 +1,14 @@
 //! What C calls for the reply to a scraper.
-ghost use Rattle.std.specs.Prelude.{◌≡◌, Some, true, false};
-ghost use Rattle.scrape_http.specs.Serves.{IsServed, IsUnserved, is_read_failed};
+ghost use Rattle.std.specs.Prelude.{◌≡◌};
 ghost use Rattle.dirgwako_c.specs.Held.{Calls};
-ghost use Rattle.dirgwako_c.specs.Registries.{asks_by, Replies};
+ghost use Rattle.dirgwako_c.specs.Registries.{Replies};
 
 use crate::buffers::hand_over;
 use crate::held::HeldRegistry;
 use crate::registry_handle::RegistryHandle;
-use dirgwako::{NoScrape, Scrape, Served, WireFault, serve_one};
-use scrape_http::ScrapeFrom;
-use scrape_server::scrape_again;
+use dirgwako::serve_one;
 use std::alloc::Global;
 use watched::Watched;
-
-/// A registry that is lent, which is asked again where a scan was given up. Its own number is 0, since it has asked.
-#[derive(Drop)]
-struct Patient<'a> {
-    held: &'a mut HeldRegistry,
-}
-
-impl ScrapeFrom for Patient<'_> {
-    ghost again = { 0 };
-
-    ghost gave = { λ before after answer. (after.held.ghost_name ≡ before.held.ghost_name) × asks_by before.held.now after.held.now answer };
-
-    fn scrape(&mut self) -> Result<Scrape, NoScrape> {
-        scrape_again(&mut *self.held)
-    }
-
-    fn again(&self) -> usize {
-        0
-    }
-}
-
-/// Serves one request, as [`dirgwako::serve_one`] does.
-fn serve(
-    reader: &mut Watched<&[u8]>,
-    writer: &mut Watched<Vec<u8>>,
-    held: &mut HeldRegistry,
-) -> Result<Served, WireFault>
-    requires reader_going { reader.old.failed ≡ false }
-    requires reader_unended { reader.old.ended ≡ false }
-    requires writer_going { writer.old.failed ≡ false }
-    ensures served { reader.new.failed ≡ false → IsServed asks_by held.old held.new (Some reader.old.inner.now) (Some reader.new.inner.now)
-        (Some writer.old.inner.items) (Some writer.new.inner.items) reader.new.ended reader.new.latest result }
-    ensures unserved { reader.new.failed ≡ true → IsUnserved held.old held.new (Some writer.old.inner.items) (Some writer.new.inner.items) }
-    ensures read_failed { reader.new.failed ≡ is_read_failed result }
-{
-    serve_one(reader, writer, &mut Patient { held })
-}
 
 /// The reply to a request, at the front of a buffer that has room for it.
 fn reply_to(
@@ -62,7 +22,7 @@ fn reply_to(
 {
     let mut reader = Watched::new(request);
     let mut writer = Watched::new(Vec::new(alloc));
-    let served = serve(&mut reader, &mut writer, held);
+    let served = serve_one(&mut reader, &mut writer, held);
     let reply = writer.into_inner();
     match served {
         Ok(_) => hand_over(&reply, buffer, len),
@@ -72,7 +32,7 @@ fn reply_to(
 
 /// The reply to a request of HTTP, which C has read whole: head and body, as [`dirgwako::serve_one`] writes them; a 200 is the text of a scrape.
 /// It stands at the front of the buffer, and `len` is how many bytes it has. The status is in its first line: 200, 400, 404, 405, 431, or 503
-/// where four scans were given up, one after the other, or there was no memory for the scrape.
+/// where four scans of a board were given up, one after the other, or there was no memory for the scrape.
 ///
 /// Answers 34, the handle is empty; 26, the request has no byte; 25, there is no memory for the reply; 37, the buffer is too short: `len` tells
 /// how many bytes this reply has, and a later one may have more. A scrape that was made is kept then as well.

@@ -9,29 +9,29 @@ use crate::held::HeldRegistry;
 use crate::registry_handle::RegistryHandle;
 use dirgwako::{NoScrape, Scrape, TextFault, render};
 use scrape_http::ScrapeFrom;
-use scrape_server::{MakesScrapes, scrape_again};
 use std::alloc::Global;
 
 impl ScrapeFrom for HeldRegistry {
-    ghost again = { 3 };
+    ghost again = { 0 };
 
     ghost gave = { scrapes_by };
 
     fn scrape(&mut self) -> Result<Scrape, NoScrape> {
-        MakesScrapes::scrape(&mut self.registrar.at)
+        self.registrar.at.crew.scrape()
     }
 
+    /// The page asks each board again by itself, and is not asked again.
     fn again(&self) -> usize {
-        3
+        0
     }
 }
 
-/// The text of a scrape of a registry. A scrape that was given up is asked for up to three times more.
+/// The text of a scrape of a registry.
 fn text_of(registry: &mut HeldRegistry) -> Result<Vec<u8>, TextFault>
-    ensures text { IfOk result (λ bytes. IsText scrapes_by 3 registry.old registry.new bytes.items) }
-    ensures fault { IfErr result (IsTextFault scrapes_by 3 registry.old registry.new) }
+    ensures text { IfOk result (λ bytes. IsText scrapes_by 0 registry.old registry.new bytes.items) }
+    ensures fault { IfErr result (IsTextFault scrapes_by 0 registry.old registry.new) }
 {
-    match scrape_again(registry) {
+    match registry.scrape() {
         Ok(scrape) => match render(&scrape) {
             Ok(text) => Ok(text),
             Err(_) => Err(TextFault::NoMemory),
@@ -51,11 +51,12 @@ fn print_to(registry: &mut HeldRegistry, buffer: &mut [u8], len: &mut usize) -> 
     }
 }
 
-/// The text of a scrape, in the text exposition format 0.0.4: all series at one moment. It stands at the front of the buffer, and `len` is how
-/// many bytes it has.
+/// The text of a scrape of all boards, in the text exposition format 0.0.4: all series of a board at one moment. It stands at the front of the
+/// buffer, and `len` is how many bytes it has.
 ///
-/// Answers 34, the handle is empty; 14, four scans were given up, one after the other; 6, out of memory; 37, the buffer is too short: `len`
-/// tells how many bytes this text has, and a later one may have more. The scrape is kept then as well, and at 6 where its text alone found none.
+/// Answers 34, the handle is empty; 14, four scans of a board were given up, one after the other; 6, out of memory; 37, the buffer is too short:
+/// `len` tells how many bytes this text has, and a later one may have more. The scrape is kept then as well, and at 6 where its text alone found
+/// none; at 14, and at 6 of a board, the boards before it have kept theirs.
 #[unsafe(no_mangle)]
 pub extern "C" fn dirgwako_c_scrape(
     alloc: Global,

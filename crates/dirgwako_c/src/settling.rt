@@ -1,13 +1,13 @@
 //! What C calls for exact totals, once all recorders are given back.
-ghost use Rattle.std.specs.Prelude.{◌≡◌, ℕ, ◌<◌, ◌≤◌, length, IsTrue, IsFalse, IfErr, OnOk, OnErr, true, false};
+ghost use Rattle.std.specs.Prelude.{◌≡◌, ℕ, ◌<◌, ◌≤◌, length, All, IsTrue, IsFalse, IfErr, OnOk, OnErr, true, false};
 ghost use mathlib.Core.Option.{some};
 ghost use lib.ListN.{get_elem?};
 ghost use Rattle.ledger_core.specs.Ops.{width};
 ghost use Rattle.chain_law.specs.Settled.{HasIndex, IsSettled};
 ghost use Rattle.snapshot_scan.specs.Snapshots.{as_answer};
 ghost use Rattle.dirgwako_c.specs.Held.{Calls};
-ghost use Rattle.dirgwako_c.specs.Registries.{registry_in, spare_in, recorders_in};
-ghost use Rattle.dirgwako_c.specs.Settling.{workers_of, published_in, AreOnce, IsTwice, IsApart, AreSettled, Settles};
+ghost use Rattle.dirgwako_c.specs.Registries.{recorders_in};
+ghost use Rattle.dirgwako_c.specs.Settling.{seats_on, workers_of, published_in, Knows, AreOnce, IsTwice, IsApart, AreSettled, Settles};
 
 use crate::geometry::{COUNTERS, GAUGES, HISTOGRAMS, WORKERS};
 use crate::held::HeldRegistry;
@@ -27,17 +27,18 @@ pub enum Apart {
 }
 
 /// Marks the workers of these recorders, up to the first that is there twice; whether there is none.
-fn mark(spare: &Spare, marks: &mut [bool]) -> bool
+fn mark(spare: &Spare, board: usize, marks: &mut [bool]) -> bool
+    requires known { All (Knows board) (recorders_in spare.now) }
     requires all { length marks.old ≡ WORKERS }
     requires none { (i : ℕ) → i < WORKERS → get_elem? marks.old i ≡ some false }
     ensures marks { IsTrue result → (i : ℕ) → i < WORKERS
-        → (get_elem? marks.new i ≡ some true → HasIndex (workers_of (recorders_in spare.now)) i)
-        × (get_elem? marks.new i ≡ some false → ¬ (HasIndex (workers_of (recorders_in spare.now)) i)) }
-    ensures once { IsTrue result → AreOnce (workers_of (recorders_in spare.now)) }
-    ensures twice { IsFalse result → IsTwice (workers_of (recorders_in spare.now)) }
+        → (get_elem? marks.new i ≡ some true → HasIndex (workers_of (seats_on board (recorders_in spare.now))) i)
+        × (get_elem? marks.new i ≡ some false → ¬ (HasIndex (workers_of (seats_on board (recorders_in spare.now))) i)) }
+    ensures once { IsTrue result → AreOnce (workers_of (seats_on board (recorders_in spare.now))) }
+    ensures twice { IsFalse result → IsTwice (workers_of (seats_on board (recorders_in spare.now))) }
 {
     for place in 0..spare.len() {
-        let worker = spare.at(place).recorder.index();
+        let worker = spare.seat(place, board).index();
         if marks[worker] {
             return false;
         }
@@ -47,13 +48,14 @@ fn mark(spare: &Spare, marks: &mut [bool]) -> bool
 }
 
 /// Whether these are recorders of all workers, each once.
-fn gathered(spare: &Spare) -> Result<(), Apart>
-    ensures all { OnOk result ((i : ℕ) → i < WORKERS → HasIndex (workers_of (recorders_in spare.now)) i) }
-    ensures once { OnOk result (AreOnce (workers_of (recorders_in spare.now))) }
-    ensures apart { IfErr result (IsApart (workers_of (recorders_in spare.now))) }
+fn gathered(spare: &Spare, board: usize) -> Result<(), Apart>
+    requires { All (Knows board) (recorders_in spare.now) }
+    ensures all { OnOk result ((i : ℕ) → i < WORKERS → HasIndex (workers_of (seats_on board (recorders_in spare.now))) i) }
+    ensures once { OnOk result (AreOnce (workers_of (seats_on board (recorders_in spare.now)))) }
+    ensures apart { IfErr result (IsApart (workers_of (seats_on board (recorders_in spare.now)))) }
 {
     let mut marks = [false; WORKERS];
-    if !mark(spare, &mut marks) {
+    if !mark(spare, board, &mut marks) {
         return Err(Apart::Twice);
     }
     for worker in 0..WORKERS {
@@ -65,59 +67,72 @@ fn gathered(spare: &Spare) -> Result<(), Apart>
 }
 
 /// What all that these recorders have published adds to a word of a row.
-fn total_at(spare: &Spare, word: usize) -> u64
+fn total_at(spare: &Spare, board: usize, word: usize) -> u64
+    requires known { All (Knows board) (recorders_in spare.now) }
     requires word { word < width COUNTERS HISTOGRAMS GAUGES }
     requires few { length (recorders_in spare.now) ≤ 32 }
-    ensures sum { result ≡ published_in (recorders_in spare.now) word }
+    ensures sum { result ≡ published_in (seats_on board (recorders_in spare.now)) word }
     ensures low { result < 9007199254740992 }
 {
     let mut sum = 0;
     for place in 0..spare.len() {
-        sum += spare.at(place).recorder.row().word_at(word);
+        sum += spare.seat(place, board).row().word_at(word);
     }
     sum
 }
 
 /// Makes the vector that of these recorders.
-fn set_numbers(spare: &Spare, out: &mut Snapshot<WORKERS, COUNTERS, HISTOGRAMS, GAUGES>)
-    requires once { AreOnce (workers_of (recorders_in spare.now)) }
-    ensures { AreSettled (workers_of (recorders_in spare.now)) out.new.vector }
+fn set_numbers(
+    spare: &Spare,
+    board: usize,
+    out: &mut Snapshot<WORKERS, COUNTERS, HISTOGRAMS, GAUGES>,
+)
+    requires known { All (Knows board) (recorders_in spare.now) }
+    requires once { AreOnce (workers_of (seats_on board (recorders_in spare.now))) }
+    ensures { AreSettled (workers_of (seats_on board (recorders_in spare.now))) out.new.vector }
 {
     // A look into the snapshot tells the proof how long its vector is.
     let _vector = out.vector();
     for place in 0..spare.len() {
-        let recorder = &spare.at(place).recorder;
+        let recorder = spare.seat(place, board);
         out.set_number(recorder.index(), recorder.number());
     }
 }
 
 /// Makes the totals those of all that these recorders have published.
-fn set_totals(spare: &Spare, out: &mut Snapshot<WORKERS, COUNTERS, HISTOGRAMS, GAUGES>)
+fn set_totals(
+    spare: &Spare,
+    board: usize,
+    out: &mut Snapshot<WORKERS, COUNTERS, HISTOGRAMS, GAUGES>,
+)
+    requires known { All (Knows board) (recorders_in spare.now) }
     requires few { length (recorders_in spare.now) ≤ 32 }
     ensures totals { (k : ℕ) → k < width COUNTERS HISTOGRAMS GAUGES
-        → get_elem? out.new.totals k ≡ some (published_in (recorders_in spare.now) k) }
+        → get_elem? out.new.totals k ≡ some (published_in (seats_on board (recorders_in spare.now)) k) }
     ensures vector { out.new.vector ≡ out.old.vector }
 {
     for word in 0..out.totals().len() {
-        out.set_total(word, total_at(spare, word));
+        out.set_total(word, total_at(spare, board, word));
     }
 }
 
 /// Exact totals of all that these recorders have published.
 fn settle(
     spare: &Spare,
+    board: usize,
     out: &mut Snapshot<WORKERS, COUNTERS, HISTOGRAMS, GAUGES>,
 ) -> Result<(), Apart>
-    ensures settled { OnOk result (IsSettled (workers_of (recorders_in spare.now)) out.new) }
-    ensures all { OnOk result ((i : ℕ) → i < WORKERS → HasIndex (workers_of (recorders_in spare.now)) i) }
+    requires { All (Knows board) (recorders_in spare.now) }
+    ensures settled { OnOk result (IsSettled (workers_of (seats_on board (recorders_in spare.now))) out.new) }
+    ensures all { OnOk result ((i : ℕ) → i < WORKERS → HasIndex (workers_of (seats_on board (recorders_in spare.now))) i) }
     ensures long { OnOk result (length out.new.vector ≡ WORKERS) }
     ensures wide { OnOk result (length out.new.totals ≡ width COUNTERS HISTOGRAMS GAUGES) }
-    ensures apart { IfErr result (IsApart (workers_of (recorders_in spare.now))) }
+    ensures apart { IfErr result (IsApart (workers_of (seats_on board (recorders_in spare.now)))) }
 {
-    match gathered(spare) {
+    match gathered(spare, board) {
         Ok(()) => {
-            set_numbers(spare, out);
-            set_totals(spare, out);
+            set_numbers(spare, board, out);
+            set_totals(spare, board, out);
             // Looks into the snapshot tell the proof how long its lists are.
             let _vector = out.vector();
             let _totals = out.totals();
@@ -127,20 +142,26 @@ fn settle(
     }
 }
 
-/// Exact totals of the recorders that nobody has, at the front of a buffer that has room for them.
+/// Exact totals of the recorders that nobody has, on the board of this number, at the front of a buffer that has room for them.
 fn settle_to(
     registry: &mut HeldRegistry,
+    number: usize,
     buffer: &mut [u64],
     len: &mut usize,
     missing: &mut usize,
 ) -> u32
-    ensures { Settles result registry.old registry.new buffer.old buffer.new len.old len.new missing.old missing.new }
+    ensures { Settles number result registry.old registry.new buffer.old buffer.new len.old len.new missing.old missing.new }
 {
-    match settle(&registry.spare, &mut registry.numbers) {
-        Ok(()) => {
-            let id = registry.registrar.at.id();
-            hand_over_numbers(id, &registry.numbers, buffer, len)
-        }
+    let boards = registry.registrar.at.crew.page().boards();
+    if number >= boards.len() {
+        return 42;
+    }
+    let id = boards[number].id();
+    if !registry.spare.join(number) {
+        return 16;
+    }
+    match settle(&registry.spare, number, &mut registry.numbers) {
+        Ok(()) => hand_over_numbers(id, &registry.numbers, buffer, len),
         Err(Apart::Missing(worker)) => {
             *missing = worker;
             18
@@ -149,27 +170,29 @@ fn settle_to(
     }
 }
 
-/// Exact totals, once all recorders are given back: each is exactly the sum of all that was counted, as [`dirgwako::settle`] has it. They stand
-/// at the front of the buffer, as those of a scrape do, and `len` is how many they are. Nothing is scanned, and nothing kept. Takes no memory.
+/// Exact totals of a board, once all recorders are given back: each is exactly the sum of all that was counted on it, as [`dirgwako::settle`] has
+/// it. They stand at the front of the buffer, as those of a scrape do, and `len` is how many they are. Nothing is scanned, and nothing kept. Takes
+/// no memory.
 ///
-/// Answers 34, the handle is empty; 18, the recorder of worker `missing` was not given back; 16, one was given back that is of another
-/// registry, of the same id; 37, the buffer is too short: `len` tells how many numbers there are.
+/// Answers 34, the handle is empty; 42, no board has this number; 18, the recorder of worker `missing` was not given back; 16, one was given back
+/// that is of another registry, of the same id; 37, the buffer is too short: `len` tells how many numbers there are.
 #[unsafe(no_mangle)]
 pub extern "C" fn dirgwako_c_settle(
     alloc: Global,
     registry: &mut RegistryHandle,
+    board: usize,
     buffer: &mut [u64],
     len: &mut usize,
     missing: &mut usize,
 ) -> u32
     ensures { Calls ((buffer.new ≡ buffer.old) × (len.new ≡ len.old) × (missing.new ≡ missing.old))
-        (λ before after. Settles result before after buffer.old buffer.new len.old len.new missing.old missing.new) result
+        (λ before after. Settles board result before after buffer.old buffer.new len.old len.new missing.old missing.new) result
         registry.old.value registry.new.value }
 {
     let Some(mut held) = registry.take(alloc) else {
         return 34;
     };
-    let answer = settle_to(&mut held, buffer, len, missing);
+    let answer = settle_to(&mut held, board, buffer, len, missing);
     registry.put(alloc, held);
     answer
 }

@@ -1,11 +1,13 @@
-//! The recorders of a board that nobody has.
-ghost use Rattle.std.specs.Prelude.{◌≡◌, ◌<◌, ◌≤◌, [], ◌∷◌, ◌++◌, length, vec_capacity, IfOk, IfErr, OnOk, OnErr, MatchOption};
+//! The recorders of a page that nobody has.
+ghost use Rattle.std.specs.Prelude.{◌≡◌, ◌<◌, ◌≤◌, [], ◌∷◌, ◌++◌, length, vec_capacity, All, IfOk, IfErr, IsTrue, IsFalse, OnOk, OnErr, MatchOption};
 ghost use mathlib.Core.Option.{some};
 ghost use lib.ListN.{get_elem?};
 ghost use Rattle.dirgwako_c.specs.declared.geometry.TheConstants.{WORKERS};
 
-use crate::geometry::WORKERS;
+use crate::geometry::{COUNTERS, GAUGES, HISTOGRAMS, WORKERS};
 use crate::held::HeldRecorder;
+use crate::joining::join_all;
+use page_crew::SharedRecorder;
 use std::alloc::{AllocError, Global};
 
 /// Recorders that nobody has, each in the box that a handle owns, so that handing one out takes no memory. There is room for one of each
@@ -19,8 +21,9 @@ pub struct Spare {
 
 impl Spare {
     ghost use Rattle.dirgwako_c.specs.Registries.{recorders_in};
+    ghost use Rattle.dirgwako_c.specs.Settling.{seats_on, Knows, HasStranger, HaveMet};
 
-    /// Room for all recorders of a board, and none there.
+    /// Room for all recorders of a page, and none there.
     pub fn new(alloc: Global) -> Result<Spare, AllocError>
         ensures empty { IfOk result (λ spare. recorders_in spare ≡ []) }
     {
@@ -45,6 +48,28 @@ impl Spare {
         &self.recorders[place]
     }
 
+    /// What the one at this place counts with on the board of this number.
+    pub fn seat(
+        &self,
+        place: usize,
+        board: usize,
+    ) -> &SharedRecorder<WORKERS, COUNTERS, HISTOGRAMS, GAUGES>
+        requires place { place < length (recorders_in self.now) }
+        requires known { All (Knows board) (recorders_in self.now) }
+        ensures { get_elem? (seats_on board (recorders_in self.now)) place ≡ some result.now }
+    {
+        &self.at(place).recorder.recorders()[board]
+    }
+
+    /// Each takes its workers of boards that came; whether all know the board of this number then.
+    pub fn join(&mut self, board: usize) -> bool
+        ensures met { HaveMet (recorders_in self.old) (recorders_in self.new) }
+        ensures all { IsTrue result → All (Knows board) (recorders_in self.new) }
+        ensures stranger { IsFalse result → HasStranger board (recorders_in self.new) }
+    {
+        join_all(&mut self.recorders, board)
+    }
+
     /// Takes the last one.
     pub fn take(&mut self) -> Option<Box<HeldRecorder>>
         ensures { MatchOption result ((recorders_in self.old ≡ []) × (recorders_in self.new ≡ []))
@@ -53,7 +78,7 @@ impl Spare {
         self.recorders.pop()
     }
 
-    /// Puts one behind the others; or hands it back where one of each worker is there, so that it is of another board.
+    /// Puts one behind the others; or hands it back where one of each worker is there, so that it is of another page.
     pub fn put(&mut self, recorder: Box<HeldRecorder>) -> Result<(), Box<HeldRecorder>>
         ensures taken { OnOk result ((recorders_in self.new ≡ recorders_in self.old ++ recorder.value ∷ [])
             × (length (recorders_in self.old) < WORKERS)) }

@@ -8,18 +8,18 @@ use Rattle.dirgwako_c.proofs.readings.newest.Goals as goal
 
 pub unreachable-requires : goal.unreachable-requires
 unreachable-requires c =
-    let registry = c.args.registry.now in
-    let last = replays_last WORKERS COUNTERS HISTOGRAMS GAUGES registry.journal registry.state c.journal-journal.ensures.kept.replays in
-    let some : 1 ≤ length (scrapes registry.journal) = none_left (scrapes registry.journal) registry.state.last last c.requires in
+    let board = c.args.board.now in
+    let last = replays_last WORKERS COUNTERS HISTOGRAMS GAUGES board.journal board.state c.journal-journal.ensures.kept.replays in
+    let some : 1 ≤ length (scrapes board.journal) = none_left (scrapes board.journal) board.state.last last c.requires in
     let kept = c.kept-kept.ensures in
-    let count : c.len.result ≡ length (scrapes registry.journal) = c.len.ensures ∙ ap length kept in
+    let count : c.len.result ≡ length (scrapes board.journal) = c.len.ensures ∙ ap length kept in
     c.in_default.ensures (omega (arith, some, count))
 
 pub returns : goal.returns
 returns c =
-    let registry = c.args.registry.now in
-    let last = replays_last WORKERS COUNTERS HISTOGRAMS GAUGES registry.journal registry.state c.journal-journal.ensures.kept.replays in
+    let board = c.args.board.now in
+    let last = replays_last WORKERS COUNTERS HISTOGRAMS GAUGES board.journal board.state c.journal-journal.ensures.kept.replays in
     let kept = c.kept-kept.ensures in let (some, is) = c.in-Some.ensures in
-    let count : c.len.result ≡ length (scrapes registry.journal) = c.len.ensures ∙ ap length kept in
-    last ∙ newest_at (scrapes registry.journal) c.in-Some.number (as_answer c.read.new.out) (omega (arith, some, is, count))
+    let count : c.len.result ≡ length (scrapes board.journal) = c.len.ensures ∙ ap length kept in
+    last ∙ newest_at (scrapes board.journal) c.in-Some.number (as_answer c.read.new.out) (omega (arith, some, is, count))
     (subst (λ l. slice_get l c.in-Some.number ≡ Some (as_answer c.read.new.out)) kept c.read.ensures)

@@ -2,15 +2,15 @@ use Rattle.std.proofs.Common.{rules, ◌≡◌, ℕ, List, [], Bor, ap, ◌∙�
 use Rattle.std.specs.Prelude.{Option, Some, Ok, Err, Vec}
 use Rattle.std.specs.declared.alloc.Global.{Global}
 use Rattle.scrape_http.specs.Serves.{IsServed, IsUnserved, number_of}
-use Rattle.dirgwako_c.specs.Registries.{asks_by, IsHandedOver}
+use Rattle.dirgwako_c.specs.Registries.{scrapes_by, IsHandedOver}
 use Rattle.dirgwako_c.proofs.replying.reply_to.Goals as goal
 
 pub returns-in-Ok : goal.returns-in-Ok
 returns-in-Ok c =
     let before = c.args.held.now in
-    let after = c.serve-served.new.held in
-    let reader = c.serve-served.new.reader in
-    let bytes = c.serve-served.new.writer.inner.items in
+    let after = c.serve_one-served.new.source in
+    let reader = c.serve_one-served.new.reader in
+    let bytes = c.serve_one-served.new.writer.inner.items in
     let asked = ap (λ (r : Bor (List ℕ)). Some r.now) c.new-reader.ensures.inner in
     let empty = ap (λ (l : List ℕ). Some l) (ap (λ (v : Vec ℕ Global). v.items) c.new-writer.ensures.inner ∙ c.new.ensures.items) in
     let same = c.deref.ensures.value ∙ ap (λ (v : Vec ℕ Global). v.items) c.into_inner-reply.ensures in
@@ -21,9 +21,9 @@ returns-in-Ok c =
       ended = reader.ended;
       latest = reader.latest;
       served = Ok c.in-Ok.field-0;
-      is_served = λ going. subst (λ (i : Option (List ℕ)). IsServed asks_by before after i (Some reader.inner.now) (Some [])
+      is_served = λ going. subst (λ (i : Option (List ℕ)). IsServed scrapes_by before after i (Some reader.inner.now) (Some [])
           (Some bytes) reader.ended reader.latest (Ok c.in-Ok.field-0)) asked
-          (subst (λ (o : Option (List ℕ)). IsServed asks_by before after (Some c.new-reader.result.inner.now)
+          (subst (λ (o : Option (List ℕ)). IsServed scrapes_by before after (Some c.new-reader.result.inner.now)
           (Some reader.inner.now) o (Some bytes) reader.ended reader.latest (Ok c.in-Ok.field-0)) empty
           (c.in-Ok.ensures.served going));
       is_unserved = λ failed. subst (λ (o : Option (List ℕ)). IsUnserved before after o (Some bytes)) empty
@@ -36,9 +36,9 @@ returns-in-Ok c =
 pub returns : goal.returns
 returns c =
     let before = c.args.held.now in
-    let after = c.serve-served.new.held in
-    let reader = c.serve-served.new.reader in
-    let bytes = c.serve-served.new.writer.inner.items in
+    let after = c.serve_one-served.new.source in
+    let reader = c.serve_one-served.new.reader in
+    let bytes = c.serve_one-served.new.writer.inner.items in
     let asked = ap (λ (r : Bor (List ℕ)). Some r.now) c.new-reader.ensures.inner in
     let empty = ap (λ (l : List ℕ). Some l) (ap (λ (v : Vec ℕ Global). v.items) c.new-writer.ensures.inner ∙ c.new.ensures.items) in
     let number : c.from.result ≡ number_of c.in-Err.fault = search rules in
@@ -49,9 +49,9 @@ returns c =
       ended = reader.ended;
       latest = reader.latest;
       served = Err c.in-Err.fault;
-      is_served = λ going. subst (λ (i : Option (List ℕ)). IsServed asks_by before after i (Some reader.inner.now) (Some [])
+      is_served = λ going. subst (λ (i : Option (List ℕ)). IsServed scrapes_by before after i (Some reader.inner.now) (Some [])
           (Some bytes) reader.ended reader.latest (Err c.in-Err.fault)) asked
-          (subst (λ (o : Option (List ℕ)). IsServed asks_by before after (Some c.new-reader.result.inner.now)
+          (subst (λ (o : Option (List ℕ)). IsServed scrapes_by before after (Some c.new-reader.result.inner.now)
           (Some reader.inner.now) o (Some bytes) reader.ended reader.latest (Err c.in-Err.fault)) empty
           (c.in-Err.ensures.served going));
       is_unserved = λ failed. subst (λ (o : Option (List ℕ)). IsUnserved before after o (Some bytes)) empty

@@ -1,15 +1,9 @@
 use Rattle.std.proofs.Common.{Err, inl, subst}
 use Rattle.scrape_http.specs.declared.source.NoScrape.{NoScrape}
-use Rattle.scrape_server.specs.Again.{AsksAgain}
 use Rattle.dirgwako_c.specs.Registries.{scrapes_by}
 use Rattle.dirgwako_c.proofs.scraping.text_of.Goals as goal
 
 pub returns-in-Err-NoMemory-clause-fault : goal.returns-in-Err-NoMemory-clause-fault
 returns-in-Err-NoMemory-clause-fault c =
-    inl (subst (λ (why : NoScrape). AsksAgain scrapes_by 3 c.args.registry.now c.scrape_again.new.source (Err why))
+    inl (subst (λ (why : NoScrape). scrapes_by c.args.registry.now c.scrape.new.self (Err why))
     c.in-Err-NoMemory.field-0-is c.in-Err-NoMemory.ensures)
-
-pub returns-clause-fault : goal.returns-clause-fault
-returns-clause-fault c =
-    subst (λ (why : NoScrape). AsksAgain scrapes_by 3 c.args.registry.now c.scrape_again.new.source (Err why))
-    c.in-Err-Contended.field-0-is c.in-Err-Contended.ensures

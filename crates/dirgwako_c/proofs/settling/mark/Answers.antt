@@ -9,8 +9,8 @@ use Rattle.snapshot_update.specs.Workers.{index_of}
 use Rattle.register_rule.proofs.Words.{there}
 use Rattle.chain_law.proofs.Places.{from_set}
 use Rattle.dirgwako_c.specs.Registries.{recorders_in}
-use Rattle.dirgwako_c.specs.Settling.{OneWorker, workers_of}
-use Rattle.dirgwako_c.proofs.Settled.{its, worker_here, worker_below}
+use Rattle.dirgwako_c.specs.Settling.{OneWorker, seats_on, workers_of}
+use Rattle.dirgwako_c.proofs.Settled.{its, seats_many, worker_here, worker_below}
 use Rattle.dirgwako_c.proofs.settling.mark.Goals as goal
 
 pub loop-place-init : goal.loop-place-init
@@ -23,10 +23,10 @@ loop-place-init c = record {
 
 pub loop-place-preserved : goal.loop-place-preserved
 loop-place-preserved c =
-    let ws = workers_of (recorders_in c.args.spare.now) in let place : ℕ = c.loop-place.place in
-    let marks = c.loop-place.marks in let worker = its c.at.result.now in let at : ℕ = c.index-worker.result in
+    let ws = workers_of (seats_on c.args.board (recorders_in c.args.spare.now)) in let place : ℕ = c.loop-place.place in
+    let marks = c.loop-place.marks in let worker = its c.seat.result.now in let at : ℕ = c.index-worker.result in
     let inv = c.loop-place.invariant in
-    let here : get_elem? ws place ≡ some worker = worker_here (recorders_in c.args.spare.now) place c.at.result.now c.at.ensures in
+    let here : get_elem? ws place ≡ some worker = worker_here (seats_on c.args.board (recorders_in c.args.spare.now)) place c.seat.result.now c.seat.ensures in
     let is : index_of worker ≡ at = sym c.index-worker.ensures.index in
     let inside = c.index-worker.ensures.inside in
     let free : get_elem? marks at ≡ some false = there marks at false (omega (arith, inside, inv.all)) ∙ ap some c.if-marks-worker.false in
@@ -48,8 +48,8 @@ loop-place-preserved c =
 
 pub returns-then-marks-worker : goal.returns-then-marks-worker
 returns-then-marks-worker c =
-    let ws = workers_of (recorders_in c.args.spare.now) in let place : ℕ = c.loop-place.place in
-    let marks = c.loop-place.marks in let worker = its c.at.result.now in let at : ℕ = c.index-worker.result in
+    let ws = workers_of (seats_on c.args.board (recorders_in c.args.spare.now)) in let place : ℕ = c.loop-place.place in
+    let marks = c.loop-place.marks in let worker = its c.seat.result.now in let at : ℕ = c.index-worker.result in
     let inv = c.loop-place.invariant in let inside = c.index-worker.ensures.inside in
     let taken : get_elem? marks at ≡ some true = there marks at false (omega (arith, inside, inv.all)) ∙ ap some c.if-marks-worker.true in
     let (p, w, below, its, same) = inv.marked at inside taken in
@@ -63,20 +63,21 @@ returns-then-marks-worker c =
         other = worker;
         apart = below;
         here = its;
-        there = worker_here (recorders_in c.args.spare.now) place c.at.result.now c.at.ensures;
+        there = worker_here (seats_on c.args.board (recorders_in c.args.spare.now)) place c.seat.result.now c.seat.ensures;
         same = same ∙ c.index-worker.ensures.index;
       };
     }
 
 pub returns : goal.returns
 returns c =
-    let rs = recorders_in c.args.spare.now in
-    let inv = c.loop-place.invariant in let end = c.loop-place-test.false in let count = c.len-place-end.ensures in
+    let rs = seats_on c.args.board (recorders_in c.args.spare.now) in
+    let inv = c.loop-place.invariant in let end = c.loop-place-test.false in
+    let many = seats_many c.args.board (recorders_in c.args.spare.now) c.requires.known in let count = c.len-place-end.ensures.count in
     record {
       marks = λ _ i lt. (
         (λ e. let (p, w, below, at, same) = inv.marked i lt e in (p, w, at, same)),
-        λ e has. inv.unmarked i lt e has.0 has.1 (let low = worker_below rs has.0 has.1 has.2 in omega (arith, low, end, count)) has.2 has.3,
+        λ e has. inv.unmarked i lt e has.0 has.1 (let low = worker_below rs has.0 has.1 has.2 in omega (arith, low, end, count, many)) has.2 has.3,
       );
-      once = λ _ p q v w lt a b. inv.once p q v w lt (let low = worker_below rs q w b in omega (arith, low, end, count)) a b;
+      once = λ _ p q v w lt a b. inv.once p q v w lt (let low = worker_below rs q w b in omega (arith, low, end, count, many)) a b;
       twice = λ no. absurd (true≢false no);
     }

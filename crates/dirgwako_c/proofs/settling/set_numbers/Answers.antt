@@ -8,8 +8,8 @@ use Rattle.snapshot_update.specs.Workers.{index_of, member_of, lists_of, ops_in}
 use Rattle.snapshot_scan.specs.Snapshots.{Taken}
 use Rattle.chain_law.proofs.Places.{set_else}
 use Rattle.dirgwako_c.specs.Registries.{recorders_in}
-use Rattle.dirgwako_c.specs.Settling.{OneWorker, workers_of}
-use Rattle.dirgwako_c.proofs.Settled.{its, set_here, worker_here, worker_below}
+use Rattle.dirgwako_c.specs.Settling.{OneWorker, seats_on, workers_of}
+use Rattle.dirgwako_c.proofs.Settled.{its, seats_many, set_here, worker_here, worker_below}
 use Rattle.dirgwako_c.proofs.settling.set_numbers.Goals as goal
 
 pub loop-place-init : goal.loop-place-init
@@ -20,11 +20,11 @@ loop-place-init c = record {
 
 pub loop-place-preserved : goal.loop-place-preserved
 loop-place-preserved c =
-    let rs = recorders_in c.args.spare.now in let place : ℕ = c.loop-place.place in let r = c.at.result.now in
+    let rs = seats_on c.args.board (recorders_in c.args.spare.now) in let place : ℕ = c.loop-place.place in let r = c.seat-recorder.result.now in
     let vector = c.loop-place.out.vector in let all = c.loop-place.invariant.all in
     let worker = its r in let i : ℕ = c.index.result in let n : ℕ = c.number.result in
     let inside = c.index.ensures.inside in
-    let here : get_elem? (workers_of rs) place ≡ some worker = worker_here rs place r c.at.ensures in
+    let here : get_elem? (workers_of rs) place ≡ some worker = worker_here rs place r c.seat-recorder.ensures in
     let new = ap (λ (t : Taken). t.vector) c.set_number.ensures in
     let count : n ≡ length (lists_of worker) = c.number.ensures ∙ sym (length-map (member_of worker).work.made ops_in) in
     record {
@@ -42,6 +42,7 @@ loop-place-preserved c =
 
 pub returns : goal.returns
 returns c = λ p w at.
-    let lt = worker_below (recorders_in c.args.spare.now) p w at in let count = c.len-place-end.ensures in
+    let lt = worker_below (seats_on c.args.board (recorders_in c.args.spare.now)) p w at in let count = c.len-place-end.ensures.count in
+    let many = seats_many c.args.board (recorders_in c.args.spare.now) c.requires.known in
     let end = c.loop-place-test.false in
-    c.loop-place.invariant.numbers p w (omega (arith, lt, count, end)) at
+    c.loop-place.invariant.numbers p w (omega (arith, lt, count, end, many)) at

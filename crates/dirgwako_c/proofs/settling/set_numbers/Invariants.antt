@@ -3,13 +3,13 @@ use mathlib.Core.Option.{some}
 use lib.ListN.{get_elem?}
 use Rattle.snapshot_update.specs.Workers.{index_of, lists_of}
 use Rattle.dirgwako_c.specs.Registries.{recorders_in}
-use Rattle.dirgwako_c.specs.Settling.{OneWorker, workers_of}
+use Rattle.dirgwako_c.specs.Settling.{OneWorker, seats_on, workers_of}
 use Rattle.dirgwako_c.specs.declared.geometry.TheConstants.{WORKERS}
 use Rattle.dirgwako_c.proofs.settling.set_numbers.Given as goal
 
 abbrev pub invariant-loop-place : goal.invariant-loop-place
 invariant-loop-place l = record {
   all : length l.out.vector ≡ WORKERS;
-  numbers : (p : ℕ) (w : OneWorker) → p < l.place → get_elem? (workers_of (recorders_in l.spare)) p ≡ some w
+  numbers : (p : ℕ) (w : OneWorker) → p < l.place → get_elem? (workers_of (seats_on l.board (recorders_in l.spare))) p ≡ some w
       → get_elem? l.out.vector (index_of w) ≡ some (length (lists_of w));
 }
