@@ -1,16 +1,22 @@
-"""The nanoseconds of registering the series of a page of several boards, and of a scrape of it with its text, beside the crate `prometheus`, by
-turns; and what the texts are."""
-from loads import compare_texts
-from programs import OURS, RUST
-from speeds import Found, lines_of
-from started import check, run
+"""What the series of a page of several boards take, beside other libraries with as many series, by turns: registering them, a scrape with its text,
+increments, and memory; and what the texts are."""
+import os
+import subprocess
 
-# How the series lie on boards, of which the crate has none: of it the last two are one.
+from loads import compare_texts
+from programs import GO, OURS, PEER_PYTHON, RUST
+from speeds import Found
+from started import check, run, start
+
+# How the series lie on boards, of which other libraries have none: of them the last two are one.
 HOWS = {
     "one": "256 counters, 32 histograms of 10 bounds and 64 gauges: one board",
     "whole": "10,000 counters, 1,000 histograms and 500 gauges: 40 boards, each family on one of them",
     "spread": "the same, each family with parts on many boards",
 }
+# The same for 16 threads.
+FOR_16 = {"one16": "one", "whole16": "whole"}
+PEERS = (RUST, GO, PEER_PYTHON)
 
 
 def as_peer(how):
@@ -25,22 +31,30 @@ def text_of(words, how):
 
 
 def turn(found, name, words, how, scrapes):
-    """One turn of a program: of each line the first number, which is the least of so many."""
-    for line, least, *_median in lines_of([*words, "page", scrapes, how]):
+    """One turn of a program: of each line the first number, which is the least of so many; and the kilobytes of memory that it has had at most."""
+    program = start(*words, "page", scrapes, how, stdout=subprocess.PIPE)
+    lines = program.stdout.read().decode().splitlines()
+    _pid, status, used = os.wait4(program.pid, 0)
+    program.returncode = os.waitstatus_to_exitcode(status)
+    program.stdout.close()
+    check(program.returncode == 0 and lines, f"{words[0]} page {scrapes} {how}: status {program.returncode}")
+    for line, least, *_median in (it.split() for it in lines):
         found[name, how, line].add(float(least))
+    found[name, how, "memory"].add(float(used.ru_maxrss))
 
 
 def measure(programs, scrapes, turns):
-    """The turns of each program, and its texts."""
+    """The turns of each program, and its texts. Python's gets a tenth of the scrapes."""
     found, texts = Found(), {}
-    names = [name for name in (OURS, RUST) if name in programs]
+    peers = [name for name in PEERS if name in programs]
     for number in range(turns):
         print(f"pages, turn {number + 1} of {turns}", flush=True)
-        for how in HOWS:
+        for how in (*HOWS, *FOR_16):
             turn(found, OURS, programs[OURS], how, scrapes)
-            if RUST in names and how != "spread":
-                turn(found, RUST, programs[RUST], how, scrapes)
+        for how in ("one", "whole"):
+            for name in peers:
+                turn(found, name, programs[name], how, max(scrapes // (10 if name == PEER_PYTHON else 1), 3))
     for how in HOWS:
-        words = {OURS: how, RUST: as_peer(how)}
-        texts[how] = compare_texts({name: text_of(programs[name], words[name]) for name in names})
+        words = {OURS: how, **{name: as_peer(how) for name in peers}}
+        texts[how] = compare_texts({name: text_of(programs[name], each) for name, each in words.items()})
     return found, texts

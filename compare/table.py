@@ -7,7 +7,7 @@ import time
 
 from loads import CONNECTIONS
 from programs import BARE, FROM_C, GO, OURS, PEER_PYTHON, RUST, missing, versions
-from series import HOWS, as_peer
+from series import FOR_16, HOWS, as_peer
 from speeds import FROM_C_TALLY, SIZES, TALLY, UPDATES, Turns
 
 PEERS = (RUST, GO, PEER_PYTHON)
@@ -143,15 +143,30 @@ def text_row(what, each):
     return row(what, *(cell(it) for it in each.values()))
 
 
+def series_rows(found, how, what):
+    """A row for each library whose series lie so, and of ours one for 16 threads, too."""
+    hows = [(OURS, f"{OURS}, 4 threads", how)] + [(OURS, f"{OURS}, 16 threads", it) for it, of in FOR_16.items() if of == how]
+    if how != "spread":
+        hows += [(name, name, how) for name in PEERS]
+    rows = []
+    for name, who, at in hows:
+        each = {line: found[name, at, line] for line in ("register", "gather", "inc", "inc_in_turn", "memory")}
+        if each["gather"].all:
+            times = ratio(each["gather"], found[RUST, as_peer(how), "gather"])
+            told_each = (told(each["register"], 1_000_000), told(each["gather"], 1_000_000), times, told(each["inc"]), told(each["inc_in_turn"]), told(each["memory"], 1_024))
+            rows.append(row(what, who, *told_each))
+    return rows
+
+
 def series_lines(found, texts):
-    """Pages of several boards beside the crate, in microseconds."""
-    lines = ["## A page of several boards, in microseconds", ""]
-    lines += head("of", "registered", f"by {RUST}", "a scrape with its text", f"by {RUST}", f"{OURS} to {RUST}", "each board's scrape and text")
+    """Pages of several boards beside other libraries with as many series."""
+    lines = ["## A page of several boards", ""]
+    lines += head("of", "by", "registered, ms", "a scrape with its text, ms", f"times {RUST}'s", "an increment, ns", "increments in turn, ns", "memory at most, MB")
     for how, what in HOWS.items():
-        ours = [found[OURS, how, line] for line in ("register", "gather", "boards")]
-        theirs = [found[RUST, as_peer(how), line] for line in ("register", "gather")]
-        cells = (ours[0], theirs[0], ours[1], theirs[1])
-        lines.append(row(what, *(told(it, 1_000) for it in cells), ratio(ours[1], theirs[1]), told(ours[2], 1_000)))
+        lines += series_rows(found, how, what)
+    lines += ["", head("of the page", "an increment of a board that is in no page, ns", "each board's own scrape and text, ms")[0], "|---|---|---|"]
+    for how, what in (*HOWS.items(), *((it, f"{HOWS[of]}; for 16 threads") for it, of in FOR_16.items())):
+        lines.append(row(what, told(found[OURS, how, "inc_of_a_board"]), told(found[OURS, how, "boards"], 1_000_000)))
     lines += ["", *head("the text", *texts["one"]), *(text_row(HOWS[how], each) for how, each in texts.items())]
     return lines + [""]
 

@@ -121,7 +121,7 @@ static void updates(long rounds) {
     want(dirgwako_registry_new(&registry, 1));
     want(dirgwako_counter_new(&registry, "one_total", "One.", &all[0].one));
     want(dirgwako_histogram_new(&registry, "sizes", "Sizes.", BOUNDS, TEN, &all[0].sizes));
-    want(dirgwako_counter_family_new(&registry, "ten_total", "Ten.", &label, 1, 0, &family));
+    want(dirgwako_counter_family_new(&registry, "ten_total", "Ten.", &label, 1, 0, 0, &family));
     for (int i = 0; i < TEN; i++) {
         char digit[2] = {(char)('0' + i), 0};
         const char *const value = digit;
@@ -158,8 +158,8 @@ static void service(dirgwako_registry *registry, dirgwako_recorder *recorder, in
         int is_counter = i < counters, family = is_counter ? i : i - counters;
         snprintf(name, sizeof name, is_counter ? "requests_%02d_total" : "response_%02d_micros", family);
         snprintf(help, sizeof help, is_counter ? "Requests answered so far by service part %02d." : "Microseconds taken by answers of part %02d.", family);
-        if (is_counter) want(dirgwako_counter_family_new(registry, name, help, &label, 1, 0, &of_counters));
-        else want(dirgwako_histogram_family_new(registry, name, help, &label, 1, bounds, (size_t)many, 0, &of_histograms));
+        if (is_counter) want(dirgwako_counter_family_new(registry, name, help, &label, 1, 0, 0, &of_counters));
+        else want(dirgwako_histogram_family_new(registry, name, help, &label, 1, bounds, (size_t)many, 0, 0, &of_histograms));
         for (int child = 0; child < CHILDREN; child++) {
             dirgwako_counter counter;
             dirgwako_histogram histogram;

@@ -122,6 +122,7 @@ func run(words []string) bool {
 		return false
 	}
 	it, isSize := services[words[len(words)-1]]
+	series, isPage := pages[words[len(words)-1]]
 	number, err := strconv.Atoi(words[1])
 	switch {
 	case words[0] == "torn" && len(words) == 2 && err == nil:
@@ -130,6 +131,8 @@ func run(words []string) bool {
 		updates(number)
 	case words[0] == "gather" && len(words) == 3 && err == nil && isSize:
 		gather(it, number)
+	case words[0] == "page" && len(words) == 3 && err == nil && isPage:
+		measurePage(series, number)
 	case words[0] == "serve" && len(words) == 3 && isSize:
 		serve(words[1], it)
 	default:
@@ -140,7 +143,7 @@ func run(words []string) bool {
 
 func main() {
 	if !run(os.Args[1:]) {
-		fmt.Fprintln(os.Stderr, "usage: peer torn SCRAPES | updates ROUNDS | gather ROUNDS SIZE | serve PORT SIZE")
+		fmt.Fprintln(os.Stderr, "usage: peer torn SCRAPES | updates ROUNDS | gather ROUNDS SIZE | serve PORT SIZE | page SCRAPES one|whole")
 		os.Exit(2)
 	}
 }

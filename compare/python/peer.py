@@ -10,6 +10,8 @@ os.environ["PROMETHEUS_DISABLE_CREATED_SERIES"] = "True"
 from prometheus_client import CollectorRegistry, Counter, Histogram, generate_latest, make_wsgi_app
 from prometheus_client.exposition import ThreadingWSGIServer, _SilentHandler
 
+import page
+
 # How many families of counters a service has, how many of histograms, and how many bounds each histogram has.
 SERVICES = {"small": (8, 1, 10), "large": (32, 4, 24)}
 BOUNDS = [5, 10, 25, 50, 100, 250, 500, 1_000, 2_500, 5_000]
@@ -129,8 +131,10 @@ def main(words):
             gather(service(*SERVICES[size]), int(rounds))
         case ["serve", port, size]:
             serve(service(*SERVICES[size]), int(port))
+        case ["page", scrapes, how]:
+            page.measure(how, int(scrapes))
         case _:
-            sys.exit("usage: peer.py torn SCRAPES | updates ROUNDS | gather ROUNDS SIZE | serve PORT SIZE")
+            sys.exit("usage: peer.py torn SCRAPES | updates ROUNDS | gather ROUNDS SIZE | serve PORT SIZE | page SCRAPES one|whole")
 
 
 if __name__ == "__main__":

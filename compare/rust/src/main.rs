@@ -3,10 +3,10 @@
 //! - `torn SCRAPES`: scrapes while another thread counts without rest, each behind a line `---`;
 //! - `updates ROUNDS`: the nanoseconds of updates, a line `NAME THREADS NANOSECONDS` each;
 //! - `gather ROUNDS SIZE`: the nanoseconds of a scrape with its text; SIZE is `small` or `large`;
-//! - `serve PORT SIZE`: serves such scrapes, after a line `listening PORT`, until it is killed.
+//! - `serve PORT SIZE`: serves such scrapes, after a line `listening PORT`, until it is killed;
+//! - `page SCRAPES one`, or `whole`: the series of a page of one board, or of 40: registering, scrapes and increments.
 //!
-//! This program alone has `bare PORT SIZE`, which serves a text that was made before, and `page SCRAPES one`, or `whole`: the series of a page of one
-//! board, or of 40.
+//! This program alone has `bare PORT SIZE`, which serves a text that was made before.
 
 mod chain;
 mod page;

@@ -1,7 +1,7 @@
 //! The series of a page of several boards: families of counters, of histograms and of gauges with one label, in one registry.
 
 use crate::service::{bound, gather, text};
-use prometheus::{CounterVec, GaugeVec, HistogramOpts, HistogramVec, Opts, Registry};
+use prometheus::{Counter, CounterVec, GaugeVec, HistogramOpts, HistogramVec, Opts, Registry};
 use std::time::Instant;
 
 /// How many bounds each histogram has.
@@ -136,8 +136,19 @@ impl Families {
     }
 }
 
-/// Prints the nanoseconds of registering a page, those of so many scrapes with their texts, the least and the median, and how many bytes the
-/// text has; or one text, where there are no scrapes to make.
+/// Prints the nanoseconds of one of 4,000 increments of these counters in turn, in the fastest of a hundred batches.
+fn in_turn(name: &str, counters: &[Counter]) {
+    const ROUNDS: usize = 4_000;
+    let batch = || {
+        let start = Instant::now();
+        counters.iter().cycle().take(ROUNDS).for_each(Counter::inc);
+        start.elapsed().as_nanos() as f64 / ROUNDS as f64
+    };
+    println!("{name} {:.2}", (0..100).map(|_| batch()).fold(f64::MAX, f64::min));
+}
+
+/// Prints the nanoseconds of registering a page, those of so many scrapes with their texts, the least and the median, how many bytes the text
+/// has, and those of an increment of one counter, and of one of each family in turn; or one text, where there are no scrapes to make.
 pub fn measure(page: Page, scrapes: usize) {
     let start = Instant::now();
     let families = Families::new(page).expect("names of their own");
@@ -158,4 +169,8 @@ pub fn measure(page: Page, scrapes: usize) {
     println!("register {registered}");
     println!("gather {} {}", times[0], times[scrapes / 2]);
     println!("bytes {}", gather(&families.registry).len());
+    let first = handler(0, page.counters.1);
+    let firsts: Vec<Counter> = families.counters.iter().map(|it| it.with_label_values(&[&first])).collect();
+    in_turn("inc", &firsts[..1]);
+    in_turn("inc_in_turn", &firsts);
 }
