@@ -1,0 +1,111 @@
+/* Who of the processes has which recorder, and who is in the registry. */
+#define _GNU_SOURCE
+#include "shared.h"
+
+#include <errno.h>
+#include <fcntl.h>
+#include <signal.h>
+#include <stdio.h>
+#include <stdlib.h>
+#include <string.h>
+#include <unistd.h>
+
+enum { NO_MEMORY = 6, CONTENDED = 14 };
+
+static unsigned process, forks;
+
+/* These run within fork, whoever calls it: also where a server forks in C, past Python's own hooks. */
+static void in_parent(void) {
+    forks++;
+}
+
+static void in_child(void) {
+    process++;
+    forks++;
+}
+
+unsigned shared_process(void) {
+    return process;
+}
+
+unsigned shared_forks(void) {
+    return forks;
+}
+
+static int watch_forks(void) {
+    static int watched;
+    if (!watched && pthread_atfork(NULL, in_parent, in_child)) return -1;
+    watched = 1;
+    return 0;
+}
+
+uint32_t shared_begin(common **made) {
+    common *it = watch_forks() ? NULL : arena_alloc(sizeof *it);
+    if (!it) return NO_MEMORY;
+    memset(it, 0, sizeof *it);
+    if (arena_lock_begin(&it->lock)) {
+        arena_free(it);
+        return NO_MEMORY;
+    }
+    *made = it;
+    return DIRGWAKO_OK;
+}
+
+void shared_end(common *it) {
+    pthread_mutex_destroy(&it->lock);
+    arena_free(it);
+}
+
+/* Where the last owner has died, what it left is what the library makes of it: a registry within which it died is empty (34). */
+uint32_t shared_enter(common *it) {
+    return arena_lock(&it->lock) ? CONTENDED : DIRGWAKO_OK;
+}
+
+void shared_leave(common *it) {
+    pthread_mutex_unlock(&it->lock);
+}
+
+/* When a process began, by the system's clock: the 20th word behind its name. 0 where it is not told. */
+static uint64_t begun_of(pid_t of) {
+    char name[32], told[1024];
+    snprintf(name, sizeof name, "/proc/%ld/stat", (long)of);
+    int file = open(name, O_RDONLY | O_CLOEXEC);
+    if (file < 0) return 0;
+    ssize_t len = read(file, told, sizeof told - 1);
+    close(file);
+    told[len > 0 ? len : 0] = 0;
+    const char *at = strrchr(told, ')');
+    for (int i = 0; at && i < 20; i++) at = strchr(at + 1, ' ');
+    return at ? strtoull(at, NULL, 10) : 0;
+}
+
+/* Who cannot be told to be dead is alive: of one recorder two processes would write at once. So is who was not waited for. */
+static int is_alive(const place *it) {
+    if (!it->process) return 0;
+    if (kill(it->process, 0) && errno == ESRCH) return 0;
+    uint64_t begun = begun_of(it->process);
+    return !begun || begun == it->begun;
+}
+
+uint32_t shared_take_place(common *it, int *taken) {
+    uint32_t answer = shared_enter(it);
+    if (answer) return answer;
+    answer = DIRGWAKO_NO_WORKER;
+    for (size_t i = 0; i < it->count && answer; i++) {
+        place *at = &it->places[i];
+        if (!at->recorder.live || is_alive(at)) continue; /* one within whose call its process died is empty */
+        at->process = 0;
+        at->begun = begun_of(getpid());
+        at->process = getpid();
+        *taken = (int)i;
+        answer = DIRGWAKO_OK;
+    }
+    shared_leave(it);
+    return answer;
+}
+
+void shared_leave_place(common *it, int at) {
+    if (shared_enter(it)) return; /* who takes a place finds this process dead */
+    it->places[at].process = 0;
+    shared_leave(it);
+}
