@@ -9,7 +9,7 @@ BENCH_USAGE = (
     2,
     "",
     "usage: bench ROUNDS, at most 1000000000, or bench serve PORT REPLIES small|large, or bench torn SCRAPES apart|together,"
-    " or bench starved THREADS SPINS SCANS small|large|greatest, or bench page SCRAPES one|whole|spread",
+    " or bench starved THREADS SPINS SCANS small|large|greatest, or bench page SCRAPES one|one16|whole|whole16|spread",
 )
 # With so many kilobytes of addresses there is no room for a thread's stack.
 SMALL = "ulimit -v 6000 && "

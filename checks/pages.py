@@ -9,10 +9,11 @@ MOST = 230
 
 
 def shown(root):
-    """How many programs the README and the guides show, each word for word: steps of the tutorial, and the first program in C."""
+    """How many programs the README and the guides show, each word for word: steps of the tutorial, and the first programs in other languages."""
     check(len((root / "README.md").read_text().splitlines()) <= MOST, f"the README has at most {MOST} lines")
     wanted = [(page, f"crates/tutorial/src/{step}.rt", "rust") for page, steps in STEPS.items() for step in steps]
-    wanted += [(page, "bindings/c/hello.c", "c") for page in ("README.md", "bindings/c/README.md")]
+    firsts = (("c", "hello.c", "c"), ("cpp", "examples/hello.cc", "cpp"), ("rust", "examples/hello.rs", "rust"), ("python", "hello.py", "python"))
+    wanted += [(f"bindings/{it}/README.md", f"bindings/{it}/{program}", language) for it, program, language in firsts]
     for page, program, language in wanted:
         blocks = re.findall(rf"^```{language}\n(.*?)^```$", (root / page).read_text(), re.M | re.S)
         check((root / program).read_text() in blocks, f"{page} shows {program} word for word")

@@ -2,16 +2,20 @@
 import pathlib
 import re
 import sys
+import tempfile
 import time
 
 import aside
 import c_library
 import clients
+import cpp_library
 import exit_statuses
 import no_memory
 import page_text
 import pages
+import python_library
 import refused_memory
+import rust_library
 import servers
 import shifted
 from started import Failed, Skipped, check, run
@@ -33,10 +37,11 @@ def script_cases(program):
     return int(told[1])
 
 
-def main():
+def checks_of(prefix):
+    """The names of all checks and what each does, in order. The libraries for C are installed below `prefix` by theirs."""
     program, service, bench = built("metrics_run"), built("example_service"), built("bench")
     printed = ROOT / "crates/example_service/stdout"
-    checks = [
+    return [
         ("pages", lambda: pages.check_all(ROOT)),
         ("wrong bodies", lambda: aside.check_all(ROOT)),
         ("shifted numbers", lambda: shifted.check_exact(ROOT)),
@@ -51,8 +56,20 @@ def main():
         ("clients", lambda: clients.check_all(program)),
         ("refused memory", lambda: refused_memory.check_all(program)),
         ("no memory", no_memory.check_all),
-        ("c library", c_library.check_all),
+        ("c library", lambda: c_library.check_all(prefix)),
+        ("c++ library", lambda: cpp_library.check_all(prefix)),
+        ("rust library", lambda: rust_library.check_all(prefix)),
+        ("python library", lambda: python_library.check_all(prefix)),
     ]
+
+
+def main():
+    with tempfile.TemporaryDirectory() as made:
+        return run_all(checks_of(pathlib.Path(made) / "installed"))
+
+
+def run_all(checks):
+    """Prints what came of each check, and how many passed. The status of the program."""
     passed, failed, skipped = 0, 0, 0
     for name, it in checks:
         since = time.monotonic()
