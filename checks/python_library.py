@@ -39,7 +39,7 @@ def done(*words, status=0, seconds=120, **how):
 
 def surroundings(**more):
     """The environment of a program, without what would lead it to other libraries or modules."""
-    own = ("DIRGWAKO_LIB", "DIRGWAKO_LIBRARY", "DIRGWAKO_SHARED_LIBRARY", "PKG_CONFIG_PATH", "PYTHONPATH", "PYTHONHOME", "VIRTUAL_ENV")
+    own = ("DIRGWAKO_BUILD", "DIRGWAKO_LIB", "DIRGWAKO_LIBRARY", "DIRGWAKO_SHARED_LIBRARY", "PKG_CONFIG_PATH", "PYTHONPATH", "PYTHONHOME", "VIRTUAL_ENV")
     return {**{name: value for name, value in os.environ.items() if name not in own}, "PYTHONDONTWRITEBYTECODE": "1", **more}
 
 

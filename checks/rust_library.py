@@ -32,7 +32,7 @@ def left_out(what):
 
 def surroundings(room, libraries):
     """The variables by which cargo builds in this room against the libraries of this folder, or of none."""
-    known = {name: value for name, value in os.environ.items() if name not in ("DIRGWAKO_LIB", "PKG_CONFIG_PATH")}
+    known = {name: value for name, value in os.environ.items() if name not in ("DIRGWAKO_LIB", "DIRGWAKO_BUILD", "PKG_CONFIG_PATH")}
     found = {"DIRGWAKO_LIB": str(libraries)} if libraries else {"PKG_CONFIG_LIBDIR": str(room / "nothing")}
     return {**known, **found, "CARGO_TARGET_DIR": str(room / "target"), "CARGO_TERM_COLOR": "never"}
 
@@ -103,15 +103,22 @@ def threads(crate, libraries, environment):
 
 def missing(crate, room):
     """Where there is no library, or another one, the build says so, and what to do."""
-    outside = room / "outside"
-    shutil.copytree(crate, outside)
+    outside, inside = room / "outside", room / "repository/bindings/rust"
+    for folder in (outside, inside):
+        shutil.copytree(crate, folder)
+    shutil.copytree(HERE.parent / "c", inside.parent / "c")
     empty, other = room / "empty", room / "other"
     for folder in (empty, other):
         folder.mkdir()
     (other / "libdirgwako.a").write_bytes(b"!<arch>\n")
-    cases = [(None, "is not installed"), (empty, "bindings/c/build.sh install PREFIX"), (other, 'features = ["threads4"]')]
-    for libraries, words in cases:
-        _, err, status = run("cargo", "check", "--offline", cwd=outside, env=surroundings(room / "missing", libraries), seconds=300)
+    cases = [
+        (outside, None, "is not installed"),
+        (inside, None, "or set DIRGWAKO_BUILD=1,"),
+        (outside, empty, "bindings/c/build.sh install PREFIX"),
+        (outside, other, 'features = ["threads4"]'),
+    ]
+    for where, libraries, words in cases:
+        _, err, status = run("cargo", "check", "--offline", cwd=where, env=surroundings(room / "missing", libraries), seconds=300)
         check(status != 0 and words in err.decode(), f"without a library: {words}: {err.decode()[-1000:]}")
     return len(cases)
 

@@ -3,6 +3,7 @@
     DIRGWAKO_LIB             the folder of the archives, beside which, or in whose ../include, the header is
     DIRGWAKO_LIBRARY         which library a process's own boards are of: dirgwako (as without it), dirgwako16 or dirgwako32
     DIRGWAKO_SHARED_LIBRARY  which one boards are of that forked processes share: as without it dirgwako16, or where that is not there the one above
+    DIRGWAKO_BUILD           1: where no archive is found, and this is the repository, the C library is proved and built, which takes half an hour
 """
 import os
 import pathlib
@@ -45,15 +46,18 @@ def by_pkg_config():
 
 
 def by_build():
-    """From the repository that this package lies in: what was built there, else it is built now."""
+    """From the repository that this package lies in: what was built there, else it is built now where that is asked for."""
     folder, build = C_LIBRARY.parent / "out", C_LIBRARY / "build.sh"
     if not (folder / f"lib{LIBRARY}.a").is_file():
         if not build.is_file():
             fail(f"no archive of the C library is found: name its folder in DIRGWAKO_LIB, or let pkg-config find {LIBRARY} (PKG_CONFIG_PATH)")
+        if os.environ.get("DIRGWAKO_BUILD") != "1":
+            fail(f"no archive of the C library is found: name its folder in DIRGWAKO_LIB, let pkg-config find {LIBRARY} (PKG_CONFIG_PATH), "
+                 f"or set DIRGWAKO_BUILD=1, and it is proved and built now, which takes half an hour")
         if not shutil.which("rt"):
             fail(f"no archive of the C library is found, and it is not built, as there is no rt on the path: name its folder in DIRGWAKO_LIB, "
                  f"let pkg-config find {LIBRARY} (PKG_CONFIG_PATH), or run {build} where the toolchain is")
-        print(f"dirgwako: {build} builds and proves the C library, which may take half an hour", flush=True)
+        print(f"dirgwako: {build} builds and proves the C library, which takes half an hour", flush=True)
         if subprocess.run([build]).returncode:
             fail(f"{build} has failed: {folder / 'build.log'} says why")
     return folder, [C_LIBRARY]

@@ -5,8 +5,17 @@ use std::env;
 use std::path::{Path, PathBuf};
 use std::process::{exit, Command};
 
+/// What the environment says of the library.
+const SURROUNDINGS: [&str; 5] = [
+    "DIRGWAKO_LIB",
+    "DIRGWAKO_BUILD",
+    "PKG_CONFIG_PATH",
+    "PKG_CONFIG_LIBDIR",
+    "PKG_CONFIG_SYSROOT_DIR",
+];
+
 fn main() {
-    for name in ["DIRGWAKO_LIB", "PKG_CONFIG_PATH", "PKG_CONFIG_LIBDIR", "PKG_CONFIG_SYSROOT_DIR"] {
+    for name in SURROUNDINGS {
         println!("cargo:rerun-if-env-changed={name}");
     }
     let library = library();
@@ -79,7 +88,8 @@ fn by_pkg_config(library: &str) -> Option<PathBuf> {
     (told.status.success() && !folder.is_empty()).then(|| PathBuf::from(folder))
 }
 
-/// What `bindings/c/build.sh` has built beside this crate, or builds now.
+/// What `bindings/c/build.sh` has built beside this crate, or builds now where that is asked for:
+/// the proof of all takes half an hour.
 fn in_repository(library: &str) -> Result<PathBuf, String> {
     let here = PathBuf::from(env::var_os("CARGO_MANIFEST_DIR").unwrap_or_default());
     let (script, out) = (here.join("../c/build.sh"), here.join("../out"));
@@ -93,6 +103,12 @@ fn in_repository(library: &str) -> Result<PathBuf, String> {
         return Err(format!(
             "{library} is not installed: pkg-config does not know it, and DIRGWAKO_LIB is not \
              set: {install}"
+        ));
+    }
+    if env::var("DIRGWAKO_BUILD").as_deref() != Ok("1") {
+        return Err(format!(
+            "{library} is not built: {install}; or set DIRGWAKO_BUILD=1, and it is proved and \
+             built now, which takes half an hour"
         ));
     }
     if Command::new("rt").arg("version").output().is_err() {

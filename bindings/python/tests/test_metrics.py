@@ -216,9 +216,10 @@ class Gauges(Case):
         with g.time():
             time.sleep(0.01)
         self.assertTrue(0.01 <= self.value("last_seconds") < 5)
-        stamp = Gauge("last_run_timestamp_seconds", "Last.", registry=self.registry)
-        stamp.set_to_current_time()
-        self.assertAlmostEqual(self.value("last_run_timestamp_seconds"), time.time(), delta=5)
+        for name in ("last_run_timestamp_seconds", "process_start_time_seconds"):
+            stamp = Gauge(name, "Last.", registry=self.registry)
+            stamp.set_to_current_time()
+            self.assertAlmostEqual(self.value(name), time.time(), delta=5)
         whole = Gauge("last_run", "Last.", registry=self.registry)
         whole.set_to_current_time()
         self.assertAlmostEqual(self.value("last_run"), time.time(), delta=5)

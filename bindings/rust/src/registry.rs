@@ -237,8 +237,9 @@ impl Registry {
     }
 
     /// How many calls were refused that could not say so: counts that no scrape shows, since a
-    /// number would have passed 2^48 - 1 or the handle found no room, and `with_label_values` that
-    /// found none. From the first on each scrape has them as `dirgwako_refused_total`.
+    /// number would have passed 2^48 - 1, and `with_label_values` that found no room, as well as
+    /// each count by the handle that it answered. From the first on each scrape has them as
+    /// `dirgwako_refused_total`.
     ///
     /// ```
     /// use dirgwako::{register_int_counter_with_registry, Registry};

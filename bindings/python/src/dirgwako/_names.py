@@ -10,6 +10,7 @@ from ._faults import NotWhole, Refusal
 INF = float("inf")
 MOST = 2**48 - 1
 EMPTY, BAD_BOUNDS = 1, 10
+MOMENTS = ("_timestamp_seconds", "_start_time_seconds")
 
 
 def full_name(name: str, namespace: str, subsystem: str, unit: str, suffix: str = "") -> str:
@@ -28,7 +29,7 @@ def digits_of(name: str, resolution: float | None) -> int:
     """By how many decimal digits the text shifts the metric's units."""
     if resolution is None:
         named = name.removesuffix("_total")
-        if named.endswith("_timestamp_seconds"):  # microseconds since 1970 are over 2^48 - 1
+        if named.endswith(MOMENTS):  # microseconds since 1970 are over 2^48 - 1
             return 3
         return 6 if named.endswith("_seconds") else 0
     for digits in range(10):
