@@ -19,22 +19,39 @@ C_LIBRARY = ROOT / "bindings/out/libdirgwako16.a"
 OURS, FROM_C, RUST, GO, PEER_PYTHON, BARE = "Dirgwako", "Dirgwako from C", "prometheus (Rust)", "client_golang (Go)", "prometheus_client (Python)", "a text made before"
 
 
-def can_import(module):
-    """Whether Debian's python3 has a module."""
-    if not pathlib.Path(PYTHON).exists():
+def can_import(module, python=PYTHON):
+    """Whether Debian's python3, or another one, has a module."""
+    if not shutil.which(python):
         return False
-    return subprocess.run([PYTHON, "-c", f"import {module}"], capture_output=True).returncode == 0
+    return subprocess.run([python, "-c", f"import {module}"], capture_output=True).returncode == 0
 
 
 def needs():
     """What each program needs: whether it is there, what it is, and Debian's packages that have it."""
     has_crate = any(REGISTRY.glob("prometheus-0.13*"))
     has_go = (GOPATH / "src/github.com/prometheus/client_golang").is_dir()
+    has_library = (shutil.which("rt") or C_LIBRARY.is_file(), "the toolchain's rt, or a built bindings/out", "")
     return {
-        FROM_C: [(shutil.which("cc"), "cc", "gcc"), (shutil.which("rt") or C_LIBRARY.is_file(), "the toolchain's rt, or a built bindings/out", "")],
+        FROM_C: [(shutil.which("cc"), "cc", "gcc"), has_library],
         RUST: [(shutil.which("cargo"), "cargo", "cargo"), (has_crate, "the crate prometheus 0.13", "librust-prometheus-dev")],
         GO: [(shutil.which("go"), "go", "golang-go"), (has_go, "client_golang", "golang-github-prometheus-client-golang-dev")],
         PEER_PYTHON: [(can_import("prometheus_client"), "prometheus_client", "python3-prometheus-client")],
+        "the package for Rust": [
+            (shutil.which("cargo"), "cargo", "cargo"),
+            (has_crate, "the crate prometheus 0.13", "librust-prometheus-dev"),
+            *((any(REGISTRY.glob(f"{it}-*")), f"the crate {it}", f"librust-{it.replace('_', '-')}-dev") for it in ("hyper", "tokio", "tiny_http")),
+            has_library,
+        ],
+        "the package for Python": [
+            (can_import("prometheus_client"), "prometheus_client", "python3-prometheus-client"),
+            (can_import("setuptools", "python3"), "setuptools", "python3-setuptools"),
+            has_library,
+        ],
+        "the package for C++": [
+            (shutil.which("g++"), "g++", "g++"),
+            (pathlib.Path("/usr/include/prometheus/registry.h").is_file(), "prometheus-cpp", "prometheus-cpp-dev"),
+            has_library,
+        ],
         "requests a second": [(shutil.which("wrk"), "wrk", "wrk")],
         "the pictures": [(can_import("matplotlib"), "matplotlib", "python3-matplotlib")],
     }
@@ -153,5 +170,6 @@ def versions():
         (RUST, f"librust-prometheus-dev {package('librust-prometheus-dev')}; {first_line('rustc', '--version')}"),
         (GO, f"golang-github-prometheus-client-golang-dev {package('golang-github-prometheus-client-golang-dev')}; {first_line('go', 'version')}"),
         (PEER_PYTHON, f"python3-prometheus-client {package('python3-prometheus-client')}; {first_line(PYTHON, '--version')}"),
+        ("prometheus-cpp (C++)", f"prometheus-cpp-dev {package('prometheus-cpp-dev')}; {first_line('g++', '--version')}"),
         ("wrk", package("wrk")),
     ]

@@ -15,6 +15,7 @@ sys.dont_write_bytecode = True
 sys.path.insert(0, str(pathlib.Path(__file__).resolve().parent))
 import programs
 import loads
+import packages
 import series
 import speeds
 import table
@@ -85,8 +86,9 @@ def compare(how):
     measured = speeds.measure(started, rounds, turns)
     paged = series.measure(started, 3 if how.quick else 100, turns)
     loaded = loads.measure(others, 1, loaded_turns, "requests a second" not in lacks)
+    beside = packages.measure(lacks, how.quick)
     page = programs.OUT / "results.md" if how.quick else programs.HERE / "results.md"
-    page.write_text(table.page(load, found, measured, paged, loaded, how.quick))
+    page.write_text(table.page(load, found, measured, paged, loaded, packages.lines(beside), how.quick))
     written = [page]
     if "the pictures" not in lacks:
         written += draw(found, programs.OUT if how.quick else programs.ROOT / "docs")

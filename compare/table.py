@@ -205,9 +205,9 @@ def all_lines(lines):
     return ["## Each line of `bench`", "", "What they are is told in [MEASURING.md](../docs/MEASURING.md).", "", *told_lines]
 
 
-def page(load, torn, speeds, series, loads, is_quick):
+def page(load, torn, speeds, series, loads, packages, is_quick):
     """The whole page."""
     (updates, gathers, lines), (rates, errors, memory, texts) = speeds, loads
     parts = machine(load, is_quick) + torn_lines(torn) + update_lines(updates) + gather_lines(gathers, texts) + series_lines(*series)
-    parts += load_lines(rates, errors) + memory_lines(memory) + all_lines(lines)
+    parts += load_lines(rates, errors) + memory_lines(memory) + packages + all_lines(lines)
     return "\n".join(parts).rstrip() + "\n"

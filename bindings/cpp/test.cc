@@ -113,13 +113,7 @@ static void InOrder() {
 static void Seconds() {
     using namespace std::chrono_literals;
     Registry registry;
-    auto took = BuildHistogram()
-                    .Name("took_seconds")
-                    .Help("Took.")
-                    .Buckets({5'000, 100'000})
-                    .Digits(6)
-                    .Register(registry)
-                    .Add();
+    auto took = BuildHistogram().Name("took_seconds").Help("Took.").Buckets({5'000, 100'000}).Register(registry).Add();
     took.Observe(4'000);
     took.Observe(250ms);
     took.Observe(std::chrono::duration<double>(0.001));
@@ -131,6 +125,9 @@ static void Seconds() {
     auto whole = BuildHistogram().Name("age").Help("Ages.").Buckets({60}).Register(registry).Add();
     whole.Observe(2min);
     Is("seconds", At(registry.Text(), "age_sum"), 120);
+    auto told = BuildHistogram().Name("told_seconds").Help("T.").Buckets({60}).Digits(0).Register(registry).Add();
+    told.Observe(2min);
+    Is("seconds, as told", At(registry.Text(), "told_seconds_sum"), 120);
     auto fine = BuildHistogram().Name("fine").Help("Fine.").Buckets({60}).Digits(9).Register(registry).Add();
     fine.Observe(7ns);
     Is("nanoseconds", static_cast<long long>(fine.Value().sum), 7);

@@ -77,7 +77,10 @@ static void OfTexts() {
     const auto label = [&](const std::vector<std::string> &names) {
         return RefusedBy([&] { (void)BuildCounter().Name("a_total").Help("A.").Labels(names).Register(registry); });
     };
-    Is("a reserved label", label({"__a"}), 4);
+    Is("a reserved label", label({"a", "__a"}), 4);
+    Is("the label is named", said.find("a_total, label \"__a\"") != std::string::npos, 1);
+    Is("a label with a colon", label({"a:b"}), 2);
+    Is("that one is named", said.find("label \"a:b\"") != std::string::npos, 1);
     Is("a label twice", label({"a", "a"}), 7);
     Is("nine labels", label({"a", "b", "c", "d", "e", "f", "g", "h", "i"}), 9);
     Is("a label that is not UTF-8", label({"\xff"}), 36);
@@ -103,6 +106,7 @@ static void OfChildren() {
     Is("too few", RefusedBy([&] { (void)family.Add({{"a", "1"}}); }), 21);
     Is("too many", RefusedBy([&] { (void)family.Add({{"a", "1"}, {"b", "1"}, {"c", "1"}}); }), 21);
     Is("another", RefusedBy([&] { (void)family.Add({{"a", "1"}, {"c", "1"}}); }), 21);
+    Is("the labels are named", said.find("{a, b}") != std::string::npos, 1);
     Is("the metric is named", said.find("a_total") != std::string::npos, 1);
     Is("a long value", RefusedBy([&] { (void)family.Add({{"a", std::string(257, 'v')}, {"b", ""}}); }), 3);
     Is("not UTF-8", RefusedBy([&] { (void)family.Add({{"a", "\xff"}, {"b", "\xff"}}); }), 36);

@@ -71,6 +71,7 @@ def service(of):
 
 def calls(of):
     there = cases(prometheus_client) if prometheus_client else {}
+    print("| ns a call | dirgwako | prometheus_client |\n|---|---|---|")
     for name, case in cases(of).items():
         peer = f"{nanoseconds(*there[name], turns=7):.0f}" if there else "-"
         print(f"| `{name}` | {nanoseconds(*case):.0f} | {peer} |", flush=True)
@@ -143,6 +144,8 @@ def processes(of, seconds, many):
 
 
 def main():
+    if sys.argv[1:] in (["torn"], ["processes"]):
+        print("| scrapes beside what counts | torn | share |\n|---|---|---|")
     if sys.argv[1:] == ["processes"]:
         for of in filter(None, (shared, prometheus_client)):
             processes(of, 3, 3)

@@ -6,6 +6,7 @@
 
 #include <initializer_list>
 #include <optional>
+#include <string_view>
 #include <unordered_map>
 
 namespace dirgwako {
@@ -57,9 +58,9 @@ class Record : public RecordBase {
     Child<Handle> Add(const Labels &labels, const std::vector<std::uint64_t> *bounds) {
         const std::lock_guard<std::mutex> one(lock_);
         if (!is_registered_) RegisterFor(labels, bounds);
-        if (bounds != nullptr && *bounds != told_.bounds) throw Refusal(10, name + ", which has other bounds");
+        if (bounds != nullptr && *bounds != told_.bounds) throw Refusal(10, name + ", which is there with other bounds");
         std::string key;
-        if (!KeyOf(labels, key)) throw Refusal(21, name);
+        if (!KeyOf(labels, key)) throw Refusal(21, name + ", whose labels are {" + Listed(sorted_) + "}");
         const auto found = children_.find(key);
         if (found != children_.end()) return found->second;
         const Child<Handle> made = Make(labels);
@@ -86,7 +87,7 @@ class Record : public RecordBase {
         std::vector<std::string> names;
         for (const auto &it : labels) names.push_back(it.first);
         if (bounds != nullptr && told_.bounds && *bounds != *told_.bounds)
-            throw Refusal(10, name + ", which has other bounds");
+            throw Refusal(10, name + ", which is told with other bounds");
         Register(told_.labels.value_or(names), bounds != nullptr ? *bounds : told_.bounds.value_or(Bounds{}));
     }
 
@@ -98,13 +99,30 @@ class Record : public RecordBase {
         std::sort(sorted.begin(), sorted.end());
         {
             const std::lock_guard<std::mutex> one(core.lock);
-            Check(NewFamily(core.page, of, family_), name);
+            const std::uint32_t number = NewFamily(core.page, of, family_);
+            if (number != DIRGWAKO_OK) throw Refusal(number, Blamed(number, of.labels));
         }
         told_.labels = labels;
         told_.bounds = bounds;
         all_ = std::move(of.labels);
         sorted_ = std::move(sorted);
         is_registered_ = true;
+    }
+
+    static std::string Listed(const std::vector<std::string> &names) {
+        std::string all;
+        for (const std::string &it : names) all += (all.empty() ? "" : ", ") + it;
+        return all;
+    }
+
+    /// The metric, and the label where it is one that has no name that a label may have (1 to 4).
+    std::string Blamed(std::uint32_t number, const std::vector<std::string> &labels) const {
+        for (const std::string &it : labels) {
+            const bool is_label =
+                IsName(it) == DIRGWAKO_OK && it.find(':') == std::string::npos && it.compare(0, 2, "__") != 0;
+            if (number <= 4 && !is_label) return name + ", label \"" + it + "\"";
+        }
+        return name;
     }
 
     /// The values in the order of their labels' names, each behind a byte that no UTF-8 has; whether these are just the
@@ -150,7 +168,8 @@ Record<Handle> &FindOrMake(Core &core, const Settings &settings) {
     const auto found = core.families.find(settings.name);
     if (found != core.families.end()) {
         auto *const same = dynamic_cast<Record<Handle> *>(found->second.get());
-        if (!core.is_merging || same == nullptr || !same->Meets(settings)) throw Refusal(19, settings.name);
+        if (!core.is_merging || same == nullptr || !same->Meets(settings))
+            throw Refusal(19, settings.name + ", which is there as another kind or with other settings");
         return *same;
     }
     auto made = std::make_unique<Record<Handle>>(core, settings);
@@ -241,9 +260,9 @@ class Builder {
     }
 
     /// By how many decimal digits a text shifts the numbers, 9 at most: with 6 microseconds are counted, and seconds
-    /// are shown.
+    /// are shown. Where none are told a histogram whose name ends in `_seconds` has 6, any other metric none.
     Builder &Digits(std::size_t digits) {
-        told_.digits = digits;
+        digits_ = digits;
         return *this;
     }
 
@@ -257,7 +276,18 @@ class Builder {
     const Family<Metric> Register(const Registry &registry) const;
 
   private:
+    /// With the digits that the metric has.
+    [[nodiscard]] detail::Settings Told() const {
+        constexpr std::string_view seconds = "_seconds";
+        detail::Settings told = told_;
+        const bool is_of_seconds = told.name.size() >= seconds.size() &&
+                                   told.name.compare(told.name.size() - seconds.size(), seconds.size(), seconds) == 0;
+        told.digits = digits_.value_or(std::is_same_v<Metric, Histogram> && is_of_seconds ? 6 : 0);
+        return told;
+    }
+
     detail::Settings told_;
+    std::optional<std::size_t> digits_;
 };
 
 [[nodiscard]] inline Builder<Counter> BuildCounter() { return {}; }

@@ -215,7 +215,8 @@ class Histogram : public detail::Metric<dirgwako_histogram> {
     template <class N, detail::IfFloat<N> = 0>
     void Observe(N) const = delete; // numbers are whole: observe a smaller unit, and have it shown by Digits
 
-    /// A time, in the unit that the family's digits make of seconds: with 6 in whole microseconds.
+    /// A time, in the unit that the family's digits make of seconds: with 6 in whole microseconds, without any in whole
+    /// seconds.
     template <class N, class Period>
     void Observe(std::chrono::duration<N, Period> time) const noexcept {
         Note(TryObserve(time));

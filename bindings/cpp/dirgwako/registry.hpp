@@ -233,7 +233,7 @@ class Registry {
 template <class Metric>
 const Family<Metric> Builder<Metric>::Register(const Registry &registry) const {
     using Handle = typename Metric::HandleType;
-    auto &record = detail::FindOrMake<Handle>(*registry.core_, told_);
+    auto &record = detail::FindOrMake<Handle>(*registry.core_, Told());
     // (shares the core, which has the record)
     return Family<Metric>(std::shared_ptr<detail::Record<Handle>>(registry.core_, &record));
 }

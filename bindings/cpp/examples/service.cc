@@ -31,7 +31,6 @@ struct Metrics {
                    .Name("job_seconds")
                    .Help("Time of jobs.")
                    .Buckets({1'000, 5'000, 25'000, 100'000})
-                   .Digits(6)
                    .Group(1)
                    .Register(of)
                    .Add()) {}

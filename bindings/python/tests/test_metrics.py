@@ -52,7 +52,10 @@ class Names(Case):
         self.refused(BAD_BYTE, "a\0b", Gauge, "a\0b", "N.", registry=r)
         self.refused(TOO_LONG, "a" * 129, Gauge, "a" * 129, "N.", registry=r)
         self.refused(TOO_LONG, "h", Gauge, "h", "h" * 1025, registry=r)
-        self.refused(RESERVED, "a", Gauge, "a", "N.", ["__x"], registry=r)
+        for label, number in (("", EMPTY), ("1", BAD_BYTE), ("x:y", BAD_BYTE), ("é", BAD_BYTE), ("x" * 129, TOO_LONG), ("__x", RESERVED)):
+            self.refused(number, "a", Gauge, "a", "N.", ["x", label], registry=r)
+            with self.assertRaisesRegex(Refusal, f"^a: label '{label}': "):
+                Gauge("a", "N.", ["x", label], registry=r)
         self.refused(DUPLICATE, "a", Gauge, "a", "N.", ["x", "x"], registry=r)
         self.refused(LE, "a", Histogram, "a", "N.", ["le"], buckets=[1], registry=r)
         self.refused(TOO_MANY_LABELS, "a", Gauge, "a", "N.", list("abcdefghi"), registry=r)

@@ -2,6 +2,7 @@
 from __future__ import annotations
 
 import math
+import re
 from typing import Iterable
 
 from ._dirgwako import words
@@ -9,7 +10,9 @@ from ._faults import NotWhole, Refusal
 
 INF = float("inf")
 MOST = 2**48 - 1
-EMPTY, BAD_BOUNDS = 1, 10
+EMPTY, BAD_BYTE, TOO_LONG, RESERVED, BAD_BOUNDS = 1, 2, 3, 4, 10
+NAME_BYTES = 128
+LABEL = re.compile("[a-zA-Z_][a-zA-Z0-9_]*")
 MOMENTS = ("_timestamp_seconds", "_start_time_seconds")
 
 
@@ -61,4 +64,20 @@ def names_of(name: str, labelnames: Iterable[str]) -> tuple[str, ...]:
     """A text is made of its letters, which is never what is meant."""
     if isinstance(labelnames, str):
         raise TypeError(f"{name}: labelnames is a list of names, not one text")
-    return tuple(labelnames)
+    labels = tuple(labelnames)
+    for it in labels:
+        number = _label_fault(it)
+        if number:
+            raise Refusal(number, f"label {it!r}: {words(number)}", name)
+    return labels
+
+
+def _label_fault(label: str) -> int:
+    """Why this is no label's name; 0 where it is one."""
+    if not label:
+        return EMPTY
+    if not LABEL.fullmatch(label):
+        return BAD_BYTE
+    if len(label) > NAME_BYTES:
+        return TOO_LONG
+    return RESERVED if label.startswith("__") else 0
