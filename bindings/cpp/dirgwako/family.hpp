@@ -58,7 +58,8 @@ class Record : public RecordBase {
     Child<Handle> Add(const Labels &labels, const std::vector<std::uint64_t> *bounds) {
         const std::lock_guard<std::mutex> one(lock_);
         if (!is_registered_) RegisterFor(labels, bounds);
-        if (bounds != nullptr && *bounds != told_.bounds) throw Refusal(10, name + ", which is there with other bounds");
+        if (bounds != nullptr && *bounds != told_.bounds)
+            throw Refusal(10, name + ", which is there with other bounds");
         std::string key;
         if (!KeyOf(labels, key)) throw Refusal(21, name + ", whose labels are {" + Listed(sorted_) + "}");
         const auto found = children_.find(key);
