@@ -120,16 +120,16 @@ module _ (n w : ℕ) (t u : Taken) (old mid : List Increase) (k : ℕ) (here : k
   numbers_same same =
       subst (λ (l : List ℕ). Adds n w t (record t { vector = l }) old mid) (mixed_same u.vector t.vector k here there same) adds
 
-  pub numbers_more : (new : List Increase) (by : ℕ) → k < n → new ≡ mid ++ Number k by ∷ []
+  pub numbers_more : (new : List Increase) (by : ℕ) → k < n → 0 < by → new ≡ mid ++ Number k by ∷ []
       → by ≡ (get_or u.vector k 0 + (2 ^ 64 - get_or t.vector k 0)) % 2 ^ 64
       → get_or u.vector k 0 < 2 ^ 64 → get_or t.vector k 0 < 2 ^ 64
       → Adds n w t (record t { vector = take (k + 1) u.vector ++ drop (k + 1) t.vector }) old new
-  numbers_more new by lt is e low low' =
+  numbers_more new by lt rose is e low low' =
       let mixed : List ℕ = take k u.vector ++ drop k t.vector in
       let to : set mixed k ((get_or mixed k 0 + by) % 2 ^ 64) ≡ take (k + 1) u.vector ++ drop (k + 1) t.vector =
       ap (set mixed k) (mixed_raised u.vector t.vector k by here there e low low') ∙ mixed_set u.vector t.vector k here there in
       adds_one n w t (record t { vector = mixed }) (record t { vector = take (k + 1) u.vector ++ drop (k + 1) t.vector }) old mid
-      new (Number k by) adds is lt
+      new (Number k by) adds is (lt, rose)
       (ap (λ (l : List ℕ). record t { vector = l }) to)
 
 -- one total more
@@ -141,11 +141,11 @@ module _ (n w : ℕ) (t u : Taken) (old mid : List Increase) (k : ℕ) (here : k
       subst (λ (l : List ℕ). Adds n w (record t { vector = u.vector }) (record u { totals = l }) old mid)
       (mixed_same u.totals t.totals k here there same) adds
 
-  pub totals_more : (new : List Increase) (by : ℕ) → k < w → new ≡ mid ++ Total k by ∷ []
+  pub totals_more : (new : List Increase) (by : ℕ) → k < w → 0 < by → new ≡ mid ++ Total k by ∷ []
       → by ≡ (get_or u.totals k 0 + (2 ^ 64 - get_or t.totals k 0)) % 2 ^ 64
       → get_or u.totals k 0 < 9007199254740992 → get_or t.totals k 0 < 2 ^ 64
       → Adds n w (record t { vector = u.vector }) (record u { totals = take (k + 1) u.totals ++ drop (k + 1) t.totals }) old new
-  totals_more new by lt is e low low' =
+  totals_more new by lt rose is e low low' =
       let mixed : List ℕ = take k u.totals ++ drop k t.totals in
       let back : (get_or mixed k 0 + by) % 2 ^ 64 ≡ get_or u.totals k 0 = mixed_raised u.totals t.totals k by here there e
       (omega (arith, low)) low' in
@@ -153,5 +153,5 @@ module _ (n w : ℕ) (t u : Taken) (old mid : List Increase) (k : ℕ) (here : k
       ap (set mixed k) back ∙ mixed_set u.totals t.totals k here there in
       adds_one n w (record t { vector = u.vector }) (record u { totals = mixed })
       (record u { totals = take (k + 1) u.totals ++ drop (k + 1) t.totals }) old mid new (Total k by) adds is
-      (lt, subst (λ (x : ℕ). x < 9007199254740992) (sym back) low)
+      (lt, rose, subst (λ (x : ℕ). x < 9007199254740992) (sym back) low)
       (ap (λ (l : List ℕ). record u { totals = l }) to)

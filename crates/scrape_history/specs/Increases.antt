@@ -14,10 +14,10 @@ abbrev pub raised_by : Taken → List Increase → Taken
 raised_by t [] = t
 raised_by t (increase ∷ increases) = raised_by (raised t increase) increases
 
--- of n workers and w words, the increase is of one that is there, and a total that it leads to is below 2^53
+-- of n workers and w words, the increase is of one that is there, which it changes, and a total that it leads to is below 2^53
 abbrev pub IsFor : (n w : ℕ) → Taken → Increase → Type 0
-IsFor n w t (Number worker by) = worker < n
-IsFor n w t (Total word by) = (word < w) × ((slice_index t.totals word + by) % 2 ^ 64 < 9007199254740992)
+IsFor n w t (Number worker by) = (worker < n) × (0 < by)
+IsFor n w t (Total word by) = (word < w) × (0 < by) × ((slice_index t.totals word + by) % 2 ^ 64 < 9007199254740992)
 
 -- each increase is so, after those before it
 abbrev pub AreFor : (n w : ℕ) → Taken → List Increase → Type 0

@@ -4,7 +4,5 @@
 mod history;
 mod increase;
 mod later;
-#[cfg(test)]
-mod tests;
 
 pub use history::History;

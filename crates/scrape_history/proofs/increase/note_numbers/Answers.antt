@@ -43,7 +43,8 @@ loop-worker-preserved g c =
           let fits_was = c.type_inv.was k in let fits_is = c.type_inv.is k in record {
             added =
                 numbers_more g.row.N (width g.row.C g.row.H g.row.G) c.args.before.now c.args.after.now _ _ k lt lt' inv.added _ _
-                c.loop-worker-test.true pushed
+                c.loop-worker-test.true
+                (let differ = w.if-is-worker.true in omega (arith, fits_is, fits_was, differ)) pushed
                 (λ i. (at_is i + (2 ^ 64 - at_was i)) % 2 ^ 64) (omega (arith, fits_is, at_is)) (omega (arith, fits_was, at_was));
             few = let more = ap length pushed ∙ length_push _ _ in omega (arith, few, more);
             room = capacity ∙ w.push_back_reserved.ensures.capacity ∙ inv.room;

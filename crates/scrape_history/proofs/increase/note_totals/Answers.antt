@@ -43,7 +43,9 @@ loop-word-preserved g c =
           let fits_was = c.type_inv.was k in record {
             added =
                 totals_more g.row.N (width g.row.C g.row.H g.row.G) c.args.before.now c.args.after.now _ _ k lt lt' inv.added _ _
-                (omega (arith, n)) pushed
+                (omega (arith, n))
+                (let low = c.totals-is.ensures.low k (omega (arith, n)) in let differ = w.if-is-word.true in
+                omega (arith, low, fits_was, differ)) pushed
                 (λ i. (at_is i + (2 ^ 64 - at_was i)) % 2 ^ 64) (let low = c.totals-is.ensures.low k (omega (arith, n)) in
                 omega (arith, low, at_is)) (omega (arith, fits_was, at_was));
             few = let more = ap length pushed ∙ length_push _ _ in omega (arith, few, more);
