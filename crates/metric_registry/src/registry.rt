@@ -27,7 +27,7 @@ use std::sync::{Mutex, Wait};
 /// Whatever the calls were, whenever the lock is free its journal replays to its families, and its kept scrapes are at most the
 /// window, the last that its reader recorded, and moments of one history of publishes: that is what [`RegistryOf::into_state`]
 /// promises, and [`RegistryOf::settle`] that this history is what its workers published. Which of its states a call under the lock
-/// meets no clause says, since others may have come between: docs/THREADS.md has what is left to tests.
+/// meets no clause says, since others may have come between: docs/REGISTRY.md has what is left to tests.
 pub struct RegistryOf<
     'a,
     B: Named,
