@@ -1,6 +1,5 @@
 //! Several registries, each over a board of its own, as one page.
 mod limits;
-mod owner;
 mod shown;
 mod threads;
 

@@ -1,11 +1,10 @@
 //! The limits of a page.
 use super::{SmallPage, child, family, page_of, small, taken};
 use crate::asserts::{done, need, same, there};
-use crate::helpers::{desc, values};
+use crate::helpers::desc;
 use metric_desc::Kind;
-use registry_state::{Handle, RegistryState};
-use scrape_page::{BoardFault, Page, PageChildFault, PageFamilyFault, PageFamilyId};
-use snapshot_scan::PlainSource;
+use registry_state::Handle;
+use scrape_page::{BoardFault, PageFamilyFault, PageFamilyId};
 use std::alloc::Global;
 use std::process::Abort;
 
@@ -65,50 +64,4 @@ fn families(rt: HostRuntime) {
     same(rt, fault.number(), 23);
     same(rt, page.families().len(), 128);
     same(rt, page.into_boards().len(), 1);
-}
-
-/// A source of one thread with as many counters as there may be.
-type WideSource = PlainSource<256, 0, 0>;
-
-/// A registry of it.
-type Wide = RegistryState<WideSource, 1, 256, 0, 0>;
-
-/// A page of such registries.
-type WidePage = Page<WideSource, 1, 256, 0, 0>;
-
-/// A registry of this id that keeps one scrape.
-fn wide(rt: &impl Abort, alloc: Global, id: u64) -> Wide {
-    match Wide::new(alloc, need(rt, WideSource::new(alloc)), id, 1) {
-        Ok(registry) => registry,
-        Err(_) => rt.panic("no registry"),
-    }
-}
-
-/// Makes 256 children.
-fn makes_256(rt: &impl Abort, alloc: Global, page: &mut WidePage, a: PageFamilyId) {
-    for number in 0..256usize {
-        let value = need(rt, format!(in alloc; "{number}"));
-        child(rt, alloc, page, a, &[value.as_str()]);
-    }
-}
-
-/// The 257th child is refused (46), where there are slots for more: of the first board one is another family's.
-#[test]
-fn children(rt: HostRuntime) {
-    let (rt, alloc) = (&rt, rt.alloc());
-    let mut page = page_of(rt, alloc, wide(rt, alloc, 1));
-    let a = family(rt, alloc, &mut page, (Kind::Counter, "a", &["l"]), 1);
-    let b = family(rt, alloc, &mut page, (Kind::Counter, "b", &[]), 1);
-    child(rt, alloc, &mut page, b, &[]);
-    same(rt, taken(rt, &mut page, wide(rt, alloc, 2)), 1);
-    makes_256(rt, alloc, &mut page, a);
-    let values = done(rt, values(alloc, &["256"]));
-    let fault = PageChildFault::TooManyChildren;
-    same(rt, page.child(a, &values), Err(fault));
-    same(rt, fault.number(), 46);
-    let it = there(rt, page.families().get(0));
-    same(rt, (it.children(), it.parts().len()), (256, 2));
-    let free = there(rt, page.boards().get(1)).free_slots(Kind::Counter);
-    same(rt, free, 255);
-    same(rt, page.into_boards().len(), 2);
 }
