@@ -1,6 +1,7 @@
 -- A page with one board more, and one without families.
 use Rattle.std.proofs.Common.{◌≡◌, ◌≢◌, ℕ, ◌<◌, List, [], ◌∷◌, ◌++◌, length, sym, ap}
 use Rattle.std.proofs.Common.{subst, ◌∙◌, arith, All, AllPairs, Contains}
+use Rattle.std.specs.Prelude.{Result, Ok, Err, OnOk, is_err, true, false}
 use Rattle.std.specs.List.Sorted.{IsPermutation}
 use Rattle.std.proofs.lemmas.List.{length_push, nil_from_length}
 use Rattle.std.proofs.lemmas.List.Elements.{All-nil, All-cons, All-weaker, All-push}
@@ -13,6 +14,11 @@ use Rattle.scrape_page.specs.Faults.{IsFresh}
 use Rattle.scrape_page.specs.Kept.{IsSpread, IsHeldPage}
 use Rattle.scrape_page.proofs.Located.{places_push}
 use Rattle.scrape_page.proofs.Valued.{values_push}
+
+-- what holds where there is no refusal, and there is none
+pub when_ok : {T E : Type 0} (r : Result T E) (P : Type 0) → false ≡ is_err r → OnOk r P → P
+when_ok (Ok x) P none here = here
+when_ok (Err e) P none here = absurd cc
 
 -- what holds of each of no families
 each_none : (P : Family → Type 0) (families : List Family) → families ≡ [] → All P families
