@@ -1,8 +1,10 @@
 -- Lists of boards, of families and of parts.
 use Rattle.std.proofs.Common.{◌≡◌, ℕ, zero, suc, ◌<◌, List, [], ◌∷◌, ◌++◌, Some, length, get_or, slice_get, slice_set}
-use Rattle.std.proofs.Common.{IsSomeAnd, MatchOption, All, Contains, arith, refl, ap, ◌∙◌, inl, inr}
+use Rattle.std.proofs.Common.{IsSomeAnd, MatchOption, All, Contains, arith, refl, sym, ap, ◌∙◌, inl, inr}
 use Rattle.std.specs.Prelude.{⊤, Option, None}
+use Rattle.std.proofs.lemmas.List.{set-get_or}
 use Rattle.std.proofs.lemmas.List.Elements.{All-head, All-tail}
+use Rattle.std.proofs.lemmas.Option.{get_or_from_slice_get}
 use Rattle.metric_desc.specs.Desc.{Descriptor, Clash}
 use Rattle.registry_state.specs.Replay.{Child, Family, IsApart, IsNew}
 use Rattle.registry_state.specs.Faults.{HasSlot, IsMissingChild, IsRegisterFault}
@@ -84,6 +86,18 @@ part_more families number seen family held parts part same still more =
     ap (λ (ps : List Part). slice_set families number (record seen { parts = ps }))
     (more ∙ ap (λ (ps : List Part). ps ++ part ∷ []) still)
     ∙ ap (λ (f : PageFamily). slice_set families number (record f { parts = f.parts ++ part ∷ [] })) same
+
+-- what is at this number, written back
+pub written_back : {X : Type 0} (xs : List X) (i : ℕ) (x : X) → slice_get xs i ≡ Some x → slice_set xs i x ≡ xs
+written_back xs i x there = ap (slice_set xs i) (sym (get_or_from_slice_get xs i x x there)) ∙ set-get_or xs i x
+
+-- the family of this number with the parts that it had
+pub part_still : (families : List PageFamily) (number : ℕ) (seen family : PageFamily) (parts : List Part)
+    → slice_get families number ≡ Some family → seen ≡ family → parts ≡ seen.parts
+    → slice_set families number (record seen { parts = parts }) ≡ families
+part_still families number seen family parts there same still =
+    ap (λ (ps : List Part). slice_set families number (record seen { parts = ps })) still
+    ∙ ap (slice_set families number) same ∙ written_back families number family there
 
 -- a copy of the descriptor of a family
 pub copied : (copy read : Descriptor) (seen family : PageFamily) → copy ≡ read → read ≡ seen.desc → seen ≡ family
