@@ -1,4 +1,4 @@
-use Rattle.std.proofs.Common.{◌++◌, map, sym, ap, ap₂, ◌∙◌, append-nil}
+use Rattle.std.proofs.Common.{◌++◌, map, sym, ap, ap₂, ◌∙◌, append-nil, refl, arith}
 use Rattle.std.proofs.lemmas.List.{take_all, drop_all}
 use Rattle.std.proofs.lemmas.List.Edits.{map_over_more}
 use Rattle.std.specs.Prelude.{slice_set, List}
@@ -19,3 +19,12 @@ returns g c =
     ∙ (ap₂ (λ (front back : List (RegistryView g.row.S.Denot)). map (with_window c.args.window) front ++ back)
     (take_all c.loop-at.at old c.loop-at-test.false) (drop_all c.loop-at.at old c.loop-at-test.false)
     ∙ append-nil (map (with_window c.args.window) old))
+
+pub loop-at-init : goal.loop-at-init
+loop-at-init g c = refl
+
+pub bounds-boards-at : goal.bounds-boards-at
+bounds-boards-at g c = let same = c.loop-at.auto.boards in let lt = c.loop-at-test.true in omega (arith, same, lt)
+
+pub unreachable-requires : goal.unreachable-requires
+unreachable-requires g c = c.in-Err.ensures.refused c.requires
