@@ -1,4 +1,4 @@
-use Rattle.std.proofs.Common.{◌≡◌, ◌<◌, Some, slice_get, get_or, length, All, subst}
+use Rattle.std.proofs.Common.{◌≡◌, ◌<◌, Some, slice_get, get_or, length, All, subst, arith}
 use Rattle.std.proofs.lemmas.List.{take_all}
 use Rattle.std.proofs.lemmas.List.Elements.{All-more}
 use Rattle.std.proofs.lemmas.Option.{slice_get-get_or}
@@ -38,3 +38,9 @@ pub returns : goal.returns
 returns g c =
     subst (All (IsFullPart g.row.C g.row.H g.row.G c.args.kind c.args.boards.now)) (take_all _ _ c.loop-place-test.false)
     c.loop-place.invariant
+
+pub bounds-boards-part : goal.bounds-boards-part
+bounds-boards-part g c = c.requires c.loop-place.place (part_at 0 0) c.loop-place-test.true
+
+pub loop-place-init : goal.loop-place-init
+loop-place-init g c = λ k d within. absurd (omega (arith, within))
