@@ -1,20 +1,22 @@
 -- Lists of boards, of families and of parts.
-use Rattle.std.proofs.Common.{◌≡◌, ℕ, zero, suc, ◌<◌, List, [], ◌∷◌, ◌++◌, Some, length, get_or, slice_get, slice_set}
-use Rattle.std.proofs.Common.{IsSomeAnd, MatchOption, All, Contains, arith, refl, sym, ap, ◌∙◌, inl, inr}
+use Rattle.std.proofs.Common.{◌≡◌, ◌≢◌, ℕ, zero, suc, ◌<◌, List, [], ◌∷◌, ◌++◌, Some, length, get_or, slice_get, slice_set}
+use Rattle.std.proofs.Common.{IsSomeAnd, MatchOption, All, Contains, arith, refl, sym, ap, subst, ◌∙◌, inl, inr}
 use Rattle.std.specs.Prelude.{⊤, Option, None}
 use Rattle.std.proofs.lemmas.List.{set-get_or}
 use Rattle.std.proofs.lemmas.List.Elements.{All-head, All-tail}
 use Rattle.std.proofs.lemmas.Option.{get_or_from_slice_get}
 use Rattle.metric_desc.specs.Desc.{Descriptor, Clash}
 use Rattle.registry_state.specs.Replay.{Child, Family, IsApart, IsNew}
-use Rattle.registry_state.specs.Faults.{HasSlot, IsMissingChild, IsRegisterFault}
+use Rattle.registry_state.specs.Faults.{HasSlot, IsMissingChild, IsChildFault, IsRegisterFault}
 use Rattle.registry_state.specs.Kept.{RegistryView}
 use Rattle.registry_state.specs.Journal.{Registered}
 use Rattle.registry_state.specs.Calls.{IsGiven, IsHandle, WasMade, changed}
 use Rattle.registry_state.specs.declared.handle.Handle.{Handle}
+use Rattle.registry_state.specs.declared.fault.ChildFault.{ChildFault}
+use Rattle.registry_state.specs.declared.fault.ChildFault.TheVariants as Child
 use Rattle.registry_state.specs.declared.fault.RegisterFault.{RegisterFault}
 use Rattle.registry_state.specs.declared.fault.RegisterFault.TheVariants as Register
-use Rattle.registry_state.proofs.Making.{some_at, at_some, there_at}
+use Rattle.registry_state.proofs.Making.{some_at, at_some, some_within, there_at}
 use Rattle.scrape_page.specs.declared.family.Part.{Part}
 use Rattle.scrape_page.specs.Families.{PageFamily}
 use Rattle.scrape_page.specs.Places.{HasPart}
@@ -64,6 +66,23 @@ some_never : {X : Type 0} (P Q : X → Type 0) (o : Option X) → IsSomeAnd o P 
 some_never P Q None one two never = absurd one
 some_never P Q (Some x) one two never = never x one two
 
+-- a child that is missing, and has a slot, is refused for want of memory, and for nothing else
+pub missing_only : (c h g : ℕ) (families : List Family) (number : ℕ) (values : List (List ℕ)) (fault : ChildFault)
+    → IsSomeAnd (slice_get families number) (λ (it : Family). IsMissingChild it values × HasSlot c h g families it.desc.kind)
+    → IsChildFault c h g families number values fault → fault ≡ Child.NoMemory
+missing_only c h g families number values Child.NoSuchFamily missing is =
+    let within : number < length families = some_within (λ (it : Family). IsMissingChild it values
+    × HasSlot c h g families it.desc.kind) families number missing in absurd (omega (arith, within, is))
+missing_only c h g families number values (Child.LabelCount want got) missing is =
+    absurd (some_never (λ (it : Family). IsMissingChild it values × HasSlot c h g families it.desc.kind)
+    (λ (it : Family). (want ≡ length it.desc.labels) × (got ≡ length values) × (want ≢ got)) (slice_get families number) missing is
+    (λ it may not. not.2 (not.0 ∙ sym may.0.0 ∙ sym not.1)))
+missing_only c h g families number values (Child.Full kind) missing is =
+    absurd (some_never (λ (it : Family). IsMissingChild it values × HasSlot c h g families it.desc.kind)
+    (λ (it : Family). IsMissingChild it values × (kind ≡ it.desc.kind) × (¬ (HasSlot c h g families kind)))
+    (slice_get families number) missing is (λ it may not. not.2 (subst (HasSlot c h g families) (sym not.1) may.1)))
+missing_only c h g families number values Child.NoMemory missing is = refl
+
 -- a child that was missing was made
 pub made_missing : {S : Type 0} (c h g : ℕ) (old new : RegistryView S) (number : ℕ) (values : List (List ℕ)) (handle : Handle)
     → IsSomeAnd (slice_get old.state.families number) (λ (it : Family). IsMissingChild it values
@@ -86,6 +105,19 @@ part_more families number seen family held parts part same still more =
     ap (λ (ps : List Part). slice_set families number (record seen { parts = ps }))
     (more ∙ ap (λ (ps : List Part). ps ++ part ∷ []) still)
     ∙ ap (λ (f : PageFamily). slice_set families number (record f { parts = f.parts ++ part ∷ [] })) same
+
+-- one family more, in other words
+pub family_more : (families before after : List PageFamily) (desc copy kept : Descriptor) (group home : ℕ) (none parts : List Part)
+    (part : Part) → before ≡ families
+    → after ≡ before ++ record { desc = kept; group = group; home = home; parts = parts; children = 0 } ∷ []
+    → kept ≡ copy → copy ≡ desc → none ≡ [] → parts ≡ none ++ part ∷ []
+    → after ≡ families ++ record { desc = desc; group = group; home = home; parts = part ∷ []; children = 0 } ∷ []
+family_more families before after desc copy kept group home none parts part still more is_kept is_copy empty one =
+    let family : Descriptor → List Part → PageFamily =
+    λ d ps. record { desc = d; group = group; home = home; parts = ps; children = 0 } in
+    more ∙ ap (λ (fs : List PageFamily). fs ++ family kept parts ∷ []) still
+    ∙ ap (λ (d : Descriptor). families ++ family d parts ∷ []) (is_kept ∙ is_copy)
+    ∙ ap (λ (ps : List Part). families ++ family desc ps ∷ []) (one ∙ ap (λ (ps : List Part). ps ++ part ∷ []) empty)
 
 -- what is at this number, written back
 pub written_back : {X : Type 0} (xs : List X) (i : ℕ) (x : X) → slice_get xs i ≡ Some x → slice_set xs i x ≡ xs
