@@ -1,7 +1,8 @@
 -- Lists of boards, of families and of parts.
 use Rattle.std.proofs.Common.{◌≡◌, ◌≢◌, ℕ, zero, suc, ◌<◌, List, [], ◌∷◌, ◌++◌, Some, length, get_or, slice_get, slice_set}
 use Rattle.std.proofs.Common.{IsSomeAnd, MatchOption, All, Contains, arith, refl, sym, ap, subst, ◌∙◌, inl, inr}
-use Rattle.std.specs.Prelude.{⊤, Option, None}
+use Rattle.std.specs.Prelude.{⊤, Bool, true, false, if◌then◌else◌, Option, None}
+use Rattle.std.specs.List.{insert}
 use Rattle.std.proofs.lemmas.List.{set-get_or}
 use Rattle.std.proofs.lemmas.List.Elements.{All-head, All-tail}
 use Rattle.std.proofs.lemmas.Option.{get_or_from_slice_get}
@@ -118,6 +119,13 @@ family_more families before after desc copy kept group home none parts part stil
     more ∙ ap (λ (fs : List PageFamily). fs ++ family kept parts ∷ []) still
     ∙ ap (λ (d : Descriptor). families ++ family d parts ∷ []) (is_kept ∙ is_copy)
     ∙ ap (λ (ps : List Part). families ++ family desc ps ∷ []) (one ∙ ap (λ (ps : List Part). ps ++ part ∷ []) empty)
+
+-- a number that was put at this place of the order, in other words
+pub put_at : (ok : Bool) (order before after : List ℕ) (place number count : ℕ) → ok ≡ true → before ≡ order → number ≡ count
+    → after ≡ (if ok then insert before place number else before) → after ≡ insert order place count
+put_at true order before after place number count is still same put =
+    put ∙ ap (λ (l : List ℕ). insert l place number) still ∙ ap (insert order place) same
+put_at false order before after place number count is still same put = absurd cc
 
 -- what is at this number, written back
 pub written_back : {X : Type 0} (xs : List X) (i : ℕ) (x : X) → slice_get xs i ≡ Some x → slice_set xs i x ≡ xs
