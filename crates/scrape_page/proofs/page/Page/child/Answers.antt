@@ -1,7 +1,8 @@
-use Rattle.std.proofs.Common.{◌≡◌, ◌<◌, ◌≤◌, List, Some, length, slice_get, get_or, IsSomeAnd, All, Contains, refl, sym, ap, subst, ◌∙◌, inl, inr, arith, rules}
+use Rattle.std.proofs.Common.{◌≡◌, ◌≢◌, ℕ, ◌<◌, ◌≤◌, List, Some, length, slice_get, get_or, IsSomeAnd, All, Contains, refl, sym, ap, subst, ◌∙◌, inl, inr, arith, rules}
 use Rattle.std.specs.Prelude.{⊤}
 use Rattle.std.specs.List.{Any}
 use Rattle.std.proofs.lemmas.Option.{slice_get_read}
+use Rattle.std.proofs.lemmas.Result.{IfOk-weaker}
 use Rattle.metric_desc.specs.Desc.{Descriptor}
 use Rattle.registry_state.specs.Replay.{Family, IsNew}
 use Rattle.registry_state.specs.Kept.{RegistryView}
@@ -69,7 +70,9 @@ returns-then-it-ge-MAX_CHILDREN-clause-fault g c =
     let parts : it.parts ≡ c.it.inside.parts.items = sym (ap (λ (f : PageFamily). f.parts) c.it.view_is) in
     let some : 0 < length c.deref-3.result.now =
     subst (λ (l : List (RegistryView g.row.S.Denot)). 0 < length l) (sym c.deref-3.ensures.value) held.page_is.some in
-    let fit : length c.args.values.now ≡ length it.desc.labels = search rules in
+    let fit : length c.args.values.now ≡ length it.desc.labels = sym c.if-want-got.false
+    ∙ ap (λ (l : List (List ℕ)). length l) c.labels.ensures.labels ∙ ap (λ (d : Descriptor). length d.labels)
+    (c.deref-2.ensures ∙ ap (λ (f : PageFamily). f.desc) c.it.view_is) in
     let new : All (λ part. HasPart page.boards part (λ _ (family : Family). IsNew family c.args.values.now)) it.parts =
     subst (λ (l : List Part). All (λ part. HasPart page.boards part (λ _ (family : Family). IsNew family c.args.values.now)) l)
     (c.deref-4.ensures.value ∙ sym parts)
@@ -119,7 +122,9 @@ make_there-requires g c =
     let parts : it.parts ≡ c.it.inside.parts.items = sym (ap (λ (f : PageFamily). f.parts) c.it.view_is) in
     let some : 0 < length c.deref-3.result.now =
     subst (λ (l : List (RegistryView g.row.S.Denot)). 0 < length l) (sym c.deref-3.ensures.value) held.page_is.some in
-    let fit : length c.args.values.now ≡ length it.desc.labels = search rules in
+    let fit : length c.args.values.now ≡ length it.desc.labels = sym c.if-want-got.false
+    ∙ ap (λ (l : List (List ℕ)). length l) c.labels.ensures.labels ∙ ap (λ (d : Descriptor). length d.labels)
+    (c.deref-2.ensures ∙ ap (λ (f : PageFamily). f.desc) c.it.view_is) in
     let new : All (λ part. HasPart page.boards part (λ _ (family : Family). IsNew family c.args.values.now)) it.parts =
     subst (λ (l : List Part). All (λ part. HasPart page.boards part (λ _ (family : Family). IsNew family c.args.values.now)) l)
     (c.deref-4.ensures.value ∙ sym parts)
@@ -162,7 +167,9 @@ make_further-requires g c =
     let parts : it.parts ≡ c.it.inside.parts.items = sym (ap (λ (f : PageFamily). f.parts) c.it.view_is) in
     let some : 0 < length c.deref-3.result.now =
     subst (λ (l : List (RegistryView g.row.S.Denot)). 0 < length l) (sym c.deref-3.ensures.value) held.page_is.some in
-    let fit : length c.args.values.now ≡ length it.desc.labels = search rules in
+    let fit : length c.args.values.now ≡ length it.desc.labels = sym c.if-want-got.false
+    ∙ ap (λ (l : List (List ℕ)). length l) c.labels.ensures.labels ∙ ap (λ (d : Descriptor). length d.labels)
+    (c.deref-2.ensures ∙ ap (λ (f : PageFamily). f.desc) c.it.view_is) in
     let new : All (λ part. HasPart page.boards part (λ _ (family : Family). IsNew family c.args.values.now)) it.parts =
     subst (λ (l : List Part). All (λ part. HasPart page.boards part (λ _ (family : Family). IsNew family c.args.values.now)) l)
     (c.deref-4.ensures.value ∙ sym parts)
@@ -201,7 +208,9 @@ returns-in-Ok-clause-given g c =
     let parts : it.parts ≡ c.it.inside.parts.items = sym (ap (λ (f : PageFamily). f.parts) c.it.view_is) in
     let some : 0 < length c.deref-3.result.now =
     subst (λ (l : List (RegistryView g.row.S.Denot)). 0 < length l) (sym c.deref-3.ensures.value) held.page_is.some in
-    let fit : length c.args.values.now ≡ length it.desc.labels = search rules in
+    let fit : length c.args.values.now ≡ length it.desc.labels = sym c.if-want-got.false
+    ∙ ap (λ (l : List (List ℕ)). length l) c.labels.ensures.labels ∙ ap (λ (d : Descriptor). length d.labels)
+    (c.deref-2.ensures ∙ ap (λ (f : PageFamily). f.desc) c.it.view_is) in
     let new : All (λ part. HasPart page.boards part (λ _ (family : Family). IsNew family c.args.values.now)) it.parts =
     subst (λ (l : List Part). All (λ part. HasPart page.boards part (λ _ (family : Family). IsNew family c.args.values.now)) l)
     (c.deref-4.ensures.value ∙ sym parts)
@@ -248,7 +257,9 @@ returns-in-Err-clause-fault g c =
     let parts : it.parts ≡ c.it.inside.parts.items = sym (ap (λ (f : PageFamily). f.parts) c.it.view_is) in
     let some : 0 < length c.deref-3.result.now =
     subst (λ (l : List (RegistryView g.row.S.Denot)). 0 < length l) (sym c.deref-3.ensures.value) held.page_is.some in
-    let fit : length c.args.values.now ≡ length it.desc.labels = search rules in
+    let fit : length c.args.values.now ≡ length it.desc.labels = sym c.if-want-got.false
+    ∙ ap (λ (l : List (List ℕ)). length l) c.labels.ensures.labels ∙ ap (λ (d : Descriptor). length d.labels)
+    (c.deref-2.ensures ∙ ap (λ (f : PageFamily). f.desc) c.it.view_is) in
     let new : All (λ part. HasPart page.boards part (λ _ (family : Family). IsNew family c.args.values.now)) it.parts =
     subst (λ (l : List Part). All (λ part. HasPart page.boards part (λ _ (family : Family). IsNew family c.args.values.now)) l)
     (c.deref-4.ensures.value ∙ sym parts)
@@ -277,3 +288,86 @@ returns-in-Err-clause-fault g c =
     (some_at (λ (family : PageFamily). IsMissing page.boards family c.args.values.now × (family.children < 256)
     × Any (HasRoom g.row.C g.row.H g.row.G family.desc.kind) page.boards) page.families c.args.family.number it there
     (lost, few, any_at (HasRoom g.row.C g.row.H g.row.G it.desc.kind) page.boards part.board first.room))
+
+pub returns-in_default-clause-given : goal.returns-in_default-clause-given
+returns-in_default-clause-given g c = tt
+
+pub returns-in_default-clause-inside : goal.returns-in_default-clause-inside
+returns-in_default-clause-inside g c = tt
+
+pub returns-in_default-clause-leaves : goal.returns-in_default-clause-leaves
+returns-in_default-clause-leaves g c = refl
+
+pub returns-in-Some-find_child-clause-inside : goal.returns-in-Some-find_child-clause-inside
+returns-in-Some-find_child-clause-inside g c = c.in-Some-find_child.ensures.inside
+
+pub returns-in-Some-find_child-clause-fault : goal.returns-in-Some-find_child-clause-fault
+returns-in-Some-find_child-clause-fault g c = tt
+
+pub returns-in-Some-find_child-clause-leaves : goal.returns-in-Some-find_child-clause-leaves
+returns-in-Some-find_child-clause-leaves g c = tt
+
+pub returns-then-it-ge-MAX_CHILDREN-clause-given : goal.returns-then-it-ge-MAX_CHILDREN-clause-given
+returns-then-it-ge-MAX_CHILDREN-clause-given g c = tt
+
+pub returns-then-it-ge-MAX_CHILDREN-clause-inside : goal.returns-then-it-ge-MAX_CHILDREN-clause-inside
+returns-then-it-ge-MAX_CHILDREN-clause-inside g c = tt
+
+pub returns-then-it-ge-MAX_CHILDREN-clause-leaves : goal.returns-then-it-ge-MAX_CHILDREN-clause-leaves
+returns-then-it-ge-MAX_CHILDREN-clause-leaves g c = refl
+
+pub returns-then-want-got-clause-given : goal.returns-then-want-got-clause-given
+returns-then-want-got-clause-given g c = tt
+
+pub returns-then-want-got-clause-inside : goal.returns-then-want-got-clause-inside
+returns-then-want-got-clause-inside g c = tt
+
+pub returns-then-want-got-clause-fault : goal.returns-then-want-got-clause-fault
+returns-then-want-got-clause-fault g c =
+    let page : PageView g.row.S.Denot = record { boards = c.self.inside.boards.items; families = c.self.inside.families.items } in
+    let it : PageFamily = c.in-Some.it.now in
+    let there : slice_get page.families c.args.family.number ≡ Some it =
+    subst (λ (l : List PageFamily). slice_get l c.args.family.number ≡ Some it) c.deref.ensures.value
+    (slice_get_read c.deref.result.now _ c.args.family.number it refl c.in-Some.ensures.lookup.3.0 c.in-Some.ensures.lookup.1) in
+    let want : ℕ = length c.labels.result.now in
+    let got : ℕ = length c.args.values.now in
+    let P : PageFamily → Type 0 = λ (family : PageFamily). (want ≡ length family.desc.labels) × (got ≡ length c.args.values.now)
+    × (want ≢ got) in
+    let labels : want ≡ length it.desc.labels = ap (λ (l : List (List ℕ)). length l) c.labels.ensures.labels
+    ∙ ap (λ (d : Descriptor). length d.labels) (c.deref-2.ensures ∙ ap (λ (f : PageFamily). f.desc) c.it.view_is) in
+    subst (λ (p : PageView g.row.S.Denot). IsSomeAnd (slice_get p.families c.args.family.number) P) c.self.view_is
+    (some_at P page.families c.args.family.number it there (labels, refl, c.if-want-got.true))
+
+pub returns-then-want-got-clause-leaves : goal.returns-then-want-got-clause-leaves
+returns-then-want-got-clause-leaves g c = refl
+
+pub returns-in-Ok-clause-inside : goal.returns-in-Ok-clause-inside
+returns-in-Ok-clause-inside g c = c.in-Ok.ensures.inside
+
+pub returns-in-Ok-clause-fault : goal.returns-in-Ok-clause-fault
+returns-in-Ok-clause-fault g c = tt
+
+pub returns-in-Ok-clause-leaves : goal.returns-in-Ok-clause-leaves
+returns-in-Ok-clause-leaves g c = tt
+
+pub returns-in-Err-clause-given : goal.returns-in-Err-clause-given
+returns-in-Err-clause-given g c = tt
+
+pub returns-in-Err-clause-inside : goal.returns-in-Err-clause-inside
+returns-in-Err-clause-inside g c = tt
+
+pub returns-in-Err-clause-leaves : goal.returns-in-Err-clause-leaves
+returns-in-Err-clause-leaves g c = inl c.in-Err.ensures.unchanged
+
+pub returns-in-None-clause-given : goal.returns-in-None-clause-given
+returns-in-None-clause-given g c =
+    IfOk-weaker c.make_further.result _ _ (λ handle further. inr (inr further)) c.make_further.ensures.made
+
+pub returns-in-None-clause-inside : goal.returns-in-None-clause-inside
+returns-in-None-clause-inside g c = c.make_further.ensures.inside
+
+pub returns-in-None-clause-fault : goal.returns-in-None-clause-fault
+returns-in-None-clause-fault g c = c.make_further.ensures.fault
+
+pub returns-in-None-clause-leaves : goal.returns-in-None-clause-leaves
+returns-in-None-clause-leaves g c = c.make_further.ensures.leaves
