@@ -18,7 +18,8 @@ loop-at-init g c = record {
 
 pub index_mut-requires : goal.index_mut-requires
 index_mut-requires g c =
-    let lt = c.loop-at-test.true in let end = c.len-at-end.ensures in let same = c.loop-at.invariant.len in omega (arith, lt, end, same)
+    let lt = c.loop-at-test.true in let end = c.len-at-end.ensures in let same = c.loop-at.invariant.len in
+    omega (arith, lt, end, same)
 
 pub push_reserved-requires : goal.push_reserved-requires
 push_reserved-requires g c =

@@ -25,7 +25,8 @@ returns-in-Some-clause-found g c =
       part,
       lt,
       get_or_default c.args.parts.now c.loop-part.part-index part (part_at 0 0) lt,
-      some_at (λ (board : RegistryView g.row.S.Denot). IsFound board.id board.state.families part.family.number c.args.values.now c.in-Some.handle)
+      some_at (λ (board : RegistryView g.row.S.Denot). IsFound board.id board.state.families part.family.number c.args.values.now
+          c.in-Some.handle)
           c.args.boards.now part.board c.index-boards-part.result (part_board c.args.boards.now part c.index-boards-part.result
           (c.requires c.loop-part.part-index (part_at 0 0) lt) c.index-boards-part.is) c.in-Some.ensures.found,
     )

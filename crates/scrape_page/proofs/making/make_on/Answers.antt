@@ -58,5 +58,6 @@ unreachable-requires g c =
     let only : c.in-Err-NoSuchFamily.field-0 ≡ Child.NoMemory =
     missing_only g.row.C g.row.H g.row.G c.index_mut.result.now.state.families c.args.part.family.number c.args.values.now
     c.in-Err-NoSuchFamily.field-0
-    (at_some P c.args.boards.now.items c.args.part.board c.index_mut.result.now there c.requires) c.in-Err-NoSuchFamily.ensures.fault in
+    (at_some P c.args.boards.now.items c.args.part.board c.index_mut.result.now there c.requires)
+    c.in-Err-NoSuchFamily.ensures.fault in
     search rules

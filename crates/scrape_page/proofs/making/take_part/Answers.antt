@@ -91,10 +91,12 @@ returns-in_err-copy-clause-unchanged g c =
     )
 
 pub returns-in_err-family-clause-taken : goal.returns-in_err-family-clause-taken
-returns-in_err-family-clause-taken g c = IfOk-from_err c.from_residual-in_err-family.result _ c.from_residual-in_err-family.ensures.0
+returns-in_err-family-clause-taken g c =
+    IfOk-from_err c.from_residual-in_err-family.result _ c.from_residual-in_err-family.ensures.0
 
 pub returns-in_err-family-clause-place : goal.returns-in_err-family-clause-place
-returns-in_err-family-clause-place g c = IfOk-from_err c.from_residual-in_err-family.result _ c.from_residual-in_err-family.ensures.0
+returns-in_err-family-clause-place g c =
+    IfOk-from_err c.from_residual-in_err-family.result _ c.from_residual-in_err-family.ensures.0
 
 pub returns-in_err-family-clause-unchanged : goal.returns-in_err-family-clause-unchanged
 returns-in_err-family-clause-unchanged g c =

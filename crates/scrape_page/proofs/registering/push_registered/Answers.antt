@@ -16,7 +16,8 @@ pub returns-in_err-copy-clause-unchanged : goal.returns-in_err-copy-clause-uncha
 returns-in_err-copy-clause-unchanged g c = on_err c.from_residual.result _ (refl, refl, refl)
 
 pub returns-in_err-kept-clause-registered : goal.returns-in_err-kept-clause-registered
-returns-in_err-kept-clause-registered g c = IfOk-from_err c.from_residual-in_err-kept.result _ c.from_residual-in_err-kept.ensures.0
+returns-in_err-kept-clause-registered g c =
+    IfOk-from_err c.from_residual-in_err-kept.result _ c.from_residual-in_err-kept.ensures.0
 
 pub returns-in_err-kept-clause-placed : goal.returns-in_err-kept-clause-placed
 returns-in_err-kept-clause-placed g c = IfOk-from_err c.from_residual-in_err-kept.result _ c.from_residual-in_err-kept.ensures.0
@@ -25,40 +26,55 @@ pub returns-in_err-kept-clause-unchanged : goal.returns-in_err-kept-clause-uncha
 returns-in_err-kept-clause-unchanged g c = on_err c.from_residual-in_err-kept.result _ (refl, refl, refl)
 
 pub returns-in_err-parts-clause-registered : goal.returns-in_err-parts-clause-registered
-returns-in_err-parts-clause-registered g c = IfOk-from_err c.from_residual-in_err-parts.result _ c.from_residual-in_err-parts.ensures.0
+returns-in_err-parts-clause-registered g c =
+    IfOk-from_err c.from_residual-in_err-parts.result _ c.from_residual-in_err-parts.ensures.0
 
 pub returns-in_err-parts-clause-placed : goal.returns-in_err-parts-clause-placed
-returns-in_err-parts-clause-placed g c = IfOk-from_err c.from_residual-in_err-parts.result _ c.from_residual-in_err-parts.ensures.0
+returns-in_err-parts-clause-placed g c =
+    IfOk-from_err c.from_residual-in_err-parts.result _ c.from_residual-in_err-parts.ensures.0
 
 pub returns-in_err-parts-clause-unchanged : goal.returns-in_err-parts-clause-unchanged
 returns-in_err-parts-clause-unchanged g c = on_err c.from_residual-in_err-parts.result _ (refl, refl, refl)
 
 pub returns-in_err-reserve-clause-registered : goal.returns-in_err-reserve-clause-registered
-returns-in_err-reserve-clause-registered g c = IfOk-from_err c.from_residual-in_err-reserve.result _ c.from_residual-in_err-reserve.ensures.0
+returns-in_err-reserve-clause-registered g c =
+    IfOk-from_err c.from_residual-in_err-reserve.result _ c.from_residual-in_err-reserve.ensures.0
 
 pub returns-in_err-reserve-clause-placed : goal.returns-in_err-reserve-clause-placed
-returns-in_err-reserve-clause-placed g c = IfOk-from_err c.from_residual-in_err-reserve.result _ c.from_residual-in_err-reserve.ensures.0
+returns-in_err-reserve-clause-placed g c =
+    IfOk-from_err c.from_residual-in_err-reserve.result _ c.from_residual-in_err-reserve.ensures.0
 
 pub returns-in_err-reserve-clause-unchanged : goal.returns-in_err-reserve-clause-unchanged
-returns-in_err-reserve-clause-unchanged g c = on_err c.from_residual-in_err-reserve.result _ (refl, c.in_err-reserve.ensures.items, refl)
+returns-in_err-reserve-clause-unchanged g c =
+    on_err c.from_residual-in_err-reserve.result _ (refl, c.in_err-reserve.ensures.items, refl)
 
 pub returns-in_err-reserve-2-clause-registered : goal.returns-in_err-reserve-2-clause-registered
-returns-in_err-reserve-2-clause-registered g c = IfOk-from_err c.from_residual-in_err-reserve-2.result _ c.from_residual-in_err-reserve-2.ensures.0
+returns-in_err-reserve-2-clause-registered g c =
+    IfOk-from_err c.from_residual-in_err-reserve-2.result _ c.from_residual-in_err-reserve-2.ensures.0
 
 pub returns-in_err-reserve-2-clause-placed : goal.returns-in_err-reserve-2-clause-placed
-returns-in_err-reserve-2-clause-placed g c = IfOk-from_err c.from_residual-in_err-reserve-2.result _ c.from_residual-in_err-reserve-2.ensures.0
+returns-in_err-reserve-2-clause-placed g c =
+    IfOk-from_err c.from_residual-in_err-reserve-2.result _ c.from_residual-in_err-reserve-2.ensures.0
 
 pub returns-in_err-reserve-2-clause-unchanged : goal.returns-in_err-reserve-2-clause-unchanged
-returns-in_err-reserve-2-clause-unchanged g c = on_err c.from_residual-in_err-reserve-2.result _ (refl, c.in_ok-reserve.ensures.items, c.in_err-reserve-2.ensures.items)
+returns-in_err-reserve-2-clause-unchanged g c =
+    on_err c.from_residual-in_err-reserve-2.result _ (refl, c.in_ok-reserve.ensures.items, c.in_err-reserve-2.ensures.items)
 
 pub returns-in_err-family-clause-registered : goal.returns-in_err-family-clause-registered
-returns-in_err-family-clause-registered g c = IfOk-from_err c.from_residual-in_err-family.result _ c.from_residual-in_err-family.ensures.0
+returns-in_err-family-clause-registered g c =
+    IfOk-from_err c.from_residual-in_err-family.result _ c.from_residual-in_err-family.ensures.0
 
 pub returns-in_err-family-clause-placed : goal.returns-in_err-family-clause-placed
-returns-in_err-family-clause-placed g c = IfOk-from_err c.from_residual-in_err-family.result _ c.from_residual-in_err-family.ensures.0
+returns-in_err-family-clause-placed g c =
+    IfOk-from_err c.from_residual-in_err-family.result _ c.from_residual-in_err-family.ensures.0
 
 pub returns-in_err-family-clause-unchanged : goal.returns-in_err-family-clause-unchanged
-returns-in_err-family-clause-unchanged g c = on_err c.from_residual-in_err-family.result _ (c.in_err-family.ensures.unchanged, c.in_ok-reserve.ensures.items, c.in_ok-reserve-2.ensures.items)
+returns-in_err-family-clause-unchanged g c =
+    on_err c.from_residual-in_err-family.result _ (
+      c.in_err-family.ensures.unchanged,
+      c.in_ok-reserve.ensures.items,
+      c.in_ok-reserve-2.ensures.items,
+    )
 
 pub returns-clause-registered : goal.returns-clause-registered
 returns-clause-registered g c = record {
@@ -88,7 +104,8 @@ pub register_on-requires : goal.register_on-requires
 register_on-requires g c = (search rules, c.requires.home)
 
 pub push_reserved-requires : goal.push_reserved-requires
-push_reserved-requires g c = let none = c.in_ok-parts.ensures.len in let room = c.in_ok-parts.ensures.capacity in omega (arith, none, room)
+push_reserved-requires g c =
+    let none = c.in_ok-parts.ensures.len in let room = c.in_ok-parts.ensures.capacity in omega (arith, none, room)
 
 pub push_reserved-requires-2 : goal.push_reserved-requires-2
 push_reserved-requires-2 g c = let room = c.in_ok-reserve.ensures.ok in omega (arith, room)

@@ -28,7 +28,8 @@ invariant_of-self-2 g c =
     let count = c.len-number.ensures in
     let under = c.if-number-ge-MAX_BOARDS.false in
     let few : length boards < 96 = omega (arith, count, under) in
-    let fresh : IsFresh boards c.args.board = subst (λ (bs : List (RegistryView g.row.S.Denot)). IsFresh bs c.args.board) c.deref.ensures.value
+    let fresh : IsFresh boards c.args.board =
+    subst (λ (bs : List (RegistryView g.row.S.Denot)). IsFresh bs c.args.board) c.deref.ensures.value
     (c.is_fresh.ensures.0 c.if-not-is_fresh.false) in
     let after : c.push_reserved.new.self.items ≡ boards ++ c.args.board ∷ [] =
     c.push_reserved.ensures.items ∙ ap (λ l. l ++ c.args.board ∷ []) c.reserve.ensures.items in
@@ -69,13 +70,15 @@ returns-then-not-is_fresh-clause-fresh g c = tt
 
 pub returns-then-not-is_fresh-clause-fault : goal.returns-then-not-is_fresh-clause-fault
 returns-then-not-is_fresh-clause-fault g c =
-    let held : c.self.inside.boards.items ≡ c.args.self.now.boards = ap (λ (p : PageView g.row.S.Denot). p.boards) c.self.view_is in
+    let held : c.self.inside.boards.items ≡ c.args.self.now.boards =
+    ap (λ (p : PageView g.row.S.Denot). p.boards) c.self.view_is in
     let count = c.len-number.ensures in
     let under = c.if-number-ge-MAX_BOARDS.false in
     let few : length c.self.inside.boards.items < 96 = omega (arith, count, under) in (
       subst (λ (bs : List (RegistryView g.row.S.Denot)). length bs < 96) held few,
-      (λ fresh. let both : false ≡ true = sym c.if-not-is_fresh.true ∙ c.is_fresh.ensures.1 (subst (λ (bs : List (RegistryView g.row.S.Denot)).
-          IsFresh bs c.args.board) (sym (c.deref.ensures.value ∙ held)) fresh) in cc),
+      (λ fresh. let both : false ≡ true = sym c.if-not-is_fresh.true
+          ∙ c.is_fresh.ensures.1 (subst (λ (bs : List (RegistryView g.row.S.Denot)). IsFresh bs c.args.board)
+          (sym (c.deref.ensures.value ∙ held)) fresh) in cc),
     )
 
 pub returns-then-not-is_fresh-clause-back : goal.returns-then-not-is_fresh-clause-back
@@ -95,7 +98,8 @@ returns-then-is_err-clause-fresh g c = tt
 
 pub returns-then-is_err-clause-fault : goal.returns-then-is_err-clause-fault
 returns-then-is_err-clause-fault g c =
-    let held : c.self.inside.boards.items ≡ c.args.self.now.boards = ap (λ (p : PageView g.row.S.Denot). p.boards) c.self.view_is in
+    let held : c.self.inside.boards.items ≡ c.args.self.now.boards =
+    ap (λ (p : PageView g.row.S.Denot). p.boards) c.self.view_is in
     let count = c.len-number.ensures in
     let under = c.if-number-ge-MAX_BOARDS.false in
     let few : length c.self.inside.boards.items < 96 = omega (arith, count, under) in (
@@ -128,7 +132,8 @@ returns-clause-added g c =
 
 pub returns-clause-fresh : goal.returns-clause-fresh
 returns-clause-fresh g c =
-    let held : c.self.inside.boards.items ≡ c.args.self.now.boards = ap (λ (p : PageView g.row.S.Denot). p.boards) c.self.view_is in
+    let held : c.self.inside.boards.items ≡ c.args.self.now.boards =
+    ap (λ (p : PageView g.row.S.Denot). p.boards) c.self.view_is in
     let count = c.len-number.ensures in
     let under = c.if-number-ge-MAX_BOARDS.false in
     let few : length c.self.inside.boards.items < 96 = omega (arith, count, under) in (
