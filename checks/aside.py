@@ -1,6 +1,6 @@
 """Wrong bodies. Each can be made still, of those that the gate tries and of those that stand aside in a folder `wrong-bodies/`. Those that
-stand aside were tried at the clauses and definitions that their crate has now: the file `tried.txt` beside them has the digest of these.
-After a trial of a crate `python3 -B checks/aside.py --tried CRATE` writes it."""
+stand aside were tried at the clauses and definitions that their crate has now, and at the definitions and types of the crates below that these
+cite: the file `tried.txt` beside them has the digest of all. After a trial of a crate `python3 -B checks/aside.py --tried CRATE` writes it."""
 import hashlib
 import pathlib
 import re
@@ -61,15 +61,15 @@ def function(tokens, at):
     return (tokens[begin:at] if has_clause else []) + clauses_in(tokens[at:end]), end
 
 
-def outline(source):
+def outline(source, has_calls=True):
     """A source without its comments, attributes, imports of code, and bodies: its types with what is true of them, its constants, and its
-    functions that have clauses, with these."""
+    functions that have clauses, with these, or no function."""
     tokens, told, at = tokens_of(source), [], 0
     while at < len(tokens):
         word = tokens[at]
         if word == "fn":
             promise, at = function(tokens, at)
-            told += promise
+            told += promise if has_calls else []
         elif word == "pub":
             at = end_of_group(tokens, at + 1) if tokens[at + 1] == "(" else at + 1
         elif word == "#":
@@ -87,14 +87,40 @@ def definitions(source):
     return re.sub(r"\{-.*?-\}|--[^\n]*", "", source, flags=re.S).split()
 
 
+def own(crate):
+    """The files with the clauses and definitions of a crate."""
+    return {*crate.glob("src/**/*.rt"), *crate.glob("specs/**/*.antt")}
+
+
+def file_of(crates, module):
+    """The file of a crate's module of definitions, or of its source that declares a type; None where it is none of this repository."""
+    name, _specs, *path = module.rstrip(".").split(".")[1:]
+    folder, end = (crates / name / "src", ".rt") if path[:1] in (["declared"], ["contracts"]) else (crates / name / "specs", ".antt")
+    path = path[1:] if end == ".rt" else path
+    tried = ["/".join(path[:long]) for long in range(len(path), 0, -1)] + (["lib"] if end == ".rt" else [])
+    return next((file for file in (folder / f"{it}{end}" for it in tried) if file.is_file()), None)
+
+
+def cited(crate):
+    """The files of the crates below with the definitions and types that those of a crate cite, and those that these cite in turn."""
+    found, left = set(), own(crate)
+    while left:
+        modules = set(re.findall(r"\bRattle\.\w+\.specs\.[\w.]+", left.pop().read_text()))
+        files = {file_of(crate.parent, it) for it in modules} - {None} - own(crate) - found
+        found |= files
+        left |= files
+    return found
+
+
 def digest(crate):
-    """The sum of all clauses and definitions of a crate, in the order of their files."""
-    told = hashlib.sha256()
-    for file in sorted([*crate.glob("src/**/*.rt"), *crate.glob("specs/**/*.antt")]):
-        words = (outline if file.suffix == ".rt" else definitions)(file.read_text())
+    """The sum of all clauses and definitions of a crate, and of the definitions and types below that they cite, in the order of their files."""
+    told, mine = hashlib.sha256(), own(crate)
+    for file in sorted(mine | cited(crate)):
+        source = file.read_text()
+        words = outline(source, file in mine) if file.suffix == ".rt" else definitions(source)
         # A list that is broken into lines ends with a sign which one of a single line has not.
         part = re.sub(r" ?[,;] ([)\]}>])", r" \1", " ".join(words))
-        told.update(f"{file.relative_to(crate).as_posix()}\n{part}\n".encode())
+        told.update(f"{file.relative_to(crate.parent).as_posix()}\n{part}\n".encode())
     return told.hexdigest()
 
 
