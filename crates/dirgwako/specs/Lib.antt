@@ -8,6 +8,7 @@ pub mod Recorders
 pub mod Refused
 pub mod Registering
 pub mod Scanning
+pub mod Setting
 pub mod Settling
 pub mod Spaced
 pub mod Texts

@@ -5,56 +5,14 @@ ghost use Rattle.scrape_http.specs.Serves.{IsServed, IsUnserved};
 ghost use Rattle.scrape_server.specs.Again.{AsksAgain};
 ghost use Rattle.dirgwako.specs.Answering.{Answers};
 
+use crate::ending::end;
+use crate::timed::Timed;
 use scrape_http::{ScrapeFrom, Served, serve_one};
-use scrape_server::{AskedAgain, close_behind};
-use std::io::{ErrorKind, Read, Result, Write};
+use scrape_server::AskedAgain;
+use std::io::{Read, Write};
 use std::net::TcpStream;
 use std::time::{Clock, Duration, Instant};
 use watched::Watched;
-
-/// A connection, of which all reads and writes together end with its time.
-#[derive(Drop)]
-struct Timed<'a, R> {
-    clock: &'a R,
-    stream: &'a TcpStream,
-    /// When it began.
-    start: Instant,
-    /// How long it may take.
-    patience: Duration,
-}
-
-impl<R: Clock> Timed<'_, R> {
-    /// How long it may still take.
-    fn left(&self) -> Result<Duration> {
-        let left = self
-            .patience
-            .saturating_sub(self.start.elapsed(self.clock)?);
-        if left.is_zero() {
-            return Err(ErrorKind::TimedOut.into());
-        }
-        Ok(left)
-    }
-}
-
-impl<R: Clock> Read for Timed<'_, R> {
-    fn read(&mut self, buf: &mut [u8]) -> Result<usize> {
-        self.stream.set_read_timeout(Some(self.left()?))?;
-        let mut stream = self.stream;
-        stream.read(buf)
-    }
-}
-
-impl<R: Clock> Write for Timed<'_, R> {
-    fn write(&mut self, buf: &[u8]) -> Result<usize> {
-        self.stream.set_write_timeout(Some(self.left()?))?;
-        let mut stream = self.stream;
-        stream.write(buf)
-    }
-
-    fn flush(&mut self) -> Result<()> {
-        Ok(())
-    }
-}
 
 /// Reads a request from one end and writes its reply to the other, of a source that is asked again where a scan was given up:
 /// [`serve_one`]. It tells the reply, or None where a read or a write failed, or the input ended.
@@ -86,8 +44,8 @@ fn reply<I: Read, O: Write, S: ScrapeFrom>(
     }
 }
 
-/// Answers one connection, and tells the reply, or None where there was none: it may take as long as `patience`, and then it is ended
-/// behind its reply.
+/// Answers one connection, and tells the reply, or None where there was none. It may take as long as `patience`, of which what is left, a second
+/// at most, is for its end behind the reply.
 pub(crate) fn answer<R: Clock, S: ScrapeFrom>(
     clock: &R,
     stream: &TcpStream,
@@ -99,20 +57,16 @@ pub(crate) fn answer<R: Clock, S: ScrapeFrom>(
     let Ok(start) = Instant::now(clock) else {
         return None;
     };
-    let mut reader = Watched::new(Timed {
+    let at = Timed {
         clock,
         stream,
         start,
         patience,
-    });
-    let mut writer = Watched::new(Timed {
-        clock,
-        stream,
-        start,
-        patience,
-    });
+    };
+    let mut reader = Watched::new(at);
+    let mut writer = Watched::new(at);
     let served = reply(&mut reader, &mut writer, source)?;
     // The reply is sent; that the client went away before the end is no fault of the service.
-    let _ = close_behind(stream, served.status);
+    let _ = end(at, served.status);
     Some(served)
 }

@@ -16,7 +16,7 @@ use std::thread::sleep;
 use std::time::{Clock, Duration};
 
 /// How often in a row a listener may fail before its server gives up.
-const TRIES: usize = 64;
+pub(crate) const TRIES: usize = 64;
 
 /// How long a server waits after its listener has failed, in milliseconds.
 const PAUSE: u64 = 100;
@@ -106,8 +106,7 @@ fn answer_forever<R: Wait, T: Connections>(rt: &R, at: &mut T) -> io::Result<()>
 
 /// Answers so many connections, one after the other, with scrapes of what is shared, a registry or a page behind its lock:
 /// [`scrape_http::serve_one`]. What goes wrong with one of them does not end the others. Each may take as long as `patience`, which is not 0: from when it is accepted until its request is
-/// read and its reply written, so that no client holds the server for longer, and the client has up to 20 seconds more to end its
-/// side. A scrape of a registry that was given up is asked for up to three times more, and a page asks each board again by itself; then the
+/// read, its reply written and the connection ended, of which the last takes a second at most: no client holds the server for longer. A scrape of a registry that was given up is asked for up to three times more, and a page asks each board again by itself; then the
 /// reply is 503.
 ///
 /// # Errors
