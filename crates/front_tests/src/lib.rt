@@ -8,4 +8,6 @@ mod crew;
 #[cfg(test)]
 mod growth;
 #[cfg(test)]
+mod naming;
+#[cfg(test)]
 mod tests;

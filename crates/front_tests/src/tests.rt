@@ -15,6 +15,7 @@ mod pages;
 mod refused;
 mod seconds;
 mod serving;
+mod setting;
 mod settled;
 mod sharing;
 mod shown;
@@ -63,6 +64,7 @@ enum Tried {
     Requests,
     Refusals,
     Seconds,
+    Setting,
     Tally,
     TallyRefused,
 }
@@ -81,6 +83,7 @@ fn try_of(
         Tried::Requests => shown::shows_requests(rt, registry, recorder),
         Tried::Refusals => counting::refuses_all(rt, registry, recorder),
         Tried::Seconds => seconds::counts_and_shows(rt, registry, recorder),
+        Tried::Setting => setting::sets_and_shows(rt, registry, recorder),
         Tried::Tally => tallies::publishes(rt, registry, recorder),
         Tried::TallyRefused => tallies::refuses(rt, recorder),
     }

@@ -1,8 +1,8 @@
 //! 300 routes, whose answers are counted by six codes and timed: ten areas of 30 routes, each a group, on a board of its own.
 use anyhow::{Context, Result};
 use dirgwako::{
-    Counter, CounterFamily, Histogram, HistogramFamily, OnPage, PageCrew, PageRecorder, Registrar,
-    ServiceRuntime, inc, observe, seconds_default, text_of,
+    Counter, CounterFamily, Histogram, HistogramFamily, OnPage, PageCrew, PageRecorder, Registers,
+    Registrar, ServiceRuntime, inc, observe, seconds_default, text_of,
 };
 use std::alloc::Global;
 use std::thread::for_each_mut;
@@ -28,9 +28,9 @@ struct Route {
     seconds: Histogram,
 }
 
-/// The counters of a route, one for each code.
+/// The counters of a route, one for each code. What only registers is generic in where: so it is proved sooner, and serves a board as well.
 fn counters_of(
-    metrics: &mut Metrics,
+    metrics: &mut Registrar<impl Registers>,
     alloc: Global,
     answers: &CounterFamily,
     route: &str,
@@ -45,7 +45,7 @@ fn counters_of(
 
 /// The handles of a route. They are copied, and a thread that counts asks for none.
 fn route_of(
-    metrics: &mut Metrics,
+    metrics: &mut Registrar<impl Registers>,
     alloc: Global,
     answers: &CounterFamily,
     seconds: &HistogramFamily,
@@ -57,17 +57,12 @@ fn route_of(
     Ok(Route { answers, seconds })
 }
 
-/// The two families of an area, in a group of their own, and their children. Each area but the first brings a board.
-fn register_area(
-    metrics: &mut Metrics,
+/// The two families of an area.
+fn families_of(
+    metrics: &mut Registrar<impl Registers>,
     alloc: Global,
     area: usize,
-    routes: &mut Vec<Route>,
-) -> Result<()> {
-    if area > 0 {
-        metrics.at.crew.add_board()?;
-    }
-    metrics.at.group = area as u64;
+) -> Result<(CounterFamily, HistogramFamily)> {
     let name = format!(in alloc; "area{area}_answers_total")?;
     let answers = metrics.counter_family(name.as_str(), "Answers.", &["route", "code"])?;
     let name = format!(in alloc; "area{area}_answer_seconds")?;
@@ -79,6 +74,21 @@ fn register_area(
         &bounds,
         6,
     )?;
+    Ok((answers, seconds))
+}
+
+/// The families of an area, in a group of their own, and their children. Each area but the first brings a board.
+fn register_area(
+    metrics: &mut Metrics,
+    alloc: Global,
+    area: usize,
+    routes: &mut Vec<Route>,
+) -> Result<()> {
+    if area > 0 {
+        metrics.at.crew.add_board()?;
+    }
+    metrics.at.group = area as u64;
+    let (answers, seconds) = families_of(metrics, alloc, area)?;
     for route in 0..ROUTES {
         routes.push(route_of(metrics, alloc, &answers, &seconds, route)?)?;
     }

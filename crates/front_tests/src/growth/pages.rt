@@ -1,6 +1,7 @@
 //! Calls of a page that take memory. Each that is refused leaves the page as it was, but for a board that has come, and answers the same call
 //! again as it would have answered the first one.
 use crate::asserts::{once_more, same, there};
+use crate::naming::{ask_child, ask_counters};
 use dirgwako::{
     Counter, CounterFamily, NoBoard, OnPage, PageCrew, PageCrewFault, PageRecorder, Registrar,
     text_of,
@@ -39,11 +40,11 @@ fn seen(metrics: &Metrics) -> (usize, usize, Option<(usize, usize)>) {
 
 /// A family of counters.
 fn family(rt: &impl Abort, metrics: &mut Metrics) -> Result<CounterFamily, Fail> {
-    match metrics.counter_family("a", "", &["l"]) {
+    match ask_counters(metrics, "a", "", &["l"]) {
         Ok(family) => Ok(family),
         Err(fault) => {
             same(rt, (fault.number(), seen(metrics)), (6, (1, 0, None)));
-            once_more(metrics.counter_family("a", "", &["l"]))
+            once_more(ask_counters(metrics, "a", "", &["l"]))
         }
     }
 }
@@ -57,7 +58,7 @@ fn child(
     value: &str,
     had: usize,
 ) -> Result<Counter, Fail> {
-    match metrics.counter_of(family, &[value]) {
+    match ask_child(metrics, family, &[value]) {
         Ok(counter) => Ok(counter),
         Err(fault) => {
             same(rt, fault.number(), 6);
@@ -68,7 +69,7 @@ fn child(
             let is_so = (boards == least || boards == had.saturating_add(1))
                 && (parts == least || parts == boards);
             same(rt, is_so, true);
-            once_more(metrics.counter_of(family, &[value]))
+            once_more(ask_child(metrics, family, &[value]))
         }
     }
 }

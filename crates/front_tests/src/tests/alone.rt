@@ -1,5 +1,6 @@
 //! One board of a page by itself, and tallies of a page's recorder.
 use crate::asserts::{need, same, there};
+use crate::naming::{counter, gauge};
 use dirgwako::{
     ApplyFault, CountFault, Counter, OnPage, OpFault, PageCrew, PageRecorder, Registrar, Tally,
     render,
@@ -20,8 +21,8 @@ fn opened(
 ) -> (Registrar<OnPage<1, 1, 0, 1>>, Counts, Counter, Counter) {
     let (crew, mut recorders) = need(rt, One::new(alloc, 2, 8));
     let mut metrics = Registrar::page(alloc, crew);
-    let a = need(rt, metrics.counter("a", ""));
-    let b = need(rt, metrics.counter("b", ""));
+    let a = counter(rt, &mut metrics, "a");
+    let b = counter(rt, &mut metrics, "b");
     same(rt, (a.registry, b.registry), (256, 257));
     (metrics, there(rt, recorders.pop()), a, b)
 }
@@ -57,7 +58,7 @@ const LARGE: u64 = 281_474_976_710_656;
 fn tallies_of_a_board(rt: HostRuntime) {
     let (rt, alloc) = (&rt, rt.alloc());
     let (mut metrics, mut recorder, _a, b) = opened(rt, alloc);
-    let up = need(rt, metrics.gauge("c", ""));
+    let up = gauge(rt, &mut metrics, "c");
     let mut crew = metrics.into_inner().crew;
     let mut tally: Tally<1, 0, 1, 4> = recorder.tally(b.registry);
     need(rt, tally.inc(&b, 2));

@@ -1,5 +1,6 @@
 //! A page behind its lock, by one thread: what no clause tells of a page that others share.
 use crate::asserts::{need, same, there};
+use crate::naming::{ask_child, ask_counter, child, counter, counters};
 use dirgwako::{
     BadWindow, ChildRefusal, Counter, FamilyRefusal, Kind, MetricRefusal, NoBoard, PageChildFault,
     PageCrew, PageRecorder, PageRegistry, RegisterFault, Registrar, scrape_text,
@@ -37,9 +38,9 @@ fn groups_behind_a_lock(rt: HostRuntime) {
     let (pages, mut recorder) = locked::<2>(rt, alloc);
     same(rt, pages.add_board(rt), Ok(1));
     let mut metrics = Registrar::shared_page(rt, &pages);
-    let a = need(rt, metrics.counter("a", ""));
+    let a = counter(rt, &mut metrics, "a");
     metrics.at.group = 1;
-    let b = need(rt, metrics.counter("b", ""));
+    let b = counter(rt, &mut metrics, "b");
     let at = |registry: u64| Counter { registry, slot: 0 };
     same(rt, (a, b), (at(FIRST), at(FIRST + 1)));
     let number = |name: &str| pages.family(rt, name).map(|family| family.number());
@@ -90,11 +91,11 @@ fn refused_behind_a_lock(rt: HostRuntime) {
     let (rt, alloc) = (&rt, rt.alloc());
     let (pages, _recorder) = locked::<200>(rt, alloc);
     let mut metrics = Registrar::shared_page(rt, &pages);
-    let family = need(rt, metrics.counter_family("a", "", &["l"]));
+    let family = counters(rt, &mut metrics, "a", &["l"]);
     let clash = FamilyRefusal::Register(RegisterFault::Clash { with: 0 });
     same(
         rt,
-        metrics.counter("a", ""),
+        ask_counter(&mut metrics, "a"),
         Err(MetricRefusal::Family(clash)),
     );
     let kind = Kind::Gauge;
@@ -103,10 +104,10 @@ fn refused_behind_a_lock(rt: HostRuntime) {
     same(rt, metrics.gauge_of(&gauges, &[]), Err(full));
     for length in 0..256usize {
         let value = need(rt, "x".repeat(alloc, length));
-        need(rt, metrics.counter_of(&family, &[value.as_str()]));
+        child(rt, &mut metrics, &family, &[value.as_str()]);
     }
     let many = ChildRefusal::Child(PageChildFault::TooManyChildren);
-    same(rt, metrics.counter_of(&family, &["y"]), Err(many));
+    same(rt, ask_child(&mut metrics, &family, &["y"]), Err(many));
     let crew = pages.into_crew();
     same(rt, (crew.first(), crew.page().boards().len()), (FIRST, 2));
 }

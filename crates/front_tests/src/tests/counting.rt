@@ -2,6 +2,7 @@
 use super::{Counts, Names, Tried, prints, try_out};
 use crate::asserts::{need, same};
 use crate::crew::ID;
+use crate::naming;
 use dirgwako::{ApplyFault, Change, CountFault, Counter, OpFault, Registrar, inc};
 use std::process::Abort;
 use std::sync::Wait;
@@ -64,7 +65,7 @@ pub(super) fn refuses_all(
     registry: &Names<'_>,
     recorder: &mut Counts<'_>,
 ) {
-    need(rt, Registrar::new(rt, registry).counter("a", ""));
+    naming::counter(rt, &mut Registrar::new(rt, registry), "a");
     refuses_lists(rt, recorder);
     refuses_changes(rt, recorder);
     prints(rt, registry, "# TYPE a counter\na 0\n");

@@ -1,5 +1,6 @@
 //! 32 threads count on 40 boards while their page is scraped.
 use crate::asserts::{need, same, there};
+use crate::naming;
 use dirgwako::{
     Counter, OnPage, PageCrew, PageRecorder, Registrar, Scrape, Snapshot, counter_total, inc,
     settle_board,
@@ -33,7 +34,7 @@ fn counter(
     board: usize,
 ) -> Counter {
     let name = need(rt, format!(in alloc; "{front}{board:02}_total"));
-    need(rt, metrics.counter(name.as_str(), ""))
+    naming::counter(rt, metrics, name.as_str())
 }
 
 /// Two counters of each board, in a group of its own.

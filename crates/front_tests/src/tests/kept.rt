@@ -3,6 +3,7 @@ use super::clients::{MISSING, OK_A, Step, play};
 use super::{Names, new_team, opened};
 use crate::asserts::{need, same, there};
 use crate::crew::ID;
+use crate::naming::counter;
 use dirgwako::{
     Answered, Registrar, RegistryState, Scanner, last_text, listen, port_of, serve_alone, text_of,
 };
@@ -29,7 +30,7 @@ fn keeps(rt: &impl Abort, state: &State<'_>, kept: usize, entries: usize) {
 
 /// The last scrape stands behind three others, and none of them is gone.
 fn ends(rt: &(impl Wait + Abort + AllocGlobal), registry: Names<'_>) {
-    need(rt, Registrar::new(rt, &registry).counter("a", ""));
+    counter(rt, &mut Registrar::new(rt, &registry), "a");
     for _ in 0..3 {
         need(rt, registry.scrape(rt));
     }
@@ -67,7 +68,7 @@ fn the_window_of_a_crew(rt: HostRuntime) {
     let mut team = new_team(rt, rt.alloc(), ID);
     let (state, _recorders, _scanners) = need(rt, team.open_state(2));
     let mut metrics = Registrar::of(rt.alloc(), state);
-    need(rt, metrics.counter("a", ""));
+    counter(rt, &mut metrics, "a");
     let state = scraped(rt, scraped(rt, scraped(rt, metrics.at)));
     keeps(rt, &state, 2, 4);
 }
@@ -122,7 +123,7 @@ fn served_alone(rt: HostRuntime) {
     let mut team = new_team(rt, rt.alloc(), ID);
     let (state, _recorders, _scanners) = need(rt, team.open_state(64));
     let mut metrics = Registrar::of(rt.alloc(), state);
-    need(rt, metrics.counter("a", ""));
+    counter(rt, &mut metrics, "a");
     let state = serves(rt, rt.alloc(), refuses(rt, metrics.at));
     keeps(rt, &state, 2, 4);
 }

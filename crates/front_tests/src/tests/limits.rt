@@ -2,6 +2,7 @@
 use super::Team;
 use crate::asserts::{need, same};
 use crate::crew::{ID, why_shut};
+use crate::naming::counter;
 use dirgwako::{
     BoardFault, CountFault, Counter, Crew, NewFault, OpenFault, Recorder, Registrar, Registry,
     Scanner, Snapshot, Source, counter_total, scrape_text,
@@ -58,7 +59,7 @@ fn count<const N: usize, const C: usize, const H: usize, const G: usize>(
     registry: &Registry<'_, N, C, H, G>,
     recorders: &mut [Recorder<'_, N, C, H, G>],
 ) -> Counter {
-    let counter = need(rt, Registrar::new(rt, registry).counter("a", ""));
+    let counter = counter(rt, &mut Registrar::new(rt, registry), "a");
     for (at, recorder) in recorders.iter_mut().enumerate() {
         same(rt, recorder.index(), at);
         need(rt, recorder.inc(&counter, 1));

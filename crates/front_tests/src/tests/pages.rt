@@ -1,5 +1,6 @@
 //! A page of boards through the library for services: boards that come, and what is refused.
 use crate::asserts::{need, same, there};
+use crate::naming::{ask_child, ask_gauge, child, counters};
 use dirgwako::{
     ChildRefusal, CountFault, Counter, CounterFamily, FamilyRefusal, Kind, MetricRefusal, NoBoard,
     OnPage, PageChildFault, PageCrew, PageCrewFault, PageRecorder, PublishFault, RegisterFault,
@@ -36,7 +37,7 @@ fn is_at(
     registry: u64,
     slot: usize,
 ) -> Counter {
-    let counter = need(rt, metrics.counter_of(family, &[value]));
+    let counter = child(rt, metrics, family, &[value]);
     same(rt, counter, Counter { registry, slot });
     counter
 }
@@ -51,7 +52,7 @@ const SHOWN: &str =
 fn boards_come(rt: HostRuntime) {
     let (rt, alloc) = (&rt, rt.alloc());
     let (mut metrics, mut recorder) = opened(rt, alloc);
-    let family = need(rt, metrics.counter_family("a_total", "", &["l"]));
+    let family = counters(rt, &mut metrics, "a_total", &["l"]);
     let x = is_at(rt, &mut metrics, &family, "x", FIRST, 0);
     need(rt, recorder.inc(&x, 5));
     is_at(rt, &mut metrics, &family, "y", FIRST, 1);
@@ -88,7 +89,7 @@ fn refuses(
     fault: ChildRefusal,
     number: u8,
 ) {
-    same(rt, metrics.counter_of(family, values), Err(fault));
+    same(rt, ask_child(metrics, family, values), Err(fault));
     same(rt, fault.number(), number);
 }
 
@@ -97,13 +98,13 @@ fn refuses(
 fn pages_refuse(rt: HostRuntime) {
     let (rt, alloc) = (&rt, rt.alloc());
     let (mut metrics, _recorder) = opened(rt, alloc);
-    let family = need(rt, metrics.counter_family("a_total", "", &["l"]));
+    let family = counters(rt, &mut metrics, "a_total", &["l"]);
     same(rt, metrics.at.crew.add_board(), Ok(1));
     metrics.at.group = 2;
     let clash = FamilyRefusal::Register(RegisterFault::Clash { with: 0 });
     same(
         rt,
-        metrics.gauge("a_total", ""),
+        ask_gauge(&mut metrics, "a_total"),
         Err(MetricRefusal::Family(clash)),
     );
     same(rt, clash.number(), 19);
@@ -122,7 +123,7 @@ fn pages_refuse(rt: HostRuntime) {
     let (want, got) = (1, 0);
     let few = ChildRefusal::Child(PageChildFault::LabelCount { want, got });
     refuses(rt, &mut metrics, &family, &[], few, 21);
-    match metrics.gauge("g", "") {
+    match ask_gauge(&mut metrics, "g") {
         Err(MetricRefusal::Child { family: _, fault }) => {
             let kind = Kind::Gauge;
             same(
@@ -149,7 +150,7 @@ fn numbered<const C: usize>(
     number: usize,
 ) -> Result<Counter, ChildRefusal> {
     let value = need(rt, format!(in alloc; "{number}"));
-    metrics.counter_of(family, &[value.as_str()])
+    ask_child(metrics, family, &[value.as_str()])
 }
 
 /// The first that is refused, of many counters of one family on boards of `C`, and how many boards there are then.
@@ -160,7 +161,7 @@ fn first_refused<const C: usize>(
     let (crew, mut recorders) = need(rt, PageCrew::<1, C, 0, 0>::new(alloc, 1, 1));
     let mut recorder = there(rt, recorders.pop());
     let mut metrics = Registrar::page(alloc, crew);
-    let family = need(rt, metrics.counter_family("a", "", &["l"]));
+    let family = counters(rt, &mut metrics, "a", &["l"]);
     for number in 0..300usize {
         match numbered(rt, alloc, &mut metrics, &family, number) {
             Ok(counter) => need(rt, recorder.inc(&counter, 1)),

@@ -3,14 +3,18 @@ use super::clients::{MISSING, OK_A, Step, connect, play};
 use super::{Names, new_team, opened};
 use crate::asserts::{need, same, there};
 use crate::crew::ID;
-use dirgwako::{Answered, Registrar, listen, port_of, serve, serve_forever};
+use crate::naming::counter;
+use dirgwako::{
+    Answered, Registrar, listen, port_of, serve, serve_forever, serve_on_threads, serve_until,
+};
 use std::alloc::Global;
 use std::io::{self, ErrorKind, Write};
 use std::net::{Net, TcpListener, TcpStream};
 use std::process::Abort;
 use std::sync::Wait;
+use std::sync::atomic::{AtomicBool, Ordering};
 use std::thread::{Threads, join, sleep};
-use std::time::{Clock, Duration};
+use std::time::{Clock, Duration, Instant};
 
 const GET: &[u8] = b"GET /metrics HTTP/1.1\r\nHost: h\r\n\r\n";
 
@@ -110,7 +114,7 @@ where
     need(rt, listener.set_nonblocking(true));
     let (end, got) = join(
         rt,
-        || serve_forever(rt, &listener, registry, Duration::from_secs(5)),
+        || serve_on_threads(rt, &listener, registry, Duration::from_secs(5), 2),
         || {
             sleep(rt, Duration::from_millis(250));
             play(rt, alloc, port, &GOOD[..1])
@@ -120,7 +124,41 @@ where
     ends_by(rt, end, ErrorKind::WouldBlock);
 }
 
-/// No patience at all is refused before a connection is accepted, of which there is none.
+/// One that says nothing and stays, and good ones beside it.
+const BESIDE: [Step; 4] = [
+    Step::Open,
+    Step::Ask(GET),
+    Step::Ask(GET),
+    Step::Ask(b"GET / HTTP/1.0\r\n\r\n"),
+];
+
+/// Of two threads one waits for a client that says nothing, and the other one answers all others meanwhile. At the end a flag is raised.
+fn serves_beside<T>(rt: &T, alloc: Global, registry: &Names<'_>)
+where
+    T: Abort + Clock + Threads + Wait + Sync + Net<Listener = TcpListener, Stream = TcpStream>,
+{
+    let listener = need(rt, listen(rt, 0));
+    let port = need(rt, port_of(&listener));
+    let stop = AtomicBool::new(false);
+    let patience = Duration::from_secs(30);
+    let (answered, got) = join(
+        rt,
+        || serve_until(rt, &listener, registry, patience, 2, &stop),
+        || {
+            let start = need(rt, Instant::now(rt));
+            let replies = play(rt, alloc, port, &BESIDE);
+            stop.store(true, Ordering::SeqCst);
+            (replies, need(rt, start.elapsed(rt)))
+        },
+    );
+    are(rt, &got.0, &[OK_A, OK_A, MISSING]);
+    same(rt, (got.1, got.1 < Duration::from_secs(20)), (got.1, true));
+    let (replies, faults) = (3, 1);
+    same(rt, need(rt, answered), Answered { replies, faults });
+}
+
+/// No patience at all is refused before a connection is accepted, of which there is none, and so are no threads and 33. Of 32 each sees that it is to
+/// stop.
 fn has_no_patience<T>(rt: &T, registry: &Names<'_>)
 where
     T: Abort + Clock + Threads + Wait + Sync + Net<Listener = TcpListener, Stream = TcpStream>,
@@ -130,6 +168,19 @@ where
     let invalid = ErrorKind::InvalidInput;
     ends_by(rt, serve(rt, &listener, registry, none, 1), invalid);
     ends_by(rt, serve_forever(rt, &listener, registry, none), invalid);
+    let stop = AtomicBool::new(true);
+    let end = serve_until(rt, &listener, registry, none, 1, &stop);
+    ends_by(rt, end, invalid);
+    for threads in [0, 33] {
+        let some = Duration::from_secs(1);
+        let end = serve_on_threads(rt, &listener, registry, some, threads);
+        ends_by(rt, end, invalid);
+        let end = serve_until(rt, &listener, registry, some, threads, &stop);
+        ends_by(rt, end, invalid);
+    }
+    let end = serve_until(rt, &listener, registry, Duration::from_secs(1), 32, &stop);
+    let (replies, faults) = (0, 0);
+    same(rt, need(rt, end), Answered { replies, faults });
 }
 
 /// How a server is visited.
@@ -138,6 +189,7 @@ enum Visited {
     ByAnybody,
     InVain,
     WithoutPatience,
+    BySilence,
 }
 
 /// A server is visited so.
@@ -151,11 +203,12 @@ where
         + Sync
         + Net<Listener = TcpListener, Stream = TcpStream>,
 {
-    need(rt, Registrar::new(rt, registry).counter("a", ""));
+    counter(rt, &mut Registrar::new(rt, registry), "a");
     match visited {
         Visited::ByAnybody => serves(rt, rt.alloc(), registry),
         Visited::InVain => listens_in_vain(rt, rt.alloc(), registry),
         Visited::WithoutPatience => has_no_patience(rt, registry),
+        Visited::BySilence => serves_beside(rt, rt.alloc(), registry),
     }
 }
 
@@ -189,4 +242,10 @@ fn a_listener_that_fails(rt: HostRuntime) {
 #[test]
 fn no_patience(rt: HostRuntime) {
     is_visited(&rt, Visited::WithoutPatience);
+}
+
+/// The client that says nothing is let go when the play ends: its thread is not waited for.
+#[test]
+fn beside_a_silent_client(rt: HostRuntime) {
+    is_visited(&rt, Visited::BySilence);
 }

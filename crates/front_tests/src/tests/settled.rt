@@ -2,6 +2,7 @@
 use super::{Counts, Names, new_team};
 use crate::asserts::{need, same, there};
 use crate::crew::ID;
+use crate::naming::counter;
 use dirgwako::{NotAll, Registrar, Snapshot, counter_total, settle};
 use std::process::Abort;
 use std::sync::Wait;
@@ -24,7 +25,7 @@ fn settles(
     registry: &Names<'_>,
     recorders: &mut [Counts<'_>],
 ) {
-    let counter = need(rt, Registrar::new(rt, registry).counter("a", ""));
+    let counter = counter(rt, &mut Registrar::new(rt, registry), "a");
     need(rt, there(rt, recorders.first_mut()).inc(&counter, 2));
     need(rt, there(rt, recorders.last_mut()).inc(&counter, 3));
     need(rt, there(rt, recorders.last_mut()).inc(&counter, 4));

@@ -1,6 +1,7 @@
 //! A page that threads share behind its lock: some register, one scrapes, and one serves, while it is counted.
 use super::clients::{Step, play};
 use crate::asserts::{need, same, there};
+use crate::naming::{child, counters};
 use dirgwako::{
     Answered, PageCrew, PageRecorder, PageRegistry, Registrar, listen, port_of, print_of,
     scrape_text, serve,
@@ -27,10 +28,10 @@ const CHILDREN: usize = 24;
 /// Asks for children, for each of which a board comes, and adds one to each.
 fn registers(rt: &(impl Wait + Abort + AllocGlobal), pages: &Pages, recorder: &mut Counts) {
     let mut metrics = Registrar::shared_page(rt, pages);
-    let family = &need(rt, metrics.counter_family("a", "", &["l"]));
+    let family = counters(rt, &mut metrics, "a", &["l"]);
     for length in 0..CHILDREN {
         let value = need(rt, "x".repeat(rt.alloc(), length));
-        let child = need(rt, metrics.counter_of(family, &[value.as_str()]));
+        let child = child(rt, &mut metrics, &family, &[value.as_str()]);
         need(rt, recorder.inc(&child, 1));
     }
 }

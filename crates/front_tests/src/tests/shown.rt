@@ -3,6 +3,7 @@
 use super::{Counts, Names, Tried, prints, try_out};
 use crate::asserts::{need, same};
 use crate::crew::ID;
+use crate::naming::{ask_counters, child};
 use dirgwako::{
     CountFault, Counter, Gauge, Histogram, PlainSource, PrintFault, Registers, Registrar,
     RegistryState, TextFault, down, inc, linear, observe, render, up,
@@ -116,11 +117,12 @@ pub(super) fn shows_requests(
 ) {
     let mut metrics = Registrar::new(rt, registry);
     let help = "The total number of HTTP requests.";
-    let family = metrics.counter_family("http_requests_total", help, &["method", "code"]);
+    let labels = ["method", "code"];
+    let family = ask_counters(&mut metrics, "http_requests_total", help, &labels);
     let family = need(rt, family);
-    let bad = need(rt, metrics.counter_of(&family, &["post", "400"]));
+    let bad = child(rt, &mut metrics, &family, &["post", "400"]);
     need(rt, recorder.inc(&bad, 3));
-    let good = need(rt, metrics.counter_of(&family, &["post", "200"]));
+    let good = child(rt, &mut metrics, &family, &["post", "200"]);
     need(rt, recorder.inc(&good, 1_027));
     prints(
         rt,

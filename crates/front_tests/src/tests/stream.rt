@@ -3,6 +3,7 @@ use super::clients::{OK_A, Step, begin, play};
 use super::{Names, new_team, opened};
 use crate::asserts::{need, same};
 use crate::crew::ID;
+use crate::naming::counter;
 use dirgwako::{FromRegistry, Registrar, Served, Status, WireFault, serve_stream};
 use std::alloc::Global;
 use std::net::{Ipv4Addr, Net, TcpListener, TcpStream};
@@ -67,7 +68,7 @@ where
         + Sync
         + Net<Listener = TcpListener, Stream = TcpStream>,
 {
-    need(rt, Registrar::new(rt, registry).counter("a", ""));
+    counter(rt, &mut Registrar::new(rt, registry), "a");
     let replies = serve_while_asked(rt, rt.alloc(), registry);
     let large = b"HTTP/1.1 431 Request Header Fields Too Large\r\n".as_slice();
     begin(rt, &replies, &[OK_A, large]);

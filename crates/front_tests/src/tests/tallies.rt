@@ -2,6 +2,7 @@
 use super::{Counts, Names, Tried, prints, try_out};
 use crate::asserts::{need, same};
 use crate::crew::ID;
+use crate::naming::{counter, gauge};
 use dirgwako::{ApplyFault, CountFault, Counter, OpFault, Registrar, Tally};
 use std::process::Abort;
 use std::sync::Wait;
@@ -22,10 +23,7 @@ pub(super) fn publishes(
     recorder: &mut Counts<'_>,
 ) {
     let mut metrics = Registrar::new(rt, registry);
-    let (a, b) = (
-        need(rt, metrics.counter("a", "")),
-        need(rt, metrics.gauge("b", "")),
-    );
+    let (a, b) = (counter(rt, &mut metrics, "a"), gauge(rt, &mut metrics, "b"));
     let mut tally = recorder.tally::<8>();
     need(rt, tally.inc(&a, 1));
     need(rt, tally.inc(&a, 2));

@@ -1,0 +1,80 @@
+//! What is registered, of whatever registers it. A call of the library by a type of its own takes some nine seconds to be proved, at each place:
+//! these are generic, and calls of them take none.
+use crate::asserts::need;
+use dirgwako::{
+    ChildRefusal, Counter, CounterFamily, FamilyRefusal, Gauge, MetricRefusal, Registers, Registrar,
+};
+use std::process::Abort;
+
+/// What comes of asking for a counter of this name.
+pub(crate) fn ask_counter<S: Registers>(
+    metrics: &mut Registrar<S>,
+    name: &str,
+) -> Result<Counter, MetricRefusal> {
+    metrics.counter(name, "")
+}
+
+/// What comes of asking for a gauge of this name.
+pub(crate) fn ask_gauge<S: Registers>(
+    metrics: &mut Registrar<S>,
+    name: &str,
+) -> Result<Gauge, MetricRefusal> {
+    metrics.gauge(name, "")
+}
+
+/// What comes of asking for a family of counters, by these labels.
+pub(crate) fn ask_counters<S: Registers>(
+    metrics: &mut Registrar<S>,
+    name: &str,
+    help: &str,
+    labels: &[&str],
+) -> Result<CounterFamily, FamilyRefusal> {
+    metrics.counter_family(name, help, labels)
+}
+
+/// What comes of asking for a counter of a family.
+pub(crate) fn ask_child<S: Registers>(
+    metrics: &mut Registrar<S>,
+    family: &CounterFamily,
+    values: &[&str],
+) -> Result<Counter, ChildRefusal> {
+    metrics.counter_of(family, values)
+}
+
+/// A counter of this name.
+pub(crate) fn counter<S: Registers>(
+    rt: &impl Abort,
+    metrics: &mut Registrar<S>,
+    name: &str,
+) -> Counter {
+    need(rt, ask_counter(metrics, name))
+}
+
+/// A gauge of this name.
+pub(crate) fn gauge<S: Registers>(
+    rt: &impl Abort,
+    metrics: &mut Registrar<S>,
+    name: &str,
+) -> Gauge {
+    need(rt, ask_gauge(metrics, name))
+}
+
+/// A family of counters, by these labels.
+pub(crate) fn counters<S: Registers>(
+    rt: &impl Abort,
+    metrics: &mut Registrar<S>,
+    name: &str,
+    labels: &[&str],
+) -> CounterFamily {
+    need(rt, ask_counters(metrics, name, "", labels))
+}
+
+/// A counter of a family.
+pub(crate) fn child<S: Registers>(
+    rt: &impl Abort,
+    metrics: &mut Registrar<S>,
+    family: &CounterFamily,
+    values: &[&str],
+) -> Counter {
+    need(rt, ask_child(metrics, family, values))
+}
