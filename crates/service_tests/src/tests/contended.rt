@@ -1,8 +1,6 @@
-//! A source that gives a scan up, as a registry and as a server of it meet that.
+//! A source that gives a scan up, as a registry meets that.
 ghost use Rattle.snapshot_scan.specs.Plain.{recorded_by};
 
-use super::ends::{ALL, Pieces, USUAL, came_to, replied, wide};
-use super::failing::BUSY;
 use crate::asserts::{done, need, same, there};
 use crate::crew::ID;
 use crate::helpers::{OnePlain, Over, family};
@@ -12,13 +10,9 @@ use ledger_core::Op;
 use metric_desc::{Desc, Kind};
 use metric_names::LabelValue;
 use registry_state::{ChildFault, FamilyId, Handle, Journal, RegisterFault, ScrapeFault};
-use scrape_http::{NoScrape, Status};
-use scrape_page::Page;
-use scrape_server::{FromState, scrape_again, serve_state};
 use snapshot_scan::{Contended, Snapshot, Source};
 use std::alloc::Global;
 use std::process::Abort;
-use watched::Watched;
 
 /// A source of one thread, which counts a list before each scan. Behind so many scans it gives so many up.
 #[derive(Drop)]
@@ -171,70 +165,4 @@ fn a_scrape_is_given_up(rt: HostRuntime) {
     for at in 0..4 {
         gives_up_once(&rt, rt.alloc(), at);
     }
-}
-
-/// The reply to the first scrape.
-const OK: &[u8] =
-    b"HTTP/1.1 200 OK\r\nContent-Type: text/plain; version=0.0.4; charset=utf-8\r\nContent-Length: 55\r\nConnection: close\r\n\r\n# TYPE a counter\na{l=\"x\"} 3\n# TYPE b gauge\nb{l=\"x\"} -2\n";
-
-/// A request gets this reply.
-fn replies(
-    rt: &impl Abort,
-    alloc: Global,
-    registry: &mut Over<GivesUp>,
-    bytes: &[u8],
-    (status, reply): (Status, &[u8]),
-) {
-    let (step, reads) = (ALL, ALL);
-    let mut reader = Watched::new(Pieces { bytes, step, reads });
-    let mut writer = wide(rt, alloc);
-    let answer = serve_state(&mut reader, &mut writer, registry);
-    let kept = registry.kept().len();
-    came_to(rt, writer, answer, kept, replied(status, reply));
-}
-
-/// A request whose scan is given up, a HEAD likewise, and one more.
-fn replies_in_turn(rt: &impl Abort, alloc: Global, registry: &mut Over<GivesUp>) {
-    let head = b"HEAD /metrics HTTP/1.0\r\n\r\n".as_slice();
-    let busy = Status::Unavailable;
-    replies(rt, alloc, registry, USUAL, (busy, BUSY));
-    replies(rt, alloc, registry, head, (busy, &BUSY[..116]));
-    replies(rt, alloc, registry, USUAL, (Status::Success, OK));
-}
-
-/// Where the scan is given up, 503 is replied, to a HEAD by its head alone, and 200 to the next request.
-#[test]
-fn a_server_replies_503(rt: HostRuntime) {
-    let rt = &rt;
-    same(rt, BUSY.len(), 136);
-    let mut registry = registry(rt, rt.alloc(), 0, 2);
-    made_both(
-        rt,
-        rt.alloc(),
-        &mut registry,
-        &mut done(rt, Look::new(rt.alloc())),
-    );
-    replies_in_turn(rt, rt.alloc(), &mut registry);
-}
-
-/// A page of one board, which gives so many scans up.
-fn page(rt: &impl Abort, alloc: Global, times: u64) -> Page<GivesUp, 1, 1, 1, 1> {
-    match Page::new(alloc, registry(rt, alloc, 0, times)) {
-        Ok(page) => page,
-        Err(_) => rt.panic("no page"),
-    }
-}
-
-/// A page asks its board four times, and is not asked again itself: of seven scans that are given up its first answer takes four, and its second
-/// one the others.
-#[test]
-fn a_page_is_asked_once(rt: HostRuntime) {
-    let rt = &rt;
-    let mut page = page(rt, rt.alloc(), 7);
-    let first = scrape_again(&mut FromState { state: &mut page });
-    same(rt, first.err(), Some(NoScrape::Contended));
-    let second = scrape_again(&mut FromState { state: &mut page });
-    same(rt, second.is_ok(), true);
-    let board = there(rt, page.into_boards().pop());
-    same(rt, board.into_source().given_up, 7);
 }

@@ -100,18 +100,6 @@ pub(super) fn unserved(fault: WireFault) -> Outcome<'static> {
     (Err(fault), b"", 0)
 }
 
-/// This writer was served by this answer, and so many scrapes are kept.
-pub(super) fn came_to(
-    rt: &impl Abort,
-    writer: Watched<Narrow>,
-    answer: Result<Served, WireFault>,
-    kept: usize,
-    outcome: Outcome<'_>,
-) {
-    same(rt, writer.into_inner().taken.as_slice(), outcome.1);
-    same(rt, (answer, kept), (outcome.0, outcome.2));
-}
-
 /// Serves a request from this registry, which comes to this. The writer takes one byte a write.
 pub(super) fn comes_to(
     rt: &impl Abort,
@@ -123,8 +111,8 @@ pub(super) fn comes_to(
     let mut reader = Watched::new(request);
     let mut writer = wide(rt, alloc);
     let answer = serve_state(&mut reader, &mut writer, registry);
-    let kept = registry.kept().len();
-    came_to(rt, writer, answer, kept, outcome);
+    same(rt, writer.into_inner().taken.as_slice(), outcome.1);
+    same(rt, (answer, registry.kept().len()), (outcome.0, outcome.2));
 }
 
 /// The same from a new registry with a counter, of a request that comes so many bytes a read, of which the `reads`th, from 0, fails.

@@ -10,7 +10,7 @@ use std::process::Abort;
 use watched::Watched;
 
 /// The reply where there is no scrape.
-pub(super) const BUSY: &[u8] =
+const BUSY: &[u8] =
     b"HTTP/1.1 503 Service Unavailable\r\nContent-Type: text/plain; charset=utf-8\r\nContent-Length: 20\r\nConnection: close\r\n\r\nService Unavailable\n";
 
 /// Each beginning of a request is a bad request, but for the empty one, which is none.
