@@ -13,7 +13,6 @@ set -eu
 here=$(cd "$(dirname "$0")" && pwd)
 top=$(cd "$here/../.." && pwd)
 out=$top/bindings/out
-work=$out/work
 
 fail() {
     echo "build.sh: $1" >&2
@@ -49,6 +48,7 @@ for it in rt cc ar; do
     command -v $it > /dev/null || fail "'$it' is not on the path"
 done
 kit=$(dirname "$(rt doc)")
+cores=$(getconf _NPROCESSORS_ONLN)
 
 # The archive of the crate in this folder, over the libraries below: what `rt lib` does last. What was proved for these four numbers is kept in
 # $checked, and taken again only where nothing has changed that the proof has read.
@@ -68,19 +68,19 @@ library() {
     [ -d "$checked" ] && "$kit/bin/rattle" build $words --crate-checked "$checked" $made && return
     rm -rf "$checked"
     mkdir -p "$out/checked"
-    "$kit/bin/rattle" check $words --logic-built "$kit/logic_built" --jobs "$(getconf _NPROCESSORS_ONLN)" -o "$checked" \
+    "$kit/bin/rattle" check $words --logic-built "$kit/logic_built" --jobs "$jobs" -o "$checked" \
         && "$kit/bin/rattle" build $words --crate-checked "$checked" $made
 }
 
 # The library of this name for these four numbers, from a copy of the crate, which is proved for them.
 make() {
-    name=$1
-    rm -rf "$work"
+    name=$1 work=$out/work/$1
+    mkdir -p "$out/work"
     cp -r "$top/crates/dirgwako_c" "$work"
     for it in "WORKERS $2" "COUNTERS $3" "HISTOGRAMS $4" "GAUGES $5"; do
         sed -i "s/const ${it% *}: usize = .*;/const ${it% *}: usize = ${it#* };/" "$work/src/geometry.rt"
     done
-    (cd "$work" && library "$2" "$3" "$4" "$5") > "$out/build.log" 2>&1 || fail "$name is not built: $out/build.log says why"
+    (cd "$work" && library "$2" "$3" "$4" "$5") > "$out/$name.log" 2>&1 || fail "$name is not built: $out/$name.log says why"
 
     # One archive has it all: the library, what it calls of the C library's heap, and the ids of boards.
     mkdir "$work/objects"
@@ -106,10 +106,19 @@ find "$out" -mindepth 1 -maxdepth 1 ! -name checked -exec rm -rf {} +
 [ "$proved" ] || (cd "$top/crates/dirgwako_c" && rt lib) > "$out/build.log" 2>&1 || fail "the library is not built: $out/build.log says why"
 cp "$here/dirgwako.h" "$here/dirgwako_heap.h" "$out/"
 if [ $# = 4 ]; then
+    jobs=$cores
     make dirgwako "$@"
 else
-    make dirgwako 4 64 8 8
-    make dirgwako16 16 256 32 64
-    make dirgwako32 32 256 32 64
+    # Side by side, each by few processes: each process of a proof reads anew what it rests on.
+    jobs=$((cores > 3 ? cores / 3 : 1)) is_made=1
+    make dirgwako 4 64 8 8 &
+    small=$!
+    make dirgwako16 16 256 32 64 &
+    large=$!
+    make dirgwako32 32 256 32 64 &
+    for it in $small $large $!; do
+        wait "$it" || is_made=''
+    done
+    [ "$is_made" ] || exit 1
 fi
-rm -rf "$work"
+rm -rf "$out/work"

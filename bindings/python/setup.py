@@ -59,7 +59,7 @@ def by_build():
                  f"let pkg-config find {LIBRARY} (PKG_CONFIG_PATH), or run {build} where the toolchain is")
         print(f"dirgwako: {build} builds and proves the C library, which takes half an hour", flush=True)
         if subprocess.run([build]).returncode:
-            fail(f"{build} has failed: {folder / 'build.log'} says why")
+            fail(f"{build} has failed, and has printed which file says why")
     return folder, [C_LIBRARY]
 
 
