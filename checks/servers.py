@@ -131,6 +131,14 @@ def the_example_is_at_the_port_asked_for(_program, service, printed):
     expect(it, (printed.read_bytes(), b"", 0))
 
 
+def the_tutorial_serves(program, _service, _printed):
+    tutorial = program.parents[2] / "tutorial"
+    it = server(tutorial / "out/tutorial", "1")
+    reply = ask(port_told(it.stderr))
+    check(reply.startswith(OK) and reply.endswith(b"\nvisits_total 3\n"), f"the tutorial's counter is scraped: {reply}")
+    expect(it, ((tutorial / "stdout").read_bytes(), b"", 0))
+
+
 ALL = [
     the_program_serves,
     the_port_is_the_one_asked_for,
@@ -138,6 +146,7 @@ ALL = [
     there_is_no_room_for_threads,
     the_example_serves,
     the_example_is_at_the_port_asked_for,
+    the_tutorial_serves,
 ]
 
 
