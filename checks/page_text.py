@@ -5,6 +5,7 @@ import re
 import shutil
 import sys
 
+from shifted import parser
 from started import Failed, Skipped, check, run
 
 FILES = ("tests/pages/shown.rt", "tests/pages/threads.rt", "growth/pages.rt")
@@ -117,10 +118,7 @@ def check_exact(root, bench):
 
 
 def check_python(root, bench):
-    try:
-        from prometheus_client.parser import text_string_to_metric_families
-    except ImportError as why:
-        raise Skipped("there is no Python client of Prometheus") from why
+    text_string_to_metric_families = parser()
     texts = texts_of(root, bench)
     for text in texts:
         families = list(text_string_to_metric_families(text))

@@ -1,11 +1,15 @@
 """The rows of numbers that a text shows shifted: each is the exact decimal, and Prometheus' own parsers read it as the float nearest to that."""
 import decimal
+import importlib
+import importlib.util
 import re
 import shutil
 import sys
 
 from started import Failed, Skipped, check, run
 
+# Where Debian's packages for Python are, which a Python that is before Debian's on the path does not look into.
+DEBIAN = "/usr/lib/python3/dist-packages"
 ROW = re.compile(r'^    \((\d), (u64::MAX|[\d_]+), b"([^"]*)"\),$', re.M)
 TEXT = re.compile(r'b"(# TYPE (?:[^"\\]|\\.|\\\n)*)",\n', re.S)
 
@@ -36,11 +40,18 @@ def check_exact(root):
     return len(rows_of(root))
 
 
-def check_python(root):
+def parser():
+    """Prometheus' own parser for Python, of this Python or of Debian's."""
+    if not importlib.util.find_spec("prometheus_client") and DEBIAN not in sys.path:
+        sys.path.append(DEBIAN)
     try:
-        from prometheus_client.parser import text_string_to_metric_families
+        return importlib.import_module("prometheus_client.parser").text_string_to_metric_families
     except ImportError as why:
         raise Skipped("there is no Python client of Prometheus") from why
+
+
+def check_python(root):
+    text_string_to_metric_families = parser()
     for digits, number, shown in rows_of(root):
         (family,) = text_string_to_metric_families(f"# TYPE a counter\na {shown}\n")
         value = family.samples[0].value
