@@ -1,6 +1,7 @@
 //! Gauges that are set, on a board and on a page, timers, and bounds of sizes.
 use super::{Counts, Names, Tried, prints, try_out};
 use crate::asserts::{need, same, there};
+use crate::crew::ID;
 use crate::naming::gauge;
 use dirgwako::{
     Bounds, CountFault, Gauge, GaugeCell, PageCrew, Registrar, Timer, bytes_default, text_of,
@@ -33,7 +34,7 @@ pub(super) fn sets_and_shows(
     let gauge = gauge(rt, &mut Registrar::new(rt, registry), "g");
     sets(rt, recorder, gauge);
     prints(rt, registry, "# TYPE g gauge\ng 12\n");
-    let (registry, slot) = (gauge.registry + 1, 0);
+    let (registry, slot) = (ID + 1, 0);
     let mut other = GaugeCell::new(Gauge { registry, slot });
     let refused = other.set(recorder, 1);
     same(rt, refused, Err(CountFault::WrongRegistry));
