@@ -1,8 +1,9 @@
 //! A connection is ended behind its reply.
 use crate::timed::Timed;
 use scrape_http::Status;
+use scrape_server::has_input;
 use std::io::{Read, Result};
-use std::net::{Shutdown, TcpStream};
+use std::net::Shutdown;
 use std::time::{Clock, Duration, Instant};
 
 /// How many milliseconds a client has at most to end its side.
@@ -13,18 +14,6 @@ const READS: usize = 64;
 
 /// How many bytes each of them takes, at most.
 const TAKEN: usize = 4_096;
-
-/// Whether input waits that nobody has read; a byte of it is taken. It waits for nothing.
-fn has_input(mut stream: &TcpStream) -> Result<bool> {
-    stream.set_nonblocking(true)?;
-    match stream.read(&mut [0; 1]) {
-        Ok(0) | Err(_) => Ok(false),
-        Ok(_) => {
-            stream.set_nonblocking(false)?;
-            Ok(true)
-        }
-    }
-}
 
 /// Reads what a client still sends, until it ends or fails, or its time is over.
 fn drain<R: Clock>(mut rest: Timed<'_, R>) {

@@ -12,25 +12,25 @@ use thiserror::Error;
 #[derive(Clone, Copy, Debug, PartialEq, Eq, Error)]
 pub enum FamilyRefusal {
     /// Refusals 1, 2, 3 and 6 of the name.
-    #[error(transparent)]
+    #[error("{}: {}", .0.number(), .0)]
     Name(MetricNameFault),
     /// Refusals 3, 5 and 6 of the help.
-    #[error(transparent)]
+    #[error("{}: {}", .0.number(), .0)]
     Help(HelpTextFault),
     /// Refusals 1 to 4 and 6 of the label's name at the place `at`, from 0.
-    #[error("label {at}: {fault}")]
+    #[error("{}: label {}: {}", .fault.number(), .at, .fault)]
     Label { at: usize, fault: LabelNameFault },
     /// Refusals 9 and 7 of the labels of a counter or a gauge.
-    #[error(transparent)]
+    #[error("{}: {}", .0.number(), .0)]
     Labels(LabelsFault),
     /// Refusals 9, 7, 8 and 10 of the labels and the bounds of a histogram.
-    #[error(transparent)]
+    #[error("{}: {}", .0.number(), .0)]
     Histogram(HistogramFault),
     /// Refusal 43: a text shifts numbers by at most 9 digits.
-    #[error(transparent)]
+    #[error("{}: {}", .0.number(), .0)]
     Digits(TooManyDigits),
     /// Refusals 19, 23 and 6 of the registry.
-    #[error(transparent)]
+    #[error("{}: {}", .0.number(), .0)]
     Register(RegisterFault),
 }
 
@@ -56,17 +56,17 @@ impl FamilyRefusal {
 #[derive(Clone, Copy, Debug, PartialEq, Eq, Error)]
 pub enum ChildRefusal {
     /// Refusal 20: the family is of a registry of another id.
-    #[error("the family is of another registry")]
+    #[error("20: the family is of another registry")]
     OtherRegistry,
     /// Refusals 3 and 6 of the label value at the place `at`, from 0.
-    #[error("value {at}: {fault}")]
+    #[error("{}: value {}: {}", .fault.number(), .at, .fault)]
     Value { at: usize, fault: LabelValueFault },
     /// Refusals 20, 21, 22 and 6 of the registry, and 46 of a page.
-    #[error(transparent)]
+    #[error("{}: {}", .0.number(), .0)]
     Child(PageChildFault),
     /// Refusal 28: the registry's family of this number is of another kind. So a family is told that is of another registry of the same
     /// id, where the kinds differ.
-    #[error("the family is of another kind")]
+    #[error("28: the family is of another kind")]
     OtherKind,
 }
 

@@ -8,10 +8,10 @@ use thiserror::Error;
 #[derive(Clone, Copy, Debug, PartialEq, Eq, Error)]
 pub enum OpenFault {
     /// Refusal 32: it was opened before.
-    #[error("the crew was opened before")]
+    #[error("32: the crew was opened before")]
     Opened,
     /// Refusals 31 and 6 of the registry, and 6 of the recorders and scanners.
-    #[error(transparent)]
+    #[error("{}: {}", .0.number(), .0)]
     Registry(NewFault),
 }
 

@@ -14,10 +14,10 @@ use thiserror::Error;
 #[derive(Clone, Copy, Debug, PartialEq, Eq, Error)]
 pub enum TextFault {
     /// Refusal 6: there is no memory, for the scrape or for its text.
-    #[error("out of memory")]
+    #[error("6: out of memory")]
     NoMemory,
     /// Refusal 14: the scan was given up, and so was each that was asked for after it.
-    #[error("the scan was given up")]
+    #[error("14: the scan was given up")]
     Contended,
 }
 

@@ -87,6 +87,23 @@ impl<'a, const N: usize, const C: usize, const H: usize, const G: usize> Recorde
         self.worker.inc(self.board, counter, by)
     }
 
+    /// Adds 1 to a counter: [`Recorder::inc`].
+    ///
+    /// # Errors
+    ///
+    /// As [`Recorder::inc`].
+    pub fn inc_one(&mut self, counter: &Counter) -> Result<(), CountFault>
+        ensures board { board_in self.new ≡ board_in self.old }
+        ensures index { index_of (worker_in self.new) ≡ index_of (worker_in self.old) }
+        ensures counted { OnOk result (IsCounted (id_in self.old) counter.now.registry (Inc counter.now.slot 1)
+            (worker_in self.old) (worker_in self.new)) }
+        ensures fault { IfErr result (IsCountFault C H G (id_in self.old) counter.now.registry (Inc counter.now.slot 1)
+            (member_of (worker_in self.old))) }
+        ensures unchanged { OnErr result (member_of (worker_in self.new) ≡ member_of (worker_in self.old)) }
+    {
+        self.inc(counter, 1)
+    }
+
     /// Counts a value of a histogram: its bucket, the sum and the count rise in one version. [`Worker::observe`].
     ///
     /// # Errors

@@ -13,8 +13,9 @@ use page_crew::{Change, PageRecorder, PublishFault, down, up};
 use snapshot_update::CountFault;
 
 /// A gauge that one thread sets, such as the length of a queue. Gauges go up and down by recorders; this keeps the value that it was set to last,
-/// 0 at first, and goes up or down by the difference. What is shown is that value while nobody else counts on the gauge.
-#[derive(Clone, Copy, Debug)]
+/// 0 at first, and goes up or down by the difference. What is shown is that value while nobody else counts on the gauge. It is no copy: two of
+/// one gauge, each set, would add up.
+#[derive(Debug, Drop)]
 pub struct GaugeCell {
     gauge: Gauge,
     last: i64,

@@ -21,6 +21,7 @@ mod sharing;
 mod shown;
 mod stream;
 mod tallies;
+mod told;
 
 use crate::asserts::{need, same, there};
 use crate::crew::ID;

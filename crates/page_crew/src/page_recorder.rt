@@ -191,6 +191,22 @@ impl<const N: usize, const C: usize, const H: usize, const G: usize> PageRecorde
         }
     }
 
+    /// Adds 1 to a counter: [`PageRecorder::inc`].
+    ///
+    /// # Errors
+    ///
+    /// As [`PageRecorder::inc`].
+    pub fn inc_one(&mut self, counter: &Counter) -> Result<(), CountFault>
+        ensures counted { OnOk result (IsPublishedOn counter.now.registry (Inc counter.now.slot 1 ∷ []) (recorders_of self.old)
+            (recorders_of self.new)) }
+        ensures fault { IfErr result (IsRefusedOn counter.now.registry (Inc counter.now.slot 1 ∷ []) (recorders_of self.old)
+            (recorders_of self.new)) }
+        ensures first { first_of self.new ≡ first_of self.old }
+        ensures feed { SameConsumer (feed_of self.old) (feed_of self.new) }
+    {
+        self.inc(counter, 1)
+    }
+
     /// Counts a value of a histogram: its bucket, the sum and the count rise in one version of its board.
     ///
     /// # Errors

@@ -72,7 +72,7 @@ pub enum PageChildFault {
     #[error("the family has 256 children")]
     TooManyChildren,
     /// Refusal 22: every slot of this kind is used, on every board.
-    #[error("every slot of this kind is used on every board")]
+    #[error("every {kind:?} slot is used on every board")]
     Full { kind: Kind },
     /// Refusal 6: a growth was refused.
     #[error("out of memory")]

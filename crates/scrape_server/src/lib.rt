@@ -13,4 +13,4 @@ mod stream;
 pub use again::{AskedAgain, scrape_again};
 pub use registry::FromRegistry;
 pub use state::{FromState, MakesScrapes, serve_state};
-pub use stream::{close_behind, close_in_stages, serve_stream};
+pub use stream::{close_behind, close_in_stages, has_input, serve_stream};

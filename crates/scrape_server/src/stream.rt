@@ -43,8 +43,13 @@ pub fn close_in_stages(stream: &TcpStream) -> io::Result<()> {
     Ok(())
 }
 
-/// Whether input waits that nobody has read; a byte of it is taken. It waits for nothing.
-fn has_input(mut stream: &TcpStream) -> io::Result<bool> {
+/// Whether input waits that nobody has read; a byte of it is taken. It waits for nothing. Where there is none, reads of the socket wait for nothing from
+/// then on.
+///
+/// # Errors
+///
+/// That of the socket.
+pub fn has_input(mut stream: &TcpStream) -> io::Result<bool> {
     stream.set_nonblocking(true)?;
     match stream.read(&mut [0; 1]) {
         Ok(0) | Err(_) => Ok(false),
