@@ -23,16 +23,24 @@ as_register_fault OfPage.NoMemory = Of.NoMemory
 
 module _ {N C H G : ℕ} (old new : OnPage N C H G) where
   module _ (desc : Descriptor) where
-    -- a registration: a family behind all that were there, of this descriptor, in the group; or nothing
-    abbrev pub RegistersOnPage : Result FamilyId RegisterFault → Type 0
-    RegistersOnPage (Ok family) = (new.group ≡ old.group) × (family.number ≡ length (page_of old.crew).families)
+    -- a family behind all that were there, of this descriptor, in the group; or nothing
+    abbrev pub RegistersFamily : Result FamilyId RegisterFault → Type 0
+    RegistersFamily (Ok family) = (new.group ≡ old.group) × (family.number ≡ length (page_of old.crew).families)
         × AreApart (page_of old.crew).families desc × (length (page_of old.crew).families < 128)
         × PageDid old.crew new.crew (λ a b. (home : ℕ) × IsHome C H G a desc.kind old.group home × AddsFamily a b desc old.group home)
-    RegistersOnPage (Err why) = (new.group ≡ old.group) × IsUnchanged old.crew new.crew
+    RegistersFamily (Err why) = (new.group ≡ old.group) × IsUnchanged old.crew new.crew
         × ((fault : PageFamilyFault) × (why ≡ as_register_fault fault) × IsPageFamilyFault (page_of old.crew).families desc fault)
 
+    -- a registration (as a record, so that a call's check reads it closed)
+    pub record RegistersOnPage (answer : Result FamilyId RegisterFault) : Type 0 where
+      pub did : RegistersFamily answer
+
   module _ (family : FamilyId) (values : List (List ℕ)) where
-    -- the asking for a child: one that was there or is made, on a board that came for it where it had to; or why there is none
-    abbrev pub GivesOnPage : Result Handle PageChildFault → Type 0
-    GivesOnPage (Ok handle) = (new.group ≡ old.group) × IsGivenByCrew old.crew new.crew family.number values handle × IsInside C H G handle
-    GivesOnPage (Err why) = (new.group ≡ old.group) × IsRefusedByCrew old.crew new.crew family.number values why
+    -- one that was there or is made, on a board that came for it where it had to; or why there is none
+    abbrev pub GivesChild : Result Handle PageChildFault → Type 0
+    GivesChild (Ok handle) = (new.group ≡ old.group) × IsGivenByCrew old.crew new.crew family.number values handle × IsInside C H G handle
+    GivesChild (Err why) = (new.group ≡ old.group) × IsRefusedByCrew old.crew new.crew family.number values why
+
+    -- the asking for a child
+    pub record GivesOnPage (answer : Result Handle PageChildFault) : Type 0 where
+      pub did : GivesChild answer
