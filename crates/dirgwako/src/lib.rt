@@ -133,6 +133,7 @@ pub use serving::Answered;
 pub use serving::serve;
 pub use serving::serve_alone;
 pub use serving::serve_forever;
+pub use serving::serve_next;
 pub use setting::GaugeCell;
 pub use settling::settle;
 pub use shared::Shared;

@@ -140,6 +140,36 @@ pub fn serve<R: Wait + Clock, X: Shared>(
     )
 }
 
+/// Answers the next connection as [`serve`], and tells its reply: None where the client went away, sent no byte, or took longer than the
+/// patience. So a service counts its own replies by their status.
+///
+/// # Errors
+///
+/// As [`serve`].
+pub fn serve_next<R: Wait + Clock, X: Shared>(
+    rt: &R,
+    listener: &TcpListener,
+    registry: &X,
+    patience: Duration,
+) -> io::Result<Option<Served>>
+    ensures { as_nanos patience ≡ 0 → IsErr result }
+{
+    if patience.is_zero() {
+        return Err(ErrorKind::InvalidInput.into());
+    }
+    let source = FromShared {
+        rt,
+        shared: registry,
+    };
+    let mut at = Listening {
+        clock: rt,
+        listener,
+        source: AskedAgain { source },
+        patience,
+    };
+    at.answer_next()
+}
+
 /// [`serve`] of a registry that nobody shares ([`RegistryState`](registry_state::RegistryState), as it is behind a lock; or what else makes
 /// scrapes), which comes back after it. So its clauses say what each reply that it tells did to the registry: each 200 came of a scrape that this
 /// registry made and kept, and each other reply than 503 left it as it was. A scrape that was given up is asked for up to

@@ -11,6 +11,7 @@ mod crowd;
 mod kept;
 mod limits;
 mod memory;
+mod next;
 mod pages;
 mod refused;
 mod seconds;

@@ -14,9 +14,9 @@ gives : {N C H G : ℕ} (old new : OnPage N C H G) (family : FamilyId) (number :
     → IfOk r (IsGivenByCrew old.crew new.crew number values) → IfOk r (IsInside C H G)
     → IfErr r (IsRefusedByCrew old.crew new.crew number values) → GivesOnPage old new family values r
 gives old new family number values (Ok handle) is group given inside fault =
-    record { did = (group, subst (λ n. IsGivenByCrew old.crew new.crew n values handle) is given, inside); }
+    record { did = (group, subst (λ n. IsGivenByCrew old.crew new.crew n values handle) is given, inside) }
 gives old new family number values (Err why) is group given inside fault =
-    record { did = (group, subst (λ n. IsRefusedByCrew old.crew new.crew n values why) is fault); }
+    record { did = (group, subst (λ n. IsRefusedByCrew old.crew new.crew n values why) is fault) }
 
 pub returns : goal.returns
 returns g c =
