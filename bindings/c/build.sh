@@ -50,10 +50,18 @@ done
 kit=$(dirname "$(rt doc)")
 cores=$(getconf _NPROCESSORS_ONLN)
 
-# The archive of the crate in this folder, over the libraries below: what `rt lib` does last. What was proved for these four numbers is kept in
-# $checked, and taken again only where nothing has changed that the proof has read.
+# Where what was proved for these four numbers is kept: a build proves again only what has changed, or rests on what has. Most functions are for any
+# numbers, so the first build for some begins with what the last one has left for others, or a check of the crate.
+kept_for() {
+    kept=$out/kept/$1_$2_$3_$4
+    last=$(ls -td "$out"/kept/*/ "$top/crates/dirgwako_c/out/incremental/" 2> /dev/null | head -n 1)
+    [ -d "$kept" ] || [ ! "$last" ] || cp -Rl "$last" "$kept" 2> /dev/null || { rm -rf "$kept" && cp -R "$last" "$kept"; }
+    mkdir -p "$kept"
+}
+
+# The archive of the crate in this folder, over the libraries below: what `rt lib` does last.
 library() {
-    words='' checked=$out/checked/$1_$2_$3_$4
+    words='' kept=$out/kept/$1_$2_$3_$4
     for it in std $(sed -n 's/^dirgwako_c staticlib: //p' "$top/crates.txt"); do
         file=$kit/rlibs/$it.rlib
         [ ! -d "$top/crates/$it" ] || file=$top/crates/$it/out/rlib/$it.rlib
@@ -63,13 +71,9 @@ library() {
         words="$words -L dependency=$it"
     done
     # (each word is one: no path here has a blank)
-    words="--crate-name dirgwako_c src/lib.rt $words --antt-project $kit/rattle/logic/antt-project.json --links dirgwako_c= --crate-type staticlib"
-    made="--toolchain $kit/toolchain --backend ${compiler:-llvm} -o archive.a"
-    [ -d "$checked" ] && "$kit/bin/rattle" build $words --crate-checked "$checked" $made && return
-    rm -rf "$checked"
-    mkdir -p "$out/checked"
-    "$kit/bin/rattle" check $words --logic-built "$kit/logic_built" --jobs "$jobs" -o "$checked" \
-        && "$kit/bin/rattle" build $words --crate-checked "$checked" $made
+    "$kit/bin/rattle" build --crate-name dirgwako_c src/lib.rt $words --antt-project "$kit/rattle/logic/antt-project.json" --links dirgwako_c= \
+        --crate-type staticlib --logic-built "$kit/logic_built" --incremental "$kept" --jobs "$jobs" --toolchain "$kit/toolchain" \
+        --backend "${compiler:-llvm}" -o archive.a
 }
 
 # The library of this name for these four numbers, from a copy of the crate, which is proved for them.
@@ -102,21 +106,24 @@ END
 }
 
 mkdir -p "$out"
-find "$out" -mindepth 1 -maxdepth 1 ! -name checked -exec rm -rf {} +
+find "$out" -mindepth 1 -maxdepth 1 ! -name kept -exec rm -rf {} +
 [ "$proved" ] || (cd "$top/crates/dirgwako_c" && rt lib) > "$out/build.log" 2>&1 || fail "the library is not built: $out/build.log says why"
 cp "$here/dirgwako.h" "$here/dirgwako_heap.h" "$out/"
+jobs=$cores
 if [ $# = 4 ]; then
-    jobs=$cores
+    kept_for "$@"
     make dirgwako "$@"
 else
-    # Side by side, each by few processes: each process of a proof reads anew what it rests on.
-    jobs=$((cores > 3 ? cores / 3 : 1)) is_made=1
-    make dirgwako 4 64 8 8 &
-    small=$!
+    kept_for 4 64 8 8
+    make dirgwako 4 64 8 8
+    # The others side by side, over what the first has proved.
+    kept_for 16 256 32 64
+    kept_for 32 256 32 64
+    jobs=$((cores > 1 ? cores / 2 : 1)) is_made=1
     make dirgwako16 16 256 32 64 &
     large=$!
     make dirgwako32 32 256 32 64 &
-    for it in $small $large $!; do
+    for it in $large $!; do
         wait "$it" || is_made=''
     done
     [ "$is_made" ] || exit 1

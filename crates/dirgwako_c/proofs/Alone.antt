@@ -15,91 +15,91 @@ use Rattle.scrape_server.specs.Scrapes.{Scrapes}
 use Rattle.scrape_server.proofs.Askings.{at_end}
 use Rattle.dirgwako_c.specs.Numbers.{Board, Reads, numbers_of, no_scrape_number}
 use Rattle.dirgwako_c.specs.Registries.{Owner, IsHandedOver, owner_in, page_in, spare_in}
-use Rattle.dirgwako_c.specs.declared.geometry.TheConstants.{WORKERS, COUNTERS, HISTOGRAMS, GAUGES}
 use Rattle.dirgwako_c.specs.declared.held.HeldRegistry.{HeldRegistry}
 use Rattle.dirgwako_c.proofs.Places.{same_there, set_now}
 
--- the board of this number alone was asked for a scrape, and gave this
-abbrev pub AsksAlone : (old new : Owner) → (number : ℕ) → Result Scraped NoScrape → Type 0
-AsksAlone old new number result = PageDid old new (λ a b.
-    BoardAloneScrapes WORKERS COUNTERS HISTOGRAMS GAUGES recorded_in quit_in gave_in gave_up_in number a b result)
+module _ {N C H G : ℕ} where
+  -- the board of this number alone was asked for a scrape, and gave this
+  abbrev pub AsksAlone : (old new : Owner N C H G) → (number : ℕ) → Result Scraped NoScrape → Type 0
+  AsksAlone old new number result = PageDid old new (λ a b.
+      BoardAloneScrapes N C H G recorded_in quit_in gave_in gave_up_in number a b result)
 
-module _ (before after : HeldRegistry) (number : ℕ) where
-  abbrev Alone : Result Scraped NoScrape → Type 0
-  Alone result = AsksAlone (owner_in before) (owner_in after) number result
+  module _ (before after : HeldRegistry N C H G) (number : ℕ) where
+    abbrev Alone : Result Scraped NoScrape → Type 0
+    Alone result = AsksAlone (owner_in before) (owner_in after) number result
 
-  -- the board, after it
-  pub now_there : (result : Result Scraped NoScrape) (did : Alone result) → slice_get (page_in after).boards number ≡ Some did.1.after
-  now_there result did =
-      ap (λ (page : PageView (SharedScanner WORKERS COUNTERS HISTOGRAMS GAUGES)). slice_get page.boards number) did.1.new_is
-      ∙ set_now (page_in before).boards number did.1.before did.1.after did.1.at
+    -- the board, after it
+    pub now_there : (result : Result Scraped NoScrape) (did : Alone result) → slice_get (page_in after).boards number ≡ Some did.1.after
+    now_there result did =
+        ap (λ (page : PageView (SharedScanner N C H G)). slice_get page.boards number) did.1.new_is
+        ∙ set_now (page_in before).boards number did.1.before did.1.after did.1.at
 
-  -- the board that was read behind it
-  pub board_there : (scrape : Scraped) → Alone (Ok scrape) → (xs : List Board) (board : Board) → xs ≡ (page_in after).boards
-      → board ≡ get_or xs number board → slice_get (page_in after).boards number ≡ Some board
-  board_there scrape did xs board same read =
-      let now = (page_in after).boards in
-      let within = slice_get_within now number did.1.after (now_there (Ok scrape) did) in
-      slice_get_read now (length now) number board refl within (subst (λ (l : List Board). board ≡ get_or l number board) same read)
+    -- the board that was read behind it
+    pub board_there : (scrape : Scraped) → Alone (Ok scrape) → (xs : List (Board N C H G)) (board : Board N C H G) → xs ≡ (page_in after).boards
+        → board ≡ get_or xs number board → slice_get (page_in after).boards number ≡ Some board
+    board_there scrape did xs board same read =
+        let now = (page_in after).boards in
+        let within = slice_get_within now number did.1.after (now_there (Ok scrape) did) in
+        slice_get_read now (length now) number board refl within (subst (λ (l : List (Board N C H G)). board ≡ get_or l number board) same read)
 
-  -- where a scrape was made, one is kept
-  pub kept_there : (scrape : Scraped) → Alone (Ok scrape) → (board : Board) → slice_get (page_in after).boards number ≡ Some board
-      → IsSome board.state.last
-  kept_there scrape did board there =
-      let (mid, given) = at_end (Scrapes WORKERS COUNTERS HISTOGRAMS GAUGES recorded_in quit_in gave_in gave_up_in) 3 did.1.before
-      did.1.after (Ok scrape) did.1.scrapes in
-      let last = ap (λ (s : State). s.last) given.kept.state in
-      let is = same_there (slice_get (page_in after).boards number) did.1.after board (now_there (Ok scrape) did) there in
-      subst (λ (b : Board). IsSome b.state.last) is (subst (λ (o : Option Answer). IsSome o) (sym last) refl)
+    -- where a scrape was made, one is kept
+    pub kept_there : (scrape : Scraped) → Alone (Ok scrape) → (board : Board N C H G) → slice_get (page_in after).boards number ≡ Some board
+        → IsSome board.state.last
+    kept_there scrape did board there =
+        let (mid, given) = at_end (Scrapes N C H G recorded_in quit_in gave_in gave_up_in) 3 did.1.before
+        did.1.after (Ok scrape) did.1.scrapes in
+        let last = ap (λ (s : State). s.last) given.kept.state in
+        let is = same_there (slice_get (page_in after).boards number) did.1.after board (now_there (Ok scrape) did) there in
+        subst (λ (b : Board N C H G). IsSome b.state.last) is (subst (λ (o : Option Answer). IsSome o) (sym last) refl)
 
-  module _ (answer : ℕ) (had has : List ℕ) (had_len has_len : ℕ) (spare : spare_in after ≡ spare_in before) where
-    pub read_made : (scrape : Scraped) → Alone (Ok scrape) → (board : Board) (moment : Answer)
-        → slice_get (page_in after).boards number ≡ Some board → board.state.last ≡ Some moment
-        → IsHandedOver (numbers_of board.id moment) answer had has has_len
-        → Reads number answer before after had has had_len has_len
-    read_made scrape did board moment there last handed =
-        let is = sym (same_there (slice_get (page_in after).boards number) did.1.after board (now_there (Ok scrape) did) there) in (
-          spare,
-          inl (record {
-            old = did.1.before;
-            new = did.1.after;
-            at = did.1.at;
-            page = (did.0, did.1.new_is, did.2);
-            did = record {
-              made = Ok tt;
-              asks = (scrape, did.1.scrapes);
-              reads = (
-                moment,
-                subst (λ (b : Board). b.state.last ≡ Some moment) is last,
-                subst (λ (b : Board). IsHandedOver (numbers_of b.id moment) answer had has has_len) is handed,
-              );
-            };
-          }),
-        )
+    module _ (answer : ℕ) (had has : List ℕ) (had_len has_len : ℕ) (spare : spare_in after ≡ spare_in before) where
+      pub read_made : (scrape : Scraped) → Alone (Ok scrape) → (board : Board N C H G) (moment : Answer)
+          → slice_get (page_in after).boards number ≡ Some board → board.state.last ≡ Some moment
+          → IsHandedOver (numbers_of board.id moment) answer had has has_len
+          → Reads number answer before after had has had_len has_len
+      read_made scrape did board moment there last handed =
+          let is = sym (same_there (slice_get (page_in after).boards number) did.1.after board (now_there (Ok scrape) did) there) in (
+            spare,
+            inl (record {
+              old = did.1.before;
+              new = did.1.after;
+              at = did.1.at;
+              page = (did.0, did.1.new_is, did.2);
+              did = record {
+                made = Ok tt;
+                asks = (scrape, did.1.scrapes);
+                reads = (
+                  moment,
+                  subst (λ (b : Board N C H G). b.state.last ≡ Some moment) is last,
+                  subst (λ (b : Board N C H G). IsHandedOver (numbers_of b.id moment) answer had has has_len) is handed,
+                );
+              };
+            }),
+          )
 
-  pub read_none : (why : NoScrape) (answer : ℕ) (had : List ℕ) (had_len : ℕ) → spare_in after ≡ spare_in before → Alone (Err why)
-      → answer ≡ no_scrape_number why → Reads number answer before after had had had_len had_len
-  read_none why answer had had_len spare did told = (
-    spare,
-    inl (record {
-      old = did.1.before;
-      new = did.1.after;
-      at = did.1.at;
-      page = (did.0, did.1.new_is, did.2);
-      did = record {
-        made = Err why;
-        asks = did.1.scrapes;
-        reads = (told, refl, refl);
-      };
-    }),
-  )
+    pub read_none : (why : NoScrape) (answer : ℕ) (had : List ℕ) (had_len : ℕ) → spare_in after ≡ spare_in before → Alone (Err why)
+        → answer ≡ no_scrape_number why → Reads number answer before after had had had_len had_len
+    read_none why answer had had_len spare did told = (
+      spare,
+      inl (record {
+        old = did.1.before;
+        new = did.1.after;
+        at = did.1.at;
+        page = (did.0, did.1.new_is, did.2);
+        did = record {
+          made = Err why;
+          asks = did.1.scrapes;
+          reads = (told, refl, refl);
+        };
+      }),
+    )
 
--- the same of what the values are by another name
-pub read_as : (number : ℕ) (before after after' : HeldRegistry) (answer answer' : ℕ) (had has has' : List ℕ) (had_len has_len has_len' : ℕ)
-    → after ≡ after' → answer ≡ answer' → has ≡ has' → has_len ≡ has_len' → Reads number answer' before after' had has' had_len has_len'
-    → Reads number answer before after had has had_len has_len
-read_as number before after after' answer answer' had has has' had_len has_len has_len' one two three four it =
-    subst (λ (r : HeldRegistry). Reads number answer before r had has had_len has_len) (sym one)
-    (subst (λ (a : ℕ). Reads number a before after' had has had_len has_len) (sym two)
-    (subst (λ (b : List ℕ). Reads number answer' before after' had b had_len has_len) (sym three)
-    (subst (λ (l : ℕ). Reads number answer' before after' had has' had_len l) (sym four) it)))
+  -- the same of what the values are by another name
+  pub read_as : (number : ℕ) (before after after' : HeldRegistry N C H G) (answer answer' : ℕ) (had has has' : List ℕ) (had_len has_len has_len' : ℕ)
+      → after ≡ after' → answer ≡ answer' → has ≡ has' → has_len ≡ has_len' → Reads number answer' before after' had has' had_len has_len'
+      → Reads number answer before after had has had_len has_len
+  read_as number before after after' answer answer' had has has' had_len has_len has_len' one two three four it =
+      subst (λ (r : HeldRegistry N C H G). Reads number answer before r had has had_len has_len) (sym one)
+      (subst (λ (a : ℕ). Reads number a before after' had has had_len has_len) (sym two)
+      (subst (λ (b : List ℕ). Reads number answer' before after' had b had_len has_len) (sym three)
+      (subst (λ (l : ℕ). Reads number answer' before after' had has' had_len l) (sym four) it)))

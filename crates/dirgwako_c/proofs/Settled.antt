@@ -15,12 +15,12 @@ use Rattle.page_crew.specs.Held.{recorders_of}
 use Rattle.page_crew.specs.Shared.{worker_in}
 use Rattle.dirgwako_c.specs.Registries.{recorder_in}
 use Rattle.dirgwako_c.specs.Settling.{OneWorker, OneSeat, alone, seats_on, Knows, workers_of, published_in}
-use Rattle.dirgwako_c.specs.declared.geometry.TheConstants.{COUNTERS, HISTOGRAMS}
 use Rattle.dirgwako_c.specs.declared.held.HeldRecorder.{HeldRecorder}
 
--- its worker
-abbrev pub its : OneSeat → OneWorker
-its r = worker_in r
+module _ {N C H G : ℕ} where
+  -- its worker
+  abbrev pub its : OneSeat N C H G → OneWorker N C H G
+  its r = worker_in r
 
 -- the items from a place on are the one at the place, and those behind it
 drop_next : {A : Type 0} (l : List A) (p : ℕ) (x : A) → get_elem? l p ≡ some x → drop p l ≡ x ∷ drop (suc p) l
@@ -56,59 +56,60 @@ set_here [] i a lt = absurd (omega (arith, lt))
 set_here (x ∷ l) zero a lt = refl
 set_here (x ∷ l) (suc i) a lt = set_here l i a (omega (arith, lt))
 
--- the worker of a recorder stands at its place
-pub worker_here : (rs : List OneSeat) (p : ℕ) (r : OneSeat) → get_elem? rs p ≡ some r → get_elem? (workers_of rs) p ≡ some (its r)
-worker_here rs p r e = mapped_here its rs p r e
+module _ {N C H G : ℕ} where
+  -- the worker of a recorder stands at its place
+  pub worker_here : (rs : List (OneSeat N C H G)) (p : ℕ) (r : OneSeat N C H G) → get_elem? rs p ≡ some r → get_elem? (workers_of rs) p ≡ some (its r)
+  worker_here rs p r e = mapped_here its rs p r e
 
--- a worker of these recorders is that of the recorder at its place
-pub worker_at : (rs : List OneSeat) (p : ℕ) (w : OneWorker) → get_elem? (workers_of rs) p ≡ some w
-    → (r : OneSeat) × (get_elem? rs p ≡ some r) × (its r ≡ w)
-worker_at rs p w e = mapped_at its rs p w e
+  -- a worker of these recorders is that of the recorder at its place
+  pub worker_at : (rs : List (OneSeat N C H G)) (p : ℕ) (w : OneWorker N C H G) → get_elem? (workers_of rs) p ≡ some w
+      → (r : OneSeat N C H G) × (get_elem? rs p ≡ some r) × (its r ≡ w)
+  worker_at rs p w e = mapped_at its rs p w e
 
--- a worker of these recorders stands before their end
-pub worker_below : (rs : List OneSeat) (p : ℕ) (w : OneWorker) → get_elem? (workers_of rs) p ≡ some w → p < length rs
-worker_below rs p w e = let (r, there, is) = worker_at rs p w e in at_below rs p r there
+  -- a worker of these recorders stands before their end
+  pub worker_below : (rs : List (OneSeat N C H G)) (p : ℕ) (w : OneWorker N C H G) → get_elem? (workers_of rs) p ≡ some w → p < length rs
+  worker_below rs p w e = let (r, there, is) = worker_at rs p w e in at_below rs p r there
 
--- what those from a place on have published is what the one there has, and those behind it
-pub next_published : (rs : List OneSeat) (p q k : ℕ) (r : OneSeat) → suc p ≡ q → get_elem? rs p ≡ some r
-    → published_in (drop p rs) k ≡ word_after (sum_ops COUNTERS HISTOGRAMS) (member_of (its r)).work.made k + published_in (drop q rs) k
-next_published rs p q k r next at = ap (λ (l : List OneSeat). published_in l k) (drop_next rs p r at)
-    ∙ (one_more COUNTERS HISTOGRAMS k (its r) (workers_of (drop (suc p) rs))
-    ∙ ap (λ n. word_after (sum_ops COUNTERS HISTOGRAMS) (member_of (its r)).work.made k + published_in (drop n rs) k) next)
+  -- what those from a place on have published is what the one there has, and those behind it
+  pub next_published : (rs : List (OneSeat N C H G)) (p q k : ℕ) (r : OneSeat N C H G) → suc p ≡ q → get_elem? rs p ≡ some r
+      → published_in (drop p rs) k ≡ word_after (sum_ops C H) (member_of (its r)).work.made k + published_in (drop q rs) k
+  next_published rs p q k r next at = ap (λ (l : List (OneSeat N C H G)). published_in l k) (drop_next rs p r at)
+      ∙ (one_more C H k (its r) (workers_of (drop (suc p) rs))
+      ∙ ap (λ n. word_after (sum_ops C H) (member_of (its r)).work.made k + published_in (drop n rs) k) next)
 
--- behind the last one nothing is published
-pub none_published : (rs : List OneSeat) (p k : ℕ) → length rs ≤ p → published_in (drop p rs) k ≡ 0
-none_published rs p k few = ap (λ (l : List OneSeat). published_in l k) (drop_of_length-le rs few)
+  -- behind the last one nothing is published
+  pub none_published : (rs : List (OneSeat N C H G)) (p k : ℕ) → length rs ≤ p → published_in (drop p rs) k ≡ 0
+  none_published rs p k few = ap (λ (l : List (OneSeat N C H G)). published_in l k) (drop_of_length-le rs few)
 
-module _ (board : ℕ) where
-  -- what a recorder has on the board
-  abbrev seat_of : HeldRecorder → Option OneSeat
-  seat_of r = slice_get (recorders_of (recorder_in r)) board
+  module _ (board : ℕ) where
+    -- what a recorder has on the board
+    abbrev seat_of : HeldRecorder N C H G → Option (OneSeat N C H G)
+    seat_of r = slice_get (recorders_of (recorder_in r)) board
 
-  has_seat : (r : HeldRecorder) → Knows board r → (s : OneSeat) × (seat_of r ≡ Some s)
-  has_seat r knows = elim (slice_get_cases (recorders_of (recorder_in r)) board).1 [
-    | inl there ↦ (there.0, there.2)
-    | inr none ↦ absurd (let past = none.0 in omega (arith, past, knows))
-  ]
+    has_seat : (r : HeldRecorder N C H G) → Knows board r → (s : OneSeat N C H G) × (seat_of r ≡ Some s)
+    has_seat r knows = elim (slice_get_cases (recorders_of (recorder_in r)) board).1 [
+      | inl there ↦ (there.0, there.2)
+      | inr none ↦ absurd (let past = none.0 in omega (arith, past, knows))
+    ]
 
-  first_seat : (r : HeldRecorder) (rs : List HeldRecorder) (s : OneSeat) → seat_of r ≡ Some s
-      → seats_on board (r ∷ rs) ≡ s ∷ seats_on board rs
-  first_seat r rs s is = ap (λ (o : Option OneSeat). alone o ++ seats_on board rs) is
+    first_seat : (r : HeldRecorder N C H G) (rs : List (HeldRecorder N C H G)) (s : OneSeat N C H G) → seat_of r ≡ Some s
+        → seats_on board (r ∷ rs) ≡ s ∷ seats_on board rs
+    first_seat r rs s is = ap (λ (o : Option (OneSeat N C H G)). alone o ++ seats_on board rs) is
 
-  -- where all know the board, there are as many seats on it
-  pub seats_many : (rs : List HeldRecorder) → All (Knows board) rs → length (seats_on board rs) ≡ length rs
-  seats_many [] all = refl
-  seats_many (r ∷ rs) all =
-      let (s, is) = has_seat r (All-head (Knows board) r rs all) in
-      ap length (first_seat r rs s is) ∙ ap (λ (n : ℕ). suc n) (seats_many rs (All-tail (Knows board) r rs all))
+    -- where all know the board, there are as many seats on it
+    pub seats_many : (rs : List (HeldRecorder N C H G)) → All (Knows board) rs → length (seats_on board rs) ≡ length rs
+    seats_many [] all = refl
+    seats_many (r ∷ rs) all =
+        let (s, is) = has_seat r (All-head (Knows board) r rs all) in
+        ap length (first_seat r rs s is) ∙ ap (λ (n : ℕ). suc n) (seats_many rs (All-tail (Knows board) r rs all))
 
-  -- and each stands at the place of its recorder
-  pub seat_here : (rs : List HeldRecorder) → All (Knows board) rs → (p : ℕ) (r : HeldRecorder) (s : OneSeat) → get_elem? rs p ≡ some r
-      → seat_of r ≡ Some s → get_elem? (seats_on board rs) p ≡ some s
-  seat_here [] all p r s at is = absurd (some-ne-none r (sym at))
-  seat_here (q ∷ rs) all zero r s at is =
-      ap (λ (l : List OneSeat). get_elem? l zero) (first_seat q rs s (ap seat_of (some-injective q r at) ∙ is))
-  seat_here (q ∷ rs) all (suc p) r s at is =
-      let (t, there) = has_seat q (All-head (Knows board) q rs all) in
-      ap (λ (l : List OneSeat). get_elem? l (suc p)) (first_seat q rs t there)
-      ∙ seat_here rs (All-tail (Knows board) q rs all) p r s at is
+    -- and each stands at the place of its recorder
+    pub seat_here : (rs : List (HeldRecorder N C H G)) → All (Knows board) rs → (p : ℕ) (r : HeldRecorder N C H G) (s : OneSeat N C H G) → get_elem? rs p ≡ some r
+        → seat_of r ≡ Some s → get_elem? (seats_on board rs) p ≡ some s
+    seat_here [] all p r s at is = absurd (some-ne-none r (sym at))
+    seat_here (q ∷ rs) all zero r s at is =
+        ap (λ (l : List (OneSeat N C H G)). get_elem? l zero) (first_seat q rs s (ap seat_of (some-injective q r at) ∙ is))
+    seat_here (q ∷ rs) all (suc p) r s at is =
+        let (t, there) = has_seat q (All-head (Knows board) q rs all) in
+        ap (λ (l : List (OneSeat N C H G)). get_elem? l (suc p)) (first_seat q rs t there)
+        ∙ seat_here rs (All-tail (Knows board) q rs all) p r s at is

@@ -3,6 +3,7 @@ pub mod Recorders
 pub mod Registries
 pub mod Changes
 pub mod Numbers
+pub mod Told
 pub mod Boards
 pub mod Settling
 pub mod About

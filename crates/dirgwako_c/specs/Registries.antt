@@ -27,163 +27,163 @@ use Rattle.scrape_http.specs.declared.serve.Served.{Served}
 use Rattle.scrape_http.specs.declared.source.NoScrape.{NoScrape}
 use Rattle.scrape_page.specs.Families.{PageView}
 use Rattle.dirgwako_c.specs.Held.{answer_of}
-use Rattle.dirgwako_c.specs.declared.geometry.TheConstants.{WORKERS, COUNTERS, HISTOGRAMS, GAUGES}
 use Rattle.dirgwako_c.specs.declared.held.HeldRecorder.{HeldRecorder}
 use Rattle.dirgwako_c.specs.declared.held.HeldRegistry.{HeldRegistry}
 use Rattle.dirgwako_c.specs.declared.spare.Spare.{Spare}
 
 -- a page of this geometry, with all who work on its boards
-abbrev pub Owner : Type 0
-Owner = PageCrew WORKERS COUNTERS HISTOGRAMS GAUGES
+abbrev pub Owner : (N C H G : ℕ) → Type 0
+Owner N C H G = PageCrew N C H G
 
 -- such a page, and the group of the families to come
-abbrev pub Grouped : Type 0
-Grouped = OnPage WORKERS COUNTERS HISTOGRAMS GAUGES
+abbrev pub Grouped : (N C H G : ℕ) → Type 0
+Grouped N C H G = OnPage N C H G
 
--- the recorder that a handle holds
-abbrev pub recorder_in : HeldRecorder → PageRecorder WORKERS COUNTERS HISTOGRAMS GAUGES
-recorder_in held = held.recorder
+module _ {N C H G : ℕ} where
+  -- the recorder that a handle holds
+  abbrev pub recorder_in : HeldRecorder N C H G → PageRecorder N C H G
+  recorder_in held = held.recorder
 
--- the recorders that nobody has, in order
-abbrev pub recorders_in : Spare → List HeldRecorder
-recorders_in spare = map (λ b. b.value) spare.recorders.items
+  -- the recorders that nobody has, in order
+  abbrev pub recorders_in : Spare N C H G → List (HeldRecorder N C H G)
+  recorders_in spare = map (λ b. b.value) spare.recorders.items
 
--- the page that a registry's handle holds, with the group of the families to come
-abbrev pub grouped_in : HeldRegistry → Grouped
-grouped_in held = held.registrar.at
+  -- the page that a registry's handle holds, with the group of the families to come
+  abbrev pub grouped_in : HeldRegistry N C H G → Grouped N C H G
+  grouped_in held = held.registrar.at
 
--- the page, with all who work on its boards
-abbrev pub owner_in : HeldRegistry → Owner
-owner_in held = (grouped_in held).crew
+  -- the page, with all who work on its boards
+  abbrev pub owner_in : HeldRegistry N C H G → Owner N C H G
+  owner_in held = (grouped_in held).crew
 
--- its boards and families
-abbrev pub page_in : HeldRegistry → PageView (SharedScanner WORKERS COUNTERS HISTOGRAMS GAUGES)
-page_in held = page_of (owner_in held)
+  -- its boards and families
+  abbrev pub page_in : HeldRegistry N C H G → PageView (SharedScanner N C H G)
+  page_in held = page_of (owner_in held)
 
--- the recorders of the page that nobody has
-abbrev pub spare_in : HeldRegistry → List HeldRecorder
-spare_in held = recorders_in held.spare
+  -- the recorders of the page that nobody has
+  abbrev pub spare_in : HeldRegistry N C H G → List (HeldRecorder N C H G)
+  spare_in held = recorders_in held.spare
 
--- A page of this id, of one board on which nothing is registered and nothing was counted; its recorders are there, one of each worker, in order,
--- and nobody has them
-abbrev pub IsNew : (id window : ℕ) → HeldRegistry → Type 0
-IsNew id window held = IsOpened (128 * id) window (owner_in held) (map recorder_in (spare_in held))
+  -- A page of this id, of one board on which nothing is registered and nothing was counted; its recorders are there, one of each worker, in order,
+  -- and nobody has them
+  abbrev pub IsNew : (id window : ℕ) → HeldRegistry N C H G → Type 0
+  IsNew id window held = IsOpened (128 * id) window (owner_in held) (map recorder_in (spare_in held))
 
 -- why there is none: 31 the window is none; else 6, there was no memory, or 13, the library was built for numbers out of range
-abbrev pub IsNewAnswer : (window answer : ℕ) → Type 0
-IsNewAnswer window answer = (¬ (IsWindow window) × (answer ≡ 31))
-    ⊎ (IsWindow window × (((answer ≡ 6) × IsBoardSize WORKERS COUNTERS HISTOGRAMS GAUGES 1)
-    ⊎ ((answer ≡ 13) × ¬ (IsBoardSize WORKERS COUNTERS HISTOGRAMS GAUGES 1))))
+abbrev pub IsNewAnswer : (N C H G : ℕ) → (window answer : ℕ) → Type 0
+IsNewAnswer N C H G window answer = (¬ (IsWindow window) × (answer ≡ 31))
+    ⊎ (IsWindow window × (((answer ≡ 6) × IsBoardSize N C H G 1) ⊎ ((answer ≡ 13) × ¬ (IsBoardSize N C H G 1))))
 
--- a handle was given such a registry; or it is as it was
-abbrev pub Opens : (id window answer : ℕ) → (before after : Option HeldRegistry) → Type 0
-Opens id window answer before after = ((answer ≡ 0) × IsSomeAnd after (IsNew id window))
-    ⊎ (IsNewAnswer window answer × (after ≡ before))
+module _ {N C H G : ℕ} where
+  -- a handle was given such a registry; or it is as it was
+  abbrev pub Opens : (id window answer : ℕ) → (before after : Option (HeldRegistry N C H G)) → Type 0
+  Opens id window answer before after = ((answer ≡ 0) × IsSomeAnd after (IsNew id window))
+      ⊎ (IsNewAnswer N C H G window answer × (after ≡ before))
 
--- the last spare recorder was handed out; or there is none (35)
-abbrev pub HandsOut : (answer : ℕ) → (before after : HeldRegistry) → (had has : Option HeldRecorder) → Type 0
-HandsOut answer before after had has = (grouped_in after ≡ grouped_in before)
-    × (((answer ≡ 0) × ((recorder : HeldRecorder) × (has ≡ Some recorder) × (spare_in before ≡ spare_in after ++ recorder ∷ [])))
-    ⊎ ((answer ≡ 35) × (spare_in before ≡ []) × (spare_in after ≡ []) × (has ≡ had)))
+  -- the last spare recorder was handed out; or there is none (35)
+  abbrev pub HandsOut : (answer : ℕ) → (before after : HeldRegistry N C H G) → (had has : Option (HeldRecorder N C H G)) → Type 0
+  HandsOut answer before after had has = (grouped_in after ≡ grouped_in before)
+      × (((answer ≡ 0) × ((recorder : HeldRecorder N C H G) × (has ≡ Some recorder) × (spare_in before ≡ spare_in after ++ recorder ∷ [])))
+      ⊎ ((answer ≡ 35) × (spare_in before ≡ []) × (spare_in after ≡ []) × (has ≡ had)))
 
--- A recorder was taken back, behind the spare ones. Or it is of a page of another first board, or one of each worker is spare already (16); or
--- there is none (34): nothing has changed then
-abbrev pub TakesBack : (answer : ℕ) → (before after : HeldRegistry) → (had has : Option HeldRecorder) → Type 0
-TakesBack answer before after None has = (answer ≡ 34) × (has ≡ None) × (grouped_in after ≡ grouped_in before)
-    × (spare_in after ≡ spare_in before)
-TakesBack answer before after (Some recorder) has = (grouped_in after ≡ grouped_in before)
-    × (((answer ≡ 0) × (has ≡ None) × (spare_in after ≡ spare_in before ++ recorder ∷ [])
-    × (first_board_of (recorder_in recorder) ≡ first_of (owner_in before)))
-    ⊎ ((answer ≡ 16) × (has ≡ Some recorder) × (spare_in after ≡ spare_in before)
-    × ((first_board_of (recorder_in recorder) ≢ first_of (owner_in before)) ⊎ (WORKERS ≤ length (spare_in before)))))
+  -- A recorder was taken back, behind the spare ones. Or it is of a page of another first board, or one of each worker is spare already (16); or
+  -- there is none (34): nothing has changed then
+  abbrev pub TakesBack : (answer : ℕ) → (before after : HeldRegistry N C H G) → (had has : Option (HeldRecorder N C H G)) → Type 0
+  TakesBack answer before after None has = (answer ≡ 34) × (has ≡ None) × (grouped_in after ≡ grouped_in before)
+      × (spare_in after ≡ spare_in before)
+  TakesBack answer before after (Some recorder) has = (grouped_in after ≡ grouped_in before)
+      × (((answer ≡ 0) × (has ≡ None) × (spare_in after ≡ spare_in before ++ recorder ∷ [])
+      × (first_board_of (recorder_in recorder) ≡ first_of (owner_in before)))
+      ⊎ ((answer ≡ 16) × (has ≡ Some recorder) × (spare_in after ≡ spare_in before)
+      × ((first_board_of (recorder_in recorder) ≢ first_of (owner_in before)) ⊎ (N ≤ length (spare_in before)))))
 
--- each board keeps so many scrapes from now on, the newest ones, and so does each that comes; or the window is none (31), and nothing has changed
-abbrev pub SetsWindow : (window answer : ℕ) → (before after : Owner) → Type 0
-SetsWindow window answer before after = (IsWindow window × (answer ≡ 0) × KeepsFromNow window before after)
-    ⊎ (¬ (IsWindow window) × (answer ≡ 31) × IsUnchanged before after)
+  -- each board keeps so many scrapes from now on, the newest ones, and so does each that comes; or the window is none (31), and nothing has changed
+  abbrev pub SetsWindow : (window answer : ℕ) → (before after : Owner N C H G) → Type 0
+  SetsWindow window answer before after = (IsWindow window × (answer ≡ 0) × KeepsFromNow window before after)
+      ⊎ (¬ (IsWindow window) × (answer ≡ 31) × IsUnchanged before after)
 
--- one scrape of the page that a handle holds, and its answer
-abbrev pub scrapes_by : (before after : HeldRegistry) → Result Scraped NoScrape → Type 0
-scrapes_by before after answer = ScrapesByCrew (owner_in before) (owner_in after) answer × (spare_in after ≡ spare_in before)
+  -- one scrape of the page that a handle holds, and its answer
+  abbrev pub scrapes_by : (before after : HeldRegistry N C H G) → Result Scraped NoScrape → Type 0
+  scrapes_by before after answer = ScrapesByCrew (owner_in before) (owner_in after) answer × (spare_in after ≡ spare_in before)
 
--- the page, whose next families are of this group
-abbrev pub in_group : (group : ℕ) → Grouped → Grouped
-in_group group page = record page { group = group }
+  -- the page, whose next families are of this group
+  abbrev pub in_group : (group : ℕ) → Grouped N C H G → Grouped N C H G
+  in_group group page = record page { group = group }
 
--- what is done and answered where a metric without labels is asked for
-abbrev pub AsksMetricAt : (before after : Grouped) → Descriptor → Result Handle MetricRefusal → Type 0
-AsksMetricAt = AsksMetric (λ page. first_of page.crew) RegistersOnPage GivesOnPage
+  -- what is done and answered where a metric without labels is asked for
+  abbrev pub AsksMetricAt : (before after : Grouped N C H G) → Descriptor → Result Handle MetricRefusal → Type 0
+  AsksMetricAt = AsksMetric (λ page. first_of page.crew) RegistersOnPage GivesOnPage
 
-module _ {A : Type 0} (handle_of : A → Handle) (answer : ℕ) (before after : Grouped) (had has : A) where
-  -- A metric without labels was asked for, of this descriptor, in the group 0: this was done, and the answer is 0, or the number of its refusal,
-  -- and then what C has is as it was. No refusal's number is 0
-  pub record MakesMetric (desc : Descriptor) : Type 0 where
-    pub made : Result Handle MetricRefusal
-    pub asks : AsksMetricAt (in_group 0 before) after desc made
-    pub answer_is : answer ≡ answer_of metric_refusal_number made
-    pub told : IfOk made (λ handle. handle ≡ handle_of has)
-    pub kept : OnErr made (has ≡ had)
+  module _ {A : Type 0} (handle_of : A → Handle) (answer : ℕ) (before after : Grouped N C H G) (had has : A) where
+    -- A metric without labels was asked for, of this descriptor, in the group 0: this was done, and the answer is 0, or the number of its refusal,
+    -- and then what C has is as it was. No refusal's number is 0
+    pub record MakesMetric (desc : Descriptor) : Type 0 where
+      pub made : Result Handle MetricRefusal
+      pub asks : AsksMetricAt (in_group 0 before) after desc made
+      pub answer_is : answer ≡ answer_of metric_refusal_number made
+      pub told : IfOk made (λ handle. handle ≡ handle_of has)
+      pub kept : OnErr made (has ≡ had)
 
-  -- the same, by bytes; where the name or the help is not UTF-8 that is refused by 36, and nothing has changed
-  abbrev pub MakesNamed : (name help : List ℕ) → Descriptor → Type 0
-  MakesNamed name help desc = ((¬ (IsUtf8 name) ⊎ ¬ (IsUtf8 help)) × (answer ≡ 36) × (after ≡ before) × (has ≡ had))
-      ⊎ (IsUtf8 name × IsUtf8 help × MakesMetric desc)
+    -- the same, by bytes; where the name or the help is not UTF-8 that is refused by 36, and nothing has changed
+    abbrev pub MakesNamed : (name help : List ℕ) → Descriptor → Type 0
+    MakesNamed name help desc = ((¬ (IsUtf8 name) ⊎ ¬ (IsUtf8 help)) × (answer ≡ 36) × (after ≡ before) × (has ≡ had))
+        ⊎ (IsUtf8 name × IsUtf8 help × MakesMetric desc)
 
--- what is done and answered where a family is asked for
-abbrev pub AsksFamilyAt : (before after : Grouped) → Descriptor → Result FamilyId FamilyRefusal → Type 0
-AsksFamilyAt = AsksFamily RegistersOnPage
+  -- what is done and answered where a family is asked for
+  abbrev pub AsksFamilyAt : (before after : Grouped N C H G) → Descriptor → Result FamilyId FamilyRefusal → Type 0
+  AsksFamilyAt = AsksFamily RegistersOnPage
 
--- what is done and answered where a child is asked for
-abbrev pub AsksChildAt : (before after : Grouped) → (registry : ℕ) → FamilyId → (values : List (List ℕ)) → Kind → Result Handle ChildRefusal
-    → Type 0
-AsksChildAt = AsksChild (λ page. first_of page.crew) GivesOnPage
+  -- what is done and answered where a child is asked for
+  abbrev pub AsksChildAt : (before after : Grouped N C H G) → (registry : ℕ) → FamilyId → (values : List (List ℕ)) → Kind → Result Handle ChildRefusal
+      → Type 0
+  AsksChildAt = AsksChild (λ page. first_of page.crew) GivesOnPage
 
-module _ {A : Type 0} (answer : ℕ) (before after : Grouped) (had has : A) where
-  -- there was no memory for the list of texts, or one of them is not UTF-8, and nothing has changed
-  abbrev pub IsNoList : (texts : List (List ℕ)) → Type 0
-  IsNoList texts = ((answer ≡ 6) ⊎ ((answer ≡ 36) × ¬ (All IsUtf8 texts))) × (after ≡ before) × (has ≡ had)
+  module _ {A : Type 0} (answer : ℕ) (before after : Grouped N C H G) (had has : A) where
+    -- there was no memory for the list of texts, or one of them is not UTF-8, and nothing has changed
+    abbrev pub IsNoList : (texts : List (List ℕ)) → Type 0
+    IsNoList texts = ((answer ≡ 6) ⊎ ((answer ≡ 36) × ¬ (All IsUtf8 texts))) × (after ≡ before) × (has ≡ had)
 
-  -- A family was asked for, of this descriptor, in this group: this was done, and the answer is 0, or the number of its refusal, and then what
-  -- C has is as it was. No refusal's number is 0
-  pub record MakesFamily (group : ℕ) (id_of : A → FamilyId) (registry_of : A → ℕ) (desc : Descriptor) : Type 0 where
-    pub made : Result FamilyId FamilyRefusal
-    pub asks : AsksFamilyAt (in_group group before) after desc made
-    pub answer_is : answer ≡ answer_of family_refusal_number made
-    pub told : IfOk made (λ id. (id_of has ≡ id) × (registry_of has ≡ first_of after.crew))
-    pub kept : OnErr made (has ≡ had)
+    -- A family was asked for, of this descriptor, in this group: this was done, and the answer is 0, or the number of its refusal, and then what
+    -- C has is as it was. No refusal's number is 0
+    pub record MakesFamily (group : ℕ) (id_of : A → FamilyId) (registry_of : A → ℕ) (desc : Descriptor) : Type 0 where
+      pub made : Result FamilyId FamilyRefusal
+      pub asks : AsksFamilyAt (in_group group before) after desc made
+      pub answer_is : answer ≡ answer_of family_refusal_number made
+      pub told : IfOk made (λ id. (id_of has ≡ id) × (registry_of has ≡ first_of after.crew))
+      pub kept : OnErr made (has ≡ had)
 
-  -- the same, by bytes; where some are not UTF-8 that is refused by 36, and nothing has changed
-  abbrev pub MakesFamilyBy : (group : ℕ) (id_of : A → FamilyId) (registry_of : A → ℕ) → (name help : List ℕ) (labels : List (List ℕ))
-      → Descriptor → Type 0
-  MakesFamilyBy group id_of registry_of name help labels desc =
-      ((¬ (IsUtf8 name) ⊎ ¬ (IsUtf8 help)) × (answer ≡ 36) × (after ≡ before) × (has ≡ had))
-      ⊎ ((IsUtf8 name × IsUtf8 help × IsNoList labels)
-      ⊎ (IsUtf8 name × IsUtf8 help × All IsUtf8 labels × MakesFamily group id_of registry_of desc))
+    -- the same, by bytes; where some are not UTF-8 that is refused by 36, and nothing has changed
+    abbrev pub MakesFamilyBy : (group : ℕ) (id_of : A → FamilyId) (registry_of : A → ℕ) → (name help : List ℕ) (labels : List (List ℕ))
+        → Descriptor → Type 0
+    MakesFamilyBy group id_of registry_of name help labels desc =
+        ((¬ (IsUtf8 name) ⊎ ¬ (IsUtf8 help)) × (answer ≡ 36) × (after ≡ before) × (has ≡ had))
+        ⊎ ((IsUtf8 name × IsUtf8 help × IsNoList labels)
+        ⊎ (IsUtf8 name × IsUtf8 help × All IsUtf8 labels × MakesFamily group id_of registry_of desc))
 
-  -- this was made, of at most 9 digits; or more were asked for (43), and nothing has changed
-  abbrev pub MakesShifted : (digits : ℕ) → (made : Type 0) → Type 0
-  MakesShifted digits made = ((digits ≤ 9) × made) ⊎ ((9 < digits) × (answer ≡ 43) × (after ≡ before) × (has ≡ had))
+    -- this was made, of at most 9 digits; or more were asked for (43), and nothing has changed
+    abbrev pub MakesShifted : (digits : ℕ) → (made : Type 0) → Type 0
+    MakesShifted digits made = ((digits ≤ 9) × made) ⊎ ((9 < digits) × (answer ≡ 43) × (after ≡ before) × (has ≡ had))
 
-  -- A child of a family was asked for, by these label values: this was done, and the answer is 0, or the number of its refusal, and then what C
-  -- has is as it was. No refusal's number is 0
-  pub record GivesChild (handle_of : A → Handle) (registry : ℕ) (id : FamilyId) (values : List (List ℕ)) (kind : Kind) : Type 0 where
-    pub given : Result Handle ChildRefusal
-    pub asks : AsksChildAt before after registry id values kind given
-    pub answer_is : answer ≡ answer_of child_refusal_number given
-    pub told : IfOk given (λ handle. handle ≡ handle_of has)
-    pub kept : OnErr given (has ≡ had)
+    -- A child of a family was asked for, by these label values: this was done, and the answer is 0, or the number of its refusal, and then what C
+    -- has is as it was. No refusal's number is 0
+    pub record GivesChild (handle_of : A → Handle) (registry : ℕ) (id : FamilyId) (values : List (List ℕ)) (kind : Kind) : Type 0 where
+      pub given : Result Handle ChildRefusal
+      pub asks : AsksChildAt before after registry id values kind given
+      pub answer_is : answer ≡ answer_of child_refusal_number given
+      pub told : IfOk given (λ handle. handle ≡ handle_of has)
+      pub kept : OnErr given (has ≡ had)
 
-  -- the same, by bytes
-  abbrev pub GivesChildBy : (handle_of : A → Handle) (registry : ℕ) (id : FamilyId) (values : List (List ℕ)) (kind : Kind) → Type 0
-  GivesChildBy handle_of registry id values kind = IsNoList values
-      ⊎ (All IsUtf8 values × GivesChild handle_of registry id values kind)
+    -- the same, by bytes
+    abbrev pub GivesChildBy : (handle_of : A → Handle) (registry : ℕ) (id : FamilyId) (values : List (List ℕ)) (kind : Kind) → Type 0
+    GivesChildBy handle_of registry id values kind = IsNoList values
+        ⊎ (All IsUtf8 values × GivesChild handle_of registry id values kind)
 
 -- The buffer begins with these bytes, behind which it is as it was, and so many they are; or it is too short for them (37), and is as it was
 abbrev pub IsHandedOver : (bytes : List ℕ) → (answer : ℕ) → (had has : List ℕ) → (has_len : ℕ) → Type 0
 IsHandedOver bytes answer had has has_len = (has_len ≡ length bytes)
     × (((answer ≡ 0) × (has ≡ bytes ++ drop (length bytes) had)) ⊎ ((answer ≡ 37) × (length had < length bytes) × (has ≡ had)))
 
-module _ (answer : ℕ) (before after : HeldRegistry) (had has : List ℕ) (had_len has_len : ℕ) where
+module _ {N C H G : ℕ} (answer : ℕ) (before after : HeldRegistry N C H G) (had has : List ℕ) (had_len has_len : ℕ) where
   -- the text of a scrape that the registry gave was handed over; or there is no scrape or no memory for its text, and the buffer and the length
   -- are as they were
   abbrev pub PrintsTo : Type 0
@@ -196,7 +196,7 @@ abbrev pub IsReplied : (bytes : List ℕ) → (answer : ℕ) → (had has : List
 IsReplied bytes answer had has had_len has_len (Ok served) = IsHandedOver bytes answer had has has_len
 IsReplied bytes answer had has had_len has_len (Err fault) = (answer ≡ wire_fault_number fault) × (has ≡ had) × (has_len ≡ had_len)
 
-module _ (request : List ℕ) (answer : ℕ) (before after : HeldRegistry) (had has : List ℕ) (had_len has_len : ℕ) where
+module _ {N C H G : ℕ} (request : List ℕ) (answer : ℕ) (before after : HeldRegistry N C H G) (had has : List ℕ) (had_len has_len : ℕ) where
   -- The reply to what the request's bytes ask for was written and handed over, as a server gives it: a 200 is the text of a scrape that this
   -- registry made and kept. Where a read failed, which bytes do not, nothing was written
   pub record Replies : Type 0 where

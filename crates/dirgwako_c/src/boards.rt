@@ -5,7 +5,6 @@ ghost use Rattle.page_crew.specs.Owned.{first_of};
 ghost use Rattle.dirgwako_c.specs.Held.{Calls, Frees};
 ghost use Rattle.dirgwako_c.specs.Registries.{grouped_in, owner_in, recorder_in, spare_in, Opens, HandsOut, TakesBack};
 
-use crate::geometry::WORKERS;
 use crate::held::{HeldRecorder, HeldRegistry};
 use crate::opening::open;
 use crate::recorder_handle::RecorderHandle;
@@ -79,13 +78,16 @@ pub extern "C" fn dirgwako_c_recorder_take(
 }
 
 /// Takes a recorder back, or hands it back in its box.
-fn take_back(registry: &mut HeldRegistry, given: Box<HeldRecorder>) -> Result<(), Box<HeldRecorder>>
+fn take_back<const N: usize, const C: usize, const H: usize, const G: usize>(
+    registry: &mut HeldRegistry<N, C, H, G>,
+    given: Box<HeldRecorder<N, C, H, G>>,
+) -> Result<(), Box<HeldRecorder<N, C, H, G>>>
     ensures page { grouped_in registry.new ≡ grouped_in registry.old }
-    ensures taken { OnOk result ((first_board_of (recorder_in given.value) ≡ first_of (owner_in registry.old))
-        × (spare_in registry.new ≡ spare_in registry.old ++ given.value ∷ [])) }
-    ensures back { IfErr result (λ back. back ≡ given) }
+    ensures taken { OnOk result ((first_board_of (recorder_in given.entry.value) ≡ first_of (owner_in registry.old))
+        × (spare_in registry.new ≡ spare_in registry.old ++ given.entry.value ∷ [])) }
+    ensures back { IfErr result (λ back. back ≡ given.entry) }
     ensures refused { OnErr result ((spare_in registry.new ≡ spare_in registry.old)
-        × ((first_board_of (recorder_in given.value) ≢ first_of (owner_in registry.old)) ⊎ (WORKERS ≤ length (spare_in registry.old)))) }
+        × ((first_board_of (recorder_in given.entry.value) ≢ first_of (owner_in registry.old)) ⊎ (N ≤ length (spare_in registry.old)))) }
 {
     if given.recorder.first() != registry.registrar.at.crew.first() {
         return Err(given);

@@ -7,17 +7,16 @@ ghost use Rattle.registry_state.specs.declared.handle.Handle.TheVariants as Hand
 ghost use Rattle.dirgwako_c.specs.Held.{Calls};
 ghost use Rattle.dirgwako_c.specs.Registries.{grouped_in, spare_in, MakesFamilyBy, MakesShifted, GivesChildBy};
 
-use crate::held::Grouped;
 use crate::registry_handle::RegistryHandle;
 use crate::texts::{text, texts};
-use dirgwako::{CounterFamily, GaugeFamily, HistogramFamily, Registrar};
+use dirgwako::{CounterFamily, GaugeFamily, HistogramFamily, OnPage, Registrar};
 use ledger_core::{Counter, Gauge, Histogram};
 use std::alloc::Global;
 
 /// A family of counters of a registry.
-fn counter_family_in(
+fn counter_family_in<const N: usize, const C: usize, const H: usize, const G: usize>(
     alloc: Global,
-    registrar: &mut Registrar<Grouped>,
+    registrar: &mut Registrar<OnPage<N, C, H, G>>,
     name: &[u8],
     help: &[u8],
     labels: &[&[u8]],
@@ -89,9 +88,9 @@ pub extern "C" fn dirgwako_c_counter_family_new(
 }
 
 /// The counter of these label values, which is made where there is none.
-fn counter_of_in(
+fn counter_of_in<const N: usize, const C: usize, const H: usize, const G: usize>(
     alloc: Global,
-    registrar: &mut Registrar<Grouped>,
+    registrar: &mut Registrar<OnPage<N, C, H, G>>,
     family: &CounterFamily,
     values: &[&[u8]],
     counter: &mut Counter,
@@ -139,9 +138,9 @@ pub extern "C" fn dirgwako_c_counter_of(
 }
 
 /// A family of gauges of a registry.
-fn gauge_family_in(
+fn gauge_family_in<const N: usize, const C: usize, const H: usize, const G: usize>(
     alloc: Global,
-    registrar: &mut Registrar<Grouped>,
+    registrar: &mut Registrar<OnPage<N, C, H, G>>,
     name: &[u8],
     help: &[u8],
     labels: &[&[u8]],
@@ -213,9 +212,9 @@ pub extern "C" fn dirgwako_c_gauge_family_new(
 }
 
 /// The gauge of these label values, which is made where there is none.
-fn gauge_of_in(
+fn gauge_of_in<const N: usize, const C: usize, const H: usize, const G: usize>(
     alloc: Global,
-    registrar: &mut Registrar<Grouped>,
+    registrar: &mut Registrar<OnPage<N, C, H, G>>,
     family: &GaugeFamily,
     values: &[&[u8]],
     gauge: &mut Gauge,
@@ -263,9 +262,9 @@ pub extern "C" fn dirgwako_c_gauge_of(
 }
 
 /// A family of histograms of a registry with these bounds: at most 24, rising, none over 2^48 - 1.
-fn histogram_family_in(
+fn histogram_family_in<const N: usize, const C: usize, const H: usize, const G: usize>(
     alloc: Global,
-    registrar: &mut Registrar<Grouped>,
+    registrar: &mut Registrar<OnPage<N, C, H, G>>,
     name: &[u8],
     help: &[u8],
     labels: &[&[u8]],
@@ -340,9 +339,9 @@ pub extern "C" fn dirgwako_c_histogram_family_new(
 }
 
 /// The histogram of these label values, which is made where there is none.
-fn histogram_of_in(
+fn histogram_of_in<const N: usize, const C: usize, const H: usize, const G: usize>(
     alloc: Global,
-    registrar: &mut Registrar<Grouped>,
+    registrar: &mut Registrar<OnPage<N, C, H, G>>,
     family: &HistogramFamily,
     values: &[&[u8]],
     histogram: &mut Histogram,

@@ -1,36 +1,37 @@
-//! What C's handles hold: the geometry is settled here.
-ghost use Rattle.std.specs.Prelude.{◌≡◌, length};
-ghost use Rattle.dirgwako_c.specs.declared.geometry.TheConstants.{MOST_CHANGES};
+//! What C's handles hold, for boards of any geometry.
+ghost use Rattle.std.specs.Prelude.{◌≡◌, ◌+◌, ◌*◌, ◌≤◌, length};
 
-use crate::geometry::{COUNTERS, GAUGES, HISTOGRAMS, WORKERS};
 use crate::spare::Spare;
-use dirgwako::{OnPage, PageCrew, PageRecorder, Registrar};
+use dirgwako::{OnPage, PageRecorder, Registrar};
 use ledger_core::Op;
 use snapshot_scan::Snapshot;
 
-/// What a recorder's handle holds.
-#[derive(Drop)]
-pub struct HeldRecorder {
-    /// The recorder, of all boards of its page.
-    pub recorder: PageRecorder<WORKERS, COUNTERS, HISTOGRAMS, GAUGES>,
-    /// Where the operations of a list stand, of the longest that there is.
-    pub list: Vec<Op>,
-    ghost room: { length list.items ≡ MOST_CHANGES },
+/// What the numbers of a geometry come to.
+#[derive(Clone, Copy)]
+pub struct Limits<const N: usize, const C: usize, const H: usize, const G: usize> {
+    /// The most changes of one version that C publishes.
+    pub most_changes: usize,
+    ghost sum: { most_changes ≡ C + H + 2 * G },
+    ghost few: { N ≤ 32 },
 }
 
-/// A page of boards, which makes a further one when it is needed.
-pub type Owner = PageCrew<WORKERS, COUNTERS, HISTOGRAMS, GAUGES>;
-
-/// A page, and the group of the families to come.
-pub type Grouped = OnPage<WORKERS, COUNTERS, HISTOGRAMS, GAUGES>;
+/// What a recorder's handle holds.
+#[derive(Drop)]
+pub struct HeldRecorder<const N: usize, const C: usize, const H: usize, const G: usize> {
+    /// The recorder, of all boards of its page.
+    pub recorder: PageRecorder<N, C, H, G>,
+    /// Where the operations of a list stand, of the longest that there is.
+    pub list: Vec<Op>,
+    ghost room: { length list.items ≡ C + H + 2 * G },
+}
 
 /// What a registry's handle holds.
 #[derive(Drop)]
-pub struct HeldRegistry {
+pub struct HeldRegistry<const N: usize, const C: usize, const H: usize, const G: usize> {
     /// The page, and what registers by plain texts.
-    pub registrar: Registrar<Grouped>,
+    pub registrar: Registrar<OnPage<N, C, H, G>>,
     /// The recorders that nobody has.
-    pub spare: Spare,
+    pub spare: Spare<N, C, H, G>,
     /// Room for the numbers of a moment.
-    pub numbers: Snapshot<WORKERS, COUNTERS, HISTOGRAMS, GAUGES>,
+    pub numbers: Snapshot<N, C, H, G>,
 }

@@ -5,7 +5,10 @@ ghost use Rattle.dirgwako_c.specs.Settling.{Knows, HasStranger, HaveMet};
 use crate::held::HeldRecorder;
 
 /// Each takes its workers of boards that came, up to the first that does not know the board of this number then; whether all do.
-pub(crate) fn join_all(recorders: &mut [Box<HeldRecorder>], board: usize) -> bool
+pub(crate) fn join_all<const N: usize, const C: usize, const H: usize, const G: usize>(
+    recorders: &mut [Box<HeldRecorder<N, C, H, G>>],
+    board: usize,
+) -> bool
     ensures met { HaveMet (map (λ b. b.value) recorders.old) (map (λ b. b.value) recorders.new) }
     ensures all { IsTrue result → All (Knows board) (map (λ b. b.value) recorders.new) }
     ensures stranger { IsFalse result → HasStranger board (map (λ b. b.value) recorders.new) }

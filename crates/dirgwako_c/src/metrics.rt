@@ -6,16 +6,15 @@ ghost use Rattle.registry_state.specs.declared.handle.Handle.TheVariants as Hand
 ghost use Rattle.dirgwako_c.specs.Held.{Calls};
 ghost use Rattle.dirgwako_c.specs.Registries.{grouped_in, spare_in, MakesNamed};
 
-use crate::held::Grouped;
 use crate::registry_handle::RegistryHandle;
 use crate::texts::text;
-use dirgwako::Registrar;
+use dirgwako::{OnPage, Registrar};
 use ledger_core::{Counter, Gauge, Histogram};
 use std::alloc::Global;
 
 /// A counter without labels of a registry.
-fn counter_in(
-    registrar: &mut Registrar<Grouped>,
+fn counter_in<const N: usize, const C: usize, const H: usize, const G: usize>(
+    registrar: &mut Registrar<OnPage<N, C, H, G>>,
     name: &[u8],
     help: &[u8],
     counter: &mut Counter,
@@ -62,7 +61,12 @@ pub extern "C" fn dirgwako_c_counter_new(
 }
 
 /// A gauge without labels of a registry.
-fn gauge_in(registrar: &mut Registrar<Grouped>, name: &[u8], help: &[u8], gauge: &mut Gauge) -> u32
+fn gauge_in<const N: usize, const C: usize, const H: usize, const G: usize>(
+    registrar: &mut Registrar<OnPage<N, C, H, G>>,
+    name: &[u8],
+    help: &[u8],
+    gauge: &mut Gauge,
+) -> u32
     ensures { MakesNamed Handles.Gauge result registrar.old.at registrar.new.at gauge.old gauge.new name.now help.now
         (family_of Kinds.Gauge name.now help.now [] []) }
 {
@@ -105,8 +109,8 @@ pub extern "C" fn dirgwako_c_gauge_new(
 }
 
 /// A histogram without labels of a registry with these bounds: at most 24, rising, none over 2^48 - 1.
-fn histogram_in(
-    registrar: &mut Registrar<Grouped>,
+fn histogram_in<const N: usize, const C: usize, const H: usize, const G: usize>(
+    registrar: &mut Registrar<OnPage<N, C, H, G>>,
     name: &[u8],
     help: &[u8],
     bounds: &[u64],

@@ -1,7 +1,8 @@
 //! The numbers of a moment in C's buffers, and what handles find in them.
 ghost use Rattle.std.specs.Prelude.{◌≡◌, ◌+◌, ◌≤◌, ◌<◌, ◌-ℤ◌, ◌++◌, pos, length, take, drop};
 ghost use Rattle.dirgwako_c.specs.Registries.{IsHandedOver};
-ghost use Rattle.dirgwako_c.specs.Numbers.{numbers_of, TellsCounter, TellsGauge, TellsHistogram};
+ghost use Rattle.dirgwako_c.specs.Numbers.{numbers_of};
+ghost use Rattle.dirgwako_c.specs.Told.{TellsCounter, TellsGauge, TellsHistogram};
 ghost use Rattle.snapshot_scan.specs.Snapshots.{as_answer};
 
 use crate::geometry::{COUNTERS, GAUGES, HISTOGRAMS, NUMBERS, WORKERS};
@@ -42,9 +43,9 @@ fn put(buffer: &mut [u64], at: usize, numbers: &[u64])
 }
 
 /// The numbers of a moment, at the front of a buffer; or 37, where it is too short for them. `len` is how many they are.
-pub(crate) fn hand_over_numbers(
+pub(crate) fn hand_over_numbers<const N: usize, const C: usize, const H: usize, const G: usize>(
     id: u64,
-    taken: &Snapshot<WORKERS, COUNTERS, HISTOGRAMS, GAUGES>,
+    taken: &Snapshot<N, C, H, G>,
     buffer: &mut [u64],
     len: &mut usize,
 ) -> u32

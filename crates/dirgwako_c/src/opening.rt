@@ -1,9 +1,10 @@
 //! A page is made, with its recorders.
 ghost use Rattle.std.specs.Prelude.{◌≡◌, map, length, IfOk, IfErr};
+ghost use Rattle.dirgwako_c.specs.declared.geometry.TheConstants.{WORKERS, COUNTERS, HISTOGRAMS, GAUGES};
 ghost use Rattle.dirgwako_c.specs.Registries.{recorder_in, recorders_in, IsNew, IsNewAnswer};
 
 use crate::geometry::{COUNTERS, GAUGES, HISTOGRAMS, MOST_CHANGES, WORKERS};
-use crate::held::{HeldRecorder, HeldRegistry};
+use crate::held::{HeldRecorder, HeldRegistry, Limits};
 use crate::spare::Spare;
 use dirgwako::{OnPage, PageCrew, PageRecorder, Registrar};
 use ledger_core::Op;
@@ -11,13 +12,14 @@ use snapshot_scan::Snapshot;
 use std::alloc::{AllocError, Global};
 
 /// A recorder, in a box of its own.
-fn boxed(
+fn boxed<const N: usize, const C: usize, const H: usize, const G: usize>(
     alloc: Global,
-    recorder: PageRecorder<WORKERS, COUNTERS, HISTOGRAMS, GAUGES>,
-) -> Result<Box<HeldRecorder>, AllocError>
-    ensures { IfOk result (λ b. recorder_in b.value ≡ recorder) }
+    limits: &Limits<N, C, H, G>,
+    recorder: PageRecorder<N, C, H, G>,
+) -> Result<Box<HeldRecorder<N, C, H, G>>, AllocError>
+    ensures { IfOk result (λ b. recorder_in b.value ≡ recorder.entry) }
 {
-    let list = vec![in alloc; Op::Inc { counter: 0, by: 0 }; MOST_CHANGES]?;
+    let list = vec![in alloc; Op::Inc { counter: 0, by: 0 }; limits.most_changes]?;
     match Box::new(alloc, HeldRecorder { recorder, list }) {
         Ok(made) => Ok(made),
         Err(_) => Err(AllocError),
@@ -25,16 +27,17 @@ fn boxed(
 }
 
 /// These recorders, in order, which nobody has.
-fn spare_of(
+fn spare_of<const N: usize, const C: usize, const H: usize, const G: usize>(
     alloc: Global,
-    recorders: Vec<PageRecorder<WORKERS, COUNTERS, HISTOGRAMS, GAUGES>>,
-) -> Result<Spare, AllocError>
-    requires { length recorders.items ≡ WORKERS }
-    ensures { IfOk result (λ spare. map recorder_in (recorders_in spare) ≡ recorders.items) }
+    limits: &Limits<N, C, H, G>,
+    recorders: Vec<PageRecorder<N, C, H, G>>,
+) -> Result<Spare<N, C, H, G>, AllocError>
+    requires { length recorders.items ≡ N }
+    ensures { IfOk result (λ spare. map recorder_in (recorders_in spare) ≡ recorders.entry.items) }
 {
-    let mut spare = Spare::new(alloc)?;
+    let mut spare = Spare::new(alloc, limits)?;
     for recorder in recorders {
-        let Ok(()) = spare.put(boxed(alloc, recorder)?) else {
+        let Ok(()) = spare.put(boxed(alloc, limits, recorder)?) else {
             unreachable!()
         };
     }
@@ -46,15 +49,22 @@ fn spare_of(
 /// # Errors
 ///
 /// 31 unless `window` is 1 to 1,024; then 6, and 13 where the library was built for numbers out of range.
-pub(crate) fn open(alloc: Global, id: u32, window: usize) -> Result<HeldRegistry, u32>
+pub(crate) fn open(
+    alloc: Global,
+    id: u32,
+    window: usize,
+) -> Result<HeldRegistry<WORKERS, COUNTERS, HISTOGRAMS, GAUGES>, u32>
     ensures new { IfOk result (IsNew id window) }
-    ensures fault { IfErr result (IsNewAnswer window) }
+    ensures fault { IfErr result (IsNewAnswer WORKERS COUNTERS HISTOGRAMS GAUGES window) }
 {
     let (crew, recorders) = match PageCrew::new(alloc, id, window) {
         Ok(made) => made,
         Err(fault) => return Err(u32::from(fault.number())),
     };
-    let Ok(spare) = spare_of(alloc, recorders) else {
+    let limits = Limits {
+        most_changes: MOST_CHANGES,
+    };
+    let Ok(spare) = spare_of(alloc, &limits, recorders) else {
         return Err(6);
     };
     let Ok(numbers) = Snapshot::new(alloc) else {

@@ -3,19 +3,21 @@ ghost use Rattle.std.specs.Prelude.{◌≡◌, ◌≢◌, ◌⊎◌, length, sli
 ghost use Rattle.page_crew.specs.Opened.{IsNoBoard, no_board_number};
 ghost use Rattle.page_crew.specs.Owned.{page_of, IsGrown, IsUnchanged};
 ghost use Rattle.page_crew.specs.declared.fault.NoBoard.{NoBoard};
-ghost use Rattle.dirgwako_c.specs.declared.geometry.TheConstants.{WORKERS, COUNTERS, HISTOGRAMS, GAUGES};
 ghost use Rattle.dirgwako_c.specs.Held.{Calls};
 ghost use Rattle.dirgwako_c.specs.Boards.{AddsBoard, TellsBoards, TellsBoard};
 
-use crate::held::Owner;
 use crate::registry_handle::RegistryHandle;
+use dirgwako::PageCrew;
 use std::alloc::Global;
 
 /// Makes a further board of a page, and tells its number.
-fn add(owner: &mut Owner, number: &mut usize) -> u32
+fn add<const N: usize, const C: usize, const H: usize, const G: usize>(
+    owner: &mut PageCrew<N, C, H, G>,
+    number: &mut usize,
+) -> u32
     ensures { ((result ≡ 0) × IsGrown owner.old owner.new × (number.new ≡ length (page_of owner.old).boards))
         ⊎ ((why : NoBoard) × (result ≡ no_board_number why)
-        × IsNoBoard WORKERS COUNTERS HISTOGRAMS GAUGES (length (page_of owner.old).boards) why
+        × IsNoBoard N C H G (length (page_of owner.old).boards) why
         × IsUnchanged owner.old owner.new × (number.new ≡ number.old)) }
 {
     match owner.add_board() {
@@ -69,7 +71,11 @@ pub extern "C" fn dirgwako_c_boards(
 }
 
 /// The number of the board of this id, if it is of the page.
-fn find(owner: &Owner, id: u64, number: &mut usize) -> u32
+fn find<const N: usize, const C: usize, const H: usize, const G: usize>(
+    owner: &PageCrew<N, C, H, G>,
+    id: u64,
+    number: &mut usize,
+) -> u32
     ensures { ((result ≡ 0) × IsSomeAnd (slice_get (page_of owner.now).boards number.new) (λ board. board.id ≡ id))
         ⊎ ((result ≡ 16) × All (λ board. board.id ≢ id) (page_of owner.now).boards × (number.new ≡ number.old)) }
 {

@@ -7,7 +7,6 @@ ghost use Rattle.dirgwako_c.specs.Changes.{Publishes};
 
 use crate::change::{Change, list_ops};
 use crate::counting::answer;
-use crate::geometry::MOST_CHANGES;
 use crate::held::HeldRecorder;
 use crate::recorder_handle::RecorderHandle;
 use ledger_core::Histogram;
@@ -22,13 +21,16 @@ pub extern "C" fn dirgwako_c_place(histogram: &Histogram, value: u64) -> usize
 }
 
 /// Publishes these changes as one version of the board of their handles, if there are some, and not too many.
-fn publish(held: &mut HeldRecorder, changes: &[Change]) -> u32
-    ensures { Publishes (COUNTERS + HISTOGRAMS + 2 * GAUGES) changes.now result held.old.recorder held.new.recorder }
+fn publish<const N: usize, const C: usize, const H: usize, const G: usize>(
+    held: &mut HeldRecorder<N, C, H, G>,
+    changes: &[Change],
+) -> u32
+    ensures { Publishes (C + H + 2 * G) changes.now result held.old.recorder held.new.recorder }
 {
     if changes.is_empty() {
         return 0;
     }
-    if changes.len() > MOST_CHANGES {
+    if changes.len() > held.list.len() {
         return 33;
     }
     let id = changes[0].registry;

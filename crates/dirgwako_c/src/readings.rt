@@ -5,7 +5,6 @@ ghost use Rattle.registry_state.specs.Journal.{scrapes};
 ghost use Rattle.dirgwako_c.specs.Held.{Calls};
 ghost use Rattle.dirgwako_c.specs.Numbers.{Reads, TellsKept, ReadsKept};
 
-use crate::geometry::{COUNTERS, GAUGES, HISTOGRAMS, WORKERS};
 use crate::held::HeldRegistry;
 use crate::numbers::hand_over_numbers;
 use crate::registry_handle::RegistryHandle;
@@ -14,17 +13,11 @@ use page_crew::SharedScanner;
 use snapshot_scan::Snapshot;
 use std::alloc::Global;
 
-/// A board, with its registry.
-type Board = RegistryState<
-    SharedScanner<WORKERS, COUNTERS, HISTOGRAMS, GAUGES>,
-    WORKERS,
-    COUNTERS,
-    HISTOGRAMS,
-    GAUGES,
->;
-
 /// The newest scrape of a board that is kept.
-fn newest(board: &Board, out: &mut Snapshot<WORKERS, COUNTERS, HISTOGRAMS, GAUGES>)
+fn newest<const N: usize, const C: usize, const H: usize, const G: usize>(
+    board: &RegistryState<SharedScanner<N, C, H, G>, N, C, H, G>,
+    out: &mut Snapshot<N, C, H, G>,
+)
     requires { IsSome board.now.state.last }
     ensures { board.now.state.last ≡ Some (as_answer out.new) }
 {
@@ -38,7 +31,12 @@ fn newest(board: &Board, out: &mut Snapshot<WORKERS, COUNTERS, HISTOGRAMS, GAUGE
 }
 
 /// The numbers of a new scrape of the board of this number, at the front of a buffer that has room for them.
-fn read_to(registry: &mut HeldRegistry, number: usize, buffer: &mut [u64], len: &mut usize) -> u32
+fn read_to<const N: usize, const C: usize, const H: usize, const G: usize>(
+    registry: &mut HeldRegistry<N, C, H, G>,
+    number: usize,
+    buffer: &mut [u64],
+    len: &mut usize,
+) -> u32
     ensures { Reads number result registry.old registry.new buffer.old buffer.new len.old len.new }
 {
     if number >= registry.registrar.at.crew.page().boards().len() {
@@ -80,7 +78,11 @@ pub extern "C" fn dirgwako_c_read(
 }
 
 /// How many scrapes the board of this number keeps.
-fn kept_of(registry: &HeldRegistry, number: usize, kept: &mut usize) -> u32
+fn kept_of<const N: usize, const C: usize, const H: usize, const G: usize>(
+    registry: &HeldRegistry<N, C, H, G>,
+    number: usize,
+    kept: &mut usize,
+) -> u32
     ensures { TellsKept number result registry.now registry.now kept.old kept.new }
 {
     let boards = registry.registrar.at.crew.page().boards();
@@ -113,10 +115,10 @@ pub extern "C" fn dirgwako_c_kept(
 }
 
 /// A scrape that a board keeps, if there are so many.
-fn read_at(
-    board: &Board,
+fn read_at<const N: usize, const C: usize, const H: usize, const G: usize>(
+    board: &RegistryState<SharedScanner<N, C, H, G>, N, C, H, G>,
     place: usize,
-    out: &mut Snapshot<WORKERS, COUNTERS, HISTOGRAMS, GAUGES>,
+    out: &mut Snapshot<N, C, H, G>,
 ) -> bool
     ensures there { IsTrue result → slice_get (scrapes board.now.journal) place ≡ Some (as_answer out.new) }
     ensures none { IsFalse result → length (scrapes board.now.journal) ≤ place }
@@ -130,8 +132,8 @@ fn read_at(
 }
 
 /// The numbers of a scrape that the board of this number keeps, at the front of a buffer that has room for them.
-fn read_kept_to(
-    registry: &mut HeldRegistry,
+fn read_kept_to<const N: usize, const C: usize, const H: usize, const G: usize>(
+    registry: &mut HeldRegistry<N, C, H, G>,
     number: usize,
     place: usize,
     buffer: &mut [u64],

@@ -2,28 +2,33 @@
 ghost use Rattle.std.specs.Prelude.{◌≡◌, ◌≢◌, IsNone, IsSome, MatchOption, Some};
 ghost use Rattle.std.specs.declared.option.Option.{Option};
 ghost use Rattle.std.specs.Coded.{coded_option};
+ghost use denote.Param.{number};
 ghost use Rattle.dirgwako_c.specs.Held.{holds};
+ghost use Rattle.dirgwako_c.specs.declared.geometry.TheConstants.{WORKERS, COUNTERS, HISTOGRAMS, GAUGES};
 ghost use Rattle.dirgwako_c.specs.declared.held.HeldRegistry.{HeldRegistry};
 ghost use Rattle.dirgwako_c.specs.contracts.held.HeldRegistry.{the_row as held_row};
 
+use crate::geometry::{COUNTERS, GAUGES, HISTOGRAMS, WORKERS};
 use crate::held::HeldRegistry;
 use crate::loose::Loose;
 use std::alloc::Global;
 use std::marker::Model;
 use std::mem::replace;
 
+type Held = HeldRegistry<WORKERS, COUNTERS, HISTOGRAMS, GAUGES>;
+
 /// What C holds of a registry: two words, zeros where it holds none.
 #[repr(C)]
 pub struct RegistryHandle {
     at: *mut u8,
     live: u64,
-    pub ghost value: { Option HeldRegistry } by { coded_option held_row.coded },
+    pub ghost value: { Option (HeldRegistry WORKERS COUNTERS HISTOGRAMS GAUGES) } by { coded_option (held_row (number WORKERS) (number COUNTERS) (number HISTOGRAMS) (number GAUGES)).coded },
     ghost empty: { live ≡ 0 → IsNone value },
     ghost full: { live ≢ 0 → IsSome value },
 }
 
 impl Model for RegistryHandle {
-    ghost also_owns = { λ h. holds held_row h.at h.value };
+    ghost also_owns = { λ h. holds (held_row (number WORKERS) (number COUNTERS) (number HISTOGRAMS) (number GAUGES)) h.at h.value };
 }
 
 // It may go to another thread, as what it holds may.
@@ -39,7 +44,7 @@ impl RegistryHandle {
         }
     }
 
-    fn full(from: Loose<HeldRegistry, Global>) -> RegistryHandle
+    fn full(from: Loose<Held, Global>) -> RegistryHandle
         ensures { result.value ≡ Some from.value }
     {
         let Loose { at, alloc: _ } = from;
@@ -57,18 +62,18 @@ impl RegistryHandle {
         (live, RegistryHandle { at, live })
     }
 
-    fn into_loose(self, alloc: Global) -> Loose<HeldRegistry, Global>
+    fn into_loose(self, alloc: Global) -> Loose<Held, Global>
         requires { IsSome self.value }
         ensures { self.value ≡ Some result.value }
     {
         let RegistryHandle { at, live: _ } = self;
         Loose {
-            at: at as *mut HeldRegistry,
+            at: at as *mut Held,
             alloc,
         }
     }
 
-    fn into_option(self, alloc: Global) -> Option<Box<HeldRegistry>>
+    fn into_option(self, alloc: Global) -> Option<Box<Held>>
         ensures { MatchOption result (IsNone self.value) (λ b. self.value ≡ Some b.value) }
     {
         let (live, handle) = self.with_live();
@@ -80,7 +85,7 @@ impl RegistryHandle {
     }
 
     /// Takes it out.
-    pub fn take(&mut self, alloc: Global) -> Option<Box<HeldRegistry>>
+    pub fn take(&mut self, alloc: Global) -> Option<Box<Held>>
         ensures taken { MatchOption result (IsNone self.old.value) (λ b. self.old.value ≡ Some b.value) }
         ensures left { IsNone self.new.value }
     {
@@ -88,7 +93,7 @@ impl RegistryHandle {
     }
 
     /// Puts one in, in the place of what was there.
-    pub fn put(&mut self, alloc: Global, b: Box<HeldRegistry>)
+    pub fn put(&mut self, alloc: Global, b: Box<Held>)
         ensures { self.new.value ≡ Some b.value }
     {
         let _old = replace(self, RegistryHandle::full(Loose::of(b))).into_option(alloc);

@@ -11,9 +11,9 @@ use std::alloc::Global;
 use watched::Watched;
 
 /// The reply to a request, at the front of a buffer that has room for it.
-fn reply_to(
+fn reply_to<const N: usize, const C: usize, const H: usize, const G: usize>(
     alloc: Global,
-    held: &mut HeldRegistry,
+    held: &mut HeldRegistry<N, C, H, G>,
     request: &[u8],
     buffer: &mut [u8],
     len: &mut usize,

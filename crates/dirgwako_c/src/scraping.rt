@@ -11,7 +11,8 @@ use dirgwako::{NoScrape, Scrape, TextFault, render};
 use scrape_http::ScrapeFrom;
 use std::alloc::Global;
 
-impl ScrapeFrom for HeldRegistry {
+impl<const N: usize, const C: usize, const H: usize, const G: usize> ScrapeFrom
+    for HeldRegistry<N, C, H, G> {
     ghost again = { 0 };
 
     ghost gave = { scrapes_by };
@@ -27,7 +28,9 @@ impl ScrapeFrom for HeldRegistry {
 }
 
 /// The text of a scrape of a registry.
-fn text_of(registry: &mut HeldRegistry) -> Result<Vec<u8>, TextFault>
+fn text_of<const N: usize, const C: usize, const H: usize, const G: usize>(
+    registry: &mut HeldRegistry<N, C, H, G>,
+) -> Result<Vec<u8>, TextFault>
     ensures text { IfOk result (λ bytes. IsText scrapes_by 0 registry.old registry.new bytes.items) }
     ensures fault { IfErr result (IsTextFault scrapes_by 0 registry.old registry.new) }
 {
@@ -42,7 +45,11 @@ fn text_of(registry: &mut HeldRegistry) -> Result<Vec<u8>, TextFault>
 }
 
 /// The text of a scrape, at the front of a buffer that has room for it.
-fn print_to(registry: &mut HeldRegistry, buffer: &mut [u8], len: &mut usize) -> u32
+fn print_to<const N: usize, const C: usize, const H: usize, const G: usize>(
+    registry: &mut HeldRegistry<N, C, H, G>,
+    buffer: &mut [u8],
+    len: &mut usize,
+) -> u32
     ensures { PrintsTo result registry.old registry.new buffer.old buffer.new len.old len.new }
 {
     match text_of(registry) {

@@ -9,7 +9,6 @@ ghost use Rattle.dirgwako_c.specs.Held.{Calls};
 ghost use Rattle.dirgwako_c.specs.Registries.{recorders_in};
 ghost use Rattle.dirgwako_c.specs.Settling.{seats_on, workers_of, published_in, Knows, AreOnce, IsTwice, IsApart, AreSettled, Settles};
 
-use crate::geometry::{COUNTERS, GAUGES, HISTOGRAMS, WORKERS};
 use crate::held::HeldRegistry;
 use crate::numbers::hand_over_numbers;
 use crate::registry_handle::RegistryHandle;
@@ -27,11 +26,15 @@ pub enum Apart {
 }
 
 /// Marks the workers of these recorders, up to the first that is there twice; whether there is none.
-fn mark(spare: &Spare, board: usize, marks: &mut [bool]) -> bool
+fn mark<const N: usize, const C: usize, const H: usize, const G: usize>(
+    spare: &Spare<N, C, H, G>,
+    board: usize,
+    marks: &mut [bool],
+) -> bool
     requires known { All (Knows board) (recorders_in spare.now) }
-    requires all { length marks.old ≡ WORKERS }
-    requires none { (i : ℕ) → i < WORKERS → get_elem? marks.old i ≡ some false }
-    ensures marks { IsTrue result → (i : ℕ) → i < WORKERS
+    requires all { length marks.old ≡ N }
+    requires none { (i : ℕ) → i < N → get_elem? marks.old i ≡ some false }
+    ensures marks { IsTrue result → (i : ℕ) → i < N
         → (get_elem? marks.new i ≡ some true → HasIndex (workers_of (seats_on board (recorders_in spare.now))) i)
         × (get_elem? marks.new i ≡ some false → ¬ (HasIndex (workers_of (seats_on board (recorders_in spare.now))) i)) }
     ensures once { IsTrue result → AreOnce (workers_of (seats_on board (recorders_in spare.now))) }
@@ -48,17 +51,20 @@ fn mark(spare: &Spare, board: usize, marks: &mut [bool]) -> bool
 }
 
 /// Whether these are recorders of all workers, each once.
-fn gathered(spare: &Spare, board: usize) -> Result<(), Apart>
+fn gathered<const N: usize, const C: usize, const H: usize, const G: usize>(
+    spare: &Spare<N, C, H, G>,
+    board: usize,
+) -> Result<(), Apart>
     requires { All (Knows board) (recorders_in spare.now) }
-    ensures all { OnOk result ((i : ℕ) → i < WORKERS → HasIndex (workers_of (seats_on board (recorders_in spare.now))) i) }
+    ensures all { OnOk result ((i : ℕ) → i < N → HasIndex (workers_of (seats_on board (recorders_in spare.now))) i) }
     ensures once { OnOk result (AreOnce (workers_of (seats_on board (recorders_in spare.now)))) }
     ensures apart { IfErr result (IsApart (workers_of (seats_on board (recorders_in spare.now)))) }
 {
-    let mut marks = [false; WORKERS];
+    let mut marks = [false; N];
     if !mark(spare, board, &mut marks) {
         return Err(Apart::Twice);
     }
-    for worker in 0..WORKERS {
+    for worker in 0..N {
         if !marks[worker] {
             return Err(Apart::Missing(worker));
         }
@@ -67,9 +73,13 @@ fn gathered(spare: &Spare, board: usize) -> Result<(), Apart>
 }
 
 /// What all that these recorders have published adds to a word of a row.
-fn total_at(spare: &Spare, board: usize, word: usize) -> u64
+fn total_at<const N: usize, const C: usize, const H: usize, const G: usize>(
+    spare: &Spare<N, C, H, G>,
+    board: usize,
+    word: usize,
+) -> u64
     requires known { All (Knows board) (recorders_in spare.now) }
-    requires word { word < width COUNTERS HISTOGRAMS GAUGES }
+    requires word { word < width C H G }
     requires few { length (recorders_in spare.now) ≤ 32 }
     ensures sum { result ≡ published_in (seats_on board (recorders_in spare.now)) word }
     ensures low { result < 9007199254740992 }
@@ -82,10 +92,10 @@ fn total_at(spare: &Spare, board: usize, word: usize) -> u64
 }
 
 /// Makes the vector that of these recorders.
-fn set_numbers(
-    spare: &Spare,
+fn set_numbers<const N: usize, const C: usize, const H: usize, const G: usize>(
+    spare: &Spare<N, C, H, G>,
     board: usize,
-    out: &mut Snapshot<WORKERS, COUNTERS, HISTOGRAMS, GAUGES>,
+    out: &mut Snapshot<N, C, H, G>,
 )
     requires known { All (Knows board) (recorders_in spare.now) }
     requires once { AreOnce (workers_of (seats_on board (recorders_in spare.now))) }
@@ -100,14 +110,14 @@ fn set_numbers(
 }
 
 /// Makes the totals those of all that these recorders have published.
-fn set_totals(
-    spare: &Spare,
+fn set_totals<const N: usize, const C: usize, const H: usize, const G: usize>(
+    spare: &Spare<N, C, H, G>,
     board: usize,
-    out: &mut Snapshot<WORKERS, COUNTERS, HISTOGRAMS, GAUGES>,
+    out: &mut Snapshot<N, C, H, G>,
 )
     requires known { All (Knows board) (recorders_in spare.now) }
     requires few { length (recorders_in spare.now) ≤ 32 }
-    ensures totals { (k : ℕ) → k < width COUNTERS HISTOGRAMS GAUGES
+    ensures totals { (k : ℕ) → k < width C H G
         → get_elem? out.new.totals k ≡ some (published_in (seats_on board (recorders_in spare.now)) k) }
     ensures vector { out.new.vector ≡ out.old.vector }
 {
@@ -117,16 +127,16 @@ fn set_totals(
 }
 
 /// Exact totals of all that these recorders have published.
-fn settle(
-    spare: &Spare,
+fn settle<const N: usize, const C: usize, const H: usize, const G: usize>(
+    spare: &Spare<N, C, H, G>,
     board: usize,
-    out: &mut Snapshot<WORKERS, COUNTERS, HISTOGRAMS, GAUGES>,
+    out: &mut Snapshot<N, C, H, G>,
 ) -> Result<(), Apart>
     requires { All (Knows board) (recorders_in spare.now) }
     ensures settled { OnOk result (IsSettled (workers_of (seats_on board (recorders_in spare.now))) out.new) }
-    ensures all { OnOk result ((i : ℕ) → i < WORKERS → HasIndex (workers_of (seats_on board (recorders_in spare.now))) i) }
-    ensures long { OnOk result (length out.new.vector ≡ WORKERS) }
-    ensures wide { OnOk result (length out.new.totals ≡ width COUNTERS HISTOGRAMS GAUGES) }
+    ensures all { OnOk result ((i : ℕ) → i < N → HasIndex (workers_of (seats_on board (recorders_in spare.now))) i) }
+    ensures long { OnOk result (length out.new.vector ≡ N) }
+    ensures wide { OnOk result (length out.new.totals ≡ width C H G) }
     ensures apart { IfErr result (IsApart (workers_of (seats_on board (recorders_in spare.now)))) }
 {
     match gathered(spare, board) {
@@ -143,8 +153,8 @@ fn settle(
 }
 
 /// Exact totals of the recorders that nobody has, on the board of this number, at the front of a buffer that has room for them.
-fn settle_to(
-    registry: &mut HeldRegistry,
+fn settle_to<const N: usize, const C: usize, const H: usize, const G: usize>(
+    registry: &mut HeldRegistry<N, C, H, G>,
     number: usize,
     buffer: &mut [u64],
     len: &mut usize,

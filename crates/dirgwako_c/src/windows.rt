@@ -3,12 +3,15 @@ ghost use Rattle.std.specs.Prelude.{◌≡◌};
 ghost use Rattle.dirgwako_c.specs.Held.{Calls};
 ghost use Rattle.dirgwako_c.specs.Registries.{owner_in, spare_in, SetsWindow};
 
-use crate::held::Owner;
 use crate::registry_handle::RegistryHandle;
+use dirgwako::PageCrew;
 use std::alloc::Global;
 
 /// Keeps `window` scrapes of each board from now on.
-fn set_window(owner: &mut Owner, window: usize) -> u32
+fn set_window<const N: usize, const C: usize, const H: usize, const G: usize>(
+    owner: &mut PageCrew<N, C, H, G>,
+    window: usize,
+) -> u32
     ensures { SetsWindow window result owner.old owner.new }
 {
     match owner.set_window(window) {

@@ -18,7 +18,7 @@ said bounds digits name help labels = record {
 }
 
 pub returns-in-Ok-counter_family_shifted : goal.returns-in-Ok-counter_family_shifted
-returns-in-Ok-counter_family_shifted c =
+returns-in-Ok-counter_family_shifted g c =
     family_made c.args.registrar.now.at c.counter_family_shifted.new.self.at c.args.family.now c.in-Ok-counter_family_shifted.made c.args.group
     (λ (f : CounterFamily). f.id) (λ (f : CounterFamily). f.registry) c.args.name.now c.args.help.now (texts_of c.args.labels.now)
     (said [] c.args.digits) c.in-Some-Some.name.now c.in-Some-Some.help.now (texts_of c.deref.result.now) c.in-Some-Some.ensures
@@ -26,7 +26,7 @@ returns-in-Ok-counter_family_shifted c =
     c.in-Ok-counter_family_shifted.ensures.registry c.in-Ok-counter_family_shifted.ensures.made
 
 pub returns : goal.returns
-returns c =
+returns g c =
     let number : c.from.result ≡ family_refusal_number c.in-Err-counter_family_shifted.fault = search rules in
     family_refused c.args.registrar.now.at c.counter_family_shifted.new.self.at c.args.family.now c.args.family.now c.args.group
     (λ (f : CounterFamily). f.id) (λ (f : CounterFamily). f.registry) c.args.name.now c.args.help.now (texts_of c.args.labels.now)

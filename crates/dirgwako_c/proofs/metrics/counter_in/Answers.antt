@@ -8,13 +8,13 @@ use Rattle.dirgwako_c.proofs.Made.{metric_made, metric_refused}
 use Rattle.dirgwako_c.proofs.metrics.counter_in.Goals as goal
 
 pub returns-in-Ok : goal.returns-in-Ok
-returns-in-Ok c =
+returns-in-Ok g c =
     metric_made (λ (x : Counter). Handles.Counter x) c.args.registrar.now.at c.counter.new.self.at c.args.counter.now c.in-Ok.made
     c.args.name.now c.args.help.now (λ (n h : List ℕ). family_of Kinds.Counter n h [] []) c.in-Some-Some.name.now
     c.in-Some-Some.help.now c.in-Some-Some.ensures c.in-Some-Some.ensures' c.in-Ok.ensures.made
 
 pub returns-in-Err : goal.returns-in-Err
-returns-in-Err c =
+returns-in-Err g c =
     let number : c.from.result ≡ metric_refusal_number c.in-Err.fault = search rules in
     metric_refused (λ (x : Counter). Handles.Counter x) c.args.registrar.now.at c.counter.new.self.at c.args.counter.now c.args.counter.now
     c.args.name.now c.args.help.now (λ (n h : List ℕ). family_of Kinds.Counter n h [] []) c.in-Some-Some.name.now

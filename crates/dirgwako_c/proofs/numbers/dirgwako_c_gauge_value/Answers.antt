@@ -1,7 +1,7 @@
 use Rattle.std.proofs.Common.{◌≡◌, ℕ, ◌+◌, ◌*◌, ◌≤◌, List, get_or, ⊎_elim, inl, inr, refl, sym, ap, subst, ◌∙◌, arith}
 use Rattle.std.specs.Prelude.{◌-ℤ◌, pos, slice_index}
 use Rattle.std.proofs.lemmas.List.{get_or-drop}
-use Rattle.dirgwako_c.specs.Numbers.{place_of_gauge, totals_in}
+use Rattle.dirgwako_c.specs.Told.{place_of_gauge, totals_in}
 use Rattle.dirgwako_c.specs.declared.geometry.TheConstants.{WORKERS, COUNTERS, HISTOGRAMS}
 use Rattle.dirgwako_c.proofs.numbers.dirgwako_c_gauge_value.Goals as goal
 

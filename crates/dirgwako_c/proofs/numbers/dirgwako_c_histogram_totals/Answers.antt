@@ -1,6 +1,6 @@
 use Rattle.std.proofs.Common.{◌≡◌, ℕ, ◌+◌, ◌-◌, ◌*◌, List, take, drop, get_or, inl, refl, sym, ap, ◌∙◌, arith}
 use Rattle.dirgwako_c.specs.declared.geometry.TheConstants.{WORKERS, COUNTERS}
-use Rattle.dirgwako_c.specs.Numbers.{place_of_histogram, totals_in}
+use Rattle.dirgwako_c.specs.Told.{place_of_histogram, totals_in}
 use Rattle.dirgwako_c.proofs.Settled.{drop_both}
 use Rattle.std.specs.Prelude.{slice_index}
 use Rattle.std.proofs.lemmas.List.{get_or-drop}

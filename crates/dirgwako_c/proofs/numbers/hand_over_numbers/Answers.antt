@@ -6,7 +6,7 @@ use Rattle.dirgwako_c.proofs.Handing.{all_put}
 use Rattle.dirgwako_c.proofs.numbers.hand_over_numbers.Goals as goal
 
 pub returns : goal.returns
-returns c =
+returns g c =
     let buffer = c.args.buffer.now in let id : ℕ = c.args.id in
     let vector = c.vector-vector.result.now in let totals = c.totals-totals.result.now in
     let numbers = numbers_of id (as_answer c.args.taken.now) in

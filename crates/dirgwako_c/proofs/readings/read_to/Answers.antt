@@ -11,7 +11,7 @@ use Rattle.dirgwako_c.proofs.readings.read_to.Goals.{in-Ok, in-Err-NoMemory, in-
 use Rattle.dirgwako_c.proofs.readings.read_to.Goals as goal
 
 pub returns : goal.returns
-returns c =
+returns g c =
     let before = c.args.registry.now in let number : ℕ = c.args.number in let had = c.args.buffer.now in
     let had_len : ℕ = c.args.len.now in let j = c.match-scrape_board in
     let at = record before.registrar.at { crew = c.scrape_board.new.self } in
@@ -20,7 +20,7 @@ returns c =
       | in-Ok w ↦
           let board = w.index-boards-number.result in let done = record asked { numbers = w.newest.new.out } in
           let there = board_there before done number w.in-Ok.field-0 w.in-Ok.ensures w.boards-in-Ok.result.now board
-          (w.boards-in-Ok.ensures.boards ∙ ap (λ (p : PageView OneScanner). p.boards) w.page-in-Ok.ensures) w.index-boards-number.is in
+          (w.boards-in-Ok.ensures.boards ∙ ap (λ (p : PageView (OneScanner g.row.N g.row.C g.row.H g.row.G)). p.boards) w.page-in-Ok.ensures) w.index-boards-number.is in
           read_as number before j.registry done j.result _ had j.buffer _ had_len j.len _ w.registry-is w.result-is w.buffer-is w.len-is
           (read_made before done number w.hand_over_numbers.result had w.hand_over_numbers.new.buffer had_len w.hand_over_numbers.new.len refl
           w.in-Ok.field-0 w.in-Ok.ensures board (as_answer w.newest.new.out) there w.newest.ensures

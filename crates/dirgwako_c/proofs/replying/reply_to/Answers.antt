@@ -6,7 +6,7 @@ use Rattle.dirgwako_c.specs.Registries.{scrapes_by, IsHandedOver}
 use Rattle.dirgwako_c.proofs.replying.reply_to.Goals as goal
 
 pub returns-in-Ok : goal.returns-in-Ok
-returns-in-Ok c =
+returns-in-Ok g c =
     let before = c.args.held.now in
     let after = c.serve_one-served.new.source in
     let reader = c.serve_one-served.new.reader in
@@ -34,7 +34,7 @@ returns-in-Ok c =
     }
 
 pub returns : goal.returns
-returns c =
+returns g c =
     let before = c.args.held.now in
     let after = c.serve_one-served.new.source in
     let reader = c.serve_one-served.new.reader in

@@ -4,6 +4,6 @@ use Rattle.dirgwako_c.specs.Registries.{scrapes_by}
 use Rattle.dirgwako_c.proofs.scraping.text_of.Goals as goal
 
 pub returns-in-Err-NoMemory-clause-fault : goal.returns-in-Err-NoMemory-clause-fault
-returns-in-Err-NoMemory-clause-fault c =
+returns-in-Err-NoMemory-clause-fault g c =
     inl (subst (λ (why : NoScrape). scrapes_by c.args.registry.now c.scrape.new.self (Err why))
     c.in-Err-NoMemory.field-0-is c.in-Err-NoMemory.ensures)

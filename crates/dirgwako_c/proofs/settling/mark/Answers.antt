@@ -14,7 +14,7 @@ use Rattle.dirgwako_c.proofs.Settled.{its, seats_many, worker_here, worker_below
 use Rattle.dirgwako_c.proofs.settling.mark.Goals as goal
 
 pub loop-place-init : goal.loop-place-init
-loop-place-init c = record {
+loop-place-init g c = record {
   all = c.requires.all;
   marked = λ i lt e. absurd (true≢false (some-injective true false (sym e ∙ c.requires.none i lt)));
   unmarked = λ i lt e p w none. absurd (omega (arith, none));
@@ -22,7 +22,7 @@ loop-place-init c = record {
 }
 
 pub loop-place-preserved : goal.loop-place-preserved
-loop-place-preserved c =
+loop-place-preserved g c =
     let ws = workers_of (seats_on c.args.board (recorders_in c.args.spare.now)) in let place : ℕ = c.loop-place.place in
     let marks = c.loop-place.marks in let worker = its c.seat.result.now in let at : ℕ = c.index-worker.result in
     let inv = c.loop-place.invariant in
@@ -30,7 +30,7 @@ loop-place-preserved c =
     let is : index_of worker ≡ at = sym c.index-worker.ensures.index in
     let inside = c.index-worker.ensures.inside in
     let free : get_elem? marks at ≡ some false = there marks at false (omega (arith, inside, inv.all)) ∙ ap some c.if-marks-worker.false in
-    let one = λ (w : OneWorker) (e : get_elem? ws place ≡ some w). some-injective worker w (sym here ∙ e) in
+    let one = λ (w : OneWorker g.row.N g.row.C g.row.H g.row.G) (e : get_elem? ws place ≡ some w). some-injective worker w (sym here ∙ e) in
     record {
       all = length-set marks at true ∙ inv.all;
       marked = λ i lt e. ⊎_elim (λ h. (place, worker, omega arith, here, is ∙ sym h.0))
@@ -47,7 +47,7 @@ loop-place-preserved c =
     }
 
 pub returns-then-marks-worker : goal.returns-then-marks-worker
-returns-then-marks-worker c =
+returns-then-marks-worker g c =
     let ws = workers_of (seats_on c.args.board (recorders_in c.args.spare.now)) in let place : ℕ = c.loop-place.place in
     let marks = c.loop-place.marks in let worker = its c.seat.result.now in let at : ℕ = c.index-worker.result in
     let inv = c.loop-place.invariant in let inside = c.index-worker.ensures.inside in
@@ -69,7 +69,7 @@ returns-then-marks-worker c =
     }
 
 pub returns : goal.returns
-returns c =
+returns g c =
     let rs = seats_on c.args.board (recorders_in c.args.spare.now) in
     let inv = c.loop-place.invariant in let end = c.loop-place-test.false in
     let many = seats_many c.args.board (recorders_in c.args.spare.now) c.requires.known in let count = c.len-place-end.ensures.count in

@@ -13,13 +13,13 @@ use Rattle.dirgwako_c.proofs.Settled.{its, seats_many, set_here, worker_here, wo
 use Rattle.dirgwako_c.proofs.settling.set_numbers.Goals as goal
 
 pub loop-place-init : goal.loop-place-init
-loop-place-init c = record {
+loop-place-init g c = record {
   all = ap length (sym c.vector-vector.ensures.numbers) ∙ c.vector-vector.ensures.all;
   numbers = λ p w none. absurd (omega (arith, none));
 }
 
 pub loop-place-preserved : goal.loop-place-preserved
-loop-place-preserved c =
+loop-place-preserved g c =
     let rs = seats_on c.args.board (recorders_in c.args.spare.now) in let place : ℕ = c.loop-place.place in let r = c.seat-recorder.result.now in
     let vector = c.loop-place.out.vector in let all = c.loop-place.invariant.all in
     let worker = its r in let i : ℕ = c.index.result in let n : ℕ = c.number.result in
@@ -33,7 +33,7 @@ loop-place-preserved c =
           (λ last.
           let same : worker ≡ w = some-injective worker w (sym here ∙ (ap (get_elem? (workers_of rs)) (sym last) ∙ at)) in
           ap (get_elem? (set vector i n)) (sym (c.index.ensures.index ∙ ap index_of same))
-          ∙ (set_here vector i n (omega (arith, inside, all)) ∙ ap some (count ∙ ap (λ (v : OneWorker). length (lists_of v)) same)))
+          ∙ (set_here vector i n (omega (arith, inside, all)) ∙ ap some (count ∙ ap (λ (v : OneWorker g.row.N g.row.C g.row.H g.row.G). length (lists_of v)) same)))
           (λ other.
           let before : p < place = omega (arith, small, other) in
           set_else vector i (index_of w) n (λ e. c.requires.once p place w worker before at here (e ∙ c.index.ensures.index))
@@ -41,7 +41,7 @@ loop-place-preserved c =
     }
 
 pub returns : goal.returns
-returns c = λ p w at.
+returns g c = λ p w at.
     let lt = worker_below (seats_on c.args.board (recorders_in c.args.spare.now)) p w at in let count = c.len-place-end.ensures.count in
     let many = seats_many c.args.board (recorders_in c.args.spare.now) c.requires.known in
     let end = c.loop-place-test.false in

@@ -12,7 +12,7 @@ use Rattle.dirgwako_c.proofs.Settled.{set_here}
 use Rattle.dirgwako_c.proofs.settling.set_totals.Goals as goal
 
 pub loop-word-preserved : goal.loop-word-preserved
-loop-word-preserved c =
+loop-word-preserved g c =
     let word : ℕ = c.loop-word.word in let totals = c.loop-word.out.totals in let wide = c.loop-word.invariant.wide in
     let lt = c.loop-word-test.true in let all = c.totals-word-end.ensures.all in
     let new = ap (λ (t : Taken). t.totals) c.set_total.ensures in

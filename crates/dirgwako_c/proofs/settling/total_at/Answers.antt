@@ -4,16 +4,15 @@ use Rattle.register_rule.specs.Sums.{word_after}
 use Rattle.snapshot_update.specs.Workers.{member_of}
 use Rattle.dirgwako_c.specs.Registries.{recorders_in}
 use Rattle.dirgwako_c.specs.Settling.{seats_on, published_in}
-use Rattle.dirgwako_c.specs.declared.geometry.TheConstants.{COUNTERS, HISTOGRAMS}
 use Rattle.dirgwako_c.proofs.Settled.{its, seats_many, next_published, none_published}
 use Rattle.dirgwako_c.proofs.settling.total_at.Goals as goal
 
 pub loop-place-preserved : goal.loop-place-preserved
-loop-place-preserved c =
+loop-place-preserved g c =
     let rs = seats_on c.args.board (recorders_in c.args.spare.now) in let place : ℕ = c.loop-place.place in
     let r = c.seat.result.now in
     let k : ℕ = c.args.word in
-    let part : ℕ = word_after (sum_ops COUNTERS HISTOGRAMS) (member_of (its r)).work.made k in
+    let part : ℕ = word_after (sum_ops g.row.C g.row.H) (member_of (its r)).work.made k in
     let next : published_in (drop place rs) k ≡ part + published_in (drop (place + 1) rs) k
     = next_published rs place (place + 1) k r (omega arith) c.seat.ensures in
     let row : c.word_at-sum.result ≡ part = c.word_at-sum.ensures.word ∙ c.row.ensures k c.requires.word in
@@ -26,7 +25,7 @@ loop-place-preserved c =
     }
 
 pub returns-clause-sum : goal.returns-clause-sum
-returns-clause-sum c =
+returns-clause-sum g c =
     let rs = seats_on c.args.board (recorders_in c.args.spare.now) in let end = c.len-place-end.ensures.count in
     let many = seats_many c.args.board (recorders_in c.args.spare.now) c.requires.known in let over = c.loop-place-test.false in
     let none = none_published rs c.loop-place.place c.args.word (omega (arith, end, over, many)) in

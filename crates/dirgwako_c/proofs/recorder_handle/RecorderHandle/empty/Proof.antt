@@ -20,6 +20,7 @@ use denote.Triple.Walked.{Stays, walk_of}
 use Rattle.std.specs.Prelude.{None, IsNone}
 use Rattle.std.proofs.raw_atomic.Walks.{proved_at, leaves}
 use Rattle.dirgwako_c.proofs.HandleValues.{handle_val, handle_own, handle_made, handle_typed}
+use Rattle.dirgwako_c.specs.declared.geometry.TheConstants.{WORKERS, COUNTERS, HISTOGRAMS, GAUGES}
 use Rattle.dirgwako_c.specs.declared.held.HeldRecorder.{HeldRecorder}
 use Rattle.std.specs.declared.option.Option.{Option}
 use Rattle.dirgwako_c.specs.contracts.recorder_handle.RecorderHandle as handle
@@ -37,7 +38,7 @@ empty_spec 𝓤 𝓛 𝓜 𝓡 wired =
     let stays : Stays En.signature.params En.kept = tt in
     let C = (tables 𝓤 H 𝓜 𝓡 𝓡.env).C in
     let Λ = (tables 𝓤 H 𝓜 𝓡 𝓡.env).Λ in
-    let Nothing : Option HeldRecorder = None in
+    let Nothing : Option (HeldRecorder WORKERS COUNTERS HISTOGRAMS GAUGES) = None in
     let x : (handle.the_row).Denot = record { at = null_ptr; live = 0; value = Nothing; empty = λ _. refl; full = λ is. absurd (is refl) } in
     proved_at 𝓛 En stays c 𝓜 𝓡 tt #self fn (compiled.unfolded 𝓤 H 𝓜 𝓡 wired) (λ z are.
     let Post : Val → SProp 𝓤 = (walk_of 𝓛 En stays c).post z in

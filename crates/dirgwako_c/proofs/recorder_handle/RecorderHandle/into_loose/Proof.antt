@@ -12,6 +12,7 @@ use types.Kit.{‵, raw, ◌⊛◌, prop, ◌$◌, ◌∵◌, !, qed, by, move, 
 use types.Part.{whole, sub, agg}
 use types.Run.{stop, fld, of_opd, no_more, and_then, returns, enter}
 use types.ByLocal.{alloc_all, pass_all, free_all, look_at, get, get_in, sets, env}
+use denote.Param.{number}
 use denote.RattleType.{RattleType, owns}
 use denote.Memory.{lone}
 use denote.RawPtr.{Ptr, block_ptr, null_ptr, in_a_block}
@@ -30,6 +31,7 @@ use Rattle.std_heap.specs.contracts.Global as heap
 use Rattle.std_heap.specs.contracts.GlobalAllocator.TheImpl.{ghosts}
 use Rattle.std_heap.proofs.Global.TheLaws as heap_laws
 use Rattle.dirgwako_c.specs.Held.{holds}
+use Rattle.dirgwako_c.specs.declared.geometry.TheConstants.{WORKERS, COUNTERS, HISTOGRAMS, GAUGES}
 use Rattle.dirgwako_c.specs.declared.held.HeldRecorder.{HeldRecorder}
 use Rattle.dirgwako_c.specs.contracts.held.HeldRecorder as thing
 use Rattle.dirgwako_c.proofs.Values.{both, loose_good, loose_in, al}
@@ -43,7 +45,7 @@ use Rattle.dirgwako_c.proofs.recorder_handle.RecorderHandle.into_loose.Code as c
 pub into_loose_spec : {M : Type 1} → statement M
 into_loose_spec 𝓤 𝓛 𝓜 𝓡 wired =
     let H = 𝓛.H in
-    let R : RattleType = thing.the_row in
+    let R : RattleType = thing.the_row (number WORKERS) (number COUNTERS) (number HISTOGRAMS) (number GAUGES) in
     let Z : RattleType = heap.the_row in
     let LZ = heap_laws.the_row_laws in
     let En = ended in
@@ -60,9 +62,9 @@ into_loose_spec 𝓤 𝓛 𝓜 𝓡 wired =
     let told = handle_told x.at n z.0.4.0 are.0.0 in
     let Full : Type 0 = IsSome x.value in
     qed 𝓛 ((raw (alive 𝓛 En.signature z.0.0 z.0.1) ⊛ ‵ (owns (types_at En.signature.params z.0.0) z.0.3 z.0.4)) ∷ raw (fact 𝓤 Full) ∷ []) ∵ move ! (1 ∷ []) $ heard ! Full (λ is.
-    let y = the_one HeldRecorder x.value is in
+    let y = the_one (HeldRecorder WORKERS COUNTERS HISTOGRAMS GAUGES) x.value is in
     split ! $ move ! (1 ∷ []) $
-    fsplit ! $ fsplit ! $ drop ! $ rewrite ! 0 (λ (v : Option HeldRecorder). ‵ (holds R x.at v)) y.1 refl $
+    fsplit ! $ fsplit ! $ drop ! $ rewrite ! 0 (λ (v : Option (HeldRecorder WORKERS COUNTERS HISTOGRAMS GAUGES)). ‵ (holds R x.at v)) y.1 refl $
     -- [the box; the allocator and nothing; the tokens]
     move ! (1 ∷ []) $ fsplit ! $ handle_tells (al R Z LZ ghosts) ! a z.0.4.1.0 (λ h ea fits. move ! (1 ∷ []) $ drop ! $ move ! (1 ∷ []) $
     in_a_block ! x.at (λ p. box_owns chunk R p y.0) (fst∗ 𝓤 (never 𝓤) (sem 𝓛 (chunk (bare (lone R.mir)) null_ptr))) (λ b o e.

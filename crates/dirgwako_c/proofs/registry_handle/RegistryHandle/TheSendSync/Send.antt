@@ -2,6 +2,7 @@
 use mir.Raw.{raw}
 use base.Shift.{Keyless}
 use denote.Memory.{lone}
+use denote.Param.{number}
 use denote.RawPtr.{Ptr}
 use denote.Struct.Struct.{exits_of}
 use denote.Struct.Owning.{shape, fields, to}
@@ -11,14 +12,15 @@ use Rattle.std.specs.Prelude.{Some, None}
 use Rattle.std.specs.declared.option.Option.{Option}
 use Rattle.std_alloc.proofs.SendSync.{quiet, lies}
 use Rattle.dirgwako_c.specs.Held.{holds}
+use Rattle.dirgwako_c.specs.declared.geometry.TheConstants.{WORKERS, COUNTERS, HISTOGRAMS, GAUGES}
 use Rattle.dirgwako_c.specs.declared.held.HeldRegistry.{HeldRegistry}
 use Rattle.dirgwako_c.specs.contracts.held.HeldRegistry as held
 use Rattle.dirgwako_c.proofs.held.HeldRegistry.TheSendSync.{the_send as held_send}
 use Rattle.dirgwako_c.specs.contracts.registry_handle.RegistryHandle.{the_row, the_type}
 
-holds_keyless : (p : Ptr) (v : Option HeldRegistry) → Keyless (holds held.the_row p v)
+holds_keyless : (p : Ptr) (v : Option (HeldRegistry WORKERS COUNTERS HISTOGRAMS GAUGES)) → Keyless (holds (held.the_row (number WORKERS) (number COUNTERS) (number HISTOGRAMS) (number GAUGES)) p v)
 holds_keyless p None = tt
-holds_keyless p (Some x) = (lies held.the_row held_send p x, chunk-Keyless (raw (lone (held.the_row).mir)) p)
+holds_keyless p (Some x) = (lies (held.the_row (number WORKERS) (number COUNTERS) (number HISTOGRAMS) (number GAUGES)) (held_send (number WORKERS) (number COUNTERS) (number HISTOGRAMS) (number GAUGES)) p x, chunk-Keyless (raw (lone (held.the_row (number WORKERS) (number COUNTERS) (number HISTOGRAMS) (number GAUGES)).mir)) p)
 
 pub send : IsSend the_row
 send =

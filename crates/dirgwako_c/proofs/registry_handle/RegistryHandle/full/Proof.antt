@@ -11,6 +11,7 @@ use types.Kit.{‵, raw, ◌⊛◌, prop, ◌$◌, ◌∵◌, !, qed, by, move, 
 use types.Part.{whole, sub, agg}
 use types.Run.{stop, fld, of_opd, lit, no_more, and_then, returns, enter}
 use types.ByLocal.{alloc_all, pass_all, free_all, look_at, get, get_in, sets, env}
+use denote.Param.{number}
 use denote.RattleType.{RattleType, owns}
 use denote.RawPtr.{block_ptr}
 use denote.Exit.{yes}
@@ -25,6 +26,7 @@ use Rattle.std.proofs.raw_atomic.Walks.{proved_at, leaves}
 use Rattle.std_heap.specs.contracts.Global as heap
 use Rattle.std_heap.specs.contracts.GlobalAllocator.TheImpl.{ghosts}
 use Rattle.std_heap.proofs.Global.TheLaws as heap_laws
+use Rattle.dirgwako_c.specs.declared.geometry.TheConstants.{WORKERS, COUNTERS, HISTOGRAMS, GAUGES}
 use Rattle.dirgwako_c.specs.declared.held.HeldRegistry.{HeldRegistry}
 use Rattle.dirgwako_c.specs.contracts.held.HeldRegistry as thing
 use Rattle.dirgwako_c.proofs.Values.{both, Loose, loose_good, loose_out}
@@ -38,7 +40,7 @@ use Rattle.dirgwako_c.proofs.registry_handle.RegistryHandle.full.Code as compile
 pub full_spec : {M : Type 1} → statement M
 full_spec 𝓤 𝓛 𝓜 𝓡 wired =
     let H = 𝓛.H in
-    let R : RattleType = thing.the_row in
+    let R : RattleType = thing.the_row (number WORKERS) (number COUNTERS) (number HISTOGRAMS) (number GAUGES) in
     let Z : RattleType = heap.the_row in
     let LZ = heap_laws.the_row_laws in
     let En = ended in
@@ -50,7 +52,7 @@ full_spec 𝓤 𝓛 𝓜 𝓡 wired =
     proved_at 𝓛 En stays c 𝓜 𝓡 (Goes-blank 𝓛 0 (plain (λ _. Loose R Z LZ ghosts)) yes (λ κs x f. tt), tt) #self fn (compiled.unfolded 𝓤 H 𝓜 𝓡 wired) (λ z are.
     let Post : Val → SProp 𝓤 = (walk_of 𝓛 En stays c).post z in
     let d = z.0.3.0 in
-    let Held : Option HeldRegistry = Some d.value in
+    let Held : Option (HeldRegistry WORKERS COUNTERS HISTOGRAMS GAUGES) = Some d.value in
     qed 𝓛 ((raw (alive 𝓛 En.signature z.0.0 z.0.1) ⊛ ‵ (owns (types_at En.signature.params z.0.0) z.0.3 z.0.4)) ∷ ‵ ftrue ∷ []) ∵ move ! (1 ∷ []) $ drop ! $ split ! $ move ! (1 ∷ []) $
     fsplit ! $ loose_out R Z LZ ghosts ! d z.0.4.0 (λ b o h e ws fits. move ! (1 ∷ []) $ drop ! $ move ! (1 ∷ []) $ drop ! $
     let x : (handle.the_row).Denot = record { at = block_ptr b o; live = 1; value = Held; empty = λ is. absurd (one_is_not_zero is); full = λ _. refl } in

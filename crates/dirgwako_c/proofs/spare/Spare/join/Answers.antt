@@ -5,8 +5,8 @@ use Rattle.dirgwako_c.specs.declared.held.HeldRecorder.{HeldRecorder}
 use Rattle.dirgwako_c.proofs.spare.Spare.join.Goals as goal
 
 pub returns-clause-stranger : goal.returns-clause-stranger
-returns-clause-stranger c = λ no.
+returns-clause-stranger g c = λ no.
     let vec = c.args.self.now.recorders in let new = c.join_all.new.recorders in
     let same = c.join_all.auto.recorders in let was = ap length c.deref_mut.ensures.value in let len = vec.ok.0 in
-    subst (λ (l : List (Box HeldRecorder Global)). HasStranger c.args.board (map (λ b. b.value) l))
+    subst (λ (l : List (Box (HeldRecorder g.row.N g.row.C g.row.H g.row.G) Global)). HasStranger c.args.board (map (λ b. b.value) l))
     (sym (with_items_is vec new (omega (arith, same, was, len)))) (c.join_all.ensures.stranger no)

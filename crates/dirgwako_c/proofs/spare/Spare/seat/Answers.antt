@@ -8,12 +8,12 @@ use Rattle.dirgwako_c.proofs.Settled.{seat_here}
 use Rattle.dirgwako_c.proofs.spare.Spare.seat.Goals as goal
 
 pub bounds-recorders-board : goal.bounds-recorders-board
-bounds-recorders-board c =
+bounds-recorders-board g c =
     let knows = from_all (Knows c.args.board) (recorders_in c.args.self.now) c.requires.known c.args.place c.at.result.now c.at.ensures in
     let same = ap length c.recorders.ensures.recorders in omega (arith, knows, same)
 
 pub returns : goal.returns
-returns c =
+returns g c =
     let all = recorders_in c.args.self.now in let it = c.at.result.now in
     let knows = from_all (Knows c.args.board) all c.requires.known c.args.place it c.at.ensures in
     let same = ap length c.recorders.ensures.recorders in
