@@ -109,17 +109,19 @@ mkdir -p "$out"
 find "$out" -mindepth 1 -maxdepth 1 ! -name kept -exec rm -rf {} +
 [ "$proved" ] || (cd "$top/crates/dirgwako_c" && rt lib) > "$out/build.log" 2>&1 || fail "the library is not built: $out/build.log says why"
 cp "$here/dirgwako.h" "$here/dirgwako_heap.h" "$out/"
-jobs=$cores
 if [ $# = 4 ]; then
+    jobs=$cores
     kept_for "$@"
     make dirgwako "$@"
 else
+    # Each process of a proof reads anew what it rests on, so there are few.
+    jobs=$((cores > 1 ? cores / 2 : 1))
     kept_for 4 64 8 8
     make dirgwako 4 64 8 8
     # The others side by side, over what the first has proved.
     kept_for 16 256 32 64
     kept_for 32 256 32 64
-    jobs=$((cores > 1 ? cores / 2 : 1)) is_made=1
+    jobs=$((cores > 3 ? cores / 4 : 1)) is_made=1
     make dirgwako16 16 256 32 64 &
     large=$!
     make dirgwako32 32 256 32 64 &
