@@ -25,6 +25,7 @@ fn handles(rt: &impl Abort, registry: u64) -> (Counter, Histogram, Gauge) {
 fn counts(rt: &impl Abort, recorder: &mut Counts<'_>, handles: &(Counter, Histogram, Gauge)) {
     let (counter, hist, gauge) = handles;
     need(rt, recorder.inc(counter, 1));
+    need(rt, recorder.inc_one(counter));
     need(rt, recorder.observe(hist, 11));
     need(rt, recorder.up(gauge, 2));
     need(rt, recorder.down(gauge, 1));
@@ -43,6 +44,7 @@ fn counts_on_page(
 ) {
     let (counter, hist, gauge) = handles;
     need(rt, recorder.inc(counter, 1));
+    need(rt, recorder.inc_one(counter));
     need(rt, recorder.observe(hist, 11));
     need(rt, recorder.up(gauge, 2));
     need(rt, recorder.down(gauge, 1));
