@@ -6,10 +6,6 @@
 #![tactic(auto)]
 
 mod arguments;
-#[cfg(test)]
-mod growth;
-#[cfg(test)]
-mod tests;
 
 use arguments::{Command, read_serve};
 use metric_names::NoMemory;

@@ -3,6 +3,7 @@
 mod page_seen;
 mod pages;
 mod registries;
+mod servers;
 
 use crate::asserts::{once_more, same};
 use crate::helpers::{Plain, desc};

@@ -8,5 +8,6 @@ mod pages;
 mod pool;
 mod registry;
 mod replies;
+mod servers;
 mod state;
 mod tour;

@@ -1,4 +1,5 @@
 //! A server that wants memory before it listens to anybody.
+use crate::asserts::same;
 use metrics_program::{ServeEnd, serve_on};
 use std::io::{self, Write};
 use std::net::{Ipv4Addr, TcpListener};
@@ -24,15 +25,12 @@ impl Write for Flushes {
 }
 
 /// However a server ends that listens to nobody, what it wrote was flushed.
-fn is_flushed<T>(rt: &T, end: ServeEnd, writer: &Flushes) -> Result<(), Fail>
-where
-    T: Abort,
-{
-    assert_eq!(rt; writer.is_flushed, true);
+fn is_flushed(rt: &impl Abort, end: ServeEnd, writer: &Flushes) -> Result<(), Fail> {
+    same(rt, writer.is_flushed, true);
     if end == ServeEnd::NoMemory {
         return Err("NoMemory".into());
     }
-    assert_eq!(rt; end, ServeEnd::Done);
+    same(rt, end, ServeEnd::Done);
     Ok(())
 }
 

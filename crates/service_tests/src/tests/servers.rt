@@ -1,4 +1,5 @@
-//! A server whose writer or listener fails. They stand beside the program, since a crate with tests is proved twice, and it is small.
+//! The server of the program, where its writer or its listener fails.
+use crate::asserts::{need, same};
 use metrics_program::{ServeEnd, serve_on};
 use std::alloc::Global;
 use std::io::{self, Error, ErrorKind, Write};
@@ -24,8 +25,8 @@ fn listens<T>(rt: &T) -> (TcpListener, u16)
 where
     T: Abort + Net<Listener = TcpListener, Stream = TcpStream>,
 {
-    let listener = TcpListener::bind(rt, (Ipv4Addr::LOCALHOST, 0)).expect(rt, "a listener");
-    let port = listener.local_addr().expect(rt, "an address").port();
+    let listener = need(rt, TcpListener::bind(rt, (Ipv4Addr::LOCALHOST, 0)));
+    let port = need(rt, listener.local_addr()).port();
     (listener, port)
 }
 
@@ -73,7 +74,7 @@ where
     T: Abort + Threads + Wait + Sync + Net<Listener = TcpListener, Stream = TcpStream>,
 {
     let (listener, port) = listens(rt);
-    let printed = format!(in alloc; "listening {port}\nserved 0\n").expect(rt, "memory");
+    let printed = need(rt, format!(in alloc; "listening {port}\nserved 0\n"));
     let mut writer = Fails {
         kept: Vec::new(alloc),
         calls,
@@ -81,9 +82,9 @@ where
     };
     let end = serve_on(rt, alloc, listener, 0, &mut writer);
     let status = if calls < 8 { 3 } else { 0 };
-    assert_eq!(rt; (calls, end.status()), (calls, status));
+    same(rt, (calls, end.status()), (calls, status));
     let kept = writer.kept.as_slice();
-    assert_eq!(rt; printed.as_bytes().get(..kept.len()), Some(kept));
+    same(rt, printed.as_bytes().get(..kept.len()), Some(kept));
 }
 
 /// Three writes and a flush are for the port, and as many for the replies.
@@ -99,13 +100,12 @@ fn a_listener_that_fails(rt: HostRuntime) {
     let rt = &rt;
     let alloc = rt.alloc();
     let (listener, port) = listens(rt);
-    listener
-        .set_nonblocking(true)
-        .expect(rt, "it does not block");
+    need(rt, listener.set_nonblocking(true));
     let (end, written) = serve(rt, alloc, listener, 1);
-    let told = format!(in alloc; "listening {port}\n").expect(rt, "memory");
-    assert_eq!(rt;
+    let told = need(rt, format!(in alloc; "listening {port}\n"));
+    same(
+        rt,
         (end, written.as_slice()),
-        (ServeEnd::Broken, told.as_bytes())
+        (ServeEnd::Broken, told.as_bytes()),
     );
 }
