@@ -8,7 +8,7 @@ import sys
 from shifted import parser
 from started import Failed, Skipped, check, run
 
-FILES = ("tests/pages/shown.rt", "tests/pages/threads.rt", "growth/pages.rt")
+FILES = ("growth/pages.rt",)
 TEXT = re.compile(r'b?"(# TYPE (?:[^"\\]|\\.)*)"', re.S)
 TYPE = re.compile(r"# TYPE ([a-zA-Z_:][a-zA-Z0-9_:]*) (counter|gauge|histogram)")
 HELP = re.compile(r"# HELP ([a-zA-Z_:][a-zA-Z0-9_:]*) (.+)")

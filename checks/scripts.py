@@ -7,6 +7,7 @@ The cases are those of the folder scripts/ (its README.md says how they are writ
 input or output fails after each of its bytes. Each run has 60 seconds. A line is printed for each case that is not as expected, and the
 last line tells how many cases there were; the exit status is 1 where one was not as expected, or none was found.
 """
+import json
 import pathlib
 import resource
 import signal
@@ -44,10 +45,15 @@ def long_cases():
     value = "v" * 200
     samples = "".join(f'a{{l="{value}{number}"}} 0\n' for number in range(10, 60))
     children = "".join(f"child a {value}{number}\n" for number in range(10, 60))
+    gauges = "".join(f"child g {n}\n" for n in range(16))
+    found_again = f"gauge g l\n{gauges}{gauges}"
     windows = "window 64\nwindow 3\nscrape\nwindow 1024\nscrape\nwindow 1024\nwindow 0\n"
     return [
         ("70 scrapes", ("scrape\n" * 70 + windows).encode(), b"kept 64\nkept 3\nkept 3\nkept 4\n" + refused(77, 31), 1),
         ("the 65th child", ("counter a l\n" + "".join(f"child a {n}\n" for n in range(65))).encode(), refused(66, 22), 1),
+        ("the ninth histogram", ("histogram h l -\n" + "".join(f"child h {n}\n" for n in range(9))).encode(), refused(10, 22), 1),
+        ("the 17th gauge", ("gauge g l\n" + "".join(f"child g {n}\n" for n in range(17))).encode(), refused(18, 22), 1),
+        ("children that are found again where every slot is used", found_again.encode(), b"", 0),
         ("the 129th family", "".join(f"gauge g{n} -\n" for n in range(129)).encode(), refused(129, 23), 1),
         ("a long text", f"counter a l\n{children}scrape".encode(), f"# TYPE a counter\n{samples}".encode(), 0),
         ("a name of 128 bytes", f"counter {'a' * 128} -\n".encode(), b"", 0),
@@ -67,6 +73,12 @@ def long_cases():
         ("a line of a carriage return", b"\r\n", refused(1, 27), 1),
         ("a blank after a line", b"go \n", refused(1, 27), 1),
     ]
+
+
+def no_lines():
+    """Texts that are no line, each as a script of its own."""
+    texts = json.loads((FOLDER / "no_lines.json").read_text(encoding="utf-8"))
+    return [(f"no line: {text!r}", f"{text}\n".encode(), refused(1, 27), 1) for text in texts]
 
 
 def run(program, script):
@@ -129,7 +141,7 @@ def all_cases(program):
     for file in sorted(FOLDER.glob("*.txt")):
         for name, script, output, status in cases_in(file.read_text(encoding="utf-8")):
             yield f"{file.name}: {name}", lambda: run(program, script), (output, b"", status)
-    for name, script, output, status in long_cases():
+    for name, script, output, status in [*long_cases(), *no_lines()]:
         yield name, lambda: run(program, script), (output, b"", status)
     yield from failing_cases(program)
 
@@ -139,7 +151,7 @@ def main():
     signal.signal(signal.SIGTERM, lambda *_: sys.exit(1))
     program = str(pathlib.Path(sys.argv[1]).resolve())
     written = sum(file.read_text(encoding="utf-8").count("\n== ") for file in FOLDER.glob("*.txt"))
-    made = len(long_cases()) + len(SCRIPT) + len(OUTPUT) + len(refused(1, 20))
+    made = len(long_cases()) + len(no_lines()) + len(SCRIPT) + len(OUTPUT) + len(refused(1, 20))
     count, wrong = 0, 0
     for name, call, wanted in all_cases(program):
         count += 1

@@ -2,7 +2,6 @@
 use crate::asserts::{done, need, same};
 use crate::crew::ID;
 use crate::seen::Looked;
-use expo_text::render;
 use ledger_core::{Counter, Gauge};
 use metric_desc::{Desc, Kind};
 use metric_names::{HelpText, LabelName, LabelValue, MetricName};
@@ -88,19 +87,4 @@ pub(crate) fn made(
 ) -> Handle {
     let family = family(rt, registry, alloc, kind, name, &[]);
     need(rt, registry.child(family, &[]))
-}
-
-/// Makes a scrape, whose text is this.
-pub(crate) fn prints(rt: &impl Abort, registry: &mut Plain, expected: &str) {
-    let text = need(rt, render(&need(rt, registry.scrape())));
-    same(rt, text.as_slice(), expected.as_bytes());
-}
-
-/// Expects so many kept scrapes, and so many entries of the journal.
-pub(crate) fn holds(rt: &impl Abort, registry: &Plain, kept: usize, entries: usize) {
-    same(
-        rt,
-        (registry.kept().len(), registry.journal().len()),
-        (kept, entries),
-    );
 }

@@ -1,7 +1,6 @@
 //! Several registries, each over a board of its own, as one page.
 mod limits;
-mod shown;
-mod threads;
+mod refusals;
 
 use crate::asserts::{done, need};
 use crate::helpers::{desc, values};
