@@ -92,7 +92,7 @@ def passes(program, *words, seconds=300):
 
 def tests(prefix, room, *more):
     """The tests, with the archive; returns how many passed."""
-    sources = [HERE / f"test{it}.c" for it in ("", "_numbers", "_boards", "_shared")]
+    sources = [HERE / f"test{it}.c" for it in ("", "_replies", "_numbers", "_boards", "_shared")]
     done("cc", "-std=c99", "-D_POSIX_C_SOURCE=200809L", *STRICT, *more, *sources, f"-I{prefix}/include", prefix / "lib/libdirgwako.a",
          "-lpthread", "-o", room / "test")
     return passes(room / "test")
@@ -100,7 +100,7 @@ def tests(prefix, room, *more):
 
 def shared(prefix, room):
     """The tests with the shared library of most threads, which pkg-config finds."""
-    sources = [HERE / f"test{it}.c" for it in ("", "_numbers", "_boards", "_shared")]
+    sources = [HERE / f"test{it}.c" for it in ("", "_replies", "_numbers", "_boards", "_shared")]
     done("cc", "-std=c99", "-D_POSIX_C_SOURCE=200809L", *STRICT, *sources, "-o", room / "test_shared", *flags(prefix, "dirgwako32"), "-lpthread")
     return passes(room / "test_shared", "env", f"LD_LIBRARY_PATH={prefix}/lib")
 

@@ -445,6 +445,7 @@ int main(void) {
     lists();
     replies();
     asked();
+    replied();
     numbers();
     boards();
     threads();

@@ -22,6 +22,9 @@ int told(void);
 /* The tests of numbers that are read, and of what needs no registry. */
 void numbers(void);
 
+/* The tests of replies, byte for byte. */
+void replied(void);
+
 /* The tests of several boards of one registry. */
 void boards(void);
 

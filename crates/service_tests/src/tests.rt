@@ -6,7 +6,6 @@ mod kept;
 mod pages;
 mod pool;
 mod registry;
-mod replies;
 mod servers;
 mod told;
 mod tour;
