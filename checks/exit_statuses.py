@@ -8,8 +8,12 @@ SERVICE_USAGE = (1, "", "Error: usage: example_service PORT REPLIES")
 BENCH_USAGE = (
     2,
     "",
-    "usage: bench ROUNDS, at most 1000000000, or bench serve PORT REPLIES small|large, or bench torn SCRAPES apart|together,"
-    " or bench starved THREADS SPINS SCANS small|large|greatest, or bench page SCRAPES one|one16|whole|whole16|spread",
+    "usage: bench ROUNDS, at most 1000000000, or bench updates ROUNDS, or bench gather ROUNDS small|large, or bench torn SCRAPES apart|together,"
+    " or bench serve PORT REPLIES small|large, or bench starved THREADS SPINS SCANS, or bench page SCRAPES one|whole|spread",
+)
+BENCH_UNASKED = (
+    "", "x", "-1", "1000000001", "0 0", "updates", "updates x", "gather 1", "gather 1 tiny", "serve 0 0 64", "serve 65536 0 small", "torn 1", "torn x apart",
+    "torn 1 beside", "starved 1 0", "starved x 0 9", "starved 1 0 9 small", "page 1 two", "page x one",
 )
 # With so many kilobytes of addresses there is no room for a thread's stack.
 SMALL = "ulimit -v 6000 && "
@@ -26,7 +30,7 @@ def shell(line, program):
     return ("sh", "-c", line, program)
 
 
-def table(program, service, bench):
+def table(program, service):
     """Words, standard input, and what is wanted; of a port that the system chooses nothing."""
     yield (program, "script"), SCRIPT, (0, "# TYPE a counter", "")
     yield (program, "script"), b"", (0, "", "")
@@ -41,19 +45,33 @@ def table(program, service, bench):
     yield shell('exec "$0" serve 0 1 >/dev/full', program), b"", (3, "", "fault")
     for words in ["", "0", "0 0 0"]:
         yield (service, *words.split()), b"", SERVICE_USAGE
-    for words in ["", "1000000001", "0 0", "serve 0 0 64", "torn 1", "torn x apart", "torn 1 beside", "starved 1 0 9", "starved x 0 9 small", "starved 1 0 9 tiny", "page 1 two", "page x one"]:
+
+
+def bench_table(bench, bench16):
+    """The same of the bench in C, over the library of 4 threads and over that of 16."""
+    for words in BENCH_UNASKED:
         yield (bench, *words.split()), b"", BENCH_USAGE
-    yield (bench, "serve", "0", "0", "small"), b"", (0, "10008 bytes", None)
-    yield (bench, "serve", "0", "0", "large"), b"", (0, "69896 bytes", None)
+    yield shell('exec "$0" 0 >/dev/full', bench), b"", (1, "", "standard output failed")
+    for it in (bench, bench16):
+        yield (it, "serve", "0", "0", "small"), b"", (0, "10008 bytes", None)
+        yield (it, "serve", "0", "0", "large"), b"", (0, "69896 bytes", None)
     for how in ("apart", "together"):
         yield (bench, "torn", "3", how), b"", (0, "---", "")
-    yield (bench, "starved", "1", "0", "9", "small"), b"", (0, "no_scan 4,64,8,0 scans 0 given_up 0 scan 0.00 longest 0", "")
-    yield (bench, "page", "0", "one"), b"", (0, "# HELP requests_00_total Requests answered so far by service part 00.", "")
+    yield (bench, "starved", "1", "0", "9"), b"", (0, "no_scan 4,64,8,8 scans 0 given_up 0 scan 0.00 longest 0", "")
+    yield (bench16, "page", "0", "one"), b"", (0, "# HELP requests_00_total Requests answered so far by service part 00.", "")
 
 
-def check_all(program, service, bench):
+def check_all(program, service):
     """Returns how many runs were as they should be."""
-    rows = list(table(program, service, bench))
+    return check_rows(list(table(program, service)))
+
+
+def check_bench(bench, bench16):
+    """The same of the bench."""
+    return check_rows(list(bench_table(bench, bench16)))
+
+
+def check_rows(rows):
     for words, given, wanted in rows:
         got = found(words, given)
         if wanted[2] is None:

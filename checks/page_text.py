@@ -1,5 +1,5 @@
-"""The texts of a page, several boards behind one: those that tests expect, and those of 40 boards that `bench page` prints. Each series once,
-families and children in order, by plain Python; and Prometheus' own parsers read them, a sample a line."""
+"""The texts of a page, several boards behind one: those that tests expect, and those of one board and of 40 that `bench page` prints, the program of
+bindings/c/bench. Each series once, families and children in order, by plain Python; and Prometheus' own parsers read them, a sample a line."""
 import math
 import re
 import shutil
@@ -25,14 +25,20 @@ def printed(bench, how):
     return out.decode()
 
 
-def texts_of(root, bench):
-    """The texts that the tests of pages expect, as the sources spell them; that of one board, and that of 40, whichever board a family is on."""
-    texts = [printed(bench, "one"), printed(bench, "whole")]
-    check(texts[1] == printed(bench, "spread"), "a page shows the same where children are on other boards")
+def texts_of(root):
+    """The texts that the tests of pages expect, as the sources spell them."""
+    texts = []
     for file in FILES:
         spelled = TEXT.findall((root / "crates/service_tests/src" / file).read_text())
         check(spelled, f"{file} has the text of a page")
         texts += [re.sub(r"\\\n\s*", "", it).encode().decode("unicode_escape") for it in spelled]
+    return texts
+
+
+def texts_by(bench):
+    """The text of one board, and that of 40, whichever board a family is on."""
+    texts = [printed(bench, "one"), printed(bench, "whole")]
+    check(texts[1] == printed(bench, "spread"), "a page shows the same where children are on other boards")
     return texts
 
 
@@ -113,13 +119,12 @@ def check_text(text):
     return len(series)
 
 
-def check_exact(root, bench):
-    return sum(check_text(text) for text in texts_of(root, bench))
+def check_exact(texts):
+    return sum(check_text(text) for text in texts)
 
 
-def check_python(root, bench):
+def check_python(texts):
     text_string_to_metric_families = parser()
-    texts = texts_of(root, bench)
     for text in texts:
         families = list(text_string_to_metric_families(text))
         names = [family.name for family in families]
@@ -133,10 +138,9 @@ def check_python(root, bench):
     return len(texts)
 
 
-def check_promtool(root, bench):
+def check_promtool(texts):
     if not shutil.which("promtool"):
         raise Skipped("there is no promtool")
-    texts = texts_of(root, bench)
     for text in texts:
         out, err, status = run("promtool", "check", "metrics", given=text.encode())
         told = (out + err).decode()
@@ -147,10 +151,11 @@ def check_promtool(root, bench):
 if __name__ == "__main__":
     import pathlib
 
-    top = pathlib.Path(__file__).resolve().parent.parent
+    # (of a bench over `dirgwako16`, where its path is given, besides)
+    found = texts_of(pathlib.Path(__file__).resolve().parent.parent) + [text for bench in sys.argv[1:] for text in texts_by(pathlib.Path(bench).resolve())]
     for it in (check_exact, check_python, check_promtool):
         try:
-            print(it.__name__, it(top, top / "crates/bench/out/bench"))
+            print(it.__name__, it(found))
         except Skipped as why:
             print(it.__name__, "SKIPPED:", why)
         except Failed as why:

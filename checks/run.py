@@ -6,6 +6,7 @@ import tempfile
 import time
 
 import aside
+import c_bench
 import c_library
 import clients
 import cpp_library
@@ -39,24 +40,33 @@ def script_cases(program):
 
 def checks_of(prefix):
     """The names of all checks and what each does, in order. The libraries for C are installed below `prefix` by theirs."""
-    program, service, bench = built("metrics_run"), built("example_service"), built("bench")
+    program, service = built("metrics_run"), built("example_service")
     printed = ROOT / "crates/example_service/stdout"
+
+    def bench(library="dirgwako"):
+        return c_bench.built(prefix, library)
+
     return [
         ("pages", lambda: pages.check_all(ROOT)),
         ("wrong bodies", lambda: aside.check_all(ROOT)),
         ("shifted numbers", lambda: shifted.check_exact(ROOT)),
         ("Prometheus' parser for Python", lambda: shifted.check_python(ROOT)),
         ("promtool", lambda: shifted.check_promtool(ROOT)),
-        ("texts of a page", lambda: page_text.check_exact(ROOT, bench)),
-        ("texts of a page by Prometheus' parser for Python", lambda: page_text.check_python(ROOT, bench)),
-        ("texts of a page by promtool", lambda: page_text.check_promtool(ROOT, bench)),
-        ("exit statuses", lambda: exit_statuses.check_all(program, service, bench)),
+        ("texts of a page", lambda: page_text.check_exact(page_text.texts_of(ROOT))),
+        ("texts of a page by Prometheus' parser for Python", lambda: page_text.check_python(page_text.texts_of(ROOT))),
+        ("texts of a page by promtool", lambda: page_text.check_promtool(page_text.texts_of(ROOT))),
+        ("exit statuses", lambda: exit_statuses.check_all(program, service)),
         ("scripts", lambda: script_cases(program)),
         ("servers", lambda: servers.check_all(program, service, printed)),
         ("clients", lambda: clients.check_all(program)),
         ("refused memory", lambda: refused_memory.check_all(program)),
         ("no memory", no_memory.check_all),
         ("c library", lambda: c_library.check_all(prefix)),
+        ("bench", lambda: c_bench.check_all(prefix)),
+        ("exit statuses of bench", lambda: exit_statuses.check_bench(bench(), bench("dirgwako16"))),
+        ("texts of 40 boards", lambda: page_text.check_exact(page_text.texts_by(bench("dirgwako16")))),
+        ("texts of 40 boards by Prometheus' parser for Python", lambda: page_text.check_python(page_text.texts_by(bench("dirgwako16")))),
+        ("texts of 40 boards by promtool", lambda: page_text.check_promtool(page_text.texts_by(bench("dirgwako16")))),
         ("c++ library", lambda: cpp_library.check_all(prefix)),
         ("rust library", lambda: rust_library.check_all(prefix)),
         ("python library", lambda: python_library.check_all(prefix)),

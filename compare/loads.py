@@ -3,7 +3,7 @@ import re
 import subprocess
 import urllib.request
 
-from programs import BARE, OURS, RUST
+from programs import BARE, OURS, RUST, of_size
 from speeds import SIZES, Found
 from started import Failed, check, end, run, start
 from torn import numbers
@@ -24,7 +24,7 @@ def port_of(program, stream):
 def serving(words, size, name):
     """A program that serves, and its port."""
     if name == OURS:
-        program = start(*words, "serve", 0, 1_000_000_000, size, stdout=subprocess.DEVNULL, stderr=subprocess.PIPE)
+        program = start(*of_size(name, words, size), "serve", 0, 1_000_000_000, size, stdout=subprocess.DEVNULL, stderr=subprocess.PIPE)
         return program, port_of(program, program.stderr)
     word = "bare" if name == BARE else "serve"
     program = start(*words, word, 0, size, stdout=subprocess.PIPE, stderr=subprocess.DEVNULL)

@@ -15,8 +15,9 @@ OUT = HERE / "out"
 PYTHON = "/usr/bin/python3"
 REGISTRY = pathlib.Path("/usr/share/cargo/registry")
 GOPATH = pathlib.Path("/usr/share/gocode")
+LIBRARIES = {"small": "dirgwako", "large": "dirgwako16"}
 C_LIBRARY = ROOT / "bindings/out/libdirgwako16.a"
-OURS, FROM_C, RUST, GO, PEER_PYTHON, BARE = "Dirgwako", "Dirgwako from C", "prometheus (Rust)", "client_golang (Go)", "prometheus_client (Python)", "a text made before"
+OURS, RUST, GO, PEER_PYTHON, BARE = "Dirgwako", "prometheus (Rust)", "client_golang (Go)", "prometheus_client (Python)", "a text made before"
 
 
 def can_import(module, python=PYTHON):
@@ -32,7 +33,6 @@ def needs():
     has_go = (GOPATH / "src/github.com/prometheus/client_golang").is_dir()
     has_library = (shutil.which("rt") or C_LIBRARY.is_file(), "the toolchain's rt, or a built bindings/out", "")
     return {
-        FROM_C: [(shutil.which("cc"), "cc", "gcc"), has_library],
         RUST: [(shutil.which("cargo"), "cargo", "cargo"), (has_crate, "the crate prometheus 0.13", "librust-prometheus-dev")],
         GO: [(shutil.which("go"), "go", "golang-go"), (has_go, "client_golang", "golang-github-prometheus-client-golang-dev")],
         PEER_PYTHON: [(can_import("prometheus_client"), "prometheus_client", "python3-prometheus-client")],
@@ -80,22 +80,23 @@ def is_older(made, crate, *files):
     return not made.is_file() or made.stat().st_mtime < max(it.stat().st_mtime for it in [*sources, *files])
 
 
-def build_c():
-    """A program over the library for C of 4 threads, and beside it the same over that of 16."""
+def build_ours():
+    """The bench over the library for C of 4 threads, and beside it the same over that of 16."""
+    check(shutil.which("cc"), "no cc on the path, which builds bindings/c/bench: apt-get install gcc")
     bindings = ROOT / "bindings/c"
     if shutil.which("rt") and is_older(C_LIBRARY, "dirgwako_c", bindings / "dirgwako.h"):
         print("the library for C is proved and built first: minutes where all below it is proved", flush=True)
         build([bindings / "build.sh"], bindings, {}, seconds=7200)
-    made = []
-    for name in ("dirgwako", "dirgwako16"):
-        made.append(OUT / f"c_peer_{name}")
-        build(["cc", "-std=c99", "-D_POSIX_C_SOURCE=200809L", "-Wall", "-Wextra", "-O2", HERE / "c/peer.c", f"-I{bindings}", ROOT / f"bindings/out/lib{name}.a", "-lpthread", "-o", made[-1]], HERE, {})
-    return [made[0]]
+    check(C_LIBRARY.is_file(), "no rt on the path, which proves and builds the library for C, and no bindings/out")
+    sources = sorted(bindings.glob("bench/*.c"))
+    for name in LIBRARIES.values():
+        build(["cc", "-std=c11", "-D_POSIX_C_SOURCE=200809L", "-O2", *sources, f"-I{bindings}", ROOT / f"bindings/out/lib{name}.a", "-lpthread", "-o", OUT / f"bench_{name}"], HERE, {})
+    return [OUT / f"bench_{LIBRARIES['small']}"]
 
 
 def of_size(name, words, size):
-    """The words by which a program is started that makes scrapes of this size."""
-    return [OUT / "c_peer_dirgwako16"] if name == FROM_C and size == "large" else words
+    """The words by which a program is started that has a board for so many series."""
+    return [OUT / f"bench_{LIBRARIES[size]}"] if name == OURS else words
 
 
 def build_rust():
@@ -126,24 +127,10 @@ def below(name):
     return found
 
 
-def build_ours(given):
-    """The program `bench`: the one that is given, or the built one where it is newer than its sources, or else it is proved and built."""
-    if given:
-        check(os.access(given, os.X_OK), f"{given} is no program")
-        return [pathlib.Path(given).resolve()]
-    built = ROOT / "crates/bench/out/bench"
-    if is_older(built, "bench"):
-        check(shutil.which("rt"), "no rt on the path, which proves and builds crates/bench, and no --bench PROGRAM")
-        print("crates/bench is proved and built first: seconds after small changes, a quarter of an hour from nothing", flush=True)
-        build(["rt", "run", "--", "0"], ROOT / "crates/bench", {}, seconds=3600)
-    check(built.is_file(), "rt has built no crates/bench/out/bench")
-    return [built]
-
-
-def build_all(given, lacks):
+def build_all(lacks):
     """The words by which each program is started, in the order of the tables."""
     OUT.mkdir(exist_ok=True)
-    makers = {OURS: lambda: build_ours(given), FROM_C: build_c, RUST: build_rust, GO: build_go, PEER_PYTHON: build_python}
+    makers = {OURS: build_ours, RUST: build_rust, GO: build_go, PEER_PYTHON: build_python}
     return {name: make() for name, make in makers.items() if name not in lacks}
 
 
@@ -163,10 +150,9 @@ def package(name):
 def versions():
     """What is compared, and in which version."""
     commit = first_line("git", "-C", ROOT, "rev-parse", "--short", "HEAD")
-    is_changed = run("git", "-C", ROOT, "status", "--porcelain", "--", "crates")[0]
+    is_changed = run("git", "-C", ROOT, "status", "--porcelain", "--", "crates", "bindings/c")[0]
     return [
-        (OURS, f"commit {commit}{', with changes' if is_changed else ''}; {first_line('rt', 'version')}"),
-        (FROM_C, f"the same; {first_line('cc', '--version')}"),
+        (OURS, f"commit {commit}{', with changes' if is_changed else ''}; {first_line('rt', 'version')}; {first_line('cc', '--version')}"),
         (RUST, f"librust-prometheus-dev {package('librust-prometheus-dev')}; {first_line('rustc', '--version')}"),
         (GO, f"golang-github-prometheus-client-golang-dev {package('golang-github-prometheus-client-golang-dev')}; {first_line('go', 'version')}"),
         (PEER_PYTHON, f"python3-prometheus-client {package('python3-prometheus-client')}; {first_line(PYTHON, '--version')}"),

@@ -1,8 +1,8 @@
 """Runs the same work over Dirgwako and other client libraries, side by side, and writes results.md and two pictures.
 
-`python3 compare/run.py [--quick] [--bench PROGRAM]`: the whole in some minutes. With `--quick` each measurement takes a second or less, and
-all goes to compare/out/, so that no figure of it is taken for one. PROGRAM is a built `bench`; by itself the script takes that of
-crates/bench, which `rt` proves and builds where it is older than its sources. It installs nothing: what is missing is left out, and told.
+`python3 compare/run.py [--quick]`: the whole in some minutes. With `--quick` each measurement takes a second or less, and all goes to
+compare/out/, so that no figure of it is taken for one. The program over Dirgwako is bindings/c/bench, over bindings/out, which `rt` proves and
+builds where it is older than its sources. It installs nothing: what is missing is left out, and told.
 """
 import argparse
 import json
@@ -67,7 +67,6 @@ def draw(found, where):
 def asked():
     words = argparse.ArgumentParser(description="The same work over Dirgwako and other client libraries.")
     words.add_argument("--quick", action="store_true", help="a second or less for each measurement; writes to compare/out/")
-    words.add_argument("--bench", metavar="PROGRAM", help="a built bench program")
     return words.parse_args()
 
 
@@ -78,14 +77,12 @@ def compare(how):
         print(line, flush=True)
     if table.cores() < 4:
         print(f"this machine has {table.cores()} cores: lines of four threads, and of requests, are no figures to tell", flush=True)
-    started = programs.build_all(how.bench, lacks)
+    started = programs.build_all(lacks)
     scrapes, rounds, turns, loaded_turns = (500, 20_000, 1, 1) if how.quick else (5_000, 500_000, 8, 5)
-    # (from C it is the same library, whose scrapes and sockets are measured once)
-    others = {name: words for name, words in started.items() if name != programs.FROM_C}
-    found = torn_scrapes(others, scrapes)
+    found = torn_scrapes(started, scrapes)
     measured = speeds.measure(started, rounds, turns)
     paged = series.measure(started, 3 if how.quick else 100, turns)
-    loaded = loads.measure(others, 1, loaded_turns, "requests a second" not in lacks)
+    loaded = loads.measure(started, 1, loaded_turns, "requests a second" not in lacks)
     beside = packages.measure(lacks, how.quick)
     page = programs.OUT / "results.md" if how.quick else programs.HERE / "results.md"
     page.write_text(table.page(load, found, measured, paged, loaded, packages.lines(beside), how.quick))

@@ -4,7 +4,7 @@ import os
 import subprocess
 
 from loads import compare_texts
-from programs import GO, OURS, PEER_PYTHON, RUST
+from programs import GO, OURS, PEER_PYTHON, RUST, of_size
 from speeds import Found
 from started import check, run, start
 
@@ -14,8 +14,6 @@ HOWS = {
     "whole": "10,000 counters, 1,000 histograms and 500 gauges: 40 boards, each family on one of them",
     "spread": "the same, each family with parts on many boards",
 }
-# The same for 16 threads.
-FOR_16 = {"one16": "one", "whole16": "whole"}
 PEERS = (RUST, GO, PEER_PYTHON)
 
 
@@ -44,17 +42,17 @@ def turn(found, name, words, how, scrapes):
 
 
 def measure(programs, scrapes, turns):
-    """The turns of each program, and its texts. Python's gets a tenth of the scrapes."""
-    found, texts = Found(), {}
+    """The turns of each program, and its texts. Ours is over the library of 16 threads. Python's gets a tenth of the scrapes."""
+    found, texts, ours = Found(), {}, of_size(OURS, programs[OURS], "large")
     peers = [name for name in PEERS if name in programs]
     for number in range(turns):
         print(f"pages, turn {number + 1} of {turns}", flush=True)
-        for how in (*HOWS, *FOR_16):
-            turn(found, OURS, programs[OURS], how, scrapes)
+        for how in HOWS:
+            turn(found, OURS, ours, how, scrapes)
         for how in ("one", "whole"):
             for name in peers:
                 turn(found, name, programs[name], how, max(scrapes // (10 if name == PEER_PYTHON else 1), 3))
     for how in HOWS:
         words = {OURS: how, **{name: as_peer(how) for name in peers}}
-        texts[how] = compare_texts({name: text_of(programs[name], each) for name, each in words.items()})
+        texts[how] = compare_texts({name: text_of(ours if name == OURS else programs[name], each) for name, each in words.items()})
     return found, texts

@@ -2,20 +2,13 @@
 import statistics
 from dataclasses import dataclass, field
 
-from programs import BARE, FROM_C, OURS, PEER_PYTHON, of_size
+from programs import BARE, LIBRARIES, OURS, PEER_PYTHON, of_size
 from started import check, run
 
-# An update, as the tables call it; the name that the peers print it by; and ours: of one thread, of four, and the same two in a tally.
-UPDATES = [
-    ("an increment", "inc", ("inc_one_counter", "busy_4", "tally_inc", "tally_busy_4")),
-    ("an observation", "observe", ("observe", "busy_4_observe", "tally_observe", None)),
-    ("ten increments at once", "inc_10", ("publish_10_inc", "busy_4_10_inc", None, None)),
-    ("ten observations at once", "observe_10", ("publish_10_observe", "busy_4_10_observe", None, None)),
-]
-BOARD = "4,64,8,0"
+# An update, as the tables call it, and the name that the programs print it by.
+UPDATES = [("an increment", "inc"), ("an observation", "observe"), ("ten increments at once", "inc_10"), ("ten observations at once", "observe_10")]
 SIZES = {"small": "64 counters, 8 histograms of 10 bounds", "large": "256 counters, 32 histograms of 24 bounds"}
-GATHERS = {"small": "4,64,8,0", "large": "16,256,32,0"}
-TALLY, FROM_C_TALLY = f"{OURS}, in a tally", f"{FROM_C}, in a tally"
+TALLY = f"{OURS}, in a tally"
 
 
 @dataclass
@@ -54,40 +47,31 @@ def lines_of(words, seconds=300):
     return [line.split() for line in out.decode().splitlines()]
 
 
-def ours(words, rounds, updates, gathers, lines):
-    """One turn of our program, which prints all at once; of each line the nanoseconds, and those of its floor."""
-    printed = {}
-    for name, of, each, ratio, *_second in lines_of([*words, rounds]):
-        printed[name, of] = float(each)
-        lines[name, of, "ns"].add(float(each))
-        lines[name, of, "floor"].add(float(each) / max(float(ratio), 0.01))
-    for _what, name, (alone, busy, tally, busy_tally) in UPDATES:
-        wanted = [(OURS, 1, alone), (OURS, 4, busy), (TALLY, 1, tally), (TALLY, 4, busy_tally)]
-        for who, threads, line in wanted:
-            if line:
-                updates[who, name, threads].add(printed[line, BOARD])
-    for size, geometry in GATHERS.items():
-        gathers[OURS, size].add(printed["gather", geometry])
+def ours(words, rounds, lines):
+    """One turn of what the bench prints over each library; of each line the nanoseconds, and those of its floor."""
+    for size in LIBRARIES:
+        for name, of, each, times in lines_of([*of_size(OURS, words, size), rounds]):
+            lines[name, of, "ns"].add(float(each))
+            lines[name, of, "floor"].add(float(each) / max(float(times), 0.01))
 
 
-def peer(name, words, rounds, updates, gathers):
-    """One turn of another one. Python's gets a tenth of the rounds."""
+def turn_of(name, words, rounds, updates, gathers):
+    """One turn of a program. Python's gets a tenth of the rounds."""
     less = 10 if name == PEER_PYTHON else 1
     for line, threads, each in lines_of([*words, "updates", rounds // less]):
-        who = FROM_C_TALLY if line.startswith("tally_") else name
+        who = TALLY if line.startswith("tally_") else name
         updates[who, line.removeprefix("tally_"), int(threads)].add(float(each))
     for size in SIZES:
         gathers[name, size].add(float(lines_of([*of_size(name, words, size), "gather", max(rounds // 1_000 // less, 1), size])[0][0]))
 
 
 def measure(programs, rounds, turns):
-    """The turns of updates, of gathers, and of all lines of our program."""
+    """The turns of updates, of gathers, and of all lines of the bench."""
     updates, gathers, lines = Found(), Found(), Found()
     for turn in range(turns):
         print(f"updates and scrapes, turn {turn + 1} of {turns}", flush=True)
         for name, words in programs.items():
-            if name == OURS:
-                ours(words, rounds, updates, gathers, lines)
-            elif name != BARE:
-                peer(name, words, rounds, updates, gathers)
+            if name != BARE:
+                turn_of(name, words, rounds, updates, gathers)
+        ours(programs[OURS], rounds, lines)
     return updates, gathers, lines

@@ -6,9 +6,9 @@ import platform
 import time
 
 from loads import CONNECTIONS
-from programs import BARE, FROM_C, GO, OURS, PEER_PYTHON, RUST, missing, versions
-from series import FOR_16, HOWS, as_peer
-from speeds import FROM_C_TALLY, SIZES, TALLY, UPDATES, Turns
+from programs import BARE, GO, OURS, PEER_PYTHON, RUST, missing, versions
+from series import HOWS, as_peer
+from speeds import SIZES, TALLY, UPDATES, Turns
 
 PEERS = (RUST, GO, PEER_PYTHON)
 APART, TOGETHER = f"{OURS}, each change a version", f"{OURS}, a round one version"
@@ -115,22 +115,21 @@ def torn_lines(torn):
 
 def update_lines(updates):
     lines = ["## Updates, in nanoseconds", ""]
-    lines += head("what", "threads", OURS, "in a tally", FROM_C, "from C, in a tally", *PEERS, f"{OURS} to {RUST}", f"in a tally to {RUST}", f"{FROM_C} to {OURS}")
-    for what, name, _ours in UPDATES:
+    lines += head("what", "threads", OURS, "in a tally", *PEERS, f"{OURS} to {RUST}", f"in a tally to {RUST}")
+    for what, name in UPDATES:
         for threads in (1, 4):
-            one = {who: updates[who, name, threads] for who in (OURS, TALLY, FROM_C, FROM_C_TALLY, *PEERS)}
-            pairs = ((OURS, RUST), (TALLY, RUST), (FROM_C, OURS))
-            ratios = (ratio(one[a], one[b], which(threads)) for a, b in pairs)
+            one = {who: updates[who, name, threads] for who in (OURS, TALLY, *PEERS)}
+            ratios = (ratio(one[it], one[RUST], which(threads)) for it in (OURS, TALLY))
             lines.append(row(what, threads, *(told(it, threads=threads) for it in one.values()), *ratios))
     return lines + [""]
 
 
 def gather_lines(gathers, texts):
     lines = ["## A scrape with its text, in microseconds", ""]
-    lines += head("of", OURS, FROM_C, *PEERS, f"{OURS} to {RUST}", f"{FROM_C} to {OURS}")
+    lines += head("of", OURS, *PEERS, f"{OURS} to {RUST}")
     for size, what in SIZES.items():
-        each = {who: gathers[who, size] for who in (OURS, FROM_C, *PEERS)}
-        lines.append(row(what, *(told(it, 1_000) for it in each.values()), ratio(each[OURS], each[RUST]), ratio(each[FROM_C], each[OURS])))
+        each = {who: gathers[who, size] for who in (OURS, *PEERS)}
+        lines.append(row(what, *(told(it, 1_000) for it in each.values()), ratio(each[OURS], each[RUST])))
     lines += ["", *head("the text", *texts["small"]), *(text_row(SIZES[size], each) for size, each in texts.items())]
     return lines + [""]
 
@@ -144,8 +143,8 @@ def text_row(what, each):
 
 
 def series_rows(found, how, what):
-    """A row for each library whose series lie so, and of ours one for 16 threads, too."""
-    hows = [(OURS, f"{OURS}, 4 threads", how)] + [(OURS, f"{OURS}, 16 threads", it) for it, of in FOR_16.items() if of == how]
+    """A row for each library whose series lie so."""
+    hows = [(OURS, f"{OURS}, 16 threads", how)]
     if how != "spread":
         hows += [(name, name, how) for name in PEERS]
     rows = []
@@ -164,9 +163,8 @@ def series_lines(found, texts):
     lines += head("of", "by", "registered, ms", "a scrape with its text, ms", f"times {RUST}'s", "an increment, ns", "increments in turn, ns", "memory at most, MB")
     for how, what in HOWS.items():
         lines += series_rows(found, how, what)
-    lines += ["", head("of the page", "an increment of a board that is in no page, ns", "each board's own scrape and text, ms")[0], "|---|---|---|"]
-    for how, what in (*HOWS.items(), *((it, f"{HOWS[of]}; for 16 threads") for it, of in FOR_16.items())):
-        lines.append(row(what, told(found[OURS, how, "inc_of_a_board"]), told(found[OURS, how, "boards"], 1_000_000)))
+    lines += ["", *head("of the page", "a read of each board by itself, without a text, ms")]
+    lines += [row(what, told(found[OURS, how, "reads"], 1_000_000)) for how, what in HOWS.items()]
     lines += ["", *head("the text", *texts["one"]), *(text_row(HOWS[how], each) for how, each in texts.items())]
     return lines + [""]
 
@@ -196,7 +194,7 @@ def memory_lines(memory):
 
 
 def all_lines(lines):
-    """What our program has printed, line by line."""
+    """What the bench has printed, line by line."""
     told_lines = head("measurement", "of", "nanoseconds", "times its floor")
     for name, of in dict.fromkeys((name, of) for name, of, _what in lines):
         threads = 4 if "busy_4" in name else 1

@@ -42,8 +42,8 @@ uint64_t now(void);
 void start(pthread_t *thread, void *(*run)(void *), void *given);
 void await(pthread_t thread);
 
-/* Whether all of standard output is written. */
-int is_printed(void);
+/* The exit status of a program that has done all: 1 where standard output is not all written, which it tells. */
+int ended(void);
 
 /* A text that grows. */
 struct text {

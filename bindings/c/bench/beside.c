@@ -24,7 +24,7 @@ int bench_updates(uint64_t rounds) {
     both(board, "tally_inc", tally_inc, most);
     both(board, "tally_observe", tally_observe, most);
     board_close(board);
-    return !is_printed();
+    return ended();
 }
 
 int bench_gather(uint64_t rounds, const struct service *service) {
@@ -36,5 +36,5 @@ int bench_gather(uint64_t rounds, const struct service *service) {
     printf(" %zu\n", gathering.text.len);
     free(gathering.text.at);
     want(dirgwako_registry_free(&registry));
-    return !is_printed();
+    return ended();
 }

@@ -152,5 +152,5 @@ int bench_page(size_t scrapes, enum layout layout) {
     }
     free(gathering.text.at);
     close_page(&it);
-    return !is_printed();
+    return ended();
 }

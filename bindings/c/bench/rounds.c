@@ -154,5 +154,5 @@ int bench_rounds(uint64_t rounds) {
     scrapes(&lines, "scrape_small", &small);
     scrapes(&lines, "scrape_large", &large);
     if (rounds == 0) printf("measured %s: updates, lists, tallies, reads and scrapes\n", geometry.name);
-    return !is_printed();
+    return ended();
 }

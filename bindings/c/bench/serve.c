@@ -100,5 +100,5 @@ int bench_serve(uint16_t port, uint64_t replies, const struct service *service) 
     free(text.at);
     close(it.listener);
     want(dirgwako_registry_free(&it.registry));
-    return !is_printed();
+    return ended();
 }

@@ -42,8 +42,10 @@ void await(pthread_t thread) {
     if (pthread_join(thread, NULL)) fail("a thread cannot be joined");
 }
 
-int is_printed(void) {
-    return !fflush(stdout) && !ferror(stdout);
+int ended(void) {
+    if (!fflush(stdout) && !ferror(stdout)) return 0;
+    fputs("standard output failed\n", stderr);
+    return 1;
 }
 
 /* Whether this answer is that the text was too short; then it has room for what is needed, and for what may have come by the next time. */

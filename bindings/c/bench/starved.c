@@ -191,5 +191,5 @@ int bench_starved(size_t threads, uint64_t spins, uint64_t scans) {
     for (int i = 0; i < 4; i++) at_pace(&it, geometry.name, &paces[i]);
     for (size_t i = 0; i < it.threads; i++) want(dirgwako_recorder_free(&it.all[i].recorder));
     want(dirgwako_registry_free(&it.registry));
-    return !is_printed();
+    return ended();
 }

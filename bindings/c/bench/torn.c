@@ -79,5 +79,5 @@ int bench_torn(uint64_t scrapes, int is_apart) {
     free(text.at);
     want(dirgwako_recorder_free(&counter.recorder));
     want(dirgwako_registry_free(&registry));
-    return !is_printed();
+    return ended();
 }
