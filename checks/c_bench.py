@@ -97,7 +97,7 @@ def sanitized(prefix, room):
     probe = room / "probe.c"
     probe.write_text("int main(void) { return 0; }\n")
     for it in SANITIZERS:
-        if run("cc", f"-fsanitize={it}", probe, "-o", room / "probe")[2] != 0:
+        if run("cc", f"-fsanitize={it}", probe, "-o", room / "probe")[2] != 0 or run(room / "probe")[2] != 0:
             print(f"bench: no sanitizer of {it} on this machine: it is not tried", flush=True)
             continue
         more = (f"-fsanitize={it}", "-fno-sanitize-recover=all")
