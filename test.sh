@@ -4,5 +4,12 @@
 # 'N passed, 0 failed'.
 set -eu
 cd "$(dirname "$0")"
+# One process for each crate or edit, as many at once as there are processors: several for one crate take half as much of the processor again, and end
+# hardly sooner. Where there are more processors, or less memory, `rt` chooses by itself.
+cores=$(getconf _NPROCESSORS_ONLN)
+gigabytes=$(awk '/^MemAvailable:/ { print int($2 / 1048576) }' /proc/meminfo 2> /dev/null || echo 0)
+if [ "$cores" -le 4 ] && [ "$gigabytes" -ge $((5 * cores)) ]; then
+    export RT_JOBS="${RT_JOBS-$cores}"
+fi
 rt ci
 python3 -B checks/run.py

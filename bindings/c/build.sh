@@ -114,14 +114,14 @@ if [ $# = 4 ]; then
     kept_for "$@"
     make dirgwako "$@"
 else
-    # Each process of a proof reads anew what it rests on, so there are few.
-    jobs=$((cores > 1 ? cores / 2 : 1))
+    # One process a library: several take as long together, and far more of the processor, since each reads anew what it rests on.
+    jobs=1
     kept_for 4 64 8 8
     make dirgwako 4 64 8 8
     # The others side by side, over what the first has proved.
     kept_for 16 256 32 64
     kept_for 32 256 32 64
-    jobs=$((cores > 3 ? cores / 4 : 1)) is_made=1
+    is_made=1
     make dirgwako16 16 256 32 64 &
     large=$!
     make dirgwako32 32 256 32 64 &
