@@ -94,10 +94,7 @@ pub fn print_last<R: Print, const N: usize, const C: usize, const H: usize, cons
     rt: &R,
     registry: Registry<'_, N, C, H, G>,
 ) -> Result<(), PrintFault> {
-    match last_text(registry) {
-        Ok((text, _state)) => print_text(rt, &text),
-        Err((fault, _state)) => Err(PrintFault::Text(fault)),
-    }
+    print_of(rt, registry.into_state())
 }
 
 /// Prints [`text_of`] a registry or a page that nobody shares on standard output, as a service does at its end: that of a page behind its lock is
