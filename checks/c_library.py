@@ -11,6 +11,7 @@ from started import Skipped, check, run
 HERE = ROOT / "bindings/c"
 STRICT = ("-Wall", "-Wextra", "-Werror", "-pedantic", "-O2")
 LIBRARIES = ("dirgwako", "dirgwako16", "dirgwako32")
+TESTS = [HERE / f"test{it}.c" for it in ("", "_replies", "_numbers", "_boards", "_texts", "_refusals", "_crowd", "_shared")]
 HELLO = "# HELP visits_total Visits so far.\n# TYPE visits_total counter\nvisits_total 3\n"
 
 
@@ -92,16 +93,14 @@ def passes(program, *words, seconds=300):
 
 def tests(prefix, room, *more):
     """The tests, with the archive; returns how many passed."""
-    sources = [HERE / f"test{it}.c" for it in ("", "_replies", "_numbers", "_boards", "_shared")]
-    done("cc", "-std=c99", "-D_POSIX_C_SOURCE=200809L", *STRICT, *more, *sources, f"-I{prefix}/include", prefix / "lib/libdirgwako.a",
+    done("cc", "-std=c99", "-D_POSIX_C_SOURCE=200809L", *STRICT, *more, *TESTS, f"-I{prefix}/include", prefix / "lib/libdirgwako.a",
          "-lpthread", "-o", room / "test")
     return passes(room / "test")
 
 
 def shared(prefix, room):
     """The tests with the shared library of most threads, which pkg-config finds."""
-    sources = [HERE / f"test{it}.c" for it in ("", "_replies", "_numbers", "_boards", "_shared")]
-    done("cc", "-std=c99", "-D_POSIX_C_SOURCE=200809L", *STRICT, *sources, "-o", room / "test_shared", *flags(prefix, "dirgwako32"), "-lpthread")
+    done("cc", "-std=c99", "-D_POSIX_C_SOURCE=200809L", *STRICT, *TESTS, "-o", room / "test_shared", *flags(prefix, "dirgwako32"), "-lpthread")
     return passes(room / "test_shared", "env", f"LD_LIBRARY_PATH={prefix}/lib")
 
 

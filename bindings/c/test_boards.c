@@ -1,5 +1,5 @@
-/* The tests of several boards of one registry: they come when they are needed, recorders that count already meet them, groups begin together, and
-   numbers and exact totals are of one board. */
+/* The tests of several boards of one registry: they come when they are needed, up to 96, recorders that count already meet them, groups begin
+   together, and numbers and exact totals are of one board. */
 #include "test.h"
 #include <stdio.h>
 
@@ -143,6 +143,67 @@ static void outlives(void) {
     is("free", dirgwako_recorder_free(&recorder), 0);
 }
 
+/* The text of two boards: families and children are in one order, whichever board they are on. */
+static void shown(void) {
+    static const char *const labels[1] = {"job"};
+    static const uint64_t bounds[1] = {10};
+    static char wanted[4096] = "# TYPE jobs gauge\n";
+    char value[16];
+    const char *const values[1] = {value};
+    dirgwako_histogram_family sizes;
+    dirgwako_histogram size;
+    is("new", dirgwako_registry_new(&registry, 1), 0);
+    is("take", dirgwako_recorder_take(&registry, &recorder), 0);
+    is("family", dirgwako_gauge_family_new(&registry, "jobs", "", labels, 1, 0, 0, &jobs), 0);
+    for (unsigned i = 0; i <= abi.gauges; i++) {
+        snprintf(value, sizeof value, "%03u", i);
+        snprintf(wanted + strlen(wanted), 64, "jobs{job=\"%03u\"} %u\n", i, i);
+        is("a gauge", dirgwako_gauge_of(&registry, &jobs, values, 1, &last), 0);
+        is("up", dirgwako_up(&recorder, &last, i), 0);
+        if (!i) first = last;
+    }
+    is("the last is on the second board", last.registry == first.registry + 1, 1);
+    is("another group", dirgwako_histogram_family_new(&registry, "s", "", NULL, 0, bounds, 1, 0, 3, &sizes), 0);
+    is("histogram", dirgwako_histogram_of(&registry, &sizes, NULL, 0, &size), 0);
+    is("is on the first, of as many free slots", size.registry == first.registry, 1);
+    is("observe", dirgwako_observe(&recorder, &size, 3), 0);
+    strcat(wanted, "# TYPE s histogram\ns_bucket{le=\"10\"} 1\ns_bucket{le=\"+Inf\"} 1\ns_sum 3\ns_count 1\n");
+    shows("the text of two boards", &registry, wanted);
+    is("free", dirgwako_recorder_free(&recorder), 0);
+    is("free", dirgwako_registry_free(&registry), 0);
+}
+
+/* Where every gauge of 96 boards is used, none is made any more, and counters are: tried where boards are small. */
+static void full(void) {
+    static const char *const labels[1] = {"job"};
+    dirgwako_counter counter;
+    char name[16];
+    size_t board = 0;
+    if (abi.numbers > 400) return;
+    is("new", dirgwako_registry_new(&registry, 1), 0);
+    is("take", dirgwako_recorder_take(&registry, &recorder), 0);
+    for (unsigned i = 0; i < MOST_BOARDS * abi.gauges; i++) {
+        snprintf(name, sizeof name, "jobs_%u", i / 256);
+        if (i % 256 == 0) is("a family", dirgwako_gauge_family_new(&registry, name, "", labels, 1, 0, 0, &jobs), 0);
+        is("a gauge", gauge_of(i, &last), 0);
+        is("up", dirgwako_up(&recorder, &last, 1), 0);
+    }
+    is("96 boards", count(), MOST_BOARDS);
+    is("one that is there", gauge_of((unsigned)(MOST_BOARDS * abi.gauges - 1), &beyond), 0);
+    is("is the last", beyond.registry == last.registry && beyond.slot == last.slot, 1);
+    is("no slot is left", dirgwako_gauge_new(&registry, "g", "", &beyond), 22);
+    is("its family stays", dirgwako_gauge_new(&registry, "g", "", &beyond), 19);
+    is("it has no child", scraped(&registry, "g"), -1);
+    is("a further family", dirgwako_gauge_family_new(&registry, "more", "", labels, 1, 0, 1, &jobs), 0);
+    is("no slot is left for a child", gauge_of(0, &beyond), 22);
+    is("a counter", dirgwako_counter_new(&registry, "c", "", &counter), 0);
+    is("inc", dirgwako_inc(&recorder, &counter, 7), 0);
+    is("the counter", scraped(&registry, "c"), 7);
+    is("no board is left", dirgwako_board_add(&registry, &board), DIRGWAKO_TOO_MANY_BOARDS);
+    is("free", dirgwako_recorder_free(&recorder), 0);
+    is("free", dirgwako_registry_free(&registry), 0);
+}
+
 /* There are 96 boards at most: tried where they are small. */
 static void most(void) {
     size_t board = 0;
@@ -162,5 +223,7 @@ void boards(void) {
     settled();
     groups();
     outlives();
+    shown();
+    full();
     most();
 }

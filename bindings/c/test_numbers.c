@@ -1,4 +1,4 @@
-/* The tests of numbers that are read, exact totals, bounds by rule, refusals in words, and numbers that are shown shifted. */
+/* The tests of numbers that are read, exact totals, and refusals in words. */
 #include "test.h"
 
 enum { MOST = DIRGWAKO_MOST_NUMBERS };
@@ -149,22 +149,6 @@ static void foreign(void) {
     is("free", dirgwako_registry_free(&two), 0);
 }
 
-/* Bounds by rule. */
-static void spaced(void) {
-    uint64_t bounds[25] = {0};
-    is("linear", dirgwako_linear(100, 50, bounds, 3), 0);
-    is("its bounds", bounds[0] == 100 && bounds[1] == 150 && bounds[2] == 200 && bounds[3] == 0, 1);
-    is("exponential", dirgwako_exponential(5, 10, bounds, 4), 0);
-    is("its bounds", bounds[0] == 5 && bounds[1] == 50 && bounds[2] == 500 && bounds[3] == 5000, 1);
-    is("24 of them", dirgwako_linear(0, 1, bounds, 24), 0);
-    is("25 of them", dirgwako_linear(5, 1, bounds, 25), 10);
-    is("no rise", dirgwako_linear(5, 0, bounds, 2), 10);
-    is("no rise", dirgwako_exponential(5, 1, bounds, 2), 10);
-    is("too large", dirgwako_exponential(1, 1 << 16, bounds, 4), 10);
-    is("they are as they were", bounds[0] == 0 && bounds[23] == 23, 1);
-    is("none", dirgwako_linear(5, 5, NULL, 0), 0);
-}
-
 /* Refusals in words. */
 static void words(void) {
     char buffer[128];
@@ -185,69 +169,11 @@ static void words(void) {
     is("it is as it was", short_one[0], 0);
 }
 
-/* Digits are at most 9. */
-static void digits(void) {
-    const uint64_t bounds[1] = {1};
-    const char *const labels[1] = {"code"};
-    dirgwako_counter_family counters = {7, 7};
-    dirgwako_gauge_family gauges = {7, 7};
-    dirgwako_histogram_family histograms = {7, 7};
-    is("new", dirgwako_registry_new(&registry, 1), 0);
-    is("digits", dirgwako_counter_family_new(&registry, "a_total", "A.", labels, 1, 10, 0, &counters), DIRGWAKO_TOO_MANY_DIGITS);
-    is("digits", dirgwako_gauge_family_new(&registry, "a_total", "A.", labels, 1, 256, 0, &gauges), DIRGWAKO_TOO_MANY_DIGITS);
-    is("digits", dirgwako_histogram_family_new(&registry, "a_total", "A.", labels, 1, bounds, 1, SIZE_MAX, 0, &histograms), DIRGWAKO_TOO_MANY_DIGITS);
-    is("they are as they were", (long long)(counters.registry + gauges.number + histograms.number), 21);
-    is("the name is free", dirgwako_counter_family_new(&registry, "a_total", "A.", labels, 1, 0, 0, &counters), 0);
-    is("free", dirgwako_registry_free(&registry), 0);
-}
-
-/* What is counted in microseconds is shown in seconds, and a gauge in thousandths. */
-static void seconds(void) {
-    static const uint64_t bounds[11] = DIRGWAKO_SECONDS_DEFAULT;
-    static const char wanted[] =
-        "# HELP age_seconds Age.\n# TYPE age_seconds gauge\nage_seconds -0.001\n"
-        "# HELP answer_seconds Answers.\n# TYPE answer_seconds histogram\n"
-        "answer_seconds_bucket{le=\"0.005\"} 0\nanswer_seconds_bucket{le=\"0.01\"} 1\nanswer_seconds_bucket{le=\"0.025\"} 1\n"
-        "answer_seconds_bucket{le=\"0.05\"} 1\nanswer_seconds_bucket{le=\"0.1\"} 1\nanswer_seconds_bucket{le=\"0.25\"} 1\n"
-        "answer_seconds_bucket{le=\"0.5\"} 2\nanswer_seconds_bucket{le=\"1\"} 2\nanswer_seconds_bucket{le=\"2.5\"} 2\n"
-        "answer_seconds_bucket{le=\"5\"} 2\nanswer_seconds_bucket{le=\"10\"} 2\nanswer_seconds_bucket{le=\"+Inf\"} 3\n"
-        "answer_seconds_sum 20.307\nanswer_seconds_count 3\n"
-        "# HELP busy_seconds_total Busy.\n# TYPE busy_seconds_total counter\nbusy_seconds_total 2.250401\n";
-    dirgwako_counter_family of_busy;
-    dirgwako_gauge_family of_age;
-    dirgwako_counter busy;
-    dirgwako_gauge age;
-    dirgwako_histogram answers;
-    size_t len = 0;
-    is("new", dirgwako_registry_new(&registry, 1), 0);
-    is("take", dirgwako_recorder_take(&registry, &recorder), 0);
-    is("counters", dirgwako_counter_family_new(&registry, "busy_seconds_total", "Busy.", NULL, 0, 6, 0, &of_busy), 0);
-    is("counter", dirgwako_counter_of(&registry, &of_busy, NULL, 0, &busy), 0);
-    is("gauges", dirgwako_gauge_family_new(&registry, "age_seconds", "Age.", NULL, 0, 3, 7, &of_age), 0);
-    is("gauge", dirgwako_gauge_of(&registry, &of_age, NULL, 0, &age), 0);
-    is("null", dirgwako_histogram_seconds_new(&registry, "answer_seconds", "Answers.", bounds, 11, NULL), DIRGWAKO_NULL);
-    is("seconds", dirgwako_histogram_seconds_new(&registry, "answer_seconds", "Answers.", bounds, 11, &answers), 0);
-    is("without digits", dirgwako_histogram_new(&registry, "answer_seconds", "Answers.", bounds, 11, &answers), 19);
-    is("inc", dirgwako_inc(&recorder, &busy, 2250401), 0);
-    is("down", dirgwako_down(&recorder, &age, 1), 0);
-    is("observe", dirgwako_observe(&recorder, &answers, 7000), 0);
-    is("observe", dirgwako_observe(&recorder, &answers, 300000), 0);
-    is("observe", dirgwako_observe(&recorder, &answers, 20000000), 0);
-    is("scrape", dirgwako_scrape(&registry, text, sizeof text, &len), 0);
-    is("its length", (long long)len, (long long)(sizeof wanted - 1));
-    is("its text", memcmp(text, wanted, sizeof wanted - 1), 0);
-    is("recorder", dirgwako_recorder_free(&recorder), 0);
-    is("free", dirgwako_registry_free(&registry), 0);
-}
-
 void numbers(void) {
     begin();
     read();
     refused();
     settled();
     foreign();
-    spaced();
     words();
-    digits();
-    seconds();
 }
