@@ -10,25 +10,32 @@ from started import Failed, Skipped, check, run
 
 # Where Debian's packages for Python are, which a Python that is before Debian's on the path does not look into.
 DEBIAN = "/usr/lib/python3/dist-packages"
-ROW = re.compile(r'^    \((\d), (u64::MAX|[\d_]+), b"([^"]*)"\),$', re.M)
-TEXT = re.compile(r'b"(# TYPE (?:[^"\\]|\\.|\\\n)*)",\n', re.S)
+# Digits, a number, and how it is shown: the rows of the tests in C, and those of the greatest number, which no threads have counted.
+ROWS = {
+    "bindings/c/test_texts.c": re.compile(r'^    \{(\d), (\d+), "([^"]*)"\},$', re.M),
+    "crates/unit_tests/src/texts.rt": re.compile(r'^    \((\d), (u64::MAX), b"([^"]*)"\),$', re.M),
+}
+LITERALS = re.compile(r'"(?:[^"\\\n]|\\.)*"(?:\s+"(?:[^"\\\n]|\\.)*")*')
 
 
 def rows_of(root):
-    """Digits, a number, and how it is shown."""
-    source = (root / "crates/unit_tests/src/shifts.rt").read_text()
-    rows = [(int(digits), 2**64 - 1 if number == "u64::MAX" else int(number), shown) for digits, number, shown in ROW.findall(source)]
-    check(len(rows) > 10, "shifts.rt has rows")
+    rows = []
+    for path, row in ROWS.items():
+        found = row.findall((root / path).read_text())
+        check(len(found) > 2, f"{path} has rows")
+        rows += [(int(digits), 2**64 - 1 if number == "u64::MAX" else int(number), shown) for digits, number, shown in found]
     return rows
 
 
 def texts_of(root):
-    """Whole texts: the rows, each of them a counter, those of gauges and histograms, and what the example prints."""
-    source = (root / "crates/unit_tests/src/shifts.rt").read_text()
+    """Whole texts: the rows, each of them a counter, those that the tests in C expect, and what the example prints."""
     texts = [f"# TYPE a counter\na {shown}\n" for _, _, shown in rows_of(root)]
-    whole = [re.sub(r"\\\n\s*", "", text).encode().decode("unicode_escape") for text in TEXT.findall(source)]
-    check(len(whole) == 2, "shifts.rt has the text of a gauge and of a histogram")
-    return texts + whole + [(root / "crates/example_service/stdout").read_text()]
+    for literals in LITERALS.findall((root / "bindings/c/test_texts.c").read_text()):
+        text = "".join(re.findall(r'"((?:[^"\\]|\\.)*)"', literals)).encode().decode("unicode_escape")
+        if re.match("# (TYPE|HELP) .*\n$", text, re.S) and "%" not in text and text.count("\n") > 1:
+            texts.append(text)
+    check(sum("histogram" in text for text in texts) > 3 and sum("gauge" in text for text in texts) > 2, "the tests in C have whole texts")
+    return texts + [(root / "crates/example_service/stdout").read_text()]
 
 
 def check_exact(root):

@@ -1,6 +1,4 @@
 //! Calls that take memory. Each that is refused has changed nothing, and answers the same call again as it would have answered the first one.
-mod pages;
-
 use crate::asserts::{once_more, same};
 use crate::crew::{ID, why_shut};
 use dirgwako::{

@@ -1,9 +1,7 @@
 //! What is registered, of whatever registers it. A call of the library by a type of its own takes some nine seconds to be proved, at each place:
 //! these are generic, and calls of them take none.
 use crate::asserts::need;
-use dirgwako::{
-    ChildRefusal, Counter, CounterFamily, FamilyRefusal, Gauge, MetricRefusal, Registers, Registrar,
-};
+use dirgwako::{ChildRefusal, Counter, CounterFamily, Gauge, MetricRefusal, Registers, Registrar};
 use std::process::Abort;
 
 /// What comes of asking for a counter of this name.
@@ -12,24 +10,6 @@ pub(crate) fn ask_counter<S: Registers>(
     name: &str,
 ) -> Result<Counter, MetricRefusal> {
     metrics.counter(name, "")
-}
-
-/// What comes of asking for a gauge of this name.
-pub(crate) fn ask_gauge<S: Registers>(
-    metrics: &mut Registrar<S>,
-    name: &str,
-) -> Result<Gauge, MetricRefusal> {
-    metrics.gauge(name, "")
-}
-
-/// What comes of asking for a family of counters, by these labels.
-pub(crate) fn ask_counters<S: Registers>(
-    metrics: &mut Registrar<S>,
-    name: &str,
-    help: &str,
-    labels: &[&str],
-) -> Result<CounterFamily, FamilyRefusal> {
-    metrics.counter_family(name, help, labels)
 }
 
 /// What comes of asking for a counter of a family.
@@ -56,7 +36,7 @@ pub(crate) fn gauge<S: Registers>(
     metrics: &mut Registrar<S>,
     name: &str,
 ) -> Gauge {
-    need(rt, ask_gauge(metrics, name))
+    need(rt, metrics.gauge(name, ""))
 }
 
 /// A family of counters, by these labels.
@@ -66,7 +46,7 @@ pub(crate) fn counters<S: Registers>(
     name: &str,
     labels: &[&str],
 ) -> CounterFamily {
-    need(rt, ask_counters(metrics, name, "", labels))
+    need(rt, metrics.counter_family(name, "", labels))
 }
 
 /// A counter of a family.

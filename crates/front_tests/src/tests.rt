@@ -1,20 +1,16 @@
-//! The library for services by its public calls, as who writes a service meets them. Its clauses hand on those of the calls below, so what
-//! is tried here is what none of them says: that the numbers and places are the documented ones, that each call succeeds, at its limits
-//! too, what a scrape prints, and how a server goes on behind clients that are not as they should be.
+//! The library for services by its public calls, where C does not reach: crews of one board, registries and pages behind a lock, servers. Its
+//! clauses hand on those of the calls below, so what is tried here is what none of them says: that each call succeeds, at its limits too, what a
+//! scrape prints, and how a server goes on behind clients that are not as they should be.
 mod alone;
 mod behind;
-mod bounds;
 mod busy;
 mod clients;
-mod counting;
-mod crowd;
 mod kept;
 mod limits;
 mod memory;
 mod next;
 mod pages;
 mod refused;
-mod seconds;
 mod serving;
 mod setting;
 mod settled;
@@ -26,7 +22,7 @@ mod told;
 
 use crate::asserts::{need, same, there};
 use crate::crew::ID;
-use dirgwako::{Crew, Recorder, Registrar, Registry, scrape_text};
+use dirgwako::{Crew, Recorder, Registry, scrape_text};
 use std::alloc::Global;
 use std::process::Abort;
 use std::sync::Wait;
@@ -60,12 +56,8 @@ fn opened_to_count<'a>(rt: &impl Abort, team: &'a mut Team) -> (Names<'a>, Count
 /// What is tried of a crew that is opened.
 #[derive(Clone, Copy)]
 enum Tried {
-    Families,
     Children,
     EachKind,
-    Requests,
-    Refusals,
-    Seconds,
     Setting,
     Tally,
     TallyRefused,
@@ -79,12 +71,8 @@ fn try_of(
     recorder: &mut Counts<'_>,
 ) {
     match tried {
-        Tried::Families => refused::refuses_families(rt, &mut Registrar::new(rt, registry)),
         Tried::Children => refused::shows_children(rt, registry),
         Tried::EachKind => shown::counts_and_shows(rt, registry, recorder),
-        Tried::Requests => shown::shows_requests(rt, registry, recorder),
-        Tried::Refusals => counting::refuses_all(rt, registry, recorder),
-        Tried::Seconds => seconds::counts_and_shows(rt, registry, recorder),
         Tried::Setting => setting::sets_and_shows(rt, registry, recorder),
         Tried::Tally => tallies::publishes(rt, registry, recorder),
         Tried::TallyRefused => tallies::refuses(rt, recorder),

@@ -1,5 +1,5 @@
-//! The tests of the crates that registries are built of, each by itself: names, descriptors, rows, watched ends and the text; the board,
-//! scans and updates, meetings and the pool of threads. They stand apart from what they test: a crate with tests is proved twice.
+//! The tests of the crates that registries are built of, each by itself, where C does not reach: rows, tallies, watched ends, scrapes and their
+//! texts at the greatest numbers; the board, scans and updates, meetings and the pool of threads. They stand apart from what they test: a crate with tests is proved twice.
 #![tactic(auto)]
 
 #[cfg(test)]
@@ -7,15 +7,11 @@ mod asserts;
 #[cfg(test)]
 mod beside;
 #[cfg(test)]
-mod buckets;
-#[cfg(test)]
 mod checked;
 #[cfg(test)]
 mod costs;
 #[cfg(test)]
 mod crew;
-#[cfg(test)]
-mod descs;
 #[cfg(test)]
 mod gates;
 #[cfg(test)]
@@ -37,8 +33,6 @@ mod making;
 #[cfg(test)]
 mod memory;
 #[cfg(test)]
-mod names;
-#[cfg(test)]
 mod pools;
 #[cfg(test)]
 mod rows;
@@ -52,8 +46,6 @@ mod scan_states;
 mod sending;
 #[cfg(test)]
 mod settling;
-#[cfg(test)]
-mod shifts;
 #[cfg(test)]
 mod sources;
 #[cfg(test)]

@@ -95,7 +95,7 @@ fn longest_labels(rt: &impl Abort, alloc: Global) -> Vec<LabelName> {
 }
 
 /// The greatest bounds that a histogram may have, of which the last is 2^48 - 1.
-pub const GREATEST_BOUNDS: [u64; 24] = [
+const GREATEST_BOUNDS: [u64; 24] = [
     281_474_976_710_632,
     281_474_976_710_633,
     281_474_976_710_634,

@@ -34,7 +34,7 @@ pub const COUNTER: Family = Family {
 pub static ALONE: [Family; 1] = [COUNTER];
 
 /// These label names.
-pub fn labels(rt: &impl Abort, alloc: Global, texts: &[&str]) -> Vec<LabelName> {
+fn labels(rt: &impl Abort, alloc: Global, texts: &[&str]) -> Vec<LabelName> {
     let mut labels = Vec::new(alloc);
     for text in texts {
         let label = need(rt, LabelName::read(alloc, text));

@@ -4,8 +4,8 @@ use crate::asserts::{need, same};
 use crate::crew::{ID, why_shut};
 use crate::naming::counter;
 use dirgwako::{
-    BoardFault, CountFault, Counter, Crew, NewFault, OpenFault, Recorder, Registrar, Registry,
-    Scanner, Snapshot, Source, counter_total, scrape_text,
+    BoardFault, CountFault, Counter, Crew, NewFault, NoBoard, OpenFault, PageCrew, PageCrewFault,
+    Recorder, Registrar, Registry, Scanner, Snapshot, Source, counter_total, scrape_text,
 };
 use std::alloc::Global;
 use std::process::Abort;
@@ -26,6 +26,8 @@ fn crews_that_are_refused(rt: HostRuntime) {
     refused::<1>(rt, alloc, 0);
     refused::<1>(rt, alloc, 5);
     same(rt, BoardFault::Geometry.number(), 13);
+    let page = PageCrew::<33, 1, 0, 0>::new(alloc, 1, 1).err();
+    same(rt, page, Some(PageCrewFault::Board(NoBoard::Geometry)));
 }
 
 /// The crew is not opened for this reason, which has this number.

@@ -3,7 +3,6 @@
 use super::{Counts, Names, Tried, prints, try_out};
 use crate::asserts::{need, same};
 use crate::crew::ID;
-use crate::naming::{ask_counters, child};
 use dirgwako::{
     CountFault, Counter, Gauge, Histogram, PlainSource, PrintFault, Registers, Registrar,
     RegistryState, TextFault, down, inc, linear, observe, render, up,
@@ -107,38 +106,6 @@ pub(super) fn counts_and_shows(
     let handles = register(rt, &mut Registrar::new(rt, registry));
     count(rt, recorder, handles);
     prints(rt, registry, SHOWN);
-}
-
-/// Two children of a counter, the later one in the text made first.
-pub(super) fn shows_requests(
-    rt: &(impl Wait + Abort + AllocGlobal),
-    registry: &Names<'_>,
-    recorder: &mut Counts<'_>,
-) {
-    let mut metrics = Registrar::new(rt, registry);
-    let help = "The total number of HTTP requests.";
-    let labels = ["method", "code"];
-    let family = ask_counters(&mut metrics, "http_requests_total", help, &labels);
-    let family = need(rt, family);
-    let bad = child(rt, &mut metrics, &family, &["post", "400"]);
-    need(rt, recorder.inc(&bad, 3));
-    let good = child(rt, &mut metrics, &family, &["post", "200"]);
-    need(rt, recorder.inc(&good, 1_027));
-    prints(
-        rt,
-        registry,
-        r#"# HELP http_requests_total The total number of HTTP requests.
-# TYPE http_requests_total counter
-http_requests_total{method="post",code="200"} 1027
-http_requests_total{method="post",code="400"} 3
-"#,
-    );
-}
-
-/// A scrape shows children by their label values, whichever was made first.
-#[test]
-fn children_made_in_another_order(rt: HostRuntime) {
-    try_out(&rt, Tried::Requests, 2);
 }
 
 /// A scrape shows what was counted of each kind, by seven versions.
