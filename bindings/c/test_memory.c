@@ -195,6 +195,7 @@ int main(void) {
     is("read", refuse("read", read, 0) > 0, 1);
     boards_come();
     counting();
+    is("what the further board has", scraped(&registry, "gauges{code=\"further\",route=\"\"}"), 1);
     is("free", dirgwako_registry_free(&registry), 0);
     is("no block is lost", blocks, 0);
     return told();

@@ -28,6 +28,7 @@ static void names(void) {
 
 #define NINE {"a", "b", "c", "d", "e", "f", "g", "h", "i"}
 #define ALIKE {"a", "a", "a", "a", "a", "a", "a", "a", "a"}
+#define EIGHT {"a", "b", "c", "d", "e", "f", "g", "le"}
 
 /* Families that are refused, and by which number: the first cause in this order, digits, the name, the help, each label, all labels, and bounds. */
 static const struct {
@@ -115,6 +116,7 @@ static const struct {
     {{COUNTER, "x", "", {NULL}, {0}, 0, 0}, {COUNTER, "x", "", {NULL}, {0}, 0, 9}, 1},
     {{COUNTER, "x", "", {NULL}, {0}, 0, 0}, {GAUGE, "x", "Help.", {"l"}, {0}, 0, 0}, 1},
     {{COUNTER, "x", "", {NULL}, {0}, 0, 0}, {COUNTER, "x_sum", "", {NULL}, {0}, 0, 0}, 0},
+    {{COUNTER, "x", "", EIGHT, {0}, 0, 0}, {GAUGE, "y", "", EIGHT, {0}, 0, 0}, 0},
 };
 
 /* The second is refused behind the first then, whichever comes first. */

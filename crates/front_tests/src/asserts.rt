@@ -17,16 +17,6 @@ pub(crate) fn need<T, E: Debug>(rt: &impl Abort, answer: Result<T, E>) -> T
     answer.expect(rt, "error")
 }
 
-/// The same of what helpers answer.
-pub(crate) fn done<T>(rt: &impl Abort, answer: Result<T, Fail>) -> T
-    ensures { answer ≡ Ok result }
-{
-    match answer {
-        Ok(found) => found,
-        Err(_) => rt.panic("a helper was refused"),
-    }
-}
-
 /// What is to be there.
 pub(crate) fn there<T>(rt: &impl Abort, found: Option<T>) -> T {
     found.expect(rt, "it is not there")
