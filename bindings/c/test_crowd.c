@@ -33,7 +33,7 @@ static void *count(void *given) {
 /* A counter of the group of a board. */
 static void counter_of(const char *front, int board, dirgwako_counter *counter) {
     dirgwako_counter_family family;
-    char name[16];
+    char name[32];
     snprintf(name, sizeof name, "%s%02d_total", front, board);
     is("family", dirgwako_counter_family_new(&registry, name, "", NULL, 0, 0, (size_t)board, &family), 0);
     is("counter", dirgwako_counter_of(&registry, &family, NULL, 0, counter), 0);
@@ -57,7 +57,7 @@ static void begin(void) {
 
 /* Whether the pair of some board does not agree in the last text. */
 static int is_torn(size_t len) {
-    char a[16], b[16];
+    char a[32], b[32];
     int torn = 0;
     for (int i = 0; i < BOARDS; i++) {
         snprintf(a, sizeof a, "a%02d_total", i);
