@@ -82,7 +82,7 @@ static uint32_t read(void) {
 }
 
 /* 6 as well where it was told in a reply. */
-static uint32_t replied(void) {
+static uint32_t reply_once(void) {
     const char *get = "GET /metrics HTTP/1.1\r\nHost: a\r\n\r\n";
     size_t len = 0;
     uint32_t answer = dirgwako_reply(&registry, get, strlen(get), reply, sizeof reply, &len);
@@ -191,7 +191,7 @@ int main(void) {
     is("a histogram", refuse("a histogram", histogram_of, 0) > 0, 1);
     is("name", refuse("name", is_name, 0) > 0, 1);
     is("scrape", refuse("scrape", scrape, 0) > 0, 1);
-    is("reply", refuse("reply", replied, 0) > 0, 1);
+    is("reply", refuse("reply", reply_once, 0) > 0, 1);
     is("read", refuse("read", read, 0) > 0, 1);
     boards_come();
     counting();
