@@ -163,8 +163,8 @@ def series_lines(found, texts):
     lines += head("of", "by", "registered, ms", "a scrape with its text, ms", f"times {RUST}'s", "an increment, ns", "increments in turn, ns", "memory at most, MB")
     for how, what in HOWS.items():
         lines += series_rows(found, how, what)
-    lines += ["", *head("of the page", "a read of each board by itself, without a text, ms")]
-    lines += [row(what, told(found[OURS, how, "reads"], 1_000_000)) for how, what in HOWS.items()]
+    lines += ["", *head("of the page", "a read of each board by itself, without a text, us")]
+    lines += [row(what, told(found[OURS, how, "reads"], 1_000)) for how, what in HOWS.items()]
     lines += ["", *head("the text", *texts["one"]), *(text_row(HOWS[how], each) for how, each in texts.items())]
     return lines + [""]
 
