@@ -1,10 +1,11 @@
 """The bench in C: it is built from each installed library, by each compiler, without a warning; its short run, its scrapes, and its server are tried,
 also under sanitizers; and what is built is there for the checks of exit statuses and of texts."""
+import pathlib
 import re
 import shutil
 import socket
+import subprocess
 import tempfile
-import pathlib
 
 from c_library import LIBRARIES, STRICT, done, flags
 from refused_memory import ROOT
@@ -54,7 +55,7 @@ def others(prefix, room):
 
 def served(program):
     """The server answers as many connections as it is asked for, two by each thread, and tells the bytes of its text."""
-    server = start(program, "serve", "0", "2", "small", stdout=-1, stderr=-1)
+    server = start(program, "serve", "0", "2", "small", stdout=subprocess.PIPE, stderr=subprocess.PIPE)
     try:
         port = int(re.fullmatch(rb"listening (\d+)\n", server.stderr.readline())[1])
         for request, wanted in REQUESTS * 4:
