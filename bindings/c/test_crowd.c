@@ -1,10 +1,10 @@
-/* The test of many threads on many boards: all threads that the library was built for count pairs on each board, while the main thread scrapes. There
-   are 40 boards where they are small, and 8 where one takes many megabytes. */
+/* The test of many threads on many boards: all threads that the library was built for count pairs on each of 40 boards, while the main thread
+   scrapes; less often where there are many threads, which take turns on few processors. */
 #include "test.h"
 #include <pthread.h>
 #include <stdio.h>
 
-enum { MOST_THREADS = 32, MOST_BOARDS = 40, ROUNDS = 4000, SCRAPES = 50 };
+enum { MOST_THREADS = 32, BOARDS = 40, SCRAPES = 50 };
 
 struct thread {
     dirgwako_recorder recorder;
@@ -16,15 +16,15 @@ static dirgwako_registry registry;
 static struct thread all[MOST_THREADS];
 static struct {
     dirgwako_counter a, b;
-} pairs[MOST_BOARDS];
+} pairs[BOARDS];
 static dirgwako_abi abi;
-static int boards_there;
+static int rounds;
 
 /* Counts one on both counters of each board in one version, and so on. */
 static void *count(void *given) {
     struct thread *it = given;
-    for (int i = 0; i < ROUNDS * boards_there && !it->answer; i++) {
-        const int board = i % boards_there;
+    for (int i = 0; i < rounds * BOARDS && !it->answer; i++) {
+        const int board = i % BOARDS;
         const dirgwako_change both[2] = {dirgwako_change_inc(&pairs[board].a, 1), dirgwako_change_inc(&pairs[board].b, 1)};
         it->answer = dirgwako_publish(&it->recorder, both, 2);
     }
@@ -45,9 +45,9 @@ static void counter_of(const char *front, int board, dirgwako_counter *counter) 
 static void begin(void) {
     size_t number = 0;
     is("built for", dirgwako_built_for(&abi), 0);
-    boards_there = abi.numbers > 400 ? 8 : MOST_BOARDS;
+    rounds = abi.workers > 4 ? 500 : 4000;
     is("new", dirgwako_registry_new(&registry, 2), 0);
-    for (int i = 0; i < boards_there; i++) {
+    for (int i = 0; i < BOARDS; i++) {
         if (i) is("a board", dirgwako_board_add(&registry, &number), 0);
         counter_of("a", i, &pairs[i].a);
         counter_of("b", i, &pairs[i].b);
@@ -62,7 +62,7 @@ static void begin(void) {
 static int is_torn(size_t len) {
     char a[32], b[32];
     int torn = 0;
-    for (int i = 0; i < boards_there; i++) {
+    for (int i = 0; i < BOARDS; i++) {
         snprintf(a, sizeof a, "a%02d_total", i);
         snprintf(b, sizeof b, "b%02d_total", i);
         if (number(text, len, a) < 0 || number(text, len, a) != number(text, len, b)) torn = 1;
@@ -99,12 +99,12 @@ static void settle(void) {
     uint64_t total = 0;
     size_t len = 0, missing = 0;
     for (size_t i = 0; i < abi.workers; i++) is("give back", dirgwako_recorder_give_back(&registry, &all[i].recorder), 0);
-    for (int i = 0; i < boards_there; i++) {
+    for (int i = 0; i < BOARDS; i++) {
         is("settle", dirgwako_settle(&registry, (size_t)i, read, DIRGWAKO_MOST_NUMBERS, &len, &missing), 0);
         is("a", dirgwako_counter_total(read, len, &pairs[i].a, &total), 0);
-        is("its total", (long long)total, (long long)abi.workers * ROUNDS);
+        is("its total", (long long)total, (long long)abi.workers * rounds);
         is("b", dirgwako_counter_total(read, len, &pairs[i].b, &total), 0);
-        is("its total", (long long)total, (long long)abi.workers * ROUNDS);
+        is("its total", (long long)total, (long long)abi.workers * rounds);
     }
 }
 
