@@ -4,12 +4,15 @@
 # 'N passed, 0 failed'.
 set -eu
 cd "$(dirname "$0")"
-# One process for each crate or edit, as many at once as there are processors: several for one crate take half as much of the processor again, and end
-# hardly sooner. Where there are more processors, or less memory, `rt` chooses by itself.
+# One process for each crate or edit: several for one crate take half as much of the processor again, and end hardly sooner. On three or four
+# processors one fewer at once: they share the caches, and the longest chain of crates ends no later. Where there are more processors, or less memory,
+# `rt` chooses by itself.
 cores=$(getconf _NPROCESSORS_ONLN)
 gigabytes=$(awk '/^MemAvailable:/ { print int($2 / 1048576) }' /proc/meminfo 2> /dev/null || echo 0)
 if [ "$cores" -le 4 ] && [ "$gigabytes" -ge $((5 * cores)) ]; then
-    export RT_JOBS="${RT_JOBS-$cores}"
+    at_once=$cores
+    [ "$cores" -lt 3 ] || at_once=$((cores - 1))
+    export RT_JOBS="${RT_JOBS-$at_once}"
 fi
 rt ci
 python3 -B checks/run.py
