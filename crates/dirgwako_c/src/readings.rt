@@ -42,8 +42,8 @@ fn read_to<const N: usize, const C: usize, const H: usize, const G: usize>(
     if number >= registry.registrar.at.crew.page().boards().len() {
         return 42;
     }
-    match registry.registrar.at.crew.scrape_board(number) {
-        Ok(_) => {
+    match registry.registrar.at.crew.keep_board(number) {
+        Ok(()) => {
             let board = &registry.registrar.at.crew.page().boards()[number];
             newest(board, &mut registry.numbers);
             hand_over_numbers(board.id(), &registry.numbers, buffer, len)

@@ -10,7 +10,7 @@ use scrape_server::MakesScrapes;
 impl<const N: usize, const C: usize, const H: usize, const G: usize> PageCrew<N, C, H, G> {
     ghost use Rattle.std.specs.Prelude.{◌<◌, length, OnErr, OnOk};
     ghost use Rattle.registry_state.specs.Faults.{IsWindow};
-    ghost use Rattle.scrape_page.specs.Scraping.{BoardAloneScrapes};
+    ghost use Rattle.scrape_page.specs.Scraping.{BoardAloneScrapes, Unshown};
     ghost use Rattle.page_crew.specs.Shared.{recorded_in, quit_in, gave_in, gave_up_in};
     ghost use Rattle.page_crew.specs.Owned.{page_of, PageDid, KeepsFromNow, IsUnchanged};
 
@@ -37,6 +37,19 @@ impl<const N: usize, const C: usize, const H: usize, const G: usize> PageCrew<N,
             BoardAloneScrapes N C H G recorded_in quit_in gave_in gave_up_in number a b result) }
     {
         self.page.scrape_board(number)
+    }
+
+    /// Keeps a scrape of the board of this number alone: [`scrape_page::Page::keep_board`].
+    ///
+    /// # Errors
+    ///
+    /// 14 [`NoScrape::Contended`]; 6 [`NoScrape::NoMemory`].
+    pub fn keep_board(&mut self, number: usize) -> Result<(), NoScrape>
+        requires { number < length (page_of self.old).boards }
+        ensures { Unshown (λ before after made. PageDid before after (λ a b.
+            BoardAloneScrapes N C H G recorded_in quit_in gave_in gave_up_in number a b made)) self.old self.new result }
+    {
+        self.page.keep_board(number)
     }
 
     /// Keeps `window` scrapes of each board from now on, also of those that come later. Where more were kept, the oldest ones are dropped.

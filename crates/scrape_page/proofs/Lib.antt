@@ -3,6 +3,7 @@ pub mod Located
 pub mod Valued
 pub mod Facts
 pub mod Roomy
+pub mod Unshown
 pub mod Listed
 pub mod Registered
 pub mod Counted

@@ -11,6 +11,7 @@ mod family;
 mod fault;
 mod finding;
 mod growing;
+mod keeping;
 mod making;
 mod naming;
 mod page;

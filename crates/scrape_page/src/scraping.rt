@@ -5,6 +5,7 @@ ghost use Rattle.scrape_page.specs.Scraping.{PageScrapes};
 
 use crate::each::{scrape_board, scrape_each};
 use crate::family::PageFamily;
+use crate::keeping::keep_again;
 use crate::page::Page;
 use crate::windows::set_each;
 use expo_text::Scrape;
@@ -55,7 +56,7 @@ impl<S: Source<N, C, H, G>, const N: usize, const C: usize, const H: usize, cons
 > {
     ghost use Rattle.std.specs.Prelude.{◌≡◌, OnErr, OnOk};
     ghost use Rattle.registry_state.specs.Faults.{IsWindow};
-    ghost use Rattle.scrape_page.specs.Scraping.{BoardAloneScrapes, PageScrapes};
+    ghost use Rattle.scrape_page.specs.Scraping.{BoardAloneScrapes, PageScrapes, Unshown};
     ghost use Rattle.scrape_page.specs.Windows.{page_with_window};
 
     /// One scrape of all boards. Each board is asked for one, again up to three times where its scan was given up, and they are shown as one:
@@ -97,6 +98,21 @@ impl<S: Source<N, C, H, G>, const N: usize, const C: usize, const H: usize, cons
         // A look at the boards tells the proof how large one is.
         let _boards = self.boards.as_slice();
         scrape_board(&mut self.boards[number])
+    }
+
+    /// Keeps a scrape of the board of this number alone, as [`Page::scrape_board`] does, and gives nobody what it shows: its numbers are the
+    /// newest that the board keeps.
+    ///
+    /// # Errors
+    ///
+    /// 14 [`NoScrape::Contended`] where the scan was given up four times; 6 [`NoScrape::NoMemory`].
+    pub fn keep_board(&mut self, number: usize) -> Result<(), NoScrape>
+        requires { number < length self.old.boards }
+        ensures { Unshown (BoardAloneScrapes N C H G S.recorded S.quit S.gave S.gave_up number) self.old self.new result }
+    {
+        // A look at the boards tells the proof how large one is.
+        let _boards = self.boards.as_slice();
+        keep_again(&mut self.boards[number])
     }
 
     /// Keeps `window` scrapes of each board from now on. Where more were kept, the oldest ones are dropped. It takes no memory. A board that
