@@ -10,7 +10,8 @@ use scrape_server::MakesScrapes;
 impl<const N: usize, const C: usize, const H: usize, const G: usize> PageCrew<N, C, H, G> {
     ghost use Rattle.std.specs.Prelude.{◌<◌, length, OnErr, OnOk};
     ghost use Rattle.registry_state.specs.Faults.{IsWindow};
-    ghost use Rattle.scrape_page.specs.Scraping.{BoardAloneScrapes, Unshown};
+    ghost use Rattle.scrape_page.specs.Scraping.{BoardAloneScrapes};
+    ghost use Rattle.scrape_page.specs.Unshown.{Unshown};
     ghost use Rattle.page_crew.specs.Shared.{recorded_in, quit_in, gave_in, gave_up_in};
     ghost use Rattle.page_crew.specs.Owned.{page_of, PageDid, KeepsFromNow, IsUnchanged};
 

@@ -9,7 +9,7 @@ use Rattle.registry_state.specs.Shown.{family_shown, IsShown}
 use Rattle.scrape_http.specs.declared.source.NoScrape.{NoScrape}
 use Rattle.scrape_server.specs.Again.{AsksAgain}
 use Rattle.scrape_server.proofs.Askings.{at_last}
-use Rattle.scrape_page.specs.Scraping.{Unshown}
+use Rattle.scrape_page.specs.Unshown.{Unshown}
 
 -- the scrape of these families at an answer, in their order
 abbrev pub shown_of : (c h : ℕ) → List Family → Answer → Scraped

@@ -6,5 +6,6 @@ pub mod Faults
 pub mod Calls
 pub mod Shown
 pub mod Scraping
+pub mod Unshown
 pub mod Windows
 pub mod Framed

@@ -37,11 +37,6 @@ module _ {X : Type 0} (made : X → X → Result Scraped NoScrape → Type 0) wh
   abbrev pub IsStopped : (old new : List X) → NoScrape → Type 0
   IsStopped old new why = ((why ≡ NoMemory) × (new ≡ old)) ⊎ IsStoppedAt old new why
 
--- it was made, and nobody was given it; or there is none, for this reason
-abbrev pub Unshown : {X : Type 0} → (made : X → X → Result Scraped NoScrape → Type 0) → (old new : X) → Result (Unit {0}) NoScrape → Type 0
-Unshown made old new (Ok done) = (scrape : Scraped) × made old new (Ok scrape)
-Unshown made old new (Err why) = made old new (Err why)
-
 module _ {S : Type 0} (n c h g : ℕ) (recorded : S → List Answer) (quit : S → ℕ) (gave : S → S → Answer → Type 0)
     (gave_up : S → S → Contended → Type 0) where
   -- what a board does that is asked for a scrape: its registry's own scrape, again up to three times where the scan was given up

@@ -1,6 +1,7 @@
 //! Scrapes that a board keeps, and that nobody is given.
 ghost use Rattle.scrape_server.specs.Scrapes.{Scrapes};
-ghost use Rattle.scrape_page.specs.Scraping.{BoardScrapes, Unshown};
+ghost use Rattle.scrape_page.specs.Scraping.{BoardScrapes};
+ghost use Rattle.scrape_page.specs.Unshown.{Unshown};
 
 use registry_state::{RegistryState, ScrapeFault};
 use scrape_http::NoScrape;

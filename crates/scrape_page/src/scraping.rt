@@ -56,7 +56,8 @@ impl<S: Source<N, C, H, G>, const N: usize, const C: usize, const H: usize, cons
 > {
     ghost use Rattle.std.specs.Prelude.{◌≡◌, OnErr, OnOk};
     ghost use Rattle.registry_state.specs.Faults.{IsWindow};
-    ghost use Rattle.scrape_page.specs.Scraping.{BoardAloneScrapes, PageScrapes, Unshown};
+    ghost use Rattle.scrape_page.specs.Scraping.{BoardAloneScrapes, PageScrapes};
+    ghost use Rattle.scrape_page.specs.Unshown.{Unshown};
     ghost use Rattle.scrape_page.specs.Windows.{page_with_window};
 
     /// One scrape of all boards. Each board is asked for one, again up to three times where its scan was given up, and they are shown as one:

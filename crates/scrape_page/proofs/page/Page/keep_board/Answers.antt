@@ -4,7 +4,8 @@ use Rattle.expo_text.specs.Scraped.{Scraped}
 use Rattle.registry_state.specs.Kept.{RegistryView}
 use Rattle.scrape_http.specs.declared.source.NoScrape.{NoScrape}
 use Rattle.scrape_page.specs.Families.{PageView}
-use Rattle.scrape_page.specs.Scraping.{BoardScrapes, BoardAloneScrapes, Unshown}
+use Rattle.scrape_page.specs.Scraping.{BoardScrapes, BoardAloneScrapes}
+use Rattle.scrape_page.specs.Unshown.{Unshown}
 use Rattle.scrape_page.proofs.Again.{SameFace, same_asked}
 use Rattle.scrape_page.proofs.Faces.{held_still}
 use Rattle.scrape_page.proofs.Facts.{one_fits}
