@@ -47,8 +47,8 @@ impl<const N: usize, const C: usize, const H: usize, const G: usize> PageCrew<N,
     /// 14 [`NoScrape::Contended`]; 6 [`NoScrape::NoMemory`].
     pub fn keep_board(&mut self, number: usize) -> Result<(), NoScrape>
         requires { number < length (page_of self.old).boards }
-        ensures { Unshown (λ before after made. PageDid before after (λ a b.
-            BoardAloneScrapes N C H G recorded_in quit_in gave_in gave_up_in number a b made)) self.old self.new result }
+        ensures { PageDid self.old self.new (λ a b.
+            Unshown (BoardAloneScrapes N C H G recorded_in quit_in gave_in gave_up_in number) a b result) }
     {
         self.page.keep_board(number)
     }

@@ -1,7 +1,5 @@
-use Rattle.std.proofs.Common.{refl}
 use Rattle.scrape_page.specs.Scraping.{BoardAloneScrapes}
-use Rattle.scrape_page.proofs.Unshown.{from_unshown, unshown_as}
-use Rattle.page_crew.specs.Owned.{PageDid}
+use Rattle.scrape_page.proofs.Unshown.{from_unshown}
 use Rattle.page_crew.specs.Shared.{recorded_in, quit_in, gave_in, gave_up_in}
 use Rattle.page_crew.proofs.Steady.{KeepsIds, board_keeps, numbered_still, room_still}
 use Rattle.page_crew.proofs.owner.PageCrew.keep_board.Goals as goal
@@ -22,6 +20,3 @@ invariant_of-self g c =
       room = room_still old.page.boards c.keep_board.new.self.boards old.rings.items keeps old.room;
       size = old.size;
     }
-
-pub returns : goal.returns
-returns g c = ?
