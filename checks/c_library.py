@@ -105,10 +105,10 @@ def shared(prefix, room):
 
 
 def memory(prefix, room):
-    """Each allocation of each call refused in turn."""
+    """Each allocation of each call refused in turn, and each of a script."""
     wraps = "-Wl,--wrap=malloc,--wrap=realloc,--wrap=free"
-    done("cc", "-std=c99", "-D_POSIX_C_SOURCE=200809L", *STRICT, wraps, HERE / "test_memory.c", HERE / "test_shared.c", f"-I{prefix}/include",
-         prefix / "lib/libdirgwako.a", "-o", room / "test_memory")
+    done("cc", "-std=c99", "-D_POSIX_C_SOURCE=200809L", *STRICT, wraps, HERE / "test_memory.c", HERE / "test_growth.c", HERE / "test_shared.c",
+         f"-I{prefix}/include", prefix / "lib/libdirgwako.a", "-o", room / "test_memory")
     return passes(room / "test_memory")
 
 

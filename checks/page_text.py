@@ -1,4 +1,4 @@
-"""The texts of a page, several boards behind one: those that tests expect, and those of one board and of 40 that `bench page` prints, the program of
+"""The texts of a page, several boards behind one: those that test_growth.c expects, and those of one board and of 40 that `bench page` prints, of
 bindings/c/bench. Each series once, families and children in order, by plain Python; and Prometheus' own parsers read them, a sample a line."""
 import math
 import re
@@ -8,8 +8,8 @@ import sys
 from shifted import parser
 from started import Failed, Skipped, check, run
 
-FILES = ("growth/pages.rt",)
-TEXT = re.compile(r'b?"(# TYPE (?:[^"\\]|\\.)*)"', re.S)
+FILES = ("test_growth.c",)
+TEXT = re.compile(r'"(# TYPE (?:(?:[^"\\]|\\.)*"\s*")*(?:[^"\\]|\\.)*)"[;)]')
 TYPE = re.compile(r"# TYPE ([a-zA-Z_:][a-zA-Z0-9_:]*) (counter|gauge|histogram)")
 HELP = re.compile(r"# HELP ([a-zA-Z_:][a-zA-Z0-9_:]*) (.+)")
 SAMPLE = re.compile(r'([a-zA-Z_:][a-zA-Z0-9_:]*)(?:\{((?:\w+="(?:[^"\\]|\\[\\"n])*",?)+)\})? (-?[0-9.]+)')
@@ -29,9 +29,9 @@ def texts_of(root):
     """The texts that the tests of pages expect, as the sources spell them."""
     texts = []
     for file in FILES:
-        spelled = TEXT.findall((root / "crates/service_tests/src" / file).read_text())
+        spelled = TEXT.findall((root / "bindings/c" / file).read_text())
         check(spelled, f"{file} has the text of a page")
-        texts += [re.sub(r"\\\n\s*", "", it).encode().decode("unicode_escape") for it in spelled]
+        texts += [re.sub(r'(?<!\\)"\s*"', "", it).encode().decode("unicode_escape") for it in spelled]
     return texts
 
 

@@ -69,4 +69,16 @@ void refusals(void);
 /* The test of many threads on many boards. */
 void crowd(void);
 
+/* The memory of a program that is linked with -Wl,--wrap=malloc,--wrap=realloc,--wrap=free: how many allocations are still given, all where that is
+   below zero; how many were asked for; how many blocks are there; and whether one alone is refused then, or all behind it as well. */
+struct heap {
+    long long left, asked, blocks;
+    int is_one;
+};
+
+extern struct heap heap;
+
+/* The test of a whole script, each of whose allocations alone is refused in turn. */
+void growth(void);
+
 #endif

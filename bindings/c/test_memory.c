@@ -10,30 +10,32 @@ void *__wrap_malloc(size_t size);
 void *__wrap_realloc(void *old, size_t size);
 void __wrap_free(void *block);
 
-/* How many allocations are still given, all where that is below zero; how many were asked for; how many blocks are there. */
-static long long left = -1, asked, blocks;
+struct heap heap = {-1, 0, 0, 0};
 
 static int is_given(void) {
-    asked++;
-    if (left > 0) left--;
-    else if (!left) return 0;
+    heap.asked++;
+    if (heap.left > 0) heap.left--;
+    else if (!heap.left) {
+        if (heap.is_one) heap.left = -1;
+        return 0;
+    }
     return 1;
 }
 
 void *__wrap_malloc(size_t size) {
     void *made = is_given() ? __real_malloc(size) : NULL;
-    if (made) blocks++;
+    if (made) heap.blocks++;
     return made;
 }
 
 void *__wrap_realloc(void *old, size_t size) {
     void *made = is_given() ? __real_realloc(old, size) : NULL;
-    if (made && !old) blocks++;
+    if (made && !old) heap.blocks++;
     return made;
 }
 
 void __wrap_free(void *block) {
-    if (block) blocks--;
+    if (block) heap.blocks--;
     __real_free(block);
 }
 
@@ -109,9 +111,9 @@ static size_t held(char *into, size_t room, int is_metric) {
 static long long refuse(const char *what, uint32_t (*call)(void), int is_metric) {
     for (long long given = 0;; given++) {
         size_t length = held(was, sizeof was, is_metric);
-        left = given;
+        heap.left = given;
         uint32_t answer = call();
-        left = -1;
+        heap.left = -1;
         if (!answer) return given;
         is(what, answer, 6);
         is(what, (long long)held(text, sizeof text, is_metric), (long long)length);
@@ -149,13 +151,13 @@ static void boards_come(void) {
 /* Whether a call takes no memory, where all of it is refused. */
 static void none(const char *what, uint32_t answer, uint32_t wanted) {
     is(what, answer, wanted);
-    is("no memory is asked for", asked, 0);
+    is("no memory is asked for", heap.asked, 0);
 }
 
 static void counting(void) {
     const dirgwako_change changes[3] = {dirgwako_change_inc(&counter, 1), dirgwako_change_observe(&histogram, 2), dirgwako_change_up(&gauge, 1)};
     size_t len = 0, missing = 0, kept = 0;
-    asked = left = 0;
+    heap.asked = heap.left = 0;
     none("take", dirgwako_recorder_take(&registry, &recorder), 0);
     none("inc", dirgwako_inc(&recorder, &counter, 1), 0);
     none("observe", dirgwako_observe(&recorder, &histogram, 1), 0);
@@ -171,7 +173,7 @@ static void counting(void) {
     none("kept", dirgwako_kept(&registry, 0, &kept), 0);
     none("read kept", dirgwako_read_kept(&registry, 0, 0, before, DIRGWAKO_MOST_NUMBERS, &len), 0);
     none("window", dirgwako_set_window(&registry, 2), 0);
-    left = -1;
+    heap.left = -1;
 }
 
 int main(void) {
@@ -197,6 +199,7 @@ int main(void) {
     counting();
     is("what the further board has", scraped(&registry, "gauges{code=\"further\",route=\"\"}"), 1);
     is("free", dirgwako_registry_free(&registry), 0);
-    is("no block is lost", blocks, 0);
+    is("no block is lost", heap.blocks, 0);
+    growth();
     return told();
 }
