@@ -20,12 +20,14 @@ static long long count(void) {
 }
 
 /* The gauge of a number. */
-static uint32_t gauge_of(unsigned at, dirgwako_gauge *gauge) {
+static uint32_t gauge_in(const dirgwako_gauge_family *family, unsigned at, dirgwako_gauge *gauge) {
     char value[16];
     const char *const values[1] = {value};
     snprintf(value, sizeof value, "%u", at);
-    return dirgwako_gauge_of(&registry, &jobs, values, 1, gauge);
+    return dirgwako_gauge_of(&registry, family, values, 1, gauge);
 }
+
+static uint32_t gauge_of(unsigned at, dirgwako_gauge *gauge) { return gauge_in(&jobs, at, gauge); }
 
 /* The value of a gauge among the numbers of its board, or a refusal below zero. */
 static long long value_of(const dirgwako_gauge *gauge, size_t len) {
@@ -132,6 +134,30 @@ static void groups(void) {
     is("free", dirgwako_registry_free(&registry), 0);
 }
 
+/* A name is one family's, whichever board and group it is of. */
+static void clashes(void) {
+    dirgwako_counter_family counters;
+    dirgwako_histogram_family histograms;
+    dirgwako_histogram x;
+    dirgwako_counter y;
+    size_t board = 0;
+    is("new", dirgwako_registry_new(&registry, 1), 0);
+    is("a board", dirgwako_board_add(&registry, &board), 0);
+    is("x", dirgwako_histogram_family_new(&registry, "x", "", NULL, 0, NULL, 0, 0, 1, &histograms), 0);
+    is("its histogram", dirgwako_histogram_of(&registry, &histograms, NULL, 0, &x), 0);
+    is("y_count", dirgwako_counter_family_new(&registry, "y_count", "", NULL, 0, 0, 2, &counters), 0);
+    is("its counter", dirgwako_counter_of(&registry, &counters, NULL, 0, &y), 0);
+    is("they are on two boards", y.registry == x.registry + 1, 1);
+    is("x_sum where x is", dirgwako_counter_family_new(&registry, "x_sum", "", NULL, 0, 0, 1, &counters), 19);
+    is("x_sum where y_count is", dirgwako_counter_family_new(&registry, "x_sum", "", NULL, 0, 0, 2, &counters), 19);
+    is("x_sum in a new group", dirgwako_counter_family_new(&registry, "x_sum", "", NULL, 0, 0, 3, &counters), 19);
+    is("y where x is", dirgwako_histogram_family_new(&registry, "y", "", NULL, 0, NULL, 0, 0, 1, &histograms), 19);
+    is("y where y_count is", dirgwako_histogram_family_new(&registry, "y", "", NULL, 0, NULL, 0, 0, 2, &histograms), 19);
+    is("y_sum", dirgwako_histogram_family_new(&registry, "y_sum", "", NULL, 0, NULL, 0, 0, 1, &histograms), 0);
+    is("the third", (long long)histograms.number, 2);
+    is("free", dirgwako_registry_free(&registry), 0);
+}
+
 /* A recorder that has met no board yet outlives its registry. */
 static void outlives(void) {
     dirgwako_counter counter;
@@ -173,24 +199,48 @@ static void shown(void) {
     is("free", dirgwako_registry_free(&registry), 0);
 }
 
+/* Uses every gauge of 96 boards, the first one of each by one family. */
+static void use_all(dirgwako_gauge_family *wide) {
+    static const char *const labels[1] = {"job"};
+    char name[16];
+    is("a family of all boards", dirgwako_gauge_family_new(&registry, "wide", "", labels, 1, 0, 0, wide), 0);
+    for (unsigned i = 0; i < MOST_BOARDS * abi.gauges; i++) {
+        snprintf(name, sizeof name, "jobs_%u", i / 256);
+        if (i % 256 == 0) is("a family", dirgwako_gauge_family_new(&registry, name, "", labels, 1, 0, 0, &jobs), 0);
+        is("a gauge", gauge_in(i % abi.gauges ? &jobs : wide, i, &last), 0);
+        if (!i) first = last;
+        is("its board", last.registry == first.registry + i / abi.gauges && last.slot == i % abi.gauges, 1);
+        is("up", dirgwako_up(&recorder, &last, i), 0);
+    }
+}
+
+/* One family has a child on each of 96 boards, which a text shows, and which is found there again. */
+static void is_wide(const dirgwako_gauge_family *wide) {
+    char series[32];
+    size_t len = 0;
+    is("scrape", dirgwako_scrape(&registry, text, sizeof text, &len), 0);
+    for (unsigned i = 0; i < MOST_BOARDS; i++) {
+        unsigned at = i * (unsigned)abi.gauges;
+        snprintf(series, sizeof series, "wide{job=\"%u\"}", at);
+        is("it is shown", number(text, len, series), at);
+        is("it is there", gauge_in(wide, at, &beyond), 0);
+        is("its board", beyond.registry == first.registry + i && beyond.slot == 0, 1);
+    }
+}
+
 /* Where every gauge of 96 boards is used, none is made any more, and counters are: tried where boards are small. */
 static void full(void) {
     static const char *const labels[1] = {"job"};
+    dirgwako_gauge_family wide;
     dirgwako_counter counter;
-    char name[16];
     size_t board = 0;
     if (abi.numbers > 400) return;
     is("new", dirgwako_registry_new(&registry, 1), 0);
     is("take", dirgwako_recorder_take(&registry, &recorder), 0);
-    for (unsigned i = 0; i < MOST_BOARDS * abi.gauges; i++) {
-        snprintf(name, sizeof name, "jobs_%u", i / 256);
-        if (i % 256 == 0) is("a family", dirgwako_gauge_family_new(&registry, name, "", labels, 1, 0, 0, &jobs), 0);
-        is("a gauge", gauge_of(i, &last), 0);
-        is("up", dirgwako_up(&recorder, &last, 1), 0);
-    }
+    use_all(&wide);
     is("96 boards", count(), MOST_BOARDS);
-    is("one that is there", gauge_of((unsigned)(MOST_BOARDS * abi.gauges - 1), &beyond), 0);
-    is("is the last", beyond.registry == last.registry && beyond.slot == last.slot, 1);
+    is_wide(&wide);
+    is("no slot is left for a child of it", gauge_in(&wide, (unsigned)(MOST_BOARDS * abi.gauges), &beyond), 22);
     is("no slot is left", dirgwako_gauge_new(&registry, "g", "", &beyond), 22);
     is("its family stays", dirgwako_gauge_new(&registry, "g", "", &beyond), 19);
     is("it has no child", scraped(&registry, "g"), -1);
@@ -222,6 +272,7 @@ void boards(void) {
     numbers_of_one();
     settled();
     groups();
+    clashes();
     outlives();
     shown();
     full();
