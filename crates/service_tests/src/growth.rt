@@ -1,21 +1,14 @@
 //! Calls that take memory. Each that answers want of memory has changed nothing, and answers the same call again as it would have
 //! answered the first one.
-mod page_seen;
-mod pages;
 mod registries;
 mod servers;
 
 use crate::asserts::{once_more, same};
-use crate::helpers::{Plain, desc};
-use metric_desc::Kind;
 use metric_names::NoMemory;
-use scrape_http::Status;
-use scrape_server::serve_state;
 use script_lines::{Line, Lines, Next, bounds_of, labels_of, read_line, unescape, values_of};
 use std::alloc::Global;
 use std::process::Abort;
 use std::test::Fail;
-use watched::Watched;
 
 /// A registry of one thread. The window of two holds, and the least free slots are used, whatever was refused before.
 #[test]
@@ -27,45 +20,6 @@ fn growth_state(rt: HostRuntime) -> Result<(), Fail> {
 #[test]
 fn growth_registry(rt: HostRuntime) -> Result<(), Fail> {
     registries::grow_shared(&rt, rt.alloc())
-}
-
-/// A page of two boards.
-#[test]
-fn growth_pages(rt: HostRuntime) -> Result<(), Fail> {
-    pages::grow(&rt, rt.alloc())
-}
-
-/// The status of a request that is served from the registry, and how many bytes were sent.
-fn asked(registry: &mut Plain, alloc: Global) -> Result<(Status, usize), Fail> {
-    let mut reader = Watched::new(b"GET /metrics HTTP/1.0\r\n\r\n".as_slice());
-    let mut taken = Watched::new(Vec::with_capacity(alloc, 512)?);
-    let served = serve_state(&mut reader, &mut taken, registry)?;
-    Ok((served.status, served.sent))
-}
-
-/// Two requests. Where the first one was replied, the second one may want memory.
-fn replies(rt: &impl Abort, registry: &mut Plain, alloc: Global) -> Result<(), Fail> {
-    let (status, first) = asked(registry, alloc)?;
-    let (kept, sent) = match status {
-        Status::Unavailable => (0, 136),
-        _ => (1, 113),
-    };
-    same(rt, (registry.kept().len(), first), (kept, sent));
-    let (status, second) = asked(registry, alloc)?;
-    let then = match (kept, status) {
-        (1, Status::Unavailable) => (1, 136),
-        _ => (kept + 1, 113),
-    };
-    same(rt, (registry.kept().len(), second), then);
-    Ok(())
-}
-
-/// A request that is served from a registry of one thread: the reply is 503 where its scrape wants memory, and nothing else takes any.
-#[test]
-fn growth_reply(rt: HostRuntime) -> Result<(), Fail> {
-    let mut registry = registries::new_state(&rt, rt.alloc())?;
-    registry.register(desc(rt.alloc(), Kind::Counter, "a", &["l"])?)?;
-    replies(&rt, &mut registry, rt.alloc())
 }
 
 /// The parts of a line, and the lines of a reader.

@@ -1,5 +1,5 @@
 //! Registries of one thread, and what is registered.
-use crate::asserts::{done, need, same};
+use crate::asserts::{done, need};
 use crate::crew::ID;
 use crate::seen::Looked;
 use ledger_core::{Counter, Gauge};

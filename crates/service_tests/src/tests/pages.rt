@@ -1,13 +1,10 @@
-//! Several registries, each over a board of its own, as one page.
-mod limits;
-mod refusals;
-
-use crate::asserts::{done, need};
-use crate::helpers::{desc, values};
+//! A page takes boards that are fresh. C makes its boards by itself, and none of them is refused by 45.
+use crate::asserts::{done, need, same};
+use crate::helpers::desc;
 use metric_desc::Kind;
-use registry_state::{Handle, RegistryState};
-use scrape_page::{Page, PageFamilyId};
-use snapshot_scan::{PlainSource, Source};
+use registry_state::RegistryState;
+use scrape_page::{BoardFault, Page};
+use snapshot_scan::PlainSource;
 use std::alloc::Global;
 use std::process::Abort;
 
@@ -17,9 +14,6 @@ type SmallSource = PlainSource<1, 0, 0>;
 /// A registry of it.
 type Small = RegistryState<SmallSource, 1, 1, 0, 0>;
 
-/// A page of such registries.
-type SmallPage = Page<SmallSource, 1, 1, 0, 0>;
-
 /// A registry of this id that keeps one scrape.
 fn small(rt: &impl Abort, alloc: Global, id: u64) -> Small {
     match Small::new(alloc, need(rt, SmallSource::new(alloc)), id, 1) {
@@ -28,50 +22,40 @@ fn small(rt: &impl Abort, alloc: Global, id: u64) -> Small {
     }
 }
 
-/// A page of these registries.
-fn page_of<S: Source<N, C, H, G>, const N: usize, const C: usize, const H: usize, const G: usize>(
-    rt: &impl Abort,
-    alloc: Global,
-    first: RegistryState<S, N, C, H, G>,
-) -> Page<S, N, C, H, G> {
-    match Page::new(alloc, first) {
-        Ok(page) => page,
-        Err(_) => rt.panic("no page"),
-    }
+/// A registry of this id that has a family.
+fn used(rt: &impl Abort, alloc: Global, id: u64) -> Small {
+    let mut used = small(rt, alloc, id);
+    let desc = done(rt, desc(alloc, Kind::Counter, "a", &[]));
+    need(rt, used.register(desc));
+    used
 }
 
-/// Takes a further registry, and answers its number.
-fn taken<S: Source<N, C, H, G>, const N: usize, const C: usize, const H: usize, const G: usize>(
-    rt: &impl Abort,
-    page: &mut Page<S, N, C, H, G>,
-    board: RegistryState<S, N, C, H, G>,
-) -> usize {
+/// What comes of a further board, in the words of a test: its number, or why it is refused, and the id of the board that comes back.
+fn asked(
+    page: &mut Page<SmallSource, 1, 1, 0, 0>,
+    board: Small,
+) -> Result<usize, (BoardFault, u64)> {
     match page.add_board(board) {
-        Ok(number) => number,
-        Err(_) => rt.panic("the board is not taken"),
+        Ok(number) => Ok(number),
+        Err(refused) => Err((refused.fault, refused.board.id())),
     }
 }
 
-/// Registers a family of this kind and name, with these labels, in this group.
-fn family<S: Source<N, C, H, G>, const N: usize, const C: usize, const H: usize, const G: usize>(
-    rt: &impl Abort,
-    alloc: Global,
-    page: &mut Page<S, N, C, H, G>,
-    (kind, name, labels): (Kind, &str, &[&str]),
-    group: u64,
-) -> PageFamilyId {
-    let desc = done(rt, desc(alloc, kind, name, labels));
-    need(rt, page.register(desc, group))
-}
-
-/// The child of these label values.
-fn child<S: Source<N, C, H, G>, const N: usize, const C: usize, const H: usize, const G: usize>(
-    rt: &impl Abort,
-    alloc: Global,
-    page: &mut Page<S, N, C, H, G>,
-    family: PageFamilyId,
-    texts: &[&str],
-) -> Handle {
-    let values = done(rt, values(alloc, texts));
-    need(rt, page.child(family, &values))
+/// A board has the id of one that is there, and one has a family (45). Each comes back, and the page takes the next one.
+#[test]
+fn stale_boards(rt: HostRuntime) {
+    let (rt, alloc, stale) = (&rt, rt.alloc(), BoardFault::NotFresh);
+    same(rt, stale.number(), 45);
+    match Page::new(alloc, used(rt, alloc, 1)) {
+        Ok(_) => rt.panic("the board is taken"),
+        Err(refused) => same(rt, (refused.fault, refused.board.id()), (stale, 1)),
+    }
+    let Ok(mut page) = Page::new(alloc, small(rt, alloc, 1)) else {
+        rt.panic("no page")
+    };
+    same(rt, asked(&mut page, small(rt, alloc, 1)), Err((stale, 1)));
+    same(rt, asked(&mut page, used(rt, alloc, 2)), Err((stale, 2)));
+    same(rt, page.boards().len(), 1);
+    same(rt, asked(&mut page, small(rt, alloc, 2)), Ok(1));
+    same(rt, page.into_boards().len(), 2);
 }
