@@ -83,13 +83,19 @@ static uint32_t read(void) {
     return dirgwako_read(&registry, 0, after, DIRGWAKO_MOST_NUMBERS, &len);
 }
 
+/* The reply where there is no memory for the scrape. */
+static const char BUSY[] = "HTTP/1.1 503 Service Unavailable\r\nContent-Type: text/plain; charset=utf-8\r\nContent-Length: 20\r\n"
+                           "Connection: close\r\n\r\nService Unavailable\n";
+
 /* 6 as well where it was told in a reply. */
 static uint32_t reply_once(void) {
     const char *get = "GET /metrics HTTP/1.1\r\nHost: a\r\n\r\n";
     size_t len = 0;
     uint32_t answer = dirgwako_reply(&registry, get, strlen(get), reply, sizeof reply, &len);
-    if (answer == 25 || (!answer && !memcmp(reply, "HTTP/1.1 503 ", 13))) return 6;
-    return answer;
+    if (answer == 25) return 6;
+    if (answer || memcmp(reply, "HTTP/1.1 503 ", 13)) return answer;
+    is("a reply of 503", len == sizeof BUSY - 1 && !memcmp(reply, BUSY, len), 1);
+    return 6;
 }
 
 /* The text of what is held: of a registry that is not there, nothing. Of metrics, since a family may be there without its number, the numbers alone. */
