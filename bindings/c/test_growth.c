@@ -32,9 +32,9 @@ static const uint64_t bounds[2] = {10, 20};
 static uint64_t settled[MOST], answered[MOST];
 static size_t board, len;
 
-/* Whether a call is made again, and a reply is 503; how often calls were refused, replies were 503, a board came then, some boards kept a scrape,
-   and a family had no number. */
-static long long is_again, is_busy, refused, busy, came, kept, without;
+/* Whether a call is made again, and a reply is 503; how often a look and a call were refused, replies were 503, a board came then, some boards kept a
+   scrape, and a family had no number. */
+static long long is_again, is_busy, unseen, refused, busy, came, kept, without;
 
 /* What the page shows in the end. */
 static const char SHOWN[] =
@@ -76,8 +76,8 @@ static uint32_t replies(void) {
 
 /* What is seen of a board. */
 static void look_at(struct seen *seen, size_t at) {
-    is("kept", dirgwako_kept(&registry, at, &seen->kept[at]), 0);
-    for (size_t i = 0; i < seen->kept[at] && i < WINDOW; i++) is("read", dirgwako_read_kept(&registry, at, i, seen->numbers[at][i], MOST, &len), 0);
+    unseen += dirgwako_kept(&registry, at, &seen->kept[at]) != 0;
+    for (size_t i = 0; i < seen->kept[at] && i < WINDOW; i++) unseen += dirgwako_read_kept(&registry, at, i, seen->numbers[at][i], MOST, &len) != 0;
 }
 
 /* What is seen: of a registry that is not there, no board. */
@@ -245,4 +245,5 @@ void growth(void) {
     is("so many were refused", refused, many);
     is("what stays of a refused call", busy && came && kept && without, 1);
     is("no more are asked for", run(many), many);
+    is("all was seen", unseen, 0);
 }

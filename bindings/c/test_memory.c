@@ -51,7 +51,7 @@ static const uint64_t bounds[2] = {1, 2};
 static const char *const labels[2] = {"code", "route"}, *const others[2] = {"further", ""};
 static char name[16], reply[1 << 17], was[1 << 17];
 static uint64_t before[DIRGWAKO_MOST_NUMBERS], after[DIRGWAKO_MOST_NUMBERS];
-static size_t tries, board;
+static size_t tries, board, busy;
 
 /* A name that was not there. */
 static const char *another(void) {
@@ -87,7 +87,7 @@ static uint32_t read(void) {
 static const char BUSY[] = "HTTP/1.1 503 Service Unavailable\r\nContent-Type: text/plain; charset=utf-8\r\nContent-Length: 20\r\n"
                            "Connection: close\r\n\r\nService Unavailable\n";
 
-/* 6 as well where it was told in a reply. */
+/* 6 as well where it was told in a reply: by 503, where there is memory for the reply alone. */
 static uint32_t reply_once(void) {
     const char *get = "GET /metrics HTTP/1.1\r\nHost: a\r\n\r\n";
     size_t len = 0;
@@ -95,6 +95,7 @@ static uint32_t reply_once(void) {
     if (answer == 25) return 6;
     if (answer || memcmp(reply, "HTTP/1.1 503 ", 13)) return answer;
     is("a reply of 503", len == sizeof BUSY - 1 && !memcmp(reply, BUSY, len), 1);
+    busy++;
     return 6;
 }
 
@@ -200,6 +201,10 @@ int main(void) {
     is("name", refuse("name", is_name, 0) > 0, 1);
     is("scrape", refuse("scrape", scrape, 0) > 0, 1);
     is("reply", refuse("reply", reply_once, 0) > 0, 1);
+    heap.is_one = 1;
+    is("reply", refuse("reply", reply_once, 0) > 0, 1);
+    heap.is_one = 0;
+    is("a reply is 503", busy > 0, 1);
     is("read", refuse("read", read, 0) > 0, 1);
     boards_come();
     counting();
