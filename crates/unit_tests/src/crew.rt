@@ -2,20 +2,19 @@
 ghost use Rattle.std.specs.Prelude.{◌≡◌, ◌<◌, IfOk, All};
 ghost use Rattle.ledger_core.specs.Ops.{width};
 ghost use Rattle.segment_layout.specs.Layout.{depth, IsGeometry};
-ghost use Rattle.register_rule.specs.Members.{new_worker, fresh_scan};
-ghost use Rattle.register_rule.specs.Seats.{worker_of, reader_of, IsWorkSeatOf, IsReadSeatOf};
+ghost use Rattle.register_rule.specs.Members.{new_worker};
+ghost use Rattle.register_rule.specs.Seats.{worker_of, IsWorkSeatOf};
 ghost use Rattle.snapshot_scan.specs.Order.{IsAlone};
 ghost use Rattle.snapshot_scan.specs.Readers.{IsReaderOf};
 ghost use Rattle.snapshot_update.specs.Workers.{IsWorkerOf};
 
-use crate::asserts::{need, same};
+use crate::asserts::same;
 use ledger_core::{Counter, Gauge};
-use register_rule::{Board, Parts, ReadSeat, WorkSeat};
+use register_rule::{Board, WorkSeat};
 use snapshot_scan::{Contended, Reader, Snapshot};
 use snapshot_update::Worker;
 use std::alloc::{AllocError, Global};
 use std::process::Abort;
-use std::test::Fail;
 
 /// The id of the boards.
 pub(crate) const ID: u64 = 1;
@@ -105,58 +104,4 @@ pub(crate) fn new_worker<const N: usize, const C: usize, const H: usize, const G
         Ok(worker) => Ok(worker),
         Err(_) => Err(AllocError),
     }
-}
-
-/// The reader of a seat that has made no step.
-pub(crate) fn new_reader<const N: usize, const C: usize, const H: usize, const G: usize>(
-    alloc: Global,
-    board: &Board<N, C, H, G>,
-    seat: ReadSeat,
-) -> Result<Reader<N, C, H, G>, AllocError>
-    requires of_board { IsReadSeatOf board.now seat }
-    requires geometry { IsGeometry N C H G }
-    requires fresh { (reader_of seat).scan ≡ fresh_scan N (width C H G) }
-    ensures { IfOk result (λ r. IsReaderOf board.now r) }
-{
-    match Reader::new(alloc, seat) {
-        Ok(reader) => Ok(reader),
-        Err(_) => Err(AllocError),
-    }
-}
-
-/// A board of one worker, whose row is one counter, the worker's seat, and a reader's.
-pub(crate) fn one_seat(alloc: Global) -> Result<(Board<1, 1, 0, 0>, WorkSeat, ReadSeat), Fail>
-    ensures of_board { IfOk result (λ r. IsWorkSeatOf r.0 r.1 × IsReadSeatOf r.0 r.2) }
-    ensures worker { IfOk result (λ r. worker_of r.1 ≡ new_worker 1 1 4 0) }
-    ensures reader { IfOk result (λ r. (reader_of r.2).scan ≡ fresh_scan 1 1) }
-{
-    let Parts {
-        board,
-        mut work,
-        mut read,
-    } = Board::new(alloc, ID, 1)?;
-    match (work.pop(), read.pop()) {
-        (Some(seat), Some(reader)) => Ok((board, seat, reader)),
-        _ => Err("no seats".into()),
-    }
-}
-
-/// A snapshot of two workers that have published so often, whose rows have no words.
-fn snapshot(rt: &impl Abort, alloc: Global, numbers: [u64; 2]) -> Snapshot<2, 0, 0, 0> {
-    let mut out = need(rt, Snapshot::new(alloc));
-    out.set(&numbers, &[]);
-    out
-}
-
-/// Snapshots with these vectors.
-pub(crate) fn snapshots(
-    rt: &impl Abort,
-    alloc: Global,
-    vectors: &[[u64; 2]],
-) -> Vec<Snapshot<2, 0, 0, 0>> {
-    let mut taken = Vec::new(alloc);
-    for vector in vectors {
-        need(rt, taken.push(snapshot(rt, alloc, *vector)));
-    }
-    taken
 }

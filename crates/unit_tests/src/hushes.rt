@@ -2,7 +2,7 @@
 ghost use Rattle.snapshot_update.specs.Workers.{IsWorkerOf};
 
 use crate::asserts::{need, same};
-use crate::crew::{inc, last_worker};
+use crate::crew::{counter, inc, last_worker};
 use crate::jobs::{lists, make_team, team_after, team_finds};
 use register_rule::Board;
 use snapshot_update::Worker;
@@ -10,7 +10,7 @@ use std::io;
 use std::process::Abort;
 use std::thread::join;
 use std::time::{Clock, Duration, Instant};
-use worker_pool::Open;
+use worker_pool::{JobOp, Open};
 
 /// The number of the last request, for which a new worker rests now; 0 where no scan asks.
 fn asked<const N: usize, const C: usize, const H: usize, const G: usize>(
@@ -127,7 +127,7 @@ fn a_worker_rests_once_for_a_request(rt: HostRuntime) {
 #[test]
 fn updates_ask_for_no_rest(rt: HostRuntime) {
     let rt = &rt;
-    let jobs = lists(rt, rt.alloc(), 2, 50_000);
+    let jobs = lists(rt, rt.alloc(), &[JobOp::Inc(counter(0), 1); 2], 50_000);
     let (it, fault) = team_after::<_, 2, 1, 0, 0>(rt, rt.alloc(), jobs, &Open);
     same(rt, (fault, requests(&it.board)), (None, (0, 0)));
 }

@@ -23,14 +23,31 @@ pub(crate) fn job(line: u64, slot: usize, by: u64) -> Job {
     }
 }
 
-/// A worker's list: so many increments of the counter 0.
-pub(crate) fn increments(rt: &impl Abort, alloc: Global, many: u64) -> Vec<Job> {
+/// A worker's list: this so many times.
+fn repeated(rt: &impl Abort, alloc: Global, what: JobOp, many: u64) -> Vec<Job> {
     let mut jobs = Vec::new(alloc);
     for line in 0..many {
-        let what = JobOp::Inc(counter(0), 1);
         need(rt, jobs.push(Job { line, what }));
     }
     jobs
+}
+
+/// The lists of workers, each of which does one of these so many times.
+pub(crate) fn lists(rt: &impl Abort, alloc: Global, whats: &[JobOp], many: u64) -> Vec<Vec<Job>> {
+    let mut lists = Vec::new(alloc);
+    for what in whats {
+        need(rt, lists.push(repeated(rt, alloc, *what, many)));
+    }
+    lists
+}
+
+/// These lists, a worker's each.
+pub(crate) fn listed(rt: &impl Abort, alloc: Global, lists: &[&[Job]]) -> Vec<Vec<Job>> {
+    let mut listed = Vec::new(alloc);
+    for list in lists {
+        need(rt, listed.push(need(rt, Vec::from_slice(alloc, list))));
+    }
+    listed
 }
 
 /// A board with its workers, a reader, and what its scans find.
@@ -144,22 +161,4 @@ pub(crate) fn team_after<
 {
     let team = make_team(rt, alloc);
     ran(rt, alloc, team, jobs.as_slice(), gate)
-}
-
-/// The lists of so many workers, of so many increments each.
-pub(crate) fn lists(rt: &impl Abort, alloc: Global, workers: usize, many: u64) -> Vec<Vec<Job>> {
-    let mut lists = Vec::new(alloc);
-    for _ in 0..workers {
-        need(rt, lists.push(increments(rt, alloc, many)));
-    }
-    lists
-}
-
-/// These lists, a worker's each.
-pub(crate) fn listed(rt: &impl Abort, alloc: Global, lists: &[&[Job]]) -> Vec<Vec<Job>> {
-    let mut listed = Vec::new(alloc);
-    for list in lists {
-        need(rt, listed.push(need(rt, Vec::from_slice(alloc, list))));
-    }
-    listed
 }

@@ -13,8 +13,6 @@ mod costs;
 #[cfg(test)]
 mod crew;
 #[cfg(test)]
-mod gates;
-#[cfg(test)]
 mod growth;
 #[cfg(test)]
 mod history;
@@ -28,8 +26,6 @@ mod layout;
 mod limits;
 #[cfg(test)]
 mod made;
-#[cfg(test)]
-mod making;
 #[cfg(test)]
 mod memory;
 #[cfg(test)]
@@ -45,14 +41,8 @@ mod scan_states;
 #[cfg(test)]
 mod sending;
 #[cfg(test)]
-mod settling;
-#[cfg(test)]
-mod sources;
-#[cfg(test)]
 mod tallies;
 #[cfg(test)]
 mod texts;
-#[cfg(test)]
-mod updates;
 #[cfg(test)]
 mod watching;

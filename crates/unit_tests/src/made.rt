@@ -67,7 +67,7 @@ fn values(rt: &impl Abort, alloc: Global, texts: &[&str]) -> Arc<Vec<LabelValue>
 }
 
 /// These children.
-pub fn children(rt: &impl Abort, alloc: Global, written: &[(&[&str], Number)]) -> Vec<ChildScrape> {
+fn children(rt: &impl Abort, alloc: Global, written: &[(&[&str], Number)]) -> Vec<ChildScrape> {
     let mut children = Vec::new(alloc);
     for (texts, number) in written {
         add_child(rt, alloc, &mut children, texts, *number);
@@ -106,18 +106,6 @@ fn families(rt: &impl Abort, alloc: Global, written: &[Family<'_>]) -> Vec<Famil
         need(rt, families.push(family_of(rt, alloc, it, children)));
     }
     families
-}
-
-/// A scrape of one family with these children, if it may be one.
-pub fn alone(
-    rt: &impl Abort,
-    alloc: Global,
-    written: &Family<'_>,
-    children: Vec<ChildScrape>,
-) -> Option<Scrape> {
-    let mut families = Vec::new(alloc);
-    need(rt, families.push(family_of(rt, alloc, written, children)));
-    Scrape::checked(Vec::new(alloc), families)
 }
 
 /// A scrape of these families, if they are those of a scrape. Two workers have published 3 times and never.

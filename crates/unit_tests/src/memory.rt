@@ -4,7 +4,7 @@ ghost use Rattle.snapshot_scan.specs.Order.{IsAlone};
 ghost use Rattle.snapshot_scan.specs.Readers.{IsReaderOf};
 ghost use Rattle.snapshot_update.specs.Workers.{IsWorkerOf};
 
-use crate::asserts::need;
+use crate::asserts::{need, same};
 use crate::crew::{ID, counter, gauge, last_reader, last_worker};
 use bucket_math::Bounds;
 use ledger_core::{Histogram, Op, Tally};
@@ -12,6 +12,7 @@ use register_rule::Board;
 use snapshot_scan::{Reader, Snapshot, order};
 use snapshot_update::{Crew, Worker};
 use std::alloc::Global;
+use std::cmp::Ordering;
 use std::process::Abort;
 
 /// The histogram of the board, with the bounds 10 and 20.
@@ -79,7 +80,7 @@ fn meets(
     worker.take_back(board, reader);
 }
 
-/// Two readers scan, and what they find is compared.
+/// Two readers scan, and find the same.
 fn compares(
     rt: &impl Abort,
     board: &Board<2, 1, 1, 1>,
@@ -95,7 +96,8 @@ fn compares(
 {
     need(rt, one.scan(board, ones));
     need(rt, other.scan(board, others));
-    let _ = order(board, ones, one, others, other);
+    let found = order(board, ones, one, others, other);
+    same(rt, found, Ordering::Equal);
 }
 
 /// Who makes the calls, and what their scans find.

@@ -1,137 +1,108 @@
-//! Workers on threads of a pool.
-use crate::asserts::{need, same};
-use crate::crew::{ID, counter, gauge};
-use crate::gates::{Meeting, ShutsBehind};
-use crate::jobs::{job, listed, make_team, runs, team_after, team_finds};
-use bucket_math::Bounds;
-use ledger_core::{Counter, Histogram};
-use worker_pool::{Gate, Job, JobOp, Open, PoolFault};
+//! Workers on threads of a pool, and gates at which they wait.
+use crate::asserts::same;
+use crate::jobs::{job, listed, team_after, team_finds};
+use snapshot_update::{ApplyFault, CountFault};
+use std::sync::atomic::{AtomicU64, Ordering};
+use worker_pool::{Gate, Open, PoolFault};
 
+/// A gate at which the workers at the places 0 and 1 wait for each other: who has come is noted.
+#[derive(Drop)]
+struct Meeting {
+    first: AtomicU64,
+    second: AtomicU64,
+}
+
+impl Meeting {
+    fn of(&self, worker: usize) -> &AtomicU64 {
+        if worker == 0 {
+            &self.first
+        } else {
+            &self.second
+        }
+    }
+}
+
+impl Gate for Meeting {
+    fn open(&self, worker: usize) -> bool {
+        self.of(worker).store(1, Ordering::SeqCst);
+        self.of(1 - worker % 2).load(Ordering::SeqCst) == 1
+    }
+
+    fn done(&self, _worker: usize) {}
+}
+
+/// Each is let through only while the other has come: one behind the other they would not get on.
 #[test]
 fn two_workers_at_once(rt: HostRuntime) {
     let rt = &rt;
-    let gate = Meeting::new(10_000_000);
+    let gate = Meeting {
+        first: AtomicU64::new(0),
+        second: AtomicU64::new(0),
+    };
     let jobs = listed(rt, rt.alloc(), &[&[job(1, 0, 3)], &[job(2, 0, 4)]]);
     let (mut it, fault) = team_after::<_, 2, 1, 0, 0>(rt, rt.alloc(), jobs, &gate);
     same(rt, (fault, it.workers.len()), (None, 2));
-    same(rt, gate.is_shut(), false);
-    same(rt, gate.found(), ((true, 1), (true, 1)));
     team_finds(rt, &mut it, &[1, 1]);
     same(rt, it.out.counter(0), 7);
 }
 
-/// A pool that runs all on one thread: it asks the gate for each worker, and stops where it does not open.
-fn run_serially(gate: &impl Gate, workers: usize) -> Option<PoolFault> {
-    for worker in 0..workers {
-        if !gate.open(worker) {
-            return Some(PoolFault::GateShut { worker });
-        }
-        gate.done(worker);
-    }
-    None
+/// A gate that shuts for good when it is told of a job. It counts how often it is asked.
+#[derive(Drop)]
+struct ShutsBehind {
+    asked: AtomicU64,
+    told: AtomicU64,
 }
 
-#[test]
-fn one_thread_does_not_get_on(rt: HostRuntime) {
-    let rt = &rt;
-    let gate = Meeting::new(1_000);
-    let fault = PoolFault::GateShut { worker: 0 };
-    same(rt, run_serially(&gate, 2), Some(fault));
-    same(rt, fault.number(), 29);
-    same(rt, gate.is_shut(), true);
-    same(rt, gate.found(), ((true, 0), (false, 0)));
+impl Gate for ShutsBehind {
+    fn open(&self, _worker: usize) -> bool {
+        self.asked.fetch_add(1, Ordering::SeqCst);
+        self.told.load(Ordering::SeqCst) == 0
+    }
+
+    fn done(&self, _worker: usize) {
+        self.told.fetch_add(1, Ordering::SeqCst);
+    }
 }
 
 /// A worker may ask 10,000,000 times before each job: here once before the first one, and then in vain.
 #[test]
 fn a_gate_shuts_behind_a_job(rt: HostRuntime) {
     let rt = &rt;
-    let gate = ShutsBehind::new();
+    let gate = ShutsBehind {
+        asked: AtomicU64::new(0),
+        told: AtomicU64::new(0),
+    };
     let jobs = listed(rt, rt.alloc(), &[&[job(1, 0, 5), job(2, 0, 7)]]);
     let (mut it, fault) = team_after::<_, 1, 1, 0, 0>(rt, rt.alloc(), jobs, &gate);
-    same(rt, fault, Some(PoolFault::GateShut { worker: 0 }));
-    same(rt, gate.found(), (10_000_001, 1));
+    let shut = PoolFault::GateShut { worker: 0 };
+    same(rt, (fault, shut.number()), (Some(shut), 29));
+    same(rt, gate.asked.load(Ordering::SeqCst), 10_000_001);
+    same(rt, gate.told.load(Ordering::SeqCst), 1);
     team_finds(rt, &mut it, &[1]);
     same(rt, it.out.counter(0), 5);
 }
 
-/// The greatest value of a word, 2^48 - 1.
-const MAX: u64 = 281_474_976_710_655;
-
-/// The first one of four workers is refused the line 9, since its handle is of another board, the second one the line 5, since
-/// its word would be too large, the third one the line 7, since there is no such counter, the fourth none.
+/// Both workers are refused a job, since there is no such counter, by the lines 9 and 5: each did the one before it, and none after it.
 #[test]
 fn the_least_line_is_told(rt: HostRuntime) {
     let rt = &rt;
-    let other = Counter {
-        registry: 2,
-        slot: 0,
-    };
-    let of_another = Job {
-        line: 9,
-        what: JobOp::Inc(other, 1),
-    };
-    let lists: [&[Job]; 4] = [
-        &[job(1, 0, 1), of_another, job(13, 0, 100)],
-        &[job(2, 0, MAX), job(4, 1, 1), job(5, 0, 1)],
-        &[job(7, 2, 1), job(8, 0, 1_000)],
-        &[job(3, 1, 2), job(10, 1, 3), job(11, 1, 4)],
-    ];
-    let jobs = listed(rt, rt.alloc(), &lists);
-    let (mut it, fault) = team_after::<_, 4, 2, 0, 0>(rt, rt.alloc(), jobs, &Open);
+    let first = [job(1, 0, 1), job(9, 1, 1), job(13, 0, 100)];
+    let second = [job(4, 0, 3), job(5, 1, 1), job(7, 0, 100)];
+    let jobs = listed(rt, rt.alloc(), &[&first, &second]);
+    let (mut it, fault) = team_after::<_, 2, 1, 0, 0>(rt, rt.alloc(), jobs, &Open);
     let refused = PoolFault::Refused {
         line: 5,
-        number: 12,
+        number: 11,
     };
     same(rt, fault, Some(refused));
-    same(rt, refused.number(), 12);
-    team_finds(rt, &mut it, &[1, 2, 0, 3]);
-    same(rt, (it.out.counter(0), it.out.counter(1)), (MAX + 1, 10));
+    team_finds(rt, &mut it, &[1, 1]);
+    same(rt, it.out.counter(0), 4);
 }
 
-/// That the system gives no thread cannot be brought about here.
+/// What takes 2^64 - 1 publishes, and a system that gives no thread, cannot be brought about here.
 #[test]
-fn the_number_of_no_thread(rt: HostRuntime) {
+fn numbers_of_what_no_test_can_reach(rt: HostRuntime) {
+    let exhausted = CountFault::Apply(ApplyFault::Exhausted);
+    same(&rt, exhausted.number(), 15);
     same(&rt, PoolFault::NoThread { worker: 0 }.number(), 30);
-}
-
-/// A job of this line.
-fn of(what: JobOp) -> Job {
-    Job { line: 1, what }
-}
-
-#[test]
-fn jobs_of_all_kinds(rt: HostRuntime) {
-    let rt = &rt;
-    let bounds = need(rt, Bounds::from_slice(&[5, 10]));
-    let hist = Histogram {
-        registry: ID,
-        slot: 0,
-        bounds,
-    };
-    let kinds = [
-        of(JobOp::Inc(counter(0), 3)),
-        of(JobOp::Observe(hist, 6)),
-        of(JobOp::Up(gauge(0), 5)),
-        of(JobOp::Down(gauge(0), 7)),
-    ];
-    let jobs = listed(rt, rt.alloc(), &[&kinds, &[]]);
-    let (mut it, fault) = team_after::<_, 2, 1, 1, 1>(rt, rt.alloc(), jobs, &Open);
-    same(rt, (fault, it.workers.len()), (None, 2));
-    team_finds(rt, &mut it, &[4, 0]);
-    same(rt, (it.out.counter(0), it.out.gauge(0)), (3, -2));
-    let totals = it.out.hist(0);
-    let found = (totals.buckets[1], totals.sum, totals.count);
-    same(rt, found, (1, 6, 1));
-}
-
-#[test]
-fn no_workers(rt: HostRuntime) {
-    let rt = &rt;
-    let it = make_team::<2, 1, 0, 0>(rt, rt.alloc());
-    let none = need(
-        rt,
-        runs(rt, rt.alloc(), &it.board, Vec::new(rt.alloc()), &[], &Open),
-    );
-    same(rt, none.len(), 0);
 }

@@ -1,9 +1,7 @@
 //! Runs of the snapshot algorithm's core, over rows of one counter.
 use crate::asserts::{need, same, there};
 use ledger_core::Op;
-use snapshot_core::{
-    Answer, Event, Next, Publish, RunFault, ScanEnd, ScanState, Trace, is_outcome, run,
-};
+use snapshot_core::{Answer, Event, Publish, ScanEnd, Trace, is_outcome, run};
 use std::alloc::Global;
 use std::process::Abort;
 
@@ -30,26 +28,26 @@ fn event(rt: &impl Abort, alloc: Global, letter: u8, reader: usize, by: u64) -> 
     }
 }
 
-/// A list of events, a letter each.
-fn events(rt: &impl Abort, alloc: Global, text: &str, reader: usize, by: u64) -> Vec<Event> {
+/// A list of events, a letter each. The reader is the first one.
+pub(crate) fn events(
+    rt: &impl Abort,
+    alloc: Global,
+    workers: usize,
+    text: &str,
+    by: u64,
+) -> Vec<Event> {
     let mut list = Vec::new(alloc);
     for letter in text.bytes() {
-        need(rt, list.push(event(rt, alloc, letter, reader, by)));
+        need(rt, list.push(event(rt, alloc, letter, workers, by)));
     }
     list
-}
-
-/// What a run of these events comes to. The reader is the first one.
-fn traced(rt: &impl Abort, alloc: Global, n: usize, text: &str, by: u64) -> Trace {
-    let list = events(rt, alloc, text, n, by);
-    need(rt, run::<1, 0, 0>(alloc, n, list.as_slice()))
 }
 
 /// The turn of an answer: actor, begin, end and tries.
 type Turn = (usize, usize, usize, usize);
 
 /// An answer: its place, turn and end, its vector and the total.
-type Expected<'a> = (usize, Turn, ScanEnd, &'a [u64], &'a [u64]);
+pub(crate) type Expected<'a> = (usize, Turn, ScanEnd, &'a [u64], &'a [u64]);
 
 /// An answer of the trace is this one.
 fn answer_is(rt: &impl Abort, trace: &Trace, expected: &Expected<'_>) {
@@ -61,138 +59,134 @@ fn answer_is(rt: &impl Abort, trace: &Trace, expected: &Expected<'_>) {
     same(rt, found.totals.as_slice(), totals);
 }
 
+/// The publishes of the trace, by event and worker, each by an increment by this.
+pub(crate) fn publishes_are(rt: &impl Abort, trace: &Trace, by: u64, all: &[(usize, usize)]) {
+    same(rt, trace.publishes.len(), all.len());
+    let ops = [Op::Inc { counter: 0, by }];
+    for (place, expected) in all.iter().enumerate() {
+        let found = there(rt, trace.publishes.get(place));
+        same(rt, (found.at, found.worker), *expected);
+        same(rt, found.ops.as_slice(), ops.as_slice());
+    }
+}
+
 /// These are among the trace's answers, which are so many.
-fn answers(rt: &impl Abort, trace: &Trace, many: usize, all: &[Expected<'_>]) {
+pub(crate) fn answers_are(rt: &impl Abort, trace: &Trace, many: usize, all: &[Expected<'_>]) {
     same(rt, trace.answers.len(), many);
     for expected in all {
         answer_is(rt, trace, expected);
     }
 }
 
-/// So many publishes, the last one by this event.
-fn publishes(rt: &impl Abort, trace: &Trace, many: usize, last: usize) {
-    same(rt, trace.publishes.len(), many);
-    let found = there(rt, trace.publishes.last());
-    same(rt, found.at, last);
-}
+/// Workers, events and what each update adds; the publishes; how many answers there are, and some of them.
+type Run<'a> = (
+    usize,
+    &'a str,
+    u64,
+    &'a [(usize, usize)],
+    usize,
+    &'a [Expected<'a>],
+);
 
-/// The run of a publish in the first try of a reader.
+/// A publish in the first try of a reader, which is direct in its second one.
 const SECOND_TRY: &str = "bssBSSSSSssssss";
 
-/// Its answers.
-static SECOND: [Expected; 2] = [
-    (0, (0, 3, 7, 1), ScanEnd::Direct, &[0, 0], &[0]),
-    (1, (2, 0, 14, 2), ScanEnd::Direct, &[1, 0], &[5]),
+/// A direct scan in the second try; one that is lent to, where an only worker publishes between the two numbers of each try, and its own scans find
+/// what it published before; one that is not, since the asked worker's read is torn; one where nobody is asked; one that gives up; and reads that are
+/// torn in each place of a try.
+static RUNS: [Run; 9] = [
+    (
+        2,
+        SECOND_TRY,
+        5,
+        &[(8, 0)],
+        2,
+        &[
+            (0, (0, 3, 7, 1), ScanEnd::Direct, &[0, 0], &[0]),
+            (1, (2, 0, 14, 2), ScanEnd::Direct, &[1, 0], &[5]),
+        ],
+    ),
+    (
+        1,
+        "bsBSSSsBSSSsBSSSsBSSSs",
+        1,
+        &[(5, 0), (10, 0), (15, 0), (20, 0)],
+        5,
+        &[
+            (0, (0, 2, 4, 1), ScanEnd::Direct, &[0], &[0]),
+            (1, (0, 7, 9, 1), ScanEnd::Direct, &[1], &[1]),
+            (2, (0, 12, 14, 1), ScanEnd::Direct, &[2], &[2]),
+            (3, (0, 17, 19, 1), ScanEnd::Direct, &[3], &[3]),
+            (4, (1, 0, 21, 2), ScanEnd::Lent { from: 0 }, &[3], &[3]),
+        ],
+    ),
+    (
+        1,
+        "bsBSSSsBSSSsBSSSsBSSStss",
+        1,
+        &[(5, 0), (10, 0), (15, 0), (20, 0)],
+        5,
+        &[(4, (1, 0, 23, 3), ScanEnd::Direct, &[4], &[4])],
+    ),
+    (
+        2,
+        "bssBSSSSSssssBSSSSSssssCTTTTTssssss",
+        1,
+        &[(8, 0), (18, 0), (28, 1)],
+        4,
+        &[(3, (2, 0, 34, 4), ScanEnd::Direct, &[2, 1], &[3])],
+    ),
+    (
+        1,
+        "btststs",
+        1,
+        &[],
+        1,
+        &[(0, (1, 0, 6, 3), ScanEnd::GaveUp, &[], &[])],
+    ),
+    (
+        2,
+        "btsssssss",
+        1,
+        &[],
+        1,
+        &[(0, (2, 0, 8, 2), ScanEnd::Direct, &[0, 0], &[0])],
+    ),
+    (
+        2,
+        "bstssssss",
+        1,
+        &[],
+        1,
+        &[(0, (2, 0, 8, 2), ScanEnd::Direct, &[0, 0], &[0])],
+    ),
+    (
+        2,
+        "bsstsssss",
+        1,
+        &[],
+        1,
+        &[(0, (2, 0, 4, 1), ScanEnd::Direct, &[0, 0], &[0])],
+    ),
+    (
+        2,
+        "bssstssss",
+        1,
+        &[],
+        1,
+        &[(0, (2, 0, 4, 1), ScanEnd::Direct, &[0, 0], &[0])],
+    ),
 ];
 
 #[test]
-fn direct_in_the_second_try(rt: HostRuntime) {
+fn runs_by_hand(rt: HostRuntime) {
     let rt = &rt;
-    let trace = traced(rt, rt.alloc(), 2, SECOND_TRY, 5);
-    publishes(rt, &trace, 1, 8);
-    answers(rt, &trace, 2, &SECOND);
-}
-
-/// How many reads of the reader stand in these events, from the Begin of this answer to its end.
-fn reads(rt: &impl Abort, text: &str, trace: &Trace, k: usize) -> usize {
-    let found = there(rt, trace.answers.get(k));
-    let mut reads = 0usize;
-    for (at, letter) in text.bytes().enumerate() {
-        if found.begin <= at && at <= found.end && matches!(letter, b's' | b't') {
-            reads = reads.wrapping_add(1);
-        }
+    for &(workers, text, by, publishes, many, answers) in &RUNS {
+        let list = events(rt, rt.alloc(), workers, text, by);
+        let trace = need(rt, run::<1, 0, 0>(rt.alloc(), workers, list.as_slice()));
+        publishes_are(rt, &trace, by, publishes);
+        answers_are(rt, &trace, many, answers);
     }
-    reads
-}
-
-/// The run of a publish between the two numbers of each try of the reader.
-const LENT: &str = "bsBSSSsBSSSsBSSSsBSSSs";
-
-/// The same with the asked worker's read torn, and one more try.
-const LENT_TORN: &str = "bsBSSSsBSSSsBSSSsBSSStss";
-
-/// The updates of the only worker make scans of their own, of which each finds those before it, and the reader's scan is lent to;
-static OF_LENT: [Expected; 5] = [
-    (0, (0, 2, 4, 1), ScanEnd::Direct, &[0], &[0]),
-    (1, (0, 7, 9, 1), ScanEnd::Direct, &[1], &[1]),
-    (2, (0, 12, 14, 1), ScanEnd::Direct, &[2], &[2]),
-    (3, (0, 17, 19, 1), ScanEnd::Direct, &[3], &[3]),
-    (4, (1, 0, 21, 2), ScanEnd::Lent { from: 0 }, &[3], &[3]),
-];
-
-/// with the asked worker's read torn, it is not.
-static OF_TORN: [Expected; 1] = [(4, (1, 0, 23, 3), ScanEnd::Direct, &[4], &[4])];
-
-/// The only worker publishes four times, and lends to the reader, which makes 5 reads. With the asked worker's read torn, it goes
-/// on to 7.
-#[test]
-fn lent_by_the_only_worker(rt: HostRuntime) {
-    let rt = &rt;
-    let trace = traced(rt, rt.alloc(), 1, LENT, 1);
-    publishes(rt, &trace, 4, 20);
-    answers(rt, &trace, 5, &OF_LENT);
-    same(rt, reads(rt, LENT, &trace, 4), 5);
-    let torn = traced(rt, rt.alloc(), 1, LENT_TORN, 1);
-    answers(rt, &torn, 5, &OF_TORN);
-    same(rt, reads(rt, LENT_TORN, &torn, 4), 7);
-}
-
-/// The answer of the reader, where nobody is asked,
-static UNASKED: [Expected; 1] = [(3, (2, 0, 34, 4), ScanEnd::Direct, &[2, 1], &[3])];
-
-#[test]
-fn nobody_is_asked(rt: HostRuntime) {
-    let rt = &rt;
-    let text = "bssBSSSSSssssBSSSSSssssCTTTTTssssss";
-    let trace = traced(rt, rt.alloc(), 2, text, 1);
-    answers(rt, &trace, 4, &UNASKED);
-}
-
-/// and where it gives up.
-static GIVEN_UP: [Expected; 1] = [(0, (1, 0, 6, 3), ScanEnd::GaveUp, &[], &[])];
-
-#[test]
-fn given_up(rt: HostRuntime) {
-    let rt = &rt;
-    let trace = traced(rt, rt.alloc(), 1, "btststs", 1);
-    answers(rt, &trace, 1, &GIVEN_UP);
-}
-
-/// A read is torn in the first try, or in the second one: the reader's answer has so many tries, and this end.
-fn is_torn(rt: &impl Abort, alloc: Global, text: &str, tries: usize, end: usize) {
-    let trace = traced(rt, alloc, 2, text, 1);
-    let turn = (2, 0, end, tries);
-    answer_is(rt, &trace, &(0, turn, ScanEnd::Direct, &[0, 0], &[0]));
-}
-
-/// Events with a read torn, the tries of the reader's answer, and its end.
-static TORN: [(&str, usize, usize); 4] = [
-    ("btsssssss", 2, 8),
-    ("bstssssss", 2, 8),
-    ("bsstsssss", 1, 4),
-    ("bssstssss", 1, 4),
-];
-
-#[test]
-fn torn_reads(rt: HostRuntime) {
-    for &(text, tries, end) in &TORN {
-        is_torn(&rt, rt.alloc(), text, tries, end);
-    }
-}
-
-/// A run of so many workers is refused so, or not.
-fn of_workers(rt: &impl Abort, alloc: Global, workers: usize, fault: Option<RunFault>) {
-    let found = run::<1, 0, 0>(alloc, workers, &[]);
-    same(rt, (workers, found.err()), (workers, fault));
-}
-
-#[test]
-fn workers_out_of_range(rt: HostRuntime) {
-    let rt = &rt;
-    of_workers(rt, rt.alloc(), 0, Some(RunFault::Geometry));
-    of_workers(rt, rt.alloc(), 32, None);
-    of_workers(rt, rt.alloc(), 33, Some(RunFault::Geometry));
-    same(rt, RunFault::Geometry.number(), 13);
 }
 
 /// An answer of a scan of two workers in its first or second try.
@@ -211,7 +205,7 @@ fn direct(rt: &impl Abort, alloc: Global, turn: Turn, vector: [u64; 2], total: u
 
 /// What is said of the run of a publish in the first try of a reader, and of a trace by hand, in which its answer ends so.
 fn says(rt: &impl Abort, alloc: Global, end: usize, vector: [u64; 2], total: u64) -> bool {
-    let list = events(rt, alloc, SECOND_TRY, 2, 5);
+    let list = events(rt, alloc, 2, SECOND_TRY, 5);
     let publish = Publish {
         at: 8,
         worker: 0,

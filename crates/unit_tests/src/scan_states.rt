@@ -44,26 +44,17 @@ fn one_worker() -> ScanState
     state
 }
 
+/// An asked worker lends. A vector below the floor is not lent: the scan tries once more, and gives up where nothing is lent then.
 #[test]
-fn an_asked_worker_lends(rt: HostRuntime) {
+fn lent_and_given_up(rt: HostRuntime) {
+    let rt = &rt;
+    let mut lends = one_worker();
+    asked(&mut lends, Some(&[1]));
+    same(rt, lends.next(), Next::Lent(0));
     let mut state = one_worker();
-    same(&rt, state.next(), Next::Ask(0));
-    asked(&mut state, Some(&[1]));
-    same(&rt, state.next(), Next::Lent(0));
-}
-
-#[test]
-fn a_vector_below_the_floor_is_not_lent(rt: HostRuntime) {
-    let mut state = one_worker();
+    same(rt, state.next(), Next::Ask(0));
     asked(&mut state, Some(&[0]));
-    same(&rt, state.next(), Next::First(0));
-}
-
-#[test]
-fn a_scan_gives_up(rt: HostRuntime) {
-    let mut state = one_worker();
-    asked(&mut state, None);
-    same(&rt, state.next(), Next::First(0));
+    same(rt, state.next(), Next::First(0));
     first(&mut state, 5);
     second(&mut state, 6);
     asked(&mut state, None);
@@ -72,5 +63,5 @@ fn a_scan_gives_up(rt: HostRuntime) {
         first: 5,
         last: 6,
     };
-    same(&rt, state.next(), gave_up);
+    same(rt, state.next(), gave_up);
 }

@@ -1,9 +1,10 @@
-//! Texts that are sent: whole, with a front, in few calls, and to writers that fail.
+//! Texts that are sent: in few calls, byte by byte, and to writers that fail.
 ghost use Rattle.std.specs.Prelude.{◌≡◌, false};
 
 use crate::asserts::{need, same, there};
-use crate::made::{ALONE, COUNTER, Family, add_child, alone, scrape};
-use expo_text::{ChildScrape, Number, Scrape, WriteFailed, send, write_after, write_to};
+use crate::limits::sized;
+use crate::made::{ALONE, scrape};
+use expo_text::{WriteFailed, write_after, write_to};
 use std::alloc::Global;
 use std::io::{self, Error, ErrorKind, Write};
 use std::process::Abort;
@@ -41,94 +42,44 @@ fn make_slow(rt: &impl Abort, alloc: Global, each: usize, calls: usize) -> Watch
     Watched::new(Slow { taken, each, calls })
 }
 
-fn small(rt: &impl Abort, alloc: Global) -> Scrape {
-    there(rt, scrape(rt, alloc, &ALONE))
-}
-
-const TEXT: &[u8] = b"# TYPE a counter\na 0\n";
-
+/// A front and a text.
 const BOTH: &[u8] = b"abc# TYPE a counter\na 0\n";
 
-/// A writer of one byte a call takes all.
+/// How many bytes a writer takes a call, how many calls it takes, what it is answered, and how many bytes it has then.
+type Case = (usize, usize, Result<(), WriteFailed>, usize);
+
+/// A front and a text go in one call, where the writer takes them, or byte by byte. Writers that fail within the front and within the text, or that
+/// take none, have all before that.
+static ENDS: [Case; 8] = [
+    (100, 1, Ok(()), 24),
+    (1, 24, Ok(()), 24),
+    (1, 0, Err(WriteFailed { sent: 0 }), 0),
+    (1, 2, Err(WriteFailed { sent: 2 }), 2),
+    (1, 3, Err(WriteFailed { sent: 3 }), 3),
+    (1, 23, Err(WriteFailed { sent: 23 }), 23),
+    (0, 9, Err(WriteFailed { sent: 0 }), 0),
+    (5, 2, Err(WriteFailed { sent: 10 }), 10),
+];
+
 #[test]
-fn byte_by_byte(rt: HostRuntime) {
+fn a_front_and_a_text(rt: HostRuntime) {
     let rt = &rt;
-    let mut out = make_slow(rt, rt.alloc(), 1, 21);
-    same(rt, write_to(&small(rt, rt.alloc()), &mut out), Ok(()));
-    same(rt, out.into_inner().taken.as_slice(), TEXT);
-}
-
-/// A front and a text go in one call, where the writer takes them.
-#[test]
-fn a_front_and_the_text(rt: HostRuntime) {
-    let rt = &rt;
-    let mut out = make_slow(rt, rt.alloc(), 100, 1);
-    let sent = write_after(b"abc", &small(rt, rt.alloc()), &mut out);
-    same(rt, sent, Ok(()));
-    same(rt, out.into_inner().taken.as_slice(), BOTH);
-}
-
-// A writer that fails after so many bytes took all before that.
-fn fails_after(rt: &impl Abort, alloc: Global, scrape: &Scrape, calls: usize) {
-    let mut out = make_slow(rt, alloc, 1, calls);
-    let failed = WriteFailed { sent: calls };
-    same(rt, write_after(b"abc", scrape, &mut out), Err(failed));
-    same(rt, failed.number(), 25);
-    let taken = out.into_inner().taken;
-    same(rt, Some(taken.as_slice()), BOTH.get(..calls));
-}
-
-/// A writer that fails within the front and within the text, which took all before that.
-#[test]
-fn failures(rt: HostRuntime) {
-    let rt = &rt;
-    let scrape = small(rt, rt.alloc());
-    fails_after(rt, rt.alloc(), &scrape, 0);
-    fails_after(rt, rt.alloc(), &scrape, 2);
-    fails_after(rt, rt.alloc(), &scrape, 3);
-    fails_after(rt, rt.alloc(), &scrape, 23);
-}
-
-/// A writer that takes no byte fails, and pieces of bytes are sent likewise.
-#[test]
-fn pieces(rt: HostRuntime) {
-    let rt = &rt;
-    let mut out = make_slow(rt, rt.alloc(), 0, 9);
-    need(rt, send(b"", &mut out));
-    same(rt, send(b"abc", &mut out), Err(WriteFailed { sent: 0 }));
-    let mut out = make_slow(rt, rt.alloc(), 2, 2);
-    same(rt, send(b"abcde", &mut out), Err(WriteFailed { sent: 4 }));
-    same(rt, out.failed(), true);
-}
-
-/// What the five children of a long text have for their last value.
-static LAST: [&str; 5] = ["a", "b", "c", "d", "e"];
-
-/// Five children, each with this text for its first 7 values.
-fn five(rt: &impl Abort, alloc: Global, long: &str) -> Vec<ChildScrape> {
-    let mut all = Vec::new(alloc);
-    for last in &LAST {
-        let texts = [long, long, long, long, long, long, long, *last];
-        add_child(rt, alloc, &mut all, &texts, Number::Counter(0));
+    let scrape = there(rt, scrape(rt, rt.alloc(), &ALONE));
+    for &(each, calls, answer, sent) in &ENDS {
+        let mut out = make_slow(rt, rt.alloc(), each, calls);
+        same(rt, write_after(b"abc", &scrape, &mut out), answer);
+        let taken = out.into_inner().taken;
+        same(rt, Some(taken.as_slice()), BOTH.get(..sent));
     }
-    all
+    same(rt, WriteFailed { sent: 0 }.number(), 25);
 }
 
-/// Eight labels.
-static EIGHT: Family = Family {
-    labels: &["a", "b", "c", "d", "e", "f", "g", "h"],
-    children: &[],
-    ..COUNTER
-};
-
-// Each of 7 values of 256 line feeds stands in 512 bytes, and a child in 3,630, so that a buffer of 16,384 bytes is sent twice by five.
+/// Four families of 4,518 bytes: a buffer of 16,384 bytes is sent twice.
 #[test]
 fn long_text_in_few_calls(rt: HostRuntime) {
     let rt = &rt;
-    let alloc = rt.alloc();
-    let all = five(rt, alloc, &need(rt, "\n".repeat(alloc, 256)));
-    let scrape = there(rt, alone(rt, alloc, &EIGHT, all));
-    let mut out = make_slow(rt, alloc, 100_000, 2);
+    let scrape = sized(rt, rt.alloc(), 4);
+    let mut out = make_slow(rt, rt.alloc(), 100_000, 2);
     same(rt, write_to(&scrape, &mut out), Ok(()));
-    same(rt, out.into_inner().taken.len(), 18_167);
+    same(rt, out.into_inner().taken.len(), 18_072);
 }

@@ -1,4 +1,4 @@
-//! Tallies: what joins, what is listed, and what is refused.
+//! A tally: what joins, what is listed, and what is refused.
 use crate::asserts::{need, same};
 use bucket_math::Bounds;
 use ledger_core::{Counter, Gauge, Histogram, Op, Tally, TallyFault};
@@ -9,180 +9,100 @@ const ID: u64 = 7;
 
 const MAX: u64 = 281_474_976_710_655;
 
-/// A tally of two counters, a histogram and a gauge, with room for four operations.
-type Four = Tally<2, 1, 1, 4>;
+/// A tally of three counters, a histogram and a gauge, with room for five operations.
+type Five = Tally<3, 1, 1, 5>;
 
-/// The counters, and one outside.
-const FIRST: Counter = Counter {
-    registry: ID,
-    slot: 0,
-};
-
-const SECOND: Counter = Counter {
-    registry: ID,
-    slot: 1,
-};
-
-const THIRD: Counter = Counter {
-    registry: ID,
-    slot: 2,
-};
-
-/// The gauge, and one outside.
-const LEVEL: Gauge = Gauge {
-    registry: ID,
-    slot: 0,
-};
-
-const NO_LEVEL: Gauge = Gauge {
-    registry: ID,
-    slot: 1,
-};
-
-/// What a tally is told.
+/// What a tally is told, of this slot.
 #[derive(Clone, Copy)]
 enum Told {
-    Inc(Counter, u64),
-    Up(Gauge, u64),
-    Down(Gauge, u64),
-    /// The registry and the slot of a histogram, and the value.
-    Observe(u64, usize, u64),
+    Inc(usize, u64),
+    Up(usize, u64),
+    Down(usize, u64),
+    Observe(usize, u64),
 }
 
 use Told::{Down, Inc, Observe, Up};
 
-/// What it is told, whether it is full before that, and what it answers.
-type Step = (Told, bool, Result<(), TallyFault>);
+/// The registry of the handle, what it is told, and what it answers.
+type Step = (u64, Told, Result<(), TallyFault>);
 
-/// The histogram of this slot of a registry, with the bounds 10 and 20.
-fn histogram(rt: &impl Abort, registry: u64, slot: usize) -> Histogram {
+/// What it answers. The histogram has the bounds 10 and 20.
+fn tell(rt: &impl Abort, tally: &mut Five, registry: u64, told: Told) -> Result<(), TallyFault> {
     let bounds = need(rt, Bounds::from_slice(&[10, 20]));
-    Histogram {
-        registry,
-        slot,
-        bounds,
-    }
-}
-
-/// What it answers.
-fn tell(rt: &impl Abort, tally: &mut Four, told: Told) -> Result<(), TallyFault> {
     match told {
-        Inc(counter, by) => tally.inc(&counter, by),
-        Up(gauge, by) => tally.up(&gauge, by),
-        Down(gauge, by) => tally.down(&gauge, by),
-        Observe(registry, slot, value) => tally.observe(&histogram(rt, registry, slot), value),
+        Inc(slot, by) => tally.inc(&Counter { registry, slot }, by),
+        Up(slot, by) => tally.up(&Gauge { registry, slot }, by),
+        Down(slot, by) => tally.down(&Gauge { registry, slot }, by),
+        Observe(slot, value) => {
+            let hist = Histogram {
+                registry,
+                slot,
+                bounds,
+            };
+            tally.observe(&hist, value)
+        }
     }
 }
 
 /// It is told all of these, one after the other.
-fn tell_all(rt: &impl Abort, tally: &mut Four, steps: &[Step]) {
-    for &(told, is_full, answer) in steps {
-        same(rt, tally.is_full(), is_full);
-        same(rt, tell(rt, tally, told), answer);
+fn tell_all(rt: &impl Abort, tally: &mut Five, steps: &[Step]) {
+    for &(registry, told, answer) in steps {
+        same(rt, tell(rt, tally, registry, told), answer);
     }
 }
 
-/// An observation of 11 by the histogram.
-const SEEN: Op = Op::Observe {
-    hist: 0,
-    place: 1,
-    value: 11,
-};
-
-/// What joins,
-static JOINING: [Step; 6] = [
-    (Inc(FIRST, 3), false, Ok(())),
-    (Up(LEVEL, 1), false, Ok(())),
-    (Observe(ID, 0, 11), false, Ok(())),
-    (Inc(FIRST, 4), false, Ok(())),
-    (Down(LEVEL, 5), false, Ok(())),
-    (Up(LEVEL, 1), true, Ok(())),
+/// What fills it, what joins, and what is refused then: what would be one more, handles of another registry, slots outside the row, and sums over
+/// 2^48 - 1, of a histogram's values too.
+static TOLD: [Step; 17] = [
+    (ID, Inc(1, 2), Ok(())),
+    (ID, Inc(0, 3), Ok(())),
+    (ID, Up(0, 1), Ok(())),
+    (ID, Observe(0, 11), Ok(())),
+    (ID, Inc(0, 4), Ok(())),
+    (ID, Down(0, 5), Ok(())),
+    (ID, Up(0, 1), Ok(())),
+    (ID, Observe(0, 11), Err(TallyFault::Full)),
+    (ID, Inc(2, 1), Err(TallyFault::Full)),
+    (8, Observe(0, 11), Err(TallyFault::WrongRegistry)),
+    (ID, Observe(1, 1), Err(TallyFault::Outside)),
+    (ID, Inc(3, 1), Err(TallyFault::Outside)),
+    (ID, Up(1, 1), Err(TallyFault::Outside)),
+    (ID, Down(1, 1), Err(TallyFault::Outside)),
+    (ID, Inc(0, MAX), Err(TallyFault::TooLarge)),
+    (ID, Observe(0, MAX), Err(TallyFault::TooLarge)),
+    (ID, Down(0, 2), Ok(())),
 ];
 
-/// and what has joined.
-static JOINED: [Op; 4] = [
+/// What is listed: one operation for each counter, for the raises of the gauge and for its falls, and for each value.
+static LISTED: [Op; 5] = [
+    Op::Inc { counter: 1, by: 2 },
     Op::Inc { counter: 0, by: 7 },
     Op::Up { gauge: 0, by: 2 },
-    SEEN,
-    Op::Down { gauge: 0, by: 5 },
+    Op::Observe {
+        hist: 0,
+        place: 1,
+        value: 11,
+    },
+    Op::Down { gauge: 0, by: 7 },
 ];
 
-/// A tally that is told all of these lists these operations.
-fn lists(rt: &impl Abort, steps: &[Step], ops: &[Op]) {
-    let mut tally = Four::new(ID);
-    tell_all(rt, &mut tally, steps);
-    same(rt, tally.ops(), ops);
-}
-
-/// What names one counter is one operation, and what raises one gauge or lowers it; observations are listed each.
-#[test]
-fn joins(rt: HostRuntime) {
-    lists(&rt, &JOINING, &JOINED);
-}
-
-/// Increments of two counters
-static BOTH: [Step; 3] = [
-    (Inc(FIRST, 1), false, Ok(())),
-    (Inc(SECOND, 2), false, Ok(())),
-    (Inc(FIRST, 4), false, Ok(())),
+/// Emptied it takes all again, up to its limits.
+static EMPTIED: [Step; 4] = [
+    (ID, Inc(2, MAX), Ok(())),
+    (ID, Observe(0, MAX), Ok(())),
+    (ID, Inc(2, 1), Err(TallyFault::TooLarge)),
+    (ID, Observe(0, 1), Err(TallyFault::TooLarge)),
 ];
 
-/// are two operations.
-static APART: [Op; 2] = [Op::Inc { counter: 0, by: 5 }, Op::Inc { counter: 1, by: 2 }];
-
-/// An increment joins that of its own counter, and not another that comes before it.
 #[test]
-fn stands_apart(rt: HostRuntime) {
-    lists(&rt, &BOTH, &APART);
-}
-
-/// What fills it, and what it answers then.
-static FILLING: [Step; 7] = [
-    (Inc(SECOND, 1), false, Ok(())),
-    (Observe(ID, 0, 11), false, Ok(())),
-    (Observe(ID, 0, 11), false, Ok(())),
-    (Observe(ID, 0, 11), false, Ok(())),
-    (Observe(ID, 0, 11), true, Err(TallyFault::Full)),
-    (Inc(FIRST, 1), true, Err(TallyFault::Full)),
-    (Inc(SECOND, 1), true, Ok(())),
-];
-
-/// What it answers when it was emptied.
-static EMPTIED: [Step; 1] = [(Observe(ID, 0, MAX), false, Ok(()))];
-
-/// Where it is full, what joins an operation is taken still, and nothing else is. Emptied it takes all again.
-#[test]
-fn fills(rt: HostRuntime) {
-    let mut tally = Four::new(ID);
-    tell_all(&rt, &mut tally, &FILLING);
-    same(&rt, TallyFault::Full.number(), 33);
+fn joins_and_refuses(rt: HostRuntime) {
+    let rt = &rt;
+    let mut tally = Five::new(ID);
+    tell_all(rt, &mut tally, &TOLD);
+    same(rt, tally.ops(), LISTED.as_slice());
+    same(rt, tally.is_full(), true);
     tally.clear();
-    same(&rt, tally.ops(), [].as_slice());
-    tell_all(&rt, &mut tally, &EMPTIED);
-}
-
-/// Handles of another registry, slots outside the row, and sums over 2^48 - 1, of a histogram's values too.
-static REFUSED: [Step; 11] = [
-    (Observe(8, 1, 1), false, Err(TallyFault::WrongRegistry)),
-    (Observe(ID, 1, 1), false, Err(TallyFault::Outside)),
-    (Inc(THIRD, 1), false, Err(TallyFault::Outside)),
-    (Up(NO_LEVEL, 1), false, Err(TallyFault::Outside)),
-    (Down(NO_LEVEL, 1), false, Err(TallyFault::Outside)),
-    (Inc(FIRST, MAX + 1), false, Err(TallyFault::TooLarge)),
-    (Inc(FIRST, MAX), false, Ok(())),
-    (Inc(FIRST, 1), false, Err(TallyFault::TooLarge)),
-    (Observe(ID, 0, MAX), false, Ok(())),
-    (Observe(ID, 0, 1), false, Err(TallyFault::TooLarge)),
-    (Observe(ID, 0, 0), false, Ok(())),
-];
-
-/// What it refuses changes nothing.
-#[test]
-fn refuses(rt: HostRuntime) {
-    let mut tally = Four::new(ID);
-    tell_all(&rt, &mut tally, &REFUSED);
-    same(&rt, tally.ops().len(), 3);
-    same(&rt, TallyFault::WrongRegistry.number(), 16);
-    same(&rt, TallyFault::Outside.number(), 11);
-    same(&rt, TallyFault::TooLarge.number(), 12);
+    tell_all(rt, &mut tally, &EMPTIED);
+    same(rt, tally.ops().len(), 2);
+    same(rt, TallyFault::Full.number(), 33);
 }

@@ -75,14 +75,20 @@ fn expect_read(rt: &impl Abort, buf: &mut [u8], answer: Option<usize>, ended: bo
     expect_one(rt, &from.into_inner(), buf.len(), got);
 }
 
+// What a writer is given, its answer, and whether that was a failure.
+static WRITES: [(&[u8], Option<usize>, bool); 5] = [
+    (b"ab", Some(2), false),
+    (b"ab", Some(0), true),
+    (b"", Some(0), false),
+    (b"ab", None, true),
+    (&[7; 10_000], Some(1), false),
+];
+
 #[test]
 fn writes(rt: HostRuntime) {
-    let rt = &rt;
-    expect_write(rt, b"ab", Some(2), false);
-    expect_write(rt, b"ab", Some(0), true);
-    expect_write(rt, b"", Some(0), false);
-    expect_write(rt, b"ab", None, true);
-    expect_write(rt, &[7; 10_000], Some(1), false);
+    for &(bytes, answer, failed) in &WRITES {
+        expect_write(&rt, bytes, answer, failed);
+    }
 }
 
 #[test]
