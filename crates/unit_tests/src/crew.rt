@@ -63,20 +63,6 @@ pub(crate) fn last_worker<const N: usize, const C: usize, const H: usize, const 
     }
 }
 
-/// Adds to a counter, which is not refused.
-pub(crate) fn inc<const N: usize, const C: usize, const H: usize, const G: usize>(
-    rt: &impl Abort,
-    board: &Board<N, C, H, G>,
-    worker: &mut Worker<N, C, H, G>,
-    slot: usize,
-    by: u64,
-)
-    requires of_board { IsWorkerOf board.now worker.old }
-    ensures of_board { IsWorkerOf board.now worker.new }
-{
-    same(rt, worker.inc(board, &counter(slot), by), Ok(()));
-}
-
 /// A scan is not refused, and finds this vector.
 pub(crate) fn finds<const N: usize, const C: usize, const H: usize, const G: usize>(
     rt: &impl Abort,

@@ -2,7 +2,7 @@
 ghost use Rattle.snapshot_update.specs.Workers.{IsWorkerOf};
 
 use crate::asserts::{need, same};
-use crate::crew::{counter, inc, last_worker};
+use crate::crew::{counter, last_worker};
 use crate::jobs::{lists, make_team, team_after, team_finds};
 use register_rule::Board;
 use snapshot_update::Worker;
@@ -85,7 +85,7 @@ fn timed(
     ensures of_board { IsWorkerOf board.now worker.new }
 {
     let start = Instant::now(rt)?;
-    inc(rt, board, worker, 0, 1);
+    need(rt, worker.inc(board, &counter(0), 1));
     start.elapsed(rt)
 }
 

@@ -1,5 +1,6 @@
 //! The tests of the crates that registries are built of, each by itself, where C does not reach: rows, tallies, watched ends, scrapes and their
-//! texts at the greatest numbers; the board, scans and updates, meetings and the pool of threads. They stand apart from what they test: a crate with tests is proved twice.
+//! texts at the greatest numbers; the board, scans beside updates, runs, and the pool of threads. They stand apart from what they test: a crate with
+//! tests is proved twice.
 #![tactic(auto)]
 
 #[cfg(test)]

@@ -7,7 +7,7 @@ use crate::asserts::{need, same, there};
 use crate::crew::{ID, counter, finds, last_reader};
 use crate::jobs::{lists, runs};
 use bucket_math::Bounds;
-use chain_law::{history_of, settle};
+use chain_law::{NotAll, history_of, settle};
 use ledger_core::Histogram;
 use register_rule::Board;
 use snapshot_scan::{Reader, Snapshot};
@@ -179,7 +179,7 @@ fn all_compare(rt: &impl Abort, ones: &[Snapshot<4, 1, 1, 0>], others: &[Snapsho
 /// The numbers of all workers in the end.
 const ALL: [u64; 4] = [10_000, 10_000, 10_000, 10_000];
 
-/// All workers settle with a reader, and the other one scans: both find all that was counted.
+/// No worker settles with a reader, and then all do, and the other one scans: both find all that was counted.
 fn settle_and_scan(
     rt: &impl Abort,
     alloc: Global,
@@ -193,6 +193,8 @@ fn settle_and_scan(
 {
     let mut settled = need(rt, Snapshot::new(alloc));
     let mut scanned = need(rt, Snapshot::new(alloc));
+    let none = settle(board, one, &mut [], &mut settled);
+    same(rt, none, Err(NotAll { missing: 0 }));
     need(rt, settle(board, one, workers, &mut settled));
     finds(rt, other.scan(board, &mut scanned), &scanned, &ALL);
     same(rt, settled.vector(), ALL.as_slice());

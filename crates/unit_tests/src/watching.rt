@@ -58,15 +58,7 @@ fn expect_one(rt: &impl Abort, by: &Counting, given: usize, answer: io::Result<u
     same(rt, answer.ok(), by.answer);
 }
 
-// A writer: what it was answered, and whether that was noted as a failure.
-fn expect_write(rt: &impl Abort, bytes: &[u8], answer: Option<usize>, failed: bool) {
-    let mut to = Watched::new(Counting::new(answer));
-    let got = to.write(bytes);
-    same(rt, (to.failed(), to.ended()), (failed, false));
-    expect_one(rt, &to.into_inner(), bytes.len(), got);
-}
-
-// A reader, likewise, and whether that was noted as the end.
+// A reader: what it was answered, and whether that was noted as the end.
 fn expect_read(rt: &impl Abort, buf: &mut [u8], answer: Option<usize>, ended: bool) {
     let mut from = Watched::new(Counting::new(answer));
     let got = from.read(buf);
@@ -75,7 +67,7 @@ fn expect_read(rt: &impl Abort, buf: &mut [u8], answer: Option<usize>, ended: bo
     expect_one(rt, &from.into_inner(), buf.len(), got);
 }
 
-// What a writer is given, its answer, and whether that was a failure.
+// What a writer is given, its answer, and whether that is noted as a failure.
 static WRITES: [(&[u8], Option<usize>, bool); 5] = [
     (b"ab", Some(2), false),
     (b"ab", Some(0), true),
@@ -87,7 +79,10 @@ static WRITES: [(&[u8], Option<usize>, bool); 5] = [
 #[test]
 fn writes(rt: HostRuntime) {
     for &(bytes, answer, failed) in &WRITES {
-        expect_write(&rt, bytes, answer, failed);
+        let mut to = Watched::new(Counting::new(answer));
+        let got = to.write(bytes);
+        same(&rt, (to.failed(), to.ended()), (failed, false));
+        expect_one(&rt, &to.into_inner(), bytes.len(), got);
     }
 }
 
@@ -101,21 +96,14 @@ fn reads(rt: HostRuntime) {
     expect_read(rt, &mut [7; 10_000], Some(1), false);
 }
 
-// A writer that is flushed, likewise.
-fn expect_flush(rt: &impl Abort, answer: Option<usize>) {
-    let mut to = Watched::new(Counting::new(answer));
-    let is_ok = to.flush().is_ok();
-    same(
-        rt,
-        (is_ok, to.failed()),
-        (answer.is_some(), answer.is_none()),
-    );
-    let by = to.into_inner();
-    same(rt, (by.calls, by.given), (1, 0));
-}
-
 #[test]
 fn flushes(rt: HostRuntime) {
-    expect_flush(&rt, Some(0));
-    expect_flush(&rt, None);
+    for answer in [Some(0), None] {
+        let mut to = Watched::new(Counting::new(answer));
+        let is_ok = to.flush().is_ok();
+        let found = (is_ok, to.failed());
+        same(&rt, found, (answer.is_some(), answer.is_none()));
+        let by = to.into_inner();
+        same(&rt, (by.calls, by.given), (1, 0));
+    }
 }
