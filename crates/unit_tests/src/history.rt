@@ -5,7 +5,14 @@ use snapshot_scan::Snapshot;
 use std::alloc::Global;
 use std::process::Abort;
 
-/// Snapshots of two workers that have published so often, whose rows have no words.
+/// A snapshot of two workers that have published so often, whose rows have no words.
+fn snapshot(rt: &impl Abort, alloc: Global, numbers: [u64; 2]) -> Snapshot<2, 0, 0, 0> {
+    let mut out = need(rt, Snapshot::new(alloc));
+    out.set(&numbers, &[]);
+    out
+}
+
+/// Snapshots with these vectors.
 pub(crate) fn snapshots(
     rt: &impl Abort,
     alloc: Global,
@@ -13,9 +20,7 @@ pub(crate) fn snapshots(
 ) -> Vec<Snapshot<2, 0, 0, 0>> {
     let mut taken = Vec::new(alloc);
     for vector in vectors {
-        let mut out = need(rt, Snapshot::new(alloc));
-        out.set(vector, &[]);
-        need(rt, taken.push(out));
+        need(rt, taken.push(snapshot(rt, alloc, *vector)));
     }
     taken
 }

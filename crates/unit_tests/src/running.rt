@@ -127,7 +127,7 @@ type Counted = (u64, u64, u64, u64, u64);
 /// What is counted in a snapshot.
 fn found_in(out: &Snapshot<4, 1, 1, 0>) -> Counted {
     let totals = out.hist(0);
-    let [first, _, third, ..] = totals.buckets;
+    let [first, _second, third, ..] = totals.buckets;
     (out.counter(0), first, third, totals.sum, totals.count)
 }
 
@@ -141,38 +141,39 @@ fn told_by(out: &Snapshot<4, 1, 1, 0>) -> Counted {
 }
 
 /// What a reader was given is something, each of its scans is accounted for, all are of one moment each, and one history passes through them.
-fn is_accounted(rt: &impl Abort, alloc: Global, watch: &Watch) {
-    let taken = watch.taken.as_slice();
+fn are_accounted(rt: &impl Abort, alloc: Global, taken: &[Snapshot<4, 1, 1, 0>], given_up: usize) {
     same(rt, taken.is_empty(), false);
-    same(rt, taken.len().wrapping_add(watch.given_up), 1_000);
+    same(rt, taken.len().wrapping_add(given_up), 1_000);
     for out in taken {
         same(rt, found_in(out), told_by(out));
     }
     let _history = need(rt, history_of(alloc, taken));
 }
 
-/// Whether no number of the one is above that of the other.
-fn is_below(rt: &impl Abort, one: &[u64], other: &[u64]) -> bool {
-    let mut below = true;
+/// Whether one of two vectors is above the other at no place.
+fn compare(rt: &impl Abort, one: &[u64], other: &[u64]) -> bool {
+    let (mut below, mut above) = (true, true);
     for k in 0..one.len() {
-        below = below && one[k] <= *there(rt, other.get(k));
+        let (x, y) = (one[k], *there(rt, other.get(k)));
+        below = below && x <= y;
+        above = above && y <= x;
     }
-    below
+    below || above
 }
 
-/// Any two snapshots of these readers compare, place by place: from the least ones on, the next one of the reader whose snapshot is less.
+/// A vector and any of these snapshots compare,
+fn compares_with_all(rt: &impl Abort, one: &[u64], others: &[Snapshot<4, 1, 1, 0>]) {
+    for out in others {
+        let other = out.vector();
+        let found = compare(rt, one, other);
+        same(rt, (one, other, found), (one, other, true));
+    }
+}
+
+/// and so do any two snapshots of the readers.
 fn all_compare(rt: &impl Abort, ones: &[Snapshot<4, 1, 1, 0>], others: &[Snapshot<4, 1, 1, 0>]) {
-    let mut i = 0usize;
-    let mut j = 0usize;
-    while i < ones.len() && j < others.len() {
-        let (one, other) = (ones[i].vector(), others[j].vector());
-        let (below, above) = (is_below(rt, one, other), is_below(rt, other, one));
-        same(rt, (one, other, below || above), (one, other, true));
-        if below {
-            i += 1;
-        } else {
-            j += 1;
-        }
+    for out in ones {
+        compares_with_all(rt, out.vector(), others);
     }
 }
 
@@ -215,15 +216,20 @@ fn end_well(
     requires left { IsReaderOf board.now left.reader }
     requires right { IsReaderOf board.now right.reader }
 {
-    is_accounted(rt, alloc, &left);
-    is_accounted(rt, alloc, &right);
-    all_compare(rt, left.taken.as_slice(), right.taken.as_slice());
-    let Watch { mut reader, .. } = left;
+    let Watch {
+        reader: mut one,
+        taken: ones,
+        given_up: of_one,
+    } = left;
     let Watch {
         reader: mut other,
-        ..
+        taken: others,
+        given_up: of_other,
     } = right;
-    settle_and_scan(rt, alloc, board, workers, &mut reader, &mut other);
+    are_accounted(rt, alloc, ones.as_slice(), of_one);
+    are_accounted(rt, alloc, others.as_slice(), of_other);
+    all_compare(rt, ones.as_slice(), others.as_slice());
+    settle_and_scan(rt, alloc, board, workers, &mut one, &mut other);
 }
 
 /// The workers count while two readers scan, to the end.
