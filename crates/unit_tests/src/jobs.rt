@@ -113,37 +113,7 @@ pub(crate) fn runs<P: Gate + Sync, const N: usize, const C: usize, const H: usiz
     run_pool(rt, alloc, board, workers, jobs, gate)
 }
 
-/// What a pool leaves of a team, and the fault that it tells: then the workers are gone.
-pub(crate) fn ran<P: Gate + Sync, const N: usize, const C: usize, const H: usize, const G: usize>(
-    rt: &(impl Threads + Wait + Abort),
-    alloc: Global,
-    team: Team<N, C, H, G>,
-    jobs: &[Vec<Job>],
-    gate: &P,
-) -> (Team<N, C, H, G>, Option<PoolFault>)
-    requires of_board { All (IsWorkerOf team.board) team.workers.items × IsReaderOf team.board team.reader }
-    ensures of_board { All (IsWorkerOf result.0.board) result.0.workers.items × IsReaderOf result.0.board result.0.reader }
-{
-    let Team {
-        board,
-        workers,
-        reader,
-        out,
-    } = team;
-    let (workers, fault) = match runs(rt, alloc, &board, workers, jobs, gate) {
-        Ok(workers) => (workers, None),
-        Err(fault) => (Vec::new(alloc), Some(fault)),
-    };
-    let team = Team {
-        board,
-        workers,
-        reader,
-        out,
-    };
-    (team, fault)
-}
-
-/// A team whose workers have done these jobs in a pool, with the fault that the pool tells.
+/// A team whose workers have done these jobs in a pool; or the fault that the pool tells, where the workers are gone.
 pub(crate) fn team_after<
     P: Gate + Sync,
     const N: usize,
@@ -159,6 +129,21 @@ pub(crate) fn team_after<
     requires geometry { IsGeometry N C H G }
     ensures of_board { All (IsWorkerOf result.0.board) result.0.workers.items × IsReaderOf result.0.board result.0.reader }
 {
-    let team = make_team(rt, alloc);
-    ran(rt, alloc, team, jobs.as_slice(), gate)
+    let Team {
+        board,
+        workers,
+        reader,
+        out,
+    } = make_team(rt, alloc);
+    let (workers, fault) = match runs(rt, alloc, &board, workers, jobs.as_slice(), gate) {
+        Ok(workers) => (workers, None),
+        Err(fault) => (Vec::new(alloc), Some(fault)),
+    };
+    let team = Team {
+        board,
+        workers,
+        reader,
+        out,
+    };
+    (team, fault)
 }
