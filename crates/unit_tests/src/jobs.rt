@@ -24,9 +24,10 @@ pub(crate) fn job(line: u64, slot: usize, by: u64) -> Job {
 }
 
 /// A worker's list: this so many times.
-fn repeated(rt: &impl Abort, alloc: Global, what: JobOp, many: u64) -> Vec<Job> {
+fn repeated(rt: &impl Abort, alloc: Global, what: &JobOp, many: u64) -> Vec<Job> {
     let mut jobs = Vec::new(alloc);
     for line in 0..many {
+        let what = *what;
         need(rt, jobs.push(Job { line, what }));
     }
     jobs
@@ -36,7 +37,7 @@ fn repeated(rt: &impl Abort, alloc: Global, what: JobOp, many: u64) -> Vec<Job> 
 pub(crate) fn lists(rt: &impl Abort, alloc: Global, whats: &[JobOp], many: u64) -> Vec<Vec<Job>> {
     let mut lists = Vec::new(alloc);
     for what in whats {
-        need(rt, lists.push(repeated(rt, alloc, *what, many)));
+        need(rt, lists.push(repeated(rt, alloc, what, many)));
     }
     lists
 }

@@ -258,15 +258,25 @@ fn count_and_end(
     );
 }
 
+/// The histogram, of three bounds.
+fn histogram(rt: &impl Abort) -> Histogram {
+    let bounds = need(rt, Bounds::from_slice(&[5, 10, 15]));
+    let (registry, slot) = (ID, 0);
+    Histogram {
+        registry,
+        slot,
+        bounds,
+    }
+}
+
 /// The lists of four workers, of 10,000 jobs each: two increment the counter, one observes 3, and one 12.
 fn four_lists(rt: &impl Abort, alloc: Global) -> Vec<Vec<Job>> {
-    let hist = Histogram {
-        registry: ID,
-        slot: 0,
-        bounds: need(rt, Bounds::from_slice(&[5, 10, 15])),
-    };
-    let one = JobOp::Inc(counter(0), 1);
-    let whats = [one, one, JobOp::Observe(hist, 3), JobOp::Observe(hist, 12)];
+    let whats = [
+        JobOp::Inc(counter(0), 1),
+        JobOp::Inc(counter(0), 1),
+        JobOp::Observe(histogram(rt), 3),
+        JobOp::Observe(histogram(rt), 12),
+    ];
     lists(rt, alloc, &whats, 10_000)
 }
 

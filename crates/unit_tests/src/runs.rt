@@ -1,7 +1,7 @@
 //! Runs of the snapshot algorithm's core, over rows of one counter.
 use crate::asserts::{need, same, there};
 use ledger_core::Op;
-use snapshot_core::{Answer, Event, Publish, ScanEnd, Trace, is_outcome, run};
+use snapshot_core::{Answer, Event, Publish, RunFault, ScanEnd, Trace, is_outcome, run};
 use std::alloc::Global;
 use std::process::Abort;
 
@@ -187,6 +187,20 @@ fn runs_by_hand(rt: HostRuntime) {
         publishes_are(rt, &trace, by, publishes);
         answers_are(rt, &trace, many, answers);
     }
+}
+
+/// How many workers a run is of, and whether it is refused.
+static WORKERS: [(usize, bool); 3] = [(0, true), (32, false), (33, true)];
+
+#[test]
+fn workers_out_of_range(rt: HostRuntime) {
+    let rt = &rt;
+    for &(workers, is_refused) in &WORKERS {
+        let found = run::<1, 0, 0>(rt.alloc(), workers, &[]);
+        let wanted = is_refused.then_some(RunFault::Geometry);
+        same(rt, (workers, found.err()), (workers, wanted));
+    }
+    same(rt, RunFault::Geometry.number(), 13);
 }
 
 /// An answer of a scan of two workers in its first or second try.

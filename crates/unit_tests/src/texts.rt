@@ -7,6 +7,20 @@ use metric_desc::Kind;
 use std::alloc::Global;
 use std::process::Abort;
 
+/// The text of this family is this front and this value, in memory of its length.
+fn prints(rt: &impl Abort, alloc: Global, family: &Family<'_>, front: &[u8], value: &[u8]) {
+    let scrape = there(rt, scrape(rt, alloc, &[*family]));
+    let mut expected = Vec::new(alloc);
+    for piece in [front, value, b"\n"] {
+        need(rt, expected.extend_from_slice(piece));
+    }
+    let text = need(rt, render(&scrape));
+    same(rt, text.as_slice(), expected.as_slice());
+    same(rt, text.capacity(), expected.len());
+    same(rt, text_len(&scrape), expected.len());
+    same(rt, scrape.vector(), [3, 0].as_slice());
+}
+
 /// Digits, a number, and how it is shown.
 static GREATEST: [(u8, u64, &[u8]); 3] = [
     (0, u64::MAX, b"18446744073709551615"),
@@ -14,47 +28,31 @@ static GREATEST: [(u8, u64, &[u8]); 3] = [
     (9, u64::MAX, b"18446744073.709551615"),
 ];
 
-/// The text of a counter of so many digits that is at this number, and of a gauge that is so far below zero, in memory of its length.
-fn prints(rt: &impl Abort, alloc: Global, digits: u8, number: u64, value: &[u8]) {
-    let counter = Family {
+/// A counter of so many digits shows this total so,
+fn counts(rt: &impl Abort, alloc: Global, digits: u8, total: u64, value: &[u8]) {
+    let family = Family {
         digits,
-        children: &[(&[], Number::Counter(number))],
+        children: &[(&[], Number::Counter(total))],
         ..COUNTER
     };
-    let down = GaugeTotals {
-        up: 0,
-        down: number,
-    };
-    let gauge = Family {
+    prints(rt, alloc, &family, b"# TYPE a counter\na ", value);
+}
+
+/// and a gauge that is so far below zero.
+fn falls(rt: &impl Abort, alloc: Global, digits: u8, down: u64, value: &[u8]) {
+    let family = Family {
         kind: Kind::Gauge,
-        name: "b",
         digits,
-        children: &[(&[], Number::Gauge(down))],
+        children: &[(&[], Number::Gauge(GaugeTotals { up: 0, down }))],
         ..COUNTER
     };
-    let scrape = there(rt, scrape(rt, alloc, &[counter, gauge]));
-    let mut expected = Vec::new(alloc);
-    for piece in [
-        b"# TYPE a counter\na ",
-        value,
-        b"\n# TYPE b gauge\nb -",
-        value,
-        b"\n",
-    ] {
-        need(rt, expected.extend_from_slice(piece));
-    }
-    let text = need(rt, render(&scrape));
-    same(rt, text.as_slice(), expected.as_slice());
-    same(
-        rt,
-        (text.capacity(), text_len(&scrape)),
-        (expected.len(), expected.len()),
-    );
+    prints(rt, alloc, &family, b"# TYPE a gauge\na -", value);
 }
 
 #[test]
 fn the_greatest_numbers(rt: HostRuntime) {
     for (digits, number, value) in &GREATEST {
-        prints(&rt, rt.alloc(), *digits, *number, value);
+        counts(&rt, rt.alloc(), *digits, *number, value);
+        falls(&rt, rt.alloc(), *digits, *number, value);
     }
 }
