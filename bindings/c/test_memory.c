@@ -78,11 +78,6 @@ static uint32_t scrape(void) {
     return dirgwako_scrape(&registry, reply, sizeof reply, &len);
 }
 
-static uint32_t read(void) {
-    size_t len = 0;
-    return dirgwako_read(&registry, 0, after, DIRGWAKO_MOST_NUMBERS, &len);
-}
-
 /* The reply where there is no memory for the scrape. */
 static const char BUSY[] = "HTTP/1.1 503 Service Unavailable\r\nContent-Type: text/plain; charset=utf-8\r\nContent-Length: 20\r\n"
                            "Connection: close\r\n\r\nService Unavailable\n";
@@ -178,9 +173,22 @@ static void counting(void) {
     none("boards", dirgwako_boards(&registry, &kept), 0);
     none("board of", dirgwako_board_of(&registry, far.registry, &kept), 0);
     none("kept", dirgwako_kept(&registry, 0, &kept), 0);
+    none("read", dirgwako_read(&registry, 0, after, DIRGWAKO_MOST_NUMBERS, &len), 0);
     none("read kept", dirgwako_read_kept(&registry, 0, 0, before, DIRGWAKO_MOST_NUMBERS, &len), 0);
     none("window", dirgwako_set_window(&registry, 2), 0);
     heap.left = -1;
+}
+
+/* The first read takes memory. */
+static void first_read(void) {
+    dirgwako_registry own = {0, 0};
+    size_t len = 0;
+    is("a registry", dirgwako_registry_new(&own, 4), 0);
+    heap.left = 0;
+    is("a first read", dirgwako_read(&own, 0, after, DIRGWAKO_MOST_NUMBERS, &len), 6);
+    heap.left = -1;
+    is("a first read", dirgwako_read(&own, 0, after, DIRGWAKO_MOST_NUMBERS, &len), 0);
+    is("free", dirgwako_registry_free(&own), 0);
 }
 
 int main(void) {
@@ -205,7 +213,7 @@ int main(void) {
     is("reply", refuse("reply", reply_once, 0) > 0, 1);
     heap.is_one = 0;
     is("a reply is 503", busy > 0, 1);
-    is("read", refuse("read", read, 0) > 0, 1);
+    first_read();
     boards_come();
     counting();
     is("what the further board has", scraped(&registry, "gauges{code=\"further\",route=\"\"}"), 1);
