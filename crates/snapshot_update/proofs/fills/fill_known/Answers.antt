@@ -1,8 +1,8 @@
-use Rattle.std.proofs.Common.{rules, ◌∙◌, ⊎_elim, sym}
+use Rattle.std.proofs.Common.{◌∙◌, ⊎_elim}
 use Rattle.ledger_core.specs.Ops.{width}
 use Rattle.segment_layout.specs.Layout.{depth}
 use Rattle.snapshot_update.specs.BufferImages.{target_of}
-use Rattle.snapshot_update.proofs.Filling.{listed_or, all_filled, start_stays}
+use Rattle.snapshot_update.proofs.Filling.{listed_or, all_filled}
 use Rattle.snapshot_update.proofs.fills.fill_known.Goals as goal
 
 pub returns-clause-hidden : goal.returns-clause-hidden
@@ -18,37 +18,3 @@ returns-clause-hidden g c =
     (listed_or c.args.recent.now.items j)))
     (listed_or c.args.late.now.items j)))
     (listed_or c.args.touched.now.items j))
-
-pub fill_changes-requires-2 : goal.fill_changes-requires-2
-fill_changes-requires-2 g c = (
-  search rules,
-  (
-    search rules,
-    (
-      c.fill_changes.ensures.fills.stores,
-      (
-        c.requires.start ∙ sym (start_stays c.args.board.now g.row.N (width g.row.C g.row.H g.row.G) c.fill_changes.new.hidden
-            c.args.seat.now c.fill_changes.new.seat c.fill_changes.ensures.fills),
-        search rules,
-      ),
-    ),
-  ),
-)
-
-pub fill_changes-requires-3 : goal.fill_changes-requires-3
-fill_changes-requires-3 g c = (
-  search rules,
-  (
-    search rules,
-    (
-      c.fill_changes-2.ensures.fills.stores,
-      (
-        c.requires.start ∙ sym (start_stays c.args.board.now g.row.N (width g.row.C g.row.H g.row.G) c.fill_changes.new.hidden
-            c.args.seat.now c.fill_changes.new.seat c.fill_changes.ensures.fills)
-            ∙ sym (start_stays c.args.board.now g.row.N (width g.row.C g.row.H g.row.G) c.fill_changes-2.new.hidden
-            c.fill_changes.new.seat c.fill_changes-2.new.seat c.fill_changes-2.ensures.fills),
-        search rules,
-      ),
-    ),
-  ),
-)
