@@ -25,15 +25,3 @@ returns-clause-filled g c = λ j h.
     (get_or_default items at.0 0 j at.1 ∙ at.2)
     (c.loop-item.invariant.filled at.0 (let lt = at.1 in omega (arith, lt)))
 
-pub fill_item-requires : goal.fill_item-requires
-fill_item-requires g c = (
-  search rules,
-  (
-    c.loop-item.invariant.fills.stores,
-    (
-      c.requires.start ∙ sym (start_stays c.args.board.now g.row.N (width g.row.C g.row.H g.row.G) c.loop-item.hidden
-          c.args.seat.now c.loop-item.seat c.loop-item.invariant.fills),
-      search rules,
-    ),
-  ),
-)

@@ -5,40 +5,6 @@ use Rattle.snapshot_update.specs.BufferImages.{target_of}
 use Rattle.snapshot_update.proofs.Filling.{kept_set, start_stays}
 use Rattle.snapshot_update.proofs.fills.fill_pair.Goals as goal
 
-pub fill_item-requires : goal.fill_item-requires
-fill_item-requires g c = (
-  search rules,
-  (
-    c.requires.stores,
-    (
-      c.requires.start,
-      (
-        (let lt = c.requires.inside.0 in let e = c.requires.lengths.0 in omega (arith, lt, e), c.requires.lengths.0),
-        λ _. c.row_word-value.ensures.bounded,
-      ),
-    ),
-  ),
-)
-
-pub fill_item-requires-2 : goal.fill_item-requires-2
-fill_item-requires-2 g c =
-    let lt = c.requires.inside.0 in let at = c.requires.inside.1 in let e = c.requires.lengths.0 in
-    let d = c.fill_item.auto.hidden in
-    let w : ℕ = width g.row.C g.row.H g.row.G in (
-      search rules,
-      (
-        c.fill_item.ensures.fills.stores,
-        (
-          c.requires.start ∙ sym (start_stays c.args.board.now g.row.N w c.fill_item.new.hidden
-              c.args.seat.now c.fill_item.new.seat c.fill_item.ensures.fills),
-          (
-            (omega (arith, lt, at, e, d), d ∙ e),
-            λ low. absurd (omega (arith, low, at)),
-          ),
-        ),
-      ),
-    )
-
 pub returns-clause-row : goal.returns-clause-row
 returns-clause-row g c =
     let lt = c.requires.inside.0 in let at = c.requires.inside.1 in let e = c.requires.lengths.0 in

@@ -34,15 +34,3 @@ returns-clause-noted g c = let f = c.loop-item-test.false in let e = c.loop-item
     let same : c.loop-item.item ≡ c.args.to = omega (arith, f, e, r) in
     subst (λ (n : ℕ). SoFar n c.loop-item.recent c.args.shown.now (target_of c.args.version.now)) same c.loop-item.invariant.noted
 
-pub fill_item-requires : goal.fill_item-requires
-fill_item-requires g c = (
-  search rules,
-  (
-    c.loop-item.invariant.fills.stores,
-    (
-      c.hidden_start-start.ensures ∙ sym (start_stays c.args.board.now g.row.N (width g.row.C g.row.H g.row.G) c.loop-item.hidden
-          c.args.seat.now c.loop-item.seat c.loop-item.invariant.fills),
-      search rules,
-    ),
-  ),
-)

@@ -36,29 +36,6 @@ loop-word-preserved g c =
       kept = λ j same. pair.kept j (is.kept j same);
     }
 
-pub fill_pair-requires : goal.fill_pair-requires
-fill_pair-requires g c =
-    let is = c.loop-word.invariant in let t = c.loop-word-test.true in let place = c.item_at.ensures.place in (
-      search rules,
-      (
-        search rules,
-        (
-          is.fills.stores,
-          (
-            c.requires.start ∙ sym (start_stays c.args.board.now g.row.N (width g.row.C g.row.H g.row.G) c.loop-word.hidden
-                c.args.seat.now c.loop-word.seat is.fills),
-            (
-              c.requires.few,
-              (
-                (is.deep, c.requires.lengths.1, c.requires.lengths.2),
-                (is.inside c.loop-word.word-index t, omega (arith, place)),
-              ),
-            ),
-          ),
-        ),
-      ),
-    )
-
 pub returns-clause-rows : goal.returns-clause-rows
 returns-clause-rows g c = λ j h.
     let words = c.as_slice-words.result.now in
