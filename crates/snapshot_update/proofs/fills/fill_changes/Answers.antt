@@ -1,10 +1,9 @@
-use Rattle.std.proofs.Common.{rules, ◌≡◌, ℕ, List, get_or, sym, ◌∙◌, subst, arith}
+use Rattle.std.proofs.Common.{◌≡◌, ℕ, List, get_or, sym, ◌∙◌, subst, arith}
 use Rattle.std.specs.List.{Contains}
 use Rattle.std.proofs.lemmas.List.{get_or_default}
 use Rattle.std.proofs.lemmas.List.Elements.{Contains-get_or}
-use Rattle.ledger_core.specs.Ops.{width}
 use Rattle.snapshot_update.specs.BufferImages.{target_of}
-use Rattle.snapshot_update.proofs.Filling.{not_filled, start_stays}
+use Rattle.snapshot_update.proofs.Filling.{not_filled}
 use Rattle.snapshot_update.proofs.fills.fill_changes.Goals as goal
 
 pub loop-item-init : goal.loop-item-init
@@ -24,4 +23,3 @@ returns-clause-filled g c = λ j h.
     subst (λ (i : ℕ). get_or c.loop-item.hidden i 0 ≡ get_or (target_of c.args.version.now) i 0)
     (get_or_default items at.0 0 j at.1 ∙ at.2)
     (c.loop-item.invariant.filled at.0 (let lt = at.1 in omega (arith, lt)))
-

@@ -1,8 +1,8 @@
-use Rattle.std.proofs.Common.{rules, ◌≡◌, ◌≢◌, ◌+◌, ℕ, List, length, get_or, sym, ap, ◌∙◌, subst, arith}
+use Rattle.std.proofs.Common.{◌≡◌, ◌≢◌, ◌+◌, ℕ, List, length, get_or, ap, ◌∙◌, subst, arith}
 use Rattle.std.proofs.Common.{get_or-set_same, get_or-set_other}
 use Rattle.ledger_core.specs.Ops.{width}
 use Rattle.snapshot_update.specs.BufferImages.{target_of}
-use Rattle.snapshot_update.proofs.Filling.{kept_set, start_stays}
+use Rattle.snapshot_update.proofs.Filling.{kept_set}
 use Rattle.snapshot_update.proofs.fills.fill_pair.Goals as goal
 
 pub returns-clause-row : goal.returns-clause-row

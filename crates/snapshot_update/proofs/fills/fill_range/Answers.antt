@@ -1,9 +1,8 @@
-use Rattle.std.proofs.Common.{rules, ◌≡◌, ℕ, ◌<◌, ◌+◌, length, sym, ◌∙◌, subst, arith}
-use Rattle.ledger_core.specs.Ops.{width}
+use Rattle.std.proofs.Common.{◌≡◌, ℕ, ◌<◌, ◌+◌, length, sym, ◌∙◌, subst, arith}
 use Rattle.snapshot_scan.specs.ChangedItems.{ChangedView}
 use Rattle.snapshot_update.specs.BufferImages.{target_of}
 use Rattle.snapshot_update.specs.Noting.{SoFar}
-use Rattle.snapshot_update.proofs.Filling.{filled_on, start_stays, so_far_same, so_far_noted, below_set}
+use Rattle.snapshot_update.proofs.Filling.{filled_on, so_far_same, so_far_noted, below_set}
 use Rattle.snapshot_update.proofs.fills.fill_range.Goals as goal
 use Rattle.snapshot_update.proofs.fills.fill_range.Goals.{then-shown-item, else-shown-item}
 
@@ -33,4 +32,3 @@ pub returns-clause-noted : goal.returns-clause-noted
 returns-clause-noted g c = let f = c.loop-item-test.false in let e = c.loop-item.auto.item-end in let r = c.requires.inside.0 in
     let same : c.loop-item.item ≡ c.args.to = omega (arith, f, e, r) in
     subst (λ (n : ℕ). SoFar n c.loop-item.recent c.args.shown.now (target_of c.args.version.now)) same c.loop-item.invariant.noted
-

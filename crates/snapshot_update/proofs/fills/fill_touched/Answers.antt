@@ -1,10 +1,10 @@
-use Rattle.std.proofs.Common.{rules, ◌≡◌, ◌+◌, ℕ, List, get_or, sym, ◌∙◌, subst, arith, below_more}
+use Rattle.std.proofs.Common.{◌≡◌, ◌+◌, ℕ, List, get_or, sym, ◌∙◌, subst, arith, below_more}
 use Rattle.std.specs.List.{Contains}
 use Rattle.std.proofs.lemmas.List.{get_or_default}
 use Rattle.std.proofs.lemmas.List.Elements.{Contains-get_or}
 use Rattle.ledger_core.specs.Ops.{width}
 use Rattle.snapshot_update.specs.BufferImages.{target_of}
-use Rattle.snapshot_update.proofs.Filling.{not_filled, filled_on, start_stays}
+use Rattle.snapshot_update.proofs.Filling.{not_filled, filled_on}
 use Rattle.snapshot_update.proofs.fills.fill_touched.Goals as goal
 
 pub loop-word-init : goal.loop-word-init
