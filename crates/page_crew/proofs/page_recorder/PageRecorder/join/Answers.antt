@@ -72,3 +72,22 @@ loop-more-preserved g c =
           (feed_then c.loop-more.self.more c.is_empty.new.self c.pop_known.new.self c.is_empty.ensures.looked.0 c.pop_known.ensures.ring);
       few = omega (arith, few, longer, after);
     }
+
+-- a look at the ring takes nothing out of it
+pub invariant_of-self-then-is_empty : goal.invariant_of-self-then-is_empty
+invariant_of-self-then-is_empty g c = let is = c.loop-more.self in record {
+  ids = is.ids;
+  low = is.low;
+  few = is.few;
+  room = is.room;
+  taken = subst (λ l. AreTaken l is.recorders.items) (sym c.is_empty.ensures.looked.1) is.taken;
+}
+
+pub invariant_of-self-then-id-self : goal.invariant_of-self-then-id-self
+invariant_of-self-then-id-self g c = let is = c.loop-more.self in record {
+  ids = is.ids;
+  low = is.low;
+  few = is.few;
+  room = is.room;
+  taken = subst (λ l. AreTaken l is.recorders.items) (sym c.is_empty.ensures.looked.1) is.taken;
+}
