@@ -2,8 +2,8 @@
 use crate::asserts::{once_more, same};
 use crate::crew::{ID, why_shut};
 use dirgwako::{
-    BoardFault, Counter, CounterFamily, Crew, FamilyRefusal, Gauge, GaugeFamily, MetricRefusal,
-    NewFault, OpenFault, Registers, Registrar, Registry, scrape_text,
+    BoardFault, Counter, CounterFamily, Crew, Gauge, GaugeFamily, MetricRefusal, NewFault,
+    OpenFault, Registers, Registrar, Registry, scrape_text,
 };
 use std::alloc::Global;
 use std::process::Abort;
@@ -24,21 +24,16 @@ fn new_team(rt: &impl Abort, alloc: Global) -> Result<Team, Fail> {
     }
 }
 
-/// Registers a family of counters by two labels.
-fn register<S: Registers>(metrics: &mut Registrar<S>) -> Result<CounterFamily, FamilyRefusal> {
-    metrics.counter_family("c", "A help.", &["a", "b"])
-}
-
-/// The same, and again where there was no memory: nothing stands of what was refused.
+/// A family of counters by two labels, which is registered again where there was no memory: nothing stands of what was refused.
 fn family<S: Registers>(
     rt: &impl Abort,
     metrics: &mut Registrar<S>,
 ) -> Result<CounterFamily, Fail> {
-    match register(metrics) {
+    match metrics.counter_family("c", "A help.", &["a", "b"]) {
         Ok(family) => Ok(family),
         Err(fault) => {
             same(rt, fault.number(), 6);
-            once_more(register(metrics))
+            once_more(metrics.counter_family("c", "A help.", &["a", "b"]))
         }
     }
 }
@@ -116,31 +111,22 @@ fn is_used(rt: &(impl Abort + Wait + AllocGlobal), team: &mut Team) -> Result<bo
     }
 }
 
-/// A crew is opened and used, or else it is spent.
-fn is_used_or_spent(rt: &(impl Abort + Wait + AllocGlobal), team: &mut Team) -> Result<bool, Fail> {
-    let used = is_used(rt, team)?;
+/// Makes a crew, and tells whether its registry was used.
+fn use_one(rt: &(impl Abort + Wait + AllocGlobal)) -> Result<bool, Fail> {
+    let mut team = new_team(rt, rt.alloc())?;
+    let used = is_used(rt, &mut team)?;
     if !used {
-        same(rt, why_shut(team, 2), Some(OpenFault::Opened));
+        same(rt, why_shut(&mut team, 2), Some(OpenFault::Opened));
     }
     Ok(used)
 }
 
-/// Makes a crew, and tells whether its registry was used.
-fn use_one(rt: &(impl Abort + Wait + AllocGlobal)) -> Result<bool, Fail> {
-    let mut team = new_team(rt, rt.alloc())?;
-    is_used_or_spent(rt, &mut team)
-}
-
-/// A crew, and another one where it is spent.
-fn use_team(rt: &(impl Abort + Wait + AllocGlobal)) -> Result<(), Fail> {
+/// A crew, a family with a child, a metric without labels, and a scrape's text; and another crew where the first one is spent.
+#[test]
+fn growth_front(rt: HostRuntime) -> Result<(), Fail> {
+    let rt = &rt;
     if !use_one(rt)? {
         same(rt, use_one(rt)?, true);
     }
     Ok(())
-}
-
-/// A crew, a family with a child, a metric without labels, and a scrape's text.
-#[test]
-fn growth_front(rt: HostRuntime) -> Result<(), Fail> {
-    use_team(&rt)
 }

@@ -1,11 +1,9 @@
 //! The library for services by its public calls, where C does not reach: crews of one board, registries and pages behind a lock, servers. Its
 //! clauses hand on those of the calls below, so what is tried here is what none of them says: that each call succeeds, at its limits too, what a
 //! scrape prints, and how a server goes on behind clients that are not as they should be.
-mod alone;
 mod behind;
 mod busy;
 mod clients;
-mod kept;
 mod limits;
 mod memory;
 mod next;
@@ -15,8 +13,6 @@ mod serving;
 mod setting;
 mod settled;
 mod sharing;
-mod shown;
-mod stream;
 mod tallies;
 mod told;
 
@@ -47,49 +43,22 @@ fn opened<'a>(rt: &impl Abort, team: &'a mut Team, window: usize) -> Names<'a> {
     registry
 }
 
-/// The registry of a crew that is opened here, and its last recorder.
-fn opened_to_count<'a>(rt: &impl Abort, team: &'a mut Team) -> (Names<'a>, Counts<'a>) {
-    let (registry, mut recorders, _scanners) = need(rt, team.open(64));
-    (registry, there(rt, recorders.pop()))
-}
-
-/// What is tried of a crew that is opened.
-#[derive(Clone, Copy)]
-enum Tried {
-    Children,
-    EachKind,
-    Setting,
-    Tally,
-    TallyRefused,
-}
-
-/// It is tried of this registry and recorder.
-fn try_of(
-    rt: &(impl Wait + Abort + AllocGlobal),
-    tried: Tried,
-    registry: &Names<'_>,
-    recorder: &mut Counts<'_>,
-) {
-    match tried {
-        Tried::Children => refused::shows_children(rt, registry),
-        Tried::EachKind => shown::counts_and_shows(rt, registry, recorder),
-        Tried::Setting => setting::sets_and_shows(rt, registry, recorder),
-        Tried::Tally => tallies::publishes(rt, registry, recorder),
-        Tried::TallyRefused => tallies::refuses(rt, recorder),
-    }
-}
-
-/// It is tried of a crew. The recorder is the second worker, and has published so many versions then.
-fn try_out(rt: &(impl Wait + Abort + AllocGlobal), tried: Tried, versions: u64) {
-    let mut team = new_team(rt, rt.alloc(), ID);
-    let (registry, mut recorder) = opened_to_count(rt, &mut team);
-    try_of(rt, tried, &registry, &mut recorder);
-    let worker = recorder.into_worker();
-    same(rt, (worker.index(), worker.number()), (1, versions));
-}
-
 /// Makes a scrape, whose text is this.
 fn prints(rt: &(impl Wait + Abort), registry: &Names<'_>, expected: &str) {
     let text = need(rt, scrape_text(rt, registry));
     same(rt, text.as_slice(), expected.as_bytes());
+}
+
+/// A gauge is set, tallies are published, and children and metrics are refused, of one crew. The recorder is its second worker.
+#[test]
+fn a_registry_and_a_recorder(rt: HostRuntime) {
+    let rt = &rt;
+    let mut team = new_team(rt, rt.alloc(), ID);
+    let (registry, mut recorders, _scanners) = need(rt, team.open(64));
+    let mut recorder = there(rt, recorders.pop());
+    setting::sets(rt, &registry, &mut recorder);
+    tallies::publishes(rt, &registry, &mut recorder);
+    refused::shows_children(rt, &registry, &mut recorder);
+    let worker = recorder.into_worker();
+    same(rt, (worker.index(), worker.number()), (1, 7));
 }

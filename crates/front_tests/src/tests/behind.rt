@@ -12,21 +12,17 @@ use std::sync::Wait;
 /// The id of the first board of the page of id 6.
 const FIRST: u64 = 6 * 128;
 
-/// A page over boards of `C` counters behind its lock, and its one recorder.
-fn locked<const C: usize>(
-    rt: &impl Abort,
-    alloc: Global,
-) -> (PageRegistry<1, C, 0, 0>, PageRecorder<1, C, 0, 0>) {
+/// A page over boards of three counters behind its lock.
+type Pages = PageRegistry<1, 3, 0, 0>;
+
+/// One, and its one recorder.
+fn locked(rt: &impl Abort, alloc: Global) -> (Pages, PageRecorder<1, 3, 0, 0>) {
     let (crew, mut recorders) = need(rt, PageCrew::new(alloc, 6, 64));
-    (PageRegistry::lock(crew), there(rt, recorders.pop()))
+    (Pages::lock(crew), there(rt, recorders.pop()))
 }
 
 /// A scrape's text is this.
-fn shows<const C: usize>(
-    rt: &(impl Wait + Abort),
-    pages: &PageRegistry<1, C, 0, 0>,
-    expected: &str,
-) {
+fn shows(rt: &(impl Wait + Abort), pages: &Pages, expected: &str) {
     let text = need(rt, scrape_text(rt, pages));
     same(rt, text.as_slice(), expected.as_bytes());
 }
@@ -35,7 +31,7 @@ fn shows<const C: usize>(
 #[test]
 fn groups_behind_a_lock(rt: HostRuntime) {
     let (rt, alloc) = (&rt, rt.alloc());
-    let (pages, mut recorder) = locked::<2>(rt, alloc);
+    let (pages, mut recorder) = locked(rt, alloc);
     same(rt, pages.add_board(rt), Ok(1));
     let mut metrics = Registrar::shared_page(rt, &pages);
     let a = counter(rt, &mut metrics, "a");
@@ -57,7 +53,7 @@ fn groups_behind_a_lock(rt: HostRuntime) {
 }
 
 /// How many scrapes each of two boards keeps.
-fn kept<const C: usize>(rt: &impl Abort, crew: &PageCrew<1, C, 0, 0>) -> (usize, usize) {
+fn kept(rt: &impl Abort, crew: &PageCrew<1, 3, 0, 0>) -> (usize, usize) {
     let boards = crew.page().boards();
     let of = |number: usize| there(rt, boards.get(number)).kept().len();
     (of(0), of(1))
@@ -67,7 +63,7 @@ fn kept<const C: usize>(rt: &impl Abort, crew: &PageCrew<1, C, 0, 0>) -> (usize,
 #[test]
 fn a_window_behind_a_lock(rt: HostRuntime) {
     let (rt, alloc) = (&rt, rt.alloc());
-    let (pages, _recorder) = locked::<2>(rt, alloc);
+    let (pages, _recorder) = locked(rt, alloc);
     for window in [0, 1_025] {
         same(rt, pages.set_window(rt, window), Err(BadWindow));
     }
@@ -85,11 +81,11 @@ fn a_window_behind_a_lock(rt: HostRuntime) {
     same(rt, kept(rt, &crew), (1, 1));
 }
 
-/// A name that is taken (19), a gauge where boards have none (22), and the 257th child of a family (46), which is on the second of two boards.
+/// A name that is taken (19), a gauge where boards have none (22), and the 257th child of a family (46), which is on the last of 86 boards.
 #[test]
 fn refused_behind_a_lock(rt: HostRuntime) {
     let (rt, alloc) = (&rt, rt.alloc());
-    let (pages, _recorder) = locked::<200>(rt, alloc);
+    let (pages, _recorder) = locked(rt, alloc);
     let mut metrics = Registrar::shared_page(rt, &pages);
     let family = counters(rt, &mut metrics, "a", &["l"]);
     let clash = FamilyRefusal::Register(RegisterFault::Clash { with: 0 });
@@ -109,14 +105,14 @@ fn refused_behind_a_lock(rt: HostRuntime) {
     let many = ChildRefusal::Child(PageChildFault::TooManyChildren);
     same(rt, ask_child(&mut metrics, &family, &["y"]), Err(many));
     let crew = pages.into_crew();
-    same(rt, (crew.first(), crew.page().boards().len()), (FIRST, 2));
+    same(rt, (crew.first(), crew.page().boards().len()), (FIRST, 86));
 }
 
-/// The 97th board (44), and a child for which no board is left (22).
+/// The 97th board (44).
 #[test]
 fn boards_behind_a_lock(rt: HostRuntime) {
     let (rt, alloc) = (&rt, rt.alloc());
-    let (pages, _recorder) = locked::<0>(rt, alloc);
+    let (pages, _recorder) = locked(rt, alloc);
     for number in 1..96usize {
         same(rt, pages.add_board(rt), Ok(number));
     }

@@ -4,8 +4,8 @@ use crate::asserts::{need, same};
 use crate::crew::{ID, why_shut};
 use crate::naming::counter;
 use dirgwako::{
-    BoardFault, CountFault, Counter, Crew, NewFault, NoBoard, OpenFault, PageCrew, PageCrewFault,
-    Recorder, Registrar, Registry, Scanner, Snapshot, Source, counter_total, scrape_text,
+    BoardFault, Counter, Crew, NewFault, NoBoard, OpenFault, PageCrew, PageCrewFault, Recorder,
+    Registrar, Registry, Snapshot, Source, counter_total, scrape_text,
 };
 use std::alloc::Global;
 use std::process::Abort;
@@ -30,29 +30,23 @@ fn crews_that_are_refused(rt: HostRuntime) {
     same(rt, page, Some(PageCrewFault::Board(NoBoard::Geometry)));
 }
 
-/// The crew is not opened for this reason, which has this number.
-fn is_shut(rt: &impl Abort, team: &mut Team, window: usize, fault: OpenFault, number: u8) {
-    same(rt, why_shut(team, window), Some(fault));
+/// The crew is opened with neither of these windows, for this reason, which has this number.
+fn is_shut(rt: &impl Abort, team: &mut Team, windows: [usize; 2], fault: OpenFault, number: u8) {
+    for window in windows {
+        same(rt, why_shut(team, window), Some(fault));
+    }
     same(rt, fault.number(), number);
 }
 
-/// The crew is opened, with the longest window.
-fn opens(rt: &impl Abort, team: &mut Team) {
-    let (_registry, recorders, scanners) = need(rt, team.open(1_024));
-    same(rt, (recorders.len(), scanners.len()), (2, 1));
-}
-
-/// A bad window leaves the crew as it is; an open crew is not opened again.
+/// A bad window leaves the crew as it is; with the longest one it is opened, but not again.
 #[test]
 fn opened_once(rt: HostRuntime) {
     let rt = &rt;
     let mut team = need(rt, Team::new(rt.alloc(), ID, 2));
     let window = OpenFault::Registry(NewFault::BadWindow);
-    is_shut(rt, &mut team, 0, window, 31);
-    is_shut(rt, &mut team, 1_025, window, 31);
-    opens(rt, &mut team);
-    is_shut(rt, &mut team, 1_024, OpenFault::Opened, 32);
-    is_shut(rt, &mut team, 0, OpenFault::Opened, 32);
+    is_shut(rt, &mut team, [0, 1_025], window, 31);
+    same(rt, why_shut(&mut team, 1_024), None);
+    is_shut(rt, &mut team, [0, 1_024], OpenFault::Opened, 32);
 }
 
 /// Each recorder has its place, and counts 1 on the counter `a`.
@@ -69,21 +63,6 @@ fn count<const N: usize, const C: usize, const H: usize, const G: usize>(
     counter
 }
 
-/// Each scanner finds so much of this counter.
-fn scan(
-    rt: &impl Abort,
-    alloc: Global,
-    scanners: &mut [Scanner<'_, 32, 256, 32, 64>],
-    counter: Counter,
-    found: u64,
-) {
-    let mut out = need(rt, Snapshot::new(alloc));
-    for scanner in scanners.iter_mut() {
-        need(rt, scanner.scan(&mut out));
-        same(rt, counter_total(&out, &counter), Some(found));
-    }
-}
-
 #[test]
 fn the_greatest_crew(rt: HostRuntime) {
     let rt = &rt;
@@ -91,18 +70,14 @@ fn the_greatest_crew(rt: HostRuntime) {
     let (registry, mut recorders, mut scanners) = need(rt, crew.open(1));
     same(rt, (recorders.len(), scanners.len()), (32, 3));
     let counter = count(rt, &registry, &mut recorders);
-    scan(rt, rt.alloc(), &mut scanners, counter, 32);
+    let mut out = need(rt, Snapshot::new(rt.alloc()));
+    for scanner in scanners.iter_mut() {
+        need(rt, scanner.scan(&mut out));
+        same(rt, counter_total(&out, &counter), Some(32));
+    }
 }
 
-/// A registry shows that 1 was counted, and keeps the last two of its scrapes.
-fn keeps_two<R: Abort + Wait>(rt: &R, registry: Registry<'_, 1, 1, 0, 0>) {
-    let text = need(rt, scrape_text(rt, &registry));
-    same(rt, text.as_slice(), b"# TYPE a counter\na 1\n".as_slice());
-    need(rt, registry.scrape(rt));
-    need(rt, registry.scrape(rt));
-    same(rt, registry.into_state().kept().len(), 2);
-}
-
+/// It keeps the last two of its scrapes.
 #[test]
 fn the_least_crew(rt: HostRuntime) {
     let rt = &rt;
@@ -110,5 +85,9 @@ fn the_least_crew(rt: HostRuntime) {
     let (registry, mut recorders, scanners) = need(rt, crew.open(2));
     same(rt, (recorders.len(), scanners.len()), (1, 0));
     count(rt, &registry, &mut recorders);
-    keeps_two(rt, registry);
+    let text = need(rt, scrape_text(rt, &registry));
+    same(rt, text.as_slice(), b"# TYPE a counter\na 1\n".as_slice());
+    need(rt, registry.scrape(rt));
+    need(rt, registry.scrape(rt));
+    same(rt, registry.into_state().kept().len(), 2);
 }

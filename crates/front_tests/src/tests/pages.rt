@@ -2,7 +2,7 @@
 use crate::asserts::{need, same, there};
 use crate::naming::counter;
 use dirgwako::{
-    CountFault, Counter, PageCrew, PublishFault, Registrar, Snapshot, counter_total, inc,
+    CountFault, Counter, PageCrew, PublishFault, Registrar, Snapshot, counter_total, inc, render,
     settle_board,
 };
 
@@ -13,7 +13,7 @@ type OneEach = PageCrew<1, 1, 0, 0>;
 const FIRST: u64 = 7 * 128;
 
 /// A list by handles of two boards is no version (47), nor one by those of no board of the page (16), and a list of nothing is none; exact totals are
-/// those of a board, and of no board there are none.
+/// those of a board, and of no board there are none. A board that is scraped alone shows its own families.
 #[test]
 fn lists_and_totals(rt: HostRuntime) {
     let (rt, alloc) = (&rt, rt.alloc());
@@ -45,4 +45,8 @@ fn lists_and_totals(rt: HostRuntime) {
         none.map_err(|fault| (fault.missing, fault.number())),
         Err((0, 18)),
     );
+    let mut crew = metrics.into_inner().crew;
+    assert!(rt; crew.page().boards().len() == 2);
+    let text = need(rt, render(&need(rt, crew.scrape_board(1))));
+    same(rt, text.as_slice(), b"# TYPE b counter\nb 6\n".as_slice());
 }

@@ -1,7 +1,7 @@
 //! Connections that a server answers, whoever comes between them.
-use super::clients::{MISSING, OK_A, Step, connect, play};
+use super::clients::{GET, MISSING, OK_A, Step, are, connect, play};
 use super::{Names, new_team, opened};
-use crate::asserts::{need, same, there};
+use crate::asserts::{need, same};
 use crate::crew::ID;
 use crate::naming::counter;
 use dirgwako::{
@@ -16,21 +16,15 @@ use std::sync::atomic::{AtomicBool, Ordering};
 use std::thread::{Threads, join, sleep};
 use std::time::{Clock, Duration, Instant};
 
-const GET: &[u8] = b"GET /metrics HTTP/1.1\r\nHost: h\r\n\r\n";
-
 /// One that says nothing and stays; one that sends half a head and is gone; one that asks, and goes away within its reply, which
 /// resets the connection. Behind each of them comes a good one.
-const STRANGE: [Step; 11] = [
-    Step::Open,
+const STRANGE: [Step; 7] = [
+    Step::Stay,
     Step::Ask(GET),
-    Step::Read(0),
-    Step::Open,
-    Step::Send(2, b"GET /metrics HTTP/1.1\r\nHo"),
-    Step::Close(2),
+    Step::Read,
+    Step::Go(b"GET /metrics HTTP/1.1\r\nHo"),
     Step::Ask(GET),
-    Step::Open,
-    Step::Send(4, GET),
-    Step::Leave(4),
+    Step::Reset(GET),
     Step::Ask(GET),
 ];
 
@@ -46,9 +40,8 @@ fn drip<T>(rt: &T, port: u16)
 where
     T: Abort + Clock + Net<Listener = TcpListener, Stream = TcpStream>,
 {
-    let stream = connect(rt, port);
+    let stream = connect(rt, port, b"GET /metrics HTTP/1.1\r\nX: ");
     let mut stream = &stream;
-    need(rt, stream.write_all(b"GET /metrics HTTP/1.1\r\nX: "));
     for _byte in 0..400 {
         if stream.write_all(b"x").is_err() {
             return;
@@ -56,25 +49,6 @@ where
         sleep(rt, Duration::from_millis(50));
     }
     rt.panic("it was not cut off")
-}
-
-/// The replies to all of them.
-fn visit<T>(rt: &T, alloc: Global, port: u16) -> (Vec<Vec<u8>>, Vec<Vec<u8>>)
-where
-    T: Abort + Clock + Net<Listener = TcpListener, Stream = TcpStream>,
-{
-    let first = play(rt, alloc, port, &STRANGE);
-    drip(rt, port);
-    (first, play(rt, alloc, port, &GOOD))
-}
-
-/// The replies are these, whole.
-fn are(rt: &impl Abort, replies: &[Vec<u8>], whole: &[&[u8]]) {
-    same(rt, replies.len(), whole.len());
-    for (number, bytes) in whole.iter().enumerate() {
-        let reply = there(rt, replies.get(number));
-        same(rt, reply.as_slice(), *bytes);
-    }
 }
 
 /// Serves all of them, with a patience of a second. Only the ones that say nothing or not enough within it are not replied to.
@@ -87,7 +61,11 @@ where
     let (answered, got) = join(
         rt,
         || serve(rt, &listener, registry, Duration::from_secs(1), 10),
-        || visit(rt, alloc, port),
+        || {
+            let first = play(rt, alloc, port, &STRANGE);
+            drip(rt, port);
+            (first, play(rt, alloc, port, &GOOD))
+        },
     );
     let (first, last) = got;
     are(rt, &first, &[OK_A, b"", OK_A, OK_A]);
@@ -126,7 +104,7 @@ where
 
 /// One that says nothing and stays, and good ones beside it.
 const BESIDE: [Step; 4] = [
-    Step::Open,
+    Step::Stay,
     Step::Ask(GET),
     Step::Ask(GET),
     Step::Ask(b"GET / HTTP/1.0\r\n\r\n"),
@@ -183,69 +161,16 @@ where
     same(rt, need(rt, end), Answered { replies, faults });
 }
 
-/// How a server is visited.
-#[derive(Clone, Copy)]
-enum Visited {
-    ByAnybody,
-    InVain,
-    WithoutPatience,
-    BySilence,
-}
-
-/// A server is visited so.
-fn visits<T>(rt: &T, visited: Visited, registry: &Names<'_>)
-where
-    T: Abort
-        + AllocGlobal
-        + Clock
-        + Threads
-        + Wait
-        + Sync
-        + Net<Listener = TcpListener, Stream = TcpStream>,
-{
-    counter(rt, &mut Registrar::new(rt, registry), "a");
-    match visited {
-        Visited::ByAnybody => serves(rt, rt.alloc(), registry),
-        Visited::InVain => listens_in_vain(rt, rt.alloc(), registry),
-        Visited::WithoutPatience => has_no_patience(rt, registry),
-        Visited::BySilence => serves_beside(rt, rt.alloc(), registry),
-    }
-}
-
-/// A server of a registry with the counter `a` is visited so.
-fn is_visited<T>(rt: &T, visited: Visited)
-where
-    T: Abort
-        + AllocGlobal
-        + Clock
-        + Threads
-        + Wait
-        + Sync
-        + Net<Listener = TcpListener, Stream = TcpStream>,
-{
-    let mut team = new_team(rt, rt.alloc(), ID);
-    let registry = opened(rt, &mut team, 64);
-    visits(rt, visited, &registry);
-}
-
+/// The server asks a listener again that does not wait, and after 64 failures in a row, some six seconds, it ends. A client that says nothing is let
+/// go when the play ends: its thread is not waited for.
 #[test]
 fn whoever_comes(rt: HostRuntime) {
-    is_visited(&rt, Visited::ByAnybody);
-}
-
-/// The server asks a listener again that does not wait, and after 64 failures in a row, some six seconds, it ends.
-#[test]
-fn a_listener_that_fails(rt: HostRuntime) {
-    is_visited(&rt, Visited::InVain);
-}
-
-#[test]
-fn no_patience(rt: HostRuntime) {
-    is_visited(&rt, Visited::WithoutPatience);
-}
-
-/// The client that says nothing is let go when the play ends: its thread is not waited for.
-#[test]
-fn beside_a_silent_client(rt: HostRuntime) {
-    is_visited(&rt, Visited::BySilence);
+    let rt = &rt;
+    let mut team = new_team(rt, rt.alloc(), ID);
+    let registry = opened(rt, &mut team, 64);
+    counter(rt, &mut Registrar::new(rt, &registry), "a");
+    has_no_patience(rt, &registry);
+    serves(rt, rt.alloc(), &registry);
+    serves_beside(rt, rt.alloc(), &registry);
+    listens_in_vain(rt, rt.alloc(), &registry);
 }

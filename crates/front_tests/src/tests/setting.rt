@@ -1,19 +1,24 @@
 //! Gauges that are set, on a board and on a page, timers, and bounds of sizes.
-use super::{Counts, Names, Tried, prints, try_out};
+use super::{Counts, Names, prints};
 use crate::asserts::{need, same, there};
 use crate::crew::ID;
 use crate::naming::gauge;
 use dirgwako::{
     Bounds, CountFault, Gauge, GaugeCell, PageCrew, Registrar, Timer, bytes_default, text_of,
 };
-use std::alloc::Global;
 use std::process::Abort;
 use std::sync::Wait;
 use std::thread::sleep;
 use std::time::Duration;
 
-/// A gauge is set to values in turn, and then within a list.
-fn sets(rt: &impl Abort, recorder: &mut Counts<'_>, gauge: Gauge) {
+/// A gauge is set to values in turn, and then within a list: a scrape shows the last one. It is refused a value that is too far away (12), which
+/// leaves it, and another board's gauge is refused (16).
+pub(super) fn sets(
+    rt: &(impl Wait + Abort + AllocGlobal),
+    registry: &Names<'_>,
+    recorder: &mut Counts<'_>,
+) {
+    let gauge = gauge(rt, &mut Registrar::new(rt, registry), "g");
     let mut cell = GaugeCell::new(gauge);
     for value in [5, 5, -3, i64::MIN] {
         let _ = cell.set(recorder, value);
@@ -23,16 +28,6 @@ fn sets(rt: &impl Abort, recorder: &mut Counts<'_>, gauge: Gauge) {
     need(rt, recorder.publish(&[change, change]));
     cell.told(11);
     need(rt, cell.set(recorder, 12));
-}
-
-/// What a gauge shows that was set, and by what it is refused: a value that is too far away (12), which leaves it, and another board's gauge (16).
-pub(super) fn sets_and_shows(
-    rt: &(impl Wait + Abort + AllocGlobal),
-    registry: &Names<'_>,
-    recorder: &mut Counts<'_>,
-) {
-    let gauge = gauge(rt, &mut Registrar::new(rt, registry), "g");
-    sets(rt, recorder, gauge);
     prints(rt, registry, "# TYPE g gauge\ng 12\n");
     let (registry, slot) = (ID + 1, 0);
     let mut other = GaugeCell::new(Gauge { registry, slot });
@@ -41,13 +36,10 @@ pub(super) fn sets_and_shows(
     same(rt, other.value(), 0);
 }
 
-#[test]
-fn a_gauge_is_set(rt: HostRuntime) {
-    try_out(&rt, Tried::Setting, 5);
-}
-
 /// The same on a page.
-fn sets_on_page(rt: &impl Abort, alloc: Global) {
+#[test]
+fn a_gauge_of_a_page_is_set(rt: HostRuntime) {
+    let (rt, alloc) = (&rt, rt.alloc());
     let (crew, mut recorders) = need(rt, PageCrew::<1, 0, 0, 1>::new(alloc, 3, 1));
     let mut metrics = Registrar::page(alloc, crew);
     let mut cell = GaugeCell::new(gauge(rt, &mut metrics, "g"));
@@ -58,11 +50,6 @@ fn sets_on_page(rt: &impl Abort, alloc: Global) {
         Ok((text, _)) => same(rt, text.as_slice(), b"# TYPE g gauge\ng -7\n".as_slice()),
         Err(_) => rt.panic("no text"),
     }
-}
-
-#[test]
-fn a_gauge_of_a_page_is_set(rt: HostRuntime) {
-    sets_on_page(&rt, rt.alloc());
 }
 
 /// A timer tells microseconds, and sizes have bounds.

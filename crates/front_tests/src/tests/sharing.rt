@@ -1,5 +1,5 @@
 //! A page that threads share behind its lock: some register, one scrapes, and one serves, while it is counted.
-use super::clients::{Step, play};
+use super::clients::{GET, Step, play};
 use crate::asserts::{need, same, there};
 use crate::naming::{child, counters};
 use dirgwako::{
@@ -47,8 +47,6 @@ fn scrapes(rt: &(impl Wait + Abort), pages: &Pages) {
     }
 }
 
-const GET: [Step; 1] = [Step::Ask(b"GET /metrics HTTP/1.1\r\nHost: h\r\n\r\n")];
-
 /// The page is served, and the reply has its text.
 fn serves<T>(rt: &T, alloc: Global, pages: &Pages)
 where
@@ -59,7 +57,7 @@ where
     let (answered, got) = join(
         rt,
         || serve(rt, &listener, pages, Duration::from_secs(5), 1),
-        || play(rt, alloc, port, &GET),
+        || play(rt, alloc, port, &[Step::Ask(GET)]),
     );
     let (replies, faults) = (1, 0);
     same(rt, need(rt, answered), Answered { replies, faults });
@@ -69,20 +67,6 @@ where
 }
 
 /// A thread registers and counts while another scrapes, and then the page is served.
-fn shares<T>(rt: &T, pages: &Pages, recorder: &mut Counts)
-where
-    T: Abort
-        + AllocGlobal
-        + Clock
-        + Threads
-        + Wait
-        + Sync
-        + Net<Listener = TcpListener, Stream = TcpStream>,
-{
-    join(rt, || registers(rt, pages, recorder), || scrapes(rt, pages));
-    serves(rt, rt.alloc(), pages);
-}
-
 #[test]
 fn threads_share_a_page(rt: HostRuntime) {
     let (rt, alloc) = (&rt, rt.alloc());
@@ -90,7 +74,12 @@ fn threads_share_a_page(rt: HostRuntime) {
     let mut recorder = there(rt, recorders.pop());
     let pages = Pages::lock(crew);
     same(rt, pages.id(), 640);
-    shares(rt, &pages, &mut recorder);
+    join(
+        rt,
+        || registers(rt, &pages, &mut recorder),
+        || scrapes(rt, &pages),
+    );
+    serves(rt, alloc, &pages);
     same(rt, need(rt, pages.add_board(rt)), CHILDREN);
     let crew = pages.into_crew();
     same(rt, crew.page().boards().len(), CHILDREN + 1);
