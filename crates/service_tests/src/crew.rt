@@ -3,7 +3,7 @@ ghost use Rattle.std.specs.Prelude.{All, IfOk};
 ghost use Rattle.snapshot_scan.specs.Readers.{IsReaderOf};
 ghost use Rattle.snapshot_update.specs.Workers.{IsWorkerOf};
 
-use crate::asserts::{done, need, same};
+use crate::asserts::{done, need};
 use crate::helpers::desc;
 use ledger_core::Counter;
 use metric_desc::Kind;
@@ -107,14 +107,4 @@ pub(crate) fn made_counter<const N: usize, const C: usize, const H: usize, const
         (family, Handle::Counter(counter)) => (family, counter),
         _ => rt.panic("no counter"),
     }
-}
-
-/// What stood behind the lock in the end: so many kept scrapes, and so many entries of the journal.
-pub(crate) fn ends_with(rt: &impl Abort, registry: Two<'_>, kept: usize, entries: usize) {
-    let state = registry.into_state();
-    same(
-        rt,
-        (state.kept().len(), state.journal().len()),
-        (kept, entries),
-    );
 }

@@ -1,14 +1,11 @@
 //! Registries of one thread, and what is registered.
-use crate::asserts::{done, need};
 use crate::crew::ID;
-use crate::seen::Looked;
 use ledger_core::{Counter, Gauge};
 use metric_desc::{Desc, Kind};
 use metric_names::{HelpText, LabelName, LabelValue, MetricName};
-use registry_state::{FamilyId, Handle, RegistryState};
+use registry_state::{Handle, RegistryState};
 use snapshot_scan::PlainSource;
 use std::alloc::Global;
-use std::process::Abort;
 use std::test::Fail;
 
 /// A source of one thread, of a counter, a histogram and a gauge.
@@ -19,14 +16,6 @@ pub(crate) type Over<S> = RegistryState<S, 1, 1, 1, 1>;
 
 /// A registry of one thread.
 pub(crate) type Plain = Over<OnePlain>;
-
-/// A registry that keeps so many scrapes.
-pub(crate) fn plain(rt: &impl Abort, alloc: Global, window: usize) -> Plain {
-    match Plain::new(alloc, need(rt, OnePlain::new(alloc)), ID, window) {
-        Ok(registry) => registry,
-        Err(_) => rt.panic("no registry"),
-    }
-}
 
 /// The handle of the first counter.
 pub(crate) fn first_counter() -> Handle {
@@ -62,29 +51,4 @@ pub(crate) fn values(alloc: Global, texts: &[&str]) -> Result<Vec<LabelValue>, F
         values.push(LabelValue::read(alloc, text)?)?;
     }
     Ok(values)
-}
-
-/// Registers a family of this kind and name, with these labels.
-pub(crate) fn family<L: Looked>(
-    rt: &impl Abort,
-    registry: &mut L,
-    alloc: Global,
-    kind: Kind,
-    name: &str,
-    labels: &[&str],
-) -> FamilyId {
-    let desc = done(rt, desc(alloc, kind, name, labels));
-    need(rt, registry.register(desc))
-}
-
-/// Registers a family without labels, and makes its one child.
-pub(crate) fn made(
-    rt: &impl Abort,
-    registry: &mut Plain,
-    alloc: Global,
-    kind: Kind,
-    name: &str,
-) -> Handle {
-    let family = family(rt, registry, alloc, kind, name, &[]);
-    need(rt, registry.child(family, &[]))
 }

@@ -1,5 +1,3 @@
-mod contended;
-mod ends;
 mod failing;
 mod hands_on;
 mod kept;

@@ -7,7 +7,7 @@ use crate::asserts::{once_more, same};
 use crate::crew::{ID, last_reader, last_worker};
 use crate::helpers::{OnePlain, Plain, desc, first_counter, first_gauge};
 use crate::seen::{Behind, Look, Looked, Moment, Seen};
-use expo_text::{Scrape, render};
+use expo_text::render;
 use ledger_core::{Counter, Gauge, GaugeTotals, HistTotals, Op};
 use metric_desc::Kind;
 use metric_names::NoMemory;
@@ -69,39 +69,6 @@ fn child<G: Looked>(
     once_more(grown.child(family, &look.values))
 }
 
-/// The text of a scrape is this.
-fn prints<G: Looked>(
-    rt: &impl Abort,
-    grown: &mut G,
-    look: &mut Look,
-    scrape: &Scrape,
-    expected: &str,
-) -> Result<(), Fail> {
-    let before = look.at(grown);
-    let text = match render(scrape) {
-        Ok(text) => text,
-        Err(NoMemory) => {
-            same(rt, look.at(grown), before);
-            once_more(render(scrape))?
-        }
-    };
-    same(rt, text.as_slice(), expected.as_bytes());
-    Ok(())
-}
-
-/// Makes a scrape.
-fn scraped<G: Looked>(rt: &impl Abort, grown: &mut G, look: &mut Look) -> Result<Scrape, Fail> {
-    let before = look.at(grown);
-    match grown.scrape() {
-        Ok(scrape) => Ok(scrape),
-        Err(ScrapeFault::NoMemory) => {
-            same(rt, look.at(grown), before);
-            once_more(grown.scrape())
-        }
-        Err(fault) => Err(fault.into()),
-    }
-}
-
 /// Makes a scrape, and its text, which is this.
 fn scrape<G: Looked>(
     rt: &impl Abort,
@@ -109,8 +76,25 @@ fn scrape<G: Looked>(
     look: &mut Look,
     expected: &str,
 ) -> Result<(), Fail> {
-    let scrape = scraped(rt, grown, look)?;
-    prints(rt, grown, look, &scrape, expected)
+    let before = look.at(grown);
+    let scrape = match grown.scrape() {
+        Ok(scrape) => scrape,
+        Err(ScrapeFault::NoMemory) => {
+            same(rt, look.at(grown), before);
+            once_more(grown.scrape())?
+        }
+        Err(fault) => return Err(fault.into()),
+    };
+    let before = look.at(grown);
+    let text = match render(&scrape) {
+        Ok(text) => text,
+        Err(NoMemory) => {
+            same(rt, look.at(grown), before);
+            once_more(render(&scrape))?
+        }
+    };
+    same(rt, text.as_slice(), expected.as_bytes());
+    Ok(())
 }
 
 /// What is counted when the first family has its child.
@@ -230,27 +214,17 @@ fn seen(kept: usize, scrapes: [Option<Moment>; 2]) -> Seen {
 }
 
 /// A registry of one thread grows, and counts.
-fn grow_and_count(
-    rt: &impl Abort,
-    alloc: Global,
-    registry: &mut Plain,
-    look: &mut Look,
-) -> Result<(), Fail> {
-    grow_counter(rt, alloc, registry, look)?;
-    registry.apply(&FIRST)?;
-    grow_gauge(rt, alloc, registry, look)?;
-    registry.apply(&SECOND)?;
-    scrape(rt, registry, look, SHOWN)?;
-    let expected = seen(2, [Some(BETWEEN), Some(AT_LAST)]);
-    same(rt, look.at(registry), expected);
-    Ok(())
-}
-
-/// One of one thread.
 pub(super) fn grow_alone(rt: &impl Abort, alloc: Global) -> Result<(), Fail> {
     let mut look = Look::new(alloc)?;
     let mut registry = new_state(rt, alloc)?;
-    grow_and_count(rt, alloc, &mut registry, &mut look)
+    grow_counter(rt, alloc, &mut registry, &mut look)?;
+    registry.apply(&FIRST)?;
+    grow_gauge(rt, alloc, &mut registry, &mut look)?;
+    registry.apply(&SECOND)?;
+    scrape(rt, &mut registry, &mut look, SHOWN)?;
+    let expected = seen(2, [Some(BETWEEN), Some(AT_LAST)]);
+    same(rt, look.at(&mut registry), expected);
+    Ok(())
 }
 
 /// A registry behind its lock, that would keep four scrapes.
@@ -271,24 +245,6 @@ fn new_registry<'b>(
     }
 }
 
-/// It grows by both families, while a worker counts.
-fn grow_both<R: Wait + Abort>(
-    rt: &R,
-    alloc: Global,
-    board: &OneBoard,
-    worker: &mut Worker<1, 1, 1, 1>,
-    grown: &mut Behind<'_, '_, R>,
-    look: &mut Look,
-) -> Result<(), Fail>
-    requires { IsWorkerOf board.now worker.old }
-{
-    grow_counter(rt, alloc, grown, look)?;
-    worker.apply(board, &FIRST)?;
-    grow_gauge(rt, alloc, grown, look)?;
-    worker.apply(board, &SECOND)?;
-    Ok(())
-}
-
 /// It grows as one of one thread does, while a worker counts.
 fn grow_behind(
     rt: &(impl Wait + Abort),
@@ -301,35 +257,15 @@ fn grow_behind(
     requires { IsWorkerOf board.now worker.old }
 {
     let mut grown = Behind { rt, registry };
-    grow_both(rt, alloc, board, worker, &mut grown, look)?;
+    grow_counter(rt, alloc, &mut grown, look)?;
+    worker.apply(board, &FIRST)?;
+    grow_gauge(rt, alloc, &mut grown, look)?;
+    worker.apply(board, &SECOND)?;
     scrape(rt, &mut grown, look, SHOWN)
 }
 
-/// What stood behind the lock in the end is what one of one thread has, with all three scrapes: none was kept that was refused.
-fn ends_so(rt: &impl Abort, registry: Registry<'_, 1, 1, 1, 1>, look: &mut Look) {
-    let expected = seen(3, [Some(AT_FIRST), Some(BETWEEN)]);
-    same(rt, look.at(&mut registry.into_state()), expected);
-}
-
-/// One of this board grows.
-fn grow_over(
-    rt: &(impl Wait + Abort),
-    alloc: Global,
-    board: &OneBoard,
-    reader: Reader<1, 1, 1, 1>,
-    worker: &mut Worker<1, 1, 1, 1>,
-    look: &mut Look,
-) -> Result<(), Fail>
-    requires reader { IsReaderOf board.now reader }
-    requires worker { IsWorkerOf board.now worker.old }
-{
-    let registry = new_registry(rt, alloc, board, reader)?;
-    grow_behind(rt, alloc, board, worker, &registry, look)?;
-    ends_so(rt, registry, look);
-    Ok(())
-}
-
-/// One of this board grows, by the last reader, while the last worker counts.
+/// One of this board grows, by the last reader, while the last worker counts. What stood behind the lock in the end is what one of one
+/// thread has, with all three scrapes: none was kept that was refused.
 fn grow_of(
     rt: &(impl Wait + Abort),
     alloc: Global,
@@ -343,7 +279,11 @@ fn grow_of(
     let mut look = Look::new(alloc)?;
     let mut worker = last_worker(board, workers)?;
     let reader = last_reader(board, readers)?;
-    grow_over(rt, alloc, board, reader, &mut worker, &mut look)
+    let registry = new_registry(rt, alloc, board, reader)?;
+    grow_behind(rt, alloc, board, &mut worker, &registry, &mut look)?;
+    let expected = seen(3, [Some(AT_FIRST), Some(BETWEEN)]);
+    same(rt, look.at(&mut registry.into_state()), expected);
+    Ok(())
 }
 
 /// A registry behind its lock grows.

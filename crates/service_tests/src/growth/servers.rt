@@ -3,7 +3,6 @@ use crate::asserts::same;
 use metrics_program::{ServeEnd, serve_on};
 use std::io::{self, Write};
 use std::net::{Ipv4Addr, TcpListener};
-use std::process::Abort;
 use std::test::Fail;
 
 /// Takes all that is written, and remembers whether it was flushed then.
@@ -25,20 +24,16 @@ impl Write for Flushes {
 }
 
 /// However a server ends that listens to nobody, what it wrote was flushed.
-fn is_flushed(rt: &impl Abort, end: ServeEnd, writer: &Flushes) -> Result<(), Fail> {
-    same(rt, writer.is_flushed, true);
-    if end == ServeEnd::NoMemory {
-        return Err("NoMemory".into());
-    }
-    same(rt, end, ServeEnd::Done);
-    Ok(())
-}
-
 #[test]
 fn growth_server(rt: HostRuntime) -> Result<(), Fail> {
     let rt = &rt;
     let listener = TcpListener::bind(rt, (Ipv4Addr::LOCALHOST, 0))?;
     let mut writer = Flushes { is_flushed: false };
     let end = serve_on(rt, rt.alloc(), listener, 0, &mut writer);
-    is_flushed(rt, end, &writer)
+    same(rt, writer.is_flushed, true);
+    if end == ServeEnd::NoMemory {
+        return Err("NoMemory".into());
+    }
+    same(rt, end, ServeEnd::Done);
+    Ok(())
 }

@@ -25,9 +25,6 @@ type State<'a> = RegistryState<Scanner<'a, 2, 4, 1, 1>, 2, 4, 1, 1>;
 /// The name of a family that a thread registered, its number, and its one child.
 type Counted = (&'static str, FamilyId, Counter);
 
-/// The names of two families.
-type Names = (&'static str, &'static str);
-
 /// What a thread was given.
 #[derive(Drop)]
 struct Given {
@@ -46,28 +43,23 @@ fn scrape_often(rt: &(impl Wait + Abort), registry: &Two<'_>, scrapes: &mut Vec<
     }
 }
 
-/// Registers a family and makes its child, and scrapes before and after that.
-fn ask_once(
+/// Registers two families and makes their children, and scrapes before and after each of them.
+fn ask(
     rt: &(impl Wait + Abort),
     alloc: Global,
     registry: &Two<'_>,
-    name: &'static str,
-    given: &mut Given,
-) {
-    scrape_often(rt, registry, &mut given.scrapes);
-    let (family, counter) = made_counter(rt, alloc, registry, name);
-    need(rt, given.counted.push((name, family, counter)));
-    scrape_often(rt, registry, &mut given.scrapes);
-}
-
-/// Asks for two families.
-fn ask(rt: &(impl Wait + Abort), alloc: Global, registry: &Two<'_>, names: Names) -> Given {
+    names: [&'static str; 2],
+) -> Given {
     let mut given = Given {
         counted: Vec::new(alloc),
         scrapes: Vec::new(alloc),
     };
-    ask_once(rt, alloc, registry, names.0, &mut given);
-    ask_once(rt, alloc, registry, names.1, &mut given);
+    for name in names {
+        scrape_often(rt, registry, &mut given.scrapes);
+        let (family, counter) = made_counter(rt, alloc, registry, name);
+        need(rt, given.counted.push((name, family, counter)));
+        scrape_often(rt, registry, &mut given.scrapes);
+    }
     given
 }
 
@@ -95,7 +87,7 @@ fn count_and_ask(
     board: &TwoBoard,
     registry: &Two<'_>,
     worker: TwoWorker,
-    names: Names,
+    names: [&'static str; 2],
 ) -> Side
     requires { IsWorkerOf board.now worker }
 {
@@ -123,33 +115,11 @@ fn two_sides(
         rt,
         || -> Side
             requires { IsWorkerOf board.now first }
-        { count_and_ask(rt, alloc, board, registry, first, ("a", "c")) },
+        { count_and_ask(rt, alloc, board, registry, first, ["a", "c"]) },
         || -> Side
             requires { IsWorkerOf board.now second }
-        { count_and_ask(rt, alloc, board, registry, second, ("b", "d")) },
+        { count_and_ask(rt, alloc, board, registry, second, ["b", "d"]) },
     )
-}
-
-/// What the thread was given: a scrape at least. All was counted beside it.
-fn taken_from(rt: &impl Abort, side: Side) -> Given {
-    let (counted, given) = side;
-    same(rt, counted, Ok(()));
-    same(rt, given.scrapes.is_empty(), false);
-    given
-}
-
-/// What each of the threads was given, where they ask at once.
-fn all_at_once(
-    rt: &(impl Abort + Threads + Wait + Sync),
-    alloc: Global,
-    board: &TwoBoard,
-    registry: &Two<'_>,
-    workers: (TwoWorker, TwoWorker),
-) -> (Given, Given)
-    requires { IsWorkerOf board.now workers.0 × IsWorkerOf board.now workers.1 }
-{
-    let (one, other) = two_sides(rt, alloc, board, registry, workers);
-    (taken_from(rt, one), taken_from(rt, other))
 }
 
 /// What was registered and made stands in the journal: asked for again, a child gives its handle, and a descriptor is refused for
@@ -227,22 +197,8 @@ fn all_kept(
     }
 }
 
-/// The last scrape is the first thread's, and shows all families with all that was counted.
-fn scrape_last(rt: &(impl Abort + Wait), registry: &Two<'_>, scrapes: &mut Vec<Scrape>) {
-    let last = need(rt, registry.scrape(rt));
-    same(rt, need(rt, render(&last)).as_slice(), ALL);
-    need(rt, scrapes.push(last));
-}
-
-/// All that was given stands behind the lock.
-fn stands(rt: &impl Abort, alloc: Global, state: &mut State<'_>, one: &Given, other: &Given) {
-    all_stand(rt, alloc, state, &one.counted);
-    all_stand(rt, alloc, state, &other.counted);
-    let mut snapshot = need(rt, Snapshot::new(alloc));
-    all_kept(rt, state, &mut snapshot, one, other);
-}
-
-/// Threads use a registry, of which nothing is left but what stood behind its lock.
+/// Threads use a registry, of which nothing is left but what stood behind its lock: all that was given. The last scrape is the first
+/// thread's, and shows all families with all that was counted.
 fn hands_on(
     rt: &(impl Abort + Threads + Wait + Sync),
     alloc: Global,
@@ -252,9 +208,21 @@ fn hands_on(
 )
     requires { IsWorkerOf board.now workers.0 × IsWorkerOf board.now workers.1 }
 {
-    let (mut one, other) = all_at_once(rt, alloc, board, &registry, workers);
-    scrape_last(rt, &registry, &mut one.scrapes);
-    stands(rt, alloc, &mut registry.into_state(), &one, &other);
+    let ((first, mut one), (second, other)) = two_sides(rt, alloc, board, &registry, workers);
+    same(rt, (first, second), (Ok(()), Ok(())));
+    same(
+        rt,
+        (one.scrapes.is_empty(), other.scrapes.is_empty()),
+        (false, false),
+    );
+    let last = need(rt, registry.scrape(rt));
+    same(rt, need(rt, render(&last)).as_slice(), ALL);
+    need(rt, one.scrapes.push(last));
+    let mut state = registry.into_state();
+    all_stand(rt, alloc, &mut state, &one.counted);
+    all_stand(rt, alloc, &mut state, &other.counted);
+    let mut snapshot = need(rt, Snapshot::new(alloc));
+    all_kept(rt, &state, &mut snapshot, &one, &other);
 }
 
 #[test]

@@ -120,24 +120,7 @@ fn count_and_scrape(
     )
 }
 
-/// The pool has run all jobs. Meanwhile some scrape was made.
-fn counted(
-    rt: &(impl Threads + Wait + Abort + Sync),
-    alloc: Global,
-    board: &Four,
-    registry: &Registry<'_>,
-    workers: Workers,
-    jobs: &[Vec<Job>],
-)
-    requires { All (IsWorkerOf board.now) workers.items }
-{
-    assert_eq!(rt; jobs.len(), workers.len());
-    let (counted, scraped) = count_and_scrape(rt, alloc, board, registry, workers, jobs);
-    same(rt, (scraped, scraped.0 > 0), (scraped, true));
-    let _workers = need(rt, counted);
-}
-
-/// Scrapes while the pool counts, and when all was counted.
+/// The pool has run all jobs, while some scrape was made, and then all was counted.
 fn count_and_end(
     rt: &(impl Threads + Wait + Abort + Sync),
     alloc: Global,
@@ -150,7 +133,10 @@ fn count_and_end(
     let registry = registry_of(rt, alloc, board, readers, 64);
     let (_, counter) = made_counter(rt, alloc, &registry, "a");
     let jobs = lists(rt, alloc, counter);
-    counted(rt, alloc, board, &registry, workers, &jobs);
+    assert_eq!(rt; jobs.len(), workers.len());
+    let (counted, scraped) = count_and_scrape(rt, alloc, board, &registry, workers, &jobs);
+    same(rt, (scraped, scraped.0 > 0), (scraped, true));
+    let _workers = need(rt, counted);
     same(rt, scrape_often(rt, &registry), (1, true));
 }
 

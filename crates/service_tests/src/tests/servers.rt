@@ -8,18 +8,6 @@ use std::process::Abort;
 use std::sync::Wait;
 use std::thread::Threads;
 
-/// How a server ended that serves so many connections, and what it wrote.
-fn serve<T: Threads + Wait + Sync>(
-    rt: &T,
-    alloc: Global,
-    listener: TcpListener,
-    count: u64,
-) -> (ServeEnd, Vec<u8>) {
-    let mut written = Vec::new(alloc);
-    let end = serve_on(rt, alloc, listener, count, &mut written);
-    (end, written)
-}
-
 /// A listener at a free port, and the port.
 fn listens<T>(rt: &T) -> (TcpListener, u16)
 where
@@ -101,7 +89,8 @@ fn a_listener_that_fails(rt: HostRuntime) {
     let alloc = rt.alloc();
     let (listener, port) = listens(rt);
     need(rt, listener.set_nonblocking(true));
-    let (end, written) = serve(rt, alloc, listener, 1);
+    let mut written = Vec::new(alloc);
+    let end = serve_on(rt, alloc, listener, 1, &mut written);
     let told = need(rt, format!(in alloc; "listening {port}\n"));
     same(
         rt,
