@@ -1,9 +1,7 @@
 //! Registries of one thread, and what is registered.
-use crate::crew::ID;
-use ledger_core::{Counter, Gauge};
 use metric_desc::{Desc, Kind};
 use metric_names::{HelpText, LabelName, LabelValue, MetricName};
-use registry_state::{Handle, RegistryState};
+use registry_state::RegistryState;
 use snapshot_scan::PlainSource;
 use std::alloc::Global;
 use std::test::Fail;
@@ -16,18 +14,6 @@ pub(crate) type Over<S> = RegistryState<S, 1, 1, 1, 1>;
 
 /// A registry of one thread.
 pub(crate) type Plain = Over<OnePlain>;
-
-/// The handle of the first counter.
-pub(crate) fn first_counter() -> Handle {
-    let (registry, slot) = (ID, 0);
-    Handle::Counter(Counter { registry, slot })
-}
-
-/// The handle of the first gauge.
-pub(crate) fn first_gauge() -> Handle {
-    let (registry, slot) = (ID, 0);
-    Handle::Gauge(Gauge { registry, slot })
-}
 
 /// A descriptor of this kind and name, with these labels and no help. The bounds of a histogram are 10 and 20.
 pub(crate) fn desc(alloc: Global, kind: Kind, name: &str, labels: &[&str]) -> Result<Desc, Fail> {

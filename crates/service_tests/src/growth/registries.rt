@@ -5,7 +5,7 @@ ghost use Rattle.snapshot_update.specs.Workers.{IsWorkerOf};
 
 use crate::asserts::{once_more, same};
 use crate::crew::{ID, last_reader, last_worker};
-use crate::helpers::{OnePlain, Plain, desc, first_counter, first_gauge};
+use crate::helpers::{OnePlain, Plain, desc};
 use crate::seen::{Behind, Look, Looked, Moment, Seen};
 use expo_text::render;
 use ledger_core::{Counter, Gauge, GaugeTotals, HistTotals, Op};
@@ -22,7 +22,7 @@ use std::sync::Wait;
 use std::test::Fail;
 
 /// A registry that keeps two scrapes.
-pub(super) fn new_state(rt: &impl Abort, alloc: Global) -> Result<Plain, Fail> {
+fn new_state(rt: &impl Abort, alloc: Global) -> Result<Plain, Fail> {
     match Plain::new(alloc, OnePlain::new(alloc)?, ID, 2) {
         Ok(registry) => Ok(registry),
         Err(none) => {
@@ -34,6 +34,18 @@ pub(super) fn new_state(rt: &impl Abort, alloc: Global) -> Result<Plain, Fail> {
 
 /// A board whose row is a counter, a histogram and a gauge.
 type OneBoard = Board<1, 1, 1, 1>;
+
+/// The handle of the first counter,
+const FIRST_COUNTER: Handle = Handle::Counter(Counter {
+    registry: ID,
+    slot: 0,
+});
+
+/// and of the first gauge.
+const FIRST_GAUGE: Handle = Handle::Gauge(Gauge {
+    registry: ID,
+    slot: 0,
+});
 
 /// Registers a family by a label.
 fn register<G: Looked>(
@@ -126,7 +138,7 @@ fn grow_counter<G: Looked>(
 ) -> Result<(), Fail> {
     scrape(rt, grown, look, "")?;
     let family = register(rt, alloc, grown, look, Kind::Counter, "a")?;
-    same(rt, child(rt, grown, look, family)?, first_counter());
+    same(rt, child(rt, grown, look, family)?, FIRST_COUNTER);
     look.made = 1;
     Ok(())
 }
@@ -140,7 +152,7 @@ fn grow_gauge<G: Looked>(
 ) -> Result<(), Fail> {
     scrape(rt, grown, look, "# TYPE a counter\na{l=\"x\"} 5\n")?;
     let family = register(rt, alloc, grown, look, Kind::Gauge, "b")?;
-    same(rt, child(rt, grown, look, family)?, first_gauge());
+    same(rt, child(rt, grown, look, family)?, FIRST_GAUGE);
     look.made = 2;
     Ok(())
 }
@@ -200,21 +212,19 @@ const AT_LAST: Moment = Moment {
 /// What is seen in the end, whatever was refused before: both families with their children, so many kept scrapes of three, the first two of
 /// these, and four changes beside.
 fn seen(kept: usize, scrapes: [Option<Moment>; 2]) -> Seen {
-    let (registry, slot) = (ID, 0);
     Seen {
         families: [Some(0), Some(1)],
-        children: [
-            Some(Handle::Counter(Counter { registry, slot })),
-            Some(Handle::Gauge(Gauge { registry, slot })),
-        ],
+        children: [Some(FIRST_COUNTER), Some(FIRST_GAUGE)],
         entries: kept.wrapping_add(4),
         kept,
         scrapes,
     }
 }
 
-/// A registry of one thread grows, and counts.
-pub(super) fn grow_alone(rt: &impl Abort, alloc: Global) -> Result<(), Fail> {
+/// A registry of one thread grows, and counts. The window of two holds, and the least free slots are used, whatever was refused before.
+#[test]
+fn growth_state(rt: HostRuntime) -> Result<(), Fail> {
+    let (rt, alloc) = (&rt, rt.alloc());
     let mut look = Look::new(alloc)?;
     let mut registry = new_state(rt, alloc)?;
     grow_counter(rt, alloc, &mut registry, &mut look)?;
@@ -287,7 +297,9 @@ fn grow_of(
 }
 
 /// A registry behind its lock grows.
-pub(super) fn grow_shared(rt: &(impl Wait + Abort), alloc: Global) -> Result<(), Fail> {
+#[test]
+fn growth_registry(rt: HostRuntime) -> Result<(), Fail> {
+    let (rt, alloc) = (&rt, rt.alloc());
     let mut crew = Crew::<1, 1, 1, 1>::new(alloc, ID, 1)?;
     grow_of(rt, alloc, &crew.board, &mut crew.readers, &mut crew.workers)
 }

@@ -14,20 +14,16 @@ type SmallSource = PlainSource<1, 0, 0>;
 /// A registry of it.
 type Small = RegistryState<SmallSource, 1, 1, 0, 0>;
 
-/// A registry of this id that keeps one scrape.
-fn small(rt: &impl Abort, alloc: Global, id: u64) -> Small {
-    match Small::new(alloc, need(rt, SmallSource::new(alloc)), id, 1) {
-        Ok(registry) => registry,
-        Err(_) => rt.panic("no registry"),
+/// A registry of this id that keeps one scrape, and has a family where it is used.
+fn small(rt: &impl Abort, alloc: Global, id: u64, is_used: bool) -> Small {
+    let Ok(mut made) = Small::new(alloc, need(rt, SmallSource::new(alloc)), id, 1) else {
+        rt.panic("no registry")
+    };
+    if is_used {
+        let desc = done(rt, desc(alloc, Kind::Counter, "a", &[]));
+        need(rt, made.register(desc));
     }
-}
-
-/// A registry of this id that has a family.
-fn used(rt: &impl Abort, alloc: Global, id: u64) -> Small {
-    let mut used = small(rt, alloc, id);
-    let desc = done(rt, desc(alloc, Kind::Counter, "a", &[]));
-    need(rt, used.register(desc));
-    used
+    made
 }
 
 /// What comes of a further board, in the words of a test: its number, or why it is refused, and the id of the board that comes back.
@@ -46,16 +42,24 @@ fn asked(
 fn stale_boards(rt: HostRuntime) {
     let (rt, alloc, stale) = (&rt, rt.alloc(), BoardFault::NotFresh);
     same(rt, stale.number(), 45);
-    match Page::new(alloc, used(rt, alloc, 1)) {
+    match Page::new(alloc, small(rt, alloc, 1, true)) {
         Ok(_) => rt.panic("the board is taken"),
         Err(refused) => same(rt, (refused.fault, refused.board.id()), (stale, 1)),
     }
-    let Ok(mut page) = Page::new(alloc, small(rt, alloc, 1)) else {
+    let Ok(mut page) = Page::new(alloc, small(rt, alloc, 1, false)) else {
         rt.panic("no page")
     };
-    same(rt, asked(&mut page, small(rt, alloc, 1)), Err((stale, 1)));
-    same(rt, asked(&mut page, used(rt, alloc, 2)), Err((stale, 2)));
+    same(
+        rt,
+        asked(&mut page, small(rt, alloc, 1, false)),
+        Err((stale, 1)),
+    );
+    same(
+        rt,
+        asked(&mut page, small(rt, alloc, 2, true)),
+        Err((stale, 2)),
+    );
     same(rt, page.boards().len(), 1);
-    same(rt, asked(&mut page, small(rt, alloc, 2)), Ok(1));
+    same(rt, asked(&mut page, small(rt, alloc, 2, false)), Ok(1));
     same(rt, page.into_boards().len(), 2);
 }
