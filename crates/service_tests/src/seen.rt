@@ -1,12 +1,12 @@
 //! All that is seen of a registry.
-use crate::helpers::{Over, values};
+use crate::helpers::{Over, Plain, values};
 use expo_text::Scrape;
 use ledger_core::{GaugeTotals, HistTotals};
 use metric_desc::Desc;
 use metric_names::LabelValue;
 use metric_registry::Registry;
 use registry_state::{ChildFault, FamilyId, Handle, Journal, RegisterFault, ScrapeFault};
-use snapshot_scan::{Snapshot, Source};
+use snapshot_scan::{Scanner, Snapshot};
 use std::alloc::Global;
 use std::sync::Wait;
 use std::test::Fail;
@@ -29,17 +29,39 @@ pub(crate) trait Looked {
     fn entries(&self) -> Option<&Journal<1, 1, 1, 1>>;
 }
 
-impl<S: Source<1, 1, 1, 1>> Looked for Over<S> {
+impl Looked for Plain {
     fn register(&mut self, desc: Desc) -> Result<FamilyId, RegisterFault> {
-        Over::<S>::register(self, desc)
+        Plain::register(self, desc)
     }
 
     fn child(&mut self, family: FamilyId, values: &[LabelValue]) -> Result<Handle, ChildFault> {
-        Over::<S>::child(self, family, values)
+        Plain::child(self, family, values)
     }
 
     fn scrape(&mut self) -> Result<Scrape, ScrapeFault> {
-        Over::<S>::scrape(self)
+        Plain::scrape(self)
+    }
+
+    fn family_named(&self, name: &str) -> Option<FamilyId> {
+        self.family(name)
+    }
+
+    fn entries(&self) -> Option<&Journal<1, 1, 1, 1>> {
+        Some(self.journal())
+    }
+}
+
+impl Looked for Over<Scanner<'_, 1, 1, 1, 1>> {
+    fn register(&mut self, desc: Desc) -> Result<FamilyId, RegisterFault> {
+        Over::<Scanner<'_, 1, 1, 1, 1>>::register(self, desc)
+    }
+
+    fn child(&mut self, family: FamilyId, values: &[LabelValue]) -> Result<Handle, ChildFault> {
+        Over::<Scanner<'_, 1, 1, 1, 1>>::child(self, family, values)
+    }
+
+    fn scrape(&mut self) -> Result<Scrape, ScrapeFault> {
+        Over::<Scanner<'_, 1, 1, 1, 1>>::scrape(self)
     }
 
     fn family_named(&self, name: &str) -> Option<FamilyId> {

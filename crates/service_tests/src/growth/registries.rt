@@ -221,20 +221,28 @@ fn seen(kept: usize, scrapes: [Option<Moment>; 2]) -> Seen {
     }
 }
 
-/// A registry of one thread grows, and counts. The window of two holds, and the least free slots are used, whatever was refused before.
-#[test]
-fn growth_state(rt: HostRuntime) -> Result<(), Fail> {
-    let (rt, alloc) = (&rt, rt.alloc());
+/// A registry of one thread grows, and counts.
+fn grow_and_count(
+    rt: &impl Abort,
+    alloc: Global,
+    registry: &mut Plain,
+    look: &mut Look,
+) -> Result<(), Fail> {
+    grow_counter(rt, alloc, registry, look)?;
+    registry.apply(&FIRST)?;
+    grow_gauge(rt, alloc, registry, look)?;
+    registry.apply(&SECOND)?;
+    scrape(rt, registry, look, SHOWN)?;
+    let expected = seen(2, [Some(BETWEEN), Some(AT_LAST)]);
+    same(rt, look.at(registry), expected);
+    Ok(())
+}
+
+/// One of one thread.
+pub(super) fn grow_alone(rt: &impl Abort, alloc: Global) -> Result<(), Fail> {
     let mut look = Look::new(alloc)?;
     let mut registry = new_state(rt, alloc)?;
-    grow_counter(rt, alloc, &mut registry, &mut look)?;
-    registry.apply(&FIRST)?;
-    grow_gauge(rt, alloc, &mut registry, &mut look)?;
-    registry.apply(&SECOND)?;
-    scrape(rt, &mut registry, &mut look, SHOWN)?;
-    let expected = seen(2, [Some(BETWEEN), Some(AT_LAST)]);
-    same(rt, look.at(&mut registry), expected);
-    Ok(())
+    grow_and_count(rt, alloc, &mut registry, &mut look)
 }
 
 /// A registry behind its lock, that would keep four scrapes.
@@ -274,8 +282,31 @@ fn grow_behind(
     scrape(rt, &mut grown, look, SHOWN)
 }
 
-/// One of this board grows, by the last reader, while the last worker counts. What stood behind the lock in the end is what one of one
-/// thread has, with all three scrapes: none was kept that was refused.
+/// What stood behind the lock in the end is what one of one thread has, with all three scrapes: none was kept that was refused.
+fn ends_so(rt: &impl Abort, registry: Registry<'_, 1, 1, 1, 1>, look: &mut Look) {
+    let expected = seen(3, [Some(AT_FIRST), Some(BETWEEN)]);
+    same(rt, look.at(&mut registry.into_state()), expected);
+}
+
+/// One of this board grows.
+fn grow_over(
+    rt: &(impl Wait + Abort),
+    alloc: Global,
+    board: &OneBoard,
+    reader: Reader<1, 1, 1, 1>,
+    worker: &mut Worker<1, 1, 1, 1>,
+    look: &mut Look,
+) -> Result<(), Fail>
+    requires reader { IsReaderOf board.now reader }
+    requires worker { IsWorkerOf board.now worker.old }
+{
+    let registry = new_registry(rt, alloc, board, reader)?;
+    grow_behind(rt, alloc, board, worker, &registry, look)?;
+    ends_so(rt, registry, look);
+    Ok(())
+}
+
+/// One of this board grows, by the last reader, while the last worker counts.
 fn grow_of(
     rt: &(impl Wait + Abort),
     alloc: Global,
@@ -289,17 +320,11 @@ fn grow_of(
     let mut look = Look::new(alloc)?;
     let mut worker = last_worker(board, workers)?;
     let reader = last_reader(board, readers)?;
-    let registry = new_registry(rt, alloc, board, reader)?;
-    grow_behind(rt, alloc, board, &mut worker, &registry, &mut look)?;
-    let expected = seen(3, [Some(AT_FIRST), Some(BETWEEN)]);
-    same(rt, look.at(&mut registry.into_state()), expected);
-    Ok(())
+    grow_over(rt, alloc, board, reader, &mut worker, &mut look)
 }
 
 /// A registry behind its lock grows.
-#[test]
-fn growth_registry(rt: HostRuntime) -> Result<(), Fail> {
-    let (rt, alloc) = (&rt, rt.alloc());
+pub(super) fn grow_shared(rt: &(impl Wait + Abort), alloc: Global) -> Result<(), Fail> {
     let mut crew = Crew::<1, 1, 1, 1>::new(alloc, ID, 1)?;
     grow_of(rt, alloc, &crew.board, &mut crew.readers, &mut crew.workers)
 }

@@ -1,12 +1,9 @@
 //! The server of the program, where its writer or its listener fails.
 use crate::asserts::{need, same};
 use metrics_program::{ServeEnd, serve_on};
-use std::alloc::Global;
 use std::io::{self, Error, ErrorKind, Write};
 use std::net::{Ipv4Addr, Net, TcpListener, TcpStream};
 use std::process::Abort;
-use std::sync::Wait;
-use std::thread::Threads;
 
 /// A listener at a free port, and the port.
 fn listens<T>(rt: &T) -> (TcpListener, u16)
@@ -56,30 +53,24 @@ impl Write for Fails {
     }
 }
 
-/// After so many calls of its writer the server ends, and what was written is a front of what is printed.
-fn ends_after<T>(rt: &T, alloc: Global, calls: u64)
-where
-    T: Abort + Threads + Wait + Sync + Net<Listener = TcpListener, Stream = TcpStream>,
-{
-    let (listener, port) = listens(rt);
-    let printed = need(rt, format!(in alloc; "listening {port}\nserved 0\n"));
-    let mut writer = Fails {
-        kept: Vec::new(alloc),
-        calls,
-        takes_nothing: calls % 2 == 0,
-    };
-    let end = serve_on(rt, alloc, listener, 0, &mut writer);
-    let status = if calls < 8 { 3 } else { 0 };
-    same(rt, (calls, end.status()), (calls, status));
-    let kept = writer.kept.as_slice();
-    same(rt, printed.as_bytes().get(..kept.len()), Some(kept));
-}
-
-/// Three writes and a flush are for the port, and as many for the replies.
+/// After so many calls of its writer a server ends, and what was written is a front of what is printed. Three writes and a flush are for the
+/// port, and as many for the replies.
 #[test]
 fn a_writer_that_fails(rt: HostRuntime) {
+    let (rt, alloc) = (&rt, rt.alloc());
     for calls in 0..9u64 {
-        ends_after(&rt, rt.alloc(), calls);
+        let (listener, port) = listens(rt);
+        let printed = need(rt, format!(in alloc; "listening {port}\nserved 0\n"));
+        let mut writer = Fails {
+            kept: Vec::new(alloc),
+            calls,
+            takes_nothing: calls % 2 == 0,
+        };
+        let end = serve_on(rt, alloc, listener, 0, &mut writer);
+        let status = if calls < 8 { 3 } else { 0 };
+        same(rt, (calls, end.status()), (calls, status));
+        let kept = writer.kept.as_slice();
+        same(rt, printed.as_bytes().get(..kept.len()), Some(kept));
     }
 }
 
