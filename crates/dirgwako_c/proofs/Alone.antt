@@ -93,13 +93,3 @@ module _ {N C H G : ℕ} where
         };
       }),
     )
-
-  -- the same of what the values are by another name
-  pub read_as : (number : ℕ) (before after after' : HeldRegistry N C H G) (answer answer' : ℕ) (had has has' : List ℕ) (had_len has_len has_len' : ℕ)
-      → after ≡ after' → answer ≡ answer' → has ≡ has' → has_len ≡ has_len' → Reads number answer' before after' had has' had_len has_len'
-      → Reads number answer before after had has had_len has_len
-  read_as number before after after' answer answer' had has has' had_len has_len has_len' one two three four it =
-      subst (λ (r : HeldRegistry N C H G). Reads number answer before r had has had_len has_len) (sym one)
-      (subst (λ (a : ℕ). Reads number a before after' had has had_len has_len) (sym two)
-      (subst (λ (b : List ℕ). Reads number answer' before after' had b had_len has_len) (sym three)
-      (subst (λ (l : ℕ). Reads number answer' before after' had has' had_len l) (sym four) it)))

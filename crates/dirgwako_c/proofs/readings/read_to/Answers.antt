@@ -1,39 +1,45 @@
 use Rattle.std.proofs.Common.{ℕ, refl, ap, subst, ◌∙◌}
-use Rattle.std.specs.Prelude.{Err}
+use Rattle.std.specs.Prelude.{Ok, Err}
 use Rattle.scrape_http.specs.declared.source.NoScrape.{NoScrape}
 use Rattle.scrape_http.specs.declared.source.NoScrape.TheVariants.{NoMemory, Contended}
 use Rattle.scrape_page.specs.Families.{PageView}
 use Rattle.snapshot_scan.specs.Snapshots.{as_answer}
 use Rattle.dirgwako_c.specs.Numbers.{OneScanner, numbers_of}
 use Rattle.dirgwako_c.specs.Registries.{IsHandedOver, owner_in}
-use Rattle.dirgwako_c.proofs.Alone.{AsksAlone, board_there, read_made, read_none, read_as}
-use Rattle.dirgwako_c.proofs.readings.read_to.Goals.{in-Ok, in-Err-NoMemory, in-Err-Contended}
+use Rattle.dirgwako_c.proofs.Alone.{AsksAlone, board_there, read_made, read_none}
 use Rattle.dirgwako_c.proofs.readings.read_to.Goals as goal
 
-pub returns : goal.returns
-returns g c =
+pub returns-in-Ok : goal.returns-in-Ok
+returns-in-Ok g c =
     let before = c.args.registry.now in let number : ℕ = c.args.number in let had = c.args.buffer.now in
-    let had_len : ℕ = c.args.len.now in let j = c.match-keep_board in
+    let had_len : ℕ = c.args.len.now in let board = c.index-boards-number.result in
+    let at = record before.registrar.at { crew = c.keep_board.new.self } in
+    let done = record before { registrar = record before.registrar { at = at }; numbers = c.newest.new.out } in
+    let scrape = c.in-Ok.ensures.1.0 in
+    let did : AsksAlone (owner_in before) c.keep_board.new.self number (Ok scrape) =
+    (c.in-Ok.ensures.0, c.in-Ok.ensures.1.1, c.in-Ok.ensures.2) in
+    let there = board_there before done number scrape did c.boards-in-Ok.result.now board
+    (c.boards-in-Ok.ensures.boards ∙ ap (λ (p : PageView (OneScanner g.row.N g.row.C g.row.H g.row.G)). p.boards) c.page-in-Ok.ensures)
+    c.index-boards-number.is in
+    read_made before done number c.hand_over_numbers.result had c.hand_over_numbers.new.buffer had_len c.hand_over_numbers.new.len refl
+    scrape did board (as_answer c.newest.new.out) there c.newest.ensures
+    (subst (λ (n : ℕ). IsHandedOver (numbers_of n (as_answer c.newest.new.out)) c.hand_over_numbers.result had
+    c.hand_over_numbers.new.buffer c.hand_over_numbers.new.len) c.id.ensures c.hand_over_numbers.ensures)
+
+pub returns-in-Err-NoMemory : goal.returns-in-Err-NoMemory
+returns-in-Err-NoMemory g c =
+    let before = c.args.registry.now in let number : ℕ = c.args.number in
     let at = record before.registrar.at { crew = c.keep_board.new.self } in
     let asked = record before { registrar = record before.registrar { at = at } } in
-    elim c.match-keep_board.branch [
-      | in-Ok w ↦
-          let board = w.index-boards-number.result in let done = record asked { numbers = w.newest.new.out } in
-          let there = board_there before done number w.in-Ok.ensures.0 w.in-Ok.ensures.1 w.boards-in-Ok.result.now board
-          (w.boards-in-Ok.ensures.boards ∙ ap (λ (p : PageView (OneScanner g.row.N g.row.C g.row.H g.row.G)). p.boards) w.page-in-Ok.ensures) w.index-boards-number.is in
-          read_as number before j.registry done j.result _ had j.buffer _ had_len j.len _ w.registry-is w.result-is w.buffer-is w.len-is
-          (read_made before done number w.hand_over_numbers.result had w.hand_over_numbers.new.buffer had_len w.hand_over_numbers.new.len refl
-          w.in-Ok.ensures.0 w.in-Ok.ensures.1 board (as_answer w.newest.new.out) there w.newest.ensures
-          (subst (λ (n : ℕ). IsHandedOver (numbers_of n (as_answer w.newest.new.out)) w.hand_over_numbers.result had
-          w.hand_over_numbers.new.buffer w.hand_over_numbers.new.len) w.id.ensures w.hand_over_numbers.ensures))
-      | in-Err-NoMemory w ↦
-          read_as number before j.registry asked j.result _ had j.buffer _ had_len j.len _ w.registry-is w.result-is w.buffer-is w.len-is
-          (read_none before asked number NoMemory 6 had had_len refl
-          (subst (λ (why : NoScrape). AsksAlone (owner_in before) c.keep_board.new.self number (Err why)) w.in-Err-NoMemory.field-0-is
-          w.in-Err-NoMemory.ensures) refl)
-      | in-Err-Contended w ↦
-          read_as number before j.registry asked j.result _ had j.buffer _ had_len j.len _ w.registry-is w.result-is w.buffer-is w.len-is
-          (read_none before asked number Contended 14 had had_len refl
-          (subst (λ (why : NoScrape). AsksAlone (owner_in before) c.keep_board.new.self number (Err why)) w.in-Err-Contended.field-0-is
-          w.in-Err-Contended.ensures) refl)
-    ]
+    read_none before asked number NoMemory 6 c.args.buffer.now c.args.len.now refl
+    (subst (λ (why : NoScrape). AsksAlone (owner_in before) c.keep_board.new.self number (Err why)) c.in-Err-NoMemory.field-0-is
+    c.in-Err-NoMemory.ensures) refl
+
+pub returns-in-Err-Contended : goal.returns-in-Err-Contended
+returns-in-Err-Contended g c =
+    let before = c.args.registry.now in let number : ℕ = c.args.number in
+    let at = record before.registrar.at { crew = c.keep_board.new.self } in
+    let asked = record before { registrar = record before.registrar { at = at } } in
+    read_none before asked number Contended 14 c.args.buffer.now c.args.len.now refl
+    (subst (λ (why : NoScrape). AsksAlone (owner_in before) c.keep_board.new.self number (Err why)) c.in-Err-Contended.field-0-is
+    c.in-Err-Contended.ensures) refl
