@@ -5,8 +5,8 @@
 set -eu
 cd "$(dirname "$0")"
 # One process for each crate or edit: several for one crate take half as much of the processor again, and end hardly sooner. On three or four
-# processors one fewer at once: they share the caches, and the longest chain of crates ends no later. Where there are more processors, or less memory,
-# `rt` chooses by itself.
+# processors one fewer at once: they share the caches, and each further one slows the others. Where there are more processors, or less memory, `rt`
+# chooses by itself.
 cores=$(getconf _NPROCESSORS_ONLN)
 gigabytes=$(awk '/^MemAvailable:/ { print int($2 / 1048576) }' /proc/meminfo 2> /dev/null || echo 0)
 if [ "$cores" -le 4 ] && [ "$gigabytes" -ge $((5 * cores)) ]; then
