@@ -20,7 +20,7 @@ use crate::seats::{Bundle, WorkSeat};
 use crate::table_steps::{Both, load_as, split_as, store_as};
 use crate::view::Who;
 use ledger_core::Op;
-use segment_layout::{Part, buffer_words};
+use segment_layout::{Part, buffer_words, next_buffer};
 use std::marker::Brand;
 
 impl<const N: usize, const C: usize, const H: usize, const G: usize> Board<N, C, H, G> {
@@ -94,8 +94,7 @@ impl<const N: usize, const C: usize, const H: usize, const G: usize> Board<N, C,
         requires of_board { IsWorkSeatOf self.now seat.now }
         ensures { result ≡ start_of N (width C H G) seat.now }
     {
-        // Of the next version only the parity counts, and so this sum never passes 2^64 - 1.
-        self.word_of_item(seat.worker, seat.number % 2 + 1, 0)
+        self.word_of_item(seat.worker, next_buffer(seat.number) as u64, 0)
     }
 
     /// Stores a word into the worker's own hidden buffer, at the item `item` of it. `start` is what [`Board::hidden_start`] answers.

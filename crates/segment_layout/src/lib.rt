@@ -13,4 +13,4 @@ mod part;
 mod place;
 
 pub use part::{Item, Part};
-pub use place::{buffer_words, item_at, place_of, segment_words, words_needed};
+pub use place::{buffer_words, item_at, next_buffer, place_of, segment_words, words_needed};

@@ -1,9 +1,18 @@
-ghost use Rattle.std.specs.Prelude.{◌≡◌, ◌+◌, ◌<◌, ◌≤◌};
+ghost use Rattle.std.specs.Prelude.{◌≡◌, ◌+◌, ◌%◌, ◌<◌, ◌≤◌};
 ghost use Rattle.ledger_core.specs.Ops.{width};
 ghost use Rattle.segment_layout.specs.Layout.{IsGeometry, IsPart, StandsAlone, depth, span, words, IsItem, item_at, in_buffer};
 ghost use Rattle.segment_layout.specs.Layout.{in_segment, place};
 
 use crate::part::{Item, Part};
+
+/// The buffer that a worker writes while this version is shown: the versions take both in turn.
+#[inline]
+pub fn next_buffer(version: u64) -> usize
+    ensures { result ≡ (version + 1) % 2 }
+{
+    // Only the parity counts, and so this sum never passes 2^64 - 1.
+    ((version % 2 + 1) % 2) as usize
+}
 
 /// How many words a buffer has: `2 * w + 1 + n`, at most 2,529.
 #[inline]
