@@ -9,7 +9,7 @@ use Rattle.worker_pool.specs.declared.job.Job.{Job}
 use Rattle.worker_pool.specs.Ends.{DidAll}
 use Rattle.std.specs.Prelude.{option_and_then, slice_get}
 use Rattle.registry_state.specs.declared.handle.Handle.{Handle}
-use Rattle.worker_pool.specs.declared.job.JobOp.{JobOp}
+use Rattle.snapshot_update.specs.declared.job_op.JobOp.{JobOp}
 use Rattle.metrics_program.specs.declared.state.Count.{Count}
 use Rattle.metrics_program.specs.QueuedJobs.{job_of}
 use Rattle.metrics_program.specs.Jobs.{job_for}

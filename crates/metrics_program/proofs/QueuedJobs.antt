@@ -10,7 +10,7 @@ use Rattle.std.specs.declared.vec.Vec.{Vec}
 use Rattle.std.specs.declared.alloc.Global.{Global}
 use Rattle.registry_state.specs.declared.handle.Handle.{Handle}
 use Rattle.worker_pool.specs.declared.job.Job.{Job}
-use Rattle.worker_pool.specs.declared.job.JobOp.{JobOp}
+use Rattle.snapshot_update.specs.declared.job_op.JobOp.{JobOp}
 use Rattle.metrics_program.specs.QueuedJobs.{on_line, job_with, job_of, Fits, ListFits, jobs_of}
 use Rattle.metrics_program.specs.declared.queued_job.QueuedJob.{QueuedJob}
 

@@ -4,8 +4,8 @@ use Rattle.registry_state.specs.declared.handle.Handle.{Handle}
 use Rattle.script_lines.specs.declared.line.Counting.{Counting}
 use Rattle.script_lines.specs.declared.line.Counting.TheVariants.{Inc, Obs, Up, Down}
 use Rattle.worker_pool.specs.declared.job.Job.{Job}
-use Rattle.worker_pool.specs.declared.job.JobOp.{JobOp}
-use Rattle.worker_pool.specs.declared.job.JobOp.TheVariants as job
+use Rattle.snapshot_update.specs.declared.job_op.JobOp.{JobOp}
+use Rattle.snapshot_update.specs.declared.job_op.JobOp.TheVariants as job
 
 -- what counts `by` in a child of this handle, if its kind is that
 abbrev pub job_for : Counting → (by : ℕ) → Handle → Option JobOp

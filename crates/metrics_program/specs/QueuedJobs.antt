@@ -5,7 +5,7 @@ use Rattle.std.specs.declared.vec.Vec.{Vec}
 use Rattle.std.specs.declared.alloc.Global.{Global}
 use Rattle.registry_state.specs.declared.handle.Handle.{Handle}
 use Rattle.worker_pool.specs.declared.job.Job.{Job}
-use Rattle.worker_pool.specs.declared.job.JobOp.{JobOp}
+use Rattle.snapshot_update.specs.declared.job_op.JobOp.{JobOp}
 use Rattle.metrics_program.specs.Jobs.{job_for}
 use Rattle.metrics_program.specs.declared.queued_job.QueuedJob.{QueuedJob}
 

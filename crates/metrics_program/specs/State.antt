@@ -17,7 +17,7 @@ use Rattle.registry_state.specs.Journal.{Registered, scrapes, within}
 use Rattle.registry_state.specs.Replay.{nothing}
 use Rattle.registry_state.specs.Shown.{IsShown}
 use Rattle.registry_state.specs.declared.handle.Handle.{Handle}
-use Rattle.worker_pool.specs.declared.job.JobOp.{JobOp}
+use Rattle.snapshot_update.specs.declared.job_op.JobOp.{JobOp}
 use Rattle.worker_pool.specs.Ends.{DidAll}
 use Rattle.metrics_program.specs.Parts.{AreRead}
 use Rattle.metrics_program.specs.Children.{HasOne}

@@ -6,3 +6,4 @@ pub mod Conditions
 pub mod Updated
 pub mod Workers
 pub mod Faults
+pub mod JobOps

@@ -9,7 +9,6 @@ ghost use Rattle.snapshot_update.specs.Fit.{AreInside};
 ghost use Rattle.snapshot_update.specs.Known.{IsStill, ListsChangedTotals, IsFollowed};
 
 use crate::listing::{note_each, note_range};
-use crate::scanning::{is_direct, is_quiet};
 use register_rule::WorkSeat;
 use segment_layout::{Item, item_at};
 use snapshot_scan::{ChangedItems, ScanEnd, ScanMemory};
@@ -36,7 +35,7 @@ pub(crate) fn know_next<const N: usize, const C: usize, const H: usize, const G:
     ensures still { result.1 ≡ true → (result.0 ≡ true) × (late.new ≡ late.old) }
     ensures sees { ended ≡ ScanEnd.Direct true → touched.now.all ≡ false → row_known ≡ true → result.1 ≡ true }
 {
-    let still = is_quiet(ended) & !touched.is_all() & row_known;
+    let still = ended.is_quiet() & !touched.is_all() & row_known;
     if still {
         return (true, true);
     }
@@ -61,7 +60,7 @@ fn follow<const N: usize, const C: usize, const H: usize, const G: usize>(
         ended late.old late.new }
     ensures unknown { result ≡ false → late.new ≡ late.old }
 {
-    if !is_direct(ended) || touched.is_all() {
+    if !ended.is_direct() || touched.is_all() {
         return false;
     }
     let (vector, _) = memory.answer(ended);

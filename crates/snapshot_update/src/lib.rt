@@ -12,6 +12,7 @@ mod buffer_images;
 mod crew;
 mod faults;
 mod fills;
+mod job_op;
 mod known;
 mod listing;
 mod next_fill;
@@ -24,4 +25,5 @@ mod worker;
 
 pub use crew::Crew;
 pub use faults::{ApplyFault, CountFault};
+pub use job_op::JobOp;
 pub use worker::Worker;

@@ -1,5 +1,5 @@
 //! The scans of a worker.
-ghost use Rattle.std.specs.Prelude.{◌≡◌, ◌↔◌, Bool, true, false, IsTrue, slice_index, IfErr, OnOk, OnErr};
+ghost use Rattle.std.specs.Prelude.{◌≡◌, Bool, true, false, slice_index, IfErr, OnOk, OnErr};
 ghost use Rattle.ledger_core.specs.Ops.{width};
 ghost use Rattle.ledger_core.specs.Legal.{IsLegal};
 ghost use Rattle.register_rule.specs.Seats.{worker_of, IsWorkSeatOf};
@@ -16,31 +16,6 @@ ghost use Rattle.snapshot_update.specs.Updated.{ScanCameTo, HasScanned};
 
 use register_rule::{Board, WorkSeat};
 use snapshot_scan::{Contended, ScanEnd, ScanMemory, Snapshot};
-
-/// Whether the scan has a view to lend.
-#[inline]
-pub(crate) fn has_view(ended: ScanEnd) -> bool
-    ensures view { result ≡ true → HasView ended }
-    ensures none { result ≡ false → ended ≡ ScanEnd.GaveUp }
-{
-    !matches!(ended, ScanEnd::GaveUp)
-}
-
-/// Whether the scan found all that is remembered.
-#[inline]
-pub(crate) fn is_quiet(ended: ScanEnd) -> bool
-    ensures { IsTrue result ↔ (ended ≡ ScanEnd.Direct true) }
-{
-    matches!(ended, ScanEnd::Direct { quiet: true })
-}
-
-/// Whether the scan ended direct: with numbers of its own.
-#[inline]
-pub(crate) fn is_direct(ended: ScanEnd) -> bool
-    ensures { IsTrue result ↔ ((quiet : Bool) × (ended ≡ ScanEnd.Direct quiet)) }
-{
-    matches!(ended, ScanEnd::Direct { .. })
-}
 
 /// The scan of a worker for its update, as its clauses say it of the worker: its other parts stay as they were. It asks nobody to rest.
 #[inline(always)]

@@ -46,7 +46,7 @@ use crate::known::know_next;
 use crate::listing::list_late;
 use crate::next_fill::fill_next;
 use crate::next_version::NextVersion;
-use crate::scanning::{has_view, scan_for_update};
+use crate::scanning::scan_for_update;
 use crate::touched::touch;
 use ledger_core::{Op, OpFault, Row};
 use register_rule::{Board, WorkSeat};
@@ -91,7 +91,7 @@ fn fill_version<const N: usize, const C: usize, const H: usize, const G: usize>(
     ensures none { result ≡ false → ended ≡ ScanEnd.GaveUp }
 {
     let (vector, totals) = memory.answer(ended);
-    let lends = has_view(ended);
+    let lends = ended.has_view();
     let version = NextVersion::new(row, flag_word(lends), vector, totals);
     if repeats {
         let hidden = images.hidden.as_mut_slice();

@@ -11,7 +11,8 @@ use Rattle.register_rule.specs.Seats.{board_id}
 use Rattle.snapshot_update.specs.declared.worker.Worker.{Worker}
 use Rattle.snapshot_update.specs.Workers.{index_of, lists_of, IsWorkerOf, IsCounted}
 use Rattle.worker_pool.specs.declared.job.Job.{Job}
-use Rattle.worker_pool.specs.Jobs.{op_of, registry_of, list_of_job}
+use Rattle.snapshot_update.specs.JobOps.{op_of, registry_of}
+use Rattle.worker_pool.specs.Jobs.{list_of_job}
 use Rattle.worker_pool.specs.Works.{Did}
 use Rattle.worker_pool.proofs.Places.{take_next}
 

@@ -11,7 +11,8 @@ use Rattle.snapshot_update.specs.Faults.{count_fault_number}
 use Rattle.worker_pool.specs.declared.fault.PoolFault.{PoolFault}
 use Rattle.worker_pool.specs.declared.fault.PoolFault.TheVariants.{Refused, GateShut, NoThread, NoMemory}
 use Rattle.worker_pool.specs.declared.job.Job.{Job}
-use Rattle.worker_pool.specs.Jobs.{op_of, registry_of, list_of_job}
+use Rattle.snapshot_update.specs.JobOps.{op_of, registry_of}
+use Rattle.worker_pool.specs.Jobs.{list_of_job}
 
 module _ {N C H G : ℕ} where
   -- from w to v this worker of the board did these jobs: it published one list for each of them, in their order, and the

@@ -1,25 +1,11 @@
 //! Jobs: what a worker of a pool is to do.
 ghost use Rattle.std.specs.Prelude.{◌≡◌, OnOk, OnErr, IfErr};
 ghost use Rattle.register_rule.specs.Seats.{board_id};
+ghost use Rattle.snapshot_update.specs.JobOps.{op_of, registry_of};
 ghost use Rattle.snapshot_update.specs.Workers.{index_of, member_of, IsWorkerOf, IsCounted, IsCountFault};
-ghost use Rattle.worker_pool.specs.Jobs.{op_of, registry_of};
 
-use ledger_core::{Counter, Gauge, Histogram};
 use register_rule::Board;
-use snapshot_update::{CountFault, Worker};
-
-/// What a worker is to count.
-#[derive(Clone, Copy, Debug, PartialEq, Eq)]
-pub enum JobOp {
-    /// Adds this to a counter.
-    Inc(Counter, u64),
-    /// Counts this value of a histogram.
-    Observe(Histogram, u64),
-    /// Raises a gauge by this.
-    Up(Gauge, u64),
-    /// Lowers a gauge by this.
-    Down(Gauge, u64),
-}
+use snapshot_update::{CountFault, JobOp, Worker};
 
 /// A job: what is to be counted, and the line that asked for it, by which a refusal is told.
 #[derive(Clone, Copy, Debug, PartialEq, Eq)]
@@ -50,11 +36,6 @@ impl Job {
             (member_of worker.old)) }
         ensures unchanged { OnErr result (worker.new ≡ worker.old) }
     {
-        match &self.what {
-            JobOp::Inc(counter, by) => worker.inc(board, counter, *by),
-            JobOp::Observe(hist, value) => worker.observe(board, hist, *value),
-            JobOp::Up(gauge, by) => worker.up(board, gauge, *by),
-            JobOp::Down(gauge, by) => worker.down(board, gauge, *by),
-        }
+        self.what.run(board, worker)
     }
 }

@@ -14,6 +14,7 @@ mod way;
 
 pub use fault::PoolFault;
 pub use gate::{Gate, Open};
-pub use job::{Job, JobOp};
+pub use job::Job;
 pub use job_lists::JobLists;
 pub use run::{run_freely, run_lists, run_pool};
+pub use snapshot_update::JobOp;

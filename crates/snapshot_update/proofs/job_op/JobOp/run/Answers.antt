@@ -1,9 +1,9 @@
 use Rattle.std.proofs.Common.{IfErr, sym, subst}
 use Rattle.register_rule.specs.Seats.{board_id}
 use Rattle.snapshot_update.specs.Workers.{member_of, IsCountFault}
-use Rattle.worker_pool.specs.declared.job.JobOp.{JobOp}
-use Rattle.worker_pool.specs.Jobs.{op_of, registry_of}
-use Rattle.worker_pool.proofs.job.Job.run.Goals as goal
+use Rattle.snapshot_update.specs.declared.job_op.JobOp.{JobOp}
+use Rattle.snapshot_update.specs.JobOps.{op_of, registry_of}
+use Rattle.snapshot_update.proofs.job_op.JobOp.run.Goals as goal
 
 pub returns-in-Observe-clause-fault : goal.returns-in-Observe-clause-fault
 returns-in-Observe-clause-fault g c =
