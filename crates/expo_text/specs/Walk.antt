@@ -1,15 +1,9 @@
 -- The parts of a text in the order in which they are written.
-use Rattle.std.specs.Prelude.{ℕ, ◌==◌, Bool, true, false, if◌then◌else◌, List, [], ◌∷◌, ◌++◌, codes, length, map, slice_index}
+use Rattle.std.specs.Prelude.{ℕ, ◌==◌, if◌then◌else◌, List, [], ◌∷◌, ◌++◌, codes, length, map, slice_index}
 use Rattle.std.specs.Prelude.{decimal}
 use Rattle.std.specs.List.{flat_map, join_by, range_with_len}
-use Rattle.metric_names.specs.Escapes.{help_byte, label_byte}
 use Rattle.expo_text.specs.Text.{label_text, labels_text}
 use Rattle.expo_text.specs.Shifted.{shifted}
-
--- how a byte is written, in quotes or in a help
-abbrev pub byte_text : Bool → ℕ → List ℕ
-byte_text true = label_byte
-byte_text false = help_byte
 
 -- the brace or the comma before the label at a place
 abbrev pub mark : ℕ → List ℕ

@@ -1,24 +1,13 @@
-ghost use Rattle.std.specs.Prelude.{◌≡◌, ◌++◌, [], ◌∷◌, length, zip, All, MatchOption};
+ghost use Rattle.std.specs.Prelude.{◌≡◌, ◌++◌, length, zip, All};
 ghost use Rattle.std.specs.List.{flat_map};
+ghost use Rattle.metric_names.specs.ByteText.{byte_text};
 ghost use Rattle.metric_names.specs.LabelName.{IsLabelName};
 ghost use Rattle.expo_text.specs.Spelled.{IsSpelledValue};
 ghost use Rattle.expo_text.specs.Text.{label_text, labels_text};
-ghost use Rattle.expo_text.specs.Walk.{byte_text, mark, opened, closing};
+ghost use Rattle.expo_text.specs.Walk.{mark, opened, closing};
 
 use crate::sink::Sink;
-use metric_names::{LabelName, LabelValue};
-
-/// What stands for a byte that cannot stand as it is: a backslash or a line feed, and in a label's value a double quote.
-fn escape(byte: u8, quoted: bool) -> Option<&'static [u8]>
-    ensures { MatchOption result (byte_text quoted byte ≡ byte ∷ []) (λ escaped. byte_text quoted byte ≡ escaped.now) }
-{
-    match byte {
-        b'\\' => Some(b"\\\\"),
-        b'\n' => Some(b"\\n"),
-        b'"' if quoted => Some(b"\\\""),
-        _ => None,
-    }
-}
+use metric_names::{LabelName, LabelValue, escape};
 
 /// Writes a text escaped, in runs of bytes that stand as they are.
 pub(crate) fn put_escaped<S: Sink>(sink: &mut S, bytes: &[u8], quoted: bool)

@@ -4,3 +4,4 @@ pub mod LabelName
 pub mod HelpText
 pub mod LabelValue
 pub mod Escapes
+pub mod ByteText

@@ -4,6 +4,7 @@
 //! The grammars are those of the Prometheus documentation, "Data model" and "Exposition formats".
 #![tactic(auto)]
 
+mod escaping;
 mod help_text;
 mod label_name;
 mod label_value;
@@ -11,6 +12,7 @@ mod metric_name;
 mod no_memory;
 mod spelling;
 
+pub use escaping::escape;
 pub use help_text::{HelpText, HelpTextFault};
 pub use label_name::{LabelName, LabelNameFault};
 pub use label_value::{LabelValue, LabelValueFault};

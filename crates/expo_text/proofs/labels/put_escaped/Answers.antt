@@ -1,5 +1,5 @@
 use Rattle.std.proofs.Common.{refl, arith}
-use Rattle.expo_text.specs.Walk.{byte_text}
+use Rattle.metric_names.specs.ByteText.{byte_text}
 use Rattle.expo_text.proofs.Runs.{run-kept, run-written, run-begun, run-last}
 use Rattle.expo_text.proofs.labels.put_escaped.Goals as goal
 use Rattle.expo_text.proofs.labels.put_escaped.Goals.{in-Some, in_default}

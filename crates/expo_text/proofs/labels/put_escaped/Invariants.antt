@@ -1,6 +1,6 @@
 use Rattle.std.proofs.Common.{◌≤◌, take}
 use Rattle.std.specs.List.{flat_map}
-use Rattle.expo_text.specs.Walk.{byte_text}
+use Rattle.metric_names.specs.ByteText.{byte_text}
 use Rattle.expo_text.proofs.Runs.{IsRun}
 use Rattle.expo_text.proofs.labels.put_escaped.Given as goal
 
