@@ -185,16 +185,14 @@ fn put_histogram<S: Sink>(
     put_sample(sink, desc, values, "_count", 0, count);
 }
 
-/// A difference: a blank, with a minus behind it where it is below zero, and how large it is.
-fn difference(up: u64, down: u64) -> (&'static str, u64)
-    ensures { (digits : ℕ) → result.0.now ++ shifted digits result.1
-        ≡ codes " " ++ signed_shifted digits (pos up -ℤ pos down) }
+/// The value of a gauge: a blank, with a minus behind it where it is below zero, and how far from zero it is.
+fn difference(totals: &GaugeTotals) -> (&'static str, u64)
+    ensures value { (digits : ℕ) → result.0.now ++ shifted digits result.1
+        ≡ codes " " ++ signed_shifted digits (pos totals.now.up -ℤ pos totals.now.down) }
+    ensures words { IsOfWords (Number.Gauge totals.now) }
 {
-    if up >= down {
-        (" ", up - down)
-    } else {
-        (" -", down - up)
-    }
+    let (is_below, size) = totals.signed();
+    (if is_below { " -" } else { " " }, size)
 }
 
 /// Writes the line of a gauge: its ups less its downs.
@@ -206,7 +204,7 @@ fn put_gauge<S: Sink>(sink: &mut S, desc: &Desc, values: &[LabelValue], totals: 
     ensures values { All IsSpelledValue values.now }
     ensures words { IsOfWords (Number.Gauge totals.now) }
 {
-    let (blank, size) = difference(totals.up, totals.down);
+    let (blank, size) = difference(totals);
     put_series(sink, desc, values, "");
     put_value(sink, blank, desc.digits(), size);
 }

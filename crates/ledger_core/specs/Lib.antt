@@ -9,3 +9,4 @@ pub mod Vectors
 pub mod Joining
 pub mod Takes
 pub mod Tally
+pub mod Signed

@@ -13,6 +13,7 @@ mod op;
 mod op_fault;
 mod op_list;
 mod row;
+mod signed;
 mod tally;
 mod tally_fault;
 mod totals;
