@@ -78,8 +78,19 @@ def compiled(compiler, *words):
     check(status == 0, f"{compiler} {' '.join(map(str, words))}: {told[-2000:]}")
 
 
+def units(room):
+    """The translation units of the tests: what the files share, and a file that includes all others; and one that includes all, whose headers are
+    read once."""
+    shared, *others = sorted(HERE.glob("test*.cc"))
+    rest, whole = room / "rest.cc", room / "whole.cc"
+    rest.write_text("".join(f'#include "{it}"\n' for it in others))
+    whole.write_text("".join(f'#include "{it}"\n' for it in (shared, *others)))
+    return (shared, rest), (whole,)
+
+
 def tests(prefix, room, pool):
-    """The tests by each compiler, plainly and with each sanitizer. They are run one after the other, while the pool compiles those behind them."""
+    """The tests by each compiler, plainly and with each sanitizer. They are run one after the other, while the pool compiles those behind them. The
+    plain ones are linked of two translation units: what a header has to define once is one thing in both."""
     kinds = []
     for compiler in compilers():
         kinds.append((compiler, ""))
@@ -89,8 +100,9 @@ def tests(prefix, room, pool):
             else:
                 lacks(f"-fsanitize={sanitizer} of {compiler}")
     parts = {}
+    two, one = units(room)
     for compiler, sanitizer in kinds:
-        objects = {source: room / f"{compiler}_{sanitizer}_{source.stem}.o" for source in sorted(HERE.glob("test*.cc"))}
+        objects = {source: room / f"{compiler}_{sanitizer}_{source.stem}.o" for source in (one if sanitizer else two)}
         words = (*flags(sanitizer), f"-I{prefix}/include", "-c")
         parts[compiler, sanitizer] = list(objects.values()), [
             pool.submit(compiled, compiler, *words, source, "-o", part) for source, part in objects.items()]

@@ -58,7 +58,7 @@ static_assert(
 static_assert(noexcept(std::declval<const Histogram &>().Observe(1)) &&noexcept(std::declval<Tally &>().Flush()));
 static_assert(noexcept(std::declval<const Registry &>().Publish(std::declval<const std::vector<Change> &>())));
 
-static const std::uint64_t full = (std::uint64_t{1} << 48) - 1;
+static const std::uint64_t largest = (std::uint64_t{1} << 48) - 1;
 
 // Catches a number that is lost on the way, and a text that does not say which metric it is.
 static void OfTexts() {
@@ -141,12 +141,12 @@ static void OfCounts() {
     Registry registry, other;
     auto a = CounterOf(registry, "a_total"), foreign = CounterOf(other, "b_total");
     auto h = HistogramOf(registry, "h");
-    a.Increment(full);
+    a.Increment(largest);
     Is("nothing was refused", static_cast<long long>(registry.Refused() + registry.LastRefusal()), 0);
     Is("too large", a.TryIncrement(), 12);
     Is("who asks is told", static_cast<long long>(registry.Refused()), 0);
     a.Increment();
-    h.Observe(full + 1);
+    h.Observe(largest + 1);
     registry.Publish({h.Of(1), a.By(1)});
     Is("who does not, by the registry", static_cast<long long>(registry.Refused()), 3);
     Is("by its number", registry.LastRefusal(), 12);
