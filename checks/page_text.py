@@ -1,5 +1,6 @@
 """The texts of a page, several boards behind one: those that test_growth.c expects, and those of one board and of 40 that `bench page` prints, of
 bindings/c/bench. Each series once, families and children in order, by plain Python; and Prometheus' own parsers read them, a sample a line."""
+import functools
 import math
 import re
 import shutil
@@ -35,6 +36,7 @@ def texts_of(root):
     return texts
 
 
+@functools.lru_cache
 def texts_by(bench):
     """The text of one board, and that of 40, whichever board a family is on."""
     texts = [printed(bench, "one"), printed(bench, "whole")]
