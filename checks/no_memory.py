@@ -13,7 +13,7 @@ from started import check
 ONCE, OFTEN = "memory::each_call_once", "memory::each_call_a_thousand_times"
 # The file of the tests of each crate, and those whose calls it makes. Meetings make the three calls of a reader that are left out.
 TRIED = {
-    "unit_tests": ("memory.rt", ("snapshot_update/src/worker.rt", "snapshot_scan/src/reader.rt", "ledger_core/src/tally.rt")),
+    "inner_tests": ("tests/memory.rt", ("snapshot_update/src/worker.rt", "snapshot_scan/src/reader.rt", "ledger_core/src/tally.rt")),
     "front_tests": ("tests/memory.rt", ("dirgwako/src/recorder.rt", "page_crew/src/page_recorder.rt", "page_crew/src/publishing.rt")),
 }
 WITHIN_OTHERS = {"admit", "release", "tell"}

@@ -1,9 +1,0 @@
-mod failing;
-mod hands_on;
-mod kept;
-mod pages;
-mod pool;
-mod registry;
-mod servers;
-mod told;
-mod tour;
