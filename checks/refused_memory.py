@@ -75,18 +75,14 @@ class Refusing:
         return out.decode(), err.decode(), status, self.made()
 
 
-def libraries(crate):
-    """The repository's libraries that a crate lists."""
-    for line in (ROOT / "crates.txt").read_text().splitlines():
-        name, _, below = line.partition(":")
-        if name == crate:
-            return [it for it in below.split() if (ROOT / "crates" / it).is_dir()]
-    raise Failed(f"crates.txt does not list {crate}")
+def libraries(module):
+    """The repository's libraries that a module uses."""
+    return [it for it in sorted(set(re.findall(r"^use (\w+)::", module, re.M))) if (ROOT / "crates" / it).is_dir()]
 
 
-def calls_that_take_memory(crate):
-    """How many public calls of the libraries of a crate are handed the allocator, or can answer that there was no memory."""
-    sources = [path.read_text() for it in libraries(crate) for path in (ROOT / "crates" / it / "src").rglob("*.rt")]
+def calls_that_take_memory(module):
+    """How many public calls of the libraries of a module are handed the allocator, or can answer that there was no memory."""
+    sources = [path.read_text() for it in libraries(module) for path in (ROOT / "crates" / it / "src").rglob("*.rt")]
     faults = [name for text in sources for name in re.findall(r"\benum (\w+) \{[^}]*\bNoMemory\b", text)]
     tells = re.compile(rf"\balloc: Global\b|->[^{{;]*\b({'|'.join(['NoMemory', 'NoMemoryForSeat', 'AllocError', *faults])})\b", re.S)
     heads = [it for text in sources for it in re.findall(r"\bpub fn \w+.*?(?=\n\s*(?:requires|ensures|\{)|\{)", text, re.S)]
@@ -114,18 +110,26 @@ def check_test(refusing, test):
     raise Failed(f"{test} makes more than {MOST} allocations")
 
 
+def check_module(refusing, module, tests):
+    """Runs the tests of growths of a module. Returns how many runs met a refusal."""
+    refused, wanted = sum(check_test(refusing, it) for it in tests), calls_that_take_memory(module)
+    check(refused >= wanted > 0, f"{tests}: {refused} allocations were refused, and the libraries there have {wanted} calls that take memory")
+    return refused
+
+
 def check_tests(name, room):
     """Runs the tests of growths of a crate. Returns how many runs met a refusal."""
-    refusing = Refusing(ROOT / "crates" / name / "out" / f"{name}_tests", room)
+    refusing, folder = Refusing(ROOT / "crates" / name / "out" / f"{name}_tests", room), ROOT / "crates" / name / "src"
     listed, _, status = run(refusing.program, "--list")
     tests = re.findall(r"^((?:\w+::)*growth_\w+): test$", listed.decode(), re.M)
-    sources = (ROOT / "crates" / name / "src").glob("growth*/**/*.rt")
-    there = sum(it.read_text().count("#[test]") for it in [ROOT / "crates" / name / "src/growth.rt", *sources])
-    check(status == 0 and len(tests) == there > 0, f"{name} lists all its {there} tests of growths: {tests}")
-    refused = sum(check_test(refusing, test) for test in tests)
-    wanted = calls_that_take_memory(name)
-    check(refused >= wanted, f"{name}: {refused} allocations were refused, and its libraries have {wanted} calls that take memory")
-    return refused
+    modules = {}
+    for source in (folder / "growth.rt", *folder.glob("growth/**/*.rt")):
+        own = [it for it in tests if it.split("::")[:-1] == list(source.relative_to(folder).with_suffix("").parts)]
+        check(len(own) == source.read_text().count("#[test]"), f"{name} lists all tests of {source.name}: {own}")
+        if own:
+            modules[source.read_text()] = own
+    check(status == 0 and tests and sum(map(len, modules.values())) == len(tests), f"the tests of growths of {name} are in growth: {tests}")
+    return sum(check_module(refusing, *it) for it in modules.items())
 
 
 def fronts_of(refusing, name, lines):

@@ -240,7 +240,7 @@ fn grow_and_count(
 }
 
 /// One of one thread.
-pub(super) fn grow_alone(rt: &impl Abort, alloc: Global) -> Result<(), Fail> {
+fn grow_alone(rt: &impl Abort, alloc: Global) -> Result<(), Fail> {
     let mut look = Look::new(alloc)?;
     let mut registry = new_state(rt, alloc)?;
     grow_and_count(rt, alloc, &mut registry, &mut look)
@@ -325,7 +325,19 @@ fn grow_of(
 }
 
 /// A registry behind its lock grows.
-pub(super) fn grow_shared(rt: &(impl Wait + Abort), alloc: Global) -> Result<(), Fail> {
+fn grow_shared(rt: &(impl Wait + Abort), alloc: Global) -> Result<(), Fail> {
     let mut crew = Crew::<1, 1, 1, 1>::new(alloc, ID, 1)?;
     grow_of(rt, alloc, &crew.board, &mut crew.readers, &mut crew.workers)
+}
+
+/// A registry of one thread. The window of two holds, and the least free slots are used, whatever was refused before.
+#[test]
+fn growth_state(rt: HostRuntime) -> Result<(), Fail> {
+    grow_alone(&rt, rt.alloc())
+}
+
+/// A registry behind its lock.
+#[test]
+fn growth_registry(rt: HostRuntime) -> Result<(), Fail> {
+    grow_shared(&rt, rt.alloc())
 }
