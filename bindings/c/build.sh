@@ -48,7 +48,6 @@ for it in rt cc ar; do
     command -v $it > /dev/null || fail "'$it' is not on the path"
 done
 kit=$(dirname "$(rt doc)")
-cores=$(getconf _NPROCESSORS_ONLN)
 
 # Where what was proved for these four numbers is kept: a build proves again only what has changed, or rests on what has. Most functions are for any
 # numbers, so the first build for some begins with what the last one has left for others, or a check of the crate.
@@ -59,7 +58,8 @@ kept_for() {
     mkdir -p "$kept"
 }
 
-# The archive of the crate in this folder, over the libraries below: what `rt lib` does last.
+# The archive of the crate in this folder, over the libraries below: what `rt lib` does last. By one process: several take as long together, and far
+# more of the processor, since each reads anew what it rests on.
 library() {
     words='' kept=$out/kept/$1_$2_$3_$4
     for it in std $(sed -n 's/^dirgwako_c staticlib: //p' "$top/crates.txt"); do
@@ -72,7 +72,7 @@ library() {
     done
     # (each word is one: no path here has a blank)
     "$kit/bin/rattle" build --crate-name dirgwako_c src/lib.rt $words --antt-project "$kit/rattle/logic/antt-project.json" --links dirgwako_c= \
-        --crate-type staticlib --logic-built "$kit/logic_built" --incremental "$kept" --jobs "$jobs" --toolchain "$kit/toolchain" \
+        --crate-type staticlib --logic-built "$kit/logic_built" --incremental "$kept" --jobs 1 --toolchain "$kit/toolchain" \
         --backend "${compiler:-llvm}" -o archive.a
 }
 
@@ -110,12 +110,9 @@ find "$out" -mindepth 1 -maxdepth 1 ! -name kept -exec rm -rf {} +
 [ "$proved" ] || (cd "$top/crates/dirgwako_c" && rt lib) > "$out/build.log" 2>&1 || fail "the library is not built: $out/build.log says why"
 cp "$here/dirgwako.h" "$here/dirgwako_heap.h" "$out/"
 if [ $# = 4 ]; then
-    jobs=$cores
     kept_for "$@"
     make dirgwako "$@"
 else
-    # One process a library: several take as long together, and far more of the processor, since each reads anew what it rests on.
-    jobs=1
     kept_for 4 64 8 8
     make dirgwako 4 64 8 8
     # The others side by side, over what the first has proved.
