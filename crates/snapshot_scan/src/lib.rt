@@ -16,6 +16,7 @@
 mod asks;
 mod changed_items;
 mod contended;
+mod end_told;
 mod exchange;
 mod first_collect;
 mod items;
