@@ -19,6 +19,7 @@ import refused_memory
 import rust_library
 import servers
 import shifted
+import vendored
 from started import Failed, Skipped, check, run
 
 ROOT = pathlib.Path(__file__).resolve().parent.parent
@@ -49,6 +50,7 @@ def checks_of(prefix):
     return [
         ("pages", lambda: pages.check_all(ROOT)),
         ("wrong bodies", lambda: aside.check_all(ROOT)),
+        ("vendor.sh", vendored.check_all),
         ("shifted numbers", lambda: shifted.check_exact(ROOT)),
         ("Prometheus' parser for Python", lambda: shifted.check_python(ROOT)),
         ("promtool", lambda: shifted.check_promtool(ROOT)),
