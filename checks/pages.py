@@ -1,9 +1,11 @@
 """The pages: the README and the guides show programs word for word, and what stands in the tutorial and the example; each link
 of a page leads to a file, and a page names no file, call or definition that is not there."""
+import functools
 import re
 
 from started import check
 
+GUIDES = ("docs/GUIDE.md", "docs/OPERATING.md")
 STEPS = {"README.md": ("counter", "labels", "endpoint"), "docs/GUIDE.md": ("threads",)}
 MOST = 230
 
@@ -21,12 +23,13 @@ def shown(root):
 
 
 def quoted(root):
-    """How many pieces the guide quotes, each of which stands word for word in a file of the tutorial or the example."""
+    """How many pieces the guides quote, each of which stands word for word in a file of the tutorial or the example."""
     files = [*root.glob("crates/tutorial/src/*.rt"), *root.glob("crates/example_service/src/*.rt"), *root.glob("crates/example_service/*.yml")]
     texts = [file.read_text() for file in files]
-    pieces = re.findall(r"^```(?:rust|yaml)\n(.*?)^```$", (root / "docs/GUIDE.md").read_text(), re.M | re.S)
+    guides = "".join((root / it).read_text() for it in GUIDES)
+    pieces = re.findall(r"^```(?:rust|yaml)\n(.*?)^```$", guides, re.M | re.S)
     for piece in pieces:
-        check(any(piece in text for text in texts), f"docs/GUIDE.md quotes what stands in a file:\n{piece}")
+        check(any(piece in text for text in texts), f"a guide quotes what stands in a file:\n{piece}")
     return len(pieces)
 
 
@@ -38,13 +41,22 @@ def sources_of(root):
     return [*root.glob("crates/*/src/**/*.rt"), *root.glob("crates/*/specs/**/*.antt"), *root.glob("crates/*/proofs/**/*.antt")]
 
 
+@functools.lru_cache
+def parts(page):
+    """The names by which links reach the headings of a page."""
+    text = re.sub(r"^```.*?^```$", "", page.read_text(), flags=re.M | re.S)
+    return {re.sub(r"[^\w\- ]", "", it.lower()).replace(" ", "-") for it in re.findall(r"^#+ (.*)$", text, re.M)}
+
+
 def links(root):
-    """How many links to files of the repository the pages have."""
+    """How many links to files of the repository, and to parts of pages, the pages have."""
     count = 0
     for page in pages_of(root):
-        for target in re.findall(r"\]\(([^)#\s]+)[^)]*\)", page.read_text()):
+        for target, part in re.findall(r"\]\(([^)#\s]*)(?:#([^)\s]+))?\)", page.read_text()):
             if not target.startswith("http"):
-                check((page.parent / target).exists(), f"{page.relative_to(root)}: {target} is there")
+                file = (page.parent / target) if target else page
+                check(file.exists(), f"{page.relative_to(root)}: {target} is there")
+                check(not part or part in parts(file), f"{page.relative_to(root)}: {target} has a part {part}")
                 count += 1
     return count
 
