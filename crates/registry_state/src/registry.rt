@@ -16,7 +16,7 @@ use crate::used::Used;
 use expo_text::Scrape;
 use metric_desc::{Desc, Kind};
 use metric_names::{LabelValue, NoMemory};
-use snapshot_scan::{Snapshot, Source};
+use snapshot_scan::Source;
 use std::alloc::Global;
 use std::marker::Model;
 
@@ -111,8 +111,6 @@ impl<
     ghost use Rattle.registry_state.specs.Calls.{IsGiven, IsFound, IsInside, WasMade, changed, KeepsScrape};
     ghost use Rattle.registry_state.specs.Kept.{IsKept};
     ghost use Rattle.registry_state.specs.Shown.{IsShown};
-    ghost use Rattle.snapshot_scan.specs.Snapshots.{as_answer};
-    ghost use Rattle.snapshot_scan.specs.Sources.{Records};
 
     /// A registry of this id, with an empty journal and without families, that keeps `window` scrapes. Room for them is made
     /// here. It asks for `N` from 1 to 32, and at most 256, 32 and 64 for `C`, `H` and `G`. Over a board the id has to be the board's
@@ -266,35 +264,6 @@ impl<
         let window = self.window;
         self.journal.note_scrape(&mut self.source, window)?;
         Ok(())
-    }
-
-    /// Scans another source, a further reader of the same board, and gives all families with their numbers in its answer. Nothing is kept,
-    /// and the registry is lent: any number of threads may do so at once, each with a source and a snapshot of its own. All memory is
-    /// taken before the scan.
-    ///
-    /// # Errors
-    ///
-    /// 6 [`ScrapeFault::NoMemory`]: nothing was scanned. 14 [`ScrapeFault::Contended`]: the scan was given up. `out` is unchanged then.
-    pub fn show<T: Source<N, C, H, G>>(
-        &self,
-        source: &mut T,
-        out: &mut Snapshot<N, C, H, G>,
-    ) -> Result<Scrape, ScrapeFault>
-        ensures shown { IfOk result (IsShown C H self.now.state.families (as_answer out.new)) }
-        ensures recorded { OnOk result (Records N C H G (T.recorded source.old) (T.recorded source.new) (as_answer out.new)) }
-        ensures gave { OnOk result (T.gave source.old source.new (as_answer out.new)) }
-        ensures quit { OnOk result (T.quit source.new ≡ T.quit source.old) }
-        ensures fault { IfErr result (Leaves N T.recorded T.quit T.gave_up source.old source.new) }
-        ensures unchanged { OnErr result (out.new ≡ out.old) }
-    {
-        let alloc = *self.families.allocator();
-        let Ok(blank) = Blank::new(alloc, N, &self.families, &self.order) else {
-            return Err(ScrapeFault::NoMemory);
-        };
-        match source.scan(out) {
-            Ok(()) => Ok(blank.fill(&self.families, &self.order, out)),
-            Err(given_up) => Err(ScrapeFault::Contended(given_up)),
-        }
     }
 
     /// How many families are registered.

@@ -5,7 +5,7 @@ use ledger_core::{Counter, Histogram, Op};
 use metric_desc::Desc;
 use metric_names::{HelpText, LabelName, LabelValue, MetricName};
 use registry_state::{FamilyId, Handle, RegistryState};
-use snapshot_scan::{PlainSource, Snapshot};
+use snapshot_scan::PlainSource;
 use std::alloc::Global;
 use std::process::Abort;
 
@@ -111,23 +111,4 @@ fn tour(rt: HostRuntime) {
     serve(rt, &mut service, rt.alloc());
     let text = need(rt, render(&need(rt, service.scrape())));
     same(rt, text.as_slice(), SHOWN.as_bytes());
-}
-
-/// A scrape is kept that nobody is given, and what another source has is shown and not kept.
-#[test]
-fn kept_and_shown(rt: HostRuntime) {
-    let (rt, alloc) = (&rt, rt.alloc());
-    let mut service = new_service(rt, alloc);
-    let family = need(rt, service.register(requests(rt, alloc)));
-    let served = coded(rt, &mut service, alloc, family, "200");
-    need(rt, service.keep());
-    let mut other = need(rt, PlainSource::<2, 1, 1>::new(alloc));
-    let (counter, by) = (served.slot, 4);
-    need(rt, other.apply(&[Op::Inc { counter, by }]));
-    let mut out = need(rt, Snapshot::new(alloc));
-    let text = need(rt, render(&need(rt, service.show(&mut other, &mut out))));
-    let shown =
-        b"# TYPE http_requests_total counter\nhttp_requests_total{code=\"200\"} 4\n".as_slice();
-    same(rt, text.as_slice(), shown);
-    same(rt, service.kept().len(), 1);
 }
