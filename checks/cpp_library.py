@@ -59,11 +59,11 @@ def has(compiler, sanitizer, room):
     return built and run(probe)[2] == 0
 
 
-def flags(sanitizer):
-    """(g++ takes three times as long to optimize what looks for undefined behaviour)"""
-    if not sanitizer:
-        return ("-O1",)
-    return ("-O1" if sanitizer == "thread" else "-O0", f"-fsanitize={sanitizer}", "-fno-sanitize-recover=all")
+def flags(compiler, sanitizer):
+    """What is optimized is tried by g++ alone, since the templates of the standard library take the compilers long; and g++ takes three times as long
+    to optimize what looks for undefined behaviour."""
+    level = "-O1" if compiler == "g++" and sanitizer in ("", "thread") else "-O0"
+    return (level, f"-fsanitize={sanitizer}", "-fno-sanitize-recover=all") if sanitizer else (level,)
 
 
 def told_by(compiler, *words):
@@ -103,7 +103,7 @@ def tests(prefix, room, pool):
     two, one = units(room)
     for compiler, sanitizer in kinds:
         objects = {source: room / f"{compiler}_{sanitizer}_{source.stem}.o" for source in (one if sanitizer else two)}
-        words = (*flags(sanitizer), f"-I{prefix}/include", "-c")
+        words = (*flags(compiler, sanitizer), f"-I{prefix}/include", "-c")
         parts[compiler, sanitizer] = list(objects.values()), [
             pool.submit(compiled, compiler, *words, source, "-o", part) for source, part in objects.items()]
 
@@ -112,7 +112,7 @@ def tests(prefix, room, pool):
         for it in begun:
             it.result()
         program = room / f"test_{'_'.join(kind)}_{library}"
-        done(kind[0], *flags(kind[1]), *objects, prefix / f"lib/lib{library}.a", "-lpthread", "-o", program)
+        done(kind[0], *flags(*kind), *objects, prefix / f"lib/lib{library}.a", "-lpthread", "-o", program)
         # (ThreadSanitizer is told of the one place where it cannot see how threads are ordered)
         told = ("env", f"TSAN_OPTIONS=suppressions={prefix}/share/dirgwako/tsan.supp") if kind[1] == "thread" else ()
         return passes(program, *told)
