@@ -13,7 +13,7 @@ DEBIAN = "/usr/lib/python3/dist-packages"
 # Digits, a number, and how it is shown: the rows of the tests in C, and those of the greatest number, which no threads have counted.
 ROWS = {
     "bindings/c/test_texts.c": re.compile(r'^    \{(\d), (\d+), "([^"]*)"\},$', re.M),
-    "crates/inner_tests/src/tests/texts.rt": re.compile(r'^    \((\d), (u64::MAX), b"([^"]*)"\),$', re.M),
+    "crates/library_tests/src/tests/texts.rt": re.compile(r'^    \((\d), (u64::MAX), b"([^"]*)"\),$', re.M),
 }
 LITERALS = re.compile(r'"(?:[^"\\\n]|\\.)*"(?:\s+"(?:[^"\\\n]|\\.)*")*')
 

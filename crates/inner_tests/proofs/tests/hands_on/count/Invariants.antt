@@ -1,5 +1,0 @@
-use Rattle.snapshot_update.specs.Workers.{IsWorkerOf}
-use Rattle.inner_tests.proofs.tests.hands_on.count.Given as goal
-
-abbrev pub invariant-loop-k : goal.invariant-loop-k
-invariant-loop-k l = IsWorkerOf l.board l.worker
