@@ -1,4 +1,4 @@
-use Rattle.std.proofs.Common.{◌≡◌, ℕ, ◌+◌, List, [], ◌∷◌, ◌++◌, None, map, replicate, refl, ap, ◌∙◌}
+use Rattle.std.proofs.Common.{◌≡◌, ℕ, ◌+◌, List, [], ◌∷◌, ◌++◌, None, map, replicate, refl, ap, ◌∙◌, rules}
 use Rattle.std.proofs.lemmas.List.{replicate_more}
 use Rattle.ledger_core.specs.Ops.{width}
 use Rattle.snapshot_core.specs.Machine.{seg_of, blank_of}
@@ -18,3 +18,11 @@ loop-k-preserved g c =
     one_more seg_of c.loop-k.segments.items _ _ c.loop-k._k (blank_of (width g.row.C g.row.H g.row.G)) c.in_ok-push.ensures.items
     c.loop-k.invariant
     (λ z. record { number = 0; row = c.new.ensures.zeros z; view = None })
+
+pub loop-k-init : goal.loop-k-init
+loop-k-init g c = ap (map seg_of) c.new-segments.ensures.items
+
+pub returns : goal.returns
+returns g c =
+    let k : c.loop-k._k ≡ c.args.n = search rules in
+    c.loop-k.invariant ∙ ap (λ (n : ℕ). replicate n (blank_of (width g.row.C g.row.H g.row.G))) k

@@ -1,5 +1,5 @@
-use Rattle.std.proofs.Common.{ℕ, rules, ◌∙◌, sym, ap}
-use Rattle.snapshot_core.specs.Machine.{World, happens, world_of}
+use Rattle.std.proofs.Common.{◌≡◌, ℕ, length, rules, ◌∙◌, sym, ap}
+use Rattle.snapshot_core.specs.Machine.{World, happens, world_of, world_at}
 use Rattle.snapshot_core.proofs.Mirror.{world_next}
 use Rattle.snapshot_core.proofs.machine.run_machine.Goals as goal
 
@@ -14,3 +14,11 @@ loop-at-preserved g c = record {
       ∙ sym (world_next g.row.C g.row.H g.row.G c.args.n c.args.events.now c.loop-at.at c.index-events-at.result
       (search rules) c.index-events-at.is);
 }
+
+pub loop-at-init : goal.loop-at-init
+loop-at-init g c = record { same = c.in_ok-machine.ensures.same; world = c.in_ok-machine.ensures.world }
+
+pub returns : goal.returns
+returns g c =
+    let k : c.loop-at.at ≡ length c.args.events.now = search rules in
+    c.loop-at.invariant.world ∙ ap (world_at g.row.C g.row.H g.row.G c.args.n c.args.events.now) k
