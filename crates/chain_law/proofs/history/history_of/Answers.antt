@@ -3,7 +3,11 @@ use Rattle.std.proofs.lemmas.List.{length-map}
 use mathlib.Core.Option.{some}
 use lib.ListN.{get_elem?}
 use Rattle.snapshot_scan.specs.Snapshots.{Taken}
-use Rattle.chain_law.specs.History.{vectors_of, IsHistory, IsPiece}
+use Rattle.std.proofs.lemmas.Result.{IfOk-from_err}
+use Rattle.std.specs.Prelude.{Result, Ok, Err, IsErrAnd, IfErr}
+use Rattle.chain_law.specs.declared.turns.ChainFault.{ChainFault}
+use Rattle.chain_law.specs.declared.turns.ChainFault.TheVariants.{NoMemory}
+use Rattle.chain_law.specs.History.{vectors_of, AreRising, IsHistory, IsPiece, IsChainFault}
 use Rattle.chain_law.proofs.Histories.{of_none, rises_from, history_next}
 use Rattle.chain_law.proofs.Vectors.{vector_at}
 use Rattle.chain_law.proofs.history.history_of.Goals as goal
@@ -48,3 +52,24 @@ returns-clause-history g c =
 
 pub returns-in-Some-clause-fault : goal.returns-in-Some-clause-fault
 returns-in-Some-clause-fault g c = c.in-Some.ensures.some
+
+pub returns-in-Some-clause-history : goal.returns-in-Some-clause-history
+returns-in-Some-clause-history g c = tt
+
+pub returns-clause-fault : goal.returns-clause-fault
+returns-clause-fault g c = tt
+
+pub returns-in_err-add_turns-clause-history : goal.returns-in_err-add_turns-clause-history
+returns-in_err-add_turns-clause-history g c = IfOk-from_err c.from_residual.result _ c.from_residual.ensures.0
+
+-- what a fault says, where it is for want of memory
+no_memory : {T : Type 0} (vs : List (List ℕ)) (r : Result T ChainFault) → IsErrAnd r (λ e. e ≡ NoMemory)
+    → AreRising (length vs) vs → IfErr r (IsChainFault vs)
+no_memory vs (Ok x) is rising = tt
+no_memory vs (Err e) is rising = subst (IsChainFault vs) (sym is) rising
+
+pub returns-in_err-add_turns-clause-fault : goal.returns-in_err-add_turns-clause-fault
+returns-in_err-add_turns-clause-fault g c =
+    let l = c.args.snapshots.now in let long = length-map l (λ (s : Taken). s.vector) in
+    no_memory (vectors_of l) c.from_residual.result c.from_residual.ensures.1
+    (subst (λ (n : ℕ). AreRising n (vectors_of l)) (sym long) c.in_default.ensures.none)
