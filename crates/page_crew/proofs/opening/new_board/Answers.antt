@@ -1,14 +1,64 @@
-use Rattle.std.proofs.Common.{◌≡◌, map, All, sym, ap, ◌∙◌, subst}
+use Rattle.std.proofs.Common.{◌≡◌, ◌-◌, map, All, sym, ap, ◌∙◌, subst, arith}
 use mathlib.Core.List.{map-map}
+use Rattle.std.proofs.lemmas.Option.{same_Some}
+use Rattle.std.specs.Vec.{vec_len}
 use Rattle.std.specs.Arc.{arc_value}
+use Rattle.register_rule.specs.Faults.{IsBoardFault}
 use Rattle.register_rule.specs.Seats.{board_id}
 use Rattle.register_rule.specs.declared.board.Board.{Board}
 use Rattle.registry_state.specs.Kept.{RegistryView}
-use Rattle.snapshot_update.specs.Workers.{index_of, lists_of}
+use Rattle.snapshot_scan.specs.Readers.{IsReaderOf}
+use Rattle.snapshot_update.specs.Workers.{index_of, lists_of, IsWorkerOf}
 use Rattle.page_crew.specs.Shared.{board_in, worker_in}
 use Rattle.page_crew.specs.declared.shared_recorder.SharedRecorder.{SharedRecorder}
 use Rattle.page_crew.specs.declared.shared_scanner.SharedScanner.{SharedScanner}
 use Rattle.page_crew.proofs.opening.new_board.Goals as goal
+
+pub returns-in-Err-Geometry-clause-fault : goal.returns-in-Err-Geometry-clause-fault
+returns-in-Err-Geometry-clause-fault g c = (
+  omega arith,
+  subst (IsBoardFault g.row.N g.row.C g.row.H g.row.G 1) c.in-Err-Geometry.field-0-is c.in-Err-Geometry.ensures.fault,
+)
+
+pub returns-in-Err-NoMemory-clause-fault : goal.returns-in-Err-NoMemory-clause-fault
+returns-in-Err-NoMemory-clause-fault g c = (
+  omega arith,
+  subst (IsBoardFault g.row.N g.row.C g.row.H g.row.G 1) c.in-Err-NoMemory.field-0-is c.in-Err-NoMemory.ensures.fault,
+)
+
+pub returns-in_default-new-clause-fault : goal.returns-in_default-new-clause-fault
+returns-in_default-new-clause-fault g c = (omega arith, c.in-Ok.ensures.board.1)
+
+pub returns-in_default-try_clone-clause-fault : goal.returns-in_default-try_clone-clause-fault
+returns-in_default-try_clone-clause-fault g c = (omega arith, c.in-Ok.ensures.board.1)
+
+pub returns-in_default-recorders_on-clause-fault : goal.returns-in_default-recorders_on-clause-fault
+returns-in_default-recorders_on-clause-fault g c = (omega arith, c.in-Ok.ensures.board.1)
+
+pub returns-in-Ok-new-2-clause-size : goal.returns-in-Ok-new-2-clause-size
+returns-in-Ok-new-2-clause-size g c = c.in-Ok.ensures.board.1
+
+pub returns-clause-fault : goal.returns-clause-fault
+returns-clause-fault g c = (omega arith, c.in-Ok.ensures.board.1)
+
+pub recorders_on-requires : goal.recorders_on-requires
+recorders_on-requires g c =
+    let workers = c.in-Ok.crew.workers.items in
+    let there = subst (λ (b : Board g.row.N g.row.C g.row.H g.row.G). All (IsWorkerOf b) workers) (sym c.in-Ok-new.ensures.ok)
+    c.in-Ok.ensures.of_board.0 in
+    (omega arith, (omega arith, (omega arith, there)))
+
+pub new-scanner-requires : goal.new-scanner-requires
+new-scanner-requires g c =
+    let same = c.in-Ok-try_clone.ensures ∙ c.in-Ok-new.ensures.ok in
+    let readers = c.in-Ok.crew.readers in
+    let count = c.in-Ok.ensures.count in
+    let long = readers.ok.0 in
+    let last = c.in-Some.ensures.value c.in-Some.reader (omega (arith, count, long)) in
+    let there = subst (IsReaderOf c.in-Ok.crew.board) (sym (same_Some _ _ last))
+    (c.in-Ok.ensures.of_board.1 (vec_len readers - 1) c.in-Some.reader (omega (arith, count, long))) in
+    let seat = subst (λ (b : Board g.row.N g.row.C g.row.H g.row.G). IsReaderOf b c.in-Some.reader) (sym same) there in
+    (omega arith, (omega arith, (omega arith, seat)))
 
 pub returns-in-Ok-new-2-clause-new : goal.returns-in-Ok-new-2-clause-new
 returns-in-Ok-new-2-clause-new g c =

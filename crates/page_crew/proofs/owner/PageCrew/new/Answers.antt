@@ -1,16 +1,67 @@
-use Rattle.std.proofs.Common.{◌≡◌, ℕ, ◌+◌, ◌*◌, List, ◌∷◌, [], Some, length, slice_get, ap, subst, sym, refl, ◌∙◌, arith}
-use Rattle.std.proofs.lemmas.List.{with_items_is}
+use Rattle.std.proofs.Common.{◌≡◌, ℕ, ◌+◌, ◌*◌, ◌<◌, All, List, ◌∷◌, [], Some, length, slice_get, ap, subst, sym, refl, ◌∙◌, arith, inl, inr}
+use Rattle.std.proofs.lemmas.List.{length-map, with_items_is}
+use Rattle.std.proofs.lemmas.List.FromFn.{length-range_with_len}
 use Rattle.std.proofs.lemmas.Option.{none-some}
 use Rattle.registry_state.specs.Kept.{RegistryView}
-use Rattle.rtrb.specs.Ring.{sent}
+use Rattle.rtrb.specs.Ring.{known_free, sent}
 use Rattle.scrape_page.specs.Families.{PageView}
 use Rattle.page_crew.specs.declared.shared_recorder.SharedRecorder.{SharedRecorder}
 use Rattle.page_crew.specs.declared.shared_scanner.SharedScanner.{SharedScanner}
 use Rattle.page_crew.specs.Boards.{AreNumbered}
+use Rattle.page_crew.specs.Opened.{index_in}
 use Rattle.page_crew.specs.Rings.{Ring, AreGiven, ArePaired, HaveRoom}
-use Rattle.page_crew.proofs.Boarding.{numbered_more, room_left}
+use Rattle.page_crew.proofs.Boarding.{never_refused, numbered_more, room_left}
 use Rattle.page_crew.proofs.Giving.{first_given, paired_given}
 use Rattle.page_crew.proofs.owner.PageCrew.new.Goals as goal
+
+pub returns-then-window-lt1-clause-fault : goal.returns-then-window-lt1-clause-fault
+returns-then-window-lt1-clause-fault g c = λ within. elim c.then-window-lt1.either [
+  | inl low ↦ let least = within.0 in omega (arith, low, least)
+  | inr high ↦ let over = high.1 in let most = within.1 in omega (arith, over, most)
+]
+
+pub returns-in-Err-clause-fault : goal.returns-in-Err-clause-fault
+returns-in-Err-clause-fault g c = ((c.if-window-lt1.false, c.if-window-gt-MAX_WINDOW.false), c.in-Err.ensures.fault)
+
+pub returns-in_default-clause-fault : goal.returns-in_default-clause-fault
+returns-in_default-clause-fault g c =
+    ((c.if-window-lt1.false, c.if-window-gt-MAX_WINDOW.false), (omega arith, c.in-Ok.ensures.size))
+
+pub returns-in-NoMemory-clause-fault : goal.returns-in-NoMemory-clause-fault
+returns-in-NoMemory-clause-fault g c =
+    ((c.if-window-lt1.false, c.if-window-gt-MAX_WINDOW.false), (omega arith, c.in-Ok.ensures.size))
+
+pub unreachable-requires : goal.unreachable-requires
+unreachable-requires g c =
+    let V = RegistryView (SharedScanner g.row.N g.row.C g.row.H g.row.G) in
+    let first = 128 * c.args.id in
+    let board = c.in-Ok.made.registry in
+    let none : AreNumbered first [] = λ k (b : V) at. absurd (none-some b at) in
+    let id : board.id ≡ first + 0 = let is = c.in-Ok.ensures.new.id_is in omega (arith, is) in
+    never_refused first [] none board id c.in-Ok.ensures.new.state (omega arith) c.in-Err-new.refused.fault c.in-Err-new.ensures.fault
+    c.in-TooManyBoards.is
+
+pub new_board-requires : goal.new_board-requires
+new_board-requires g c = (omega arith, (c.if-window-lt1.false, c.if-window-gt-MAX_WINDOW.false))
+
+pub open_rings-requires : goal.open_rings-requires
+open_rings-requires g c = let fits = c.ranges.id.fits in (omega arith, omega (arith, fits))
+
+pub give-requires : goal.give-requires
+give-requires g c =
+    let R = Ring g.row.N g.row.C g.row.H g.row.G in
+    let opened = c.in-Ok-open_rings.ensures in
+    let theirs = c.in-Ok.made.recorders.items in
+    let same : c.deref_mut.result.now ≡ c.in-Ok-open_rings.field-0.rings.items = c.deref_mut.ensures.value in
+    let all : length theirs ≡ g.row.N =
+    sym (length-map theirs index_in) ∙ (ap length c.in-Ok.ensures.new.workers ∙ length-range_with_len 0 g.row.N) in (
+      omega arith,
+      (
+        all ∙ (sym opened.rings_many ∙ sym (ap length same)),
+        subst (λ (l : List R). All (λ (p : R). 0 < known_free p) l) (sym same)
+            (λ k (d : R) within. let is = (opened.empty k d within).1 in omega (arith, is)),
+      ),
+    )
 
 pub invariant_of-crew : goal.invariant_of-crew
 invariant_of-crew g c =
