@@ -42,7 +42,7 @@ TellsGauge numbers gauge answer had has = ((answer ≡ 0) × HaveSlot numbers ga
     × (has ≡ pos (slice_index (totals_in numbers) (place_of_gauge gauge.slot))
     -ℤ pos (slice_index (totals_in numbers) (place_of_gauge gauge.slot + 1))))
     ⊎ ((TellsNothing numbers gauge.registry gauge.slot GAUGES answer
-    ⊎ ((answer ≡ 41) × ((9007199254740992 ≤ slice_index (totals_in numbers) (place_of_gauge gauge.slot))
+    ⊎ ((answer ≡ 41) × HaveSlot numbers gauge.registry gauge.slot GAUGES × ((9007199254740992 ≤ slice_index (totals_in numbers) (place_of_gauge gauge.slot))
     ⊎ (9007199254740992 ≤ slice_index (totals_in numbers) (place_of_gauge gauge.slot + 1))))) × (has ≡ had))
 
 -- the place of a histogram's buckets among the totals; its sum and its count stand behind them

@@ -99,16 +99,18 @@ module _ {N C H G : ℕ} where
     given_further (Ok handle) did = (mid, grown, did)
     given_further (Err why) did = tt
 
-    pub refused_further : IsPageChildFault C H G (page_of old) number values (Full kind) → 0 < slots C H G kind
-        → (result : Result Handle PageChildFault) → IfErr result (IsPageChildFault C H G (page_of mid) number values)
+    pub refused_further : IsPageChildFault C H G (page_of old) number values (Full kind) → length (page_of old).boards < 96
+        → 0 < slots C H G kind → (result : Result Handle PageChildFault) → IfErr result (IsPageChildFault C H G (page_of mid) number values)
         → IfErr result (λ why. PageDid mid new (λ a b. LeavesPage C H G a b number why))
         → IfErr result (IsRefusedFurther old new number kind)
-    refused_further full some (Ok handle) fault leaves = tt
-    refused_further full some (Err why) fault leaves =
+    refused_further full few some (Ok handle) fault leaves = tt
+    refused_further full few some (Err why) fault leaves =
         let memory : why ≡ NoMemory = only_memory C H G (page_of old) grown.board grown.is_new.state number values kind full some why
         (subst (λ (p : PageView (SharedScanner N C H G)). IsPageChildFault C H G p number values why) grown.page fault) in
         inr (
           memory,
+          few,
+          some,
           inr (
             mid,
             grown,
@@ -124,6 +126,9 @@ module _ {N C H G : ℕ} where
     given_then (Ok handle) given = inr (kind, full, (given.0, grown_from old mid given.0 same given.1, given.2))
     given_then (Err why) given = tt
 
+    few_from : length (page_of mid).boards < 96 → length (page_of old).boards < 96
+    few_from few = subst (λ (p : PageView (SharedScanner N C H G)). length p.boards < 96) same.1 few
+
     refused_from : (why : PageChildFault) → IsRefusedFurther mid new number kind why → IsRefusedFurther old new number kind why
     refused_from why (inl none) =
         inl (
@@ -131,9 +136,10 @@ module _ {N C H G : ℕ} where
           subst (λ (p : PageView (SharedScanner N C H G)). (96 ≤ length p.boards) ⊎ (slots C H G kind ≡ 0)) same.1 none.1,
           unchanged_from old mid new same none.2,
         )
-    refused_from why (inr (memory, inl none)) = inr (memory, inl (unchanged_from old mid new same none))
-    refused_from why (inr (memory, inr came)) =
-        inr (memory, inr (came.0, grown_from old mid came.0 same came.1, came.2))
+    refused_from why (inr (memory, few, some, inl none)) =
+        inr (memory, few_from few, some, inl (unchanged_from old mid new same none))
+    refused_from why (inr (memory, few, some, inr came)) =
+        inr (memory, few_from few, some, inr (came.0, grown_from old mid came.0 same came.1, came.2))
 
     pub refused_then : (result : Result Handle PageChildFault) → IfErr result (IsRefusedFurther mid new number kind)
         → IfErr result (IsRefusedByCrew old new number values)

@@ -4,6 +4,7 @@ pub mod Counting
 pub mod Publishing
 pub mod Held
 pub mod Settling
+pub mod Totals
 pub mod Opened
 pub mod Rings
 pub mod Boards

@@ -1,5 +1,5 @@
 -- What contracts see of a page with all who work on its boards, and what its calls do to it.
-use Rattle.std.specs.Prelude.{◌≡◌, ◌≢◌, ℕ, ◌+◌, ◌≤◌, ◌⊎◌, List, [], ◌∷◌, ◌++◌, Some, Result, length, slice_get, All}
+use Rattle.std.specs.Prelude.{◌≡◌, ◌≢◌, ℕ, ◌+◌, ◌<◌, ◌≤◌, ◌⊎◌, List, [], ◌∷◌, ◌++◌, Some, Result, length, slice_get, All}
 use Rattle.metric_desc.specs.declared.kind.Kind.{Kind}
 use Rattle.expo_text.specs.Scraped.{Scraped}
 use Rattle.registry_state.specs.Kept.{RegistryView}
@@ -92,12 +92,12 @@ module _ {N C H G : ℕ} where
     IsGivenFurther values handle = (mid : PageCrew N C H G) × IsGrown old mid
         × PageDid mid new (λ a b. IsGivenOnPage C H G a b number values handle)
 
-    -- Why it was not, where no board had a free slot of this kind. No board may come, or none has a slot of the kind (22). Or there was
-    -- no memory (6): for a board, and nothing has changed; or one came, and then for the child
+    -- Why it was not, where no board had a free slot of this kind. No board may come, or none has a slot of the kind (22). Or one may and has, and
+    -- there was no memory (6): for a board, and nothing has changed; or one came, and then for the child
     abbrev pub IsRefusedFurther : Kind → PageChildFault → Type 0
     IsRefusedFurther kind why =
         ((why ≡ Full kind) × ((96 ≤ length (page_of old).boards) ⊎ (slots C H G kind ≡ 0)) × IsUnchanged old new)
-        ⊎ ((why ≡ NoMemory) × (IsUnchanged old new
+        ⊎ ((why ≡ NoMemory) × (length (page_of old).boards < 96) × (0 < slots C H G kind) × (IsUnchanged old new
         ⊎ ((mid : PageCrew N C H G) × IsGrown old mid × PageDid mid new (λ a b. LeavesPage C H G a b number NoMemory))))
 
     -- the child of these values was given by the page; or no board had a free slot for it, one came, and then it was given

@@ -3,15 +3,23 @@ use Rattle.std.specs.Prelude.{◌≡◌, ◌==◌, ◌⊎◌, ℕ, ◌<◌, List
 use Rattle.std.specs.List.{filter}
 use mathlib.Core.Option.{some}
 use lib.ListN.{get_elem?}
-use Rattle.chain_law.specs.Settled.{made_all}
+use Rattle.chain_law.specs.Settled.{made_all, IsSettled}
 use Rattle.ledger_core.specs.Ops.{sum_ops}
 use Rattle.rtrb.specs.Ring.{SameConsumer}
+use Rattle.snapshot_scan.specs.Snapshots.{Taken}
 use Rattle.snapshot_update.specs.Workers.{index_of, member_of}
 use Rattle.snapshot_update.specs.declared.worker.Worker.{Worker}
 use Rattle.page_crew.specs.Held.{recorders_of, first_of, feed_of}
 use Rattle.page_crew.specs.Shared.{id_in, worker_in}
+use Rattle.page_crew.specs.declared.fault.SettleFault.{SettleFault}
+use Rattle.page_crew.specs.declared.fault.SettleFault.TheVariants.{NotAll, NoMemory}
 use Rattle.page_crew.specs.declared.page_recorder.PageRecorder.{PageRecorder}
 use Rattle.page_crew.specs.declared.shared_recorder.SharedRecorder.{SharedRecorder}
+
+-- the number of each reason for which there are no exact totals
+abbrev pub settle_fault_number : SettleFault → ℕ
+settle_fault_number (NotAll board missing) = 18
+settle_fault_number NoMemory = 6
 
 module _ {N C H G : ℕ} where
   -- it may have taken workers of boards that came since, and is the same otherwise
@@ -59,3 +67,12 @@ module _ {N C H G : ℕ} where
     abbrev pub HasNumbers : List (PageRecorder N C H G) → (vector : List ℕ) → Type 0
     HasNumbers rs vector = (i : ℕ) (r : PageRecorder N C H G) (s : SharedRecorder N C H G) → get_elem? rs i ≡ some r → CountsWith r s
         → get_elem? vector i ≡ some (length (member_of (worker_in s)).work.made)
+
+    -- there is a recorder of each worker at its place, and this is exactly what they have published there
+    abbrev pub IsExactOn : List (PageRecorder N C H G) → Taken → Type 0
+    IsExactOn rs totals = AreAll rs × IsSettled (workers_on rs) totals
+
+    -- why that is not told: of this board the recorder of that worker is not at its place; or there was no memory
+    abbrev pub IsUnsettled : List (PageRecorder N C H G) → SettleFault → Type 0
+    IsUnsettled rs (NotAll id missing) = (id ≡ board) × IsMisplaced rs missing
+    IsUnsettled rs NoMemory = Unit {0}

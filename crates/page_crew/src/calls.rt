@@ -6,7 +6,7 @@ use crate::owner::PageCrew;
 use crate::shared_scanner::SharedScanner;
 use metric_desc::{Desc, Kind};
 use metric_names::LabelValue;
-use registry_state::Handle;
+use registry_state::{Handle, slots_of};
 use scrape_page::{Page, PageChildFault, PageFamilyFault, PageFamilyId};
 
 impl<const N: usize, const C: usize, const H: usize, const G: usize> PageCrew<N, C, H, G> {
@@ -73,12 +73,7 @@ impl<const N: usize, const C: usize, const H: usize, const G: usize> PageCrew<N,
         ensures inside { IfOk result (IsInside C H G) }
         ensures fault { IfErr result (IsRefusedFurther self.old self.new family.number kind) }
     {
-        let slots = match kind {
-            Kind::Counter => C,
-            Kind::Histogram => H,
-            Kind::Gauge => G,
-        };
-        if slots == 0 {
+        if slots_of::<C, H, G>(kind) == 0 {
             return Err(PageChildFault::Full { kind });
         }
         match self.add_board() {

@@ -1,4 +1,4 @@
-//! Why there is no board, and why changes are not published.
+//! Why there is no board, why changes are not published, and why a page has no exact totals.
 ghost use Rattle.std.specs.Prelude.{◌≡◌};
 
 use snapshot_update::CountFault;
@@ -79,6 +79,36 @@ impl PublishFault {
         match self {
             PublishFault::TwoBoards => 47,
             PublishFault::Count(fault) => fault.number(),
+        }
+    }
+}
+
+/// Why a page has no exact totals.
+#[derive(Clone, Copy, Debug, PartialEq, Eq, Error)]
+pub enum SettleFault {
+    /// Refusal 18: on a board there is not the recorder of each worker at its place.
+    #[error("board {board}: worker {missing} is missing, or not at its place")]
+    NotAll {
+        /// The id of the first such board.
+        board: u64,
+        /// The least place at which not the recorder of that worker is; `N` where there is one too many.
+        missing: usize,
+    },
+    /// Refusal 6: there is no memory.
+    #[error("out of memory")]
+    NoMemory,
+}
+
+impl SettleFault {
+    ghost use Rattle.page_crew.specs.Settling.{settle_fault_number};
+
+    /// The refusal's number.
+    pub fn number(&self) -> u8
+        ensures { result ≡ settle_fault_number self.now }
+    {
+        match self {
+            SettleFault::NotAll { .. } => 18,
+            SettleFault::NoMemory => 6,
         }
     }
 }

@@ -11,7 +11,7 @@ use scrape_page::BoardFault;
 const MOST: usize = 96;
 
 impl<const N: usize, const C: usize, const H: usize, const G: usize> PageCrew<N, C, H, G> {
-    ghost use Rattle.std.specs.Prelude.{◌≡◌, length, IfErr, IfOk, OnErr, OnOk};
+    ghost use Rattle.std.specs.Prelude.{◌≡◌, ◌<◌, length, IfErr, IfOk, OnErr, OnOk};
     ghost use Rattle.page_crew.specs.Opened.{IsNoBoard};
     ghost use Rattle.page_crew.specs.Owned.{page_of, IsGrown, IsUnchanged};
 
@@ -24,6 +24,7 @@ impl<const N: usize, const C: usize, const H: usize, const G: usize> PageCrew<N,
     pub fn add_board(&mut self) -> Result<usize, NoBoard>
         ensures number { IfOk result (λ number. number ≡ length (page_of self.old).boards) }
         ensures grown { OnOk result (IsGrown self.old self.new) }
+        ensures few { OnOk result (length (page_of self.old).boards < 96) }
         ensures fault { IfErr result (IsNoBoard N C H G (length (page_of self.old).boards)) }
         ensures unchanged { OnErr result (IsUnchanged self.old self.new) }
     {

@@ -12,7 +12,7 @@ use chain_law::NotAll;
 use snapshot_scan::Snapshot;
 
 /// Each of these takes its workers of boards that came since.
-fn join_all<const N: usize, const C: usize, const H: usize, const G: usize>(
+pub(crate) fn join_all<const N: usize, const C: usize, const H: usize, const G: usize>(
     recorders: &mut [PageRecorder<N, C, H, G>],
 )
     ensures { AllZip HasJoined recorders.old recorders.new }
@@ -108,10 +108,33 @@ fn set_totals<const N: usize, const C: usize, const H: usize, const G: usize>(
     }
 }
 
+/// What these have published on the board of this id, where all of them know it that came.
+///
+/// # Errors
+///
+/// 18 as [`settle_board`]. `out` is as it was.
+pub(crate) fn settle_on<const N: usize, const C: usize, const H: usize, const G: usize>(
+    recorders: &[PageRecorder<N, C, H, G>],
+    board: u64,
+    out: &mut Snapshot<N, C, H, G>,
+) -> Result<(), NotAll>
+    ensures settled { OnOk result (IsSettled (workers_on board recorders.now) out.new) }
+    ensures all { OnOk result (AreAll board recorders.now) }
+    ensures missing { IfErr result (λ e. IsMisplaced board recorders.now e.missing) }
+    ensures unchanged { OnErr result (out.new ≡ out.old) }
+{
+    if let Some(missing) = misplaced(recorders, board) {
+        return Err(NotAll { missing });
+    }
+    set_numbers(recorders, board, out);
+    set_totals(recorders, board, out);
+    Ok(())
+}
+
 /// Exact totals of one board, for the end of a run whose numbers are a bill: of all recorders of a page, in the order in which
 /// [`PageCrew::new`](crate::PageCrew::new) has handed them out. Each takes its workers of boards that came since first. It does not check that
-/// they are of one page. It scans nothing: while it is called, none of them publishes. For a page's totals it is called with the id of each
-/// board.
+/// they are of one page. It scans nothing: while it is called, none of them publishes. [`PageCrew::settle`](crate::PageCrew::settle) has those of all
+/// boards.
 ///
 /// After Ok the vector of `out` is how often each of them has published on the board of this id, and each total is exactly the sum of all that
 /// they published there. What stands in a tally that was not flushed is not in it. It takes no memory and waits for nobody.
@@ -132,10 +155,5 @@ pub fn settle_board<const N: usize, const C: usize, const H: usize, const G: usi
     ensures joined { AllZip HasJoined recorders.old recorders.new }
 {
     join_all(recorders);
-    if let Some(missing) = misplaced(recorders, board) {
-        return Err(NotAll { missing });
-    }
-    set_numbers(recorders, board, out);
-    set_totals(recorders, board, out);
-    Ok(())
+    settle_on(recorders, board, out)
 }

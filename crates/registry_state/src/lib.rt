@@ -25,4 +25,4 @@ pub use fault::{BadWindow, ChildFault, NewFault, RegisterFault, ScrapeFault};
 pub use handle::{FamilyId, Handle};
 pub use journal::Journal;
 pub use kept::Kept;
-pub use registry::{NotMade, RegistryState};
+pub use registry::{NotMade, RegistryState, slots_of};

@@ -72,8 +72,8 @@ pub struct NotMade<S> {
     pub fault: NewFault,
 }
 
-/// How many slots there are of a kind.
-pub(crate) fn slots_of<const C: usize, const H: usize, const G: usize>(kind: Kind) -> usize
+/// How many slots of a kind a row has: `C` of counters, `H` of histograms, `G` of gauges.
+pub fn slots_of<const C: usize, const H: usize, const G: usize>(kind: Kind) -> usize
     ensures { result ≡ slots C H G kind }
 {
     match kind {

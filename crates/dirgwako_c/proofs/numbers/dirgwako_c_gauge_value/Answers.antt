@@ -21,6 +21,7 @@ returns-then-up-ge-LIMIT c =
     inr (
       inr (
         refl,
+        (c.if-numbers-ne-NUMBERS.false, c.if-numbers-gauge.false, c.if-gauge-ge-GAUGES.false),
         ⊎_elim (λ h. inl (subst (λ (n : ℕ). 9007199254740992 ≤ n) (sym (up_at numbers slot)) h))
             (λ h. inr (subst (λ (n : ℕ). 9007199254740992 ≤ n) (sym (down_at numbers slot)) h.1)) c.then-up-ge-LIMIT.either,
       ),

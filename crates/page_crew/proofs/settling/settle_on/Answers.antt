@@ -4,11 +4,11 @@ use mathlib.Core.Option.{some}
 use lib.ListN.{get_elem?}
 use Rattle.snapshot_update.specs.Workers.{index_of, member_of, ops_in}
 use Rattle.page_crew.proofs.Published.{worker_at, at_its_place, with_one}
-use Rattle.page_crew.proofs.settling.settle_board.Goals as goal
+use Rattle.page_crew.proofs.settling.settle_on.Goals as goal
 
 pub returns-clause-settled : goal.returns-clause-settled
 returns-clause-settled g c =
-    let rs = c.join_all.new.recorders in
+    let rs = c.args.recorders.now in
     let all = c.in_default.ensures.none in
     record {
       vector = λ p w at.
