@@ -1,6 +1,7 @@
 //! Exact totals of all recorders of a page, on all of its boards.
 ghost use Rattle.std.specs.Prelude.{◌≡◌, length, IfErr, IfOk, IfNone, IfSome};
 ghost use Rattle.std.specs.List.{AllZip};
+ghost use Rattle.segment_layout.specs.Layout.{IsGeometry};
 ghost use Rattle.page_crew.specs.Settling.{HasJoined, IsExactOn, IsUnsettled};
 
 use crate::fault::SettleFault;
@@ -42,6 +43,7 @@ fn totals_on<const N: usize, const C: usize, const H: usize, const G: usize>(
     recorders: &[PageRecorder<N, C, H, G>],
     board: u64,
 ) -> Result<Snapshot<N, C, H, G>, SettleFault>
+    requires { IsGeometry N C H G }
     ensures exact { IfOk result (IsExactOn board recorders.now) }
     ensures fault { IfErr result (IsUnsettled board recorders.now) }
 {

@@ -1,4 +1,4 @@
-use Rattle.std.proofs.Common.{◌<◌, refl, arith, inl, inr}
+use Rattle.std.proofs.Common.{rules, ◌<◌, refl, arith, inl, inr}
 use Rattle.registry_state.specs.Replay.{slots}
 use Rattle.page_crew.proofs.Further.{given_further, refused_further}
 use Rattle.page_crew.proofs.owner.PageCrew.ask_further.Goals as goal
@@ -19,4 +19,4 @@ pub returns-in-Err-NoMemory-clause-fault : goal.returns-in-Err-NoMemory-clause-f
 returns-in-Err-NoMemory-clause-fault g c =
     let more = c.if-slots_of-eq0.false in let is = c.slots_of.ensures in
     let some : 0 < slots g.row.C g.row.H g.row.G c.args.kind = omega (arith, more, is) in
-    inr (refl, c.in-Err-NoMemory.ensures.fault.0, some, inl c.in-Err-NoMemory.ensures.unchanged)
+    inr (refl, search rules, some, inl c.in-Err-NoMemory.ensures.unchanged)
