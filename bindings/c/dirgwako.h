@@ -19,6 +19,7 @@
      41  DIRGWAKO_NO_NUMBERS   these are no numbers that were read
      42  DIRGWAKO_NO_BOARD     no board of the registry has this number
      47  DIRGWAKO_TWO_BOARDS   two changes are of two boards
+     48  DIRGWAKO_NO_CHILD     a metric's family is registered from now on, without its child: for want of a slot or of memory
 
    43  DIRGWAKO_TOO_MANY_DIGITS is that numbers are shifted by over 9 digits, 44  DIRGWAKO_TOO_MANY_BOARDS that 96 boards are there, and
    46  DIRGWAKO_TOO_MANY_CHILDREN that a family has 256 children; 45  DIRGWAKO_NOT_FRESH no function here answers.
@@ -69,7 +70,8 @@ enum {
     DIRGWAKO_TOO_MANY_BOARDS = 44,
     DIRGWAKO_NOT_FRESH = 45,
     DIRGWAKO_TOO_MANY_CHILDREN = 46,
-    DIRGWAKO_TWO_BOARDS = 47
+    DIRGWAKO_TWO_BOARDS = 47,
+    DIRGWAKO_NO_CHILD = 48
 };
 
 /* A registry over a page of boards. Opaque; zeros where it holds nothing. */
@@ -234,9 +236,9 @@ static inline uint32_t dirgwako_recorder_free(dirgwako_recorder *recorder) {
     return recorder ? dirgwako_c_recorder_free(recorder) : (uint32_t)DIRGWAKO_NULL;
 }
 
-/* A counter without labels, in the group 0. 34; 36; 1, 2, 3, 5, the name or the help is none; 19, a name clashes with another family's; 22, no slot
-   is left on 96 boards, or the library was built for none of the kind; 23, there are 128 families; 6, out of memory. After 22, and after 6 for its
-   number alone, its family is there without it. */
+/* A counter without labels, in the group 0. 34; 36; 1, 2, 3, 5, the name or the help is none; 19, a name clashes with another family's; 23, there are
+   128 families; 6, out of memory; 48, its family is there, without it: no slot is left on 96 boards, or the library was built for none of the kind, or
+   there was no memory for its number. */
 static inline uint32_t dirgwako_counter_new(dirgwako_registry *registry, const char *name, const char *help, dirgwako_counter *counter) {
     if (!registry || !name || !help || !counter) return DIRGWAKO_NULL;
     return dirgwako_c_counter_new(registry, (const uint8_t *)name, strlen(name), (const uint8_t *)help, strlen(help), counter);
@@ -344,7 +346,8 @@ static inline uint32_t dirgwako_histogram_seconds_new(dirgwako_registry *registr
                                                       size_t count, dirgwako_histogram *histogram) {
     dirgwako_histogram_family family;
     uint32_t answer = histogram ? dirgwako_histogram_family_new(registry, name, help, NULL, 0, bounds, count, 6, 0, &family) : (uint32_t)DIRGWAKO_NULL;
-    return answer ? answer : dirgwako_histogram_of(registry, &family, NULL, 0, histogram);
+    if (answer) return answer;
+    return dirgwako_histogram_of(registry, &family, NULL, 0, histogram) ? (uint32_t)DIRGWAKO_NO_CHILD : (uint32_t)DIRGWAKO_OK;
 }
 
 /* Adds `by` to a counter. The recorder meets a board that came since at its first call by a handle of it. 34; 16, the counter is of no board of the

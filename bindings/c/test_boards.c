@@ -241,7 +241,7 @@ static void full(void) {
     is("96 boards", count(), MOST_BOARDS);
     is_wide(&wide);
     is("no slot is left for a child of it", gauge_in(&wide, (unsigned)(MOST_BOARDS * abi.gauges), &beyond), 22);
-    is("no slot is left", dirgwako_gauge_new(&registry, "g", "", &beyond), 22);
+    is("no slot is left", dirgwako_gauge_new(&registry, "g", "", &beyond), DIRGWAKO_NO_CHILD);
     is("its family stays", dirgwako_gauge_new(&registry, "g", "", &beyond), 19);
     is("it has no child", scraped(&registry, "g"), -1);
     is("a further family", dirgwako_gauge_family_new(&registry, "more", "", labels, 1, 0, 1, &jobs), 0);

@@ -56,13 +56,15 @@ static uint32_t of_h(void) { return dirgwako_histogram_of(&registry, &h, value, 
 static uint32_t scrapes(void) { return dirgwako_scrape(&registry, text, sizeof text, &len); }
 static uint32_t reads(void) { return dirgwako_read(&registry, 1, answered, MOST, &len); }
 
-/* A counter without labels. Where its number alone was refused its family stands, the fourth, which gives the counter then (19). */
+/* A counter without labels. Where its number alone was refused (48) its family is there, the fourth, which gives the counter then. */
 static uint32_t of_c(void) {
-    const dirgwako_counter_family stands = {FIRST, 3};
+    const dirgwako_counter_family fourth = {FIRST, 3};
+    static int has_family;
+    if (is_again && has_family) return dirgwako_counter_of(&registry, &fourth, NULL, 0, &c);
     uint32_t answer = dirgwako_counter_new(&registry, "c_total", "C.", &c);
-    if (!is_again || answer != 19) return answer;
-    without++;
-    return dirgwako_counter_of(&registry, &stands, NULL, 0, &c);
+    has_family = answer == DIRGWAKO_NO_CHILD;
+    without += has_family;
+    return has_family ? 6 : answer;
 }
 
 /* A reply, of which 503, for want of a scrape, and 25 are want of memory as well. */

@@ -51,7 +51,7 @@ static const uint64_t bounds[2] = {1, 2};
 static const char *const labels[2] = {"code", "route"}, *const others[2] = {"further", ""};
 static char name[16], reply[1 << 17], was[1 << 17];
 static uint64_t before[DIRGWAKO_MOST_NUMBERS], after[DIRGWAKO_MOST_NUMBERS];
-static size_t tries, board, busy;
+static size_t tries, board, busy, halves;
 
 /* A name that was not there. */
 static const char *another(void) {
@@ -60,9 +60,16 @@ static const char *another(void) {
 }
 
 static uint32_t new_registry(void) { return dirgwako_registry_new(&registry, 3); }
-static uint32_t new_counter(void) { return dirgwako_counter_new(&registry, another(), "Help.", &counter); }
-static uint32_t new_gauge(void) { return dirgwako_gauge_new(&registry, another(), "Help.", &gauge); }
-static uint32_t new_histogram(void) { return dirgwako_histogram_new(&registry, another(), "Help.", bounds, 2, &histogram); }
+/* A refusal for want of memory, also of a number alone, whose family stays. */
+static uint32_t wanting(uint32_t answer) {
+    halves += answer == DIRGWAKO_NO_CHILD;
+    return answer == DIRGWAKO_NO_CHILD ? 6 : answer;
+}
+
+static uint32_t new_counter(void) { return wanting(dirgwako_counter_new(&registry, another(), "Help.", &counter)); }
+static uint32_t new_gauge(void) { return wanting(dirgwako_gauge_new(&registry, another(), "Help.", &gauge)); }
+static uint32_t new_histogram(void) { return wanting(dirgwako_histogram_new(&registry, another(), "Help.", bounds, 2, &histogram)); }
+static uint32_t new_seconds(void) { return wanting(dirgwako_histogram_seconds_new(&registry, another(), "Help.", bounds, 2, &histogram)); }
 static uint32_t new_counters(void) { return dirgwako_counter_family_new(&registry, "counters_total", "Help.", labels, 2, 0, 0, &counters); }
 static uint32_t new_gauges(void) { return dirgwako_gauge_family_new(&registry, "gauges", "Help.", labels, 2, 0, 0, &gauges); }
 static uint32_t new_histograms(void) { return dirgwako_histogram_family_new(&registry, "histograms", "Help.", labels, 2, bounds, 2, 0, 0, &histograms); }
@@ -200,6 +207,8 @@ int main(void) {
     is("counter", refuse("counter", new_counter, 1) > 0, 1);
     is("gauge", refuse("gauge", new_gauge, 1) > 0, 1);
     is("histogram", refuse("histogram", new_histogram, 1) > 0, 1);
+    is("seconds", refuse("seconds", new_seconds, 1) > 0, 1);
+    is("some have a family alone", halves > 3, 1);
     is("counters", refuse("counters", new_counters, 0) > 0, 1);
     is("gauges", refuse("gauges", new_gauges, 0) > 0, 1);
     is("histograms", refuse("histograms", new_histograms, 0) > 0, 1);

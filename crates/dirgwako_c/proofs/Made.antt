@@ -2,7 +2,7 @@
 use Rattle.std.proofs.Common.{◌≡◌, ℕ, List, All, refl, inr, subst}
 use Rattle.std.specs.Prelude.{Ok, Err, IsUtf8}
 use Rattle.page_crew.specs.Owned.{first_of}
-use Rattle.dirgwako.specs.Refused.{family_refusal_number, child_refusal_number, metric_refusal_number}
+use Rattle.dirgwako.specs.Refused.{family_refusal_number, child_refusal_number}
 use Rattle.dirgwako.specs.declared.fault.ChildRefusal.{ChildRefusal}
 use Rattle.dirgwako.specs.declared.fault.FamilyRefusal.{FamilyRefusal}
 use Rattle.dirgwako.specs.declared.fault.MetricRefusal.{MetricRefusal}
@@ -30,7 +30,7 @@ module _ {N C H G : ℕ} where
       },
     )
 
-    pub metric_refused : (fault : MetricRefusal) (answer : ℕ) → answer ≡ metric_refusal_number fault → (n ≡ name) × IsUtf8 name
+    pub metric_refused : (fault : MetricRefusal) (answer : ℕ) → answer ≡ metric_answer fault → (n ≡ name) × IsUtf8 name
         → (h ≡ help) × IsUtf8 help → AsksMetricAt (in_group 0 before) after (desc_of n h) (Err fault)
         → MakesNamed handle_of answer before after had had name help (desc_of name help)
     metric_refused fault answer number is also asks = inr (

@@ -5,10 +5,11 @@ use Rattle.dirgwako.specs.Printing.{IsText, IsTextFault, text_fault_number}
 use Rattle.dirgwako.specs.declared.paged.OnPage.{OnPage}
 use Rattle.dirgwako.specs.declared.printing.TextFault.{TextFault}
 use Rattle.dirgwako.specs.Registering.{AsksFamily, AsksChild, AsksMetric}
-use Rattle.dirgwako.specs.Refused.{family_refusal_number, child_refusal_number, metric_refusal_number}
+use Rattle.dirgwako.specs.Refused.{family_refusal_number, child_refusal_number}
 use Rattle.dirgwako.specs.declared.fault.ChildRefusal.{ChildRefusal}
 use Rattle.dirgwako.specs.declared.fault.FamilyRefusal.{FamilyRefusal}
 use Rattle.dirgwako.specs.declared.fault.MetricRefusal.{MetricRefusal}
+use Rattle.dirgwako.specs.declared.fault.MetricRefusal.TheVariants as metric
 use Rattle.expo_text.specs.Scraped.{Scraped}
 use Rattle.metric_desc.specs.Desc.{Descriptor}
 use Rattle.metric_desc.specs.declared.kind.Kind.{Kind}
@@ -110,6 +111,12 @@ module _ {N C H G : ℕ} where
   abbrev pub in_group : (group : ℕ) → Grouped N C H G → Grouped N C H G
   in_group group page = record page { group = group }
 
+  -- the number of each reason for which there is no metric without labels: 48 where its family is registered from now on and its child is not made,
+  -- for want of a slot or of memory
+  abbrev pub metric_answer : MetricRefusal → ℕ
+  metric_answer (metric.Family fault) = family_refusal_number fault
+  metric_answer (metric.Child id fault) = 48
+
   -- what is done and answered where a metric without labels is asked for
   abbrev pub AsksMetricAt : (before after : Grouped N C H G) → Descriptor → Result Handle MetricRefusal → Type 0
   AsksMetricAt = AsksMetric (λ page. first_of page.crew) RegistersOnPage GivesOnPage
@@ -120,7 +127,7 @@ module _ {N C H G : ℕ} where
     pub record MakesMetric (desc : Descriptor) : Type 0 where
       pub made : Result Handle MetricRefusal
       pub asks : AsksMetricAt (in_group 0 before) after desc made
-      pub answer_is : answer ≡ answer_of metric_refusal_number made
+      pub answer_is : answer ≡ answer_of metric_answer made
       pub told : IfOk made (λ handle. handle ≡ handle_of has)
       pub kept : OnErr made (has ≡ had)
 

@@ -4,13 +4,23 @@ ghost use Rattle.dirgwako.specs.Registering.{family_of};
 ghost use Rattle.metric_desc.specs.declared.kind.Kind.TheVariants as Kinds;
 ghost use Rattle.registry_state.specs.declared.handle.Handle.TheVariants as Handles;
 ghost use Rattle.dirgwako_c.specs.Held.{Calls};
-ghost use Rattle.dirgwako_c.specs.Registries.{grouped_in, spare_in, MakesNamed};
+ghost use Rattle.dirgwako_c.specs.Registries.{grouped_in, spare_in, metric_answer, MakesNamed};
 
 use crate::registry_handle::RegistryHandle;
 use crate::texts::text;
-use dirgwako::{OnPage, Registrar};
+use dirgwako::{MetricRefusal, OnPage, Registrar};
 use ledger_core::{Counter, Gauge, Histogram};
 use std::alloc::Global;
+
+/// What C is told where there is no metric without labels: 48 where its family stays.
+fn answer_of(fault: &MetricRefusal) -> u32
+    ensures { result ≡ metric_answer fault.now }
+{
+    match fault {
+        MetricRefusal::Family(fault) => u32::from(fault.number()),
+        MetricRefusal::Child { .. } => 48,
+    }
+}
 
 /// A counter without labels of a registry.
 fn counter_in<const N: usize, const C: usize, const H: usize, const G: usize>(
@@ -31,14 +41,15 @@ fn counter_in<const N: usize, const C: usize, const H: usize, const G: usize>(
             *counter = made;
             0
         }
-        Err(fault) => u32::from(fault.number()),
+        Err(fault) => answer_of(&fault),
     }
 }
 
 /// A counter without labels: its family is registered in the group 0, and its one child made.
 ///
-/// Answers 34, the handle is empty; 36, a text is not UTF-8; 1, 2, 3, 5 of the name or the help; 19, 23, 22, 6 as
-/// [`dirgwako::Registrar::counter`]. What C has is as it was then.
+/// Answers 34, the handle is empty; 36, a text is not UTF-8; 1, 2, 3, 5 of the name or the help; 19, 23, 6 as
+/// [`dirgwako::Registrar::counter`]; 48, its family is registered, and its child is not made, for want of a slot or of memory. What C has is as it was
+/// then.
 #[unsafe(no_mangle)]
 pub extern "C" fn dirgwako_c_counter_new(
     alloc: Global,
@@ -79,14 +90,14 @@ fn gauge_in<const N: usize, const C: usize, const H: usize, const G: usize>(
             *gauge = made;
             0
         }
-        Err(fault) => u32::from(fault.number()),
+        Err(fault) => answer_of(&fault),
     }
 }
 
 /// A gauge without labels: its family is registered in the group 0, and its one child made.
 ///
-/// Answers 34, the handle is empty; 36, a text is not UTF-8; 1, 2, 3, 5 of the name or the help; 19, 23, 22, 6 as
-/// [`dirgwako::Registrar::gauge`]. What C has is as it was then.
+/// Answers 34, the handle is empty; 36, a text is not UTF-8; 1, 2, 3, 5 of the name or the help; 19, 23, 6 as
+/// [`dirgwako::Registrar::gauge`]; 48 as [`dirgwako_c_counter_new`]. What C has is as it was then.
 #[unsafe(no_mangle)]
 pub extern "C" fn dirgwako_c_gauge_new(
     alloc: Global,
@@ -128,15 +139,15 @@ fn histogram_in<const N: usize, const C: usize, const H: usize, const G: usize>(
             *histogram = made;
             0
         }
-        Err(fault) => u32::from(fault.number()),
+        Err(fault) => answer_of(&fault),
     }
 }
 
 /// A histogram without labels with these bounds: at most 24, rising, none over 2^48 - 1: its family is registered in the
 /// group 0, and its one child made.
 ///
-/// Answers 34, the handle is empty; 36, a text is not UTF-8; 1, 2, 3, 5 of the name or the help; 10 of the bounds; 19, 23, 22, 6 as
-/// [`dirgwako::Registrar::histogram`]. What C has is as it was then.
+/// Answers 34, the handle is empty; 36, a text is not UTF-8; 1, 2, 3, 5 of the name or the help; 10 of the bounds; 19, 23, 6 as
+/// [`dirgwako::Registrar::histogram`]; 48 as [`dirgwako_c_counter_new`]. What C has is as it was then.
 #[unsafe(no_mangle)]
 pub extern "C" fn dirgwako_c_histogram_new(
     alloc: Global,

@@ -6,7 +6,7 @@ ghost use Rattle.dirgwako_c.specs.declared.refusals.TheConstants.{REFUSALS};
 use crate::buffers::hand_over;
 
 /// Each refusal, at the place of its number; at 0 what stands for none.
-pub const REFUSALS: [&str; 48] = [
+pub const REFUSALS: [&str; 49] = [
     "done",
     "a name has no byte",
     "a byte cannot stand there in a name",
@@ -55,6 +55,7 @@ pub const REFUSALS: [&str; 48] = [
     "a family is registered on the board, or a board of the page has its id",
     "the family has 256 children",
     "two changes are of two boards",
+    "the family is registered, without its child",
 ];
 
 /// The text at a place, if there is one.

@@ -2,8 +2,8 @@
 use super::naming::counter;
 use crate::asserts::{need, same, there};
 use dirgwako::{
-    CountFault, Counter, PageCrew, PublishFault, Registrar, Snapshot, counter_total, inc, render,
-    settle_board,
+    CountFault, Counter, PageCrew, PublishFault, Registrar, SettleFault, Snapshot, counter_total,
+    inc, render, settle_board,
 };
 
 /// A page over boards of one counter, for one thread.
@@ -13,7 +13,7 @@ type OneEach = PageCrew<1, 1, 0, 0>;
 const FIRST: u64 = 7 * 128;
 
 /// A list by handles of two boards is no version (47), nor one by those of no board of the page (16), and a list of nothing is none; exact totals are
-/// those of a board, and of no board there are none. A board that is scraped alone shows its own families.
+/// those of each board, and of no board there are none. A board that is scraped alone shows its own families.
 #[test]
 fn lists_and_totals(rt: HostRuntime) {
     let (rt, alloc) = (&rt, rt.alloc());
@@ -34,18 +34,25 @@ fn lists_and_totals(rt: HostRuntime) {
     need(rt, recorder.publish(&[inc(&a, 2), inc(&a, 5)]));
     need(rt, recorder.publish(&[inc(&b, 6)]));
     let mut recorders = need(rt, Vec::from_array(alloc, [recorder]));
+    let mut crew = metrics.into_inner().crew;
+    let totals = need(rt, crew.settle(&mut recorders));
+    let of_a = there(rt, totals.on(a.registry));
+    same(rt, (of_a.vector()[0], counter_total(of_a, &a)), (1, Some(7)));
+    let of_b = there(rt, totals.on(b.registry));
+    same(rt, (of_b.vector()[0], counter_total(of_b, &b)), (1, Some(6)));
+    same(rt, totals.on(FIRST + 2).is_none(), true);
     let mut out = need(rt, Snapshot::new(alloc));
-    need(rt, settle_board(&mut recorders, FIRST, &mut out));
-    same(rt, (out.vector()[0], counter_total(&out, &a)), (1, Some(7)));
     need(rt, settle_board(&mut recorders, FIRST + 1, &mut out));
-    same(rt, (out.vector()[0], counter_total(&out, &b)), (1, Some(6)));
+    same(rt, counter_total(&out, &b), Some(6));
     let none = settle_board(&mut recorders, FIRST + 2, &mut out);
     same(
         rt,
         none.map_err(|fault| (fault.missing, fault.number())),
         Err((0, 18)),
     );
-    let mut crew = metrics.into_inner().crew;
+    let nobody = crew.settle(&mut []).map(|_| ());
+    let board = FIRST;
+    same(rt, nobody, Err(SettleFault::NotAll { board, missing: 0 }));
     assert!(rt; crew.page().boards().len() == 2);
     let text = need(rt, render(&need(rt, crew.scrape_board(1))));
     same(rt, text.as_slice(), b"# TYPE b counter\nb 6\n".as_slice());

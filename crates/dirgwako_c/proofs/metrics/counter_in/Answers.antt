@@ -1,6 +1,5 @@
-use Rattle.std.proofs.Common.{rules, ◌≡◌, ℕ, List, []}
+use Rattle.std.proofs.Common.{◌≡◌, ℕ, List, []}
 use Rattle.ledger_core.specs.declared.handles.Counter.{Counter}
-use Rattle.dirgwako.specs.Refused.{metric_refusal_number}
 use Rattle.dirgwako.specs.Registering.{family_of}
 use Rattle.metric_desc.specs.declared.kind.Kind.TheVariants as Kinds
 use Rattle.registry_state.specs.declared.handle.Handle.TheVariants as Handles
@@ -15,8 +14,7 @@ returns-in-Ok g c =
 
 pub returns-in-Err : goal.returns-in-Err
 returns-in-Err g c =
-    let number : c.from.result ≡ metric_refusal_number c.in-Err.fault = search rules in
     metric_refused (λ (x : Counter). Handles.Counter x) c.args.registrar.now.at c.counter.new.self.at c.args.counter.now c.args.counter.now
     c.args.name.now c.args.help.now (λ (n h : List ℕ). family_of Kinds.Counter n h [] []) c.in-Some-Some.name.now
-    c.in-Some-Some.help.now c.in-Err.fault c.from.result number c.in-Some-Some.ensures c.in-Some-Some.ensures'
+    c.in-Some-Some.help.now c.in-Err.fault c.answer_of.result c.answer_of.ensures c.in-Some-Some.ensures c.in-Some-Some.ensures'
     c.in-Err.ensures.fault
