@@ -159,11 +159,11 @@ static void words(void) {
     is("not UTF-8", strcmp(dirgwako_refusal(DIRGWAKO_NOT_UTF8, buffer, sizeof buffer), "a text is not UTF-8"), 0);
     is("no such", strcmp(dirgwako_refusal(1000, buffer, sizeof buffer), "there is nothing of this number"), 0);
     is("no buffer", strcmp(dirgwako_refusal(6, NULL, 0), ""), 0);
-    for (uint32_t i = 0; i <= DIRGWAKO_TWO_BOARDS; i++) {
+    for (uint32_t i = 0; i <= DIRGWAKO_NO_CHILD; i++) {
         is("there are words", dirgwako_c_refusal(i, (uint8_t *)buffer, sizeof buffer, &len), 0);
         is("they are whole", strlen(dirgwako_refusal(i, buffer, sizeof buffer)) == len && len >= 4, 1);
     }
-    is("no such", dirgwako_c_refusal(DIRGWAKO_TWO_BOARDS + 1, short_one, sizeof short_one, &len), DIRGWAKO_NO_SUCH);
+    is("no such", dirgwako_c_refusal(DIRGWAKO_NO_CHILD + 1, short_one, sizeof short_one, &len), DIRGWAKO_NO_SUCH);
     is("too short", dirgwako_c_refusal(6, short_one, sizeof short_one, &len), DIRGWAKO_TOO_SHORT);
     is("it needs", (long long)len, 13);
     is("it is as it was", short_one[0], 0);
