@@ -20,6 +20,7 @@ import rust_library
 import servers
 import shifted
 import vendored
+import web
 from started import Failed, Skipped, check, run
 
 ROOT = pathlib.Path(__file__).resolve().parent.parent
@@ -61,6 +62,7 @@ def checks_of(prefix):
         ("scripts", lambda: script_cases(program)),
         ("servers", lambda: servers.check_all(program, service, printed)),
         ("clients", lambda: clients.check_all(program)),
+        ("web service", lambda: web.check_all(built("example_web"))),
         ("refused memory", lambda: refused_memory.check_all(program)),
         ("no memory", no_memory.check_all),
         ("c library", lambda: c_library.check_all(prefix)),

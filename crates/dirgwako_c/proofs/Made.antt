@@ -10,7 +10,7 @@ use Rattle.metric_desc.specs.Desc.{Descriptor}
 use Rattle.metric_desc.specs.declared.kind.Kind.{Kind}
 use Rattle.registry_state.specs.declared.handle.FamilyId.{FamilyId}
 use Rattle.registry_state.specs.declared.handle.Handle.{Handle}
-use Rattle.dirgwako_c.specs.Registries.{Grouped, in_group, AsksMetricAt, AsksFamilyAt, AsksChildAt, MakesNamed, MakesFamilyBy, GivesChildBy}
+use Rattle.dirgwako_c.specs.Registries.{Grouped, in_group, AsksMetricAt, AsksFamilyAt, AsksChildAt, metric_answer, MakesNamed, MakesFamilyBy, GivesChildBy}
 
 module _ {N C H G : ℕ} where
   module _ {A : Type 0} (handle_of : A → Handle) (before after : Grouped N C H G) (had has : A) (name help : List ℕ)

@@ -75,6 +75,12 @@ abbrev pub IsNewAnswer : (N C H G : ℕ) → (window answer : ℕ) → Type 0
 IsNewAnswer N C H G window answer = (¬ (IsWindow window) × (answer ≡ 31))
     ⊎ (IsWindow window × (((answer ≡ 6) × IsBoardSize N C H G 1) ⊎ ((answer ≡ 13) × ¬ (IsBoardSize N C H G 1))))
 
+-- the number of each reason for which there is no metric without labels: 48 where its family is registered from now on and its child is not made,
+-- for want of a slot or of memory
+abbrev pub metric_answer : MetricRefusal → ℕ
+metric_answer (metric.Family fault) = family_refusal_number fault
+metric_answer (metric.Child id fault) = 48
+
 module _ {N C H G : ℕ} where
   -- a handle was given such a registry; or it is as it was
   abbrev pub Opens : (id window answer : ℕ) → (before after : Option (HeldRegistry N C H G)) → Type 0
@@ -110,12 +116,6 @@ module _ {N C H G : ℕ} where
   -- the page, whose next families are of this group
   abbrev pub in_group : (group : ℕ) → Grouped N C H G → Grouped N C H G
   in_group group page = record page { group = group }
-
-  -- the number of each reason for which there is no metric without labels: 48 where its family is registered from now on and its child is not made,
-  -- for want of a slot or of memory
-  abbrev pub metric_answer : MetricRefusal → ℕ
-  metric_answer (metric.Family fault) = family_refusal_number fault
-  metric_answer (metric.Child id fault) = 48
 
   -- what is done and answered where a metric without labels is asked for
   abbrev pub AsksMetricAt : (before after : Grouped N C H G) → Descriptor → Result Handle MetricRefusal → Type 0
