@@ -1,5 +1,5 @@
 -- Changes that are no list of one board.
-use Rattle.std.proofs.Common.{◌≡◌, ℕ, List, ◌⊎◌, inl, inr, refl, sym, ◌∙◌, arith, slice_index_or}
+use Rattle.std.proofs.Common.{ℕ, List, inl, inr, refl, sym, ◌∙◌, arith, slice_index_or}
 use Rattle.page_crew.specs.declared.page_recorder.PageRecorder.{PageRecorder}
 use Rattle.dirgwako_c.specs.Changes.{IsNoList, AreOfNoBoard, Publishes}
 use Rattle.dirgwako_c.specs.declared.change.Change.{Change}

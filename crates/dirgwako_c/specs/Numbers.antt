@@ -1,5 +1,5 @@
 -- The numbers of a moment as C has them, and what the calls that read them come to.
-use Rattle.std.specs.Prelude.{◌≡◌, ◌⊎◌, ℕ, ◌+◌, ◌≤◌, List, ◌∷◌, ◌++◌, length, slice_get, slice_set, Some, IsSomeAnd, Result, Ok, Err}
+use Rattle.std.specs.Prelude.{◌≡◌, ◌⊎◌, ℕ, ◌≤◌, List, ◌∷◌, ◌++◌, length, slice_get, slice_set, Some, IsSomeAnd, Result, Ok, Err}
 use Rattle.expo_text.specs.Scraped.{Scraped}
 use Rattle.register_rule.specs.declared.view.Answer.{Answer}
 use Rattle.registry_state.specs.Journal.{scrapes}

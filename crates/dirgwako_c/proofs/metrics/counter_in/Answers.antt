@@ -1,4 +1,4 @@
-use Rattle.std.proofs.Common.{◌≡◌, ℕ, List, []}
+use Rattle.std.proofs.Common.{ℕ, List, []}
 use Rattle.ledger_core.specs.declared.handles.Counter.{Counter}
 use Rattle.dirgwako.specs.Registering.{family_of}
 use Rattle.metric_desc.specs.declared.kind.Kind.TheVariants as Kinds
