@@ -37,9 +37,17 @@ fn lists_and_totals(rt: HostRuntime) {
     let mut crew = metrics.into_inner().crew;
     let totals = need(rt, crew.settle(&mut recorders));
     let of_a = there(rt, totals.on(a.registry));
-    same(rt, (of_a.vector()[0], counter_total(of_a, &a)), (1, Some(7)));
+    same(
+        rt,
+        (of_a.vector()[0], counter_total(of_a, &a)),
+        (1, Some(7)),
+    );
     let of_b = there(rt, totals.on(b.registry));
-    same(rt, (of_b.vector()[0], counter_total(of_b, &b)), (1, Some(6)));
+    same(
+        rt,
+        (of_b.vector()[0], counter_total(of_b, &b)),
+        (1, Some(6)),
+    );
     same(rt, totals.on(FIRST + 2).is_none(), true);
     let mut out = need(rt, Snapshot::new(alloc));
     need(rt, settle_board(&mut recorders, FIRST + 1, &mut out));
