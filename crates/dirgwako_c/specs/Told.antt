@@ -36,9 +36,11 @@ TellsCounter numbers counter answer had has = ((answer ≡ 0) × HaveSlot number
 abbrev pub place_of_gauge : (slot : ℕ) → ℕ
 place_of_gauge slot = COUNTERS + 27 * HISTOGRAMS + 2 * slot
 
--- the value of a gauge was told, its ups less its downs; or nothing, also where one of them is no total (41)
+-- the value of a gauge was told, its ups less its downs, where both are totals; or nothing, also where one of them is none (41)
 abbrev pub TellsGauge : (numbers : List ℕ) → Gauge → (answer : ℕ) → (had has : ℤ) → Type 0
 TellsGauge numbers gauge answer had has = ((answer ≡ 0) × HaveSlot numbers gauge.registry gauge.slot GAUGES
+    × (slice_index (totals_in numbers) (place_of_gauge gauge.slot) < 9007199254740992)
+    × (slice_index (totals_in numbers) (place_of_gauge gauge.slot + 1) < 9007199254740992)
     × (has ≡ pos (slice_index (totals_in numbers) (place_of_gauge gauge.slot))
     -ℤ pos (slice_index (totals_in numbers) (place_of_gauge gauge.slot + 1))))
     ⊎ ((TellsNothing numbers gauge.registry gauge.slot GAUGES answer

@@ -71,8 +71,3 @@ module _ {N C H G : ℕ} where
     -- there is a recorder of each worker at its place, and this is exactly what they have published there
     abbrev pub IsExactOn : List (PageRecorder N C H G) → Taken → Type 0
     IsExactOn rs totals = AreAll rs × IsSettled (workers_on rs) totals
-
-    -- why that is not told: of this board the recorder of that worker is not at its place; or there was no memory
-    abbrev pub IsUnsettled : List (PageRecorder N C H G) → SettleFault → Type 0
-    IsUnsettled rs (NotAll id missing) = (id ≡ board) × IsMisplaced rs missing
-    IsUnsettled rs NoMemory = Unit {0}

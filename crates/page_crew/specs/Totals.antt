@@ -1,7 +1,7 @@
 -- What a page's recorders have published together, on all of its boards.
 use Rattle.std.specs.Prelude.{◌≡◌, ℕ, ◌+◌, ◌<◌, List, Some, length, slice_get}
 use Rattle.snapshot_scan.specs.Snapshots.{Taken}
-use Rattle.page_crew.specs.Settling.{AreAll, IsExactOn, IsUnsettled}
+use Rattle.page_crew.specs.Settling.{AreAll, IsExactOn, IsMisplaced}
 use Rattle.page_crew.specs.declared.fault.SettleFault.{SettleFault}
 use Rattle.page_crew.specs.declared.fault.SettleFault.TheVariants.{NotAll, NoMemory}
 use Rattle.page_crew.specs.declared.page_recorder.PageRecorder.{PageRecorder}
@@ -32,8 +32,9 @@ module _ {N C H G : ℕ} where
       pub many : length (snapshots_in totals) ≡ boards
       pub each : (k : ℕ) (taken : Taken) → slice_get (snapshots_in totals) k ≡ Some taken → IsExactOn (first + k) recorders taken
 
-    -- why that is not told: of a board, the first such, the recorder of a worker is not at its place; or there was no memory
+    -- why that is not told: of a board, the first such, the recorder of a worker is not at its place; or on each board all are there, and there
+    -- was no memory
     abbrev pub IsSettleFault : List (PageRecorder N C H G) → SettleFault → Type 0
     IsSettleFault recorders (NotAll id missing) = (k : ℕ) × (k < boards) × ((j : ℕ) → j < k → AreAll (first + j) recorders)
-        × IsUnsettled (first + k) recorders (NotAll id missing)
-    IsSettleFault recorders NoMemory = Unit {0}
+        × (id ≡ first + k) × IsMisplaced (first + k) recorders missing
+    IsSettleFault recorders NoMemory = (j : ℕ) → j < boards → AreAll (first + j) recorders

@@ -37,7 +37,7 @@ fn counts_as<const N: usize, const C: usize, const H: usize, const G: usize>(
 }
 
 /// The first place at which not the recorder stands that counts as that worker on the board of this id, if there is one.
-fn misplaced<const N: usize, const C: usize, const H: usize, const G: usize>(
+pub(crate) fn misplaced<const N: usize, const C: usize, const H: usize, const G: usize>(
     recorders: &[PageRecorder<N, C, H, G>],
     board: u64,
 ) -> Option<usize>
@@ -108,27 +108,17 @@ fn set_totals<const N: usize, const C: usize, const H: usize, const G: usize>(
     }
 }
 
-/// What these have published on the board of this id, where all of them know it that came.
-///
-/// # Errors
-///
-/// 18 as [`settle_board`]. `out` is as it was.
+/// Makes `out` exactly what these have published on the board of this id, where all are there.
 pub(crate) fn settle_on<const N: usize, const C: usize, const H: usize, const G: usize>(
     recorders: &[PageRecorder<N, C, H, G>],
     board: u64,
     out: &mut Snapshot<N, C, H, G>,
-) -> Result<(), NotAll>
-    ensures settled { OnOk result (IsSettled (workers_on board recorders.now) out.new) }
-    ensures all { OnOk result (AreAll board recorders.now) }
-    ensures missing { IfErr result (λ e. IsMisplaced board recorders.now e.missing) }
-    ensures unchanged { OnErr result (out.new ≡ out.old) }
+)
+    requires all { AreAll board recorders.now }
+    ensures { IsSettled (workers_on board recorders.now) out.new }
 {
-    if let Some(missing) = misplaced(recorders, board) {
-        return Err(NotAll { missing });
-    }
     set_numbers(recorders, board, out);
     set_totals(recorders, board, out);
-    Ok(())
 }
 
 /// Exact totals of one board, for the end of a run whose numbers are a bill: of all recorders of a page, in the order in which
@@ -155,5 +145,9 @@ pub fn settle_board<const N: usize, const C: usize, const H: usize, const G: usi
     ensures joined { AllZip HasJoined recorders.old recorders.new }
 {
     join_all(recorders);
-    settle_on(recorders, board, out)
+    if let Some(missing) = misplaced(recorders, board) {
+        return Err(NotAll { missing });
+    }
+    settle_on(recorders, board, out);
+    Ok(())
 }

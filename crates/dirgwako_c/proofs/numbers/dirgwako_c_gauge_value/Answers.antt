@@ -1,4 +1,4 @@
-use Rattle.std.proofs.Common.{◌≡◌, ℕ, ◌+◌, ◌*◌, ◌≤◌, List, get_or, ⊎_elim, inl, inr, refl, sym, ap, subst, ◌∙◌, arith}
+use Rattle.std.proofs.Common.{◌≡◌, ℕ, ◌+◌, ◌*◌, ◌<◌, ◌≤◌, List, get_or, ⊎_elim, inl, inr, refl, sym, ap, subst, ◌∙◌, arith}
 use Rattle.std.specs.Prelude.{◌-ℤ◌, pos, slice_index}
 use Rattle.std.proofs.lemmas.List.{get_or-drop}
 use Rattle.dirgwako_c.specs.Told.{place_of_gauge, totals_in}
@@ -34,6 +34,8 @@ returns c =
     inl (
       refl,
       (c.if-numbers-ne-NUMBERS.false, c.if-numbers-gauge.false, c.if-gauge-ge-GAUGES.false),
+      subst (λ (n : ℕ). n < 9007199254740992) (sym (up_at numbers slot)) (omega arith),
+      subst (λ (n : ℕ). n < 9007199254740992) (sym (down_at numbers slot)) (omega arith),
       c.tell_difference.ensures ∙ (ap (λ (n : ℕ). pos n -ℤ pos (get_or numbers (place slot + 1) 0)) (sym (up_at numbers slot))
           ∙ ap (λ (n : ℕ). pos (slice_index (totals_in numbers) (place_of_gauge slot)) -ℤ pos n) (sym (down_at numbers slot))),
     )

@@ -6,10 +6,10 @@ use Rattle.snapshot_update.specs.Workers.{index_of, member_of, ops_in}
 use Rattle.page_crew.proofs.Published.{worker_at, at_its_place, with_one}
 use Rattle.page_crew.proofs.settling.settle_on.Goals as goal
 
-pub returns-clause-settled : goal.returns-clause-settled
-returns-clause-settled g c =
+pub returns : goal.returns
+returns g c =
     let rs = c.args.recorders.now in
-    let all = c.in_default.ensures.none in
+    let all = c.requires.all in
     record {
       vector = λ p w at.
           let (r, s, there, counts, is) = worker_at c.args.board rs

@@ -1,20 +1,10 @@
-use Rattle.std.proofs.Common.{◌≡◌, ℕ, ◌+◌, List, [], ◌∷◌, ◌++◌, Some, length, inl, inr, sym, ap, subst, ◌∙◌, arith}
+use Rattle.std.proofs.Common.{rules, ◌≡◌, ℕ, ◌+◌, List, [], ◌∷◌, ◌++◌, Some, length, inl, inr, sym, ap, subst, ◌∙◌, arith}
 use Rattle.std.specs.Prelude.{slice_get}
 use Rattle.std.proofs.lemmas.List.{length_push}
-use mathlib.Core.Logic.{dite}
-use native.Mathlib.Decide.{ℕ_discrete}
 use Rattle.ledger_core.proofs.Placing.{at_push}
 use Rattle.snapshot_scan.specs.Snapshots.{Taken}
-use Rattle.page_crew.specs.Settling.{AreAll, IsExactOn}
-use Rattle.page_crew.proofs.Unsettled.{first_unsettled}
+use Rattle.page_crew.specs.Settling.{IsExactOn}
 use Rattle.page_crew.proofs.owner.PageCrew.settle.Goals as goal
-
-pub returns-in-Err-clause-fault : goal.returns-in-Err-clause-fault
-returns-in-Err-clause-fault g c =
-    let same = ap length c.boards-many.ensures.boards in
-    let within = c.loop-number-test.true in
-    first_unsettled c.args.self.now.first (length c.args.self.now.page.boards) c.loop-number.number c.join_all.new.recorders
-    (omega (arith, same, within)) c.loop-number.invariant.all c.in-Err.fault c.in-Err.ensures.fault
 
 pub loop-number-preserved : goal.loop-number-preserved
 loop-number-preserved g c =
@@ -22,9 +12,9 @@ loop-number-preserved g c =
     let first : ℕ = c.args.self.now.first in
     let number : ℕ = c.loop-number.number in
     let boards : List Taken = c.loop-number.boards.items in
-    let totals : Taken = c.in-Ok-totals_on.totals in
+    let totals : Taken = c.in-Some-totals_on.totals in
     let inv = c.loop-number.invariant in
-    let exact : IsExactOn (first + number) rs totals = c.in-Ok-totals_on.ensures.exact in
+    let exact : IsExactOn (first + number) rs totals = c.in-Some-totals_on.ensures in
     let new : c.push_reserved.new.self.items ≡ boards ++ totals ∷ [] = c.push_reserved.ensures.items in
     record {
       many = ap length new ∙ length_push boards totals ∙ ap (λ n. n + 1) inv.many;
@@ -33,6 +23,9 @@ loop-number-preserved g c =
         | inl last ↦ subst (λ j. IsExactOn (first + j) rs taken) (sym (last.0 ∙ inv.many)) (subst (IsExactOn (first + number) rs) last.1 exact)
         | inr there ↦ inv.each k taken there.1
       ];
-      all = λ k lt. dite (ℕ_discrete k number) (λ e. subst (λ j. AreAll (first + j) rs) (sym e) exact.0)
-          (λ other. inv.all k (omega (arith, lt, other)));
     }
+
+pub totals_on-requires : goal.totals_on-requires
+totals_on-requires g c =
+    let lt = c.loop-number-test.true in let same = ap length c.boards-many.ensures.boards in
+    (search rules, (search rules, (search rules, c.in_default.ensures.none c.loop-number.number (omega (arith, lt, same)))))

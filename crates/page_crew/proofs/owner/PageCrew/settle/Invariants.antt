@@ -1,7 +1,7 @@
-use Rattle.std.proofs.Common.{◌≡◌, ℕ, ◌+◌, ◌<◌, ◌≤◌, Some, length}
+use Rattle.std.proofs.Common.{◌≡◌, ℕ, ◌+◌, ◌≤◌, Some, length}
 use Rattle.std.specs.Prelude.{slice_get, vec_capacity}
 use Rattle.snapshot_scan.specs.Snapshots.{Taken}
-use Rattle.page_crew.specs.Settling.{AreAll, IsExactOn}
+use Rattle.page_crew.specs.Settling.{IsExactOn}
 use Rattle.page_crew.proofs.owner.PageCrew.settle.Given as goal
 
 abbrev pub invariant-loop-number : goal.invariant-loop-number
@@ -9,5 +9,4 @@ invariant-loop-number g l = record {
   many : length l.boards.items ≡ l.number;
   room : l.many ≤ vec_capacity l.boards;
   each : (k : ℕ) (taken : Taken) → slice_get l.boards.items k ≡ Some taken → IsExactOn (l.self.first + k) l.recorders taken;
-  all : (k : ℕ) → k < l.number → AreAll (l.self.first + k) l.recorders;
 }
