@@ -5,6 +5,7 @@
 //! shall agree are registered in one group, and stay on its board as long as that has room.
 #![tactic(auto)]
 
+mod asking;
 mod boards;
 mod each;
 mod family;
