@@ -83,6 +83,7 @@ pub use page_crew::Change;
 pub use page_crew::NoBoard;
 pub use page_crew::PageCrew;
 pub use page_crew::PageCrewFault;
+pub use page_crew::PageScraper;
 pub use page_crew::PageRecorder;
 pub use page_crew::PageRegistry;
 pub use page_crew::PageTotals;

@@ -1,11 +1,14 @@
--- Recorders that are given to rings, one after the other.
+-- What is given to rings, one after the other.
 use Rattle.std.proofs.Common.{◌≡◌, ℕ, zero, suc, ◌+◌, ◌<◌, ◌≤◌, List, [], ◌∷◌, ◌++◌, Some, length, slice_get, get_or, set, All, refl, sym, ap, subst, ◌∙◌, arith, inl, inr}
 use Rattle.std.specs.Prelude.{drop, Option, None}
 use Rattle.std.proofs.Math.ListN.{length-set}
 use Rattle.std.proofs.lemmas.Option.{slice_get_read, slice_get_within, slice_get-get_or, slice_get_cases}
 use Rattle.ledger_core.proofs.Placing.{at_set, at_push}
 use Rattle.registry_state.proofs.Lists.{cases_order}
+use Rattle.std.specs.declared.alloc.Global.{Global}
 use Rattle.rtrb.specs.Ring.{sent, known_free, IsPair, SameProducer}
+use Rattle.rtrb.specs.declared.producer.Producer.{Producer}
+use Rattle.rtrb.specs.declared.AnyItems.{AnyItems}
 use Rattle.page_crew.specs.Rings.{Ring, IsGiven, AreGiven, ArePaired}
 use Rattle.page_crew.specs.Held.{feed_of}
 use Rattle.page_crew.specs.declared.page_recorder.PageRecorder.{PageRecorder}
@@ -33,12 +36,12 @@ drop_end [] n none = omega arith
 drop_end (x ∷ xs) zero none = absurd (omega (arith, none))
 drop_end (x ∷ xs) (suc n) none = let le = drop_end xs n none in omega (arith, le)
 
-pub record IsGiving {N C H G : ℕ} (place : ℕ) (old new : List (Ring N C H G)) (rest recorders : List (SharedRecorder N C H G)) : Type 0 where
+pub record IsGiving {T : Type 0} (place : ℕ) (old new : List (Producer T Global AnyItems)) (rest recorders : List T) : Type 0 where
   pub many : length new ≡ length old
   pub left : rest ≡ drop place recorders
-  pub given : (k : ℕ) (p q : Ring N C H G) (r : SharedRecorder N C H G) → k < place → slice_get old k ≡ Some p → slice_get new k ≡ Some q
+  pub given : (k : ℕ) (p q : Producer T Global AnyItems) (r : T) → k < place → slice_get old k ≡ Some p → slice_get new k ≡ Some q
       → slice_get recorders k ≡ Some r → IsGiven p q r
-  pub kept : (k : ℕ) (q : Ring N C H G) → place ≤ k → slice_get new k ≡ Some q → slice_get old k ≡ Some q
+  pub kept : (k : ℕ) (q : Producer T Global AnyItems) → place ≤ k → slice_get new k ≡ Some q → slice_get old k ≡ Some q
 
 some_same : {A : Type 0} (o : Option A) (x y : A) → o ≡ Some x → o ≡ Some y → x ≡ y
 some_same {A} o x y a b = ap (value x) (sym a ∙ b)
@@ -47,9 +50,9 @@ some_same {A} o x y a b = ap (value x) (sym a ∙ b)
     value d None = d
     value d (Some z) = z
 
-module _ {N C H G : ℕ} (place : ℕ) (old new : List (Ring N C H G)) (rest recorders : List (SharedRecorder N C H G))
+module _ {T : Type 0} (place : ℕ) (old new : List (Producer T Global AnyItems)) (rest recorders : List T)
     (giving : IsGiving place old new rest recorders) (many : length recorders ≡ length old) where
-  module _ (r : SharedRecorder N C H G) (rest' : List (SharedRecorder N C H G)) (next : rest ≡ r ∷ rest') where
+  module _ (r : T) (rest' : List T) (next : rest ≡ r ∷ rest') where
     step : (slice_get recorders place ≡ Some r) × (rest' ≡ drop (suc place) recorders)
     step = drop_step recorders place r rest' (sym giving.left ∙ next)
 
@@ -58,11 +61,11 @@ module _ {N C H G : ℕ} (place : ℕ) (old new : List (Ring N C H G)) (rest rec
         let within = slice_get_within recorders place r step.0 in let same = giving.many in omega (arith, within, many, same)
 
     -- the ring at the place is as it was
-    pub ring_kept : (p : Ring N C H G) → p ≡ get_or new place p → slice_get old place ≡ Some p
+    pub ring_kept : (p : Producer T Global AnyItems) → p ≡ get_or new place p → slice_get old place ≡ Some p
     ring_kept p read = giving.kept place p (omega arith) (slice_get_read new (length new) place p refl place_within read)
 
     -- it was given the next recorder
-    pub gives : (p q : Ring N C H G) → p ≡ get_or new place p → IsGiven p q r → IsGiving (place + 1) old (set new place q) rest' recorders
+    pub gives : (p q : Producer T Global AnyItems) → p ≡ get_or new place p → IsGiven p q r → IsGiving (place + 1) old (set new place q) rest' recorders
     gives p q read given = record {
       many = length-set new place q ∙ giving.many;
       left = let next_place : suc place ≡ place + 1 = omega arith in subst (λ n. rest' ≡ drop n recorders) next_place step.1;

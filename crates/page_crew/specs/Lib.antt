@@ -7,6 +7,9 @@ pub mod Settling
 pub mod Totals
 pub mod Opened
 pub mod Rings
+pub mod News
+pub mod Following
 pub mod Boards
 pub mod Owned
+pub mod Told
 pub mod Locking

@@ -45,6 +45,12 @@ IsNoBoard n c h g boards No.TooManyBoards = 96 ≤ boards
 IsNoBoard n c h g boards No.Geometry = (boards < 96) × ¬ (IsBoardSize n c h g 1)
 IsNoBoard n c h g boards No.NoMemory = (boards < 96) × IsBoardSize n c h g 1
 
+-- why a board of such a geometry is not made
+abbrev pub IsNotMade : (n c h g readers : ℕ) → NoBoard → Type 0
+IsNotMade n c h g readers No.TooManyBoards = ⊥
+IsNotMade n c h g readers No.Geometry = ¬ (IsBoardSize n c h g readers)
+IsNotMade n c h g readers No.NoMemory = IsBoardSize n c h g readers
+
 -- the number of each reason
 abbrev pub no_board_number : NoBoard → ℕ
 no_board_number No.TooManyBoards = 44
@@ -55,6 +61,11 @@ no_board_number No.NoMemory = 6
 abbrev pub IsPageCrewFault : (n c h g window : ℕ) → PageCrewFault → Type 0
 IsPageCrewFault n c h g window Opens.BadWindow = ¬ (IsWindow window)
 IsPageCrewFault n c h g window (Opens.Board why) = IsWindow window × IsNoBoard n c h g 0 why
+
+-- why there is no page of such a geometry, with so many readers of each board, that keeps so many scrapes
+abbrev pub IsNotOpened : (n c h g readers window : ℕ) → PageCrewFault → Type 0
+IsNotOpened n c h g readers window Opens.BadWindow = ¬ (IsWindow window)
+IsNotOpened n c h g readers window (Opens.Board why) = IsWindow window × IsNotMade n c h g readers why
 
 -- the number of each reason
 abbrev pub page_crew_fault_number : PageCrewFault → ℕ

@@ -1,4 +1,4 @@
--- What a page's owner has given to its recorders, each by a ring of its own.
+-- What a page's owner has given to its recorders, each by a ring of its own, and how rings are given anything.
 use Rattle.std.specs.Prelude.{◌≡◌, ℕ, ◌+◌, ◌≤◌, List, [], ◌∷◌, ◌++◌, Some, length, slice_get, All}
 use Rattle.std.specs.declared.alloc.Global.{Global}
 use Rattle.rtrb.specs.Ring.{sent, known_free, IsPair, SameProducer}
@@ -12,18 +12,19 @@ use Rattle.page_crew.specs.Held.{HasNone, feed_of}
 abbrev pub Ring : (N C H G : ℕ) → Type 0
 Ring N C H G = Producer (SharedRecorder N C H G) Global AnyItems
 
-module _ {N C H G : ℕ} where
-  -- it is the same ring, and it was given this recorder, behind those that it was given before
-  abbrev pub IsGiven : (p q : Ring N C H G) → SharedRecorder N C H G → Type 0
-  IsGiven p q r = SameProducer p q × (sent q ≡ sent p ++ r ∷ []) × (known_free p ≡ known_free q + 1)
+module _ {T : Type 0} where
+  -- it is the same ring, and it was given this, behind what it was given before
+  abbrev pub IsGiven : (p q : Producer T Global AnyItems) → T → Type 0
+  IsGiven p q it = SameProducer p q × (sent q ≡ sent p ++ it ∷ []) × (known_free p ≡ known_free q + 1)
 
-  -- each ring was given one recorder more, in order
-  pub record AreGiven (old new : List (Ring N C H G)) (recorders : List (SharedRecorder N C H G)) : Type 0 where
+  -- each ring was given one thing more, in order
+  pub record AreGiven (old new : List (Producer T Global AnyItems)) (items : List T) : Type 0 where
     pub many : length new ≡ length old
-    pub all : length recorders ≡ length old
-    pub given : (k : ℕ) (p q : Ring N C H G) (r : SharedRecorder N C H G) → slice_get old k ≡ Some p → slice_get new k ≡ Some q
-        → slice_get recorders k ≡ Some r → IsGiven p q r
+    pub all : length items ≡ length old
+    pub given : (k : ℕ) (p q : Producer T Global AnyItems) (it : T) → slice_get old k ≡ Some p → slice_get new k ≡ Some q
+        → slice_get items k ≡ Some it → IsGiven p q it
 
+module _ {N C H G : ℕ} where
   -- there is room in each ring for the recorders of all boards that may still come to a page of so many
   abbrev pub HaveRoom : (boards : ℕ) → List (Ring N C H G) → Type 0
   HaveRoom boards rings = All (λ (p : Ring N C H G). 96 ≤ known_free p + boards) rings

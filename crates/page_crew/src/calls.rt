@@ -2,6 +2,7 @@
 ghost use Rattle.std.specs.Prelude.{◌≡◌};
 
 use crate::fault::NoBoard;
+use crate::news::{child_news, family_news, tell};
 use crate::owner::PageCrew;
 use crate::shared_scanner::SharedScanner;
 use metric_desc::{Desc, Kind};
@@ -17,9 +18,10 @@ impl<const N: usize, const C: usize, const H: usize, const G: usize> PageCrew<N,
     ghost use Rattle.scrape_page.specs.Faults.{AreApart, IsPageFamilyFault, IsPageChildFault};
     ghost use Rattle.scrape_page.specs.Calls.{AddsFamily, IsGivenOnPage, LeavesPage};
     ghost use Rattle.scrape_page.specs.declared.fault.PageChildFault.TheVariants.{Full};
+    ghost use Rattle.page_crew.specs.Told.{news_of, HasToldFamily, HasToldChild, HasToldFurther, HasToldGiven, HasToldBoards};
     ghost use Rattle.page_crew.specs.Owned.{page_of, PageDid, IsUnchanged, IsGivenByCrew, IsGivenFurther, IsRefusedByCrew, IsRefusedFurther};
 
-    /// Registers a family in a group: [`Page::register`].
+    /// Registers a family in a group: [`Page::register`]. Each scraper is told of it.
     ///
     /// # Errors
     ///
@@ -31,8 +33,19 @@ impl<const N: usize, const C: usize, const H: usize, const G: usize> PageCrew<N,
             × AddsFamily a b desc group home)) }
         ensures fault { IfErr result (IsPageFamilyFault (page_of self.old).families desc) }
         ensures unchanged { OnErr result (IsUnchanged self.old self.new) }
+        ensures told { OnOk result (HasToldFamily self.old self.new desc group) }
+        ensures untold { OnErr result (news_of self.new ≡ news_of self.old) }
     {
-        self.page.register(desc, group)
+        let Ok(news) = family_news(self.alloc, &self.news, &desc, group) else {
+            return Err(self.page.family_refusal(&desc));
+        };
+        match self.page.register(desc, group) {
+            Ok(family) => {
+                tell(&mut self.news, news);
+                Ok(family)
+            }
+            Err(why) => Err(why),
+        }
     }
 
     /// The family of this name, if there is one.
@@ -50,15 +63,40 @@ impl<const N: usize, const C: usize, const H: usize, const G: usize> PageCrew<N,
         &self.page
     }
 
-    // The child of these values, as the page gives it.
+    // How many children the family of this number has.
+    fn children_of(&self, family: PageFamilyId) -> usize
+        ensures { MatchOption (slice_get (page_of self.now).families family.number) (result ≡ 0) (λ it. result ≡ it.children) }
+    {
+        match self.page.families().get(family.number()) {
+            Some(it) => it.children(),
+            None => 0,
+        }
+    }
+
+    // The child of these values, as the page gives it. If it is made, each scraper is told of it.
     fn ask(&mut self, family: PageFamilyId, values: &[LabelValue]) -> Result<Handle, PageChildFault>
         ensures given { IfOk result (λ handle. PageDid self.old self.new
             (λ a b. IsGivenOnPage C H G a b family.number values.now handle)) }
         ensures inside { IfOk result (IsInside C H G) }
         ensures fault { IfErr result (IsPageChildFault C H G (page_of self.old) family.number values.now) }
         ensures leaves { IfErr result (λ why. PageDid self.old self.new (λ a b. LeavesPage C H G a b family.number why)) }
+        ensures told { IfOk result (HasToldChild self.old self.new family.number values.now) }
+        ensures untold { OnErr result (news_of self.new ≡ news_of self.old) }
     {
-        self.page.child(family, values)
+        let Ok(news) = child_news(self.alloc, &self.news, family, values) else {
+            return self.page.child_there(family, values);
+        };
+        let before = self.children_of(family);
+        match self.page.child(family, values) {
+            Ok(handle) => {
+                if self.children_of(family) == before {
+                    return Ok(handle);
+                }
+                tell(&mut self.news, news);
+                Ok(handle)
+            }
+            Err(why) => Err(why),
+        }
     }
 
     // A board is made, where one may come, and the page is asked again.
@@ -72,6 +110,8 @@ impl<const N: usize, const C: usize, const H: usize, const G: usize> PageCrew<N,
         ensures given { IfOk result (IsGivenFurther self.old self.new family.number values.now) }
         ensures inside { IfOk result (IsInside C H G) }
         ensures fault { IfErr result (IsRefusedFurther self.old self.new family.number kind) }
+        ensures told { IfOk result (HasToldFurther self.old self.new family.number values.now) }
+        ensures untold { OnErr result (HasToldBoards self.old self.new) }
     {
         if slots_of::<C, H, G>(kind) == 0 {
             return Err(PageChildFault::Full { kind });
@@ -85,7 +125,8 @@ impl<const N: usize, const C: usize, const H: usize, const G: usize> PageCrew<N,
     }
 
     /// The handle of the child of these values, as [`Page::child`] gives it; but where every slot of the kind is used on every board, a
-    /// further board is made, and the child is made on it. Each recorder meets the board at its first call by the handle.
+    /// further board is made, and the child is made on it. Each recorder meets the board at its first call by the handle, and each scraper is told of
+    /// the board, and of a child that is made.
     ///
     /// # Errors
     ///
@@ -99,6 +140,8 @@ impl<const N: usize, const C: usize, const H: usize, const G: usize> PageCrew<N,
         ensures given { IfOk result (IsGivenByCrew self.old self.new family.number values.now) }
         ensures inside { IfOk result (IsInside C H G) }
         ensures fault { IfErr result (IsRefusedByCrew self.old self.new family.number values.now) }
+        ensures told { IfOk result (HasToldGiven self.old self.new family.number values.now) }
+        ensures untold { OnErr result (HasToldBoards self.old self.new) }
     {
         match self.ask(family, values) {
             Err(PageChildFault::Full { kind }) => self.ask_further(family, values, kind),

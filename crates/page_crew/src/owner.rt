@@ -1,13 +1,16 @@
 //! A page with all who work on its boards.
-ghost use Rattle.std.specs.Prelude.{◌≡◌, ◌+◌, ◌<◌, length};
+ghost use Rattle.std.specs.Prelude.{◌≡◌, ◌+◌, ◌<◌, ◌≤◌, length};
 ghost use Rattle.register_rule.specs.Faults.{IsBoardSize};
 ghost use Rattle.registry_state.specs.Faults.{IsWindow};
 ghost use Rattle.page_crew.specs.Boards.{AreNumbered};
 ghost use Rattle.page_crew.specs.Rings.{HaveRoom};
 
+use crate::appointing::{Appointed, appoint};
 use crate::fault::{NoBoard, PageCrewFault};
+use crate::news::PageNews;
 use crate::opening::{NewBoard, new_board};
 use crate::page_recorder::PageRecorder;
+use crate::page_scraper::PageScraper;
 use crate::rings::{Open, give, open_rings};
 use crate::shared_recorder::SharedRecorder;
 use crate::shared_scanner::SharedScanner;
@@ -22,12 +25,14 @@ pub struct PageCrew<const N: usize, const C: usize, const H: usize, const G: usi
     pub(crate) window: usize,
     pub(crate) page: Page<SharedScanner<N, C, H, G>, N, C, H, G>,
     pub(crate) rings: Vec<Producer<SharedRecorder<N, C, H, G>>>,
+    pub(crate) news: Vec<Producer<Box<PageNews<N, C, H, G>>>>,
     ghost numbered: { AreNumbered first page.boards },
     ghost low: { first + 96 < 18446744073709551616 },
     ghost kept: { IsWindow window },
     ghost count: { length rings.items ≡ N },
     ghost room: { HaveRoom (length page.boards) rings.items },
     ghost size: { IsBoardSize N C H G 1 },
+    ghost readers: { length news.items ≤ 3 },
 }
 
 impl<const N: usize, const C: usize, const H: usize, const G: usize> Drop for PageCrew<N, C, H, G> {
@@ -38,6 +43,7 @@ impl<const N: usize, const C: usize, const H: usize, const G: usize> Drop for Pa
             window: _,
             page: _,
             rings: _,
+            news: _,
         } = self;
     }
 }
@@ -45,9 +51,13 @@ impl<const N: usize, const C: usize, const H: usize, const G: usize> Drop for Pa
 /// The most scrapes that a board keeps.
 const MAX_WINDOW: usize = 1024;
 
+/// The most scrapers of a page: a board has 4 readers.
+const MAX_SCRAPERS: usize = 3;
+
 impl<const N: usize, const C: usize, const H: usize, const G: usize> PageCrew<N, C, H, G> {
-    ghost use Rattle.std.specs.Prelude.{◌*◌, IfErr, IfOk};
-    ghost use Rattle.page_crew.specs.Opened.{IsPageCrewFault};
+    ghost use Rattle.std.specs.Prelude.{◌*◌, [], IfErr, IfOk};
+    ghost use Rattle.page_crew.specs.Opened.{IsPageCrewFault, IsNotOpened};
+    ghost use Rattle.page_crew.specs.Told.{news_of, AreAppointed};
     ghost use Rattle.page_crew.specs.Owned.{first_of, page_of, IsOpened};
 
     /// A page of one board, without families, and `N` recorders, in the order of their numbers. Each board keeps `window` scrapes. The first
@@ -65,15 +75,48 @@ impl<const N: usize, const C: usize, const H: usize, const G: usize> PageCrew<N,
     ) -> Result<(PageCrew<N, C, H, G>, Vec<PageRecorder<N, C, H, G>>), PageCrewFault>
         ensures opened { IfOk result (λ r. IsOpened (128 * id) window r.0 r.1.items) }
         ensures fault { IfErr result (IsPageCrewFault N C H G window) }
+        ensures alone { IfOk result (λ r. news_of r.0 ≡ []) }
+    {
+        let (crew, recorders, _scrapers) = PageCrew::with_scrapers(alloc, id, window, 0)?;
+        Ok((crew, recorders))
+    }
+
+    /// The same with so many scrapers, 0 to 3: each has a page of its own, over a reader of each board that nobody else has. Each scrape of theirs
+    /// shows what is registered by then.
+    ///
+    /// # Errors
+    ///
+    /// 31 [`PageCrewFault::BadWindow`], the window is not 1 to 1,024; then [`PageCrewFault::Board`]: 13 [`NoBoard::Geometry`], also where there would
+    /// be over 3 scrapers; 6 [`NoBoard::NoMemory`].
+    pub fn with_scrapers(
+        alloc: Global,
+        id: u32,
+        window: usize,
+        scrapers: usize,
+    ) -> Result<
+        (
+            PageCrew<N, C, H, G>,
+            Vec<PageRecorder<N, C, H, G>>,
+            Vec<PageScraper<N, C, H, G>>,
+        ),
+        PageCrewFault,
+    >
+        ensures opened { IfOk result (λ r. IsOpened (128 * id) window r.0 r.1.items) }
+        ensures scrapers { IfOk result (λ r. AreAppointed scrapers r.0 r.2.items) }
+        ensures fault { IfErr result (IsNotOpened N C H G (1 + scrapers) window) }
     {
         if window < 1 || window > MAX_WINDOW {
             return Err(PageCrewFault::BadWindow);
+        }
+        if scrapers > MAX_SCRAPERS {
+            return Err(PageCrewFault::Board(NoBoard::Geometry));
         }
         let first = 128 * id as u64;
         let NewBoard {
             registry,
             recorders,
-        } = match new_board(alloc, first, window) {
+            others,
+        } = match new_board(alloc, first, window, scrapers) {
             Ok(made) => made,
             Err(why) => return Err(PageCrewFault::Board(why)),
         };
@@ -83,6 +126,15 @@ impl<const N: usize, const C: usize, const H: usize, const G: usize> PageCrew<N,
                 recorders: seats,
             },
         ) = open_rings(alloc, first)
+        else {
+            return Err(PageCrewFault::Board(NoBoard::NoMemory));
+        };
+        let Ok(
+            Appointed {
+                rings: news,
+                scrapers,
+            },
+        ) = appoint(alloc, others)
         else {
             return Err(PageCrewFault::Board(NoBoard::NoMemory));
         };
@@ -100,8 +152,9 @@ impl<const N: usize, const C: usize, const H: usize, const G: usize> PageCrew<N,
             window,
             page,
             rings,
+            news,
         };
-        Ok((crew, seats))
+        Ok((crew, seats, scrapers))
     }
 
     /// The id of the page's first board; the others follow it.
@@ -121,6 +174,7 @@ impl<const N: usize, const C: usize, const H: usize, const G: usize> PageCrew<N,
             window: _,
             page,
             rings: _,
+            news: _,
         } = self;
         page
     }

@@ -22,7 +22,8 @@ impl<const N: usize, const C: usize, const H: usize, const G: usize> PageCrew<N,
     /// 14 [`NoScrape::Contended`]; 6 [`NoScrape::NoMemory`]. The boards before it have kept their scrapes then, and those behind it are as
     /// they were.
     pub fn scrape(&mut self) -> Result<Scrape, NoScrape>
-        ensures { ScrapesByCrew self.old self.new result }
+        ensures scraped { ScrapesByCrew self.old self.new result }
+        ensures untold { news_of self.new ≡ news_of self.old }
     {
         self.page.scrape()
     }
@@ -34,7 +35,8 @@ impl<const N: usize, const C: usize, const H: usize, const G: usize> PageCrew<N,
     /// 14 [`NoScrape::Contended`]; 6 [`NoScrape::NoMemory`].
     pub fn scrape_board(&mut self, number: usize) -> Result<Scrape, NoScrape>
         requires { number < length (page_of self.old).boards }
-        ensures { PageDid self.old self.new (λ a b.
+        ensures untold { news_of self.new ≡ news_of self.old }
+        ensures scraped { PageDid self.old self.new (λ a b.
             BoardAloneScrapes N C H G recorded_in quit_in gave_in gave_up_in number a b result) }
     {
         self.page.scrape_board(number)
@@ -47,7 +49,8 @@ impl<const N: usize, const C: usize, const H: usize, const G: usize> PageCrew<N,
     /// 14 [`NoScrape::Contended`]; 6 [`NoScrape::NoMemory`].
     pub fn keep_board(&mut self, number: usize) -> Result<(), NoScrape>
         requires { number < length (page_of self.old).boards }
-        ensures { PageDid self.old self.new (λ a b.
+        ensures untold { news_of self.new ≡ news_of self.old }
+        ensures scraped { PageDid self.old self.new (λ a b.
             Unshown (BoardAloneScrapes N C H G recorded_in quit_in gave_in gave_up_in number) a b result) }
     {
         self.page.keep_board(number)
@@ -64,6 +67,7 @@ impl<const N: usize, const C: usize, const H: usize, const G: usize> PageCrew<N,
         ensures set { OnOk result (KeepsFromNow window self.old self.new) }
         ensures refused { OnErr result (¬ (IsWindow window)) }
         ensures unchanged { OnErr result (IsUnchanged self.old self.new) }
+        ensures untold { news_of self.new ≡ news_of self.old }
     {
         self.page.set_window(window)?;
         self.window = window;

@@ -28,6 +28,7 @@ invariant_of-self g c =
       low = old.low;
       kept = old.kept;
       size = old.size;
+      readers = old.readers;
       count = ap length items ∙ given.many ∙ old.count;
       room = subst (λ (l : List R). HaveRoom (length c.add_board.new.self.boards) l) (sym items)
           (room_left (length boards) (length c.add_board.new.self.boards) old.rings.items c.give.new.rings c.in_ok-registry.field-0.recorders.items
@@ -43,6 +44,7 @@ invariant_of-self-in-Err-1 g c =
       low = old.low;
       kept = old.kept;
       size = old.size;
+      readers = old.readers;
       count = old.count;
       room = subst (λ (p : P). HaveRoom (length p.boards) old.rings.items) (sym c.in-Err.ensures.unchanged) old.room;
     }

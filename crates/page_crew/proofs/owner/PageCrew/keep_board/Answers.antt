@@ -19,4 +19,5 @@ invariant_of-self g c =
       count = old.count;
       room = room_still old.page.boards c.keep_board.new.self.boards old.rings.items keeps old.room;
       size = old.size;
+      readers = old.readers;
     }

@@ -14,4 +14,5 @@ invariant_of-self g c =
       count = old.count;
       room = room_still old.page.boards c.register.new.self.boards old.rings.items keeps old.room;
       size = old.size;
+      readers = old.readers;
     }

@@ -15,4 +15,5 @@ invariant_of-self g c =
       count = old.count;
       room = room_still old.page.boards c.scrape_board.new.self.boards old.rings.items keeps old.room;
       size = old.size;
+      readers = old.readers;
     }

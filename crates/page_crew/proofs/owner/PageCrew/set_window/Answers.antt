@@ -18,6 +18,7 @@ invariant_of-self g c =
       count = old.count;
       room = room_still old.page.boards c.set_window.new.self.boards old.rings.items keeps old.room;
       size = old.size;
+      readers = old.readers;
     }
 
 -- it is set
@@ -33,4 +34,5 @@ invariant_of-self-2 g c =
       count = old.count;
       room = room_still old.page.boards c.set_window.new.self.boards old.rings.items keeps old.room;
       size = old.size;
+      readers = old.readers;
     }
