@@ -75,7 +75,7 @@ module _ {S : Type 0} (c h g : ℕ) (page : PageView S) (board : RegistryView S)
 
 module _ {N C H G : ℕ} where
   module _ (old mid new : PageCrew N C H G) (same : IsUnchanged old mid) where
-    grown_from : IsGrown mid new → IsGrown old new
+    pub grown_from : IsGrown mid new → IsGrown old new
     grown_from grown = record {
       owner = (grown.owner.0 ∙ same.0.0, grown.owner.1 ∙ same.0.1);
       board = grown.board;

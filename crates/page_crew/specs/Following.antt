@@ -1,5 +1,5 @@
 -- What contracts see of a scraper, and what it does.
-use Rattle.std.specs.Prelude.{◌≡◌, ℕ, ◌⊎◌, List, [], ◌∷◌, ◌++◌, map, length, slice_get, All, Option, None, Some, Box, Result, Err}
+use Rattle.std.specs.Prelude.{◌≡◌, ℕ, ◌⊎◌, List, [], ◌∷◌, ◌++◌, map, length, slice_get, All, Some, option_to_list, Box, Result, Err}
 use Rattle.std.specs.declared.alloc.Global.{Global}
 use Rattle.expo_text.specs.Scraped.{Scraped}
 use Rattle.register_rule.specs.declared.board.Board.{Board}
@@ -14,11 +14,6 @@ use Rattle.page_crew.specs.declared.news.PageNews.{PageNews}
 use Rattle.page_crew.specs.declared.page_scraper.PageScraper.{PageScraper}
 use Rattle.page_crew.specs.declared.shared_scanner.SharedScanner.{SharedScanner}
 
--- what is there, as a list of one or none
-abbrev pub listed : {X : Type 0} → Option X → List X
-listed None = []
-listed (Some x) = x ∷ []
-
 module _ {N C H G : ℕ} where
   -- its page
   abbrev pub page_in : PageScraper N C H G → ScraperView N C H G
@@ -30,7 +25,7 @@ module _ {N C H G : ℕ} where
 
   -- what it took out of the ring and could not do yet: one thing, or none
   abbrev pub held_in : PageScraper N C H G → List (PageNews N C H G)
-  held_in s = listed s.held
+  held_in s = option_to_list s.held
 
   -- It took what came out of its ring, which is the same, in order; of that, and of what it held before, it did all but what it holds now: its page
   -- became this one by it

@@ -43,6 +43,10 @@ module _ {N C H G : ℕ} where
   abbrev pub unboxed : Box (PageNews N C H G) Global → PageNews N C H G
   unboxed box = box.value
 
+  -- that the board of this registry came
+  abbrev pub of_board : RegistryView (SharedScanner N C H G) → PageNews N C H G
+  of_board registry = Tells.Board registry
+
   -- a registry of this id over this board, which keeps one scrape; nothing was registered, and no scrape is kept
   pub record IsOver (board : Board N C H G) (id : ℕ) (registry : RegistryView (SharedScanner N C H G)) : Type 0 where
     pub id_is : registry.id ≡ id
@@ -75,6 +79,12 @@ module _ {N C H G : ℕ} where
     pub many : length news ≡ length rings
     pub room : All (λ (p : NewsRing N C H G). 0 < known_free p) rings
     pub says : All (λ (it : Box (PageNews N C H G) Global). Says (unboxed it)) news
+
+  -- there is one thing to tell for each ring, the next of these boards, and each ring has room for it
+  pub record AreBoardNews (registries : List (RegistryView (SharedScanner N C H G))) (rings : List (NewsRing N C H G))
+      (news : List (Box (PageNews N C H G) Global)) : Type 0 where
+    pub room : All (λ (p : NewsRing N C H G). 0 < known_free p) rings
+    pub boards : map unboxed news ≡ map of_board registries
 
   -- each scraper was told one thing, which says this, behind what it was told before, and by the same ring
   pub record AreTold (Says : PageNews N C H G → Type 0) (old new : List (NewsRing N C H G)) : Type 0 where

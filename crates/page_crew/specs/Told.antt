@@ -59,7 +59,7 @@ module _ {N C H G : ℕ} where
 
   -- so many scrapers, each with the other end of a ring of the owner's, which has told them nothing, and with a page of a registry of its own over
   -- the owner's first board
-  pub record AreAppointed (many : ℕ) (crew : PageCrew N C H G) (scrapers : List (PageScraper N C H G)) : Type 0 where
+  pub record AreAppointed (many : ℕ) (crew : PageCrew N C H G) (recruits : List (PageScraper N C H G)) : Type 0 where
     pub board : RegistryView (SharedScanner N C H G)
     pub first : slice_get (page_of crew).boards 0 ≡ Some board
-    pub scrapers : AreScrapers many (arc_value board.source.board) (first_of crew) (news_of crew) scrapers
+    pub scrapers : AreScrapers many (arc_value board.source.board) (first_of crew) (news_of crew) recruits

@@ -44,7 +44,8 @@ fn do_family<const N: usize, const C: usize, const H: usize, const G: usize>(
     match page.register(copy, group) {
         Ok(_) => Ok(()),
         Err(PageFamilyFault::NoMemory) => Err(PageNews::Family { desc, group }),
-        Err(_) => Ok(()),
+        Err(PageFamilyFault::Clash { with: _ }) => Ok(()),
+        Err(PageFamilyFault::TooManyFamilies) => Ok(()),
     }
 }
 

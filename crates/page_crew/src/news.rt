@@ -2,7 +2,7 @@
 ghost use Rattle.std.specs.Prelude.{◌≡◌, ◌<◌, ◌↔◌, length, All, IfOk, IsTrue};
 ghost use Rattle.rtrb.specs.Ring.{known_free};
 ghost use Rattle.page_crew.specs.Rings.{AreGiven};
-ghost use Rattle.page_crew.specs.News.{AreReady, SaysBoard, SaysChild, SaysFamily};
+ghost use Rattle.page_crew.specs.News.{AreReady, AreBoardNews, IsChildNews, IsFamilyNews};
 
 use crate::shared_scanner::SharedScanner;
 use metric_desc::Desc;
@@ -39,7 +39,12 @@ fn have_room<const N: usize, const C: usize, const H: usize, const G: usize>(
 ) -> bool
     ensures { IsTrue result ↔ All (λ p. 0 < known_free p) rings.now }
 {
-    rings.iter().all(|ring| ring.cached_slots() > 0)
+    for ring in rings {
+        if ring.cached_slots() == 0 {
+            return false;
+        }
+    }
+    true
 }
 
 /// That a board came, for each of these rings: a scraper's registry over the board each.
@@ -51,7 +56,7 @@ pub(crate) fn board_news<const N: usize, const C: usize, const H: usize, const G
     registries: Vec<RegistryState<SharedScanner<N, C, H, G>, N, C, H, G>>,
 ) -> Result<Vec<Box<PageNews<N, C, H, G>>>, NoMemory>
     requires { length registries.items ≡ length rings.now }
-    ensures { IfOk result (λ news. AreReady (λ it. Any (SaysBoard it) registries.entry.items) rings.now news.items) }
+    ensures { IfOk result (λ news. AreBoardNews registries.entry.items rings.now news.items) }
 {
     if !have_room(rings) {
         return Err(NoMemory);
@@ -72,7 +77,7 @@ pub(crate) fn family_news<const N: usize, const C: usize, const H: usize, const 
     desc: &Desc,
     group: u64,
 ) -> Result<Vec<Box<PageNews<N, C, H, G>>>, NoMemory>
-    ensures { IfOk result (λ news. AreReady (SaysFamily desc.now group) rings.now news.items) }
+    ensures { IfOk result (λ news. AreReady (IsFamilyNews desc.now group) rings.now news.items) }
 {
     if !have_room(rings) {
         return Err(NoMemory);
@@ -107,7 +112,7 @@ pub(crate) fn child_news<const N: usize, const C: usize, const H: usize, const G
     family: PageFamilyId,
     values: &[LabelValue],
 ) -> Result<Vec<Box<PageNews<N, C, H, G>>>, NoMemory>
-    ensures { IfOk result (λ news. AreReady (SaysChild family.number values.now) rings.now news.items) }
+    ensures { IfOk result (λ news. AreReady (IsChildNews family.number values.now) rings.now news.items) }
 {
     if !have_room(rings) {
         return Err(NoMemory);

@@ -77,8 +77,10 @@ impl<const N: usize, const C: usize, const H: usize, const G: usize> PageCrew<N,
         ensures fault { IfErr result (IsPageCrewFault N C H G window) }
         ensures alone { IfOk result (λ r. news_of r.0 ≡ []) }
     {
-        let (crew, recorders, _scrapers) = PageCrew::with_scrapers(alloc, id, window, 0)?;
-        Ok((crew, recorders))
+        match PageCrew::with_scrapers(alloc, id, window, 0) {
+            Ok((crew, recorders, _scrapers)) => Ok((crew, recorders)),
+            Err(why) => Err(why),
+        }
     }
 
     /// The same with so many scrapers, 0 to 3: each has a page of its own, over a reader of each board that nobody else has. Each scrape of theirs

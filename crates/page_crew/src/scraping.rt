@@ -8,11 +8,12 @@ use scrape_http::NoScrape;
 use scrape_server::MakesScrapes;
 
 impl<const N: usize, const C: usize, const H: usize, const G: usize> PageCrew<N, C, H, G> {
-    ghost use Rattle.std.specs.Prelude.{◌<◌, length, OnErr, OnOk};
+    ghost use Rattle.std.specs.Prelude.{◌≡◌, ◌<◌, length, OnErr, OnOk};
     ghost use Rattle.registry_state.specs.Faults.{IsWindow};
     ghost use Rattle.scrape_page.specs.Scraping.{BoardAloneScrapes};
     ghost use Rattle.scrape_page.specs.Unshown.{Unshown};
     ghost use Rattle.page_crew.specs.Shared.{recorded_in, quit_in, gave_in, gave_up_in};
+    ghost use Rattle.page_crew.specs.Told.{news_of};
     ghost use Rattle.page_crew.specs.Owned.{page_of, PageDid, KeepsFromNow, IsUnchanged};
 
     /// One scrape of all boards, shown as one: [`scrape_page::Page::scrape`].
