@@ -2,5 +2,6 @@
 //! answered the first one.
 mod parts;
 mod registries;
+mod scrapers;
 mod servers;
 mod services;

@@ -10,6 +10,7 @@ mod naming;
 mod next;
 mod pages;
 mod refused;
+mod scrapers;
 mod serving;
 mod setting;
 mod settled;
