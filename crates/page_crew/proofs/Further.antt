@@ -88,7 +88,7 @@ module _ {N C H G : ℕ} where
       given = subst (λ (l : List (Ring N C H G)). AreGiven l (rings_of new) grown.recorders) same.2 grown.given;
     }
 
-    unchanged_from : IsUnchanged mid new → IsUnchanged old new
+    pub unchanged_from : IsUnchanged mid new → IsUnchanged old new
     unchanged_from more = ((more.0.0 ∙ same.0.0, more.0.1 ∙ same.0.1), more.1 ∙ same.1, more.2 ∙ same.2)
 
   -- a board came, and the page was asked again

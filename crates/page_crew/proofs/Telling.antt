@@ -1,5 +1,5 @@
 -- What scrapers are told, and do, one thing after the other.
-use Rattle.std.proofs.Common.{◌≡◌, ℕ, zero, suc, ◌+◌, ◌<◌, List, [], ◌∷◌, ◌++◌, Some, length, map, slice_get, get_or, All, Box, refl, sym, ap, subst, ◌∙◌, arith, inl, inr, append-nil, append_assoc}
+use Rattle.std.proofs.Common.{◌≡◌, ℕ, zero, suc, ◌<◌, List, [], ◌∷◌, ◌++◌, length, map, get_or, All, Box, refl, sym, ap, subst, ◌∙◌, arith, inl, inr, append-nil, append_assoc}
 use Rattle.std.specs.Prelude.{Result, Ok, Err, OnOk, OnErr, ◌≢◌}
 use Rattle.std.specs.declared.alloc.Global.{Global}
 use Rattle.std.proofs.lemmas.List.{map-append, length-map}
@@ -46,8 +46,12 @@ on_err (Err e) p = p
 pub not_registered : {N C H G : ℕ} (a b : ScraperView N C H G) (desc copy : Descriptor) (group : ℕ) (fault : PageFamilyFault) → copy ≡ desc
     → fault ≡ TooManyFamilies → IsPageFamilyFault a.families copy fault → b ≡ a → TakesFamily desc group a b
 not_registered a b desc copy group fault same is why unchanged =
-    inr (fault, subst (λ (d : Descriptor). IsPageFamilyFault a.families d fault) same why,
-    subst (λ (f : PageFamilyFault). f ≢ NoMemory) (sym is) differs, unchanged)
+    inr (
+      fault,
+      subst (λ (d : Descriptor). IsPageFamilyFault a.families d fault) same why,
+      subst (λ (f : PageFamilyFault). f ≢ NoMemory) (sym is) differs,
+      unchanged,
+    )
   where
     differs : TooManyFamilies ≢ NoMemory
     differs = λ (e : TooManyFamilies ≡ NoMemory). absurd cc

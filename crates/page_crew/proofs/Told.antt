@@ -1,17 +1,16 @@
 -- What the owner of a page tells its scrapers.
-use Rattle.std.proofs.Common.{◌≡◌, ◌≢◌, ℕ, zero, suc, ◌+◌, ◌<◌, ◌≤◌, List, [], ◌∷◌, ◌++◌, Some, length, map, slice_get, set, All, Box, refl, sym, ap, subst, ◌∙◌, arith, inl, inr}
-use Rattle.std.specs.Prelude.{◌⊎◌, Result, Ok, Err, IfOk, IfErr, OnOk, OnErr, Option, None, MatchOption}
+use Rattle.std.proofs.Common.{◌≡◌, ◌≢◌, ℕ, zero, suc, ◌+◌, ◌<◌, ◌≤◌, List, [], ◌∷◌, ◌++◌, Some, length, slice_get, set, All, Box, refl, sym, ap, subst, ◌∙◌, arith, inl, inr}
+use Rattle.std.specs.Prelude.{◌⊎◌, Result, Ok, Err, IfOk, IfErr, OnErr, Option, None, MatchOption}
 use Rattle.std.specs.declared.alloc.Global.{Global}
 use Rattle.std.specs.Arc.{arc_value}
-use Rattle.std.proofs.lemmas.Option.{same_Some, none-some}
-use Rattle.registry_state.specs.Kept.{RegistryView}
+use Rattle.std.proofs.lemmas.Option.{none-some}
 use Rattle.registry_state.specs.declared.handle.Handle.{Handle}
 use Rattle.rtrb.specs.Ring.{known_free}
 use Rattle.scrape_page.specs.Calls.{IsGivenOnPage, LeavesPage, AddsChild, WasFound, WasMadeThere, WasMadeFurther}
 use Rattle.scrape_page.specs.Families.{PageFamily, PageView}
 use Rattle.scrape_page.specs.declared.fault.PageChildFault.{PageChildFault}
 use Rattle.page_crew.specs.News.{NewsRing, AreReady, AreTold, IsBoardNews}
-use Rattle.page_crew.specs.Owned.{page_of, first_of, IsGrown, IsUnchanged, PageDid}
+use Rattle.page_crew.specs.Owned.{page_of, first_of, IsUnchanged, PageDid}
 use Rattle.page_crew.specs.Rings.{AreGiven}
 use Rattle.page_crew.specs.Told.{news_of, HasToldBoard, HasToldChild, HasToldFurther, HasToldGiven, HasToldBoards, GrewAndTold}
 use Rattle.page_crew.specs.declared.news.PageNews.{PageNews}

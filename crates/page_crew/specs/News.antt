@@ -13,7 +13,7 @@ use Rattle.rtrb.specs.declared.consumer.Consumer.{Consumer}
 use Rattle.rtrb.specs.declared.AnyItems.{AnyItems}
 use Rattle.scrape_page.specs.Calls.{AddsFamily, IsGivenOnPage, LeavesPage}
 use Rattle.scrape_page.specs.Families.{PageView}
-use Rattle.scrape_page.specs.Faults.{AreApart, IsFresh, IsBoardFault, IsPageFamilyFault, IsPageChildFault}
+use Rattle.scrape_page.specs.Faults.{IsFresh, IsBoardFault, IsPageFamilyFault, IsPageChildFault}
 use Rattle.scrape_page.specs.Rooms.{IsHome}
 use Rattle.scrape_page.specs.declared.fault.BoardFault.{BoardFault}
 use Rattle.scrape_page.specs.declared.fault.BoardFault.TheVariants as OfBoard

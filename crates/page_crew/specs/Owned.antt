@@ -1,4 +1,4 @@
--- What contracts see of a page with all who work on its boards, and what its calls do to it.
+-- What contracts see of a page with all who work on its boards, and what its calls do to it. What its scrapers are told is said in Told.
 use Rattle.std.specs.Prelude.{◌≡◌, ◌≢◌, ℕ, ◌+◌, ◌<◌, ◌≤◌, ◌⊎◌, List, [], ◌∷◌, ◌++◌, Some, Result, length, slice_get, All}
 use Rattle.metric_desc.specs.declared.kind.Kind.{Kind}
 use Rattle.expo_text.specs.Scraped.{Scraped}
@@ -54,11 +54,11 @@ module _ {N C H G : ℕ} where
     pub page : page_of new ≡ record (page_of old) { boards = (page_of old).boards ++ board ∷ [] }
     pub given : AreGiven (rings_of old) (rings_of new) recorders
 
-  -- nothing has changed
+  -- nothing has changed, of what the recorders were given neither
   abbrev pub IsUnchanged : (old new : PageCrew N C H G) → Type 0
   IsUnchanged old new = IsSameOwner old new × (page_of new ≡ page_of old) × (rings_of new ≡ rings_of old)
 
-  -- the page did this, and nothing else has changed
+  -- the page did this, and nothing else has changed, but for what scrapers were told
   abbrev pub PageDid : (old new : PageCrew N C H G) → (PageView (SharedScanner N C H G) → PageView (SharedScanner N C H G) → Type 0) → Type 0
   PageDid old new Did = IsSameOwner old new × Did (page_of old) (page_of new) × (rings_of new ≡ rings_of old)
 

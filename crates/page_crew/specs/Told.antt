@@ -1,17 +1,26 @@
 -- What a page's owner has told its scrapers.
-use Rattle.std.specs.Prelude.{◌≡◌, ℕ, ◌+◌, ◌⊎◌, List, [], ◌∷◌, ◌++◌, length, slice_get, Some}
+use Rattle.std.specs.Prelude.{◌≡◌, ◌≢◌, ℕ, ◌+◌, ◌⊎◌, List, [], ◌∷◌, ◌++◌, length, slice_get, Option, Some, None}
 use Rattle.std.specs.Arc.{arc_value}
 use Rattle.metric_desc.specs.Desc.{Descriptor}
 use Rattle.registry_state.specs.Kept.{RegistryView}
 use Rattle.registry_state.specs.declared.handle.Handle.{Handle}
-use Rattle.scrape_page.specs.Calls.{IsGivenOnPage, WasFound, WasMadeThere, WasMadeFurther}
-use Rattle.scrape_page.specs.Families.{PageView}
+use Rattle.scrape_page.specs.Calls.{WasFound, WasMadeThere, WasMadeFurther}
+use Rattle.scrape_page.specs.Families.{PageFamily, PageView}
 use Rattle.page_crew.specs.Following.{AreScrapers}
 use Rattle.page_crew.specs.News.{NewsRing, AreTold, IsBoardNews, IsFamilyNews, IsChildNews}
 use Rattle.page_crew.specs.Owned.{page_of, first_of, IsGrown}
 use Rattle.page_crew.specs.declared.owner.PageCrew.{PageCrew}
 use Rattle.page_crew.specs.declared.page_scraper.PageScraper.{PageScraper}
 use Rattle.page_crew.specs.declared.shared_scanner.SharedScanner.{SharedScanner}
+
+-- how many parts a family has; none where there is none
+abbrev pub parts_there : Option PageFamily → ℕ
+parts_there None = 0
+parts_there (Some it) = length it.parts
+
+-- how many the family of this number has
+abbrev pub parts_in : {S : Type 0} → PageView S → (number : ℕ) → ℕ
+parts_in page number = parts_there (slice_get page.families number)
 
 module _ {N C H G : ℕ} where
   -- what was told to the scrapers, each by its ring
@@ -56,6 +65,12 @@ module _ {N C H G : ℕ} where
   HasToldBoards old new = ((length (page_of new).boards ≡ length (page_of old).boards) × (news_of new ≡ news_of old))
       ⊎ ((mid : PageCrew N C H G) × GrewAndTold old mid × (length (page_of new).boards ≡ length (page_of mid).boards)
       × (news_of new ≡ news_of mid))
+
+  -- Where a child was refused: the family has as many parts as it had, and no scraper was told anything, but of a board that came. Or it took a part
+  -- for the child, of which no scraper hears, and no scraper is told anything from now on
+  abbrev pub HasToldRefused : (old new : PageCrew N C H G) → (number : ℕ) → Type 0
+  HasToldRefused old new number = ((parts_in (page_of new) number ≡ parts_in (page_of old) number) × HasToldBoards old new)
+      ⊎ ((parts_in (page_of new) number ≢ parts_in (page_of old) number) × (news_of new ≡ []))
 
   -- so many scrapers, each with the other end of a ring of the owner's, which has told them nothing, and with a page of a registry of its own over
   -- the owner's first board

@@ -11,14 +11,14 @@ use registry_state::{Handle, slots_of};
 use scrape_page::{Page, PageChildFault, PageFamilyFault, PageFamilyId};
 
 impl<const N: usize, const C: usize, const H: usize, const G: usize> PageCrew<N, C, H, G> {
-    ghost use Rattle.std.specs.Prelude.{◌≡◌, ◌≢◌, ◌<◌, ℕ, length, slice_get, All, IfErr, IfOk, IsSomeAnd, MatchOption, OnErr, OnOk};
+    ghost use Rattle.std.specs.Prelude.{◌≡◌, ◌≢◌, ◌<◌, ℕ, [], length, slice_get, All, IfErr, IfOk, IsSomeAnd, MatchOption, OnErr, OnOk};
     ghost use Rattle.registry_state.specs.Calls.{IsInside};
     ghost use Rattle.registry_state.specs.Replay.{slots};
     ghost use Rattle.scrape_page.specs.Rooms.{IsHome};
     ghost use Rattle.scrape_page.specs.Faults.{AreApart, IsPageFamilyFault, IsPageChildFault};
     ghost use Rattle.scrape_page.specs.Calls.{AddsFamily, IsGivenOnPage, LeavesPage};
     ghost use Rattle.scrape_page.specs.declared.fault.PageChildFault.TheVariants.{Full};
-    ghost use Rattle.page_crew.specs.Told.{news_of, HasToldFamily, HasToldChild, HasToldFurther, HasToldGiven, HasToldBoards};
+    ghost use Rattle.page_crew.specs.Told.{news_of, parts_in, HasToldFamily, HasToldChild, HasToldFurther, HasToldGiven, HasToldBoards, HasToldRefused};
     ghost use Rattle.page_crew.specs.Owned.{page_of, PageDid, IsUnchanged, IsGivenByCrew, IsGivenFurther, IsRefusedByCrew, IsRefusedFurther};
 
     /// Registers a family in a group: [`Page::register`]. Each scraper is told of it.
@@ -124,15 +124,8 @@ impl<const N: usize, const C: usize, const H: usize, const G: usize> PageCrew<N,
         }
     }
 
-    /// The handle of the child of these values, as [`Page::child`] gives it; but where every slot of the kind is used on every board, a
-    /// further board is made, and the child is made on it. Each recorder meets the board at its first call by the handle, and each scraper is told of
-    /// the board, and of a child that is made.
-    ///
-    /// # Errors
-    ///
-    /// 20, 21, 46 and 6 as [`Page::child`]; 22 [`PageChildFault::Full`] only where 96 boards are there, or a board has no slot of the kind at
-    /// all. After 6 there may be one board more, on which nothing is counted, and a part of the family there, which no text shows.
-    pub fn child(
+    // The child of these values, also on a further board.
+    fn give_child(
         &mut self,
         family: PageFamilyId,
         values: &[LabelValue],
@@ -146,6 +139,57 @@ impl<const N: usize, const C: usize, const H: usize, const G: usize> PageCrew<N,
         match self.ask(family, values) {
             Err(PageChildFault::Full { kind }) => self.ask_further(family, values, kind),
             answer => answer,
+        }
+    }
+
+    // How many parts the family of this number has.
+    fn parts_of(&self, family: PageFamilyId) -> usize
+        ensures { result ≡ parts_in (page_of self.now) family.number }
+    {
+        match self.page.families().get(family.number()) {
+            Some(it) => it.parts().len(),
+            None => 0,
+        }
+    }
+
+    // Where the family has other parts than it had before a child was refused, no scraper is told anything from now on.
+    fn keep_in_step(&mut self, family: PageFamilyId, before: usize)
+        ensures unchanged { IsUnchanged self.old self.new }
+        ensures same { parts_in (page_of self.old) family.number ≡ before → news_of self.new ≡ news_of self.old }
+        ensures gone { parts_in (page_of self.old) family.number ≢ before → news_of self.new ≡ [] }
+    {
+        if self.parts_of(family) != before {
+            self.news.clear();
+        }
+    }
+
+    /// The handle of the child of these values, as [`Page::child`] gives it; but where every slot of the kind is used on every board, a
+    /// further board is made, and the child is made on it. Each recorder meets the board at its first call by the handle, and each scraper is told of
+    /// the board, and of a child that is made.
+    ///
+    /// # Errors
+    ///
+    /// 20, 21, 46 and 6 as [`Page::child`]; 22 [`PageChildFault::Full`] only where 96 boards are there, or a board has no slot of the kind at
+    /// all. After 6 there may be one board more, on which nothing is counted, and a part of the family there, which no text shows. No scraper is told
+    /// anything after such a part: each shows what was registered before.
+    pub fn child(
+        &mut self,
+        family: PageFamilyId,
+        values: &[LabelValue],
+    ) -> Result<Handle, PageChildFault>
+        ensures given { IfOk result (IsGivenByCrew self.old self.new family.number values.now) }
+        ensures inside { IfOk result (IsInside C H G) }
+        ensures fault { IfErr result (IsRefusedByCrew self.old self.new family.number values.now) }
+        ensures told { IfOk result (HasToldGiven self.old self.new family.number values.now) }
+        ensures untold { OnErr result (HasToldRefused self.old self.new family.number) }
+    {
+        let before = self.parts_of(family);
+        match self.give_child(family, values) {
+            Ok(handle) => Ok(handle),
+            Err(why) => {
+                self.keep_in_step(family, before);
+                Err(why)
+            }
         }
     }
 }

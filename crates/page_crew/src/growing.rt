@@ -40,7 +40,12 @@ impl<const N: usize, const C: usize, const H: usize, const G: usize> PageCrew<N,
             registry,
             recorders,
             others,
-        } = new_board(self.alloc, self.first + number as u64, self.window, self.news.len())?;
+        } = new_board(
+            self.alloc,
+            self.first + number as u64,
+            self.window,
+            self.news.len(),
+        )?;
         let Ok(news) = board_news(self.alloc, &self.news, others) else {
             return Err(NoBoard::NoMemory);
         };

@@ -78,7 +78,8 @@ fn growth_scrapers(rt: HostRuntime) -> Result<(), Fail> {
     let _y = child(rt, &mut names, &a, "y")?;
     let b = family(rt, &mut names, "b")?;
     let _z = child(rt, &mut names, &b, "z")?;
-    let all = b"# TYPE a counter\na{l=\"x\"} 0\na{l=\"y\"} 0\n# TYPE b counter\nb{l=\"z\"} 0\n".as_slice();
+    let all =
+        b"# TYPE a counter\na{l=\"x\"} 0\na{l=\"y\"} 0\n# TYPE b counter\nb{l=\"z\"} 0\n".as_slice();
     shows(rt, &mut scrapers[0], all)?;
     shows(rt, &mut scrapers[1], all)
 }

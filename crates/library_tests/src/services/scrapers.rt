@@ -1,9 +1,7 @@
 //! Scrapers of a page beside its owner: each shows what the owner shows, whatever it has missed meanwhile.
 use super::naming::{ask_child, child, counter, counters};
 use crate::asserts::{need, same, there};
-use dirgwako::{
-    Counter, OnPage, PageCrew, PageRecorder, PageScraper, Registrar, render,
-};
+use dirgwako::{Counter, OnPage, PageCrew, PageRecorder, PageScraper, Registrar, render};
 use std::process::Abort;
 use std::thread::join;
 
@@ -66,8 +64,20 @@ fn scrapers_beside_the_owner(rt: HostRuntime) {
     let all = "# TYPE a counter\na{l=\"x\"} 4\na{l=\"y\"} 4\na{l=\"z\"} 5\n# TYPE b counter\nb 6\n";
     all_show(rt, &mut names, &mut scrapers, all);
     same(rt, scrapers[1].page().boards().len(), 3);
-    same(rt, Two::with_scrapers(alloc, 8, 1, 4).err().map(|why| why.number()), Some(13));
-    same(rt, Two::with_scrapers(alloc, 8, 0, 4).err().map(|why| why.number()), Some(31));
+    same(
+        rt,
+        Two::with_scrapers(alloc, 8, 1, 4)
+            .err()
+            .map(|why| why.number()),
+        Some(13),
+    );
+    same(
+        rt,
+        Two::with_scrapers(alloc, 8, 0, 4)
+            .err()
+            .map(|why| why.number()),
+        Some(31),
+    );
 }
 
 /// The number in the line of this name.
@@ -129,13 +139,21 @@ fn scrapers_in_threads(rt: HostRuntime) {
             join(
                 rt,
                 || registers(rt, &mut names),
-                || join(rt, || counts(rt, &mut one, &a, &b), || counts(rt, &mut other, &a, &b)),
+                || join(
+                    rt,
+                    || counts(rt, &mut one, &a, &b),
+                    || counts(rt, &mut other, &a, &b),
+                ),
             )
         },
     );
     let text = need(rt, render(&need(rt, names.at.crew.scrape())));
     let text = need(rt, std::str::from_utf8(&text));
-    same(rt, (number_of(rt, text, "a"), number_of(rt, text, "b")), (4_000, 4_000));
+    same(
+        rt,
+        (number_of(rt, text, "a"), number_of(rt, text, "b")),
+        (4_000, 4_000),
+    );
     shows(rt, &mut first, text);
     shows(rt, &mut second, text);
 }

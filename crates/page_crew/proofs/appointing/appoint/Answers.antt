@@ -1,19 +1,17 @@
-use Rattle.std.proofs.Common.{◌≡◌, ◌+◌, ℕ, List, ◌∷◌, ◌++◌, [], length, All, refl, sym, ap, subst, ◌∙◌, arith}
+use Rattle.std.proofs.Common.{◌≡◌, ◌+◌, List, ◌∷◌, ◌++◌, [], length, All, sym, ap, subst, ◌∙◌, arith}
 use Rattle.std.specs.Vec.Iter.{into_iter_items}
 use Rattle.std.proofs.lemmas.List.{length_push}
 use Rattle.std.proofs.lemmas.List.Elements.{All-nil}
 use Rattle.std.proofs.lemmas.Option.{none-some}
-use Rattle.register_rule.specs.declared.board.Board.{Board}
 use Rattle.registry_state.specs.Kept.{RegistryView}
 use Rattle.registry_state.specs.Replay.{nothing}
 use Rattle.rtrb.specs.Ring.{sent, received, IsPair}
 use Rattle.page_crew.specs.News.{NewsRing, NewsFeed, IsOver}
-use Rattle.page_crew.specs.Following.{page_in, news_in, held_in, BeginsOn, AreTuned}
+use Rattle.page_crew.specs.Following.{news_in, BeginsOn, AreTuned}
 use Rattle.page_crew.specs.declared.page_scraper.PageScraper.{PageScraper}
 use Rattle.page_crew.specs.declared.shared_scanner.SharedScanner.{SharedScanner}
 use Rattle.page_crew.proofs.Seating.{next_all, all_more}
 use Rattle.page_crew.proofs.Telling.{tuned_more}
-use Rattle.page_crew.proofs.appointing.appoint.Invariants.{AreAppointing}
 use Rattle.page_crew.proofs.appointing.appoint.Goals as goal
 
 pub loop-board-init : goal.loop-board-init
@@ -67,12 +65,12 @@ loop-board-preserved g c =
       over = λ board id all. (next_all (IsOver board id) before rest c.in-Some.board step (inv.over board id all)).1;
       begin = λ board id all. all_more (BeginsOn board id) scrapers c.push-in-loop-board.new.self.items scraper scrapers_is
           (inv.begin board id all) (record {
-        registry = c.in-Some.board;
-        over = (next_all (IsOver board id) before rest c.in-Some.board step (inv.over board id all)).0;
-        page = c.in_ok-new.ensures.page;
-        taken = ap (λ (f : F). received f) c.in_ok-new.ensures.news ∙ c.in_ok-ring.ensures.consumer.0;
-        held = c.in_ok-new.ensures.held;
-      });
+            registry = c.in-Some.board;
+            over = (next_all (IsOver board id) before rest c.in-Some.board step (inv.over board id all)).0;
+            page = c.in_ok-new.ensures.page;
+            taken = ap (λ (f : F). received f) c.in_ok-new.ensures.news ∙ c.in_ok-ring.ensures.consumer.0;
+            held = c.in_ok-new.ensures.held;
+          });
       pairs = subst (λ (l : List R). AreTuned l c.push-in-loop-board.new.self.items) (sym rings_is)
           (subst (λ (l : List P). AreTuned (rings ++ ring ∷ []) l) (sym scrapers_is)
           (tuned_more rings scrapers ring scraper inv.many inv.pairs pair));

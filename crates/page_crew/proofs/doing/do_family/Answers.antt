@@ -1,4 +1,4 @@
-use Rattle.std.proofs.Common.{◌≡◌, ℕ, subst, inl}
+use Rattle.std.proofs.Common.{ℕ, subst, inl}
 use Rattle.metric_desc.specs.Desc.{Descriptor}
 use Rattle.scrape_page.specs.Calls.{AddsFamily}
 use Rattle.scrape_page.specs.Rooms.{IsHome}

@@ -101,13 +101,13 @@ tell-requires g c =
       omega arith,
       (
         let told = length-map c.in-Ok.news.items unboxed in
-        let boards = ap length c.in-Ok.ensures.boards in
-        let each = length-map others of_board in
-        let all = c.in_ok-registry.ensures.others.0 in
-        let many = c.len.ensures in
-        let rings = ap length c.deref_mut-in-Ok-add_board.ensures.value in
-        let long = old.news.ok.0 in
-        omega (arith, told, boards, each, all, many, rings, long),
+            let boards = ap length c.in-Ok.ensures.boards in
+            let each = length-map others of_board in
+            let all = c.in_ok-registry.ensures.others.0 in
+            let many = c.len.ensures in
+            let rings = ap length c.deref_mut-in-Ok-add_board.ensures.value in
+            let long = old.news.ok.0 in
+            omega (arith, told, boards, each, all, many, rings, long),
         subst (λ (l : List R). All (λ (p : R). 0 < known_free p) l) same c.in-Ok.ensures.room,
       ),
     )

@@ -1,4 +1,4 @@
-use Rattle.std.proofs.Common.{◌≡◌, ◌≤◌, length, ap, refl, ◌∙◌, arith, inl, inr}
+use Rattle.std.proofs.Common.{refl, ◌∙◌, arith, inl, inr}
 use Rattle.std.proofs.lemmas.List.{with_items_is}
 use Rattle.page_crew.specs.News.{IsChildNews}
 use Rattle.page_crew.proofs.Steady.{KeepsIds, child_keeps, numbered_still, room_still}
@@ -32,19 +32,25 @@ invariant_of-self g c =
 pub returns-then-children_of-before-clause-told : goal.returns-then-children_of-before-clause-told
 returns-then-children_of-before-clause-told g c =
     let old = c.args.self.now in
-    inl (was_found g.row.C g.row.H g.row.G c.args.family.number c.args.values.now c.in-Ok-child.handle old.page c.child.new.self
-    c.children_of-before.result c.children_of.result c.children_of-before.ensures c.children_of.ensures c.if-children_of-before.true
-    c.in-Ok-child.ensures.given, refl)
+    inl (
+      was_found g.row.C g.row.H g.row.G c.args.family.number c.args.values.now c.in-Ok-child.handle old.page c.child.new.self
+          c.children_of-before.result c.children_of.result c.children_of-before.ensures c.children_of.ensures c.if-children_of-before.true
+          c.in-Ok-child.ensures.given,
+      refl,
+    )
 
 pub returns-else-children_of-before-clause-told : goal.returns-else-children_of-before-clause-told
 returns-else-children_of-before-clause-told g c =
     let old = c.args.self.now in
     let items = with_items_is old.news c.tell.new.rings (c.tell.ensures.many ∙ c.deref_mut.ensures.len) in
-    inr (was_made g.row.C g.row.H g.row.G c.args.family.number c.args.values.now c.in-Ok-child.handle old.page c.child.new.self
-    c.children_of-before.result c.children_of.result c.children_of-before.ensures c.children_of.ensures c.if-children_of-before.false
-    c.in-Ok-child.ensures.given, are_told (IsChildNews c.args.family.number c.args.values.now) old.news.items c.deref.result.now
-    c.deref_mut.result.now c.tell.new.rings _ c.in-Ok.news.items c.deref.ensures.value c.deref_mut.ensures.value items c.in-Ok.ensures
-    c.tell.ensures)
+    inr (
+      was_made g.row.C g.row.H g.row.G c.args.family.number c.args.values.now c.in-Ok-child.handle old.page c.child.new.self
+          c.children_of-before.result c.children_of.result c.children_of-before.ensures c.children_of.ensures c.if-children_of-before.false
+          c.in-Ok-child.ensures.given,
+      are_told (IsChildNews c.args.family.number c.args.values.now) old.news.items c.deref.result.now
+          c.deref_mut.result.now c.tell.new.rings _ c.in-Ok.news.items c.deref.ensures.value c.deref_mut.ensures.value items c.in-Ok.ensures
+          c.tell.ensures,
+    )
 
 pub returns-in_default-clause-told : goal.returns-in_default-clause-told
 returns-in_default-clause-told g c =

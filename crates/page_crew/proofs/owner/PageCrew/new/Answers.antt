@@ -1,4 +1,3 @@
-use Rattle.std.proofs.Common.{◌≡◌}
 use Rattle.page_crew.proofs.Alone.{opened_alone, alone}
 use Rattle.page_crew.proofs.owner.PageCrew.new.Goals as goal
 

@@ -1,4 +1,4 @@
-use Rattle.std.proofs.Common.{◌≡◌, ◌≤◌, length, ap, refl, ◌∙◌, arith}
+use Rattle.std.proofs.Common.{length, ap, refl, ◌∙◌, arith}
 use Rattle.std.proofs.lemmas.List.{with_items_is}
 use Rattle.page_crew.specs.News.{IsFamilyNews}
 use Rattle.page_crew.proofs.Steady.{KeepsIds, register_keeps, numbered_still, room_still}

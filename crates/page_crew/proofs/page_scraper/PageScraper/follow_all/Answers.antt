@@ -1,7 +1,7 @@
-use Rattle.std.proofs.Common.{◌≡◌, ◌+◌, List, [], ◌∷◌, length, refl, ap, sym, subst, ◌∙◌, arith}
+use Rattle.std.proofs.Common.{◌≡◌, [], ◌∷◌, length, refl, ap, subst, ◌∙◌, arith}
 use Rattle.rtrb.specs.Ring.{known_items}
 use Rattle.page_crew.specs.News.{NewsFeed, IsDone, IsBegun}
-use Rattle.page_crew.specs.Following.{page_in, held_in, news_in}
+use Rattle.page_crew.specs.Following.{page_in}
 use Rattle.page_crew.specs.declared.news.PageNews.{PageNews}
 use Rattle.page_crew.specs.declared.page_scraper.PageScraper.{PageScraper}
 use Rattle.page_crew.proofs.Telling.{looked_on, followed_then, behind_then, one_done, one_held, on_err, all_known}

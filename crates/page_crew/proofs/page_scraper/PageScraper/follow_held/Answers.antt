@@ -1,7 +1,6 @@
 use Rattle.std.proofs.Common.{◌≡◌, [], ◌∷◌, ap, sym, ◌∙◌}
-use Rattle.std.specs.Prelude.{option_to_list, OnOk, OnErr}
-use Rattle.page_crew.specs.News.{IsDone, IsBegun}
-use Rattle.page_crew.specs.Following.{page_in, held_in}
+use Rattle.std.specs.Prelude.{option_to_list}
+use Rattle.page_crew.specs.Following.{held_in}
 use Rattle.page_crew.proofs.Telling.{held_ok, held_err}
 use Rattle.page_crew.proofs.page_scraper.PageScraper.follow_held.Goals as goal
 
