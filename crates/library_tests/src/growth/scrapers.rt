@@ -1,8 +1,7 @@
-//! Scrapers of a page: what takes memory. Each call that is refused is made again, and then they show what the owner shows.
+//! Scrapers of a page: what takes memory. Each call that is refused is made again, and then they show what the owner shows; but of a family that took a
+//! part before its child was refused, and of what came later, they are told nothing.
 use crate::asserts::{again, same};
-use dirgwako::{
-    Counter, CounterFamily, NoScrape, OnPage, PageCrew, PageScraper, Registrar, render,
-};
+use dirgwako::{CounterFamily, NoScrape, OnPage, PageCrew, PageScraper, Registrar, render};
 use std::process::Abort;
 use std::test::Fail;
 
@@ -26,20 +25,30 @@ fn family(rt: &impl Abort, names: &mut Names, name: &str) -> Result<CounterFamil
     }
 }
 
-/// A child of it.
+/// How many parts all families have.
+fn parts(names: &Names) -> usize {
+    let mut many = 0usize;
+    for family in names.at.crew.page().families() {
+        many = many.saturating_add(family.parts().len());
+    }
+    many
+}
+
+/// A child of it is made; whether scrapers are told of it.
 fn child(
     rt: &impl Abort,
     names: &mut Names,
     family: &CounterFamily,
     value: &str,
-) -> Result<Counter, Fail> {
-    match names.counter_of(family, &[value]) {
-        Ok(counter) => Ok(counter),
-        Err(fault) => {
-            same(rt, fault.number(), 6);
-            again(names.counter_of(family, &[value]))
-        }
-    }
+) -> Result<bool, Fail> {
+    let before = parts(names);
+    let Err(fault) = names.counter_of(family, &[value]) else {
+        return Ok(true);
+    };
+    same(rt, fault.number(), 6);
+    let is_told = parts(names) == before;
+    let _counter = again(names.counter_of(family, &[value]))?;
+    Ok(is_told)
 }
 
 /// A scraper shows this, at once or when it is asked again.
@@ -72,14 +81,21 @@ fn growth_scrapers(rt: HostRuntime) -> Result<(), Fail> {
     };
     let mut names = Registrar::page(alloc, crew);
     let a = family(rt, &mut names, "a")?;
-    let _x = child(rt, &mut names, &a, "x")?;
+    let has_x = child(rt, &mut names, &a, "x")?;
+    same(rt, has_x, true);
     let one = b"# TYPE a counter\na{l=\"x\"} 0\n".as_slice();
     shows(rt, &mut scrapers[0], one)?;
-    let _y = child(rt, &mut names, &a, "y")?;
+    let has_y = child(rt, &mut names, &a, "y")?;
     let b = family(rt, &mut names, "b")?;
-    let _z = child(rt, &mut names, &b, "z")?;
+    let has_z = child(rt, &mut names, &b, "z")?;
+    let two = b"# TYPE a counter\na{l=\"x\"} 0\na{l=\"y\"} 0\n".as_slice();
     let all =
         b"# TYPE a counter\na{l=\"x\"} 0\na{l=\"y\"} 0\n# TYPE b counter\nb{l=\"z\"} 0\n".as_slice();
-    shows(rt, &mut scrapers[0], all)?;
-    shows(rt, &mut scrapers[1], all)
+    let told = match (has_y, has_z) {
+        (false, _) => one,
+        (true, false) => two,
+        (true, true) => all,
+    };
+    shows(rt, &mut scrapers[0], told)?;
+    shows(rt, &mut scrapers[1], told)
 }
