@@ -15,9 +15,9 @@ returns-in-Ok g c =
     let had_len : ℕ = c.args.len.now in let board = c.index-boards-number.result in
     let at = record before.registrar.at { crew = c.keep_board.new.self } in
     let done = record before { registrar = record before.registrar { at = at }; numbers = c.newest.new.out } in
-    let scrape = c.in-Ok.ensures.1.0 in
+    let scrape = c.in-Ok.ensures.scraped.1.0 in
     let did : AsksAlone (owner_in before) c.keep_board.new.self number (Ok scrape) =
-    (c.in-Ok.ensures.0, c.in-Ok.ensures.1.1, c.in-Ok.ensures.2) in
+    (c.in-Ok.ensures.scraped.0, c.in-Ok.ensures.scraped.1.1, c.in-Ok.ensures.scraped.2) in
     let there = board_there before done number scrape did c.boards-in-Ok.result.now board
     (c.boards-in-Ok.ensures.boards ∙ ap (λ (p : PageView (OneScanner g.row.N g.row.C g.row.H g.row.G)). p.boards) c.page-in-Ok.ensures)
     c.index-boards-number.is in
@@ -33,7 +33,7 @@ returns-in-Err-NoMemory g c =
     let asked = record before { registrar = record before.registrar { at = at } } in
     read_none before asked number NoMemory 6 c.args.buffer.now c.args.len.now refl
     (subst (λ (why : NoScrape). AsksAlone (owner_in before) c.keep_board.new.self number (Err why)) c.in-Err-NoMemory.field-0-is
-    c.in-Err-NoMemory.ensures) refl
+    c.in-Err-NoMemory.ensures.scraped) refl
 
 pub returns-in-Err-Contended : goal.returns-in-Err-Contended
 returns-in-Err-Contended g c =
@@ -42,4 +42,4 @@ returns-in-Err-Contended g c =
     let asked = record before { registrar = record before.registrar { at = at } } in
     read_none before asked number Contended 14 c.args.buffer.now c.args.len.now refl
     (subst (λ (why : NoScrape). AsksAlone (owner_in before) c.keep_board.new.self number (Err why)) c.in-Err-Contended.field-0-is
-    c.in-Err-Contended.ensures) refl
+    c.in-Err-Contended.ensures.scraped) refl
