@@ -1,6 +1,6 @@
 //! Scrapers of a page: what takes memory. Each call that is refused is made again, and then they show what the owner shows; but of a family that took a
 //! part before its child was refused, and of what came later, they are told nothing.
-use crate::asserts::{again, same};
+use crate::asserts::{again, same, there};
 use dirgwako::{CounterFamily, NoScrape, OnPage, PageCrew, PageScraper, Registrar, render};
 use std::process::Abort;
 use std::test::Fail;
@@ -79,12 +79,13 @@ fn growth_scrapers(rt: HostRuntime) -> Result<(), Fail> {
             again(Small::with_scrapers(alloc, 9, 1, 2))?
         }
     };
+    let (mut second, mut first) = (there(rt, scrapers.pop()), there(rt, scrapers.pop()));
     let mut names = Registrar::page(alloc, crew);
     let a = family(rt, &mut names, "a")?;
     let has_x = child(rt, &mut names, &a, "x")?;
     same(rt, has_x, true);
     let one = b"# TYPE a counter\na{l=\"x\"} 0\n".as_slice();
-    shows(rt, &mut scrapers[0], one)?;
+    shows(rt, &mut first, one)?;
     let has_y = child(rt, &mut names, &a, "y")?;
     let b = family(rt, &mut names, "b")?;
     let has_z = child(rt, &mut names, &b, "z")?;
@@ -96,6 +97,6 @@ fn growth_scrapers(rt: HostRuntime) -> Result<(), Fail> {
         (true, false) => two,
         (true, true) => all,
     };
-    shows(rt, &mut scrapers[0], told)?;
-    shows(rt, &mut scrapers[1], told)
+    shows(rt, &mut first, told)?;
+    shows(rt, &mut second, told)
 }
