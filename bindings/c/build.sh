@@ -53,6 +53,7 @@ kit=$(dirname "$(rt doc)")
 # numbers, so the first build for some begins with what the last one has left for others, or a check of the crate.
 kept_for() {
     kept=$out/kept/$1_$2_$3_$4
+    mkdir -p "$out/kept"
     last=$(ls -td "$out"/kept/*/ "$top/crates/dirgwako_c/out/incremental/" 2> /dev/null | head -n 1)
     [ -d "$kept" ] || [ ! "$last" ] || cp -Rl "$last" "$kept" 2> /dev/null || { rm -rf "$kept" && cp -R "$last" "$kept"; }
     mkdir -p "$kept"
