@@ -8,13 +8,13 @@ use thiserror::Error;
 #[derive(Clone, Copy, Debug, PartialEq, Eq, Error)]
 pub enum NoBoard {
     /// Refusal 44: the page has 96 boards.
-    #[error("96 boards are there")]
+    #[error("44: 96 boards are there")]
     TooManyBoards,
     /// Refusal 13: workers or slots are out of range.
-    #[error("workers or slots are out of range")]
+    #[error("13: 1 to 32 workers, at most 256 counters, 32 histograms, 64 gauges and 3 scrapers")]
     Geometry,
     /// Refusal 6: there is no memory.
-    #[error("out of memory")]
+    #[error("6: out of memory")]
     NoMemory,
 }
 
@@ -37,10 +37,10 @@ impl NoBoard {
 #[derive(Clone, Copy, Debug, PartialEq, Eq, Error)]
 pub enum PageCrewFault {
     /// Refusal 31: the window is not 1 to 1,024.
-    #[error("the window is not 1 to 1024")]
+    #[error("31: the window is not 1 to 1024")]
     BadWindow,
     /// The first board is not made: refusal 13 or 6.
-    #[error("the first board is not made: {0}")]
+    #[error(transparent)]
     Board(NoBoard),
 }
 
@@ -62,10 +62,10 @@ impl PageCrewFault {
 #[derive(Clone, Copy, Debug, PartialEq, Eq, Error)]
 pub enum PublishFault {
     /// Refusal 47: the changes are of two boards, which are never one version.
-    #[error("the changes are of two boards, which are never one version")]
+    #[error("47: the changes are of two boards, which are never one version")]
     TwoBoards,
     /// Refusals 16, 15, 11 and 12.
-    #[error("{0}")]
+    #[error("{}: {}", .0.number(), .0)]
     Count(CountFault),
 }
 
@@ -87,7 +87,7 @@ impl PublishFault {
 #[derive(Clone, Copy, Debug, PartialEq, Eq, Error)]
 pub enum SettleFault {
     /// Refusal 18: on a board there is not the recorder of each worker at its place.
-    #[error("board {board}: worker {missing} is missing, or not at its place")]
+    #[error("18: board {board}: worker {missing} is missing, or not at its place")]
     NotAll {
         /// The id of the first such board.
         board: u64,
@@ -95,7 +95,7 @@ pub enum SettleFault {
         missing: usize,
     },
     /// Refusal 6: there is no memory.
-    #[error("out of memory")]
+    #[error("6: out of memory")]
     NoMemory,
 }
 
