@@ -1,5 +1,5 @@
 -- The numbers of refusals.
-use Rattle.std.specs.Prelude.{ℕ}
+use Rattle.std.specs.Prelude.{◌≡◌, ◌⊎◌, ℕ, ◌<◌, ◌≤◌, List, [], length}
 use Rattle.metric_names.specs.MetricName as name
 use Rattle.metric_names.specs.HelpText as help
 use Rattle.metric_names.specs.LabelName as label
@@ -14,6 +14,10 @@ use Rattle.dirgwako.specs.declared.fault.ChildRefusal.{ChildRefusal}
 use Rattle.dirgwako.specs.declared.fault.ChildRefusal.TheVariants as child
 use Rattle.dirgwako.specs.declared.fault.MetricRefusal.{MetricRefusal}
 use Rattle.dirgwako.specs.declared.fault.MetricRefusal.TheVariants as metric
+
+-- a refusal tells this name; one that is too long for a metric's is not told
+abbrev pub TellsName : (name told : List ℕ) → Type 0
+TellsName name told = ((length name ≤ 128) × (told ≡ name)) ⊎ ((128 < length name) × (told ≡ []))
 
 -- the number of each refusal of a family
 abbrev pub family_refusal_number : FamilyRefusal → ℕ

@@ -3,10 +3,12 @@ ghost use Rattle.std.specs.Prelude.{◌≡◌, ◌≤◌, Result, IfErr, IfOk, O
 ghost use Rattle.registry_state.specs.declared.handle.Handle.{Handle};
 ghost use Rattle.dirgwako.specs.Registering.{AreGood, AsksFamily, AsksHandle, IsUnread, family_of, shifted_family_of};
 ghost use Rattle.dirgwako.specs.Registering.{kind_of, bounds_of};
+ghost use Rattle.dirgwako.specs.Refused.{TellsName};
 ghost use Rattle.dirgwako.specs.Texts.{texts_of};
 
 use crate::family::Shape;
 use crate::fault::{ChildRefusal, FamilyRefusal};
+use crate::refused::Refused;
 use crate::registers::Registers;
 use crate::texts::{read_labels, read_values};
 use metric_desc::Desc;
@@ -118,14 +120,20 @@ pub(crate) fn ask_family<S: Registers>(
     help: &str,
     labels: &[&str],
     digits: u8,
-) -> Result<FamilyId, FamilyRefusal>
-    ensures asks { AsksFamily S.registered at.old at.new
-        (shifted_family_of (kind_of shape.entry) name.now help.now labels.now (bounds_of shape.entry) digits) result }
+) -> Result<FamilyId, Refused<FamilyRefusal>>
+    ensures made { IfOk result (λ id. AsksFamily S.registered at.old at.new
+        (shifted_family_of (kind_of shape.entry) name.now help.now labels.now (bounds_of shape.entry) digits) (Result.Ok id)) }
     ensures few { IfOk result (λ _. digits ≤ 9) }
+    ensures fault { IfErr result (λ refused. AsksFamily S.registered at.old at.new
+        (shifted_family_of (kind_of shape.entry) name.now help.now labels.now (bounds_of shape.entry) digits) (Result.Err refused.fault)) }
+    ensures named { IfErr result (λ refused. TellsName name.now refused.name.bytes) }
 {
     match describe_shifted(alloc, shape, name, help, labels, digits) {
-        Ok(desc) => at.register(desc).map_err(FamilyRefusal::Register),
-        Err(fault) => Err(fault),
+        Ok(desc) => match at.register(desc) {
+            Ok(id) => Ok(id),
+            Err(fault) => Err(Refused::of(name, FamilyRefusal::Register(fault))),
+        },
+        Err(fault) => Err(Refused::of(name, fault)),
     }
 }
 

@@ -3,12 +3,14 @@ ghost use Rattle.std.specs.Prelude.{◌≡◌, [], Result, IfErr, IfOk};
 ghost use Rattle.metric_desc.specs.declared.kind.Kind.TheVariants as Kinds;
 ghost use Rattle.registry_state.specs.declared.handle.Handle.TheVariants as Handles;
 ghost use Rattle.dirgwako.specs.Registering.{AsksFamily, AsksChild, AsksMetric, family_of};
+ghost use Rattle.dirgwako.specs.Refused.{TellsName};
 ghost use Rattle.dirgwako.specs.Texts.{texts_of};
 
 use crate::asking::{ask_family, ask_handle};
 use crate::family::{CounterFamily, GaugeFamily, HistogramFamily, Shape};
 use crate::fault::{ChildRefusal, FamilyRefusal, MetricRefusal};
 use crate::paged::{BehindPage, OnPage};
+use crate::refused::Refused;
 use crate::registers::{Behind, Registers};
 use ledger_core::{Counter, Gauge, Histogram};
 use metric_registry::Registry;
@@ -121,30 +123,22 @@ impl<S: Registers> Registrar<S> {
         name: &str,
         help: &str,
         labels: &[&str],
-    ) -> Result<CounterFamily, FamilyRefusal>
+    ) -> Result<CounterFamily, Refused<FamilyRefusal>>
         ensures made { IfOk result
             (λ family. AsksFamily S.registered self.old.at self.new.at (family_of Kinds.Counter name.now help.now labels.now [])
             (Result.Ok family.id)) }
         ensures registry { IfOk result (λ family. family.registry ≡ S.id_in self.new.at) }
         ensures fault { IfErr result
-            (λ fault. AsksFamily S.registered self.old.at self.new.at (family_of Kinds.Counter name.now help.now labels.now [])
-            (Result.Err fault)) }
+            (λ refused. AsksFamily S.registered self.old.at self.new.at (family_of Kinds.Counter name.now help.now labels.now [])
+            (Result.Err refused.fault)) }
+        ensures named { IfErr result (λ refused. TellsName name.now refused.name.bytes) }
     {
-        match ask_family(
-            &mut self.at,
-            self.alloc,
-            Shape::Counter,
-            name,
-            help,
-            labels,
-            0,
-        ) {
-            Ok(id) => Ok(CounterFamily {
-                registry: self.at.id(),
-                id,
-            }),
-            Err(fault) => Err(fault),
-        }
+        let shape = Shape::Counter;
+        let id = ask_family(&mut self.at, self.alloc, shape, name, help, labels, 0)?;
+        Ok(CounterFamily {
+            registry: self.at.id(),
+            id,
+        })
     }
 
     /// The counter of these label values, which is made where there is none. A thread that counts is given it, and asks no more.
@@ -165,10 +159,9 @@ impl<S: Registers> Registrar<S> {
         ensures fault { IfErr result (λ fault. AsksChild S.id_in S.gave self.old.at self.new.at family.now.registry family.now.id
             (texts_of values.now) Kinds.Counter (Result.Err fault)) }
     {
-        match ask_handle(&mut self.at, self.alloc, family.registry, family.id, values) {
-            Ok(Handle::Counter(handle)) => Ok(handle),
-            Ok(_) => Err(ChildRefusal::OtherKind),
-            Err(fault) => Err(fault),
+        match ask_handle(&mut self.at, self.alloc, family.registry, family.id, values)? {
+            Handle::Counter(handle) => Ok(handle),
+            _ => Err(ChildRefusal::OtherKind),
         }
     }
 
@@ -178,23 +171,27 @@ impl<S: Registers> Registrar<S> {
     ///
     /// [`MetricRefusal::Family`], as [`Registrar::counter_family`] of no labels; then [`MetricRefusal::Child`], 22 or 6: the family stands,
     /// without a child.
-    pub fn counter(&mut self, name: &str, help: &str) -> Result<Counter, MetricRefusal>
+    pub fn counter(&mut self, name: &str, help: &str) -> Result<Counter, Refused<MetricRefusal>>
         ensures made { IfOk result
             (λ handle. AsksMetric S.id_in S.registered S.gave self.old.at self.new.at
             (family_of Kinds.Counter name.now help.now [] []) (Result.Ok (Handles.Counter handle))) }
         ensures fault { IfErr result
-            (λ fault. AsksMetric S.id_in S.registered S.gave self.old.at self.new.at
-            (family_of Kinds.Counter name.now help.now [] []) (Result.Err fault)) }
+            (λ refused. AsksMetric S.id_in S.registered S.gave self.old.at self.new.at
+            (family_of Kinds.Counter name.now help.now [] []) (Result.Err refused.fault)) }
+        ensures named { IfErr result (λ refused. TellsName name.now refused.name.bytes) }
     {
         match self.counter_family(name, help, &[]) {
             Ok(family) => match self.counter_of(&family, &[]) {
                 Ok(handle) => Ok(handle),
-                Err(fault) => Err(MetricRefusal::Child {
-                    family: family.id,
-                    fault,
-                }),
+                Err(fault) => Err(Refused::of(
+                    name,
+                    MetricRefusal::Child {
+                        family: family.id,
+                        fault,
+                    },
+                )),
             },
-            Err(fault) => Err(MetricRefusal::Family(fault)),
+            Err(refused) => Err(Refused::of(name, MetricRefusal::Family(refused.fault))),
         }
     }
 
@@ -210,30 +207,22 @@ impl<S: Registers> Registrar<S> {
         name: &str,
         help: &str,
         labels: &[&str],
-    ) -> Result<GaugeFamily, FamilyRefusal>
+    ) -> Result<GaugeFamily, Refused<FamilyRefusal>>
         ensures made { IfOk result
             (λ family. AsksFamily S.registered self.old.at self.new.at (family_of Kinds.Gauge name.now help.now labels.now [])
             (Result.Ok family.id)) }
         ensures registry { IfOk result (λ family. family.registry ≡ S.id_in self.new.at) }
         ensures fault { IfErr result
-            (λ fault. AsksFamily S.registered self.old.at self.new.at (family_of Kinds.Gauge name.now help.now labels.now [])
-            (Result.Err fault)) }
+            (λ refused. AsksFamily S.registered self.old.at self.new.at (family_of Kinds.Gauge name.now help.now labels.now [])
+            (Result.Err refused.fault)) }
+        ensures named { IfErr result (λ refused. TellsName name.now refused.name.bytes) }
     {
-        match ask_family(
-            &mut self.at,
-            self.alloc,
-            Shape::Gauge,
-            name,
-            help,
-            labels,
-            0,
-        ) {
-            Ok(id) => Ok(GaugeFamily {
-                registry: self.at.id(),
-                id,
-            }),
-            Err(fault) => Err(fault),
-        }
+        let shape = Shape::Gauge;
+        let id = ask_family(&mut self.at, self.alloc, shape, name, help, labels, 0)?;
+        Ok(GaugeFamily {
+            registry: self.at.id(),
+            id,
+        })
     }
 
     /// The gauge of these label values, which is made where there is none. A thread that counts is given it, and asks no more.
@@ -250,10 +239,9 @@ impl<S: Registers> Registrar<S> {
         ensures fault { IfErr result (λ fault. AsksChild S.id_in S.gave self.old.at self.new.at family.now.registry family.now.id
             (texts_of values.now) Kinds.Gauge (Result.Err fault)) }
     {
-        match ask_handle(&mut self.at, self.alloc, family.registry, family.id, values) {
-            Ok(Handle::Gauge(handle)) => Ok(handle),
-            Ok(_) => Err(ChildRefusal::OtherKind),
-            Err(fault) => Err(fault),
+        match ask_handle(&mut self.at, self.alloc, family.registry, family.id, values)? {
+            Handle::Gauge(handle) => Ok(handle),
+            _ => Err(ChildRefusal::OtherKind),
         }
     }
 
@@ -263,23 +251,27 @@ impl<S: Registers> Registrar<S> {
     ///
     /// [`MetricRefusal::Family`], as [`Registrar::gauge_family`] of no labels; then [`MetricRefusal::Child`], 22 or 6: the family stands,
     /// without a child.
-    pub fn gauge(&mut self, name: &str, help: &str) -> Result<Gauge, MetricRefusal>
+    pub fn gauge(&mut self, name: &str, help: &str) -> Result<Gauge, Refused<MetricRefusal>>
         ensures made { IfOk result
             (λ handle. AsksMetric S.id_in S.registered S.gave self.old.at self.new.at
             (family_of Kinds.Gauge name.now help.now [] []) (Result.Ok (Handles.Gauge handle))) }
         ensures fault { IfErr result
-            (λ fault. AsksMetric S.id_in S.registered S.gave self.old.at self.new.at
-            (family_of Kinds.Gauge name.now help.now [] []) (Result.Err fault)) }
+            (λ refused. AsksMetric S.id_in S.registered S.gave self.old.at self.new.at
+            (family_of Kinds.Gauge name.now help.now [] []) (Result.Err refused.fault)) }
+        ensures named { IfErr result (λ refused. TellsName name.now refused.name.bytes) }
     {
         match self.gauge_family(name, help, &[]) {
             Ok(family) => match self.gauge_of(&family, &[]) {
                 Ok(handle) => Ok(handle),
-                Err(fault) => Err(MetricRefusal::Child {
-                    family: family.id,
-                    fault,
-                }),
+                Err(fault) => Err(Refused::of(
+                    name,
+                    MetricRefusal::Child {
+                        family: family.id,
+                        fault,
+                    },
+                )),
             },
-            Err(fault) => Err(MetricRefusal::Family(fault)),
+            Err(refused) => Err(Refused::of(name, MetricRefusal::Family(refused.fault))),
         }
     }
 
@@ -296,30 +288,22 @@ impl<S: Registers> Registrar<S> {
         help: &str,
         labels: &[&str],
         bounds: &[u64],
-    ) -> Result<HistogramFamily, FamilyRefusal>
+    ) -> Result<HistogramFamily, Refused<FamilyRefusal>>
         ensures made { IfOk result
             (λ family. AsksFamily S.registered self.old.at self.new.at
             (family_of Kinds.Histogram name.now help.now labels.now bounds.now) (Result.Ok family.id)) }
         ensures registry { IfOk result (λ family. family.registry ≡ S.id_in self.new.at) }
         ensures fault { IfErr result
-            (λ fault. AsksFamily S.registered self.old.at self.new.at
-            (family_of Kinds.Histogram name.now help.now labels.now bounds.now) (Result.Err fault)) }
+            (λ refused. AsksFamily S.registered self.old.at self.new.at
+            (family_of Kinds.Histogram name.now help.now labels.now bounds.now) (Result.Err refused.fault)) }
+        ensures named { IfErr result (λ refused. TellsName name.now refused.name.bytes) }
     {
-        match ask_family(
-            &mut self.at,
-            self.alloc,
-            Shape::Histogram(bounds),
-            name,
-            help,
-            labels,
-            0,
-        ) {
-            Ok(id) => Ok(HistogramFamily {
-                registry: self.at.id(),
-                id,
-            }),
-            Err(fault) => Err(fault),
-        }
+        let shape = Shape::Histogram(bounds);
+        let id = ask_family(&mut self.at, self.alloc, shape, name, help, labels, 0)?;
+        Ok(HistogramFamily {
+            registry: self.at.id(),
+            id,
+        })
     }
 
     /// The histogram of these label values, which is made where there is none. A thread that counts is given it, and asks no more.
@@ -340,10 +324,9 @@ impl<S: Registers> Registrar<S> {
         ensures fault { IfErr result (λ fault. AsksChild S.id_in S.gave self.old.at self.new.at family.now.registry family.now.id
             (texts_of values.now) Kinds.Histogram (Result.Err fault)) }
     {
-        match ask_handle(&mut self.at, self.alloc, family.registry, family.id, values) {
-            Ok(Handle::Histogram(handle)) => Ok(handle),
-            Ok(_) => Err(ChildRefusal::OtherKind),
-            Err(fault) => Err(fault),
+        match ask_handle(&mut self.at, self.alloc, family.registry, family.id, values)? {
+            Handle::Histogram(handle) => Ok(handle),
+            _ => Err(ChildRefusal::OtherKind),
         }
     }
 
@@ -358,23 +341,27 @@ impl<S: Registers> Registrar<S> {
         name: &str,
         help: &str,
         bounds: &[u64],
-    ) -> Result<Histogram, MetricRefusal>
+    ) -> Result<Histogram, Refused<MetricRefusal>>
         ensures made { IfOk result
             (λ handle. AsksMetric S.id_in S.registered S.gave self.old.at self.new.at
             (family_of Kinds.Histogram name.now help.now [] bounds.now) (Result.Ok (Handles.Histogram handle))) }
         ensures fault { IfErr result
-            (λ fault. AsksMetric S.id_in S.registered S.gave self.old.at self.new.at
-            (family_of Kinds.Histogram name.now help.now [] bounds.now) (Result.Err fault)) }
+            (λ refused. AsksMetric S.id_in S.registered S.gave self.old.at self.new.at
+            (family_of Kinds.Histogram name.now help.now [] bounds.now) (Result.Err refused.fault)) }
+        ensures named { IfErr result (λ refused. TellsName name.now refused.name.bytes) }
     {
         match self.histogram_family(name, help, &[], bounds) {
             Ok(family) => match self.histogram_of(&family, &[]) {
                 Ok(handle) => Ok(handle),
-                Err(fault) => Err(MetricRefusal::Child {
-                    family: family.id,
-                    fault,
-                }),
+                Err(fault) => Err(Refused::of(
+                    name,
+                    MetricRefusal::Child {
+                        family: family.id,
+                        fault,
+                    },
+                )),
             },
-            Err(fault) => Err(MetricRefusal::Family(fault)),
+            Err(refused) => Err(Refused::of(name, MetricRefusal::Family(refused.fault))),
         }
     }
 }

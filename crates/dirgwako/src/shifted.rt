@@ -2,11 +2,13 @@
 ghost use Rattle.std.specs.Prelude.{◌≡◌, ◌≤◌, [], Result, IfErr, IfOk};
 ghost use Rattle.metric_desc.specs.declared.kind.Kind.TheVariants as Kinds;
 ghost use Rattle.registry_state.specs.declared.handle.Handle.TheVariants as Handles;
+ghost use Rattle.dirgwako.specs.Refused.{TellsName};
 ghost use Rattle.dirgwako.specs.Registering.{AsksFamily, AsksMetric, shifted_family_of};
 
 use crate::asking::ask_family;
 use crate::family::{CounterFamily, GaugeFamily, HistogramFamily, Shape};
 use crate::fault::{FamilyRefusal, MetricRefusal};
+use crate::refused::Refused;
 use crate::registers::Registers;
 use crate::registrar::Registrar;
 use ledger_core::Histogram;
@@ -28,22 +30,21 @@ impl<S: Registers> Registrar<S> {
         help: &str,
         labels: &[&str],
         digits: u8,
-    ) -> Result<CounterFamily, FamilyRefusal>
+    ) -> Result<CounterFamily, Refused<FamilyRefusal>>
         ensures made { IfOk result (λ family. AsksFamily S.registered self.old.at self.new.at
             (shifted_family_of Kinds.Counter name.now help.now labels.now [] digits) (Result.Ok family.id)) }
         ensures registry { IfOk result (λ family. family.registry ≡ S.id_in self.new.at) }
         ensures few { IfOk result (λ _. digits ≤ 9) }
-        ensures fault { IfErr result (λ fault. AsksFamily S.registered self.old.at self.new.at
-            (shifted_family_of Kinds.Counter name.now help.now labels.now [] digits) (Result.Err fault)) }
+        ensures fault { IfErr result (λ refused. AsksFamily S.registered self.old.at self.new.at
+            (shifted_family_of Kinds.Counter name.now help.now labels.now [] digits) (Result.Err refused.fault)) }
+        ensures named { IfErr result (λ refused. TellsName name.now refused.name.bytes) }
     {
         let shape = Shape::Counter;
-        match ask_family(&mut self.at, self.alloc, shape, name, help, labels, digits) {
-            Ok(id) => Ok(CounterFamily {
-                registry: self.at.id(),
-                id,
-            }),
-            Err(fault) => Err(fault),
-        }
+        let id = ask_family(&mut self.at, self.alloc, shape, name, help, labels, digits)?;
+        Ok(CounterFamily {
+            registry: self.at.id(),
+            id,
+        })
     }
 
     /// A family of gauges with labels, whose numbers the text shows shifted by `digits` decimal digits, at most 9: by 6 digits
@@ -59,22 +60,21 @@ impl<S: Registers> Registrar<S> {
         help: &str,
         labels: &[&str],
         digits: u8,
-    ) -> Result<GaugeFamily, FamilyRefusal>
+    ) -> Result<GaugeFamily, Refused<FamilyRefusal>>
         ensures made { IfOk result (λ family. AsksFamily S.registered self.old.at self.new.at
             (shifted_family_of Kinds.Gauge name.now help.now labels.now [] digits) (Result.Ok family.id)) }
         ensures registry { IfOk result (λ family. family.registry ≡ S.id_in self.new.at) }
         ensures few { IfOk result (λ _. digits ≤ 9) }
-        ensures fault { IfErr result (λ fault. AsksFamily S.registered self.old.at self.new.at
-            (shifted_family_of Kinds.Gauge name.now help.now labels.now [] digits) (Result.Err fault)) }
+        ensures fault { IfErr result (λ refused. AsksFamily S.registered self.old.at self.new.at
+            (shifted_family_of Kinds.Gauge name.now help.now labels.now [] digits) (Result.Err refused.fault)) }
+        ensures named { IfErr result (λ refused. TellsName name.now refused.name.bytes) }
     {
         let shape = Shape::Gauge;
-        match ask_family(&mut self.at, self.alloc, shape, name, help, labels, digits) {
-            Ok(id) => Ok(GaugeFamily {
-                registry: self.at.id(),
-                id,
-            }),
-            Err(fault) => Err(fault),
-        }
+        let id = ask_family(&mut self.at, self.alloc, shape, name, help, labels, digits)?;
+        Ok(GaugeFamily {
+            registry: self.at.id(),
+            id,
+        })
     }
 
     /// A family of histograms with labels, whose bounds and sums the text shows shifted by `digits` decimal digits, at most 9. The bounds
@@ -91,22 +91,21 @@ impl<S: Registers> Registrar<S> {
         labels: &[&str],
         bounds: &[u64],
         digits: u8,
-    ) -> Result<HistogramFamily, FamilyRefusal>
+    ) -> Result<HistogramFamily, Refused<FamilyRefusal>>
         ensures made { IfOk result (λ family. AsksFamily S.registered self.old.at self.new.at
             (shifted_family_of Kinds.Histogram name.now help.now labels.now bounds.now digits) (Result.Ok family.id)) }
         ensures registry { IfOk result (λ family. family.registry ≡ S.id_in self.new.at) }
         ensures few { IfOk result (λ _. digits ≤ 9) }
-        ensures fault { IfErr result (λ fault. AsksFamily S.registered self.old.at self.new.at
-            (shifted_family_of Kinds.Histogram name.now help.now labels.now bounds.now digits) (Result.Err fault)) }
+        ensures fault { IfErr result (λ refused. AsksFamily S.registered self.old.at self.new.at
+            (shifted_family_of Kinds.Histogram name.now help.now labels.now bounds.now digits) (Result.Err refused.fault)) }
+        ensures named { IfErr result (λ refused. TellsName name.now refused.name.bytes) }
     {
         let shape = Shape::Histogram(bounds);
-        match ask_family(&mut self.at, self.alloc, shape, name, help, labels, digits) {
-            Ok(id) => Ok(HistogramFamily {
-                registry: self.at.id(),
-                id,
-            }),
-            Err(fault) => Err(fault),
-        }
+        let id = ask_family(&mut self.at, self.alloc, shape, name, help, labels, digits)?;
+        Ok(HistogramFamily {
+            registry: self.at.id(),
+            id,
+        })
     }
 
     /// A histogram without labels that is told microseconds and shown in seconds, with these bounds, in microseconds: at most 24, rising,
@@ -121,23 +120,27 @@ impl<S: Registers> Registrar<S> {
         name: &str,
         help: &str,
         bounds: &[u64],
-    ) -> Result<Histogram, MetricRefusal>
+    ) -> Result<Histogram, Refused<MetricRefusal>>
         ensures made { IfOk result
             (λ handle. AsksMetric S.id_in S.registered S.gave self.old.at self.new.at
             (shifted_family_of Kinds.Histogram name.now help.now [] bounds.now 6) (Result.Ok (Handles.Histogram handle))) }
         ensures fault { IfErr result
-            (λ fault. AsksMetric S.id_in S.registered S.gave self.old.at self.new.at
-            (shifted_family_of Kinds.Histogram name.now help.now [] bounds.now 6) (Result.Err fault)) }
+            (λ refused. AsksMetric S.id_in S.registered S.gave self.old.at self.new.at
+            (shifted_family_of Kinds.Histogram name.now help.now [] bounds.now 6) (Result.Err refused.fault)) }
+        ensures named { IfErr result (λ refused. TellsName name.now refused.name.bytes) }
     {
         match self.histogram_family_shifted(name, help, &[], bounds, SECONDS) {
             Ok(family) => match self.histogram_of(&family, &[]) {
                 Ok(handle) => Ok(handle),
-                Err(fault) => Err(MetricRefusal::Child {
-                    family: family.id,
-                    fault,
-                }),
+                Err(fault) => Err(Refused::of(
+                    name,
+                    MetricRefusal::Child {
+                        family: family.id,
+                        fault,
+                    },
+                )),
             },
-            Err(fault) => Err(MetricRefusal::Family(fault)),
+            Err(refused) => Err(Refused::of(name, MetricRefusal::Family(refused.fault))),
         }
     }
 }

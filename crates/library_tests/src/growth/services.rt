@@ -5,7 +5,7 @@ use crate::crew::ID;
 use crate::services::why_shut;
 use dirgwako::{
     BoardFault, Counter, CounterFamily, Crew, Gauge, GaugeFamily, MetricRefusal, NewFault,
-    OpenFault, Registers, Registrar, Registry, scrape_text,
+    OpenFault, Refused, Registers, Registrar, Registry, scrape_text,
 };
 use std::alloc::Global;
 use std::process::Abort;
@@ -59,11 +59,21 @@ fn child<S: Registers>(
 fn gauge<S: Registers>(rt: &impl Abort, metrics: &mut Registrar<S>) -> Result<Gauge, Fail> {
     match metrics.gauge("g", "") {
         Ok(gauge) => Ok(gauge),
-        Err(MetricRefusal::Family(fault)) => {
+        Err(
+            Refused {
+                fault: MetricRefusal::Family(fault),
+                name: _,
+            },
+        ) => {
             same(rt, fault.number(), 6);
             again(metrics.gauge("g", ""))
         }
-        Err(MetricRefusal::Child { family, fault }) => {
+        Err(
+            Refused {
+                fault: MetricRefusal::Child { family, fault },
+                name: _,
+            },
+        ) => {
             same(rt, fault.number(), 6);
             let (registry, id) = (ID, family);
             again(metrics.gauge_of(&GaugeFamily { registry, id }, &[]))

@@ -89,11 +89,9 @@ fn refused_behind_a_lock(rt: HostRuntime) {
     let mut metrics = Registrar::shared_page(rt, &pages);
     let family = counters(rt, &mut metrics, "a", &["l"]);
     let clash = FamilyRefusal::Register(RegisterFault::Clash { with: 0 });
-    same(
-        rt,
-        ask_counter(&mut metrics, "a"),
-        Err(MetricRefusal::Family(clash)),
-    );
+    let refused = ask_counter(&mut metrics, "a").err();
+    let clash = MetricRefusal::Family(clash);
+    same(rt, refused.map(|refused| refused.fault), Some(clash));
     let kind = Kind::Gauge;
     let full = ChildRefusal::Child(PageChildFault::Full { kind });
     let gauges = need(rt, metrics.gauge_family("g", "", &[]));

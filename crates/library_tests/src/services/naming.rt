@@ -1,14 +1,16 @@
 //! What is registered, of whatever registers it. A call of the library by a type of its own takes some nine seconds to be proved, at each place:
 //! these are generic, and calls of them take none.
 use crate::asserts::need;
-use dirgwako::{ChildRefusal, Counter, CounterFamily, Gauge, MetricRefusal, Registers, Registrar};
+use dirgwako::{
+    ChildRefusal, Counter, CounterFamily, Gauge, MetricRefusal, Refused, Registers, Registrar,
+};
 use std::process::Abort;
 
 /// What comes of asking for a counter of this name.
 pub(crate) fn ask_counter<S: Registers>(
     metrics: &mut Registrar<S>,
     name: &str,
-) -> Result<Counter, MetricRefusal> {
+) -> Result<Counter, Refused<MetricRefusal>> {
     metrics.counter(name, "")
 }
 

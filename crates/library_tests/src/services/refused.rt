@@ -41,14 +41,20 @@ fn refuses_children<S: Registers>(rt: &impl Abort, metrics: &mut Registrar<S>) {
 
 /// A metric without labels for which there is no slot: its family stands, and its name is taken.
 fn refuses_a_metric<S: Registers>(rt: &impl Abort, metrics: &mut Registrar<S>) {
-    let Err(MetricRefusal::Child { family, fault }) = ask_counter(metrics, "d") else {
+    let Err(refused) = ask_counter(metrics, "d") else {
         rt.panic("no refusal of a child")
     };
+    let MetricRefusal::Child { family, fault } = refused.fault else {
+        rt.panic("no family")
+    };
     same(rt, (family.number(), fault), (4, FULL));
-    same(rt, MetricRefusal::Child { family, fault }.number(), 22);
-    let clash = MetricRefusal::Family(FamilyRefusal::Register(RegisterFault::Clash { with: 4 }));
-    same(rt, ask_counter(metrics, "d").err(), Some(clash));
-    same(rt, clash.number(), 19);
+    same(rt, (refused.number(), refused.name.as_str()), (22, "d"));
+    let clash = FamilyRefusal::Register(RegisterFault::Clash { with: 4 });
+    let Err(again) = ask_counter(metrics, "d") else {
+        rt.panic("no refusal of a family")
+    };
+    same(rt, again.fault, MetricRefusal::Family(clash));
+    same(rt, (again.number(), again.name.as_str()), (19, "d"));
 }
 
 /// What a scrape shows in the end.

@@ -1,8 +1,9 @@
 //! What refusals are told as, with their numbers.
+use super::naming::ask_counter;
 use crate::asserts::{need, same};
 use dirgwako::{
-    ChildRefusal, FamilyRefusal, Kind, LabelNameFault, MetricNameFault, MetricRefusal, OpenFault,
-    PageChildFault, PrintFault, TextFault,
+    ChildRefusal, FamilyRefusal, Kind, LabelNameFault, MetricNameFault, MetricRefusal, NoBoard,
+    OpenFault, PageChildFault, PageCrew, PageCrewFault, PrintFault, Registrar, TextFault,
 };
 use std::fmt::Display;
 use std::process::Abort;
@@ -27,10 +28,38 @@ fn refusals_tell_their_numbers(rt: HostRuntime) {
     let kind = Kind::Histogram;
     let full = ChildRefusal::Child(PageChildFault::Full { kind });
     is_told(rt, &full, "22: every Histogram slot is used on every board");
+    is_told(
+        rt,
+        &NoBoard::Geometry,
+        "13: 1 to 32 workers, at most 256 counters, 32 histograms, 64 gauges and 3 scrapers",
+    );
+    is_told(
+        rt,
+        &PageCrewFault::Board(NoBoard::NoMemory),
+        "6: out of memory",
+    );
     is_told(rt, &OpenFault::Opened, "32: the crew was opened before");
     is_told(rt, &TextFault::Contended, "14: the scan was given up");
     let (none, given_up) = (TextFault::NoMemory, TextFault::Contended);
     same(rt, (none.number(), given_up.number()), (6, 14));
     same(rt, PrintFault::Text(given_up).number(), Some(14));
     same(rt, PrintFault::Output.number(), None);
+}
+
+/// A refusal tells the name that was asked for, but none of over 128 bytes.
+#[test]
+fn refusals_tell_names(rt: HostRuntime) {
+    let (rt, alloc) = (&rt, rt.alloc());
+    let (crew, _recorders) = need(rt, PageCrew::<1, 1, 0, 0>::new(alloc, 7, 1));
+    let mut metrics = Registrar::page(alloc, crew);
+    let Err(refused) = ask_counter(&mut metrics, "a-b") else {
+        rt.panic("a name that is none")
+    };
+    let told = "2: the byte at 1 cannot stand there in a metric name (a-b)";
+    is_told(rt, &refused, told);
+    let long = need(rt, "x".repeat(alloc, 129));
+    let Err(refused) = ask_counter(&mut metrics, long.as_str()) else {
+        rt.panic("a name that is too long")
+    };
+    same(rt, (refused.number(), refused.name.as_str()), (3, ""));
 }
