@@ -11,7 +11,7 @@ from started import Skipped, check, run
 HERE = ROOT / "bindings/c"
 STRICT = ("-Wall", "-Wextra", "-Werror", "-pedantic", "-O2")
 LIBRARIES = ("dirgwako", "dirgwako16", "dirgwako32")
-TESTS = [HERE / f"test{it}.c" for it in ("", "_replies", "_numbers", "_boards", "_texts", "_refusals", "_crowd", "_shared")]
+TESTS = [HERE / f"test{it}.c" for it in ("", "_replies", "_numbers", "_boards", "_texts", "_refusals", "_scrapers", "_crowd", "_shared")]
 HELLO = "# HELP visits_total Visits so far.\n# TYPE visits_total counter\nvisits_total 3\n"
 
 

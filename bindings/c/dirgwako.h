@@ -20,17 +20,19 @@
      42  DIRGWAKO_NO_BOARD     no board of the registry has this number
      47  DIRGWAKO_TWO_BOARDS   two changes are of two boards
      48  DIRGWAKO_NO_CHILD     a metric's family is registered from now on, without its child: for want of a slot or of memory
+     49  DIRGWAKO_NO_SCRAPER   no scraper is left
 
    43  DIRGWAKO_TOO_MANY_DIGITS is that numbers are shifted by over 9 digits, 44  DIRGWAKO_TOO_MANY_BOARDS that 96 boards are there, and
    46  DIRGWAKO_TOO_MANY_CHILDREN that a family has 256 children; 45  DIRGWAKO_NOT_FRESH no function here answers.
 
-   Ownership. A dirgwako_registry and a dirgwako_recorder begin as zeros ({0}), are written by these functions alone, and are never copied while
-   they hold something: two copies own the same, so the second use of either is a use after free. They may be freed in any order, and freeing one
-   twice is refused (34). The boards live as long as their registry or a recorder of it. Counters, gauges and histograms are plain data, which are
+   Ownership. A dirgwako_registry, a dirgwako_recorder and a dirgwako_scraper begin as zeros ({0}), are written by these functions alone, and are never
+   copied while they hold something: two copies own the same, so the second use of either is a use after free. They may be freed in any order, and
+   freeing one twice is refused (34). The boards live as long as their registry, a recorder or a scraper of it. Counters, gauges and histograms are plain data, which are
    copied as one likes and never freed. A histogram's bounds are written by this library alone.
 
    Threads. One call at a time uses a handle; two handles may be used by two threads at the same moment. So a recorder belongs to one thread at a
-   time, and a registry wants a mutex where several threads register or scrape. Counting takes no lock and waits for nobody. A recorder grows by
+   time, and a registry wants a mutex where several threads register or scrape by it. A scraper scrapes beside it, and beside other scrapers, without a
+   mutex: a registry is made with up to 3. Counting takes no lock and waits for nobody. A recorder grows by
    itself: it meets a board that came since at its next call by a handle of that board, without lock or memory. A handle, of a counter too that is on
    such a board, goes to another thread by a lock, by a thread's start or join, or by a flag that is stored with release order and loaded with acquire
    order. Counting writes to the recorder's handle: those of several threads are fastest where each has a cache line of its own.
@@ -71,7 +73,8 @@ enum {
     DIRGWAKO_NOT_FRESH = 45,
     DIRGWAKO_TOO_MANY_CHILDREN = 46,
     DIRGWAKO_TWO_BOARDS = 47,
-    DIRGWAKO_NO_CHILD = 48
+    DIRGWAKO_NO_CHILD = 48,
+    DIRGWAKO_NO_SCRAPER = 49
 };
 
 /* A registry over a page of boards. Opaque; zeros where it holds nothing. */
@@ -85,6 +88,13 @@ typedef struct dirgwako_recorder {
     void *at;
     uint64_t live;
 } dirgwako_recorder;
+
+/* What a thread or a process scrapes with beside a registry: a page of its own, over a reader of each board that nobody else has. Opaque; zeros where it
+   holds nothing. */
+typedef struct dirgwako_scraper {
+    void *at;
+    uint64_t live;
+} dirgwako_scraper;
 
 /* A counter: a number that rises. Of a counter, a gauge and a histogram `registry` is the id of the board that it is on. */
 typedef struct dirgwako_counter {
@@ -158,10 +168,13 @@ enum { DIRGWAKO_MOST_LABELS = 8, DIRGWAKO_MOST_NUMBERS = 1281 };
 
 /* The library's own functions, for bindings of other languages. They take no null pointer, also where a length is 0. */
 uint32_t dirgwako_c_registry_new(dirgwako_registry *registry, uint32_t id, size_t window);
+uint32_t dirgwako_c_registry_new_with(dirgwako_registry *registry, uint32_t id, size_t window, size_t scrapers);
 uint32_t dirgwako_c_registry_free(dirgwako_registry *registry);
 uint32_t dirgwako_c_recorder_take(dirgwako_registry *registry, dirgwako_recorder *recorder);
 uint32_t dirgwako_c_recorder_give_back(dirgwako_registry *registry, dirgwako_recorder *recorder);
 uint32_t dirgwako_c_recorder_free(dirgwako_recorder *recorder);
+uint32_t dirgwako_c_scraper_take(dirgwako_registry *registry, dirgwako_scraper *scraper);
+uint32_t dirgwako_c_scraper_free(dirgwako_scraper *scraper);
 uint32_t dirgwako_c_counter_new(dirgwako_registry *registry, const uint8_t *name, size_t name_len, const uint8_t *help, size_t help_len,
                                 dirgwako_counter *counter);
 uint32_t dirgwako_c_gauge_new(dirgwako_registry *registry, const uint8_t *name, size_t name_len, const uint8_t *help, size_t help_len,
@@ -206,6 +219,9 @@ uint32_t dirgwako_c_abi(dirgwako_abi *abi);
 uint32_t dirgwako_c_reply(dirgwako_registry *registry, const uint8_t *request, size_t request_len, uint8_t *buffer, size_t room,
                           size_t *len);
 uint32_t dirgwako_c_scrape(dirgwako_registry *registry, uint8_t *buffer, size_t room, size_t *len);
+uint32_t dirgwako_c_scraper_reply(dirgwako_scraper *scraper, const uint8_t *request, size_t request_len, uint8_t *buffer, size_t room,
+                                  size_t *len);
+uint32_t dirgwako_c_scraper_scrape(dirgwako_scraper *scraper, uint8_t *buffer, size_t room, size_t *len);
 
 /* An id that none of the last 2^32 - 1 registries of this process has. */
 uint32_t dirgwako_next_id(void);
@@ -216,7 +232,12 @@ static inline uint32_t dirgwako_registry_new(dirgwako_registry *registry, size_t
     return registry ? dirgwako_c_registry_new(registry, dirgwako_next_id(), window) : (uint32_t)DIRGWAKO_NULL;
 }
 
-/* Frees a registry, and the recorders that nobody has taken. Recorders that were taken count on. 34. */
+/* The same with so many scrapers, 0 to 3, for dirgwako_scraper_take. As dirgwako_registry_new; and 13 where they are more than 3. */
+static inline uint32_t dirgwako_registry_new_with(dirgwako_registry *registry, size_t window, size_t scrapers) {
+    return registry ? dirgwako_c_registry_new_with(registry, dirgwako_next_id(), window, scrapers) : (uint32_t)DIRGWAKO_NULL;
+}
+
+/* Frees a registry, and the recorders and scrapers that nobody has taken. Those that were taken go on. 34. */
 static inline uint32_t dirgwako_registry_free(dirgwako_registry *registry) {
     return registry ? dirgwako_c_registry_free(registry) : (uint32_t)DIRGWAKO_NULL;
 }
@@ -234,6 +255,17 @@ static inline uint32_t dirgwako_recorder_give_back(dirgwako_registry *registry, 
 /* Frees a recorder: what it counted stays in each scrape, and its worker counts no more. 34. */
 static inline uint32_t dirgwako_recorder_free(dirgwako_recorder *recorder) {
     return recorder ? dirgwako_c_recorder_free(recorder) : (uint32_t)DIRGWAKO_NULL;
+}
+
+/* A scraper that nobody has; what the handle held is freed. It is told of each board, family and child that the registry gets, and shows them in its next
+   scrape. Takes no memory. 34; 49. */
+static inline uint32_t dirgwako_scraper_take(dirgwako_registry *registry, dirgwako_scraper *scraper) {
+    return registry && scraper ? dirgwako_c_scraper_take(registry, scraper) : (uint32_t)DIRGWAKO_NULL;
+}
+
+/* Frees a scraper, which nobody takes again. 34. */
+static inline uint32_t dirgwako_scraper_free(dirgwako_scraper *scraper) {
+    return scraper ? dirgwako_c_scraper_free(scraper) : (uint32_t)DIRGWAKO_NULL;
 }
 
 /* A counter without labels, in the group 0. 34; 36; 1, 2, 3, 5, the name or the help is none; 19, a name clashes with another family's; 23, there are
@@ -503,6 +535,22 @@ static inline uint32_t dirgwako_reply(dirgwako_registry *registry, const char *r
     static uint8_t none;
     if (!registry || !len || (!request && request_len) || (!buffer && room)) return DIRGWAKO_NULL;
     return dirgwako_c_reply(registry, request ? (const uint8_t *)request : &none, request_len, buffer ? (uint8_t *)buffer : &none, room, len);
+}
+
+/* The text of a scrape by a scraper, as dirgwako_scrape, while other threads register, scrape and count. It keeps that scrape alone. After a child was
+   refused for want of memory (6, 48) scrapers may be told nothing any more: then they show what was registered before. 34; 14; 6; 37. */
+static inline uint32_t dirgwako_scraper_scrape(dirgwako_scraper *scraper, char *buffer, size_t room, size_t *len) {
+    static uint8_t none;
+    if (!scraper || !len || (!buffer && room)) return DIRGWAKO_NULL;
+    return dirgwako_c_scraper_scrape(scraper, buffer ? (uint8_t *)buffer : &none, room, len);
+}
+
+/* The reply to a request by a scraper, as dirgwako_reply. 34; 26; 25; 37. */
+static inline uint32_t dirgwako_scraper_reply(dirgwako_scraper *scraper, const char *request, size_t request_len, char *buffer, size_t room,
+                                              size_t *len) {
+    static uint8_t none;
+    if (!scraper || !len || (!request && request_len) || (!buffer && room)) return DIRGWAKO_NULL;
+    return dirgwako_c_scraper_reply(scraper, request ? (const uint8_t *)request : &none, request_len, buffer ? (uint8_t *)buffer : &none, room, len);
 }
 
 /* Whether this is a metric's name, before there is a registry. 36; 1, 2, 3, it is none; 6, out of memory. */

@@ -47,6 +47,11 @@ static void nulls(void) {
     is("exponential", dirgwako_exponential(1, 2, NULL, 1), DIRGWAKO_NULL);
     is("name", dirgwako_is_name(NULL), DIRGWAKO_NULL);
     is("built for", dirgwako_built_for(NULL), DIRGWAKO_NULL);
+    is("new with", dirgwako_registry_new_with(NULL, 1, 1), DIRGWAKO_NULL);
+    is("take a scraper", dirgwako_scraper_take(&registry, NULL), DIRGWAKO_NULL);
+    is("free a scraper", dirgwako_scraper_free(NULL), DIRGWAKO_NULL);
+    is("scraper", dirgwako_scraper_scrape(NULL, text, sizeof text, &len), DIRGWAKO_NULL);
+    is("its reply", dirgwako_scraper_reply(NULL, "GET", 3, text, sizeof text, &len), DIRGWAKO_NULL);
     is("reply", dirgwako_reply(&registry, NULL, 1, text, sizeof text, &len), DIRGWAKO_NULL);
     is("scrape", dirgwako_scrape(&registry, NULL, 1, &len), DIRGWAKO_NULL);
 }
@@ -55,6 +60,7 @@ static void nulls(void) {
 static void empties(void) {
     dirgwako_registry registry = {0};
     dirgwako_recorder recorder = {0};
+    dirgwako_scraper scraper = {0};
     dirgwako_counter counter = {0};
     dirgwako_gauge gauge = {0};
     dirgwako_histogram histogram = {0};
@@ -88,6 +94,9 @@ static void empties(void) {
     is("board of", dirgwako_board_of(&registry, 0, &len), DIRGWAKO_EMPTY);
     is("reply", dirgwako_reply(&registry, "GET", 3, text, sizeof text, &len), DIRGWAKO_EMPTY);
     is("scrape", dirgwako_scrape(&registry, text, sizeof text, &len), DIRGWAKO_EMPTY);
+    is("take a scraper", dirgwako_scraper_take(&registry, &scraper), DIRGWAKO_EMPTY);
+    is("scraper", dirgwako_scraper_scrape(&scraper, text, sizeof text, &len), DIRGWAKO_EMPTY);
+    is("its reply", dirgwako_scraper_reply(&scraper, "GET", 3, text, sizeof text, &len), DIRGWAKO_EMPTY);
     is("kept", dirgwako_kept(&registry, 0, &len), DIRGWAKO_EMPTY);
     is("read", dirgwako_read(&registry, 0, NULL, 0, &len), DIRGWAKO_EMPTY);
     is("read kept", dirgwako_read_kept(&registry, 0, 0, NULL, 0, &len), DIRGWAKO_EMPTY);
@@ -403,6 +412,7 @@ int main(void) {
     boards();
     texts();
     refusals();
+    scrapers_tests();
     threads();
     crowd();
     return told();

@@ -66,6 +66,9 @@ void texts(void);
 /* The tests of what is refused, by number. */
 void refusals(void);
 
+/* The tests of scrapers. */
+void scrapers_tests(void);
+
 /* The test of many threads on many boards. */
 void crowd(void);
 

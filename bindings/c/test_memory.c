@@ -198,6 +198,64 @@ static void first_read(void) {
     is("free", dirgwako_registry_free(&own), 0);
 }
 
+static dirgwako_scraper scraper;
+static char shown[1 << 16];
+
+static uint32_t new_with(void) { return dirgwako_registry_new_with(&registry, 3, 2); }
+
+/* A scrape and a reply by a scraper, of what the registry shows. */
+static uint32_t scrape_alone(void) {
+    size_t len = 0;
+    uint32_t answer = dirgwako_scraper_scrape(&scraper, reply, sizeof reply, &len);
+    if (answer) return answer;
+    heap.left = -1;
+    is("what the registry shows", held(was, sizeof was, 0) == len && !memcmp(was, reply, len), 1);
+    return 0;
+}
+
+static uint32_t reply_alone(void) {
+    const char *get = "GET /metrics HTTP/1.0\r\n\r\n";
+    size_t len = 0;
+    uint32_t answer = dirgwako_scraper_reply(&scraper, get, strlen(get), reply, sizeof reply, &len);
+    return answer == 25 || (!answer && !memcmp(reply, "HTTP/1.1 503 ", 13)) ? 6 : answer;
+}
+
+/* A page with scrapers. What is registered is told, each allocation of it refused in turn; a scraper without memory shows it at its next scrape. */
+static void alone(void) {
+    is("registry", refuse("registry with scrapers", new_with, 0) > 20, 1);
+    heap.asked = heap.left = 0;
+    none("take", dirgwako_scraper_take(&registry, &scraper), 0);
+    heap.left = -1;
+    is("gauges", refuse("gauges", new_gauges, 0) > 2, 1);
+    is("a gauge", refuse("a gauge", gauge_of, 0) > 2, 1);
+    is("counter", new_counter(), 0);
+    is("a board", refuse("a board", new_board, 0) > 4, 1);
+    is("scrape", refuse("scrape", scrape_alone, 0) > 4, 1);
+    fill();
+    is("reply", refuse("reply", reply_alone, 0) > 4, 1);
+    is("scrape", refuse("scrape", scrape_alone, 0) > 0, 1);
+    is("free", dirgwako_registry_free(&registry), 0);
+    is("free", dirgwako_scraper_free(&scraper), 0);
+}
+
+/* A family took its part of a further board, and there was no memory for its child: scrapers are told nothing any more. */
+static void out_of_step(void) {
+    size_t len = 0, now = 0;
+    is("registry", new_with(), 0);
+    is("take", dirgwako_scraper_take(&registry, &scraper), 0);
+    is("gauges", new_gauges(), 0);
+    is("a gauge", gauge_of(), 0);
+    fill();
+    is("a board", new_board(), 0);
+    is("scrape", dirgwako_scraper_scrape(&scraper, shown, sizeof shown, &len), 0);
+    is("a gauge on a further board", refuse("a gauge on a further board", further, 0) > 2, 1);
+    is("the registry has it", scraped(&registry, "gauges{code=\"further\",route=\"\"}"), 0);
+    is("scrape", dirgwako_scraper_scrape(&scraper, reply, sizeof reply, &now), 0);
+    is("what was registered before", now == len && !memcmp(shown, reply, len), 1);
+    is("free", dirgwako_scraper_free(&scraper), 0);
+    is("free", dirgwako_registry_free(&registry), 0);
+}
+
 int main(void) {
     is("registry", refuse("registry", new_registry, 0) > 4, 1);
     is("a counter", new_counter(), 0);
@@ -227,6 +285,10 @@ int main(void) {
     counting();
     is("what the further board has", scraped(&registry, "gauges{code=\"further\",route=\"\"}"), 1);
     is("free", dirgwako_registry_free(&registry), 0);
+    gauge.slot = 0;
+    alone();
+    gauge.slot = 0;
+    out_of_step();
     is("no block is lost", heap.blocks, 0);
     growth();
     return told();

@@ -14,7 +14,7 @@ use Rattle.scrape_page.specs.Scraping.{BoardAloneScrapes}
 use Rattle.scrape_server.specs.Scrapes.{Scrapes}
 use Rattle.scrape_server.proofs.Askings.{at_end}
 use Rattle.dirgwako_c.specs.Numbers.{Board, Reads, numbers_of, no_scrape_number}
-use Rattle.dirgwako_c.specs.Registries.{Owner, IsHandedOver, owner_in, page_in, spare_in}
+use Rattle.dirgwako_c.specs.Registries.{Owner, IsHandedOver, owner_in, page_in, SparesStay, TellsNobody}
 use Rattle.dirgwako_c.specs.declared.held.HeldRegistry.{HeldRegistry}
 use Rattle.dirgwako_c.proofs.Places.{same_there, set_now}
 
@@ -52,19 +52,21 @@ module _ {N C H G : ℕ} where
         let is = same_there (slice_get (page_in after).boards number) did.1.after board (now_there (Ok scrape) did) there in
         subst (λ (b : Board N C H G). IsSome b.state.last) is (subst (λ (o : Option Answer). IsSome o) (sym last) refl)
 
-    module _ (answer : ℕ) (had has : List ℕ) (had_len has_len : ℕ) (spare : spare_in after ≡ spare_in before) where
+    module _ (answer : ℕ) (had has : List ℕ) (had_len has_len : ℕ) (stay : SparesStay before after)
+        (untold : TellsNobody (owner_in before) (owner_in after)) where
       pub read_made : (scrape : Scraped) → Alone (Ok scrape) → (board : Board N C H G) (moment : Answer)
           → slice_get (page_in after).boards number ≡ Some board → board.state.last ≡ Some moment
           → IsHandedOver (numbers_of board.id moment) answer had has has_len
           → Reads number answer before after had has had_len has_len
       read_made scrape did board moment there last handed =
           let is = sym (same_there (slice_get (page_in after).boards number) did.1.after board (now_there (Ok scrape) did) there) in (
-            spare,
+            stay,
             inl (record {
               old = did.1.before;
               new = did.1.after;
               at = did.1.at;
               page = (did.0, did.1.new_is, did.2);
+              untold = untold;
               did = record {
                 made = Ok tt;
                 asks = (scrape, did.1.scrapes);
@@ -77,15 +79,16 @@ module _ {N C H G : ℕ} where
             }),
           )
 
-    pub read_none : (why : NoScrape) (answer : ℕ) (had : List ℕ) (had_len : ℕ) → spare_in after ≡ spare_in before → Alone (Err why)
-        → answer ≡ no_scrape_number why → Reads number answer before after had had had_len had_len
-    read_none why answer had had_len spare did told = (
-      spare,
+    pub read_none : (why : NoScrape) (answer : ℕ) (had : List ℕ) (had_len : ℕ) → SparesStay before after
+        → TellsNobody (owner_in before) (owner_in after) → Alone (Err why) → answer ≡ no_scrape_number why → Reads number answer before after had had had_len had_len
+    read_none why answer had had_len stay untold did told = (
+      stay,
       inl (record {
         old = did.1.before;
         new = did.1.after;
         at = did.1.at;
         page = (did.0, did.1.new_is, did.2);
+        untold = untold;
         did = record {
           made = Err why;
           asks = did.1.scrapes;

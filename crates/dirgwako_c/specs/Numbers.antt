@@ -10,7 +10,7 @@ use Rattle.page_crew.specs.Owned.{PageDid}
 use Rattle.page_crew.specs.Shared.{recorded_in, quit_in, gave_in, gave_up_in}
 use Rattle.page_crew.specs.declared.shared_scanner.SharedScanner.{SharedScanner}
 use Rattle.scrape_page.specs.Scraping.{BoardScrapes}
-use Rattle.dirgwako_c.specs.Registries.{IsHandedOver, grouped_in, owner_in, page_in, spare_in}
+use Rattle.dirgwako_c.specs.Registries.{IsHandedOver, grouped_in, owner_in, page_in, SparesStay, TellsNobody}
 use Rattle.dirgwako_c.specs.declared.held.HeldRegistry.{HeldRegistry}
 
 -- the numbers of a moment: the id of the board, how often each worker had published, and the totals of all words of a row
@@ -53,12 +53,13 @@ module _ {N C H G : ℕ} where
       pub asks : AsksScrape made
       pub reads : ReadsNewest answer had has had_len has_len made
 
-  -- the board of this number did this, and nothing else of the page has changed
+  -- the board of this number did this, nothing else of the page has changed, and no scraper was told anything
   pub record BoardDid (number : ℕ) (before after : HeldRegistry N C H G) (Did : Board N C H G → Board N C H G → Type 0) : Type 0 where
     pub old : Board N C H G
     pub new : Board N C H G
     pub at : slice_get (page_in before).boards number ≡ Some old
     pub page : PageDid (owner_in before) (owner_in after) (λ a b. b ≡ record a { boards = slice_set a.boards number new })
+    pub untold : TellsNobody (owner_in before) (owner_in after)
     pub did : Did old new
 
   -- no board has this number (42), and the page is as it was
@@ -68,13 +69,13 @@ module _ {N C H G : ℕ} where
   -- a scrape of the board of this number alone was made, and its numbers were handed over, or there is none; or no board has this number, and the
   -- buffer and the length are as they were
   abbrev pub Reads : (number answer : ℕ) → (before after : HeldRegistry N C H G) → (had has : List ℕ) → (had_len has_len : ℕ) → Type 0
-  Reads number answer before after had has had_len has_len = (spare_in after ≡ spare_in before)
+  Reads number answer before after had has had_len has_len = SparesStay before after
       × (BoardDid number before after (λ old new. ReadsBoard old new answer had has had_len has_len)
       ⊎ (HasNoBoard number answer before after × (has ≡ had) × (has_len ≡ had_len)))
 
   -- so many scrapes are kept of the board of this number; or no board has it
   abbrev pub TellsKept : (number answer : ℕ) → (before after : HeldRegistry N C H G) → (had has : ℕ) → Type 0
-  TellsKept number answer before after had has = (spare_in after ≡ spare_in before)
+  TellsKept number answer before after had has = SparesStay before after
       × (((grouped_in after ≡ grouped_in before) × (answer ≡ 0) × IsSomeAnd (slice_get (page_in before).boards number)
       (λ (board : Board N C H G). has ≡ length (scrapes board.journal)))
       ⊎ (HasNoBoard number answer before after × (has ≡ had)))
@@ -90,7 +91,7 @@ module _ {N C H G : ℕ} where
   -- what is held is as it was, and the numbers of the kept scrape of this place, of the board of this number, were handed over, or there is none; or
   -- no board has this number
   abbrev pub ReadsKept : (number place answer : ℕ) → (before after : HeldRegistry N C H G) → (had has : List ℕ) → (had_len has_len : ℕ) → Type 0
-  ReadsKept number place answer before after had has had_len has_len = (spare_in after ≡ spare_in before)
+  ReadsKept number place answer before after had has had_len has_len = SparesStay before after
       × (((grouped_in after ≡ grouped_in before) × IsSomeAnd (slice_get (page_in before).boards number)
       (λ (board : Board N C H G). ReadsAt board place answer had has had_len has_len))
       ⊎ (HasNoBoard number answer before after × (has ≡ had) × (has_len ≡ had_len)))

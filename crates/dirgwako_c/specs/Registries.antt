@@ -1,5 +1,6 @@
 -- What the calls of C by a registry's handle come to.
-use Rattle.std.specs.Prelude.{Bool, true, false, ◌≡◌, ◌≢◌, ◌⊎◌, ℕ, ◌*◌, ◌<◌, ◌≤◌, List, [], ◌∷◌, ◌++◌, map, length, drop, All, Option, Some, None, Result, Ok, Err, IfOk, OnErr, IsSomeAnd, IsUtf8}
+use Rattle.std.specs.Prelude.{Bool, true, false, ◌≡◌, ◌≢◌, ◌⊎◌, ℕ, ◌+◌, ◌*◌, ◌<◌, ◌≤◌, List, [], ◌∷◌, ◌++◌, map, length, drop, All, Option, Some, None, Result, Ok, Err, IfOk, OnErr, IsSomeAnd, IsUtf8, Box}
+use Rattle.std.specs.declared.alloc.Global.{Global}
 use Rattle.dirgwako.specs.Paged.{RegistersOnPage, GivesOnPage}
 use Rattle.dirgwako.specs.Printing.{IsText, IsTextFault, text_fault_number}
 use Rattle.dirgwako.specs.declared.paged.OnPage.{OnPage}
@@ -14,9 +15,12 @@ use Rattle.expo_text.specs.Scraped.{Scraped}
 use Rattle.metric_desc.specs.Desc.{Descriptor}
 use Rattle.metric_desc.specs.declared.kind.Kind.{Kind}
 use Rattle.page_crew.specs.Held.{first_of as first_board_of}
+use Rattle.page_crew.specs.Following.{ScrapesByScraper}
 use Rattle.page_crew.specs.Owned.{first_of, page_of, IsOpened, IsUnchanged, KeepsFromNow, ScrapesByCrew}
+use Rattle.page_crew.specs.Told.{news_of, AreAppointed}
 use Rattle.page_crew.specs.declared.owner.PageCrew.{PageCrew}
 use Rattle.page_crew.specs.declared.page_recorder.PageRecorder.{PageRecorder}
+use Rattle.page_crew.specs.declared.page_scraper.PageScraper.{PageScraper}
 use Rattle.page_crew.specs.declared.shared_scanner.SharedScanner.{SharedScanner}
 use Rattle.register_rule.specs.Faults.{IsBoardSize}
 use Rattle.registry_state.specs.Faults.{IsWindow}
@@ -30,6 +34,7 @@ use Rattle.scrape_page.specs.Families.{PageView}
 use Rattle.dirgwako_c.specs.Held.{answer_of}
 use Rattle.dirgwako_c.specs.declared.held.HeldRecorder.{HeldRecorder}
 use Rattle.dirgwako_c.specs.declared.held.HeldRegistry.{HeldRegistry}
+use Rattle.dirgwako_c.specs.declared.held.HeldScraper.{HeldScraper}
 use Rattle.dirgwako_c.specs.declared.spare.Spare.{Spare}
 
 -- a page of this geometry, with all who work on its boards
@@ -49,6 +54,14 @@ module _ {N C H G : ℕ} where
   abbrev pub recorders_in : Spare N C H G → List (HeldRecorder N C H G)
   recorders_in spare = map (λ b. b.value) spare.recorders.items
 
+  -- the scraper that a handle holds
+  abbrev pub scraper_in : HeldScraper N C H G → PageScraper N C H G
+  scraper_in held = held.scraper
+
+  -- what stands in a box
+  abbrev pub unboxed : Box (HeldScraper N C H G) Global → HeldScraper N C H G
+  unboxed box = box.value
+
   -- the page that a registry's handle holds, with the group of the families to come
   abbrev pub grouped_in : HeldRegistry N C H G → Grouped N C H G
   grouped_in held = held.registrar.at
@@ -65,15 +78,29 @@ module _ {N C H G : ℕ} where
   abbrev pub spare_in : HeldRegistry N C H G → List (HeldRecorder N C H G)
   spare_in held = recorders_in held.spare
 
-  -- A page of this id, of one board on which nothing is registered and nothing was counted; its recorders are there, one of each worker, in order,
-  -- and nobody has them
-  abbrev pub IsNew : (id window : ℕ) → HeldRegistry N C H G → Type 0
-  IsNew id window held = IsOpened (128 * id) window (owner_in held) (map recorder_in (spare_in held))
+  -- the scrapers of the page that nobody has, in order
+  abbrev pub scrapers_in : HeldRegistry N C H G → List (HeldScraper N C H G)
+  scrapers_in held = map unboxed held.scrapers.items
 
--- why there is none: 31 the window is none; else 6, there was no memory, or 13, the library was built for numbers out of range
-abbrev pub IsNewAnswer : (N C H G : ℕ) → (window answer : ℕ) → Type 0
-IsNewAnswer N C H G window answer = (¬ (IsWindow window) × (answer ≡ 31))
-    ⊎ (IsWindow window × (((answer ≡ 6) × IsBoardSize N C H G 1) ⊎ ((answer ≡ 13) × ¬ (IsBoardSize N C H G 1))))
+  -- the recorders and the scrapers that nobody has are those that nobody had
+  abbrev pub SparesStay : (before after : HeldRegistry N C H G) → Type 0
+  SparesStay before after = (spare_in after ≡ spare_in before) × (scrapers_in after ≡ scrapers_in before)
+
+  -- no scraper was told anything
+  abbrev pub TellsNobody : (before after : Owner N C H G) → Type 0
+  TellsNobody before after = news_of after ≡ news_of before
+
+  -- A page of this id, of one board on which nothing is registered and nothing was counted; its recorders are there, one of each worker, in order,
+  -- and so many scrapers, and nobody has them
+  abbrev pub IsNew : (id window scrapers : ℕ) → HeldRegistry N C H G → Type 0
+  IsNew id window scrapers held = IsOpened (128 * id) window (owner_in held) (map recorder_in (spare_in held))
+      × AreAppointed scrapers (owner_in held) (map scraper_in (scrapers_in held))
+
+-- why there is none: 31 the window is none; else 6, there was no memory, or 13, the library was built for numbers out of range, or a board has not
+-- as many readers
+abbrev pub IsNewAnswer : (N C H G : ℕ) → (window scrapers answer : ℕ) → Type 0
+IsNewAnswer N C H G window scrapers answer = (¬ (IsWindow window) × (answer ≡ 31))
+    ⊎ (IsWindow window × (((answer ≡ 6) × IsBoardSize N C H G (1 + scrapers)) ⊎ ((answer ≡ 13) × ¬ (IsBoardSize N C H G (1 + scrapers)))))
 
 -- the number of each reason for which there is no metric without labels: 48 where its family is registered from now on and its child is not made,
 -- for want of a slot or of memory
@@ -83,22 +110,28 @@ metric_answer (metric.Child id fault) = 48
 
 module _ {N C H G : ℕ} where
   -- a handle was given such a registry; or it is as it was
-  abbrev pub Opens : (id window answer : ℕ) → (before after : Option (HeldRegistry N C H G)) → Type 0
-  Opens id window answer before after = ((answer ≡ 0) × IsSomeAnd after (IsNew id window))
-      ⊎ (IsNewAnswer N C H G window answer × (after ≡ before))
+  abbrev pub Opens : (id window scrapers answer : ℕ) → (before after : Option (HeldRegistry N C H G)) → Type 0
+  Opens id window scrapers answer before after = ((answer ≡ 0) × IsSomeAnd after (IsNew id window scrapers))
+      ⊎ (IsNewAnswer N C H G window scrapers answer × (after ≡ before))
 
   -- the last spare recorder was handed out; or there is none (35)
   abbrev pub HandsOut : (answer : ℕ) → (before after : HeldRegistry N C H G) → (had has : Option (HeldRecorder N C H G)) → Type 0
-  HandsOut answer before after had has = (grouped_in after ≡ grouped_in before)
+  HandsOut answer before after had has = (grouped_in after ≡ grouped_in before) × (scrapers_in after ≡ scrapers_in before)
       × (((answer ≡ 0) × ((recorder : HeldRecorder N C H G) × (has ≡ Some recorder) × (spare_in before ≡ spare_in after ++ recorder ∷ [])))
       ⊎ ((answer ≡ 35) × (spare_in before ≡ []) × (spare_in after ≡ []) × (has ≡ had)))
+
+  -- the last spare scraper was handed out; or there is none (49)
+  abbrev pub HandsOutScraper : (answer : ℕ) → (before after : HeldRegistry N C H G) → (had has : Option (HeldScraper N C H G)) → Type 0
+  HandsOutScraper answer before after had has = (grouped_in after ≡ grouped_in before) × (spare_in after ≡ spare_in before)
+      × (((answer ≡ 0) × ((scraper : HeldScraper N C H G) × (has ≡ Some scraper) × (scrapers_in before ≡ scrapers_in after ++ scraper ∷ [])))
+      ⊎ ((answer ≡ 49) × (scrapers_in before ≡ []) × (scrapers_in after ≡ []) × (has ≡ had)))
 
   -- A recorder was taken back, behind the spare ones. Or it is of a page of another first board, or one of each worker is spare already (16); or
   -- there is none (34): nothing has changed then
   abbrev pub TakesBack : (answer : ℕ) → (before after : HeldRegistry N C H G) → (had has : Option (HeldRecorder N C H G)) → Type 0
   TakesBack answer before after None has = (answer ≡ 34) × (has ≡ None) × (grouped_in after ≡ grouped_in before)
-      × (spare_in after ≡ spare_in before)
-  TakesBack answer before after (Some recorder) has = (grouped_in after ≡ grouped_in before)
+      × SparesStay before after
+  TakesBack answer before after (Some recorder) has = (grouped_in after ≡ grouped_in before) × (scrapers_in after ≡ scrapers_in before)
       × (((answer ≡ 0) × (has ≡ None) × (spare_in after ≡ spare_in before ++ recorder ∷ [])
       × (first_board_of (recorder_in recorder) ≡ first_of (owner_in before)))
       ⊎ ((answer ≡ 16) × (has ≡ Some recorder) × (spare_in after ≡ spare_in before)
@@ -106,12 +139,17 @@ module _ {N C H G : ℕ} where
 
   -- each board keeps so many scrapes from now on, the newest ones, and so does each that comes; or the window is none (31), and nothing has changed
   abbrev pub SetsWindow : (window answer : ℕ) → (before after : Owner N C H G) → Type 0
-  SetsWindow window answer before after = (IsWindow window × (answer ≡ 0) × KeepsFromNow window before after)
-      ⊎ (¬ (IsWindow window) × (answer ≡ 31) × IsUnchanged before after)
+  SetsWindow window answer before after = TellsNobody before after × ((IsWindow window × (answer ≡ 0) × KeepsFromNow window before after)
+      ⊎ (¬ (IsWindow window) × (answer ≡ 31) × IsUnchanged before after))
 
   -- one scrape of the page that a handle holds, and its answer
   abbrev pub scrapes_by : (before after : HeldRegistry N C H G) → Result Scraped NoScrape → Type 0
-  scrapes_by before after answer = ScrapesByCrew (owner_in before) (owner_in after) answer × (spare_in after ≡ spare_in before)
+  scrapes_by before after answer = ScrapesByCrew (owner_in before) (owner_in after) answer × TellsNobody (owner_in before) (owner_in after)
+      × SparesStay before after
+
+  -- one scrape by a scraper that a handle holds, and its answer
+  abbrev pub scrapes_alone : (before after : HeldScraper N C H G) → Result Scraped NoScrape → Type 0
+  scrapes_alone before after answer = ScrapesByScraper (scraper_in before) (scraper_in after) answer
 
   -- the page, whose next families are of this group
   abbrev pub in_group : (group : ℕ) → Grouped N C H G → Grouped N C H G
@@ -190,12 +228,13 @@ abbrev pub IsHandedOver : (bytes : List ℕ) → (answer : ℕ) → (had has : L
 IsHandedOver bytes answer had has has_len = (has_len ≡ length bytes)
     × (((answer ≡ 0) × (has ≡ bytes ++ drop (length bytes) had)) ⊎ ((answer ≡ 37) × (length had < length bytes) × (has ≡ had)))
 
-module _ {N C H G : ℕ} (answer : ℕ) (before after : HeldRegistry N C H G) (had has : List ℕ) (had_len has_len : ℕ) where
-  -- the text of a scrape that the registry gave was handed over; or there is no scrape or no memory for its text, and the buffer and the length
+module _ {S : Type 0} (gave : S → S → Result Scraped NoScrape → Type 0) (answer : ℕ) (before after : S) (had has : List ℕ)
+    (had_len has_len : ℕ) where
+  -- the text of a scrape that the source gave was handed over; or there is no scrape or no memory for its text, and the buffer and the length
   -- are as they were
   abbrev pub PrintsTo : Type 0
-  PrintsTo = ((bytes : List ℕ) × IsText scrapes_by 0 before after bytes × IsHandedOver bytes answer had has has_len)
-      ⊎ ((fault : TextFault) × (answer ≡ text_fault_number fault) × IsTextFault scrapes_by 0 before after fault × (has ≡ had)
+  PrintsTo = ((bytes : List ℕ) × IsText gave 0 before after bytes × IsHandedOver bytes answer had has has_len)
+      ⊎ ((fault : TextFault) × (answer ≡ text_fault_number fault) × IsTextFault gave 0 before after fault × (has ≡ had)
       × (has_len ≡ had_len))
 
 -- what became of a reply that was written whole, or why there is none: then the buffer and the length are as they were
@@ -203,9 +242,10 @@ abbrev pub IsReplied : (bytes : List ℕ) → (answer : ℕ) → (had has : List
 IsReplied bytes answer had has had_len has_len (Ok served) = IsHandedOver bytes answer had has has_len
 IsReplied bytes answer had has had_len has_len (Err fault) = (answer ≡ wire_fault_number fault) × (has ≡ had) × (has_len ≡ had_len)
 
-module _ {N C H G : ℕ} (request : List ℕ) (answer : ℕ) (before after : HeldRegistry N C H G) (had has : List ℕ) (had_len has_len : ℕ) where
+module _ {S : Type 0} (gave : S → S → Result Scraped NoScrape → Type 0) (request : List ℕ) (answer : ℕ) (before after : S)
+    (had has : List ℕ) (had_len has_len : ℕ) where
   -- The reply to what the request's bytes ask for was written and handed over, as a server gives it: a 200 is the text of a scrape that this
-  -- registry made and kept. Where a read failed, which bytes do not, nothing was written
+  -- source gave. Where a read failed, which bytes do not, nothing was written
   pub record Replies : Type 0 where
     pub rest : List ℕ
     pub bytes : List ℕ
@@ -214,7 +254,7 @@ module _ {N C H G : ℕ} (request : List ℕ) (answer : ℕ) (before after : Hel
     pub latest : ℕ
     pub served : Result Served WireFault
     pub is_served : failed ≡ false
-        → IsServed scrapes_by before after (Some request) (Some rest) (Some []) (Some bytes) ended latest served
+        → IsServed gave before after (Some request) (Some rest) (Some []) (Some bytes) ended latest served
     pub is_unserved : failed ≡ true → IsUnserved before after (Some []) (Some bytes)
     pub failed_is : failed ≡ is_read_failed served
     pub replied : IsReplied bytes answer had has had_len has_len served

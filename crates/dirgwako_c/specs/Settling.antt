@@ -12,7 +12,7 @@ use Rattle.snapshot_update.specs.Workers.{index_of, lists_of}
 use Rattle.snapshot_update.specs.declared.worker.Worker.{Worker}
 use Rattle.dirgwako_c.specs.Numbers.{Board, HasNoBoard, numbers_of}
 use Rattle.dirgwako_c.specs.Recorders.{IsSamePage}
-use Rattle.dirgwako_c.specs.Registries.{IsHandedOver, recorder_in, grouped_in, page_in, spare_in}
+use Rattle.dirgwako_c.specs.Registries.{IsHandedOver, recorder_in, grouped_in, page_in, scrapers_in, spare_in, SparesStay}
 use Rattle.dirgwako_c.specs.declared.held.HeldRecorder.{HeldRecorder}
 use Rattle.dirgwako_c.specs.declared.held.HeldRegistry.{HeldRegistry}
 use Rattle.dirgwako_c.specs.declared.settling.Apart.{Apart}
@@ -114,8 +114,8 @@ module _ {N C H G : ℕ} where
   abbrev pub Settles : (number answer : ℕ) → (before after : HeldRegistry N C H G) → (had has : List ℕ)
       → (had_len has_len had_missing has_missing : ℕ) → Type 0
   Settles number answer before after had has had_len has_len had_missing has_missing =
-      ((grouped_in after ≡ grouped_in before) × HaveMet (spare_in before) (spare_in after)
+      ((grouped_in after ≡ grouped_in before) × (scrapers_in after ≡ scrapers_in before) × HaveMet (spare_in before) (spare_in after)
       × IsSomeAnd (slice_get (page_in before).boards number) (λ (board : Board N C H G).
       SettlesBoard number board (spare_in after) answer had has had_len has_len had_missing has_missing))
-      ⊎ (HasNoBoard number answer before after × (spare_in after ≡ spare_in before) × (has ≡ had) × (has_len ≡ had_len)
+      ⊎ (HasNoBoard number answer before after × SparesStay before after × (has ≡ had) × (has_len ≡ had_len)
       × (has_missing ≡ had_missing))

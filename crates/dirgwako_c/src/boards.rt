@@ -3,7 +3,7 @@ ghost use Rattle.std.specs.Prelude.{◌≡◌, ◌≢◌, ◌⊎◌, ◌≤◌, 
 ghost use Rattle.page_crew.specs.Held.{first_of as first_board_of};
 ghost use Rattle.page_crew.specs.Owned.{first_of};
 ghost use Rattle.dirgwako_c.specs.Held.{Calls, Frees};
-ghost use Rattle.dirgwako_c.specs.Registries.{grouped_in, owner_in, recorder_in, spare_in, Opens, HandsOut, TakesBack};
+ghost use Rattle.dirgwako_c.specs.Registries.{grouped_in, owner_in, recorder_in, scrapers_in, spare_in, Opens, HandsOut, TakesBack};
 
 use crate::held::{HeldRecorder, HeldRegistry};
 use crate::opening::open;
@@ -11,21 +11,23 @@ use crate::recorder_handle::RecorderHandle;
 use crate::registry_handle::RegistryHandle;
 use std::alloc::Global;
 
-/// A new registry of this id, over a page of one board, which keeps `window` scrapes of each board, into a registry's handle. What the handle held
-/// is freed. Registries of one program have different ids: `dirgwako_registry_new` of the header gives each its own. Its boards have the ids from
-/// 128 times its id on.
+/// A new registry of this id, over a page of one board, which keeps `window` scrapes of each board, with so many scrapers, into a registry's handle.
+/// What the handle held is freed. Registries of one program have different ids: `dirgwako_registry_new` of the header gives each its own. Its boards
+/// have the ids from 128 times its id on.
 ///
-/// Answers 31, unless `window` is 1 to 1,024; then 6, out of memory, and 13, the library was built for numbers out of range.
+/// Answers 31, unless `window` is 1 to 1,024; then 6, out of memory, and 13, there would be over 3 scrapers, or the library was built for numbers out of
+/// range.
 #[unsafe(no_mangle)]
-pub extern "C" fn dirgwako_c_registry_new(
+pub extern "C" fn dirgwako_c_registry_new_with(
     alloc: Global,
     registry: &mut RegistryHandle,
     id: u32,
     window: usize,
+    scrapers: usize,
 ) -> u32
-    ensures { Opens id window result registry.old.value registry.new.value }
+    ensures { Opens id window scrapers result registry.old.value registry.new.value }
 {
-    match open(alloc, id, window) {
+    match open(alloc, id, window, scrapers) {
         Ok(made) => match Box::new(alloc, made) {
             Ok(made) => {
                 registry.put(alloc, made);
@@ -37,7 +39,20 @@ pub extern "C" fn dirgwako_c_registry_new(
     }
 }
 
-/// Frees a registry, and the recorders that nobody has. The boards are freed with the last recorder of them.
+/// [`dirgwako_c_registry_new_with`] no scraper.
+#[unsafe(no_mangle)]
+pub extern "C" fn dirgwako_c_registry_new(
+    alloc: Global,
+    registry: &mut RegistryHandle,
+    id: u32,
+    window: usize,
+) -> u32
+    ensures { Opens id window 0 result registry.old.value registry.new.value }
+{
+    dirgwako_c_registry_new_with(alloc, registry, id, window, 0)
+}
+
+/// Frees a registry, and the recorders and scrapers that nobody has. The boards are freed with the last recorder of them.
 ///
 /// Answers 34, the handle is empty.
 #[unsafe(no_mangle)]
@@ -83,6 +98,7 @@ fn take_back<const N: usize, const C: usize, const H: usize, const G: usize>(
     given: Box<HeldRecorder<N, C, H, G>>,
 ) -> Result<(), Box<HeldRecorder<N, C, H, G>>>
     ensures page { grouped_in registry.new ≡ grouped_in registry.old }
+    ensures scrapers { scrapers_in registry.new ≡ scrapers_in registry.old }
     ensures taken { OnOk result ((first_board_of (recorder_in given.entry.value) ≡ first_of (owner_in registry.old))
         × (spare_in registry.new ≡ spare_in registry.old ++ given.entry.value ∷ [])) }
     ensures back { IfErr result (λ back. back ≡ given.entry) }

@@ -5,7 +5,7 @@ ghost use Rattle.dirgwako.specs.Texts.{texts_of};
 ghost use Rattle.metric_desc.specs.declared.kind.Kind.TheVariants as Kinds;
 ghost use Rattle.registry_state.specs.declared.handle.Handle.TheVariants as Handles;
 ghost use Rattle.dirgwako_c.specs.Held.{Calls};
-ghost use Rattle.dirgwako_c.specs.Registries.{grouped_in, spare_in, MakesFamilyBy, MakesShifted, GivesChildBy};
+ghost use Rattle.dirgwako_c.specs.Registries.{grouped_in, SparesStay, MakesFamilyBy, MakesShifted, GivesChildBy};
 
 use crate::registry_handle::RegistryHandle;
 use crate::texts::{text, texts};
@@ -41,7 +41,7 @@ fn counter_family_in<const N: usize, const C: usize, const H: usize, const G: us
             *family = made;
             0
         }
-        Err(fault) => u32::from(fault.number()),
+        Err(refused) => u32::from(refused.number()),
     }
 }
 
@@ -60,7 +60,7 @@ pub extern "C" fn dirgwako_c_counter_family_new(
     group: usize,
     family: &mut CounterFamily,
 ) -> u32
-    ensures { Calls (family.new ≡ family.old) (λ before after. (spare_in after ≡ spare_in before)
+    ensures { Calls (family.new ≡ family.old) (λ before after. SparesStay before after
         × MakesShifted result (grouped_in before) (grouped_in after) family.old family.new digits
         (MakesFamilyBy result (grouped_in before) (grouped_in after) family.old family.new group (λ family. family.id)
         (λ family. family.registry) name.now help.now (texts_of labels.now)
@@ -124,7 +124,7 @@ pub extern "C" fn dirgwako_c_counter_of(
     values: &[&[u8]],
     counter: &mut Counter,
 ) -> u32
-    ensures { Calls (counter.new ≡ counter.old) (λ before after. (spare_in after ≡ spare_in before)
+    ensures { Calls (counter.new ≡ counter.old) (λ before after. SparesStay before after
         × GivesChildBy result (grouped_in before) (grouped_in after)
         counter.old counter.new Handles.Counter family.now.registry family.now.id (texts_of values.now) Kinds.Counter) result
         registry.old.value registry.new.value }
@@ -165,7 +165,7 @@ fn gauge_family_in<const N: usize, const C: usize, const H: usize, const G: usiz
             *family = made;
             0
         }
-        Err(fault) => u32::from(fault.number()),
+        Err(refused) => u32::from(refused.number()),
     }
 }
 
@@ -184,7 +184,7 @@ pub extern "C" fn dirgwako_c_gauge_family_new(
     group: usize,
     family: &mut GaugeFamily,
 ) -> u32
-    ensures { Calls (family.new ≡ family.old) (λ before after. (spare_in after ≡ spare_in before)
+    ensures { Calls (family.new ≡ family.old) (λ before after. SparesStay before after
         × MakesShifted result (grouped_in before) (grouped_in after) family.old family.new digits
         (MakesFamilyBy result (grouped_in before) (grouped_in after) family.old family.new group (λ family. family.id)
         (λ family. family.registry) name.now help.now (texts_of labels.now)
@@ -248,7 +248,7 @@ pub extern "C" fn dirgwako_c_gauge_of(
     values: &[&[u8]],
     gauge: &mut Gauge,
 ) -> u32
-    ensures { Calls (gauge.new ≡ gauge.old) (λ before after. (spare_in after ≡ spare_in before)
+    ensures { Calls (gauge.new ≡ gauge.old) (λ before after. SparesStay before after
         × GivesChildBy result (grouped_in before) (grouped_in after)
         gauge.old gauge.new Handles.Gauge family.now.registry family.now.id (texts_of values.now) Kinds.Gauge) result
         registry.old.value registry.new.value }
@@ -290,7 +290,7 @@ fn histogram_family_in<const N: usize, const C: usize, const H: usize, const G: 
             *family = made;
             0
         }
-        Err(fault) => u32::from(fault.number()),
+        Err(refused) => u32::from(refused.number()),
     }
 }
 
@@ -310,7 +310,7 @@ pub extern "C" fn dirgwako_c_histogram_family_new(
     group: usize,
     family: &mut HistogramFamily,
 ) -> u32
-    ensures { Calls (family.new ≡ family.old) (λ before after. (spare_in after ≡ spare_in before)
+    ensures { Calls (family.new ≡ family.old) (λ before after. SparesStay before after
         × MakesShifted result (grouped_in before) (grouped_in after) family.old family.new digits
         (MakesFamilyBy result (grouped_in before) (grouped_in after) family.old family.new group (λ family. family.id)
         (λ family. family.registry) name.now help.now (texts_of labels.now)
@@ -375,7 +375,7 @@ pub extern "C" fn dirgwako_c_histogram_of(
     values: &[&[u8]],
     histogram: &mut Histogram,
 ) -> u32
-    ensures { Calls (histogram.new ≡ histogram.old) (λ before after. (spare_in after ≡ spare_in before)
+    ensures { Calls (histogram.new ≡ histogram.old) (λ before after. SparesStay before after
         × GivesChildBy result (grouped_in before) (grouped_in after)
         histogram.old histogram.new Handles.Histogram family.now.registry family.now.id (texts_of values.now) Kinds.Histogram) result
         registry.old.value registry.new.value }

@@ -2,7 +2,7 @@
 ghost use Rattle.std.specs.Prelude.{◌≡◌, ◌+◌, ◌*◌, ◌≤◌, length};
 
 use crate::spare::Spare;
-use dirgwako::{OnPage, PageRecorder, Registrar};
+use dirgwako::{OnPage, PageRecorder, PageScraper, Registrar};
 use ledger_core::Op;
 use snapshot_scan::Snapshot;
 
@@ -25,6 +25,13 @@ pub struct HeldRecorder<const N: usize, const C: usize, const H: usize, const G:
     ghost room: { length list.items ≡ C + H + 2 * G },
 }
 
+/// What a scraper's handle holds.
+#[derive(Drop)]
+pub struct HeldScraper<const N: usize, const C: usize, const H: usize, const G: usize> {
+    /// The scraper, with a page of its own.
+    pub scraper: PageScraper<N, C, H, G>,
+}
+
 /// What a registry's handle holds.
 #[derive(Drop)]
 pub struct HeldRegistry<const N: usize, const C: usize, const H: usize, const G: usize> {
@@ -32,6 +39,8 @@ pub struct HeldRegistry<const N: usize, const C: usize, const H: usize, const G:
     pub registrar: Registrar<OnPage<N, C, H, G>>,
     /// The recorders that nobody has.
     pub spare: Spare<N, C, H, G>,
+    /// The scrapers that nobody has, each in the box that a handle owns, so that handing one out takes no memory.
+    pub scrapers: Vec<Box<HeldScraper<N, C, H, G>>>,
     /// Room for the numbers of a moment.
     pub numbers: Snapshot<N, C, H, G>,
 }

@@ -1,4 +1,5 @@
-//! Dirgwako for C: a page of boards of one geometry, which come when they are needed, and recorders that threads count with on all of them.
+//! Dirgwako for C: a page of boards of one geometry, which come when they are needed, and recorders that threads
+//! count with on all of them.
 //!
 //! What C holds is a handle of two words, zeros where it holds nothing. A call that needs what an empty handle has not is refused. Each call
 //! answers 0, or the number of a refusal (docs/REFUSALS.md); `dirgwako_c_place` alone a place.
@@ -24,6 +25,8 @@ mod recorder_handle;
 mod refusals;
 mod registry_handle;
 mod replying;
+mod scraper_handle;
+mod scrapers;
 mod scraping;
 mod sends;
 mod settling;
@@ -35,7 +38,7 @@ mod windows;
 pub use about::{ABI, Abi, dirgwako_c_abi, dirgwako_c_is_name};
 pub use boards::{
     dirgwako_c_recorder_free, dirgwako_c_recorder_give_back, dirgwako_c_recorder_take,
-    dirgwako_c_registry_free, dirgwako_c_registry_new,
+    dirgwako_c_registry_free, dirgwako_c_registry_new, dirgwako_c_registry_new_with,
 };
 pub use change::Change;
 pub use counting::{dirgwako_c_down, dirgwako_c_inc, dirgwako_c_observe, dirgwako_c_up};
@@ -53,9 +56,11 @@ pub use readings::{dirgwako_c_kept, dirgwako_c_read, dirgwako_c_read_kept};
 pub use recorder_handle::RecorderHandle;
 pub use refusals::dirgwako_c_refusal;
 pub use registry_handle::RegistryHandle;
-pub use replying::dirgwako_c_reply;
-pub use scraping::dirgwako_c_scrape;
-pub use sends::{recorder_sent, registry_sent};
+pub use replying::{dirgwako_c_reply, dirgwako_c_scraper_reply};
+pub use scraper_handle::ScraperHandle;
+pub use scrapers::{dirgwako_c_scraper_free, dirgwako_c_scraper_take};
+pub use scraping::{dirgwako_c_scrape, dirgwako_c_scraper_scrape};
+pub use sends::{recorder_sent, registry_sent, scraper_sent};
 pub use settling::dirgwako_c_settle;
 pub use spaced::{dirgwako_c_exponential, dirgwako_c_linear};
 pub use windows::dirgwako_c_set_window;

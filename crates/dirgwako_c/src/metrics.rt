@@ -4,7 +4,7 @@ ghost use Rattle.dirgwako.specs.Registering.{family_of};
 ghost use Rattle.metric_desc.specs.declared.kind.Kind.TheVariants as Kinds;
 ghost use Rattle.registry_state.specs.declared.handle.Handle.TheVariants as Handles;
 ghost use Rattle.dirgwako_c.specs.Held.{Calls};
-ghost use Rattle.dirgwako_c.specs.Registries.{grouped_in, spare_in, metric_answer, MakesNamed};
+ghost use Rattle.dirgwako_c.specs.Registries.{grouped_in, metric_answer, SparesStay, MakesNamed};
 
 use crate::registry_handle::RegistryHandle;
 use crate::texts::text;
@@ -41,7 +41,7 @@ fn counter_in<const N: usize, const C: usize, const H: usize, const G: usize>(
             *counter = made;
             0
         }
-        Err(fault) => answer_of(&fault),
+        Err(refused) => answer_of(&refused.fault),
     }
 }
 
@@ -58,7 +58,7 @@ pub extern "C" fn dirgwako_c_counter_new(
     help: &[u8],
     counter: &mut Counter,
 ) -> u32
-    ensures { Calls (counter.new ≡ counter.old) (λ before after. (spare_in after ≡ spare_in before)
+    ensures { Calls (counter.new ≡ counter.old) (λ before after. SparesStay before after
         × MakesNamed Handles.Counter result (grouped_in before) (grouped_in after)
         counter.old counter.new name.now help.now (family_of Kinds.Counter name.now help.now [] [])) result
         registry.old.value registry.new.value }
@@ -90,7 +90,7 @@ fn gauge_in<const N: usize, const C: usize, const H: usize, const G: usize>(
             *gauge = made;
             0
         }
-        Err(fault) => answer_of(&fault),
+        Err(refused) => answer_of(&refused.fault),
     }
 }
 
@@ -106,7 +106,7 @@ pub extern "C" fn dirgwako_c_gauge_new(
     help: &[u8],
     gauge: &mut Gauge,
 ) -> u32
-    ensures { Calls (gauge.new ≡ gauge.old) (λ before after. (spare_in after ≡ spare_in before)
+    ensures { Calls (gauge.new ≡ gauge.old) (λ before after. SparesStay before after
         × MakesNamed Handles.Gauge result (grouped_in before) (grouped_in after)
         gauge.old gauge.new name.now help.now (family_of Kinds.Gauge name.now help.now [] [])) result
         registry.old.value registry.new.value }
@@ -139,7 +139,7 @@ fn histogram_in<const N: usize, const C: usize, const H: usize, const G: usize>(
             *histogram = made;
             0
         }
-        Err(fault) => answer_of(&fault),
+        Err(refused) => answer_of(&refused.fault),
     }
 }
 
@@ -157,7 +157,7 @@ pub extern "C" fn dirgwako_c_histogram_new(
     bounds: &[u64],
     histogram: &mut Histogram,
 ) -> u32
-    ensures { Calls (histogram.new ≡ histogram.old) (λ before after. (spare_in after ≡ spare_in before)
+    ensures { Calls (histogram.new ≡ histogram.old) (λ before after. SparesStay before after
         × MakesNamed Handles.Histogram result (grouped_in before) (grouped_in after)
         histogram.old histogram.new name.now help.now (family_of Kinds.Histogram name.now help.now [] bounds.now)) result
         registry.old.value registry.new.value }

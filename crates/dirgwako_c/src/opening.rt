@@ -1,12 +1,12 @@
-//! A page is made, with its recorders.
+//! A page is made, with its recorders and scrapers.
 ghost use Rattle.std.specs.Prelude.{◌≡◌, map, length, IfOk, IfErr};
 ghost use Rattle.dirgwako_c.specs.declared.geometry.TheConstants.{WORKERS, COUNTERS, HISTOGRAMS, GAUGES};
-ghost use Rattle.dirgwako_c.specs.Registries.{recorder_in, recorders_in, IsNew, IsNewAnswer};
+ghost use Rattle.dirgwako_c.specs.Registries.{recorder_in, recorders_in, scraper_in, unboxed, IsNew, IsNewAnswer};
 
 use crate::geometry::{COUNTERS, GAUGES, HISTOGRAMS, MOST_CHANGES, WORKERS};
-use crate::held::{HeldRecorder, HeldRegistry, Limits};
+use crate::held::{HeldRecorder, HeldRegistry, HeldScraper, Limits};
 use crate::spare::Spare;
-use dirgwako::{OnPage, PageCrew, PageRecorder, Registrar};
+use dirgwako::{OnPage, PageCrew, PageRecorder, PageScraper, Registrar};
 use ledger_core::Op;
 use snapshot_scan::Snapshot;
 use std::alloc::{AllocError, Global};
@@ -44,20 +44,38 @@ fn spare_of<const N: usize, const C: usize, const H: usize, const G: usize>(
     Ok(spare)
 }
 
-/// A new page of this id, of one board, which keeps `window` scrapes, and its recorders, which nobody has.
+/// These scrapers, in order, each in a box of its own.
+fn boxed_scrapers<const N: usize, const C: usize, const H: usize, const G: usize>(
+    alloc: Global,
+    scrapers: Vec<PageScraper<N, C, H, G>>,
+) -> Result<Vec<Box<HeldScraper<N, C, H, G>>>, AllocError>
+    ensures { IfOk result (λ made. map scraper_in (map unboxed made.items) ≡ scrapers.entry.items) }
+{
+    let mut made = Vec::with_capacity(alloc, scrapers.len())?;
+    for scraper in scrapers {
+        let Ok(boxed) = Box::new(alloc, HeldScraper { scraper }) else {
+            return Err(AllocError);
+        };
+        made.push(boxed)?;
+    }
+    Ok(made)
+}
+
+/// A new page of this id, of one board, which keeps `window` scrapes, its recorders, and so many scrapers, which nobody has.
 ///
 /// # Errors
 ///
-/// 31 unless `window` is 1 to 1,024; then 6, and 13 where the library was built for numbers out of range.
+/// 31 unless `window` is 1 to 1,024; then 6, and 13 where the library was built for numbers out of range or there would be over 3 scrapers.
 pub(crate) fn open(
     alloc: Global,
     id: u32,
     window: usize,
+    scrapers: usize,
 ) -> Result<HeldRegistry<WORKERS, COUNTERS, HISTOGRAMS, GAUGES>, u32>
-    ensures new { IfOk result (IsNew id window) }
-    ensures fault { IfErr result (IsNewAnswer WORKERS COUNTERS HISTOGRAMS GAUGES window) }
+    ensures new { IfOk result (IsNew id window scrapers) }
+    ensures fault { IfErr result (IsNewAnswer WORKERS COUNTERS HISTOGRAMS GAUGES window scrapers) }
 {
-    let (crew, recorders) = match PageCrew::new(alloc, id, window) {
+    let (crew, recorders, scrapers) = match PageCrew::with_scrapers(alloc, id, window, scrapers) {
         Ok(made) => made,
         Err(fault) => return Err(u32::from(fault.number())),
     };
@@ -67,12 +85,16 @@ pub(crate) fn open(
     let Ok(spare) = spare_of(alloc, &limits, recorders) else {
         return Err(6);
     };
+    let Ok(scrapers) = boxed_scrapers(alloc, scrapers) else {
+        return Err(6);
+    };
     let Ok(numbers) = Snapshot::new(alloc) else {
         return Err(6);
     };
     Ok(HeldRegistry {
         registrar: Registrar::of(alloc, OnPage { crew, group: 0 }),
         spare,
+        scrapers,
         numbers,
     })
 }

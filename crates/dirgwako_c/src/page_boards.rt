@@ -2,8 +2,10 @@
 ghost use Rattle.std.specs.Prelude.{◌≡◌, ◌≢◌, ◌⊎◌, length, slice_get, All, IsSomeAnd};
 ghost use Rattle.page_crew.specs.Opened.{IsNoBoard, no_board_number};
 ghost use Rattle.page_crew.specs.Owned.{page_of, IsGrown, IsUnchanged};
+ghost use Rattle.page_crew.specs.Told.{HasToldBoard};
 ghost use Rattle.page_crew.specs.declared.fault.NoBoard.{NoBoard};
 ghost use Rattle.dirgwako_c.specs.Held.{Calls};
+ghost use Rattle.dirgwako_c.specs.Registries.{TellsNobody};
 ghost use Rattle.dirgwako_c.specs.Boards.{AddsBoard, TellsBoards, TellsBoard};
 
 use crate::registry_handle::RegistryHandle;
@@ -15,10 +17,10 @@ fn add<const N: usize, const C: usize, const H: usize, const G: usize>(
     owner: &mut PageCrew<N, C, H, G>,
     number: &mut usize,
 ) -> u32
-    ensures { ((result ≡ 0) × IsGrown owner.old owner.new × (number.new ≡ length (page_of owner.old).boards))
+    ensures { ((result ≡ 0) × IsGrown owner.old owner.new × HasToldBoard owner.old owner.new × (number.new ≡ length (page_of owner.old).boards))
         ⊎ ((why : NoBoard) × (result ≡ no_board_number why)
         × IsNoBoard N C H G (length (page_of owner.old).boards) why
-        × IsUnchanged owner.old owner.new × (number.new ≡ number.old)) }
+        × IsUnchanged owner.old owner.new × TellsNobody owner.old owner.new × (number.new ≡ number.old)) }
 {
     match owner.add_board() {
         Ok(made) => {

@@ -6,7 +6,7 @@ ghost use Rattle.dirgwako_c.specs.declared.refusals.TheConstants.{REFUSALS};
 use crate::buffers::hand_over;
 
 /// Each refusal, at the place of its number; at 0 what stands for none.
-pub const REFUSALS: [&str; 49] = [
+pub const REFUSALS: [&str; 50] = [
     "done",
     "a name has no byte",
     "a byte cannot stand there in a name",
@@ -56,6 +56,7 @@ pub const REFUSALS: [&str; 49] = [
     "the family has 256 children",
     "two changes are of two boards",
     "the family is registered, without its child",
+    "no scraper is left",
 ];
 
 /// The text at a place, if there is one.

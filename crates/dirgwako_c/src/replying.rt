@@ -1,28 +1,29 @@
 //! What C calls for the reply to a scraper.
 ghost use Rattle.std.specs.Prelude.{◌≡◌};
 ghost use Rattle.dirgwako_c.specs.Held.{Calls};
-ghost use Rattle.dirgwako_c.specs.Registries.{Replies};
+ghost use Rattle.dirgwako_c.specs.Registries.{scrapes_by, scrapes_alone, Replies};
 
 use crate::buffers::hand_over;
-use crate::held::HeldRegistry;
 use crate::registry_handle::RegistryHandle;
+use crate::scraper_handle::ScraperHandle;
 use dirgwako::serve_one;
+use scrape_http::ScrapeFrom;
 use std::alloc::Global;
 use watched::Watched;
 
 /// The reply to a request, at the front of a buffer that has room for it.
-fn reply_to<const N: usize, const C: usize, const H: usize, const G: usize>(
+fn reply_to<S: ScrapeFrom>(
     alloc: Global,
-    held: &mut HeldRegistry<N, C, H, G>,
+    source: &mut S,
     request: &[u8],
     buffer: &mut [u8],
     len: &mut usize,
 ) -> u32
-    ensures { Replies request.now result held.old held.new buffer.old buffer.new len.old len.new }
+    ensures { Replies S.gave request.now result source.old source.new buffer.old buffer.new len.old len.new }
 {
     let mut reader = Watched::new(request);
     let mut writer = Watched::new(Vec::new(alloc));
-    let served = serve_one(&mut reader, &mut writer, held);
+    let served = serve_one(&mut reader, &mut writer, source);
     let reply = writer.into_inner();
     match served {
         Ok(_) => hand_over(&reply, buffer, len),
@@ -44,13 +45,36 @@ pub extern "C" fn dirgwako_c_reply(
     buffer: &mut [u8],
     len: &mut usize,
 ) -> u32
-    ensures { Calls ((buffer.new ≡ buffer.old) × (len.new ≡ len.old)) (λ before after. Replies request.now result before after buffer.old
-        buffer.new len.old len.new) result registry.old.value registry.new.value }
+    ensures { Calls ((buffer.new ≡ buffer.old) × (len.new ≡ len.old)) (λ before after. Replies scrapes_by request.now result before after
+        buffer.old buffer.new len.old len.new) result registry.old.value registry.new.value }
 {
     let Some(mut held) = registry.take(alloc) else {
         return 34;
     };
-    let answer = reply_to(alloc, &mut held, request, buffer, len);
+    let answer = reply_to(alloc, &mut *held, request, buffer, len);
     registry.put(alloc, held);
+    answer
+}
+
+/// The same by a scraper: [`dirgwako_c_reply`], beside the registry and other scrapers.
+///
+/// Answers 34, the handle is empty; 26, the request has no byte; 25, there is no memory for the reply; 37, the buffer is too short: `len` tells
+/// how many bytes this reply has, and a later one may have more.
+#[unsafe(no_mangle)]
+pub extern "C" fn dirgwako_c_scraper_reply(
+    alloc: Global,
+    scraper: &mut ScraperHandle,
+    request: &[u8],
+    buffer: &mut [u8],
+    len: &mut usize,
+) -> u32
+    ensures { Calls ((buffer.new ≡ buffer.old) × (len.new ≡ len.old)) (λ before after. Replies scrapes_alone request.now result before after
+        buffer.old buffer.new len.old len.new) result scraper.old.value scraper.new.value }
+{
+    let Some(mut held) = scraper.take(alloc) else {
+        return 34;
+    };
+    let answer = reply_to(alloc, &mut *held, request, buffer, len);
+    scraper.put(alloc, held);
     answer
 }

@@ -2,11 +2,12 @@
 ghost use Rattle.std.specs.Prelude.{◌≡◌, ◌≤◌, length, take, IfOk, IfErr};
 ghost use Rattle.dirgwako.specs.Printing.{IsText, IsTextFault};
 ghost use Rattle.dirgwako_c.specs.Held.{Calls};
-ghost use Rattle.dirgwako_c.specs.Registries.{scrapes_by, PrintsTo};
+ghost use Rattle.dirgwako_c.specs.Registries.{scrapes_by, scrapes_alone, PrintsTo};
 
 use crate::buffers::hand_over;
-use crate::held::HeldRegistry;
+use crate::held::{HeldRegistry, HeldScraper};
 use crate::registry_handle::RegistryHandle;
+use crate::scraper_handle::ScraperHandle;
 use dirgwako::{NoScrape, Scrape, TextFault, render};
 use scrape_http::ScrapeFrom;
 use std::alloc::Global;
@@ -27,14 +28,28 @@ impl<const N: usize, const C: usize, const H: usize, const G: usize> ScrapeFrom
     }
 }
 
-/// The text of a scrape of a registry.
-fn text_of<const N: usize, const C: usize, const H: usize, const G: usize>(
-    registry: &mut HeldRegistry<N, C, H, G>,
-) -> Result<Vec<u8>, TextFault>
-    ensures text { IfOk result (λ bytes. IsText scrapes_by 0 registry.old registry.new bytes.items) }
-    ensures fault { IfErr result (IsTextFault scrapes_by 0 registry.old registry.new) }
+impl<const N: usize, const C: usize, const H: usize, const G: usize> ScrapeFrom
+    for HeldScraper<N, C, H, G> {
+    ghost again = { 0 };
+
+    ghost gave = { scrapes_alone };
+
+    fn scrape(&mut self) -> Result<Scrape, NoScrape> {
+        self.scraper.scrape()
+    }
+
+    /// Its page asks each board again by itself, and is not asked again.
+    fn again(&self) -> usize {
+        0
+    }
+}
+
+/// The text of a scrape.
+fn text_of<S: ScrapeFrom>(source: &mut S) -> Result<Vec<u8>, TextFault>
+    ensures text { IfOk result (λ bytes. IsText S.gave 0 source.old source.new bytes.items) }
+    ensures fault { IfErr result (IsTextFault S.gave 0 source.old source.new) }
 {
-    match registry.scrape() {
+    match source.scrape() {
         Ok(scrape) => match render(&scrape) {
             Ok(text) => Ok(text),
             Err(_) => Err(TextFault::NoMemory),
@@ -45,14 +60,10 @@ fn text_of<const N: usize, const C: usize, const H: usize, const G: usize>(
 }
 
 /// The text of a scrape, at the front of a buffer that has room for it.
-fn print_to<const N: usize, const C: usize, const H: usize, const G: usize>(
-    registry: &mut HeldRegistry<N, C, H, G>,
-    buffer: &mut [u8],
-    len: &mut usize,
-) -> u32
-    ensures { PrintsTo result registry.old registry.new buffer.old buffer.new len.old len.new }
+fn print_to<S: ScrapeFrom>(source: &mut S, buffer: &mut [u8], len: &mut usize) -> u32
+    ensures { PrintsTo S.gave result source.old source.new buffer.old buffer.new len.old len.new }
 {
-    match text_of(registry) {
+    match text_of(source) {
         Ok(text) => hand_over(&text, buffer, len),
         Err(fault) => u32::from(fault.number()),
     }
@@ -71,13 +82,35 @@ pub extern "C" fn dirgwako_c_scrape(
     buffer: &mut [u8],
     len: &mut usize,
 ) -> u32
-    ensures { Calls ((buffer.new ≡ buffer.old) × (len.new ≡ len.old)) (λ before after. PrintsTo result before after buffer.old buffer.new
-        len.old len.new) result registry.old.value registry.new.value }
+    ensures { Calls ((buffer.new ≡ buffer.old) × (len.new ≡ len.old)) (λ before after. PrintsTo scrapes_by result before after buffer.old
+        buffer.new len.old len.new) result registry.old.value registry.new.value }
 {
     let Some(mut held) = registry.take(alloc) else {
         return 34;
     };
-    let answer = print_to(&mut held, buffer, len);
+    let answer = print_to(&mut *held, buffer, len);
     registry.put(alloc, held);
+    answer
+}
+
+/// The text of a scrape by a scraper, of all that is registered by then. As [`dirgwako_c_scrape`], beside the registry and other scrapers.
+///
+/// Answers 34, the handle is empty; 14, four scans of a board were given up, one after the other; 6, out of memory; 37, the buffer is too short:
+/// `len` tells how many bytes this text has, and a later one may have more.
+#[unsafe(no_mangle)]
+pub extern "C" fn dirgwako_c_scraper_scrape(
+    alloc: Global,
+    scraper: &mut ScraperHandle,
+    buffer: &mut [u8],
+    len: &mut usize,
+) -> u32
+    ensures { Calls ((buffer.new ≡ buffer.old) × (len.new ≡ len.old)) (λ before after. PrintsTo scrapes_alone result before after buffer.old
+        buffer.new len.old len.new) result scraper.old.value scraper.new.value }
+{
+    let Some(mut held) = scraper.take(alloc) else {
+        return 34;
+    };
+    let answer = print_to(&mut *held, buffer, len);
+    scraper.put(alloc, held);
     answer
 }

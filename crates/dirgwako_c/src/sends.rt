@@ -3,6 +3,7 @@ ghost use Rattle.std.specs.Prelude.{◌≡◌};
 
 use crate::recorder_handle::RecorderHandle;
 use crate::registry_handle::RegistryHandle;
+use crate::scraper_handle::ScraperHandle;
 
 /// What may go to another thread, as it was.
 fn sent<T: Send>(held: T) -> T
@@ -20,6 +21,13 @@ pub fn recorder_sent(handle: RecorderHandle) -> RecorderHandle
 
 /// A registry's may.
 pub fn registry_sent(handle: RegistryHandle) -> RegistryHandle
+    ensures { result ≡ handle }
+{
+    sent(handle)
+}
+
+/// A scraper's may.
+pub fn scraper_sent(handle: ScraperHandle) -> ScraperHandle
     ensures { result ≡ handle }
 {
     sent(handle)

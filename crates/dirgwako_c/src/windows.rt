@@ -1,7 +1,7 @@
 //! What C calls to set how many scrapes are kept.
 ghost use Rattle.std.specs.Prelude.{◌≡◌};
 ghost use Rattle.dirgwako_c.specs.Held.{Calls};
-ghost use Rattle.dirgwako_c.specs.Registries.{owner_in, spare_in, SetsWindow};
+ghost use Rattle.dirgwako_c.specs.Registries.{owner_in, SparesStay, SetsWindow};
 
 use crate::registry_handle::RegistryHandle;
 use dirgwako::PageCrew;
@@ -29,7 +29,7 @@ pub extern "C" fn dirgwako_c_set_window(
     registry: &mut RegistryHandle,
     window: usize,
 ) -> u32
-    ensures { Calls (Unit {0}) (λ before after. (spare_in after ≡ spare_in before)
+    ensures { Calls (Unit {0}) (λ before after. SparesStay before after
         × SetsWindow window result (owner_in before) (owner_in after)) result registry.old.value registry.new.value }
 {
     let Some(mut held) = registry.take(alloc) else {

@@ -11,4 +11,4 @@ returns-in-Some-taken c =
     called _ _ _ c.args.registry.now.value c.put.new.self.value before
     (record before { spare = c.take-taken.new.self })
     (c.in-Some.ensures.taken ∙ ap Some (sym c.deref_mut.ensures.value)) c.put.ensures
-    (refl, inl (refl, (c.in-Some-taken.made.value, c.put-in-Some-taken.ensures, gave)))
+    (refl, refl, inl (refl, (c.in-Some-taken.made.value, c.put-in-Some-taken.ensures, gave)))

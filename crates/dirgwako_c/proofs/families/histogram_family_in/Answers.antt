@@ -27,9 +27,9 @@ returns-in-Ok-histogram_family_shifted g c =
 
 pub returns : goal.returns
 returns g c =
-    let number : c.from.result ≡ family_refusal_number c.in-Err-histogram_family_shifted.fault = search rules in
+    let number : c.from.result ≡ family_refusal_number c.in-Err-histogram_family_shifted.refused.fault = search rules in
     family_refused c.args.registrar.now.at c.histogram_family_shifted.new.self.at c.args.family.now c.args.family.now c.args.group
     (λ (f : HistogramFamily). f.id) (λ (f : HistogramFamily). f.registry) c.args.name.now c.args.help.now (texts_of c.args.labels.now)
-    (said c.args.bounds.now c.args.digits) c.in-Some-Some.name.now c.in-Some-Some.help.now (texts_of c.deref.result.now) c.in-Err-histogram_family_shifted.fault
+    (said c.args.bounds.now c.args.digits) c.in-Some-Some.name.now c.in-Some-Some.help.now (texts_of c.deref.result.now) c.in-Err-histogram_family_shifted.refused.fault
     c.from.result number c.in-Some-Some.ensures c.in-Some-Some.ensures'
     (ap texts_of c.deref.ensures.value ∙ c.in-Ok.ensures.texts) c.in-Ok.ensures.all c.in-Err-histogram_family_shifted.ensures.fault

@@ -21,8 +21,8 @@ returns-in-Ok g c =
     let there = board_there before done number scrape did c.boards-in-Ok.result.now board
     (c.boards-in-Ok.ensures.boards ∙ ap (λ (p : PageView (OneScanner g.row.N g.row.C g.row.H g.row.G)). p.boards) c.page-in-Ok.ensures)
     c.index-boards-number.is in
-    read_made before done number c.hand_over_numbers.result had c.hand_over_numbers.new.buffer had_len c.hand_over_numbers.new.len refl
-    scrape did board (as_answer c.newest.new.out) there c.newest.ensures
+    read_made before done number c.hand_over_numbers.result had c.hand_over_numbers.new.buffer had_len c.hand_over_numbers.new.len (refl, refl)
+    c.in-Ok.ensures.untold scrape did board (as_answer c.newest.new.out) there c.newest.ensures
     (subst (λ (n : ℕ). IsHandedOver (numbers_of n (as_answer c.newest.new.out)) c.hand_over_numbers.result had
     c.hand_over_numbers.new.buffer c.hand_over_numbers.new.len) c.id.ensures c.hand_over_numbers.ensures)
 
@@ -31,7 +31,7 @@ returns-in-Err-NoMemory g c =
     let before = c.args.registry.now in let number : ℕ = c.args.number in
     let at = record before.registrar.at { crew = c.keep_board.new.self } in
     let asked = record before { registrar = record before.registrar { at = at } } in
-    read_none before asked number NoMemory 6 c.args.buffer.now c.args.len.now refl
+    read_none before asked number NoMemory 6 c.args.buffer.now c.args.len.now (refl, refl) c.in-Err-NoMemory.ensures.untold
     (subst (λ (why : NoScrape). AsksAlone (owner_in before) c.keep_board.new.self number (Err why)) c.in-Err-NoMemory.field-0-is
     c.in-Err-NoMemory.ensures.scraped) refl
 
@@ -40,6 +40,6 @@ returns-in-Err-Contended g c =
     let before = c.args.registry.now in let number : ℕ = c.args.number in
     let at = record before.registrar.at { crew = c.keep_board.new.self } in
     let asked = record before { registrar = record before.registrar { at = at } } in
-    read_none before asked number Contended 14 c.args.buffer.now c.args.len.now refl
+    read_none before asked number Contended 14 c.args.buffer.now c.args.len.now (refl, refl) c.in-Err-Contended.ensures.untold
     (subst (λ (why : NoScrape). AsksAlone (owner_in before) c.keep_board.new.self number (Err why)) c.in-Err-Contended.field-0-is
     c.in-Err-Contended.ensures.scraped) refl

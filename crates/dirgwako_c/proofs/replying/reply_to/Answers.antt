@@ -2,12 +2,12 @@ use Rattle.std.proofs.Common.{rules, ◌≡◌, ℕ, List, [], Bor, ap, ◌∙�
 use Rattle.std.specs.Prelude.{Option, Some, Ok, Err, Vec}
 use Rattle.std.specs.declared.alloc.Global.{Global}
 use Rattle.scrape_http.specs.Serves.{IsServed, IsUnserved, number_of}
-use Rattle.dirgwako_c.specs.Registries.{scrapes_by, IsHandedOver}
+use Rattle.dirgwako_c.specs.Registries.{IsHandedOver}
 use Rattle.dirgwako_c.proofs.replying.reply_to.Goals as goal
 
 pub returns-in-Ok : goal.returns-in-Ok
 returns-in-Ok g c =
-    let before = c.args.held.now in
+    let before = c.args.source.now in
     let after = c.serve_one-served.new.source in
     let reader = c.serve_one-served.new.reader in
     let bytes = c.serve_one-served.new.writer.inner.items in
@@ -21,9 +21,9 @@ returns-in-Ok g c =
       ended = reader.ended;
       latest = reader.latest;
       served = Ok c.in-Ok.field-0;
-      is_served = λ going. subst (λ (i : Option (List ℕ)). IsServed scrapes_by before after i (Some reader.inner.now) (Some [])
+      is_served = λ going. subst (λ (i : Option (List ℕ)). IsServed g.S.ScrapeFrom.gave before after i (Some reader.inner.now) (Some [])
           (Some bytes) reader.ended reader.latest (Ok c.in-Ok.field-0)) asked
-          (subst (λ (o : Option (List ℕ)). IsServed scrapes_by before after (Some c.new-reader.result.inner.now)
+          (subst (λ (o : Option (List ℕ)). IsServed g.S.ScrapeFrom.gave before after (Some c.new-reader.result.inner.now)
           (Some reader.inner.now) o (Some bytes) reader.ended reader.latest (Ok c.in-Ok.field-0)) empty
           (c.in-Ok.ensures.served going));
       is_unserved = λ failed. subst (λ (o : Option (List ℕ)). IsUnserved before after o (Some bytes)) empty
@@ -35,7 +35,7 @@ returns-in-Ok g c =
 
 pub returns : goal.returns
 returns g c =
-    let before = c.args.held.now in
+    let before = c.args.source.now in
     let after = c.serve_one-served.new.source in
     let reader = c.serve_one-served.new.reader in
     let bytes = c.serve_one-served.new.writer.inner.items in
@@ -49,9 +49,9 @@ returns g c =
       ended = reader.ended;
       latest = reader.latest;
       served = Err c.in-Err.fault;
-      is_served = λ going. subst (λ (i : Option (List ℕ)). IsServed scrapes_by before after i (Some reader.inner.now) (Some [])
+      is_served = λ going. subst (λ (i : Option (List ℕ)). IsServed g.S.ScrapeFrom.gave before after i (Some reader.inner.now) (Some [])
           (Some bytes) reader.ended reader.latest (Err c.in-Err.fault)) asked
-          (subst (λ (o : Option (List ℕ)). IsServed scrapes_by before after (Some c.new-reader.result.inner.now)
+          (subst (λ (o : Option (List ℕ)). IsServed g.S.ScrapeFrom.gave before after (Some c.new-reader.result.inner.now)
           (Some reader.inner.now) o (Some bytes) reader.ended reader.latest (Err c.in-Err.fault)) empty
           (c.in-Err.ensures.served going));
       is_unserved = λ failed. subst (λ (o : Option (List ℕ)). IsUnserved before after o (Some bytes)) empty
