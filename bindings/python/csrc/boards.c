@@ -1,5 +1,6 @@
 /* All calls of the C library are here. A registry and its recorders are either a process's own, or in memory that it shares with those that it forks;
-   what differs are four functions: who begins and ends them, which recorder is this process's, and who else may be in the registry. */
+   what differs are some functions: who begins and ends them, which recorder is this process's, who else may be in the registry, and who scrapes beside
+   it. */
 #include "boards.h"
 
 /* A scrape keeps what it read, and no call here reads an older one. */
@@ -32,14 +33,31 @@ static void leave(boards *it) {
     shared_leave(it->common);
 }
 
+/* By a scraper, which takes no lock: a process that dies, or is stopped, within its scrape holds up no other. Where each one is lost, or another process
+   is within it, nobody scrapes beside the registry. */
+static int scrapes_beside(boards *it, uint8_t *buffer, size_t room, size_t *len, uint32_t *answer) {
+    int at;
+    if (__atomic_load_n(&it->common->is_behind, __ATOMIC_RELAXED) || shared_take_scraper(it->common, &at)) return 0;
+    *answer = dirgwako_scraper_scrape(&it->common->scrapers[at].scraper, (char *)buffer, room, len);
+    shared_leave_scraper(it->common, at);
+    return 1;
+}
+
+/* A child that finds no memory may leave scrapers behind. */
+static void note(boards *it, uint32_t answer) {
+    if (answer == 6) __atomic_store_n(&it->common->is_behind, 1, __ATOMIC_RELAXED);
+}
+
 uint32_t boards_begin(boards *it) {
     dirgwako_abi built;
     uint32_t answer = dirgwako_built_for(&built);
     if (answer || (answer = shared_begin(&it->common))) return answer;
+    common *made = it->common;
     it->place = -1, it->process = shared_process(), it->forks = shared_forks();
-    answer = dirgwako_registry_new(&it->common->registry, WINDOW);
-    for (; !answer && it->common->count < built.workers && it->common->count < MOST_PLACES; it->common->count++)
-        answer = dirgwako_recorder_take(&it->common->registry, &it->common->places[it->common->count].recorder);
+    answer = dirgwako_registry_new_with(&made->registry, WINDOW, SCRAPERS);
+    for (; !answer && made->count < built.workers && made->count < MOST_PLACES; made->count++)
+        answer = dirgwako_recorder_take(&made->registry, &made->places[made->count].recorder);
+    for (int i = 0; i < SCRAPERS && !answer; i++) answer = dirgwako_scraper_take(&made->registry, &made->scrapers[i].scraper);
     return answer;
 }
 
@@ -51,6 +69,7 @@ void boards_end(boards *it) {
         return;
     }
     for (size_t i = 0; i < it->common->count; i++) dirgwako_recorder_free(&it->common->places[i].recorder);
+    for (int i = 0; i < SCRAPERS; i++) dirgwako_scraper_free(&it->common->scrapers[i].scraper);
     dirgwako_registry_free(&it->common->registry);
     shared_end(it->common);
 }
@@ -75,6 +94,15 @@ static uint32_t enter(boards *it) {
 
 static void leave(boards *it) {
     (void)it;
+}
+
+static int scrapes_beside(boards *it, uint8_t *buffer, size_t room, size_t *len, uint32_t *answer) {
+    (void)it, (void)buffer, (void)room, (void)len, (void)answer;
+    return 0;
+}
+
+static void note(boards *it, uint32_t answer) {
+    (void)it, (void)answer;
 }
 
 uint32_t boards_begin(boards *it) {
@@ -133,6 +161,7 @@ uint32_t boards_child(boards *it, enum kind kind, const family *of, const dirgwa
     uint32_t answer = enter(it);
     if (answer) return answer;
     answer = make_child(registry_of(it), kind, of, values, count, made);
+    note(it, answer);
     leave(it);
     return answer;
 }
@@ -169,7 +198,9 @@ uint32_t boards_publish(boards *it, const dirgwako_change *changes, size_t count
 }
 
 uint32_t boards_scrape(boards *it, uint8_t *buffer, size_t room, size_t *len) {
-    uint32_t answer = enter(it);
+    uint32_t answer;
+    if (scrapes_beside(it, buffer, room, len, &answer)) return answer;
+    answer = enter(it);
     if (answer) return answer;
     answer = dirgwako_scrape(registry_of(it), (char *)buffer, room, len);
     leave(it);

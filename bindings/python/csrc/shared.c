@@ -1,4 +1,4 @@
-/* Who of the processes has which recorder, and who is in the registry. */
+/* Who of the processes has which recorder or scraper, and who is in the registry. */
 #define _GNU_SOURCE
 #include "shared.h"
 
@@ -43,7 +43,7 @@ uint32_t shared_begin(common **made) {
     common *it = watch_forks() ? NULL : arena_alloc(sizeof *it);
     if (!it) return NO_MEMORY;
     memset(it, 0, sizeof *it);
-    if (arena_lock_begin(&it->lock)) {
+    if (arena_lock_begin(&it->lock) || arena_lock_begin(&it->owners)) {
         arena_free(it);
         return NO_MEMORY;
     }
@@ -53,6 +53,7 @@ uint32_t shared_begin(common **made) {
 
 void shared_end(common *it) {
     pthread_mutex_destroy(&it->lock);
+    pthread_mutex_destroy(&it->owners);
     arena_free(it);
 }
 
@@ -80,32 +81,67 @@ static uint64_t begun_of(pid_t of) {
 }
 
 /* Who cannot be told to be dead is alive: of one recorder two processes would write at once. So is who was not waited for. */
-static int is_alive(const place *it) {
+static int is_alive(const owner *it) {
     if (!it->process) return 0;
     if (kill(it->process, 0) && errno == ESRCH) return 0;
     uint64_t begun = begun_of(it->process);
     return !begun || begun == it->begun;
 }
 
+/* When this process began, which is read once. */
+static uint64_t begun_here(void) {
+    static owner here;
+    if (here.process != getpid()) here = (owner){getpid(), begun_of(getpid())};
+    return here.begun;
+}
+
+static void own(owner *it) {
+    it->process = 0;
+    it->begun = begun_here();
+    it->process = getpid();
+}
+
+/* A handle within whose call its process died is empty. */
 uint32_t shared_take_place(common *it, int *taken) {
-    uint32_t answer = shared_enter(it);
-    if (answer) return answer;
-    answer = DIRGWAKO_NO_WORKER;
+    uint32_t answer = DIRGWAKO_NO_WORKER;
+    if (arena_lock(&it->owners)) return CONTENDED;
     for (size_t i = 0; i < it->count && answer; i++) {
         place *at = &it->places[i];
-        if (!at->recorder.live || is_alive(at)) continue; /* one within whose call its process died is empty */
-        at->process = 0;
-        at->begun = begun_of(getpid());
-        at->process = getpid();
+        if (!at->recorder.live || is_alive(&at->owner)) continue;
+        own(&at->owner);
         *taken = (int)i;
         answer = DIRGWAKO_OK;
     }
-    shared_leave(it);
+    pthread_mutex_unlock(&it->owners);
     return answer;
 }
 
+/* This process has left the one that is still its own: it could not say so. */
+uint32_t shared_take_scraper(common *it, int *taken) {
+    uint32_t answer = DIRGWAKO_NO_SCRAPER;
+    if (arena_lock(&it->owners)) return CONTENDED;
+    for (size_t i = 0; i < SCRAPERS && answer; i++) {
+        lease *at = &it->scrapers[i];
+        if (!at->scraper.live || (at->owner.process != getpid() && is_alive(&at->owner))) continue;
+        own(&at->owner);
+        *taken = (int)i;
+        answer = DIRGWAKO_OK;
+    }
+    pthread_mutex_unlock(&it->owners);
+    return answer;
+}
+
+/* Who takes it finds this process dead, where it could not say so. */
+static void leave(common *it, owner *left) {
+    if (arena_lock(&it->owners)) return;
+    left->process = 0;
+    pthread_mutex_unlock(&it->owners);
+}
+
 void shared_leave_place(common *it, int at) {
-    if (shared_enter(it)) return; /* who takes a place finds this process dead */
-    it->places[at].process = 0;
-    shared_leave(it);
+    leave(it, &it->places[at].owner);
+}
+
+void shared_leave_scraper(common *it, int at) {
+    leave(it, &it->scrapers[at].owner);
 }

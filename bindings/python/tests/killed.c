@@ -1,6 +1,7 @@
 /* Processes that are killed in the middle of a call, on boards that they share. Compiled with the extension's files for shared boards, which it calls as
    the extension does: killed ROUNDS. Each forked child publishes two changes as one version without rest, and is killed at some time; what is scraped
-   afterwards is whole, and what others count is taken. Then children that scrape are killed, which may leave the registry empty (34), and nothing else. */
+   afterwards is whole, and what others count is taken. Then children that scrape are killed, three of which may leave a scraper empty each, and further
+   ones the registry (34), and nothing else; others scrape as long as a scraper or the registry is left. */
 #define _GNU_SOURCE
 #include "boards.h"
 #include "shared.h"
@@ -13,7 +14,7 @@
 #include <time.h>
 #include <unistd.h>
 
-enum { BATCH = 40, SCRAPES = 5, ROOM = 1 << 16, CONTENDED = 14 };
+enum { BATCH = 40, EACH = 8, SCRAPES = 5, ROOM = 1 << 16, CONTENDED = 14 };
 
 typedef struct server {
     boards boards;
@@ -23,7 +24,7 @@ typedef struct server {
 
 /* What is told of all rounds, by the processes that made them. */
 typedef struct told {
-    long killed, within, lost, scrapes;
+    long killed, within, scrapes;
 } told;
 
 static void fail(const char *what, long long number) {
@@ -114,27 +115,51 @@ static void batch(server *it, told *out, long from) {
     }
 }
 
+/* How many scrapers are left, and not within a call. */
+static long scrapers_left(const server *it) {
+    long count = 0;
+    for (int i = 0; i < SCRAPERS; i++) count += it->boards.common->scrapers[i].scraper.live != 0;
+    return count;
+}
+
+/* A child that scrapes is killed: at most its scraper is lost, and the registry only where none was left. */
+static void kill_a_scraper(server *it, told *out, long at, long long counted) {
+    const long before = scrapers_left(it);
+    kill_one(it, scrape_forever, at);
+    const long after = scrapers_left(it);
+    uint32_t answer = scrape(it);
+    if (before - after > 1 || (!answer) != (it->boards.common->registry.live || after)) fail("what a killed scraper left", answer);
+    if (answer && answer != DIRGWAKO_EMPTY) fail("scrape after a kill of a scraper", answer);
+    if (before && !it->boards.common->registry.live) fail("a registry that was lost beside scrapers", before);
+    if (!answer && number(it, "\ny_total ") != 2 * counted) fail("torn by a killed scraper", number(it, "\ny_total "));
+    out->killed++, out->within += before - after, out->scrapes += !answer;
+}
+
+/* The children are dead, so the boards may be freed. */
+static void end(server *it) {
+    it->boards.forks = shared_forks();
+    boards_end(&it->boards);
+}
+
+/* Some children of each registry, fewer where it is lost. */
 static void batch_of_scrapers(server *it, told *out, long from) {
+    long long counted = 0;
+    begin(it);
     for (long i = 0; i < BATCH; i++) {
-        begin(it);
+        if (counted == EACH || !it->boards.common->registry.live) end(it), begin(it), counted = 0;
         must("count", publish(it));
-        kill_one(it, scrape_forever, from + i);
-        uint32_t answer = scrape(it);
-        out->killed++, out->lost += answer == DIRGWAKO_EMPTY;
-        if (answer && answer != DIRGWAKO_EMPTY) fail("scrape after a kill of a scraper", answer);
-        if (!answer && number(it, "\ny_total ") != 2) fail("torn by a killed scraper", number(it, "\ny_total "));
-        must("count where the registry may be empty", publish(it));
-        it->boards.forks = shared_forks(); /* the child is dead, so the boards may be freed */
-        boards_end(&it->boards);
+        kill_a_scraper(it, out, from + i, ++counted);
     }
+    must("count where the registry may be empty", publish(it));
+    end(it);
 }
 
 /* Each batch in a process of its own, whose memory ends with it: what a killed one held is never freed. */
 static told batches(void (*work)(server *, told *, long), long rounds) {
-    told all = {0, 0, 0, 0};
+    told all = {0, 0, 0};
     for (long from = 0; from < rounds; from += BATCH) {
         int pipes[2], status;
-        told one = {0, 0, 0, 0};
+        told one = {0, 0, 0};
         if (pipe(pipes)) fail("pipe", 0);
         pid_t child = fork();
         if (!child) {
@@ -145,12 +170,12 @@ static told batches(void (*work)(server *, told *, long), long rounds) {
         close(pipes[1]);
         if (read(pipes[0], &one, sizeof one) != sizeof one || waitpid(child, &status, 0) != child || status) exit(1);
         close(pipes[0]);
-        all.killed += one.killed, all.within += one.within, all.lost += one.lost, all.scrapes += one.scrapes;
+        all.killed += one.killed, all.within += one.within, all.scrapes += one.scrapes;
     }
     return all;
 }
 
-/* A process that stays in the registry does not stop the others: they are refused after a second, and count meanwhile. */
+/* A process that stays in the registry does not stop the others: they count and scrape, and are refused after a second where they would register. */
 static void held(void) {
     static server it;
     int pipes[2];
@@ -167,12 +192,15 @@ static void held(void) {
     }
     if (read(pipes[0], &byte, 1) != 1) fail("read", 0);
     must("count where the registry is held", publish(&it));
-    uint32_t answer = scrape(&it);
+    must("scrape where the registry is held", scrape(&it));
+    if (number(&it, "\ny_total ") != 4) fail("torn", number(&it, "\ny_total "));
+    size_t boards;
+    uint32_t answer = boards_count(&it.boards, &boards);
     kill(child, SIGKILL);
     waitpid(child, NULL, 0);
     if (answer != CONTENDED) fail("a registry that is held", answer);
-    must("scrape when its holder is dead", scrape(&it));
-    if (number(&it, "\ny_total ") != 4) fail("torn", number(&it, "\ny_total "));
+    must("when its holder is dead", boards_count(&it.boards, &boards));
+    must("scrape", scrape(&it));
 }
 
 int main(int count, char **words) {
@@ -180,7 +208,8 @@ int main(int count, char **words) {
     told counters = batches(batch, rounds);
     told scrapers = batches(batch_of_scrapers, rounds / 10);
     held();
-    printf("%ld killed while they counted, %ld of them within a call: %ld scrapes, none torn; %ld killed while they scraped, %ld of which left no registry\n",
-           counters.killed, counters.within, counters.scrapes, scrapers.killed, scrapers.lost);
-    return counters.killed < rounds || !counters.within;
+    printf("%ld killed while they counted, %ld of them within a call: %ld scrapes, none torn; %ld killed while they scraped, %ld of which lost a scraper, and "
+           "%ld scrapes behind them\n",
+           counters.killed, counters.within, counters.scrapes, scrapers.killed, scrapers.within, scrapers.scrapes);
+    return counters.killed < rounds || !counters.within || !scrapers.within;
 }

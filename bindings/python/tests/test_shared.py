@@ -139,6 +139,26 @@ class Shared(unittest.TestCase):
         self.assertGreater(scrapes, 50)
         self.assertGreater(now["c7_total",], 1000)
 
+    def test_scrapes_beside(self):
+        """Several processes scrape at once, whichever of them is stopped or killed within a scrape, and see what came since."""
+        c = shared.Counter("c", "C.", ["k"], registry=self.registry)
+        c.labels("x").inc()
+
+        def scrapes():
+            while True:
+                assert self.value("c_total", k="x") >= 1
+
+        for n in range(3):
+            child = self.fork(scrapes)
+            time.sleep(0.05)
+            os.kill(child, signal.SIGKILL if n else signal.SIGSTOP)
+            if n:
+                os.waitpid(child, 0)
+                self.children.remove(child)
+            c.labels(str(n)).inc(n)
+            c.labels("x").inc()
+            self.assertEqual((self.value("c_total", k="x"), self.value("c_total", k=str(n))), (n + 2, n))
+
     def test_too_many(self):
         """The process for which no recorder is left is refused, and says so; when another one ends, its recorder goes to the next."""
         c = shared.Counter("c", "C.", registry=self.registry)
