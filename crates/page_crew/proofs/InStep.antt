@@ -34,16 +34,16 @@ module _ {N C H G : ℕ} where
     refused_after values why (inl (fault, other, did)) = inl (fault, other, did_after old mid new same (λ a b. LeavesPage C H G a b number why) did)
     refused_after values why (inr (kind, full, further)) = inr (kind, full, further_after kind why further)
 
-    boards_after : news_of new ≡ news_of mid → HasToldBoards old mid → HasToldBoards old new
+    boards_after : news_of new ≡ news_of mid → HasToldBoards old mid number → HasToldBoards old new number
     boards_after news (inl none) =
         inl (ap (λ (p : PageView (SharedScanner N C H G)). length p.boards) same.1 ∙ none.0, news ∙ none.1)
     boards_after news (inr (far, grew, many, none)) =
-        inr (far, grew, ap (λ (p : PageView (SharedScanner N C H G)). length p.boards) same.1 ∙ many, news ∙ none)
+        inr (far, grew, did_after far mid new same (λ a b. LeavesPage C H G a b number NoMemory) many, news ∙ none)
 
     -- the family had so many parts before
     pub in_step : (before : ℕ) → before ≡ parts_in (page_of old) number
         → (parts_in (page_of mid) number ≡ before → news_of new ≡ news_of mid) → (parts_in (page_of mid) number ≢ before → news_of new ≡ [])
-        → HasToldBoards old mid → HasToldRefused old new number
+        → HasToldBoards old mid number → HasToldRefused old new number
     in_step before had still gone told =
         let is : parts_in (page_of new) number ≡ parts_in (page_of mid) number =
         ap (λ (p : PageView (SharedScanner N C H G)). parts_in p number) same.1 in

@@ -13,7 +13,7 @@ pub shows_moments : {N C H G : ℕ} (old new : PageCrew N C H G) (r : Result Scr
 shows_moments old new (Ok whole) did page boards = ∣ record {
   before = page_of old;
   after = page_of new;
-  shows = did.1;
+  shows = did.0.1;
   kept = record { page_is = page; boards = boards };
 } ∣₁
 shows_moments old new (Err why) did page boards = tt

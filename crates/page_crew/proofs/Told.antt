@@ -9,6 +9,7 @@ use Rattle.rtrb.specs.Ring.{known_free}
 use Rattle.scrape_page.specs.Calls.{IsGivenOnPage, LeavesPage, AddsChild, WasFound, WasMadeThere, WasMadeFurther}
 use Rattle.scrape_page.specs.Families.{PageFamily, PageView}
 use Rattle.scrape_page.specs.declared.fault.PageChildFault.{PageChildFault}
+use Rattle.scrape_page.specs.declared.fault.PageChildFault.TheVariants.{NoSuchFamily, LabelCount, TooManyChildren, Full, NoMemory}
 use Rattle.page_crew.specs.News.{NewsRing, AreReady, AreTold, IsBoardNews}
 use Rattle.page_crew.specs.Owned.{page_of, first_of, IsUnchanged, PageDid}
 use Rattle.page_crew.specs.Rings.{AreGiven}
@@ -106,6 +107,15 @@ found_still c h g number values handle a (inr (inr further)) =
     absurd (let more = more_further c h g number values handle a a further took.family.children took.family.children has has in
     omega (arith, more))
 
+-- what a refusal leaves, memory may leave
+may_leave : {S : Type 0} (c h g : ℕ) (a b : PageView S) (number : ℕ) (why : PageChildFault) → LeavesPage c h g a b number why
+    → LeavesPage c h g a b number NoMemory
+may_leave c h g a b number NoSuchFamily same = inl same
+may_leave c h g a b number (LabelCount want got) same = inl same
+may_leave c h g a b number TooManyChildren same = inl same
+may_leave c h g a b number (Full kind) same = inl same
+may_leave c h g a b number NoMemory left = left
+
 module _ {N C H G : ℕ} where
   -- the child was there, and nobody was told
   pub told_there : (crew : PageCrew N C H G) (number : ℕ) (values : List (List ℕ)) (r : Result Handle PageChildFault)
@@ -157,10 +167,10 @@ module _ {N C H G : ℕ} where
     told_further (Err why) told = tt
 
     pub untold_further : (r : Result Handle PageChildFault) → OnErr r (news_of new ≡ news_of mid)
-        → IfErr r (λ why. PageDid mid new (λ a b. LeavesPage C H G a b number why)) → OnErr r (HasToldBoards old new)
+        → IfErr r (λ why. PageDid mid new (λ a b. LeavesPage C H G a b number why)) → OnErr r (HasToldBoards old new number)
     untold_further (Ok handle) news leaves = tt
     untold_further (Err why) news leaves =
-        inr (mid, grew, (child_keeps C H G (page_of mid) (page_of new) number values (Err why) tt leaves.1).many, news)
+        inr (mid, grew, (leaves.0, may_leave C H G (page_of mid) (page_of new) number why leaves.1, leaves.2), news)
 
   module _ (old new : PageCrew N C H G) (number : ℕ) (values : List (List ℕ)) where
     -- the page alone was asked
@@ -170,7 +180,7 @@ module _ {N C H G : ℕ} where
     told_once (Err why) told = tt
 
     pub untold_once : (r : Result Handle PageChildFault) → OnErr r (news_of new ≡ news_of old)
-        → IfErr r (λ why. PageDid old new (λ a b. LeavesPage C H G a b number why)) → OnErr r (HasToldBoards old new)
+        → IfErr r (λ why. PageDid old new (λ a b. LeavesPage C H G a b number why)) → OnErr r (HasToldBoards old new number)
     untold_once (Ok handle) news leaves = tt
     untold_once (Err why) news leaves =
         inl ((child_keeps C H G (page_of old) (page_of new) number values (Err why) tt leaves.1).many, news)
@@ -183,7 +193,7 @@ module _ {N C H G : ℕ} where
     told_then (Ok handle) (far, grew, told) = inr (far, grew_from old mid far same news grew, told)
     told_then (Err why) told = tt
 
-    pub untold_then : (r : Result Handle PageChildFault) → OnErr r (HasToldBoards mid new) → OnErr r (HasToldBoards old new)
+    pub untold_then : (r : Result Handle PageChildFault) → OnErr r (HasToldBoards mid new number) → OnErr r (HasToldBoards old new number)
     untold_then (Ok handle) told = tt
     untold_then (Err why) (inl none) =
         inl (none.0 ∙ ap (λ (p : PageView (SharedScanner N C H G)). length p.boards) same.1, none.1 ∙ news)

@@ -4,7 +4,7 @@ use Rattle.std.specs.declared.alloc.Global.{Global}
 use Rattle.expo_text.specs.Scraped.{Scraped}
 use Rattle.register_rule.specs.declared.board.Board.{Board}
 use Rattle.registry_state.specs.Kept.{RegistryView}
-use Rattle.rtrb.specs.Ring.{sent, received, known_items, IsPair, SameConsumer}
+use Rattle.rtrb.specs.Ring.{sent, received, known_items, known_free, IsPair, SameConsumer}
 use Rattle.scrape_http.specs.declared.source.NoScrape.{NoScrape}
 use Rattle.scrape_http.specs.declared.source.NoScrape.TheVariants.{NoMemory}
 use Rattle.scrape_page.specs.Scraping.{PageScrapes}
@@ -71,11 +71,13 @@ module _ {N C H G : ℕ} where
   AreTuned rings scrapers = (k : ℕ) (p : NewsRing N C H G) (s : PageScraper N C H G) → slice_get rings k ≡ Some p
       → slice_get scrapers k ≡ Some s → IsPair p (news_in s)
 
-  -- so many rings to which nothing was given, and a scraper for each, with a page of a registry of its own over this board, of this id
+  -- So many rings to which nothing was given, each with room for all that a page can ever tell, 95 boards, 128 families and 256 children of each; and a
+  -- scraper for each, with a page of a registry of its own over this board, of this id
   pub record AreScrapers (many : ℕ) (board : Board N C H G) (id : ℕ) (rings : List (NewsRing N C H G))
       (scrapers : List (PageScraper N C H G)) : Type 0 where
     pub rings_many : length rings ≡ many
     pub scrapers_many : length scrapers ≡ many
     pub untold : All (λ (p : NewsRing N C H G). sent p ≡ []) rings
+    pub room : All (λ (p : NewsRing N C H G). known_free p ≡ 32991) rings
     pub begin : All (BeginsOn board id) scrapers
     pub pairs : AreTuned rings scrapers

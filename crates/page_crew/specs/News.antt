@@ -119,8 +119,10 @@ module _ {N C H G : ℕ} where
   AreDone [] a b = b ≡ a
   AreDone (news ∷ rest) a c = (b : ScraperView N C H G) × IsDone news a b × AreDone rest b c
 
-  -- it was begun, and there was no memory: nothing has changed, but that a family may have taken a part for its child, without it
+  -- it was begun, and there was no memory, where the page would have taken it: nothing has changed, but that a family may have taken a part for its
+  -- child, without it
   abbrev pub IsBegun : PageNews N C H G → (a b : ScraperView N C H G) → Type 0
-  IsBegun (Tells.Board registry) a b = b ≡ a
-  IsBegun (Tells.Family desc group) a b = b ≡ a
-  IsBegun (Tells.Child family values) a b = LeavesPage C H G a b family.number OfChild.NoMemory
+  IsBegun (Tells.Board registry) a b = IsBoardFault a.boards registry OfBoard.NoMemory × (b ≡ a)
+  IsBegun (Tells.Family desc group) a b = IsPageFamilyFault a.families desc OfFamily.NoMemory × (b ≡ a)
+  IsBegun (Tells.Child family values) a b = IsPageChildFault C H G a family.number values.items OfChild.NoMemory
+      × LeavesPage C H G a b family.number OfChild.NoMemory

@@ -112,6 +112,7 @@ module _ {N C H G : ℕ} where
         × PageDid old new (λ a b. LeavesPage C H G a b number why))
         ⊎ ((kind : Kind) × IsPageChildFault C H G (page_of old) number values (Full kind) × IsRefusedFurther kind why)
 
-  -- what one scrape does, and answers: that of the page, and nothing else has changed
+  -- what one scrape does, and answers: that of the page, nothing else has changed, and no scraper was told anything
   abbrev pub ScrapesByCrew : (old new : PageCrew N C H G) → Result Scraped NoScrape → Type 0
   ScrapesByCrew old new result = PageDid old new (λ a b. PageScrapes N C H G recorded_in quit_in gave_in gave_up_in a b result)
+      × (new.news.items ≡ old.news.items)

@@ -4,11 +4,12 @@ use Rattle.std.specs.Arc.{arc_value}
 use Rattle.metric_desc.specs.Desc.{Descriptor}
 use Rattle.registry_state.specs.Kept.{RegistryView}
 use Rattle.registry_state.specs.declared.handle.Handle.{Handle}
-use Rattle.scrape_page.specs.Calls.{WasFound, WasMadeThere, WasMadeFurther}
+use Rattle.scrape_page.specs.Calls.{WasFound, WasMadeThere, WasMadeFurther, LeavesPage}
+use Rattle.scrape_page.specs.declared.fault.PageChildFault.TheVariants.{NoMemory}
 use Rattle.scrape_page.specs.Families.{PageFamily, PageView}
 use Rattle.page_crew.specs.Following.{AreScrapers}
 use Rattle.page_crew.specs.News.{NewsRing, AreTold, IsBoardNews, IsFamilyNews, IsChildNews}
-use Rattle.page_crew.specs.Owned.{page_of, first_of, IsGrown}
+use Rattle.page_crew.specs.Owned.{page_of, first_of, IsGrown, PageDid}
 use Rattle.page_crew.specs.declared.owner.PageCrew.{PageCrew}
 use Rattle.page_crew.specs.declared.page_scraper.PageScraper.{PageScraper}
 use Rattle.page_crew.specs.declared.shared_scanner.SharedScanner.{SharedScanner}
@@ -60,16 +61,17 @@ module _ {N C H G : ℕ} where
   HasToldGiven old new number values handle =
       HasToldChild old new number values handle ⊎ HasToldFurther old new number values handle
 
-  -- no scraper was told anything; or a board came, of which each was told, and of nothing else
-  abbrev pub HasToldBoards : (old new : PageCrew N C H G) → Type 0
-  HasToldBoards old new = ((length (page_of new).boards ≡ length (page_of old).boards) × (news_of new ≡ news_of old))
-      ⊎ ((mid : PageCrew N C H G) × GrewAndTold old mid × (length (page_of new).boards ≡ length (page_of mid).boards)
+  -- Where a child of the family of this number was refused: no board came, and no scraper was told anything; or one came for it, of which each was
+  -- told, and of nothing else
+  abbrev pub HasToldBoards : (old new : PageCrew N C H G) → (number : ℕ) → Type 0
+  HasToldBoards old new number = ((length (page_of new).boards ≡ length (page_of old).boards) × (news_of new ≡ news_of old))
+      ⊎ ((mid : PageCrew N C H G) × GrewAndTold old mid × PageDid mid new (λ a b. LeavesPage C H G a b number NoMemory)
       × (news_of new ≡ news_of mid))
 
   -- Where a child was refused: the family has as many parts as it had, and no scraper was told anything, but of a board that came. Or it took a part
   -- for the child, of which no scraper hears, and no scraper is told anything from now on
   abbrev pub HasToldRefused : (old new : PageCrew N C H G) → (number : ℕ) → Type 0
-  HasToldRefused old new number = ((parts_in (page_of new) number ≡ parts_in (page_of old) number) × HasToldBoards old new)
+  HasToldRefused old new number = ((parts_in (page_of new) number ≡ parts_in (page_of old) number) × HasToldBoards old new number)
       ⊎ ((parts_in (page_of new) number ≢ parts_in (page_of old) number) × (news_of new ≡ []))
 
   -- so many scrapers, each with the other end of a ring of the owner's, which has told them nothing, and with a page of a registry of its own over

@@ -111,7 +111,7 @@ impl<const N: usize, const C: usize, const H: usize, const G: usize> PageCrew<N,
         ensures inside { IfOk result (IsInside C H G) }
         ensures fault { IfErr result (IsRefusedFurther self.old self.new family.number kind) }
         ensures told { IfOk result (HasToldFurther self.old self.new family.number values.now) }
-        ensures untold { OnErr result (HasToldBoards self.old self.new) }
+        ensures untold { OnErr result (HasToldBoards self.old self.new family.number) }
     {
         if slots_of::<C, H, G>(kind) == 0 {
             return Err(PageChildFault::Full { kind });
@@ -134,7 +134,7 @@ impl<const N: usize, const C: usize, const H: usize, const G: usize> PageCrew<N,
         ensures inside { IfOk result (IsInside C H G) }
         ensures fault { IfErr result (IsRefusedByCrew self.old self.new family.number values.now) }
         ensures told { IfOk result (HasToldGiven self.old self.new family.number values.now) }
-        ensures untold { OnErr result (HasToldBoards self.old self.new) }
+        ensures untold { OnErr result (HasToldBoards self.old self.new family.number) }
     {
         match self.ask(family, values) {
             Err(PageChildFault::Full { kind }) => self.ask_further(family, values, kind),
@@ -170,8 +170,8 @@ impl<const N: usize, const C: usize, const H: usize, const G: usize> PageCrew<N,
     /// # Errors
     ///
     /// 20, 21, 46 and 6 as [`Page::child`]; 22 [`PageChildFault::Full`] only where 96 boards are there, or a board has no slot of the kind at
-    /// all. After 6 there may be one board more, on which nothing is counted, and a part of the family there, which no text shows. No scraper is told
-    /// anything after such a part: each shows what was registered before.
+    /// all. After 6 there may be one board more, on which nothing is counted, and a part of the family on a further board, which no text shows. No
+    /// scraper is told anything after such a part ([`PageCrew::scrapers`] is 0 then): of boards, families and children each shows what it was told.
     pub fn child(
         &mut self,
         family: PageFamilyId,

@@ -17,7 +17,7 @@ fn do_board<const N: usize, const C: usize, const H: usize, const G: usize>(
 ) -> Result<(), PageNews<N, C, H, G>>
     ensures done { OnOk result (TakesBoard board.entry page.old page.new) }
     ensures back { IfErr result (λ news. news ≡ Board board.entry) }
-    ensures unchanged { OnErr result (page.new ≡ page.old) }
+    ensures begun { OnErr result (IsBegun (Board board.entry) page.old page.new) }
 {
     match page.add_board(board) {
         Ok(_) => Ok(()),
@@ -36,10 +36,14 @@ fn do_family<const N: usize, const C: usize, const H: usize, const G: usize>(
 ) -> Result<(), PageNews<N, C, H, G>>
     ensures done { OnOk result (TakesFamily desc group page.old page.new) }
     ensures back { IfErr result (λ news. news ≡ Family desc group) }
-    ensures unchanged { OnErr result (page.new ≡ page.old) }
+    ensures begun { OnErr result (IsBegun (Family desc group) page.old page.new) }
 {
     let Ok(copy) = desc.copy() else {
-        return Err(PageNews::Family { desc, group });
+        return match page.family_refusal(&desc) {
+            PageFamilyFault::NoMemory => Err(PageNews::Family { desc, group }),
+            PageFamilyFault::Clash { with: _ } => Ok(()),
+            PageFamilyFault::TooManyFamilies => Ok(()),
+        };
     };
     match page.register(copy, group) {
         Ok(_) => Ok(()),

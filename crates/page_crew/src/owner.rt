@@ -84,7 +84,7 @@ impl<const N: usize, const C: usize, const H: usize, const G: usize> PageCrew<N,
     }
 
     /// The same with so many scrapers, 0 to 3: each has a page of its own, over a reader of each board that nobody else has. Each scrape of theirs
-    /// shows what is registered by then.
+    /// shows what they are told by then: all that is registered, while [`PageCrew::scrapers`] is as many.
     ///
     /// # Errors
     ///
@@ -164,6 +164,14 @@ impl<const N: usize, const C: usize, const H: usize, const G: usize> PageCrew<N,
         ensures { result ≡ first_of self.now }
     {
         self.first
+    }
+
+    /// How many scrapers are told what comes: as many as were made with it; but none any more after a family took a part on a further board for a child
+    /// that found no memory (6).
+    pub fn scrapers(&self) -> usize
+        ensures { result ≡ length (news_of self.now) }
+    {
+        self.news.len()
     }
 
     /// The page, which gets no further board then.

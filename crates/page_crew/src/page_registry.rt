@@ -142,8 +142,8 @@ impl<const N: usize, const C: usize, const H: usize, const G: usize> PageRegistr
     ///
     /// 20 [`PageChildFault::NoSuchFamily`]; 21 [`PageChildFault::LabelCount`]; then, of a child that is not there, 46
     /// [`PageChildFault::TooManyChildren`], 22 [`PageChildFault::Full`] only where 96 boards are there or a board has no slot of the kind, and 6
-    /// [`PageChildFault::NoMemory`]. After 6 there may be one board more, on which nothing is counted, and a part of the family there, which no
-    /// text shows; else nothing has changed.
+    /// [`PageChildFault::NoMemory`]. After 6 there may be one board more, on which nothing is counted, and a part of the family on a further
+    /// board, which no text shows; else nothing has changed.
     pub fn child<R: Wait>(
         &self,
         rt: &R,

@@ -58,7 +58,7 @@ impl<const N: usize, const C: usize, const H: usize, const G: usize> PageScraper
         }
     }
 
-    /// Its page, as of the last call that caught up.
+    /// Its page, as the last call that caught up, or began to, has left it.
     pub fn page(&self) -> &Page<SharedScanner<N, C, H, G>, N, C, H, G>
         ensures { result.now ≡ page_in self.now }
     {

@@ -5,7 +5,7 @@ use Rattle.std.proofs.lemmas.List.Elements.{All-nil}
 use Rattle.std.proofs.lemmas.Option.{none-some}
 use Rattle.registry_state.specs.Kept.{RegistryView}
 use Rattle.registry_state.specs.Replay.{nothing}
-use Rattle.rtrb.specs.Ring.{sent, received, IsPair}
+use Rattle.rtrb.specs.Ring.{sent, received, known_free, IsPair}
 use Rattle.page_crew.specs.News.{NewsRing, NewsFeed, IsOver}
 use Rattle.page_crew.specs.Following.{news_in, BeginsOn, AreTuned}
 use Rattle.page_crew.specs.declared.page_scraper.PageScraper.{PageScraper}
@@ -28,6 +28,8 @@ loop-board-init g c =
       fresh = subst (λ (l : List V). All (λ (registry : V). registry.state ≡ nothing) l) (sym same) c.requires;
       untold = subst (λ (l : List (NewsRing g.row.N g.row.C g.row.H g.row.G)). All (λ p. sent p ≡ []) l) (sym rings)
           (All-nil (λ (p : NewsRing g.row.N g.row.C g.row.H g.row.G). sent p ≡ []));
+      room = subst (λ (l : List (NewsRing g.row.N g.row.C g.row.H g.row.G)). All (λ p. known_free p ≡ 32991) l) (sym rings)
+          (All-nil (λ (p : NewsRing g.row.N g.row.C g.row.H g.row.G). known_free p ≡ 32991));
       over = λ board id all. subst (λ (l : List V). All (IsOver board id) l) (sym same) all;
       begin = λ board id all. subst (λ (l : List (PageScraper g.row.N g.row.C g.row.H g.row.G)). All (BeginsOn board id) l) (sym scrapers)
           (All-nil (BeginsOn board id));
@@ -62,6 +64,7 @@ loop-board-preserved g c =
           ∙ sym (ap length scrapers_is ∙ length_push scrapers scraper);
       fresh = (next_all (λ (registry : V). registry.state ≡ nothing) before rest c.in-Some.board step inv.fresh).1;
       untold = all_more (λ (p : R). sent p ≡ []) rings c.push.new.self.items ring rings_is inv.untold c.in_ok-ring.ensures.producer.0;
+      room = all_more (λ (p : R). known_free p ≡ 32991) rings c.push.new.self.items ring rings_is inv.room c.in_ok-ring.ensures.producer.1;
       over = λ board id all. (next_all (IsOver board id) before rest c.in-Some.board step (inv.over board id all)).1;
       begin = λ board id all. all_more (BeginsOn board id) scrapers c.push-in-loop-board.new.self.items scraper scrapers_is
           (inv.begin board id all) (record {
@@ -86,6 +89,7 @@ returns g c = λ board id all.
       rings_many = omega (arith, none, left);
       scrapers_many = omega (arith, none, left, many);
       untold = inv.untold;
+      room = inv.room;
       begin = inv.begin board id all;
       pairs = inv.pairs;
     }

@@ -3,7 +3,7 @@ use Rattle.std.specs.Vec.Iter.{into_iter_items}
 use Rattle.register_rule.specs.declared.board.Board.{Board}
 use Rattle.registry_state.specs.Kept.{RegistryView}
 use Rattle.registry_state.specs.Replay.{nothing}
-use Rattle.rtrb.specs.Ring.{sent}
+use Rattle.rtrb.specs.Ring.{sent, known_free}
 use Rattle.page_crew.specs.News.{NewsRing, IsOver}
 use Rattle.page_crew.specs.Following.{BeginsOn, AreTuned}
 use Rattle.page_crew.specs.declared.page_scraper.PageScraper.{PageScraper}
@@ -16,6 +16,7 @@ pub record AreAppointing {N C H G : ℕ} (boards rest : List (RegistryView (Shar
   pub many : length rings ≡ length scrapers
   pub fresh : All (λ (registry : RegistryView (SharedScanner N C H G)). registry.state ≡ nothing) rest
   pub untold : All (λ (p : NewsRing N C H G). sent p ≡ []) rings
+  pub room : All (λ (p : NewsRing N C H G). known_free p ≡ 32991) rings
   pub over : (board : Board N C H G) (id : ℕ) → All (IsOver board id) boards → All (IsOver board id) rest
   pub begin : (board : Board N C H G) (id : ℕ) → All (IsOver board id) boards → All (BeginsOn board id) scrapers
   pub pairs : AreTuned rings scrapers
