@@ -175,6 +175,7 @@ uint32_t dirgwako_c_recorder_give_back(dirgwako_registry *registry, dirgwako_rec
 uint32_t dirgwako_c_recorder_free(dirgwako_recorder *recorder);
 uint32_t dirgwako_c_scraper_take(dirgwako_registry *registry, dirgwako_scraper *scraper);
 uint32_t dirgwako_c_scraper_free(dirgwako_scraper *scraper);
+uint32_t dirgwako_c_scrapers(dirgwako_registry *registry, size_t *count);
 uint32_t dirgwako_c_counter_new(dirgwako_registry *registry, const uint8_t *name, size_t name_len, const uint8_t *help, size_t help_len,
                                 dirgwako_counter *counter);
 uint32_t dirgwako_c_gauge_new(dirgwako_registry *registry, const uint8_t *name, size_t name_len, const uint8_t *help, size_t help_len,
@@ -266,6 +267,12 @@ static inline uint32_t dirgwako_scraper_take(dirgwako_registry *registry, dirgwa
 /* Frees a scraper, which nobody takes again. 34. */
 static inline uint32_t dirgwako_scraper_free(dirgwako_scraper *scraper) {
     return scraper ? dirgwako_c_scraper_free(scraper) : (uint32_t)DIRGWAKO_NULL;
+}
+
+/* How many scrapers, taken or not, are told what comes: all that the registry was made with. But none any more after a child was refused for want of
+   memory (6, 48) that had found no slot on the boards of its family: each shows what was registered before. 34. */
+static inline uint32_t dirgwako_scrapers(dirgwako_registry *registry, size_t *count) {
+    return registry && count ? dirgwako_c_scrapers(registry, count) : (uint32_t)DIRGWAKO_NULL;
 }
 
 /* A counter without labels, in the group 0. 34; 36; 1, 2, 3, 5, the name or the help is none; 19, a name clashes with another family's; 23, there are
@@ -537,8 +544,8 @@ static inline uint32_t dirgwako_reply(dirgwako_registry *registry, const char *r
     return dirgwako_c_reply(registry, request ? (const uint8_t *)request : &none, request_len, buffer ? (uint8_t *)buffer : &none, room, len);
 }
 
-/* The text of a scrape by a scraper, as dirgwako_scrape, while other threads register, scrape and count. It keeps that scrape alone. After a child was
-   refused for want of memory (6, 48) scrapers may be told nothing any more: then they show what was registered before. 34; 14; 6; 37. */
+/* The text of a scrape by a scraper, as dirgwako_scrape, while other threads register, scrape and count. It keeps that scrape alone. 34; 14; 6;
+   37. */
 static inline uint32_t dirgwako_scraper_scrape(dirgwako_scraper *scraper, char *buffer, size_t room, size_t *len) {
     static uint8_t none;
     if (!scraper || !len || (!buffer && room)) return DIRGWAKO_NULL;

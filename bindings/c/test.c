@@ -50,6 +50,7 @@ static void nulls(void) {
     is("new with", dirgwako_registry_new_with(NULL, 1, 1), DIRGWAKO_NULL);
     is("take a scraper", dirgwako_scraper_take(&registry, NULL), DIRGWAKO_NULL);
     is("free a scraper", dirgwako_scraper_free(NULL), DIRGWAKO_NULL);
+    is("scrapers", dirgwako_scrapers(&registry, NULL), DIRGWAKO_NULL);
     is("scraper", dirgwako_scraper_scrape(NULL, text, sizeof text, &len), DIRGWAKO_NULL);
     is("its reply", dirgwako_scraper_reply(NULL, "GET", 3, text, sizeof text, &len), DIRGWAKO_NULL);
     is("reply", dirgwako_reply(&registry, NULL, 1, text, sizeof text, &len), DIRGWAKO_NULL);
@@ -95,6 +96,7 @@ static void empties(void) {
     is("reply", dirgwako_reply(&registry, "GET", 3, text, sizeof text, &len), DIRGWAKO_EMPTY);
     is("scrape", dirgwako_scrape(&registry, text, sizeof text, &len), DIRGWAKO_EMPTY);
     is("take a scraper", dirgwako_scraper_take(&registry, &scraper), DIRGWAKO_EMPTY);
+    is("scrapers", dirgwako_scrapers(&registry, &len), DIRGWAKO_EMPTY);
     is("scraper", dirgwako_scraper_scrape(&scraper, text, sizeof text, &len), DIRGWAKO_EMPTY);
     is("its reply", dirgwako_scraper_reply(&scraper, "GET", 3, text, sizeof text, &len), DIRGWAKO_EMPTY);
     is("kept", dirgwako_kept(&registry, 0, &len), DIRGWAKO_EMPTY);

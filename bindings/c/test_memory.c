@@ -240,7 +240,7 @@ static void alone(void) {
 
 /* A family took its part of a further board, and there was no memory for its child: scrapers are told nothing any more. */
 static void out_of_step(void) {
-    size_t len = 0, now = 0;
+    size_t len = 0, now = 0, told_now = 9;
     is("registry", new_with(), 0);
     is("take", dirgwako_scraper_take(&registry, &scraper), 0);
     is("gauges", new_gauges(), 0);
@@ -251,6 +251,8 @@ static void out_of_step(void) {
     is("a gauge on a further board", refuse("a gauge on a further board", further, 0) > 2, 1);
     is("the registry has it", scraped(&registry, "gauges{code=\"further\",route=\"\"}"), 0);
     is("scrape", dirgwako_scraper_scrape(&scraper, reply, sizeof reply, &now), 0);
+    is("how many are told", dirgwako_scrapers(&registry, &told_now), 0);
+    is("none", (long long)told_now, 0);
     is("what was registered before", now == len && !memcmp(shown, reply, len), 1);
     is("free", dirgwako_scraper_free(&scraper), 0);
     is("free", dirgwako_registry_free(&registry), 0);

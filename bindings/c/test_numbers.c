@@ -163,7 +163,7 @@ static void words(void) {
         is("there are words", dirgwako_c_refusal(i, (uint8_t *)buffer, sizeof buffer, &len), 0);
         is("they are whole", strlen(dirgwako_refusal(i, buffer, sizeof buffer)) == len && len >= 4, 1);
     }
-    is("no such", dirgwako_c_refusal(DIRGWAKO_NO_CHILD + 1, short_one, sizeof short_one, &len), DIRGWAKO_NO_SUCH);
+    is("no such", dirgwako_c_refusal(DIRGWAKO_NO_SCRAPER + 1, short_one, sizeof short_one, &len), DIRGWAKO_NO_SUCH);
     is("too short", dirgwako_c_refusal(6, short_one, sizeof short_one, &len), DIRGWAKO_TOO_SHORT);
     is("it needs", (long long)len, 13);
     is("it is as it was", short_one[0], 0);

@@ -42,6 +42,7 @@ static void told_all(void) {
     dirgwako_histogram waits;
     const uint64_t bounds[2] = {10, 20};
     char number_of[24];
+    size_t number_told = 0;
     const char *const one[1] = {"route"}, *const value[1] = {number_of};
     agrees("nothing is there", &scrapers[0]);
     is("the text of nothing", (long long)strlen(own), 0);
@@ -58,6 +59,8 @@ static void told_all(void) {
         is("a gauge", dirgwako_gauge_of(&registry, &gauges, value, 1, &gauge), 0);
         is("up", dirgwako_up(&recorder, &gauge, i), 0);
     }
+    is("how many are told", dirgwako_scrapers(&registry, &number_told), 0);
+    is("all", (long long)number_told, SCRAPERS);
     agrees("a further board", &scrapers[0]);
     agrees("all at once", &scrapers[1]);
     is("found again", dirgwako_gauge_of(&registry, &gauges, value, 1, &gauge), 0);

@@ -43,9 +43,10 @@ static int scrapes_beside(boards *it, uint8_t *buffer, size_t room, size_t *len,
     return 1;
 }
 
-/* A child that finds no memory may leave scrapers behind. */
+/* Whether a child that found no memory has left scrapers behind. */
 static void note(boards *it, uint32_t answer) {
-    if (answer == 6) __atomic_store_n(&it->common->is_behind, 1, __ATOMIC_RELAXED);
+    size_t count = 0;
+    if (answer == 6 && !dirgwako_scrapers(registry_of(it), &count) && !count) __atomic_store_n(&it->common->is_behind, 1, __ATOMIC_RELAXED);
 }
 
 uint32_t boards_begin(boards *it) {

@@ -34,7 +34,7 @@ typedef struct common {
     size_t count;
     place places[MOST_PLACES];
     lease scrapers[SCRAPERS];
-    int is_behind; /* whether scrapers may be told nothing any more */
+    int is_behind; /* whether scrapers are told nothing any more */
 } common;
 
 /* Each answers 0 or a refusal: 6, the memory is used up; 14, another process has been in the registry for a second. */

@@ -2,7 +2,7 @@
 use Rattle.std.specs.Prelude.{◌≡◌, ◌≢◌, ◌⊎◌, ℕ, length, slice_get, IsSomeAnd, All}
 use Rattle.page_crew.specs.Opened.{IsNoBoard, no_board_number}
 use Rattle.page_crew.specs.Owned.{IsGrown, IsUnchanged}
-use Rattle.page_crew.specs.Told.{HasToldBoard}
+use Rattle.page_crew.specs.Told.{news_of, HasToldBoard}
 use Rattle.page_crew.specs.declared.fault.NoBoard.{NoBoard}
 use Rattle.dirgwako_c.specs.Numbers.{Board}
 use Rattle.dirgwako_c.specs.Registries.{owner_in, page_in, SparesStay, TellsNobody}
@@ -20,6 +20,10 @@ module _ {N C H G : ℕ} where
   -- what is held is as it was, and so many boards were told
   abbrev pub TellsBoards : (answer : ℕ) → (before after : HeldRegistry N C H G) → (has : ℕ) → Type 0
   TellsBoards answer before after has = (after ≡ before) × (answer ≡ 0) × (has ≡ length (page_in before).boards)
+
+  -- what is held is as it was, and it was told how many scrapers are told what comes
+  abbrev pub TellsScrapers : (answer : ℕ) → (before after : HeldRegistry N C H G) → (has : ℕ) → Type 0
+  TellsScrapers answer before after has = (after ≡ before) × (answer ≡ 0) × (has ≡ length (news_of (owner_in before)))
 
   -- what is held is as it was, and the number of the board of this id was told; or no board of the page has it (16)
   abbrev pub TellsBoard : (id answer : ℕ) → (before after : HeldRegistry N C H G) → (had has : ℕ) → Type 0

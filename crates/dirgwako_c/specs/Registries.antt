@@ -144,8 +144,7 @@ module _ {N C H G : ℕ} where
 
   -- one scrape of the page that a handle holds, and its answer
   abbrev pub scrapes_by : (before after : HeldRegistry N C H G) → Result Scraped NoScrape → Type 0
-  scrapes_by before after answer = ScrapesByCrew (owner_in before) (owner_in after) answer × TellsNobody (owner_in before) (owner_in after)
-      × SparesStay before after
+  scrapes_by before after answer = ScrapesByCrew (owner_in before) (owner_in after) answer × SparesStay before after
 
   -- one scrape by a scraper that a handle holds, and its answer
   abbrev pub scrapes_alone : (before after : HeldScraper N C H G) → Result Scraped NoScrape → Type 0

@@ -58,7 +58,7 @@ pub use refusals::dirgwako_c_refusal;
 pub use registry_handle::RegistryHandle;
 pub use replying::{dirgwako_c_reply, dirgwako_c_scraper_reply};
 pub use scraper_handle::ScraperHandle;
-pub use scrapers::{dirgwako_c_scraper_free, dirgwako_c_scraper_take};
+pub use scrapers::{dirgwako_c_scraper_free, dirgwako_c_scraper_take, dirgwako_c_scrapers};
 pub use scraping::{dirgwako_c_scrape, dirgwako_c_scraper_scrape};
 pub use sends::{recorder_sent, registry_sent, scraper_sent};
 pub use settling::dirgwako_c_settle;

@@ -1,6 +1,7 @@
 //! What C calls to have the scrapers of a page.
 ghost use Rattle.std.specs.Prelude.{◌≡◌, [], ◌∷◌, ◌++◌, map, MatchOption};
 ghost use Rattle.dirgwako_c.specs.Held.{Calls, Frees};
+ghost use Rattle.dirgwako_c.specs.Boards.{TellsScrapers};
 ghost use Rattle.dirgwako_c.specs.Registries.{unboxed, HandsOutScraper};
 
 use crate::held::HeldScraper;
@@ -43,6 +44,27 @@ pub extern "C" fn dirgwako_c_scraper_take(
         }
         None => 49,
     }
+}
+
+/// How many scrapers, taken or not, are told what comes: all that the registry was made with; but none any more after a child was refused for want of
+/// memory that had found no slot on the boards of its family.
+///
+/// Answers 34, the handle is empty.
+#[unsafe(no_mangle)]
+pub extern "C" fn dirgwako_c_scrapers(
+    alloc: Global,
+    registry: &mut RegistryHandle,
+    count: &mut usize,
+) -> u32
+    ensures { Calls (count.new ≡ count.old) (λ before after. TellsScrapers result before after count.new) result
+        registry.old.value registry.new.value }
+{
+    let Some(held) = registry.take(alloc) else {
+        return 34;
+    };
+    *count = held.registrar.at.crew.scrapers();
+    registry.put(alloc, held);
+    0
 }
 
 /// Frees a scraper. Nobody has its reader of each board again.

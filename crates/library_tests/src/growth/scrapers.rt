@@ -92,11 +92,12 @@ fn growth_scrapers(rt: HostRuntime) -> Result<(), Fail> {
     let two = b"# TYPE a counter\na{l=\"x\"} 0\na{l=\"y\"} 0\n".as_slice();
     let all =
         b"# TYPE a counter\na{l=\"x\"} 0\na{l=\"y\"} 0\n# TYPE b counter\nb{l=\"z\"} 0\n".as_slice();
-    let told = match (has_y, has_z) {
-        (false, _) => one,
-        (true, false) => two,
-        (true, true) => all,
+    let (many, told) = match (has_y, has_z) {
+        (false, _) => (0, one),
+        (true, false) => (0, two),
+        (true, true) => (2, all),
     };
+    same(rt, names.at.crew.scrapers(), many);
     shows(rt, &mut first, told)?;
     shows(rt, &mut second, told)
 }

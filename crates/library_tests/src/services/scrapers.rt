@@ -1,7 +1,9 @@
 //! Scrapers of a page beside its owner: each shows what the owner shows, whatever it has missed meanwhile.
 use super::naming::{ask_child, child, counter, counters};
 use crate::asserts::{need, same, there};
-use dirgwako::{Counter, OnPage, PageCrew, PageRecorder, PageScraper, Registrar, render};
+use dirgwako::{
+    Counter, OnPage, PageCrew, PageRecorder, PageRegistry, PageScraper, Registrar, render,
+};
 use std::process::Abort;
 use std::thread::join;
 
@@ -64,20 +66,36 @@ fn scrapers_beside_the_owner(rt: HostRuntime) {
     let all = "# TYPE a counter\na{l=\"x\"} 4\na{l=\"y\"} 4\na{l=\"z\"} 5\n# TYPE b counter\nb 6\n";
     all_show(rt, &mut names, &mut scrapers, all);
     same(rt, scrapers[1].page().boards().len(), 3);
-    same(
-        rt,
-        Two::with_scrapers(alloc, 8, 1, 4)
-            .err()
-            .map(|why| why.number()),
-        Some(13),
-    );
-    same(
-        rt,
-        Two::with_scrapers(alloc, 8, 0, 4)
-            .err()
-            .map(|why| why.number()),
-        Some(31),
-    );
+}
+
+/// More than three scrapers there are not (13), nor a window of none, which is told before it (31).
+#[test]
+fn too_many_scrapers(rt: HostRuntime) {
+    let (rt, alloc) = (&rt, rt.alloc());
+    let many = Two::with_scrapers(alloc, 8, 1, 4).err();
+    same(rt, many.map(|why| why.number()), Some(13));
+    let none = Two::with_scrapers(alloc, 8, 0, 4).err();
+    same(rt, none.map(|why| why.number()), Some(31));
+}
+
+/// A scraper hears of what is registered behind the page's lock.
+#[test]
+fn scrapers_beside_a_lock(rt: HostRuntime) {
+    let (rt, alloc) = (&rt, rt.alloc());
+    let (crew, mut recorders, mut scrapers) = need(rt, Two::with_scrapers(alloc, 8, 1, 1));
+    let (mut recorder, mut scraper) = (there(rt, recorders.pop()), there(rt, scrapers.pop()));
+    same(rt, crew.scrapers(), 1);
+    let pages = PageRegistry::lock(crew);
+    let mut names = Registrar::shared_page(rt, &pages);
+    let a = counters(rt, &mut names, "a", &["l"]);
+    let x = child(rt, &mut names, &a, &["x"]);
+    let _y = child(rt, &mut names, &a, &["y"]);
+    let z = child(rt, &mut names, &a, &["z"]);
+    need(rt, recorder.inc(&x, 3));
+    need(rt, recorder.inc(&z, 5));
+    let three = "# TYPE a counter\na{l=\"x\"} 3\na{l=\"y\"} 0\na{l=\"z\"} 5\n";
+    shows(rt, &mut scraper, three);
+    same(rt, pages.into_crew().scrapers(), 1);
 }
 
 /// The number in the line of this name.
