@@ -9,11 +9,12 @@ BENCH_USAGE = (
     2,
     "",
     "usage: bench ROUNDS, at most 1000000000, or bench updates ROUNDS, or bench gather ROUNDS small|large, or bench torn SCRAPES apart|together,"
-    " or bench serve PORT REPLIES small|large, or bench starved THREADS SPINS SCANS, or bench page SCRAPES one|whole|spread",
+    " or bench serve PORT REPLIES small|large, or bench starved THREADS SPINS SCANS, or bench page SCRAPES one|whole|spread,"
+    " or bench scrapers SCRAPES",
 )
 BENCH_UNASKED = (
     "", "x", "-1", "1000000001", "0 0", "updates", "updates x", "gather 1", "gather 1 tiny", "serve 0 0 64", "serve 65536 0 small", "torn 1", "torn x apart",
-    "torn 1 beside", "starved 1 0", "starved x 0 9", "starved 1 0 9 small", "page 1 two", "page x one",
+    "torn 1 beside", "starved 1 0", "starved x 0 9", "starved 1 0 9 small", "page 1 two", "page x one", "scrapers", "scrapers 0", "scrapers x",
 )
 # With so many kilobytes of addresses there is no room for a thread's stack.
 SMALL = "ulimit -v 6000 && "
@@ -58,6 +59,7 @@ def bench_table(bench, bench16):
     for how in ("apart", "together"):
         yield (bench, "torn", "3", how), b"", (0, "---", "")
     yield (bench, "starved", "1", "0", "9"), b"", (0, "no_scan 4,64,8,8 scans 0 given_up 0 scan 0.00 longest 0", "")
+    yield (bench, "scrapers", "9"), b"", (0, "scrapers 4,64,8,8 scrapes 27 given_up 0 torn 0", "")
     yield (bench16, "page", "0", "one"), b"", (0, "# HELP requests_00_total Requests answered so far by service part 00.", "")
 
 

@@ -222,6 +222,7 @@ int bench_gather(uint64_t rounds, const struct service *service);
 int bench_torn(uint64_t scrapes, int is_apart);
 int bench_serve(uint16_t port, uint64_t replies, const struct service *service);
 int bench_starved(size_t threads, uint64_t spins, uint64_t scans);
+int bench_scrapers(uint64_t scrapes);
 enum layout { ONE, WHOLE, SPREAD };
 int bench_page(size_t scrapes, enum layout layout);
 

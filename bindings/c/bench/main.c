@@ -18,6 +18,7 @@
      bench starved THREADS SPINS SCANS     reads at four paces beside so many threads that publish without rest, each of which loads a number of
                                            its own SPINS times between two versions: starved.c
      bench page SCRAPES one|whole|spread   a page of several boards, in nanoseconds; with 0 its text: page.c
+     bench scrapers SCRAPES                three scrapers, each of which scrapes so often beside all threads that count without rest: scrapers.c
 
    Exit status 0 at the end; 2 for other arguments; 1 where something failed. */
 #include "bench.h"
@@ -25,7 +26,7 @@
 
 static const char USAGE[] = "usage: bench ROUNDS, at most 1000000000, or bench updates ROUNDS, or bench gather ROUNDS small|large, "
                             "or bench torn SCRAPES apart|together, or bench serve PORT REPLIES small|large, or bench starved THREADS SPINS SCANS, "
-                            "or bench page SCRAPES one|whole|spread\n";
+                            "or bench page SCRAPES one|whole|spread, or bench scrapers SCRAPES\n";
 
 /* A number in digits alone, or -1 where it is none or more than `most`. */
 static long number(const char *word, long most) {
@@ -75,6 +76,7 @@ static int run_four(const char *word, const char *first, const char *second, con
 static int run_words(int count, char **words) {
     if (count == 2 && number(words[1], MOST) >= 0) return bench_rounds((uint64_t)number(words[1], MOST));
     if (count == 3 && !strcmp(words[1], "updates") && number(words[2], MOST) >= 0) return bench_updates((uint64_t)number(words[2], MOST));
+    if (count == 3 && !strcmp(words[1], "scrapers") && number(words[2], MOST) > 0) return bench_scrapers((uint64_t)number(words[2], MOST));
     if (count == 4) return run_three(words[1], words[2], words[3]);
     if (count == 5) return run_four(words[1], words[2], words[3], words[4]);
     return -1;
