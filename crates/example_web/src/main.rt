@@ -9,7 +9,7 @@ use dirgwako::{
     Counter, Crew, Gauge, Histogram, Registrar, ServiceRuntime, Timer, bytes_default, down, inc,
     listen_aloud, observe, print_last, seconds_default, serve_until,
 };
-use request::{Code, answer};
+use request::{Code, accept, answer};
 use std::env;
 use std::net::TcpListener;
 use std::rt::Env;
@@ -60,7 +60,7 @@ fn answer_one(
     recorder: &mut Recorder<'_>,
     web: &Web,
 ) -> Result<()> {
-    let (stream, _peer) = listener.accept()?;
+    let stream = accept(rt, listener)?;
     recorder.up(&web.open, 1)?;
     let timer = Timer::start(rt);
     let reply = answer(&stream, Duration::from_secs(PATIENCE));
@@ -79,7 +79,7 @@ fn answer_one(
     Ok(())
 }
 
-/// Answers by four threads, until so many connections were taken; then the flag is raised.
+/// Answers by four threads, until so many connections were taken; then the flag is raised. None, if one had to give up.
 fn answer_all(
     rt: &impl ServiceRuntime,
     listener: &TcpListener,
@@ -87,18 +87,26 @@ fn answer_all(
     web: &Web,
     requests: u64,
     stop: &AtomicBool,
-) {
-    let taken = AtomicU64::new(0);
+) -> Option<()> {
+    let (taken, failed) = (AtomicU64::new(0), AtomicBool::new(false));
     let each = &|_thread: usize, recorder: &mut Recorder<'_>| {
         for _turn in rt.forever() {
             if taken.fetch_add(1, Ordering::SeqCst) >= requests {
                 return;
             }
-            let _ = answer_one(rt, listener, recorder, web);
+            if answer_one(rt, listener, recorder, web).is_err() {
+                failed.store(true, Ordering::SeqCst);
+                return;
+            }
         }
     };
     for_each_mut(rt, recorders, 4, each);
     stop.store(true, Ordering::SeqCst);
+    if failed.load(Ordering::SeqCst) {
+        None
+    } else {
+        Some(())
+    }
 }
 
 /// The two ports, and how many connections are answered.
@@ -116,7 +124,7 @@ fn main(rt: HostRuntime) -> Result<()> {
     let (registry, mut recorders, _) = crew.open(1)?;
     let web = register(&rt, &registry)?;
     let stop = AtomicBool::new(false);
-    let ((), served) = join(
+    let (answered, served) = join(
         &rt,
         || answer_all(&rt, &web_port, &mut recorders, &web, requests, &stop),
         || serve_until(
@@ -129,5 +137,6 @@ fn main(rt: HostRuntime) -> Result<()> {
         ),
     );
     served?;
-    Ok(print_last(&rt, registry)?)
+    print_last(&rt, registry)?;
+    answered.context("connections could not be accepted")
 }

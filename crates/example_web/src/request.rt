@@ -1,9 +1,11 @@
 //! A request is read and replied to.
 use anyhow::{Result, bail};
+use dirgwako::ServiceRuntime;
 use httparse::Status;
 use httparse::spans::{EMPTY_HEADER_SPAN, parse_request};
 use std::io::{Read, Write};
-use std::net::TcpStream;
+use std::net::{TcpListener, TcpStream};
+use std::thread::sleep;
 use std::time::Duration;
 
 /// What is replied: `/` is there, and no other path.
@@ -59,6 +61,17 @@ fn read_code(mut stream: &TcpStream) -> Result<Code> {
         }
     }
     Ok(Code::BadRequest)
+}
+
+/// The next connection. One that fails, as where no descriptor is left, is asked for again a tenth of a second later, 64 times in a row.
+pub fn accept(rt: &impl ServiceRuntime, listener: &TcpListener) -> Result<TcpStream> {
+    for _try in 1..64usize {
+        if let Ok((stream, _peer)) = listener.accept() {
+            return Ok(stream);
+        }
+        sleep(rt, Duration::from_millis(100));
+    }
+    Ok(listener.accept()?.0)
 }
 
 /// Answers a connection, whose reads and writes each take as long at most. It tells the code, and how many bytes were sent.
