@@ -103,7 +103,7 @@ def sanitized(prefix, room):
             continue
         more = (f"-fsanitize={it}", "-fno-sanitize-recover=all")
         program = compiled("cc", room / it.replace(",", "_"), *more, (f"-I{prefix}/include", prefix / "lib/libdirgwako.a"))
-        for words in ("updates 10", "gather 1 small", "gather 1 large", "page 2 one"):
+        for words in ("updates 10", "gather 1 small", "gather 1 large", "page 2 one", "scrapers 20"):
             done(program, *words.split())
             count += 1
         count += short(program, "dirgwako") + torn(program) + served(program)

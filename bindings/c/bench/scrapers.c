@@ -10,7 +10,7 @@ enum { SCRAPERS = 3, BYTES = 1 << 14 };
 struct pair {
     _Alignas(128) dirgwako_recorder recorder;
     dirgwako_counter first, other;
-    char first_name[24], other_name[24];
+    char first_name[40], other_name[40];
     atomic_bool *is_to_end;
 };
 
@@ -67,7 +67,7 @@ static void *scrape_on(void *given) {
 }
 
 static void open_pair(dirgwako_registry *registry, struct pair *it, size_t number, atomic_bool *is_to_end) {
-    char name[24];
+    char name[32];
     it->is_to_end = is_to_end;
     snprintf(name, sizeof name, "first_%zu", number);
     want(dirgwako_counter_new(registry, name, "First.", &it->first));
