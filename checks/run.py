@@ -1,6 +1,5 @@
 """What the toolchain's gate cannot do, on the programs that `rt ci` has built. The last line is 'N passed, M failed'."""
 import pathlib
-import re
 import sys
 import tempfile
 import time
@@ -17,11 +16,12 @@ import pages
 import python_library
 import refused_memory
 import rust_library
+import scripts
 import servers
 import shifted
 import vendored
 import web
-from started import Failed, Skipped, check, run
+from started import Failed, Skipped, check
 
 ROOT = pathlib.Path(__file__).resolve().parent.parent
 
@@ -30,14 +30,6 @@ def built(name):
     program = ROOT / "crates" / name / "out" / name
     check(program.is_file(), f"rt ci has built {name}")
     return program
-
-
-def script_cases(program):
-    """Runs scripts.py, and returns how many cases were as they should be."""
-    out, err, status = run(sys.executable, "-B", ROOT / "checks/scripts.py", program, seconds=600)
-    told = re.search(r"^scripts: (\d+) cases, of which 0 ", out.decode(), re.M)
-    check(status == 0 and told, (out + err).decode()[-2000:])
-    return int(told[1])
 
 
 def checks_of(prefix):
@@ -59,7 +51,7 @@ def checks_of(prefix):
         ("texts of a page by Prometheus' parser for Python", lambda: page_text.check_python(page_text.texts_of(ROOT))),
         ("texts of a page by promtool", lambda: page_text.check_promtool(page_text.texts_of(ROOT))),
         ("exit statuses", lambda: exit_statuses.check_all(program, service)),
-        ("scripts", lambda: script_cases(program)),
+        ("scripts", lambda: scripts.check_all(program)),
         ("servers", lambda: servers.check_all(program, service, printed)),
         ("clients", lambda: clients.check_all(program)),
         ("web service", lambda: web.check_all(built("example_web"))),

@@ -1,20 +1,15 @@
-#!/usr/bin/env python3
 """Runs scripts by the built program, and compares what it prints and its exit status.
 
-    scripts.py PROGRAM
-
 The cases are those of the folder scripts/ (its README.md says how they are written), long ones that are made here, and one script whose
-input or output fails after each of its bytes. Each run has 60 seconds. A line is printed for each case that is not as expected, and the
-last line tells how many cases there were; the exit status is 1 where one was not as expected, or none was found.
-"""
+input or output fails after each of its bytes. Each run has 60 seconds."""
 import json
 import pathlib
 import resource
-import signal
 import socket
 import subprocess
-import sys
 import tempfile
+
+from started import Failed, check
 
 SECONDS = 60
 MOST_LINES = 1_000_000
@@ -130,42 +125,33 @@ def printed_before(count):
 def failing_cases(program):
     """Each: its name, what it came to, and what it is to come to."""
     for count in range(len(SCRIPT)):
-        yield f"a read fails after {count} bytes", lambda: run_with_failing_input(program, count), (printed_before(count), *FAULT)
+        yield f"a read fails after {count} bytes", run_with_failing_input(program, count), (printed_before(count), *FAULT)
     for script, output in ((SCRIPT, OUTPUT), (b"child a", refused(1, 20))):
         for count in range(len(output)):
             wanted = (output[:count], *FAULT)
-            yield f"{len(output)} bytes, of which {count} can be written", lambda: run_with_failing_output(program, script, count), wanted
+            yield f"{len(output)} bytes, of which {count} can be written", run_with_failing_output(program, script, count), wanted
 
 
 def all_cases(program):
+    """The same of all."""
     for file in sorted(FOLDER.glob("*.txt")):
         for name, script, output, status in cases_in(file.read_text(encoding="utf-8")):
-            yield f"{file.name}: {name}", lambda: run(program, script), (output, b"", status)
+            yield f"{file.name}: {name}", run(program, script), (output, b"", status)
     for name, script, output, status in [*long_cases(), *no_lines()]:
-        yield name, lambda: run(program, script), (output, b"", status)
+        yield name, run(program, script), (output, b"", status)
     yield from failing_cases(program)
 
 
-def main():
-    # A run that is waited for is ended where this ends.
-    signal.signal(signal.SIGTERM, lambda *_: sys.exit(1))
-    program = str(pathlib.Path(sys.argv[1]).resolve())
+def check_all(program):
+    """Returns how many cases were as they should be."""
     written = sum(file.read_text(encoding="utf-8").count("\n== ") for file in FOLDER.glob("*.txt"))
     made = len(long_cases()) + len(no_lines()) + len(SCRIPT) + len(OUTPUT) + len(refused(1, 20))
-    count, wrong = 0, 0
-    for name, call, wanted in all_cases(program):
-        count += 1
-        try:
-            got = call()
-        except (OSError, subprocess.SubprocessError) as fault:
-            got = fault
-        if got != wanted:
-            wrong += 1
-            print(f"scripts: {name}: got {str(got)[:300]}, expected {str(wanted)[:300]}")
-    if written == 0 or count != written + made:
-        sys.exit(f"scripts: {count} cases were run of {written} in files and {made} made here")
-    print(f"scripts: {count} cases, of which {wrong} were not as expected")
-    sys.exit(1 if wrong else 0)
-
-
-main()
+    count = 0
+    try:
+        for name, got, wanted in all_cases(program):
+            check(got == wanted, f"{name}: got {str(got)[:300]}, expected {str(wanted)[:300]}")
+            count += 1
+    except subprocess.SubprocessError as fault:
+        raise Failed(f"behind {count} cases: {fault}") from fault
+    check(written and count == written + made, f"{count} cases were run of {written} in files and {made} made here")
+    return count
