@@ -18,7 +18,7 @@ use Rattle.scrape_page.specs.declared.fault.PageChildFault.TheVariants as OfPage
 abbrev pub as_page_fault : ChildFault → PageChildFault
 as_page_fault Of.NoSuchFamily = OfPage.NoSuchFamily
 as_page_fault (Of.LabelCount want got) = OfPage.LabelCount want got
-as_page_fault (Of.Full kind) = OfPage.Full kind
+as_page_fault (Of.Full kind many) = OfPage.Full kind many
 as_page_fault Of.NoMemory = OfPage.NoMemory
 
 module _ {S : Type 0} (n c h g : ℕ) (old new : RegistryView S) (desc : Descriptor) where

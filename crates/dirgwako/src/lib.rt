@@ -104,6 +104,7 @@ pub use printing::TextFault;
 pub use printing::print_scrape;
 pub use printing::scrape_text;
 pub use recorder::Recorder;
+pub use refused::Name;
 pub use refused::Refused;
 pub use register_rule::Board;
 pub use register_rule::BoardFault;

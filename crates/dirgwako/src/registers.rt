@@ -58,7 +58,7 @@ fn child_fault(fault: ChildFault) -> PageChildFault
     match fault {
         ChildFault::NoSuchFamily => PageChildFault::NoSuchFamily,
         ChildFault::LabelCount { want, got } => PageChildFault::LabelCount { want, got },
-        ChildFault::Full { kind } => PageChildFault::Full { kind },
+        ChildFault::Full { kind, slots } => PageChildFault::Full { kind, slots },
         ChildFault::NoMemory => PageChildFault::NoMemory,
     }
 }

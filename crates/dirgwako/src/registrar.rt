@@ -128,6 +128,7 @@ impl<S: Registers> Registrar<S> {
             (λ family. AsksFamily S.registered self.old.at self.new.at (family_of Kinds.Counter name.now help.now labels.now [])
             (Result.Ok family.id)) }
         ensures registry { IfOk result (λ family. family.registry ≡ S.id_in self.new.at) }
+        ensures names { IfOk result (λ family. TellsName name.now family.name.bytes) }
         ensures fault { IfErr result
             (λ refused. AsksFamily S.registered self.old.at self.new.at (family_of Kinds.Counter name.now help.now labels.now [])
             (Result.Err refused.fault)) }
@@ -135,10 +136,7 @@ impl<S: Registers> Registrar<S> {
     {
         let shape = Shape::Counter;
         let id = ask_family(&mut self.at, self.alloc, shape, name, help, labels, 0)?;
-        Ok(CounterFamily {
-            registry: self.at.id(),
-            id,
-        })
+        Ok(CounterFamily::of(self.at.id(), id, name))
     }
 
     /// The counter of these label values, which is made where there is none. A thread that counts is given it, and asks no more.
@@ -153,15 +151,23 @@ impl<S: Registers> Registrar<S> {
         &mut self,
         family: &CounterFamily,
         values: &[&str],
-    ) -> Result<Counter, ChildRefusal>
+    ) -> Result<Counter, Refused<ChildRefusal>>
         ensures given { IfOk result (λ handle. AsksChild S.id_in S.gave self.old.at self.new.at family.now.registry family.now.id
             (texts_of values.now) Kinds.Counter (Result.Ok (Handles.Counter handle))) }
-        ensures fault { IfErr result (λ fault. AsksChild S.id_in S.gave self.old.at self.new.at family.now.registry family.now.id
-            (texts_of values.now) Kinds.Counter (Result.Err fault)) }
+        ensures fault { IfErr result (λ refused. AsksChild S.id_in S.gave self.old.at self.new.at family.now.registry family.now.id
+            (texts_of values.now) Kinds.Counter (Result.Err refused.fault)) }
+        ensures named { IfErr result (λ refused. refused.name ≡ family.now.name) }
     {
-        match ask_handle(&mut self.at, self.alloc, family.registry, family.id, values)? {
-            Handle::Counter(handle) => Ok(handle),
-            _ => Err(ChildRefusal::OtherKind),
+        match ask_handle(&mut self.at, self.alloc, family.registry, family.id, values) {
+            Ok(Handle::Counter(handle)) => Ok(handle),
+            Ok(_) => Err(Refused {
+                fault: ChildRefusal::OtherKind,
+                name: family.name,
+            }),
+            Err(fault) => Err(Refused {
+                fault,
+                name: family.name,
+            }),
         }
     }
 
@@ -180,18 +186,10 @@ impl<S: Registers> Registrar<S> {
             (family_of Kinds.Counter name.now help.now [] []) (Result.Err refused.fault)) }
         ensures named { IfErr result (λ refused. TellsName name.now refused.name.bytes) }
     {
-        match self.counter_family(name, help, &[]) {
-            Ok(family) => match self.counter_of(&family, &[]) {
-                Ok(handle) => Ok(handle),
-                Err(fault) => Err(Refused::of(
-                    name,
-                    MetricRefusal::Child {
-                        family: family.id,
-                        fault,
-                    },
-                )),
-            },
-            Err(refused) => Err(Refused::of(name, MetricRefusal::Family(refused.fault))),
+        let family = self.counter_family(name, help, &[])?;
+        match self.counter_of(&family, &[]) {
+            Ok(handle) => Ok(handle),
+            Err(refused) => Err(refused.of_metric(family.id)),
         }
     }
 
@@ -212,6 +210,7 @@ impl<S: Registers> Registrar<S> {
             (λ family. AsksFamily S.registered self.old.at self.new.at (family_of Kinds.Gauge name.now help.now labels.now [])
             (Result.Ok family.id)) }
         ensures registry { IfOk result (λ family. family.registry ≡ S.id_in self.new.at) }
+        ensures names { IfOk result (λ family. TellsName name.now family.name.bytes) }
         ensures fault { IfErr result
             (λ refused. AsksFamily S.registered self.old.at self.new.at (family_of Kinds.Gauge name.now help.now labels.now [])
             (Result.Err refused.fault)) }
@@ -219,10 +218,7 @@ impl<S: Registers> Registrar<S> {
     {
         let shape = Shape::Gauge;
         let id = ask_family(&mut self.at, self.alloc, shape, name, help, labels, 0)?;
-        Ok(GaugeFamily {
-            registry: self.at.id(),
-            id,
-        })
+        Ok(GaugeFamily::of(self.at.id(), id, name))
     }
 
     /// The gauge of these label values, which is made where there is none. A thread that counts is given it, and asks no more.
@@ -233,15 +229,27 @@ impl<S: Registers> Registrar<S> {
     /// the value's place, 3, 6; [`ChildRefusal::Child`], 21, of a page 46, 22, 6. Nothing has changed then; but of a page,
     /// after 6, there may be a board more, and a part of the family there, without children, which no text shows. Of two registries of one id:
     /// [`ChildRefusal::Child`], 20, and [`ChildRefusal::OtherKind`], 28, after which a child of another kind may have been made.
-    pub fn gauge_of(&mut self, family: &GaugeFamily, values: &[&str]) -> Result<Gauge, ChildRefusal>
+    pub fn gauge_of(
+        &mut self,
+        family: &GaugeFamily,
+        values: &[&str],
+    ) -> Result<Gauge, Refused<ChildRefusal>>
         ensures given { IfOk result (λ handle. AsksChild S.id_in S.gave self.old.at self.new.at family.now.registry family.now.id
             (texts_of values.now) Kinds.Gauge (Result.Ok (Handles.Gauge handle))) }
-        ensures fault { IfErr result (λ fault. AsksChild S.id_in S.gave self.old.at self.new.at family.now.registry family.now.id
-            (texts_of values.now) Kinds.Gauge (Result.Err fault)) }
+        ensures fault { IfErr result (λ refused. AsksChild S.id_in S.gave self.old.at self.new.at family.now.registry family.now.id
+            (texts_of values.now) Kinds.Gauge (Result.Err refused.fault)) }
+        ensures named { IfErr result (λ refused. refused.name ≡ family.now.name) }
     {
-        match ask_handle(&mut self.at, self.alloc, family.registry, family.id, values)? {
-            Handle::Gauge(handle) => Ok(handle),
-            _ => Err(ChildRefusal::OtherKind),
+        match ask_handle(&mut self.at, self.alloc, family.registry, family.id, values) {
+            Ok(Handle::Gauge(handle)) => Ok(handle),
+            Ok(_) => Err(Refused {
+                fault: ChildRefusal::OtherKind,
+                name: family.name,
+            }),
+            Err(fault) => Err(Refused {
+                fault,
+                name: family.name,
+            }),
         }
     }
 
@@ -260,18 +268,10 @@ impl<S: Registers> Registrar<S> {
             (family_of Kinds.Gauge name.now help.now [] []) (Result.Err refused.fault)) }
         ensures named { IfErr result (λ refused. TellsName name.now refused.name.bytes) }
     {
-        match self.gauge_family(name, help, &[]) {
-            Ok(family) => match self.gauge_of(&family, &[]) {
-                Ok(handle) => Ok(handle),
-                Err(fault) => Err(Refused::of(
-                    name,
-                    MetricRefusal::Child {
-                        family: family.id,
-                        fault,
-                    },
-                )),
-            },
-            Err(refused) => Err(Refused::of(name, MetricRefusal::Family(refused.fault))),
+        let family = self.gauge_family(name, help, &[])?;
+        match self.gauge_of(&family, &[]) {
+            Ok(handle) => Ok(handle),
+            Err(refused) => Err(refused.of_metric(family.id)),
         }
     }
 
@@ -293,6 +293,7 @@ impl<S: Registers> Registrar<S> {
             (λ family. AsksFamily S.registered self.old.at self.new.at
             (family_of Kinds.Histogram name.now help.now labels.now bounds.now) (Result.Ok family.id)) }
         ensures registry { IfOk result (λ family. family.registry ≡ S.id_in self.new.at) }
+        ensures names { IfOk result (λ family. TellsName name.now family.name.bytes) }
         ensures fault { IfErr result
             (λ refused. AsksFamily S.registered self.old.at self.new.at
             (family_of Kinds.Histogram name.now help.now labels.now bounds.now) (Result.Err refused.fault)) }
@@ -300,10 +301,7 @@ impl<S: Registers> Registrar<S> {
     {
         let shape = Shape::Histogram(bounds);
         let id = ask_family(&mut self.at, self.alloc, shape, name, help, labels, 0)?;
-        Ok(HistogramFamily {
-            registry: self.at.id(),
-            id,
-        })
+        Ok(HistogramFamily::of(self.at.id(), id, name))
     }
 
     /// The histogram of these label values, which is made where there is none. A thread that counts is given it, and asks no more.
@@ -318,15 +316,23 @@ impl<S: Registers> Registrar<S> {
         &mut self,
         family: &HistogramFamily,
         values: &[&str],
-    ) -> Result<Histogram, ChildRefusal>
+    ) -> Result<Histogram, Refused<ChildRefusal>>
         ensures given { IfOk result (λ handle. AsksChild S.id_in S.gave self.old.at self.new.at family.now.registry family.now.id
             (texts_of values.now) Kinds.Histogram (Result.Ok (Handles.Histogram handle))) }
-        ensures fault { IfErr result (λ fault. AsksChild S.id_in S.gave self.old.at self.new.at family.now.registry family.now.id
-            (texts_of values.now) Kinds.Histogram (Result.Err fault)) }
+        ensures fault { IfErr result (λ refused. AsksChild S.id_in S.gave self.old.at self.new.at family.now.registry family.now.id
+            (texts_of values.now) Kinds.Histogram (Result.Err refused.fault)) }
+        ensures named { IfErr result (λ refused. refused.name ≡ family.now.name) }
     {
-        match ask_handle(&mut self.at, self.alloc, family.registry, family.id, values)? {
-            Handle::Histogram(handle) => Ok(handle),
-            _ => Err(ChildRefusal::OtherKind),
+        match ask_handle(&mut self.at, self.alloc, family.registry, family.id, values) {
+            Ok(Handle::Histogram(handle)) => Ok(handle),
+            Ok(_) => Err(Refused {
+                fault: ChildRefusal::OtherKind,
+                name: family.name,
+            }),
+            Err(fault) => Err(Refused {
+                fault,
+                name: family.name,
+            }),
         }
     }
 
@@ -350,18 +356,10 @@ impl<S: Registers> Registrar<S> {
             (family_of Kinds.Histogram name.now help.now [] bounds.now) (Result.Err refused.fault)) }
         ensures named { IfErr result (λ refused. TellsName name.now refused.name.bytes) }
     {
-        match self.histogram_family(name, help, &[], bounds) {
-            Ok(family) => match self.histogram_of(&family, &[]) {
-                Ok(handle) => Ok(handle),
-                Err(fault) => Err(Refused::of(
-                    name,
-                    MetricRefusal::Child {
-                        family: family.id,
-                        fault,
-                    },
-                )),
-            },
-            Err(refused) => Err(Refused::of(name, MetricRefusal::Family(refused.fault))),
+        let family = self.histogram_family(name, help, &[], bounds)?;
+        match self.histogram_of(&family, &[]) {
+            Ok(handle) => Ok(handle),
+            Err(refused) => Err(refused.of_metric(family.id)),
         }
     }
 }

@@ -19,7 +19,7 @@ use std::time::{Clock, Duration};
 pub(crate) const TRIES: usize = 64;
 
 /// How long a server waits after its listener has failed, in milliseconds.
-const PAUSE: u64 = 100;
+pub(crate) const PAUSE: u64 = 100;
 
 /// What became of connections.
 #[derive(Clone, Copy, Debug, PartialEq, Eq)]
@@ -104,6 +104,11 @@ fn answer_forever<R: Wait, T: Connections>(rt: &R, at: &mut T) -> io::Result<()>
     unreachable!()
 }
 
+// Nobody is answered in no time.
+fn no_patience() -> io::Error {
+    io::Error::new(ErrorKind::InvalidInput, "patience is 0")
+}
+
 /// Answers so many connections, one after the other, with scrapes of what is shared, a registry or a page behind its lock:
 /// [`scrape_http::serve_one`]. What goes wrong with one of them does not end the others. Each may take as long as `patience`, which is not 0: from when it is accepted until its request is
 /// read, its reply written and the connection ended, of which the last takes a second at most: no client holds the server for longer. A scrape of a registry that was given up is asked for up to three times more, and a page asks each board again by itself; then the
@@ -123,7 +128,7 @@ pub fn serve<R: Wait + Clock, X: Shared>(
     ensures patient { as_nanos patience ≡ 0 → IsErr result }
 {
     if patience.is_zero() {
-        return Err(ErrorKind::InvalidInput.into());
+        return Err(no_patience());
     }
     let source = FromShared {
         rt,
@@ -155,7 +160,7 @@ pub fn serve_next<R: Wait + Clock, X: Shared>(
     ensures { as_nanos patience ≡ 0 → IsErr result }
 {
     if patience.is_zero() {
-        return Err(ErrorKind::InvalidInput.into());
+        return Err(no_patience());
     }
     let source = FromShared {
         rt,
@@ -192,7 +197,7 @@ pub fn serve_alone<R: Clock, X: MakesScrapes + Drop>(
     ensures patient { as_nanos patience ≡ 0 → IsErr result.0 }
 {
     if patience.is_zero() {
-        return (Err(ErrorKind::InvalidInput.into()), state);
+        return (Err(no_patience()), state);
     }
     let mut at = Listening {
         clock,
@@ -228,7 +233,7 @@ pub fn serve_forever<R: Wait + Clock, X: Shared>(
     ensures { IsErr result }
 {
     if patience.is_zero() {
-        return Err(ErrorKind::InvalidInput.into());
+        return Err(no_patience());
     }
     let source = FromShared {
         rt,

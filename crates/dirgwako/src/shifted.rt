@@ -34,6 +34,7 @@ impl<S: Registers> Registrar<S> {
         ensures made { IfOk result (λ family. AsksFamily S.registered self.old.at self.new.at
             (shifted_family_of Kinds.Counter name.now help.now labels.now [] digits) (Result.Ok family.id)) }
         ensures registry { IfOk result (λ family. family.registry ≡ S.id_in self.new.at) }
+        ensures names { IfOk result (λ family. TellsName name.now family.name.bytes) }
         ensures few { IfOk result (λ _. digits ≤ 9) }
         ensures fault { IfErr result (λ refused. AsksFamily S.registered self.old.at self.new.at
             (shifted_family_of Kinds.Counter name.now help.now labels.now [] digits) (Result.Err refused.fault)) }
@@ -41,10 +42,7 @@ impl<S: Registers> Registrar<S> {
     {
         let shape = Shape::Counter;
         let id = ask_family(&mut self.at, self.alloc, shape, name, help, labels, digits)?;
-        Ok(CounterFamily {
-            registry: self.at.id(),
-            id,
-        })
+        Ok(CounterFamily::of(self.at.id(), id, name))
     }
 
     /// A family of gauges with labels, whose numbers the text shows shifted by `digits` decimal digits, at most 9: by 6 digits
@@ -64,6 +62,7 @@ impl<S: Registers> Registrar<S> {
         ensures made { IfOk result (λ family. AsksFamily S.registered self.old.at self.new.at
             (shifted_family_of Kinds.Gauge name.now help.now labels.now [] digits) (Result.Ok family.id)) }
         ensures registry { IfOk result (λ family. family.registry ≡ S.id_in self.new.at) }
+        ensures names { IfOk result (λ family. TellsName name.now family.name.bytes) }
         ensures few { IfOk result (λ _. digits ≤ 9) }
         ensures fault { IfErr result (λ refused. AsksFamily S.registered self.old.at self.new.at
             (shifted_family_of Kinds.Gauge name.now help.now labels.now [] digits) (Result.Err refused.fault)) }
@@ -71,10 +70,7 @@ impl<S: Registers> Registrar<S> {
     {
         let shape = Shape::Gauge;
         let id = ask_family(&mut self.at, self.alloc, shape, name, help, labels, digits)?;
-        Ok(GaugeFamily {
-            registry: self.at.id(),
-            id,
-        })
+        Ok(GaugeFamily::of(self.at.id(), id, name))
     }
 
     /// A family of histograms with labels, whose bounds and sums the text shows shifted by `digits` decimal digits, at most 9. The bounds
@@ -95,6 +91,7 @@ impl<S: Registers> Registrar<S> {
         ensures made { IfOk result (λ family. AsksFamily S.registered self.old.at self.new.at
             (shifted_family_of Kinds.Histogram name.now help.now labels.now bounds.now digits) (Result.Ok family.id)) }
         ensures registry { IfOk result (λ family. family.registry ≡ S.id_in self.new.at) }
+        ensures names { IfOk result (λ family. TellsName name.now family.name.bytes) }
         ensures few { IfOk result (λ _. digits ≤ 9) }
         ensures fault { IfErr result (λ refused. AsksFamily S.registered self.old.at self.new.at
             (shifted_family_of Kinds.Histogram name.now help.now labels.now bounds.now digits) (Result.Err refused.fault)) }
@@ -102,10 +99,7 @@ impl<S: Registers> Registrar<S> {
     {
         let shape = Shape::Histogram(bounds);
         let id = ask_family(&mut self.at, self.alloc, shape, name, help, labels, digits)?;
-        Ok(HistogramFamily {
-            registry: self.at.id(),
-            id,
-        })
+        Ok(HistogramFamily::of(self.at.id(), id, name))
     }
 
     /// A histogram without labels that is told microseconds and shown in seconds, with these bounds, in microseconds: at most 24, rising,
@@ -129,18 +123,10 @@ impl<S: Registers> Registrar<S> {
             (shifted_family_of Kinds.Histogram name.now help.now [] bounds.now 6) (Result.Err refused.fault)) }
         ensures named { IfErr result (λ refused. TellsName name.now refused.name.bytes) }
     {
-        match self.histogram_family_shifted(name, help, &[], bounds, SECONDS) {
-            Ok(family) => match self.histogram_of(&family, &[]) {
-                Ok(handle) => Ok(handle),
-                Err(fault) => Err(Refused::of(
-                    name,
-                    MetricRefusal::Child {
-                        family: family.id,
-                        fault,
-                    },
-                )),
-            },
-            Err(refused) => Err(Refused::of(name, MetricRefusal::Family(refused.fault))),
+        let family = self.histogram_family_shifted(name, help, &[], bounds, SECONDS)?;
+        match self.histogram_of(&family, &[]) {
+            Ok(handle) => Ok(handle),
+            Err(refused) => Err(refused.of_metric(family.id)),
         }
     }
 }

@@ -4,7 +4,7 @@ ghost use Rattle.std.specs.Duration.{as_nanos};
 ghost use Rattle.std.specs.Thread.{IsSync};
 
 use crate::connection::answer;
-use crate::serving::{Answered, TRIES};
+use crate::serving::{Answered, PAUSE, TRIES};
 use crate::shared::{FromShared, Shared};
 use crate::threads::MOST;
 use scrape_server::AskedAgain;
@@ -16,7 +16,7 @@ use std::thread::{Threads, join, sleep};
 use std::time::{Clock, Duration};
 
 /// How long a thread waits where no connection came, in milliseconds: a flag is seen that soon.
-const PAUSE: u64 = 10;
+const LOOK: u64 = 10;
 
 impl Answered {
     /// None.
@@ -70,7 +70,7 @@ fn answer_until<R: Wait + Clock, X: Shared>(
                 failed = 0;
             }
             Err(why) if why.kind() == ErrorKind::WouldBlock => {
-                sleep(rt, Duration::from_millis(PAUSE));
+                sleep(rt, Duration::from_millis(LOOK));
             }
             Err(why) => {
                 failed = failed.saturating_add(1);
@@ -110,12 +110,12 @@ fn answer_by<R: Threads + Wait + Clock + Sync, X: Shared + Sync>(
 }
 
 /// [`serve_on_threads`](crate::serve_on_threads) until `stop` is true, which each thread sees behind the connection that it answers, or within a
-/// hundredth of a second. As long may a connection wait to be accepted. It tells what became of all connections.
+/// hundredth of a second (a tenth, where its listener fails). As long may a connection wait to be accepted. It tells what became of all connections.
 /// The listener does not wait for connections meanwhile (`set_nonblocking`), and does again at the end.
 ///
 /// # Errors
 ///
-/// `InvalidInput` where `patience` is 0, or `threads` is not 1 to 32. The listener's, where it has failed 64 times in a row: the other threads go on
+/// `InvalidInput` where `patience` is 0, or `threads` is not 1 to 32. The listener's, where it has failed 64 times in a row, a tenth of a second apart: the other threads go on
 /// until `stop` is true.
 pub fn serve_until<R: Threads + Wait + Clock + Sync, X: Shared + Sync>(
     rt: &R,
@@ -129,7 +129,8 @@ pub fn serve_until<R: Threads + Wait + Clock + Sync, X: Shared + Sync>(
     ensures some { threads ≡ 0 → IsErr result }
 {
     if patience.is_zero() || threads == 0 || threads > MOST {
-        return Err(ErrorKind::InvalidInput.into());
+        let bad = "patience is 0, or threads are not 1 to 32";
+        return Err(io::Error::new(ErrorKind::InvalidInput, bad));
     }
     listener.set_nonblocking(true)?;
     let answered = answer_by(rt, listener, registry, patience, threads - 1, stop);

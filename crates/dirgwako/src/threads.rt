@@ -59,7 +59,7 @@ pub fn serve_on_threads<R: Threads + Wait + Clock + Sync, X: Shared + Sync>(
     ensures { IsErr result }
 {
     if threads == 0 || threads > MOST {
-        return Err(ErrorKind::InvalidInput.into());
+        return Err(io::Error::new(ErrorKind::InvalidInput, "threads are not 1 to 32"));
     }
     serve_by(rt, listener, registry, patience, threads - 1)
 }

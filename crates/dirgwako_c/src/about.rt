@@ -4,10 +4,10 @@ ghost use Rattle.ledger_core.specs.Ops.{width};
 ghost use Rattle.dirgwako_c.specs.About.{IsNameAnswer};
 
 use crate::change::Change;
+use crate::family::CounterFamily;
 use crate::geometry::{COUNTERS, GAUGES, HISTOGRAMS, MOST_CHANGES, NUMBERS, WORKERS};
 use crate::numbers::HistogramTotals;
 use crate::texts::text;
-use dirgwako::CounterFamily;
 use ledger_core::{Counter, Gauge, Histogram};
 use metric_names::MetricName;
 use std::alloc::Global;

@@ -7,9 +7,10 @@ ghost use Rattle.registry_state.specs.declared.handle.Handle.TheVariants as Hand
 ghost use Rattle.dirgwako_c.specs.Held.{Calls};
 ghost use Rattle.dirgwako_c.specs.Registries.{grouped_in, SparesStay, MakesFamilyBy, MakesShifted, GivesChildBy};
 
+use crate::family::{CounterFamily, GaugeFamily, HistogramFamily};
 use crate::registry_handle::RegistryHandle;
 use crate::texts::{text, texts};
-use dirgwako::{CounterFamily, GaugeFamily, HistogramFamily, OnPage, Registrar};
+use dirgwako::{OnPage, Registrar};
 use ledger_core::{Counter, Gauge, Histogram};
 use std::alloc::Global;
 
@@ -38,7 +39,10 @@ fn counter_family_in<const N: usize, const C: usize, const H: usize, const G: us
     registrar.at.group = group;
     match registrar.counter_family_shifted(name, help, &labels, digits) {
         Ok(made) => {
-            *family = made;
+            *family = CounterFamily {
+                registry: made.registry,
+                id: made.id,
+            };
             0
         }
         Err(refused) => u32::from(refused.number()),
@@ -102,12 +106,13 @@ fn counter_of_in<const N: usize, const C: usize, const H: usize, const G: usize>
         Ok(values) => values,
         Err(answer) => return answer,
     };
-    match registrar.counter_of(family, &values) {
+    let family = dirgwako::CounterFamily::of(family.registry, family.id, "");
+    match registrar.counter_of(&family, &values) {
         Ok(given) => {
             *counter = given;
             0
         }
-        Err(fault) => u32::from(fault.number()),
+        Err(refused) => u32::from(refused.number()),
     }
 }
 
@@ -162,7 +167,10 @@ fn gauge_family_in<const N: usize, const C: usize, const H: usize, const G: usiz
     registrar.at.group = group;
     match registrar.gauge_family_shifted(name, help, &labels, digits) {
         Ok(made) => {
-            *family = made;
+            *family = GaugeFamily {
+                registry: made.registry,
+                id: made.id,
+            };
             0
         }
         Err(refused) => u32::from(refused.number()),
@@ -226,12 +234,13 @@ fn gauge_of_in<const N: usize, const C: usize, const H: usize, const G: usize>(
         Ok(values) => values,
         Err(answer) => return answer,
     };
-    match registrar.gauge_of(family, &values) {
+    let family = dirgwako::GaugeFamily::of(family.registry, family.id, "");
+    match registrar.gauge_of(&family, &values) {
         Ok(given) => {
             *gauge = given;
             0
         }
-        Err(fault) => u32::from(fault.number()),
+        Err(refused) => u32::from(refused.number()),
     }
 }
 
@@ -287,7 +296,10 @@ fn histogram_family_in<const N: usize, const C: usize, const H: usize, const G: 
     registrar.at.group = group;
     match registrar.histogram_family_shifted(name, help, &labels, bounds, digits) {
         Ok(made) => {
-            *family = made;
+            *family = HistogramFamily {
+                registry: made.registry,
+                id: made.id,
+            };
             0
         }
         Err(refused) => u32::from(refused.number()),
@@ -353,12 +365,13 @@ fn histogram_of_in<const N: usize, const C: usize, const H: usize, const G: usiz
         Ok(values) => values,
         Err(answer) => return answer,
     };
-    match registrar.histogram_of(family, &values) {
+    let family = dirgwako::HistogramFamily::of(family.registry, family.id, "");
+    match registrar.histogram_of(&family, &values) {
         Ok(given) => {
             *histogram = given;
             0
         }
-        Err(fault) => u32::from(fault.number()),
+        Err(refused) => u32::from(refused.number()),
     }
 }
 

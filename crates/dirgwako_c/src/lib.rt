@@ -11,6 +11,7 @@ mod buffers;
 mod change;
 mod counting;
 mod families;
+mod family;
 mod geometry;
 mod held;
 mod joining;
@@ -46,6 +47,7 @@ pub use families::{
     dirgwako_c_counter_family_new, dirgwako_c_counter_of, dirgwako_c_gauge_family_new,
     dirgwako_c_gauge_of, dirgwako_c_histogram_family_new, dirgwako_c_histogram_of,
 };
+pub use family::{CounterFamily, GaugeFamily, HistogramFamily};
 pub use metrics::{dirgwako_c_counter_new, dirgwako_c_gauge_new, dirgwako_c_histogram_new};
 pub use numbers::{
     HistogramTotals, dirgwako_c_counter_total, dirgwako_c_gauge_value, dirgwako_c_histogram_totals,

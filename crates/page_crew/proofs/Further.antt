@@ -31,7 +31,7 @@ both_there P Q None p q = absurd p
 both_there P Q (Some x) p q = (x, refl, p, q)
 
 module _ {S : Type 0} (c h g : ℕ) (page : PageView S) (board : RegistryView S) (empty : board.state ≡ nothing) (number : ℕ)
-    (values : List (List ℕ)) (kind : Kind) (full : IsPageChildFault c h g page number values (Full kind))
+    (values : List (List ℕ)) (kind : Kind) (many : ℕ) (full : IsPageChildFault c h g page number values (Full kind many))
     (some : 0 < slots c h g kind) where
   -- an empty board has a free slot of the kind
   has_room : HasRoom c h g kind board
@@ -44,28 +44,28 @@ module _ {S : Type 0} (c h g : ℕ) (page : PageView S) (board : RegistryView S)
   only_memory NoSuchFamily none =
       let it = one_there
       (λ (it : PageFamily). IsMissing page.boards it values × (it.children < 256) × (kind ≡ it.desc.kind)
-      × AreFull c h g it.desc.kind page.boards) (slice_get page.families number) full in
+      × AreFull c h g it.desc.kind page.boards) (slice_get page.families number) full.1 in
       absurd (let within = slice_get_within page.families number it.0 it.1 in omega (arith, within, none))
   only_memory (LabelCount want got) other =
       let it = both_there
       (λ (it : PageFamily). IsMissing page.boards it values × (it.children < 256) × (kind ≡ it.desc.kind)
       × AreFull c h g it.desc.kind page.boards)
-      (λ (it : PageFamily). (want ≡ length it.desc.labels) × (got ≡ length values) × (want ≢ got)) (slice_get page.families number) full
+      (λ (it : PageFamily). (want ≡ length it.desc.labels) × (got ≡ length values) × (want ≢ got)) (slice_get page.families number) full.1
       other in
       absurd (it.3.2 (it.3.0 ∙ sym it.2.0.0 ∙ sym it.3.1))
-  only_memory TooManyChildren many =
+  only_memory TooManyChildren more =
       let it = both_there
       (λ (it : PageFamily). IsMissing page.boards it values × (it.children < 256) × (kind ≡ it.desc.kind)
       × AreFull c h g it.desc.kind page.boards)
-      (λ (it : PageFamily). IsMissing (page.boards ++ board ∷ []) it values × (256 ≤ it.children)) (slice_get page.families number) full
-      many in
+      (λ (it : PageFamily). IsMissing (page.boards ++ board ∷ []) it values × (256 ≤ it.children)) (slice_get page.families number) full.1
+      more in
       absurd (let few = it.2.1 in let most = it.3.1 in omega (arith, few, most))
-  only_memory (Full kind') none =
+  only_memory (Full kind' many') none =
       let it = both_there
       (λ (it : PageFamily). IsMissing page.boards it values × (it.children < 256) × (kind ≡ it.desc.kind)
       × AreFull c h g it.desc.kind page.boards)
       (λ (it : PageFamily). IsMissing (page.boards ++ board ∷ []) it values × (it.children < 256) × (kind' ≡ it.desc.kind)
-      × AreFull c h g it.desc.kind (page.boards ++ board ∷ [])) (slice_get page.families number) full none in
+      × AreFull c h g it.desc.kind (page.boards ++ board ∷ [])) (slice_get page.families number) full.1 none.1 in
       let longer = length_push page.boards board in
       absurd (subst (λ (b : RegistryView S). ¬ (HasRoom c h g it.0.desc.kind b))
       (get_or_push page.boards board board (length page.boards) refl)
@@ -92,20 +92,20 @@ module _ {N C H G : ℕ} where
     unchanged_from more = ((more.0.0 ∙ same.0.0, more.0.1 ∙ same.0.1), more.1 ∙ same.1, more.2 ∙ same.2)
 
   -- a board came, and the page was asked again
-  module _ (old mid new : PageCrew N C H G) (grown : IsGrown old mid) (number : ℕ) (values : List (List ℕ)) (kind : Kind) where
+  module _ (old mid new : PageCrew N C H G) (grown : IsGrown old mid) (number : ℕ) (values : List (List ℕ)) (kind : Kind) (many : ℕ) where
     pub given_further : (result : Result Handle PageChildFault)
         → IfOk result (λ handle. PageDid mid new (λ a b. IsGivenOnPage C H G a b number values handle))
         → IfOk result (IsGivenFurther old new number values)
     given_further (Ok handle) did = (mid, grown, did)
     given_further (Err why) did = tt
 
-    pub refused_further : IsPageChildFault C H G (page_of old) number values (Full kind) → length (page_of old).boards < 96
+    pub refused_further : IsPageChildFault C H G (page_of old) number values (Full kind many) → length (page_of old).boards < 96
         → 0 < slots C H G kind → (result : Result Handle PageChildFault) → IfErr result (IsPageChildFault C H G (page_of mid) number values)
         → IfErr result (λ why. PageDid mid new (λ a b. LeavesPage C H G a b number why))
-        → IfErr result (IsRefusedFurther old new number kind)
+        → IfErr result (IsRefusedFurther old new number kind many)
     refused_further full few some (Ok handle) fault leaves = tt
     refused_further full few some (Err why) fault leaves =
-        let memory : why ≡ NoMemory = only_memory C H G (page_of old) grown.board grown.is_new.state number values kind full some why
+        let memory : why ≡ NoMemory = only_memory C H G (page_of old) grown.board grown.is_new.state number values kind many full some why
         (subst (λ (p : PageView (SharedScanner N C H G)). IsPageChildFault C H G p number values why) grown.page fault) in
         inr (
           memory,
@@ -119,17 +119,17 @@ module _ {N C H G : ℕ} where
         )
 
   -- nothing had changed before it came
-  module _ (old mid new : PageCrew N C H G) (same : IsUnchanged old mid) (number : ℕ) (values : List (List ℕ)) (kind : Kind)
-      (full : IsPageChildFault C H G (page_of old) number values (Full kind)) where
+  module _ (old mid new : PageCrew N C H G) (same : IsUnchanged old mid) (number : ℕ) (values : List (List ℕ)) (kind : Kind) (many : ℕ)
+      (full : IsPageChildFault C H G (page_of old) number values (Full kind many)) where
     pub given_then : (result : Result Handle PageChildFault) → IfOk result (IsGivenFurther mid new number values)
         → IfOk result (IsGivenByCrew old new number values)
-    given_then (Ok handle) given = inr (kind, full, (given.0, grown_from old mid given.0 same given.1, given.2))
+    given_then (Ok handle) given = inr (kind, many, full, (given.0, grown_from old mid given.0 same given.1, given.2))
     given_then (Err why) given = tt
 
     few_from : length (page_of mid).boards < 96 → length (page_of old).boards < 96
     few_from few = subst (λ (p : PageView (SharedScanner N C H G)). length p.boards < 96) same.1 few
 
-    refused_from : (why : PageChildFault) → IsRefusedFurther mid new number kind why → IsRefusedFurther old new number kind why
+    refused_from : (why : PageChildFault) → IsRefusedFurther mid new number kind many why → IsRefusedFurther old new number kind many why
     refused_from why (inl none) =
         inl (
           none.0,
@@ -141,7 +141,7 @@ module _ {N C H G : ℕ} where
     refused_from why (inr (memory, few, some, inr came)) =
         inr (memory, few_from few, some, inr (came.0, grown_from old mid came.0 same came.1, came.2))
 
-    pub refused_then : (result : Result Handle PageChildFault) → IfErr result (IsRefusedFurther mid new number kind)
+    pub refused_then : (result : Result Handle PageChildFault) → IfErr result (IsRefusedFurther mid new number kind many)
         → IfErr result (IsRefusedByCrew old new number values)
     refused_then (Ok handle) fault = tt
-    refused_then (Err why) fault = inr (kind, full, refused_from why fault)
+    refused_then (Err why) fault = inr (kind, many, full, refused_from why fault)

@@ -101,7 +101,7 @@ module _ {S : Type 0} where
       leaves_keeps NoSuchFamily same = boards_same same
       leaves_keeps (LabelCount want got) same = boards_same same
       leaves_keeps TooManyChildren same = boards_same same
-      leaves_keeps (Full kind) same = boards_same same
+      leaves_keeps (Full kind many) same = boards_same same
       leaves_keeps NoMemory (inl same) = boards_same same
       leaves_keeps NoMemory (inr took) = took_keeps took.0 took.1
         where

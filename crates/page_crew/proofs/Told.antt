@@ -113,7 +113,7 @@ may_leave : {S : Type 0} (c h g : ℕ) (a b : PageView S) (number : ℕ) (why : 
 may_leave c h g a b number NoSuchFamily same = inl same
 may_leave c h g a b number (LabelCount want got) same = inl same
 may_leave c h g a b number TooManyChildren same = inl same
-may_leave c h g a b number (Full kind) same = inl same
+may_leave c h g a b number (Full kind many) same = inl same
 may_leave c h g a b number NoMemory left = left
 
 module _ {N C H G : ℕ} where

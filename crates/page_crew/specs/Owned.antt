@@ -94,23 +94,25 @@ module _ {N C H G : ℕ} where
 
     -- Why it was not, where no board had a free slot of this kind. No board may come, or none has a slot of the kind (22). Or one may and has, and
     -- there was no memory (6): for a board, and nothing has changed; or one came, and then for the child
-    abbrev pub IsRefusedFurther : Kind → PageChildFault → Type 0
-    IsRefusedFurther kind why =
-        ((why ≡ Full kind) × ((96 ≤ length (page_of old).boards) ⊎ (slots C H G kind ≡ 0)) × IsUnchanged old new)
+    abbrev pub IsRefusedFurther : Kind → ℕ → PageChildFault → Type 0
+    IsRefusedFurther kind many why =
+        ((why ≡ Full kind many) × ((96 ≤ length (page_of old).boards) ⊎ (slots C H G kind ≡ 0)) × IsUnchanged old new)
         ⊎ ((why ≡ NoMemory) × (length (page_of old).boards < 96) × (0 < slots C H G kind) × (IsUnchanged old new
         ⊎ ((mid : PageCrew N C H G) × IsGrown old mid × PageDid mid new (λ a b. LeavesPage C H G a b number NoMemory))))
 
     -- the child of these values was given by the page; or no board had a free slot for it, one came, and then it was given
     abbrev pub IsGivenByCrew : (values : List (List ℕ)) → Handle → Type 0
     IsGivenByCrew values handle = PageDid old new (λ a b. IsGivenOnPage C H G a b number values handle)
-        ⊎ ((kind : Kind) × IsPageChildFault C H G (page_of old) number values (Full kind) × IsGivenFurther values handle)
+        ⊎ ((kind : Kind) × (many : ℕ) × IsPageChildFault C H G (page_of old) number values (Full kind many)
+        × IsGivenFurther values handle)
 
     -- why there is none: the page's refusal, but for want of slots; or no board had a free slot, and none came, or there was no memory
     abbrev pub IsRefusedByCrew : (values : List (List ℕ)) → PageChildFault → Type 0
     IsRefusedByCrew values why =
-        (IsPageChildFault C H G (page_of old) number values why × ((kind : Kind) → why ≢ Full kind)
+        (IsPageChildFault C H G (page_of old) number values why × ((kind : Kind) (many : ℕ) → why ≢ Full kind many)
         × PageDid old new (λ a b. LeavesPage C H G a b number why))
-        ⊎ ((kind : Kind) × IsPageChildFault C H G (page_of old) number values (Full kind) × IsRefusedFurther kind why)
+        ⊎ ((kind : Kind) × (many : ℕ) × IsPageChildFault C H G (page_of old) number values (Full kind many)
+        × IsRefusedFurther kind many why)
 
   -- what one scrape does, and answers: that of the page, nothing else has changed, and no scraper was told anything
   abbrev pub ScrapesByCrew : (old new : PageCrew N C H G) → Result Scraped NoScrape → Type 0

@@ -7,7 +7,7 @@ use crate::owner::PageCrew;
 use crate::shared_scanner::SharedScanner;
 use metric_desc::{Desc, Kind};
 use metric_names::LabelValue;
-use registry_state::{Handle, slots_of};
+use registry_state::Handle;
 use scrape_page::{Page, PageChildFault, PageFamilyFault, PageFamilyId};
 
 impl<const N: usize, const C: usize, const H: usize, const G: usize> PageCrew<N, C, H, G> {
@@ -105,20 +105,21 @@ impl<const N: usize, const C: usize, const H: usize, const G: usize> PageCrew<N,
         family: PageFamilyId,
         values: &[LabelValue],
         kind: Kind,
+        slots: usize,
     ) -> Result<Handle, PageChildFault>
-        requires full { IsPageChildFault C H G (page_of self.old) family.number values.now (Full kind) }
+        requires full { IsPageChildFault C H G (page_of self.old) family.number values.now (Full kind slots) }
         ensures given { IfOk result (IsGivenFurther self.old self.new family.number values.now) }
         ensures inside { IfOk result (IsInside C H G) }
-        ensures fault { IfErr result (IsRefusedFurther self.old self.new family.number kind) }
+        ensures fault { IfErr result (IsRefusedFurther self.old self.new family.number kind slots) }
         ensures told { IfOk result (HasToldFurther self.old self.new family.number values.now) }
         ensures untold { OnErr result (HasToldBoards self.old self.new family.number) }
     {
-        if slots_of::<C, H, G>(kind) == 0 {
-            return Err(PageChildFault::Full { kind });
+        if slots == 0 {
+            return Err(PageChildFault::Full { kind, slots });
         }
         match self.add_board() {
             Ok(_) => self.ask(family, values),
-            Err(NoBoard::TooManyBoards) => Err(PageChildFault::Full { kind }),
+            Err(NoBoard::TooManyBoards) => Err(PageChildFault::Full { kind, slots }),
             Err(NoBoard::NoMemory) => Err(PageChildFault::NoMemory),
             Err(NoBoard::Geometry) => unreachable!(),
         }
@@ -137,7 +138,9 @@ impl<const N: usize, const C: usize, const H: usize, const G: usize> PageCrew<N,
         ensures untold { OnErr result (HasToldBoards self.old self.new family.number) }
     {
         match self.ask(family, values) {
-            Err(PageChildFault::Full { kind }) => self.ask_further(family, values, kind),
+            Err(PageChildFault::Full { kind, slots }) => {
+                self.ask_further(family, values, kind, slots)
+            }
             answer => answer,
         }
     }

@@ -37,7 +37,7 @@ impl NoBoard {
 #[derive(Clone, Copy, Debug, PartialEq, Eq, Error)]
 pub enum PageCrewFault {
     /// Refusal 31: the window is not 1 to 1,024.
-    #[error("31: the window is not 1 to 1024")]
+    #[error("31: the window is not 1 to 1,024 scrapes")]
     BadWindow,
     /// The first board is not made: refusal 13 or 6.
     #[error(transparent)]

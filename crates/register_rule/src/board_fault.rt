@@ -9,10 +9,10 @@ use thiserror::Error;
 pub enum BoardFault {
     /// Refusal 13: workers are not 1 to 32, counters over 256, histograms over 32, gauges over 64, or readers not
     /// 1 to 4.
-    #[error("workers, slots or readers are out of range")]
+    #[error("13: 1 to 32 workers, at most 256 counters, 32 histograms, 64 gauges, and 1 to 4 readers")]
     Geometry,
     /// Refusal 6: a growth was refused.
-    #[error("no memory")]
+    #[error("6: out of memory")]
     NoMemory,
 }
 

@@ -16,7 +16,7 @@ use Rattle.registry_state.specs.Faults.{HasSlot, IsMissingChild, IsChildFault}
 use Rattle.registry_state.specs.Calls.{IsLeastFree, IsHandle, WasMade}
 use Rattle.registry_state.specs.declared.handle.Handle.{Handle}
 use Rattle.registry_state.specs.declared.fault.ChildFault.{ChildFault}
-use Rattle.registry_state.specs.declared.fault.ChildFault.TheVariants.{Full, NoMemory}
+use Rattle.registry_state.specs.declared.fault.ChildFault.TheVariants.{NoMemory}
 use Rattle.registry_state.proofs.Entries.{newest_change}
 use Rattle.registry_state.proofs.Keeping.{keeps_at_change}
 use Rattle.registry_state.proofs.Ordered.{order_made}
@@ -145,7 +145,8 @@ module _ (c h g : ℕ) (families : List Family) (used : Kind → ℕ) (held : Ar
   wanted = at_some (λ (family : Family). IsMissingChild family values) families number it there some
 
   -- every slot of its kind is used
-  pub is_full : slots c h g kind ≤ used kind → IsChildFault c h g families number values (Full kind)
+  pub is_full : slots c h g kind ≤ used kind → IsSomeAnd (slice_get families number)
+      (λ (family : Family). IsMissingChild family values × (kind ≡ family.desc.kind) × (¬ (HasSlot c h g families kind)))
   is_full full =
       some_at (λ (family : Family). IsMissingChild family values × (kind ≡ family.desc.kind) × (¬ (HasSlot c h g families kind)))
       families number it there

@@ -53,8 +53,8 @@ abbrev pub IsChildFault : (c h g : ℕ) → List Family → (family : ℕ) → (
 IsChildFault c h g families family values Child.NoSuchFamily = length families ≤ family
 IsChildFault c h g families family values (Child.LabelCount want got) =
     IsSomeAnd (slice_get families family) (λ (it : Family). (want ≡ length it.desc.labels) × (got ≡ length values) × (want ≢ got))
-IsChildFault c h g families family values (Child.Full kind) =
-    IsSomeAnd (slice_get families family) (λ (it : Family). IsMissingChild it values × (kind ≡ it.desc.kind)
+IsChildFault c h g families family values (Child.Full kind many) = (many ≡ slots c h g kind)
+    × IsSomeAnd (slice_get families family) (λ (it : Family). IsMissingChild it values × (kind ≡ it.desc.kind)
     × (¬ (HasSlot c h g families kind)))
 IsChildFault c h g families family values Child.NoMemory =
     IsSomeAnd (slice_get families family) (λ (it : Family). IsMissingChild it values × HasSlot c h g families it.desc.kind)
@@ -84,7 +84,7 @@ register_fault_number Register.NoMemory = 6
 abbrev pub child_fault_number : ChildFault → ℕ
 child_fault_number Child.NoSuchFamily = 20
 child_fault_number (Child.LabelCount want got) = 21
-child_fault_number (Child.Full kind) = 22
+child_fault_number (Child.Full kind many) = 22
 child_fault_number Child.NoMemory = 6
 
 -- the number of each refusal of a scrape

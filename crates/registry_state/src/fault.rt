@@ -12,7 +12,7 @@ use thiserror::Error;
 #[derive(Clone, Copy, Debug, PartialEq, Eq, Error)]
 pub enum NewFault {
     /// Refusal 31: a registry keeps 1 to 1,024 scrapes.
-    #[error("a registry keeps 1 to 1,024 scrapes")]
+    #[error("the window is not 1 to 1,024 scrapes")]
     BadWindow,
     /// Refusal 6: a growth was refused.
     #[error("out of memory")]
@@ -33,7 +33,7 @@ impl NewFault {
 
 /// Refusal 31: a registry keeps 1 to 1,024 scrapes.
 #[derive(Clone, Copy, Debug, PartialEq, Eq, Error)]
-#[error("a registry keeps 1 to 1,024 scrapes")]
+#[error("the window is not 1 to 1,024 scrapes")]
 pub struct BadWindow;
 
 impl BadWindow {
@@ -49,7 +49,7 @@ impl BadWindow {
 #[derive(Clone, Copy, Debug, PartialEq, Eq, Error)]
 pub enum RegisterFault {
     /// Refusal 19: a name is shared with the lines of this family, by number, the least such.
-    #[error("a name is shared with the lines of the family {with}")]
+    #[error("a name is shared with the lines of family {with}, counted from 0 as they were registered")]
     Clash { with: usize },
     /// Refusal 23: 128 families are there.
     #[error("128 families are there")]
@@ -82,8 +82,8 @@ pub enum ChildFault {
     #[error("{got} label values for {want} labels")]
     LabelCount { want: usize, got: usize },
     /// Refusal 22: every slot of this kind is used.
-    #[error("every slot of this kind is used")]
-    Full { kind: Kind },
+    #[error("all {slots} {kind:?} slots are used")]
+    Full { kind: Kind, slots: usize },
     /// Refusal 6: a growth was refused.
     #[error("out of memory")]
     NoMemory,

@@ -393,8 +393,9 @@ impl<
         let desc = &self.families[number].desc;
         let kind = desc.kind();
         let slot = self.used.of(kind);
-        if slot >= slots_of::<C, H, G>(kind) {
-            return Err(ChildFault::Full { kind });
+        let slots = slots_of::<C, H, G>(kind);
+        if slot >= slots {
+            return Err(ChildFault::Full { kind, slots });
         }
         let handle = Handle::of(self.id, desc, slot);
         let child = child_of(alloc, values, slot)?;

@@ -78,10 +78,10 @@ missing_only c h g families number values (Child.LabelCount want got) missing is
     absurd (some_never (λ (it : Family). IsMissingChild it values × HasSlot c h g families it.desc.kind)
     (λ (it : Family). (want ≡ length it.desc.labels) × (got ≡ length values) × (want ≢ got)) (slice_get families number) missing is
     (λ it may not. not.2 (not.0 ∙ sym may.0.0 ∙ sym not.1)))
-missing_only c h g families number values (Child.Full kind) missing is =
+missing_only c h g families number values (Child.Full kind many) missing is =
     absurd (some_never (λ (it : Family). IsMissingChild it values × HasSlot c h g families it.desc.kind)
     (λ (it : Family). IsMissingChild it values × (kind ≡ it.desc.kind) × (¬ (HasSlot c h g families kind)))
-    (slice_get families number) missing is (λ it may not. not.2 (subst (HasSlot c h g families) (sym not.1) may.1)))
+    (slice_get families number) missing is.1 (λ it may not. not.2 (subst (HasSlot c h g families) (sym not.1) may.1)))
 missing_only c h g families number values Child.NoMemory missing is = refl
 
 -- a child that was missing was made

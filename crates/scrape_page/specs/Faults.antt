@@ -3,6 +3,7 @@ use Rattle.std.specs.Prelude.{◌≡◌, ◌≢◌, ℕ, ◌<◌, ◌≤◌, Lis
 use Rattle.std.specs.List.{Any}
 use Rattle.metric_desc.specs.Desc.{Descriptor, Clash}
 use Rattle.registry_state.specs.Kept.{RegistryView}
+use Rattle.registry_state.specs.Replay.{slots}
 use Rattle.scrape_page.specs.Families.{PageFamily, PageView}
 use Rattle.scrape_page.specs.Places.{values_of}
 use Rattle.scrape_page.specs.Rooms.{HasRoom, AreFull}
@@ -53,8 +54,8 @@ module _ {S : Type 0} where
       (want ≡ length it.desc.labels) × (got ≡ length values) × (want ≢ got))
   IsPageChildFault c h g page number values OfChild.TooManyChildren =
       IsSomeAnd (slice_get page.families number) (λ (it : PageFamily). IsMissing page.boards it values × (256 ≤ it.children))
-  IsPageChildFault c h g page number values (OfChild.Full kind) =
-      IsSomeAnd (slice_get page.families number) (λ (it : PageFamily). IsMissing page.boards it values × (it.children < 256)
+  IsPageChildFault c h g page number values (OfChild.Full kind many) = (many ≡ slots c h g kind)
+      × IsSomeAnd (slice_get page.families number) (λ (it : PageFamily). IsMissing page.boards it values × (it.children < 256)
       × (kind ≡ it.desc.kind) × AreFull c h g it.desc.kind page.boards)
   IsPageChildFault c h g page number values OfChild.NoMemory =
       IsSomeAnd (slice_get page.families number) (λ (it : PageFamily). IsMissing page.boards it values × (it.children < 256)
@@ -77,5 +78,5 @@ abbrev pub child_fault_number : PageChildFault → ℕ
 child_fault_number OfChild.NoSuchFamily = 20
 child_fault_number (OfChild.LabelCount want got) = 21
 child_fault_number OfChild.TooManyChildren = 46
-child_fault_number (OfChild.Full kind) = 22
+child_fault_number (OfChild.Full kind many) = 22
 child_fault_number OfChild.NoMemory = 6

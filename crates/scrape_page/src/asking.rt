@@ -9,7 +9,7 @@ use crate::page::Page;
 use crate::rooms::{first_with_room, roomiest};
 use metric_desc::{Desc, Kind};
 use metric_names::LabelValue;
-use registry_state::Handle;
+use registry_state::{Handle, slots_of};
 use snapshot_scan::Source;
 
 /// The most families of a page (`IsPage`).
@@ -52,7 +52,10 @@ impl<S: Source<N, C, H, G>, const N: usize, const C: usize, const H: usize, cons
     {
         let room = roomiest(&self.boards, kind);
         if room.free == 0 {
-            return PageChildFault::Full { kind };
+            return PageChildFault::Full {
+                kind,
+                slots: slots_of::<C, H, G>(kind),
+            };
         }
         PageChildFault::NoMemory
     }

@@ -36,7 +36,7 @@ impl BoardFault {
 #[derive(Clone, Copy, Debug, PartialEq, Eq, Error)]
 pub enum PageFamilyFault {
     /// Refusal 19: a name is shared with the lines of this family of the page, by number, the least such.
-    #[error("a name is shared with the lines of the family {with}")]
+    #[error("a name is shared with the lines of family {with}, counted from 0 as they were registered")]
     Clash { with: usize },
     /// Refusal 23: 128 families are there.
     #[error("128 families are there")]
@@ -72,8 +72,8 @@ pub enum PageChildFault {
     #[error("the family has 256 children")]
     TooManyChildren,
     /// Refusal 22: every slot of this kind is used, on every board.
-    #[error("every {kind:?} slot is used on every board")]
-    Full { kind: Kind },
+    #[error("all {slots} {kind:?} slots of each board are used")]
+    Full { kind: Kind, slots: usize },
     /// Refusal 6: a growth was refused.
     #[error("out of memory")]
     NoMemory,

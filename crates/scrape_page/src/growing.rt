@@ -8,7 +8,7 @@ use crate::page::Page;
 use crate::rooms::roomiest;
 use metric_desc::Kind;
 use metric_names::{LabelValue, NoMemory};
-use registry_state::Handle;
+use registry_state::{Handle, slots_of};
 use snapshot_scan::Source;
 
 impl<S: Source<N, C, H, G>, const N: usize, const C: usize, const H: usize, const G: usize> Page<
@@ -75,7 +75,10 @@ impl<S: Source<N, C, H, G>, const N: usize, const C: usize, const H: usize, cons
     {
         let room = roomiest(&self.boards, kind);
         if room.free == 0 {
-            return Err(PageChildFault::Full { kind });
+            return Err(PageChildFault::Full {
+                kind,
+                slots: slots_of::<C, H, G>(kind),
+            });
         }
         let Ok(part) = self.add_part(number, room.board) else {
             return Err(PageChildFault::NoMemory);

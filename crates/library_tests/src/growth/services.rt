@@ -75,8 +75,8 @@ fn gauge<S: Registers>(rt: &impl Abort, metrics: &mut Registrar<S>) -> Result<Ga
             },
         ) => {
             same(rt, fault.number(), 6);
-            let (registry, id) = (ID, family);
-            again(metrics.gauge_of(&GaugeFamily { registry, id }, &[]))
+            let family = GaugeFamily::of(ID, family, "g");
+            again(metrics.gauge_of(&family, &[]))
         }
     }
 }

@@ -93,9 +93,10 @@ fn refused_behind_a_lock(rt: HostRuntime) {
     let clash = MetricRefusal::Family(clash);
     same(rt, refused.map(|refused| refused.fault), Some(clash));
     let kind = Kind::Gauge;
-    let full = ChildRefusal::Child(PageChildFault::Full { kind });
+    let full = ChildRefusal::Child(PageChildFault::Full { kind, slots: 0 });
     let gauges = need(rt, metrics.gauge_family("g", "", &[]));
-    same(rt, metrics.gauge_of(&gauges, &[]), Err(full));
+    let refused = metrics.gauge_of(&gauges, &[]).err();
+    same(rt, refused.map(|refused| refused.fault), Some(full));
     for length in 0..256usize {
         let value = need(rt, "x".repeat(alloc, length));
         child(rt, &mut metrics, &family, &[value.as_str()]);

@@ -20,7 +20,10 @@ pub(crate) fn ask_child<S: Registers>(
     family: &CounterFamily,
     values: &[&str],
 ) -> Result<Counter, ChildRefusal> {
-    metrics.counter_of(family, values)
+    match metrics.counter_of(family, values) {
+        Ok(counter) => Ok(counter),
+        Err(refused) => Err(refused.fault),
+    }
 }
 
 /// A counter of this name.

@@ -25,6 +25,7 @@ fn refuses_values<S: Registers>(
 /// Every counter is used.
 const FULL: ChildRefusal = ChildRefusal::Child(PageChildFault::Full {
     kind: Kind::Counter,
+    slots: 4,
 });
 
 /// A value too few of a family of two labels, and one child more than there are slots. A child that is asked for again is the same one.

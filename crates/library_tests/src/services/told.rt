@@ -26,8 +26,12 @@ fn refusals_tell_their_numbers(rt: HostRuntime) {
     let reserved = "4: label 1: a label name does not begin with two underscores";
     is_told(rt, &label, reserved);
     let kind = Kind::Histogram;
-    let full = ChildRefusal::Child(PageChildFault::Full { kind });
-    is_told(rt, &full, "22: every Histogram slot is used on every board");
+    let full = ChildRefusal::Child(PageChildFault::Full { kind, slots: 8 });
+    is_told(
+        rt,
+        &full,
+        "22: all 8 Histogram slots of each board are used",
+    );
     is_told(
         rt,
         &NoBoard::Geometry,
@@ -57,6 +61,15 @@ fn refusals_tell_names(rt: HostRuntime) {
     };
     let told = "2: the byte at 1 cannot stand there in a metric name (a-b)";
     is_told(rt, &refused, told);
+    let family = need(rt, metrics.gauge_family("g", "", &["l"]));
+    let Err(refused) = metrics.gauge_of(&family, &["x"]) else {
+        rt.panic("a gauge of a board without gauges")
+    };
+    is_told(
+        rt,
+        &refused,
+        "22: all 0 Gauge slots of each board are used (g)",
+    );
     let long = need(rt, "x".repeat(alloc, 129));
     let Err(refused) = ask_counter(&mut metrics, long.as_str()) else {
         rt.panic("a name that is too long")

@@ -83,7 +83,7 @@ fn refuses(rt: &(impl Wait + Abort), alloc: Global, registry: &Two<'_>) {
     let none = registry.child(rt, family, &[]);
     same(rt, none, Err(ChildFault::LabelCount { want, got }));
     let full = registry.child(rt, family, &done(rt, values(alloc, &["/"])));
-    same(rt, full, Err(ChildFault::Full { kind }));
+    same(rt, full, Err(ChildFault::Full { kind, slots: 1 }));
     let family = there(rt, registry.family(rt, "c"));
     let again = need(rt, registry.child(rt, family, &[]));
     let (registry, slot) = (ID, 0);

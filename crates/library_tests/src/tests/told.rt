@@ -18,7 +18,7 @@ fn texts(rt: HostRuntime) {
     is_told(
         rt,
         &clash,
-        "a name is shared with the lines of the family 3",
+        "a name is shared with the lines of family 3, counted from 0 as they were registered",
     );
     let count = ChildFault::LabelCount { want: 2, got: 1 };
     is_told(rt, &count, "1 label values for 2 labels");

@@ -1,7 +1,7 @@
 use Rattle.std.proofs.Common.{rules, ◌≡◌, ℕ, List, [], ap, ◌∙◌}
 use Rattle.dirgwako.specs.Refused.{family_refusal_number}
 use Rattle.dirgwako.specs.Texts.{texts_of}
-use Rattle.dirgwako.specs.declared.family.CounterFamily.{CounterFamily}
+use Rattle.dirgwako_c.specs.declared.family.CounterFamily.{CounterFamily}
 use Rattle.metric_desc.specs.Desc.{Descriptor}
 use Rattle.metric_desc.specs.declared.kind.Kind.TheVariants as Kinds
 use Rattle.dirgwako_c.proofs.Made.{family_made, family_refused}
@@ -19,7 +19,7 @@ said bounds digits name help labels = record {
 
 pub returns-in-Ok-counter_family_shifted : goal.returns-in-Ok-counter_family_shifted
 returns-in-Ok-counter_family_shifted g c =
-    family_made c.args.registrar.now.at c.counter_family_shifted.new.self.at c.args.family.now c.in-Ok-counter_family_shifted.made c.args.group
+    family_made c.args.registrar.now.at c.counter_family_shifted.new.self.at c.args.family.now (record { registry = c.in-Ok-counter_family_shifted.made.registry; id = c.in-Ok-counter_family_shifted.made.id }) c.args.group
     (λ (f : CounterFamily). f.id) (λ (f : CounterFamily). f.registry) c.args.name.now c.args.help.now (texts_of c.args.labels.now)
     (said [] c.args.digits) c.in-Some-Some.name.now c.in-Some-Some.help.now (texts_of c.deref.result.now) c.in-Some-Some.ensures
     c.in-Some-Some.ensures' (ap texts_of c.deref.ensures.value ∙ c.in-Ok.ensures.texts) c.in-Ok.ensures.all

@@ -15,8 +15,8 @@ returns-in-Ok-counter_of g c =
 
 pub returns : goal.returns
 returns g c =
-    let number : c.from.result ≡ child_refusal_number c.in-Err-counter_of.fault = search rules in
+    let number : c.from.result ≡ child_refusal_number c.in-Err-counter_of.refused.fault = search rules in
     child_refused (λ (x : Counter). Handles.Counter x) c.args.registrar.now.at c.counter_of.new.self.at c.args.counter.now c.args.counter.now
     c.args.family.now.registry c.args.family.now.id (texts_of c.args.values.now) Kinds.Counter (texts_of c.deref.result.now)
-    (ap texts_of c.deref.ensures.value ∙ c.in-Ok.ensures.texts) c.in-Ok.ensures.all c.in-Err-counter_of.fault c.from.result number
+    (ap texts_of c.deref.ensures.value ∙ c.in-Ok.ensures.texts) c.in-Ok.ensures.all c.in-Err-counter_of.refused.fault c.from.result number
     c.in-Err-counter_of.ensures.fault

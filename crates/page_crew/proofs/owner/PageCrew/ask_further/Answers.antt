@@ -7,18 +7,18 @@ use Rattle.page_crew.proofs.owner.PageCrew.ask_further.Goals as goal
 pub returns-in-Ok-clause-given : goal.returns-in-Ok-clause-given
 returns-in-Ok-clause-given g c =
     given_further c.args.self.now c.add_board.new.self c.ask.new.self c.in-Ok.ensures.grown c.args.family.number c.args.values.now
-    c.args.kind c.ask.result c.ask.ensures.given
+    c.args.kind c.args.slots c.ask.result c.ask.ensures.given
 
 pub returns-in-Ok-clause-fault : goal.returns-in-Ok-clause-fault
 returns-in-Ok-clause-fault g c =
-    let more = c.if-slots_of-eq0.false in let is = c.slots_of.ensures in
+    let more = c.if-slots-eq0.false in let is = c.requires.full.0 in
     let some : 0 < slots g.row.C g.row.H g.row.G c.args.kind = omega (arith, more, is) in
     refused_further c.args.self.now c.add_board.new.self c.ask.new.self c.in-Ok.ensures.grown c.args.family.number c.args.values.now
-    c.args.kind c.requires.full c.in-Ok.ensures.few some c.ask.result c.ask.ensures.fault c.ask.ensures.leaves
+    c.args.kind c.args.slots c.requires.full c.in-Ok.ensures.few some c.ask.result c.ask.ensures.fault c.ask.ensures.leaves
 
 pub returns-in-Err-NoMemory-clause-fault : goal.returns-in-Err-NoMemory-clause-fault
 returns-in-Err-NoMemory-clause-fault g c =
-    let more = c.if-slots_of-eq0.false in let is = c.slots_of.ensures in
+    let more = c.if-slots-eq0.false in let is = c.requires.full.0 in
     let some : 0 < slots g.row.C g.row.H g.row.G c.args.kind = omega (arith, more, is) in
     inr (refl, search rules, some, inl c.in-Err-NoMemory.ensures.unchanged)
 

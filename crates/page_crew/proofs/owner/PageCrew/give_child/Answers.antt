@@ -15,7 +15,7 @@ returns-in-Err-Full-clause-given g c =
     c.in-Err-Full.field-0-is c.in-Err-Full.ensures.leaves in
     let full = subst (IsPageChildFault g.row.C g.row.H g.row.G (page_of c.args.self.now) number c.args.values.now)
     c.in-Err-Full.field-0-is c.in-Err-Full.ensures.fault in
-    given_then c.args.self.now c.ask.new.self c.ask_further.new.self same number c.args.values.now c.in-Err-Full.kind full
+    given_then c.args.self.now c.ask.new.self c.ask_further.new.self same number c.args.values.now c.in-Err-Full.kind c.in-Err-Full.slots full
     c.ask_further.result c.ask_further.ensures.given
 
 pub returns-in-Err-Full-clause-fault : goal.returns-in-Err-Full-clause-fault
@@ -26,7 +26,7 @@ returns-in-Err-Full-clause-fault g c =
     c.in-Err-Full.field-0-is c.in-Err-Full.ensures.leaves in
     let full = subst (IsPageChildFault g.row.C g.row.H g.row.G (page_of c.args.self.now) number c.args.values.now)
     c.in-Err-Full.field-0-is c.in-Err-Full.ensures.fault in
-    refused_then c.args.self.now c.ask.new.self c.ask_further.new.self same number c.args.values.now c.in-Err-Full.kind full
+    refused_then c.args.self.now c.ask.new.self c.ask_further.new.self same number c.args.values.now c.in-Err-Full.kind c.in-Err-Full.slots full
     c.ask_further.result c.ask_further.ensures.fault
 
 pub returns-in-Err-Full-clause-told : goal.returns-in-Err-Full-clause-told

@@ -16,9 +16,11 @@ pub returns-then-room-eq0 : goal.returns-then-room-eq0
 returns-then-room-eq0 g c =
     let C = g.row.C in let H = g.row.H in let G = g.row.G in
     let boards : c.deref.result.now ≡ c.args.self.now.boards =
-    c.deref.ensures.value ∙ ap (λ (p : PageView g.row.S.Denot). p.boards) c.self.view_is in
-    is_full C H G c.args.self.now c.args.number c.args.kind c.args.values.now c.requires
-    (subst (AreFull C H G c.args.kind) boards (c.roomiest-room.ensures.full c.if-room-eq0.true))
+    c.deref.ensures.value ∙ ap (λ (p : PageView g.row.S.Denot). p.boards) c.self.view_is in (
+      c.slots_of.ensures,
+      is_full C H G c.args.self.now c.args.number c.args.kind c.args.values.now c.requires
+          (subst (AreFull C H G c.args.kind) boards (c.roomiest-room.ensures.full c.if-room-eq0.true)),
+    )
 
 pub returns : goal.returns
 returns g c =
