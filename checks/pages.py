@@ -1,5 +1,5 @@
 """The pages: the README and the guides show programs word for word, and what stands in the tutorial and the example; each link
-of a page leads to a file, and a page names no file, call or definition that is not there."""
+of a page leads to a file; a page names no file, call or definition that is not there, in its commands too; and none tells what was before."""
 import functools
 import re
 
@@ -91,6 +91,31 @@ def files(root):
     return count
 
 
+def commands(root):
+    """How many files the pages' commands name, by the path from the top or from the page, each of which is there."""
+    count = 0
+    for page in pages_of(root):
+        for block in re.findall(r"^```sh\n(.*?)^```$", page.read_text(), re.M | re.S):
+            for path in re.findall(r"(?<![\w/.$-])((?:crates|docs|checks|compare|bindings)/[\w./-]+|[\w-]+\.(?:sh|yml|py))", block):
+                made = "NAME" in path or "/out" in path
+                beside = [root / path, page.parent / path, *root.glob(f"crates/*/fleet/{path}")]
+                check(made or any(it.exists() for it in beside), f"{page.relative_to(root)}: a command names {path}, which is there")
+                count += 1
+    return count
+
+
+DIARY = re.compile(r"\b(?:no longer|formerly|previously|used to be|until now|in the past|earlier version|(?:was|were|been) (?:renamed|moved|removed))\b", re.I)
+
+
+def diary(root):
+    """How many pages there are, none of which tells what was before."""
+    pages = pages_of(root)
+    for page in pages:
+        told = DIARY.search(page.read_text())
+        check(not told, f"{page.relative_to(root)} tells what is, and not what was: {told and told[0]}")
+    return len(pages)
+
+
 def definitions(root):
     """How many names docs/DEFINITIONS.md tells of, each of which stands in the crates."""
     there = set(re.findall(r"[A-Za-z_][\w']*", "\n".join(file.read_text() for file in sources_of(root))))
@@ -101,4 +126,4 @@ def definitions(root):
 
 
 def check_all(root):
-    return sum(part(root) for part in (shown, quoted, links, calls, files, definitions))
+    return sum(part(root) for part in (shown, quoted, links, calls, files, commands, diary, definitions))

@@ -9,6 +9,7 @@ import c_bench
 import c_library
 import clients
 import cpp_library
+import definitions
 import exit_statuses
 import no_memory
 import page_text
@@ -42,6 +43,7 @@ def checks_of(prefix):
 
     return [
         ("pages", lambda: pages.check_all(ROOT)),
+        ("definitions", lambda: definitions.check_all(ROOT)),
         ("wrong bodies", lambda: aside.check_all(ROOT)),
         ("vendor.sh", vendored.check_all),
         ("shifted numbers", lambda: shifted.check_exact(ROOT)),

@@ -3,10 +3,10 @@ import re
 import subprocess
 import urllib.request
 
-from programs import BARE, OURS, RUST, of_size
-from speeds import SIZES, Found
-from started import Failed, check, end, run, start
-from torn import numbers
+from compare.programs import BARE, OURS, RUST, of_size
+from compare.speeds import SIZES, Found
+from checks.started import Failed, check, end, run, start
+from compare.torn import numbers
 
 CONNECTIONS = (1, 32)
 

@@ -3,8 +3,8 @@ in one process, and prints it as a table."""
 import os
 import pathlib
 
-from programs import OUT, PYTHON, REGISTRY, ROOT
-from started import check, run
+from compare.programs import OUT, PYTHON, REGISTRY, ROOT
+from checks.started import check, run
 
 BINDINGS = ROOT / "bindings"
 LIBRARIES = BINDINGS / "out"

@@ -3,12 +3,11 @@ import os
 import pathlib
 import shutil
 import subprocess
-import sys
+
+from checks.started import Failed, check, run
 
 HERE = pathlib.Path(__file__).resolve().parent
 ROOT = HERE.parent
-sys.path.append(str(ROOT / "checks"))
-from started import Failed, check, run  # noqa: E402
 
 # Where all is built. Git ignores it.
 OUT = HERE / "out"

@@ -1,26 +1,17 @@
 """Runs the same work over Dirgwako and other client libraries, side by side, and writes results.md and two pictures.
 
-`python3 compare/run.py [--quick]`: the whole in some minutes. With `--quick` each measurement takes a second or less, and all goes to
+`python3 -B -m compare.run [--quick]`: the whole in some minutes. With `--quick` each measurement takes a second or less, and all goes to
 compare/out/, so that no figure of it is taken for one. The program over Dirgwako is bindings/c/bench, over bindings/out, which `rt` proves and
 builds where it is older than its sources. It installs nothing: what is missing is left out, and told.
 """
 import argparse
 import json
 import os
-import pathlib
 import signal
 import sys
 
-sys.dont_write_bytecode = True
-sys.path.insert(0, str(pathlib.Path(__file__).resolve().parent))
-import programs
-import loads
-import packages
-import series
-import speeds
-import table
-import torn
-from started import Failed, check, end_all, run
+from checks.started import Failed, check, end_all, run
+from compare import loads, packages, programs, series, speeds, table, torn
 
 
 # In so many runs scrapes are taken: a library may read its series in another order in each.

@@ -3,10 +3,10 @@ increments, and memory; and what the texts are."""
 import os
 import subprocess
 
-from loads import compare_texts
-from programs import GO, OURS, PEER_PYTHON, RUST, of_size
-from speeds import Found
-from started import check, run, start
+from compare.loads import compare_texts
+from compare.programs import GO, OURS, PEER_PYTHON, RUST, of_size
+from compare.speeds import Found
+from checks.started import check, run, start
 
 # How the series lie on boards, of which other libraries have none: of them the last two are one.
 HOWS = {

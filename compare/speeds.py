@@ -2,8 +2,8 @@
 import statistics
 from dataclasses import dataclass, field
 
-from programs import BARE, LIBRARIES, OURS, PEER_PYTHON, of_size
-from started import check, run
+from compare.programs import BARE, LIBRARIES, OURS, PEER_PYTHON, of_size
+from checks.started import check, run
 
 # An update, as the tables call it, and the name that the programs print it by.
 UPDATES = [("an increment", "inc"), ("an observation", "observe"), ("ten increments at once", "inc_10"), ("ten observations at once", "observe_10")]

@@ -5,10 +5,10 @@ import pathlib
 import platform
 import time
 
-from loads import CONNECTIONS
-from programs import BARE, GO, OURS, PEER_PYTHON, RUST, missing, versions
-from series import HOWS, as_peer
-from speeds import SIZES, TALLY, UPDATES, Turns
+from compare.loads import CONNECTIONS
+from compare.programs import BARE, GO, OURS, PEER_PYTHON, RUST, missing, versions
+from compare.series import HOWS, as_peer
+from compare.speeds import SIZES, TALLY, UPDATES, Turns
 
 PEERS = (RUST, GO, PEER_PYTHON)
 APART, TOGETHER = f"{OURS}, each change a version", f"{OURS}, a round one version"
@@ -81,7 +81,7 @@ def machine(load, is_quick):
     lines = [
         "# One run of the comparison",
         "",
-        "`python3 compare/run.py` makes this page, and the pictures [torn.svg](../docs/torn.svg) and [difference.svg](../docs/difference.svg).",
+        "`python3 -B -m compare.run` makes this page, and the pictures [torn.svg](../docs/torn.svg) and [difference.svg](../docs/difference.svg).",
         "What each line measures is told in [README.md](README.md). Two numbers, as `A (B)`, are the best and the median of the turns of this",
         "run: the best, the least of times and the most of rates, comes nearest to a machine whose host nobody else uses. Of four threads that",
         "count the median stands first: where a busy host runs them one behind the other they do not disturb each other, and seem fast. Ratios",

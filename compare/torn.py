@@ -7,7 +7,7 @@ all five are equal.
 """
 from dataclasses import dataclass, field
 
-from started import check, run
+from checks.started import check, run
 
 CHAIN = ("a_total", "b_total", "c_bytes_count", 'd_total{child="1"}', 'd_total{child="2"}')
 BYTES = 7

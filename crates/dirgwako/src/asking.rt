@@ -41,18 +41,14 @@ fn read_texts(
     ensures fault { IfErr result
         (IsUnread (shifted_family_of (kind_of shape.entry) name.now help.now labels.now (bounds_of shape.entry) digits)) }
 {
-    match MetricName::read(alloc, name) {
-        Ok(name) => match HelpText::read(alloc, help) {
-            Ok(help) => match read_labels(alloc, labels) {
-                Ok(labels) => Ok(Texts { name, help, labels }),
-                Err(bad) => Err(FamilyRefusal::Label {
-                    at: bad.at,
-                    fault: bad.fault,
-                }),
-            },
-            Err(fault) => Err(FamilyRefusal::Help(fault)),
-        },
-        Err(fault) => Err(FamilyRefusal::Name(fault)),
+    let name = MetricName::read(alloc, name).map_err(FamilyRefusal::Name)?;
+    let help = HelpText::read(alloc, help).map_err(FamilyRefusal::Help)?;
+    match read_labels(alloc, labels) {
+        Ok(labels) => Ok(Texts { name, help, labels }),
+        Err(bad) => Err(FamilyRefusal::Label {
+            at: bad.at,
+            fault: bad.fault,
+        }),
     }
 }
 
@@ -72,10 +68,7 @@ fn describe(
     ensures fault { IfErr result
         (IsUnread (shifted_family_of (kind_of shape.entry) name.now help.now labels.now (bounds_of shape.entry) digits)) }
 {
-    let Texts { name, help, labels } = match read_texts(alloc, shape, name, help, labels, digits) {
-        Ok(read) => read,
-        Err(fault) => return Err(fault),
-    };
+    let Texts { name, help, labels } = read_texts(alloc, shape, name, help, labels, digits)?;
     match shape {
         Shape::Counter => Desc::counter(name, help, labels).map_err(FamilyRefusal::Labels),
         Shape::Gauge => Desc::gauge(name, help, labels).map_err(FamilyRefusal::Labels),
@@ -102,13 +95,9 @@ fn describe_shifted(
     ensures fault { IfErr result
         (IsUnread (shifted_family_of (kind_of shape.entry) name.now help.now labels.now (bounds_of shape.entry) digits)) }
 {
-    match describe(alloc, shape, name, help, labels, digits) {
-        Ok(desc) => {
-            let _ = desc.labels();
-            desc.with_digits(digits).map_err(FamilyRefusal::Digits)
-        }
-        Err(fault) => Err(fault),
-    }
+    let desc = describe(alloc, shape, name, help, labels, digits)?;
+    let _ = desc.labels();
+    desc.with_digits(digits).map_err(FamilyRefusal::Digits)
 }
 
 /// Registers a family by plain texts.

@@ -66,15 +66,13 @@ impl<const N: usize, const C: usize, const H: usize, const G: usize> Crew<N, C, 
         ensures fresh { IfOk result (λ c. AreFresh readers (workers_of c) (readers_of c)) }
         ensures fault { IfErr result (IsBoardFault N C H G readers) }
     {
-        match snapshot_update::Crew::new(alloc, id, readers) {
-            Ok(made) => Ok(Crew {
-                alloc,
-                board: made.board,
-                workers: made.workers,
-                readers: made.readers,
-            }),
-            Err(fault) => Err(fault),
-        }
+        let made = snapshot_update::Crew::new(alloc, id, readers)?;
+        Ok(Crew {
+            alloc,
+            board: made.board,
+            workers: made.workers,
+            readers: made.readers,
+        })
     }
 
     /// Takes out the workers, the readers but the last, and the last. Where that is refused nothing is taken.
@@ -157,9 +155,7 @@ impl<const N: usize, const C: usize, const H: usize, const G: usize> Crew<N, C, 
         ensures window { OnOk result (IsWindow window) }
         ensures fault { IfErr result (IsOpenFault self.old window) }
     {
-        match self.open_state(window) {
-            Ok((state, recorders, scanners)) => Ok((Registry::lock(state), recorders, scanners)),
-            Err(fault) => Err(fault),
-        }
+        let (state, recorders, scanners) = self.open_state(window)?;
+        Ok((Registry::lock(state), recorders, scanners))
     }
 }

@@ -90,10 +90,9 @@ impl<R: Wait, const N: usize, const C: usize, const H: usize, const G: usize> Re
     }
 
     fn child(&mut self, family: FamilyId, values: &[LabelValue]) -> Result<Handle, PageChildFault> {
-        match self.registry.child(self.rt, family, values) {
-            Ok(handle) => Ok(handle),
-            Err(fault) => Err(child_fault(fault)),
-        }
+        self.registry
+            .child(self.rt, family, values)
+            .map_err(child_fault)
     }
 }
 
@@ -120,9 +119,6 @@ impl<
     }
 
     fn child(&mut self, family: FamilyId, values: &[LabelValue]) -> Result<Handle, PageChildFault> {
-        match RegistryState::child(self, family, values) {
-            Ok(handle) => Ok(handle),
-            Err(fault) => Err(child_fault(fault)),
-        }
+        RegistryState::child(self, family, values).map_err(child_fault)
     }
 }

@@ -80,13 +80,9 @@ impl GaugeCell {
             × IsPublishFault (change ∷ []) recorder.old why) }
         ensures unchanged { OnErr result (member_of (worker_in recorder.new) ≡ member_of (worker_in recorder.old)) }
     {
-        match recorder.publish(&[self.change_to(value)]) {
-            Ok(()) => {
-                self.told(value);
-                Ok(())
-            }
-            Err(fault) => Err(fault),
-        }
+        recorder.publish(&[self.change_to(value)])?;
+        self.told(value);
+        Ok(())
     }
 
     /// Sets the gauge, which is of a page: one version of its board.
@@ -109,12 +105,8 @@ impl GaugeCell {
         ensures first { first_of recorder.new ≡ first_of recorder.old }
         ensures feed { SameConsumer (feed_of recorder.old) (feed_of recorder.new) }
     {
-        match recorder.publish(&[self.change_to(value)]) {
-            Ok(()) => {
-                self.told(value);
-                Ok(())
-            }
-            Err(fault) => Err(fault),
-        }
+        recorder.publish(&[self.change_to(value)])?;
+        self.told(value);
+        Ok(())
     }
 }

@@ -5,7 +5,7 @@ use Rattle.std.proofs.lemmas.List.Elements.{All-head, All-tail}
 use Rattle.std.specs.List.{slice_split}
 use Rattle.expo_text.specs.Groups.{Group}
 use Rattle.expo_text.specs.Lines.{Malformed}
-use Rattle.expo_text.specs.Walked.{entry_of, parts_of}
+use Rattle.expo_text.proofs.Walked.{entry_of, parts_of}
 use Rattle.expo_text.specs.Reads.{Match, word_of, Reads}
 use Rattle.expo_text.specs.ReadsTo.{IsGroupTo}
 use Rattle.expo_text.proofs.PlainLaw.{reads_plain}

@@ -7,8 +7,8 @@ use Rattle.std.proofs.lemmas.List.Elements.{All-cons, All-nil}
 use Rattle.metric_names.specs.HelpText.{is_blank}
 use Rattle.expo_text.specs.Lines.{Malformed, AreBlanks, IsQuoted, NoByte, Plain, Escaped, IsLabelWord, IsLabelText, AreLabels}
 use Rattle.expo_text.specs.Lines.{NoLabel, LastLabel, NextLabel}
-use Rattle.expo_text.specs.Walked.{Place, BeforeName, InName, AfterName, BeforeValue, InValue, InEscape, AfterValue, Ended}
-use Rattle.expo_text.specs.Walked.{Failed, move, completed, has_ended, skip, value_entry, labels_entry}
+use Rattle.expo_text.proofs.Walked.{Place, BeforeName, InName, AfterName, BeforeValue, InValue, InEscape, AfterValue, Ended}
+use Rattle.expo_text.proofs.Walked.{Failed, move, completed, has_ended, skip, value_entry, labels_entry}
 use Rattle.expo_text.proofs.LabelsWalked.{IsInWord}
 
 -- one more blank in front of others

@@ -8,7 +8,7 @@ use Rattle.metric_names.specs.Spelling.{name_takes}
 use Rattle.metric_names.specs.HelpText.{is_blank}
 use Rattle.metric_names.specs.Escapes.{label_byte}
 use Rattle.expo_text.specs.Text.{label_text}
-use Rattle.expo_text.specs.Walked.{BeforeName, InName, BeforeValue, InValue, AfterValue, skip, value_entry, labels_entry}
+use Rattle.expo_text.proofs.Walked.{BeforeName, InName, BeforeValue, InValue, AfterValue, skip, value_entry, labels_entry}
 use Rattle.expo_text.proofs.Entries.{written_label}
 use Rattle.expo_text.proofs.Tokens.{Each, other_byte}
 use Rattle.expo_text.proofs.LabelsWalked.{step, escaped, unescaped}

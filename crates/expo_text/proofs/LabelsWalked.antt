@@ -6,8 +6,8 @@ use Rattle.std.proofs.lemmas.List.Elements.{All-head, All-tail}
 use Rattle.metric_names.specs.HelpText.{is_blank}
 use Rattle.expo_text.specs.Lines.{AreBlanks, IsQuoted, NoByte, Plain, Escaped, IsLabelWord, IsLabelText, AreLabels, NoLabel}
 use Rattle.expo_text.specs.Lines.{LastLabel, NextLabel}
-use Rattle.expo_text.specs.Walked.{Place, BeforeName, InName, AfterName, BeforeValue, InValue, InEscape, AfterValue, move}
-use Rattle.expo_text.specs.Walked.{completed, has_ended, skip, value_entry, labels_entry}
+use Rattle.expo_text.proofs.Walked.{Place, BeforeName, InName, AfterName, BeforeValue, InValue, InEscape, AfterValue, move}
+use Rattle.expo_text.proofs.Walked.{completed, has_ended, skip, value_entry, labels_entry}
 use Rattle.expo_text.proofs.Tokens.{other_byte}
 
 -- one byte that completes no label and ends no list

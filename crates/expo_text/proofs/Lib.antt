@@ -1,3 +1,4 @@
+pub mod Walked
 pub mod Lines
 pub mod Runs
 pub mod Braces

@@ -6,8 +6,8 @@ use Rattle.std.proofs.lemmas.Bool.{not_from_false, and_from}
 use Rattle.metric_names.specs.HelpText.{is_blank}
 use Rattle.expo_text.specs.Text.{label_text, labels_text}
 use Rattle.expo_text.specs.Lines.{is_same_text, Help, Typed, Sampled, Malformed}
-use Rattle.expo_text.specs.Walked.{skip, in_token, first, after, value_entry, in_name, after_name, type_entry, entry_from}
-use Rattle.expo_text.specs.Walked.{entry_of}
+use Rattle.expo_text.proofs.Walked.{skip, in_token, first, after, value_entry, in_name, after_name, type_entry, entry_from}
+use Rattle.expo_text.proofs.Walked.{entry_of}
 use Rattle.expo_text.proofs.Entries.{written_label}
 use Rattle.expo_text.proofs.Tokens.{Each, Stops, each_weaker, take_while_all, drop_while_all, other_byte}
 use Rattle.expo_text.proofs.LabelsRead.{is_name_byte, name_no_blank, IsNamed, AreNamed, labels_read}

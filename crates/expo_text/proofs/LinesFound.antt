@@ -8,8 +8,8 @@ use Rattle.std.proofs.lemmas.List.Elements.{All-head, All-cons, All-nil}
 use Rattle.metric_names.specs.HelpText.{is_blank}
 use Rattle.expo_text.specs.Lines.{is_same_text, LineEntry, Nothing, Help, Typed, Sampled, Malformed, AreBlanks, IsFirst, IsOnly}
 use Rattle.expo_text.specs.Lines.{IsSampleWord, IsHash, IsLine}
-use Rattle.expo_text.specs.Walked.{drop_while, skip, in_token, first, after, BeforeName, value_entry, labels_entry, in_name}
-use Rattle.expo_text.specs.Walked.{after_name, sample_entry, type_entry, hash_entry, entry_from, entry_of}
+use Rattle.expo_text.proofs.Walked.{drop_while, skip, in_token, first, after, BeforeName, value_entry, labels_entry, in_name}
+use Rattle.expo_text.proofs.Walked.{after_name, sample_entry, type_entry, hash_entry, entry_from, entry_of}
 use Rattle.expo_text.proofs.Tokens.{Each, Stops, each_weaker, take_while_all, drop_while_all}
 use Rattle.expo_text.proofs.LabelsFound.{labels_found}
 use Rattle.expo_text.proofs.Tokened.{other_text, token_byte, cut, skip_blanks, Blanks, blanks, blank_all, front_solid}

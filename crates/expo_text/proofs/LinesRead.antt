@@ -18,7 +18,7 @@ use Rattle.expo_text.specs.Shown.{Shown, shown_of_family, shown_line, shown_grou
 use Rattle.expo_text.proofs.ShownGroups.{ShownGroup, shown_groups, shown_group, shown_group_of_children}
 use Rattle.expo_text.specs.Text.{labels_text, help_line, kind_text, type_line}
 use Rattle.expo_text.specs.Lines.{AreLines, LineEntry, Typed, Malformed}
-use Rattle.expo_text.specs.Walked.{in_token, entry_of}
+use Rattle.expo_text.proofs.Walked.{in_token, entry_of}
 use Rattle.expo_text.specs.Reads.{Match, word_of}
 use Rattle.expo_text.proofs.Entries.{IsPrintedSample, IsPrintedGroup, sampled, help_entries, group_entries, entries_of}
 use Rattle.expo_text.proofs.Tokens.{Each, Stops, each_of, each_append, each_from_All, all_fail}

@@ -8,8 +8,8 @@ use Rattle.metric_names.specs.HelpText.{is_blank}
 use Rattle.expo_text.specs.Lines.{is_same_text, Written, LineEntry, Nothing, Help, Typed, Sampled, Malformed, AreBlanks}
 use Rattle.expo_text.specs.Lines.{EndsToken, IsFirst, NoToken, OneToken, IsOnly, IsSampleWord, IsBraced, IsBare, IsHash, IsHelp}
 use Rattle.expo_text.specs.Lines.{IsType, IsComment, IsLine}
-use Rattle.expo_text.specs.Walked.{skip, in_token, first, after, BeforeName, value_entry, labels_entry, in_name, after_name}
-use Rattle.expo_text.specs.Walked.{type_entry, hash_entry, entry_from, entry_of}
+use Rattle.expo_text.proofs.Walked.{skip, in_token, first, after, BeforeName, value_entry, labels_entry, in_name, after_name}
+use Rattle.expo_text.proofs.Walked.{type_entry, hash_entry, entry_from, entry_of}
 use Rattle.expo_text.proofs.Tokens.{Each, Stops, each_append, take_while_all, drop_while_all}
 use Rattle.expo_text.proofs.LabelsWalked.{labels_walked}
 use Rattle.expo_text.proofs.Tokened.{same_other, each_blank, all_blank, skip_blanks, skip_all, stops_solid, token_stops}

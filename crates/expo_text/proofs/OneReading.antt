@@ -8,7 +8,7 @@ use Rattle.metric_desc.specs.declared.kind.Kind.TheVariants.{Counter, Histogram,
 use Rattle.expo_text.specs.Samples.{Sample}
 use Rattle.expo_text.specs.Groups.{Group}
 use Rattle.expo_text.specs.Lines.{Written}
-use Rattle.expo_text.specs.Walked.{entry_of, parts_of, ReadsWalked}
+use Rattle.expo_text.proofs.Walked.{entry_of, parts_of, ReadsWalked}
 use Rattle.expo_text.proofs.Walks.{walked}
 use Rattle.expo_text.specs.Parts.{Part}
 use Rattle.expo_text.specs.Shifted.{WritesTo}

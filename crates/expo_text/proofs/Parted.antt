@@ -11,7 +11,7 @@ use Rattle.expo_text.specs.Spelled.{IsSpelledIfPrinted}
 use Rattle.expo_text.proofs.ShownGroups.{ShownGroup, shown_groups, group_for}
 use Rattle.expo_text.specs.Lines.{is_same_text, LineEntry, Help, Typed}
 use Rattle.expo_text.specs.Parts.{Part}
-use Rattle.expo_text.specs.Walked.{ends_of, has_end, begun, gathered, parts_of}
+use Rattle.expo_text.proofs.Walked.{ends_of, has_end, begun, gathered, parts_of}
 use Rattle.expo_text.specs.Reads.{word_of}
 use Rattle.expo_text.proofs.Entries.{written_of, help_entries, sampled, entries_of, helps_of, part_of}
 use Rattle.expo_text.proofs.Tokened.{same_self, same_other}

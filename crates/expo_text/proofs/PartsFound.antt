@@ -8,7 +8,7 @@ use Rattle.std.proofs.lemmas.List.Elements.{All-from_recursion}
 use Rattle.expo_text.specs.Lines.{is_same_text, Written, LineEntry, Nothing, Help, Typed, Sampled, Malformed}
 use Rattle.expo_text.specs.Parts.{Part, IsEnd, BucketEnd, SumEnd, CountEnd, NoEnd, IsNamedAfter, AreHeads, NoHead, HelpHead}
 use Rattle.expo_text.specs.Parts.{TypeHead, IsBlock, AreBlocks, NoBlock, NextBlock, is_of_group, AreParts}
-use Rattle.expo_text.specs.Walked.{ends_of, has_end, is_empty, joins, begun, gathered, parts_of}
+use Rattle.expo_text.proofs.Walked.{ends_of, has_end, is_empty, joins, begun, gathered, parts_of}
 use Rattle.expo_text.proofs.Tokened.{same_self, other_text}
 use Rattle.expo_text.proofs.Pairs.{Each, Pairs, each_weaker}
 use Rattle.expo_text.proofs.PartsWalked.{IsTyped, AreApart, three, parts_walked}

@@ -7,7 +7,7 @@ use Rattle.std.proofs.lemmas.List.Elements.{recursion_from_All}
 use Rattle.expo_text.specs.Lines.{is_same_text, Written, LineEntry, Nothing, Help, Typed, Sampled, Malformed}
 use Rattle.expo_text.specs.Parts.{Part, IsEnd, BucketEnd, SumEnd, CountEnd, NoEnd, IsNamedAfter, AreHeads, NoHead, HelpHead}
 use Rattle.expo_text.specs.Parts.{TypeHead, AreBlocks, NoBlock, NextBlock, is_of_group, AreParts}
-use Rattle.expo_text.specs.Walked.{ends_of, has_end, joins, joined, begun, gathered, parts_of}
+use Rattle.expo_text.proofs.Walked.{ends_of, has_end, joins, joined, begun, gathered, parts_of}
 use Rattle.expo_text.proofs.Tokened.{same_self, same_other}
 use Rattle.expo_text.proofs.Pairs.{Each, Pairs, each_weaker}
 

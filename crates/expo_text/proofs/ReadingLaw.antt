@@ -7,7 +7,7 @@ use Rattle.expo_text.specs.Order.{IsScrape}
 use Rattle.expo_text.specs.Spelled.{IsSpelledIfPrinted}
 use Rattle.expo_text.specs.Shown.{shown_text}
 use Rattle.expo_text.specs.Groups.{Group}
-use Rattle.expo_text.specs.Walked.{parts_of, ReadsWalked}
+use Rattle.expo_text.proofs.Walked.{parts_of, ReadsWalked}
 use Rattle.expo_text.proofs.Walks.{found}
 use Rattle.expo_text.specs.Reads.{Match}
 use Rattle.expo_text.specs.ReadsTo.{groups_to, IsGroupTo, ReadsTo}

@@ -8,7 +8,7 @@ use Rattle.std.proofs.lemmas.List.Elements.{All-head, All-tail, All-cons, All-ni
 use Rattle.metric_names.specs.HelpText.{is_blank}
 use Rattle.expo_text.specs.Lines.{is_same_text, AreBlanks, HasNoBlank, IsToken, EndsToken, HasNoBlankInFront, IsFirst, NoToken}
 use Rattle.expo_text.specs.Lines.{OneToken, IsOnly}
-use Rattle.expo_text.specs.Walked.{drop_while, skip, in_token, first, after}
+use Rattle.expo_text.proofs.Walked.{drop_while, skip, in_token, first, after}
 use Rattle.expo_text.proofs.Tokens.{Each, Stops, take_while_all, drop_while_all}
 use Rattle.expo_text.proofs.LabelsFound.{more_blank, no_blanks}
 

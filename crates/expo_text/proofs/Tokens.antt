@@ -6,7 +6,7 @@ use Rattle.std.specs.List.{prefix_len, list_all}
 use Rattle.std.proofs.Math.Seq.{take-append_seam, drop-append_seam}
 use Rattle.std.proofs.lemmas.Bool.{and_parts, both_ways, false_from_ne_true}
 use Rattle.std.proofs.lemmas.List.Elements.{All-head, All-tail, All-cons, All-nil}
-use Rattle.expo_text.specs.Walked.{drop_while}
+use Rattle.expo_text.proofs.Walked.{drop_while}
 
 -- each byte passes the test
 abbrev pub Each : (ℕ → Bool) → List ℕ → Type 0

@@ -7,7 +7,7 @@ use Rattle.expo_text.specs.Lines.{LineEntry, Malformed, IsLine}
 use Rattle.expo_text.specs.Parts.{Part}
 use Rattle.expo_text.specs.Reads.{Match, word_of}
 use Rattle.expo_text.specs.ReadsTo.{IsGroupTo, ReadsTo}
-use Rattle.expo_text.specs.Walked.{entry_of, parts_of, ReadsWalked}
+use Rattle.expo_text.proofs.Walked.{entry_of, parts_of, ReadsWalked}
 use Rattle.expo_text.proofs.LinesWalked.{line_walked}
 use Rattle.expo_text.proofs.LinesFound.{line_found}
 use Rattle.expo_text.proofs.Pairs.{Each, Pairs, pairs_recursion}

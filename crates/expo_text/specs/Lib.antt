@@ -14,4 +14,3 @@ pub mod Lines
 pub mod Parts
 pub mod Reads
 pub mod ReadsTo
-pub mod Walked

@@ -13,8 +13,13 @@ use Rattle.snapshot_update.specs.declared.worker.Worker.{Worker}
 use Rattle.snapshot_update.specs.Workers.{index_of, lists_of, member_of, ops_in, IsApplyFault, IsWorkerOf}
 use Rattle.metrics_program.specs.declared.metrics.Metrics.{Metrics}
 use Rattle.metrics_program.specs.declared.threads.Four.{Four}
-use Rattle.metrics_program.specs.Counted.{AreFour, AreNewWorkers, HasCounted, HaveCounted, IsNewWorker, WasCounted, list_for}
+use Rattle.metrics_program.specs.Counted.{AreNewWorkers, HasCounted, HaveCounted, IsNewWorker, WasCounted, list_for}
 use Rattle.metrics_program.specs.Counted.{AreAnswered, all_of}
+
+-- they are those of the board, at home, and their order is that of their indexes
+pub record AreFour (b : Board 4 64 8 16) (four : Four) : Type 0 where
+  pub of_board : All (IsWorkerOf b) (all_of four)
+  pub index : map index_of (all_of four) ≡ 0 ∷ 1 ∷ 2 ∷ 3 ∷ []
 
 module _ (b : Board 4 64 8 16) (m : Metrics) where
   -- no reply yet

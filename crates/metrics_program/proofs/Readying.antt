@@ -10,14 +10,18 @@ use Rattle.script_lines.specs.declared.line.Line.TheVariants.{Nothing, Counter, 
 use Rattle.script_lines.specs.declared.line.Line.TheVariants.{Settle, Window}
 use Rattle.snapshot_scan.specs.Readers.{IsReaderOf}
 use Rattle.snapshot_scan.specs.Scanners.{board_in, reader_in}
+use Rattle.snapshot_scan.specs.declared.scanner.Scanner.{Scanner}
 use Rattle.snapshot_update.specs.declared.worker.Worker.{Worker}
 use Rattle.snapshot_update.specs.Workers.{index_of, IsWorkerOf}
 use Rattle.metrics_program.specs.Done.{IsDone, IsStepped}
 use Rattle.metrics_program.specs.Refusals.{IsActRefusal, IsRefused}
-use Rattle.metrics_program.specs.State.{Scans}
 use Rattle.metrics_program.specs.State.{IsReady, IsRegistered, IsSame}
 use Rattle.metrics_program.specs.declared.line_fault.LineFault.{LineFault}
 use Rattle.metrics_program.specs.declared.state.State.{State}
+
+-- a source over the program's board
+abbrev pub Scans : Type 0
+Scans = Scanner 4 64 8 16
 
 -- a family more leaves all ready
 pub registered_ready : (old new : State) (desc : Descriptor) → IsRegistered desc old new → IsReady old → IsReady new

@@ -90,11 +90,6 @@ replies_counted counted = length counted.0.replies + length counted.1.replies + 
 abbrev pub all_of : Four → List (Worker 4 64 8 16)
 all_of four = four.a ∷ four.b ∷ four.c ∷ four.d ∷ []
 
--- they are those of the board, at home, and their order is that of their indexes
-pub record AreFour (b : Board 4 64 8 16) (four : Four) : Type 0 where
-  pub of_board : All (IsWorkerOf b) (all_of four)
-  pub index : map index_of (all_of four) ≡ 0 ∷ 1 ∷ 2 ∷ 3 ∷ []
-
 -- So many replies were counted: each of the four workers of a new board has counted replies, and nothing else, and
 -- these are so many together; and that is the total of the counters of all statuses, of which no two are one, by a
 -- snapshot of all that the four have counted. The journal of the registry that was served replays: it begins with what

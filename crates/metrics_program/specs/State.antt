@@ -25,11 +25,6 @@ use Rattle.metrics_program.specs.Jobs.{job_for, with_jobs}
 use Rattle.metrics_program.specs.Waiting.{lists_in}
 use Rattle.metrics_program.specs.declared.state.State.{State}
 use Rattle.metrics_program.specs.declared.state.Count.{Count}
-use Rattle.snapshot_scan.specs.declared.scanner.Scanner.{Scanner}
-
--- a source over the program's board
-abbrev pub Scans : Type 0
-Scans = Scanner 4 64 8 16
 
 -- the workers are the four of the board, in order and at home; the registry scans the board and has its id; the
 -- reader that settles is of the board; and each worker has a list of jobs

@@ -208,9 +208,6 @@ impl<'a> State<'a> {
         let Ok(window) = usize::try_from(size) else {
             return Err(LineFault::Window(BadWindow));
         };
-        match self.registry.set_window(window) {
-            Ok(kept) => Ok(kept),
-            Err(fault) => Err(LineFault::Window(fault)),
-        }
+        self.registry.set_window(window).map_err(LineFault::Window)
     }
 }

@@ -1,6 +1,6 @@
 -- The replay of a journal: by its parts, one entry further, and without its oldest scrapes.
 use Rattle.std.proofs.Common.{◌≡◌, ℕ, zero, suc, ◌-◌, ◌<◌, ◌≤◌, List, [], ◌∷◌, ◌++◌, length, refl, ap, sym, subst, ◌∙◌, arith}
-use Rattle.std.specs.Prelude.{Option, Some, None}
+use Rattle.std.specs.Prelude.{⊤, Option, Some, None}
 use Rattle.std.proofs.lemmas.List.{length-drop}
 use Rattle.std.proofs.lemmas.Option.{none-some}
 use Rattle.register_rule.specs.declared.view.Answer.{Answer}
@@ -8,8 +8,22 @@ use Rattle.register_rule.specs.Members.{newest}
 use Rattle.registry_state.specs.Journal.{RegistryChange, Entry, Changed, Scraped, changes, scrapes, without_oldest, without}
 use Rattle.registry_state.specs.Journal.{within}
 use Rattle.registry_state.specs.Replay.{Family, State, nothing, IsAcceptedChange, IsNext, after, Leads, Replays}
-use Rattle.registry_state.specs.Parts.{families_after, AreAccepted, AreNext, ReplaysByParts}
+use Rattle.registry_state.specs.Parts.{families_after, AreAccepted}
 use Rattle.registry_state.proofs.Entries.{scrapes_less}
+
+module _ (n c h g : ℕ) where
+  -- each scrape is accepted after the one before it
+  abbrev AreNext : Option Answer → List Answer → Type 0
+  AreNext last [] = ⊤
+  AreNext last (answer ∷ rest) = IsNext n c h g last answer × AreNext (Some answer) rest
+
+  -- the changes are accepted one after the other, and so are the scrapes; and the state has what the changes made, and the last
+  -- scrape
+  record ReplaysByParts (journal : List Entry) (state : State) : Type 0 where
+    accepted : AreAccepted n c h g [] (changes journal)
+    scraped : AreNext None (scrapes journal)
+    families : state.families ≡ families_after [] (changes journal)
+    last : state.last ≡ newest (scrapes journal)
 
 -- the last of these answers, or else the one before them
 abbrev last_of : Option Answer → List Answer → Option Answer

@@ -1,7 +1,8 @@
 -- Results that are gathered, one after the other.
 use Rattle.std.proofs.Common.{◌≡◌, ⊎_elim, inl, inr, ℕ, zero, suc, ◌<◌, ◌≤◌, List, [], ◌∷◌, ◌++◌, length, map, Option, Some, None}
 use Rattle.std.proofs.Common.{Ok, Err, sym, refl, ap, ◌∙◌, subst, append_assoc, arith}
-use mathlib.Core.Option.{some-injective, some-ne-none}
+use mathlib.Core.Option.{some, some-injective, some-ne-none}
+use lib.ListN.{get_elem?}
 use Rattle.std.proofs.lemmas.List.{append-nil, map-append}
 use Rattle.register_rule.proofs.Words.{at_below, last_is}
 use Rattle.snapshot_update.specs.declared.worker.Worker.{Worker}
@@ -9,12 +10,20 @@ use Rattle.worker_pool.specs.declared.fault.PoolFault.{PoolFault}
 use Rattle.worker_pool.specs.declared.fault.PoolFault.TheVariants.{NoThread}
 use Rattle.worker_pool.specs.Faults.{IsEarlier, IsLeast}
 use Rattle.worker_pool.specs.Ends.{Occurred}
-use Rattle.worker_pool.specs.Pledges.{EndedBy, Gathers}
 use Rattle.worker_pool.proofs.Joined.{End}
 use Rattle.worker_pool.proofs.Least.{Best, least_more}
 use Rattle.worker_pool.proofs.Places.{stays, at_end}
 
 module _ {N C H G : ℕ} where
+  -- the worker at this place ended by this fault
+  abbrev EndedBy : List (End N C H G) → (place : ℕ) → PoolFault → Type 0
+  EndedBy ends place f = get_elem? ends place ≡ some (Err f)
+
+  -- so far: these workers were handed back, in this order; or of the faults by which workers ended this one is told
+  abbrev Gathers : List (End N C H G) → List (Worker N C H G) → Option PoolFault → Type 0
+  Gathers ends vs None = ends ≡ map Ok vs
+  Gathers ends vs (Some f) = IsLeast (EndedBy ends) f
+
   same_fault : (f g : PoolFault) → ◌≡◌ {A = End N C H G} (Err f) (Err g) → f ≡ g
   same_fault f g e = cc
 

@@ -1,5 +1,5 @@
 -- What the threads of a pool have promised, and what their results came to.
-use Rattle.std.specs.Prelude.{◌≡◌, ℕ, List, length, map, Option, Some, None, Result, Ok, Err, Bool}
+use Rattle.std.specs.Prelude.{◌≡◌, ℕ, List, length, Result, Bool}
 use Rattle.std.specs.declared.thread.PromisedHandle.{PromisedHandle}
 use mathlib.Core.Option.{some}
 use lib.ListN.{get_elem?}
@@ -8,7 +8,6 @@ use Rattle.snapshot_update.specs.declared.worker.Worker.{Worker}
 use Rattle.worker_pool.specs.declared.fault.PoolFault.{PoolFault}
 use Rattle.worker_pool.specs.declared.job.Job.{Job}
 use Rattle.worker_pool.specs.declared.promise.Does.{Does}
-use Rattle.worker_pool.specs.Faults.{IsLeast}
 use Rattle.worker_pool.specs.Jobs.{jobs_at}
 use Rattle.worker_pool.specs.Works.{IsWorkEnd}
 
@@ -39,13 +38,3 @@ module _ {N C H G : ℕ} {Q : Type 0} (lists_of : Q → List (List Job)) where
         → get_elem? hs i ≡ some h → get_elem? ends i ≡ some end
         → IsWorkEnd h.promise.always_open h.promise.board.now h.promise.place
         (jobs_at (lists_of h.promise.lists.now) h.promise.place) h.promise.was.value end
-
-module _ {N C H G : ℕ} where
-  -- the worker at this place ended by this fault
-  abbrev pub EndedBy : List (Result (Worker N C H G) PoolFault) → (place : ℕ) → PoolFault → Type 0
-  EndedBy ends place f = get_elem? ends place ≡ some (Err f)
-
-  -- so far: these workers were handed back, in this order; or of the faults by which workers ended this one is told
-  abbrev pub Gathers : List (Result (Worker N C H G) PoolFault) → List (Worker N C H G) → Option PoolFault → Type 0
-  Gathers ends vs None = ends ≡ map Ok vs
-  Gathers ends vs (Some f) = IsLeast (EndedBy ends) f

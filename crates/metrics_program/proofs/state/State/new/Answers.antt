@@ -1,6 +1,6 @@
 use Rattle.std.proofs.Common.{refl, ap}
 use Rattle.registry_state.specs.Kept.{RegistryView}
-use Rattle.metrics_program.specs.State.{Scans}
+use Rattle.metrics_program.proofs.Readying.{Scans}
 use Rattle.metrics_program.proofs.state.State.new.Goals as goal
 
 pub returns-in-Ok-clause-fresh : goal.returns-in-Ok-clause-fresh
