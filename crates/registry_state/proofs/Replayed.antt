@@ -13,17 +13,17 @@ use Rattle.registry_state.proofs.Entries.{scrapes_less}
 
 module _ (n c h g : ℕ) where
   -- each scrape is accepted after the one before it
-  abbrev AreNext : Option Answer → List Answer → Type 0
+  abbrev pub AreNext : Option Answer → List Answer → Type 0
   AreNext last [] = ⊤
   AreNext last (answer ∷ rest) = IsNext n c h g last answer × AreNext (Some answer) rest
 
   -- the changes are accepted one after the other, and so are the scrapes; and the state has what the changes made, and the last
   -- scrape
-  record ReplaysByParts (journal : List Entry) (state : State) : Type 0 where
-    accepted : AreAccepted n c h g [] (changes journal)
-    scraped : AreNext None (scrapes journal)
-    families : state.families ≡ families_after [] (changes journal)
-    last : state.last ≡ newest (scrapes journal)
+  pub record ReplaysByParts (journal : List Entry) (state : State) : Type 0 where
+    pub accepted : AreAccepted n c h g [] (changes journal)
+    pub scraped : AreNext None (scrapes journal)
+    pub families : state.families ≡ families_after [] (changes journal)
+    pub last : state.last ≡ newest (scrapes journal)
 
 -- the last of these answers, or else the one before them
 abbrev last_of : Option Answer → List Answer → Option Answer

@@ -16,11 +16,11 @@ use Rattle.worker_pool.proofs.Places.{stays, at_end}
 
 module _ {N C H G : ℕ} where
   -- the worker at this place ended by this fault
-  abbrev EndedBy : List (End N C H G) → (place : ℕ) → PoolFault → Type 0
+  abbrev pub EndedBy : List (End N C H G) → (place : ℕ) → PoolFault → Type 0
   EndedBy ends place f = get_elem? ends place ≡ some (Err f)
 
   -- so far: these workers were handed back, in this order; or of the faults by which workers ended this one is told
-  abbrev Gathers : List (End N C H G) → List (Worker N C H G) → Option PoolFault → Type 0
+  abbrev pub Gathers : List (End N C H G) → List (Worker N C H G) → Option PoolFault → Type 0
   Gathers ends vs None = ends ≡ map Ok vs
   Gathers ends vs (Some f) = IsLeast (EndedBy ends) f
 

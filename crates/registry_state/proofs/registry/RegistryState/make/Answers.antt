@@ -27,11 +27,11 @@ returns-then-slot-slots-clause-fault g c =
     c.kind-kind.ensures ∙ ap (λ (d : Descriptor). d.kind)
     (c.deref.ensures ∙ ap (λ (family : Family). family.desc) c.behind-self.view_is) in
     let full : slots g.row.C g.row.H g.row.G c.kind-kind.result ≤ used c.kind-kind.result =
-    subst (λ n. n ≤ used c.kind-kind.result) c.slots_of.ensures
-    (subst (λ n. c.slots_of.result ≤ n) c.of-slot.ensures c.if-slot-slots.true) in
+    subst (λ n. n ≤ used c.kind-kind.result) c.slots_of-slots.ensures
+    (subst (λ n. c.slots_of-slots.result ≤ n) c.of-slot.ensures c.if-slot-slots.true) in
     subst (λ (l : List Family). IsChildFault g.row.C g.row.H g.row.G l c.args.number c.args.values.now
-    (Full c.kind-kind.result c.slots_of.result)) seen (
-      c.slots_of.ensures,
+    (Full c.kind-kind.result c.slots_of-slots.result)) seen (
+      c.slots_of-slots.ensures,
       is_full g.row.C g.row.H g.row.G c.self.inside.families.items used c.self.invariant.held c.args.number c.args.values.now
           c.index.result.now c.kind-kind.result some c.index.ensures kind full,
     )
@@ -49,8 +49,8 @@ returns-in_err-child-clause-fault g c =
     c.kind-kind.ensures ∙ ap (λ (d : Descriptor). d.kind)
     (c.deref.ensures ∙ ap (λ (family : Family). family.desc) c.behind-self.view_is) in
     let room : used c.kind-kind.result < slots g.row.C g.row.H g.row.G c.kind-kind.result =
-    subst (λ n. used c.kind-kind.result < n) c.slots_of.ensures
-    (subst (λ n. n < c.slots_of.result) c.of-slot.ensures c.if-slot-slots.false) in
+    subst (λ n. used c.kind-kind.result < n) c.slots_of-slots.ensures
+    (subst (λ n. n < c.slots_of-slots.result) c.of-slot.ensures c.if-slot-slots.false) in
     only_memory (IsChildFault g.row.C g.row.H g.row.G c.args.self.now.state.families c.args.number c.args.values.now)
     c.from_residual.result c.from_residual.ensures.1
     (subst (λ (l : List Family). IsChildFault g.row.C g.row.H g.row.G l c.args.number c.args.values.now NoMemory) seen
@@ -75,8 +75,8 @@ returns-in_err-put_noted-clause-fault g c =
     c.kind-kind.ensures ∙ ap (λ (d : Descriptor). d.kind)
     (c.deref.ensures ∙ ap (λ (family : Family). family.desc) c.behind-self.view_is) in
     let room : used c.kind-kind.result < slots g.row.C g.row.H g.row.G c.kind-kind.result =
-    subst (λ n. used c.kind-kind.result < n) c.slots_of.ensures
-    (subst (λ n. n < c.slots_of.result) c.of-slot.ensures c.if-slot-slots.false) in
+    subst (λ n. used c.kind-kind.result < n) c.slots_of-slots.ensures
+    (subst (λ n. n < c.slots_of-slots.result) c.of-slot.ensures c.if-slot-slots.false) in
     only_memory (IsChildFault g.row.C g.row.H g.row.G c.args.self.now.state.families c.args.number c.args.values.now)
     c.from_residual-in_err-put_noted.result c.from_residual-in_err-put_noted.ensures.1
     (subst (λ (l : List Family). IsChildFault g.row.C g.row.H g.row.G l c.args.number c.args.values.now NoMemory) seen
@@ -96,8 +96,8 @@ invariant_of-self-2 g c =
     c.kind-kind.ensures ∙ ap (λ (d : Descriptor). d.kind)
     (c.deref.ensures ∙ ap (λ (family : Family). family.desc) c.behind-self.view_is) in
     let room : used c.kind-kind.result < slots g.row.C g.row.H g.row.G c.kind-kind.result =
-    subst (λ n. used c.kind-kind.result < n) c.slots_of.ensures
-    (subst (λ n. n < c.slots_of.result) c.of-slot.ensures c.if-slot-slots.false) in
+    subst (λ n. used c.kind-kind.result < n) c.slots_of-slots.ensures
+    (subst (λ n. n < c.slots_of-slots.result) c.of-slot.ensures c.if-slot-slots.false) in
     let child : c.in_ok-child.child ≡ record { values = c.args.values.now; slot = c.of-slot.result } = c.in_ok-child.ensures in
     let journal : c.put_noted.new.journal ≡ c.self.inside.journal ++ Changed
     (ChildMade c.args.number c.args.values.now c.of-slot.result) ∷ [] =
@@ -123,8 +123,8 @@ returns-clause-made g c =
     c.kind-kind.ensures ∙ ap (λ (d : Descriptor). d.kind)
     (c.deref.ensures ∙ ap (λ (family : Family). family.desc) c.behind-self.view_is) in
     let room : used c.kind-kind.result < slots g.row.C g.row.H g.row.G c.kind-kind.result =
-    subst (λ n. used c.kind-kind.result < n) c.slots_of.ensures
-    (subst (λ n. n < c.slots_of.result) c.of-slot.ensures c.if-slot-slots.false) in
+    subst (λ n. used c.kind-kind.result < n) c.slots_of-slots.ensures
+    (subst (λ n. n < c.slots_of-slots.result) c.of-slot.ensures c.if-slot-slots.false) in
     let child : c.in_ok-child.child ≡ record { values = c.args.values.now; slot = c.of-slot.result } = c.in_ok-child.ensures in
     let journal : c.put_noted.new.journal ≡ c.self.inside.journal ++ Changed
     (ChildMade c.args.number c.args.values.now c.of-slot.result) ∷ [] =
@@ -162,7 +162,7 @@ returns-clause-inside g c =
     let handle : IsHandle c.self.inside.id c.index.result.now.desc c.of-slot.result c.of-handle.result =
     subst (λ (d : Descriptor). IsHandle c.self.inside.id d c.of-slot.result c.of-handle.result) desc c.of-handle.ensures in
     let low : c.of-slot.result < slots g.row.C g.row.H g.row.G c.kind-kind.result =
-    subst (λ n. c.of-slot.result < n) c.slots_of.ensures c.if-slot-slots.false in
+    subst (λ n. c.of-slot.result < n) c.slots_of-slots.ensures c.if-slot-slots.false in
     is_inside g.row.C g.row.H g.row.G c.self.inside.id c.index.result.now.desc c.of-slot.result c.of-handle.result handle
     (subst (λ (k : Kind). c.of-slot.result < slots g.row.C g.row.H g.row.G k) kind low)
 
