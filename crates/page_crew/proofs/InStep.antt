@@ -23,16 +23,17 @@ module _ {N C H G : ℕ} where
   )
 
   module _ (old mid new : PageCrew N C H G) (same : IsUnchanged mid new) (number : ℕ) where
-    further_after : (kind : Kind) (why : PageChildFault) → IsRefusedFurther old mid number kind why → IsRefusedFurther old new number kind why
-    further_after kind why (inl none) = inl (none.0, none.1, unchanged_from old mid new none.2 same)
-    further_after kind why (inr (memory, few, some, inl none)) = inr (memory, few, some, inl (unchanged_from old mid new none same))
-    further_after kind why (inr (memory, few, some, inr (far, grown, did))) =
+    further_after : (kind : Kind) (many : ℕ) (why : PageChildFault) → IsRefusedFurther old mid number kind many why
+        → IsRefusedFurther old new number kind many why
+    further_after kind many why (inl none) = inl (none.0, none.1, unchanged_from old mid new none.2 same)
+    further_after kind many why (inr (memory, few, some, inl none)) = inr (memory, few, some, inl (unchanged_from old mid new none same))
+    further_after kind many why (inr (memory, few, some, inr (far, grown, did))) =
         inr (memory, few, some, inr (far, grown, did_after far mid new same (λ a b. LeavesPage C H G a b number NoMemory) did))
 
     pub refused_after : (values : List (List ℕ)) (why : PageChildFault) → IsRefusedByCrew old mid number values why
         → IsRefusedByCrew old new number values why
     refused_after values why (inl (fault, other, did)) = inl (fault, other, did_after old mid new same (λ a b. LeavesPage C H G a b number why) did)
-    refused_after values why (inr (kind, full, further)) = inr (kind, full, further_after kind why further)
+    refused_after values why (inr (kind, many, full, further)) = inr (kind, many, full, further_after kind many why further)
 
     boards_after : news_of new ≡ news_of mid → HasToldBoards old mid number → HasToldBoards old new number
     boards_after news (inl none) =
