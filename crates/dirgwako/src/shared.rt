@@ -6,7 +6,7 @@ ghost use Rattle.page_crew.specs.Locking.{ShowsMoments};
 
 use expo_text::Scrape;
 use metric_registry::{Named, RegistryOf};
-use page_crew::{FromPage, PageRegistry};
+use page_crew::PageRegistry;
 use scrape_http::{NoScrape, ScrapeFrom};
 use scrape_server::FromRegistry;
 use std::sync::Wait;

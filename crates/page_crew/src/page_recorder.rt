@@ -16,8 +16,10 @@ use std::alloc::{AllocError, Global};
 /// The most boards of a page.
 const MOST: usize = 96;
 
-/// What a thread counts with: its worker of each board of a page. It may move to a thread of its own. Its calls take no lock and no
-/// memory, and wait for nobody. A board that came to the page after this was made is met at the first call by a handle of it.
+/// What a thread counts with on a page: its worker of each board. It may move to a thread of its own. Its calls take no lock and no
+/// memory, and wait for nobody: their steps are bounded whatever others do. Where a scrape has failed to read once, a call that publishes may
+/// rest first, some tens of microseconds at most ([`register_rule::Board::rest_if_hushed`]). A board that came to the page after this was made is
+/// met at the first call by a handle of it.
 pub struct PageRecorder<const N: usize, const C: usize, const H: usize, const G: usize> {
     first: u64,
     recorders: Vec<SharedRecorder<N, C, H, G>>,
@@ -106,8 +108,8 @@ impl<const N: usize, const C: usize, const H: usize, const G: usize> PageRecorde
         self.recorders.len()
     }
 
-    // The place of the board of this id.
-    fn place_of(&self, id: u64) -> Option<usize>
+    // The place of the board of this id, among those that it knows.
+    fn known_place(&self, id: u64) -> Option<usize>
         ensures { MatchOption result (All (λ r. id_in r ≢ id) (recorders_of self.now))
             (λ place. IsSomeAnd (slice_get (recorders_of self.now) place) (λ r. id_in r ≡ id)) }
     {
@@ -125,7 +127,7 @@ impl<const N: usize, const C: usize, const H: usize, const G: usize> PageRecorde
     pub(crate) fn recorder_on(&self, board: u64) -> Option<&SharedRecorder<N, C, H, G>>
         ensures { MatchOption result (All (λ r. id_in r ≢ board) (recorders_of self.now)) (λ r. CountsWith board self.now r.now) }
     {
-        match self.place_of(board) {
+        match self.known_place(board) {
             Some(place) => Some(&self.recorders[place]),
             None => None,
         }
@@ -139,11 +141,11 @@ impl<const N: usize, const C: usize, const H: usize, const G: usize> PageRecorde
         ensures first { first_of self.new ≡ first_of self.old }
         ensures feed { SameConsumer (feed_of self.old) (feed_of self.new) }
     {
-        if let Some(place) = self.place_of(id) {
+        if let Some(place) = self.known_place(id) {
             return Some(place);
         }
         let _boards = self.join();
-        self.place_of(id)
+        self.known_place(id)
     }
 
     /// Publishes these operations, which are by handles of the board of this id, as one version: all of them or nothing.

@@ -15,7 +15,8 @@ use register_rule::Board;
 use snapshot_update::{ApplyFault, CountFault, Worker};
 use std::sync::Arc;
 
-/// A worker, and a share in its board. It may move to a thread of its own. Its calls take no lock and no memory, and wait for nobody.
+/// What a thread counts with on one board of a page: a worker, and a share in its board. It may move to a thread of its own. Its calls take no
+/// lock and no memory, and wait for nobody, as those of a [`PageRecorder`](crate::PageRecorder).
 pub struct SharedRecorder<const N: usize, const C: usize, const H: usize, const G: usize> {
     board: Arc<Board<N, C, H, G>>,
     worker: Worker<N, C, H, G>,
