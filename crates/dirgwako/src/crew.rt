@@ -155,7 +155,9 @@ impl<const N: usize, const C: usize, const H: usize, const G: usize> Crew<N, C, 
         ensures window { OnOk result (IsWindow window) }
         ensures fault { IfErr result (IsOpenFault self.old window) }
     {
-        let (state, recorders, scanners) = self.open_state(window)?;
-        Ok((Registry::lock(state), recorders, scanners))
+        match self.open_state(window) {
+            Ok((state, recorders, scanners)) => Ok((Registry::lock(state), recorders, scanners)),
+            Err(fault) => Err(fault),
+        }
     }
 }

@@ -105,8 +105,12 @@ impl GaugeCell {
         ensures first { first_of recorder.new ≡ first_of recorder.old }
         ensures feed { SameConsumer (feed_of recorder.old) (feed_of recorder.new) }
     {
-        recorder.publish(&[self.change_to(value)])?;
-        self.told(value);
-        Ok(())
+        match recorder.publish(&[self.change_to(value)]) {
+            Ok(()) => {
+                self.told(value);
+                Ok(())
+            }
+            Err(fault) => Err(fault),
+        }
     }
 }
