@@ -208,6 +208,9 @@ impl<'a> State<'a> {
         let Ok(window) = usize::try_from(size) else {
             return Err(LineFault::Window(BadWindow));
         };
-        self.registry.set_window(window).map_err(LineFault::Window)
+        match self.registry.set_window(window) {
+            Ok(kept) => Ok(kept),
+            Err(fault) => Err(LineFault::Window(fault)),
+        }
     }
 }

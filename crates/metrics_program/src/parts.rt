@@ -47,7 +47,10 @@ fn read_help(alloc: Global, help: &str) -> Result<HelpText, LineFault>
     let Ok(text) = unescape(alloc, help) else {
         return Err(LineFault::NoMemory);
     };
-    HelpText::read(alloc, text.as_str()).map_err(LineFault::Help)
+    match HelpText::read(alloc, text.as_str()) {
+        Ok(help) => Ok(help),
+        Err(fault) => Err(LineFault::Help(fault)),
+    }
 }
 
 /// One label value of a line.
@@ -60,7 +63,10 @@ fn read_value(alloc: Global, written: &str) -> Result<LabelValue, LineFault>
     let Ok(text) = unescape(alloc, written) else {
         return Err(LineFault::NoMemory);
     };
-    LabelValue::read(alloc, text.as_str()).map_err(LineFault::Value)
+    match LabelValue::read(alloc, text.as_str()) {
+        Ok(value) => Ok(value),
+        Err(fault) => Err(LineFault::Value(fault)),
+    }
 }
 
 /// The label values of a line's child.
@@ -113,10 +119,18 @@ fn read_parts(alloc: Global, parts: Parts<'_>) -> Result<Read, LineFault>
     ensures good { OnOk result (AreGoodParts parts.entry.name.now parts.entry.labels.now parts.entry.help.now) }
     ensures fault { IfErr result (IsPartsRefusal parts.entry.name.now parts.entry.labels.now parts.entry.help.now) }
 {
-    let name = MetricName::read(alloc, parts.name).map_err(LineFault::Name)?;
-    let labels = read_labels(alloc, parts.labels)?;
-    let help = read_help(alloc, parts.help)?;
-    Ok(Read { name, labels, help })
+    let name = match MetricName::read(alloc, parts.name) {
+        Ok(name) => name,
+        Err(fault) => return Err(LineFault::Name(fault)),
+    };
+    let labels = match read_labels(alloc, parts.labels) {
+        Ok(labels) => labels,
+        Err(fault) => return Err(fault),
+    };
+    match read_help(alloc, parts.help) {
+        Ok(help) => Ok(Read { name, labels, help }),
+        Err(fault) => Err(fault),
+    }
 }
 
 /// The descriptor of a family of counters.
@@ -126,8 +140,14 @@ pub(crate) fn counter_of(alloc: Global, parts: Parts<'_>) -> Result<Desc, LineFa
         (λ bounds. bounds ≡ [])) }
     ensures fault { IfErr result (IsPlainRefusal parts.entry.name.now parts.entry.labels.now parts.entry.help.now) }
 {
-    let read = read_parts(alloc, parts)?;
-    Desc::counter(read.name, read.help, read.labels).map_err(LineFault::Labels)
+    let read = match read_parts(alloc, parts) {
+        Ok(read) => read,
+        Err(fault) => return Err(fault),
+    };
+    match Desc::counter(read.name, read.help, read.labels) {
+        Ok(desc) => Ok(desc),
+        Err(fault) => Err(LineFault::Labels(fault)),
+    }
 }
 
 /// The descriptor of a family of gauges.
@@ -137,8 +157,14 @@ pub(crate) fn gauge_of(alloc: Global, parts: Parts<'_>) -> Result<Desc, LineFaul
         (λ bounds. bounds ≡ [])) }
     ensures fault { IfErr result (IsPlainRefusal parts.entry.name.now parts.entry.labels.now parts.entry.help.now) }
 {
-    let read = read_parts(alloc, parts)?;
-    Desc::gauge(read.name, read.help, read.labels).map_err(LineFault::Labels)
+    let read = match read_parts(alloc, parts) {
+        Ok(read) => read,
+        Err(fault) => return Err(fault),
+    };
+    match Desc::gauge(read.name, read.help, read.labels) {
+        Ok(desc) => Ok(desc),
+        Err(fault) => Err(LineFault::Labels(fault)),
+    }
 }
 
 /// The descriptor of a family of histograms.
@@ -150,9 +176,15 @@ pub(crate) fn histogram_of(alloc: Global, parts: Parts<'_>, bounds: &str) -> Res
     ensures fault { IfErr result
         (IsHistogramRefusal parts.entry.name.now parts.entry.labels.now parts.entry.help.now bounds.now) }
 {
-    let read = read_parts(alloc, parts)?;
+    let read = match read_parts(alloc, parts) {
+        Ok(read) => read,
+        Err(fault) => return Err(fault),
+    };
     let Ok(numbers) = bounds_of(alloc, bounds) else {
         return Err(LineFault::NoMemory);
     };
-    Desc::histogram(read.name, read.help, read.labels, &numbers).map_err(LineFault::Histogram)
+    match Desc::histogram(read.name, read.help, read.labels, &numbers) {
+        Ok(desc) => Ok(desc),
+        Err(fault) => Err(LineFault::Histogram(fault)),
+    }
 }
