@@ -1,6 +1,6 @@
 -- What a page has done, as C is answered.
 use Rattle.std.proofs.Common.{◌≡◌, ℕ, List, All, refl, inr, subst}
-use Rattle.std.specs.Prelude.{Ok, Err, IsUtf8}
+use Rattle.std.specs.Prelude.{Result, Ok, Err, IsUtf8}
 use Rattle.page_crew.specs.Owned.{first_of}
 use Rattle.dirgwako.specs.Refused.{family_refusal_number, child_refusal_number}
 use Rattle.dirgwako.specs.declared.fault.ChildRefusal.{ChildRefusal}
@@ -86,14 +86,21 @@ module _ {N C H G : ℕ} where
     ))
 
   module _ {A : Type 0} (handle_of : A → Handle) (before after : Grouped N C H G) (had has : A) (registry : ℕ) (id : FamilyId)
-      (values : List (List ℕ)) (kind : Kind) (v : List (List ℕ)) (are : v ≡ values) (all : All IsUtf8 values) where
-    pub child_given : AsksChildAt before after registry id v kind (Ok (handle_of has))
+      (values : List (List ℕ)) (kind : Kind) (v : List (List ℕ)) (are : v ≡ values) (all : All IsUtf8 values) (r : ℕ) (i : FamilyId)
+      (same_registry : r ≡ registry) (same_id : i ≡ id) where
+    asked : (result : Result Handle ChildRefusal) → AsksChildAt before after r i v kind result
+        → AsksChildAt before after registry id values kind result
+    asked result asks = subst (λ (x : List (List ℕ)). AsksChildAt before after registry id x kind result) are
+        (subst (λ (j : FamilyId). AsksChildAt before after registry j v kind result) same_id
+        (subst (λ (q : ℕ). AsksChildAt before after q i v kind result) same_registry asks))
+
+    pub child_given : AsksChildAt before after r i v kind (Ok (handle_of has))
         → GivesChildBy 0 before after had has handle_of registry id values kind
     child_given asks = inr (
       all,
       record {
         given = Ok (handle_of has);
-        asks = subst (λ (x : List (List ℕ)). AsksChildAt before after registry id x kind (Ok (handle_of has))) are asks;
+        asks = asked (Ok (handle_of has)) asks;
         answer_is = refl;
         told = refl;
         kept = tt;
@@ -101,12 +108,12 @@ module _ {N C H G : ℕ} where
     )
 
     pub child_refused : (fault : ChildRefusal) (answer : ℕ) → answer ≡ child_refusal_number fault
-        → AsksChildAt before after registry id v kind (Err fault) → GivesChildBy answer before after had had handle_of registry id values kind
+        → AsksChildAt before after r i v kind (Err fault) → GivesChildBy answer before after had had handle_of registry id values kind
     child_refused fault answer number asks = inr (
       all,
       record {
         given = Err fault;
-        asks = subst (λ (x : List (List ℕ)). AsksChildAt before after registry id x kind (Err fault)) are asks;
+        asks = asked (Err fault) asks;
         answer_is = number;
         told = tt;
         kept = refl;
