@@ -48,42 +48,9 @@ fn open_one<
     opened[place] = remembered[place].look(board, seat, place, known);
 }
 
-/// Opens four places, as [`open_one`].
+/// Opens so many places, from `from` on, where those before are opened, as [`open_one`].
 #[inline(always)]
-fn open_four<
-    S: ScanSeat<N, C, H, G>,
-    const N: usize,
-    const C: usize,
-    const H: usize,
-    const G: usize,
->(
-    board: &Board<N, C, H, G>,
-    seat: &mut S,
-    remembered: &mut [RememberedRow],
-    opened: &mut [u64],
-    place: usize,
-    known: &mut bool,
-)
-    requires of_board { MayScan board.now (S.bundle seat.old) }
-    requires deep { depth N (width C H G) ≤ 2529 }
-    requires inside { (place + 4 ≤ N) × (length remembered.old ≡ N) × (length opened.old ≡ N) }
-    requires wide { All (IsWide (width C H G)) remembered.old }
-    ensures table { table_of (S.bundle seat.new) ≡ table_of (S.bundle seat.old) }
-    ensures leads { HasMember (members_of (S.bundle seat.new)) }
-    ensures wide { All (IsWide (width C H G)) remembered.new }
-    ensures opened { (ms : List Member) (rows : List RememberedRow)
-        → HasOpened (width C H G) place ms rows (members_of (S.bundle seat.old)) remembered.old opened.old known.old
-        → HasOpened (width C H G) (place + 4) ms rows (members_of (S.bundle seat.new)) remembered.new opened.new known.new }
-{
-    open_one(board, seat, remembered, opened, place, known);
-    open_one(board, seat, remembered, opened, place + 1, known);
-    open_one(board, seat, remembered, opened, place + 2, known);
-    open_one(board, seat, remembered, opened, place + 3, known);
-}
-
-/// Opens the places from `from` on, where those before are opened, as [`open_one`].
-#[inline(always)]
-fn open_rest<
+fn open_places<
     S: ScanSeat<N, C, H, G>,
     const N: usize,
     const C: usize,
@@ -95,19 +62,22 @@ fn open_rest<
     remembered: &mut [RememberedRow],
     opened: &mut [u64],
     from: usize,
+    count: usize,
     known: &mut bool,
 )
     requires of_board { MayScan board.now (S.bundle seat.old) }
     requires deep { depth N (width C H G) ≤ 2529 }
-    requires inside { (from ≤ N) × (length remembered.old ≡ N) × (length opened.old ≡ N) }
+    requires inside { (from + count ≤ N) × (length remembered.old ≡ N) × (length opened.old ≡ N) }
     requires wide { All (IsWide (width C H G)) remembered.old }
     ensures table { table_of (S.bundle seat.new) ≡ table_of (S.bundle seat.old) }
+    ensures leads { HasMember (members_of (S.bundle seat.new)) }
+    ensures wide { All (IsWide (width C H G)) remembered.new }
     ensures opened { (ms : List Member) (rows : List RememberedRow)
         → HasOpened (width C H G) from ms rows (members_of (S.bundle seat.old)) remembered.old opened.old known.old
-        → HasOpened (width C H G) N ms rows (members_of (S.bundle seat.new)) remembered.new opened.new known.new }
+        → HasOpened (width C H G) (from + count) ms rows (members_of (S.bundle seat.new)) remembered.new opened.new known.new }
 {
-    for place in from..N {
-        open_one(board, seat, remembered, opened, place, known);
+    for k in 0..count {
+        open_one(board, seat, remembered, opened, from + k, known);
     }
 }
 
@@ -141,8 +111,24 @@ pub(crate) fn collect<
     let turns = N / TURN;
     let mut known = true;
     for turn in 0..turns {
-        open_four(board, seat, remembered, opened, TURN * turn, &mut known);
+        open_places(
+            board,
+            seat,
+            remembered,
+            opened,
+            TURN * turn,
+            TURN,
+            &mut known,
+        );
     }
-    open_rest(board, seat, remembered, opened, TURN * turns, &mut known);
+    open_places(
+        board,
+        seat,
+        remembered,
+        opened,
+        TURN * turns,
+        N % TURN,
+        &mut known,
+    );
     known
 }

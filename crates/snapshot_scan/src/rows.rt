@@ -68,40 +68,9 @@ fn read_one<
     put_word(words, changed, k, word);
 }
 
-/// Reads four words of a row, from the word `k` on, where those before it are read.
+/// Reads so many words of a row, from the word `from` on, where those before it are read.
 #[inline(always)]
-fn read_four<
-    S: ScanSeat<N, C, H, G>,
-    const N: usize,
-    const C: usize,
-    const H: usize,
-    const G: usize,
->(
-    board: &Board<N, C, H, G>,
-    seat: &mut S,
-    place: usize,
-    number: u64,
-    k: usize,
-    words: &mut [u64],
-    changed: &mut ChangedItems,
-)
-    requires of_board { MayScan board.now (S.bundle seat.old) }
-    requires inside { (place < N) × (k + 4 ≤ length words.old) × (length words.old ≡ width C H G) }
-    ensures table { table_of (S.bundle seat.new) ≡ table_of (S.bundle seat.old) }
-    ensures leads { HasMember (members_of (S.bundle seat.new)) }
-    ensures read { (ms : List Member) (row : List ℕ) (listed : ChangedView)
-        → IsReadTo (width C H G) place number k ms (members_of (S.bundle seat.old)) row words.old listed changed.old
-        → IsReadTo (width C H G) place number (k + 4) ms (members_of (S.bundle seat.new)) row words.new listed changed.new }
-{
-    read_one(board, seat, place, number, k, words, changed);
-    read_one(board, seat, place, number, k + 1, words, changed);
-    read_one(board, seat, place, number, k + 2, words, changed);
-    read_one(board, seat, place, number, k + 3, words, changed);
-}
-
-/// Reads the words of a row from the word `from` on, where those before it are read.
-#[inline(always)]
-fn read_rest<
+fn read_words<
     S: ScanSeat<N, C, H, G>,
     const N: usize,
     const C: usize,
@@ -113,18 +82,20 @@ fn read_rest<
     place: usize,
     number: u64,
     from: usize,
+    count: usize,
     words: &mut [u64],
     changed: &mut ChangedItems,
 )
     requires of_board { MayScan board.now (S.bundle seat.old) }
-    requires inside { (place < N) × (from ≤ length words.old) × (length words.old ≡ width C H G) }
+    requires inside { (place < N) × (from + count ≤ length words.old) × (length words.old ≡ width C H G) }
     ensures table { table_of (S.bundle seat.new) ≡ table_of (S.bundle seat.old) }
-    ensures read { (ms : List Member) (row : List ℕ) (listed : ChangedView) → IsReadTo (width C H G) place number from ms
-        (members_of (S.bundle seat.old)) row words.old listed changed.old
-        → IsReadTo (width C H G) place number (width C H G) ms (members_of (S.bundle seat.new)) row words.new listed changed.new }
+    ensures leads { HasMember (members_of (S.bundle seat.new)) }
+    ensures read { (ms : List Member) (row : List ℕ) (listed : ChangedView)
+        → IsReadTo (width C H G) place number from ms (members_of (S.bundle seat.old)) row words.old listed changed.old
+        → IsReadTo (width C H G) place number (from + count) ms (members_of (S.bundle seat.new)) row words.new listed changed.new }
 {
-    for k in from..words.len() {
-        read_one(board, seat, place, number, k, words, changed);
+    for k in 0..count {
+        read_one(board, seat, place, number, from + k, words, changed);
     }
 }
 
@@ -155,7 +126,26 @@ pub(crate) fn read_row<
 {
     let turns = words.len() / TURN;
     for turn in 0..turns {
-        read_four(board, seat, place, number, TURN * turn, words, changed);
+        read_words(
+            board,
+            seat,
+            place,
+            number,
+            TURN * turn,
+            TURN,
+            words,
+            changed,
+        );
     }
-    read_rest(board, seat, place, number, TURN * turns, words, changed);
+    let rest = words.len() % TURN;
+    read_words(
+        board,
+        seat,
+        place,
+        number,
+        TURN * turns,
+        rest,
+        words,
+        changed,
+    );
 }

@@ -50,40 +50,9 @@ fn confirm_one<
     same & (opened[place] == again)
 }
 
-/// Confirms four places.
+/// Confirms so many places, from `from` on, where those before are confirmed, as [`confirm_one`].
 #[inline(always)]
-fn confirm_four<
-    S: ScanSeat<N, C, H, G>,
-    const N: usize,
-    const C: usize,
-    const H: usize,
-    const G: usize,
->(
-    board: &Board<N, C, H, G>,
-    seat: &mut S,
-    opened: &[u64],
-    found: &mut [u64],
-    place: usize,
-    same: bool,
-) -> bool
-    requires of_board { MayScan board.now (S.bundle seat.old) }
-    requires geometry { IsGeometry N C H G }
-    requires inside { (place + 4 ≤ N) × (length opened.now ≡ N) × (length found.old ≡ N) }
-    ensures table { table_of (S.bundle seat.new) ≡ table_of (S.bundle seat.old) }
-    ensures leads { HasMember (members_of (S.bundle seat.new)) }
-    ensures confirmed { (ms : List Member) (gs : List RememberedRow) → length gs ≡ N → HasConfirmed N C H G place ms gs opened.now
-        (members_of (S.bundle seat.old)) found.old same
-        → HasConfirmed N C H G (place + 4) ms gs opened.now (members_of (S.bundle seat.new)) found.new result }
-{
-    let one = confirm_one(board, seat, opened, found, place, same);
-    let two = confirm_one(board, seat, opened, found, place + 1, one);
-    let three = confirm_one(board, seat, opened, found, place + 2, two);
-    confirm_one(board, seat, opened, found, place + 3, three)
-}
-
-/// Confirms the places from `from` on, where those before are confirmed.
-#[inline(always)]
-fn confirm_rest<
+fn confirm_places<
     S: ScanSeat<N, C, H, G>,
     const N: usize,
     const C: usize,
@@ -95,19 +64,21 @@ fn confirm_rest<
     opened: &[u64],
     found: &mut [u64],
     from: usize,
+    count: usize,
     same: bool,
 ) -> bool
     requires of_board { MayScan board.now (S.bundle seat.old) }
     requires geometry { IsGeometry N C H G }
-    requires inside { (from ≤ N) × (length opened.now ≡ N) × (length found.old ≡ N) }
+    requires inside { (from + count ≤ N) × (length opened.now ≡ N) × (length found.old ≡ N) }
     ensures table { table_of (S.bundle seat.new) ≡ table_of (S.bundle seat.old) }
+    ensures leads { HasMember (members_of (S.bundle seat.new)) }
     ensures confirmed { (ms : List Member) (gs : List RememberedRow) → length gs ≡ N → HasConfirmed N C H G from ms gs opened.now
         (members_of (S.bundle seat.old)) found.old same
-        → HasConfirmed N C H G N ms gs opened.now (members_of (S.bundle seat.new)) found.new result }
+        → HasConfirmed N C H G (from + count) ms gs opened.now (members_of (S.bundle seat.new)) found.new result }
 {
     let mut all = same;
-    for place in from..N {
-        all = confirm_one(board, seat, opened, found, place, all);
+    for k in 0..count {
+        all = confirm_one(board, seat, opened, found, from + k, all);
     }
     all
 }
@@ -143,9 +114,9 @@ pub(crate) fn confirm_known<
     let turns = N / TURN;
     let mut same = true;
     for turn in 0..turns {
-        same = confirm_four(board, seat, opened, found, TURN * turn, same);
+        same = confirm_places(board, seat, opened, found, TURN * turn, TURN, same);
     }
-    confirm_rest(board, seat, opened, found, TURN * turns, same)
+    confirm_places(board, seat, opened, found, TURN * turns, N % TURN, same)
 }
 
 /// The second collect of a try. It says whether each number was found again. Where the totals change is listed in `changed_totals`.

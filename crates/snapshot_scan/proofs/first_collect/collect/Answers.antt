@@ -40,13 +40,13 @@ pub loop-turn-preserved : goal.loop-turn-preserved
 loop-turn-preserved g c =
     let w : ℕ = width g.row.C g.row.H g.row.G in let bundle = g.S.ScanSeat.bundle in
     let ms = members_of (bundle c.args.seat.now) in
-    let inv = c.loop-turn.invariant in let r = c.open_four.new in record {
-      table = c.open_four.ensures.table ∙ inv.table;
-      leads = c.open_four.ensures.leads;
-      wide = c.open_four.ensures.wide;
+    let inv = c.loop-turn.invariant in let r = c.open_places.new in record {
+      table = c.open_places.ensures.table ∙ inv.table;
+      leads = c.open_places.ensures.leads;
+      wide = c.open_places.ensures.wide;
       deep = inv.deep;
       opened = subst (λ (z : ℕ). HasOpened w z ms c.args.remembered.now (members_of (bundle r.seat)) r.remembered r.opened
-          r.known) (omega arith) (c.open_four.ensures.opened ms c.args.remembered.now inv.opened);
+          r.known) (omega arith) (c.open_places.ensures.opened ms c.args.remembered.now inv.opened);
     }
 
 -- what the whole collect has opened
@@ -54,15 +54,15 @@ pub returns : goal.returns
 returns g c =
     let n : ℕ = g.row.N in let w : ℕ = width g.row.C g.row.H g.row.G in let bundle = g.S.ScanSeat.bundle in
     let ms = members_of (bundle c.args.seat.now) in
-    let l = c.loop-turn in let f = c.loop-turn-test.false in let end = l.auto.turn-end in let r = c.open_rest.new in
+    let l = c.loop-turn in let f = c.loop-turn-test.false in let end = l.auto.turn-end in let r = c.open_places-2.new in
     let lens = c.requires.lengths in
     let so_far : HasOpened w (4 * (n / 4)) ms c.args.remembered.now (members_of (bundle l.seat)) l.remembered l.opened l.known =
     subst (λ (z : ℕ). HasOpened w (4 * z) ms c.args.remembered.now (members_of (bundle l.seat)) l.remembered l.opened l.known)
     (omega (arith, f, end)) l.invariant.opened in
-    let all = c.open_rest.ensures.opened ms c.args.remembered.now so_far in
-    let a = l.auto.remembered in let b = l.auto.opened in let a' = c.open_rest.auto.remembered in
-    let b' = c.open_rest.auto.opened in
-    let own = c.open_rest.ensures.table ∙ l.invariant.table in
+    let all = c.open_places-2.ensures.opened ms c.args.remembered.now so_far in
+    let a = l.auto.remembered in let b = l.auto.opened in let a' = c.open_places-2.auto.remembered in
+    let b' = c.open_places-2.auto.opened in
+    let own = c.open_places-2.ensures.table ∙ l.invariant.table in
     let view : members_of (bundle r.seat) ≡ with_scan (opening r.opened r.remembered (scan_of ms)) ms =
     all.view ∙ ap (λ (z : List ℕ). with_scan (opening z r.remembered (scan_of ms)) ms)
     (take_all r.opened n (omega (arith, b, b', lens.1))) in

@@ -34,29 +34,29 @@ loop-turn-init g c = record {
 pub loop-turn-preserved : goal.loop-turn-preserved
 loop-turn-preserved g c =
     let bundle = g.S.ScanSeat.bundle in let w : ℕ = width g.row.C g.row.H g.row.G in
-    let ms = members_of (bundle c.args.seat.now) in let inv = c.loop-turn.invariant in let r = c.read_four.new in
+    let ms = members_of (bundle c.args.seat.now) in let inv = c.loop-turn.invariant in let r = c.read_words.new in
     record {
-      table = c.read_four.ensures.table ∙ inv.table;
-      leads = c.read_four.ensures.leads;
+      table = c.read_words.ensures.table ∙ inv.table;
+      leads = c.read_words.ensures.leads;
       read = subst (λ (z : ℕ). IsReadTo w c.args.place c.args.number z ms (members_of (bundle r.seat)) c.args.words.now r.words
           c.args.changed.now r.changed) (omega arith)
-          (c.read_four.ensures.read ms c.args.words.now c.args.changed.now inv.read);
+          (c.read_words.ensures.read ms c.args.words.now c.args.changed.now inv.read);
     }
 
 pub returns : goal.returns
 returns g c =
     let bundle = g.S.ScanSeat.bundle in let w : ℕ = width g.row.C g.row.H g.row.G in let i = c.args.place in
     let s = c.args.number in
-    let ms = members_of (bundle c.args.seat.now) in let inv = c.loop-turn.invariant in let r = c.read_rest.new in
+    let ms = members_of (bundle c.args.seat.now) in let inv = c.loop-turn.invariant in let r = c.read_words-2.new in
     let f = c.loop-turn-test.false in let end = c.loop-turn.auto.turn-end in
     let read : IsReadTo w i s (4 * (length c.args.words.now / 4)) ms (members_of (bundle c.loop-turn.seat)) c.args.words.now
     c.loop-turn.words c.args.changed.now c.loop-turn.changed =
     subst (λ (z : ℕ). IsReadTo w i s (4 * z) ms (members_of (bundle c.loop-turn.seat)) c.args.words.now c.loop-turn.words
     c.args.changed.now c.loop-turn.changed) (omega (arith, f, end)) inv.read in
-    let all = c.read_rest.ensures.read ms c.args.words.now c.args.changed.now read in
-    let a = c.read_rest.auto.words in let b = c.loop-turn.auto.words in let long = c.requires.inside.1 in
+    let all = c.read_words-2.ensures.read ms c.args.words.now c.args.changed.now read in
+    let a = c.read_words-2.auto.words in let b = c.loop-turn.auto.words in let long = c.requires.inside.1 in
     record {
-      table = c.read_rest.ensures.table ∙ inv.table;
+      table = c.read_words-2.ensures.table ∙ inv.table;
       member = all.member ∙ ap (λ (l : List ℕ). led (scan_changed (read_all w i s 0 l)) ms)
           (take_all r.words w (omega (arith, a, b, long)));
       bounded = all.low;

@@ -42,12 +42,12 @@ loop-turn-init g c =
 pub loop-turn-preserved : goal.loop-turn-preserved
 loop-turn-preserved g c =
     let bundle = g.S.ScanSeat.bundle in let ms = members_of (bundle c.args.seat.now) in
-    let inv = c.loop-turn.invariant in let r = c.confirm_four-same.new in record {
-      table = c.confirm_four-same.ensures.table ∙ inv.table;
-      leads = c.confirm_four-same.ensures.leads;
+    let inv = c.loop-turn.invariant in let r = c.confirm_places-same.new in record {
+      table = c.confirm_places-same.ensures.table ∙ inv.table;
+      leads = c.confirm_places-same.ensures.leads;
       confirmed = subst (λ (z : ℕ). HasConfirmed g.row.N g.row.C g.row.H g.row.G z ms c.args.remembered.now c.args.opened.now
-          (members_of (bundle r.seat)) r.found c.confirm_four-same.result) (omega arith)
-          (c.confirm_four-same.ensures.confirmed ms c.args.remembered.now c.requires.may.lengths.0 inv.confirmed);
+          (members_of (bundle r.seat)) r.found c.confirm_places-same.result) (omega arith)
+          (c.confirm_places-same.ensures.confirmed ms c.args.remembered.now c.requires.may.lengths.0 inv.confirmed);
     }
 
 true_by : (b : Bool) → (b ≡ false → ⊥) → b ≡ true
@@ -61,15 +61,15 @@ returns g c =
     let ms = members_of (bundle c.args.seat.now) in
     let l = c.loop-turn in let f = c.loop-turn-test.false in let end = l.auto.turn-end in let lens = c.requires.may.lengths in
     let some_worker = c.requires.may.geometry.workers.0 in
-    let os = c.args.opened.now in let gs = c.args.remembered.now in let fs = c.confirm_rest.new.found in
-    let a = l.auto.found in let a' = c.confirm_rest.auto.found in
+    let os = c.args.opened.now in let gs = c.args.remembered.now in let fs = c.confirm_places.new.found in
+    let a = l.auto.found in let a' = c.confirm_places.auto.found in
     let so_far : HasConfirmed n g.row.C g.row.H g.row.G (4 * (n / 4)) ms gs os (members_of (bundle l.seat)) l.found l.same =
     subst (λ (z : ℕ). HasConfirmed n g.row.C g.row.H g.row.G (4 * z) ms gs os (members_of (bundle l.seat)) l.found l.same)
     (omega (arith, f, end)) l.invariant.confirmed in
-    let all = c.confirm_rest.ensures.confirmed ms gs lens.0 so_far in
+    let all = c.confirm_places.ensures.confirmed ms gs lens.0 so_far in
     let z : List ℕ → ScanLog = λ x. settling os x gs (scan_of ms) in
     record {
-      table = c.confirm_rest.ensures.table ∙ l.invariant.table;
+      table = c.confirm_places.ensures.table ∙ l.invariant.table;
       ruled = all.ruled (omega (arith, some_worker));
       view = all.view ∙ (ap (λ (x : List ℕ). with_scan (cond (n == n) (ended n w (z x)) (z x)) ms)
           (take_all fs n (omega (arith, c.requires.room, a, a')))
@@ -79,6 +79,6 @@ returns g c =
         λ t. same_lists os fs (omega (arith, lens.1, c.requires.room, a, a')) (λ k d lt. get_or_default os k d 0 lt
             ∙ (all.held t k (omega (arith, lens.1, lt))
             ∙ get_or_default fs k 0 d (omega (arith, lens.1, c.requires.room, a, a', lt)))),
-        λ e. true_by c.confirm_rest.result (λ no. let m = all.moved no in m.2 (ap (λ (x : List ℕ). get_or x m.0 0) e)),
+        λ e. true_by c.confirm_places.result (λ no. let m = all.moved no in m.2 (ap (λ (x : List ℕ). get_or x m.0 0) e)),
       );
     }
