@@ -1,6 +1,7 @@
 -- The tries of a scan, and its ends.
 use Rattle.std.proofs.Common.{◌≡◌, ◌≢◌, inl, inr, ℕ, zero, suc, ◌+◌, ◌<◌, Bool, true, false, cond, ◌==◌, List, [], ◌∷◌, ◌++◌}
 use Rattle.std.proofs.Common.{length, map, get_or, slice_index, sym, refl, ap, ◌∙◌, subst, arith, ne_eqb, append_assoc}
+use Rattle.std.proofs.lemmas.Bool.{true≢false}
 use Rattle.std.proofs.lemmas.List.{append-nil}
 use mathlib.Core.Option.{some, some-injective, some-ne-none}
 use lib.ListN.{get_elem?}
@@ -20,6 +21,9 @@ use Rattle.register_rule.specs.Seats.{HasMember, MayScan, table_of, members_of}
 use Rattle.ledger_core.specs.Ops.{width}
 use Rattle.segment_layout.specs.Layout.{IsGeometry}
 use Rattle.snapshot_scan.specs.ChangedItems.{ChangedView}
+use Rattle.snapshot_scan.specs.declared.try_end.TryEnd.{TryEnd}
+use Rattle.snapshot_scan.specs.declared.try_end.TryEnd.TheVariants.{Quiet, Clean, Failed}
+use Rattle.snapshot_scan.specs.TryEnds.{is_clean}
 use Rattle.snapshot_scan.specs.Conditions.{MayTry, HasTried, HasFailedOnce}
 use Rattle.snapshot_scan.specs.Shape.{scan_of, with_scan}
 use Rattle.snapshot_scan.specs.RememberedRows.{version_of, AreWide, HasOther, pairs, opening, settling, failing, IsLoaded}
@@ -95,14 +99,18 @@ moved_first n rows opened c c' long other loads = record {
 
 -- the first try is not clean
 pub failed_once : {N C H G : ℕ} (b : Board N C H G) (s s' : Bundle) (gs gs' : List RememberedRow)
-    (sums sums' opened found : List ℕ) (old changed : ChangedView) (known clean : Bool) → MayScan b s
-    → IsIdle (scan_of (members_of s)) gs → old.items ≡ [] → clean ≡ false
-    → HasTried N C H G s s' gs gs' sums sums' opened found old changed known clean
+    (sums sums' opened found : List ℕ) (old changed : ChangedView) (end : TryEnd) → MayScan b s
+    → IsIdle (scan_of (members_of s)) gs → old.items ≡ [] → is_clean end ≡ false
+    → HasTried N C H G s s' gs gs' sums sums' opened found old changed end
     → HasFailedOnce b s s' gs gs' sums sums' opened found changed
-failed_once {N} {C} {H} {G} b s s' gs gs' sums sums' opened found old changed known clean own idle none failed tried = record {
+failed_once {N} {C} {H} {G} b s s' gs gs' sums sums' opened found old changed Quiet own idle none failed tried = absurd
+    (true≢false failed)
+failed_once {N} {C} {H} {G} b s s' gs gs' sums sums' opened found old changed Clean own idle none failed tried = absurd
+    (true≢false failed)
+failed_once {N} {C} {H} {G} b s s' gs gs' sums sums' opened found old changed Failed own idle none failed tried = record {
   of_board = own;
   idle = idle;
-  tried = (old, known, subst (HasTried N C H G s s' gs gs' sums sums' opened found old changed known) failed tried);
+  tried = (old, tried);
   listed = lists_first (width C H G) sums sums' old changed none tried.listed;
 }
 

@@ -55,6 +55,12 @@ over (x ∷ ws) [] n e h = absurd (omega (arith, e))
 over (x ∷ ws) (y ∷ l) zero e h = absurd (omega (arith, h))
 over (x ∷ ws) (y ∷ l) (suc n) e h = ap (λ z. x ∷ z) (over ws l n (omega (arith, e)) (omega (arith, h)))
 
+-- what is written over a vector's items by way of a slice of them
+pub written : {A : Type 0} (new slice items : List A) (n : ℕ) → slice ≡ items → length slice ≡ n → length new ≡ length slice
+    → take n (new ++ drop (length new) items) ≡ new
+written {A = A} new slice items n value len auto = over new items n (auto ∙ ap (λ (l : List A). length l) value)
+    (omega (arith, len, auto))
+
 pub scan_with : (c : ScanLog) (ms : List Member) → HasMember ms → scan_of (with_scan c ms) ≡ c
 scan_with c [] t = absurd (nil_cons t.2)
   where

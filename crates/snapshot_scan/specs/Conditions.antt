@@ -11,6 +11,9 @@ use Rattle.snapshot_scan.specs.declared.contended.Contended.{Contended}
 use Rattle.snapshot_scan.specs.declared.remembered_row.RememberedRow.{RememberedRow}
 use Rattle.snapshot_scan.specs.declared.scan_end.ScanEnd.{ScanEnd}
 use Rattle.snapshot_scan.specs.declared.scan_end.ScanEnd.TheVariants.{Direct, Lent, GaveUp}
+use Rattle.snapshot_scan.specs.declared.try_end.TryEnd.{TryEnd}
+use Rattle.snapshot_scan.specs.declared.try_end.TryEnd.TheVariants.{Failed}
+use Rattle.snapshot_scan.specs.TryEnds.{is_clean, is_quiet}
 use Rattle.snapshot_scan.specs.Asking.{MayAsk, due_from}
 use Rattle.snapshot_scan.specs.ChangedItems.{ChangedView, Lists, ListsChanges}
 use Rattle.snapshot_scan.specs.Contention.{IsFirstMoved}
@@ -29,15 +32,6 @@ pub record MayTry {N C H G : ℕ} (b : Board N C H G) (s : Bundle) (gs : List Re
   pub wide : AreWide (width C H G) gs
   pub remembered : (scan_in s).remembered ≡ map version_of gs
   pub rest : ((scan_in s).trying.looks ≡ []) × ((scan_in s).trying.due ≡ []) × ((scan_in s).trying.asks ≡ [])
-
--- a scan may begin: by a seat that may make a try, and is in no scan; the sums are those of the rows, and what the second collect
--- finds, and the flag and the words of an answer that is lent, have places
-pub record MayBegin {N C H G : ℕ} (b : Board N C H G) (s : Bundle) (gs : List RememberedRow) (sums opened found words : List ℕ)
-    : Type 0 where
-  pub may : MayTry b s gs opened
-  pub room : (length found ≡ N) × (length sums ≡ width C H G) × AreTotals (width C H G) gs sums
-  pub lent : length words ≡ 1 + N + width C H G
-  pub idle : IsIdle (scan_in s) gs
 
 -- the worker at this place may be asked, the next one that is to be: by a seat whose floor this is, with rows of so many words,
 -- and with a place for the words that it lends
@@ -60,24 +54,23 @@ pub record MayAskAll {N C H G : ℕ} (b : Board N C H G) (s : Bundle) (row : ℕ
   pub may_ask : MayAsk floor (due_from 0 base found) (scan_in s)
 
 -- what a try leaves: of the seat s, of the rows gs and their sums; with the numbers of both collects, and where the sums changed.
--- It `is_known` where each row was remembered under its number, and `is_clean` where each number was found again
 pub record HasTried (N C H G : ℕ) (s s' : Bundle) (gs gs' : List RememberedRow) (sums sums' opened found : List ℕ)
-    (changed changed' : ChangedView) (is_known is_clean : Bool) : Type 0 where
+    (changed changed' : ChangedView) (end : TryEnd) : Type 0 where
   pub table : table_of s' ≡ table_of s
   pub ruled : IsRuled N C H G s'
   pub wide : AreWide (width C H G) gs'
   pub totals : AreTotals (width C H G) gs' sums'
   pub told : (q : ℕ) → q < N → IsLoaded q (scan_in s) (slice_index opened q)
-  pub clean : is_clean ≡ true → members_of s' ≡ with_scan (answered (record { vector = opened; totals = sums' })
+  pub clean : is_clean end ≡ true → members_of s' ≡ with_scan (answered (record { vector = opened; totals = sums' })
       (settling opened found gs' (opening opened gs' (scan_in s)))) (members_of s)
-  pub same : is_clean ≡ true → opened ≡ found
-  pub failed : is_clean ≡ false → members_of s' ≡ with_scan (given_up_if_spent N (failing (settling opened found gs'
+  pub same : is_clean end ≡ true → opened ≡ found
+  pub failed : is_clean end ≡ false → members_of s' ≡ with_scan (given_up_if_spent N (failing (settling opened found gs'
       (opening opened gs' (scan_in s))))) (members_of s)
   pub risen : (q : ℕ) → q < N → slice_index opened q ≤ slice_index found q
-  pub rose : is_clean ≡ false → (q : ℕ) × (q < N) × (slice_index opened q < slice_index found q)
-  pub quiet : is_known ≡ true → IsQuiet gs gs' sums sums' opened
-  pub unknown : is_known ≡ false → HasOther opened (map version_of gs)
-  pub numbers : is_clean ≡ true → AreKnown opened gs'
+  pub rose : is_clean end ≡ false → (q : ℕ) × (q < N) × (slice_index opened q < slice_index found q)
+  pub quiet : is_quiet end ≡ true → IsQuiet gs gs' sums sums' opened
+  pub unknown : is_clean end ≡ true → is_quiet end ≡ false → HasOther opened (map version_of gs)
+  pub numbers : is_clean end ≡ true → AreKnown opened gs'
   pub listed : ListsChanges (width C H G) sums sums' changed changed'
 
 -- what the first try of a scan leaves, where it is not clean: of the seat s, which was in no scan, of the rows gs and their
@@ -86,8 +79,7 @@ pub record HasFailedOnce {N C H G : ℕ} (b : Board N C H G) (s s' : Bundle) (gs
     (sums sums' opened found : List ℕ) (changed : ChangedView) : Type 0 where
   pub of_board : MayScan b s
   pub idle : IsIdle (scan_in s) gs
-  pub tried : (old : ChangedView) × (is_known : Bool)
-      × HasTried N C H G s s' gs gs' sums sums' opened found old changed is_known false
+  pub tried : (old : ChangedView) × HasTried N C H G s s' gs gs' sums sums' opened found old changed Failed
   pub listed : Lists (width C H G) sums sums' changed
 
 -- what a scan that ended so leaves: of the seat s, of the rows gs and their sums; with the numbers of its last try, the words

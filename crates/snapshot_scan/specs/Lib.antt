@@ -7,6 +7,7 @@ pub mod Collecting
 pub mod Asking
 pub mod Scanned
 pub mod Contention
+pub mod TryEnds
 pub mod Core
 pub mod Conditions
 pub mod ScanMemories

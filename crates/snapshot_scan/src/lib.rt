@@ -31,10 +31,11 @@ mod rows;
 mod scan_end;
 mod scan_memory;
 mod scanner;
-mod scans;
 mod second_collect;
 mod snapshot;
 mod source;
+mod tries;
+mod try_end;
 
 pub use changed_items::ChangedItems;
 pub use contended::Contended;

@@ -125,6 +125,7 @@ pub(crate) fn read_row<
     ensures moves { ListsChanges (width C H G) words.old words.new changed.old changed.new }
 {
     let turns = words.len() / TURN;
+    let rest = words.len() % TURN;
     for turn in 0..turns {
         read_words(
             board,
@@ -137,7 +138,6 @@ pub(crate) fn read_row<
             changed,
         );
     }
-    let rest = words.len() % TURN;
     read_words(
         board,
         seat,

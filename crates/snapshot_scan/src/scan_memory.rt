@@ -11,7 +11,6 @@ use crate::changed_items::ChangedItems;
 use crate::contended::{Contended, first_moved};
 use crate::remembered_row::RememberedRow;
 use crate::scan_end::ScanEnd;
-use crate::scans::scan;
 use crate::snapshot::Snapshot;
 use ledger_core::Row;
 use register_rule::{Board, ScanSeat};
@@ -92,54 +91,6 @@ impl<const N: usize, const C: usize, const H: usize, const G: usize> ScanMemory<
             lent,
             changed_totals,
         })
-    }
-
-    /// A scan of at most `N` + 2 tries, which takes no memory and waits for nobody. Where it changes the sums of the remembered
-    /// rows is listed ([`ScanMemory::changed_totals`]). One that `hushes` asks the workers to rest from its first failed try on to its end
-    /// ([`Board::hush`]); the scan of an update asks for nothing.
-    #[inline(always)]
-    pub fn scan<S: ScanSeat<N, C, H, G>>(
-        &mut self,
-        board: &Board<N, C, H, G>,
-        seat: &mut S,
-        hushes: bool,
-    ) -> ScanEnd
-        requires of_board { MayScan board.now (S.bundle seat.old) }
-        requires ready { IsReady (scan_in (S.bundle seat.old)) self.old }
-        ensures table { table_of (S.bundle seat.new) ≡ table_of (S.bundle seat.old) }
-        ensures ruled { IsRuled N C H G (S.bundle seat.new) }
-        ensures others { members_of (S.bundle seat.new) ≡ with_scan (scan_in (S.bundle seat.new))
-            (members_of (S.bundle seat.old)) }
-        ensures ready { IsReady (scan_in (S.bundle seat.new)) self.new }
-        ensures answered { HasView result → IsAnswered N (scan_in (S.bundle seat.old)) (scan_in (S.bundle seat.new))
-            (answer_of self.new result) }
-        ensures answers { HasView result → AnswersBy N (width C H G) (scan_in (S.bundle seat.old)) (scan_in (S.bundle seat.new))
-            (answer_of self.new result) }
-        ensures quiet { result ≡ ScanEnd.Direct true → (rows_of self.new ≡ rows_of self.old)
-            × (totals_in self.new ≡ totals_in self.old) × AreNumbers (opened_in self.new) (rows_of self.new) }
-        ensures once { result ≡ ScanEnd.Direct true → (scan_in (S.bundle seat.new)).opened ≡ (scan_in (S.bundle seat.old)).opened
-            ++ pairs 0 (opened_in self.new) }
-        ensures moved { result ≡ ScanEnd.Direct false → HasMoved N (rows_of self.old) (scan_in (S.bundle seat.old))
-            (scan_in (S.bundle seat.new)) }
-        ensures numbers { (q : Bool) → result ≡ ScanEnd.Direct q → AreNumbers (opened_in self.new) (rows_of self.new) }
-        ensures listed { Lists (width C H G) (totals_in self.old) (totals_in self.new) (changed_totals_in self.new) }
-        ensures gave_up { result ≡ ScanEnd.GaveUp → IsGivenUp N (scan_in (S.bundle seat.old)) (scan_in (S.bundle seat.new))
-            (opened_in self.new) (found_in self.new) }
-        ensures came_up { result ≡ ScanEnd.GaveUp → (e : Contended) → IsFirstMoved (opened_in self.new) (found_in self.new) e
-            → CameTo N (width C H G) (scan_in (S.bundle seat.old)) (scan_in (S.bundle seat.new))
-            (Next.GaveUp e.worker e.first e.last) }
-    {
-        scan(
-            board,
-            seat,
-            self.remembered.as_mut_slice(),
-            self.totals.as_mut_slice(),
-            self.opened.as_mut_slice(),
-            self.found.as_mut_slice(),
-            self.lent.as_mut_slice(),
-            &mut self.changed_totals,
-            hushes,
-        )
     }
 
     /// A scan whose answer is written to `out`. Workers are asked to rest from its first failed try on.

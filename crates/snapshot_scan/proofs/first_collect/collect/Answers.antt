@@ -59,7 +59,9 @@ returns g c =
     let so_far : HasOpened w (4 * (n / 4)) ms c.args.remembered.now (members_of (bundle l.seat)) l.remembered l.opened l.known =
     subst (λ (z : ℕ). HasOpened w (4 * z) ms c.args.remembered.now (members_of (bundle l.seat)) l.remembered l.opened l.known)
     (omega (arith, f, end)) l.invariant.opened in
-    let all = c.open_places-2.ensures.opened ms c.args.remembered.now so_far in
+    let all : HasOpened w n ms c.args.remembered.now (members_of (bundle r.seat)) r.remembered r.opened r.known =
+    subst (λ (z : ℕ). HasOpened w z ms c.args.remembered.now (members_of (bundle r.seat)) r.remembered r.opened r.known)
+    (omega arith) (c.open_places-2.ensures.opened ms c.args.remembered.now so_far) in
     let a = l.auto.remembered in let b = l.auto.opened in let a' = c.open_places-2.auto.remembered in
     let b' = c.open_places-2.auto.opened in
     let own = c.open_places-2.ensures.table ∙ l.invariant.table in

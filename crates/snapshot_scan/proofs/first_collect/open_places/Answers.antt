@@ -1,4 +1,4 @@
-use Rattle.std.proofs.Common.{◌+◌, ℕ, arith, subst, ◌∙◌}
+use Rattle.std.proofs.Common.{◌+◌, ℕ, arith, subst, refl, ◌∙◌}
 use Rattle.ledger_core.specs.Ops.{width}
 use Rattle.register_rule.specs.Seats.{members_of}
 use Rattle.snapshot_scan.specs.Collecting.{HasOpened}
@@ -7,6 +7,7 @@ use Rattle.snapshot_scan.proofs.first_collect.open_places.Goals as goal
 pub loop-k-init : goal.loop-k-init
 loop-k-init g c =
     let w : ℕ = width g.row.C g.row.H g.row.G in let bundle = g.S.ScanSeat.bundle in record {
+      table = refl;
       leads = c.requires.of_board.1;
       wide = c.requires.wide;
       opened = λ ms rows is. subst (λ (z : ℕ). HasOpened w z ms rows (members_of (bundle c.args.seat.now)) c.args.remembered.now

@@ -53,8 +53,10 @@ returns g c =
     c.loop-turn.words c.args.changed.now c.loop-turn.changed =
     subst (λ (z : ℕ). IsReadTo w i s (4 * z) ms (members_of (bundle c.loop-turn.seat)) c.args.words.now c.loop-turn.words
     c.args.changed.now c.loop-turn.changed) (omega (arith, f, end)) inv.read in
-    let all = c.read_words-2.ensures.read ms c.args.words.now c.args.changed.now read in
     let a = c.read_words-2.auto.words in let b = c.loop-turn.auto.words in let long = c.requires.inside.1 in
+    let all : IsReadTo w i s w ms (members_of (bundle r.seat)) c.args.words.now r.words c.args.changed.now r.changed =
+    subst (λ (z : ℕ). IsReadTo w i s z ms (members_of (bundle r.seat)) c.args.words.now r.words c.args.changed.now r.changed)
+    (omega (arith, long)) (c.read_words-2.ensures.read ms c.args.words.now c.args.changed.now read) in
     record {
       table = c.read_words-2.ensures.table ∙ inv.table;
       member = all.member ∙ ap (λ (l : List ℕ). led (scan_changed (read_all w i s 0 l)) ms)

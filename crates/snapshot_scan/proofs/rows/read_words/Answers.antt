@@ -1,4 +1,4 @@
-use Rattle.std.proofs.Common.{◌+◌, ℕ, arith, subst, ◌∙◌}
+use Rattle.std.proofs.Common.{◌+◌, ℕ, arith, subst, refl, ◌∙◌}
 use Rattle.ledger_core.specs.Ops.{width}
 use Rattle.register_rule.specs.Seats.{members_of}
 use Rattle.snapshot_scan.specs.Reading.{IsReadTo}
@@ -6,6 +6,7 @@ use Rattle.snapshot_scan.proofs.rows.read_words.Goals as goal
 
 pub loop-k-init : goal.loop-k-init
 loop-k-init g c = let w : ℕ = width g.row.C g.row.H g.row.G in record {
+  table = refl;
   leads = c.requires.of_board.1;
   read = λ ms row listed is. subst (λ (z : ℕ). IsReadTo w c.args.place c.args.number z ms
       (members_of (g.S.ScanSeat.bundle c.args.seat.now)) row c.args.words.now listed c.args.changed.now) (omega arith) is;

@@ -66,7 +66,10 @@ returns g c =
     let so_far : HasConfirmed n g.row.C g.row.H g.row.G (4 * (n / 4)) ms gs os (members_of (bundle l.seat)) l.found l.same =
     subst (λ (z : ℕ). HasConfirmed n g.row.C g.row.H g.row.G (4 * z) ms gs os (members_of (bundle l.seat)) l.found l.same)
     (omega (arith, f, end)) l.invariant.confirmed in
-    let all = c.confirm_places.ensures.confirmed ms gs lens.0 so_far in
+    let r = c.confirm_places in
+    let all : HasConfirmed n g.row.C g.row.H g.row.G n ms gs os (members_of (bundle r.new.seat)) fs r.result =
+    subst (λ (z : ℕ). HasConfirmed n g.row.C g.row.H g.row.G z ms gs os (members_of (bundle r.new.seat)) fs r.result)
+    (omega arith) (r.ensures.confirmed ms gs lens.0 so_far) in
     let z : List ℕ → ScanLog = λ x. settling os x gs (scan_of ms) in
     record {
       table = c.confirm_places.ensures.table ∙ l.invariant.table;

@@ -1,10 +1,11 @@
-use Rattle.std.proofs.Common.{◌+◌, ℕ, arith, subst, ◌∙◌}
+use Rattle.std.proofs.Common.{◌+◌, ℕ, arith, subst, refl, ◌∙◌}
 use Rattle.register_rule.specs.Seats.{members_of}
 use Rattle.snapshot_scan.specs.Collecting.{HasConfirmed}
 use Rattle.snapshot_scan.proofs.second_collect.confirm_places.Goals as goal
 
 pub loop-k-init : goal.loop-k-init
 loop-k-init g c = record {
+  table = refl;
   leads = c.requires.of_board.1;
   confirmed = λ ms gs few is. subst (λ (z : ℕ). HasConfirmed g.row.N g.row.C g.row.H g.row.G z ms gs c.args.opened.now
       (members_of (g.S.ScanSeat.bundle c.args.seat.now)) c.args.found.now c.args.same) (omega arith) is;

@@ -1,230 +1,130 @@
-use Rattle.std.proofs.Common.{◌≡◌, ℕ, List, ◌++◌, length, map, take, drop, slice_index, sym, ap, ◌∙◌, subst, refl, Bool, arith}
+use Rattle.std.proofs.Common.{◌≡◌, ◌<◌, ℕ, List, length, map, slice_index, subst, sym, refl, ap, ◌∙◌, rules, arith, Bool}
 use lib.ListN.{get_elem?}
 use Rattle.ledger_core.specs.Ops.{width}
 use Rattle.register_rule.specs.declared.view.Answer.{Answer}
+use Rattle.register_rule.specs.declared.view.ScanLog.{ScanLog}
 use Rattle.register_rule.specs.declared.view.Version.{Version}
 use Rattle.register_rule.specs.ScanSteps.{lent_in}
-use Rattle.snapshot_scan.proofs.Blank.{from_rows}
+use Rattle.register_rule.specs.Seats.{members_of}
+use Rattle.snapshot_scan.specs.declared.remembered_row.RememberedRow.{RememberedRow}
 use Rattle.snapshot_scan.specs.declared.scan_end.ScanEnd.{ScanEnd}
 use Rattle.snapshot_scan.specs.declared.scan_end.ScanEnd.TheVariants.{Direct, Lent, GaveUp}
-use Rattle.snapshot_scan.specs.declared.remembered_row.RememberedRow.{RememberedRow}
+use Rattle.snapshot_scan.specs.declared.scan_memory.ScanMemory.{ScanMemory}
+use Rattle.snapshot_scan.specs.ScanMemories.{HasView, answer_of}
+use Rattle.snapshot_scan.specs.Shape.{scan_of, scan_in}
+use Rattle.snapshot_scan.specs.RememberedRows.{AreKnown, AreNumbers, version_of}
+use Rattle.snapshot_scan.specs.Scanned.{IsAnswered}
+use Rattle.snapshot_scan.specs.Conditions.{HasEnded}
 use Rattle.snapshot_scan.specs.Core.{AnswersBy}
-use Rattle.snapshot_scan.specs.ScanMemories.{HasView}
-use Rattle.snapshot_scan.specs.RememberedRows.{version_of, pairs, AreWide, AreTotals}
-use Rattle.snapshot_scan.specs.Contention.{IsFirstMoved}
-use Rattle.snapshot_scan.specs.Scanned.{IsIdle, IsAnswered, IsGivenUp}
-use Rattle.snapshot_scan.specs.Shape.{scan_in}
-use Rattle.snapshot_scan.proofs.Words.{over}
+use Rattle.snapshot_scan.proofs.Blank.{from_rows}
+use Rattle.snapshot_scan.proofs.Scanning.{now_is, others_same, direct_first, moved_first, failed_once}
+use Rattle.snapshot_scan.proofs.Ends.{quiet_in, direct_lent, direct_up}
+use Rattle.snapshot_scan.proofs.Arriving.{came_first}
+use Rattle.snapshot_scan.proofs.Moving.{lists_first}
 use Rattle.snapshot_scan.proofs.scan_memory.ScanMemory.scan.Goals as goal
 
--- what is written over a vector's items by way of a slice of them
-written : {A : Type 0} (new slice items : List A) (n : ℕ) → slice ≡ items → length slice ≡ n → length new ≡ length slice
-    → take n (new ++ drop (length new) items) ≡ new
-written {A = A} new slice items n value len auto = over new items n (auto ∙ ap (λ (l : List A). length l) value)
-    (omega (arith, len, auto))
+-- rows that are known are those of the numbers
+numbers_of : (gs : List RememberedRow) (opened : List ℕ) → AreKnown opened gs → AreNumbers opened (map version_of gs)
+numbers_of gs opened known = λ p v at. let t = from_rows gs p v at in ap (λ (x : Version). x.number) (sym t.2) ∙ known p t.0 t.1
 
--- the answer of a scan that ended so, of these lists
-abbrev ended_with : (n w : ℕ) (opened totals lent : List ℕ) → ScanEnd → Answer
-ended_with n w opened totals lent (Direct quiet) = record { vector = opened; totals = totals }
-ended_with n w opened totals lent Lent = lent_in n w lent
-ended_with n w opened totals lent GaveUp = record { vector = opened; totals = totals }
+-- a fact of the answer, by the way that the scan ended
+by_ending : {N C H G : ℕ} (P : Answer → Type 0) (m : ScanMemory N C H G) (r : ScanEnd)
+    → ((q : Bool) → r ≡ Direct q → P (record { vector = m.opened.items; totals = m.totals.items }))
+    → (r ≡ Lent → P (lent_in N (width C H G) m.lent.items)) → HasView r → P (answer_of m r)
+by_ending P m (Direct q) direct lends view = direct q refl
+by_ending P m Lent direct lends view = lends refl
+by_ending P m GaveUp direct lends view = absurd view
 
--- a fact of it, by the way that the scan ended
-by_ending : (P : Answer → Type 0) (n w : ℕ) (o t l opened totals lent : List ℕ) (r : ScanEnd) → o ≡ opened → t ≡ totals → l ≡ lent
-    → ((q : Bool) → r ≡ Direct q → P (record { vector = opened; totals = totals })) → (r ≡ Lent → P (lent_in n w lent))
-    → HasView r → P (ended_with n w o t l r)
-by_ending P n w o t l opened totals lent (Direct q) eo et el direct lends view =
-    subst (λ (x : List ℕ). P (record { vector = x; totals = t })) (sym eo)
-    (subst (λ (x : List ℕ). P (record { vector = opened; totals = x })) (sym et) (direct q refl))
-by_ending P n w o t l opened totals lent Lent eo et el direct lends view = subst (λ (x : List ℕ). P (lent_in n w x)) (sym el)
-    (lends refl)
-by_ending P n w o t l opened totals lent GaveUp eo et el direct lends view = absurd view
-
-pub returns-clause-quiet : goal.returns-clause-quiet
-returns-clause-quiet g c = λ e.
-    let q = c.scan.ensures.quiet e in let old = c.args.self.now in let new = c.scan.new in
-    let la = c.as_mut_slice.ensures.len in let lb = c.as_mut_slice-2.ensures.len in let lc = c.as_mut_slice-3.ensures.len in
-    let remembered : take old.remembered.len (new.remembered ++ drop (length new.remembered) old.remembered.items)
-    ≡ new.remembered =
-    over new.remembered old.remembered.items old.remembered.len
-    (c.scan.auto.remembered ∙ ap (λ (l : List RememberedRow). length l) c.as_mut_slice.ensures.value)
-    (let a = c.scan.auto.remembered in
-    omega (arith, a)) in
-    let totals : take old.totals.len (new.totals ++ drop (length new.totals) old.totals.items) ≡ new.totals =
-    over new.totals old.totals.items old.totals.len
-    (c.scan.auto.totals ∙ ap (λ (l : List ℕ). length l) c.as_mut_slice-2.ensures.value) (let a = c.scan.auto.totals in
-    omega (arith, a)) in
-    let opened : take old.opened.len (new.opened ++ drop (length new.opened) old.opened.items) ≡ new.opened =
-    over new.opened old.opened.items old.opened.len
-    (c.scan.auto.opened ∙ ap (λ (l : List ℕ). length l) c.as_mut_slice-3.ensures.value) (let a = c.scan.auto.opened in
-    omega (arith, a)) in (
-      ap (map version_of) remembered ∙ (q.remembered ∙ ap (map version_of) c.as_mut_slice.ensures.value),
-      totals ∙ (q.totals ∙ c.as_mut_slice-2.ensures.value),
-      λ p v at. let t = from_rows new.remembered p v (ap (λ (l : List RememberedRow). get_elem? (map version_of l) p)
-          (sym remembered)
-          ∙ at) in
-          ap (λ (x : Version). x.number) (sym t.2) ∙ (q.known p t.0 t.1 ∙ ap (λ (l : List ℕ). slice_index l p) (sym opened)),
-    )
-
-pub returns-clause-came_up : goal.returns-clause-came_up
-returns-clause-came_up g c = λ t e moved.
-    let old = c.args.self.now in let new = c.scan.new in
-    let lc = c.as_mut_slice-3.ensures.len in let ld = c.as_mut_slice-4.ensures.len in
-    let opened : take old.opened.len (new.opened ++ drop (length new.opened) old.opened.items) ≡ new.opened =
-    over new.opened old.opened.items old.opened.len
-    (c.scan.auto.opened ∙ ap (λ (l : List ℕ). length l) c.as_mut_slice-3.ensures.value) (let a = c.scan.auto.opened in
-    omega (arith, a)) in
-    let found : take old.found.len (new.found ++ drop (length new.found) old.found.items) ≡ new.found =
-    over new.found old.found.items old.found.len
-    (c.scan.auto.found ∙ ap (λ (l : List ℕ). length l) c.as_mut_slice-4.ensures.value) (let a = c.scan.auto.found in
-    omega (arith, a)) in
-    c.scan.ensures.came_up t e
-    (subst (λ (l : List ℕ). IsFirstMoved l new.found e) opened
-    (subst (λ (l : List ℕ). IsFirstMoved (take old.opened.len (new.opened ++ drop (length new.opened) old.opened.items)) l e)
-    found moved))
-
-pub invariant_of-self : goal.invariant_of-self
-invariant_of-self g c =
-    let old = c.args.self.now in let new = c.scan.new in let w : ℕ = width g.row.C g.row.H g.row.G in
-    let remembered = written new.remembered c.as_mut_slice.result.now old.remembered.items old.remembered.len
-    c.as_mut_slice.ensures.value
-    c.as_mut_slice.ensures.len c.scan.auto.remembered in
-    let totals = written new.totals c.as_mut_slice-2.result.now old.totals.items old.totals.len c.as_mut_slice-2.ensures.value
-    c.as_mut_slice-2.ensures.len c.scan.auto.totals in
-    let opened = written new.opened c.as_mut_slice-3.result.now old.opened.items old.opened.len c.as_mut_slice-3.ensures.value
-    c.as_mut_slice-3.ensures.len c.scan.auto.opened in
-    let found = written new.found c.as_mut_slice-4.result.now old.found.items old.found.len c.as_mut_slice-4.ensures.value
-    c.as_mut_slice-4.ensures.len c.scan.auto.found in
-    let lent = written new.lent c.as_mut_slice-5.result.now old.lent.items old.lent.len c.as_mut_slice-5.ensures.value
-    c.as_mut_slice-5.ensures.len c.scan.auto.lent in
+pub one_try-tried-requires : goal.one_try-tried-requires
+one_try-tried-requires g c = let old = c.args.self.now in let idle = c.requires.ready in (
+  search rules,
+  (
+    omega arith,
     record {
+      of_board = c.requires.of_board;
       geometry = old.geometry;
-      sizes = (
-        ap (λ (l : List RememberedRow). length l) remembered
-            ∙ (c.scan.auto.remembered ∙ (ap (λ (l : List RememberedRow). length l) c.as_mut_slice.ensures.value ∙ old.sizes.0)),
-        ap (λ (l : List ℕ). length l) totals
-            ∙ (c.scan.auto.totals ∙ (ap (λ (l : List ℕ). length l) c.as_mut_slice-2.ensures.value ∙ old.sizes.1)),
-        ap (λ (l : List ℕ). length l) opened
-            ∙ (c.scan.auto.opened ∙ (ap (λ (l : List ℕ). length l) c.as_mut_slice-3.ensures.value ∙ old.sizes.2)),
-        ap (λ (l : List ℕ). length l) found
-            ∙ (c.scan.auto.found ∙ (ap (λ (l : List ℕ). length l) c.as_mut_slice-4.ensures.value ∙ old.sizes.3)),
-        ap (λ (l : List ℕ). length l) lent
-            ∙ (c.scan.auto.lent ∙ (ap (λ (l : List ℕ). length l) c.as_mut_slice-5.ensures.value ∙ old.sizes.4)),
-      );
-      wide = subst (AreWide w) (sym remembered) c.scan.ensures.wide;
-      sums = subst (λ (l : List RememberedRow). AreTotals w l
-          (take old.totals.len (new.totals ++ drop (length new.totals) old.totals.items))) (sym remembered)
-          (subst (AreTotals w new.remembered)
-          (sym totals) c.scan.ensures.totals);
-      listed = c.scan.ensures.listed.inside;
+      lengths = (old.sizes.0, old.sizes.2);
+      wide = old.wide;
+      remembered = idle.remembered;
+      rest = (λ z. (idle.rest z).looks, λ z. (idle.rest z).due, λ z. (idle.rest z).asks);
+    },
+  ),
+)
+
+pub returns-then-clean : goal.returns-then-clean
+returns-then-clean g c =
+    let ms = members_of (g.S.ScanSeat.bundle c.args.seat.now) in let old = c.args.self.now in
+    let n : ℕ = g.row.N in let w : ℕ = width g.row.C g.row.H g.row.G in
+    let made = c.one_try-tried.ensures in let r = c.one_try-tried.new.self in
+    let is = sym c.is_clean-clean.ensures ∙ c.if-clean.true in let clean = made.clean is in
+    let is_quiet = c.is_quiet.ensures in
+    let a : Answer = record { vector = r.opened.items; totals = r.totals.items } in
+    let scan = now_is _ ms _ c.requires.of_board.1 clean in
+    record {
+      table = made.table;
+      ruled = made.ruled;
+      others = others_same _ ms _ c.requires.of_board.1 clean;
+      ready = record { remembered = ap (λ (d : ScanLog). d.remembered) scan; rest = ap (λ (d : ScanLog). d.trying) scan };
+      answered = λ _. subst (λ (x : ScanLog). IsAnswered n (scan_of ms) x a) (sym scan)
+          (direct_first n r.opened.items r.found.items r.totals.items r.remembered.items (scan_of ms) r.sizes.2 made.told);
+      answers = λ _. subst (λ (x : ScanLog). AnswersBy n w (scan_of ms) x a) (sym scan)
+          (came_first n w r.opened.items r.found.items r.remembered.items (scan_of ms) a r.sizes.2 (made.same is) refl);
+      quiet = λ e. let q = made.quiet (sym is_quiet ∙ ap quiet_in e) in
+          (q.remembered, q.totals, numbers_of r.remembered.items r.opened.items q.known);
+      once = λ _. ap (λ (x : ScanLog). x.opened) scan;
+      moved = λ e. moved_first n (map version_of old.remembered.items) r.opened.items _ _ r.sizes.2
+          (made.unknown is (sym is_quiet ∙ ap quiet_in e)) (ap (λ (x : ScanLog). x.opened) scan);
+      numbers = λ _ _. numbers_of r.remembered.items r.opened.items (made.numbers is);
+      listed = lists_first w old.totals.items r.totals.items c.clear.new.self r.changed_totals c.clear.ensures.none.1 made.listed;
+      gave_up = λ e. absurd (direct_up _ e);
+      came_up = λ e. absurd (direct_up _ e);
     }
 
-pub returns-clause-ready : goal.returns-clause-ready
-returns-clause-ready g c = subst (IsIdle (scan_in (g.S.ScanSeat.bundle c.scan.new.seat)))
-    (sym (written c.scan.new.remembered c.as_mut_slice.result.now c.args.self.now.remembered.items c.args.self.now.remembered.len
-    c.as_mut_slice.ensures.value c.as_mut_slice.ensures.len c.scan.auto.remembered))
-    c.scan.ensures.idle
-
-pub returns-clause-answered : goal.returns-clause-answered
-returns-clause-answered g c =
-    let old = c.args.self.now in let new = c.scan.new in
-    by_ending (IsAnswered g.row.N (scan_in (g.S.ScanSeat.bundle c.args.seat.now)) (scan_in (g.S.ScanSeat.bundle new.seat)))
-    g.row.N (width g.row.C g.row.H g.row.G) (take old.opened.len
-    (new.opened ++ drop (length new.opened) old.opened.items))
-    (take old.totals.len (new.totals ++ drop (length new.totals) old.totals.items))
-    (take old.lent.len (new.lent ++ drop (length new.lent) old.lent.items)) new.opened new.totals new.lent c.scan.result
-    (written new.opened c.as_mut_slice-3.result.now old.opened.items old.opened.len c.as_mut_slice-3.ensures.value
-    c.as_mut_slice-3.ensures.len c.scan.auto.opened)
-    (written new.totals c.as_mut_slice-2.result.now old.totals.items old.totals.len c.as_mut_slice-2.ensures.value
-    c.as_mut_slice-2.ensures.len c.scan.auto.totals)
-    (written new.lent c.as_mut_slice-5.result.now old.lent.items old.lent.len c.as_mut_slice-5.ensures.value
-    c.as_mut_slice-5.ensures.len c.scan.auto.lent)
-    c.scan.ensures.direct c.scan.ensures.lent
-
-pub returns-clause-answers : goal.returns-clause-answers
-returns-clause-answers g c =
-    let old = c.args.self.now in let new = c.scan.new in
-    by_ending (AnswersBy g.row.N (width g.row.C g.row.H g.row.G) (scan_in (g.S.ScanSeat.bundle c.args.seat.now))
-    (scan_in (g.S.ScanSeat.bundle new.seat))) g.row.N
-    (width g.row.C g.row.H g.row.G) (take old.opened.len (new.opened ++ drop (length new.opened) old.opened.items))
-    (take old.totals.len (new.totals ++ drop
-    (length new.totals) old.totals.items))
-    (take old.lent.len (new.lent ++ drop (length new.lent) old.lent.items)) new.opened new.totals new.lent c.scan.result
-    (written new.opened c.as_mut_slice-3.result.now old.opened.items old.opened.len c.as_mut_slice-3.ensures.value
-    c.as_mut_slice-3.ensures.len c.scan.auto.opened)
-    (written new.totals c.as_mut_slice-2.result.now old.totals.items old.totals.len c.as_mut_slice-2.ensures.value
-    c.as_mut_slice-2.ensures.len c.scan.auto.totals)
-    (written new.lent c.as_mut_slice-5.result.now old.lent.items old.lent.len c.as_mut_slice-5.ensures.value
-    c.as_mut_slice-5.ensures.len c.scan.auto.lent)
-    c.scan.ensures.came_direct c.scan.ensures.came_lent
-
-pub returns-clause-once : goal.returns-clause-once
-returns-clause-once g c = λ e.
-    let old = c.args.self.now in let new = c.scan.new in
-    c.scan.ensures.once e ∙ ap (λ (l : List ℕ). (scan_in (g.S.ScanSeat.bundle c.args.seat.now)).opened ++ pairs 0 l)
-    (sym (written new.opened c.as_mut_slice-3.result.now old.opened.items old.opened.len c.as_mut_slice-3.ensures.value
-    c.as_mut_slice-3.ensures.len c.scan.auto.opened))
-
-pub returns-clause-gave_up : goal.returns-clause-gave_up
-returns-clause-gave_up g c = λ e.
-    let old = c.args.self.now in let new = c.scan.new in
-    let before = scan_in (g.S.ScanSeat.bundle c.args.seat.now) in let after = scan_in (g.S.ScanSeat.bundle new.seat) in
-    let opened = written new.opened c.as_mut_slice-3.result.now old.opened.items old.opened.len c.as_mut_slice-3.ensures.value
-    c.as_mut_slice-3.ensures.len c.scan.auto.opened in
-    let found = written new.found c.as_mut_slice-4.result.now old.found.items old.found.len c.as_mut_slice-4.ensures.value
-    c.as_mut_slice-4.ensures.len c.scan.auto.found in
-    subst (λ (l : List ℕ). IsGivenUp g.row.N before after l
-    (take old.found.len (new.found ++ drop (length new.found) old.found.items))) (sym opened)
-    (subst (IsGivenUp g.row.N before after new.opened) (sym found) (c.scan.ensures.gave_up e))
-
-pub scan-requires : goal.scan-requires
-scan-requires g c =
-    let old = c.args.self.now in let w : ℕ = width g.row.C g.row.H g.row.G in
-    let remembered = sym c.as_mut_slice.ensures.value in let totals = sym c.as_mut_slice-2.ensures.value in
-    let idle = subst (IsIdle (scan_in (g.S.ScanSeat.bundle c.args.seat.now))) remembered c.requires.ready in (
-      omega arith,
-      record {
-        may = record {
-          of_board = c.requires.of_board;
-          geometry = old.geometry;
-          lengths = (
-            ap (λ (l : List RememberedRow). length l) c.as_mut_slice.ensures.value ∙ old.sizes.0,
-            ap (λ (l : List ℕ). length l) c.as_mut_slice-3.ensures.value ∙ old.sizes.2,
-          );
-          wide = subst (AreWide w) remembered old.wide;
-          remembered = idle.remembered;
-          rest = (λ z. (idle.rest z).looks, λ z. (idle.rest z).due, λ z. (idle.rest z).asks);
-        };
-        room = (
-          ap (λ (l : List ℕ). length l) c.as_mut_slice-4.ensures.value ∙ old.sizes.3,
-          ap (λ (l : List ℕ). length l) c.as_mut_slice-2.ensures.value ∙ old.sizes.1,
-          subst (λ (l : List RememberedRow). AreTotals w l c.as_mut_slice-2.result.now) remembered
-              (subst (AreTotals w old.remembered.items) totals old.sums),
-        );
-        lent = ap (λ (l : List ℕ). length l) c.as_mut_slice-5.ensures.value ∙ old.sizes.4;
-        idle = idle;
-      },
+-- the first try failed
+pub later_tries-ended-requires : goal.later_tries-ended-requires
+later_tries-ended-requires g c =
+    let r = c.one_try-tried.new.self in let old = c.args.self.now in
+    let s = g.S.ScanSeat.bundle c.args.seat.now in (
+      search rules,
+      (
+        omega arith,
+        (
+          s,
+          old.remembered.items,
+          old.totals.items,
+          failed_once c.args.board.now s (g.S.ScanSeat.bundle c.one_try-tried.new.seat) old.remembered.items r.remembered.items
+              old.totals.items r.totals.items r.opened.items r.found.items c.clear.new.self r.changed_totals c.one_try-tried.result
+              c.requires.of_board c.requires.ready c.clear.ensures.none.1 (sym c.is_clean-clean.ensures ∙ c.if-clean.false)
+              c.one_try-tried.ensures,
+        ),
+      ),
     )
 
-pub returns-clause-numbers : goal.returns-clause-numbers
-returns-clause-numbers g c = λ quiet e.
-    let known = c.scan.ensures.numbers quiet e in let old = c.args.self.now in let new = c.scan.new in
-    let remembered = written new.remembered c.as_mut_slice.result.now old.remembered.items old.remembered.len
-    c.as_mut_slice.ensures.value
-    c.as_mut_slice.ensures.len c.scan.auto.remembered in
-    let opened = written new.opened c.as_mut_slice-3.result.now old.opened.items old.opened.len c.as_mut_slice-3.ensures.value
-    c.as_mut_slice-3.ensures.len c.scan.auto.opened in
-    λ p v at. let t = from_rows new.remembered p v (ap (λ (l : List RememberedRow). get_elem? (map version_of l) p)
-    (sym remembered) ∙ at) in
-    ap (λ (x : Version). x.number) (sym t.2) ∙ (known p t.0 t.1 ∙ ap (λ (l : List ℕ). slice_index l p) (sym opened))
-
-pub returns-clause-listed : goal.returns-clause-listed
-returns-clause-listed g c =
-    let old = c.args.self.now in let new = c.scan.new in
-    let totals = written new.totals c.as_mut_slice-2.result.now old.totals.items old.totals.len c.as_mut_slice-2.ensures.value
-    c.as_mut_slice-2.ensures.len c.scan.auto.totals in
+pub returns : goal.returns
+returns g c =
+    let r = c.one_try-tried.new.self in let old = c.args.self.now in let new = c.later_tries-ended.new.self in
+    let n : ℕ = g.row.N in let w : ℕ = width g.row.C g.row.H g.row.G in
+    let s = g.S.ScanSeat.bundle c.args.seat.now in let s' = g.S.ScanSeat.bundle c.later_tries-ended.new.seat in
+    let end = c.later_tries-ended.result in
+    let e : HasEnded n g.row.C g.row.H g.row.G s s' old.remembered.items new.remembered.items old.totals.items new.totals.items
+    new.opened.items new.found.items new.lent.items new.changed_totals end =
+    c.later_tries-ended.ensures s old.remembered.items old.totals.items
+    (failed_once c.args.board.now s (g.S.ScanSeat.bundle c.one_try-tried.new.seat) old.remembered.items r.remembered.items
+    old.totals.items r.totals.items r.opened.items r.found.items c.clear.new.self r.changed_totals c.one_try-tried.result
+    c.requires.of_board c.requires.ready c.clear.ensures.none.1 (sym c.is_clean-clean.ensures ∙ c.if-clean.false)
+    c.one_try-tried.ensures) in
     record {
-      same = λ few k lt none. ap (λ (l : List ℕ). slice_index l k) totals
-          ∙ (c.scan.ensures.listed.same few k lt none ∙ ap (λ (l : List ℕ). slice_index l k) c.as_mut_slice-2.ensures.value);
-      inside = c.scan.ensures.listed.inside;
+      table = e.table;
+      ruled = e.ruled;
+      others = e.others;
+      ready = e.idle;
+      answered = by_ending (IsAnswered n (scan_in s) (scan_in s')) new end e.direct e.lent;
+      answers = by_ending (AnswersBy n w (scan_in s) (scan_in s')) new end e.came_direct e.came_lent;
+      quiet = λ t. let q = e.quiet t in (q.remembered, q.totals, numbers_of new.remembered.items new.opened.items q.known);
+      once = e.once;
+      moved = e.moved;
+      numbers = λ q t. numbers_of new.remembered.items new.opened.items (e.numbers q t);
+      listed = e.listed;
+      gave_up = e.gave_up;
+      came_up = e.came_up;
     }

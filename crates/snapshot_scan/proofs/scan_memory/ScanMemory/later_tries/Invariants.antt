@@ -6,32 +6,30 @@ use Rattle.register_rule.specs.Seats.{HasMember, table_of, members_of}
 use Rattle.snapshot_scan.specs.declared.remembered_row.RememberedRow.{RememberedRow}
 use Rattle.snapshot_scan.specs.Shape.{scan_of, with_scan, IsRuled}
 use Rattle.snapshot_scan.specs.ChangedItems.{Lists}
-use Rattle.snapshot_scan.specs.RememberedRows.{AreWide, AreTotals}
 use Rattle.register_rule.specs.History.{Below}
 use Rattle.snapshot_scan.specs.Conditions.{MayTry, HasFailedOnce}
 use Rattle.snapshot_scan.specs.Scanned.{Tried}
 use Rattle.snapshot_scan.proofs.Trying.{stood, AreTries}
 use mathlib.Core.Option.{some}
 use lib.ListN.{get_elem?}
-use Rattle.snapshot_scan.proofs.scans.later_tries.Given as goal
+use Rattle.snapshot_scan.proofs.scan_memory.ScanMemory.later_tries.Given as goal
 
 abbrev pub invariant-loop-k : goal.invariant-loop-k
 invariant-loop-k g l = let bundle = g.S.ScanSeat.bundle in let w : ℕ = width g.row.C g.row.H g.row.G in
+    let m = l.self in let m0 = l.fn.self in
     (s : Bundle) (gs : List RememberedRow) (sums : List ℕ) → HasFailedOnce l.board s
-    (bundle l.fn.seat) gs l.fn.remembered sums l.fn.totals l.fn.opened l.fn.found l.fn.changed_totals
+    (bundle l.fn.seat) gs m0.remembered.items sums m0.totals.items m0.opened.items m0.found.items m0.changed_totals
     → (tries : List Tried) × record {
       table : table_of (bundle l.seat) ≡ table_of s;
       ruled : IsRuled g.row.N g.row.C g.row.H g.row.G (bundle l.seat);
       leads : HasMember (members_of (bundle l.seat));
-      wide : AreWide w l.remembered;
-      may : l._k < g.row.N + 1 → MayTry l.board (bundle l.seat) l.remembered l.opened;
-      room : (length l.found ≡ g.row.N) × (length l.totals ≡ w) × AreTotals w l.remembered l.totals;
-      listed : Lists w sums l.totals l.changed_totals;
+      may : l._k < g.row.N + 1 → MayTry l.board (bundle l.seat) m.remembered.items m.opened.items;
+      listed : Lists w sums m.totals.items m.changed_totals;
       count : length tries ≡ l._k + 1;
-      tried : AreTries g.row.N l.floor l.base l.opened l.found tries;
+      tried : AreTries g.row.N l.floor l.base m.opened.items m.found.items tries;
       above : (q : ℕ) (t : Tried) → get_elem? tries q ≡ some t → Below (scan_of (members_of s)).seen t.first;
       lengths : (length l.floor ≡ g.row.N) × (length l.base ≡ g.row.N);
       seen : Below (scan_of (members_of s)).seen l.floor;
-      view : members_of (bundle l.seat) ≡ with_scan (given_up_if_spent g.row.N (stood tries l.remembered l.floor l.base
+      view : members_of (bundle l.seat) ≡ with_scan (given_up_if_spent g.row.N (stood tries m.remembered.items l.floor l.base
           (scan_of (members_of s)))) (members_of s);
     }

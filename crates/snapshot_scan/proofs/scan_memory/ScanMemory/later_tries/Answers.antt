@@ -1,5 +1,5 @@
 use Rattle.std.proofs.Common.{◌≡◌, ◌+◌, ℕ, List, [], ◌∷◌, ◌++◌, length, map, take, drop, slice_index, sym}
-use Rattle.std.proofs.Common.{refl, ap, ◌∙◌, subst, arith, rules}
+use Rattle.std.proofs.Common.{refl, ap, ◌∙◌, subst, subst₂, arith, rules}
 use Rattle.ledger_core.specs.Ops.{width}
 use Rattle.ledger_core.specs.Vectors.{is_above}
 use Rattle.register_rule.specs.declared.view.Answer.{Answer}
@@ -13,6 +13,7 @@ use Rattle.snapshot_scan.specs.Shape.{scan_of, with_scan}
 use Rattle.snapshot_scan.specs.RememberedRows.{version_of, opening, settling, IsLoaded}
 use Rattle.snapshot_scan.specs.Asking.{due_from, asked_worker, MayAsk}
 use Rattle.snapshot_scan.specs.Scanned.{Tried, FailedTry, IsAnswered, IsGivenUp}
+use Rattle.snapshot_scan.proofs.Words.{written}
 use Rattle.snapshot_scan.proofs.Asking.{vector_long}
 use Rattle.snapshot_scan.proofs.Trying.{stood, AreTries, given_last, none_due}
 use Rattle.snapshot_scan.proofs.Scanning.{now_is, still_some, others_same, then_is, seen_below, direct_later}
@@ -23,17 +24,18 @@ use Rattle.snapshot_core.specs.declared.next.Next.TheVariants.{GaveUp}
 use Rattle.snapshot_scan.specs.Core.{CameTo, AnswersBy}
 use Rattle.snapshot_scan.proofs.Arriving.{came_later, came_lending, came_up}
 use Rattle.snapshot_scan.proofs.Moving.{lists_then}
-use Rattle.snapshot_scan.proofs.scans.later_tries.Goals as goal
+use Rattle.snapshot_scan.proofs.scan_memory.ScanMemory.later_tries.Goals as goal
 
 -- the first try is the first of the tries
 pub loop-k-init : goal.loop-k-init
 loop-k-init g c = λ s gs sums h.
     let ms = members_of s in
     let n : ℕ = g.row.N in let w : ℕ = width g.row.C g.row.H g.row.G in
-    let made = h.tried.2 in let lens = c.requires.lengths in
-    let os = c.args.opened.now in let fs = c.args.found.now in let rows = c.args.remembered.now in
+    let made = h.tried.1 in let lens = c.args.self.now.sizes in
+    let old = c.args.self.now in let os = old.opened.items in let fs = old.found.items in let rows = old.remembered.items in
     let fl = c.copy_from_slice.new.self in let ba = c.copy_from_slice-2.new.self in
-    let f : os ≡ fl = sym c.copy_from_slice.ensures.after in let b : fs ≡ ba = sym c.copy_from_slice-2.ensures.after in
+    let f : os ≡ fl = sym (c.copy_from_slice.ensures.after ∙ c.as_slice.ensures.value) in
+    let b : fs ≡ ba = sym (c.copy_from_slice-2.ensures.after ∙ c.as_slice-2.ensures.value) in
     let one : Tried = record { first = os; second = fs; asks = [] } in
     let view : members_of (g.S.ScanSeat.bundle c.args.seat.now) ≡ with_scan
     (given_up_if_spent n (stood (one ∷ []) rows os fs (scan_of ms))) ms =
@@ -55,10 +57,8 @@ loop-k-init g c = λ s gs sums h.
         table = made.table;
         ruled = made.ruled;
         leads = still_some _ ms _ h.of_board.1 view;
-        wide = made.wide;
         may = may_try c.args.board.now s (g.S.ScanSeat.bundle c.args.seat.now) 0 (one ∷ []) rows fl ba os h.of_board
-            c.requires.geometry made.table lens.0 lens.2 made.wide refl stands;
-        room = (lens.3, lens.1, made.totals);
+            c.args.self.now.geometry made.table lens.0 lens.2 made.wide refl stands;
         listed = h.listed;
         count = refl;
         above = each_push (λ (t : Tried). Below (scan_of ms).seen t.first) [] one (λ p y at. absurd (some-ne-none y (sym at)))
@@ -71,12 +71,9 @@ loop-k-init g c = λ s gs sums h.
       },
     )
 
-pub one_try-clean-requires : goal.one_try-clean-requires
-one_try-clean-requires g c =
-    let z = c.requires.failed in let inv = (c.loop-k.invariant z.0 z.1 z.2 z.3).1 in (
-      search rules,
-      (inv.may c.loop-k-test.true, inv.room),
-    )
+pub one_try-tried-requires : goal.one_try-tried-requires
+one_try-tried-requires g c =
+    let z = c.requires.failed in let inv = (c.loop-k.invariant z.0 z.1 z.2 z.3).1 in (search rules, (omega arith, inv.may c.loop-k-test.true))
 
 pub ask_all-lends-requires : goal.ask_all-lends-requires
 ask_all-lends-requires g c =
@@ -84,34 +81,34 @@ ask_all-lends-requires g c =
     let ms = members_of s in
     let n : ℕ = g.row.N in let w : ℕ = width g.row.C g.row.H g.row.G in
     let inv = (c.loop-k.invariant s gs sums h).1 in let tries = (c.loop-k.invariant s gs sums h).0 in
-    let lens = c.requires.lengths in
+    let lens = c.args.self.now.sizes in
     let fl = c.copy_from_slice.new.self in let ba = c.copy_from_slice-2.new.self in
-    let r = c.one_try-clean.new in
-    let few : length r.remembered ≡ n = c.one_try-clean.auto.remembered ∙ (c.loop-k.auto.remembered ∙ lens.0) in
-    let long : length r.opened ≡ n = c.one_try-clean.auto.opened ∙ (c.loop-k.auto.opened ∙ lens.2) in
-    let deep : length r.found ≡ n = c.one_try-clean.auto.found ∙ (c.loop-k.auto.found ∙ lens.3) in
-    let view = at_loop n c.loop-k._k tries c.loop-k.remembered fl ba ms _ inv.count c.loop-k-test.true inv.view in
-    let d : ScanLog = stood tries c.loop-k.remembered fl ba (scan_of ms) in
-    let fails = loop_fails n w c.loop-k._k r.opened r.found r.remembered c.loop-k.remembered few long deep tries fl ba ms _ _
-    h.of_board.1 inv.count view (c.one_try-clean.ensures.failed c.if-clean.false) in
+    let r = c.one_try-tried.new.self in let clean = sym c.is_clean-clean.ensures ∙ c.if-clean.false in
+    let few : length r.remembered.items ≡ n = r.sizes.0 in
+    let long : length r.opened.items ≡ n = r.sizes.2 in
+    let deep : length r.found.items ≡ n = r.sizes.3 in
+    let view = at_loop n c.loop-k._k tries c.loop-k.self.remembered.items fl ba ms _ inv.count c.loop-k-test.true inv.view in
+    let d : ScanLog = stood tries c.loop-k.self.remembered.items fl ba (scan_of ms) in
+    let fails = loop_fails n w c.loop-k._k r.opened.items r.found.items r.remembered.items c.loop-k.self.remembered.items few long deep tries fl ba ms _ _
+    h.of_board.1 inv.count view (c.one_try-tried.ensures.failed clean) in
     let scan = now_is _ ms _ h.of_board.1 fails in (
       search rules,
       record {
         of_board = (
-          c.one_try-clean.ensures.table ∙ (inv.table ∙ h.of_board.0),
+          c.one_try-tried.ensures.table ∙ (inv.table ∙ h.of_board.0),
           still_some _ ms _ h.of_board.1 fails,
         );
-        ruled = c.one_try-clean.ensures.ruled;
-        geometry = c.requires.geometry;
+        ruled = c.one_try-tried.ensures.ruled;
+        geometry = c.args.self.now.geometry;
         lengths = (
-          lens.1,
+          search rules,
           inv.lengths.0,
           inv.lengths.1,
-          deep,
-          c.loop-k.auto.lent ∙ lens.4,
+          ap (λ (l : List ℕ). length l) c.as_slice-in-loop-k.ensures.value ∙ deep,
+          ap (λ (l : List ℕ). length l) c.as_mut_slice-lent.ensures.value ∙ r.sizes.4,
         );
-        may_ask = subst (MayAsk fl (due_from 0 ba r.found)) (sym scan)
-            (may_start n r.opened r.found r.remembered fl ba (due_from 0 ba r.found) d);
+        may_ask = subst₂ (λ (x : ScanLog) (y : List ℕ). MayAsk fl (due_from 0 ba y) x) (sym scan) (sym c.as_slice-in-loop-k.ensures.value)
+            (may_start n r.opened.items r.found.items r.remembered.items fl ba (due_from 0 ba r.found.items) d);
       },
     )
 
@@ -120,51 +117,46 @@ loop-k-preserved g c = λ s gs sums h.
     let ms = members_of s in
     let n : ℕ = g.row.N in let w : ℕ = width g.row.C g.row.H g.row.G in
     let inv = (c.loop-k.invariant s gs sums h).1 in let tries = (c.loop-k.invariant s gs sums h).0 in
-    let lens = c.requires.lengths in
+    let lens = c.args.self.now.sizes in
     let fl = c.copy_from_slice.new.self in let ba = c.copy_from_slice-2.new.self in
-    let r = c.one_try-clean.new in
-    let few : length r.remembered ≡ n = c.one_try-clean.auto.remembered ∙ (c.loop-k.auto.remembered ∙ lens.0) in
-    let long : length r.opened ≡ n = c.one_try-clean.auto.opened ∙ (c.loop-k.auto.opened ∙ lens.2) in
-    let deep : length r.found ≡ n = c.one_try-clean.auto.found ∙ (c.loop-k.auto.found ∙ lens.3) in
-    let view = at_loop n c.loop-k._k tries c.loop-k.remembered fl ba ms _ inv.count c.loop-k-test.true inv.view in
-    let d : ScanLog = stood tries c.loop-k.remembered fl ba (scan_of ms) in
-    let fails = loop_fails n w c.loop-k._k r.opened r.found r.remembered c.loop-k.remembered few long deep tries fl ba ms _ _
-    h.of_board.1 inv.count view (c.one_try-clean.ensures.failed c.if-clean.false) in
+    let r = c.one_try-tried.new.self in let clean = sym c.is_clean-clean.ensures ∙ c.if-clean.false in
+    let few : length r.remembered.items ≡ n = r.sizes.0 in
+    let long : length r.opened.items ≡ n = r.sizes.2 in
+    let deep : length r.found.items ≡ n = r.sizes.3 in
+    let view = at_loop n c.loop-k._k tries c.loop-k.self.remembered.items fl ba ms _ inv.count c.loop-k-test.true inv.view in
+    let d : ScanLog = stood tries c.loop-k.self.remembered.items fl ba (scan_of ms) in
+    let fails = loop_fails n w c.loop-k._k r.opened.items r.found.items r.remembered.items c.loop-k.self.remembered.items few long deep tries fl ba ms _ _
+    h.of_board.1 inv.count view (c.one_try-tried.ensures.failed clean) in
     let q = c.ask_all-lends.ensures.refuses c.if-lends.false in
-    let t : Tried = record { first = r.opened; second = r.found; asks = q.0 } in
-    let end = loop_refuses n w c.loop-k._k r.opened r.found r.remembered c.loop-k.remembered few long deep tries fl ba ms _ _
-    h.of_board.1 inv.count view _ q.0 fails q.1 q.3 in
+    let asked = q.1 ∙ ap (due_from 0 ba) c.as_slice-in-loop-k.ensures.value in
+    let t : Tried = record { first = r.opened.items; second = r.found.items; asks = q.0 } in
+    let end = loop_refuses n w c.loop-k._k r.opened.items r.found.items r.remembered.items c.loop-k.self.remembered.items few long deep tries fl ba ms _ _
+    h.of_board.1 inv.count view _ q.0 fails asked q.3 in
     let failed : FailedTry n fl ba t = record {
       opened = long;
       found = deep;
-      risen = c.one_try-clean.ensures.risen;
-      rose = c.one_try-clean.ensures.rose c.if-clean.false;
-      asked = q.1;
+      risen = c.one_try-tried.ensures.risen;
+      rose = c.one_try-tried.ensures.rose clean;
+      asked = asked;
       none = q.2;
-    } in let own = c.ask_all-lends.ensures.table ∙ (c.one_try-clean.ensures.table ∙ inv.table) in (
+    } in let own = c.ask_all-lends.ensures.table ∙ (c.one_try-tried.ensures.table ∙ inv.table) in (
       tries ++ t ∷ [],
       record {
         table = own;
         ruled = c.ask_all-lends.ensures.ruled;
         leads = still_some _ ms _ h.of_board.1 end;
-        wide = c.one_try-clean.ensures.wide;
         may = may_try c.args.board.now s (g.S.ScanSeat.bundle c.ask_all-lends.new.seat)
-            (c.loop-k._k + 1) (tries ++ t ∷ []) r.remembered fl ba r.opened h.of_board c.requires.geometry own few long
-            c.one_try-clean.ensures.wide (count_more tries t c.loop-k._k inv.count) end;
-        room = (
-          deep,
-          c.one_try-clean.auto.totals ∙ (c.loop-k.auto.totals ∙ lens.1),
-          c.one_try-clean.ensures.totals,
-        );
-        listed = lists_then w sums c.loop-k.totals r.totals c.loop-k.changed_totals r.changed_totals inv.listed
-            c.one_try-clean.ensures.listed;
+            (c.loop-k._k + 1) (tries ++ t ∷ []) r.remembered.items fl ba r.opened.items h.of_board c.args.self.now.geometry own few long
+            c.one_try-tried.ensures.wide (count_more tries t c.loop-k._k inv.count) end;
+        listed = lists_then w sums c.loop-k.self.totals.items r.totals.items c.loop-k.self.changed_totals r.changed_totals inv.listed
+            c.one_try-tried.ensures.listed;
         count = count_more tries t c.loop-k._k inv.count;
         above = each_push (λ (u : Tried). Below (scan_of ms).seen u.first) tries t inv.above
-            (seen_below n (stood tries c.loop-k.remembered fl ba (scan_of ms)) r.opened long
-            (λ p lt. subst (λ (x : ScanLog). IsLoaded p x (slice_index r.opened p)) (now_is d ms _ h.of_board.1 view)
-            (c.one_try-clean.ensures.told p lt)));
-        tried = tries_more n fl ba c.loop-k.opened c.loop-k.found tries inv.tried c.loop-k.remembered
-            (scan_of ms) r.opened r.found q.0
+            (seen_below n (stood tries c.loop-k.self.remembered.items fl ba (scan_of ms)) r.opened.items long
+            (λ p lt. subst (λ (x : ScanLog). IsLoaded p x (slice_index r.opened.items p)) (now_is d ms _ h.of_board.1 view)
+            (c.one_try-tried.ensures.told p lt)));
+        tried = tries_more n fl ba c.loop-k.self.opened.items c.loop-k.self.found.items tries inv.tried c.loop-k.self.remembered.items
+            (scan_of ms) r.opened.items r.found.items q.0
             failed;
         lengths = inv.lengths;
         seen = inv.seen;
@@ -177,16 +169,16 @@ returns-then-clean g c = λ s gs sums h.
     let ms = members_of s in
     let n : ℕ = g.row.N in let w : ℕ = width g.row.C g.row.H g.row.G in
     let inv = (c.loop-k.invariant s gs sums h).1 in let tries = (c.loop-k.invariant s gs sums h).0 in
-    let lens = c.requires.lengths in
+    let lens = c.args.self.now.sizes in
     let fl = c.copy_from_slice.new.self in let ba = c.copy_from_slice-2.new.self in
-    let made = c.one_try-clean.ensures in let r = c.one_try-clean.new in let clean = made.clean
-    c.if-clean.true in
-    let long : length r.opened ≡ n = c.one_try-clean.auto.opened ∙ (c.loop-k.auto.opened ∙ lens.2) in
-    let a : Answer = record { vector = r.opened; totals = r.totals } in
-    let view = at_loop n c.loop-k._k tries c.loop-k.remembered fl ba ms _ inv.count c.loop-k-test.true inv.view in
-    let d : ScanLog = stood tries c.loop-k.remembered fl ba (scan_of ms) in
-    let end = then_is (λ (x : ScanLog). answered a (settling r.opened r.found r.remembered
-    (opening r.opened r.remembered x))) d ms _ _
+    let made = c.one_try-tried.ensures in let r = c.one_try-tried.new.self in
+    let is = sym c.is_clean-clean.ensures ∙ c.if-clean.true in let clean = made.clean is in
+    let long : length r.opened.items ≡ n = r.sizes.2 in
+    let a : Answer = record { vector = r.opened.items; totals = r.totals.items } in
+    let view = at_loop n c.loop-k._k tries c.loop-k.self.remembered.items fl ba ms _ inv.count c.loop-k-test.true inv.view in
+    let d : ScanLog = stood tries c.loop-k.self.remembered.items fl ba (scan_of ms) in
+    let end = then_is (λ (x : ScanLog). answered a (settling r.opened.items r.found.items r.remembered.items
+    (opening r.opened.items r.remembered.items x))) d ms _ _
     h.of_board.1 view clean in
     let scan = now_is _ ms _ h.of_board.1 end in let count = inv.count in let lt = c.loop-k-test.true in
     record {
@@ -197,24 +189,24 @@ returns-then-clean g c = λ s gs sums h.
       idle = record { remembered = ap (λ (x : ScanLog). x.remembered) scan; rest = ap (λ (x : ScanLog). x.trying) scan };
       others = others_same _ ms _ h.of_board.1 end;
       direct = λ _ _. subst (λ (x : ScanLog). IsAnswered n (scan_of ms) x a) (sym scan)
-          (direct_later n fl ba c.loop-k.opened c.loop-k.found tries inv.tried c.loop-k.remembered
-          (scan_of ms) r.opened r.found r.totals
-          r.remembered inv.lengths.0 long
-          (λ q low. subst (λ (x : ScanLog). IsLoaded q x (slice_index r.opened q)) (now_is d ms _ h.of_board.1 view)
+          (direct_later n fl ba c.loop-k.self.opened.items c.loop-k.self.found.items tries inv.tried c.loop-k.self.remembered.items
+          (scan_of ms) r.opened.items r.found.items r.totals.items
+          r.remembered.items inv.lengths.0 long
+          (λ q low. subst (λ (x : ScanLog). IsLoaded q x (slice_index r.opened.items q)) (now_is d ms _ h.of_board.1 view)
           (made.told q low)));
       came_direct = λ _ _. subst (λ (x : ScanLog). AnswersBy n w (scan_of ms) x a) (sym scan)
-          (came_later n w fl ba c.loop-k.opened c.loop-k.found tries inv.tried c.loop-k.remembered
-          (scan_of ms) r.opened r.found r.remembered a
-          long (made.same c.if-clean.true) (omega (arith, count, lt)) refl);
+          (came_later n w fl ba c.loop-k.self.opened.items c.loop-k.self.found.items tries inv.tried c.loop-k.self.remembered.items
+          (scan_of ms) r.opened.items r.found.items r.remembered.items a
+          long (made.same is) (omega (arith, count, lt)) refl);
       quiet = λ e. absurd (not_quiet (ap quiet_in e));
       once = λ e. absurd (not_quiet (ap quiet_in e));
-      moved = λ _. moved_later n fl ba c.loop-k.opened c.loop-k.found tries inv.tried c.loop-k.remembered (scan_of ms)
-          (map version_of gs) r.opened _ c.requires.geometry.workers.0 inv.lengths.0 long
+      moved = λ _. moved_later n fl ba c.loop-k.self.opened.items c.loop-k.self.found.items tries inv.tried c.loop-k.self.remembered.items (scan_of ms)
+          (map version_of gs) r.opened.items _ c.args.self.now.geometry.workers.0 inv.lengths.0 long
           (ap (λ (x : ScanLog). x.opened) scan);
       lent = λ e. absurd (direct_lent _ e);
       came_lent = λ e. absurd (direct_lent _ e);
-      numbers = λ _ _. made.numbers c.if-clean.true;
-      listed = lists_then w sums c.loop-k.totals r.totals c.loop-k.changed_totals r.changed_totals inv.listed made.listed;
+      numbers = λ _ _. made.numbers is;
+      listed = lists_then w sums c.loop-k.self.totals.items r.totals.items c.loop-k.self.changed_totals r.changed_totals inv.listed made.listed;
       gave_up = λ e. absurd (direct_up _ e);
       came_up = λ e. absurd (direct_up _ e);
     }
@@ -224,18 +216,24 @@ returns-then-lends g c = λ s gs sums h.
     let ms = members_of s in
     let n : ℕ = g.row.N in let w : ℕ = width g.row.C g.row.H g.row.G in
     let inv = (c.loop-k.invariant s gs sums h).1 in let tries = (c.loop-k.invariant s gs sums h).0 in
-    let lens = c.requires.lengths in
+    let lens = c.args.self.now.sizes in
     let fl = c.copy_from_slice.new.self in let ba = c.copy_from_slice-2.new.self in
-    let made = c.one_try-clean.ensures in let r = c.one_try-clean.new in
-    let few : length r.remembered ≡ n = c.one_try-clean.auto.remembered ∙ (c.loop-k.auto.remembered ∙ lens.0) in
-    let long : length r.opened ≡ n = c.one_try-clean.auto.opened ∙ (c.loop-k.auto.opened ∙ lens.2) in
-    let deep : length r.found ≡ n = c.one_try-clean.auto.found ∙ (c.loop-k.auto.found ∙ lens.3) in
-    let view = at_loop n c.loop-k._k tries c.loop-k.remembered fl ba ms _ inv.count c.loop-k-test.true inv.view in
-    let fails = loop_fails n w c.loop-k._k r.opened r.found r.remembered c.loop-k.remembered few long deep tries fl ba ms _ _
-    h.of_board.1 inv.count view (made.failed c.if-clean.false) in
-    let l = c.ask_all-lends.ensures.lends c.if-lends.true in let a = lent_in n w c.ask_all-lends.new.lent in
-    let end = loop_lends n w c.loop-k._k r.opened r.found r.remembered c.loop-k.remembered few long deep tries fl ba ms _ _
-    h.of_board.1 inv.count view _ a l.1 l.0 l.2 fails l.3 l.7 in
+    let made = c.one_try-tried.ensures in let r = c.one_try-tried.new.self in
+    let failed = sym c.is_clean-clean.ensures ∙ c.if-clean.false in
+    let few : length r.remembered.items ≡ n = r.sizes.0 in
+    let long : length r.opened.items ≡ n = r.sizes.2 in
+    let deep : length r.found.items ≡ n = r.sizes.3 in
+    let view = at_loop n c.loop-k._k tries c.loop-k.self.remembered.items fl ba ms _ inv.count c.loop-k-test.true inv.view in
+    let fails = loop_fails n w c.loop-k._k r.opened.items r.found.items r.remembered.items c.loop-k.self.remembered.items few long deep tries fl ba ms _ _
+    h.of_board.1 inv.count view (made.failed failed) in
+    let l = c.ask_all-lends.ensures.lends c.if-lends.true in let lent = c.ask_all-lends.new.lent in
+    let a = lent_in n w lent in let slot = c.as_mut_slice-lent in
+    let asked = l.3 ∙ ap (due_from 0 ba) c.as_slice-in-loop-k.ensures.value in
+    let words = sym (written lent slot.result.now r.lent.items r.lent.len slot.ensures.value slot.ensures.len
+    c.ask_all-lends.auto.lent) in
+    let wide = c.ask_all-lends.auto.lent ∙ (ap (λ (l : List ℕ). length l) slot.ensures.value ∙ r.sizes.4) in
+    let end = loop_lends n w c.loop-k._k r.opened.items r.found.items r.remembered.items c.loop-k.self.remembered.items few long deep tries fl ba ms _ _
+    h.of_board.1 inv.count view _ a l.1 l.0 l.2 fails asked l.7 in
     let scan = now_is _ ms _ h.of_board.1 end in let count = inv.count in let lt = c.loop-k-test.true in
     record {
       table = c.ask_all-lends.ensures.table ∙ (made.table ∙ inv.table);
@@ -249,19 +247,19 @@ returns-then-lends g c = λ s gs sums h.
       quiet = λ e. absurd (lent_direct _ e);
       once = λ e. absurd (lent_direct _ e);
       moved = λ e. absurd (lent_direct _ e);
-      lent = λ _. subst (λ (x : ScanLog). IsAnswered n (scan_of ms) x a) (sym scan)
-          (lent_later n fl ba c.loop-k.opened c.loop-k.found tries inv.tried c.loop-k.remembered
-          (scan_of ms) r.opened r.found r.remembered a l.1
+      lent = λ _. subst₂ (λ (x : ScanLog) (z : List ℕ). IsAnswered n (scan_of ms) x (lent_in n w z)) (sym scan) words
+          (lent_later n fl ba c.loop-k.self.opened.items c.loop-k.self.found.items tries inv.tried c.loop-k.self.remembered.items
+          (scan_of ms) r.opened.items r.found.items r.remembered.items a l.1
           l.0 (asked_worker l.1 ∷ l.2) inv.lengths.0
-          (vector_long n w c.ask_all-lends.new.lent (c.ask_all-lends.auto.lent ∙ (c.loop-k.auto.lent ∙ lens.4))) inv.seen
+          (vector_long n w lent wide) inv.seen
           (ap (λ (ws : List ℕ). is_above fl (take n (drop 1 ws))) (sym l.5) ∙ l.6.above));
-      came_lent = λ _. subst (λ (x : ScanLog). AnswersBy n w (scan_of ms) x a) (sym scan)
-          (came_lending n w fl ba c.loop-k.opened c.loop-k.found tries inv.tried c.loop-k.remembered
-          (scan_of ms) r.opened r.found r.remembered a
-          l.1 l.0 l.2 (asked_worker l.1 ∷ l.2) long deep (omega (arith, count, lt)) (made.rose c.if-clean.false) l.3 l.4 l.6
+      came_lent = λ _. subst₂ (λ (x : ScanLog) (z : List ℕ). AnswersBy n w (scan_of ms) x (lent_in n w z)) (sym scan) words
+          (came_lending n w fl ba c.loop-k.self.opened.items c.loop-k.self.found.items tries inv.tried c.loop-k.self.remembered.items
+          (scan_of ms) r.opened.items r.found.items r.remembered.items a
+          l.1 l.0 l.2 (asked_worker l.1 ∷ l.2) long deep (omega (arith, count, lt)) (made.rose failed) asked l.4 l.6
           (ap (lent_in n w) (sym l.5)));
       numbers = λ q e. absurd (lent_direct q e);
-      listed = lists_then w sums c.loop-k.totals r.totals c.loop-k.changed_totals r.changed_totals inv.listed made.listed;
+      listed = lists_then w sums c.loop-k.self.totals.items r.totals.items c.loop-k.self.changed_totals r.changed_totals inv.listed made.listed;
       gave_up = λ e. absurd (lent_up e);
       came_up = λ e. absurd (lent_up e);
     }
@@ -271,16 +269,16 @@ returns g c = λ s gs sums h.
     let ms = members_of s in
     let n : ℕ = g.row.N in let w : ℕ = width g.row.C g.row.H g.row.G in
     let inv = (c.loop-k.invariant s gs sums h).1 in let tries = (c.loop-k.invariant s gs sums h).0 in
-    let lens = c.requires.lengths in
+    let lens = c.args.self.now.sizes in
     let fl = c.copy_from_slice.new.self in let ba = c.copy_from_slice-2.new.self in
     let t = c.loop-k-test.false in let last = c.loop-k.auto._k-end in let count = inv.count in
     let scan = now_is _ ms _ h.of_board.1 inv.view in
     record {
       table = inv.table;
       ruled = inv.ruled;
-      wide = inv.wide;
-      totals = inv.room.2;
-      idle = let rest = scan ∙ given_last n (stood tries c.loop-k.remembered fl ba (scan_of ms)) refl
+      wide = c.loop-k.self.wide;
+      totals = c.loop-k.self.sums;
+      idle = let rest = scan ∙ given_last n (stood tries c.loop-k.self.remembered.items fl ba (scan_of ms)) refl
           (omega (arith, count, t, last)) in
           record { remembered = ap (λ (x : ScanLog). x.remembered) rest; rest = ap (λ (x : ScanLog). x.trying) rest };
       others = others_same _ ms _ h.of_board.1 inv.view;
@@ -293,12 +291,12 @@ returns g c = λ s gs sums h.
       came_lent = λ e. absurd (up_lent e);
       numbers = λ q e. absurd (up_direct q e);
       listed = inv.listed;
-      gave_up = λ _. subst (λ (x : ScanLog). IsGivenUp n (scan_of ms) x c.loop-k.opened c.loop-k.found) (sym scan)
-          (all_failed n fl ba c.loop-k.opened c.loop-k.found tries inv.tried c.loop-k.remembered (scan_of ms) (omega
+      gave_up = λ _. subst (λ (x : ScanLog). IsGivenUp n (scan_of ms) x c.loop-k.self.opened.items c.loop-k.self.found.items) (sym scan)
+          (all_failed n fl ba c.loop-k.self.opened.items c.loop-k.self.found.items tries inv.tried c.loop-k.self.remembered.items (scan_of ms) (omega
           (arith, count, t, last))
           inv.above);
       came_up = λ _ e moved. subst (λ (x : ScanLog). CameTo n w (scan_of ms) x (GaveUp e.worker e.first e.last)) (sym scan)
-          (came_up n w fl ba c.loop-k.opened c.loop-k.found tries inv.tried c.loop-k.remembered (scan_of ms) (omega
+          (came_up n w fl ba c.loop-k.self.opened.items c.loop-k.self.found.items tries inv.tried c.loop-k.self.remembered.items (scan_of ms) (omega
           (arith, count, t, last)) e
           moved);
     }

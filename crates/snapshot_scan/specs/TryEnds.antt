@@ -1,0 +1,16 @@
+-- What the end of a try says.
+use Rattle.std.specs.Prelude.{Bool, true, false}
+use Rattle.snapshot_scan.specs.declared.try_end.TryEnd.{TryEnd}
+use Rattle.snapshot_scan.specs.declared.try_end.TryEnd.TheVariants.{Quiet, Clean, Failed}
+
+-- each number was found again
+abbrev pub is_clean : TryEnd → Bool
+is_clean Quiet = true
+is_clean Clean = true
+is_clean Failed = false
+
+-- and each was the remembered one
+abbrev pub is_quiet : TryEnd → Bool
+is_quiet Quiet = true
+is_quiet Clean = false
+is_quiet Failed = false
